@@ -1,1 +1,4 @@
 pub mod Causes
+pub mod Masks
+pub mod Pieces
+pub mod Regions
