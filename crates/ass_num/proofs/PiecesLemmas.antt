@@ -1,5 +1,5 @@
 -- A list that is cut at ascending ends.
-use Rattle.std.proofs.Common.{drop-drop, flat_map, ◌≡◌, ℕ, zero, suc, ◌+◌, ◌-◌, ◌<◌, ◌≤◌, refl, sym, ap, subst, ◌∙◌, arith, List, [], ◌∷◌, ◌++◌, length, get_or, take, drop, length-append, length-drop, length-take}
+use Rattle.std.proofs.Common.{drop-drop, flat_map, ◌≡◌, ℕ, zero, suc, ◌+◌, ◌-◌, ◌<◌, ◌≤◌, refl, sym, ap, subst, ◌∙◌, arith, List, [], ◌∷◌, ◌++◌, length, get_or, take, drop, length-append, length-drop}
 use Rattle.std.proofs.lemmas.List.{drop-append-le, take-append-le, drop_at, take_all, drop-take, take-take, drop_all, take-append-drop}
 use Rattle.ass_num.specs.Pieces.{pieces, IsCut}
 

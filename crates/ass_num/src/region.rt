@@ -1,7 +1,7 @@
 //! Regions of samples.
 
 ghost use Rattle.std.specs.Prelude.{◌≡◌, [], pos, true, int_lt, ◌&&◌};
-ghost use Rattle.ass_num.specs.Regions.{PlainRegion, ascend, all_ascend, is_canonical};
+ghost use Rattle.ass_num.specs.Regions.{PlainRegion, ascend, all_ascend, has_run, is_canonical};
 
 use crate::flat_lists::FlatLists;
 use std::alloc::Global;
@@ -76,7 +76,20 @@ pub fn is_canonical(top: i32, rows: &FlatLists<Run>) -> bool
     if count == 0 {
         return top == 0;
     }
-    !rows.get(0).is_empty() && !rows.get(count - 1).is_empty() && all_ascend(rows)
+    if !has_run(rows.get(0)) {
+        return false;
+    }
+    if !has_run(rows.get(count - 1)) {
+        return false;
+    }
+    all_ascend(rows)
+}
+
+/// Whether a row has a run.
+fn has_run(runs: &[Run]) -> bool
+    ensures { result ≡ has_run runs.now }
+{
+    !runs.is_empty()
 }
 
 /// Whether the runs of each row ascend and don't touch.

@@ -1,6 +1,6 @@
-use Rattle.std.proofs.Common.{rules, arith, ◌∙◌, ◌≡◌, ◌<◌, ◌≤◌, ◌-◌, sym, ap, length, vec_len, get_or}
+use Rattle.std.proofs.Common.{rules, arith, ◌∙◌, ◌≡◌, ◌<◌, ◌-◌, sym, ap, length, vec_len, get_or}
 use Rattle.std.proofs.lemmas.List.{get_or_read}
-use Rattle.ass_num.proofs.PiecesLemmas.{piece_at, piece_within, length-pieces, start, start-suc, start-zero, piece_is}
+use Rattle.ass_num.proofs.PiecesLemmas.{piece_within, length-pieces, start, start-suc, start-zero, piece_is}
 use Rattle.ass_num.proofs.flat_lists.FlatLists.get.Goals as goal
 
 pub index-to-requires : goal.index-to-requires

@@ -1,4 +1,4 @@
-use Rattle.std.proofs.Common.{rules, arith, ◌∙◌, ◌≡◌, sym, ap, length, vec_len}
+use Rattle.std.proofs.Common.{rules, ◌∙◌, ◌≡◌, sym, ap, length, vec_len}
 use Rattle.ass_num.proofs.PiecesLemmas.{length-pieces}
 use Rattle.ass_num.proofs.flat_lists.FlatLists.len.Goals as goal
 

@@ -1,4 +1,4 @@
-use Rattle.std.proofs.Common.{rules, arith, ◌∙◌, ◌≡◌, ◌++◌, ◌≤◌, sym, ap, length, vec_len, length-append}
+use Rattle.std.proofs.Common.{rules, arith, ◌∙◌, ◌≡◌, ◌++◌, length, vec_len, length-append}
 use Rattle.ass_num.proofs.PiecesLemmas.{IsCut-push, pieces-push}
 use Rattle.ass_num.proofs.flat_lists.FlatLists.push.Goals as goal
 

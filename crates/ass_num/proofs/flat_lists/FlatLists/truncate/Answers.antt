@@ -1,4 +1,4 @@
-use Rattle.std.proofs.Common.{rules, arith, ◌∙◌, ◌≡◌, ◌<◌, ◌≤◌, ◌-◌, sym, ap, length, vec_len, get_or, take, length-take}
+use Rattle.std.proofs.Common.{rules, arith, ◌∙◌, ◌≡◌, ◌≤◌, ◌-◌, sym, ap, length, vec_len, get_or, take, length-take}
 use Rattle.std.proofs.lemmas.List.{get_or_read}
 use Rattle.ass_num.proofs.PiecesLemmas.{length-pieces, start, start-suc, start-above, take-pieces, IsCut-take}
 use Rattle.ass_num.proofs.flat_lists.FlatLists.truncate.Goals as goal
