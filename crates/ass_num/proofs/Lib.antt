@@ -1,2 +1,13 @@
+pub mod Clocks
+pub mod ColourFronts
+pub mod DecimalFronts
+pub mod Floor
+pub mod NumberLaws
+pub mod OneReading
 pub mod PiecesLemmas
+pub mod Roots
 pub mod RowsLemmas
+pub mod Runs
+pub mod SignFronts
+pub mod SineTable
+pub mod Wholes

@@ -1,4 +1,12 @@
 pub mod Causes
+pub mod Coverage
+pub mod Floor
+pub mod Fronts
+pub mod Limits
 pub mod Masks
+pub mod Numerals
 pub mod Pieces
+pub mod Powers
 pub mod Regions
+pub mod Sine
+pub mod Winding

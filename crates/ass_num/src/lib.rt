@@ -1,26 +1,43 @@
 //! Numbers, texts, lists and plain shapes that every other crate names.
 #![tactic(auto)]
 
+mod angles;
 mod colour;
+mod colour_codes;
+mod decimals;
+mod digits;
 mod flat_lists;
+mod floors;
 mod geometry;
 mod items;
 mod items_compare;
 mod mask;
 mod memory;
+#[cfg(test)]
+mod number_tests;
+mod powers;
+mod readings;
 mod region;
 mod size;
 #[cfg(test)]
 mod tests;
 mod text;
 mod text_compare;
+mod times;
 
+pub use angles::{cosine, sine};
 pub use colour::Rgba;
+pub use colour_codes::{read_alpha, read_colour, read_style_colour};
+pub use decimals::{read_milli, read_whole};
 pub use flat_lists::FlatLists;
+pub use floors::{div_floor, hold};
 pub use geometry::{Fix, Matrix, Milli, Outline, Path, Point, Seg};
 pub use items::Items;
 pub use mask::{Mask, is_mask};
 pub use memory::{Mem, OutOfMemory};
+pub use powers::power;
+pub use readings::one_reading;
 pub use region::{Region, Run, is_canonical};
 pub use size::Size;
 pub use text::Text;
+pub use times::read_time;

@@ -1,0 +1,66 @@
+//! A sink that fails at chosen calls.
+
+ghost use Rattle.std.specs.Prelude.{Some};
+
+use crate::count::count_one;
+use crate::memory_sink::MemorySink;
+use crate::plan::Plan;
+use crate::sink::{Put, Sink};
+
+/// A sink in memory that fails at the puts whose numbers, from 1, are in a list. A failing put
+/// appends the first half of its piece, rounded down.
+#[derive(Drop)]
+pub struct FailingSink {
+    sink: MemorySink,
+    plan: Plan,
+    faults: u64,
+}
+
+impl FailingSink {
+    ghost use Rattle.std.specs.Prelude.{◌≡◌};
+    ghost use Rattle.ass_io.specs.Failing.{asked_puts, bytes_in, failing_puts};
+    ghost use Rattle.ass_io.specs.MemorySinks.{bytes_of};
+
+    /// A sink that holds what that one holds, and fails at these puts.
+    pub fn new(sink: MemorySink, fails: Vec<u64>) -> FailingSink
+        ensures bytes { bytes_in result ≡ bytes_of sink }
+        ensures fails { failing_puts result ≡ fails.items }
+        ensures puts { asked_puts result ≡ 0 }
+    {
+        FailingSink {
+            sink,
+            plan: Plan::new(fails),
+            faults: 0,
+        }
+    }
+
+    /// What it holds.
+    pub fn bytes(&self) -> &[u8]
+        ensures { result.now ≡ bytes_in self.now }
+    {
+        self.sink.bytes()
+    }
+}
+
+impl Sink for FailingSink {
+    ghost use Rattle.ass_io.specs.Failing.{asked_puts, bytes_in};
+
+    ghost held = { λ s. Some (bytes_in s) };
+
+    ghost faults = { λ s. s.faults };
+
+    ghost puts = { asked_puts };
+
+    fn put(&mut self, piece: &[u8]) -> Put {
+        if !self.plan.next_fails() {
+            return self.sink.put(piece);
+        }
+        match self.sink.put(&piece[..piece.len() / 2]) {
+            Put::OutOfMemory => Put::OutOfMemory,
+            Put::Done | Put::Failed => {
+                count_one(&mut self.faults);
+                Put::Failed
+            }
+        }
+    }
+}

@@ -1,0 +1,47 @@
+//! Files by name.
+
+ghost use Rattle.std.specs.Prelude.{◌≡◌, ℕ, List, []};
+ghost use Rattle.ass_io.specs.Fetched.{Told, IsDecided, IsFetchCounted, IsFetched};
+
+use std::alloc::Global;
+
+/// The most bytes that a file may have.
+pub const FILE_LIMIT: usize = 67_108_864;
+
+/// How a fetch ended.
+#[derive(Clone, Copy, Debug, PartialEq, Eq)]
+pub enum Fetch {
+    /// The bytes were read.
+    Got,
+    /// Nothing has this name.
+    Missing,
+    /// The name, or the device behind it, couldn't be read.
+    Failed,
+    /// The name holds more than `FILE_LIMIT` bytes.
+    TooLarge,
+    /// Memory was wanting.
+    OutOfMemory,
+}
+
+/// A shelf of files, by what it tells of each name and by a count of its faults. A shelf that is
+/// to be taken at its word tells what it holds; one over real files tells nothing.
+pub trait Shelf {
+    ghost told: { Self → List ℕ → Told };
+
+    ghost faults: { Self → ℕ };
+
+    /// Reads what the name holds into an empty vector. After any answer but `Got` it is empty again.
+    fn fetch(&mut self, alloc: Global, name: &str, into: &mut Vec<u8>) -> Fetch
+        requires { into.old.items ≡ [] }
+
+        // No fetch changes what is held.
+        ensures kept { told self.new ≡ told self.old }
+
+        // What each answer says of the name, and what is in the vector then.
+        ensures fetched { IsFetched (told self.old name.now) result into.new.items }
+
+        // What is held decides the answer, but for a fault and for want of memory.
+        ensures decided { IsDecided (told self.old name.now) result }
+
+        ensures counted { IsFetchCounted result (faults self.old) (faults self.new) };
+}

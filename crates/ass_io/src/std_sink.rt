@@ -1,0 +1,71 @@
+//! A sink over a standard stream.
+
+ghost use Rattle.std.specs.Prelude.{◌≡◌, None, OnOk};
+ghost use Rattle.std.specs.Io.KnownBytes.{Appends};
+ghost use Rattle.ass_io.specs.Counts.{IsOneMore};
+ghost use Rattle.ass_io.specs.Written.{IsPut, IsPutCounted};
+
+use crate::count::count_one;
+use crate::sink::{Put, Sink};
+use std::io::{self, Write};
+
+/// A sink over a standard stream, which tells no contents. A stream that takes nothing of a piece
+/// that isn't empty has failed.
+#[derive(Drop)]
+pub struct StdSink<W: Write + Drop> {
+    stream: W,
+    faults: u64,
+    puts: u64,
+}
+
+impl<W: Write + Drop> StdSink<W> {
+    ghost use Rattle.ass_io.specs.StdSinks.{stream_of};
+
+    /// A sink over this stream.
+    pub fn new(stream: W) -> StdSink<W>
+        ensures { stream_of result ≡ stream }
+    {
+        StdSink {
+            stream,
+            faults: 0,
+            puts: 0,
+        }
+    }
+}
+
+impl<W: Write + Drop> Sink for StdSink<W> {
+    ghost use Rattle.ass_io.specs.StdSinks.{stream_of};
+
+    ghost held = { λ _. None };
+
+    ghost faults = { λ s. s.faults };
+
+    ghost puts = { λ s. s.puts };
+
+    fn put(&mut self, piece: &[u8]) -> Put
+        ensures put { IsPut result None None piece.now }
+        ensures counted { IsPutCounted result self.old.faults self.new.faults }
+        ensures once { IsOneMore self.old.puts self.new.puts }
+
+        // A stream that tells what it holds has the whole piece at `Done`.
+        ensures written { result ≡ Put.Done →
+            Appends (W.contents (stream_of self.old)) (W.contents (stream_of self.new)) piece.now }
+    {
+        count_one(&mut self.puts);
+        match write_through(&mut self.stream, piece) {
+            Ok(()) => Put::Done,
+            Err(_) => {
+                count_one(&mut self.faults);
+                Put::Failed
+            }
+        }
+    }
+}
+
+// Writes a piece, and whatever the stream holds back.
+fn write_through<W: Write>(stream: &mut W, piece: &[u8]) -> io::Result<()>
+    ensures { OnOk result (Appends (W.contents stream.old) (W.contents stream.new) piece.now) }
+{
+    stream.write_all(piece)?;
+    stream.flush()
+}

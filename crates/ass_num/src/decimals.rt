@@ -1,0 +1,64 @@
+//! Decimal numbers: thousandths at the front of a text, and whole numbers.
+
+ghost use Rattle.std.specs.Prelude.{ℤ, ◌≤◌, IfSome, IfNone};
+ghost use Rattle.ass_num.specs.Fronts.{IsLongestFront, HasNoFront};
+ghost use Rattle.ass_num.specs.Numerals.{IsHeldDecimal, IsMilli, IsWhole};
+
+use crate::Milli;
+use crate::digits::{blanks, decimal_digits, fraction_digits, sign};
+
+/// The greatest value that is read, in thousandths.
+const MOST: u64 = 1_000_000_000;
+
+/// The greatest whole number that is read.
+const MOST_WHOLE: u64 = 2_147_483_647;
+
+/// The longest front that is a number without a sign: its thousandths, or `MOST` if that is less,
+/// and its length.
+fn read_decimal(text: &[u8]) -> Option<(u64, usize)>
+    ensures some { IfSome result (λ read. IsLongestFront IsHeldDecimal text.now read.0 read.1) }
+    ensures none { IfNone result (HasNoFront IsHeldDecimal text.now) }
+    ensures held { IfSome result (λ read. read.0 ≤ MOST) }
+{
+    let (whole, digits) = decimal_digits(text);
+    if digits < text.len() && text[digits] == b'.' {
+        let (fraction, more) = fraction_digits(&text[digits + 1..]);
+        if digits + more == 0 {
+            return None;
+        }
+        Some(((whole * 1_000 + fraction).min(MOST), digits + 1 + more))
+    } else if digits == 0 {
+        None
+    } else {
+        Some(((whole * 1_000).min(MOST), digits))
+    }
+}
+
+/// The longest front of a text that is a number: its value in thousandths, cut toward zero and
+/// held within a million on both sides, and its length.
+pub fn read_milli(text: &[u8]) -> Option<(Milli, usize)>
+    ensures some { IfSome result (λ read. IsLongestFront IsMilli text.now read.0 read.1) }
+    ensures none { IfNone result (HasNoFront IsMilli text.now) }
+{
+    let (minus, len) = sign(text);
+    let (thousandths, digits) = read_decimal(&text[len..])?;
+    let value = thousandths as i64;
+    Some((if minus { -value } else { value }, len + digits))
+}
+
+/// A whole number within 2,147,483,647 on both sides that is all of a text but blanks.
+pub fn read_whole(text: &[u8]) -> Option<i32>
+    ensures some { IfSome result (IsWhole text.now) }
+    ensures none { IfNone result ((whole : ℤ) → IsWhole text.now whole → ⊥) }
+{
+    let before = blanks(text);
+    let (minus, len) = sign(&text[before..]);
+    let start = before + len;
+    let (number, digits) = decimal_digits(&text[start..]);
+    let end = start + digits;
+    if digits == 0 || number > MOST_WHOLE || end + blanks(&text[end..]) < text.len() {
+        return None;
+    }
+    let whole = number as i32;
+    Some(if minus { -whole } else { whole })
+}

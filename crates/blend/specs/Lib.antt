@@ -1,0 +1,5 @@
+pub mod Blending
+pub mod Canvases
+pub mod Lending
+pub mod Areas
+pub mod Stencils

@@ -1,0 +1,104 @@
+//! Canvases.
+
+ghost use Rattle.std.specs.Prelude.{◌≡◌, ◌≤◌, ◌*◌, length, replicate, IfOk};
+ghost use Rattle.blend.specs.Canvases.{black, drawn};
+ghost use Rattle.blend.specs.Stencils.{plain_of};
+
+use crate::drawing::draw_rows;
+use crate::stencil::Stencil;
+use ass_num::{Mask, Mem, Rgba, Size};
+use std::alloc::Global;
+use std::marker::Model;
+
+/// A picture that images are drawn on: three bytes for each pixel, red, green and blue, row by row from the top left.
+#[derive(Debug, Drop)]
+pub struct Canvas {
+    w: u32,
+    h: u32,
+    bytes: Vec<u8>,
+}
+
+impl Model for Canvas {
+    ghost use Rattle.std.specs.Prelude.{◌≡◌, ◌*◌, length};
+    ghost use Rattle.blend.specs.Canvases.{PlainCanvas};
+
+    ghost Value = { PlainCanvas };
+
+    ghost view = { λ c. record { w = c.w; h = c.h; bytes = c.bytes.items } };
+
+    ghost invariant = { λ c. length c.bytes.items ≡ 3 * (c.w * c.h) };
+}
+
+impl Canvas {
+    ghost use Rattle.std.specs.Borrow.{sem};
+    ghost use Rattle.blend.specs.Lending.{LendsPixels};
+
+    /// A black canvas, whose sides are at most 4,096 pixels long.
+    pub fn new(alloc: Global, size: &Size) -> Mem<Canvas>
+        requires wide { size.now.w ≤ 4096 }
+        requires high { size.now.h ≤ 4096 }
+        ensures { IfOk result (λ c. c ≡ black size.now.w size.now.h) }
+    {
+        let count = 3 * (size.w as usize * size.h as usize);
+        Ok(Canvas {
+            w: size.w,
+            h: size.h,
+            bytes: vec![in alloc; 0; count]?,
+        })
+    }
+
+    /// The bytes of the pixels, three for each, row by row.
+    pub fn pixels(&self) -> &[u8]
+        ensures bytes { result.now ≡ self.now.bytes }
+        ensures count { length result.now ≡ 3 * (self.now.w * self.now.h) }
+    {
+        self.bytes.as_slice()
+    }
+
+    /// The same bytes, to be written.
+    pub fn pixels_mut(&mut self) -> &mut [u8]
+        ensures* writes_back { sem 𝓛 (LendsPixels self.entry result) }
+        ensures value { result.now ≡ self.old.bytes }
+        ensures count { length result.now ≡ 3 * (self.old.w * self.old.h) }
+    {
+        self.bytes.as_mut_slice()
+    }
+
+    /// Draws an image: one step of the fold that makes a picture. It takes no memory.
+    pub fn draw(
+        &mut self,
+        mask: &Mask,
+        x: i32,
+        y: i32,
+        left: Rgba,
+        right: Rgba,
+        edge: i32,
+        stencil: &Stencil<'_>,
+    )
+        ensures { self.new ≡ drawn self.old (record {
+          mask = mask.now;
+          x = x;
+          y = y;
+          left = left;
+          right = right;
+          edge = edge;
+          stencil = plain_of stencil.now;
+        }) }
+    {
+        let w = self.w;
+        let h = self.h;
+        draw_rows(
+            self.bytes.as_mut_slice(),
+            w,
+            0,
+            h,
+            mask,
+            x,
+            y,
+            left,
+            right,
+            edge,
+            stencil,
+        );
+    }
+}

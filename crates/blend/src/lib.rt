@@ -1,0 +1,15 @@
+//! Blending images into a canvas.
+#![tactic(auto)]
+
+mod area;
+mod canvas;
+mod drawing;
+mod fill;
+mod span;
+mod stencil;
+#[cfg(test)]
+mod tests;
+
+pub use canvas::Canvas;
+pub use drawing::draw_rows;
+pub use stencil::Stencil;

@@ -1,0 +1,69 @@
+//! Blending a colour into neighbouring pixels of a row.
+
+ghost use Rattle.std.specs.Prelude.{◌≡◌, ◌≤◌, ◌+◌, ◌*◌, ◌-◌, ◌/◌, length, slice_index, if◌then◌else◌};
+ghost use Rattle.blend.specs.Blending.{by_255, blended, tint_of, tinted};
+
+use ass_num::Rgba;
+
+/// A product of two numbers in 255ths, rounded: (v + 127) / 255.
+fn by_255(v: u16) -> u8
+    requires { v ≤ 65025 }
+    ensures { result ≡ by_255 v }
+{
+    let t = v + 128;
+    ((t + (t >> 8)) >> 8) as u8
+}
+
+/// A channel of a pixel under a channel of a colour.
+fn blended(under: u8, over: u8, weight: u8) -> u8
+    ensures { result ≡ blended under over weight }
+{
+    let weight = u16::from(weight);
+    by_255(u16::from(under) * (255 - weight) + u16::from(over) * weight)
+}
+
+/// Blends a colour into one pixel.
+fn tint_pixel(pixel: &mut [u8], colour: Rgba, weight: u8)
+    requires { length pixel.old ≡ 3 }
+    ensures { pixel.new ≡ tinted (λ _. record { colour = colour; weight = weight }) 0 pixel.old }
+{
+    pixel[0] = blended(pixel[0], colour.r, weight);
+    pixel[1] = blended(pixel[1], colour.g, weight);
+    pixel[2] = blended(pixel[2], colour.b, weight);
+}
+
+/// The weight of a colour at a coverage.
+fn weight(cover: u8, colour: Rgba) -> u8
+    ensures { result ≡ by_255 (cover * (255 - colour.a)) }
+{
+    by_255(u16::from(cover) * (255 - u16::from(colour.a)))
+}
+
+/// Blends a colour into pixels that are covered so far.
+pub fn tint_span(pixels: &mut [u8], cover: &[u8], colour: Rgba)
+    requires { length pixels.old ≡ 3 * length cover.now }
+    ensures { pixels.new ≡ tinted (λ k. tint_of colour (slice_index cover.now k)) 0 pixels.old }
+{
+    for (i, m) in cover.iter().enumerate() {
+        if *m != 0 {
+            tint_pixel(&mut pixels[3 * i..3 * i + 3], colour, weight(*m, colour));
+        }
+    }
+}
+
+/// Blends a colour into pixels that are covered so far and under a clip, or at `inverse` under what the clip leaves.
+pub fn tint_clipped_span(pixels: &mut [u8], cover: &[u8], clip: &[u8], inverse: bool, colour: Rgba)
+    requires pixels { length pixels.old ≡ 3 * length cover.now }
+    requires clip { length clip.now ≡ length cover.now }
+    ensures { pixels.new ≡ tinted (λ k. tint_of colour (by_255 (slice_index cover.now k
+        * (if inverse then 255 - slice_index clip.now k else slice_index clip.now k)))) 0 pixels.old }
+{
+    let hidden = if inverse { 255 } else { 0 };
+    for (i, m) in cover.iter().enumerate() {
+        if *m != 0 {
+            let shown = clip[i].abs_diff(hidden);
+            let left = by_255(u16::from(*m) * u16::from(shown));
+            tint_pixel(&mut pixels[3 * i..3 * i + 3], colour, weight(left, colour));
+        }
+    }
+}

@@ -1,0 +1,16 @@
+pub mod AskLemmas
+pub mod EvictLemmas
+pub mod FillLaws
+pub mod HistoryLemmas
+pub mod InsertLemmas
+pub mod PinLaws
+pub mod PinLemmas
+pub mod PlacesLemmas
+pub mod RecencyLemmas
+pub mod Searching
+pub mod StateLemmas
+pub mod SumLemmas
+pub mod TakeLemmas
+pub mod TieLemmas
+pub mod TrimLemmas
+pub mod WriteLemmas

@@ -1,0 +1,7 @@
+use Rattle.std.proofs.Common.{◌≡◌, ◌≤◌, sym, ap, ◌∙◌, arith, length}
+use Rattle.evict_core.specs.Machine.{one_pin_more, one_pin_less, Ready, is_idle}
+use Rattle.evict_core.proofs.SumLemmas.{length-to_front, length-change, length-remove, length-without_last-le}
+use Rattle.evict_core.proofs.entries.Entries.pin.Goals as goal
+
+pub invariant_of-self : goal.invariant_of-self
+invariant_of-self g c = (omega (arith, ap length c.add_pin.ensures, length-to_front (g.K.PartialEq.eq c.args.key.now) one_pin_more c.self.inside.list, c.self.invariant.0), c.self.invariant.1)

@@ -1,0 +1,44 @@
+-- What the calls of `Entries` answer, by the machine.
+use Rattle.std.specs.Prelude.{◌≡◌, Bool, ℕ, ◌⊎◌, length, Option, Some, None}
+use Rattle.std.specs.Arc.{arc_value}
+use Rattle.evict_core.specs.Machine.{Status, Flying, Ready, State, Step, maker_in, status_of, answer_of, after, unpinned, pinned}
+use Rattle.evict_core.specs.Machine as machine
+use Rattle.evict_core.specs.declared.ask.Ask.{Ask}
+use Rattle.evict_core.specs.declared.ask.Ask.TheVariants.{Hit, Claim, Crowded, OutOfMemory}
+use Rattle.evict_core.specs.declared.ask.Ask.TheVariants as answered
+use Rattle.evict_core.specs.declared.counts.Totals.{Totals}
+
+module _ {V : Type 0} where
+  abbrev pub ready_pins : Option (Status V) → Option ℕ
+  ready_pins None = None
+  ready_pins (Some (Flying number)) = None
+  ready_pins (Some (Ready pins cost value)) = Some pins
+
+  abbrev pub ready_value : Option (Status V) → Option V
+  ready_value None = None
+  ready_value (Some (Flying number)) = None
+  ready_value (Some (Ready pins cost value)) = Some value
+
+module _ {K V : Type 0} where
+  abbrev pub totals_of : State K V → Totals
+  totals_of s = record {
+    entries = length s.entries;
+    unpinned = unpinned s.entries;
+    pinned = pinned s.entries;
+    budget = s.budget;
+    hits = s.counts.hits;
+    claims = s.counts.claims;
+    fills = s.counts.fills;
+    fails = s.counts.fails;
+    crowded = s.counts.crowded;
+    evictions = s.counts.evictions;
+  }
+
+module _ {K V : Type 0} (eq : K → K → Bool) (old : State K V) (key : K) (number : ℕ) where
+  -- the step that the machine answers the ask with was made; a key that is being made and want of memory change nothing
+  abbrev pub IsAnswer : Ask V → State K V → Type 0
+  IsAnswer (Hit value) new = (answer_of eq old key ≡ Some machine.Hit) × (ready_value (status_of eq old key) ≡ Some (arc_value value)) × (new ≡ after eq old number (machine.Ask key machine.Hit))
+  IsAnswer Claim new = (answer_of eq old key ≡ Some machine.Claim) × (new ≡ after eq old number (machine.Ask key machine.Claim))
+  IsAnswer Crowded new = (answer_of eq old key ≡ Some machine.Crowded) × (new ≡ after eq old number (machine.Ask key machine.Crowded))
+  IsAnswer (answered.Flying maker) new = (maker_in (status_of eq old key) ≡ Some maker) × (new ≡ old)
+  IsAnswer OutOfMemory new = new ≡ old

@@ -1,0 +1,283 @@
+//! The entries of a cache.
+ghost use Rattle.std.specs.Prelude.{◌≡◌, ℕ, ◌+◌, ◌<◌, ◌≤◌, true, false, ◌||◌, Some, None, length, nat_lt, IfOk, IsSome, option_map};
+ghost use Rattle.std.specs.Arc.{arc_value};
+ghost use Rattle.evict_core.specs.Machine.{Hit, Claim, Crowded, Ask as ask_step, Fill, Fail, Unpin, Limits, Flying, one_pin_less, has_idle, status_of, pins_in, maker_in, is_within, evict, trim, answer_of, after, hit};
+ghost use Rattle.evict_core.specs.History.{opening};
+ghost use Rattle.evict_core.specs.Recency.{change};
+ghost use Rattle.evict_core.specs.Asked.{IsAnswer, ready_pins, ready_value, totals_of};
+
+use crate::ask::Ask;
+use crate::counts::{Counts, Totals, raise};
+use crate::ledger::Ledger;
+use crate::stored::Stored;
+use ass_num::Mem;
+use std::alloc::Global;
+use std::hash::Hash;
+use std::marker::Model;
+use std::sync::Arc;
+
+/// A list of keys, the most recently used first, with a limit of entries and a budget for the cost of those that no pin holds.
+/// Each call is one step of the cache machine. All but the evictions take O(1) expected.
+#[derive(Drop)]
+pub struct Entries<K: Eq + Hash, V> {
+    list: Ledger<K, V>,
+    limit: u32,
+    budget: u64,
+    counts: Counts,
+}
+
+impl<K: Eq + Hash, V> Model for Entries<K, V> {
+    ghost use Rattle.std.specs.Prelude.{◌≤◌, length};
+    ghost use Rattle.evict_core.specs.Machine.{State};
+    ghost use Rattle.evict_core.specs.Codes.{state_code};
+
+    ghost Value = { State K V };
+
+    ghost coded = { state_code K.code V.code };
+
+    ghost view = { λ e. record { entries = e.list; limit = e.limit; budget = e.budget; counts = e.counts } };
+
+    ghost invariant = { λ e. (length e.list ≤ 65536) × (e.limit ≤ 65536) };
+}
+
+impl<K: Eq + Hash, V> Entries<K, V> {
+    /// No entries, with a limit from 1 to 65,536 and a budget of at most 2^40.
+    pub fn open(alloc: Global, entries: u32, budget: u64) -> Mem<Entries<K, V>>
+        requires least { 1 ≤ entries }
+        requires most { entries ≤ 65536 }
+        requires budget { budget ≤ 1099511627776 }
+        ensures { IfOk result (λ e. e ≡ opening entries budget) }
+    {
+        let list = Ledger::new(alloc)?;
+        Ok(Entries {
+            list,
+            limit: entries,
+            budget,
+            counts: Counts {
+                hits: 0,
+                claims: 0,
+                fills: 0,
+                fails: 0,
+                crowded: 0,
+                evictions: 0,
+            },
+        })
+    }
+
+    /// Asks for the key under a number. A hit is the most recent entry from then on, and has one pin more. A claim is the leave to
+    /// make the value, which the number then does. Want of memory changes nothing here, but the key is gone.
+    pub fn ask(&mut self, key: K, number: u32) -> Ask<V>
+    where
+        K: Drop,
+        V: Drop,
+        ensures { IsAnswer K.eq self.old key number result self.new }
+    {
+        match self.list.get(&key) {
+            Some(Stored::Making(maker)) => Ask::Flying(*maker),
+            Some(Stored::Made(pins, _, value)) => {
+                if *pins < u32::MAX {
+                    let Ok(value) = Arc::try_clone(value) else {
+                        return Ask::OutOfMemory;
+                    };
+                    self.pin(&key);
+                    return Ask::Hit(value);
+                }
+                self.refuse();
+                Ask::Crowded
+            }
+            None => self.claim(key, number),
+        }
+    }
+
+    /// The key that is being made has its value, with one pin, and is the most recent. The cost is at most 2^32.
+    pub fn fill(&mut self, key: &K, value: Arc<V>, cost: u64)
+    where
+        V: Drop,
+        requires flying { IsSome (maker_in (status_of K.eq self.old key.now)) }
+        requires cost { cost ≤ 4294967296 }
+        ensures { (m : ℕ) → self.new ≡ after K.eq self.old m (Fill key.now cost (arc_value value)) }
+    {
+        self.list.fill(key, cost, value);
+        self.counts.fills = raise(self.counts.fills);
+    }
+
+    /// The key that is being made is taken away.
+    pub fn fail(&mut self, key: &K)
+    where
+        K: Drop,
+        V: Drop,
+        requires { IsSome (maker_in (status_of K.eq self.old key.now)) }
+        ensures { (m : ℕ) → self.new ≡ after K.eq self.old m (Fail key.now) }
+    {
+        self.list.remove(key);
+        self.counts.fails = raise(self.counts.fails);
+    }
+
+    /// One pin of the key is given back, and then as few entries are evicted as the limits want.
+    pub fn unpin(&mut self, key: &K)
+    where
+        K: Drop,
+        V: Drop,
+        requires { 1 ≤ pins_in (status_of K.eq self.old key.now) }
+        ensures { (m : ℕ) → self.new ≡ after K.eq self.old m (Unpin key.now) }
+    {
+        self.give_back(key);
+        self.trim();
+    }
+
+    /// New limits, the entries from 1 to 65,536 and the budget at most 2^40, and then as few entries are evicted as they want.
+    pub fn set_limits(&mut self, entries: u32, budget: u64)
+    where
+        K: Drop,
+        V: Drop,
+        requires least { 1 ≤ entries }
+        requires most { entries ≤ 65536 }
+        requires budget { budget ≤ 1099511627776 }
+        ensures { (m : ℕ) → self.new ≡ after K.eq self.old m (Limits entries budget) }
+    {
+        self.limit = entries;
+        self.budget = budget;
+        self.trim();
+    }
+
+    /// The pins of a key whose value is made.
+    pub fn pins_of(&self, key: &K) -> Option<u32>
+        ensures { result ≡ ready_pins (status_of K.eq self.now key.now) }
+    {
+        match self.list.get(key) {
+            Some(Stored::Made(pins, _, _)) => Some(*pins),
+            _ => None,
+        }
+    }
+
+    /// The value of a key whose value is made.
+    pub fn value_of(&self, key: &K) -> Mem<Option<Arc<V>>>
+        ensures { IfOk result (λ o. option_map arc_value o ≡ ready_value (status_of K.eq self.now key.now)) }
+    {
+        match self.list.get(key) {
+            Some(Stored::Made(_, _, value)) => Ok(Some(Arc::try_clone(value)?)),
+            _ => Ok(None),
+        }
+    }
+
+    /// The hit of an ask, without the value. It takes no memory.
+    pub fn pin(&mut self, key: &K)
+        requires { answer_of K.eq self.old key.now ≡ Some Hit }
+        ensures { (m : ℕ) → self.new ≡ after K.eq self.old m (ask_step key.now Hit) }
+    {
+        self.list.add_pin(key);
+        self.counts.hits = raise(self.counts.hits);
+    }
+
+    /// The counts and sums.
+    pub fn totals(&self) -> Totals
+        ensures { result ≡ totals_of self.now }
+    {
+        Totals {
+            entries: self.list.len() as u32,
+            unpinned: self.list.unpinned(),
+            pinned: self.list.pinned(),
+            budget: self.budget,
+            hits: self.counts.hits,
+            claims: self.counts.claims,
+            fills: self.counts.fills,
+            fails: self.counts.fails,
+            crowded: self.counts.crowded,
+            evictions: self.counts.evictions,
+        }
+    }
+
+    // An ask of a key that isn't there.
+    fn claim(&mut self, key: K, number: u32) -> Ask<V>
+    where
+        K: Drop,
+        V: Drop,
+        requires { status_of K.eq self.old key ≡ None }
+        ensures { IsAnswer K.eq self.old key number result self.new }
+    {
+        if self.list.len() < self.limit as usize {
+            return self.claim_free(key, number);
+        }
+        if !self.list.has_idle() {
+            self.refuse();
+            return Ask::Crowded;
+        }
+        self.claim_full(key, number)
+    }
+
+    fn claim_free(&mut self, key: K, number: u32) -> Ask<V>
+    where
+        K: Drop,
+        V: Drop,
+        requires absent { status_of K.eq self.old key ≡ None }
+        requires room { length self.old.entries < self.old.limit }
+        ensures { IsAnswer K.eq self.old key number result self.new }
+    {
+        let Ok(_) = self.list.insert(key, number) else {
+            return Ask::OutOfMemory;
+        };
+        self.counts.claims = raise(self.counts.claims);
+        Ask::Claim
+    }
+
+    // The memory is taken before anything is evicted: the new entry, which is being made, isn't what goes.
+    fn claim_full(&mut self, key: K, number: u32) -> Ask<V>
+    where
+        K: Drop,
+        V: Drop,
+        requires absent { status_of K.eq self.old key ≡ None }
+        requires full { self.old.limit ≤ length self.old.entries }
+        requires idle { has_idle self.old.entries ≡ true }
+        ensures { IsAnswer K.eq self.old key number result self.new }
+    {
+        let Ok(_) = self.list.insert(key, number) else {
+            return Ask::OutOfMemory;
+        };
+        self.list.evict();
+        self.counts.evictions = raise(self.counts.evictions);
+        self.counts.claims = raise(self.counts.claims);
+        Ask::Claim
+    }
+
+    fn refuse(&mut self)
+        ensures { (k : K) (m : ℕ) → self.new ≡ after K.eq self.old m (ask_step k Crowded) }
+    {
+        self.counts.crowded = raise(self.counts.crowded);
+    }
+
+    fn give_back(&mut self, key: &K)
+        requires { 1 ≤ pins_in (status_of K.eq self.old key.now) }
+        ensures { self.new ≡ record self.old { entries = change (K.eq key.now) one_pin_less self.old.entries } }
+    {
+        self.list.drop_pin(key);
+    }
+
+    fn trim(&mut self)
+    where
+        K: Drop,
+        V: Drop,
+        ensures { self.new ≡ trim self.old }
+    {
+        while !self.is_within() {
+            self.evict();
+        }
+    }
+
+    fn is_within(&self) -> bool
+        ensures { result ≡ is_within self.now }
+    {
+        !self.list.has_idle()
+            || self.list.unpinned() <= self.budget && self.list.len() <= self.limit as usize
+    }
+
+    fn evict(&mut self)
+    where
+        K: Drop,
+        V: Drop,
+        requires { has_idle self.old.entries ≡ true }
+        ensures { self.new ≡ evict self.old }
+    {
+        self.list.evict();
+        self.counts.evictions = raise(self.counts.evictions);
+    }
+}

@@ -1,0 +1,17 @@
+//! The entries of a cache: which are kept, which are evicted, and the laws of every history.
+#![tactic(auto)]
+
+mod ask;
+mod counts;
+mod entries;
+mod laws;
+mod ledger;
+mod recency;
+mod stored;
+#[cfg(test)]
+mod tests;
+
+pub use ask::Ask;
+pub use counts::{Counts, Totals};
+pub use entries::Entries;
+pub use laws::{budget, limit, pins, single_fill, trims};

@@ -1,0 +1,217 @@
+//! The worked rows of calls, and random steps beside a plain list.
+ghost use Rattle.std.specs.Prelude.{◌≡◌, ◌<◌, ◌≤◌};
+
+mod plain;
+
+use crate::{Ask, Entries, Totals};
+use plain::Plain;
+use std::alloc::Global;
+use std::sync::Arc;
+use std::test::Fail;
+
+/// A call. A fill or a fail first asks, and is made where the key is being made.
+#[derive(Clone, Copy, Debug)]
+pub enum Call {
+    Ask(u32),
+    Fill(u32, u64),
+    Fail(u32),
+    Pin(u32),
+    Unpin(u32),
+    Limits(u32, u64),
+}
+
+#[derive(Clone, Copy, Debug, PartialEq, Eq)]
+pub enum Reply {
+    Hit(u32),
+    Claim,
+    Flying(u32),
+    Crowded,
+    OutOfMemory,
+    Done,
+    Refused,
+}
+
+fn reply_of(answer: Ask<u32>) -> Reply {
+    match answer {
+        Ask::Hit(value) => Reply::Hit(*value),
+        Ask::Claim => Reply::Claim,
+        Ask::Flying(number) => Reply::Flying(number),
+        Ask::Crowded => Reply::Crowded,
+        Ask::OutOfMemory => Reply::OutOfMemory,
+    }
+}
+
+// The value of a key is its number and ten thousand more.
+fn fill(alloc: Global, entries: &mut Entries<u32, u32>, key: u32, cost: u64) -> Result<Reply, Fail>
+    requires { cost ≤ 4294967296 }
+{
+    let value = Arc::new(alloc, key.wrapping_add(10_000))?;
+    Ok(match entries.ask(key, 7) {
+        Ask::Flying(_) => {
+            entries.fill(&key, value, cost);
+            Reply::Done
+        }
+        answer => reply_of(answer),
+    })
+}
+
+fn fail(entries: &mut Entries<u32, u32>, key: u32) -> Reply {
+    match entries.ask(key, 7) {
+        Ask::Flying(_) => {
+            entries.fail(&key);
+            Reply::Done
+        }
+        answer => reply_of(answer),
+    }
+}
+
+fn pin(entries: &mut Entries<u32, u32>, key: u32) -> Reply {
+    match entries.pins_of(&key) {
+        Some(pins) => {
+            if pins < u32::MAX {
+                entries.pin(&key);
+                return Reply::Done;
+            }
+            Reply::Refused
+        }
+        None => Reply::Refused,
+    }
+}
+
+fn unpin(entries: &mut Entries<u32, u32>, key: u32) -> Reply {
+    match entries.pins_of(&key) {
+        Some(pins) => {
+            if pins > 0 {
+                entries.unpin(&key);
+                return Reply::Done;
+            }
+            Reply::Refused
+        }
+        None => Reply::Refused,
+    }
+}
+
+fn make(alloc: Global, entries: &mut Entries<u32, u32>, call: Call) -> Result<Reply, Fail> {
+    Ok(match call {
+        Call::Ask(key) => reply_of(entries.ask(key, 7)),
+        Call::Fill(key, cost) => fill(alloc, entries, key, cost.min(1 << 32))?,
+        Call::Fail(key) => fail(entries, key),
+        Call::Pin(key) => pin(entries, key),
+        Call::Unpin(key) => unpin(entries, key),
+        Call::Limits(limit, budget) => {
+            entries.set_limits(limit.clamp(1, 65_536), budget.min(1 << 40));
+            Reply::Done
+        }
+    })
+}
+
+const A: u32 = 1;
+
+const B: u32 = 2;
+
+const C: u32 = 3;
+
+// One pin holds a key: nobody may evict it. 65 is within 100, and isn't within 100 twice.
+const ROWS: [(Call, Reply, u32, u64); 45] = [
+    (Call::Limits(1, 100), Reply::Done, 0, 0),
+    (Call::Ask(A), Reply::Claim, 1, 0),
+    (Call::Ask(A), Reply::Flying(7), 1, 0),
+    (Call::Ask(B), Reply::Crowded, 1, 0),
+    (Call::Fill(A, 65), Reply::Done, 1, 0),
+    (Call::Pin(A), Reply::Done, 1, 0),
+    (Call::Unpin(A), Reply::Done, 1, 0),
+    (Call::Unpin(A), Reply::Done, 1, 65),
+    (Call::Unpin(A), Reply::Refused, 1, 65),
+    (Call::Ask(B), Reply::Claim, 1, 0),
+    (Call::Pin(A), Reply::Refused, 1, 0),
+    (Call::Fail(B), Reply::Done, 0, 0),
+    (Call::Ask(B), Reply::Claim, 1, 0),
+    (Call::Fail(B), Reply::Done, 0, 0),
+    // Two of 65 where 65 is the budget: the less recent one goes.
+    (Call::Limits(2, 65), Reply::Done, 0, 0),
+    (Call::Ask(A), Reply::Claim, 1, 0),
+    (Call::Fill(A, 65), Reply::Done, 1, 0),
+    (Call::Ask(B), Reply::Claim, 2, 0),
+    (Call::Fill(B, 65), Reply::Done, 2, 0),
+    (Call::Unpin(A), Reply::Done, 2, 65),
+    (Call::Unpin(B), Reply::Done, 1, 65),
+    (Call::Ask(B), Reply::Hit(10_002), 1, 0),
+    (Call::Limits(2, 0), Reply::Done, 1, 0),
+    (Call::Unpin(B), Reply::Done, 0, 0),
+    // A smaller limit of entries: what is pinned stays above it, and nothing comes in.
+    (Call::Limits(2, 1_000), Reply::Done, 0, 0),
+    (Call::Ask(A), Reply::Claim, 1, 0),
+    (Call::Fill(A, 65), Reply::Done, 1, 0),
+    (Call::Ask(B), Reply::Claim, 2, 0),
+    (Call::Fill(B, 65), Reply::Done, 2, 0),
+    (Call::Unpin(A), Reply::Done, 2, 65),
+    (Call::Limits(1, 1_000), Reply::Done, 1, 0),
+    (Call::Ask(C), Reply::Crowded, 1, 0),
+    (Call::Unpin(B), Reply::Done, 1, 65),
+    (Call::Ask(C), Reply::Claim, 1, 0),
+    (Call::Fill(C, 65), Reply::Done, 1, 0),
+    (Call::Unpin(C), Reply::Done, 1, 65),
+    // A hit makes an entry the most recent.
+    (Call::Limits(2, 1_000), Reply::Done, 1, 65),
+    (Call::Ask(A), Reply::Claim, 2, 65),
+    (Call::Fill(A, 1), Reply::Done, 2, 65),
+    (Call::Unpin(A), Reply::Done, 2, 66),
+    (Call::Ask(C), Reply::Hit(10_003), 2, 1),
+    (Call::Unpin(C), Reply::Done, 2, 66),
+    (Call::Limits(1, 1_000), Reply::Done, 1, 65),
+    (Call::Ask(C), Reply::Hit(10_003), 1, 0),
+    (Call::Ask(A), Reply::Crowded, 1, 0),
+];
+
+// A number from 0 on and below the bound.
+fn draw(seed: &mut u64, bound: u64) -> u64
+    requires { 0 < bound }
+    ensures { result < bound }
+{
+    *seed = seed
+        .wrapping_mul(6_364_136_223_846_793_005)
+        .wrapping_add(1_442_695_040_888_963_407);
+    (*seed >> 33) % bound
+}
+
+fn draw_call(seed: &mut u64) -> Call {
+    let key = (draw(seed, 9) & 0xff) as u32;
+    match draw(seed, 16) {
+        0..5 => Call::Ask(key),
+        5..9 => Call::Fill(key, draw(seed, 100)),
+        9 => Call::Fail(key),
+        10 => Call::Pin(key),
+        11..15 => Call::Unpin(key),
+        _ => Call::Limits((draw(seed, 7) & 0xff) as u32, draw(seed, 300)),
+    }
+}
+
+#[test]
+fn rows_and_random_steps(rt: HostRuntime) -> Result<(), Fail> {
+    let alloc = rt.alloc();
+    let mut entries: Entries<u32, u32> = Entries::open(alloc, 2, 100)?;
+    let mut plain = Plain::new(alloc, 2, 100);
+    for (i, (call, want, count, unpinned)) in ROWS.iter().enumerate() {
+        assert_eq!(rt; make(alloc, &mut entries, *call)?, *want, "row {i}");
+        assert_eq!(rt; plain.make(*call)?, *want, "row {i}");
+        let totals = entries.totals();
+        assert_eq!(rt; totals.entries, *count, "entries in row {i}");
+        assert_eq!(rt; totals.unpinned, *unpinned, "unpinned in row {i}");
+        assert_eq!(rt; totals, plain.totals(), "totals in row {i}");
+    }
+    assert_eq!(rt; entries.totals().evictions, 6);
+    assert_eq!(rt; entries.pins_of(&C), Some(1));
+    let value = entries.value_of(&C)?.ok_or("no value")?;
+    assert_eq!(rt; *value, 10_003);
+    let mut seed = 1;
+    for i in 0..4000 {
+        let call = draw_call(&mut seed);
+        assert_eq!(rt;
+            make(alloc, &mut entries, call)?,
+            plain.make(call)?,
+            "step {i}: {call:?}"
+        );
+        assert_eq!(rt; entries.totals(), plain.totals(), "totals at step {i}");
+    }
+    Ok(())
+}

@@ -1,0 +1,10 @@
+//! Layout of lines: where a paragraph is broken.
+#![tactic(auto)]
+
+mod breaks;
+mod filling;
+mod pens;
+#[cfg(test)]
+mod tests;
+
+pub use breaks::choose_breaks;

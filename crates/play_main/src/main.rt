@@ -1,0 +1,40 @@
+//! The program: it makes the real shelf, sinks and gate, and calls `top` with the words.
+#![tactic(auto)]
+
+use ass_io::{FileShelf, OpenGate, StdSink};
+use frame_play::{Status, top};
+use std::process::ExitCode;
+use std::{env, io};
+
+// The words after the program's name.
+fn words_of(rt: &HostRuntime) -> io::Result<Vec<String>> {
+    let mut words = Vec::new(rt.alloc());
+    for word in env::args(rt)?.skip(1) {
+        words.push(word)?;
+    }
+    Ok(words)
+}
+
+fn main(rt: HostRuntime) -> ExitCode {
+    let words = match words_of(&rt) {
+        Ok(words) => words,
+        Err(refused) if refused.kind() == io::ErrorKind::OutOfMemory => {
+            return ExitCode::from(Status::OutOfMemory.exit_status());
+        }
+        // Words that are no text spell no job.
+        Err(_) => Vec::new(rt.alloc()),
+    };
+    let mut shelf = FileShelf::new(rt);
+    let mut frames = StdSink::new(rt.stdout());
+    let mut report = StdSink::new(rt.stderr());
+    let status = top(
+        &rt,
+        rt.alloc(),
+        words.as_slice(),
+        &mut shelf,
+        &mut frames,
+        &mut report,
+        &OpenGate,
+    );
+    ExitCode::from(status.exit_status())
+}

@@ -1,0 +1,12 @@
+mod BetweenLemmas
+mod EdgeLemmas
+mod GrowthLemmas
+mod JoinLemmas
+mod LimitLemmas
+mod OutsideLemmas
+mod SignedLemmas
+mod SortLemmas
+mod SweepLemmas
+mod UniqueLemmas
+mod WalkLemmas
+mod WindingLemmas

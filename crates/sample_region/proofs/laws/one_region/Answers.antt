@@ -1,0 +1,5 @@
+use Rattle.sample_region.proofs.UniqueLemmas as law
+use Rattle.sample_region.proofs.laws.one_region.Goals as goal
+
+pub returns : goal.returns
+returns c = law.one_region

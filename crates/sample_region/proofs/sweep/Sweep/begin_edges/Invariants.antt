@@ -1,0 +1,10 @@
+use Rattle.std.proofs.Common.{◌≡◌, ◌≤ℤ◌, take, All}
+use Rattle.sample_region.specs.Edges.{unended}
+use Rattle.sample_region.proofs.sweep.Sweep.begin_edges.Given as goal
+
+abbrev pub invariant-loop-k : goal.invariant-loop-k
+invariant-loop-k l = record {
+  begun : l.self.begun ≡ l.k;
+  active : l.self.active.items ≡ unended l.y (take l.k l.edges);
+  above : All (λ e. e.upper.y ≤ℤ l.y) (take l.k l.edges);
+}

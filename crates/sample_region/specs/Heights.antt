@@ -1,0 +1,6 @@
+-- Points between two heights.
+use Rattle.std.specs.Prelude.{ℤ, ◌≤ℤ◌}
+use Rattle.ass_num.specs.declared.geometry.Point.{Point}
+
+abbrev pub IsBetween : ℤ → ℤ → Point → Type 0
+IsBetween low high p = (low ≤ℤ p.y) × (p.y ≤ℤ high)

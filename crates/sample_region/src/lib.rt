@@ -1,0 +1,17 @@
+//! Regions of samples: those inside an outline, and those of two regions together.
+#![tactic(auto)]
+
+mod cut;
+mod edges;
+mod either;
+mod growth;
+mod laws;
+mod region;
+mod row;
+mod sweep;
+#[cfg(test)]
+mod tests;
+
+pub use either::union;
+pub use laws::one_region;
+pub use region::region_of;

@@ -1,0 +1,122 @@
+//! The sweep over the rows: which edges cross a row, and where.
+
+ghost use Rattle.std.specs.Prelude.{◌≡◌, ℤ, ◌≤ℤ◌, ◌<ℤ◌, ◌≤◌, ◌++◌, ◌∷◌, [], All, List, map, take, drop, cond, int_lt, length, OnOk, IsPermutation};
+ghost use Rattle.sample_region.specs.Edges.{IsCrossed, IsSwept, unended};
+ghost use Rattle.sample_region.specs.Crossings.{IsAscending, IsSweepable, crossing_at, row_crossings};
+
+use crate::cut::cut;
+use crate::edges::Edge;
+use ass_num::Mem;
+use std::alloc::Global;
+
+/// The first sample of a row that an edge doesn't pass on its right, and whether the ring goes down along the edge.
+#[derive(Clone, Copy)]
+pub struct Crossing {
+    pub at: i32,
+    pub down: bool,
+}
+
+/// How far the sweep has come: how many edges have begun, those of them that may cross a later row, and the crossings of a row.
+#[derive(Drop)]
+pub struct Sweep {
+    begun: usize,
+    active: Vec<Edge>,
+    pub crossings: Vec<Crossing>,
+}
+
+impl Sweep {
+    ghost use Rattle.sample_region.specs.declared.edges.Edge.{Edge};
+
+    /// A sweep that hasn't begun.
+    pub fn new(alloc: Global) -> Sweep
+        ensures { (y : ℤ) → (edges : List Edge) → IsSwept y edges result.begun result.active.items }
+    {
+        Sweep {
+            begun: 0,
+            active: Vec::new(alloc),
+            crossings: Vec::new(alloc),
+        }
+    }
+
+    /// Takes an edge in, unless it ends above the row at `y`.
+    fn take_in(&mut self, e: Edge, y: i64) -> Mem<()>
+        ensures active { OnOk result (self.new.active.items ≡ self.old.active.items ++ cond (int_lt y e.lower.y) (e ∷ []) []) }
+        ensures begun { self.new.begun ≡ self.old.begun }
+    {
+        if y < e.lower.y {
+            self.active.push(e)?;
+            return Ok(());
+        }
+        Ok(())
+    }
+
+    /// Takes in the edges that begin above the row at `y` or on it; those that end above it are dropped already.
+    fn begin_edges(&mut self, edges: &[Edge], y: i64) -> Mem<()>
+        requires sweepable { IsSweepable edges.now }
+        requires active { self.old.active.items ≡ unended y (take self.old.begun edges.now) }
+        requires above { All (λ e. e.upper.y ≤ℤ y) (take self.old.begun edges.now) }
+        requires within { self.old.begun ≤ length edges.now }
+        ensures active { OnOk result (self.new.active.items ≡ unended y (take self.new.begun edges.now)) }
+        ensures above { OnOk result (All (λ e. e.upper.y ≤ℤ y) (take self.new.begun edges.now)) }
+        ensures below { OnOk result (All (λ e. y <ℤ e.upper.y) (drop self.new.begun edges.now)) }
+        ensures within { OnOk result (self.new.begun ≤ length edges.now) }
+    {
+        for k in self.begun..edges.len() {
+            let e = edges[k];
+            if y < e.upper.y {
+                return Ok(());
+            }
+            self.take_in(e, y)?;
+            self.begun = k + 1;
+        }
+        Ok(())
+    }
+
+    /// Moves on to the row at `y`, and finds its crossings in ascending order.
+    pub fn advance(&mut self, edges: &[Edge], y: i64) -> Mem<()>
+        requires sweepable { IsSweepable edges.now }
+        requires swept { IsSwept y edges.now self.old.begun self.old.active.items }
+        ensures crossings { OnOk result (IsPermutation (row_crossings y edges.now) self.new.crossings.items) }
+        ensures ascending { OnOk result (IsAscending self.new.crossings.items) }
+        ensures swept { OnOk result ((z : ℤ) → y ≤ℤ z → IsSwept z edges.now self.new.begun self.new.active.items) }
+    {
+        drop_ended(&mut self.active, y);
+        self.begin_edges(edges, y)?;
+        cross(self.active.as_slice(), y, &mut self.crossings)?;
+        sort(&mut self.crossings);
+        Ok(())
+    }
+}
+
+/// Drops the edges that end above the row at `y`.
+fn drop_ended(active: &mut Vec<Edge>, y: i64)
+    ensures { active.new.items ≡ unended y active.old.items }
+{
+    active.retain(
+        |e| -> bool
+            ensures { result ≡ int_lt y e.now.lower.y }
+        { y < e.lower.y },
+    );
+}
+
+/// The crossings of edges with the row at `y`.
+fn cross(active: &[Edge], y: i64, crossings: &mut Vec<Crossing>) -> Mem<()>
+    requires { All (IsCrossed y) active.now }
+    ensures { OnOk result (crossings.new.items ≡ map (crossing_at y) active.now) }
+{
+    crossings.clear();
+    for e in active {
+        crossings.push(Crossing {
+            at: cut(e.upper, e.lower, y),
+            down: e.down,
+        })?;
+    }
+    Ok(())
+}
+
+fn sort(crossings: &mut Vec<Crossing>)
+    ensures permutation { IsPermutation crossings.old.items crossings.new.items }
+    ensures ascending { IsAscending crossings.new.items }
+{
+    crossings.sort_unstable_by_key(|c| c.at);
+}
