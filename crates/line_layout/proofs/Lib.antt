@@ -1,5 +1,6 @@
 pub mod BackLemmas
 pub mod BestLemmas
+pub mod ExistLemmas
 pub mod FillLemmas
 pub mod LimitLemmas
 pub mod LineLemmas

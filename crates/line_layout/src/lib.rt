@@ -3,8 +3,10 @@
 
 mod breaks;
 mod filling;
+mod laws;
 mod pens;
 #[cfg(test)]
 mod tests;
 
 pub use breaks::choose_breaks;
+pub use laws::a_best_set_exists;

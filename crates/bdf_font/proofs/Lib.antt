@@ -1,0 +1,4 @@
+pub mod LawLemmas
+pub mod LikeLemmas
+pub mod ReadLemmas
+pub mod WholeLemmas

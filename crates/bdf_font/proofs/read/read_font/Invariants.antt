@@ -1,0 +1,11 @@
+use Rattle.std.proofs.Common.{◌≡◌, ◌+◌, ◌≤◌, length}
+use Rattle.bdf_font.specs.Grammar.{lines_read, font_of, text_lines}
+use Rattle.bdf_font.specs.Ranges.{IsReading}
+use Rattle.bdf_font.proofs.read.read_font.Given as goal
+
+abbrev pub invariant-loop-line : goal.invariant-loop-line
+invariant-loop-line l = record {
+  read : lines_read l.number l.line-iterator l.reading ≡ font_of l.fn.bytes;
+  sound : IsReading l.reading;
+  counted : l.number + length l.line-iterator ≤ 67108865;
+}

@@ -1,0 +1,45 @@
+-- Fonts, and what is found in them.
+use Rattle.std.specs.Prelude.{ℕ, ◌+◌, ◌-◌, Bool, if◌then◌else◌, List, [], ◌∷◌, map, Option, Some, None, option_and_then, ℤ, pos, negsuc, codes}
+use Rattle.std.specs.Option.{option_or}
+use Rattle.std.specs.Ordering.{int_eq}
+use Rattle.std.specs.Str.{bytes_eq}
+use Rattle.std.specs.Char.{to_ascii_lowercase}
+use Rattle.bdf_font.specs.declared.glyphs.FontGlyph.{FontGlyph}
+
+-- A font as contracts see it.
+pub record PlainFont : Type 0 where
+  pub name : List ℕ
+  pub ascent : ℤ
+  pub descent : ℤ
+  pub default_char : Option ℤ
+  pub glyphs : List FontGlyph
+
+-- the place of the first glyph with this code, where the first of the glyphs has the place n
+abbrev pub place_from : ℕ → ℤ → List FontGlyph → Option ℕ
+place_from n code [] = None
+place_from n code (g ∷ glyphs) = if int_eq g.code code then Some n else place_from (n + 1) code glyphs
+
+-- the place of the first glyph with this code; -1 is the code of none
+abbrev pub place_of : List FontGlyph → ℤ → Option ℕ
+place_of glyphs code = if int_eq code (negsuc 0) then None else place_from 0 code glyphs
+
+-- the place of the first glyph with the default code
+abbrev pub place_of_default : Option ℤ → List FontGlyph → Option ℕ
+place_of_default default_char glyphs = option_and_then (place_of glyphs) default_char
+
+-- the glyph of a character: the first with its code, or else the first with the default code
+abbrev pub glyph_of : PlainFont → ℕ → Option ℕ
+glyph_of font c = option_or (place_of font.glyphs (pos c)) (place_of_default font.default_char font.glyphs)
+
+-- two names are one without regard to ASCII case
+abbrev pub same_name : List ℕ → List ℕ → Bool
+same_name a b = bytes_eq (map to_ascii_lowercase a) (map to_ascii_lowercase b)
+
+-- the place of the first font of this name, where the first of the fonts has the place n; 0 where there is none
+abbrev pub named_from : ℕ → List ℕ → List PlainFont → ℕ
+named_from n name [] = 0
+named_from n name (font ∷ fonts) = if same_name font.name name then n else named_from (n + 1) name fonts
+
+-- the place of the first font of this name, or else 0
+abbrev pub font_named : List ℕ → List PlainFont → ℕ
+font_named name fonts = named_from 0 name fonts

@@ -1,0 +1,6 @@
+pub mod Words
+pub mod Keywords
+pub mod Fonts
+pub mod Ranges
+pub mod Grammar
+pub mod Laws

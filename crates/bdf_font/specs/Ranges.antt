@@ -1,0 +1,71 @@
+-- The ranges of what a font holds.
+use Rattle.std.specs.Prelude.{◌≡◌, ℕ, ◌+◌, ◌*◌, ◌/◌, ◌<◌, ◌≤◌, List, length, All, Option, IfSome, Result, Ok, Err, ℤ, pos, neg_ℤ, ◌≤ℤ◌}
+use Rattle.bdf_font.specs.declared.cause.Stop.{Stop}
+use Rattle.bdf_font.specs.declared.cause.Stop.TheVariants as stop
+use Rattle.bdf_font.specs.declared.glyphs.FontGlyph.{FontGlyph}
+use Rattle.bdf_font.specs.declared.glyphs.BoundingBox.{BoundingBox}
+use Rattle.bdf_font.specs.declared.header.Header.{Header}
+use Rattle.bdf_font.specs.declared.reading.Reading.{Reading}
+use Rattle.bdf_font.specs.declared.reading.Draft.{Draft}
+use Rattle.bdf_font.specs.declared.reading.Place.{Place}
+use Rattle.bdf_font.specs.declared.reading.Place.TheVariants as place
+use Rattle.bdf_font.specs.Fonts.{PlainFont}
+
+-- within 4,096 on both sides
+abbrev pub IsOffset : ℤ → Type 0
+IsOffset z = (neg_ℤ (pos 4096) ≤ℤ z) × (z ≤ℤ pos 4096)
+
+pub record IsBox (cell : BoundingBox) : Type 0 where
+  pub w : cell.w ≤ 1024
+  pub h : cell.h ≤ 1024
+  pub x : IsOffset cell.x
+  pub y : IsOffset cell.y
+
+-- A glyph that a font may have: its bitmap has a row of whole bytes for each line of pixels.
+pub record IsGlyph (glyph : FontGlyph) : Type 0 where
+  pub advance : IsOffset glyph.advance
+  pub w : glyph.w ≤ 1024
+  pub h : glyph.h ≤ 1024
+  pub x : IsOffset glyph.x
+  pub y : IsOffset glyph.y
+  pub rows : length glyph.bits ≡ glyph.h * ((glyph.w + 7) / 8)
+
+pub record IsFont (font : PlainFont) : Type 0 where
+  pub ascent : pos 0 ≤ℤ font.ascent
+  pub ascent_most : font.ascent ≤ℤ pos 5120
+  pub descent : pos 0 ≤ℤ font.descent
+  pub descent_most : font.descent ≤ℤ pos 4096
+  pub glyphs : All IsGlyph font.glyphs
+  pub few : length font.glyphs ≤ 131072
+
+-- ---- while a font is read
+
+pub record IsHeader (header : Header) : Type 0 where
+  pub bounding_box : IfSome header.bounding_box IsBox
+  pub ascent : IfSome header.ascent IsOffset
+  pub descent : IfSome header.descent IsOffset
+
+pub record IsDraft (draft : Draft) : Type 0 where
+  pub advance : IfSome draft.advance IsOffset
+  pub bounding_box : IfSome draft.bounding_box IsBox
+
+-- so many glyphs and bytes of a bitmap there may be at a place
+abbrev pub IsPlace : Place → ℕ → ℕ → Type 0
+IsPlace place.Start glyphs bytes = glyphs ≤ 131072
+IsPlace place.Font glyphs bytes = glyphs ≤ 131072
+IsPlace place.Glyph glyphs bytes = glyphs < 131072
+IsPlace (place.Bitmap cell left) glyphs bytes = (glyphs < 131072) × IsBox cell × (bytes + left * ((cell.w + 7) / 8) ≡ cell.h * ((cell.w + 7) / 8))
+
+pub record IsReading (reading : Reading) : Type 0 where
+  pub header : IsHeader reading.header
+  pub draft : IsDraft reading.draft
+  pub glyphs : All IsGlyph reading.glyphs
+  pub place : IsPlace reading.place (length reading.glyphs) (length reading.draft.bits)
+
+-- what is kept where the walk goes on, or ends with the font
+abbrev pub Keeps : Result (Unit {0}) Stop → Type 0 → Type 0
+Keeps (Ok _) kept = kept
+Keeps (Err stop.End) kept = kept
+Keeps (Err (stop.Fault _)) kept = Unit {0}
+Keeps (Err stop.Full) kept = Unit {0}
+Keeps (Err stop.OutOfMemory) kept = Unit {0}

@@ -1,0 +1,82 @@
+-- Words, numbers and names in a line.
+use Rattle.std.specs.Prelude.{ℕ, ◌+◌, ◌-◌, Bool, ◌&&◌, ◌==◌, not, nat_lt, nat_le, int_le, if◌then◌else◌, List, [], ◌∷◌, length, take, drop, slice_index, Option, Some, None, option_and_then, ℤ, pos, negsuc, neg_ℤ}
+use Rattle.std.specs.List.{prefix_len, suffix_len, position_or_len, before_first, list_all}
+use Rattle.ass_num.specs.Numerals.{is_blank, is_decimal, is_sign, sign_len, number_of, signed}
+use Rattle.bdf_font.specs.declared.glyphs.BoundingBox.{BoundingBox}
+
+-- the text from its first byte on that is no blank
+unfoldable pub past_blanks : List ℕ → List ℕ
+past_blanks text = drop (prefix_len is_blank text) text
+
+-- the text without the blanks at its end
+unfoldable pub before_blanks : List ℕ → List ℕ
+before_blanks text = take (length text - suffix_len is_blank text) text
+
+-- the text without the blanks at both its ends
+abbrev pub trimmed : List ℕ → List ℕ
+trimmed text = before_blanks (past_blanks text)
+
+-- the first word, which ends at a blank or with the text; it is empty where there is none
+unfoldable pub first_word : List ℕ → List ℕ
+first_word text = take (position_or_len is_blank (past_blanks text)) (past_blanks text)
+
+-- what follows the first word
+unfoldable pub after_word : List ℕ → List ℕ
+after_word text = drop (position_or_len is_blank (past_blanks text)) (past_blanks text)
+
+-- the number that digits say under a sign, where there is a digit, the number has 31 bits, and blanks alone follow
+abbrev pub whole_under : List ℕ → List ℕ → List ℕ → Option ℤ
+whole_under sign digits rest =
+    if nat_lt 0 (length digits) && (nat_le (number_of 10 digits) 2147483647 && list_all is_blank rest)
+    then Some (signed sign (number_of 10 digits)) else None
+
+-- the same behind the sign
+abbrev pub whole_behind : List ℕ → List ℕ → Option ℤ
+whole_behind sign text = whole_under sign (take (prefix_len is_decimal text) text) (drop (prefix_len is_decimal text) text)
+
+-- a sign or none, digits, and blanks
+abbrev pub whole_at : List ℕ → Option ℤ
+whole_at text = whole_behind (take (sign_len text) text) (drop (sign_len text) text)
+
+-- the whole number that a text is, between blanks
+unfoldable pub whole_of : List ℕ → Option ℤ
+whole_of text = whole_at (drop (prefix_len is_blank text) text)
+
+abbrev pub side_in : ℤ → Option ℕ
+side_in (pos n) = if nat_le n 1024 then Some n else None
+side_in (negsuc n) = None
+
+-- a whole number from 0 to 1,024
+unfoldable pub side_of : List ℕ → Option ℕ
+side_of word = option_and_then side_in (whole_of word)
+
+abbrev pub offset_in : ℤ → Option ℤ
+offset_in n = if int_le (neg_ℤ (pos 4096)) n && int_le n (pos 4096) then Some n else None
+
+-- a whole number within 4,096 on both sides
+unfoldable pub offset_of : List ℕ → Option ℤ
+offset_of word = option_and_then offset_in (whole_of word)
+
+-- four numbers: the sides of a box, and its lower left corner
+unfoldable pub bounding_box_of : List ℕ → Option BoundingBox
+bounding_box_of text =
+    let after_w = after_word text in
+    let after_h = after_word after_w in
+    let after_x = after_word after_h in
+    option_and_then (λ w. option_and_then (λ h. option_and_then (λ x. option_and_then (λ y.
+    Some (record { w = w; h = h; x = x; y = y }))
+    (offset_of (first_word after_x))) (offset_of (first_word after_h))) (side_of (first_word after_w))) (side_of (first_word text))
+
+abbrev pub is_quote : ℕ → Bool
+is_quote c = c == 34
+
+-- the text up to the next quote, or else all of it but the blanks at its end
+abbrev pub quoted : List ℕ → List ℕ
+quoted text = if nat_lt (position_or_len is_quote text) (length text) then before_first is_quote text else before_blanks text
+
+abbrev pub name_at : List ℕ → List ℕ
+name_at text = if is_quote (slice_index text 0) then quoted (drop 1 text) else first_word text
+
+-- a text in quotes, or else a word
+unfoldable pub family_name_of : List ℕ → List ℕ
+family_name_of text = name_at (past_blanks text)

@@ -1,0 +1,27 @@
+//! What holds of every text: the theorems above the definition of `read_font`.
+
+ghost use Rattle.bdf_font.specs.Laws.{OneAnswer, EndsTheFont, IsFirstFault, StaysRefused, LaterHeaderCounts, LaterGlyphLineCounts, NumbersAreWhole};
+
+/// Each text is a font, or it is refused at one line, or it has a glyph too many; and what follows the font isn't read.
+pub fn one_answer()
+    ensures one { OneAnswer }
+    ensures ends { EndsTheFont }
+{}
+
+/// The line that a refusal names is the first one that leaves the format: the lines before it lack an end
+/// alone, and no lines after it mend it.
+pub fn first_fault()
+    ensures first { IsFirstFault }
+    ensures stays { StaysRefused }
+{}
+
+/// Of several like lines the last counts.
+pub fn last_line_counts()
+    ensures header { LaterHeaderCounts }
+    ensures glyph { LaterGlyphLineCounts }
+{}
+
+/// Numbers are read as the whole numbers of scripts are.
+pub fn numbers_are_whole()
+    ensures { NumbersAreWhole }
+{}

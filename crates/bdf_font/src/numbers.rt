@@ -1,0 +1,83 @@
+//! The numbers and names of a line.
+
+ghost use Rattle.std.specs.Prelude.{◌≡◌, ◌≤◌, IfSome};
+ghost use Rattle.bdf_font.specs.Ranges.{IsOffset, IsBox};
+ghost use Rattle.bdf_font.specs.Words.{whole_of, side_of, offset_of, bounding_box_of, family_name_of, quoted};
+
+use crate::glyphs::BoundingBox;
+use crate::words::{before_blanks, first_word, past_blanks};
+use ass_num::read_whole;
+
+/// The whole number that a word is.
+pub fn whole(word: &[u8]) -> Option<i32>
+    ensures { result ≡ whole_of word.now }
+{
+    read_whole(word)
+}
+
+/// A whole number from 0 to 1,024.
+#[tactic(auto, unfolding(crate::specs::Words::side_of))]
+fn side(word: &[u8]) -> Option<u16>
+    ensures value { result ≡ side_of word.now }
+    ensures small { IfSome result (λ side. side ≤ 1024) }
+{
+    let number = whole(word)?;
+    if 0 <= number && number <= 1_024 {
+        return Some(number as u16);
+    }
+    None
+}
+
+/// A whole number within 4,096 on both sides.
+#[tactic(auto, unfolding(crate::specs::Words::offset_of))]
+pub fn offset(word: &[u8]) -> Option<i16>
+    ensures value { result ≡ offset_of word.now }
+    ensures small { IfSome result IsOffset }
+{
+    let number = whole(word)?;
+    if -4_096 <= number && number <= 4_096 {
+        return Some(number as i16);
+    }
+    None
+}
+
+/// The four numbers of a box.
+#[tactic(auto, unfolding(crate::specs::Words::bounding_box_of))]
+pub fn bounding_box(text: &[u8]) -> Option<BoundingBox>
+    ensures value { result ≡ bounding_box_of text.now }
+    ensures small { IfSome result IsBox }
+{
+    let (w, rest) = first_word(text);
+    let (h, rest) = first_word(rest);
+    let (x, rest) = first_word(rest);
+    let (y, _) = first_word(rest);
+    let w = side(w)?;
+    let h = side(h)?;
+    let x = offset(x)?;
+    let y = offset(y)?;
+    Some(BoundingBox { w, h, x, y })
+}
+
+/// A text up to the next quote, or else all of it but the blanks at its end.
+fn quoted(text: &[u8]) -> &[u8]
+    ensures { result.now ≡ quoted text.now }
+{
+    for (i, byte) in text.iter().enumerate() {
+        if *byte == b'"' {
+            return &text[..i];
+        }
+    }
+    before_blanks(text)
+}
+
+/// A text in quotes, or else a word.
+#[tactic(auto, unfolding(crate::specs::Words::family_name_of))]
+pub fn family_name(text: &[u8]) -> &[u8]
+    ensures { result.now ≡ family_name_of text.now }
+{
+    let text = past_blanks(text);
+    if !text.is_empty() && text[0] == b'"' {
+        return quoted(&text[1..]);
+    }
+    first_word(text).0
+}

@@ -1,0 +1,46 @@
+//! Fonts from their texts.
+
+ghost use Rattle.std.specs.Prelude.{◌≡◌, ◌≤◌, length, IfOk, Err};
+ghost use Rattle.bdf_font.specs.Ranges.{IsFont, IsReading, Keeps};
+ghost use Rattle.bdf_font.specs.Grammar.{Answers, Answered, font_of};
+
+use crate::cause::{FontCause, FontRefusal, Stop};
+use crate::font::Font;
+use crate::reading::{MOST_GLYPHS, Reading};
+use bstr::ByteSlice;
+use std::alloc::Global;
+
+/// The font that a text in BDF spells. `BadFont` names the first line, from 1, at which the text leaves the format,
+/// and how; `TooLarge` comes where one glyph more than 131,072 begins.
+pub fn read_font(alloc: Global, bytes: &[u8]) -> Result<Font, FontRefusal>
+    requires { length bytes.now ≤ 67108864 }
+    ensures answer { Answers result (font_of bytes.now) }
+    ensures font { IfOk result IsFont }
+{
+    let mut reading = Reading::new(alloc);
+    let mut number = 1;
+    for line in bytes.lines() {
+        match reading.line(alloc, line) {
+            Ok(()) => number += 1,
+            Err(stop) => return answer(alloc, reading, number, stop),
+        }
+    }
+    Err(FontRefusal::BadFont(number, FontCause::NoEnd))
+}
+
+/// The answer where a line ends the walk.
+fn answer(alloc: Global, reading: Reading, number: usize, stop: Stop) -> Result<Font, FontRefusal>
+    requires { Keeps (Err stop) (IsReading reading) }
+    ensures answer { Answered number stop reading result }
+    ensures font { IfOk result IsFont }
+{
+    match stop {
+        Stop::End => match reading.header.made(alloc, reading.glyphs) {
+            Ok(font) => Ok(font),
+            Err(_) => Err(FontRefusal::OutOfMemory),
+        },
+        Stop::Fault(cause) => Err(FontRefusal::BadFont(number, cause)),
+        Stop::Full => Err(FontRefusal::TooLarge(MOST_GLYPHS)),
+        Stop::OutOfMemory => Err(FontRefusal::OutOfMemory),
+    }
+}
