@@ -1,10 +1,12 @@
 -- What the frames sink got, as the status of a job becomes that of the run.
-use Rattle.std.proofs.Common.{ℕ, List, Option, Some, None, Err, inl, inr, rules}
+use Rattle.std.proofs.Common.{◌≡◌, refl, pos, ℕ, List, Option, Some, None, Err, inl, inr, rules}
 use Rattle.std.specs.Io.KnownBytes.{Appends, Keeps}
 use Rattle.ass_io.specs.Fetched.{Told}
 use Rattle.ass_io.specs.Written.{AppendsFront}
 use Rattle.frame_play.specs.Answers.{AreFilesRead, IsOrMemory}
 use Rattle.frame_play.specs.Outcomes.{IsShown}
+use Rattle.frame_play.specs.Pictures.{image_of, row_pixels}
+use Rattle.ppm_text.specs.Images.{image_bytes}
 use Rattle.frame_play.specs.declared.words.FrameJob.{FrameJob}
 use Rattle.frame_play.specs.declared.status.Status.{Status}
 use Rattle.frame_play.specs.declared.status.Status.TheVariants.{Done, NotBuilt, NoSuchFile, ReadFault, WriteFault, OutOfMemory}
@@ -41,3 +43,8 @@ front_shown OutOfMemory old new image h = h
 pub shown_after : (status answer : Status) (old new : Option (List ℕ)) (image : List ℕ) → IsOrMemory status answer → IsShown status old new image → IsShown answer old new image
 shown_after status answer old new image (inl same) h = rw same h
 shown_after status answer old new image (inr gone) h = rw gone (front_shown status old new image h)
+
+-- the image of a job at the script's size
+pub image_is : (job : FrameJob) → job.size.w ≡ 4 → job.size.h ≡ 3 → image_of job ≡ image_bytes 4 3 (row_pixels job.at) (pos job.at) 1
+unfolding image_of
+image_is job w h = rw (w, h) refl

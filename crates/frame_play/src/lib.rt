@@ -3,7 +3,6 @@
 
 mod files;
 mod fixed;
-mod image;
 mod job;
 mod picture;
 mod play;

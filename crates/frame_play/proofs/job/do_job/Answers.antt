@@ -1,6 +1,19 @@
+use Rattle.std.proofs.Common.{◌≡◌, ◌∙◌, sym}
 use Rattle.frame_play.specs.Pictures.{image_of}
-use Rattle.frame_play.proofs.ShownLemmas.{front_by_none, refused_shown}
+use Rattle.frame_play.proofs.ShownLemmas.{front_by_none, image_is, refused_shown}
 use Rattle.frame_play.proofs.job.do_job.Goals as goal
+
+pub returns-in-Done-clause-shown : goal.returns-in-Done-clause-shown
+returns-in-Done-clause-shown g c =
+    let built = c.in-Ok-read_files.ensures.read in
+    let image : image_of c.args.job ≡ c.as_slice.result.now = image_is c.args.job built.0.width built.0.height ∙ sym c.in-Ok.ensures ∙ sym c.as_slice.ensures.value in
+    rw image c.in-Done.ensures.put
+
+pub returns-in-Failed-clause-shown : goal.returns-in-Failed-clause-shown
+returns-in-Failed-clause-shown g c =
+    let built = c.in-Ok-read_files.ensures.read in
+    let image : image_of c.args.job ≡ c.as_slice.result.now = image_is c.args.job built.0.width built.0.height ∙ sym c.in-Ok.ensures ∙ sym c.as_slice.ensures.value in
+    rw image c.in-Failed.ensures.put
 
 -- want of memory for the put left nothing in the sink
 pub returns-in-Ok-read_files-clause-shown : goal.returns-in-Ok-read_files-clause-shown
