@@ -61,6 +61,8 @@ fn images_are_drawn_as_worked_by_hand(rt: HostRuntime) -> Result<(), Fail> {
         (0, 1, 9, Stencil::Free, "...WW."),
         (-1, -1, 9, Stencil::Free, "W....."),
         (2, 1, 9, Stencil::Free, ".....W"),
+        (2, -1, 9, Stencil::Free, "..W..."),
+        (-1, 1, 9, Stencil::Free, "...W.."),
         (3, 0, 9, Stencil::Free, "......"),
         (0, -2, 9, Stencil::Free, "......"),
         (1, 0, -5, Stencil::Free, ".RR.RR"),

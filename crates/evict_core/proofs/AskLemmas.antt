@@ -1,8 +1,7 @@
 -- What the machine answers an ask.
-use Rattle.std.proofs.Common.{◌≡◌, ℕ, ◌<◌, ◌≤◌, Bool, true, false, cond, ◌||◌, nat_lt, List, length, Option, Some, None, refl, sym, ap, ◌∙◌}
+use Rattle.std.proofs.Common.{◌≡◌, ℕ, ◌<◌, ◌≤◌, Bool, false, length, Some, None}
 use Rattle.std.proofs.lemmas.Bool.{lt-ltb, le-ltb}
-use Rattle.evict_core.specs.Machine.{Status, Flying, Ready, State, Hit, Claim, Crowded, has_idle, answer_at, status_of, answer_of}
-use Rattle.evict_core.specs.Asked.{ready_value}
+use Rattle.evict_core.specs.Machine.{Ready, State, Hit, Crowded, has_idle, status_of, answer_of}
 
 module _ {K V : Type 0} (eq : K → K → Bool) (s : State K V) (k : K) where
   pub crowded-full : status_of eq s k ≡ None → s.limit ≤ length s.entries → has_idle s.entries ≡ false → answer_of eq s k ≡ Some Crowded

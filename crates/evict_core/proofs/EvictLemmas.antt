@@ -1,9 +1,9 @@
 -- What the eviction of a place does to the entries and their unpinned cost.
-use Rattle.std.proofs.Common.{◌≡◌, ℕ, ◌+◌, Bool, true, false, cond, nat_eq, List, [], ◌∷◌, ◌++◌, length, slice_get, Option, Some, None, refl, sym, ap, ◌∙◌, subst, true≢false, arith}
+use Rattle.std.proofs.Common.{◌≡◌, ℕ, ◌+◌, Bool, true, false, cond, nat_eq, List, [], ◌∷◌, ◌++◌, length, slice_get, Some, refl, sym, ap, ◌∙◌, arith}
 use Rattle.std.specs.Cmp.{nat_eq_equiv}
 use Rattle.std.specs.Map.{lookup, remove_entry}
 use Rattle.evict_core.specs.Machine.{Status, is_idle, idle_cost, has_idle, unpinned}
-use Rattle.evict_core.specs.Recency.{some_passes, without_last, Apart}
+use Rattle.evict_core.specs.Recency.{some_passes, without_last}
 use Rattle.evict_core.specs.declared.recency.Place.{Place}
 use Rattle.evict_core.specs.Places.{shown, status_in, entries_in, is_idle_place, IsOldestIdle, Ties}
 use Rattle.evict_core.proofs.PlacesLemmas.{Each, each-found, Names, lookup-at, some_passes-shown, without_last-shown}

@@ -1,10 +1,9 @@
 -- The single-fill law.
-use Rattle.std.proofs.Common.{◌≡◌, ℕ, zero, suc, ◌+◌, ◌<◌, ◌≤◌, Bool, true, false, cond, not, ◌||◌, ◌&&◌, ◌==◌, ◌⊎◌, List, [], ◌∷◌, ◌++◌, Option, Some, None, option_map, is_some, inl, inr, refl, sym, ap, ◌∙◌, subst, true≢false, append_assoc, append-nil, arith}
+use Rattle.std.proofs.Common.{◌≡◌, ℕ, Bool, true, false, not, ◌||◌, ◌&&◌, ◌==◌, ◌⊎◌, List, [], ◌∷◌, ◌++◌, Option, Some, None, is_some, inl, inr, refl, sym, ap, ◌∙◌, subst, true≢false, append_assoc}
 use Rattle.std.specs.Cmp.{IsEquivalence}
-use Rattle.std.specs.Map.{lookup}
-use Rattle.std.proofs.lemmas.Bool.{eqb-true, eq-eqb, and_from, not_from_false}
-use Rattle.evict_core.specs.Machine.{Status, Flying, Ready, State, Hit, Claim, Crowded, Step, Ask, PinAll, Fill, Fail, Unpin, Limits, pins_in, maker_in, status_of, after, IsEnabled}
-use Rattle.evict_core.specs.History.{opening, replay, replay_from, held, MayFollow, IsLegal, is_fail, is_fail_of, is_open_after, is_evicted}
+use Rattle.std.proofs.lemmas.Bool.{eq-eqb, and_from, not_from_false}
+use Rattle.evict_core.specs.Machine.{Ready, State, Hit, Claim, Crowded, Step, Ask, PinAll, Fill, Fail, Unpin, Limits, maker_in, status_of, after, IsEnabled}
+use Rattle.evict_core.specs.History.{opening, replay, replay_from, held, IsLegal, is_fail_of, is_open_after, is_evicted}
 use Rattle.evict_core.specs.Laws.{IsLostWithin, IsEvictedWithin, ClaimsOnce, FillsOnce}
 use Rattle.evict_core.proofs.RecencyLemmas.{cond-same, lookup-congr, lookup-remove-other, lookup-to_front}
 use Rattle.evict_core.proofs.StateLemmas.{IsSound, claim-has-room}

@@ -1,8 +1,8 @@
 -- Induction along a legal history, and what its state has after each step.
-use Rattle.std.proofs.Common.{◌≡◌, ℕ, zero, suc, ◌+◌, ◌-◌, ◌<◌, ◌≤◌, Bool, true, false, cond, ◌==◌, List, [], ◌∷◌, ◌++◌, length, Option, Some, None, refl, sym, ap, ◌∙◌, subst, append_assoc, append-nil, arith}
+use Rattle.std.proofs.Common.{◌≡◌, ℕ, ◌+◌, Bool, cond, ◌==◌, List, [], ◌∷◌, ◌++◌, refl, sym, subst, append_assoc, append-nil, arith}
 use Rattle.std.specs.Cmp.{IsEquivalence}
-use Rattle.evict_core.specs.Machine.{State, Step, after, IsEnabled, unpinned, has_idle}
-use Rattle.evict_core.specs.History.{opening, replay, replay_from, taken, given, takes, gives, held, MayFollow, IsLegal, is_open_from, is_open_after, is_pending}
+use Rattle.evict_core.specs.Machine.{State, Step, after}
+use Rattle.evict_core.specs.History.{opening, replay, replay_from, taken, given, held, MayFollow, IsLegal, is_open_from, is_open_after}
 use Rattle.evict_core.proofs.StateLemmas.{IsSound, sound-after}
 
 module _ {K V : Type 0} (eq : K → K → Bool) where

@@ -6,10 +6,10 @@ use Rattle.std.specs.Map.{lookup, lookup_entry, remove_entry, keys_of}
 use Rattle.std.specs.Option.{option_map, option_map_or}
 use Rattle.std.proofs.lemmas.List.{take_all}
 use Rattle.std.proofs.Math.Seq.{take-append_seam}
-use Rattle.indexmap.specs.IndexMap.{IndexMap, insert_entry, get}
+use Rattle.indexmap.specs.IndexMap.{IndexMap, insert_entry}
 use Rattle.indexmap.proofs.CallerLemmas.{insert_entry-new}
 use Rattle.lru.specs.LruCache.{LruCache, put_entries}
-use Rattle.evict_core.specs.Places.{shown, with_key, Ties}
+use Rattle.evict_core.specs.Places.{shown, Ties}
 use Rattle.evict_core.proofs.RecencyLemmas.{lookup-entry}
 use Rattle.evict_core.proofs.TieLemmas.{missing-in-map, ties-pushed, shown-pushed, push-new}
 

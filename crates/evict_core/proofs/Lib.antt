@@ -6,6 +6,7 @@ pub mod InsertLemmas
 pub mod PinLaws
 pub mod PinLemmas
 pub mod PlacesLemmas
+pub mod PlainLemmas
 pub mod RecencyLemmas
 pub mod Searching
 pub mod StateLemmas

@@ -1,12 +1,12 @@
 -- The pin law.
-use Rattle.std.proofs.Common.{◌≡◌, ℕ, zero, suc, ◌+◌, ◌-◌, ◌<◌, ◌≤◌, Bool, true, false, cond, not, ◌||◌, ◌&&◌, ◌==◌, eqb, List, [], ◌∷◌, ◌++◌, Option, Some, None, is_some, inl, inr, refl, sym, ap, ◌∙◌, subst, true≢false, arith}
+use Rattle.std.proofs.Common.{◌≡◌, ℕ, zero, suc, ◌+◌, ◌<◌, ◌≤◌, Bool, true, false, cond, not, ◌==◌, List, [], ◌∷◌, ◌++◌, Option, Some, None, is_some, inl, inr, refl, sym, ap, ◌∙◌, subst, true≢false, arith}
 use Rattle.std.specs.Cmp.{IsEquivalence}
-use Rattle.std.proofs.lemmas.Bool.{eqb-true, eqb-false, eq-eqb, and_parts, not-true, cases_eq, cases_lt}
+use Rattle.std.proofs.lemmas.Bool.{eqb-true, eq-eqb, and_parts, cases_eq}
 use Rattle.evict_core.specs.Machine.{State, Hit, Claim, Crowded, Step, Ask, PinAll, Fill, Fail, Unpin, Limits, pins_in, maker_in, status_of, after}
-use Rattle.evict_core.specs.History.{opening, replay, replay_from, one_if, places, taken, given, takes, gives, held, held_below, MayFollow, IsLegal, NumbersBelow, is_open_after, is_open_from, is_pending, is_evicted}
+use Rattle.evict_core.specs.History.{opening, replay, one_if, places, taken, given, takes, gives, held, held_below, MayFollow, IsLegal, NumbersBelow, is_open_after, is_pending}
 use Rattle.evict_core.specs.Laws.{FliesWherePending, PinsAreHeld, HeldIsKept}
 use Rattle.evict_core.proofs.StateLemmas.{IsSound, sound-after}
-use Rattle.evict_core.proofs.HistoryLemmas.{replay-append, by-steps, taken-append, given-append, open-append, sound-replay}
+use Rattle.evict_core.proofs.HistoryLemmas.{replay-append, by-steps, taken-append, given-append, open-append}
 use Rattle.evict_core.proofs.PinLemmas.{makes, pins-after, makes-after}
 
 makes-some : (m : ℕ) (o : Option ℕ) → o ≡ Some m → makes m o ≡ true

@@ -1,12 +1,11 @@
 -- What a step does to the pins and to the maker of a key.
-use Rattle.std.proofs.Common.{◌≡◌, ℕ, zero, suc, ◌+◌, ◌-◌, ◌<◌, ◌≤◌, Bool, true, false, cond, not, ◌||◌, ◌&&◌, ◌==◌, eqb, nat_lt, List, [], ◌∷◌, length, Option, Some, None, option_map, refl, sym, ap, ◌∙◌, subst, true≢false, arith}
+use Rattle.std.proofs.Common.{◌≡◌, ℕ, ◌+◌, ◌-◌, ◌≤◌, Bool, true, false, cond, not, ◌||◌, ◌&&◌, ◌==◌, nat_lt, List, [], ◌∷◌, length, Option, Some, None, option_map, refl, sym, ap, ◌∙◌, subst, true≢false, arith}
 use Rattle.std.specs.Cmp.{IsEquivalence}
-use Rattle.std.specs.Map.{lookup, remove_entry}
 use Rattle.std.proofs.lemmas.Bool.{eqb-true}
-use Rattle.evict_core.specs.Recency.{Apart, without_last, to_front, change}
-use Rattle.evict_core.specs.Machine.{Status, Flying, Ready, State, Answer, Hit, Claim, Crowded, Step, Ask, PinAll, Fill, Fail, Unpin, Limits, is_idle, one_pin_more, one_pin_less, pins_in, maker_in, evict, trim, status_of, answer_of, answer_at, hit, hit_all, room_for_one, put_first, after, HitsEach, IsEnabled}
+use Rattle.evict_core.specs.Recency.{Apart, change}
+use Rattle.evict_core.specs.Machine.{Status, Flying, Ready, State, Hit, Claim, Crowded, Step, Ask, PinAll, Fill, Fail, Unpin, Limits, is_idle, one_pin_more, one_pin_less, pins_in, maker_in, evict, trim, status_of, answer_of, answer_at, hit, hit_all, room_for_one, put_first, after, HitsEach, IsEnabled}
 use Rattle.evict_core.specs.History.{one_if, places, takes, gives, is_open_after}
-use Rattle.evict_core.proofs.RecencyLemmas.{cond-same, lookup-congr, lookup-to_front, lookup-change, lookup-remove, lookup-without_last, Apart-without_last, Apart-to_front, Apart-change}
+use Rattle.evict_core.proofs.RecencyLemmas.{cond-same, lookup-congr, lookup-to_front, lookup-change, lookup-remove, lookup-without_last, Apart-without_last, Apart-change}
 use Rattle.evict_core.proofs.TrimLemmas.{kept-by-trim}
 use Rattle.evict_core.proofs.StateLemmas.{IsSound, sound-hit, claim-has-room}
 

@@ -1,15 +1,14 @@
 -- What an edit of the list of numbers does to the entries that it shows.
-use Rattle.std.proofs.Common.{◌≡◌, ℕ, zero, suc, ◌+◌, ◌-◌, ◌<◌, ◌≤◌, Bool, true, false, cond, ◌||◌, nat_eq, eqb, List, [], ◌∷◌, ◌++◌, length, slice_get, Option, Some, None, option_map, inl, inr, ◌⊎◌, refl, sym, ap, ◌∙◌, subst, true≢false, arith}
+use Rattle.std.proofs.Common.{◌≡◌, ℕ, zero, suc, Bool, true, false, cond, ◌||◌, nat_eq, List, [], ◌∷◌, length, slice_get, Option, Some, None, option_map, refl, sym, ap, ◌∙◌, subst}
 use Rattle.std.specs.Cmp.{IsEquivalence, nat_eq_equiv}
 use Rattle.std.specs.List.{IsDistinct, AllByRecursion}
 use Rattle.std.specs.Map.{lookup, lookup_entry, remove_entry, set_value, keys_of}
 use Rattle.std.specs.Option.{option_map_or}
-use Rattle.std.proofs.lemmas.Bool.{eqb-true, eq-eqb, ne_eqb, cases_eq, or_parts}
 use Rattle.std.proofs.lemmas.Map.Keys.{IsDistinct-head, IsDistinct-tail}
 use Rattle.lru.specs.LruCache.{promoted}
 use Rattle.evict_core.specs.Recency.{some_passes, without_last, to_front, change, Apart}
-use Rattle.evict_core.specs.Places.{with_key, shown}
-use Rattle.evict_core.proofs.RecencyLemmas.{lookup-congr, lookup-entry, key-found}
+use Rattle.evict_core.specs.Places.{shown}
+use Rattle.evict_core.proofs.RecencyLemmas.{lookup-congr}
 
 absent : {K Y : Type 0} (eq : K → K → Bool) (k : K) (es : List (K × Y)) → AllByRecursion (λ y. eq k y ≡ false) (keys_of es) → lookup (eq k) es ≡ None
 absent eq k [] apart = refl

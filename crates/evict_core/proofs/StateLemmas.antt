@@ -1,11 +1,11 @@
 -- What holds of every state of a legal history, and that each enabled step keeps it.
-use Rattle.std.proofs.Common.{◌≡◌, ℕ, zero, suc, ◌+◌, ◌-◌, ◌<◌, ◌≤◌, Bool, true, false, cond, not, ◌||◌, ◌&&◌, ◌==◌, nat_le, nat_lt, leb, List, [], ◌∷◌, length, Option, Some, None, inl, inr, refl, sym, ap, ◌∙◌, subst, true≢false, arith}
+use Rattle.std.proofs.Common.{◌≡◌, ℕ, suc, ◌+◌, ◌<◌, ◌≤◌, Bool, true, false, cond, ◌||◌, nat_lt, List, [], ◌∷◌, length, Option, Some, None, inl, inr, refl, sym, ap, ◌∙◌, subst, true≢false, arith}
 use Rattle.std.specs.Cmp.{IsEquivalence}
-use Rattle.std.specs.Map.{lookup, lookup_entry, remove_entry}
+use Rattle.std.specs.Map.{lookup_entry, remove_entry}
 use Rattle.std.specs.Option.{option_map_or}
-use Rattle.std.proofs.lemmas.Bool.{or_parts, or_cases, and_parts, not-false, not-true, leb-true, ltb-true, ltb-false, or_from}
-use Rattle.evict_core.specs.Recency.{Apart, some_passes, without_last, to_front, change}
-use Rattle.evict_core.specs.Machine.{Status, Flying, Ready, State, Answer, Hit, Claim, Crowded, Step, Ask, PinAll, Fill, Fail, Unpin, Limits, is_idle, idle_cost, one_pin_more, one_pin_less, has_idle, unpinned, evict, is_within, trim, status_of, answer_of, answer_at, hit, hit_all, room_for_one, put_first, after, HitsEach, IsEnabled}
+use Rattle.std.proofs.lemmas.Bool.{or_parts, or_cases, and_parts, not-true, leb-true, ltb-true, or_from}
+use Rattle.evict_core.specs.Recency.{Apart, without_last, to_front, change}
+use Rattle.evict_core.specs.Machine.{Status, Flying, Ready, State, Hit, Claim, Crowded, Step, Ask, PinAll, Fill, Fail, Unpin, Limits, is_idle, idle_cost, one_pin_more, one_pin_less, has_idle, unpinned, evict, trim, status_of, answer_of, answer_at, hit, hit_all, room_for_one, put_first, after, IsEnabled}
 use Rattle.evict_core.proofs.RecencyLemmas.{Apart-remove, Apart-change, Apart-to_front, Apart-without_last, length-without_last, lookup-without_last}
 use Rattle.evict_core.proofs.TrimLemmas.{kept-by-trim, is_within-trim}
 

@@ -1,12 +1,12 @@
 -- What each edit of the entries does to their sums.
-use Rattle.std.proofs.Common.{◌≡◌, IsSome, ℕ, zero, suc, ◌+◌, ◌-◌, ◌*◌, ◌<◌, ◌≤◌, Bool, true, false, cond, ◌||◌, ◌==◌, eqb, nat_lt, List, [], ◌∷◌, length, Option, Some, None, option_map, refl, sym, ap, ◌∙◌, subst, true≢false, arith}
+use Rattle.std.proofs.Common.{◌≡◌, IsSome, ℕ, suc, ◌+◌, ◌-◌, ◌*◌, ◌<◌, ◌≤◌, Bool, true, false, cond, ◌==◌, eqb, nat_lt, List, [], ◌∷◌, length, Option, Some, None, option_map, refl, sym, ap, ◌∙◌, true≢false, arith}
 use Rattle.std.specs.Cmp.{IsEquivalence}
 use Rattle.std.specs.Map.{lookup, lookup_entry, remove_entry}
 use Rattle.std.specs.Option.{option_map_or}
 use Rattle.std.proofs.lemmas.Bool.{eqb-true, or_parts, lt-ltb, le-ltb}
 use Rattle.evict_core.specs.Machine.{Status, Flying, Ready, is_idle, has_idle, idle_cost, held_cost, unpinned, pinned, pins_in, maker_in, one_pin_more, one_pin_less}
 use Rattle.evict_core.specs.Recency.{total, some_passes, without_last, to_front, change}
-use Rattle.evict_core.specs.Sums.{idle_one, excess, AreSums, IsIdleAt, IsBusyAt, largest_cost, most_entries}
+use Rattle.evict_core.specs.Sums.{idle_one, excess, AreSums, IsIdleAt, IsBusyAt}
 use Rattle.evict_core.proofs.RecencyLemmas.{length-without_last, lookup-change}
 
 -- what a look-up weighs

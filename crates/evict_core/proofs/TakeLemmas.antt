@@ -1,12 +1,12 @@
 -- A number is taken out of the list, and its key out of the map.
-use Rattle.std.proofs.Common.{◌≡◌, IfSome, ℕ, ◌+◌, ◌<◌, Bool, true, false, cond, nat_eq, List, [], ◌∷◌, length, slice_get, Option, Some, None, option_map, refl, sym, ap, ◌∙◌, subst}
-use Rattle.std.specs.Cmp.{IsEquivalence, nat_eq_equiv}
+use Rattle.std.proofs.Common.{◌≡◌, IfSome, ℕ, Bool, nat_eq, List, slice_get, Option, Some, None, sym, ap, ◌∙◌, subst}
+use Rattle.std.specs.Cmp.{IsEquivalence}
 use Rattle.std.specs.List.{IsDistinct, swap_remove}
 use Rattle.std.specs.Map.{lookup, lookup_entry, remove_entry, set_value, keys_of}
-use Rattle.evict_core.specs.Recency.{change, Apart}
+use Rattle.evict_core.specs.Recency.{change}
 use Rattle.evict_core.specs.Places.{shown, Ties}
 use Rattle.evict_core.proofs.PlacesLemmas.{write-there}
-use Rattle.evict_core.proofs.TieLemmas.{IsSwapRemoved, item-of, no-item, swap-removed, was-last, was-moved, has-moved, shown-last, ties-last, shown-swapped, ties-swapped}
+use Rattle.evict_core.proofs.TieLemmas.{IsSwapRemoved, item-of, swap-removed, was-last, was-moved, has-moved, shown-last, ties-last, shown-swapped, ties-swapped}
 
 module _ {K P X : Type 0} (index : P → ℕ) (view : P → X) (eq : K → K → Bool) (laws : IsEquivalence eq) (es : List (K × ℕ)) (os : List (ℕ × P)) (next : ℕ) (tied : Ties index eq es os next) where
   module _ (n k : ℕ) (x : P) (there : Some (k, x) ≡ lookup_entry (nat_eq n) os) (es' : List (K × ℕ)) (r : Option (K × ℕ)) (took : r ≡ slice_get es (index x))

@@ -1,5 +1,5 @@
 -- The map and the list name each other, before and after each edit.
-use Rattle.std.proofs.Common.{◌≡◌, IfSome, ℕ, zero, suc, ◌+◌, ◌-◌, ◌<◌, ◌≤◌, Bool, true, false, cond, nat_eq, eqb, List, [], ◌∷◌, ◌++◌, length, slice_get, take, Option, Some, None, option_map, inl, inr, ◌⊎◌, refl, sym, ap, ◌∙◌, subst, true≢false, arith}
+use Rattle.std.proofs.Common.{◌≡◌, IfSome, ℕ, zero, suc, ◌+◌, ◌-◌, ◌<◌, ◌≤◌, Bool, true, false, cond, nat_eq, List, [], ◌∷◌, ◌++◌, length, slice_get, take, Option, Some, None, option_map, inl, inr, ◌⊎◌, refl, sym, ap, ◌∙◌, subst, arith}
 use Rattle.std.specs.Cmp.{IsEquivalence, nat_eq_equiv}
 use Rattle.std.specs.List.{IsDistinct, swap_remove}
 use Rattle.std.specs.Map.{lookup, lookup_entry, remove_entry, keys_of}
@@ -8,10 +8,10 @@ use Rattle.std.proofs.lemmas.Option.{slice_get-get_or, slice_get_past, slice_get
 use Rattle.std.proofs.lemmas.List.{get_or-take, length-take}
 use Rattle.std.proofs.Common.{get_or, set, get_or-set_other, get_or-set_same}
 use Rattle.std.proofs.Math.ListN.{length-set}
-use Rattle.evict_core.specs.Recency.{to_front, change, Apart}
-use Rattle.evict_core.specs.Places.{with_key, shown, Ties}
-use Rattle.evict_core.proofs.RecencyLemmas.{lookup-congr, lookup-remove, lookup-remove-other, lookup-to_front, lookup-change, Apart-remove, Apart-to_front, Apart-change}
-use Rattle.evict_core.proofs.PlacesLemmas.{Apart-from_distinct, lookup-at, found-at, Each, each-found, Agrees, lookup-shown, Names, shown-kept, Moves, shown-moved}
+use Rattle.evict_core.specs.Recency.{change, Apart}
+use Rattle.evict_core.specs.Places.{shown, Ties}
+use Rattle.evict_core.proofs.RecencyLemmas.{lookup-congr, lookup-remove, lookup-remove-other, lookup-change, Apart-remove, Apart-change}
+use Rattle.evict_core.proofs.PlacesLemmas.{Apart-from_distinct, lookup-at, found-at, Each, each-found, Agrees, lookup-shown, shown-kept, Moves, shown-moved}
 
 same-number : (m n : ℕ) → nat_eq m n ≡ true → m ≡ n
 same-number m n h = eqb-true m n h

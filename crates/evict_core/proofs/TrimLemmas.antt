@@ -1,9 +1,9 @@
 -- What a trim leaves, and how to show that it keeps a fact.
-use Rattle.std.proofs.Common.{◌≡◌, ℕ, zero, suc, ◌+◌, ◌-◌, ◌<◌, ◌≤◌, Bool, true, false, cond, not, ◌||◌, ◌&&◌, nat_le, leb, List, [], ◌∷◌, length, Option, Some, None, refl, sym, ap, ◌∙◌, subst, true≢false, arith}
-use Rattle.std.proofs.lemmas.Bool.{or_parts, or_cases, and_parts, not-false, not-true, leb-true}
-use Rattle.evict_core.specs.Recency.{some_passes, without_last}
-use Rattle.evict_core.specs.Machine.{Status, Flying, Ready, State, is_idle, idle_cost, has_idle, unpinned, evict, evict_all, is_within, least, trim}
-use Rattle.evict_core.specs.Laws.{TrimsBy, TrimsLeast}
+use Rattle.std.proofs.Common.{◌≡◌, ℕ, zero, suc, ◌<◌, Bool, true, false, cond, not, length, refl, sym, ap, ◌∙◌, subst, arith}
+use Rattle.std.proofs.lemmas.Bool.{or_parts, not-false}
+use Rattle.evict_core.specs.Recency.{without_last}
+use Rattle.evict_core.specs.Machine.{State, is_idle, has_idle, evict, evict_all, is_within, least, trim}
+use Rattle.evict_core.specs.Laws.{TrimsBy}
 use Rattle.evict_core.proofs.RecencyLemmas.{length-without_last}
 
 least-before : (test : ℕ → Bool) (n i : ℕ) → i < least test n → test i ≡ false

@@ -1,14 +1,13 @@
 -- A write to the place of a key, as the map and the list see it.
-use Rattle.std.proofs.Common.{◌≡◌, ℕ, ◌<◌, Bool, true, false, cond, nat_eq, List, [], ◌∷◌, Option, Some, None, option_map, refl, sym, ap, ◌∙◌, subst, arith}
+use Rattle.std.proofs.Common.{◌≡◌, ℕ, Bool, true, false, cond, nat_eq, List, [], ◌∷◌, Some, None, refl, sym, ap, ◌∙◌, subst}
 use Rattle.std.specs.Cmp.{IsEquivalence, nat_eq_equiv}
-use Rattle.std.specs.Map.{lookup, lookup_entry, remove_entry, set_value}
-use Rattle.std.specs.Option.{option_map_or}
+use Rattle.std.specs.Map.{lookup, lookup_entry, set_value}
 use Rattle.lru.specs.LruCache.{promoted}
-use Rattle.evict_core.specs.Recency.{to_front, change, Apart}
+use Rattle.evict_core.specs.Recency.{to_front, change}
 use Rattle.evict_core.specs.Places.{shown, Ties}
-use Rattle.evict_core.proofs.RecencyLemmas.{lookup-to_front, lookup-change, lookup-entry, Apart-to_front, Apart-change}
+use Rattle.evict_core.proofs.RecencyLemmas.{lookup-to_front, lookup-change, Apart-to_front, Apart-change}
 use Rattle.evict_core.proofs.PlacesLemmas.{write-front, write-there, to_front-shown, change-shown}
-use Rattle.evict_core.proofs.TieLemmas.{agree, place-of, lookup-found, lookup-missing, ties-written}
+use Rattle.evict_core.proofs.TieLemmas.{agree, place-of, lookup-missing, ties-written}
 
 -- an edit at a key that isn't there changes nothing
 pub to_front-missing : {K X : Type 0} (test : K → Bool) (f : X → X) (es : List (K × X)) → lookup test es ≡ None → to_front test f es ≡ es

@@ -1,5 +1,5 @@
 -- What the calls of `Entries` answer, by the machine.
-use Rattle.std.specs.Prelude.{◌≡◌, Bool, ℕ, ◌⊎◌, length, Option, Some, None}
+use Rattle.std.specs.Prelude.{◌≡◌, Bool, ℕ, length, Option, Some, None}
 use Rattle.std.specs.Arc.{arc_value}
 use Rattle.evict_core.specs.Machine.{Status, Flying, Ready, State, Step, maker_in, status_of, answer_of, after, unpinned, pinned}
 use Rattle.evict_core.specs.Machine as machine

@@ -1,8 +1,7 @@
 -- Histories of a cache: lists of a number and the step that it made, the oldest first.
-use Rattle.std.specs.Prelude.{◌≡◌, ℕ, zero, suc, ◌+◌, ◌-◌, ◌<◌, ◌≤◌, Bool, true, false, not, ◌&&◌, ◌||◌, ◌==◌, ◌↔◌, IsTrue, if◌then◌else◌, is_some, List, [], ◌∷◌, ◌++◌, length, Option, Some, None}
-use Rattle.std.specs.Map.{lookup}
+use Rattle.std.specs.Prelude.{◌≡◌, ℕ, zero, suc, ◌+◌, ◌-◌, ◌<◌, Bool, true, false, not, ◌&&◌, ◌||◌, ◌==◌, if◌then◌else◌, is_some, List, [], ◌∷◌, ◌++◌}
 use Rattle.evict_core.specs.declared.counts.Counts.{Counts}
-use Rattle.evict_core.specs.Machine.{Status, Flying, Ready, State, Answer, Hit, Claim, Crowded, Step, Ask, PinAll, Fill, Fail, Unpin, Limits, maker_in, pins_in, unpinned, has_idle, status_of, after, IsEnabled}
+use Rattle.evict_core.specs.Machine.{State, Hit, Claim, Crowded, Step, Ask, PinAll, Fill, Fail, Unpin, Limits, status_of, after, IsEnabled}
 
 abbrev pub no_counts : Counts
 no_counts = record { hits = 0; claims = 0; fills = 0; fails = 0; crowded = 0; evictions = 0 }

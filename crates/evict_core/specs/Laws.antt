@@ -1,6 +1,6 @@
 -- What holds of every legal history of a cache.
-use Rattle.std.specs.Prelude.{◌≡◌, ℕ, ◌<◌, ◌≤◌, Bool, true, false, ◌⊎◌, ◌↔◌, List, [], ◌∷◌, ◌++◌, length, Option, Some, None}
-use Rattle.evict_core.specs.Machine.{Status, Flying, State, Hit, Claim, Crowded, Step, Ask, Fill, maker_in, pins_in, unpinned, has_idle, status_of, after, is_within, evict_all, trim}
+use Rattle.std.specs.Prelude.{◌≡◌, ℕ, ◌<◌, ◌≤◌, Bool, true, false, ◌⊎◌, ◌↔◌, List, [], ◌∷◌, ◌++◌, length, Some}
+use Rattle.evict_core.specs.Machine.{State, Claim, Step, Ask, Fill, maker_in, pins_in, unpinned, has_idle, status_of, is_within, evict_all, trim}
 use Rattle.evict_core.specs.History.{replay, replay_from, held, held_below, is_pending, IsLegal, NumbersBelow, is_evicted, is_fail_of}
 
 module _ {K V : Type 0} (eq : K → K → Bool) where

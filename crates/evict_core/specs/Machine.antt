@@ -1,6 +1,6 @@
 -- The cache machine: what a cache with a limit of entries and a budget does at each step. It is this project's own.
 -- `eq` says which keys are the same, and a ready entry also has the value that it was filled with.
-use Rattle.std.specs.Prelude.{◌≡◌, ℕ, zero, suc, ◌+◌, ◌-◌, ◌^◌, ◌<◌, ◌≤◌, min, Bool, true, false, not, ◌&&◌, ◌||◌, ◌==◌, nat_lt, nat_le, if◌then◌else◌, List, [], ◌∷◌, length, Option, Some, None}
+use Rattle.std.specs.Prelude.{◌≡◌, ℕ, zero, suc, ◌+◌, ◌-◌, ◌≤◌, min, Bool, false, not, ◌&&◌, ◌||◌, ◌==◌, nat_lt, nat_le, if◌then◌else◌, List, [], ◌∷◌, length, Option, Some, None}
 use Rattle.std.specs.Map.{lookup, remove_entry}
 use Rattle.evict_core.specs.Recency.{total, some_passes, without_last, to_front, change}
 use Rattle.evict_core.specs.declared.counts.Counts.{Counts}

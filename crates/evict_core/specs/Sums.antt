@@ -1,5 +1,5 @@
 -- The running sums of a list of entries.
-use Rattle.std.specs.Prelude.{◌≡◌, true, false, ℕ, ◌+◌, ◌-◌, ◌≤◌, if◌then◌else◌, List, length, Option, Some, None}
+use Rattle.std.specs.Prelude.{◌≡◌, true, false, ℕ, ◌-◌, ◌≤◌, if◌then◌else◌, List, length, Option, Some, None}
 use Rattle.evict_core.specs.Machine.{Status, Flying, Ready, is_idle, idle_cost, unpinned, pinned}
 use Rattle.evict_core.specs.Recency.{total}
 

@@ -6,6 +6,7 @@ mod plain;
 use crate::{Ask, Entries, Totals};
 use plain::Plain;
 use std::alloc::Global;
+use std::process::Abort;
 use std::sync::Arc;
 use std::test::Fail;
 
@@ -186,32 +187,43 @@ fn draw_call(seed: &mut u64) -> Call {
     }
 }
 
+// Makes a call on both, and compares what they say then.
+fn compare(
+    rt: &impl Abort,
+    alloc: Global,
+    entries: &mut Entries<u32, u32>,
+    plain: &mut Plain,
+    call: Call,
+) -> Result<Reply, Fail> {
+    let reply = make(alloc, entries, call)?;
+    assert_eq!(rt; plain.make(alloc, call)?, reply, "{call:?}");
+    assert_eq!(rt;
+        plain.totals(),
+        Some(entries.totals()),
+        "totals after {call:?}"
+    );
+    Ok(reply)
+}
+
 #[test]
 fn rows_and_random_steps(rt: HostRuntime) -> Result<(), Fail> {
     let alloc = rt.alloc();
     let mut entries: Entries<u32, u32> = Entries::open(alloc, 2, 100)?;
-    let mut plain = Plain::new(alloc, 2, 100);
+    let mut plain = Plain::open(alloc, 2, 100);
     for (i, (call, want, count, unpinned)) in ROWS.iter().enumerate() {
-        assert_eq!(rt; make(alloc, &mut entries, *call)?, *want, "row {i}");
-        assert_eq!(rt; plain.make(*call)?, *want, "row {i}");
+        let reply = compare(&rt, alloc, &mut entries, &mut plain, *call)?;
+        assert_eq!(rt; reply, *want, "row {i}");
         let totals = entries.totals();
         assert_eq!(rt; totals.entries, *count, "entries in row {i}");
         assert_eq!(rt; totals.unpinned, *unpinned, "unpinned in row {i}");
-        assert_eq!(rt; totals, plain.totals(), "totals in row {i}");
     }
     assert_eq!(rt; entries.totals().evictions, 6);
     assert_eq!(rt; entries.pins_of(&C), Some(1));
     let value = entries.value_of(&C)?.ok_or("no value")?;
     assert_eq!(rt; *value, 10_003);
     let mut seed = 1;
-    for i in 0..4000 {
-        let call = draw_call(&mut seed);
-        assert_eq!(rt;
-            make(alloc, &mut entries, call)?,
-            plain.make(call)?,
-            "step {i}: {call:?}"
-        );
-        assert_eq!(rt; entries.totals(), plain.totals(), "totals at step {i}");
+    for _ in 0..4000 {
+        compare(&rt, alloc, &mut entries, &mut plain, draw_call(&mut seed))?;
     }
     Ok(())
 }

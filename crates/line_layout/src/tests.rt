@@ -64,30 +64,42 @@ fn breaks_of(
 fn paragraphs_are_broken_by_style(rt: HostRuntime) -> Result<(), Fail> {
     let alloc = rt.alloc();
     let wide = [64; 12];
-    let nine = [1, 3, 5, 7];
-    let twelve = [2, 5, 7, 10];
-    let some = "a paragraph";
-    let found = breaks_of(alloc, &wide[..9], nine.as_slice(), 320, 0)?.ok_or(some)?;
-    assert_eq!(rt; found.as_slice(), [5].as_slice());
-    let found = breaks_of(alloc, &wide[..9], nine.as_slice(), 320, 1)?.ok_or(some)?;
-    assert_eq!(rt; found.as_slice(), [5].as_slice());
-    let found = breaks_of(alloc, &wide[..9], nine.as_slice(), 320, 2)?.ok_or(some)?;
-    assert_eq!(rt; found.len(), 0);
-    let found = breaks_of(alloc, &wide[..9], nine.as_slice(), 320, 3)?.ok_or(some)?;
-    assert_eq!(rt; found.as_slice(), [3].as_slice());
-    let found = breaks_of(alloc, wide.as_slice(), twelve.as_slice(), 320, 0)?.ok_or(some)?;
-    assert_eq!(rt; found.as_slice(), [2, 7].as_slice());
-    let found = breaks_of(alloc, wide.as_slice(), twelve.as_slice(), 320, 1)?.ok_or(some)?;
-    assert_eq!(rt; found.as_slice(), [5, 10].as_slice());
-    let found = breaks_of(alloc, wide.as_slice(), twelve.as_slice(), 320, 3)?.ok_or(some)?;
-    assert_eq!(rt; found.as_slice(), [2, 7].as_slice());
-    let found = breaks_of(alloc, &wide[..8], [6].as_slice(), 320, 3)?.ok_or(some)?;
-    assert_eq!(rt; found.as_slice(), [6].as_slice());
-    let found = breaks_of(alloc, [].as_slice(), [].as_slice(), 320, 0)?.ok_or(some)?;
-    assert_eq!(rt; found.len(), 0);
-    let found = breaks_of(alloc, &wide[..3], [0, 1, 2].as_slice(), 0, 0)?.ok_or(some)?;
-    assert_eq!(rt; found.as_slice(), [0, 1, 2].as_slice());
-    let found = breaks_of(alloc, &wide[..3], [0, 1, 2].as_slice(), 64, 3)?.ok_or(some)?;
-    assert_eq!(rt; found.as_slice(), [1].as_slice());
+    // How many items of 64, the spaces among them, the maximum, the style, and the places.
+    let cases: [(usize, &[usize], Fix, u8, &[usize]); 23] = [
+        (9, &[1, 3, 5, 7], 320, 0, &[5]),
+        (9, &[1, 3, 5, 7], 320, 1, &[5]),
+        (9, &[1, 3, 5, 7], 320, 2, &[]),
+        (9, &[1, 3, 5, 7], 320, 3, &[3]),
+        (12, &[2, 5, 7, 10], 320, 0, &[2, 7]),
+        (12, &[2, 5, 7, 10], 320, 1, &[5, 10]),
+        (12, &[2, 5, 7, 10], 320, 3, &[2, 7]),
+        (8, &[6], 320, 0, &[6]),
+        (8, &[6], 320, 1, &[6]),
+        (8, &[6], 320, 3, &[6]),
+        (0, &[], 320, 0, &[]),
+        (0, &[], 320, 1, &[]),
+        (0, &[], 320, 2, &[]),
+        (0, &[], 320, 3, &[]),
+        // a last line of spaces alone, and one of nothing
+        (8, &[5, 6, 7], 320, 0, &[5]),
+        (8, &[5, 6, 7], 320, 1, &[5]),
+        (8, &[5, 6, 7], 320, 3, &[5]),
+        (6, &[5], 320, 0, &[5]),
+        // spaces alone
+        (3, &[0, 1, 2], 0, 0, &[0, 1, 2]),
+        (3, &[0, 1, 2], 64, 3, &[1]),
+        (6, &[0, 1, 2, 3, 4, 5], 192, 0, &[3]),
+        (3, &[0, 1, 2], 128, 1, &[2]),
+        (6, &[0, 1, 2, 3, 4, 5], 192, 3, &[2]),
+    ];
+    for (count, spaces, max, style, want) in cases {
+        assert!(rt; count <= wide.len());
+        let found = breaks_of(alloc, &wide[..count], spaces, max, style)?.ok_or("a paragraph")?;
+        assert_eq!(rt;
+            found.as_slice(),
+            want,
+            "{count} items, style {style}, maximum {max}"
+        );
+    }
     Ok(())
 }

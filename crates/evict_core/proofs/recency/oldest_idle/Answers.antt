@@ -1,6 +1,6 @@
-use Rattle.std.proofs.Common.{◌≡◌, sym, ap, ◌∙◌, subst}
+use Rattle.std.proofs.Common.{sym, subst}
 use Rattle.evict_core.specs.Places.{is_idle_place}
-use Rattle.evict_core.proofs.Searching.{Searched, searched-none, searched-more, searched-all, searched-at, shorter}
+use Rattle.evict_core.proofs.Searching.{Searched, searched-none, searched-all, shorter}
 use Rattle.evict_core.proofs.recency.oldest_idle.Goals as goal
 
 pub loop-number-init : goal.loop-number-init

@@ -1,5 +1,4 @@
-use Rattle.std.proofs.Common.{◌≡◌, sym, ap, ◌∙◌, subst, option_map, nat_eq, refl}
-use Rattle.std.specs.Map.{lookup}
+use Rattle.std.proofs.Common.{sym, ap, ◌∙◌, subst, option_map, nat_eq, refl}
 use Rattle.evict_core.specs.Places.{status_in, Ties}
 use Rattle.evict_core.proofs.TieLemmas.{item-of, no-item}
 use Rattle.evict_core.proofs.TakeLemmas.{shown-at_end, ties-at_end, gap-moved, shown-told, ties-told}

@@ -1,4 +1,4 @@
-use Rattle.std.proofs.Common.{◌≡◌, ◌≤◌, sym, ap, ◌∙◌, subst, length, arith}
+use Rattle.std.proofs.Common.{◌≤◌, sym, ap, ◌∙◌, length, arith}
 use Rattle.evict_core.specs.Machine.{has_idle}
 use Rattle.evict_core.proofs.AskLemmas.{crowded-full}
 use Rattle.evict_core.proofs.entries.Entries.claim.Goals as goal

@@ -1,4 +1,4 @@
-use Rattle.std.proofs.Common.{◌≡◌, ◌≤◌, sym, ap, ◌∙◌, arith, length, true, subst, ◌∷◌, ◌||◌}
+use Rattle.std.proofs.Common.{ap, ◌∙◌, arith, length}
 use Rattle.std.proofs.lemmas.Bool.{or_left}
 use Rattle.evict_core.specs.Machine.{is_idle, has_idle}
 use Rattle.evict_core.proofs.RecencyLemmas.{length-without_last}

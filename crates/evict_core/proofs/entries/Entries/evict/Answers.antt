@@ -1,6 +1,6 @@
-use Rattle.std.proofs.Common.{◌≡◌, ◌≤◌, sym, ap, ◌∙◌, arith, length}
-use Rattle.evict_core.specs.Machine.{one_pin_more, one_pin_less, Ready, is_idle}
-use Rattle.evict_core.proofs.SumLemmas.{length-to_front, length-change, length-remove, length-without_last-le}
+use Rattle.std.proofs.Common.{ap, arith, length}
+use Rattle.evict_core.specs.Machine.{is_idle}
+use Rattle.evict_core.proofs.SumLemmas.{length-without_last-le}
 use Rattle.evict_core.proofs.entries.Entries.evict.Goals as goal
 
 pub invariant_of-self : goal.invariant_of-self

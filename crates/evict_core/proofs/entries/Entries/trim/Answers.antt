@@ -1,4 +1,4 @@
-use Rattle.std.proofs.Common.{◌≡◌, ◌<◌, sym, ap, ◌∙◌, arith, length}
+use Rattle.std.proofs.Common.{sym, ap, ◌∙◌, arith, length}
 use Rattle.evict_core.specs.Machine.{is_idle, trim}
 use Rattle.evict_core.proofs.TrimLemmas.{trim-more, trim-done, some-idle}
 use Rattle.evict_core.proofs.RecencyLemmas.{length-without_last}

@@ -1,7 +1,5 @@
-use Rattle.std.proofs.Common.{◌≡◌, sym, ap, ◌∙◌, arith, subst, IsSome, Some}
-use Rattle.evict_core.specs.Machine.{maker_in}
-use Rattle.evict_core.specs.Sums.{AreSums}
-use Rattle.evict_core.proofs.SumLemmas.{sums-fit, idle-counted, add-idle, add-busy, drop-idle, drop-busy, fill-sums, remove-sums, evict-sums, some-of}
+use Rattle.std.proofs.Common.{arith}
+use Rattle.evict_core.proofs.SumLemmas.{sums-fit, add-idle, add-busy}
 use Rattle.evict_core.proofs.ledger.Ledger.add_pin.Goals as goal
 
 pub overflow_sub-self : goal.overflow_sub-self

@@ -1,7 +1,6 @@
-use Rattle.std.proofs.Common.{◌≡◌, ◌+◌, nat_lt, sym, ap, ◌∙◌, arith, subst, IsSome, Some}
-use Rattle.evict_core.specs.Machine.{has_idle, unpinned}
-use Rattle.evict_core.specs.Sums.{AreSums}
-use Rattle.evict_core.proofs.SumLemmas.{sums-fit, idle-counted, add-idle, add-busy, drop-idle, drop-busy, fill-sums, remove-sums, evict-sums, some-of}
+use Rattle.std.proofs.Common.{◌+◌, ap, ◌∙◌}
+use Rattle.evict_core.specs.Machine.{unpinned}
+use Rattle.evict_core.proofs.SumLemmas.{evict-sums}
 use Rattle.evict_core.proofs.ledger.Ledger.evict.Goals as goal
 
 pub overflow_sub-self-2 : goal.overflow_sub-self-2

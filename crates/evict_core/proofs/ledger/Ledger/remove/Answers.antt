@@ -1,7 +1,4 @@
-use Rattle.std.proofs.Common.{◌≡◌, sym, ap, ◌∙◌, arith, subst, IsSome, Some}
-use Rattle.evict_core.specs.Machine.{maker_in}
-use Rattle.evict_core.specs.Sums.{AreSums}
-use Rattle.evict_core.proofs.SumLemmas.{sums-fit, idle-counted, add-idle, add-busy, drop-idle, drop-busy, fill-sums, remove-sums, evict-sums, some-of}
+use Rattle.evict_core.proofs.SumLemmas.{remove-sums, some-of}
 use Rattle.evict_core.proofs.ledger.Ledger.remove.Goals as goal
 
 pub invariant_of-self : goal.invariant_of-self

@@ -1,4 +1,4 @@
-use Rattle.std.proofs.Common.{◌≡◌, sym, ap, ◌∙◌, true≢false, subst, ◌+◌, arith}
+use Rattle.std.proofs.Common.{sym, ap, ◌∙◌, true≢false, ◌+◌}
 use Rattle.evict_core.specs.Machine.{has_idle, is_idle, unpinned}
 use Rattle.evict_core.specs.Recency.{without_last}
 use Rattle.evict_core.proofs.EvictLemmas.{idle-places, entries-evicted, cost-evicted}

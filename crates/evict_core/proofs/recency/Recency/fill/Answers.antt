@@ -1,11 +1,9 @@
-use Rattle.std.proofs.Common.{◌≡◌, ◌<◌, sym, ap, ◌∙◌, subst, option_map, Some, None, refl}
-use Rattle.std.specs.Map.{lookup}
+use Rattle.std.proofs.Common.{sym, ap, ◌∙◌, refl}
 use Rattle.std.specs.Arc.{arc_value}
-use Rattle.evict_core.specs.Machine.{pins_in, one_pin_more, one_pin_less, Ready}
+use Rattle.evict_core.specs.Machine.{Ready}
 use Rattle.evict_core.specs.Places.{status_in}
-use Rattle.evict_core.specs.Recency.{to_front, change}
-use Rattle.evict_core.proofs.TieLemmas.{lookup-found}
-use Rattle.evict_core.proofs.WriteLemmas.{no-gap, ties-front, shown-front, front-none, ties-there, shown-there, there-none}
+use Rattle.evict_core.specs.Recency.{to_front}
+use Rattle.evict_core.proofs.WriteLemmas.{no-gap, ties-front, shown-front, front-none}
 use Rattle.evict_core.proofs.recency.Recency.fill.Goals as goal
 
 pub invariant_of-self : goal.invariant_of-self

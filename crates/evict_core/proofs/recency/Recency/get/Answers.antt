@@ -1,6 +1,6 @@
-use Rattle.std.proofs.Common.{◌≡◌, sym, ap, ◌∙◌, option_map, Some, None}
+use Rattle.std.proofs.Common.{sym, ap, ◌∙◌, option_map}
 use Rattle.std.specs.Map.{lookup}
-use Rattle.evict_core.proofs.TieLemmas.{lookup-found, lookup-missing, place-of}
+use Rattle.evict_core.proofs.TieLemmas.{lookup-found, lookup-missing}
 use Rattle.evict_core.specs.Places.{status_in}
 use Rattle.evict_core.proofs.recency.Recency.get.Goals as goal
 

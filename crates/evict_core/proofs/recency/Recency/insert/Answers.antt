@@ -1,4 +1,4 @@
-use Rattle.std.proofs.Common.{◌≡◌, sym, ap, ◌∙◌, subst, refl, ◌∷◌}
+use Rattle.std.proofs.Common.{sym, ap, ◌∙◌, subst, ◌∷◌}
 use Rattle.std.specs.Map.{lookup}
 use Rattle.evict_core.specs.Machine.{Flying}
 use Rattle.evict_core.specs.Places.{status_in, shown, Ties}

@@ -1,4 +1,4 @@
-use Rattle.std.proofs.Common.{◌≡◌, sym, ap, ◌∙◌, length}
+use Rattle.std.proofs.Common.{sym, ap, ◌∙◌, length}
 use Rattle.evict_core.proofs.PlacesLemmas.{length-shown, each-found}
 use Rattle.evict_core.specs.Places.{status_in}
 use Rattle.evict_core.proofs.recency.Recency.len.Goals as goal

@@ -1,4 +1,4 @@
-use Rattle.std.proofs.Common.{◌≡◌, sym, ap, ◌∙◌, nat_eq}
+use Rattle.std.proofs.Common.{sym, ap, ◌∙◌, nat_eq}
 use Rattle.std.specs.Map.{lookup, remove_entry}
 use Rattle.evict_core.specs.Places.{status_in}
 use Rattle.evict_core.proofs.PlacesLemmas.{remove-shown, remove-missing}

@@ -1,0 +1,43 @@
+#!/usr/bin/env bash
+# Measures the kernels at the sizes of RESULTS.md, on the machine at hand. The program is proved and built first where that is needed.
+set -eu
+
+top=$(dirname -- "$(dirname -- "$(readlink -f -- "${BASH_SOURCE[0]}")")")
+program=$top/crates/kernel_bench/out/kernel_bench
+
+# Whether the program is there and no source that it is made of is newer.
+is_fresh() {
+    local crate
+    [ -x "$program" ] || return 1
+    for crate in ass_num sample_region placement line_layout blend kernel_bench; do
+        [ -z "$(find "$top/crates/$crate/src" -newer "$program" -print -quit)" ] || return 1
+    done
+}
+
+measure() {
+    printf '\n%s %s\n' "$1" "$2"
+    "$program" "$@" | sed 's/^/  /'
+}
+
+if ! is_fresh; then
+    echo "run.sh: proving and building the program, which takes some minutes" >&2
+    (cd "$top/crates/kernel_bench" && rt run) >&2
+fi
+
+date -u +%Y-%m-%d
+printf '%s processors: %s\n' "$(nproc)" "$(sed -n 's/^model name.*: //p' /proc/cpuinfo | head -n 1)"
+printf 'load before: %s\n' "$(cut -d ' ' -f 1-3 /proc/loadavg)"
+
+measure region 48 200
+measure region 200 100
+measure shift 10000 50
+measure shift 100000 10
+measure shift 1000000 5
+measure breaks 10000 50
+measure breaks 100000 10
+measure breaks 1000000 5
+measure draw 64 5000
+measure draw 256 1000
+measure draw 1080 100
+
+printf '\nload after: %s\n' "$(cut -d ' ' -f 1-3 /proc/loadavg)"

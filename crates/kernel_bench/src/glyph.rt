@@ -1,0 +1,110 @@
+//! Regions of a glyph that is made of dots.
+
+ghost use Rattle.std.specs.Prelude.{OnOk, IfOk};
+ghost use Rattle.ass_num.specs.Limits.{IsOutline, IsOutlinePoint};
+
+use crate::laps::Laps;
+use crate::stop::Stop;
+use ass_num::{FlatLists, Mem, Outline, Point};
+use sample_region::region_of;
+use std::alloc::Global;
+use std::time::Instant;
+
+/// A point, held near 0.
+fn point(x: i64, y: i64) -> Point
+    ensures { IsOutlinePoint result }
+{
+    Point {
+        x: x.max(-262144).min(262144),
+        y: y.max(-262144).min(262144),
+    }
+}
+
+/// Adds a square dot with this corner, side and lean.
+fn add_dot(rings: &mut FlatLists<Point>, x: i64, y: i64, side: i64, lean: i64) -> Mem<()>
+    requires { IsOutline rings.old }
+    ensures { OnOk result (IsOutline rings.new) }
+{
+    let (right, bottom) = (x.wrapping_add(side), y.wrapping_add(side));
+    let ring = [
+        point(x, y),
+        point(right, y.wrapping_sub(lean)),
+        point(right.wrapping_add(lean), bottom.wrapping_sub(lean)),
+        point(x.wrapping_add(lean), bottom),
+    ];
+    rings.push(&ring)?;
+    Ok(())
+}
+
+/// Adds the dot in this column and row, where the glyph has one.
+fn add_cell(rings: &mut FlatLists<Point>, column: u8, row: u8, side: i64, lean: i64) -> Mem<()>
+    requires { IsOutline rings.old }
+    ensures { OnOk result (IsOutline rings.new) }
+{
+    let (a, b) = (u32::from(column), u32::from(row));
+    let place = a * a + 3 * b * b + a * b;
+    if place & 3 == 1 || place & 3 == 2 {
+        return Ok(());
+    }
+    let (i, j) = (i64::from(column), i64::from(row));
+    add_dot(
+        rings,
+        i.wrapping_mul(side).wrapping_add(j.wrapping_mul(lean)),
+        j.wrapping_mul(side).wrapping_sub(i.wrapping_mul(lean)),
+        side,
+        lean,
+    )
+}
+
+/// A glyph of 160 dots on a grid of 16 by 16.
+fn glyph(alloc: Global, side: i64, lean: i64) -> Mem<Outline>
+    ensures { IfOk result (λ outline. IsOutline outline.rings) }
+{
+    let mut rings = FlatLists::new(alloc);
+    for column in 0..16u8 {
+        for row in 0..16u8 {
+            add_cell(&mut rings, column, row, side, lean)?;
+        }
+    }
+    Ok(Outline { rings })
+}
+
+fn measure_glyph(
+    rt: &HostRuntime,
+    name: &str,
+    side: i64,
+    lean: i64,
+    turns: u32,
+) -> Result<(), Stop> {
+    let alloc = rt.alloc();
+    let outline = glyph(alloc, side, lean)?;
+    let mut laps = Laps::new();
+    let mut rows = 0;
+    for _ in 0..turns {
+        let began = Instant::now(rt)?;
+        let region = region_of(alloc, &outline)?;
+        laps.add(began.elapsed(rt)?);
+        rows = region.rows().len();
+    }
+    println!(rt; "region, {name}: {rows} rows, {laps}")?;
+    Ok(())
+}
+
+/// Times the region of a glyph that is so many pixels high, and of the same glyph turned a little.
+pub fn measure(rt: &HostRuntime, pixels: u32, turns: u32) -> Result<(), Stop> {
+    let side = i64::from(pixels) * 4;
+    measure_glyph(rt, "upright", side, 0, turns)?;
+    measure_glyph(rt, "turned", side - side / 80, side * 3 / 20, turns)
+}
+
+/// Prints how many rows and runs a glyph of 8 pixels has, upright and turned.
+pub fn show(rt: &HostRuntime) -> Result<(), Stop> {
+    let alloc = rt.alloc();
+    for lean in [0, 5] {
+        let region = region_of(alloc, &glyph(alloc, 32, lean)?)?;
+        let rows = region.rows().len();
+        let runs = region.rows().all_items().len();
+        println!(rt; "region of 8 pixels, lean {lean}: {rows} rows, {runs} runs")?;
+    }
+    Ok(())
+}

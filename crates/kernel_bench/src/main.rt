@@ -1,0 +1,57 @@
+//! Measures the kernels. Without words it runs a small case of each and prints what came of it; with the words
+//! `KERNEL SIZE TURNS` it makes an input of that size and prints how long a turn takes.
+#![tactic(auto)]
+
+mod boxes;
+mod drawing;
+mod glyph;
+mod laps;
+mod paragraph;
+mod stop;
+
+use std::{env, io};
+use stop::Stop;
+
+/// The words after the program's name.
+fn words_of(rt: &HostRuntime) -> io::Result<Vec<String>> {
+    let mut words = Vec::new(rt.alloc());
+    for word in env::args(rt)?.skip(1) {
+        words.push(word)?;
+    }
+    Ok(words)
+}
+
+fn number_of(word: &String) -> Result<u32, Stop> {
+    match word.as_str().parse::<u32>() {
+        Ok(number) => Ok(number),
+        Err(_) => Err(Stop::UnknownWords),
+    }
+}
+
+fn show_all(rt: &HostRuntime) -> Result<(), Stop> {
+    glyph::show(rt)?;
+    boxes::show(rt)?;
+    paragraph::show(rt)?;
+    drawing::show(rt)
+}
+
+fn measure(rt: &HostRuntime, kernel: &str, size: u32, turns: u32) -> Result<(), Stop> {
+    match kernel {
+        "region" => glyph::measure(rt, size, turns),
+        "shift" => boxes::measure(rt, size, turns),
+        "breaks" => paragraph::measure(rt, size, turns),
+        "draw" => drawing::measure(rt, size, turns),
+        _ => Err(Stop::UnknownWords),
+    }
+}
+
+fn main(rt: HostRuntime) -> Result<(), Stop> {
+    let words = words_of(&rt)?;
+    match words.as_slice() {
+        [] => show_all(&rt),
+        [kernel, size, turns] => {
+            measure(&rt, kernel.as_str(), number_of(size)?, number_of(turns)?)
+        }
+        _ => Err(Stop::UnknownWords),
+    }
+}

@@ -1,0 +1,41 @@
+use Rattle.std.proofs.Common.{◌≡◌, ◌+◌, pos, ◌+ℤ◌, [], ◌∷◌, ◌++◌, get_or, w16, to_z, of_z, refl, sym, arith, rules}
+use Rattle.std.proofs.lemmas.Int.{ints}
+use Rattle.mask_cover.proofs.RowLemmas.{row_push, byte_same}
+use Rattle.mask_cover.proofs.StepLemmas.{sum_first-none, sum_first-next}
+use Rattle.mask_cover.specs.Steps.{sum_first}
+use Rattle.mask_cover.proofs.steps.push_row.Goals as goal
+
+pub loop-c-init : goal.loop-c-init
+loop-c-init c = (sym (sum_first-none c.args.steps.now), record { count = omega arith; kept = λ k h. refl; row = λ k h. absurd (omega arith) })
+
+pub overflow_add-count : goal.overflow_add-count
+overflow_add-count c =
+    let next = sum_first-next c.args.steps.now c.loop-c.c in
+    let now = c.requires.counts c.loop-c.c in
+    let after = c.requires.counts (c.loop-c.c + 1) in
+    omega (arith, ints, next, now.0, now.1, after.0, after.1, c.loop-c.invariant.0)
+
+pub byte_of-requires-clause-low : goal.byte_of-requires-clause-low
+byte_of-requires-clause-low c =
+    let next = sum_first-next c.args.steps.now c.loop-c.c in
+    let now = c.requires.counts c.loop-c.c in
+    let after = c.requires.counts (c.loop-c.c + 1) in
+    omega (arith, ints, next, now.0, now.1, after.0, after.1, c.loop-c.invariant.0)
+
+pub byte_of-requires-clause-high : goal.byte_of-requires-clause-high
+byte_of-requires-clause-high c =
+    let next = sum_first-next c.args.steps.now c.loop-c.c in
+    let now = c.requires.counts c.loop-c.c in
+    let after = c.requires.counts (c.loop-c.c + 1) in
+    omega (arith, ints, next, now.0, now.1, after.0, after.1, c.loop-c.invariant.0)
+
+pub loop-c-preserved : goal.loop-c-preserved
+loop-c-preserved c =
+    let next = sum_first-next c.args.steps.now c.loop-c.c in
+    let now = c.requires.counts c.loop-c.c in
+    let after = c.requires.counts (c.loop-c.c + 1) in
+    let pushed : c.push.new.self.items ≡ c.loop-c.bytes.items ++ c.byte_of.result ∷ [] = search rules in (
+      omega (arith, ints, next, now.0, now.1, after.0, after.1, c.loop-c.invariant.0),
+      rw pushed (row_push c.args.steps.now c.loop-c.c c.byte_of.result c.args.bytes.now.items c.loop-c.bytes.items c.loop-c.invariant.1
+          (byte_same (to_z w16 (of_z w16 (to_z w16 c.loop-c.count-bits +ℤ to_z w16 (of_z w16 (get_or c.args.steps.now c.loop-c.c (pos 0)))))) c.byte_of.result (sum_first c.args.steps.now (c.loop-c.c + 1)) c.byte_of.ensures (omega (arith, ints, next, now.0, now.1, after.0, after.1, c.loop-c.invariant.0)))),
+    )
