@@ -4,7 +4,7 @@ use Rattle.std.proofs.lemmas.Int.{ints, by_lt_z, clamps}
 use Rattle.std.specs.Int.{int_min}
 use Rattle.std.proofs.lemmas.Bool.{and_parts, false≢true}
 use Rattle.std.specs.Ordering.{int_eq}
-use Rattle.sample_region.proofs.SignedLemmas.{lt_true, lt_false, le_true, le_false, lt_is}
+use Rattle.region_rows.proofs.OrderLemmas.{lt_true, lt_false, le_true, le_false, lt_is}
 use Rattle.ass_num.specs.Regions.{in_runs, ascend, ascend_from, row_at, member, has_run, all_ascend, first_has_run, last_has_run, last_has_run_after, top_fits, is_canonical}
 use Rattle.ass_num.specs.declared.region.Run.{Run}
 

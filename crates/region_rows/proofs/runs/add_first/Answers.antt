@@ -1,7 +1,7 @@
 use Rattle.std.proofs.Common.{rules, pos}
 use Rattle.ass_num.specs.declared.region.Run.{Run}
-use Rattle.sample_region.proofs.JoinLemmas.{joined_more, run_at}
-use Rattle.sample_region.proofs.either.add_first.Goals as goal
+use Rattle.region_rows.proofs.JoinLemmas.{joined_more, run_at}
+use Rattle.region_rows.proofs.runs.add_first.Goals as goal
 
 abbrev none : Run
 none = record { from = pos 0; to = pos 0 }

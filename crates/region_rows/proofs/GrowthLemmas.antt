@@ -4,7 +4,7 @@ use Rattle.std.proofs.lemmas.Int.{ints, by_lt_z}
 use Rattle.std.proofs.lemmas.Bool.{and_parts, and_from, cases_lt, cases_eq}
 use Rattle.std.proofs.lemmas.List.{get_or_append_left, get_or_push, get_or_past, length_push, take-append-le, take_all, get_or-take}
 use Rattle.ass_num.specs.Regions.{in_runs, ascend, row_at, member, has_run, all_ascend, first_has_run, last_has_run, last_has_run_after, top_fits, is_canonical}
-use Rattle.sample_region.specs.Growths.{HasRows, IsFormed, IsRowHolding}
+use Rattle.region_rows.specs.Growths.{HasRows, IsFormed, IsRowHolding}
 use Rattle.ass_num.specs.declared.region.Run.{Run}
 
 -- ---- rows

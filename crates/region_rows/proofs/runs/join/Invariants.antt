@@ -1,6 +1,6 @@
 use Rattle.std.proofs.Common.{◌+◌, ◌-◌, ◌≤◌, length}
-use Rattle.sample_region.specs.Joins.{IsJoined}
-use Rattle.sample_region.proofs.either.join.Given as goal
+use Rattle.region_rows.specs.Joins.{IsJoined}
+use Rattle.region_rows.proofs.runs.join.Given as goal
 
 abbrev pub invariant-loop-k : goal.invariant-loop-k
 invariant-loop-k l = record {

@@ -1,6 +1,6 @@
 -- Two rows of runs that are joined to one.
 use Rattle.std.specs.Prelude.{◌≡◌, ℕ, ℤ, ◌≤ℤ◌, ◌<◌, Bool, true, ◌||◌, ◌&&◌, int_le, int_lt, List, All, length, take, slice_index_or}
-use Rattle.ass_num.specs.Regions.{PlainRegion, member, in_runs, ascend}
+use Rattle.ass_num.specs.Regions.{in_runs, ascend}
 use Rattle.ass_num.specs.declared.region.Run.{Run}
 
 -- all runs begin at the limit or before
@@ -24,7 +24,3 @@ pub record IsJoined (a : List Run) (k : ℕ) (b : List Run) (m : ℕ) (runs : Li
   pub ascends : ascend runs ≡ true
   pub left : (d : Run) → k < length a → AllBegin (slice_index_or a k d).from runs
   pub right : (d : Run) → m < length b → AllBegin (slice_index_or b m d).from runs
-
--- sample i of row j belongs to one region or the other
-abbrev pub in_either : PlainRegion → PlainRegion → ℤ → ℤ → Bool
-in_either a b i j = member a.top a.rows i j || member b.top b.rows i j

@@ -2,7 +2,6 @@
 
 ghost use Rattle.std.specs.Prelude.{◌≡◌, ℤ, Bool, true, false, ◌≤ℤ◌, ◌<ℤ◌, pos, OnOk};
 ghost use Rattle.ass_num.specs.Regions.{is_canonical, member};
-ghost use Rattle.sample_region.specs.Growths.{HasRows, IsFormed, IsRowHolding};
 
 use ass_num::{FlatLists, Mem, Region, Run};
 use std::alloc::Global;
@@ -23,7 +22,7 @@ pub struct Growth {
 }
 
 impl Growth {
-    ghost use Rattle.sample_region.specs.Grown.{Adds, IsGrown};
+    ghost use Rattle.region_rows.specs.Grown.{Adds, HasRoom, IsGrown, IsWhole};
 
     /// No rows yet, and the first that may come.
     pub fn new(alloc: Global, first: i32) -> Growth
@@ -38,7 +37,7 @@ impl Growth {
 
     /// Adds the next row.
     pub fn add(&mut self, runs: &[Run]) -> Mem<()>
-        requires { self.old.top ≤ℤ pos 1000000000 }
+        requires { HasRoom self.old }
         ensures { OnOk result (Adds runs.now self.old self.new) }
     {
         if runs.is_empty() {
@@ -56,7 +55,7 @@ impl Growth {
 
     /// The region of the rows, without the empty rows at the end.
     pub fn finish(self) -> Region
-        requires { IsFormed self.rows self.filled }
+        requires { IsWhole self }
         ensures samples { (wanted : ℤ → ℤ → Bool) (last : ℤ) → IsGrown wanted last self → ((i j : ℤ) → last ≤ℤ j → wanted i j ≡ false) → (i j : ℤ) → member result.top result.rows i j ≡ wanted i j }
         ensures canonical { is_canonical result.top result.rows ≡ true }
     {

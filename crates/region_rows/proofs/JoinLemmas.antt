@@ -7,11 +7,22 @@ use Rattle.std.proofs.lemmas.List.{take_more, get_or_default}
 use Rattle.std.proofs.lemmas.List.Elements.{All-push, All-pop, All-weaker, All-nil}
 use Rattle.ass_num.specs.Regions.{in_runs, ascend, ascend_from, member}
 use Rattle.ass_num.specs.declared.region.Run.{Run}
-use Rattle.sample_region.specs.Joins.{AllBegin, IsJoinedTo, IsFirst, IsJoined}
-use Rattle.sample_region.proofs.SignedLemmas.{lt_true, lt_false, le_true, le_false, lt_is}
-use Rattle.sample_region.proofs.GrowthLemmas.{row_at-past}
-use Rattle.sample_region.proofs.UniqueLemmas.{row_above}
-use Rattle.sample_region.proofs.WalkLemmas.{in_runs-push, or_assoc, or_false}
+use Rattle.region_rows.specs.Joins.{AllBegin, IsJoinedTo, IsFirst, IsJoined}
+use Rattle.region_rows.proofs.OrderLemmas.{lt_true, lt_false, le_true, le_false, lt_is}
+use Rattle.region_rows.proofs.GrowthLemmas.{row_at-past}
+use Rattle.region_rows.proofs.UniqueLemmas.{row_above}
+
+pub or_false : (b : Bool) → (b || false) ≡ b
+or_false true = refl
+or_false false = refl
+
+pub or_assoc : (a b c : Bool) → (a || (b || c)) ≡ ((a || b) || c)
+or_assoc true b c = refl
+or_assoc false b c = refl
+
+pub in_runs-push : (rs : List Run) (r : Run) (i : ℤ) → in_runs (rs ++ r ∷ []) i ≡ (in_runs rs i || (int_le r.from i && int_lt i r.to))
+in_runs-push [] r i = or_false (int_le r.from i && int_lt i r.to)
+in_runs-push (s ∷ rs) r i = ap (λ b. (int_le s.from i && int_lt i s.to) || b) (in_runs-push rs r i) ∙ or_assoc (int_le s.from i && int_lt i s.to) (in_runs rs i) (int_le r.from i && int_lt i r.to)
 
 -- ---- one more run
 from_apart : (low : ℤ) (rs : List Run) (last run : Run) → last.to <ℤ run.from → run.from <ℤ run.to → ascend_from low (rs ++ last ∷ []) ≡ true → ascend_from low ((rs ++ last ∷ []) ++ run ∷ []) ≡ true

@@ -2,8 +2,8 @@ use Rattle.std.proofs.Common.{rules, arith, FitsSigned, w32, to_z-of_z, pos, ◌
 use Rattle.std.proofs.lemmas.Int.{ints}
 use Rattle.std.proofs.lemmas.Bool.{eqb-true, eqb-false}
 use Rattle.std.proofs.lemmas.List.{nil_from_length}
-use Rattle.sample_region.proofs.GrowthLemmas.{skipped, grown_empty, grown_full, full_from_length}
-use Rattle.sample_region.proofs.growth.Growth.add.Goals as goal
+use Rattle.region_rows.proofs.GrowthLemmas.{skipped, grown_empty, grown_full, full_from_length}
+use Rattle.region_rows.proofs.growth.Growth.add.Goals as goal
 
 pub returns-then-len-eq0 : goal.returns-then-len-eq0
 returns-then-len-eq0 c = λ wanted j w h.

@@ -1,7 +1,7 @@
 use Rattle.std.proofs.Common.{rules, ◌∙◌, FitsSigned, w32, to_z-of_z, to_z, of_z, pos, inl, inr, ap}
 use Rattle.ass_num.specs.Regions.{PlainRegion, member}
-use Rattle.sample_region.proofs.GrowthLemmas.{members_some, canonical}
-use Rattle.sample_region.proofs.growth.Growth.finish.Goals as goal
+use Rattle.region_rows.proofs.GrowthLemmas.{members_some, canonical}
+use Rattle.region_rows.proofs.growth.Growth.finish.Goals as goal
 
 pub new-requires : goal.new-requires
 new-requires c = rw c.truncate.ensures (canonical c.args.self.rows c.args.self.filled c.requires (pos 0) (λ e. search rules))

@@ -1,0 +1,5 @@
+pub mod GrowthLemmas
+pub mod JoinLemmas
+pub mod LimitLemmas
+pub mod OrderLemmas
+pub mod UniqueLemmas
