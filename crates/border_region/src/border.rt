@@ -1,127 +1,94 @@
 //! A region widened by an ellipse.
 
-use crate::ellipse::half_widths;
-use crate::frontier::{covers, frontier, seen_row};
-use ass_num::{Mem, Region, Run};
-use region_rows::{Growth, add_run, end, join};
+ghost use Rattle.std.specs.Prelude.{◌≡◌, ℕ, ℤ, pos, negsuc, ◌+ℤ◌, ◌≤ℤ◌, ◌≤◌, ◌+◌, true, IfOk, OnOk};
+ghost use Rattle.ass_num.specs.Limits.{IsRegionWithin};
+ghost use Rattle.ass_num.specs.Regions.{is_canonical, member};
+ghost use Rattle.region_rows.specs.Widened.{in_widened};
+
+use crate::ellipse::{Ellipse, ellipse_of};
+use crate::frontier::frontier;
+use crate::merge::Merge;
+use ass_num::{Mem, Region};
+use region_rows::{Growth, end};
 use std::alloc::Global;
-use std::mem;
 
-/// A run that reaches so much further to both sides.
-fn wider(run: Run, width: u16) -> Run {
-    Run {
-        from: run.from - i32::from(width),
-        to: run.to + i32::from(width),
-    }
-}
-
-/// The runs of a row, each widened to both sides.
-fn widen_row(row: &[Run], width: u16, wide: &mut Vec<Run>) -> Mem<()> {
-    wide.clear();
-    for run in row {
-        add_run(wide, wider(*run, width))?;
-    }
-    Ok(())
-}
-
-/// Whether each run of a row, widened, lies within one of the runs.
-fn covers_widened(runs: &[Run], row: &[Run], width: u16) -> bool {
-    for run in row {
-        if !covers(runs, wider(*run, width)) {
-            return false;
-        }
-    }
-    true
-}
-
-/// How many of the ascending keys are at most `key`.
-fn count_up_to(keys: &[i32], key: i32) -> usize {
-    keys.partition_point(|k| *k <= key)
-}
-
-/// The runs of a row of the widened region while they are found, and room for the next step.
+/// A widened region that grows row by row.
 #[derive(Drop)]
-struct Merge {
-    runs: Vec<Run>,
-    wide: Vec<Run>,
-    spare: Vec<Run>,
+struct Border {
+    ellipse: Ellipse,
+    above: Vec<i32>,
+    below: Vec<i32>,
+    merge: Merge,
+    growth: Growth,
 }
 
-impl Merge {
-    fn new(alloc: Global) -> Merge {
-        Merge {
-            runs: Vec::new(alloc),
-            wide: Vec::new(alloc),
-            spare: Vec::new(alloc),
-        }
-    }
+impl Border {
+    ghost use Rattle.border_region.specs.Borders.{HasWidened};
 
-    /// Adds the samples within `width` of those of a row.
-    fn add(&mut self, row: &[Run], width: u16) -> Mem<()> {
-        if covers_widened(self.runs.as_slice(), row, width) {
-            return Ok(());
-        }
-        widen_row(row, width, &mut self.wide)?;
-        join(
-            self.runs.as_slice(),
-            self.wide.as_slice(),
-            &mut self.spare,
+    /// Finds row j, the next one, and adds it.
+    fn add_row(&mut self, region: &Region, j: i32) -> Mem<()>
+        requires within { IsRegionWithin 131072 region.now.top region.now.rows }
+        requires low { negsuc 199999 ≤ℤ j }
+        requires high { j ≤ℤ pos 199999 }
+        requires rows { HasWidened region.now j self.old }
+        ensures { OnOk result (HasWidened region.now (j +ℤ pos 1) self.new) }
+    {
+        self.merge.find_row(
+            region,
+            self.above.as_slice(),
+            self.below.as_slice(),
+            &self.ellipse,
+            j,
         )?;
-        mem::swap(&mut self.runs, &mut self.spare);
+        self.growth.add(self.merge.runs.as_slice())?;
         Ok(())
     }
 
-    /// Adds what the rows at greater keys reach, from one side.
-    fn add_side(
-        &mut self,
-        region: &Region,
-        upwards: bool,
-        keys: &[i32],
-        widths: &[u16],
-        key: i32,
-    ) -> Mem<()> {
-        let last = key + (widths.len() as i32 - 1);
-        for k in count_up_to(keys, key)..count_up_to(keys, last) {
-            let distance = (keys[k] - key) as usize;
-            self.add(seen_row(region, upwards, keys[k]), widths[distance])?;
+    /// Adds rows from `first` up to `end`.
+    fn add_rows(&mut self, region: &Region, first: i32, end: i32) -> Mem<()>
+        requires within { IsRegionWithin 131072 region.now.top region.now.rows }
+        requires low { negsuc 199999 ≤ℤ first }
+        requires ordered { first ≤ℤ end }
+        requires high { end ≤ℤ pos 199999 }
+        requires rows { HasWidened region.now first self.old }
+        ensures { OnOk result (HasWidened region.now end self.new) }
+    {
+        for j in first..end {
+            self.add_row(region, j)?;
         }
         Ok(())
     }
-
-    /// Finds the runs of row j.
-    fn find_row(
-        &mut self,
-        region: &Region,
-        above: &[i32],
-        below: &[i32],
-        widths: &[u16],
-        j: i32,
-    ) -> Mem<()> {
-        widen_row(seen_row(region, false, j), widths[0], &mut self.runs)?;
-        self.add_side(region, true, above, widths, -j)?;
-        self.add_side(region, false, below, widths, j)
-    }
 }
 
-pub fn widened(alloc: Global, region: &Region, rx: u32, ry: u32) -> Mem<Region> {
+/// The samples with one of the region within the ellipse around them, which reaches `rx` samples across and `ry` rows
+/// up and down. The samples of the region lie within 131,072 of 0, and neither radius is above 1,600.
+pub fn widened(alloc: Global, region: &Region, rx: u32, ry: u32) -> Mem<Region>
+    requires within { IsRegionWithin 131072 region.now.top region.now.rows }
+    requires across { rx ≤ 1600 }
+    requires down { ry ≤ 1600 }
+    ensures samples { IfOk result (λ r. (i j : ℤ) → member r.top r.rows i j ≡ in_widened region.now rx ry i j) }
+    ensures canonical { IfOk result (λ r. is_canonical r.top r.rows ≡ true) }
+    ensures within { IfOk result (λ r. (limit further : ℕ) → rx ≤ further → ry ≤ further → IsRegionWithin limit region.now.top region.now.rows → IsRegionWithin (limit + further) r.top r.rows) }
+{
     if region.rows().len() == 0 {
         return Ok(Region::empty(alloc));
     }
-    let widths = half_widths(alloc, rx, ry)?;
-    let above = frontier(alloc, region, true)?;
-    let below = frontier(alloc, region, false)?;
     let first = region.top() - ry as i32;
-    let mut growth = Growth::new(alloc, first);
-    let mut merge = Merge::new(alloc);
-    for j in first..end(region) + ry as i32 {
-        merge.find_row(
-            region,
-            above.as_slice(),
-            below.as_slice(),
-            widths.as_slice(),
-            j,
-        )?;
-        growth.add(merge.runs.as_slice())?;
-    }
+    let last = end(region) + ry as i32;
+    let mut border = Border {
+        ellipse: ellipse_of(alloc, rx, ry)?,
+        above: frontier(alloc, region, true)?,
+        below: frontier(alloc, region, false)?,
+        merge: Merge::new(alloc),
+        growth: Growth::new(alloc, first),
+    };
+    border.add_rows(region, first, last)?;
+    let Border {
+        ellipse: _,
+        above: _,
+        below: _,
+        merge: _,
+        growth,
+    } = border;
     Ok(growth.finish())
 }

@@ -1,7 +1,7 @@
 //! How far an ellipse of samples reaches in each of its rows.
 
-ghost use Rattle.std.specs.Prelude.{◌≡◌, ℕ, ◌≤◌, ◌+◌, vec_len, slice_index, IfOk};
-ghost use Rattle.border_region.specs.Ellipse.{AreHalfWidths, IsHalfWidth};
+ghost use Rattle.std.specs.Prelude.{◌≡◌, ◌≤◌, IfOk};
+ghost use Rattle.border_region.specs.Ellipse.{AreFalling, AreHalfWidths, IsHalfWidth};
 
 use ass_num::Mem;
 use std::alloc::Global;
@@ -20,15 +20,30 @@ fn half_width(rx: u32, ry: u32, distance: u32) -> u16
     (a * a * (b * b - d * d) / (b * b)).isqrt() as u16
 }
 
-/// The half widths of the ellipse in its middle row and in each of the `ry` rows below it.
-pub fn half_widths(alloc: Global, rx: u32, ry: u32) -> Mem<Vec<u16>>
+/// An ellipse of samples: its radii, and its half widths in the middle row and in each of the `ry` rows below it.
+#[derive(Drop)]
+pub struct Ellipse {
+    pub rx: u32,
+    pub ry: u32,
+    pub half_widths: Vec<u16>,
+}
+
+/// The ellipse with these radii.
+pub fn ellipse_of(alloc: Global, rx: u32, ry: u32) -> Mem<Ellipse>
     requires across { rx ≤ 1600 }
     requires down { ry ≤ 1600 }
-    ensures { IfOk result (λ widths. AreHalfWidths rx ry widths.items) }
+    ensures rx { IfOk result (λ ellipse. ellipse.rx ≡ rx) }
+    ensures ry { IfOk result (λ ellipse. ellipse.ry ≡ ry) }
+    ensures widths { IfOk result (λ ellipse. AreHalfWidths rx ry ellipse.half_widths.items) }
+    ensures falling { IfOk result (λ ellipse. AreFalling ellipse.half_widths.items) }
 {
-    let mut widths = Vec::new(alloc);
+    let mut half_widths = Vec::new(alloc);
     for distance in 0..ry + 1 {
-        widths.push(half_width(rx, ry, distance))?;
+        half_widths.push(half_width(rx, ry, distance))?;
     }
-    Ok(widths)
+    Ok(Ellipse {
+        rx,
+        ry,
+        half_widths,
+    })
 }

@@ -4,7 +4,7 @@
 mod border;
 mod ellipse;
 mod frontier;
-#[cfg(test)]
-mod tests;
+mod merge;
+mod wide_rows;
 
 pub use border::widened;
