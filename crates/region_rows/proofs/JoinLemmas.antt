@@ -137,7 +137,7 @@ next_from low (x ∷ xs) zero d a l =
     omega (arith, ints)
 next_from low (x ∷ xs) (suc k) d a l = let p = parts low x xs a in next_from x.to xs k d p.2 (omega arith)
 
-next_at : (xs : List Run) (k : ℕ) (d : Run) → ascend xs ≡ true → k + 1 < length xs → (get_or xs k d).from ≤ℤ (get_or xs (k + 1) d).from
+pub next_at : (xs : List Run) (k : ℕ) (d : Run) → ascend xs ≡ true → k + 1 < length xs → (get_or xs k d).from ≤ℤ (get_or xs (k + 1) d).from
 next_at xs k d a l = let p = above xs a in let e : k + 1 ≡ suc k = omega arith in rw e (next_from p.0 xs k d p.1 (omega arith))
 
 or_swap : (x y z : Bool) → ((x || y) || z) ≡ ((x || z) || y)

@@ -3,3 +3,4 @@ pub mod JoinLemmas
 pub mod LimitLemmas
 pub mod OrderLemmas
 pub mod UniqueLemmas
+pub mod WidenedLemmas

@@ -18,7 +18,7 @@ pub near_wider : (limit : ℕ) (i : ℤ) → 65536 ≤ limit → Near 65536 i �
 near_wider limit i l h = let a = h.0 in let b = h.1 in (omega (arith, ints), omega (arith, ints))
 
 -- ---- from the samples to the region
-run_covers : (rs : List Run) (n : ℕ) (d : Run) (i : ℤ) → n < length rs → (get_or rs n d).from ≤ℤ i → i <ℤ (get_or rs n d).to → in_runs rs i ≡ true
+pub run_covers : (rs : List Run) (n : ℕ) (d : Run) (i : ℤ) → n < length rs → (get_or rs n d).from ≤ℤ i → i <ℤ (get_or rs n d).to → in_runs rs i ≡ true
 run_covers [] n d i l a b = absurd (omega arith)
 run_covers (r ∷ rs) zero d i l a b = within r rs i a b
 run_covers (r ∷ rs) (suc n) d i l a b = or_right (int_le r.from i && int_lt i r.to) (in_runs rs i) (run_covers rs n d i (omega arith) a b)

@@ -1,0 +1,3 @@
+mod EllipseLemmas
+mod SideLemmas
+mod WideLemmas
