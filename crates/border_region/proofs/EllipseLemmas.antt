@@ -1,8 +1,9 @@
 -- How far an ellipse reaches in each of its rows.
-use Rattle.std.proofs.Common.{◌≡◌, ℕ, zero, suc, ◌+◌, ◌-◌, ◌*◌, ◌/◌, ◌<◌, ◌≤◌, ◌⊎◌, ⊎_elim, refl, sym, ap, ◌∙◌, arith, mul-le-mul, List, length, slice_index, get_or}
+use Rattle.std.proofs.Common.{◌≡◌, ℕ, zero, suc, ◌+◌, ◌-◌, ◌*◌, ◌/◌, ◌<◌, ◌≤◌, ◌⊎◌, ⊎_elim, refl, sym, ap, ◌∙◌, arith, mul-le-mul, List, [], ◌∷◌, ◌++◌, length, slice_index, get_or}
 use Rattle.std.proofs.Math.Nat.{div-mul-le_self, mul-le-mul_left, mul-le-mul_right, le_of_mul-le-mul_right}
 use Rattle.std.proofs.lemmas.Nat.{le-div}
 use Rattle.std.proofs.lemmas.Bool.{cases_lt}
+use Rattle.std.proofs.lemmas.List.{get_or_append_left, get_or_push, length_push}
 use Rattle.region_rows.specs.Widened.{square}
 use Rattle.border_region.specs.Ellipse.{IsHalfWidth, AreHalfWidths, AreFalling}
 
@@ -72,3 +73,25 @@ falling rx ry widths a b w =
       small = λ d l. let k = width_le rx ry d (get_or widths d 0) (w.each d (omega arith)) in omega arith;
       falls = λ d l. width_falls rx ry d (get_or widths d 0) (get_or widths (d + 1) 0) (w.each d (omega arith)) (w.each (d + 1) (omega arith));
     }
+
+pub record HasWidths (rx ry n : ℕ) (widths : List ℕ) : Type 0 where
+  pub count : length widths ≡ n
+  pub each : (d : ℕ) → d < n → IsHalfWidth rx ry d (slice_index widths d)
+
+pub widths_none : (rx ry : ℕ) → HasWidths rx ry 0 []
+widths_none rx ry = record { count = refl; each = λ d l. absurd (omega arith) }
+
+pub widths_more : (rx ry n w : ℕ) (widths : List ℕ) → HasWidths rx ry n widths → IsHalfWidth rx ry n w → HasWidths rx ry (n + 1) (widths ++ w ∷ [])
+widths_more rx ry n w widths old h =
+    let c = old.count in
+    let more = length_push widths w in
+    record {
+      count = omega arith;
+      each = λ d l. ⊎_elim
+          (λ (a : d < n). rw (get_or_append_left widths (w ∷ []) 0 d (omega arith)) (old.each d a))
+          (λ (a : n ≤ d). let e : d ≡ n = omega arith in rw (get_or_push widths w 0 d (omega arith), e) h)
+          (cases_lt d n);
+    }
+
+pub widths_all : (rx ry n : ℕ) (widths : List ℕ) → n ≡ ry + 1 → HasWidths rx ry n widths → AreHalfWidths rx ry widths
+widths_all rx ry n widths e old = record { count = old.count ∙ e; each = λ d l. old.each d (omega arith) }

@@ -1,3 +1,4 @@
+mod FrontierLemmas
 mod EllipseLemmas
 mod SideLemmas
 mod WideLemmas

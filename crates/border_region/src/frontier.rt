@@ -1,6 +1,6 @@
 //! The rows of a region that reach beyond the rows before them.
 
-ghost use Rattle.std.specs.Prelude.{◌≡◌, ℤ, pos, negsuc, ◌+ℤ◌, ◌-ℤ◌, ◌≤ℤ◌, ◌<ℤ◌, ◌⊎◌, true, All, IfOk, length};
+ghost use Rattle.std.specs.Prelude.{◌≡◌, ℤ, pos, negsuc, ◌+ℤ◌, ◌-ℤ◌, ◌≤ℤ◌, ◌<ℤ◌, ◌⊎◌, true, false, All, IfOk, length};
 ghost use Rattle.ass_num.specs.Limits.{IsRegionWithin, IsRunWithin};
 ghost use Rattle.ass_num.specs.Regions.{ascend, in_runs};
 ghost use Rattle.border_region.specs.Frontier.{IsFrontier, is_seen, row_of_key};

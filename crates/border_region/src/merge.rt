@@ -1,6 +1,6 @@
 //! A row of a widened region, found by merging the rows that reach it.
 
-ghost use Rattle.std.specs.Prelude.{◌≡◌, pos, negsuc, ◌≤ℤ◌, ◌≤◌, true, All, OnOk};
+ghost use Rattle.std.specs.Prelude.{◌≡◌, pos, negsuc, ◌≤ℤ◌, ◌≤◌, true, false, All, OnOk};
 ghost use Rattle.ass_num.specs.Limits.{IsRegionWithin, IsRunWithin};
 ghost use Rattle.ass_num.specs.Regions.{ascend};
 ghost use Rattle.region_rows.specs.Growths.{IsRowHolding};
