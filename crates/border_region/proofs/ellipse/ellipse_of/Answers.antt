@@ -3,7 +3,7 @@ use Rattle.border_region.proofs.EllipseLemmas.{falling, widths_none, widths_more
 use Rattle.border_region.proofs.ellipse.ellipse_of.Goals as goal
 
 pub loop-distance-init : goal.loop-distance-init
-loop-distance-init c = widths_none c.args.rx c.args.ry
+loop-distance-init c = rw c.new-half_widths.ensures.items (widths_none c.args.rx c.args.ry)
 
 pub loop-distance-preserved : goal.loop-distance-preserved
 loop-distance-preserved c = rw c.in_ok-push.ensures.items (widths_more c.args.rx c.args.ry c.loop-distance.distance c.half_width.result c.loop-distance.half_widths.items c.loop-distance.invariant c.half_width.ensures)
