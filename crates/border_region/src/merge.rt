@@ -1,6 +1,6 @@
 //! A row of a widened region, found by merging the rows that reach it.
 
-ghost use Rattle.std.specs.Prelude.{◌≡◌, pos, negsuc, ◌≤ℤ◌, ◌≤◌, true, false, All, OnOk};
+ghost use Rattle.std.specs.Prelude.{◌≡◌, pos, negsuc, ◌+ℤ◌, ◌-ℤ◌, ◌≤ℤ◌, ◌-◌, ◌<◌, ◌≤◌, true, false, length, All, OnOk};
 ghost use Rattle.ass_num.specs.Limits.{IsRegionWithin, IsRunWithin};
 ghost use Rattle.ass_num.specs.Regions.{ascend};
 ghost use Rattle.region_rows.specs.Growths.{IsRowHolding};
@@ -25,6 +25,27 @@ fn count_up_to(keys: &[i32], key: i32) -> usize
     ensures { AreUpTo key keys.now result }
 {
     keys.partition_point(|k| *k <= key)
+}
+
+/// How many rows a greater key is further on.
+fn rows_between(key: i32, other: i32) -> usize
+    requires low { negsuc 199999 ≤ℤ key }
+    requires ordered { key ≤ℤ other }
+    requires high { other ≤ℤ pos 200000 }
+    ensures { pos result ≡ other -ℤ key }
+{
+    (other - key) as usize
+}
+
+/// The last key from which the row at `key` can be reached.
+fn last_key(key: i32, widths: &[u16]) -> i32
+    requires low { negsuc 199999 ≤ℤ key }
+    requires high { key ≤ℤ pos 200000 }
+    requires some { 0 < length widths.now }
+    requires few { length widths.now ≤ 1601 }
+    ensures { result ≡ key +ℤ pos (length widths.now - 1) }
+{
+    key + (widths.len() - 1) as i32
 }
 
 /// The runs of a row of the widened region while they are found, and room for the next step.
@@ -83,10 +104,10 @@ impl Merge {
         requires ascends { ascend self.old.runs.items ≡ true }
         ensures { OnOk result (AddsSide region.now upwards widths.now key self.old.runs.items self.new.runs.items) }
     {
-        let last = key + (widths.len() as i32 - 1);
-        for k in count_up_to(keys, key)..count_up_to(keys, last) {
-            let distance = (keys[k] - key) as usize;
-            self.add(seen_row(region, upwards, keys[k]), widths[distance])?;
+        let end = count_up_to(keys, last_key(key, widths));
+        for k in count_up_to(keys, key)..end {
+            let width = widths[rows_between(key, keys[k])];
+            self.add(seen_row(region, upwards, keys[k]), width)?;
         }
         Ok(())
     }
