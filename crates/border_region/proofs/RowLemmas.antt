@@ -2,12 +2,14 @@
 use Rattle.std.proofs.Common.{◌≡◌, ℕ, zero, suc, ◌+◌, ◌*◌, ◌<◌, ◌≤◌, Bool, true, false, ℤ, pos, negsuc, neg_ℤ, ◌+ℤ◌, ◌-ℤ◌, ◌≤ℤ◌, ◌<ℤ◌, ◌⊎◌, ⊎_elim, refl, sym, ap, ◌∙◌, arith, unsigned_abs, List, length, slice_index, get_or}
 use Rattle.std.proofs.lemmas.Int.{ints}
 use Rattle.std.proofs.lemmas.Bool.{false_from_ne_true, cases_Bool, false≢true}
+use Rattle.std.proofs.lemmas.List.{nil_from_length}
 use Rattle.ass_num.specs.Regions.{PlainRegion, in_runs, ascend, member}
 use Rattle.ass_num.specs.Limits.{IsRegionWithin}
 use Rattle.ass_num.specs.declared.region.Run.{Run}
 use Rattle.region_rows.specs.Growths.{IsRowHolding}
 use Rattle.region_rows.specs.Widened.{square, in_widened}
 use Rattle.region_rows.proofs.LimitLemmas.{Near, member_near}
+use Rattle.region_rows.proofs.GrowthLemmas.{empty_members}
 use Rattle.region_rows.proofs.JoinLemmas.{member_above, member_below}
 use Rattle.region_rows.proofs.WidenedLemmas.{IsInEllipse, in_widened-found, in_widened-from}
 use Rattle.border_region.specs.Ellipse.{AreHalfWidths}
@@ -127,3 +129,6 @@ below_all region rx ry i j l = unreached region rx ry i j (λ k b h. member_belo
     reach : (b : ℤ) → unsigned_abs b ≤ ry → (region.top +ℤ pos (length region.rows)) ≤ℤ (j +ℤ b)
     reach (pos n) h = omega (arith, ints)
     reach (negsuc n) h = omega (arith, ints)
+
+pub none_widened : (region : PlainRegion) (rx ry : ℕ) (i j : ℤ) → length region.rows ≡ 0 → in_widened region rx ry i j ≡ false
+none_widened region rx ry i j e = unreached region rx ry i j (λ k b h. rw (nil_from_length region.rows e) (empty_members region.top k (j +ℤ b)))

@@ -1,6 +1,6 @@
 //! A region widened by an ellipse.
 
-ghost use Rattle.std.specs.Prelude.{◌≡◌, ℕ, ℤ, pos, negsuc, ◌+ℤ◌, ◌≤ℤ◌, ◌≤◌, ◌+◌, true, IfOk, OnOk};
+ghost use Rattle.std.specs.Prelude.{◌≡◌, ℕ, ℤ, pos, negsuc, ◌+ℤ◌, ◌-ℤ◌, ◌≤ℤ◌, ◌≤◌, ◌+◌, true, length, IfOk, OnOk};
 ghost use Rattle.ass_num.specs.Limits.{IsRegionWithin};
 ghost use Rattle.ass_num.specs.Regions.{is_canonical, member};
 ghost use Rattle.region_rows.specs.Widened.{in_widened};
@@ -9,7 +9,7 @@ use crate::ellipse::{Ellipse, ellipse_of};
 use crate::frontier::frontier;
 use crate::merge::Merge;
 use ass_num::{Mem, Region};
-use region_rows::{Growth, end};
+use region_rows::{Growth, RowRange, end};
 use std::alloc::Global;
 
 /// A widened region that grows row by row.
@@ -30,8 +30,8 @@ impl Border {
         requires within { IsRegionWithin 131072 region.now.top region.now.rows }
         requires low { negsuc 199999 ≤ℤ j }
         requires high { j ≤ℤ pos 199999 }
-        requires rows { HasWidened region.now j self.old }
-        ensures { OnOk result (HasWidened region.now (j +ℤ pos 1) self.new) }
+        requires rows { HasWidened region.now self.old.ellipse.rx self.old.ellipse.ry j self.old }
+        ensures { OnOk result (HasWidened region.now self.old.ellipse.rx self.old.ellipse.ry (j +ℤ pos 1) self.new) }
     {
         self.merge.find_row(
             region,
@@ -50,13 +50,26 @@ impl Border {
         requires low { negsuc 199999 ≤ℤ first }
         requires ordered { first ≤ℤ end }
         requires high { end ≤ℤ pos 199999 }
-        requires rows { HasWidened region.now first self.old }
-        ensures { OnOk result (HasWidened region.now end self.new) }
+        requires rows { HasWidened region.now self.old.ellipse.rx self.old.ellipse.ry first self.old }
+        ensures { OnOk result (HasWidened region.now self.old.ellipse.rx self.old.ellipse.ry end self.new) }
     {
         for j in first..end {
             self.add_row(region, j)?;
         }
         Ok(())
+    }
+}
+
+/// The rows that may hold samples within `ry` rows of the region.
+fn rows_around(region: &Region, ry: u32) -> RowRange
+    requires within { IsRegionWithin 131072 region.now.top region.now.rows }
+    requires down { ry ≤ 1600 }
+    ensures first { result.first ≡ region.now.top -ℤ pos ry }
+    ensures end { result.end ≡ (region.now.top +ℤ pos (length region.now.rows)) +ℤ pos ry }
+{
+    RowRange {
+        first: region.top() - ry as i32,
+        end: end(region) + ry as i32,
     }
 }
 
@@ -73,16 +86,15 @@ pub fn widened(alloc: Global, region: &Region, rx: u32, ry: u32) -> Mem<Region>
     if region.rows().len() == 0 {
         return Ok(Region::empty(alloc));
     }
-    let first = region.top() - ry as i32;
-    let last = end(region) + ry as i32;
+    let rows = rows_around(region, ry);
     let mut border = Border {
         ellipse: ellipse_of(alloc, rx, ry)?,
         above: frontier(alloc, region, true)?,
         below: frontier(alloc, region, false)?,
         merge: Merge::new(alloc),
-        growth: Growth::new(alloc, first),
+        growth: Growth::new(alloc, rows.first),
     };
-    border.add_rows(region, first, last)?;
+    border.add_rows(region, rows.first, rows.end)?;
     let Border {
         ellipse: _,
         above: _,

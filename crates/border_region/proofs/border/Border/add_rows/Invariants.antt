@@ -6,5 +6,5 @@ abbrev pub invariant-loop-j : goal.invariant-loop-j
 invariant-loop-j l = record {
   low : l.fn.first ≤ℤ l.j;
   high : l.j ≤ℤ l.fn.end;
-  rows : HasWidened l.region l.j l.self;
+  rows : HasWidened l.region l.fn.self.ellipse.rx l.fn.self.ellipse.ry l.j l.self;
 }
