@@ -40,14 +40,14 @@ half_width_is rx ry d w p l low high =
     let under : q * b ≤ n = div-mul-le_self n b in
     λ a. (
       λ h.
-      let s : square a * b ≤ q * b = mul-le-mul_right b (let k = square_le a w h in omega arith) in
-      let t : square a * b ≤ square rx * b = omega arith in
-      (root_le a rx (le_of_mul-le-mul_right t pb), (let c = commute (square d) (square rx) in omega arith)),
+          let s : square a * b ≤ q * b = mul-le-mul_right b (let k = square_le a w h in omega arith) in
+          let t : square a * b ≤ square rx * b = omega arith in
+          (root_le a rx (le_of_mul-le-mul_right t pb), (let c = commute (square d) (square rx) in omega arith)),
       λ h.
-      let h1 = h.1 in
-      let c = commute (square d) (square rx) in
-      let s : square a ≤ q = le-div (square a) n b pb (omega arith) in
-      ⊎_elim (λ (m : w < a). absurd (let k : square (w + 1) ≤ square a = square_le (w + 1) a (omega arith) in omega arith)) (λ (m : a ≤ w). m) (cases_lt w a),
+          let h1 = h.1 in
+          let c = commute (square d) (square rx) in
+          let s : square a ≤ q = le-div (square a) n b pb (omega arith) in
+          ⊎_elim (λ (m : w < a). absurd (let k : square (w + 1) ≤ square a = square_le (w + 1) a (omega arith) in omega arith)) (λ (m : a ≤ w). m) (cases_lt w a),
     )
   where
     commute : (x y : ℕ) → x * y ≡ y * x

@@ -70,11 +70,13 @@ row_is region rx ry widths j row first second third w seen middle above below = 
         let c = w.count in
         let e : j +ℤ pos 0 ≡ j = omega (arith, ints) in
         down region rx ry widths i j r.0 0 w (record { within = omega arith; seen = rw e (sym (seen r.0) ∙ r.1); near = r.2 })
+
     reached : (i : ℤ) → in_runs third i ≡ true → in_widened region rx ry i j ≡ true
     reached i m = ⊎_elim
         (λ a. ⊎_elim (λ b. from_row i b) (λ r. up region rx ry widths i j r.1 r.0 w r.2) (above.reached i a))
         (λ r. down region rx ry widths i j r.1 r.0 w r.2)
         (below.reached i m)
+
     covered_at : (i a b : ℤ) → IsInEllipse rx ry a b → member region.top region.rows (i +ℤ a) (j +ℤ b) ≡ true → in_runs third i ≡ true
     covered_at i a (pos d) e m =
         let c = w.count in
@@ -87,6 +89,7 @@ row_is region rx ry widths j row first second third w seen middle above below = 
         let h = (w.each (suc d) l (unsigned_abs a)).1 (e.across, e.round) in
         let f : j +ℤ negsuc d ≡ neg_ℤ (neg_ℤ j +ℤ pos (suc d)) = omega (arith, ints) in
         below.keeps i (above.covers i (suc d) (i +ℤ a) (record { within = omega arith; seen = rw f at m; near = between_from i a (slice_index widths (suc d)) h }))
+
     covered : (i : ℤ) → in_widened region rx ry i j ≡ true → in_runs third i ≡ true
     covered i m = let q = in_widened-found region rx ry i j m in covered_at i q.0 q.1 q.2 q.3
 

@@ -5,6 +5,8 @@ mod border;
 mod ellipse;
 mod frontier;
 mod merge;
+#[cfg(test)]
+mod tests;
 mod wide_rows;
 
 pub use border::widened;

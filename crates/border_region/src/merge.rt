@@ -77,11 +77,7 @@ impl Merge {
             return Ok(());
         }
         widen_row(row, width, &mut self.wide)?;
-        join(
-            self.runs.as_slice(),
-            self.wide.as_slice(),
-            &mut self.spare,
-        )?;
+        join(self.runs.as_slice(), self.wide.as_slice(), &mut self.spare)?;
         mem::swap(&mut self.runs, &mut self.spare);
         Ok(())
     }

@@ -25,10 +25,10 @@ loop-key-preserved c =
     let f : FitsSigned w32 (key +ℤ pos 1) = omega (arith, ints) in
     let b : FitsSigned w32 (key -ℤ pos 1) = omega (arith, ints) in
     let found : HasFound c.args.region.now c.args.upwards (key +ℤ pos 1) c.if-not-covers_row.found.items =
-        elim c.if-not-covers_row.branch [
-          then-not-covers_row+in_ok-push w ↦ rw (w.found-is, w.in_ok-push.ensures.items) (found_more c.args.region.now c.args.upwards key c.loop-key.found.items low (omega (arith, ints)) c.loop-key.invariant.found)
-        | else-not-covers_row w ↦ rw w.found-is (found_same c.args.region.now c.args.upwards key c.loop-key.found.items c.seen_row-before.result.now c.seen_row.result.now (λ i. rw (to_z-of_z b) at (c.seen_row-before.ensures.seen i)) c.seen_row.ensures.seen (c.covers_row.ensures w.if-not-covers_row.false) c.loop-key.invariant.found)
-        ] in
+    elim c.if-not-covers_row.branch [
+      | then-not-covers_row+in_ok-push w ↦ rw (w.found-is, w.in_ok-push.ensures.items) (found_more c.args.region.now c.args.upwards key c.loop-key.found.items low (omega (arith, ints)) c.loop-key.invariant.found)
+      | else-not-covers_row w ↦ rw w.found-is (found_same c.args.region.now c.args.upwards key c.loop-key.found.items c.seen_row-before.result.now c.seen_row.result.now (λ i. rw (to_z-of_z b) at (c.seen_row-before.ensures.seen i)) c.seen_row.ensures.seen (c.covers_row.ensures w.if-not-covers_row.false) c.loop-key.invariant.found)
+    ] in
     rw (to_z-of_z f, to_z-of_z fe) (record { low = omega (arith, ints); high = omega (arith, ints); found = found })
 
 pub returns : goal.returns
