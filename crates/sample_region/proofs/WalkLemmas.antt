@@ -1,5 +1,5 @@
 -- One step of the sweep along a row, as facts on lists.
-use Rattle.std.proofs.Common.{◌≡◌, ℕ, ◌+◌, ◌<◌, ◌≤◌, Bool, true, false, not, cond, eqb, ◌&&◌, ◌||◌, ℤ, pos, ◌-ℤ◌, ◌≤ℤ◌, ◌<ℤ◌, ◌⊎◌, inl, inr, refl, sym, ap, ◌∙◌, arith, int_lt, int_le, List, [], ◌∷◌, ◌++◌, All, ⊎_elim, Some, length, take, get_or}
+use Rattle.std.proofs.Common.{◌≡◌, ℕ, ◌+◌, ◌<◌, ◌≤◌, Bool, true, false, not, cond, eqb, ◌&&◌, ◌||◌, ℤ, pos, ◌-ℤ◌, ◌≤ℤ◌, ◌<ℤ◌, ◌⊎◌, inl, inr, refl, sym, ap, ◌∙◌, arith, int_le, List, [], ◌∷◌, ◌++◌, All, ⊎_elim, Some, length, take, get_or}
 use Rattle.std.proofs.lemmas.Int.{ints, by_lt_z}
 use Rattle.std.proofs.lemmas.List.Sums.{sum_by-cons, sum_by_push}
 use Rattle.std.proofs.lemmas.List.Elements.{All-head, All-tail, All-push, All-pop, All-weaker, All-nil, All-cons, All-from_get_or, All-get_or}
@@ -10,7 +10,7 @@ use Rattle.std.specs.Int.{int_min, int_max}
 use Rattle.sample_region.specs.declared.row.Walk.{Walk}
 use Rattle.std.proofs.lemmas.Bool.{eq-eqb, ne_eqb}
 use Rattle.region_rows.proofs.OrderLemmas.{lt_true, lt_false, le_true, le_false}
-use Rattle.region_rows.proofs.JoinLemmas.{or_false, or_assoc, in_runs-push}
+use Rattle.region_rows.proofs.JoinLemmas.{or_false, in_runs-push}
 use Rattle.ass_num.specs.Regions.{in_runs, ascend_from, ascend}
 use Rattle.sample_region.specs.Crossings.{downs, ups, downs_to, ups_to, IsAscending}
 use Rattle.sample_region.specs.Rows.{IsRow, Walked, Reopens, IsRowOf}
