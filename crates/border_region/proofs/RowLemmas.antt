@@ -1,13 +1,13 @@
 -- A row of the widened region.
-use Rattle.std.proofs.Common.{◌≡◌, ℕ, zero, suc, ◌+◌, ◌*◌, ◌<◌, ◌≤◌, Bool, true, false, ℤ, pos, negsuc, neg_ℤ, ◌+ℤ◌, ◌-ℤ◌, ◌≤ℤ◌, ◌<ℤ◌, ◌⊎◌, ⊎_elim, refl, sym, ap, ◌∙◌, arith, unsigned_abs, List, length, slice_index, get_or}
+use Rattle.std.proofs.Common.{◌≡◌, ℕ, zero, suc, ◌+◌, ◌≤◌, Bool, true, false, ℤ, pos, negsuc, neg_ℤ, ◌+ℤ◌, ◌-ℤ◌, ◌≤ℤ◌, ◌<ℤ◌, ⊎_elim, refl, sym, ◌∙◌, arith, unsigned_abs, List, length, slice_index}
 use Rattle.std.proofs.lemmas.Int.{ints}
-use Rattle.std.proofs.lemmas.Bool.{false_from_ne_true, cases_Bool, false≢true}
+use Rattle.std.proofs.lemmas.Bool.{false_from_ne_true, false≢true}
 use Rattle.std.proofs.lemmas.List.{nil_from_length}
-use Rattle.ass_num.specs.Regions.{PlainRegion, in_runs, ascend, member}
+use Rattle.ass_num.specs.Regions.{PlainRegion, in_runs, member}
 use Rattle.ass_num.specs.Limits.{IsRegionWithin}
 use Rattle.ass_num.specs.declared.region.Run.{Run}
 use Rattle.region_rows.specs.Growths.{IsRowHolding}
-use Rattle.region_rows.specs.Widened.{square, in_widened}
+use Rattle.region_rows.specs.Widened.{in_widened}
 use Rattle.region_rows.proofs.LimitLemmas.{Near, member_near}
 use Rattle.region_rows.proofs.GrowthLemmas.{empty_members}
 use Rattle.region_rows.proofs.JoinLemmas.{member_above, member_below}

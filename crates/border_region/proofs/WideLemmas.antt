@@ -1,5 +1,5 @@
 -- Rows whose runs reach further to both sides.
-use Rattle.std.proofs.Common.{◌≡◌, ℕ, suc, ◌+◌, ◌<◌, ◌≤◌, Bool, true, false, ◌&&◌, ◌||◌, ℤ, pos, ◌+ℤ◌, ◌-ℤ◌, ◌≤ℤ◌, ◌<ℤ◌, ◌⊎◌, inl, inr, ⊎_elim, refl, sym, ◌∙◌, arith, int_lt, int_le, List, [], ◌∷◌, length, get_or, take}
+use Rattle.std.proofs.Common.{◌≡◌, ℕ, ◌+◌, ◌<◌, true, ◌&&◌, ◌||◌, ℤ, pos, ◌+ℤ◌, ◌-ℤ◌, ◌≤ℤ◌, ◌<ℤ◌, ◌⊎◌, inl, inr, ⊎_elim, refl, sym, ◌∙◌, arith, int_lt, int_le, List, [], length, get_or, take}
 use Rattle.std.proofs.lemmas.Int.{ints, by_lt_z}
 use Rattle.std.proofs.lemmas.Bool.{and_parts, or_cases, or_left, or_right, and_from, false≢true}
 use Rattle.std.proofs.lemmas.List.{take_more, get_or_default}
@@ -10,7 +10,7 @@ use Rattle.region_rows.specs.Joins.{AllBegin, IsJoinedTo}
 use Rattle.region_rows.proofs.JoinLemmas.{in_runs-push, run_at, next_at}
 use Rattle.region_rows.proofs.LimitLemmas.{run_covers}
 use Rattle.region_rows.proofs.OrderLemmas.{lt_is, le_is, lt_true, le_true}
-use Rattle.border_region.specs.Widths.{IsWithin, IsCovered, Covers, Reaches, IsWidenedRow, AddsWidened}
+use Rattle.border_region.specs.Widths.{IsWithin, IsCovered, Covers, IsWidenedRow, AddsWidened}
 
 -- ---- runs that hold a run
 pub covered_by : (rs : List Run) (n : ℕ) (d run : Run) → n < length rs → (get_or rs n d).from ≤ℤ run.from → run.to ≤ℤ (get_or rs n d).to → IsCovered run rs

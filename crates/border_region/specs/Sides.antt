@@ -1,6 +1,6 @@
 -- What the rows on one side of a row, and on both, reach in it.
-use Rattle.std.specs.Prelude.{◌≡◌, ℕ, ℤ, pos, ◌+ℤ◌, ◌<◌, ◌⊎◌, Bool, true, List, length, slice_index, unsigned_abs}
-use Rattle.ass_num.specs.Regions.{PlainRegion, in_runs, ascend, member}
+use Rattle.std.specs.Prelude.{◌≡◌, ℕ, ℤ, pos, ◌+ℤ◌, ◌<◌, ◌⊎◌, Bool, true, List, length, slice_index}
+use Rattle.ass_num.specs.Regions.{PlainRegion, in_runs, ascend}
 use Rattle.ass_num.specs.declared.region.Run.{Run}
 use Rattle.border_region.specs.Frontier.{is_seen}
 use Rattle.border_region.specs.Widths.{IsWithin}

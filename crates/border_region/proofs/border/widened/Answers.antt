@@ -1,5 +1,4 @@
-use Rattle.std.proofs.Common.{rules, arith, ◌+◌, ◌≡◌, ◌∙◌, refl, sym, ap, ◌+ℤ◌, ◌-ℤ◌, ◌≤ℤ◌, ◌<ℤ◌, ℤ, pos, false, w32, to_z-of_z, FitsSigned}
-use Rattle.std.proofs.lemmas.Int.{ints}
+use Rattle.std.proofs.Common.{rules, ◌+◌, ◌≡◌, ◌∙◌, refl, sym, ap, ◌≤ℤ◌, ◌<ℤ◌, ℤ, pos, false, w32, to_z-of_z, FitsSigned}
 use Rattle.ass_num.specs.Regions.{PlainRegion, member}
 use Rattle.region_rows.specs.Widened.{in_widened}
 use Rattle.region_rows.proofs.GrowthLemmas.{empty_members}

@@ -1,4 +1,4 @@
-use Rattle.std.proofs.Common.{◌≤ℤ◌, pos, negsuc}
+use Rattle.std.proofs.Common.{◌≤ℤ◌, negsuc}
 use Rattle.border_region.proofs.FrontierLemmas.{HasFound}
 use Rattle.border_region.proofs.frontier.frontier.Given as goal
 

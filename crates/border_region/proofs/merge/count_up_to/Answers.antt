@@ -1,4 +1,4 @@
-use Rattle.std.proofs.Common.{rules, arith, Bool, ℤ, pos, int_le}
+use Rattle.std.proofs.Common.{rules, Bool, ℤ, int_le}
 use Rattle.std.proofs.lemmas.List.Sorted.{IsPartitionPoint-from_clause}
 use Rattle.border_region.proofs.SideLemmas.{parted, up_to}
 use Rattle.border_region.proofs.merge.count_up_to.Goals as goal

@@ -1,4 +1,4 @@
-use Rattle.std.proofs.Common.{arith, pos, get_or}
+use Rattle.std.proofs.Common.{arith, pos}
 use Rattle.std.proofs.lemmas.Int.{ints}
 use Rattle.ass_num.specs.declared.region.Run.{Run}
 use Rattle.region_rows.proofs.JoinLemmas.{run_at}

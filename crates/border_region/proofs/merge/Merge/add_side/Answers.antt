@@ -1,4 +1,4 @@
-use Rattle.std.proofs.Common.{rules, arith, ◌≡◌, ◌<◌, ◌≤ℤ◌, ◌<ℤ◌, ℤ, pos, length, w32, to_z-of_z, FitsSigned}
+use Rattle.std.proofs.Common.{rules, arith, ◌<◌, length, w32, to_z-of_z, FitsSigned}
 use Rattle.std.proofs.lemmas.Int.{ints}
 use Rattle.border_region.specs.Keys.{key_at}
 use Rattle.border_region.proofs.SideLemmas.{adds_none, adds_more, side_added}

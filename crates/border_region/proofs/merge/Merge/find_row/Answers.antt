@@ -1,4 +1,4 @@
-use Rattle.std.proofs.Common.{rules, arith, ◌≡◌, ◌-ℤ◌, ◌≤ℤ◌, ℤ, pos, neg_ℤ, w32, to_z-of_z, FitsSigned}
+use Rattle.std.proofs.Common.{arith, ◌≡◌, ◌-ℤ◌, ℤ, pos, neg_ℤ, w32, to_z-of_z, FitsSigned}
 use Rattle.std.proofs.lemmas.Int.{ints}
 use Rattle.border_region.proofs.RowLemmas.{row_is, middle_below, middle_above}
 use Rattle.border_region.proofs.merge.Merge.find_row.Goals as goal
