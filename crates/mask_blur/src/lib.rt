@@ -1,0 +1,13 @@
+//! Softening masks, and blurring them.
+#![tactic(auto)]
+
+mod blur;
+mod columns;
+mod lines;
+mod means;
+mod rows;
+mod soften;
+mod weights;
+
+pub use blur::box_blur;
+pub use soften::soften;
