@@ -6,8 +6,8 @@ mod columns;
 mod lines;
 mod means;
 mod rows;
-mod soften;
+mod softening;
 mod weights;
 
 pub use blur::box_blur;
-pub use soften::soften;
+pub use softening::soften;

@@ -1,0 +1,4 @@
+pub mod LineLemmas
+pub mod MeanLemmas
+pub mod SumLemmas
+pub mod WeightLemmas
