@@ -30,7 +30,7 @@ pub mean-zero : (r : ℕ) → mean r 0 ≡ 0
 mean-zero r = quotient_is (0 + r) (2 * r + 1) 0 r (omega arith) (omega arith)
 
 pub mean-below : (r sum : ℕ) → sum ≤ 255 * (2 * r + 1) → mean r sum ≤ 255
-mean-below r sum h = 
+mean-below r sum h =
     let n = sum + r in
     let d = 2 * r + 1 in
     let split : n / d * d + n % d ≡ n = div-add-mod' n d in

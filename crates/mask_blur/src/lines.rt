@@ -23,6 +23,18 @@ fn blur_line(to: &mut [u8], line: &[u8], means: &Means)
     }
 }
 
+/// Copies a row into a line from place `start` on, with zeros behind it.
+fn pad_row(line: &mut [u8], row: &[u8], start: usize)
+    requires room { start + length row.now ≤ length line.old }
+    requires zeros { (k : ℕ) → k < start → slice_index line.old k ≡ 0 }
+    ensures padded { IsPadded start (length row.now) line.new }
+    ensures row { (k : ℕ) → k < length row.now → slice_index line.new (start + k) ≡ slice_index row.now k }
+{
+    let end = start + row.len();
+    line[start..end].copy_from_slice(row);
+    line[end..].fill(0);
+}
+
 /// Three passes along a row, which gains 3 * radius bytes at both ends.
 fn blur_row(to: &mut [u8], first: &mut [u8], second: &mut [u8], row: &[u8], means: &Means)
     requires to { length to.old ≡ length row.now + 6 * means.now.radius }
@@ -38,8 +50,7 @@ fn blur_row(to: &mut [u8], first: &mut [u8], second: &mut [u8], row: &[u8], mean
     let r = means.radius();
     let start = 2 * r + 1;
     let w = row.len();
-    first[start..start + w].copy_from_slice(row);
-    first[start + w..].fill(0);
+    pad_row(first, row, start);
     blur_line(&mut second[start..start + w + 2 * r], first, means);
     blur_line(&mut first[start..start + w + 4 * r], second, means);
     blur_line(to, first, means);
@@ -63,13 +74,14 @@ pub fn blur_rows(
 {
     let width = w + 6 * means.radius();
     let size = width + 2 * means.radius() + 1;
-    let mut first = vec![in alloc; 0u8; size]?;
-    let mut second = vec![in alloc; 0u8; size]?;
+    let mut front = vec![in alloc; 0u8; size]?;
+    let mut back = vec![in alloc; 0u8; size]?;
+    let (first, second) = (front.as_mut_slice(), back.as_mut_slice());
     for j in 0..h {
         blur_row(
             &mut to[j * width..j * width + width],
-            first.as_mut_slice(),
-            second.as_mut_slice(),
+            first,
+            second,
             &from[j * w..j * w + w],
             means,
         );

@@ -11,8 +11,13 @@ loop-k-init c = (sym (line_start c.args.line.now (2 * c.args.means.now.radius + 
 pub overflow_add-sum : goal.overflow_add-sum
 overflow_add-sum c =
     let r = c.args.means.now.radius in
-    omega (arith, line_bound c.args.line.now c.loop-k.k (2 * r + 1) (λ j. (c.type_inv.line j).fits), c.loop-k.invariant.0,
-      c.from.ensures, (c.type_inv.line (c.loop-k.k + (2 * c.radius.result + 1))).fits)
+    omega (
+      arith,
+      line_bound c.args.line.now c.loop-k.k (2 * r + 1) (λ j. (c.type_inv.line j).fits),
+      c.loop-k.invariant.0,
+      c.from.ensures,
+      (c.type_inv.line (c.loop-k.k + (2 * c.radius.result + 1))).fits,
+    )
 
 pub overflow_sub-sum : goal.overflow_sub-sum
 overflow_sub-sum c =

@@ -11,6 +11,6 @@ returns-then-k-skip-clause-row c = λ f x y shows i h.
     let v = (y +ℤ pos c.args.k) -ℤ pos c.args.skip in
     let zero : IsZeroBeside (f u) y c.args.h = shows.outside.columns u in
     elim c.then-k-skip.branch [
-      then-k-skip-via-then-k-skip w ↦ c.requires.zeros i ∙ sym (zero.before v (omega (arith, ints)))
-    | then-k-skip-via-else-k-skip+then-h-k w ↦ c.requires.zeros i ∙ sym (zero.behind v (omega (arith, ints)))
+      | then-k-skip-via-then-k-skip w ↦ c.requires.zeros i ∙ sym (zero.before v (omega (arith, ints)))
+      | then-k-skip-via-else-k-skip+then-h-k w ↦ c.requires.zeros i ∙ sym (zero.behind v (omega (arith, ints)))
     ]
