@@ -16,19 +16,20 @@ pub rows_none : (f : ℤ → ℤ → ℕ) (x y : ℤ) (w : ℕ) (bytes : List �
 rows_none f x y w bytes = record { cells = λ i j a b. absurd (omega arith) }
 
 -- one row more
-pub rows_more : (f : ℤ → ℤ → ℕ) (x y v : ℤ) (w k count : ℕ) (bytes row : List ℕ) → HasRows f x y w k bytes → v ≡ y +ℤ pos k
-    → k * w + w ≤ length bytes → length row ≡ w → Lays (λ u. f u v) x row
-    → HasRows f x y w (k + 1) (put_mid (k * w) count bytes row)
-rows_more f x y v w k count bytes row has place fits long lays = record {
+pub rows_more : (f : ℤ → ℤ → ℕ) (x y v : ℤ) (w k start count : ℕ) (bytes row : List ℕ) → HasRows f x y w k bytes → v ≡ y +ℤ pos k
+    → start ≡ k * w → start + w ≤ length bytes → length row ≡ w → Lays (λ u. f u v) x row
+    → HasRows f x y w (k + 1) (put_mid start count bytes row)
+rows_more f x y v w k start count bytes row has place at fits long lays = record {
   cells = λ i j a b. ⊎_elim
       (λ (above : j < k).
       let rows : (j + 1) * w ≤ k * w = mul-le (j + 1) w k w (omega arith) (omega arith) in
-      put_below (k * w) count (j * w + i) bytes row (omega arith) (omega arith) ∙ has.cells i j a above)
+      put_below start count (j * w + i) bytes row (omega arith) (omega arith) ∙ has.cells i j a above)
       (λ (here : k ≤ j).
       let same : j ≡ k = omega arith in
       let column : i < length row = omega arith in
       let last : y +ℤ pos j ≡ v = omega (arith, ints) in
-      rw (last, same) (put_inside (k * w) count i bytes row (omega arith) column ∙ lays i column))
+      let cell : j * w + i ≡ start + i = omega (arith, at, ap (λ n. n * w) same) in
+      ap (λ n. get_or (put_mid start count bytes row) n 0) cell ∙ put_inside start count i bytes row (omega arith) column ∙ rw last (lays i column))
       (cases_lt j k);
 }
 
@@ -76,10 +77,28 @@ along_columns_boxed r f x y w h none = record {
   columns = λ u. smoothed_beside r (f u) y h (none.columns u);
 }
 
--- the same box, written otherwise
+-- ---- the same box, written otherwise
+
+boxed_at : (f : ℤ → ℤ → ℕ) (x y s t : ℤ) (w h m n : ℕ) → IsBoxed f x y w h → x ≡ s → y ≡ t → w ≡ m → h ≡ n → IsBoxed f s t m n
+boxed_at f x y s t w h m n boxed a b c d =
+    let one = subst (λ (z : ℤ). IsBoxed f z y w h) a boxed in
+    let two = subst (λ (z : ℤ). IsBoxed f s z w h) b one in
+    let three = subst (λ (k : ℕ). IsBoxed f s t k h) c two in
+    subst (λ (k : ℕ). IsBoxed f s t m k) d three
+
 pub shows_at : (f : ℤ → ℤ → ℕ) (x y s t : ℤ) (w h m n : ℕ) (bytes : List ℕ) → Shows f x y w h bytes → x ≡ s → y ≡ t → w ≡ m → h ≡ n → Shows f s t m n bytes
 shows_at f x y s t w h m n bytes shows a b c d =
     let one = subst (λ (z : ℤ). Shows f z y w h bytes) a shows in
     let two = subst (λ (z : ℤ). Shows f s z w h bytes) b one in
     let three = subst (λ (k : ℕ). Shows f s t k h bytes) c two in
     subst (λ (k : ℕ). Shows f s t m k bytes) d three
+
+-- three passes along rows
+pub along_rows_thrice_boxed : (r : ℕ) (f : ℤ → ℤ → ℕ) (x y : ℤ) (w h : ℕ) → IsBoxed f x y w h
+    → IsBoxed (along_rows r (along_rows r (along_rows r f))) (x -ℤ pos (3 * r)) y (w + 6 * r) h
+along_rows_thrice_boxed r f x y w h boxed =
+    let once = along_rows_boxed r f x y w h boxed in
+    let twice = along_rows_boxed r (along_rows r f) (x -ℤ pos r) y (w + 2 * r) h once in
+    let thrice = along_rows_boxed r (along_rows r (along_rows r f)) ((x -ℤ pos r) -ℤ pos r) y (w + 2 * r + 2 * r) h twice in
+    boxed_at (along_rows r (along_rows r (along_rows r f))) (((x -ℤ pos r) -ℤ pos r) -ℤ pos r) y (x -ℤ pos (3 * r)) y (w + 2 * r + 2 * r + 2 * r) h (w + 6 * r) h thrice
+    (omega (arith, ints)) refl (omega arith) refl

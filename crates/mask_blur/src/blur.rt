@@ -4,7 +4,7 @@ ghost use Rattle.std.specs.Prelude.{◌≡◌, ℕ, ℤ, pos, neg_ℤ, ◌≤◌
 ghost use Rattle.mask_blur.specs.Shown.{Shows};
 ghost use Rattle.mask_blur.specs.Blur.{blurred, IsBlurred};
 
-use crate::columns::blur_columns;
+use crate::columns::blur_columns_thrice;
 use crate::lines::blur_rows;
 use crate::means::Means;
 use ass_num::{Mask, Mem};
@@ -25,33 +25,17 @@ fn blurred_bytes(alloc: Global, bytes: &[u8], w: usize, h: usize, means: &Means)
     let zeros = vec![in alloc; 0u8; width]?;
     let mut sums = vec![in alloc; 0u16; width]?;
     let mut spare = vec![in alloc; 0u8; width * (h + 4 * r)]?;
-    let mut result_bytes = vec![in alloc; 0u8; width * (h + 6 * r)]?;
+    let mut blurred = vec![in alloc; 0u8; width * (h + 6 * r)]?;
     blur_rows(alloc, spare.as_mut_slice(), bytes, w, h, means)?;
-    blur_columns(
-        result_bytes.as_mut_slice(),
+    blur_columns_thrice(
+        blurred.as_mut_slice(),
+        spare.as_mut_slice(),
         sums.as_mut_slice(),
-        spare.as_slice(),
         zeros.as_slice(),
         h,
         means,
     );
-    blur_columns(
-        spare.as_mut_slice(),
-        sums.as_mut_slice(),
-        result_bytes.as_slice(),
-        zeros.as_slice(),
-        h + 2 * r,
-        means,
-    );
-    blur_columns(
-        result_bytes.as_mut_slice(),
-        sums.as_mut_slice(),
-        spare.as_slice(),
-        zeros.as_slice(),
-        h + 4 * r,
-        means,
-    );
-    Ok(result_bytes)
+    Ok(blurred)
 }
 
 /// The mask, blurred with the radius `r`: three times along its rows and then three times along its columns every pixel becomes the mean of itself

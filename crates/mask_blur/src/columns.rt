@@ -27,14 +27,7 @@ fn slide(to: &mut [u8], sums: &mut [u16], entering: &[u8], leaving: &[u8], means
 }
 
 /// One pass along the columns of `h` rows of as many bytes as there are zeros.
-pub fn blur_columns(
-    to: &mut [u8],
-    sums: &mut [u16],
-    from: &[u8],
-    zeros: &[u8],
-    h: usize,
-    means: &Means,
-)
+fn blur_columns(to: &mut [u8], sums: &mut [u16], from: &[u8], zeros: &[u8], h: usize, means: &Means)
     requires height { h < 2 ^ 33 }
     requires rows { h * length zeros.now ≤ length from.now }
     requires room { (h + 2 * means.now.radius) * length zeros.now ≤ length to.old }
@@ -51,4 +44,28 @@ pub fn blur_columns(
         let leaving = row_or_zeros(from, zeros, h, k, 2 * r + 1);
         slide(&mut to[k * w..k * w + w], sums, entering, leaving, means);
     }
+}
+
+/// Three passes along the columns of the `h` rows in `spare`, which holds the second pass too; a row has as many bytes as there are zeros.
+pub fn blur_columns_thrice(
+    to: &mut [u8],
+    spare: &mut [u8],
+    sums: &mut [u16],
+    zeros: &[u8],
+    h: usize,
+    means: &Means,
+)
+    requires height { h + 6 * means.now.radius < 2 ^ 32 }
+    requires room { (h + 6 * means.now.radius) * length zeros.now ≤ length to.old }
+    requires spare { (h + 4 * means.now.radius) * length zeros.now ≤ length spare.old }
+    requires sums { length sums.old ≡ length zeros.now }
+    requires zeros { (i : ℕ) → slice_index zeros.now i ≡ 0 }
+    ensures { (f : ℤ → ℤ → ℕ) (x y : ℤ) → Shows f x y (length zeros.now) h spare.old
+        → Shows (along_columns means.now.radius (along_columns means.now.radius (along_columns means.now.radius f)))
+        x (y -ℤ pos (3 * means.now.radius)) (length zeros.now) (h + 6 * means.now.radius) to.new }
+{
+    let r = means.radius();
+    blur_columns(to, sums, spare, zeros, h, means);
+    blur_columns(spare, sums, to, zeros, h + 2 * r, means);
+    blur_columns(to, sums, spare, zeros, h + 4 * r, means);
 }

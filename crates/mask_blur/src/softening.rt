@@ -33,6 +33,41 @@ fn soften_once(to: &mut [u8], sums: &mut [u16], from: &[u8], zeros: &[u8], h: us
     }
 }
 
+/// So many passes between two buffers; `now` begins with the bytes of `h` rows of `w` bytes, and ends with those after the last pass.
+fn soften_on(
+    now: &mut Vec<u8>,
+    next: &mut Vec<u8>,
+    sums: &mut [u16],
+    zeros: &[u8],
+    w: usize,
+    h: usize,
+    n: usize,
+)
+    requires now { length now.old.items ≡ (w + 2 * n) * (h + 2 * n) }
+    requires next { 0 < n → length next.old.items ≡ (w + 2 * n) * (h + 2 * n) }
+    requires width { w + 2 * n < 2 ^ 32 }
+    requires height { h + 2 * n < 2 ^ 32 }
+    requires count { length zeros.now ≡ w + 2 * n }
+    requires sums { length sums.old ≡ w + 2 * n + 2 }
+    requires zeros { (i : ℕ) → slice_index zeros.now i ≡ 0 }
+    requires before { (k : ℕ) → k < 2 → slice_index sums.old k ≡ 0 }
+    requires behind { (k : ℕ) → w + 2 ≤ k → slice_index sums.old k ≡ 0 }
+    ensures count { length now.new.items ≡ (w + 2 * n) * (h + 2 * n) }
+    ensures softened { (f : ℤ → ℤ → ℕ) (x y : ℤ) → Shows f x y w h now.old.items
+        → Shows (softened n f) (x -ℤ pos n) (y -ℤ pos n) (w + 2 * n) (h + 2 * n) now.new.items }
+{
+    for k in 0..n {
+        soften_once(
+            next.as_mut_slice(),
+            sums,
+            now.as_slice(),
+            &zeros[..w + 2 * k],
+            h + 2 * k,
+        );
+        swap(now, next);
+    }
+}
+
 /// The bytes of `h` rows of `w` bytes, softened `n` times.
 fn softened_bytes(alloc: Global, bytes: &[u8], w: usize, h: usize, n: usize) -> Mem<Vec<u8>>
     requires count { length bytes.now ≡ w * h }
@@ -47,25 +82,11 @@ fn softened_bytes(alloc: Global, bytes: &[u8], w: usize, h: usize, n: usize) -> 
     let zeros = vec![in alloc; 0u8; width]?;
     let mut sums = vec![in alloc; 0u16; width + 2]?;
     let mut now = vec![in alloc; 0u8; width * height]?;
-    soften_once(
-        now.as_mut_slice(),
-        sums.as_mut_slice(),
-        bytes,
-        &zeros[..w],
-        h,
-    );
     let spare = if n == 1 { 0 } else { width * height };
     let mut next = vec![in alloc; 0u8; spare]?;
-    for k in 1..n {
-        soften_once(
-            next.as_mut_slice(),
-            sums.as_mut_slice(),
-            now.as_slice(),
-            &zeros[..w + 2 * k],
-            h + 2 * k,
-        );
-        swap(&mut now, &mut next);
-    }
+    let (zeros, sums) = (zeros.as_slice(), sums.as_mut_slice());
+    soften_once(now.as_mut_slice(), sums, bytes, &zeros[..w], h);
+    soften_on(&mut now, &mut next, sums, zeros, w + 2, h + 2, n - 1);
     Ok(now)
 }
 

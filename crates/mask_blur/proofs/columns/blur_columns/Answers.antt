@@ -80,7 +80,7 @@ loop-k-preserved c = λ f x y shows.
     ((c.loop-k.invariant f x y shows).0 i h) (enters.ensures.row f x y shows i h) last in
     let is : get_or c.slide.new.sums i 0 ≡ sum_from (f (x +ℤ pos i)) ((y +ℤ pos (k + 1)) -ℤ pos (2 * r + 1)) (2 * r + 1) = omega (arith, step, c.slide.ensures.sums i (omega (arith, c.slide.auto.to, long))) in is in (
       sums,
-      rows_more (along_columns r f) x (y -ℤ pos r) ((y -ℤ pos r) +ℤ pos k) w k _ c.loop-k.to c.slide.new.to (c.loop-k.invariant f x y shows).1 refl
+      rows_more (along_columns r f) x (y -ℤ pos r) ((y -ℤ pos r) +ℤ pos k) w k (k * w) _ c.loop-k.to c.slide.new.to (c.loop-k.invariant f x y shows).1 refl refl
           fits (omega (arith, long))
           (λ i h. c.slide.ensures.means i (omega (arith, c.slide.auto.to)) ∙ ap (mean r) (sums i (omega (arith, long))) ∙ column_mean r (f (x +ℤ pos i)) y k),
     )

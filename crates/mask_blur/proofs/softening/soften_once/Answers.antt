@@ -1,4 +1,4 @@
-use Rattle.std.proofs.Common.{◌≡◌, ℕ, ◌+◌, ◌-◌, ◌*◌, ◌<◌, ◌≤◌, ℤ, pos, ◌+ℤ◌, ◌-ℤ◌, length, get_or, ap, ◌∙◌, sym, arith}
+use Rattle.std.proofs.Common.{◌≡◌, ℕ, ◌+◌, ◌-◌, ◌*◌, ◌<◌, ◌≤◌, ℤ, pos, ◌+ℤ◌, ◌-ℤ◌, length, get_or, ap, refl, ◌∙◌, sym, arith}
 use Rattle.std.proofs.lemmas.Int.{ints}
 use Rattle.std.proofs.lemmas.Nat.{mul-le}
 use Rattle.mask_blur.specs.Softening.{softer}
@@ -24,7 +24,7 @@ loop-k-preserved c = (
       let rows : (k + 1) * (w + 2) ≤ (c.args.h + 2) * (w + 2) = mul-le (k + 1) (w + 2) (c.args.h + 2) (w + 2) (omega arith) (omega arith) in
       let fits : k * (w + 2) + (w + 2) ≤ length c.loop-k.to = omega (arith, c.requires.room, rows) in
       let long : length c.soften_row.new.row ≡ k * (w + 2) + (w + 2) - k * (w + 2) = c.soften_row.auto.row ∙ length_part (k * (w + 2)) (k * (w + 2) + (w + 2)) c.loop-k.to fits in
-      rows_more (softer f) (x -ℤ pos 1) (y -ℤ pos 1) v (w + 2) k _ c.loop-k.to c.soften_row.new.row (c.loop-k.invariant.2 f x y shows) (omega (arith, ints))
+      rows_more (softer f) (x -ℤ pos 1) (y -ℤ pos 1) v (w + 2) k (k * (w + 2)) _ c.loop-k.to c.soften_row.new.row (c.loop-k.invariant.2 f x y shows) (omega (arith, ints)) refl
       fits (omega (arith, long))
       (c.soften_row.ensures.softer f x v (λ t. rw middle.ensures.count (shows.outside.rows t))
       (λ i h. above.ensures.row f x y shows i (omega (arith, above.ensures.count)) ∙ ap (f (x +ℤ pos i)) up)
