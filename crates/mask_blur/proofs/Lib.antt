@@ -6,3 +6,4 @@ pub mod PutLemmas
 pub mod ShownLemmas
 pub mod ColumnLemmas
 pub mod MaskLemmas
+pub mod SoftenedLemmas
