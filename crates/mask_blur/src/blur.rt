@@ -5,6 +5,7 @@ ghost use Rattle.mask_blur.specs.Shown.{Shows};
 ghost use Rattle.mask_blur.specs.Blur.{blurred, IsBlurred};
 
 use crate::columns::blur_columns_thrice;
+use crate::copies::copy_of;
 use crate::lines::blur_rows;
 use crate::means::Means;
 use ass_num::{Mask, Mem};
@@ -26,15 +27,9 @@ fn blurred_bytes(alloc: Global, bytes: &[u8], w: usize, h: usize, means: &Means)
     let mut sums = vec![in alloc; 0u16; width]?;
     let mut spare = vec![in alloc; 0u8; width * (h + 4 * r)]?;
     let mut blurred = vec![in alloc; 0u8; width * (h + 6 * r)]?;
-    blur_rows(alloc, spare.as_mut_slice(), bytes, w, h, means)?;
-    blur_columns_thrice(
-        blurred.as_mut_slice(),
-        spare.as_mut_slice(),
-        sums.as_mut_slice(),
-        zeros.as_slice(),
-        h,
-        means,
-    );
+    let (to, between) = (blurred.as_mut_slice(), spare.as_mut_slice());
+    blur_rows(alloc, between, bytes, w, h, means)?;
+    blur_columns_thrice(to, between, sums.as_mut_slice(), zeros.as_slice(), h, means);
     Ok(blurred)
 }
 
@@ -49,8 +44,7 @@ pub fn box_blur(alloc: Global, mask: &Mask, r: u32) -> Mem<Mask>
     ensures { IfOk result (IsBlurred r mask.now) }
 {
     if mask.w() == 0 || r == 0 {
-        let bytes = Vec::from_slice(alloc, mask.bytes())?;
-        return Ok(Mask::new(mask.x(), mask.y(), mask.w(), mask.h(), bytes));
+        return copy_of(alloc, mask);
     }
     let bytes = blurred_bytes(
         alloc,

@@ -3,6 +3,7 @@
 
 mod blur;
 mod columns;
+mod copies;
 mod lines;
 mod means;
 mod rows;

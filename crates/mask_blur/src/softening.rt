@@ -4,6 +4,7 @@ ghost use Rattle.std.specs.Prelude.{◌≡◌, ℕ, ℤ, pos, neg_ℤ, ◌≤◌
 ghost use Rattle.mask_blur.specs.Shown.{Shows};
 ghost use Rattle.mask_blur.specs.Softening.{softer, softened, IsSoftened};
 
+use crate::copies::copy_of;
 use crate::rows::row_or_zeros;
 use crate::weights::soften_row;
 use ass_num::{Mask, Mem};
@@ -100,8 +101,7 @@ pub fn soften(alloc: Global, mask: &Mask, n: u32) -> Mem<Mask>
     ensures { IfOk result (IsSoftened n mask.now) }
 {
     if mask.w() == 0 || n == 0 {
-        let bytes = Vec::from_slice(alloc, mask.bytes())?;
-        return Ok(Mask::new(mask.x(), mask.y(), mask.w(), mask.h(), bytes));
+        return copy_of(alloc, mask);
     }
     let bytes = softened_bytes(
         alloc,

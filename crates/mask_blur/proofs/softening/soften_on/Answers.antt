@@ -16,7 +16,7 @@ soften_once-requires-clause-rows c =
     let n = c.args.n in
     let long : length (take (c.args.w + 2 * k) c.args.zeros.now) ≡ c.args.w + 2 * k = length-take-le (c.args.w + 2 * k) c.args.zeros.now (omega (arith, c.requires.count)) in
     let small : (c.args.h + 2 * k) * (c.args.w + 2 * k) ≤ (c.args.h + 2 * n) * (c.args.w + 2 * n) = mul-le (c.args.h + 2 * k) (c.args.w + 2 * k) (c.args.h + 2 * n) (c.args.w + 2 * n) (omega arith) (omega arith) in
-    rw long (omega (arith, small, c.loop-k.invariant.0, c.as_slice.ensures.value, ap length c.as_slice.ensures.value))
+    rw long (omega (arith, small, c.loop-k.invariant.0, ap length c.as_slice.ensures.value))
 
 pub soften_once-requires-clause-room : goal.soften_once-requires-clause-room
 soften_once-requires-clause-room c =
@@ -40,8 +40,8 @@ loop-k-preserved c =
       c.soften_once.ensures.before,
       λ j far. c.soften_once.ensures.behind j (omega (arith, long)),
       λ f x y shows.
-      let was = c.loop-k.invariant.4 f x y shows in
-      let from : Shows (softened k f) (x -ℤ pos k) (y -ℤ pos k) (length (take w c.args.zeros.now)) h c.as_slice.result.now = rw (long, c.as_slice.ensures.value) was in
-      let is = rw long at (c.soften_once.ensures.softer (softened k f) (x -ℤ pos k) (y -ℤ pos k) from) in
-      rw items (softened_more f x y c.args.w c.args.h k c.soften_once.new.to is),
+          let was = c.loop-k.invariant.4 f x y shows in
+          let from : Shows (softened k f) (x -ℤ pos k) (y -ℤ pos k) (length (take w c.args.zeros.now)) h c.as_slice.result.now = rw (long, c.as_slice.ensures.value) was in
+          let is = rw long at (c.soften_once.ensures.softer (softened k f) (x -ℤ pos k) (y -ℤ pos k) from) in
+          rw items (softened_more f x y c.args.w c.args.h k c.soften_once.new.to is),
     )

@@ -1,0 +1,14 @@
+//! Copies of masks.
+
+ghost use Rattle.std.specs.Prelude.{◌≡◌, IfOk};
+
+use ass_num::{Mask, Mem};
+use std::alloc::Global;
+
+/// A mask of its own with the same box and bytes.
+pub fn copy_of(alloc: Global, mask: &Mask) -> Mem<Mask>
+    ensures { IfOk result (λ copy. copy ≡ mask.now) }
+{
+    let bytes = Vec::from_slice(alloc, mask.bytes())?;
+    Ok(Mask::new(mask.x(), mask.y(), mask.w(), mask.h(), bytes))
+}
