@@ -7,3 +7,4 @@ pub mod ShownLemmas
 pub mod ColumnLemmas
 pub mod MaskLemmas
 pub mod SoftenedLemmas
+pub mod GrowthLemmas

@@ -1,8 +1,10 @@
 -- Passes of softening, one after another.
-use Rattle.std.proofs.Common.{◌≡◌, ℕ, zero, suc, ◌+◌, ◌*◌, ℤ, pos, ◌-ℤ◌, List, add-one, refl, ap, subst, sym, arith}
+use Rattle.std.proofs.Common.{◌≡◌, ℕ, zero, suc, ◌+◌, ◌*◌, ℤ, pos, ◌+ℤ◌, ◌-ℤ◌, true, List, add-one, refl, ap, subst, sym, ◌∙◌, arith}
 use Rattle.std.proofs.lemmas.Int.{ints}
+use Rattle.ass_num.specs.Masks.{PlainMask, is_mask, value_at}
 use Rattle.mask_blur.specs.Shown.{Shows}
-use Rattle.mask_blur.specs.Softening.{softer, softened}
+use Rattle.mask_blur.specs.Softening.{softer, softened, IsSoftened}
+use Rattle.mask_blur.proofs.GrowthLemmas.{value_none, mask_none, mask_some, box_kept, box_same, box_grown, grown_value}
 use Rattle.mask_blur.proofs.ShownLemmas.{shows_at}
 
 -- no pass
@@ -37,3 +39,34 @@ softened_rest f x y w h k n bytes is shows =
     let here = subst (λ (m : ℕ). Shows (softened m f) ((x -ℤ pos 1) -ℤ pos k) ((y -ℤ pos 1) -ℤ pos k) (w + 2 + 2 * k) (h + 2 + 2 * k) bytes) (sym is) there in
     shows_at (softened n f) ((x -ℤ pos 1) -ℤ pos k) ((y -ℤ pos 1) -ℤ pos k) (x -ℤ pos n) (y -ℤ pos n) (w + 2 + 2 * k) (h + 2 + 2 * k) (w + 2 * n) (h + 2 * n) bytes here
     (omega (arith, ints)) (omega (arith, ints)) (omega arith) (omega arith)
+
+-- of nothing
+softened_zero : (f : ℤ → ℤ → ℕ) (n : ℕ) → ((x y : ℤ) → f x y ≡ 0) → (x y : ℤ) → softened n f x y ≡ 0
+unfolding softened
+softened_zero f zero none x y = none x y
+softened_zero f (suc n) none x y =
+    let at = softened_zero f n none in
+    omega (arith, at (x -ℤ pos 1) (y -ℤ pos 1), at x (y -ℤ pos 1), at (x +ℤ pos 1) (y -ℤ pos 1), at (x -ℤ pos 1) y, at x y, at (x +ℤ pos 1) y,
+      at (x -ℤ pos 1) (y +ℤ pos 1), at x (y +ℤ pos 1), at (x +ℤ pos 1) (y +ℤ pos 1))
+
+-- a mask without pixels stays
+pub none_softened : (n : ℕ) (m : PlainMask) → is_mask m ≡ true → m.w ≡ 0 → IsSoftened n m m
+none_softened n m canonical narrow = record {
+  value = λ x y. value_none m narrow x y ∙ sym (softened_zero (value_at m) n (value_none m narrow) x y);
+  box = box_kept n m (mask_none m canonical narrow);
+}
+
+-- and so does any without a pass
+pub same_softened : (n : ℕ) (m : PlainMask) → n ≡ 0 → IsSoftened n m m
+unfolding softened
+same_softened n m none = rw none (record { value = λ x y. refl; box = box_same m })
+
+-- the mask of the softened bytes
+pub is_softened : (n : ℕ) (m : PlainMask) (x y : ℤ) (w h : ℕ) (bytes : List ℕ) → is_mask m ≡ true → (m.w ≡ 0 → ⊥)
+    → x ≡ m.x -ℤ pos n → y ≡ m.y -ℤ pos n → w ≡ m.w + 2 * n → h ≡ m.h + 2 * n
+    → Shows (softened n (value_at m)) (m.x -ℤ pos n) (m.y -ℤ pos n) (m.w + 2 * n) (m.h + 2 * n) bytes
+    → IsSoftened n m (record { x = x; y = y; w = w; h = h; bytes = bytes })
+is_softened n m x y w h bytes canonical wide a b c d shows = record {
+  value = grown_value (softened n (value_at m)) n m x y w h bytes a b c d shows;
+  box = box_grown n m x y w h bytes (mask_some m canonical wide) a b c d;
+}
