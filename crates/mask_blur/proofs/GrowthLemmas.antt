@@ -33,7 +33,7 @@ shows_same f g x y w h bytes a b u v =
         let column = place_of u x (u -ℤ x) refl left in
         let row = place_of v y (v -ℤ y) refl top in
         rw (column.1, row.1) (sym (a.inside.cells column.0 row.0 (omega (arith, ints, column.1)) (omega (arith, ints, row.1)))
-            ∙ b.inside.cells column.0 row.0 (omega (arith, ints, column.1)) (omega (arith, ints, row.1)))
+        ∙ b.inside.cells column.0 row.0 (omega (arith, ints, column.1)) (omega (arith, ints, row.1)))
 
 -- the values of a mask whose bytes show a picture
 pub shown_value : (g : ℤ → ℤ → ℕ) (m : PlainMask) → Shows g m.x m.y m.w m.h m.bytes → (u v : ℤ) → value_at m u v ≡ g u v

@@ -8,3 +8,4 @@ pub mod ColumnLemmas
 pub mod MaskLemmas
 pub mod SoftenedLemmas
 pub mod GrowthLemmas
+pub mod BlurLemmas

@@ -46,8 +46,18 @@ unfolding softened
 softened_zero f zero none x y = none x y
 softened_zero f (suc n) none x y =
     let at = softened_zero f n none in
-    omega (arith, at (x -ℤ pos 1) (y -ℤ pos 1), at x (y -ℤ pos 1), at (x +ℤ pos 1) (y -ℤ pos 1), at (x -ℤ pos 1) y, at x y, at (x +ℤ pos 1) y,
-      at (x -ℤ pos 1) (y +ℤ pos 1), at x (y +ℤ pos 1), at (x +ℤ pos 1) (y +ℤ pos 1))
+    omega (
+      arith,
+      at (x -ℤ pos 1) (y -ℤ pos 1),
+      at x (y -ℤ pos 1),
+      at (x +ℤ pos 1) (y -ℤ pos 1),
+      at (x -ℤ pos 1) y,
+      at x y,
+      at (x +ℤ pos 1) y,
+      at (x -ℤ pos 1) (y +ℤ pos 1),
+      at x (y +ℤ pos 1),
+      at (x +ℤ pos 1) (y +ℤ pos 1),
+    )
 
 -- a mask without pixels stays
 pub none_softened : (n : ℕ) (m : PlainMask) → is_mask m ≡ true → m.w ≡ 0 → IsSoftened n m m

@@ -53,11 +53,12 @@ pub fn box_blur(alloc: Global, mask: &Mask, r: u32) -> Mem<Mask>
         mask.h() as usize,
         &Means::new(r),
     )?;
+    let reach = 3 * r;
     Ok(Mask::new(
-        mask.x() - 3 * r as i32,
-        mask.y() - 3 * r as i32,
-        mask.w() + 6 * r,
-        mask.h() + 6 * r,
+        mask.x() - reach as i32,
+        mask.y() - reach as i32,
+        mask.w() + 2 * reach,
+        mask.h() + 2 * reach,
         bytes,
     ))
 }
