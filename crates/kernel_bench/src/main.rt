@@ -2,6 +2,7 @@
 //! `KERNEL SIZE TURNS` it makes an input of that size and prints how long a turn takes.
 #![tactic(auto)]
 
+mod blurring;
 mod boxes;
 mod drawing;
 mod glyph;
@@ -30,6 +31,7 @@ fn number_of(word: &String) -> Result<u32, Stop> {
 
 fn show_all(rt: &HostRuntime) -> Result<(), Stop> {
     glyph::show(rt)?;
+    blurring::show(rt)?;
     boxes::show(rt)?;
     paragraph::show(rt)?;
     drawing::show(rt)
@@ -38,6 +40,7 @@ fn show_all(rt: &HostRuntime) -> Result<(), Stop> {
 fn measure(rt: &HostRuntime, kernel: &str, size: u32, turns: u32) -> Result<(), Stop> {
     match kernel {
         "region" => glyph::measure(rt, size, turns),
+        "blur" => blurring::measure(rt, size, turns),
         "shift" => boxes::measure(rt, size, turns),
         "breaks" => paragraph::measure(rt, size, turns),
         "draw" => drawing::measure(rt, size, turns),

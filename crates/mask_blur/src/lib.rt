@@ -8,6 +8,8 @@ mod lines;
 mod means;
 mod rows;
 mod softening;
+#[cfg(test)]
+mod tests;
 mod weights;
 
 pub use blur::box_blur;
