@@ -31,7 +31,10 @@ fn a_pixel_spreads(rt: HostRuntime) -> Result<(), Fail> {
     let mask = pixel(alloc)?;
     let softened = soften(alloc, &mask, 1)?;
     assert!(rt; has_box(&softened, 2, 3, 3));
-    assert_eq!(rt; softened.bytes(), [16, 32, 16, 32, 64, 32, 16, 32, 16].as_slice());
+    assert_eq!(rt;
+        softened.bytes(),
+        [16, 32, 16, 32, 64, 32, 16, 32, 16].as_slice()
+    );
     let kept = soften(alloc, &mask, 0)?;
     assert!(rt; has_box(&kept, 3, 4, 1));
     let blurred = box_blur(alloc, &mask, 1)?;
