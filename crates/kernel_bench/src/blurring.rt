@@ -30,8 +30,8 @@ fn square(alloc: Global, side: u16, step: u8) -> Result<Mask, Stop>
 }
 
 fn middle(mask: &Mask) -> u8 {
-    let bytes = mask.bytes();
-    bytes.get(bytes.len() / 2).copied().unwrap_or(0)
+    let (w, h) = (mask.w() as usize, mask.h() as usize);
+    mask.bytes().get(h / 2 * w + w / 2).copied().unwrap_or(0)
 }
 
 fn measure_passes(rt: &HostRuntime, side: u16, n: u8, turns: u32) -> Result<(), Stop> {

@@ -1,9 +1,9 @@
 -- Blurred masks.
-use Rattle.std.proofs.Common.{◌≡◌, ℕ, ◌+◌, ◌*◌, ℤ, pos, ◌+ℤ◌, ◌-ℤ◌, true, List, refl, ap, sym, ◌∙◌, arith}
+use Rattle.std.proofs.Common.{◌≡◌, ℕ, ◌+◌, ◌*◌, ℤ, pos, ◌+ℤ◌, ◌-ℤ◌, true, List, ap, sym, ◌∙◌, arith}
 use Rattle.std.proofs.lemmas.Int.{ints}
 use Rattle.ass_num.specs.Coverage.{sum_from}
 use Rattle.ass_num.specs.Masks.{PlainMask, is_mask, value_at}
-use Rattle.mask_blur.specs.Blur.{mean, smoothed, along_rows, along_columns, blurred, IsBlurred}
+use Rattle.mask_blur.specs.Blur.{smoothed, along_rows, along_columns, blurred, IsBlurred}
 use Rattle.mask_blur.specs.Shown.{Shows}
 use Rattle.mask_blur.proofs.GrowthLemmas.{value_none, mask_none, mask_some, box_kept, box_same, box_grown, grown_value}
 use Rattle.mask_blur.proofs.LineLemmas.{smoothed_zero}

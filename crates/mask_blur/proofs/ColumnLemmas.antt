@@ -1,5 +1,5 @@
 -- Running sums of columns.
-use Rattle.std.proofs.Common.{◌≡◌, ℕ, ◌+◌, ◌-◌, ◌*◌, ◌<◌, ◌≤◌, ℤ, pos, ◌+ℤ◌, ◌-ℤ◌, List, length, get_or, ap, sym, ◌∙◌, arith}
+use Rattle.std.proofs.Common.{◌≡◌, ℕ, ◌+◌, ◌*◌, ◌<◌, ◌≤◌, ℤ, pos, ◌+ℤ◌, ◌-ℤ◌, get_or, ap, arith}
 use Rattle.std.proofs.lemmas.Int.{ints}
 use Rattle.ass_num.specs.Coverage.{sum_from}
 use Rattle.ass_num.specs.Masks.{PlainMask, value_at}

@@ -1,14 +1,14 @@
 -- Masks whose box grew.
-use Rattle.std.proofs.Common.{◌≡◌, ℕ, zero, suc, ◌+◌, ◌-◌, ◌*◌, ◌<◌, ◌≤◌, ◌≢◌, ℤ, pos, negsuc, ◌+ℤ◌, ◌-ℤ◌, ◌<ℤ◌, ◌≤ℤ◌, Bool, true, false, not, ◌&&◌, ◌||◌, eqb, cond, List, length, get_or, Result, Ok, Err, IfOk, refl, ap, sym, subst, ◌∙◌, arith, rules, eqb-true}
+use Rattle.std.proofs.Common.{◌≡◌, ℕ, ◌+◌, ◌*◌, ◌<◌, ℤ, pos, negsuc, ◌+ℤ◌, ◌-ℤ◌, ◌<ℤ◌, ◌≤ℤ◌, Bool, true, false, not, ◌&&◌, ◌||◌, eqb, cond, List, length, Result, Ok, Err, IfOk, refl, ap, sym, subst, ◌∙◌, arith, eqb-true}
 use Rattle.std.proofs.lemmas.Bool.{and_parts}
 use Rattle.std.proofs.lemmas.Bool.Decides.{nat_tests}
 use Rattle.std.proofs.lemmas.Int.{ints, by_lt_z}
 use Rattle.std.proofs.lemmas.Nat.{mul-lt}
 use Rattle.std.specs.Ordering.{int_eq}
-use Rattle.ass_num.specs.Coverage.{PixelBox, box_of}
+use Rattle.ass_num.specs.Coverage.{box_of}
 use Rattle.ass_num.specs.Masks.{PlainMask, is_mask, value_at}
 use Rattle.mask_blur.specs.Growth.{grown_box}
-use Rattle.mask_blur.specs.Shown.{HasRows, IsBoxed, Shows}
+use Rattle.mask_blur.specs.Shown.{Shows}
 use Rattle.mask_blur.proofs.MaskLemmas.{mask_shows}
 use Rattle.mask_blur.proofs.ShownLemmas.{shows_at}
 

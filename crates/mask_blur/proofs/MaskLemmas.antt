@@ -1,9 +1,9 @@
 -- Masks show their values.
-use Rattle.std.proofs.Common.{◌≡◌, ℕ, ◌+◌, ◌*◌, ◌<◌, ◌≤◌, ◌⊎◌, inl, inr, ℤ, pos, negsuc, ◌+ℤ◌, ◌-ℤ◌, ◌<ℤ◌, ◌≤ℤ◌, List, length, get_or, refl, sym, ◌∙◌, arith}
+use Rattle.std.proofs.Common.{◌≡◌, ℕ, ◌+◌, ◌*◌, ◌<◌, ◌≤◌, ◌⊎◌, inl, inr, ℤ, pos, negsuc, ◌+ℤ◌, ◌-ℤ◌, ◌<ℤ◌, ◌≤ℤ◌, get_or, refl, sym, arith}
 use Rattle.std.proofs.lemmas.Int.{ints}
 use Rattle.std.proofs.lemmas.Bool.Decides.{nat_tests}
 use Rattle.ass_num.specs.Masks.{PlainMask, value_at, offset_value}
-use Rattle.mask_blur.specs.Shown.{HasRows, IsBoxed, Shows}
+use Rattle.mask_blur.specs.Shown.{Shows}
 
 offset_inside : (m : PlainMask) (u v : ℤ) (i j : ℕ) → u ≡ pos i → v ≡ pos j → i < m.w → j < m.h → offset_value m u v ≡ get_or m.bytes (j * m.w + i) 0
 offset_inside m u v i j e f a b = rw (e, f) (grind (arith, nat_tests))

@@ -1,11 +1,11 @@
 -- Pictures that bytes show.
-use Rattle.std.proofs.Common.{◌≡◌, ℕ, zero, suc, ◌+◌, ◌-◌, ◌*◌, ◌<◌, ◌≤◌, ℤ, pos, negsuc, ◌+ℤ◌, ◌-ℤ◌, ◌<ℤ◌, ◌≤ℤ◌, List, length, get_or, refl, ap, sym, subst, ◌∙◌, ⊎_elim, arith}
+use Rattle.std.proofs.Common.{◌≡◌, ℕ, ◌+◌, ◌*◌, ◌<◌, ◌≤◌, ℤ, pos, ◌+ℤ◌, ◌-ℤ◌, ◌≤ℤ◌, List, length, get_or, refl, ap, subst, ◌∙◌, ⊎_elim, arith}
 use Rattle.std.proofs.lemmas.Bool.{cases_lt}
 use Rattle.std.proofs.lemmas.Int.{ints}
 use Rattle.std.proofs.lemmas.Nat.{mul-le}
 use borrow.Rule.Slice.PartMut.{put_mid}
-use Rattle.mask_blur.specs.Blur.{mean, smoothed, along_rows, along_columns}
-use Rattle.mask_blur.specs.Lines.{Lays, IsZeroBeside}
+use Rattle.mask_blur.specs.Blur.{along_rows, along_columns}
+use Rattle.mask_blur.specs.Lines.{Lays}
 use Rattle.mask_blur.specs.Shown.{HasRows, IsBoxed, Shows}
 use Rattle.mask_blur.specs.Softening.{weighted, softer}
 use Rattle.mask_blur.proofs.LineLemmas.{smoothed_zero, smoothed_beside}

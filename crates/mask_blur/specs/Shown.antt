@@ -1,5 +1,5 @@
 -- Pictures that the bytes of a box show.
-use Rattle.std.specs.Prelude.{◌≡◌, ℕ, ℤ, pos, ◌+◌, ◌*◌, ◌<◌, ◌+ℤ◌, ◌<ℤ◌, ◌≤ℤ◌, List, slice_index}
+use Rattle.std.specs.Prelude.{◌≡◌, ℕ, ℤ, pos, ◌+◌, ◌*◌, ◌<◌, ◌+ℤ◌, List, slice_index}
 use Rattle.mask_blur.specs.Lines.{IsZeroBeside}
 
 -- The bytes begin with the values of h rows of w pixels from (x, y) on, row by row.

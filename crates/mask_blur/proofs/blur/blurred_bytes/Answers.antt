@@ -1,8 +1,7 @@
-use Rattle.std.proofs.Common.{◌≡◌, ℕ, ◌+◌, ◌*◌, ◌<◌, ◌≤◌, pos, ◌-ℤ◌, length, get_or, take, drop, ap, subst, sym, refl, ◌∙◌, arith, rules}
+use Rattle.std.proofs.Common.{◌≡◌, ◌+◌, ◌*◌, pos, ◌-ℤ◌, length, drop, ◌∙◌, rules}
 use Rattle.std.proofs.lemmas.List.{take_at}
 use Rattle.mask_blur.specs.Shown.{Shows}
-use Rattle.mask_blur.specs.Blur.{along_rows, along_columns, blurred}
-use Rattle.mask_blur.proofs.ShownLemmas.{shows_at}
+use Rattle.mask_blur.specs.Blur.{along_rows, blurred}
 use Rattle.mask_blur.proofs.blur.blurred_bytes.Goals as goal
 
 pub returns-clause-blurred : goal.returns-clause-blurred

@@ -1,7 +1,7 @@
-use Rattle.std.proofs.Common.{◌≡◌, ℕ, ◌+◌, ◌*◌, ◌<◌, pos, ◌-ℤ◌, w32, to_z, of_z, length, ap, sym, refl, ◌∙◌, arith, rules}
+use Rattle.std.proofs.Common.{◌≡◌, ◌+◌, ◌*◌, pos, ◌-ℤ◌, w32, to_z, of_z, length, ap, sym, refl, ◌∙◌, arith, rules}
 use Rattle.std.proofs.lemmas.Int.{ints}
 use Rattle.std.specs.Int.RustNames.{FitsSigned}
-use Rattle.ass_num.specs.Masks.{PlainMask, value_at}
+use Rattle.ass_num.specs.Masks.{value_at}
 use Rattle.mask_blur.specs.Shown.{Shows}
 use Rattle.mask_blur.specs.Blur.{blurred, IsBlurred}
 use Rattle.mask_blur.proofs.GrowthLemmas.{mask_ok, copy_has}

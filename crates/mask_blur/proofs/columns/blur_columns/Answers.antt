@@ -1,5 +1,4 @@
-use Rattle.std.proofs.Common.{◌≡◌, ℕ, ◌+◌, ◌-◌, ◌*◌, ◌<◌, ◌≤◌, ℤ, pos, ◌+ℤ◌, ◌-ℤ◌, length, get_or, ap, refl, ◌∙◌, sym, arith, rules}
-use Rattle.std.proofs.lemmas.Int.{ints}
+use Rattle.std.proofs.Common.{◌≡◌, ℕ, ◌+◌, ◌-◌, ◌*◌, ◌<◌, ◌≤◌, pos, ◌+ℤ◌, ◌-ℤ◌, length, get_or, ap, refl, ◌∙◌, sym, arith, rules}
 use Rattle.std.proofs.lemmas.Nat.{mul-le}
 use Rattle.ass_num.specs.Coverage.{sum_from}
 use Rattle.ass_num.specs.Masks.{PlainMask, value_at}

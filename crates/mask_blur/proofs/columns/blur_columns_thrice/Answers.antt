@@ -1,8 +1,6 @@
-use Rattle.std.proofs.Common.{◌≡◌, ℕ, ◌+◌, ◌-◌, ◌*◌, ◌<◌, ◌≤◌, ℤ, pos, ◌+ℤ◌, ◌-ℤ◌, length, refl, ◌∙◌, arith}
+use Rattle.std.proofs.Common.{◌≡◌, ◌+◌, ◌*◌, pos, ◌-ℤ◌, length, refl, arith}
 use Rattle.std.proofs.lemmas.Int.{ints}
-use Rattle.std.proofs.lemmas.Nat.{mul-le}
 use Rattle.mask_blur.specs.Blur.{along_columns}
-use Rattle.mask_blur.specs.Shown.{Shows}
 use Rattle.mask_blur.proofs.ShownLemmas.{shows_at}
 use Rattle.mask_blur.proofs.columns.blur_columns_thrice.Goals as goal
 

@@ -1,11 +1,8 @@
-use Rattle.std.proofs.Common.{◌≡◌, ℕ, ◌+◌, ◌-◌, ◌*◌, ◌<◌, ◌≤◌, ℤ, pos, ◌+ℤ◌, ◌-ℤ◌, length, get_or, take, drop, ap, refl, ◌∙◌, sym, arith, rules}
-use Rattle.std.proofs.lemmas.Int.{ints}
-use Rattle.std.proofs.lemmas.List.{get_or-take, get_or-drop}
+use Rattle.std.proofs.Common.{◌≡◌, ◌+◌, ◌-◌, ◌*◌, ◌≤◌, pos, ◌+ℤ◌, ◌-ℤ◌, length, take, drop, ap, refl, ◌∙◌, arith}
 use Rattle.std.proofs.lemmas.List.Edits.{get_or-between}
 use Rattle.std.proofs.lemmas.Nat.{mul-le}
 use Rattle.mask_blur.specs.Blur.{along_rows}
-use Rattle.mask_blur.specs.Lines.{IsZeroBeside}
-use Rattle.mask_blur.specs.Shown.{Shows, HasRows}
+use Rattle.mask_blur.specs.Shown.{HasRows}
 use Rattle.mask_blur.proofs.PutLemmas.{length_part}
 use Rattle.mask_blur.proofs.ShownLemmas.{rows_more, along_rows_thrice_boxed}
 use Rattle.mask_blur.proofs.lines.blur_rows.Goals as goal

@@ -1,4 +1,4 @@
-use Rattle.std.proofs.Common.{◌≡◌, ℕ, ◌+◌, ◌*◌, ◌<◌, ◌≤◌, ℤ, pos, ◌-ℤ◌, length, get_or}
+use Rattle.std.proofs.Common.{◌≡◌, ℕ, ◌+◌, ◌*◌, ◌<◌, ℤ, pos, ◌-ℤ◌, length, get_or}
 use Rattle.mask_blur.specs.Blur.{along_rows}
 use Rattle.mask_blur.specs.Lines.{IsPadded}
 use Rattle.mask_blur.specs.Shown.{Shows, HasRows}

@@ -1,7 +1,6 @@
-use Rattle.std.proofs.Common.{◌≡◌, ℕ, ℤ, pos, ◌+ℤ◌, ◌-ℤ◌, length, sym, ◌∙◌, arith}
+use Rattle.std.proofs.Common.{pos, ◌+ℤ◌, ◌-ℤ◌, sym, ◌∙◌, arith}
 use Rattle.std.proofs.lemmas.Int.{ints}
 use Rattle.mask_blur.specs.Lines.{IsZeroBeside}
-use Rattle.mask_blur.specs.Shown.{Shows}
 use Rattle.mask_blur.proofs.rows.row_or_zeros.Goals as goal
 use Rattle.mask_blur.proofs.rows.row_or_zeros.Goals.{then-k-skip-via-then-k-skip, then-k-skip-via-else-k-skip+then-h-k}
 

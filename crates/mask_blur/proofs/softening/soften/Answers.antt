@@ -1,9 +1,9 @@
-use Rattle.std.proofs.Common.{◌≡◌, ℕ, ◌+◌, ◌*◌, ◌<◌, pos, ◌-ℤ◌, w32, to_z, of_z, length, ap, sym, ◌∙◌, arith, rules}
+use Rattle.std.proofs.Common.{◌≡◌, ◌+◌, ◌*◌, ◌-ℤ◌, w32, to_z, of_z, length, sym, ◌∙◌, arith, rules}
 use Rattle.std.proofs.lemmas.Int.{ints}
 use Rattle.std.specs.Int.RustNames.{FitsSigned}
-use Rattle.ass_num.specs.Masks.{PlainMask, value_at}
+use Rattle.ass_num.specs.Masks.{value_at}
 use Rattle.mask_blur.specs.Shown.{Shows}
-use Rattle.mask_blur.specs.Softening.{softened, IsSoftened}
+use Rattle.mask_blur.specs.Softening.{IsSoftened}
 use Rattle.mask_blur.proofs.GrowthLemmas.{mask_ok, copy_has}
 use Rattle.mask_blur.proofs.MaskLemmas.{mask_shows}
 use Rattle.mask_blur.proofs.SoftenedLemmas.{none_softened, same_softened, is_softened}

@@ -1,9 +1,8 @@
-use Rattle.std.proofs.Common.{◌≡◌, ℕ, ◌+◌, ◌*◌, ◌<◌, ◌≤◌, pos, ◌-ℤ◌, length, get_or, take, ap, subst, sym, refl, ◌∙◌, arith, rules}
+use Rattle.std.proofs.Common.{◌≡◌, ◌+◌, ◌*◌, ◌≤◌, pos, ◌-ℤ◌, length, take, ap, ◌∙◌, arith}
 use Rattle.std.proofs.lemmas.List.{length-take-le, with_items_is}
 use Rattle.std.proofs.lemmas.Nat.{mul-le}
 use Rattle.mask_blur.specs.Shown.{Shows}
-use Rattle.mask_blur.specs.Softening.{softer, softened}
-use Rattle.mask_blur.proofs.ShownLemmas.{shows_at}
+use Rattle.mask_blur.specs.Softening.{softened}
 use Rattle.mask_blur.proofs.SoftenedLemmas.{softened_none, softened_more}
 use Rattle.mask_blur.proofs.softening.soften_on.Goals as goal
 

@@ -1,8 +1,8 @@
-use Rattle.std.proofs.Common.{◌≡◌, ℕ, ◌+◌, ◌-◌, ◌*◌, ◌<◌, ◌≤◌, ℤ, pos, ◌+ℤ◌, ◌-ℤ◌, length, get_or, ap, refl, ◌∙◌, sym, arith}
+use Rattle.std.proofs.Common.{◌≡◌, ◌+◌, ◌-◌, ◌*◌, ◌≤◌, pos, ◌+ℤ◌, ◌-ℤ◌, length, ap, refl, ◌∙◌, arith}
 use Rattle.std.proofs.lemmas.Int.{ints}
 use Rattle.std.proofs.lemmas.Nat.{mul-le}
 use Rattle.mask_blur.specs.Softening.{softer}
-use Rattle.mask_blur.specs.Shown.{Shows, HasRows}
+use Rattle.mask_blur.specs.Shown.{HasRows}
 use Rattle.mask_blur.proofs.PutLemmas.{length_part}
 use Rattle.mask_blur.proofs.ShownLemmas.{rows_more, softer_boxed}
 use Rattle.mask_blur.proofs.softening.soften_once.Goals as goal

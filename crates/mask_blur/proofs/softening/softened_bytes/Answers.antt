@@ -1,7 +1,7 @@
-use Rattle.std.proofs.Common.{◌≡◌, ℕ, suc, ◌+◌, ◌-◌, ◌*◌, ◌<◌, ◌≤◌, pos, ◌-ℤ◌, length, get_or, take, drop, ap, subst, sym, refl, ◌∙◌, arith, rules}
+use Rattle.std.proofs.Common.{◌≡◌, ◌+◌, ◌-◌, ◌*◌, pos, ◌-ℤ◌, length, take, drop, ◌∙◌, arith, rules}
 use Rattle.std.proofs.lemmas.List.{length-take-le, take_at}
 use Rattle.mask_blur.specs.Shown.{Shows}
-use Rattle.mask_blur.specs.Softening.{softer, softened}
+use Rattle.mask_blur.specs.Softening.{softer}
 use Rattle.mask_blur.proofs.SoftenedLemmas.{softened_rest}
 use Rattle.mask_blur.proofs.softening.softened_bytes.Goals as goal
 

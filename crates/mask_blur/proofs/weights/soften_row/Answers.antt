@@ -1,4 +1,4 @@
-use Rattle.std.proofs.Common.{◌≡◌, ℕ, ◌+◌, ◌<◌, ◌≤◌, length, get_or, ◌∙◌, arith, rules}
+use Rattle.std.proofs.Common.{length, ◌∙◌, arith}
 use Rattle.mask_blur.proofs.WeightLemmas.{Weighs, sums_small, softer_row}
 use Rattle.mask_blur.proofs.weights.soften_row.Goals as goal
 

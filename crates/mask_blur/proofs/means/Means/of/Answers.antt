@@ -1,5 +1,4 @@
-use Rattle.std.proofs.Common.{◌≡◌, ◌+◌, ◌*◌, ap, ◌∙◌, arith}
-use Rattle.mask_blur.specs.Blur.{mean}
+use Rattle.std.proofs.Common.{◌≡◌, ◌+◌, ◌*◌, ap, arith}
 use Rattle.mask_blur.proofs.MeanLemmas.{mean_scaled, mean-below}
 use Rattle.mask_blur.proofs.means.Means.of.Goals as goal
 
