@@ -1,6 +1,6 @@
 //! Blurring along columns.
 
-ghost use Rattle.std.specs.Prelude.{◌≡◌, ℕ, ℤ, pos, ◌≤◌, ◌<◌, ◌+◌, ◌*◌, ◌+ℤ◌, ◌-ℤ◌, ◌^◌, length, slice_index};
+ghost use Rattle.std.specs.Prelude.{◌≡◌, ℕ, ℤ, pos, ◌≤◌, ◌<◌, ◌+◌, ◌*◌, ◌-ℤ◌, ◌^◌, length, slice_index};
 ghost use Rattle.mask_blur.specs.Blur.{mean, along_columns};
 ghost use Rattle.mask_blur.specs.Shown.{Shows};
 

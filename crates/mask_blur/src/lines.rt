@@ -1,6 +1,6 @@
 //! Blurring along rows.
 
-ghost use Rattle.std.specs.Prelude.{◌≡◌, ℕ, ℤ, pos, ◌≤◌, ◌<◌, ◌+◌, ◌*◌, ◌+ℤ◌, ◌-ℤ◌, ◌^◌, length, slice_index, OnOk};
+ghost use Rattle.std.specs.Prelude.{◌≡◌, ℕ, ℤ, pos, ◌≤◌, ◌<◌, ◌+◌, ◌*◌, ◌-ℤ◌, ◌^◌, length, slice_index, OnOk};
 ghost use Rattle.mask_blur.specs.Blur.{smoothed, along_rows};
 ghost use Rattle.mask_blur.specs.Lines.{line_of, Lays, IsZeroBeside, IsPadded};
 ghost use Rattle.mask_blur.specs.Shown.{Shows};
