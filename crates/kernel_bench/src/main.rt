@@ -3,6 +3,7 @@
 #![tactic(auto)]
 
 mod border;
+mod blurring;
 mod boxes;
 mod drawing;
 mod glyph;
@@ -32,6 +33,7 @@ fn number_of(word: &String) -> Result<u32, Stop> {
 fn show_all(rt: &HostRuntime) -> Result<(), Stop> {
     glyph::show(rt)?;
     border::show(rt)?;
+    blurring::show(rt)?;
     boxes::show(rt)?;
     paragraph::show(rt)?;
     drawing::show(rt)
@@ -41,6 +43,7 @@ fn measure(rt: &HostRuntime, kernel: &str, size: u32, turns: u32) -> Result<(), 
     match kernel {
         "region" => glyph::measure(rt, size, turns),
         "border" => border::measure(rt, size, turns),
+        "blur" => blurring::measure(rt, size, turns),
         "shift" => boxes::measure(rt, size, turns),
         "breaks" => paragraph::measure(rt, size, turns),
         "draw" => drawing::measure(rt, size, turns),
