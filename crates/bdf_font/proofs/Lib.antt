@@ -1,4 +1,3 @@
-pub mod LawLemmas
-pub mod LikeLemmas
-pub mod ReadLemmas
+pub mod Given
+pub mod Walk
 pub mod WholeLemmas

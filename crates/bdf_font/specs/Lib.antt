@@ -3,4 +3,5 @@ pub mod Keywords
 pub mod Fonts
 pub mod Ranges
 pub mod Grammar
+pub mod Steps
 pub mod Laws

@@ -2,7 +2,7 @@
 
 ghost use Rattle.std.specs.Prelude.{◌≡◌, ◌+◌, ◌*◌, ◌/◌, ◌<◌, ◌≤◌, length};
 ghost use Rattle.bdf_font.specs.Ranges.{IsBox, IsGlyph, IsDraft, IsPlace, IsReading, Keeps};
-ghost use Rattle.bdf_font.specs.Grammar.{Gives, no_lines, no_glyph, first_line, font_line, glyph_line, draft_line, bitmap_line, row_line, line_of, made_glyph};
+ghost use Rattle.bdf_font.specs.Steps.{Gives, no_lines, no_glyph, first_line, font_line, glyph_line, draft_line, bitmap_line, row_line, line_of, made_glyph};
 
 use crate::cause::{FontCause, Stop};
 use crate::glyphs::{BoundingBox, FontGlyph};
