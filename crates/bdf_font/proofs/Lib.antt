@@ -1,6 +1,9 @@
 pub mod Answering
+pub mod Faults
 pub mod Fronts
 pub mod Given
+pub mod Likes
+pub mod ReadLemmas
 pub mod States
 pub mod Walk
 pub mod WholeLemmas
