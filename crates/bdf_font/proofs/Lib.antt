@@ -3,6 +3,7 @@ pub mod Faults
 pub mod Fronts
 pub mod Given
 pub mod Likes
+pub mod PlaceLemmas
 pub mod ReadLemmas
 pub mod States
 pub mod Walk
