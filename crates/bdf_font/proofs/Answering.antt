@@ -61,17 +61,17 @@ stepped_to front line outcome there e s = subst (λ o. Stepped front line o) (sy
 
 unbegun_ways : (before : List (List ℕ)) (line : List ℕ) → ArePassed before → (says line ≡ keyword.StartFont) ⊎ ((is_passed (says line) ≡ true) ⊎ (start_fault (says line) ≡ Some NoStart)) → Stepped (Unbegun before) line (line_of line no_lines)
 unbegun_ways before line all (inl e) = stepped_to (Unbegun before) line (line_of line no_lines) (Next (outside_at (header_of []) [])) (start_next (says line) e) (record {
-    longer = Begun before line [] Outside;
-    sound = record { passed = all; begins = e; whole = tt; begun = tt; numbers = tt; room = omega arith };
-    lines = append-nil (before ++ line ∷ []);
-    state = refl;
-  })
+  longer = Begun before line [] Outside;
+  sound = record { passed = all; begins = e; whole = tt; begun = tt; numbers = tt; room = omega arith };
+  lines = append-nil (before ++ line ∷ []);
+  state = refl;
+})
 unbegun_ways before line all (inr (inl p)) = stepped_to (Unbegun before) line (line_of line no_lines) (Next no_lines) (passed_next (says line) p) (record {
-    longer = Unbegun (before ++ line ∷ []);
-    sound = All-pushed (λ l. is_passed (says l) ≡ true) before line all p;
-    lines = refl;
-    state = refl;
-  })
+  longer = Unbegun (before ++ line ∷ []);
+  sound = All-pushed (λ l. is_passed (says l) ≡ true) before line all p;
+  lines = refl;
+  state = refl;
+})
 unbegun_ways before line all (inr (inr f)) = stepped_to (Unbegun before) line (line_of line no_lines) (Fault NoStart) (start_stops (says line) NoStart f) f
 
 -- ---- outside glyphs
@@ -110,11 +110,11 @@ single_longer before start blocks line is single read =
 glyph_longer : (before : List (List ℕ)) (start : List ℕ) (blocks : List Block) (line : List ℕ) → IsBegun before start blocks Outside → says line ≡ keyword.StartChar → length (glyphs_of blocks) < 131072 →
     Goes (Begun before start blocks Outside) line (glyph_at (header_of (font_lines blocks Outside)) (glyphs_of blocks) (draft_of []))
 glyph_longer before start blocks line is begins few = record {
-    longer = Begun before start blocks (InGlyph line []);
-    sound = record { passed = is.passed; begins = is.begins; whole = is.whole; begun = (begins, tt); numbers = is.numbers; room = omega (arith, few) };
-    lines = ap (λ ls. ls ++ line ∷ []) (sym (append-nil (before ++ start ∷ flat_map lines_in blocks)));
-    state = refl;
-  }
+  longer = Begun before start blocks (InGlyph line []);
+  sound = record { passed = is.passed; begins = is.begins; whole = is.whole; begun = (begins, tt); numbers = is.numbers; room = omega (arith, few) };
+  lines = ap (λ ls. ls ++ line ∷ []) (sym (append-nil (before ++ start ∷ flat_map lines_in blocks)));
+  state = refl;
+}
 
 glyph_ways : (before : List (List ℕ)) (start : List ℕ) (blocks : List Block) (line : List ℕ) → IsBegun before start blocks Outside → says line ≡ keyword.StartChar → (full : Bool) → nat_le 131072 (length (glyphs_of blocks)) ≡ full →
     Stepped (Begun before start blocks Outside) line (line_of line (state_of (Begun before start blocks Outside)))
@@ -170,11 +170,11 @@ bitmap_longer : (before : List (List ℕ)) (start : List ℕ) (blocks : List Blo
     says line ≡ keyword.Glyph in_glyph.Bitmap → IsSome (cell_said head) →
     Goes (Begun before start blocks (InGlyph begin head)) line (bitmap_at (header_of (font_lines blocks (InGlyph begin head))) (glyphs_of blocks) (draft_of head) (cell_of head) (cell_of head).h [])
 bitmap_longer before start blocks begin head line is e some = record {
-    longer = Begun before start blocks (InBitmap begin head line []);
-    sound = record { passed = is.passed; begins = is.begins; whole = is.whole; begun = (is.begun.0, is.begun.1, e, some, tt, omega arith); numbers = is.numbers; room = is.room };
-    lines = sym (append_assoc (before ++ start ∷ flat_map lines_in blocks) (begin ∷ head) (line ∷ []));
-    state = ap (λ n. bitmap_at (header_of (font_lines blocks (InGlyph begin head))) (glyphs_of blocks) (draft_of head) (cell_of head) n []) (omega arith);
-  }
+  longer = Begun before start blocks (InBitmap begin head line []);
+  sound = record { passed = is.passed; begins = is.begins; whole = is.whole; begun = (is.begun.0, is.begun.1, e, some, tt, omega arith); numbers = is.numbers; room = is.room };
+  lines = sym (append_assoc (before ++ start ∷ flat_map lines_in blocks) (begin ∷ head) (line ∷ []));
+  state = ap (λ n. bitmap_at (header_of (font_lines blocks (InGlyph begin head))) (glyphs_of blocks) (draft_of head) (cell_of head) n []) (omega arith);
+}
 
 head_ways : (before : List (List ℕ)) (start : List ℕ) (blocks : List Block) (begin : List ℕ) (head : List (List ℕ)) (line : List ℕ) → IsBegun before start blocks (InGlyph begin head) →
     ((is_in_head (says line) ≡ true) × (is_read (open_after false (font_lines blocks (InGlyph begin head))) (says line) (after_word line) ≡ true))
@@ -182,12 +182,12 @@ head_ways : (before : List (List ℕ)) (start : List ℕ) (blocks : List Block) 
     Stepped (Begun before start blocks (InGlyph begin head)) line (line_of line (state_of (Begun before start blocks (InGlyph begin head))))
 head_ways before start blocks begin head line is (inl one) =
     stepped_to (Begun before start blocks (InGlyph begin head)) line (line_of line (state_of (Begun before start blocks (InGlyph begin head))))
-        (Next (glyph_at (header_of (font_lines blocks (InGlyph begin head) ++ line ∷ [])) (glyphs_of blocks) (draft_of (head ++ line ∷ []))))
+    (Next (glyph_at (header_of (font_lines blocks (InGlyph begin head) ++ line ∷ [])) (glyphs_of blocks) (draft_of (head ++ line ∷ []))))
     (head_step line (font_lines blocks (InGlyph begin head)) head (glyphs_of blocks) one.0 one.1)
     (head_longer before start blocks begin head line is one.0 one.1)
 head_ways before start blocks begin head line is (inr (inl one)) =
     stepped_to (Begun before start blocks (InGlyph begin head)) line (line_of line (state_of (Begun before start blocks (InGlyph begin head))))
-        (Next (bitmap_at (header_of (font_lines blocks (InGlyph begin head))) (glyphs_of blocks) (draft_of head) (cell_of head) (cell_of head).h []))
+    (Next (bitmap_at (header_of (font_lines blocks (InGlyph begin head))) (glyphs_of blocks) (draft_of head) (cell_of head) (cell_of head).h []))
     (bitmap_step line (font_lines blocks (InGlyph begin head)) head (glyphs_of blocks) one.0 one.1)
     (bitmap_longer before start blocks begin head line is one.0 one.1)
 head_ways before start blocks begin head line is (inr (inr f)) =
@@ -200,18 +200,18 @@ row_longer : (before : List (List ℕ)) (start : List ℕ) (blocks : List Block)
     length rows < (cell_of head).h → is_row (row_len (cell_of head).w) line ≡ true →
     Goes (Begun before start blocks (InBitmap begin head bitmap rows)) line (state_of (Begun before start blocks (InBitmap begin head bitmap (rows ++ line ∷ []))))
 row_longer before start blocks begin head bitmap rows line is room row = record {
-    longer = Begun before start blocks (InBitmap begin head bitmap (rows ++ line ∷ []));
-    sound = record {
-      passed = is.passed;
-      begins = is.begins;
-      whole = is.whole;
-      begun = (is.begun.0, is.begun.1, is.begun.2, is.begun.3, All-pushed (λ l. is_row (row_len (cell_of head).w) l ≡ true) rows line is.begun.4 row, omega (arith, length-append rows (line ∷ []), room));
-      numbers = is.numbers;
-      room = is.room;
-    };
-    lines = simp append_assoc;
-    state = refl;
-  }
+  longer = Begun before start blocks (InBitmap begin head bitmap (rows ++ line ∷ []));
+  sound = record {
+    passed = is.passed;
+    begins = is.begins;
+    whole = is.whole;
+    begun = (is.begun.0, is.begun.1, is.begun.2, is.begun.3, All-pushed (λ l. is_row (row_len (cell_of head).w) l ≡ true) rows line is.begun.4 row, omega (arith, length-append rows (line ∷ []), room));
+    numbers = is.numbers;
+    room = is.room;
+  };
+  lines = simp append_assoc;
+  state = refl;
+}
 
 -- the glyph that ends
 abbrev ended_block : List ℕ → List (List ℕ) → List ℕ → List (List ℕ) → List ℕ → Block
@@ -257,7 +257,7 @@ bitmap_ways before start blocks begin head bitmap rows line is true row o r (inl
     let high : length rows ≡ (cell_of head).h = grind (arith, nat_tests) in
     let part = InBitmap begin head bitmap rows in
     stepped_to (Begun before start blocks part) line (line_of line (state_of (Begun before start blocks part)))
-        (Next (outside_at (header_of (font_lines blocks part)) (glyphs_of blocks ++ glyph_in head rows ∷ [])))
+    (Next (outside_at (header_of (font_lines blocks part)) (glyphs_of blocks ++ glyph_in head rows ∷ [])))
     (end_next line (header_of (font_lines blocks part)) (glyphs_of blocks) head ((cell_of head).h - length rows) rows (omega (arith, high)) e)
     (end_longer before start blocks begin head bitmap rows line is high e)
 bitmap_ways before start blocks begin head bitmap rows line is true row o r (inr f) =
@@ -271,7 +271,7 @@ bitmap_ways before start blocks begin head bitmap rows line is false true o r wa
     let room : length rows < (cell_of head).h = omega (arith, other, is.begun.5) in
     let part = InBitmap begin head bitmap rows in
     stepped_to (Begun before start blocks part) line (line_of line (state_of (Begun before start blocks part)))
-        (Next (state_of (Begun before start blocks (InBitmap begin head bitmap (rows ++ line ∷ [])))))
+    (Next (state_of (Begun before start blocks (InBitmap begin head bitmap (rows ++ line ∷ [])))))
     (row_step line (header_of (font_lines blocks part)) (glyphs_of blocks) (draft_of head) (cell_of head) rows room r)
     (row_longer before start blocks begin head bitmap rows line is room r)
 bitmap_ways before start blocks begin head bitmap rows line is false false o r way =
@@ -307,29 +307,29 @@ goes_on front line lines next g again =
 
 ends_here : (front : Front) (line : List ℕ) (lines : List (List ℕ)) (last : Reading) → IsFront front → Ends front line last → IsAnswer (front_lines front ++ line ∷ lines) (Ok (font_made last.header last.glyphs))
 ends_here front line lines last is e = record {
-    before = e.before;
-    start = e.start;
-    blocks = e.blocks;
-    end = line;
-    after = lines;
-    spelled = ap (λ f. front_lines f ++ line ∷ lines) e.is;
-    sound = subst IsFront e.is is;
-    ended = e.ended;
-    said = ap (λ (r : Reading). font_made r.header r.glyphs) e.state;
-  }
+  before = e.before;
+  start = e.start;
+  blocks = e.blocks;
+  end = line;
+  after = lines;
+  spelled = ap (λ f. front_lines f ++ line ∷ lines) e.is;
+  sound = subst IsFront e.is is;
+  ended = e.ended;
+  said = ap (λ (r : Reading). font_made r.header r.glyphs) e.state;
+}
 
 fills_here : (front : Front) (line : List ℕ) (lines : List (List ℕ)) → IsFront front → Fills front line → HasTooMany (front_lines front ++ line ∷ lines)
 fills_here front line lines is e = record {
-    before = e.before;
-    start = e.start;
-    blocks = e.blocks;
-    line = line;
-    after = lines;
-    spelled = ap (λ f. front_lines f ++ line ∷ lines) e.is;
-    sound = subst IsFront e.is is;
-    full = e.full;
-    begins = e.begins;
-  }
+  before = e.before;
+  start = e.start;
+  blocks = e.blocks;
+  line = line;
+  after = lines;
+  spelled = ap (λ f. front_lines f ++ line ∷ lines) e.is;
+  sound = subst IsFront e.is is;
+  full = e.full;
+  begins = e.begins;
+}
 
 pub answered : (lines : List (List ℕ)) (front : Front) → IsFront front → IsAnswer (front_lines front ++ lines) (lines_read (1 + length (front_lines front)) lines (state_of front))
 answered [] front is =

@@ -62,8 +62,8 @@ reach_head (x ∷ xs) lines head glyphs all numbers =
     let rest = reach_head xs (lines ++ x ∷ []) (head ++ x ∷ []) glyphs all.1 more in
     let there = glyph_at (header_of ((lines ++ x ∷ []) ++ xs)) glyphs (draft_of ((head ++ x ∷ []) ++ xs)) in
     let same : there ≡ glyph_at (header_of (lines ++ x ∷ xs)) glyphs (draft_of (head ++ x ∷ xs)) =
-        ap (λ ls. glyph_at (header_of ls) glyphs (draft_of ((head ++ x ∷ []) ++ xs))) (append_assoc lines (x ∷ []) xs)
-        ∙ ap (λ ls. glyph_at (header_of (lines ++ x ∷ xs)) glyphs (draft_of ls)) (append_assoc head (x ∷ []) xs) in
+    ap (λ ls. glyph_at (header_of ls) glyphs (draft_of ((head ++ x ∷ []) ++ xs))) (append_assoc lines (x ∷ []) xs)
+    ∙ ap (λ ls. glyph_at (header_of (lines ++ x ∷ xs)) glyphs (draft_of ls)) (append_assoc head (x ∷ []) xs) in
     reach_to (x ∷ xs) (glyph_at (header_of lines) glyphs (draft_of head)) there (glyph_at (header_of (lines ++ x ∷ xs)) glyphs (draft_of (head ++ x ∷ xs))) same
     (reach_more x xs (glyph_at (header_of lines) glyphs (draft_of head)) (glyph_at (header_of (lines ++ x ∷ [])) glyphs (draft_of (head ++ x ∷ []))) there (head_step x lines head glyphs all.0 numbers.0) rest)
 
@@ -76,7 +76,7 @@ reach_rows (x ∷ xs) h glyphs d cell rows all room =
     let rest = reach_rows xs h glyphs d cell (rows ++ x ∷ []) all.1 (omega (arith, length-append rows (x ∷ []))) in
     let there = bitmap_at h glyphs d cell (cell.h - length ((rows ++ x ∷ []) ++ xs)) ((rows ++ x ∷ []) ++ xs) in
     let same : there ≡ bitmap_at h glyphs d cell (cell.h - length (rows ++ x ∷ xs)) (rows ++ x ∷ xs) =
-        ap (λ ls. bitmap_at h glyphs d cell (cell.h - length ls) ls) (append_assoc rows (x ∷ []) xs) in
+    ap (λ ls. bitmap_at h glyphs d cell (cell.h - length ls) ls) (append_assoc rows (x ∷ []) xs) in
     reach_to (x ∷ xs) (bitmap_at h glyphs d cell (cell.h - length rows) rows) there (bitmap_at h glyphs d cell (cell.h - length (rows ++ x ∷ xs)) (rows ++ x ∷ xs)) same
     (reach_more x xs (bitmap_at h glyphs d cell (cell.h - length rows) rows) (bitmap_at h glyphs d cell (cell.h - length (rows ++ x ∷ [])) (rows ++ x ∷ [])) there (row_step x h glyphs d cell rows (omega arith) all.0) rest)
 
@@ -84,8 +84,8 @@ reach_begun : (start : List ℕ) (head lines : List (List ℕ)) (glyphs : List F
     Reaches (start ∷ head) (outside_at (header_of lines) glyphs) (glyph_at (header_of (lines ++ head)) glyphs (draft_of head))
 reach_begun start head lines glyphs is numbers room =
     reach_more start head (outside_at (header_of lines) glyphs) (glyph_at (header_of lines) glyphs (draft_of [])) (glyph_at (header_of (lines ++ head)) glyphs (draft_of head))
-        (glyph_next (says start) (after_word start) (header_of lines) glyphs is.0 room)
-        (reach_head head lines [] glyphs is.1 numbers)
+    (glyph_next (says start) (after_word start) (header_of lines) glyphs is.0 room)
+    (reach_head head lines [] glyphs is.1 numbers)
 
 -- what is begun, behind these lines and glyphs
 reach_part : (part : Open) (lines : List (List ℕ)) (glyphs : List FontGlyph) → IsOpen part → AllRead (open_after false lines) (head_of part) → length glyphs + begun_in part ≤ 131072 →
@@ -97,10 +97,10 @@ reach_part (InGlyph start head) lines glyphs is numbers room = reach_begun start
 reach_part (InBitmap start head bitmap rows) lines glyphs is numbers room =
     let middle = glyph_at (header_of (lines ++ head)) glyphs (draft_of head) in
     reach_then (start ∷ head) (bitmap ∷ rows) (outside_at (header_of lines) glyphs) middle (state_in (lines ++ head) glyphs (InBitmap start head bitmap rows))
-        (reach_begun start head lines glyphs (is.0, is.1) numbers (omega arith))
-        (reach_more bitmap rows middle (bitmap_at (header_of (lines ++ head)) glyphs (draft_of head) (cell_of head) ((cell_of head).h - 0) []) (state_in (lines ++ head) glyphs (InBitmap start head bitmap rows))
-            (bitmap_step bitmap (lines ++ head) head glyphs is.2 is.3 ∙ ap (λ n. Next (bitmap_at (header_of (lines ++ head)) glyphs (draft_of head) (cell_of head) n [])) (omega arith))
-            (reach_rows rows (header_of (lines ++ head)) glyphs (draft_of head) (cell_of head) [] is.4 (omega (arith, is.5))))
+    (reach_begun start head lines glyphs (is.0, is.1) numbers (omega arith))
+    (reach_more bitmap rows middle (bitmap_at (header_of (lines ++ head)) glyphs (draft_of head) (cell_of head) ((cell_of head).h - 0) []) (state_in (lines ++ head) glyphs (InBitmap start head bitmap rows))
+    (bitmap_step bitmap (lines ++ head) head glyphs is.2 is.3 ∙ ap (λ n. Next (bitmap_at (header_of (lines ++ head)) glyphs (draft_of head) (cell_of head) n [])) (omega arith))
+    (reach_rows rows (header_of (lines ++ head)) glyphs (draft_of head) (cell_of head) [] is.4 (omega (arith, is.5))))
 
 reach_block : (block : Block) (lines : List (List ℕ)) (glyphs : List FontGlyph) → IsBlock block → AllRead (open_after false lines) (font_lines_in block) → length glyphs + length (glyphs_in block) ≤ 131072 →
     Reaches (lines_in block) (outside_at (header_of lines) glyphs) (outside_at (header_of (lines ++ font_lines_in block)) (glyphs ++ glyphs_in block))
@@ -112,9 +112,9 @@ reach_block (Glyph g) lines glyphs is numbers room =
     let part = InBitmap g.start g.head g.bitmap g.rows in
     let middle = state_in (lines ++ g.head) glyphs part in
     reach_then (open_lines part) (g.end ∷ []) (outside_at (header_of lines) glyphs) middle (outside_at (header_of (lines ++ g.head)) (glyphs ++ glyphs_in (Glyph g)))
-        (reach_part part lines glyphs (is.start, is.head, is.bitmap, is.cell, is.rows, omega (arith, is.high)) numbers room)
-        (reach_one g.end middle (outside_at (header_of (lines ++ g.head)) (glyphs ++ glyphs_in (Glyph g)))
-            (end_next g.end (header_of (lines ++ g.head)) glyphs g.head ((cell_of g.head).h - length g.rows) g.rows (omega (arith, is.high)) is.end))
+    (reach_part part lines glyphs (is.start, is.head, is.bitmap, is.cell, is.rows, omega (arith, is.high)) numbers room)
+    (reach_one g.end middle (outside_at (header_of (lines ++ g.head)) (glyphs ++ glyphs_in (Glyph g)))
+    (end_next g.end (header_of (lines ++ g.head)) glyphs g.head ((cell_of g.head).h - length g.rows) g.rows (omega (arith, is.high)) is.end))
 
 reach_blocks : (blocks : List Block) (lines : List (List ℕ)) (glyphs : List FontGlyph) → AllByRecursion IsBlock blocks → AllRead (open_after false lines) (flat_map font_lines_in blocks) → length glyphs + length (glyphs_of blocks) ≤ 131072 →
     Reaches (flat_map lines_in blocks) (outside_at (header_of lines) glyphs) (outside_at (header_of (lines ++ flat_map font_lines_in blocks)) (glyphs ++ glyphs_of blocks))
@@ -131,11 +131,11 @@ reach_blocks (block ∷ blocks) lines glyphs all numbers room =
     let there = outside_at (header_of (lines' ++ flat_map font_lines_in blocks)) (glyphs' ++ glyphs_of blocks) in
     let goal = outside_at (header_of (lines ++ flat_map font_lines_in (block ∷ blocks))) (glyphs ++ glyphs_of (block ∷ blocks)) in
     let same : there ≡ goal =
-        ap (λ ls. outside_at (header_of ls) (glyphs' ++ glyphs_of blocks)) (append_assoc lines (font_lines_in block) (flat_map font_lines_in blocks))
-        ∙ ap (λ gs. outside_at (header_of (lines ++ flat_map font_lines_in (block ∷ blocks))) gs) (append_assoc glyphs (glyphs_in block) (glyphs_of blocks)) in
+    ap (λ ls. outside_at (header_of ls) (glyphs' ++ glyphs_of blocks)) (append_assoc lines (font_lines_in block) (flat_map font_lines_in blocks))
+    ∙ ap (λ gs. outside_at (header_of (lines ++ flat_map font_lines_in (block ∷ blocks))) gs) (append_assoc glyphs (glyphs_in block) (glyphs_of blocks)) in
     reach_to (flat_map lines_in (block ∷ blocks)) (outside_at (header_of lines) glyphs) there goal same
     (reach_then (lines_in block) (flat_map lines_in blocks) (outside_at (header_of lines) glyphs) (outside_at (header_of lines') glyphs') there
-        (reach_block block lines glyphs all.0 split.0 (omega (arith, long))) rest)
+    (reach_block block lines glyphs all.0 split.0 (omega (arith, long))) rest)
 
 pub reach_front : (front : Front) → IsFront front → Reaches (front_lines front) no_lines (state_of front)
 reach_front (Unbegun before) is = reach_passed before is
@@ -144,11 +144,11 @@ reach_front (Begun before start blocks part) is =
     let first = outside_at (header_of []) [] in
     let middle = outside_at (header_of (flat_map font_lines_in blocks)) (glyphs_of blocks) in
     reach_then (before ++ start ∷ flat_map lines_in blocks) (open_lines part) no_lines middle (state_of (Begun before start blocks part))
-        (reach_then before (start ∷ flat_map lines_in blocks) no_lines no_lines middle
-            (reach_passed before is.passed)
-            (reach_more start (flat_map lines_in blocks) no_lines first middle (start_next (says start) is.begins)
-                (reach_blocks blocks [] [] is.whole split.0 (omega (arith, is.room)))))
-        (reach_part part (flat_map font_lines_in blocks) (glyphs_of blocks) is.begun split.1 is.room)
+    (reach_then before (start ∷ flat_map lines_in blocks) no_lines no_lines middle
+    (reach_passed before is.passed)
+    (reach_more start (flat_map lines_in blocks) no_lines first middle (start_next (says start) is.begins)
+    (reach_blocks blocks [] [] is.whole split.0 (omega (arith, is.room)))))
+    (reach_part part (flat_map font_lines_in blocks) (glyphs_of blocks) is.begun split.1 is.room)
 
 -- where a line leaves the format, the reader stops so
 pub front_stops : (front : Front) (line : List ℕ) (cause : FontCause) → IsFront front → fault_after front line ≡ Some cause → line_of line (state_of front) ≡ Fault cause

@@ -2,7 +2,8 @@
 use Rattle.std.proofs.Common.{◌≡◌, ℕ, List, [], ◌∷◌, ◌++◌, Bool, true, false, cond, Option, Some, None, unwrap_or, is_some, not, ◌||◌, refl, ap, sym, ◌∙◌, ℤ, pos, negsuc}
 use Rattle.std.specs.Option.{option_or}
 use Rattle.std.specs.List.{AllByRecursion}
-use Rattle.bdf_font.specs.Words.{first_word, after_word, trimmed, whole_of, offset_of, bounding_box_of, family_name_of}
+use Rattle.bdf_font.specs.Words.{first_word, after_word, trimmed, offset_of, bounding_box_of, family_name_of}
+use Rattle.bdf_font.specs.Whole.{whole_of}
 use Rattle.bdf_font.specs.declared.header.Header.{Header}
 use Rattle.bdf_font.specs.declared.reading.Draft.{Draft}
 use Rattle.bdf_font.specs.declared.cause.FontCause.TheVariants.{BadNumber}
@@ -116,14 +117,14 @@ abbrev property_at : Bool → PropertyKeyword → List ℕ → Header → Outcom
 property_at on kind rest h = cond on (property_line kind rest h) (Next h)
 
 property_read : (kind : PropertyKeyword) (rest : List ℕ) (on : Bool) (h : Header) → is_read on (keyword.Header (in_header.Property kind)) rest ≡ true → property_at on kind rest h ≡ Next (record {
-    properties = h.properties;
-    title = h.title;
-    family = option_or (family_in on (keyword.Header (in_header.Property kind)) rest) h.family;
-    bounding_box = h.bounding_box;
-    ascent = option_or (ascent_in on (keyword.Header (in_header.Property kind)) rest) h.ascent;
-    descent = option_or (descent_in on (keyword.Header (in_header.Property kind)) rest) h.descent;
-    default_char = option_or (default_in on (keyword.Header (in_header.Property kind)) rest) h.default_char;
-  })
+  properties = h.properties;
+  title = h.title;
+  family = option_or (family_in on (keyword.Header (in_header.Property kind)) rest) h.family;
+  bounding_box = h.bounding_box;
+  ascent = option_or (ascent_in on (keyword.Header (in_header.Property kind)) rest) h.ascent;
+  descent = option_or (descent_in on (keyword.Header (in_header.Property kind)) rest) h.descent;
+  default_char = option_or (default_in on (keyword.Header (in_header.Property kind)) rest) h.default_char;
+})
 property_read property.Ascent rest true h r = number_read (offset_of (first_word rest)) _ (λ o. record h { ascent = option_or o h.ascent }) (λ n. refl) r
 property_read property.Descent rest true h r = number_read (offset_of (first_word rest)) _ (λ o. record h { descent = option_or o h.descent }) (λ n. refl) r
 property_read property.DefaultChar rest true h r = number_read (whole_of (first_word rest)) _ (λ o. record h { default_char = option_or o h.default_char }) (λ n. refl) r

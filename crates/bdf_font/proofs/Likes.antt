@@ -35,10 +35,10 @@ last_same : {V : Type 0} (f : List ℕ → Option V) (front : List (List ℕ)) (
     last_given f (front ++ earlier ∷ mid ++ later ∷ back) ≡ last_given f (front ++ mid ++ later ∷ back)
 last_same f front earlier mid later back (inl none) =
     let without : last_given f (front ++ earlier ∷ mid) ≡ last_given f (front ++ mid) =
-        last_given-append f front (earlier ∷ mid)
-        ∙ (ap (λ o. option_or (option_or (last_given f mid) o) (last_given f front)) none
-        ∙ (ap (λ o. option_or o (last_given f front)) (or_none (last_given f mid))
-        ∙ sym (last_given-append f front mid))) in
+    last_given-append f front (earlier ∷ mid)
+    ∙ (ap (λ o. option_or (option_or (last_given f mid) o) (last_given f front)) none
+    ∙ (ap (λ o. option_or o (last_given f front)) (or_none (last_given f mid))
+    ∙ sym (last_given-append f front mid))) in
     last_given-append f (front ++ earlier ∷ mid) (later ∷ back)
     ∙ (ap (option_or (last_given f (later ∷ back))) without
     ∙ sym (last_given-append f (front ++ mid) (later ∷ back)))
@@ -59,11 +59,11 @@ property_same : {V : Type 0} (f : Bool → List ℕ → Option V) (front : List 
 property_same f front earlier mid later back still (inl none) =
     let on = open_after false front in
     let without : last_property f false (front ++ earlier ∷ mid) ≡ last_property f false (front ++ mid) =
-        last_property-append f false front (earlier ∷ mid)
-        ∙ (ap (λ o. option_or (option_or (last_property f (switched (says earlier) on) mid) o) (last_property f false front)) (none on)
-        ∙ (ap (λ o. option_or o (last_property f false front)) (or_none (last_property f (switched (says earlier) on) mid))
-        ∙ (ap (λ b. option_or (last_property f b mid) (last_property f false front)) (still on)
-        ∙ sym (last_property-append f false front mid)))) in
+    last_property-append f false front (earlier ∷ mid)
+    ∙ (ap (λ o. option_or (option_or (last_property f (switched (says earlier) on) mid) o) (last_property f false front)) (none on)
+    ∙ (ap (λ o. option_or o (last_property f false front)) (or_none (last_property f (switched (says earlier) on) mid))
+    ∙ (ap (λ b. option_or (last_property f b mid) (last_property f false front)) (still on)
+    ∙ sym (last_property-append f false front mid)))) in
     last_property-append f false (front ++ earlier ∷ mid) (later ∷ back)
     ∙ (ap (λ o. option_or (last_property f (open_after false (front ++ earlier ∷ mid)) (later ∷ back)) o) without
     ∙ (ap (λ b. option_or (last_property f b (later ∷ back)) (last_property f false (front ++ mid))) (open_without front earlier mid still)

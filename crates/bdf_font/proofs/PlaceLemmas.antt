@@ -119,7 +119,7 @@ pub first_at-there : (entries : List (ℤ × ℕ)) (code : ℤ) (at : ℕ) (d : 
     (get_or entries at d).0 ≤ℤ code → first_at code entries ≡ Some (get_or entries at d).1
 first_at-there entries code at d room point le =
     found_at (first_at code) (λ entry. int_eq entry.0 code) (λ entry. Some entry.1) None refl (λ entry rest. refl) entries at d room
-        (λ k less. eq_below (get_or entries k d).0 code (point.0 k d (omega arith) less)) (meets (get_or entries at d).0 code (point.1 at d (le_refl at) room) le)
+    (λ k less. eq_below (get_or entries k d).0 code (point.0 k d (omega arith) less)) (meets (get_or entries at d).0 code (point.1 at d (le_refl at) room) le)
 
 -- where it doesn't
 pub first_at-nowhere : (entries : List (ℤ × ℕ)) (code : ℤ) (at : ℕ) (d : ℤ × ℕ) → IsInOrder entries → IsPartitionPoint (λ entry. int_lt entry.0 code ≡ true) (λ entry. int_lt entry.0 code ≡ false) entries at →

@@ -244,9 +244,11 @@ bitmap_stops line h glyphs d cell rows cause within f = cases (length rows == ce
   where
     before : Reading
     before = bitmap_at h glyphs d cell (cell.h - length rows) rows
+
     row_cases : (b : Bool) → is_row (row_len cell.w) line ≡ b → cond b None (Some BadRow) ≡ Some cause → row_line cell (cell.h - length rows - 1) (trimmed line) (bitmap_at h glyphs d cell (cell.h - length rows) rows) ≡ Fault cause
     row_cases true e f = absurd cc
     row_cases false e f = row_refused cell (cell.h - length rows - 1) (row_len cell.w) line (bitmap_at h glyphs d cell (cell.h - length rows) rows) e ∙ cc
+
     cases : (b : Bool) → (length rows == cell.h) ≡ b → cond b (after_rows_fault (says line)) (cond (is_row (row_len cell.w) line) None (Some BadRow)) ≡ Some cause →
         bitmap_line cell (cell.h - length rows) line (bitmap_at h glyphs d cell (cell.h - length rows) rows) ≡ Fault cause
     cases true e f =

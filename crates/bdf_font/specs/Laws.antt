@@ -10,7 +10,8 @@ use Rattle.bdf_font.specs.declared.keyword.Keyword.TheVariants as keyword
 use Rattle.bdf_font.specs.declared.keyword.GlyphKeyword.{GlyphKeyword}
 use Rattle.bdf_font.specs.declared.keyword.HeaderKeyword.TheVariants as in_header
 use Rattle.bdf_font.specs.declared.keyword.PropertyKeyword.{PropertyKeyword}
-use Rattle.bdf_font.specs.Words.{after_word, whole_of}
+use Rattle.bdf_font.specs.Words.{after_word}
+use Rattle.bdf_font.specs.Whole.{whole_of}
 use Rattle.bdf_font.specs.Fonts.{PlainFont}
 use Rattle.bdf_font.specs.Grammar.{IsAnswer, says, is_read, open_after, glyph_in, font_said}
 
@@ -41,9 +42,9 @@ LaterGlyphLineCounts = (kind : GlyphKeyword) (front : List (List ℕ)) (earlier 
 abbrev pub LaterFontLineCounts : Type 0
 LaterFontLineCounts = (front : List (List ℕ)) (earlier : List ℕ) (mid : List (List ℕ)) (later : List ℕ) (back : List (List ℕ)) (glyphs : List FontGlyph) →
     (says earlier ≡ keyword.Header in_header.Name → says later ≡ keyword.Header in_header.Name →
-        font_said (front ++ earlier ∷ mid ++ later ∷ back) glyphs ≡ font_said (front ++ mid ++ later ∷ back) glyphs)
+    font_said (front ++ earlier ∷ mid ++ later ∷ back) glyphs ≡ font_said (front ++ mid ++ later ∷ back) glyphs)
     × (says earlier ≡ keyword.Header in_header.Box → says later ≡ keyword.Header in_header.Box → is_read true (keyword.Header in_header.Box) (after_word later) ≡ true →
-        font_said (front ++ earlier ∷ mid ++ later ∷ back) glyphs ≡ font_said (front ++ mid ++ later ∷ back) glyphs)
+    font_said (front ++ earlier ∷ mid ++ later ∷ back) glyphs ≡ font_said (front ++ mid ++ later ∷ back) glyphs)
 
 -- The same of two lines of a property, of which the later stands between the property lines.
 abbrev pub LaterPropertyCounts : Type 0

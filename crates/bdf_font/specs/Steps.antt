@@ -2,7 +2,8 @@
 use Rattle.std.specs.Prelude.{◌≡◌, ℕ, ◌+◌, ◌-◌, ◌*◌, ◌/◌, ◌==◌, ◌⊎◌, nat_le, Bool, true, false, if◌then◌else◌, List, [], ◌∷◌, ◌++◌, length, take, drop, map, Option, Some, None, unwrap_or, Result, Ok, Err, ℤ, pos, negsuc, neg_ℤ, ◌+ℤ◌}
 use Rattle.hex.specs.Hex.{decode_sized}
 use Rattle.hex.specs.declared.error.FromHexError.{FromHexError}
-use Rattle.bdf_font.specs.Words.{first_word, after_word, trimmed, whole_of, offset_of, bounding_box_of, family_name_of}
+use Rattle.bdf_font.specs.Words.{first_word, after_word, trimmed, offset_of, bounding_box_of, family_name_of}
+use Rattle.bdf_font.specs.Whole.{whole_of}
 use Rattle.bdf_font.specs.Keywords.{keyword_of}
 use Rattle.bdf_font.specs.Fonts.{PlainFont}
 use Rattle.bdf_font.specs.Grammar.{from_zero, box_top, box_depth}

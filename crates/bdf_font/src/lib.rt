@@ -12,6 +12,7 @@ mod read;
 mod reading;
 #[cfg(test)]
 mod tests;
+mod whole;
 mod words;
 
 pub use cause::{FontCause, FontRefusal};

@@ -3,7 +3,8 @@
 ghost use Rattle.std.specs.Prelude.{◌≡◌, ◌≢◌, ◌⊎◌, ◌≤◌, length, IfOk, Result, Err};
 ghost use Rattle.bdf_font.specs.Ranges.{IsFont, IsReading, Keeps};
 ghost use Rattle.bdf_font.specs.Fonts.{PlainFont};
-ghost use Rattle.bdf_font.specs.Grammar.{IsAnswer, text_lines};
+ghost use Rattle.bdf_font.specs.Grammar.{IsAnswer};
+ghost use Rattle.bdf_font.specs.Lines.{text_lines};
 ghost use Rattle.bdf_font.specs.Steps.{Answered};
 
 use crate::cause::{FontCause, FontRefusal, Stop};

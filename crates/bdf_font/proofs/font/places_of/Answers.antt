@@ -10,4 +10,4 @@ returns c =
     let sorted = c.in_ok-sort_by_key.ensures.sorted (λ entry. entry.0) (answers_always _ _ _ (λ f a r g called. search rules)) in
     let stable = c.sort_by_key.ensures.stable (λ entry. entry.0) (answers_always _ _ _ (λ f a r g called. search rules)) in
     index_sorted c.args.glyphs.now c.sort_by_key.new.self.items sorted
-        (subst (λ entries. IsStableByKey (λ entry. entry.0) int_cmp entries c.sort_by_key.new.self.items) c.in_ok-places.ensures stable)
+    (subst (λ entries. IsStableByKey (λ entry. entry.0) int_cmp entries c.sort_by_key.new.self.items) c.in_ok-places.ensures stable)

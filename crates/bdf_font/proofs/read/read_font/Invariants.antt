@@ -1,5 +1,5 @@
 use Rattle.std.proofs.Common.{◌≡◌, ◌+◌, ◌≤◌, length}
-use Rattle.bdf_font.specs.Grammar.{text_lines}
+use Rattle.bdf_font.specs.Lines.{text_lines}
 use Rattle.bdf_font.specs.Steps.{no_lines}
 use Rattle.bdf_font.specs.Ranges.{IsReading}
 use Rattle.bdf_font.proofs.Walk.{lines_read}
