@@ -18,7 +18,8 @@ use Rattle.bdf_font.specs.declared.reading.Reading.{Reading}
 use Rattle.bdf_font.specs.declared.keyword.Keyword.TheVariants as keyword
 use Rattle.bdf_font.specs.declared.keyword.GlyphKeyword.TheVariants as in_glyph
 use Rattle.bdf_font.specs.Grammar.{Block, Single, Glyph, GlyphBlock, Open, Outside, InGlyph, InBitmap, Front, Unbegun, Begun, says, is_passed, is_single, is_in_head, is_read, is_row, row_len, open_after, lines_in, open_lines, front_lines, font_lines_in, head_of, font_lines, glyphs_in, glyphs_of, glyph_in, cell_of, cell_said, AllRead, ArePassed, AreInHead, AreRows, IsBlock, IsGlyphBlock, IsOpen, IsBegun, IsFront, begun_in, start_fault, single_fault, head_fault, bitmap_fault, after_rows_fault, fault_after, font_said, IsFontText, LeavesAt, LacksEnd, HasTooMany, IsAnswer}
-use Rattle.bdf_font.specs.Steps.{Outcome, Next, End, Fault, Full, no_lines, line_of, font_line, font_made}
+use Rattle.bdf_font.specs.Rows.{Outcome, Next, End, Fault, Full}
+use Rattle.bdf_font.specs.Steps.{no_lines, line_of, font_line, font_made}
 use Rattle.bdf_font.proofs.Walk.{lines_read, after_line, read_at, read_none}
 use Rattle.bdf_font.proofs.Given.{header_of, draft_of, AllRead-push, All-pushed}
 use Rattle.bdf_font.proofs.States.{outside_at, glyph_at, bitmap_at, state_in, state_of, passed_next, start_next, start_stops, glyph_next, full_stops, state_stops, head_stops, bitmap_stops, single_step, head_step, bitmap_step, row_step, end_next, start_cases, single_cases, head_cases, after_rows_cases}

@@ -6,7 +6,8 @@ use Rattle.bdf_font.specs.declared.cause.FontRefusal.{FontRefusal}
 use Rattle.bdf_font.specs.declared.cause.FontRefusal.TheVariants.{BadFont, TooLarge}
 use Rattle.bdf_font.specs.declared.reading.Reading.{Reading}
 use Rattle.bdf_font.specs.Fonts.{PlainFont}
-use Rattle.bdf_font.specs.Steps.{Outcome, Next, End, Fault, Full, font_made, line_of}
+use Rattle.bdf_font.specs.Rows.{Outcome, Next, End, Fault, Full}
+use Rattle.bdf_font.specs.Steps.{font_made, line_of}
 use Rattle.bdf_font.proofs.Walk.{lines_read, after_line, read_none, read_at}
 
 abbrev Said : Type 0

@@ -9,7 +9,8 @@ use Rattle.bdf_font.specs.declared.header.Header.{Header}
 use Rattle.bdf_font.specs.declared.reading.Reading.{Reading}
 use Rattle.bdf_font.specs.declared.reading.Draft.{Draft}
 use Rattle.bdf_font.specs.Grammar.{Block, Single, Glyph, GlyphBlock, Open, Outside, InGlyph, InBitmap, Front, Unbegun, Begun, says, is_passed, is_read, is_in_head, is_row, switched, open_after, lines_in, open_lines, front_lines, font_lines_in, head_of, font_lines, glyphs_in, glyphs_of, cell_of, row_len, AllRead, ArePassed, AreInHead, AreRows, IsBlock, IsGlyphBlock, IsOpen, IsBegun, IsFront, begun_in, fault_after}
-use Rattle.bdf_font.specs.Steps.{Outcome, Next, Fault, no_lines, line_of}
+use Rattle.bdf_font.specs.Rows.{Outcome, Next, Fault}
+use Rattle.bdf_font.specs.Steps.{no_lines, line_of}
 use Rattle.bdf_font.proofs.Walk.{lines_read, read_at}
 use Rattle.bdf_font.proofs.Given.{header_of, draft_of, open_after-push}
 use Rattle.bdf_font.proofs.States.{outside_at, glyph_at, bitmap_at, state_in, state_of, passed_next, start_next, glyph_next, start_stops, head_stops, bitmap_stops, state_stops, single_step, head_step, bitmap_step, row_step, end_next}

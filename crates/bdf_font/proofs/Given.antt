@@ -16,7 +16,8 @@ use Rattle.bdf_font.specs.declared.keyword.GlyphKeyword.TheVariants as in_glyph
 use Rattle.bdf_font.specs.declared.keyword.HeaderKeyword.TheVariants as in_header
 use Rattle.bdf_font.specs.declared.keyword.PropertyKeyword.TheVariants as property
 use Rattle.bdf_font.specs.Grammar.{says, given, last_given, last_property, switched, open_after, title_in, box_in, family_in, ascent_in, descent_in, default_in, code_in, advance_in, cell_in, is_read, AllRead}
-use Rattle.bdf_font.specs.Steps.{Outcome, Next, Fault, with_number, header_line, property_line, draft_line}
+use Rattle.bdf_font.specs.Rows.{Outcome, Next, Fault}
+use Rattle.bdf_font.specs.Steps.{with_number, header_line, property_line, draft_line}
 
 -- ---- options
 

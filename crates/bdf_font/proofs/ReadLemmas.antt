@@ -7,7 +7,8 @@ use Rattle.bdf_font.specs.declared.cause.FontRefusal.TheVariants as refusal
 use Rattle.bdf_font.specs.declared.reading.Reading.{Reading}
 use Rattle.bdf_font.specs.Fonts.{PlainFont}
 use Rattle.bdf_font.specs.Grammar.{IsAnswer}
-use Rattle.bdf_font.specs.Steps.{Gives, Answered, Next, no_lines, line_of}
+use Rattle.bdf_font.specs.Rows.{Gives, Next}
+use Rattle.bdf_font.specs.Steps.{Answered, no_lines, line_of}
 use Rattle.bdf_font.proofs.Walk.{lines_read, after_line, read_line}
 use Rattle.bdf_font.proofs.Answering.{one_answer, read_answer}
 

@@ -26,7 +26,8 @@ use Rattle.bdf_font.specs.declared.keyword.Keyword.TheVariants as keyword
 use Rattle.bdf_font.specs.declared.keyword.GlyphKeyword.TheVariants as in_glyph
 use Rattle.bdf_font.specs.declared.keyword.HeaderKeyword.TheVariants as in_header
 use Rattle.bdf_font.specs.Grammar.{Open, Outside, InGlyph, InBitmap, Front, Unbegun, Begun, Block, says, is_read, is_passed, is_single, is_in_head, is_row, row_bytes, row_len, bytes_or_none, cell_said, cell_of, no_cell, glyph_in, glyphs_of, font_lines, open_after, start_fault, single_fault, head_fault, number_fault, after_rows_fault, bitmap_fault, fault_after}
-use Rattle.bdf_font.specs.Steps.{Outcome, Next, End, Fault, Full, outcome_map, no_lines, no_header, no_glyph, first_line, font_line, glyph_line, bitmap_line, bitmap_begun, with_row, row_line, after_rows, line_of, header_line, draft_line, made_glyph, advance_or}
+use Rattle.bdf_font.specs.Rows.{Outcome, Next, End, Fault, Full, outcome_map}
+use Rattle.bdf_font.specs.Steps.{no_lines, no_header, no_glyph, first_line, font_line, glyph_line, bitmap_line, bitmap_begun, with_row, row_line, after_rows, line_of, header_line, draft_line, made_glyph, advance_or}
 use Rattle.bdf_font.proofs.Given.{header_of, draft_of, header_with, draft_with, header_of-push, draft_of-push, header_read, header_unread, encoding_read, width_read, cell_read, encoding_unread, width_unread, cell_unread}
 
 -- ---- states

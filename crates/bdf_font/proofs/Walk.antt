@@ -5,7 +5,8 @@ use Rattle.bdf_font.specs.declared.cause.FontRefusal.{FontRefusal}
 use Rattle.bdf_font.specs.declared.cause.FontRefusal.TheVariants.{BadFont, TooLarge}
 use Rattle.bdf_font.specs.declared.reading.Reading.{Reading}
 use Rattle.bdf_font.specs.Fonts.{PlainFont}
-use Rattle.bdf_font.specs.Steps.{Outcome, Next, End, Fault, Full, font_made, line_of}
+use Rattle.bdf_font.specs.Rows.{Outcome, Next, End, Fault, Full}
+use Rattle.bdf_font.specs.Steps.{font_made, line_of}
 
 -- what the lines from line n on lead to, after the lines before them
 unfoldable pub lines_read : ℕ → List (List ℕ) → Reading → Result PlainFont FontRefusal

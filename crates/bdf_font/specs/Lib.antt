@@ -6,5 +6,6 @@ pub mod Fonts
 pub mod Places
 pub mod Ranges
 pub mod Grammar
+pub mod Rows
 pub mod Steps
 pub mod Laws

@@ -7,6 +7,7 @@ use Rattle.bdf_font.specs.Whole.{whole_of}
 use Rattle.bdf_font.specs.Keywords.{keyword_of}
 use Rattle.bdf_font.specs.Fonts.{PlainFont}
 use Rattle.bdf_font.specs.Grammar.{from_zero, box_top, box_depth}
+use Rattle.bdf_font.specs.Rows.{Outcome, Next, End, Fault, Full, outcome_map, row_pushed}
 use Rattle.bdf_font.specs.declared.cause.FontCause.{FontCause}
 use Rattle.bdf_font.specs.declared.cause.FontCause.TheVariants.{NoStart, BadNumber, BadRow, Misplaced, NoEnd}
 use Rattle.bdf_font.specs.declared.cause.FontRefusal.{FontRefusal}
@@ -29,27 +30,6 @@ use Rattle.bdf_font.specs.declared.keyword.Keyword.TheVariants as keyword
 use Rattle.bdf_font.specs.declared.keyword.GlyphKeyword.TheVariants as in_glyph
 use Rattle.bdf_font.specs.declared.keyword.HeaderKeyword.TheVariants as in_header
 use Rattle.bdf_font.specs.declared.keyword.PropertyKeyword.TheVariants as property
-
--- What a line leads to: the walk goes on, the font ends here, the line leaves the format, or a glyph too many begins.
-pub data Outcome (S : Type 0) : Type 0 where
-  Next : S → Outcome S
-  End : S → Outcome S
-  Fault : FontCause → Outcome S
-  Full : Outcome S
-
-abbrev pub outcome_map : {S T : Type 0} → (S → T) → Outcome S → Outcome T
-outcome_map f (Next s) = Next (f s)
-outcome_map f (End s) = End (f s)
-outcome_map f (Fault cause) = Fault cause
-outcome_map f Full = Full
-
--- The call read the line so, unless memory ran out.
-abbrev pub Gives : {S : Type 0} → Result (Unit {0}) Stop → S → Outcome S → Type 0
-Gives (Ok _) new outcome = outcome ≡ Next new
-Gives (Err stop.End) new outcome = outcome ≡ End new
-Gives (Err (stop.Fault cause)) new outcome = outcome ≡ Fault cause
-Gives (Err stop.Full) new outcome = outcome ≡ Full
-Gives (Err stop.OutOfMemory) new outcome = Unit {0}
 
 -- what follows from a number, where there is one
 abbrev pub with_number : {N S : Type 0} → Option N → (N → S) → Outcome S
@@ -133,10 +113,9 @@ glyph_line (keyword.Glyph keyword) rest reading = outcome_map (λ draft. record 
 glyph_line (keyword.Header keyword) rest reading = outcome_map (λ header. record reading { header = header }) (header_line keyword rest reading.header)
 glyph_line keyword.Unknown rest reading = Next reading
 
--- a row of a bitmap: its bytes come behind those of the rows above
+-- a row of a bitmap
 abbrev pub with_row : BoundingBox → ℕ → Result (List ℕ) FromHexError → Reading → Outcome Reading
-with_row cell left (Ok row) reading = Next (record reading { place = place.Bitmap cell left; draft = record reading.draft { bits = reading.draft.bits ++ row } })
-with_row cell left (Err _) reading = Fault BadRow
+with_row cell left row reading = outcome_map (λ bits. record reading { place = place.Bitmap cell left; draft = record reading.draft { bits = bits } }) (row_pushed row reading.draft.bits)
 
 abbrev pub row_line : BoundingBox → ℕ → List ℕ → Reading → Outcome Reading
 row_line cell left digits reading = with_row cell left (decode_sized digits ((cell.w + 7) / 8)) reading

@@ -3,7 +3,8 @@
 ghost use Rattle.std.specs.Prelude.{◌≡◌, ◌≤◌, length, All, IfOk, IfSome, unwrap_or};
 ghost use Rattle.bdf_font.specs.Ranges.{IsBox, IsOffset, IsGlyph, IsHeader, IsFont};
 ghost use Rattle.bdf_font.specs.Grammar.{box_top, box_depth, from_zero};
-ghost use Rattle.bdf_font.specs.Steps.{Gives, no_header, header_line, property_line, font_made};
+ghost use Rattle.bdf_font.specs.Rows.{Gives};
+ghost use Rattle.bdf_font.specs.Steps.{no_header, header_line, property_line, font_made};
 
 use crate::cause::{FontCause, Stop};
 use crate::font::Font;

@@ -1,6 +1,7 @@
 //! Bitmap fonts of Adobe BDF 2.1: the font that a text spells, or the first line that leaves the format.
 #![tactic(auto)]
 
+mod bits;
 mod cause;
 mod font;
 mod glyphs;
