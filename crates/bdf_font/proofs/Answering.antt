@@ -1,6 +1,5 @@
 -- What the reader answers is the answer of the format, and there is no other.
-use Rattle.std.proofs.Common.{◌≡◌, ℕ, ◌+◌, ◌-◌, ◌<◌, ◌≤◌, ◌==◌, ◌⊎◌, inl, inr, List, [], ◌∷◌, ◌++◌, length, flat_map, Bool, true, false, cond, nat_le, ◌≢◌, Option, Some, None, Result, Ok, Err, IsSome, refl, ap, sym, ◌∙◌, subst, arith, append-nil, append_assoc, length-append}
-use Rattle.std.specs.List.{AllByRecursion}
+use Rattle.std.proofs.Common.{◌≡◌, ℕ, ◌+◌, ◌-◌, ◌<◌, ◌==◌, ◌⊎◌, inl, inr, List, [], ◌∷◌, ◌++◌, length, flat_map, Bool, true, false, cond, nat_le, ◌≢◌, Some, None, Result, Ok, Err, IsSome, refl, ap, sym, ◌∙◌, subst, arith, append-nil, append_assoc, length-append}
 use Rattle.std.proofs.lemmas.List.Concat.{flat_map-append}
 use Rattle.std.proofs.lemmas.Bool.{leb-true, leb-false}
 use Rattle.std.proofs.lemmas.Bool.Decides.{nat_tests}
@@ -11,19 +10,17 @@ use Rattle.bdf_font.specs.declared.cause.FontCause.TheVariants.{NoStart, BadRow,
 use Rattle.bdf_font.specs.declared.cause.FontRefusal.{FontRefusal}
 use Rattle.bdf_font.specs.declared.cause.FontRefusal.TheVariants as refusal
 use Rattle.bdf_font.specs.declared.cause.FontRefusal.TheVariants.{BadFont, TooLarge}
-use Rattle.bdf_font.specs.declared.glyphs.FontGlyph.{FontGlyph}
 use Rattle.bdf_font.specs.declared.glyphs.BoundingBox.{BoundingBox}
-use Rattle.bdf_font.specs.declared.header.Header.{Header}
 use Rattle.bdf_font.specs.declared.reading.Reading.{Reading}
 use Rattle.bdf_font.specs.declared.keyword.Keyword.TheVariants as keyword
 use Rattle.bdf_font.specs.declared.keyword.GlyphKeyword.TheVariants as in_glyph
-use Rattle.bdf_font.specs.Grammar.{Block, Single, Glyph, GlyphBlock, Open, Outside, InGlyph, InBitmap, Front, Unbegun, Begun, says, is_passed, is_single, is_in_head, is_read, is_row, row_len, open_after, lines_in, open_lines, front_lines, font_lines_in, head_of, font_lines, glyphs_in, glyphs_of, glyph_in, cell_of, cell_said, AllRead, ArePassed, AreInHead, AreRows, IsBlock, IsGlyphBlock, IsOpen, IsBegun, IsFront, begun_in, start_fault, single_fault, head_fault, bitmap_fault, after_rows_fault, fault_after, font_said, IsFontText, LeavesAt, LacksEnd, HasTooMany, IsAnswer}
+use Rattle.bdf_font.specs.Grammar.{Block, Single, Glyph, Outside, InGlyph, InBitmap, Front, Unbegun, Begun, says, is_passed, is_single, is_in_head, is_read, is_row, row_len, open_after, lines_in, open_lines, front_lines, font_lines_in, font_lines, glyphs_in, glyphs_of, glyph_in, cell_of, cell_said, AllRead, ArePassed, IsBlock, IsBegun, IsFront, start_fault, single_fault, head_fault, bitmap_fault, after_rows_fault, fault_after, HasTooMany, IsAnswer}
 use Rattle.bdf_font.specs.Rows.{Outcome, Next, End, Fault, Full}
 use Rattle.bdf_font.specs.Steps.{no_lines, line_of, font_line, font_made}
 use Rattle.bdf_font.proofs.Walk.{lines_read, after_line, read_at, read_none}
 use Rattle.bdf_font.proofs.Given.{header_of, draft_of, AllRead-push, All-pushed}
-use Rattle.bdf_font.proofs.States.{outside_at, glyph_at, bitmap_at, state_in, state_of, passed_next, start_next, start_stops, glyph_next, full_stops, state_stops, head_stops, bitmap_stops, single_step, head_step, bitmap_step, row_step, end_next, start_cases, single_cases, head_cases, after_rows_cases}
-use Rattle.bdf_font.proofs.Fronts.{Reaches, reach_front, front_stops}
+use Rattle.bdf_font.proofs.States.{outside_at, glyph_at, bitmap_at, state_of, passed_next, start_next, start_stops, glyph_next, full_stops, state_stops, single_step, head_step, bitmap_step, row_step, end_next, start_cases, single_cases, head_cases, after_rows_cases}
+use Rattle.bdf_font.proofs.Fronts.{reach_front, front_stops}
 
 -- ---- one line more makes a longer front, or ends the walk
 

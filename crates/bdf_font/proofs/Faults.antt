@@ -1,5 +1,5 @@
 -- Which line the walk refuses, and what the lines around it change.
-use Rattle.std.proofs.Common.{◌≡◌, ℕ, ◌+◌, ◌≤◌, List, [], ◌∷◌, ◌++◌, length, Ok, Err, Result, MatchResult, refl, ap, sym, ◌∙◌, subst, arith}
+use Rattle.std.proofs.Common.{◌≡◌, ℕ, ◌+◌, ◌≤◌, List, [], ◌∷◌, ◌++◌, length, Ok, Err, Result, refl, ap, sym, ◌∙◌, arith}
 use Rattle.bdf_font.specs.declared.cause.FontCause.{FontCause}
 use Rattle.bdf_font.specs.declared.cause.FontCause.TheVariants.{NoEnd}
 use Rattle.bdf_font.specs.declared.cause.FontRefusal.{FontRefusal}
@@ -8,7 +8,7 @@ use Rattle.bdf_font.specs.declared.reading.Reading.{Reading}
 use Rattle.bdf_font.specs.Fonts.{PlainFont}
 use Rattle.bdf_font.specs.Rows.{Outcome, Next, End, Fault, Full}
 use Rattle.bdf_font.specs.Steps.{font_made, line_of}
-use Rattle.bdf_font.proofs.Walk.{lines_read, after_line, read_none, read_at}
+use Rattle.bdf_font.proofs.Walk.{lines_read, read_none, read_at}
 
 abbrev Said : Type 0
 Said = Result PlainFont FontRefusal

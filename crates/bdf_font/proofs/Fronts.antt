@@ -1,5 +1,5 @@
 -- The reader comes through the front of a text to what was read behind it.
-use Rattle.std.proofs.Common.{◌≡◌, ℕ, ◌+◌, ◌-◌, ◌<◌, ◌≤◌, List, [], ◌∷◌, ◌++◌, length, flat_map, Bool, true, false, Option, Some, refl, ap, sym, ◌∙◌, subst, arith, append-nil, append_assoc, length-append}
+use Rattle.std.proofs.Common.{◌≡◌, ℕ, ◌+◌, ◌-◌, ◌<◌, ◌≤◌, List, [], ◌∷◌, ◌++◌, length, flat_map, Bool, false, Some, refl, ap, ◌∙◌, subst, arith, append-nil, append_assoc, length-append}
 use Rattle.std.specs.List.{AllByRecursion}
 use Rattle.bdf_font.specs.Words.{after_word}
 use Rattle.bdf_font.specs.declared.cause.FontCause.{FontCause}
@@ -8,8 +8,8 @@ use Rattle.bdf_font.specs.declared.glyphs.BoundingBox.{BoundingBox}
 use Rattle.bdf_font.specs.declared.header.Header.{Header}
 use Rattle.bdf_font.specs.declared.reading.Reading.{Reading}
 use Rattle.bdf_font.specs.declared.reading.Draft.{Draft}
-use Rattle.bdf_font.specs.Grammar.{Block, Single, Glyph, GlyphBlock, Open, Outside, InGlyph, InBitmap, Front, Unbegun, Begun, says, is_passed, is_read, is_in_head, is_row, switched, open_after, lines_in, open_lines, front_lines, font_lines_in, head_of, font_lines, glyphs_in, glyphs_of, cell_of, row_len, AllRead, ArePassed, AreInHead, AreRows, IsBlock, IsGlyphBlock, IsOpen, IsBegun, IsFront, begun_in, fault_after}
-use Rattle.bdf_font.specs.Rows.{Outcome, Next, Fault}
+use Rattle.bdf_font.specs.Grammar.{Block, Single, Glyph, Open, Outside, InGlyph, InBitmap, Front, Unbegun, Begun, says, switched, open_after, lines_in, open_lines, front_lines, font_lines_in, head_of, font_lines, glyphs_in, glyphs_of, cell_of, row_len, AllRead, ArePassed, AreInHead, AreRows, IsBlock, IsOpen, IsFront, begun_in, fault_after}
+use Rattle.bdf_font.specs.Rows.{Next, Fault}
 use Rattle.bdf_font.specs.Steps.{no_lines, line_of}
 use Rattle.bdf_font.proofs.Walk.{lines_read, read_at}
 use Rattle.bdf_font.proofs.Given.{header_of, draft_of, open_after-push}

@@ -1,14 +1,13 @@
 -- What lists of lines give, one line more.
-use Rattle.std.proofs.Common.{◌≡◌, ℕ, List, [], ◌∷◌, ◌++◌, Bool, true, false, cond, Option, Some, None, unwrap_or, is_some, not, ◌||◌, refl, ap, sym, ◌∙◌, ℤ, pos, negsuc}
+use Rattle.std.proofs.Common.{◌≡◌, ℕ, List, [], ◌∷◌, ◌++◌, Bool, true, false, cond, Option, Some, None, unwrap_or, is_some, refl, ap, sym, ◌∙◌, negsuc}
 use Rattle.std.specs.Option.{option_or}
 use Rattle.std.specs.List.{AllByRecursion}
-use Rattle.bdf_font.specs.Words.{first_word, after_word, trimmed, offset_of, bounding_box_of, family_name_of}
+use Rattle.bdf_font.specs.Words.{first_word, after_word, offset_of, bounding_box_of}
 use Rattle.bdf_font.specs.Whole.{whole_of}
 use Rattle.bdf_font.specs.declared.header.Header.{Header}
 use Rattle.bdf_font.specs.declared.reading.Draft.{Draft}
 use Rattle.bdf_font.specs.declared.cause.FontCause.TheVariants.{BadNumber}
 use Rattle.bdf_font.specs.declared.keyword.Keyword.{Keyword}
-use Rattle.bdf_font.specs.declared.keyword.GlyphKeyword.{GlyphKeyword}
 use Rattle.bdf_font.specs.declared.keyword.HeaderKeyword.{HeaderKeyword}
 use Rattle.bdf_font.specs.declared.keyword.PropertyKeyword.{PropertyKeyword}
 use Rattle.bdf_font.specs.declared.keyword.Keyword.TheVariants as keyword

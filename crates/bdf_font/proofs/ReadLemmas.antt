@@ -1,5 +1,5 @@
 -- From the reader's walk to what the format says.
-use Rattle.std.proofs.Common.{◌≡◌, ◌≢◌, ◌⊎◌, inl, inr, ℕ, ◌+◌, List, ◌∷◌, Ok, Err, Result, refl, ap, sym, ◌∙◌, subst}
+use Rattle.std.proofs.Common.{◌≡◌, ◌≢◌, ◌⊎◌, inl, inr, ℕ, ◌+◌, List, ◌∷◌, Err, Result, ap, sym, ◌∙◌, subst}
 use Rattle.bdf_font.specs.declared.cause.Stop.{Stop}
 use Rattle.bdf_font.specs.declared.cause.Stop.TheVariants as stop
 use Rattle.bdf_font.specs.declared.cause.FontRefusal.{FontRefusal}

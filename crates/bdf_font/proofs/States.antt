@@ -1,7 +1,6 @@
 -- What the reader has read behind a front, and what its next step does there.
-use Rattle.std.proofs.Common.{◌≡◌, ℕ, ◌+◌, ◌-◌, ◌*◌, ◌/◌, ◌<◌, ◌≤◌, ◌==◌, ◌&&◌, ◌⊎◌, inl, inr, List, [], ◌∷◌, ◌++◌, length, flat_map, Bool, true, false, cond, nat_le, leb, eqb, Option, Some, None, IsSome, unwrap_or, is_some, Result, Ok, Err, IsOk, refl, ap, sym, ◌∙◌, subst, arith, ℤ, pos, append-nil, append_assoc, length-append}
+use Rattle.std.proofs.Common.{◌≡◌, ℕ, ◌+◌, ◌-◌, ◌*◌, ◌<◌, ◌≤◌, ◌==◌, ◌&&◌, ◌⊎◌, inl, inr, List, [], ◌∷◌, ◌++◌, length, flat_map, Bool, true, false, cond, leb, Option, Some, None, IsSome, unwrap_or, is_some, Result, Ok, Err, IsOk, refl, ap, sym, ◌∙◌, arith, ℤ, pos, append-nil, length-append}
 use Rattle.std.proofs.lemmas.Bool.{lt-leb}
-use Rattle.std.specs.Option.{option_or}
 use Rattle.std.specs.List.{AllPass, list_all}
 use Rattle.std.proofs.lemmas.List.Concat.{flat_map-append}
 use Rattle.std.proofs.lemmas.List.Sums.{AllPass-from_list_all, list_all-from_AllPass}
@@ -20,14 +19,12 @@ use Rattle.bdf_font.specs.declared.reading.Reading.{Reading}
 use Rattle.bdf_font.specs.declared.reading.Draft.{Draft}
 use Rattle.bdf_font.specs.declared.reading.Place.TheVariants as place
 use Rattle.bdf_font.specs.declared.keyword.Keyword.{Keyword}
-use Rattle.bdf_font.specs.declared.keyword.GlyphKeyword.{GlyphKeyword}
-use Rattle.bdf_font.specs.declared.keyword.HeaderKeyword.{HeaderKeyword}
 use Rattle.bdf_font.specs.declared.keyword.Keyword.TheVariants as keyword
 use Rattle.bdf_font.specs.declared.keyword.GlyphKeyword.TheVariants as in_glyph
 use Rattle.bdf_font.specs.declared.keyword.HeaderKeyword.TheVariants as in_header
-use Rattle.bdf_font.specs.Grammar.{Open, Outside, InGlyph, InBitmap, Front, Unbegun, Begun, Block, says, is_read, is_passed, is_single, is_in_head, is_row, row_bytes, row_len, bytes_or_none, cell_said, cell_of, no_cell, glyph_in, glyphs_of, font_lines, open_after, start_fault, single_fault, head_fault, number_fault, after_rows_fault, bitmap_fault, fault_after}
-use Rattle.bdf_font.specs.Rows.{Outcome, Next, End, Fault, Full, outcome_map}
-use Rattle.bdf_font.specs.Steps.{no_lines, no_header, no_glyph, first_line, font_line, glyph_line, bitmap_line, bitmap_begun, with_row, row_line, after_rows, line_of, header_line, draft_line, made_glyph, advance_or}
+use Rattle.bdf_font.specs.Grammar.{Open, Outside, InGlyph, InBitmap, Front, Unbegun, Begun, says, is_read, is_passed, is_single, is_in_head, is_row, row_bytes, row_len, bytes_or_none, cell_said, cell_of, no_cell, glyph_in, glyphs_of, font_lines, open_after, start_fault, single_fault, head_fault, number_fault, after_rows_fault, bitmap_fault}
+use Rattle.bdf_font.specs.Rows.{Next, Fault, Full, outcome_map}
+use Rattle.bdf_font.specs.Steps.{no_lines, no_header, no_glyph, first_line, font_line, glyph_line, bitmap_line, bitmap_begun, with_row, row_line, after_rows, line_of, made_glyph, advance_or}
 use Rattle.bdf_font.proofs.Given.{header_of, draft_of, header_with, draft_with, header_of-push, draft_of-push, header_read, header_unread, encoding_read, width_read, cell_read, encoding_unread, width_unread, cell_unread}
 
 -- ---- states

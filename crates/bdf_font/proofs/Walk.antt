@@ -1,5 +1,5 @@
 -- The reader's walk over the lines as a whole: one step a line.
-use Rattle.std.proofs.Common.{◌≡◌, ℕ, ◌+◌, List, [], ◌∷◌, ◌++◌, Ok, Err, Result, refl, ap, sym, ◌∙◌, arith}
+use Rattle.std.proofs.Common.{◌≡◌, ℕ, ◌+◌, List, [], ◌∷◌, Ok, Err, Result, refl, ap, ◌∙◌}
 use Rattle.bdf_font.specs.declared.cause.FontCause.TheVariants.{NoEnd}
 use Rattle.bdf_font.specs.declared.cause.FontRefusal.{FontRefusal}
 use Rattle.bdf_font.specs.declared.cause.FontRefusal.TheVariants.{BadFont, TooLarge}

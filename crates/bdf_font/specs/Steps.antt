@@ -1,5 +1,5 @@
 -- What one line does to what the reader has read: the words of its own functions. What a text says as a whole is in Grammar.
-use Rattle.std.specs.Prelude.{◌≡◌, ℕ, ◌+◌, ◌-◌, ◌*◌, ◌/◌, ◌==◌, ◌⊎◌, nat_le, Bool, true, false, if◌then◌else◌, List, [], ◌∷◌, ◌++◌, length, take, drop, map, Option, Some, None, unwrap_or, Result, Ok, Err, ℤ, pos, negsuc, neg_ℤ, ◌+ℤ◌}
+use Rattle.std.specs.Prelude.{◌≡◌, ℕ, ◌+◌, ◌-◌, ◌/◌, ◌==◌, ◌⊎◌, nat_le, true, false, if◌then◌else◌, List, [], ◌∷◌, ◌++◌, length, Option, Some, None, unwrap_or, Result, Ok, Err, ℤ, pos, negsuc}
 use Rattle.hex.specs.Hex.{decode_sized}
 use Rattle.hex.specs.declared.error.FromHexError.{FromHexError}
 use Rattle.bdf_font.specs.Words.{first_word, after_word, trimmed, offset_of, bounding_box_of, family_name_of}
@@ -8,8 +8,7 @@ use Rattle.bdf_font.specs.Keywords.{keyword_of}
 use Rattle.bdf_font.specs.Fonts.{PlainFont}
 use Rattle.bdf_font.specs.Grammar.{from_zero, box_top, box_depth}
 use Rattle.bdf_font.specs.Rows.{Outcome, Next, End, Fault, Full, outcome_map, row_pushed}
-use Rattle.bdf_font.specs.declared.cause.FontCause.{FontCause}
-use Rattle.bdf_font.specs.declared.cause.FontCause.TheVariants.{NoStart, BadNumber, BadRow, Misplaced, NoEnd}
+use Rattle.bdf_font.specs.declared.cause.FontCause.TheVariants.{NoStart, BadNumber, BadRow, Misplaced}
 use Rattle.bdf_font.specs.declared.cause.FontRefusal.{FontRefusal}
 use Rattle.bdf_font.specs.declared.cause.FontRefusal.TheVariants as refusal
 use Rattle.bdf_font.specs.declared.cause.FontRefusal.TheVariants.{BadFont, TooLarge}

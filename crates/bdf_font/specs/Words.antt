@@ -1,6 +1,6 @@
 -- Words, numbers and names in a line.
-use Rattle.std.specs.Prelude.{ℕ, ◌+◌, ◌-◌, Bool, ◌&&◌, ◌==◌, not, nat_lt, nat_le, int_le, if◌then◌else◌, List, [], ◌∷◌, length, take, drop, slice_index, Option, Some, None, option_and_then, ℤ, pos, negsuc, neg_ℤ}
-use Rattle.std.specs.List.{prefix_len, suffix_len, position_or_len, before_first, list_all}
+use Rattle.std.specs.Prelude.{ℕ, ◌-◌, Bool, ◌&&◌, ◌==◌, nat_lt, nat_le, int_le, if◌then◌else◌, List, length, take, drop, slice_index, Option, Some, None, option_and_then, ℤ, pos, negsuc, neg_ℤ}
+use Rattle.std.specs.List.{prefix_len, suffix_len, position_or_len, before_first}
 use Rattle.ass_num.specs.Numerals.{is_blank}
 use Rattle.bdf_font.specs.Whole.{whole_of}
 use Rattle.bdf_font.specs.declared.glyphs.BoundingBox.{BoundingBox}

@@ -1,4 +1,4 @@
-use Rattle.std.proofs.Common.{◌≡◌, ◌++◌, drop, length}
+use Rattle.std.proofs.Common.{◌≡◌, ◌++◌, drop}
 use Rattle.bdf_font.specs.Places.{entries_from}
 use Rattle.bdf_font.proofs.font.entries_of.Given as goal
 
