@@ -1,0 +1,1 @@
+//! Drawings read whole.
