@@ -1,2 +1,4 @@
 pub mod Paths
+pub mod Runs
+pub mod Sketches
 pub mod Tokens

@@ -3,8 +3,7 @@
 ghost use Rattle.std.specs.Prelude.{IfOk};
 ghost use Rattle.drawing_path.specs.Paths.{IsPathOf};
 
-use crate::command::command_of;
-use crate::points::read_points;
+use crate::points::{command_at, read_points};
 use crate::sketch::Sketch;
 use ass_num::{Mem, Path};
 use std::alloc::Global;
@@ -19,7 +18,7 @@ pub fn read_path(alloc: Global, text: &str) -> Mem<Path>
     let mut sketch = Sketch::new(alloc);
     // Numbers before the first letter belong to no command.
     let mut at = read_points(text, &mut points)?;
-    while let Some(command) = text.get(at).copied().and_then(command_of) {
+    while let Some(command) = command_at(text, at) {
         at += 1 + read_points(&text[at + 1..], &mut points)?;
         sketch.apply(alloc, command, points.as_slice())?;
     }
