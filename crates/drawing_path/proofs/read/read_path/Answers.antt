@@ -1,16 +1,29 @@
-use Rattle.std.proofs.Common.{◌≡◌, ℕ, ◌+◌, ◌-◌, ◌<◌, ◌≤◌, ◌==◌, Bool, true, false, Option, Some, None, List, [], ◌∷◌, ◌++◌, length, take, drop, map, min, get_or, set, vec_len, refl, sym, ap, ◌∙◌, subst, arith, rules}
-use Rattle.drawing_path.specs.Runs.{IsRun}
-use Rattle.drawing_path.proofs.ReadingLemmas.{drawn_more, drawn_all, rest_of}
+use Rattle.std.proofs.Common.{◌≡◌, ℕ, ◌+◌, ◌<◌, ◌≤◌, ◌==◌, Bool, true, false, Option, Some, None, List, [], ◌∷◌, ◌++◌, length, take, drop, map, vec_len, sym, ap, ◌∙◌, subst, arith, rules}
+use Rattle.ass_num.specs.declared.geometry.Point.{Point}
+use Rattle.ass_num.specs.declared.geometry.Seg.{Seg}
+use Rattle.drawing_path.specs.declared.command.Command.{Command}
+use Rattle.drawing_path.specs.Paths.{after, IsPathOf}
+use Rattle.drawing_path.specs.Runs.{IsRun, command_at}
+use Rattle.drawing_path.proofs.ReadingLemmas.{IsDrawn, drawn_first, drawn_more, drawn_all, rest_of}
 use Rattle.drawing_path.proofs.read.read_path.Goals as goal
 
 pub loop-command-preserved : goal.loop-command-preserved
 loop-command-preserved c =
-    let text = c.as_bytes-text.result.now in
-    let P : List ℕ → Type 0 = λ z. IsRun z c.in_ok-at-2.field-0 c.read_points-in-Some.new.points.items in
-    let run = subst P (rest_of text (c.loop-command.at + 1)) c.in_ok-at-2.ensures in
-    let letter = sym c.command_at.ensures ∙ c.in-Some.is in
-    let path = c.in_ok-apply.ensures in
-    ?
+    let text : List ℕ = c.as_bytes-text.result.now in
+    let points : List Point = c.read_points-in-Some.new.points.items in
+    let P : List ℕ → Type 0 = λ z. IsRun z c.in_ok-at-2.field-0 points in
+    let letter : command_at text c.loop-command.at ≡ Some c.in-Some.command = sym c.command_at.ensures ∙ c.in-Some.is in
+    let path : c.apply.new.self.segs.items ≡ after c.loop-command.sketch.segs.items c.in-Some.command points =
+    c.in_ok-apply.ensures.path ∙ ap (after c.loop-command.sketch.segs.items c.in-Some.command) c.as_slice.ensures.value in
+    (drawn_more text c.loop-command.at c.loop-command.sketch.segs.items c.in-Some.command c.in_ok-at-2.field-0 points c.apply.new.self.segs.items letter
+      (subst P (rest_of text (c.loop-command.at + 1)) c.in_ok-at-2.ensures) path c.loop-command.invariant.0,
+      c.in_ok-apply.ensures.place)
 
 pub returns : goal.returns
-returns c = let none = c.command_at.ensures in let a = c.in_default in ?
+returns c =
+    let text : List ℕ = c.as_bytes-text.result.now in
+    let none : command_at text c.loop-command.at ≡ None = sym c.command_at.ensures ∙ c.in_default.is in
+    let whole : IsPathOf text c.loop-command.sketch.segs.items = drawn_all text c.loop-command.at c.loop-command.sketch.segs.items none c.loop-command.invariant.0 in
+    let P : List ℕ → Type 0 = λ z. IsPathOf z c.into_segs.result in
+    let Q : List Seg → Type 0 = λ z. IsPathOf text z in
+    subst P c.as_bytes-text.ensures.value (subst Q (sym c.into_segs.ensures) whole)
