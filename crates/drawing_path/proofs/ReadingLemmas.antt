@@ -86,9 +86,9 @@ reading_number text at points waiting value len new left lt none front adds read
     record {
       within = omega (arith, front.within, length-drop at text);
       begins = λ rest read.
-      let P : List ℕ → Type 0 = λ z. AreTokens rest z in
-      let old : BeginsWithNumbers text points waiting (Number value ∷ rest) = reading.begins (Number value ∷ rest) (len, token, subst P (sym (drop-drop len at text)) read) in
-      record { tokens = old.tokens; read = old.read; numbers = old.numbers ∙ sym (adds (numbers_of rest)); skipped = old.skipped };
+          let P : List ℕ → Type 0 = λ z. AreTokens rest z in
+          let old : BeginsWithNumbers text points waiting (Number value ∷ rest) = reading.begins (Number value ∷ rest) (len, token, subst P (sym (drop-drop len at text)) read) in
+          record { tokens = old.tokens; read = old.read; numbers = old.numbers ∙ sym (adds (numbers_of rest)); skipped = old.skipped };
     }
 
 pub reading_skipped : (text : List ℕ) (at : ℕ) (points : List Point) (waiting : Option ℤ) → at < length text → command_of (get_or text at 0) ≡ None → HasNoFront IsMilli (drop at text) → IsReading text at points waiting → IsReading text (at + 1) points waiting
@@ -97,9 +97,9 @@ reading_skipped text at points waiting lt none nothing reading =
     record {
       within = omega arith;
       begins = λ rest read.
-      let P : List ℕ → Type 0 = λ z. AreTokens rest z in
-      let old : BeginsWithNumbers text points waiting (Skipped ∷ rest) = reading.begins (Skipped ∷ rest) (1, token, subst P (sym (drop-drop 1 at text)) read) in
-      record { tokens = old.tokens; read = old.read; numbers = old.numbers; skipped = old.skipped };
+          let P : List ℕ → Type 0 = λ z. AreTokens rest z in
+          let old : BeginsWithNumbers text points waiting (Skipped ∷ rest) = reading.begins (Skipped ∷ rest) (1, token, subst P (sym (drop-drop 1 at text)) read) in
+          record { tokens = old.tokens; read = old.read; numbers = old.numbers; skipped = old.skipped };
     }
 
 pub reading_ends : (text : List ℕ) (at : ℕ) (points : List Point) (waiting : Option ℤ) → IsReading text at points waiting → (command_at text at ≡ None → length text ≤ at) → IsRun text at points
@@ -107,13 +107,13 @@ reading_ends text at points waiting reading ends = record {
   within = reading.within;
   ends = ends;
   begins = λ rest none read.
-  let old : BeginsWithNumbers text points waiting rest = reading.begins rest read in
-  record {
-    tokens = old.tokens;
-    read = old.read;
-    points_are = ap points_of (old.numbers ∙ ap (λ z. coordinates points ++ (option_to_list waiting ++ z)) none ∙ ap (λ z. coordinates points ++ z) (append-nil (option_to_list waiting))) ∙ points_of-coordinates points waiting;
-    skipped = old.skipped;
-  };
+      let old : BeginsWithNumbers text points waiting rest = reading.begins rest read in
+      record {
+        tokens = old.tokens;
+        read = old.read;
+        points_are = ap points_of (old.numbers ∙ ap (λ z. coordinates points ++ (option_to_list waiting ++ z)) none ∙ ap (λ z. coordinates points ++ z) (append-nil (option_to_list waiting))) ∙ points_of-coordinates points waiting;
+        skipped = old.skipped;
+      };
 }
 
 pub command_at_within : (text : List ℕ) (at : ℕ) → at < length text → command_at text at ≡ command_of (get_or text at 0)
@@ -160,8 +160,8 @@ drawn_first text at points run = record {
   within = run.within;
   ends = run.ends;
   goes_on = λ rest none read.
-  let first : BeginsWithPoints text points rest = run.begins rest none read in
-  record { tokens = first.tokens; read = first.read; path = first.skipped [] };
+      let first : BeginsWithPoints text points rest = run.begins rest none read in
+      record { tokens = first.tokens; read = first.read; path = first.skipped [] };
 }
 
 -- the letter of a command at a place
@@ -183,15 +183,15 @@ drawn_more text at segs command len points new is run does drawn =
       within = omega (arith, run.within, length-drop (at + 1) text, letter.0);
       ends = λ none. omega (arith, run.ends (command_at-drop text (at + 1) len ∙ ap (command_at text) place ∙ none), length-drop (at + 1) text, letter.0);
       goes_on = λ rest none read.
-      let P : List ℕ → Type 0 = λ z. AreTokens rest z in
-      let first : BeginsWithPoints (drop (at + 1) text) points rest = run.begins rest none (subst P (ap (λ z. drop z text) (sym place) ∙ sym (drop-drop len (at + 1) text)) read) in
-      let Q : List ℕ → Type 0 = λ z. AreTokens first.tokens z in
-      let all : GoesOn text segs (Letter command ∷ first.tokens) = drawn.goes_on (Letter command ∷ first.tokens) refl (1, token, subst Q (sym (drop-drop 1 at text)) first.read) in
-      record {
-        tokens = all.tokens;
-        read = all.read;
-        path = all.path ∙ ap (λ z. path_after (after segs command z) first.tokens) first.points_are ∙ ap (λ z. path_after z first.tokens) (sym does) ∙ first.skipped new;
-      };
+          let P : List ℕ → Type 0 = λ z. AreTokens rest z in
+          let first : BeginsWithPoints (drop (at + 1) text) points rest = run.begins rest none (subst P (ap (λ z. drop z text) (sym place) ∙ sym (drop-drop len (at + 1) text)) read) in
+          let Q : List ℕ → Type 0 = λ z. AreTokens first.tokens z in
+          let all : GoesOn text segs (Letter command ∷ first.tokens) = drawn.goes_on (Letter command ∷ first.tokens) refl (1, token, subst Q (sym (drop-drop 1 at text)) first.read) in
+          record {
+            tokens = all.tokens;
+            read = all.read;
+            path = all.path ∙ ap (λ z. path_after (after segs command z) first.tokens) first.points_are ∙ ap (λ z. path_after z first.tokens) (sym does) ∙ first.skipped new;
+          };
     }
   where
     command_at-drop : (z : List ℕ) (n i : ℕ) → command_at (drop n z) i ≡ command_at z (n + i)

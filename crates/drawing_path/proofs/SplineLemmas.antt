@@ -56,6 +56,7 @@ changed_before change (seg ∷ path) more plain =
     or_false : (b : Bool) → (b || false) ≡ b
     or_false true = refl
     or_false false = refl
+
     into : (b : Bool) → cond b (seg ∷ (last_spline_changed change path ++ more)) (spline_changed change seg ∷ (path ++ more)) ≡ cond b (seg ∷ last_spline_changed change path) (spline_changed change seg ∷ path) ++ more
     into true = refl
     into false = refl
@@ -116,9 +117,10 @@ spline_written path place seg control closed change new_control new_closed is re
     let points : is.control ≡ control = cc in
     let flag : is.closed ≡ closed = cc in
     let written : set path place (Spline new_control new_closed) ≡ is.before ++ (Spline new_control new_closed ∷ is.behind) = ap (λ z. set z place (Spline new_control new_closed)) is.parts ∙ set_at is.before (Spline is.control is.closed) is.behind (Spline new_control new_closed) place is.count in
-    let new : change is.control is.closed ≡ Spline new_control new_closed = ap (λ z. change z is.closed) points ∙ ap (change control) flag ∙ changed in
-    (written ∙ ap (λ z. is.before ++ (z ∷ is.behind)) (sym new) ∙ sym (changed_at change path place is),
-      record { before = is.before; control = new_control; closed = new_closed; behind = is.behind; parts = written; count = is.count; alone = is.alone })
+    let new : change is.control is.closed ≡ Spline new_control new_closed = ap (λ z. change z is.closed) points ∙ ap (change control) flag ∙ changed in (
+      written ∙ ap (λ z. is.before ++ (z ∷ is.behind)) (sym new) ∙ sym (changed_at change path place is),
+      record { before = is.before; control = new_control; closed = new_closed; behind = is.behind; parts = written; count = is.count; alone = is.alone },
+    )
 
 pub not_empty : {X : Type 0} (xs : List X) → (length xs == 0) ≡ false → ¬ (xs ≡ [])
 not_empty xs some e = let none : (length xs == 0) ≡ true = ap (λ z. length z == 0) e in absurd (cc)
