@@ -4,7 +4,7 @@ use Rattle.ass_num.specs.Numerals.{IsMilli}
 use Rattle.ass_num.proofs.OneReading.{one_front, one_milli}
 use Rattle.ass_num.specs.declared.geometry.Seg.{Seg}
 use Rattle.drawing_path.specs.declared.command.Command.{Command}
-use Rattle.drawing_path.specs.Tokens.{Token, Letter, Number, Skipped, IsToken, AreTokens, command_of}
+use Rattle.drawing_path.specs.Tokens.{Token, Letter, Number, Skipped, IsToken, AreTokens}
 use Rattle.drawing_path.specs.Paths.{path_after, IsPathOf}
 
 one_token : (text : List ℕ) (t u : Token) (m n : ℕ) → IsToken text t m → IsToken text u n → (t ≡ u) × (m ≡ n)

@@ -137,7 +137,7 @@ impl Sketch {
         let Some(vertex) = self.segs.last().and_then(end_of) else {
             return Ok(());
         };
-        let mut control = Vec::new(alloc);
+        let mut control = Vec::with_capacity(alloc, points.len() + 1)?;
         control.push(vertex)?;
         control.extend_from_slice(points)?;
         let place = self.segs.len();

@@ -1,5 +1,4 @@
-use Rattle.std.proofs.Common.{◌≡◌, ℕ, ◌+◌, ◌-◌, ◌<◌, ◌≤◌, ◌==◌, Bool, true, false, Option, Some, None, List, [], ◌∷◌, ◌++◌, length, take, drop, map, min, get_or, set, vec_len, refl, sym, ap, ◌∙◌, subst, arith, rules}
-use Rattle.std.proofs.Common.{ℤ}
+use Rattle.std.proofs.Common.{◌≡◌, [], ◌∷◌, ◌++◌, sym, ap, ◌∙◌, rules}
 use Rattle.std.specs.Option.{option_to_list}
 use Rattle.ass_num.specs.declared.geometry.Point.{Point}
 use Rattle.drawing_path.specs.Runs.{coordinates}

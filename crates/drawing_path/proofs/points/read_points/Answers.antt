@@ -1,11 +1,11 @@
-use Rattle.std.proofs.Common.{◌≡◌, ℕ, ◌+◌, ◌-◌, ◌<◌, ◌≤◌, ◌==◌, Bool, true, false, Option, Some, None, List, [], ◌∷◌, ◌++◌, length, take, drop, map, min, get_or, set, vec_len, refl, sym, ap, ◌∙◌, subst, arith, rules}
+use Rattle.std.proofs.Common.{◌≡◌, ℕ, ◌<◌, None, List, get_or, sym, ◌∙◌, subst, arith, rules}
 use Rattle.std.proofs.Common.{ℤ, FitsSigned, w64}
 use Rattle.std.proofs.lemmas.Int.{to_z-of_z}
 use Rattle.ass_num.specs.Fronts.{IsLongestFront, HasNoFront}
 use Rattle.ass_num.specs.Numerals.{IsMilli}
 use Rattle.drawing_path.specs.Tokens.{command_of}
 use Rattle.drawing_path.specs.Runs.{AddsNumber}
-use Rattle.drawing_path.proofs.ReadingLemmas.{reading_none, reading_number, reading_skipped, reading_ends, rest_of, no_command, ends_at, some_bytes}
+use Rattle.drawing_path.proofs.ReadingLemmas.{reading_number, reading_skipped, reading_ends, rest_of, no_command, ends_at, some_bytes}
 use Rattle.drawing_path.proofs.points.read_points.Goals as goal
 
 pub returns-then-is_some : goal.returns-then-is_some

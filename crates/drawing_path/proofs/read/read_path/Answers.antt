@@ -1,11 +1,11 @@
-use Rattle.std.proofs.Common.{◌≡◌, ℕ, ◌+◌, ◌<◌, ◌≤◌, ◌==◌, Bool, true, false, Option, Some, None, List, [], ◌∷◌, ◌++◌, length, take, drop, map, vec_len, sym, ap, ◌∙◌, subst, arith, rules}
+use Rattle.std.proofs.Common.{◌≡◌, ℕ, ◌+◌, Option, Some, None, List, sym, ap, ◌∙◌, subst}
 use Rattle.ass_num.specs.declared.geometry.Point.{Point}
 use Rattle.ass_num.specs.declared.geometry.Seg.{Seg}
 use Rattle.drawing_path.specs.declared.command.Command.{Command}
 use Rattle.drawing_path.specs.Paths.{after, IsPathOf}
 use Rattle.drawing_path.specs.Runs.{IsRun, command_at}
 use Rattle.drawing_path.proofs.RangeLemmas.{drawing_drawable}
-use Rattle.drawing_path.proofs.ReadingLemmas.{IsDrawn, drawn_first, drawn_more, drawn_all, rest_of}
+use Rattle.drawing_path.proofs.ReadingLemmas.{IsDrawn, drawn_more, drawn_all, rest_of}
 use Rattle.drawing_path.proofs.read.read_path.Goals as goal
 
 pub loop-command-preserved : goal.loop-command-preserved

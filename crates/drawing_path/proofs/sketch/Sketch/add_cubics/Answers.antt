@@ -1,4 +1,4 @@
-use Rattle.std.proofs.Common.{◌≡◌, ℕ, ◌+◌, ◌-◌, ◌<◌, ◌≤◌, ◌==◌, Bool, true, false, Option, Some, None, List, [], ◌∷◌, ◌++◌, length, take, drop, map, min, get_or, set, vec_len, refl, sym, ap, ◌∙◌, subst, arith, rules}
+use Rattle.std.proofs.Common.{◌≡◌, ℕ, ◌==◌, false, Option, List, ◌++◌, length, vec_len, sym, ap, ◌∙◌, subst, rules}
 use Rattle.std.proofs.lemmas.List.{append-nil}
 use Rattle.ass_num.specs.declared.geometry.Seg.{Seg}
 use Rattle.drawing_path.specs.Paths.{cubics_of}

@@ -1,4 +1,4 @@
-use Rattle.std.proofs.Common.{◌≡◌, OnOk, Result, Ok, Err, sym, subst}
+use Rattle.std.proofs.Common.{OnOk, Result, Ok, Err, sym, subst}
 use Rattle.drawing_path.specs.declared.command.Command.{Command}
 use Rattle.drawing_path.specs.Sketches.{Follows}
 use Rattle.drawing_path.proofs.sketch.Sketch.apply.Goals as goal

@@ -1,4 +1,4 @@
-use Rattle.std.proofs.Common.{◌≡◌, ℕ, ◌+◌, ◌-◌, ◌<◌, ◌≤◌, ◌==◌, Bool, true, false, Option, Some, None, List, [], ◌∷◌, ◌++◌, length, take, drop, map, min, get_or, set, vec_len, refl, sym, ap, ◌∙◌, subst, arith, rules}
+use Rattle.std.proofs.Common.{ℕ, true, Option, ◌++◌, take, set, sym, ap, subst}
 use Rattle.ass_num.specs.declared.geometry.Seg.TheVariants.{Spline}
 use Rattle.drawing_path.specs.Sketches.{IsSplinePlace}
 use Rattle.drawing_path.proofs.SplineLemmas.{spline_written}
