@@ -1,12 +1,14 @@
 -- The least box of several moved masks.
-use Rattle.std.proofs.Common.{◌≡◌, ℕ, zero, suc, ◌+◌, ◌-◌, ◌*◌, ◌^◌, ◌<◌, ◌≤◌, ◌==◌, true, false, ◌⊎◌, inl, inr, ℤ, pos, ◌+ℤ◌, ◌-ℤ◌, ◌<ℤ◌, ◌≤ℤ◌, List, [], ◌∷◌, length, get_or, refl, sym, ap, subst, ◌∙◌, arith, eqb-true, w32, to_z, of_z}
+use Rattle.std.proofs.Common.{◌≡◌, ℕ, zero, suc, ◌+◌, ◌-◌, ◌*◌, ◌^◌, ◌<◌, ◌≤◌, ◌==◌, true, false, ◌⊎◌, inl, inr, ℤ, pos, ◌+ℤ◌, ◌-ℤ◌, ◌<ℤ◌, ◌≤ℤ◌, List, [], ◌∷◌, length, get_or, refl, sym, ap, subst, ◌∙◌, arith, eqb-true, w32, w64, to_z, of_z}
 use Rattle.std.proofs.lemmas.Int.{ints, by_lt_z, clamps}
 use Rattle.std.specs.Int.{int_min, int_max}
+use Rattle.std.specs.Int.RustNames.{FitsSigned}
 use Rattle.std.specs.List.{Any}
 use Rattle.ass_num.specs.Coverage.{PixelBox, box_of, InBox, IsLeastBox, IsMovedPixel}
 use Rattle.std.proofs.lemmas.Bool.{and_parts, false≢true}
 use Rattle.std.specs.Ordering.{int_eq}
 use Rattle.ass_num.specs.Masks.{PlainMask, is_mask}
+use Rattle.mask_cover.proofs.CoverLemmas.{mask_ok}
 use Rattle.mask_cover.proofs.MaskLemmas.{mask_length}
 use Rattle.mask_cover.specs.Extents.{IsNear, IsExtent, JoinsStretch}
 use Rattle.mask_cover.specs.Sums.{IsWithinOf, IsJoin}
@@ -51,6 +53,12 @@ pub moved_corner : (x from by : ℤ) → x ≡ from → IsWithinOf 65536 from �
 moved_corner x from by is first second =
     let fl = first.low in let fh = first.high in let sl = second.low in let sh = second.high in omega (arith, ints)
 
+-- the first and the last pixel of a moved mask
+corner : (m : PlainMask) (dx dy : ℤ) → 0 < m.w → 0 < m.h → InBox (box_of m) ((m.x +ℤ dx) -ℤ dx) ((m.y +ℤ dy) -ℤ dy)
+corner m dx dy v g = record { left = omega (arith, ints); right = omega (arith, ints); top = omega (arith, ints); bottom = omega (arith, ints) }
+far_corner : (m : PlainMask) (dx dy : ℤ) → 0 < m.w → 0 < m.h → InBox (box_of m) ((((m.x +ℤ dx) +ℤ pos m.w) -ℤ pos 1) -ℤ dx) ((((m.y +ℤ dy) +ℤ pos m.h) -ℤ pos 1) -ℤ dy)
+far_corner m dx dy v g = record { left = omega (arith, ints); right = omega (arith, ints); top = omega (arith, ints); bottom = omega (arith, ints) }
+
 -- the two stretches of a box and a moved mask
 pub join_is : (old : PixelBox) (p : PlainMask × ℤ × ℤ) (new : PixelBox) → IsExtent old → 0 < p.0.w → 0 < p.0.h → JoinsStretch old.x old.w (p.0.x +ℤ p.1) p.0.w new.x new.w → JoinsStretch old.y old.h (p.0.y +ℤ p.2) p.0.h new.y new.h → IsJoin old p new
 join_is old p new extent wide high across down =
@@ -94,15 +102,25 @@ join_is old p new extent wide high across down =
     own_corner b v g = record { left = omega (arith, ints); right = omega (arith, ints); top = omega (arith, ints); bottom = omega (arith, ints) }
     own_far_corner : (b : PixelBox) → 0 < b.w → 0 < b.h → InBox b ((b.x +ℤ pos b.w) -ℤ pos 1) ((b.y +ℤ pos b.h) -ℤ pos 1)
     own_far_corner b v g = record { left = omega (arith, ints); right = omega (arith, ints); top = omega (arith, ints); bottom = omega (arith, ints) }
-    corner : (m : PlainMask) (dx dy : ℤ) → 0 < m.w → 0 < m.h → InBox (box_of m) ((m.x +ℤ dx) -ℤ dx) ((m.y +ℤ dy) -ℤ dy)
-    corner m dx dy v g = record { left = omega (arith, ints); right = omega (arith, ints); top = omega (arith, ints); bottom = omega (arith, ints) }
-    far_corner : (m : PlainMask) (dx dy : ℤ) → 0 < m.w → 0 < m.h → InBox (box_of m) ((((m.x +ℤ dx) +ℤ pos m.w) -ℤ pos 1) -ℤ dx) ((((m.y +ℤ dy) +ℤ pos m.h) -ℤ pos 1) -ℤ dy)
-    far_corner m dx dy v g = record { left = omega (arith, ints); right = omega (arith, ints); top = omega (arith, ints); bottom = omega (arith, ints) }
     zero_or : (n : ℕ) → (n ≡ 0) ⊎ (0 < n)
     zero_or zero = inl (omega arith)
     zero_or (suc n) = inr (omega arith)
     some_width : (b : PixelBox) → IsExtent b → 0 < b.h → 0 < b.w
     some_width b e g = elim (zero_or b.w) [ inl none ↦ let n = e.h none in absurd (omega arith) | inr some ↦ some ]
+
+-- The box has the moved mask's, side by side.
+pub record HasMoved (b : PixelBox) (p : PlainMask × ℤ × ℤ) : Type 0 where
+  pub left : b.x ≤ℤ (p.0.x +ℤ p.1)
+  pub right : ((p.0.x +ℤ p.1) +ℤ pos p.0.w) ≤ℤ (b.x +ℤ pos b.w)
+  pub top : b.y ≤ℤ (p.0.y +ℤ p.2)
+  pub bottom : ((p.0.y +ℤ p.2) +ℤ pos p.0.h) ≤ℤ (b.y +ℤ pos b.h)
+
+pub has_moved : (b : PixelBox) (p : PlainMask × ℤ × ℤ) → 0 < p.0.w → 0 < p.0.h → ((i j : ℤ) → IsMovedPixel p i j → InBox b i j) → HasMoved b p
+has_moved b p wide high has =
+    let first : InBox b (p.0.x +ℤ p.1) (p.0.y +ℤ p.2) = has (p.0.x +ℤ p.1) (p.0.y +ℤ p.2) (corner p.0 p.1 p.2 wide high) in
+    let last : InBox b (((p.0.x +ℤ p.1) +ℤ pos p.0.w) -ℤ pos 1) (((p.0.y +ℤ p.2) +ℤ pos p.0.h) -ℤ pos 1) = has _ _ (far_corner p.0 p.1 p.2 wide high) in
+    let fl = first.left in let ft = first.top in let lr = last.right in let lb = last.bottom in
+    record { left = omega (arith, ints); right = omega (arith, ints); top = omega (arith, ints); bottom = omega (arith, ints) }
 
 -- a mask without pixels
 pub join_none : (old : PixelBox) (p : PlainMask × ℤ × ℤ) → p.0.w ≡ 0 → IsJoin old p old
@@ -178,3 +196,17 @@ full_mask m is some =
   where
     not_zero : (n : ℕ) → n ≡ 0 → (n == 0) ≡ false → ⊥
     not_zero n e no_zero = false≢true (sym no_zero ∙ ap (λ z. z == 0) e)
+
+-- the place from which a column is counted, as it is computed
+pub start_is : (u v x d : ℤ) → u ≡ to_z w32 (of_z w32 x) → v ≡ to_z w32 (of_z w32 d) → FitsSigned w32 x → FitsSigned w32 d → to_z w64 (of_z w64 (to_z w64 (of_z w64 u) -ℤ to_z w64 (of_z w64 v))) ≡ x -ℤ d
+start_is u v x d first second fits also = omega (arith, ints)
+
+-- the bytes of a sum that begins
+pub sum_mask : (b : PixelBox) (bytes : List ℕ) → IsExtent b → length bytes ≡ b.w * b.h → is_mask (record { x = b.x; y = b.y; w = b.w; h = b.h; bytes = bytes }) ≡ true
+sum_mask b bytes is count = elim (zero_or_more b.w) [
+  | inl none ↦ no_pixels b.x b.y b.w b.h bytes (is.x none) (is.y none) none (is.h none) count
+  | inr some ↦ mask_ok b.x b.y b.w b.h bytes count some (is.full some)
+]
+  where
+    no_pixels : (x y : ℤ) (w h : ℕ) (bytes : List ℕ) → x ≡ pos 0 → y ≡ pos 0 → w ≡ 0 → h ≡ 0 → length bytes ≡ w * h → is_mask (record { x = x; y = y; w = w; h = h; bytes = bytes }) ≡ true
+    no_pixels x y w h bytes e f g i count = let none : length bytes ≡ 0 = count ∙ ap (λ z. z * h) g ∙ omega arith in rw (e, f, g, i, none) refl

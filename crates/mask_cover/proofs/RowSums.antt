@@ -1,9 +1,12 @@
 -- The bytes of a mask, added row by row.
-use Rattle.std.proofs.Common.{◌≡◌, ℕ, zero, suc, min, ◌+◌, ◌-◌, ◌*◌, ◌<◌, ◌≤◌, ◌⊎◌, inl, inr, true, false, cond, nat_lt, ℤ, pos, negsuc, ◌+ℤ◌, ◌-ℤ◌, ◌<ℤ◌, ◌≤ℤ◌, List, length, get_or, refl, sym, ap, ◌∙◌, arith}
+use Rattle.std.proofs.Common.{◌≡◌, ℕ, zero, suc, min, ◌+◌, ◌-◌, ◌*◌, ◌<◌, ◌≤◌, ◌⊎◌, inl, inr, true, false, cond, nat_lt, ℤ, pos, negsuc, ◌+ℤ◌, ◌-ℤ◌, ◌<ℤ◌, ◌≤ℤ◌, List, [], ◌∷◌, length, take, drop, get_or, refl, sym, ap, ◌∙◌, subst, arith, replicate, length-take, length-drop, sum_by}
 use Rattle.std.proofs.Math.Nat.{mul-le-mul_left}
 use Rattle.std.proofs.lemmas.Int.{ints, by_lt_z}
 use Rattle.std.proofs.lemmas.Bool.Decides.{nat_tests}
-use Rattle.ass_num.specs.Coverage.{PixelBox, box_of, InBox, moved_value}
+use Rattle.std.proofs.lemmas.List.{get_or-take, get_or-drop, take_more, take_all}
+use Rattle.std.proofs.lemmas.List.Sums.{sum_by-append}
+use Rattle.std.specs.List.{Any}
+use Rattle.ass_num.specs.Coverage.{PixelBox, box_of, IsLeastBox, moved_value, IsMovedPixel, IsSum}
 use Rattle.ass_num.specs.Masks.{PlainMask, is_mask, value_at, offset_value}
 use Rattle.mask_cover.proofs.CoverLemmas.{distance}
 use Rattle.mask_cover.proofs.MaskLemmas.{cell_below, mask_length, offset_inside, offset_left, offset_above, value_inside, value_beside, value_over}
@@ -150,3 +153,54 @@ value_zero m all x y = offset_zero (x -ℤ m.x) (y -ℤ m.y)
     offset_zero (pos i) (pos j) = let none = all (j * m.w + i) in grind arith
     offset_zero (pos i) (negsuc j) = refl
     offset_zero (negsuc i) v = refl
+
+-- the bytes of a row of a mask
+pub part_is : (m : PlainMask) (bytes : List ℕ) (w j : ℕ) → bytes ≡ m.bytes → w ≡ m.w → is_mask m ≡ true → j < m.h
+    → (length (take ((j * w + w) - j * w) (drop (j * w) bytes)) ≡ m.w) × ((i : ℕ) → i < m.w → get_or (take ((j * w + w) - j * w) (drop (j * w) bytes)) i 0 ≡ get_or m.bytes (j * m.w + i) 0)
+part_is m bytes w j same wide is below =
+    let size : length bytes ≡ w * m.h = ap length same ∙ mask_length m is ∙ ap (λ z. z * m.h) (sym wide) in
+    let fits : j * w + w ≤ length bytes = part_fits j w m.h (length bytes) below size in
+    let n : (j * w + w) - j * w ≡ w = omega arith in
+    (
+      length-take ((j * w + w) - j * w) (drop (j * w) bytes) ∙ omega (arith, length-drop (j * w) bytes, fits, n, wide),
+      λ i lt.
+      let less : i < (j * w + w) - j * w = omega (arith, n, wide) in
+      get_or-take ((j * w + w) - j * w) (drop (j * w) bytes) i 0 less ∙ get_or-drop (j * w) bytes i 0
+      ∙ ap (λ z. get_or bytes (j * z + i) 0) wide ∙ ap (λ z. get_or z (j * m.w + i) 0) same,
+    )
+
+pub zeros : (n k : ℕ) → ◌≡◌ {A = ℕ} (get_or (replicate n 0) k 0) 0
+zeros zero k = refl
+zeros (suc n) zero = refl
+zeros (suc n) (suc k) = zeros n k
+
+-- ---- several masks
+
+-- the sum of the values of the first masks at a pixel
+pub first_sum : List (PlainMask × ℤ × ℤ) → ℕ → ℤ → ℤ → ℕ
+first_sum parts n x y = sum_by (λ p. moved_value p x y) (take n parts)
+
+pub sum_none : (parts : List (PlainMask × ℤ × ℤ)) (m : PlainMask) → ((x y : ℤ) → value_at m x y ≡ 0) → (x y : ℤ) → value_at m x y ≡ min 255 (first_sum parts 0 x y)
+unfolding first_sum
+sum_none parts m zero_there x y = zero_there x y
+
+pub sum_more : (parts : List (PlainMask × ℤ × ℤ)) (n : ℕ) (item : PlainMask × ℤ × ℤ) (old new : PlainMask) → n < length parts → item ≡ get_or parts n item → AddsMask item old new
+    → ((x y : ℤ) → value_at old x y ≡ min 255 (first_sum parts n x y)) → (x y : ℤ) → value_at new x y ≡ min 255 (first_sum parts (n + 1) x y)
+unfolding first_sum
+sum_more parts n item old new there is adds before x y =
+    let f : PlainMask × ℤ × ℤ → ℕ = λ p. moved_value p x y in
+    let more : sum_by f (take (n + 1) parts) ≡ sum_by f (take n parts) + sum_by f (get_or parts n item ∷ []) = ap (sum_by f) (take_more parts n item there) ∙ sum_by-append f (take n parts) (get_or parts n item ∷ []) in
+    let one : sum_by f (item ∷ []) ≡ moved_value item x y = omega arith in
+    let last : sum_by f (get_or parts n item ∷ []) ≡ moved_value item x y = ap (λ z. sum_by f (z ∷ [])) (sym is) ∙ one in
+    let value = adds.value x y in
+    let old_value = before x y in
+    omega (arith, value, old_value, more, last)
+
+pub sum_all : (parts : List (PlainMask × ℤ × ℤ)) (n : ℕ) (m : PlainMask) (b : PixelBox) → length parts ≤ n → ((x y : ℤ) → value_at m x y ≡ min 255 (first_sum parts n x y)) → box_of m ≡ b → IsLeastBox (λ x y. Any (λ p. IsMovedPixel p x y) parts) b → IsSum parts m
+unfolding first_sum
+sum_all parts n m b all value same least =
+    let P : PixelBox → Type 0 = λ z. IsLeastBox (λ x y. Any (λ p. IsMovedPixel p x y) parts) z in
+    record {
+      value = λ x y. value x y ∙ ap (λ z. min 255 (sum_by (λ p. moved_value p x y) z)) (take_all n parts all);
+      box = subst P (sym same) least;
+    }

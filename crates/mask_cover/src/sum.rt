@@ -55,12 +55,14 @@ impl MaskSum {
         requires { (i j : ℤ) → IsMovedPixel (mask.now, dx, dy) i j → InBox (box_of self.old) i j }
         ensures { AddsMask (mask.now, dx, dy) self.old self.new }
     {
+        let (left, top, width) = (self.x, self.y, self.w as usize);
+        let sums = self.bytes.as_mut_slice();
         if mask.bytes().is_empty() {
             return;
         }
-        let column = place_of(mask.x(), i64::from(self.x) - i64::from(dx));
-        let row = place_of(mask.y(), i64::from(self.y) - i64::from(dy));
-        add_rows(self.bytes.as_mut_slice(), self.w as usize, column, row, mask);
+        let column = place_of(mask.x(), i64::from(left) - i64::from(dx));
+        let row = place_of(mask.y(), i64::from(top) - i64::from(dy));
+        add_rows(sums, width, column, row, mask);
     }
 
     /// The mask of the sum.
