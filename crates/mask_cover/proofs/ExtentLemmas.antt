@@ -56,6 +56,7 @@ moved_corner x from by is first second =
 -- the first and the last pixel of a moved mask
 corner : (m : PlainMask) (dx dy : ℤ) → 0 < m.w → 0 < m.h → InBox (box_of m) ((m.x +ℤ dx) -ℤ dx) ((m.y +ℤ dy) -ℤ dy)
 corner m dx dy v g = record { left = omega (arith, ints); right = omega (arith, ints); top = omega (arith, ints); bottom = omega (arith, ints) }
+
 far_corner : (m : PlainMask) (dx dy : ℤ) → 0 < m.w → 0 < m.h → InBox (box_of m) ((((m.x +ℤ dx) +ℤ pos m.w) -ℤ pos 1) -ℤ dx) ((((m.y +ℤ dy) +ℤ pos m.h) -ℤ pos 1) -ℤ dy)
 far_corner m dx dy v g = record { left = omega (arith, ints); right = omega (arith, ints); top = omega (arith, ints); bottom = omega (arith, ints) }
 
@@ -65,46 +66,49 @@ join_is old p new extent wide high across down =
     let af = across.second_from in let at = across.second_to in let df = down.second_from in let dt = down.second_to in
     record {
       keeps = λ i j b.
-      let l = b.left in let r = b.right in let t = b.top in let u = b.bottom in
-      let w : 0 < old.w = omega (arith, ints) in
-      let h : 0 < old.h = omega (arith, ints) in
-      let x = across.first_from w in let xx = across.first_to w in let y = down.first_from h in let yy = down.first_to h in
-      record { left = omega (arith, ints); right = omega (arith, ints); top = omega (arith, ints); bottom = omega (arith, ints) };
+          let l = b.left in let r = b.right in let t = b.top in let u = b.bottom in
+          let w : 0 < old.w = omega (arith, ints) in
+          let h : 0 < old.h = omega (arith, ints) in
+          let x = across.first_from w in let xx = across.first_to w in let y = down.first_from h in let yy = down.first_to h in
+          record { left = omega (arith, ints); right = omega (arith, ints); top = omega (arith, ints); bottom = omega (arith, ints) };
       has = λ i j b.
-      let l = b.left in let r = b.right in let t = b.top in let u = b.bottom in
-      record { left = omega (arith, ints); right = omega (arith, ints); top = omega (arith, ints); bottom = omega (arith, ints) };
+          let l = b.left in let r = b.right in let t = b.top in let u = b.bottom in
+          record { left = omega (arith, ints); right = omega (arith, ints); top = omega (arith, ints); bottom = omega (arith, ints) };
       least = λ other keeps has i j b.
-      let l = b.left in let r = b.right in let t = b.top in let u = b.bottom in
-      let first : InBox other (p.0.x +ℤ p.1) (p.0.y +ℤ p.2) = has (p.0.x +ℤ p.1) (p.0.y +ℤ p.2) (corner p.0 p.1 p.2 wide high) in
-      let last : InBox other (((p.0.x +ℤ p.1) +ℤ pos p.0.w) -ℤ pos 1) (((p.0.y +ℤ p.2) +ℤ pos p.0.h) -ℤ pos 1) = has _ _ (far_corner p.0 p.1 p.2 wide high) in
-      let fl = first.left in let ft = first.top in let lr = last.right in let lb = last.bottom in
-      record {
-        left = elim across.begins [
-          | inl same ↦ omega (arith, ints)
-          | inr old_one ↦ let o = (keeps old.x old.y (own_corner old old_one.0 (extent.full old_one.0))).left in let e = old_one.1 in omega (arith, ints)
-        ];
-        right = elim across.ends [
-          | inl same ↦ omega (arith, ints)
-          | inr old_one ↦ let o = (keeps _ _ (own_far_corner old old_one.0 (extent.full old_one.0))).right in let e = old_one.1 in omega (arith, ints)
-        ];
-        top = elim down.begins [
-          | inl same ↦ omega (arith, ints)
-          | inr old_one ↦ let o = (keeps old.x old.y (own_corner old (some_width old extent old_one.0) old_one.0)).top in let e = old_one.1 in omega (arith, ints)
-        ];
-        bottom = elim down.ends [
-          | inl same ↦ omega (arith, ints)
-          | inr old_one ↦ let o = (keeps _ _ (own_far_corner old (some_width old extent old_one.0) old_one.0)).bottom in let e = old_one.1 in omega (arith, ints)
-        ];
-      };
+          let l = b.left in let r = b.right in let t = b.top in let u = b.bottom in
+          let first : InBox other (p.0.x +ℤ p.1) (p.0.y +ℤ p.2) = has (p.0.x +ℤ p.1) (p.0.y +ℤ p.2) (corner p.0 p.1 p.2 wide high) in
+          let last : InBox other (((p.0.x +ℤ p.1) +ℤ pos p.0.w) -ℤ pos 1) (((p.0.y +ℤ p.2) +ℤ pos p.0.h) -ℤ pos 1) = has _ _ (far_corner p.0 p.1 p.2 wide high) in
+          let fl = first.left in let ft = first.top in let lr = last.right in let lb = last.bottom in
+          record {
+            left = elim across.begins [
+              | inl same ↦ omega (arith, ints)
+              | inr old_one ↦ let o = (keeps old.x old.y (own_corner old old_one.0 (extent.full old_one.0))).left in let e = old_one.1 in omega (arith, ints)
+            ];
+            right = elim across.ends [
+              | inl same ↦ omega (arith, ints)
+              | inr old_one ↦ let o = (keeps _ _ (own_far_corner old old_one.0 (extent.full old_one.0))).right in let e = old_one.1 in omega (arith, ints)
+            ];
+            top = elim down.begins [
+              | inl same ↦ omega (arith, ints)
+              | inr old_one ↦ let o = (keeps old.x old.y (own_corner old (some_width old extent old_one.0) old_one.0)).top in let e = old_one.1 in omega (arith, ints)
+            ];
+            bottom = elim down.ends [
+              | inl same ↦ omega (arith, ints)
+              | inr old_one ↦ let o = (keeps _ _ (own_far_corner old (some_width old extent old_one.0) old_one.0)).bottom in let e = old_one.1 in omega (arith, ints)
+            ];
+          };
     }
   where
     own_corner : (b : PixelBox) → 0 < b.w → 0 < b.h → InBox b b.x b.y
     own_corner b v g = record { left = omega (arith, ints); right = omega (arith, ints); top = omega (arith, ints); bottom = omega (arith, ints) }
+
     own_far_corner : (b : PixelBox) → 0 < b.w → 0 < b.h → InBox b ((b.x +ℤ pos b.w) -ℤ pos 1) ((b.y +ℤ pos b.h) -ℤ pos 1)
     own_far_corner b v g = record { left = omega (arith, ints); right = omega (arith, ints); top = omega (arith, ints); bottom = omega (arith, ints) }
+
     zero_or : (n : ℕ) → (n ≡ 0) ⊎ (0 < n)
     zero_or zero = inl (omega arith)
     zero_or (suc n) = inr (omega arith)
+
     some_width : (b : PixelBox) → IsExtent b → 0 < b.h → 0 < b.w
     some_width b e g = elim (zero_or b.w) [ inl none ↦ let n = e.h none in absurd (omega arith) | inr some ↦ some ]
 
@@ -159,6 +163,7 @@ first_more parts n item old new there is join first = record {
     before_or k zero lt = inr (omega arith)
     before_or zero (suc m) lt = inl (omega arith)
     before_or (suc k) (suc m) lt = elim (before_or k m (omega arith)) [ inl l ↦ inl (omega arith) | inr e ↦ inr (omega arith) ]
+
     this : (k : ℕ) (p : PlainMask × ℤ × ℤ) → k ≡ n → k < length parts → get_or parts k p ≡ item
     this k p now here = same_item parts k p item here ∙ ap (λ z. get_or parts z item) now ∙ sym is
 
@@ -188,8 +193,7 @@ empty_mask m is none =
 
 pub full_mask : (m : PlainMask) → is_mask m ≡ true → (length m.bytes == 0) ≡ false → (0 < m.w) × (0 < m.h)
 full_mask m is some =
-    let count : length m.bytes ≡ m.w * m.h = mask_length m is in
-    (
+    let count : length m.bytes ≡ m.w * m.h = mask_length m is in (
       elim (zero_or_more m.w) [ inl none ↦ let e : length m.bytes ≡ 0 = count ∙ ap (λ z. z * m.h) none ∙ omega arith in absurd (not_zero (length m.bytes) e some) | inr more ↦ more ],
       elim (zero_or_more m.h) [ inl none ↦ let e : length m.bytes ≡ 0 = count ∙ ap (λ z. m.w * z) none ∙ omega arith in absurd (not_zero (length m.bytes) e some) | inr more ↦ more ],
     )

@@ -42,38 +42,39 @@ pub cells_more : (mask : PlainMask) (width column row j : ℕ) (old mid new part
 cells_more mask width column row j old mid new part fits below size bytes adds cells = record {
   cells = λ r i lt fit. elim (split r (row + j)) [
     | inl above ↦ let p : r * width + i < (row + j) * width = earlier r (row + j) i lt above in
-      adds.before (r * width + i) (omega (arith, p)) ∙ cells.cells r i lt fit
-      ∙ ap (λ z. min 255 (get_or old (r * width + i) 0 + z)) (cell_on mask column row j r i above ∙ sym (cell_on mask column row (j + 1) r i (omega arith)))
+        adds.before (r * width + i) (omega (arith, p)) ∙ cells.cells r i lt fit
+        ∙ ap (λ z. min 255 (get_or old (r * width + i) 0 + z)) (cell_on mask column row j r i above ∙ sym (cell_on mask column row (j + 1) r i (omega arith)))
     | inr more ↦ elim (split (row + j) r) [
       | inl behind ↦ let p : (row + j) * width + width ≤ r * width = later (row + j) r behind in
-        adds.behind (r * width + i) (omega (arith, p, size)) ∙ cells.cells r i lt fit
-        ∙ ap (λ z. min 255 (get_or old (r * width + i) 0 + z)) (cell_off mask column row j r i (omega arith) ∙ sym (cell_off mask column row (j + 1) r i (omega arith)))
+          adds.behind (r * width + i) (omega (arith, p, size)) ∙ cells.cells r i lt fit
+          ∙ ap (λ z. min 255 (get_or old (r * width + i) 0 + z)) (cell_off mask column row j r i (omega arith) ∙ sym (cell_off mask column row (j + 1) r i (omega arith)))
       | inr less ↦ let here : r ≡ row + j = omega arith in
-        let old_cell : get_or mid (r * width + i) 0 ≡ min 255 (get_or old (r * width + i) 0 + 0) = cells.cells r i lt fit ∙ ap (λ z. min 255 (get_or old (r * width + i) 0 + z)) (cell_off mask column row j r i more) in
-        let same_row : r * width ≡ (row + j) * width = ap (λ z. z * width) here in
-        let on = cell_on mask column row (j + 1) r i (omega arith) in
-        elim (split i column) [
-          | inl left ↦ let outside = offset_left mask (pos i -ℤ pos column) (pos r -ℤ pos row) (inl (omega (arith, ints))) in
-            let kept = adds.before (r * width + i) (omega (arith, same_row)) in omega (arith, kept, old_cell, on, outside)
-          | inr from ↦ elim (split i (column + mask.w)) [
-            | inl within ↦
-              let at : r * width + i ≡ ((row + j) * width + column) + (i - column) = omega (arith, same_row) in
-              let inside : get_or new (r * width + i) 0 ≡ min 255 (get_or mid (r * width + i) 0 + get_or part (i - column) 0) =
-              ap (λ z. get_or new z 0) at ∙ adds.inside (i - column) (omega (arith, size)) ∙ ap (λ z. min 255 (get_or mid z 0 + get_or part (i - column) 0)) (sym at) in
-              let byte : offset_value mask (pos i -ℤ pos column) (pos r -ℤ pos row) ≡ get_or mask.bytes (j * mask.w + (i - column)) 0 =
-              offset_inside mask (pos i -ℤ pos column) (pos r -ℤ pos row) (i - column) j (omega (arith, ints)) (omega (arith, ints)) (omega arith) below in
-              let read = bytes (i - column) (omega arith) in
-              omega (arith, inside, old_cell, on, byte, read)
-            | inr right ↦ let outside = offset_left mask (pos i -ℤ pos column) (pos r -ℤ pos row) (inr (omega (arith, ints))) in
-              let kept = adds.behind (r * width + i) (omega (arith, same_row, size)) in omega (arith, kept, old_cell, on, outside)
+          let old_cell : get_or mid (r * width + i) 0 ≡ min 255 (get_or old (r * width + i) 0 + 0) = cells.cells r i lt fit ∙ ap (λ z. min 255 (get_or old (r * width + i) 0 + z)) (cell_off mask column row j r i more) in
+          let same_row : r * width ≡ (row + j) * width = ap (λ z. z * width) here in
+          let on = cell_on mask column row (j + 1) r i (omega arith) in
+          elim (split i column) [
+            | inl left ↦ let outside = offset_left mask (pos i -ℤ pos column) (pos r -ℤ pos row) (inl (omega (arith, ints))) in
+                let kept = adds.before (r * width + i) (omega (arith, same_row)) in omega (arith, kept, old_cell, on, outside)
+            | inr from ↦ elim (split i (column + mask.w)) [
+              | inl within ↦
+                  let at : r * width + i ≡ ((row + j) * width + column) + (i - column) = omega (arith, same_row) in
+                  let inside : get_or new (r * width + i) 0 ≡ min 255 (get_or mid (r * width + i) 0 + get_or part (i - column) 0) =
+                  ap (λ z. get_or new z 0) at ∙ adds.inside (i - column) (omega (arith, size)) ∙ ap (λ z. min 255 (get_or mid z 0 + get_or part (i - column) 0)) (sym at) in
+                  let byte : offset_value mask (pos i -ℤ pos column) (pos r -ℤ pos row) ≡ get_or mask.bytes (j * mask.w + (i - column)) 0 =
+                  offset_inside mask (pos i -ℤ pos column) (pos r -ℤ pos row) (i - column) j (omega (arith, ints)) (omega (arith, ints)) (omega arith) below in
+                  let read = bytes (i - column) (omega arith) in
+                  omega (arith, inside, old_cell, on, byte, read)
+              | inr right ↦ let outside = offset_left mask (pos i -ℤ pos column) (pos r -ℤ pos row) (inr (omega (arith, ints))) in
+                  let kept = adds.behind (r * width + i) (omega (arith, same_row, size)) in omega (arith, kept, old_cell, on, outside)
+            ]
           ]
-        ]
     ]
   ];
 }
   where
     earlier : (a b i : ℕ) → i < width → a < b → a * width + i < b * width
     earlier a b i lt less = omega (arith, cell_below i a width b lt less)
+
     later : (a b : ℕ) → a < b → a * width + width ≤ b * width
     later a b less = let more : a + 1 ≤ b = omega arith in omega (arith, mul-le-mul_left width more)
 
@@ -138,10 +139,12 @@ add_none p old none bytes = record {
     outside x y = by_lt_z (x -ℤ p.1) p.0.x
         (λ (l : (x -ℤ p.1) <ℤ p.0.x). value_beside p.0 (x -ℤ p.1) (y -ℤ p.2) (inl l))
         (λ (l : p.0.x ≤ℤ (x -ℤ p.1)). value_beside p.0 (x -ℤ p.1) (y -ℤ p.2) (inr (omega (arith, ints))))
+
     offset_small : (m : PlainMask) → ((k : ℕ) → get_or m.bytes k 0 ≤ 255) → (u v : ℤ) → offset_value m u v ≤ 255
     offset_small m all (pos i) (pos j) = let small = all (j * m.w + i) in grind arith
     offset_small m all (pos i) (negsuc j) = omega arith
     offset_small m all (negsuc i) v = omega arith
+
     value_small : (m : PlainMask) → ((k : ℕ) → get_or m.bytes k 0 ≤ 255) → (x y : ℤ) → value_at m x y ≤ 255
     value_small m all x y = offset_small m all (x -ℤ m.x) (y -ℤ m.y)
 
@@ -160,13 +163,12 @@ pub part_is : (m : PlainMask) (bytes : List ℕ) (w j : ℕ) → bytes ≡ m.byt
 part_is m bytes w j same wide is below =
     let size : length bytes ≡ w * m.h = ap length same ∙ mask_length m is ∙ ap (λ z. z * m.h) (sym wide) in
     let fits : j * w + w ≤ length bytes = part_fits j w m.h (length bytes) below size in
-    let n : (j * w + w) - j * w ≡ w = omega arith in
-    (
+    let n : (j * w + w) - j * w ≡ w = omega arith in (
       length-take ((j * w + w) - j * w) (drop (j * w) bytes) ∙ omega (arith, length-drop (j * w) bytes, fits, n, wide),
       λ i lt.
-      let less : i < (j * w + w) - j * w = omega (arith, n, wide) in
-      get_or-take ((j * w + w) - j * w) (drop (j * w) bytes) i 0 less ∙ get_or-drop (j * w) bytes i 0
-      ∙ ap (λ z. get_or bytes (j * z + i) 0) wide ∙ ap (λ z. get_or z (j * m.w + i) 0) same,
+          let less : i < (j * w + w) - j * w = omega (arith, n, wide) in
+          get_or-take ((j * w + w) - j * w) (drop (j * w) bytes) i 0 less ∙ get_or-drop (j * w) bytes i 0
+          ∙ ap (λ z. get_or bytes (j * z + i) 0) wide ∙ ap (λ z. get_or z (j * m.w + i) 0) same,
     )
 
 pub zeros : (n k : ℕ) → ◌≡◌ {A = ℕ} (get_or (replicate n 0) k 0) 0
