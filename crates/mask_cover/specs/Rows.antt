@@ -1,5 +1,5 @@
 -- Bytes that are added to rows of bytes, up to 255.
-use Rattle.std.specs.Prelude.{◌≡◌, ℕ, ℤ, pos, ◌+◌, ◌*◌, ◌<◌, ◌≤◌, ◌-ℤ◌, min, nat_lt, if◌then◌else◌, List, length, slice_index}
+use Rattle.std.specs.Prelude.{◌≡◌, ℕ, pos, ◌+◌, ◌*◌, ◌<◌, ◌≤◌, ◌-ℤ◌, min, nat_lt, if◌then◌else◌, List, length, slice_index}
 use Rattle.ass_num.specs.Masks.{PlainMask, offset_value}
 
 -- Each byte is added to the one at its place from `from` on; the others stay.

@@ -1,7 +1,4 @@
-use Rattle.std.proofs.Common.{◌≡◌, ℕ, ◌+◌, ◌*◌, ◌<◌, ◌≤◌, ◌==◌, true, false, ℤ, pos, ◌+ℤ◌, ◌-ℤ◌, ◌≤ℤ◌, List, length, get_or, refl, w32, w64, to_z, of_z, sym, ap, ◌∙◌, subst, arith, rules}
-use Rattle.std.proofs.lemmas.Int.{ints, to_z-of_z}
-use Rattle.std.specs.Int.RustNames.{FitsSigned}
-use Rattle.ass_num.specs.Masks.{PlainMask, is_mask}
+use Rattle.std.proofs.Common.{◌<◌, arith}
 use Rattle.mask_cover.proofs.RowSums.{cells_more, part_is}
 use Rattle.mask_cover.proofs.sum.add_rows.Goals as goal
 

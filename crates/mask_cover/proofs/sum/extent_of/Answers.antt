@@ -1,7 +1,7 @@
-use Rattle.std.proofs.Common.{◌≡◌, ℕ, ◌+◌, ◌*◌, ◌<◌, ◌≤◌, ◌==◌, true, false, ℤ, pos, ◌+ℤ◌, ◌-ℤ◌, ◌≤ℤ◌, List, length, get_or, refl, w32, w64, to_z, of_z, sym, ap, ◌∙◌, subst, arith, rules}
-use Rattle.std.proofs.lemmas.Int.{ints, to_z-of_z}
+use Rattle.std.proofs.Common.{ℤ, w32, rules}
+use Rattle.std.proofs.lemmas.Int.{to_z-of_z}
 use Rattle.std.specs.Int.RustNames.{FitsSigned}
-use Rattle.ass_num.specs.Masks.{PlainMask, is_mask}
+use Rattle.ass_num.specs.Masks.{PlainMask}
 use Rattle.mask_cover.specs.Sums.{IsJoin}
 use Rattle.mask_cover.proofs.ExtentLemmas.{first_more, first_all}
 use Rattle.mask_cover.proofs.sum.extent_of.Goals as goal

@@ -1,9 +1,8 @@
-use Rattle.std.proofs.Common.{◌≡◌, ℕ, ◌+◌, ◌*◌, ◌<◌, ◌≤◌, ◌==◌, true, false, ℤ, pos, ◌+ℤ◌, ◌-ℤ◌, ◌≤ℤ◌, List, length, get_or, refl, w8, w32, w64, to_z, of_z, vec_len, sym, ap, ◌∙◌, subst, arith, rules}
-use Rattle.std.proofs.Math.Nat.{mul-le-mul_left}
-use Rattle.std.proofs.lemmas.Int.{ints, to_z-of_z}
+use Rattle.std.proofs.Common.{ℤ, refl, w32, sym, ◌∙◌, subst, rules}
+use Rattle.std.proofs.lemmas.Int.{to_z-of_z}
 use Rattle.std.specs.Int.RustNames.{FitsSigned}
-use Rattle.ass_num.specs.Coverage.{PixelBox, box_of, InBox, IsMovedPixel}
-use Rattle.ass_num.specs.Masks.{PlainMask, is_mask}
+use Rattle.ass_num.specs.Coverage.{PixelBox, InBox, IsMovedPixel}
+use Rattle.ass_num.specs.Masks.{PlainMask}
 use Rattle.mask_cover.specs.Sums.{AddsMask}
 use Rattle.mask_cover.proofs.RowSums.{sum_none, sum_more, sum_all}
 use Rattle.mask_cover.proofs.sum.sum_of.Goals as goal

@@ -1,6 +1,5 @@
-use Rattle.std.proofs.Common.{◌≡◌, ℕ, ◌*◌, ◌<◌, ◌==◌, true, false, ℤ, pos, ◌+ℤ◌, ◌-ℤ◌, ◌≤ℤ◌, length, get_or, w32, w64, to_z, of_z, sym, ap, ◌∙◌, subst, arith, rules}
-use Rattle.std.proofs.lemmas.Int.{ints, clamps, to_z-of_z}
-use Rattle.std.specs.Int.{int_min, int_max}
+use Rattle.std.proofs.Common.{◌≡◌, ◌==◌, true, false, ℤ, ◌+ℤ◌, length, w32, sym, ap, ◌∙◌, subst, arith, rules}
+use Rattle.std.proofs.lemmas.Int.{to_z-of_z}
 use Rattle.std.specs.Int.RustNames.{FitsSigned}
 use Rattle.ass_num.specs.Coverage.{PixelBox}
 use Rattle.ass_num.specs.Masks.{PlainMask}

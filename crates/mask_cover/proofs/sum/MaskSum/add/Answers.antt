@@ -1,11 +1,11 @@
-use Rattle.std.proofs.Common.{◌≡◌, ℕ, ◌+◌, ◌*◌, ◌<◌, ◌≤◌, ◌==◌, true, false, ℤ, pos, ◌+ℤ◌, ◌-ℤ◌, ◌≤ℤ◌, List, length, get_or, refl, Fits, w8, w32, w64, to_z, of_z, vec_len, sym, ap, ◌∙◌, subst, arith, rules}
+use Rattle.std.proofs.Common.{◌≡◌, ℕ, ◌+◌, ◌*◌, ◌≤◌, ◌==◌, true, false, ℤ, pos, ◌+ℤ◌, ◌-ℤ◌, List, length, get_or, Fits, w8, w32, to_z, of_z, sym, ap, ◌∙◌, subst, arith, rules}
 use Rattle.std.proofs.Math.Nat.{mul-le-mul_left}
 use Rattle.std.proofs.lemmas.Int.{ints, to_z-of_z}
 use Rattle.std.proofs.lemmas.List.{with_items_is}
 use Rattle.std.specs.Int.RustNames.{FitsSigned}
 use Rattle.std.specs.Vec.{with_items}
-use Rattle.ass_num.specs.Coverage.{PixelBox, box_of, InBox, IsMovedPixel}
-use Rattle.ass_num.specs.Masks.{PlainMask, is_mask}
+use Rattle.ass_num.specs.Coverage.{box_of, InBox, IsMovedPixel}
+use Rattle.ass_num.specs.Masks.{PlainMask}
 use Rattle.mask_cover.specs.Rows.{AddsCells}
 use Rattle.mask_cover.specs.Sums.{AddsMask}
 use Rattle.mask_cover.proofs.MaskLemmas.{mask_length}

@@ -1,9 +1,7 @@
-use Rattle.std.proofs.Common.{◌≡◌, ℕ, ◌+◌, ◌*◌, ◌<◌, ◌≤◌, ◌==◌, true, false, ℤ, pos, ◌+ℤ◌, ◌-ℤ◌, ◌≤ℤ◌, List, length, get_or, refl, w8, w32, w64, to_z, of_z, vec_len, sym, ap, ◌∙◌, subst, arith, rules}
-use Rattle.std.proofs.Math.Nat.{mul-le-mul_left}
-use Rattle.std.proofs.lemmas.Int.{ints, to_z-of_z}
+use Rattle.std.proofs.Common.{◌≡◌, ℕ, ◌*◌, List, length, get_or, w32, vec_len, sym, ap, ◌∙◌, rules}
+use Rattle.std.proofs.lemmas.Int.{to_z-of_z}
 use Rattle.std.specs.Int.RustNames.{FitsSigned}
-use Rattle.ass_num.specs.Coverage.{PixelBox, box_of, InBox, IsMovedPixel}
-use Rattle.ass_num.specs.Masks.{PlainMask, is_mask}
+use Rattle.ass_num.specs.Coverage.{PixelBox}
 use Rattle.mask_cover.proofs.ExtentLemmas.{sum_mask}
 use Rattle.mask_cover.proofs.RowSums.{value_zero, zeros}
 use Rattle.mask_cover.proofs.sum.MaskSum.new.Goals as goal
