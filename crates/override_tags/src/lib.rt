@@ -1,0 +1,20 @@
+//! Texts of events: characters, breaks, and the override tags in blocks.
+#![tactic(auto)]
+
+mod block;
+mod cut;
+mod item;
+mod read;
+mod scan;
+mod setting;
+mod tag;
+#[cfg(test)]
+mod tests;
+mod transform;
+pub mod view;
+
+pub use item::{Item, ItemKind};
+pub use read::read_text;
+pub use tag::{ClipTag, Tag};
+pub use tag_arguments::{Num, Sung};
+pub use view::{EventView, Shown, ShownKind, State, Syllable};
