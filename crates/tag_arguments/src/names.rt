@@ -1,10 +1,16 @@
 //! The table of names.
 
+ghost use Rattle.std.specs.Prelude.{◌≡◌, ◌∷◌, [], map, slice_index};
+ghost use Rattle.std.specs.Option.{option_map};
+ghost use Rattle.tag_arguments.specs.Names.{name_in, names_on, longest_name, tag_name};
+
 use crate::cut::past_blanks;
 use crate::kinds::{Num, Sung, TagName};
 
 /// The first of the names that the text begins with: what it stands for, and the text behind it.
-fn first_name<'a>(text: &'a str, rows: &[(&'static str, TagName)]) -> Option<(TagName, &'a str)> {
+fn first_name<'a>(text: &'a str, rows: &[(&'static str, TagName)]) -> Option<(TagName, &'a str)>
+    ensures { option_map (λ found. (found.0, found.1.now)) result ≡ name_in (map (λ row. (row.0.now, row.1)) rows.now) text.now }
+{
     for (name, meaning) in rows {
         if let Some(rest) = text.strip_prefix(*name) {
             return Some((*meaning, rest));
@@ -13,7 +19,9 @@ fn first_name<'a>(text: &'a str, rows: &[(&'static str, TagName)]) -> Option<(Ta
     None
 }
 
-fn name_on_f(text: &str) -> Option<(TagName, &str)> {
+fn name_on_f(text: &str) -> Option<(TagName, &str)>
+    ensures { option_map (λ found. (found.0, found.1.now)) result ≡ name_in (names_on 102) text.now }
+{
     first_name(
         text,
         &[
@@ -36,9 +44,11 @@ fn name_on_f(text: &str) -> Option<(TagName, &str)> {
     )
 }
 
-/// The longest name that the text begins with: what it stands for, and the text behind it.
-fn longest_name(text: &str) -> Option<(TagName, &str)> {
-    match text.as_bytes().first()? {
+/// The first of the names on a letter that the text begins with.
+fn name_on(first: u8, text: &str) -> Option<(TagName, &str)>
+    ensures { option_map (λ found. (found.0, found.1.now)) result ≡ name_in (names_on first) text.now }
+{
+    match first {
         b'1' => first_name(
             text,
             &[("1c", TagName::Colour(1)), ("1a", TagName::Alpha(1))],
@@ -133,7 +143,20 @@ fn longest_name(text: &str) -> Option<(TagName, &str)> {
     }
 }
 
+/// The longest name that the text begins with: what it stands for, and the text behind it.
+#[tactic(auto, unfolding(crate::specs::Names::longest_name))]
+fn longest_name(text: &str) -> Option<(TagName, &str)>
+    ensures { option_map (λ found. (found.0, found.1.now)) result ≡ longest_name text.now }
+{
+    match text.as_bytes().first() {
+        Some(first) => name_on(*first, text),
+        None => None,
+    }
+}
+
 /// What the text of a tag behind its `\` says first: blanks, and then a name. With what the name stands for comes the text behind it.
-pub fn tag_name(text: &str) -> Option<(TagName, &str)> {
+pub fn tag_name(text: &str) -> Option<(TagName, &str)>
+    ensures { option_map (λ found. (found.0, found.1.now)) result ≡ tag_name text.now }
+{
     longest_name(past_blanks(text))
 }

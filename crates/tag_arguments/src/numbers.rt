@@ -1,50 +1,99 @@
 //! Arguments that are numbers.
 
-use crate::cut::trimmed;
+ghost use Rattle.std.specs.Prelude.{◌≡◌, ◌+◌, ◌<◌, ◌∷◌, [], length, IfSome, IsNone, MatchOption};
+ghost use Rattle.std.specs.Option.{option_map, option_copied};
+ghost use Rattle.ass_num.specs.Numerals.{IsMilli};
+ghost use Rattle.tag_arguments.specs.Cuts.{bracketed};
+ghost use Rattle.tag_arguments.specs.Numbers.{ReadsOptional, ReadsFront, ReadsNumbers, ReadsBracketed, pieces, counted_pieces, left_pieces};
+
+use crate::cut::{bracketed, trimmed};
+use arrayvec::ArrayVec;
 use ass_num::{Milli, read_milli};
 
-/// An optional number: none where the argument isn't empty and no number stands at its front.
-pub fn read_number(argument: &str) -> Option<Option<Milli>> {
+/// The numbers of an argument.
+pub type Numbers = ArrayVec<Milli, 7>;
+
+/// The number at the front of an argument.
+pub fn read_front(argument: &str) -> Option<Milli>
+    ensures { ReadsFront IsMilli argument.now result }
+{
+    match read_milli(argument.as_bytes()) {
+        Some((value, _len)) => Some(value),
+        None => None,
+    }
+}
+
+/// An argument that is empty, or begins with a number.
+pub fn read_number(argument: &str) -> Option<Option<Milli>>
+    ensures { ReadsOptional IsMilli argument.now result }
+{
     if argument.is_empty() {
         return Some(None);
     }
-    let (value, _len) = read_milli(argument.as_bytes())?;
-    Some(Some(value))
+    match read_front(argument) {
+        Some(value) => Some(Some(value)),
+        None => None,
+    }
+}
+
+/// A text without a comma as its only piece, unless that doesn't count.
+fn only_piece(text: &str, drops_blank: bool) -> Option<(&str, Option<&str>)>
+    requires { pieces text.now ≡ text.now ∷ [] }
+    ensures pieces { MatchOption result
+        (counted_pieces drops_blank text.now ≡ [])
+        (λ next. counted_pieces drops_blank text.now ≡ next.0.now ∷ left_pieces drops_blank (option_copied next.1)) }
+    ensures last { IfSome result (λ next. IsNone next.1) }
+{
+    if drops_blank {
+        if trimmed(text).is_empty() {
+            return None;
+        }
+        return Some((text, None));
+    }
+    Some((text, None))
+}
+
+/// The first piece of a text that counts, and what stands behind the comma after it.
+fn next_piece(text: &str, drops_blank: bool) -> Option<(&str, Option<&str>)>
+    ensures pieces { MatchOption result
+        (counted_pieces drops_blank text.now ≡ [])
+        (λ next. counted_pieces drops_blank text.now ≡ next.0.now ∷ left_pieces drops_blank (option_copied next.1)) }
+    ensures shorter { IfSome result (λ next. IfSome next.1 (λ rest. length rest.now < length text.now)) }
+{
+    match text.split_once(',') {
+        Some((piece, rest)) => Some((piece, Some(rest))),
+        None => only_piece(text, drops_blank),
+    }
+}
+
+/// The numbers between the commas of a text. There are none where some piece doesn't begin with a
+/// number, or there are more than seven. A blank last piece may be dropped.
+pub fn number_list(text: &str, drops_blank: bool) -> Option<Numbers>
+    ensures { ReadsNumbers (counted_pieces drops_blank text.now) (option_map (λ numbers. numbers.items) result) }
+{
+    let mut numbers = ArrayVec::new();
+    let mut rest = Some(text);
+    while let Some(current) = rest {
+        let Some((piece, more)) = next_piece(current, drops_blank) else {
+            return Some(numbers);
+        };
+        let Some(value) = read_front(trimmed(piece)) else {
+            return None;
+        };
+        match numbers.try_push(value) {
+            Ok(()) => rest = more,
+            Err(_full) => return None,
+        }
+    }
+    Some(numbers)
 }
 
 /// The numbers of an argument in brackets.
-#[derive(Clone, Copy, Debug)]
-pub struct Numbers {
-    values: [Milli; 7],
-    count: usize,
-}
-
-impl Numbers {
-    pub fn as_slice(&self) -> &[Milli] {
-        &self.values[..self.count]
+pub fn bracketed_numbers(text: &str) -> Option<Numbers>
+    ensures { ReadsBracketed (bracketed text.now) (option_map (λ numbers. numbers.items) result) }
+{
+    match bracketed(text) {
+        Some(inside) => number_list(inside, false),
+        None => None,
     }
-}
-
-/// The numbers between the commas, of which there are one to seven; none where some piece has no number at its front.
-pub fn number_list(text: &str) -> Option<Numbers> {
-    let mut values = [0; 7];
-    let mut rest = text;
-    for count in 0..7 {
-        let (piece, more) = match rest.split_once(',') {
-            Some((piece, more)) => (piece, Some(more)),
-            None => (rest, None),
-        };
-        let (value, _len) = read_milli(trimmed(piece).as_bytes())?;
-        values[count] = value;
-        match more {
-            Some(more) => rest = more,
-            None => {
-                return Some(Numbers {
-                    values,
-                    count: count + 1,
-                });
-            }
-        }
-    }
-    None
 }
