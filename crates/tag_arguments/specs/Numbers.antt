@@ -1,8 +1,8 @@
 -- Arguments that are numbers.
-use Rattle.std.specs.Prelude.{◌≡◌, ◌≢◌, ℕ, ◌==◌, ◌≤◌, Bool, true, if◌then◌else◌, ℤ, List, [], ◌∷◌, length, Option, Some, None}
+use Rattle.std.specs.Prelude.{◌≡◌, ◌≢◌, ℕ, ◌==◌, ◌≤◌, Bool, true, false, MatchBool, if◌then◌else◌, ℤ, List, [], ◌∷◌, length, Option, Some, None}
 use Rattle.std.specs.List.{slice_split}
 use Rattle.ass_num.specs.Fronts.{BeginsWith, HasNoFront}
-use Rattle.ass_num.specs.Numerals.{IsMilli}
+use Rattle.ass_num.specs.Numerals.{IsMilli, is_sign}
 use Rattle.tag_arguments.specs.Cuts.{trimmed, bracketed}
 
 -- An argument that may be empty. Where it isn't, its front spells a value; none is read where no front does.
@@ -10,6 +10,15 @@ abbrev pub ReadsOptional : {V : Type 0} → (List ℕ → V → Type 0) → List
 ReadsOptional Spells argument None = (argument ≢ []) × HasNoFront Spells argument
 ReadsOptional Spells argument (Some None) = argument ≡ []
 ReadsOptional Spells argument (Some (Some value)) = (argument ≢ []) × BeginsWith Spells argument value
+
+-- a `+` or a `-` stands at the front
+abbrev pub begins_signed : List ℕ → Bool
+begins_signed [] = false
+begins_signed (c ∷ _) = is_sign c
+
+-- An argument that may be empty, or else is a number without a sign.
+abbrev pub ReadsUnsigned : List ℕ → Option (Option ℤ) → Type 0
+ReadsUnsigned argument value = MatchBool (begins_signed argument) (value ≡ None) (ReadsOptional IsMilli argument value)
 
 -- The front of an argument spells a value; none is read where no front does.
 abbrev pub ReadsFront : {V : Type 0} → (List ℕ → V → Type 0) → List ℕ → Option V → Type 0

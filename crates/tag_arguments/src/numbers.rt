@@ -1,10 +1,10 @@
 //! Arguments that are numbers.
 
-ghost use Rattle.std.specs.Prelude.{◌≡◌, ◌+◌, ◌<◌, ◌∷◌, [], length, IfSome, IsNone, MatchOption};
+ghost use Rattle.std.specs.Prelude.{◌≡◌, ◌+◌, ◌<◌, ◌∷◌, [], length, IfSome, IfNone, IsNone, MatchOption};
 ghost use Rattle.std.specs.Option.{option_map, option_copied};
 ghost use Rattle.ass_num.specs.Numerals.{IsMilli};
 ghost use Rattle.tag_arguments.specs.Cuts.{bracketed};
-ghost use Rattle.tag_arguments.specs.Numbers.{ReadsOptional, ReadsFront, ReadsNumbers, ReadsBracketed, pieces, counted_pieces, left_pieces};
+ghost use Rattle.tag_arguments.specs.Numbers.{begins_signed, ReadsUnsigned, ReadsOptional, ReadsFront, ReadsNumbers, ReadsBracketed, pieces, counted_pieces, left_pieces};
 
 use crate::cut::{bracketed, trimmed};
 use arrayvec::ArrayVec;
@@ -36,6 +36,35 @@ pub fn read_number(argument: &str) -> Option<Option<Milli>>
     }
 }
 
+/// Whether a sign stands at the front of an argument.
+fn is_signed(argument: &[u8]) -> bool
+    ensures { result ≡ begins_signed argument.now }
+{
+    matches!(argument, [b'+' | b'-', ..])
+}
+
+/// An argument that is empty, or begins with a number without a sign.
+pub fn read_unsigned(argument: &str) -> Option<Option<Milli>>
+    ensures { ReadsUnsigned argument.now result }
+{
+    if is_signed(argument.as_bytes()) {
+        return None;
+    }
+    read_number(argument)
+}
+
+/// The first piece of a text, and what stands behind the comma after it.
+pub fn first_piece(text: &str) -> (&str, Option<&str>)
+    ensures pieces { MatchOption result.1 (pieces text.now ≡ result.0.now ∷ []) (λ rest. pieces text.now ≡ result.0.now ∷ pieces rest.now) }
+    ensures whole { IfNone result.1 (result.0.now ≡ text.now) }
+    ensures shorter { IfSome result.1 (λ rest. length rest.now < length text.now) }
+{
+    match text.split_once(',') {
+        Some((piece, rest)) => (piece, Some(rest)),
+        None => (text, None),
+    }
+}
+
 /// A text without a comma as its only piece, unless that doesn't count.
 fn only_piece(text: &str, drops_blank: bool) -> Option<(&str, Option<&str>)>
     requires { pieces text.now ≡ text.now ∷ [] }
@@ -60,8 +89,9 @@ fn next_piece(text: &str, drops_blank: bool) -> Option<(&str, Option<&str>)>
         (λ next. counted_pieces drops_blank text.now ≡ next.0.now ∷ left_pieces drops_blank (option_copied next.1)) }
     ensures shorter { IfSome result (λ next. IfSome next.1 (λ rest. length rest.now < length text.now)) }
 {
-    match text.split_once(',') {
-        Some((piece, rest)) => Some((piece, Some(rest))),
+    let (piece, rest) = first_piece(text);
+    match rest {
+        Some(rest) => Some((piece, Some(rest))),
         None => only_piece(text, drops_blank),
     }
 }
