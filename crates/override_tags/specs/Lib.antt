@@ -1,4 +1,5 @@
 pub mod Fronts
+pub mod Items
 pub mod Readings
 pub mod Singles
 pub mod Tags

@@ -75,6 +75,14 @@ fade_of (Some (a1 ∷ (a2 ∷ (a3 ∷ (t1 ∷ (t2 ∷ (t3 ∷ (t4 ∷ []))))))))
     Some (Fade (whole a1 ∷ (whole a2 ∷ (whole a3 ∷ (whole t1 ∷ (whole t2 ∷ (whole t3 ∷ (whole t4 ∷ []))))))))
 fade_of _ = None
 
+-- the tag of a name by numbers in brackets
+abbrev pub numbered_of : TagName → Option (List ℤ) → Option Tag
+numbered_of name.Pos values = pos_of values
+numbered_of name.Move values = move_of values
+numbered_of name.Org values = org_of values
+numbered_of name.Fade values = fade_of values
+numbered_of _ values = None
+
 -- x1, y1, x2, y2
 abbrev pub rectangle_of : Bool → Option (List ℤ) → Option Tag
 rectangle_of inverse (Some (x1 ∷ (y1 ∷ (x2 ∷ (y2 ∷ []))))) = Some (Clip (Rect (x1 ∷ (y1 ∷ (x2 ∷ (y2 ∷ [])))) inverse))
@@ -103,9 +111,9 @@ abbrev pub ReadsClip : Bool → Option (List ℕ) → Option Tag → Type 0
 ReadsClip inverse None tag = tag ≡ None
 ReadsClip inverse (Some inside) tag = ReadsClipPieces inverse (pieces inside) tag
 
--- a tag by its numbers in brackets
-abbrev pub ReadsNumbered : (Option (List ℤ) → Option Tag) → List ℕ → Option Tag → Type 0
-ReadsNumbered tag_of rest tag = (values : Option (List ℤ)) × ReadsBracketed (bracketed rest) values × (tag ≡ tag_of values)
+-- a tag of a name by the numbers in brackets behind it
+abbrev pub ReadsNumbered : TagName → List ℕ → Option Tag → Type 0
+ReadsNumbered name rest tag = (values : Option (List ℤ)) × ReadsBracketed (bracketed rest) values × (tag ≡ numbered_of name values)
 
 -- The tag of a name and the text behind it. There is none where the text isn't an argument of the name.
 abbrev pub ReadsSingle : TagName → List ℕ → Option Tag → Type 0
@@ -119,10 +127,10 @@ ReadsSingle name.Reset rest tag = tag ≡ Some (Reset (plain_argument rest))
 ReadsSingle name.Align rest tag = (value : Option ℤ) × ReadsFront IsMilli (plain_argument rest) value × (tag ≡ align_of value)
 ReadsSingle name.OldAlign rest tag = (value : Option ℤ) × ReadsFront IsMilli (plain_argument rest) value × (tag ≡ old_align_of value)
 ReadsSingle (name.Karaoke kind) rest tag = (value : Option ℤ) × ReadsFront IsMilli (plain_argument rest) value × (tag ≡ karaoke_of kind value)
-ReadsSingle name.Pos rest tag = ReadsNumbered pos_of rest tag
-ReadsSingle name.Move rest tag = ReadsNumbered move_of rest tag
-ReadsSingle name.Org rest tag = ReadsNumbered org_of rest tag
-ReadsSingle name.Fade rest tag = ReadsNumbered fade_of rest tag
+ReadsSingle name.Pos rest tag = ReadsNumbered name.Pos rest tag
+ReadsSingle name.Move rest tag = ReadsNumbered name.Move rest tag
+ReadsSingle name.Org rest tag = ReadsNumbered name.Org rest tag
+ReadsSingle name.Fade rest tag = ReadsNumbered name.Fade rest tag
 ReadsSingle (name.Clip inverse) rest tag = ReadsClip inverse (bracketed rest) tag
 ReadsSingle name.Transform rest tag = tag ≡ None
 ReadsSingle name.Skipped rest tag = tag ≡ None

@@ -33,6 +33,21 @@ before_tags text = take (position_or_len (λ c. c == 92) text) text
 abbrev pub from_tags : List ℕ → List ℕ
 from_tags text = drop (position_or_len (λ c. c == 92) text) text
 
+-- A text that is empty or begins with a `\`.
+abbrev pub BeginsTag : List ℕ → Type 0
+BeginsTag [] = Unit {0}
+BeginsTag (c ∷ _) = c ≡ 92
+
+-- The text of the tag at the front of a text, and what stands behind the tag.
+pub record IsNextTag (text tag rest : List ℕ) : Type 0 where
+  pub behind : List ℕ
+  pub spelled : text ≡ 92 ∷ behind
+  pub tag_is : tag ≡ take (tag_len behind) behind
+  pub rest_is : rest ≡ drop (tag_len behind) behind
+  pub len : length tag ≡ tag_len behind
+  pub shorter : length rest + (1 + length tag) ≡ length text
+  pub begins : BeginsTag rest
+
 -- an accel in quarters, to the nearest, held within 1 and 32
 abbrev pub quarters_of : ℤ → ℕ
 quarters_of accel = unsigned_abs (held (pos 1) (pos 32) (floor_div ((accel *ℤ pos 4) +ℤ pos 500) (pos 1000)))

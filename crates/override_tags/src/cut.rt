@@ -1,18 +1,32 @@
 //! The texts of tags one after another.
 
+ghost use Rattle.std.specs.Prelude.{◌≡◌, ◌+◌, ◌∷◌, length, [], IfNone, IfSome};
+ghost use Rattle.override_tags.specs.Tags.{before_tags, from_tags, BeginsTag, IsNextTag};
+
 use tag_arguments::tag_len;
 
 /// What stands before the first `\`, and the text from it on.
-pub fn split_at_tags(text: &str) -> (&str, &str) {
+pub fn split_at_tags(text: &str) -> (&str, &str)
+    ensures before { result.0.now ≡ before_tags text.now }
+    ensures tags { result.1.now ≡ from_tags text.now }
+    ensures begins { BeginsTag result.1.now }
+    ensures len { length result.0.now + length result.1.now ≡ length text.now }
+{
     match text.find('\\') {
         Some(place) => text.split_at(place),
         None => text.split_at(text.len()),
     }
 }
 
-/// The text of the tag at the front, behind its `\`, and what stands behind the tag. It ends before the next `\` that isn't in
-/// parentheses. There is none where the front is no `\`.
-pub fn next_tag(text: &str) -> Option<(&str, &str)> {
-    let rest = text.strip_prefix('\\')?;
-    Some(rest.split_at(tag_len(rest)))
+/// The text of the tag at the front, behind its `\`, and what stands behind the tag. It ends
+/// before the next `\` that isn't in parentheses. There is none where the front is no `\`.
+pub fn next_tag(text: &str) -> Option<(&str, &str)>
+    requires { BeginsTag text.now }
+    ensures none { IfNone result (text.now ≡ []) }
+    ensures next { IfSome result (λ next. IsNextTag text.now next.0.now next.1.now) }
+{
+    match text.strip_prefix('\\') {
+        Some(rest) => Some(rest.split_at(tag_len(rest))),
+        None => None,
+    }
 }

@@ -2,14 +2,13 @@
 #![tactic(auto)]
 
 mod block;
+mod clip;
 mod cut;
 mod item;
 mod read;
 mod scan;
-mod setting;
+mod single;
 mod tag;
-#[cfg(test)]
-mod tests;
 mod transform;
 pub mod view;
 

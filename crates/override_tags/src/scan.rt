@@ -1,4 +1,7 @@
-//! The front of a text.
+//! What stands at the front of a text.
+
+ghost use Rattle.std.specs.Prelude.{◌≡◌, ◌∷◌, ◌<◌, ◌≤◌, [], false, length, IfNone, IfSome};
+ghost use Rattle.override_tags.specs.Fronts.{part_of, begins_escape, has_close, IsFront};
 
 /// What stands at the front of a text.
 #[derive(Clone, Copy, Debug)]
@@ -19,8 +22,12 @@ pub struct Front<'a> {
     pub may_close: bool,
 }
 
-/// What stands behind a backslash, if it is a break or a hard space.
-fn escape(text: &str) -> Option<(FrontKind<'_>, &str)> {
+/// What the text behind a `\` makes of it, if that is a break or a hard space.
+fn escape(text: &str) -> Option<(FrontKind<'_>, &str)>
+    ensures none { IfNone result (begins_escape text.now ≡ false) }
+    ensures some { IfSome result (λ found. IsFront (92 ∷ text.now) (part_of found.0) found.1.now) }
+    ensures shorter { IfSome result (λ found. length found.1.now < length text.now) }
+{
     let mut chars = text.chars();
     match chars.next()? {
         'N' => Some((FrontKind::HardBreak, chars.as_str())),
@@ -30,45 +37,59 @@ fn escape(text: &str) -> Option<(FrontKind<'_>, &str)> {
     }
 }
 
-/// What stands at the front of a text, unless it is empty. A text that has no `}` may be said to have none.
-pub fn front_of(text: &str, may_close: bool) -> Option<Front<'_>> {
-    let mut chars = text.chars();
-    let c = chars.next()?;
-    let rest = chars.as_str();
-    match c {
-        '{' if may_close => match rest.split_once('}') {
-            Some((body, rest)) => Some(Front {
+/// What the text behind a `{` makes of it: a block if a `}` stands there, or else a character.
+fn brace(text: &str, may_close: bool) -> Front<'_>
+    requires { may_close ≡ false → has_close text.now ≡ false }
+    ensures front { IsFront (123 ∷ text.now) (part_of result.kind) result.rest.now }
+    ensures shorter { length result.rest.now ≤ length text.now }
+    ensures closes { result.may_close ≡ false → has_close result.rest.now ≡ false }
+{
+    if may_close {
+        if let Some((body, rest)) = text.split_once('}') {
+            return Front {
                 kind: FrontKind::Block(body),
                 rest,
                 may_close,
-            }),
-            None => Some(Front {
-                kind: FrontKind::Char('{'),
-                rest,
-                may_close: false,
-            }),
-        },
-        '\\' => match escape(rest) {
-            Some((kind, rest)) => Some(Front {
-                kind,
-                rest,
-                may_close,
-            }),
-            None => Some(Front {
-                kind: FrontKind::Char('\\'),
-                rest,
-                may_close,
-            }),
-        },
-        '\t' => Some(Front {
-            kind: FrontKind::Char(' '),
-            rest,
-            may_close,
-        }),
-        c => Some(Front {
-            kind: FrontKind::Char(c),
-            rest,
-            may_close,
-        }),
+            };
+        }
     }
+    Front {
+        kind: FrontKind::Char('{'),
+        rest: text,
+        may_close: false,
+    }
+}
+
+/// What stands at the front of a text, unless it is empty. A text without a `}` may be said to
+/// have none, and is then not searched for one.
+pub fn front_of(text: &str, may_close: bool) -> Option<Front<'_>>
+    requires { may_close ≡ false → has_close text.now ≡ false }
+    ensures none { IfNone result (text.now ≡ []) }
+    ensures front { IfSome result (λ front. IsFront text.now (part_of front.kind) front.rest.now) }
+    ensures shorter { IfSome result (λ front. length front.rest.now < length text.now) }
+    ensures closes { IfSome result (λ front. front.may_close ≡ false → has_close front.rest.now ≡ false) }
+{
+    let mut chars = text.chars();
+    let c = chars.next()?;
+    let rest = chars.as_str();
+    let kind = match c {
+        '{' => return Some(brace(rest, may_close)),
+        '\\' => match escape(rest) {
+            Some((kind, rest)) => {
+                return Some(Front {
+                    kind,
+                    rest,
+                    may_close,
+                });
+            }
+            None => FrontKind::Char('\\'),
+        },
+        '\t' => FrontKind::Char(' '),
+        c => FrontKind::Char(c),
+    };
+    Some(Front {
+        kind,
+        rest,
+        may_close,
+    })
 }

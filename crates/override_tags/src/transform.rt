@@ -1,11 +1,16 @@
 //! Transforms.
 
+ghost use Rattle.std.specs.Prelude.{◌≡◌, IfOk};
+ghost use Rattle.std.specs.Option.{option_map};
+ghost use Rattle.tag_arguments.specs.Cuts.{bracketed};
+ghost use Rattle.override_tags.specs.Tags.{quarters_of, course_of, is_gradual, is_kept, plain_tag, ReadsKept, AreKept, ReadsCourse, ReadsTransform, BeginsTag};
+
 use crate::cut::{next_tag, split_at_tags};
-use crate::setting::{read_setting, whole};
+use crate::single::{read_single, whole};
 use crate::tag::{ClipTag, Tag};
 use ass_num::{Mem, Milli, div_floor, hold};
 use std::alloc::Global;
-use tag_arguments::{Num, TagName, bracketed, number_list, tag_name, trimmed};
+use tag_arguments::{Num, Numbers, bracketed, number_list, tag_name};
 
 /// What stands before the tags of a transform: its times, and the speed in quarters.
 #[derive(Clone, Copy, Debug)]
@@ -14,23 +19,22 @@ pub struct Course {
     pub quarters: u32,
 }
 
-/// An accel in quarters, rounded to the nearest and held within 1 and 32.
-fn quarters(accel: Milli) -> u32 {
+/// An accel in quarters, to the nearest, held within 1 and 32.
+fn quarters(accel: Milli) -> u32
+    ensures { result ≡ quarters_of accel }
+{
     hold(div_floor(i128::from(accel) * 4 + 500, 1_000), 1, 32) as u32
 }
 
-/// The course that stands before the tags of a transform: nothing, an accel, two times, or two times and an accel.
-fn course_of(head: &str) -> Option<Course> {
-    let head = trimmed(head);
-    if head.is_empty() {
-        return Some(Course {
+/// Nothing, an accel, two times, or two times and an accel. Without an accel the speed is 4 quarters.
+fn course_by(numbers: &[Milli]) -> Option<Course>
+    ensures { result ≡ course_of (Some numbers.now) }
+{
+    match numbers {
+        [] => Some(Course {
             times: None,
             quarters: 4,
-        });
-    }
-    // An empty last piece doesn't count.
-    let numbers = number_list(head.strip_suffix(',').unwrap_or(head))?;
-    match numbers.as_slice() {
+        }),
         [accel] => Some(Course {
             times: None,
             quarters: quarters(*accel),
@@ -47,22 +51,31 @@ fn course_of(head: &str) -> Option<Course> {
     }
 }
 
-/// Whether a transform can change the property gradually.
-fn is_gradual(property: Num) -> bool {
+/// The course of the numbers before the tags of a transform.
+fn course_of(numbers: &Option<Numbers>) -> Option<Course>
+    ensures { result ≡ course_of (option_map (λ n. n.items) numbers.now) }
+{
+    match numbers {
+        Some(numbers) => course_by(numbers.as_slice()),
+        None => None,
+    }
+}
+
+/// Whether a property can change gradually.
+fn is_gradual(property: Num) -> bool
+    ensures { result ≡ is_gradual property }
+{
     match property {
-        Num::Bold
-        | Num::Italic
-        | Num::Underline
-        | Num::Strikeout
-        | Num::Wrap
-        | Num::Draw
-        | Num::Offset => false,
+        Num::Bold | Num::Italic | Num::Underline | Num::Strikeout => false,
+        Num::Wrap | Num::Draw | Num::Offset => false,
         _ => true,
     }
 }
 
 /// Whether a transform keeps the tag.
-fn is_kept(tag: &Tag) -> bool {
+fn is_kept(tag: &Tag) -> bool
+    ensures { result ≡ is_kept tag.now }
+{
     match tag {
         Tag::Number(property, _) => is_gradual(*property),
         Tag::Colour(_, _) | Tag::Alpha(_, _) | Tag::Clip(ClipTag::Rect(_, _)) => true,
@@ -71,22 +84,33 @@ fn is_kept(tag: &Tag) -> bool {
 }
 
 /// The tag of a text behind a `\`, if a transform keeps it.
-fn read_inner(alloc: Global, text: &str) -> Mem<Option<Tag>> {
-    match tag_name(text) {
+fn read_kept(alloc: Global, text: &str) -> Mem<Option<Tag>>
+    ensures { IfOk result (λ tag. ReadsKept text.now tag) }
+{
+    let Some((name, rest)) = tag_name(text) else {
+        return Ok(None);
+    };
+    match read_single(alloc, name, rest)? {
+        Some(tag) => {
+            if is_kept(&tag) {
+                Ok(Some(tag))
+            } else {
+                Ok(None)
+            }
+        }
         None => Ok(None),
-        Some((name, rest)) => match read_setting(alloc, name, rest)? {
-            Some(tag) if is_kept(&tag) => Ok(Some(tag)),
-            _ => Ok(None),
-        },
     }
 }
 
-/// The tags of a transform: those that it keeps, of the texts from a `\` on.
-fn kept_tags(alloc: Global, text: &str) -> Mem<Vec<Tag>> {
+/// The tags that a transform keeps, of a text that is empty or begins with a `\`.
+fn kept_tags(alloc: Global, text: &str) -> Mem<Vec<Tag>>
+    requires { BeginsTag text.now }
+    ensures { IfOk result (λ tags. AreKept text.now tags.items) }
+{
     let mut tags = Vec::new(alloc);
     let mut rest = text;
     while let Some((text, others)) = next_tag(rest) {
-        if let Some(tag) = read_inner(alloc, text)? {
+        if let Some(tag) = read_kept(alloc, text)? {
             tags.push(tag)?;
         }
         rest = others;
@@ -94,15 +118,29 @@ fn kept_tags(alloc: Global, text: &str) -> Mem<Vec<Tag>> {
     Ok(tags)
 }
 
+/// A transform of a course, and the text of its tags.
+fn course_tag(alloc: Global, course: Option<Course>, tags: &str) -> Mem<Option<Tag>>
+    requires { BeginsTag tags.now }
+    ensures { IfOk result (λ tag. ReadsCourse course tags.now (option_map plain_tag tag)) }
+{
+    match course {
+        Some(course) => {
+            let tags = kept_tags(alloc, tags)?;
+            Ok(Some(Tag::Transform(course.times, course.quarters, tags)))
+        }
+        None => Ok(None),
+    }
+}
+
 /// A transform by the text behind its name.
-pub fn transform_tag(alloc: Global, rest: &str) -> Mem<Option<Tag>> {
-    let Some(inside) = bracketed(rest) else {
-        return Ok(None);
-    };
-    let (head, tags) = split_at_tags(inside);
-    let Some(course) = course_of(head) else {
-        return Ok(None);
-    };
-    let tags = kept_tags(alloc, tags)?;
-    Ok(Some(Tag::Transform(course.times, course.quarters, tags)))
+pub fn transform_tag(alloc: Global, rest: &str) -> Mem<Option<Tag>>
+    ensures { IfOk result (λ tag. ReadsTransform (bracketed rest.now) (option_map plain_tag tag)) }
+{
+    match bracketed(rest) {
+        Some(inside) => {
+            let (before, tags) = split_at_tags(inside);
+            course_tag(alloc, course_of(&number_list(before, true)), tags)
+        }
+        None => Ok(None),
+    }
 }
