@@ -22,7 +22,7 @@ pub data PlainTag : Type 0 where
   Gradual : Option (ℤ × ℤ) → ℕ → List Tag → PlainTag
 
 abbrev pub plain_tag : Tag → PlainTag
-plain_tag (Transform' times quarters shape tags) = Gradual times quarters (items-the_row-Tag shape tags)
+plain_tag (Transform' times quarters shape tags) = Gradual times quarters (items-the_row-Tag _ tags)
 plain_tag tag = Single tag
 
 -- what stands before the first `\`

@@ -1,9 +1,24 @@
 //! The texts of tags one after another.
 
-ghost use Rattle.std.specs.Prelude.{◌≡◌, ◌+◌, ◌∷◌, length, [], IfNone, IfSome};
+ghost use Rattle.std.specs.Prelude.{◌≡◌, ◌==◌, ◌+◌, ◌<◌, ◌≤◌, [], length, slice_index, IfNone, IfSome};
+ghost use Rattle.std.specs.List.{position_or_len};
 ghost use Rattle.override_tags.specs.Tags.{before_tags, from_tags, BeginsTag, IsNextTag};
 
 use tag_arguments::tag_len;
+
+/// How many bytes stand before the first `\`, or before the end.
+fn len_before_tags(text: &[u8]) -> usize
+    ensures len { result ≡ position_or_len (λ c. c == 92) text.now }
+    ensures within { result ≤ length text.now }
+    ensures stops { result < length text.now → slice_index text.now result ≡ 92 }
+{
+    for (i, byte) in text.iter().enumerate() {
+        if *byte == b'\\' {
+            return i;
+        }
+    }
+    text.len()
+}
 
 /// What stands before the first `\`, and the text from it on.
 pub fn split_at_tags(text: &str) -> (&str, &str)
@@ -12,10 +27,7 @@ pub fn split_at_tags(text: &str) -> (&str, &str)
     ensures begins { BeginsTag result.1.now }
     ensures len { length result.0.now + length result.1.now ≡ length text.now }
 {
-    match text.find('\\') {
-        Some(place) => text.split_at(place),
-        None => text.split_at(text.len()),
-    }
+    text.split_at(len_before_tags(text.as_bytes()))
 }
 
 /// The text of the tag at the front, behind its `\`, and what stands behind the tag. It ends

@@ -13,7 +13,7 @@ use std::alloc::Global;
 
 /// The kind of the item that a part of a text is.
 fn kind_of(kind: FrontKind<'_>) -> ItemKind
-    ensures { plain_kind result ≡ kind_of (part_of kind) }
+    ensures { plain_kind result ≡ kind_of (part_of kind.entry) }
 {
     match kind {
         FrontKind::Char(c) => ItemKind::Char(c),

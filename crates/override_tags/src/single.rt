@@ -1,8 +1,8 @@
 //! Tags that aren't transforms.
 
-ghost use Rattle.std.specs.Prelude.{◌≡◌, IfOk};
+ghost use Rattle.std.specs.Prelude.{◌≡◌, ◌∷◌, [], IfOk};
 ghost use Rattle.std.specs.Option.{option_map};
-ghost use Rattle.override_tags.specs.declared.tag.Tag.{Number, Colour, Alpha};
+ghost use Rattle.override_tags.specs.declared.tag.Tag.{Number, Colour, Alpha, Move, Fade};
 ghost use Rattle.override_tags.specs.Singles.{whole, is_wrap_style, wrap_of, align_of, old_align_of, karaoke_of, pos_of, org_of, move_of, fade_of, numbered_of, ReadsNumbered, ReadsSingle};
 
 use crate::clip::clip_tag;
@@ -136,16 +136,36 @@ fn org_tag(numbers: &[Milli]) -> Option<Tag>
     }
 }
 
+/// A movement between two times.
+fn timed_move(path: [Milli; 4], t1: Milli, t2: Milli) -> Tag
+    ensures { result ≡ Move path (whole t1) (whole t2) }
+{
+    Tag::Move(path, whole(t1), whole(t2))
+}
+
 fn move_tag(numbers: &[Milli]) -> Option<Tag>
     ensures { result ≡ move_of (Some numbers.now) }
 {
     match numbers {
         [x1, y1, x2, y2] => Some(Tag::Move([*x1, *y1, *x2, *y2], 0, 0)),
-        [x1, y1, x2, y2, t1, t2] => {
-            Some(Tag::Move([*x1, *y1, *x2, *y2], whole(*t1), whole(*t2)))
-        }
+        [x1, y1, x2, y2, t1, t2] => { Some(timed_move([*x1, *y1, *x2, *y2], *t1, *t2)) }
         _ => None,
     }
+}
+
+/// A fade by three alphas and four times.
+fn long_fade(a1: Milli, a2: Milli, a3: Milli, t1: Milli, t2: Milli, t3: Milli, t4: Milli) -> Tag
+    ensures { result ≡ Fade (whole a1 ∷ (whole a2 ∷ (whole a3 ∷ (whole t1 ∷ (whole t2 ∷ (whole t3 ∷ (whole t4 ∷ []))))))) }
+{
+    Tag::Fade([
+        whole(a1),
+        whole(a2),
+        whole(a3),
+        whole(t1),
+        whole(t2),
+        whole(t3),
+        whole(t4),
+    ])
 }
 
 fn fade_tag(numbers: &[Milli]) -> Option<Tag>
@@ -153,15 +173,7 @@ fn fade_tag(numbers: &[Milli]) -> Option<Tag>
 {
     match numbers {
         [t1, t2] => Some(Tag::Fad(whole(*t1), whole(*t2))),
-        [a1, a2, a3, t1, t2, t3, t4] => Some(Tag::Fade([
-            whole(*a1),
-            whole(*a2),
-            whole(*a3),
-            whole(*t1),
-            whole(*t2),
-            whole(*t3),
-            whole(*t4),
-        ])),
+        [a1, a2, a3, t1, t2, t3, t4] => { Some(long_fade(*a1, *a2, *a3, *t1, *t2, *t3, *t4)) }
         _ => None,
     }
 }

@@ -1,6 +1,6 @@
 //! Transforms.
 
-ghost use Rattle.std.specs.Prelude.{◌≡◌, IfOk};
+ghost use Rattle.std.specs.Prelude.{◌≡◌, pos, ◌+ℤ◌, ◌*ℤ◌, IfOk};
 ghost use Rattle.std.specs.Option.{option_map};
 ghost use Rattle.tag_arguments.specs.Cuts.{bracketed};
 ghost use Rattle.override_tags.specs.Tags.{quarters_of, course_of, is_gradual, is_kept, plain_tag, ReadsKept, AreKept, ReadsCourse, ReadsTransform, BeginsTag};
@@ -19,11 +19,18 @@ pub struct Course {
     pub quarters: u32,
 }
 
+/// Four times an accel, and half a unit for rounding to the nearest.
+fn four_times(accel: Milli) -> i128
+    ensures { result ≡ (accel *ℤ pos 4) +ℤ pos 500 }
+{
+    i128::from(accel) * 4 + 500
+}
+
 /// An accel in quarters, to the nearest, held within 1 and 32.
 fn quarters(accel: Milli) -> u32
     ensures { result ≡ quarters_of accel }
 {
-    hold(div_floor(i128::from(accel) * 4 + 500, 1_000), 1, 32) as u32
+    hold(div_floor(four_times(accel), 1_000), 1, 32) as u32
 }
 
 /// Nothing, an accel, two times, or two times and an accel. Without an accel the speed is 4 quarters.

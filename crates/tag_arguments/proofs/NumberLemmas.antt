@@ -21,7 +21,7 @@ cond_cons : (b : Bool) (c : ℕ) (text : List ℕ) → (q : List ℕ) × (qs : L
 cond_cons true c text = ([], pieces text, refl)
 cond_cons false c text = onto_cons c (pieces text)
 
-pieces_cons : (text : List ℕ) → (q : List ℕ) × (qs : List (List ℕ)) × (pieces text ≡ q ∷ qs)
+pub pieces_cons : (text : List ℕ) → (q : List ℕ) × (qs : List (List ℕ)) × (pieces text ≡ q ∷ qs)
 pieces_cons [] = ([], [], refl)
 pieces_cons (c ∷ text) = cond_cons (eqb c 44) c text
 

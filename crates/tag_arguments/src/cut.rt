@@ -112,6 +112,7 @@ fn outer_len(text: &[u8], stop: u8) -> usize
 pub fn tag_len(text: &str) -> usize
     ensures len { result ≡ tag_len text.now }
     ensures boundary { IsCharBoundary text.now result }
+    ensures stops { result < length text.now → slice_index text.now result ≡ 92 }
 {
     outer_len(text.as_bytes(), b'\\')
 }
