@@ -1,3 +1,5 @@
+pub mod BlockLemmas
 pub mod CutLemmas
 pub mod FrontLemmas
 pub mod NumberShapes
+pub mod TransformLemmas

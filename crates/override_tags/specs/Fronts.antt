@@ -1,6 +1,5 @@
 -- What stands at the front of a text.
-use Rattle.std.specs.Prelude.{◌≡◌, ℕ, ◌==◌, ◌||◌, Bool, true, false, if◌then◌else◌, List, [], ◌∷◌, ◌++◌, encode_utf8}
-use Rattle.std.specs.Char.{IsScalar}
+use Rattle.std.specs.Prelude.{◌≡◌, ℕ, ◌==◌, ◌||◌, Bool, true, false, if◌then◌else◌, List, [], ◌∷◌, ◌++◌, length, encode_utf8}
 use Rattle.std.specs.List.{list_any}
 use Rattle.override_tags.specs.declared.scan.FrontKind.{FrontKind}
 use Rattle.override_tags.specs.declared.scan.FrontKind.TheVariants as front
@@ -19,6 +18,11 @@ part_of front.HardBreak = HardBreak
 part_of front.SoftBreak = SoftBreak
 part_of front.HardSpace = HardSpace
 part_of (front.Block body) = Block body.now
+
+-- how many bytes stand between the braces of a block
+abbrev pub body_len : Part → ℕ
+body_len (Block body) = length body
+body_len _ = 0
 
 -- a `}` stands somewhere in the text
 abbrev pub has_close : List ℕ → Bool
@@ -44,4 +48,4 @@ IsFront text (Block body) rest = (text ≡ 123 ∷ (body ++ (125 ∷ rest))) × 
 IsFront text HardBreak rest = text ≡ 92 ∷ (78 ∷ rest)
 IsFront text SoftBreak rest = text ≡ 92 ∷ (110 ∷ rest)
 IsFront text HardSpace rest = text ≡ 92 ∷ (104 ∷ rest)
-IsFront text (Char c) rest = (begins_other text ≡ false) × ((written : ℕ) × IsScalar written × (text ≡ encode_utf8 written ++ rest) × (c ≡ shown_char written))
+IsFront text (Char c) rest = (begins_other text ≡ false) × ((written : ℕ) × (text ≡ encode_utf8 written ++ rest) × (c ≡ shown_char written))

@@ -35,6 +35,10 @@ kind_of SoftBreak = item.SoftBreak
 kind_of HardSpace = item.HardSpace
 kind_of (Block _) = item.Block
 
+-- the item of a part
+abbrev pub part_item : ℕ → ℕ → Part → PlainItem
+part_item from to part = record { from = from; to = to; kind = kind_of part }
+
 -- The items of a text that begins at a place: what stands at its front, the tags of that, and the items of what follows.
 pub data AreItems : ℕ → List ℕ → List PlainItem → Type 0 where
   none : (from : ℕ) → AreItems from [] []
@@ -43,7 +47,7 @@ pub data AreItems : ℕ → List ℕ → List PlainItem → Type 0 where
       → to + length rest ≡ from + length text
       → ArePartTags from part tags
       → AreItems to rest items
-      → AreItems from text (record { from = from; to = to; kind = kind_of part } ∷ (tags ++ items))
+      → AreItems from text (part_item from to part ∷ (tags ++ items))
 
 -- The items of a whole text.
 abbrev pub IsReading : List ℕ → List PlainItem → Type 0

@@ -3,7 +3,7 @@
 ghost use Rattle.std.specs.Prelude.{◌≡◌, ◌+◌, ◌^◌, ◌<◌, ◌++◌, List, length, map, IfOk, OnOk};
 ghost use Rattle.std.specs.Option.{option_map};
 ghost use Rattle.override_tags.specs.Items.{PlainItem, plain_item};
-ghost use Rattle.override_tags.specs.Readings.{AreTags, AreBlockTags};
+ghost use Rattle.override_tags.specs.Readings.{tag_items, AreTags, AreBlockTags};
 ghost use Rattle.override_tags.specs.Tags.{plain_tag, BeginsTag, ReadsNamed, ReadsTag};
 
 use crate::cut::{next_tag, split_at_tags};
@@ -35,6 +35,23 @@ fn read_tag(alloc: Global, text: &str) -> Mem<Option<Tag>>
     }
 }
 
+/// Adds the item of a tag, if there is one.
+fn push_tag(items: &mut Vec<Item>, from: usize, to: usize, tag: Option<Tag>) -> Mem<()>
+    ensures { OnOk result (map plain_item items.new.items ≡ map plain_item items.old.items ++ tag_items from to (option_map plain_tag tag)) }
+{
+    match tag {
+        Some(tag) => {
+            items.push(Item {
+                from,
+                to,
+                kind: ItemKind::Tag(tag),
+            })?;
+            Ok(())
+        }
+        None => Ok(()),
+    }
+}
+
 /// Adds the tags of a text that begins at a place and is empty or begins with a `\`.
 fn add_tags(alloc: Global, items: &mut Vec<Item>, from: usize, text: &str) -> Mem<()>
     requires begins { BeginsTag text.now }
@@ -46,13 +63,8 @@ fn add_tags(alloc: Global, items: &mut Vec<Item>, from: usize, text: &str) -> Me
     let mut rest = text;
     while let Some((text, others)) = next_tag(rest) {
         let to = from + 1 + text.len();
-        if let Some(tag) = read_tag(alloc, text)? {
-            items.push(Item {
-                from,
-                to,
-                kind: ItemKind::Tag(tag),
-            })?;
-        }
+        let tag = read_tag(alloc, text)?;
+        push_tag(items, from, to, tag)?;
         from = to;
         rest = others;
     }

@@ -2,6 +2,7 @@
 
 ghost use Rattle.std.specs.Prelude.{◌≡◌, ◌==◌, ◌+◌, ◌<◌, ◌≤◌, [], length, slice_index, IfNone, IfSome};
 ghost use Rattle.std.specs.List.{position_or_len};
+ghost use Rattle.std.specs.Str.{IsUtf8};
 ghost use Rattle.override_tags.specs.Tags.{before_tags, from_tags, BeginsTag, IsNextTag};
 
 use tag_arguments::tag_len;
@@ -36,6 +37,7 @@ pub fn next_tag(text: &str) -> Option<(&str, &str)>
     requires { BeginsTag text.now }
     ensures none { IfNone result (text.now ≡ []) }
     ensures next { IfSome result (λ next. IsNextTag text.now next.0.now next.1.now) }
+    ensures text { IfSome result (λ next. IsUtf8 next.1.now) }
 {
     match text.strip_prefix('\\') {
         Some(rest) => Some(rest.split_at(tag_len(rest))),

@@ -1,9 +1,9 @@
 //! The one reading of a text.
 
-ghost use Rattle.std.specs.Prelude.{◌≡◌, map, IfOk};
-ghost use Rattle.override_tags.specs.Items.{plain_item, plain_kind};
-ghost use Rattle.override_tags.specs.Fronts.{part_of};
-ghost use Rattle.override_tags.specs.Readings.{kind_of, IsReading};
+ghost use Rattle.std.specs.Prelude.{◌≡◌, ◌+◌, ◌<◌, ◌^◌, ◌∷◌, ◌++◌, List, map, IfOk, OnOk};
+ghost use Rattle.override_tags.specs.Items.{PlainItem, plain_item, plain_kind};
+ghost use Rattle.override_tags.specs.Fronts.{part_of, body_len};
+ghost use Rattle.override_tags.specs.Readings.{kind_of, part_item, ArePartTags, IsReading};
 
 use crate::block::add_block_tags;
 use crate::item::{Item, ItemKind};
@@ -24,6 +24,29 @@ fn kind_of(kind: FrontKind<'_>) -> ItemKind
     }
 }
 
+/// Adds what takes these bytes of a text, and its tags if it is a block.
+fn add_part(
+    alloc: Global,
+    items: &mut Vec<Item>,
+    from: usize,
+    to: usize,
+    kind: FrontKind<'_>,
+) -> Mem<()>
+    requires { from + 1 + body_len (part_of kind.entry) < 2 ^ 64 }
+    ensures { OnOk result ((tags : List PlainItem) × ArePartTags from (part_of kind.entry) tags
+        × (map plain_item items.new.items ≡ map plain_item items.old.items ++ part_item from to (part_of kind.entry) ∷ tags)) }
+{
+    items.push(Item {
+        from,
+        to,
+        kind: kind_of(kind),
+    })?;
+    match kind {
+        FrontKind::Block(body) => add_block_tags(alloc, items, from + 1, body),
+        _ => Ok(()),
+    }
+}
+
 /// The items of a text, in order. A block is followed by its tags.
 pub fn read_text(alloc: Global, text: &str) -> Mem<Vec<Item>>
     ensures { IfOk result (λ items. IsReading text.now (map plain_item items.items)) }
@@ -34,14 +57,7 @@ pub fn read_text(alloc: Global, text: &str) -> Mem<Vec<Item>>
     let mut from = 0;
     while let Some(found) = front_of(rest, may_close) {
         let to = text.len() - found.rest.len();
-        items.push(Item {
-            from,
-            to,
-            kind: kind_of(found.kind),
-        })?;
-        if let FrontKind::Block(body) = found.kind {
-            add_block_tags(alloc, &mut items, from + 1, body)?;
-        }
+        add_part(alloc, &mut items, from, to, found.kind)?;
         from = to;
         rest = found.rest;
         may_close = found.may_close;

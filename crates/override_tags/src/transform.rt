@@ -1,7 +1,7 @@
 //! Transforms.
 
-ghost use Rattle.std.specs.Prelude.{◌≡◌, pos, ◌+ℤ◌, ◌*ℤ◌, IfOk};
-ghost use Rattle.std.specs.Option.{option_map};
+ghost use Rattle.std.specs.Prelude.{◌≡◌, pos, ◌+ℤ◌, ◌*ℤ◌, ◌++◌, IfOk, OnOk};
+ghost use Rattle.std.specs.Option.{option_map, option_to_list};
 ghost use Rattle.tag_arguments.specs.Cuts.{bracketed};
 ghost use Rattle.override_tags.specs.Tags.{quarters_of, course_of, is_gradual, is_kept, plain_tag, ReadsKept, AreKept, ReadsCourse, ReadsTransform, BeginsTag};
 
@@ -109,6 +109,19 @@ fn read_kept(alloc: Global, text: &str) -> Mem<Option<Tag>>
     }
 }
 
+/// Adds a tag, if there is one.
+fn push_kept(tags: &mut Vec<Tag>, tag: Option<Tag>) -> Mem<()>
+    ensures { OnOk result (tags.new.items ≡ tags.old.items ++ option_to_list tag) }
+{
+    match tag {
+        Some(tag) => {
+            tags.push(tag)?;
+            Ok(())
+        }
+        None => Ok(()),
+    }
+}
+
 /// The tags that a transform keeps, of a text that is empty or begins with a `\`.
 fn kept_tags(alloc: Global, text: &str) -> Mem<Vec<Tag>>
     requires { BeginsTag text.now }
@@ -117,9 +130,8 @@ fn kept_tags(alloc: Global, text: &str) -> Mem<Vec<Tag>>
     let mut tags = Vec::new(alloc);
     let mut rest = text;
     while let Some((text, others)) = next_tag(rest) {
-        if let Some(tag) = read_kept(alloc, text)? {
-            tags.push(tag)?;
-        }
+        let tag = read_kept(alloc, text)?;
+        push_kept(&mut tags, tag)?;
         rest = others;
     }
     Ok(tags)
