@@ -1,9 +1,15 @@
 -- The tags of a block, one after another.
-use Rattle.std.proofs.Common.{◌≡◌, ℕ, ◌+◌, List, [], ◌∷◌, ◌++◌, length, take, drop, sym, ap, ◌∙◌, subst, append_assoc, arith, Option}
+use Rattle.std.proofs.Common.{◌≡◌, ℕ, ◌+◌, List, [], ◌∷◌, ◌++◌, length, take, drop, sym, ap, ◌∙◌, subst, append_assoc, arith, Option, refl}
 use Rattle.std.proofs.lemmas.List.{append-nil}
 use Rattle.tag_arguments.specs.Cuts.{tag_len}
 use Rattle.override_tags.specs.Items.{PlainItem}
-use Rattle.override_tags.specs.Tags.{PlainTag, IsNextTag, ReadsTag}
+use Rattle.std.specs.Prelude.{Result, Ok, Err, IfOk}
+use Rattle.std.specs.Option.{option_map}
+use Rattle.tag_arguments.specs.declared.kinds.TagName.{TagName}
+use Rattle.tag_arguments.specs.declared.kinds.TagName.TheVariants as name
+use Rattle.override_tags.specs.declared.tag.Tag.{Tag}
+use Rattle.override_tags.specs.Singles.{ReadsSingle}
+use Rattle.override_tags.specs.Tags.{PlainTag, plain_tag, IsNextTag, ReadsNamed, ReadsTag}
 use Rattle.override_tags.specs.Readings.{AreTags, none, more, tag_items}
 
 -- the text before is that of one tag more
@@ -29,3 +35,12 @@ tags_joined from text added mine tail are = rw append_assoc are
 
 pub lists_joined : (first old new added mine : List PlainItem) → old ≡ first ++ added → new ≡ old ++ mine → new ≡ first ++ (added ++ mine)
 lists_joined first old new added mine a b = b ∙ ap (λ z. z ++ mine) a ∙ rw append_assoc
+
+-- a tag that isn't a transform
+pub named_single : (n : TagName) (rest : List ℕ) (tag : Option Tag) → (n ≡ name.Transform → ⊥) → ReadsSingle n rest tag → ReadsNamed n rest (option_map plain_tag tag)
+named_single name.Transform rest tag other read = absurd (other refl)
+named_single n rest tag other read = (tag, read, refl)
+
+pub named_result : {E : Type 0} (n : TagName) (rest : List ℕ) (r : Result (Option Tag) E) → (n ≡ name.Transform → ⊥) → IfOk r (λ tag. ReadsSingle n rest tag) → IfOk r (λ tag. ReadsNamed n rest (option_map plain_tag tag))
+named_result n rest (Ok tag) other read = named_single n rest tag other read
+named_result n rest (Err _) other read = tt

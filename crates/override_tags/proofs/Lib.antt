@@ -2,4 +2,5 @@ pub mod BlockLemmas
 pub mod CutLemmas
 pub mod FrontLemmas
 pub mod NumberShapes
+pub mod ReadLemmas
 pub mod TransformLemmas

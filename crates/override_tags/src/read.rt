@@ -32,7 +32,7 @@ fn add_part(
     to: usize,
     kind: FrontKind<'_>,
 ) -> Mem<()>
-    requires { from + 1 + body_len (part_of kind.entry) < 2 ^ 64 }
+    requires { from + 1 + body_len (part_of kind) < 2 ^ 64 }
     ensures { OnOk result ((tags : List PlainItem) × ArePartTags from (part_of kind.entry) tags
         × (map plain_item items.new.items ≡ map plain_item items.old.items ++ part_item from to (part_of kind.entry) ∷ tags)) }
 {

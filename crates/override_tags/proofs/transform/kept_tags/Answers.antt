@@ -2,9 +2,6 @@ use Rattle.std.proofs.Common.{[]}
 use Rattle.override_tags.proofs.TransformLemmas.{kept_more, kept_joined, kept_none, kept_whole}
 use Rattle.override_tags.proofs.transform.kept_tags.Goals as goal
 
-pub next_tag-requires-text-text : goal.next_tag-requires-text-text
-next_tag-requires-text-text c = c.loop-text.invariant.utf8
-
 pub loop-text-preserved : goal.loop-text-preserved
 loop-text-preserved c = record {
   before = λ tail kept. kept_joined c.args.text.now c.loop-text.tags.items c.push_kept.new.tags.items tail c.in_ok-tag.tag c.in_ok-push_kept.ensures
