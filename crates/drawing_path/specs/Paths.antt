@@ -1,5 +1,5 @@
 -- The path of a drawing: each command in turn adds to the path so far.
-use Rattle.std.specs.Prelude.{◌≡◌, ℕ, ℤ, ◌-◌, if◌then◌else◌, Bool, true, false, Option, Some, None, List, [], ◌∷◌, ◌++◌, take, length, map, slice_get}
+use Rattle.std.specs.Prelude.{◌≡◌, ℕ, ℤ, ◌-◌, if◌then◌else◌, Bool, true, false, Option, Some, List, [], ◌∷◌, ◌++◌, take, length, map, slice_get}
 use Rattle.std.specs.List.{list_any}
 use Rattle.std.specs.Option.{option_and_then}
 use Rattle.ass_num.specs.declared.geometry.Point.{Point}

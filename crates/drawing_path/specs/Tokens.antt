@@ -1,5 +1,5 @@
 -- What a drawing says, byte by byte: letters of commands, numbers, and what means nothing.
-use Rattle.std.specs.Prelude.{◌≡◌, ℕ, ℤ, ◌==◌, if◌then◌else◌, Bool, true, false, is_some, Option, Some, None, List, [], ◌∷◌, drop}
+use Rattle.std.specs.Prelude.{◌≡◌, ℕ, ℤ, ◌==◌, if◌then◌else◌, Option, Some, None, List, [], ◌∷◌, drop}
 use Rattle.ass_num.specs.Fronts.{IsLongestFront, HasNoFront}
 use Rattle.ass_num.specs.Numerals.{IsMilli}
 use Rattle.drawing_path.specs.declared.command.Command.{Command}

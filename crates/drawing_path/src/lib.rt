@@ -2,6 +2,7 @@
 #![tactic(auto)]
 
 mod command;
+mod laws;
 mod points;
 mod read;
 mod sketch;
@@ -9,4 +10,5 @@ mod sketch;
 mod tests;
 
 pub use command::Command;
+pub use laws::one_path;
 pub use read::read_path;

@@ -1,5 +1,9 @@
 //! A path that grows command by command.
 
+ghost use Rattle.std.specs.Prelude.{◌≡◌, List, [], ◌++◌, take, OnOk};
+ghost use Rattle.drawing_path.specs.Paths.{end_of};
+ghost use Rattle.drawing_path.specs.Sketches.{IsSketch, Follows};
+
 use crate::command::Command;
 use ass_num::{Items, Mem, Point, Seg};
 use std::alloc::Global;
@@ -12,7 +16,9 @@ pub struct Sketch {
 }
 
 /// The last point of a segment.
-fn end_of(seg: &Seg) -> Option<Point> {
+fn end_of(seg: &Seg) -> Option<Point>
+    ensures { result ≡ end_of seg.now }
+{
     match seg {
         Seg::Move(point) | Seg::Line(point) | Seg::Cubic(_, _, point) => Some(*point),
         Seg::Spline(points, _) => points.as_slice().last().copied(),
@@ -20,7 +26,9 @@ fn end_of(seg: &Seg) -> Option<Point> {
 }
 
 /// Adds the first three control points at the end.
-fn close(control: &mut Items<Point>) -> Mem<()> {
+fn close(control: &mut Items<Point>) -> Mem<()>
+    ensures { OnOk result (control.new ≡ control.old ++ take 3 control.old) }
+{
     for k in 0..control.len().min(3) {
         let point = control.as_slice()[k];
         control.push(point)?;
@@ -29,7 +37,9 @@ fn close(control: &mut Items<Point>) -> Mem<()> {
 }
 
 /// Adds the points at the end.
-fn extend(control: &mut Items<Point>, points: &[Point]) -> Mem<()> {
+fn extend(control: &mut Items<Point>, points: &[Point]) -> Mem<()>
+    ensures { OnOk result (control.new ≡ control.old ++ points.now) }
+{
     for point in points {
         control.push(*point)?;
     }
@@ -38,7 +48,10 @@ fn extend(control: &mut Items<Point>, points: &[Point]) -> Mem<()> {
 
 impl Sketch {
     /// The path without segments.
-    pub fn new(alloc: Global) -> Sketch {
+    pub fn new(alloc: Global) -> Sketch
+        ensures empty { result.segs.items ≡ [] }
+        ensures place { IsSketch result }
+    {
         Sketch {
             segs: Vec::new(alloc),
             spline: None,
@@ -46,13 +59,18 @@ impl Sketch {
     }
 
     /// The segments.
-    pub fn into_segs(self) -> Items<Seg> {
+    pub fn into_segs(self) -> Items<Seg>
+        ensures { result ≡ self.segs.items }
+    {
         let Sketch { segs, spline: _ } = self;
         Items::from_vec(segs)
     }
 
     /// Does a command with its points.
-    pub fn apply(&mut self, alloc: Global, command: Command, points: &[Point]) -> Mem<()> {
+    pub fn apply(&mut self, alloc: Global, command: Command, points: &[Point]) -> Mem<()>
+        requires { IsSketch self.old }
+        ensures { OnOk result (Follows self.old self.new command points.now) }
+    {
         match command {
             Command::Begin => self.begin(points),
             Command::Lines => self.add_lines(points),
@@ -64,16 +82,25 @@ impl Sketch {
     }
 
     /// Begins a figure with each of the points.
-    fn begin(&mut self, points: &[Point]) -> Mem<()> {
+    fn begin(&mut self, points: &[Point]) -> Mem<()>
+        requires { IsSketch self.old }
+        ensures { OnOk result (Follows self.old self.new Command.Begin points.now) }
+    {
+        if points.is_empty() {
+            return Ok(());
+        }
         for point in points {
             self.segs.push(Seg::Move(*point))?;
-            self.spline = None;
         }
+        self.spline = None;
         Ok(())
     }
 
     /// Adds a line to each of the points.
-    fn add_lines(&mut self, points: &[Point]) -> Mem<()> {
+    fn add_lines(&mut self, points: &[Point]) -> Mem<()>
+        requires { IsSketch self.old }
+        ensures { OnOk result (Follows self.old self.new Command.Lines points.now) }
+    {
         if self.segs.is_empty() {
             return Ok(());
         }
@@ -84,7 +111,10 @@ impl Sketch {
     }
 
     /// Adds a cubic curve by each three points.
-    fn add_cubics(&mut self, points: &[Point]) -> Mem<()> {
+    fn add_cubics(&mut self, points: &[Point]) -> Mem<()>
+        requires { IsSketch self.old }
+        ensures { OnOk result (Follows self.old self.new Command.Cubics points.now) }
+    {
         if self.segs.is_empty() {
             return Ok(());
         }
@@ -97,14 +127,17 @@ impl Sketch {
     }
 
     /// Adds a spline from the last vertex by the points, which are three or more.
-    fn add_spline(&mut self, alloc: Global, points: &[Point]) -> Mem<()> {
+    fn add_spline(&mut self, alloc: Global, points: &[Point]) -> Mem<()>
+        requires { IsSketch self.old }
+        ensures { OnOk result (Follows self.old self.new Command.NewSpline points.now) }
+    {
         if points.len() < 3 {
             return Ok(());
         }
         let Some(vertex) = self.segs.last().and_then(end_of) else {
             return Ok(());
         };
-        let mut control = Vec::new(alloc);
+        let mut control = Vec::with_capacity(alloc, points.len() + 1)?;
         control.push(vertex)?;
         control.extend_from_slice(points)?;
         let place = self.segs.len();
@@ -115,7 +148,10 @@ impl Sketch {
     }
 
     /// Adds the points to the last spline of the figure.
-    fn extend_spline(&mut self, points: &[Point]) -> Mem<()> {
+    fn extend_spline(&mut self, points: &[Point]) -> Mem<()>
+        requires { IsSketch self.old }
+        ensures { OnOk result (Follows self.old self.new Command.Extend points.now) }
+    {
         if let Some(place) = self.spline {
             if let Seg::Spline(control, _) = &mut self.segs[place] {
                 extend(control, points)?;
@@ -125,7 +161,10 @@ impl Sketch {
     }
 
     /// Closes the last spline of the figure.
-    fn close_spline(&mut self) -> Mem<()> {
+    fn close_spline(&mut self) -> Mem<()>
+        requires { IsSketch self.old }
+        ensures { OnOk result ((points : List Point) → Follows self.old self.new Command.Close points) }
+    {
         if let Some(place) = self.spline {
             if let Seg::Spline(control, closed) = &mut self.segs[place] {
                 close(control)?;
