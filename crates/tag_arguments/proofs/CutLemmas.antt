@@ -1,12 +1,12 @@
 -- Where parentheses are passed, byte by byte; where a text may be cut.
-use Rattle.std.proofs.Common.{◌≡◌, ◌≢◌, ℕ, ◌+◌, ◌-◌, ◌<◌, ◌≤◌, ◌&&◌, Bool, true, false, cond, eqb, List, [], ◌∷◌, length, get_or, drop, ap, arith, add-one, drop-cons, subst, refl, ◌⊎◌, inl, inr, Option, None, Some, MatchOption, Bor}
+use Rattle.std.proofs.Common.{◌≡◌, ◌≢◌, ℕ, ◌+◌, ◌-◌, ◌<◌, ◌≤◌, true, cond, List, [], ◌∷◌, length, get_or, ap, arith, subst, refl, inl, inr, Option, None, Some, MatchOption, Bor}
 use Rattle.std.specs.Str.{IsUtf8, IsCharBoundary}
 use Rattle.std.specs.Option.{option_copied}
-use Rattle.std.proofs.lemmas.Bool.{cases_eq, eq-eqb, ne_eqb}
+use Rattle.std.proofs.lemmas.Bool.{cases_eq, ne_eqb}
 use Rattle.std.proofs.lemmas.Bool.Decides.{nat_tests}
 use Rattle.std.proofs.lemmas.Str.{IsCharBoundary-after_ascii}
 use Rattle.ass_num.specs.Numerals.{is_blank}
-use Rattle.tag_arguments.specs.Cuts.{after_bracket, depth_after, outer_len}
+use Rattle.tag_arguments.specs.Cuts.{after_bracket}
 
 -- a blank is an ASCII byte
 pub blank_ascii : (c : ℕ) → is_blank c ≡ true → c < 128

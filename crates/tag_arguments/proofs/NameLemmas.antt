@@ -1,5 +1,5 @@
 -- Names at the front of a text.
-use Rattle.std.proofs.Common.{◌≡◌, ◌≢◌, ℕ, Bool, true, false, cond, eqb, List, [], ◌∷◌, ◌++◌, length, take, drop, ap, arith, refl, sym, ◌∙◌, map, get_or, ◌+◌, ◌<◌, ◌≤◌, add-one, drop-cons, Bor, Option, None, Some, Decides, nat_eq}
+use Rattle.std.proofs.Common.{◌≡◌, ◌≢◌, ℕ, true, false, cond, List, ◌++◌, length, drop, ap, refl, sym, ◌∙◌, map, get_or, ◌+◌, ◌<◌, add-one, drop-cons, Bor, Some, nat_eq}
 use Rattle.std.specs.List.{starts_with}
 use Rattle.std.proofs.lemmas.Bool.{false_from_ne_true}
 use Rattle.std.proofs.lemmas.Bool.Decides.{Decides-eqb}

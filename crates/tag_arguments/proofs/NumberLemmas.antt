@@ -1,6 +1,6 @@
 -- The pieces of an argument, one after another, and their numbers.
-use Rattle.std.proofs.Common.{◌≡◌, ◌≢◌, ℕ, suc, ◌+◌, ◌<◌, ◌≤◌, Bool, true, false, cond, eqb, ℤ, List, [], ◌∷◌, ◌++◌, length, take, drop, ap, arith, refl, sym, ◌∙◌, subst, length-append, Option, None, Some}
-use Rattle.std.specs.List.{slice_split, position_or_len, before_first, after_first, onto_first}
+use Rattle.std.proofs.Common.{◌≡◌, ℕ, ◌<◌, ◌≤◌, Bool, true, false, cond, eqb, ℤ, List, [], ◌∷◌, ◌++◌, length, ap, arith, refl, sym, ◌∙◌, subst, length-append}
+use Rattle.std.specs.List.{position_or_len, before_first, after_first, onto_first}
 use Rattle.std.proofs.lemmas.List.Sums.{fails_before_first}
 use Rattle.std.proofs.lemmas.List.Splits.{slice_split_none, slice_split_first}
 use Rattle.ass_num.specs.Fronts.{BeginsWith, HasNoFront}

@@ -1,7 +1,6 @@
 -- The names of tags (Aegisub, "ASS override tags").
 use Rattle.std.specs.Prelude.{ℕ, ◌==◌, nat_eq, codes, if◌then◌else◌, true, false, List, [], ◌∷◌, length, drop, slice_index, Option, Some, None}
 use Rattle.std.specs.List.{starts_with}
-use Rattle.tag_arguments.specs.declared.kinds.Num.{Num}
 use Rattle.tag_arguments.specs.declared.kinds.Num.TheVariants as num
 use Rattle.tag_arguments.specs.declared.kinds.Sung.TheVariants as sung
 use Rattle.tag_arguments.specs.declared.kinds.TagName.{TagName}

@@ -1,9 +1,9 @@
 -- Arguments that are numbers.
-use Rattle.std.specs.Prelude.{◌≡◌, ◌≢◌, ℕ, ◌==◌, ◌≤◌, Bool, true, false, MatchBool, if◌then◌else◌, ℤ, List, [], ◌∷◌, length, Option, Some, None}
+use Rattle.std.specs.Prelude.{◌≡◌, ◌≢◌, ℕ, ◌==◌, ◌≤◌, Bool, false, MatchBool, if◌then◌else◌, ℤ, List, [], ◌∷◌, length, Option, Some, None}
 use Rattle.std.specs.List.{slice_split}
 use Rattle.ass_num.specs.Fronts.{BeginsWith, HasNoFront}
 use Rattle.ass_num.specs.Numerals.{IsMilli, is_sign}
-use Rattle.tag_arguments.specs.Cuts.{trimmed, bracketed}
+use Rattle.tag_arguments.specs.Cuts.{trimmed}
 
 -- An argument that may be empty. Where it isn't, its front spells a value; none is read where no front does.
 abbrev pub ReadsOptional : {V : Type 0} → (List ℕ → V → Type 0) → List ℕ → Option (Option V) → Type 0

@@ -1,4 +1,4 @@
-use Rattle.std.proofs.Common.{◌-◌, ◌<◌, arith}
+use Rattle.std.proofs.Common.{◌-◌, arith}
 use Rattle.std.proofs.lemmas.List.Sums.{prefix_len_passes}
 use Rattle.ass_num.specs.Numerals.{is_blank}
 use Rattle.tag_arguments.proofs.CutLemmas.{blank_ascii, past_ascii}

@@ -1,4 +1,4 @@
-use Rattle.std.proofs.Common.{refl, rules, w64, ◌≡◌, ℕ, List, ◌∷◌, ◌++◌, [], ap, ◌∙◌, sym, append_assoc, arith, subst, ℤ}
+use Rattle.std.proofs.Common.{refl, rules, w64, List, ◌∷◌, ◌++◌, [], ap, ◌∙◌, sym, append_assoc, arith, subst, ℤ}
 use Rattle.std.specs.Prelude.{FitsSigned}
 use Rattle.std.proofs.lemmas.Int.{to_z-of_z}
 use Rattle.std.specs.Option.{option_copied}
