@@ -1,5 +1,5 @@
 -- The tags of a block, one after another.
-use Rattle.std.proofs.Common.{◌≡◌, ℕ, ◌+◌, List, [], ◌∷◌, ◌++◌, length, take, drop, sym, ap, ◌∙◌, subst, append_assoc, arith, Option, refl}
+use Rattle.std.proofs.Common.{◌≡◌, ℕ, ◌+◌, List, [], ◌∷◌, ◌++◌, length, drop, sym, ap, ◌∙◌, subst, append_assoc, arith, Option, refl}
 use Rattle.std.proofs.lemmas.List.{append-nil}
 use Rattle.tag_arguments.specs.Cuts.{tag_len}
 use Rattle.override_tags.specs.Items.{PlainItem}

@@ -1,5 +1,5 @@
 -- Lists of six and of seven numbers, number by number.
-use Rattle.std.proofs.Common.{◌≡◌, ℕ, suc, Bool, ◌+◌, ◌<◌, ◌≤◌, ℤ, pos, List, [], ◌∷◌, length, get_or, drop, ap, sym, ◌∙◌, subst, add-one, drop-cons, arith, Option, Some}
+use Rattle.std.proofs.Common.{◌≡◌, ℕ, suc, Bool, ◌+◌, ◌<◌, ℤ, pos, List, [], ◌∷◌, length, get_or, drop, ap, sym, ◌∙◌, subst, add-one, drop-cons, arith, Option}
 use Rattle.std.proofs.lemmas.List.{drop_all}
 use Rattle.tag_arguments.specs.Numbers.{ReadsNumbers}
 use Rattle.override_tags.specs.declared.tag.Tag.{Tag}

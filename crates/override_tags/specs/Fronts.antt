@@ -1,5 +1,5 @@
 -- What stands at the front of a text.
-use Rattle.std.specs.Prelude.{◌≡◌, ℕ, ◌==◌, ◌||◌, Bool, true, false, if◌then◌else◌, List, [], ◌∷◌, ◌++◌, length, encode_utf8}
+use Rattle.std.specs.Prelude.{◌≡◌, ℕ, ◌==◌, ◌||◌, Bool, false, if◌then◌else◌, List, [], ◌∷◌, ◌++◌, length, encode_utf8}
 use Rattle.std.specs.List.{list_any}
 use Rattle.override_tags.specs.declared.scan.FrontKind.{FrontKind}
 use Rattle.override_tags.specs.declared.scan.FrontKind.TheVariants as front

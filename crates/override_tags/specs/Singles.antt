@@ -1,5 +1,5 @@
 -- Tags that aren't transforms, by their names and the text behind these (Aegisub, "ASS override tags").
-use Rattle.std.specs.Prelude.{◌≡◌, ℕ, ◌||◌, Bool, true, false, if◌then◌else◌, ℤ, pos, List, [], ◌∷◌, Option, Some, None}
+use Rattle.std.specs.Prelude.{◌≡◌, ℕ, ◌||◌, Bool, if◌then◌else◌, ℤ, pos, List, [], ◌∷◌, Option, Some, None}
 use Rattle.std.specs.Int.{int_max}
 use Rattle.std.specs.Int.RustNames.{unsigned_abs}
 use Rattle.std.specs.Option.{option_map}

@@ -1,4 +1,4 @@
-use Rattle.std.proofs.Common.{◌≡◌, lit<, None, Some, List, ℕ, length, take, drop, ap, sym, subst, ◌∙◌, arith}
+use Rattle.std.proofs.Common.{lit<, None, Some, List, ℕ, length, take, drop, ap, sym, subst, ◌∙◌, arith}
 use Rattle.std.proofs.lemmas.Str.Pattern.{strip_prefix_char}
 use Rattle.override_tags.specs.Tags.{BeginsTag}
 use Rattle.override_tags.proofs.CutLemmas.{begins_drop, begins_none}
