@@ -1,24 +1,40 @@
 -- The points of curves. A curve has 16 steps; u is the step.
-use Rattle.std.specs.Prelude.{ℕ, ◌+◌, ◌-◌, ◌*◌, ◌^◌, ℤ, pos, ◌+ℤ◌, ◌-ℤ◌, ◌*ℤ◌, List, [], ◌∷◌, map}
+use Rattle.std.specs.Prelude.{ℕ, ◌≤◌, ◌+◌, ◌-◌, ◌*◌, ℤ, pos, ◌+ℤ◌, ◌*ℤ◌, List, [], ◌∷◌, map}
 use Rattle.std.specs.List.{range_with_len}
 use Rattle.ass_num.specs.Floor.{floor_div}
 use Rattle.ass_num.specs.declared.geometry.Point.{Point}
+use Rattle.outline_points.specs.declared.curves.Weights.{Weights}
 
--- four numbers with four weights
-abbrev pub weighted : ℤ → ℤ → ℤ → ℤ → ℤ → ℤ → ℤ → ℤ → ℤ
-weighted i j k l a b c d = (((i *ℤ a) +ℤ (j *ℤ b)) +ℤ (k *ℤ c)) +ℤ (l *ℤ d)
+-- four numbers by their weights
+abbrev pub weighted : Weights → ℤ → ℤ → ℤ → ℤ → ℤ
+weighted w a b c d = (((a *ℤ pos w.a) +ℤ (b *ℤ pos w.b)) +ℤ (c *ℤ pos w.c)) +ℤ (d *ℤ pos w.d)
 
--- a coordinate of the cubic curve from a to d with the control points b and c: z^3 a + 3 z^2 u b + 3 z u^2 c + u^3 d, where z = 16 - u
-abbrev pub cubic_at : ℕ → ℤ → ℤ → ℤ → ℤ → ℤ
-cubic_at u a b c d =
+-- no weight is above `most`
+pub record AreAtMost (most : ℕ) (w : Weights) : Type 0 where
+  pub a_most : w.a ≤ most
+  pub b_most : w.b ≤ most
+  pub c_most : w.c ≤ most
+  pub d_most : w.d ≤ most
+
+-- those of a cubic curve sum to 16^3
+abbrev pub cubic_weights : ℕ → Weights
+cubic_weights u =
     let z = 16 - u in
-    floor_div (weighted (pos (z ^ 3)) (pos (3 * z ^ 2 * u)) (pos (3 * z * u ^ 2)) (pos (u ^ 3)) a b c d) (pos 4096)
+    record { a = z * z * z; b = 3 * z * z * u; c = 3 * z * u * u; d = u * u * u }
+
+-- those of a uniform cubic spline to 6 * 16^3
+abbrev pub spline_weights : ℕ → Weights
+spline_weights u =
+    let z = 16 - u in
+    record { a = z * z * z; b = 3 * u * u * u + 16384 - 96 * u * u; c = 48 * u * u + 768 * u + 4096 - 3 * u * u * u; d = u * u * u }
+
+-- a coordinate of the cubic curve from a to d with the control points b and c
+abbrev pub cubic_at : ℕ → ℤ → ℤ → ℤ → ℤ → ℤ
+cubic_at u a b c d = floor_div (weighted (cubic_weights u) a b c d) (pos 4096)
 
 -- a coordinate of a uniform cubic spline between its control points b and c
 abbrev pub spline_at : ℕ → ℤ → ℤ → ℤ → ℤ → ℤ
-spline_at u a b c d =
-    let z = 16 - u in
-    floor_div (weighted (pos (z ^ 3)) (pos (3 * u ^ 3 + 16384 - 96 * u ^ 2)) (pos (48 * u ^ 2 + 768 * u + 4096 - 3 * u ^ 3)) (pos (u ^ 3)) a b c d) (pos 24576)
+spline_at u a b c d = floor_div (weighted (spline_weights u) a b c d) (pos 24576)
 
 abbrev pub cubic_point : Point → Point → Point → Point → ℕ → Point
 cubic_point a b c d u = record { x = cubic_at u a.x b.x c.x d.x; y = cubic_at u a.y b.y c.y d.y }

@@ -60,6 +60,11 @@ drawing_rings m segs = figures m origin segs
 abbrev pub path_rings : Matrix → ℤ → List Seg → List (List Point)
 path_rings m shift segs = map (map (λ p. outline_point m.turn (shifted_point shift p))) (drawing_rings m segs)
 
+-- the points of segments from a, whatever figure they belong to
+abbrev pub walk_points : Matrix → Point → List Seg → List Point
+walk_points m a [] = []
+walk_points m a (seg ∷ segs) = segment_points m a seg ++ walk_points m (end_point a seg) segs
+
 -- the largest x and the largest y of the points; 0 and 0 of none
 abbrev pub larger_point : Point → Point → Point
 larger_point p q = record { x = int_max p.x q.x; y = int_max p.y q.y }

@@ -14,11 +14,15 @@ pub record Bitmap : Type 0 where
   pub y : ℤ
   pub bits : List ℕ
 
--- (a, b) scaled; italic slants it by a quarter of its height
+-- how far italic moves a point to the right: by a quarter of its height
+abbrev pub slant : Bool → ℤ → ℤ
+slant italic y = if italic then floor_div (neg_ℤ y) (pos 4) else pos 0
+
+-- (a, b) scaled and slanted
 abbrev pub scaled_pixel : Matrix → ℤ → ℤ → Point
 scaled_pixel m a b =
     let y = floor_div (b *ℤ m.uy) (pos 65536) in
-    record { x = floor_div (a *ℤ m.ux) (pos 65536) +ℤ (if m.italic then floor_div (neg_ℤ y) (pos 4) else pos 0); y = y }
+    record { x = floor_div (a *ℤ m.ux) (pos 65536) +ℤ slant m.italic y; y = y }
 
 -- and turned and held
 abbrev pub glyph_point : Matrix → ℤ → ℤ → Point

@@ -3,10 +3,23 @@
 ghost use Rattle.std.specs.Prelude.{◌≡◌, ℕ, ◌+◌, ◌*◌, ◌/◌, ◌<◌, ◌^◌, ◌∷◌, [], length, All};
 ghost use Rattle.ass_num.specs.Limits.{IsOutlinePoint};
 ghost use Rattle.outline_points.specs.Placing.{IsWithin, IsPointWithin, IsMatrix};
-ghost use Rattle.outline_points.specs.Glyphs.{scaled_pixel, glyph_point, quad, is_set};
+ghost use Rattle.outline_points.specs.Glyphs.{slant, scaled_pixel, glyph_point, quad, is_set};
 
 use crate::placing::Turn;
+use crate::products::scaled;
 use ass_num::{Matrix, Point};
+
+/// How far italic moves a point at this height to the right.
+fn slant(italic: bool, y: i64) -> i64
+    requires { IsWithin (2 ^ 54) y }
+    ensures value { result ≡ slant italic y }
+    ensures within { IsWithin (2 ^ 54) result }
+{
+    if italic {
+        return (-y).div_euclid(4);
+    }
+    0
+}
 
 /// A point of the bitmap's plane, scaled and slanted.
 fn scaled_pixel(m: &Matrix, a: i64, b: i64) -> Point
@@ -16,10 +29,10 @@ fn scaled_pixel(m: &Matrix, a: i64, b: i64) -> Point
     ensures value { result ≡ scaled_pixel m.now a b }
     ensures within { IsPointWithin (2 ^ 61) result }
 {
-    let y = (b * m.uy).div_euclid(65_536);
-    let slant = if m.italic { (-y).div_euclid(4) } else { 0 };
+    let x = scaled(a, m.ux, 65_536);
+    let y = scaled(b, m.uy, 65_536);
     Point {
-        x: (a * m.ux).div_euclid(65_536) + slant,
+        x: x + slant(m.italic, y),
         y,
     }
 }

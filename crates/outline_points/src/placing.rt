@@ -3,10 +3,10 @@
 ghost use Rattle.std.specs.Prelude.{◌≡◌, ◌^◌};
 ghost use Rattle.ass_num.specs.Sine.{sine_of, cosine_of};
 ghost use Rattle.ass_num.specs.Limits.{IsOutlinePoint};
-ghost use Rattle.outline_points.specs.Placing.{IsWithin, IsPointWithin, turned_point, outline_point, held_point};
+ghost use Rattle.outline_points.specs.Placing.{IsWithin, IsPointWithin, turned_by, turned_point, outline_point, held_point};
 
-use crate::products::product;
-use ass_num::{Milli, Point, cosine, div_floor, hold, sine};
+use crate::products::{product, quotient};
+use ass_num::{Milli, Point, cosine, hold, sine};
 
 /// How far from 0 the points of an outline lie.
 const FARTHEST: i64 = 262_144;
@@ -41,12 +41,7 @@ impl Turn {
         requires { IsPointWithin (2 ^ 61) p }
         ensures { result ≡ turned_point self.now.angle p }
     {
-        let x = product(p.x, self.cosine) + product(p.y, self.sine);
-        let y = product(p.y, self.cosine) - product(p.x, self.sine);
-        Point {
-            x: div_floor(x, 10_000) as i64,
-            y: div_floor(y, 10_000) as i64,
-        }
+        turned_by(self.sine, self.cosine, p)
     }
 
     /// The point turned about 0, and each coordinate held within 262,144.
@@ -56,6 +51,23 @@ impl Turn {
         ensures within { IsOutlinePoint result }
     {
         held_point(self.point(p))
+    }
+}
+
+/// A point turned by an angle of this sine and cosine.
+fn turned_by(sine: i64, cosine: i64, p: Point) -> Point
+    requires sine { IsWithin 10000 sine }
+    requires cosine { IsWithin 10000 cosine }
+    requires point { IsPointWithin (2 ^ 61) p }
+    ensures { result ≡ turned_by sine cosine p }
+{
+    let x_cosine = product(p.x, cosine);
+    let y_sine = product(p.y, sine);
+    let y_cosine = product(p.y, cosine);
+    let x_sine = product(p.x, sine);
+    Point {
+        x: quotient(x_cosine + y_sine, 10_000),
+        y: quotient(y_cosine - x_sine, 10_000),
     }
 }
 
