@@ -1,3 +1,2 @@
-pub mod Cancelling
 pub mod Figures
 pub mod GlyphOutlines

@@ -1,5 +1,5 @@
 -- The points of curves. A curve has 16 steps; u is the step.
-use Rattle.std.specs.Prelude.{ℕ, ◌≤◌, ◌+◌, ◌-◌, ◌*◌, ℤ, pos, ◌+ℤ◌, ◌*ℤ◌, List, [], ◌∷◌, map}
+use Rattle.std.specs.Prelude.{ℕ, ◌≤◌, ◌+◌, ◌-◌, ◌*◌, ℤ, pos, ◌+ℤ◌, ◌*ℤ◌, List, map}
 use Rattle.std.specs.List.{range_with_len}
 use Rattle.ass_num.specs.Floor.{floor_div}
 use Rattle.ass_num.specs.declared.geometry.Point.{Point}

@@ -1,5 +1,5 @@
 -- The rings of a drawing. The points of its path are in thousandths.
-use Rattle.std.specs.Prelude.{◌≡◌, ℕ, ℤ, pos, ◌*ℤ◌, List, [], ◌∷◌, ◌++◌, map, flat_map, All}
+use Rattle.std.specs.Prelude.{ℤ, pos, ◌*ℤ◌, List, [], ◌∷◌, ◌++◌, map, flat_map, All}
 use Rattle.std.specs.Int.{int_max}
 use Rattle.ass_num.specs.Floor.{floor_div}
 use Rattle.ass_num.specs.declared.geometry.Point.{Point}

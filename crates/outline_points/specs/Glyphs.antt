@@ -1,5 +1,5 @@
 -- The quads of a glyph. They are told of plain numbers, in pixels of the bitmap; b grows downwards from the baseline.
-use Rattle.std.specs.Prelude.{◌≡◌, ℕ, ◌+◌, ◌-◌, ◌*◌, ◌/◌, ◌%◌, ◌^◌, ◌==◌, Bool, if◌then◌else◌, ℤ, pos, negsuc, neg_ℤ, ◌+ℤ◌, ◌-ℤ◌, ◌*ℤ◌, List, [], ◌∷◌, ◌++◌, flat_map, slice_index}
+use Rattle.std.specs.Prelude.{ℕ, ◌+◌, ◌-◌, ◌*◌, ◌/◌, ◌%◌, ◌^◌, ◌==◌, Bool, if◌then◌else◌, ℤ, pos, neg_ℤ, ◌+ℤ◌, ◌-ℤ◌, ◌*ℤ◌, List, [], ◌∷◌, ◌++◌, flat_map, slice_index}
 use Rattle.std.specs.List.{range_with_len}
 use Rattle.ass_num.specs.Floor.{floor_div}
 use Rattle.ass_num.specs.declared.geometry.Point.{Point}

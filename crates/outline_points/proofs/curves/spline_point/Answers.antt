@@ -1,4 +1,4 @@
-use Rattle.std.proofs.Common.{◌≡◌, FitsSigned, to_z-of_z, ◌∙◌, refl, rules, w64, arith}
+use Rattle.std.proofs.Common.{FitsSigned, to_z-of_z, refl, rules, w64, arith}
 use Rattle.std.proofs.lemmas.Int.{ints}
 use Rattle.outline_points.proofs.curves.spline_point.Goals as goal
 

@@ -1,4 +1,4 @@
-use Rattle.std.proofs.Common.{◌*◌, arith}
+use Rattle.std.proofs.Common.{arith}
 use Rattle.outline_points.proofs.Steps.{second_weight, third_weight}
 use Rattle.outline_points.proofs.curves.spline_weights.Goals as goal
 

@@ -1,6 +1,5 @@
-use Rattle.std.proofs.Common.{◌≡◌, ◌+ℤ◌, ◌*ℤ◌, ◌*◌, ◌^◌, ◌∙◌, ℤ, pos, refl, FitsSigned, to_z-of_z, rules, arith, w64}
+use Rattle.std.proofs.Common.{◌≡◌, ◌*ℤ◌, ◌∙◌, pos, refl, FitsSigned, to_z-of_z, rules, arith}
 use Rattle.std.proofs.lemmas.Int.{ints}
-use Rattle.outline_points.specs.Placing.{IsWithin}
 use Rattle.outline_points.proofs.Bounds.{weighted_product}
 use Rattle.outline_points.proofs.curves.weighted.Goals as goal
 use mir.Syntax.{w128}

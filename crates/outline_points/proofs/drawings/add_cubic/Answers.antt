@@ -1,5 +1,4 @@
 use Rattle.std.proofs.Common.{◌≡◌, ◌^◌, ◌++◌, ◌∷◌, [], ◌∙◌, ap, arith}
-use Rattle.std.specs.List.{All}
 use Rattle.std.proofs.lemmas.List.Elements.{All-push}
 use Rattle.outline_points.specs.Placing.{IsPointWithin}
 use Rattle.outline_points.specs.Curves.{cubic_point}

@@ -1,4 +1,4 @@
-use Rattle.std.proofs.Common.{◌≡◌, ◌++◌, ◌∙◌, sym, ap, subst}
+use Rattle.std.proofs.Common.{◌++◌, ◌∙◌, sym, ap, subst}
 use Rattle.outline_points.specs.Drawings.{IsSegment, segment_points}
 use Rattle.outline_points.proofs.Walks.{extent_more}
 use Rattle.outline_points.proofs.drawings.extent_from.Goals as goal

@@ -1,8 +1,5 @@
-use Rattle.std.proofs.Common.{◌≡◌, ◌+ℤ◌, ◌-ℤ◌, ◌*ℤ◌, ◌*◌, ◌^◌, ◌∙◌, pos, refl, FitsSigned, to_z-of_z, rules, arith, w64}
+use Rattle.std.proofs.Common.{◌+ℤ◌, ◌-ℤ◌, refl, FitsSigned, to_z-of_z, rules, arith, w64}
 use Rattle.std.proofs.lemmas.Int.{ints}
-use Rattle.ass_num.specs.declared.geometry.Point.{Point}
-use Rattle.ass_num.specs.Floor.{floor_div}
-use Rattle.outline_points.specs.Placing.{IsWithin, turned_by}
 use Rattle.outline_points.proofs.Bounds.{turned_product}
 use Rattle.outline_points.proofs.placing.turned_by.Goals as goal
 use mir.Syntax.{w128}

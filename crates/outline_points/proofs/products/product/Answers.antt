@@ -1,4 +1,4 @@
-use Rattle.std.proofs.Common.{◌*ℤ◌, ◌∙◌, refl, FitsSigned, to_z-of_z, rules}
+use Rattle.std.proofs.Common.{◌∙◌, refl, FitsSigned, to_z-of_z, rules}
 use Rattle.outline_points.proofs.Bounds.{within_product}
 use Rattle.outline_points.proofs.products.product.Goals as goal
 use mir.Syntax.{w128}

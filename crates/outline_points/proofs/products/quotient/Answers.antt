@@ -1,4 +1,4 @@
-use Rattle.std.proofs.Common.{◌≡◌, ◌*◌, ◌^◌, ◌∙◌, pos, refl, FitsSigned, to_z-of_z, rules, arith, w64}
+use Rattle.std.proofs.Common.{◌≡◌, ◌^◌, pos, FitsSigned, to_z-of_z, rules, arith, w64}
 use Rattle.std.proofs.lemmas.Int.{ints}
 use Rattle.ass_num.specs.Floor.{floor_div}
 use Rattle.outline_points.specs.Placing.{IsWithin}

@@ -1,5 +1,4 @@
-use Rattle.std.proofs.Common.{◌≡◌, ◌*ℤ◌, ◌*◌, ◌^◌, ◌∙◌, pos, refl, FitsSigned, to_z-of_z, rules, arith, w64}
-use Rattle.std.proofs.lemmas.Int.{ints}
+use Rattle.std.proofs.Common.{◌≡◌, ◌*ℤ◌, ◌*◌, ◌^◌, ◌∙◌, refl, FitsSigned, to_z-of_z, rules, arith, w64}
 use Rattle.outline_points.specs.Placing.{IsWithin}
 use Rattle.outline_points.proofs.Bounds.{within_more, scaled_within}
 use Rattle.outline_points.proofs.products.scaled.Goals as goal

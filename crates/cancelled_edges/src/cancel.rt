@@ -2,7 +2,7 @@
 
 ghost use Rattle.std.specs.Prelude.{◌≡◌, ℤ, IfOk};
 ghost use Rattle.ass_num.specs.Winding.{winding};
-ghost use Rattle.fixed_outline.specs.Cancelling.{IsCancelled};
+ghost use Rattle.cancelled_edges.specs.Cancelling.{IsCancelled};
 
 use crate::edges::uncancelled_edges;
 use crate::rings::rings_of;
