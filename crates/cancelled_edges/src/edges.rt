@@ -1,5 +1,10 @@
 //! The directed edges of an outline, and those that don't cancel.
 
+ghost use Rattle.std.specs.Prelude.{◌≡◌, ◌++◌, flat_map, IfOk, OnOk, IsPermutation};
+ghost use Rattle.ass_num.specs.Winding.{line, edges, edges_of};
+ghost use Rattle.cancelled_edges.specs.Edges.{edge_from, IsAdded, IsBalanced, IsGrouped, HasNoOpposites, LeadsSomewhere, ends_of};
+ghost use Rattle.std.specs.Prelude.{All};
+
 use ass_num::{Mem, Outline, Point};
 use std::alloc::Global;
 
@@ -11,53 +16,71 @@ pub struct Edge {
 }
 
 /// Adds the edge from a to b, unless it leads nowhere.
-fn add_edge(a: Point, b: Point, edges: &mut Vec<Edge>) -> Mem<()> {
-    if a != b {
-        edges.push(Edge { from: a, to: b })?;
+fn add_edge(a: Point, b: Point, list: &mut Vec<Edge>) -> Mem<()>
+    ensures { OnOk result (list.new.items ≡ list.old.items ++ edge_from (a, b)) }
+{
+    if a == b {
+        return Ok(());
     }
+    list.push(Edge { from: a, to: b })?;
     Ok(())
 }
 
-/// Adds the edges of a closed ring.
-fn add_ring(ring: &[Point], edges: &mut Vec<Edge>) -> Mem<()> {
-    let [first, rest @ ..] = ring else {
-        return Ok(());
-    };
-    let mut last = *first;
+/// Adds the edges from a along the points to the last one.
+fn add_line(a: Point, rest: &[Point], last: Point, list: &mut Vec<Edge>) -> Mem<()>
+    ensures { OnOk result (list.new.items ≡ list.old.items ++ flat_map edge_from (line a rest.now last)) }
+{
+    let mut from = a;
     for p in rest {
-        add_edge(last, *p, edges)?;
-        last = *p;
+        add_edge(from, *p, list)?;
+        from = *p;
     }
-    add_edge(last, *first, edges)
+    add_edge(from, last, list)
+}
+
+/// Adds the edges of a closed ring.
+fn add_ring(ring: &[Point], list: &mut Vec<Edge>) -> Mem<()>
+    ensures { OnOk result (list.new.items ≡ list.old.items ++ flat_map edge_from (edges ring.now)) }
+{
+    if ring.is_empty() {
+        return Ok(());
+    }
+    add_line(ring[0], &ring[1..], ring[0], list)
 }
 
 /// The edges of an outline.
-fn list_edges(alloc: Global, outline: &Outline) -> Mem<Vec<Edge>> {
-    let mut edges = Vec::with_capacity(alloc, outline.rings.all_items().len())?;
+fn list_edges(alloc: Global, outline: &Outline) -> Mem<Vec<Edge>>
+    ensures { IfOk result (λ list. list.items ≡ flat_map edge_from (edges_of outline.now.rings)) }
+{
+    let mut list = Vec::with_capacity(alloc, outline.rings.all_items().len())?;
     for k in 0..outline.rings.len() {
-        add_ring(outline.rings.get(k), &mut edges)?;
+        add_ring(outline.rings.get(k), &mut list)?;
     }
-    Ok(edges)
+    Ok(list)
 }
 
 /// The two ends of an edge, the one that comes first in the order of points first.
-fn ends(e: &Edge) -> (i64, i64, i64, i64) {
-    let from = (e.from.x, e.from.y);
-    let to = (e.to.x, e.to.y);
-    if from < to {
-        (from.0, from.1, to.0, to.1)
-    } else {
-        (to.0, to.1, from.0, from.1)
+fn ends(e: &Edge) -> (i64, i64, i64, i64)
+    ensures { result ≡ ends_of e.now }
+{
+    if e.from.x < e.to.x || (e.from.x == e.to.x && e.from.y < e.to.y) {
+        return (e.from.x, e.from.y, e.to.x, e.to.y);
     }
+    (e.to.x, e.to.y, e.from.x, e.from.y)
 }
 
 /// Brings edges with the same two ends together.
-fn sort_by_ends(edges: &mut Vec<Edge>) {
-    edges.sort_unstable_by_key(|e| ends(e));
+fn sort_by_ends(list: &mut Vec<Edge>)
+    ensures permutation { IsPermutation list.old.items list.new.items }
+    ensures grouped { IsGrouped list.new.items }
+{
+    list.sort_unstable_by_key(|e| ends(e));
 }
 
 /// Puts an edge at the end, or takes the last one away where it is the opposite.
-fn add_or_cancel(kept: &mut Vec<Edge>, e: Edge) -> Mem<()> {
+fn add_or_cancel(kept: &mut Vec<Edge>, e: Edge) -> Mem<()>
+    ensures { OnOk result (IsAdded kept.old.items e kept.new.items) }
+{
     let opposite = Edge {
         from: e.to,
         to: e.from,
@@ -71,11 +94,14 @@ fn add_or_cancel(kept: &mut Vec<Edge>, e: Edge) -> Mem<()> {
 }
 
 /// The edges of an outline that are left when each has cancelled an opposite one.
-pub fn uncancelled_edges(alloc: Global, outline: &Outline) -> Mem<Vec<Edge>> {
-    let mut edges = list_edges(alloc, outline)?;
-    sort_by_ends(&mut edges);
-    let mut kept = Vec::with_capacity(alloc, edges.len())?;
-    for e in &edges {
+pub fn uncancelled_edges(alloc: Global, outline: &Outline) -> Mem<Vec<Edge>>
+    ensures balanced { IfOk result (λ kept. IsBalanced (edges_of outline.now.rings) kept.items) }
+    ensures single { IfOk result (λ kept. HasNoOpposites kept.items) }
+{
+    let mut list = list_edges(alloc, outline)?;
+    sort_by_ends(&mut list);
+    let mut kept = Vec::with_capacity(alloc, list.len())?;
+    for e in &list {
         add_or_cancel(&mut kept, *e)?;
     }
     Ok(kept)

@@ -1,6 +1,6 @@
 -- The rings of a path, segment by segment.
 use Rattle.std.proofs.Common.{◌≡◌, ℕ, ◌+◌, ◌<◌, ◌≤◌, ◌^◌, List, [], ◌∷◌, ◌++◌, length, get_or, set, take, drop, map, refl, sym, ap, subst, ◌∙◌, append_assoc, ℤ, arith}
-use Rattle.std.proofs.lemmas.List.{append-nil, drop_more, drop_all, map-append, map_more, length-map, length-take-le, set_at, get_or_at}
+use Rattle.std.proofs.lemmas.List.{append-nil, drop_more, drop_all, map-append, map_more, length-map, length-take-le, set_at, get_or_at, take_all}
 use Rattle.std.specs.List.{All}
 use Rattle.std.proofs.lemmas.List.Elements.{All-same, All-nil}
 use Rattle.ass_num.specs.Limits.{IsOutline}
@@ -11,11 +11,6 @@ use Rattle.ass_num.specs.declared.geometry.Seg.TheVariants.{Move, Line, Cubic, S
 use Rattle.outline_points.specs.Placing.{IsPointWithin}
 use Rattle.outline_points.specs.Drawings.{end_point, last_point, segment_points, figure_points, figures, path_rings, IsPathPoint, BeginsFigure}
 use Rattle.fixed_outline.specs.Figures.{placed_point, finished_rings, closed_rings, open_ring, rings_behind, IsWalked}
-
--- a segment that goes on with a ring
-goes_on : (m : Matrix) (a b q : Point) (ring points : List Point) (rest : List Seg)
-    → ((q ∷ ring) ++ points) ++ figure_points m b rest ∷ figures m b rest ≡ (q ∷ ring) ++ (points ++ figure_points m b rest) ∷ figures m b rest
-goes_on m a b q ring points rest = ap (λ r. r ∷ figures m b rest) (append_assoc (q ∷ ring) points (figure_points m b rest))
 
 -- One more segment.
 behind_more : (m : Matrix) (a : Point) (seg : Seg) (ring : List Point) (rest : List Seg) → (ring ≡ [] → BeginsFigure (seg ∷ rest))
@@ -103,3 +98,8 @@ open_within P (Move p) ring old is all = All-same P old [] is (All-nil P)
 open_within P (Line p) ring old is all = All-same P old ring is all
 open_within P (Cubic b c d) ring old is all = All-same P old ring is all
 open_within P (Spline controls closed) ring old is all = All-same P old ring is all
+
+-- What is written back into a vector of the same length.
+pub written_back : (n : ℕ) (new old : List Point) → length new ≡ length old → n ≡ length old → take n (new ++ drop (length new) old) ≡ new
+written_back n new old same whole =
+    ap (λ xs. take n (new ++ xs)) (drop_all (length new) old (omega arith)) ∙ ap (take n) (append-nil new) ∙ take_all n new (omega arith)

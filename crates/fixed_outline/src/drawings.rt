@@ -74,6 +74,27 @@ fn begin_segment(
     }
 }
 
+/// The rings of the figures of a drawing.
+fn rings_of_segments(alloc: Global, segs: &[Seg], m: &Matrix, shift: Fix) -> Mem<FlatLists<Point>>
+    requires path { IsPath segs.now }
+    requires matrix { IsMatrix m.now }
+    requires shift { IsWithin (2 ^ 60) shift }
+    ensures value { IfOk result (λ rings. rings ≡ path_rings m.now shift segs.now) }
+    ensures within { IfOk result IsOutline }
+{
+    let turn = Turn::new(m.turn);
+    let mut rings = FlatLists::new(alloc);
+    let mut ring = Vec::new(alloc);
+    let mut vertex = Point { x: 0, y: 0 };
+    for seg in segs {
+        begin_segment(seg, &mut ring, &turn, shift, &mut rings)?;
+        ring = add_segment(m, vertex, seg, ring)?;
+        vertex = end_point(vertex, seg);
+    }
+    finish(&mut ring, &turn, shift, &mut rings)?;
+    Ok(rings)
+}
+
 /// The outline of a drawing: its points scaled, its curves drawn as points, shifted down, turned and held.
 /// Each figure is a ring (Aegisub tag reference, "Drawing tags").
 pub fn outline_of_path(alloc: Global, path: &Path, m: &Matrix, shift: Fix) -> Mem<Outline>
@@ -83,15 +104,6 @@ pub fn outline_of_path(alloc: Global, path: &Path, m: &Matrix, shift: Fix) -> Me
     ensures value { IfOk result (λ o. o.rings ≡ path_rings m.now shift path.now.segs) }
     ensures within { IfOk result (λ o. IsOutline o.rings) }
 {
-    let turn = Turn::new(m.turn);
-    let mut rings = FlatLists::new(alloc);
-    let mut ring = Vec::new(alloc);
-    let mut vertex = Point { x: 0, y: 0 };
-    for seg in path.segs.as_slice() {
-        begin_segment(seg, &mut ring, &turn, shift, &mut rings)?;
-        ring = add_segment(m, vertex, seg, ring)?;
-        vertex = end_point(vertex, seg);
-    }
-    finish(&mut ring, &turn, shift, &mut rings)?;
+    let rings = rings_of_segments(alloc, path.segs.as_slice(), m, shift)?;
     Ok(Outline { rings })
 }

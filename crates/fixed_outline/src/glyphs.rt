@@ -31,7 +31,9 @@ fn add_pixel(style: &Style, a: i64, b: i64, rings: &mut FlatLists<Point>) -> Mem
 {
     add_quad(style, a, b, a + 1, b + 1, rings)?;
     if style.bold {
-        return add_quad(style, a + 1, b, a + 2, b + 1, rings);
+        let right = a + 1;
+        add_quad(style, right, b, right + 1, b + 1, rings)?;
+        return Ok(());
     }
     Ok(())
 }
@@ -52,7 +54,8 @@ fn add_quad(
     ensures added { OnOk result (rings.new ≡ rings.old ++ quad style.now.matrix left top right bottom ∷ []) }
     ensures within { OnOk result (IsOutline rings.old → IsOutline rings.new) }
 {
-    rings.push(&quad(&style.matrix, &style.turn, left, top, right, bottom))
+    rings.push(&quad(&style.matrix, &style.turn, left, top, right, bottom))?;
+    Ok(())
 }
 
 /// The left edge of column i of a glyph.
@@ -100,7 +103,8 @@ fn add_place(
     ensures within { OnOk result (IsOutline rings.old → IsOutline rings.new) }
 {
     if is_set(glyph, i, j) {
-        return add_pixel(style, column_left(glyph, i), row_top(glyph, j), rings);
+        add_pixel(style, column_left(glyph, i), row_top(glyph, j), rings)?;
+        return Ok(());
     }
     Ok(())
 }
@@ -144,7 +148,8 @@ fn add_bar(
     ensures within { OnOk result (IsOutline rings.old → IsOutline rings.new) }
 {
     if wanted {
-        return add_quad(style, 0, top, advance, top + 1, rings);
+        add_quad(style, 0, top, advance, top + 1, rings)?;
+        return Ok(());
     }
     Ok(())
 }

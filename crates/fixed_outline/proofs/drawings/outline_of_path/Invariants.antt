@@ -1,6 +1,0 @@
-use Rattle.std.proofs.Common.{drop}
-use Rattle.fixed_outline.specs.Figures.{IsWalked}
-use Rattle.fixed_outline.proofs.drawings.outline_of_path.Given as goal
-
-abbrev pub invariant-loop-seg : goal.invariant-loop-seg
-invariant-loop-seg l = IsWalked l.m l.shift l.path.segs l.rings l.ring.items l.vertex (drop l.seg-index l.path.segs)
