@@ -81,7 +81,10 @@ fn outlines_of_a_dot_a_triangle_and_a_box(rt: HostRuntime) -> Result<(), Fail> {
     let path = triangle(alloc)?;
     let outline = outline_of_path(alloc, &path, &PLAIN, 0)?;
     assert_eq!(rt; shown(alloc, &outline)?.as_str(), "| 0,0 64,0 64,64");
-    assert_eq!(rt; drawing_extent(alloc, &path, &PLAIN)?, Point { x: 64, y: 64 });
+    assert_eq!(rt;
+        drawing_extent(alloc, &path, &PLAIN)?,
+        Point { x: 64, y: 64 }
+    );
     let square = box_outline(alloc, 64, 64, 0)?;
     assert_eq!(rt; shown(alloc, &square)?.as_str(), "| 0,0 64,0 64,64 0,64");
     Ok(())
