@@ -1,5 +1,4 @@
-use Rattle.std.proofs.Common.{◌≡◌, ◌+◌, ◌<◌, ◌∙◌, ℤ, pos, length, get_or, set, take, ap, to_z, of_z, arith, w64}
-use Rattle.std.specs.List.{All}
+use Rattle.std.proofs.Common.{◌<◌, ◌∙◌, pos, length, take, ap, to_z, of_z, arith, w64}
 use Rattle.std.proofs.lemmas.List.{take_more_set, take_all}
 use Rattle.std.proofs.lemmas.List.Elements.{All-push}
 use Rattle.ass_num.specs.Limits.{IsOutlinePoint}

@@ -1,5 +1,4 @@
-use Rattle.std.proofs.Common.{◌≡◌, ◌^◌, ◌∙◌, sym, subst, to_z-of_z, FitsSigned, rules, w64}
-use Rattle.std.specs.List.{All}
+use Rattle.std.proofs.Common.{◌^◌, sym, subst, to_z-of_z, FitsSigned, rules, w64}
 use Rattle.outline_points.specs.Placing.{IsPointWithin}
 use Rattle.outline_points.specs.Drawings.{IsSegment}
 use Rattle.fixed_outline.proofs.FigureLemmas.{walked_more, walked_all, open_within}

@@ -1,4 +1,4 @@
-use Rattle.std.proofs.Common.{FitsSigned, to_z-of_z, ◌++◌, ◌∷◌, [], ◌∙◌, ap, w64}
+use Rattle.std.proofs.Common.{to_z-of_z, ◌++◌, ◌∷◌, [], ◌∙◌, ap}
 use Rattle.std.specs.List.{All}
 use Rattle.std.proofs.lemmas.List.Elements.{All-push}
 use Rattle.ass_num.specs.Limits.{IsOutlinePoint}
