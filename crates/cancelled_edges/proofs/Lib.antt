@@ -1,3 +1,0 @@
-pub mod BalanceLemmas
-pub mod GroupLemmas
-pub mod LineLemmas
