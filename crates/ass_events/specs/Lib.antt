@@ -1,0 +1,5 @@
+pub mod Cuts
+pub mod Numbers
+pub mod Fields
+pub mod Plain
+pub mod Events

@@ -1,0 +1,63 @@
+-- The numbers and times of a line.
+use Rattle.std.specs.Prelude.{ℕ, ◌+◌, ◌*◌, ◌<◌, Bool, ◌&&◌, ◌==◌, nat_lt, nat_le, if◌then◌else◌, List, [], ◌∷◌, length, take, drop, slice_index, Option, Some, None, option_and_then, ℤ, pos, negsuc}
+use Rattle.std.specs.List.{prefix_len, list_all}
+use Rattle.ass_num.specs.Numerals as numerals
+use Rattle.ass_num.specs.Numerals.{is_blank, is_decimal, sign_len, signed}
+
+-- the number that digits say under a sign, where there is a digit, the number has 31 bits, and blanks alone follow
+abbrev pub whole_under : List ℕ → List ℕ → List ℕ → Option ℤ
+whole_under sign digits rest =
+    if nat_lt 0 (length digits) && (nat_le (numerals.number_of 10 digits) 2147483647 && list_all is_blank rest)
+    then Some (signed sign (numerals.number_of 10 digits)) else None
+
+-- the same behind the sign
+abbrev pub whole_behind : List ℕ → List ℕ → Option ℤ
+whole_behind sign text = whole_under sign (take (prefix_len is_decimal text) text) (drop (prefix_len is_decimal text) text)
+
+-- a sign or none, digits, and blanks
+abbrev pub whole_at : List ℕ → Option ℤ
+whole_at text = whole_behind (take (sign_len text) text) (drop (sign_len text) text)
+
+-- the whole number that a text is, between blanks
+unfoldable pub whole_of : List ℕ → Option ℤ
+whole_of text = whole_at (drop (prefix_len is_blank text) text)
+
+-- one to six digits before the byte `mark`: their number, and what follows the mark
+abbrev pub part_before : ℕ → List ℕ → Option (ℕ × List ℕ)
+part_before mark text =
+    let digits = prefix_len is_decimal text in
+    if nat_lt 0 digits && (nat_le digits 6 && (nat_lt digits (length text) && (slice_index text digits == mark)))
+    then Some (numerals.number_of 10 (take digits text), drop (digits + 1) text) else None
+
+-- one to six digits and then blanks alone
+abbrev pub last_part : List ℕ → Option ℕ
+last_part text =
+    let digits = prefix_len is_decimal text in
+    if nat_lt 0 digits && (nat_le digits 6 && list_all is_blank (drop digits text)) then Some (numerals.number_of 10 (take digits text)) else None
+
+-- hours, minutes and seconds, and hundredths
+abbrev pub time_at : List ℕ → Option ℤ
+time_at text =
+    option_and_then (λ hours. option_and_then (λ minutes. option_and_then (λ seconds. option_and_then (λ hundredths.
+    Some (pos (((hours.0 * 60 + minutes.0) * 60 + seconds.0) * 1000 + hundredths * 10)))
+    (last_part seconds.1)) (part_before 46 minutes.1)) (part_before 58 hours.1)) (part_before 58 text)
+
+-- the time in milliseconds that a text is, between blanks
+unfoldable pub time_of : List ℕ → Option ℤ
+time_of text = time_at (drop (prefix_len is_blank text) text)
+
+abbrev pub order_in : ℤ → Option ℕ
+order_in (pos n) = Some n
+order_in (negsuc n) = None
+
+-- a whole number that isn't negative
+unfoldable pub order_of : List ℕ → Option ℕ
+order_of text = option_and_then order_in (whole_of text)
+
+-- a whole number, 0 where there are blanks alone
+unfoldable pub number_of : List ℕ → Option ℤ
+number_of text = if list_all is_blank text then Some (pos 0) else whole_of text
+
+-- a time in milliseconds, 0 where there are blanks alone
+unfoldable pub instant_of : List ℕ → Option ℤ
+instant_of text = if list_all is_blank text then Some (pos 0) else time_of text
