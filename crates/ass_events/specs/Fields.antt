@@ -1,5 +1,6 @@
 -- The fields of a line: what each says, and the first that can't be read.
 use Rattle.std.specs.Prelude.{◌≡◌, ℕ, ◌+◌, ℤ, pos, List, [], ◌∷◌, length, Option, Some, None, option_and_then, Result, Ok, Err}
+use Rattle.std.specs.Option.{option_map_or}
 use Rattle.std.specs.Str.{IsUtf8}
 use Rattle.std.specs.List.{join_with_byte}
 use Rattle.ass_script.specs.declared.script.EventField.{EventField}
@@ -71,11 +72,7 @@ column_put column fields = option_and_then (λ piece. field_put column.field pie
 -- what the columns say, from the first to the last, or the first that can't be read or isn't there, with its place
 unfoldable pub examined : List Column → PlainFields → Result PlainFields ChunkRefusal
 examined [] fields = Ok fields
-examined (column ∷ columns) fields =
-    elim (column_put column fields) [
-      | Some more ↦ examined columns more
-      | None ↦ Err (Malformed column.field column.place)
-    ]
+examined (column ∷ columns) fields = option_map_or (examined columns) (column_put column fields) (Err (Malformed column.field column.place))
 
 -- The answer is this one, seen as a plain value, unless memory ran out.
 abbrev pub Answers : {Value Plain : Type 0} → (Value → Plain) → Result Value ChunkRefusal → Result Plain ChunkRefusal → Type 0

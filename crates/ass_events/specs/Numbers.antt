@@ -22,24 +22,33 @@ whole_at text = whole_behind (take (sign_len text) text) (drop (sign_len text) t
 unfoldable pub whole_of : List ℕ → Option ℤ
 whole_of text = whole_at (drop (prefix_len is_blank text) text)
 
--- one to six digits before the byte `mark`: their number, and what follows the mark
-abbrev pub part_before : ℕ → List ℕ → Option (ℕ × List ℕ)
-part_before mark text =
-    let digits = prefix_len is_decimal text in
+-- `digits` digits before the byte `mark`, one to six: their number, and what follows the mark
+abbrev pub part_cut : ℕ → List ℕ → ℕ → Option (ℕ × List ℕ)
+part_cut mark text digits =
     if nat_lt 0 digits && (nat_le digits 6 && (nat_lt digits (length text) && (slice_index text digits == mark)))
     then Some (numerals.number_of 10 (take digits text), drop (digits + 1) text) else None
 
--- one to six digits and then blanks alone
-abbrev pub last_part : List ℕ → Option ℕ
-last_part text =
-    let digits = prefix_len is_decimal text in
+-- all the digits at the front, before that byte
+abbrev pub part_before : ℕ → List ℕ → Option (ℕ × List ℕ)
+part_before mark text = part_cut mark text (prefix_len is_decimal text)
+
+-- `digits` digits, one to six, and then blanks alone
+abbrev pub last_cut : List ℕ → ℕ → Option ℕ
+last_cut text digits =
     if nat_lt 0 digits && (nat_le digits 6 && list_all is_blank (drop digits text)) then Some (numerals.number_of 10 (take digits text)) else None
+
+-- all the digits at the front
+abbrev pub last_part : List ℕ → Option ℕ
+last_part text = last_cut text (prefix_len is_decimal text)
+
+abbrev pub time_made : ℕ → ℕ → ℕ → ℕ → ℤ
+time_made hours minutes seconds hundredths = pos (((hours * 60 + minutes) * 60 + seconds) * 1000 + hundredths * 10)
 
 -- hours, minutes and seconds, and hundredths
 abbrev pub time_at : List ℕ → Option ℤ
 time_at text =
     option_and_then (λ hours. option_and_then (λ minutes. option_and_then (λ seconds. option_and_then (λ hundredths.
-    Some (pos (((hours.0 * 60 + minutes.0) * 60 + seconds.0) * 1000 + hundredths * 10)))
+    Some (time_made hours.0 minutes.0 seconds.0 hundredths))
     (last_part seconds.1)) (part_before 46 minutes.1)) (part_before 58 hours.1)) (part_before 58 text)
 
 -- the time in milliseconds that a text is, between blanks

@@ -1,6 +1,8 @@
 //! The fields of a line that is cut at its commas.
 
-ghost use Rattle.std.specs.Prelude.{◌≡◌, Some, None, IfSome, IfNone};
+ghost use Rattle.std.specs.Prelude.{◌≡◌, ◌≤◌, length, if◌then◌else◌, Some, None, IfSome, IfNone};
+ghost use Rattle.std.specs.List.{position_or_len};
+ghost use Rattle.ass_events.specs.Cuts.{is_comma};
 ghost use Rattle.ass_events.specs.Plain.{plain};
 ghost use Rattle.ass_events.specs.Fields.{Answers, no_fields, field_put, columns_of, examined};
 
@@ -69,6 +71,14 @@ impl<'a> Fields<'a> {
     }
 }
 
+/// How many bytes of a rest are its first field: all of them where it is the last.
+fn piece_len(rest: &[u8], is_last: bool) -> usize
+    ensures len { result ≡ (if is_last then length rest.now else position_or_len is_comma rest.now) }
+    ensures within { result ≤ length rest.now }
+{
+    if is_last { rest.len() } else { before_comma(rest) }
+}
+
 /// What the fields of a line say, in the order of the format: the line is cut at its commas, but for those of the
 /// last field. Where a field can't be read or is missing, the first such field and its place.
 pub fn read_fields<'a>(format: &[EventField], line: &'a [u8]) -> Result<Fields<'a>, ChunkRefusal>
@@ -81,11 +91,11 @@ pub fn read_fields<'a>(format: &[EventField], line: &'a [u8]) -> Result<Fields<'
             return Err(ChunkRefusal::Malformed(*field, line.len()));
         }
         let rest = &line[place..];
-        let len = if i + 1 == format.len() { rest.len() } else { before_comma(rest) };
-        let Some(next) = fields.with(*field, &rest[..len]) else {
-            return Err(ChunkRefusal::Malformed(*field, place));
+        let len = piece_len(rest, i + 1 == format.len());
+        fields = match fields.with(*field, &rest[..len]) {
+            Some(more) => more,
+            None => return Err(ChunkRefusal::Malformed(*field, place)),
         };
-        fields = next;
         place += len + 1;
     }
     Ok(fields)

@@ -19,6 +19,7 @@ fn time(text: &[u8]) -> Option<i64>
 }
 
 /// A ReadOrder: a whole number that isn't negative.
+#[tactic(auto, unfolding(crate::specs::Numbers::order_of))]
 pub fn order(text: &[u8]) -> Option<u32>
     ensures { result ≡ order_of text.now }
 {
@@ -30,6 +31,7 @@ pub fn order(text: &[u8]) -> Option<u32>
 }
 
 /// A whole number, 0 where the text is empty.
+#[tactic(auto, unfolding(crate::specs::Numbers::number_of))]
 pub fn number(text: &[u8]) -> Option<i32>
     ensures { result ≡ number_of text.now }
 {
@@ -40,6 +42,7 @@ pub fn number(text: &[u8]) -> Option<i32>
 }
 
 /// A time in milliseconds, 0 where the text is empty.
+#[tactic(auto, unfolding(crate::specs::Numbers::instant_of))]
 pub fn instant(text: &[u8]) -> Option<i64>
     ensures { result ≡ instant_of text.now }
 {

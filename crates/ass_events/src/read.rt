@@ -40,7 +40,10 @@ pub fn read_chunk(alloc: Global, bytes: &[u8], start: i64, duration: i64) -> Res
     if let Err(fault) = simdutf8::compat::from_utf8(bytes) {
         return Err(ChunkRefusal::Malformed(EventField::Utf8, fault.valid_up_to()));
     }
-    let fields = read_fields(&CHUNK_FIELDS, bytes)?;
+    let fields = match read_fields(&CHUNK_FIELDS, bytes) {
+        Ok(fields) => fields,
+        Err(refusal) => return Err(refusal),
+    };
     if !is_time(start) {
         return Err(ChunkRefusal::Malformed(EventField::Start, bytes.len()));
     }
