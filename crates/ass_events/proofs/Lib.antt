@@ -1,3 +1,4 @@
 pub mod FieldLemmas
 pub mod TimeLemmas
 pub mod WholeLemmas
+pub mod WriteLemmas

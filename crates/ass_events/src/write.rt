@@ -1,6 +1,7 @@
 //! The bytes of chunks.
 
-ghost use Rattle.std.specs.Prelude.{◌≡◌, IfOk};
+ghost use Rattle.std.specs.Prelude.{◌≡◌, ◌++◌, IfOk, codes, string_bytes};
+ghost use Rattle.std.specs.Fmt.{decimal, signed_decimal};
 ghost use Rattle.ass_events.specs.Plain.{plain};
 ghost use Rattle.ass_events.specs.Events.{chunk_bytes, fields_bytes};
 
@@ -30,14 +31,27 @@ pub fn write_chunk(alloc: Global, event: &Event) -> Mem<Vec<u8>>
     write_fields(alloc, event.order, &fields)
 }
 
+/// What stands before the style.
+fn head(alloc: Global, order: u32, layer: i32) -> Mem<String>
+    ensures { IfOk result (λ head. string_bytes head ≡ decimal order ++ codes "," ++ signed_decimal layer ++ codes ",") }
+{
+    Ok(format!(in alloc; "{order},{layer},")?)
+}
+
+/// What stands between the name and the effect.
+fn margins(alloc: Global, l: i32, r: i32, v: i32) -> Mem<String>
+    ensures { IfOk result (λ margins. string_bytes margins
+        ≡ codes "," ++ signed_decimal l ++ codes "," ++ signed_decimal r ++ codes "," ++ signed_decimal v ++ codes ",") }
+{
+    Ok(format!(in alloc; ",{l},{r},{v},")?)
+}
+
 /// The bytes of the chunk with these fields, but for another ReadOrder.
 pub fn write_fields(alloc: Global, order: u32, fields: &Fields) -> Mem<Vec<u8>>
     ensures { IfOk result (λ bytes. bytes.items ≡ fields_bytes order (plain fields.now)) }
 {
-    let layer = fields.layer;
-    let (l, r, v) = (fields.margin_l, fields.margin_r, fields.margin_v);
-    let head = format!(in alloc; "{order},{layer},")?;
-    let margins = format!(in alloc; ",{l},{r},{v},")?;
+    let head = head(alloc, order, fields.layer)?;
+    let margins = margins(alloc, fields.margin_l, fields.margin_r, fields.margin_v)?;
     let len = head
         .len()
         .saturating_add(fields.style.len())
