@@ -3,3 +3,4 @@ pub mod Numbers
 pub mod Fields
 pub mod Plain
 pub mod Events
+pub mod Ranges
