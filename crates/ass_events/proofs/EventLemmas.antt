@@ -10,13 +10,14 @@ use Rattle.std.proofs.lemmas.Int.{ints}
 use Rattle.std.proofs.lemmas.List.Elements.{All-nil}
 use Rattle.ass_script.specs.declared.script.EventField.{EventField}
 use Rattle.ass_script.specs.declared.script.EventField.TheVariants as field
+use Rattle.ass_events.specs.declared.event.Chunk.{Chunk}
 use Rattle.ass_events.specs.declared.event.Event.{Event}
 use Rattle.ass_events.specs.declared.event.ChunkRefusal.{ChunkRefusal}
 use Rattle.ass_events.specs.declared.event.ChunkRefusal.TheVariants.{Malformed, OutOfMemory}
 use Rattle.ass_events.specs.Cuts.{is_comma, pieces_of, past_blanks, before_blanks, trimmed}
 use Rattle.ass_events.specs.Numbers.{order_of, number_of, instant_of}
 use Rattle.ass_events.specs.Fields.{PlainFields, no_fields, Column, columns_from, columns_of, column_put, field_put, examined, Answers, HaveUtf8}
-use Rattle.ass_events.specs.Events.{chunk_format, is_time, event_at, timed, with_time, event_of}
+use Rattle.ass_events.specs.Events.{chunk_format, is_time, event_at, timed, with_time, event_of, chunked, line_made, line_event}
 use Rattle.ass_events.specs.Ranges.{IsNumber, IsName}
 use Rattle.ass_events.proofs.NumberLemmas.{IsInstant, number_small, order_small, instant_small}
 use Rattle.ass_events.proofs.PieceLemmas.{EachUtf8, EachPlain, pieces_plain, pieces_utf8, joined_utf8}
@@ -264,3 +265,20 @@ pub chunk_have_utf8 : (bytes : List ℕ) (fields : PlainFields) → IsUtf8 bytes
 chunk_have_utf8 bytes fields utf8 said =
     let t = chunk_texts bytes fields utf8 said in
     record { style = t.style.utf8; name = t.name.utf8; effect = t.effect.utf8; text = t.text }
+
+-- ---- the chunk of a line
+
+pub line_refused : {Value : Type 0} (view : Value → PlainFields) (format : List EventField) (i : ℕ) (line : List ℕ) (refusal : ChunkRefusal) → Answers view (Err refusal) (examined (columns_of format line) no_fields) → Answers {Value = Chunk} (λ chunk. chunk) (Err refusal) (chunked (line_event format i line))
+unfolding line_event
+line_refused view format i line (Malformed f place) said = ap (λ z. chunked (line_made i z)) said
+line_refused view format i line OutOfMemory said = tt
+
+pub line_said : (format : List EventField) (i : ℕ) (line : List ℕ) (fields : PlainFields) → examined (columns_of format line) no_fields ≡ Ok fields → line_event format i line ≡ line_made i (Ok fields)
+unfolding line_event
+line_said format i line fields said = ap (line_made i) said
+
+abbrev pub chunk_ok : List ℕ → ℤ → ℤ → Result Chunk ChunkRefusal
+chunk_ok bytes start duration = Ok (record { bytes = bytes; start = start; duration = duration })
+
+pub same_chunk : (bytes also : List ℕ) (start begin duration lasts : ℤ) → bytes ≡ also → start ≡ begin → duration ≡ lasts → chunk_ok bytes start duration ≡ chunk_ok also begin lasts
+same_chunk bytes also start begin duration lasts b s d = ap (λ z. chunk_ok z start duration) b ∙ ap (λ z. chunk_ok also z duration) s ∙ ap (chunk_ok also begin) d

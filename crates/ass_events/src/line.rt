@@ -1,8 +1,8 @@
 //! Chunks of Dialogue lines.
 
-ghost use Rattle.std.specs.Prelude.{◌≡◌, ◌<◌, ◌≤◌, length};
+ghost use Rattle.std.specs.Prelude.{◌≡◌, ◌<◌, ◌≤◌, ◌≤ℤ◌, pos, length};
 ghost use Rattle.ass_events.specs.Fields.{Answers};
-ghost use Rattle.ass_events.specs.Events.{chunk_of, chunked, line_event};
+ghost use Rattle.ass_events.specs.Events.{chunk_of, chunked, line_event, duration_between};
 
 use crate::event::{Chunk, ChunkRefusal};
 use crate::fields::read_fields;
@@ -33,6 +33,15 @@ fn line_chunk(alloc: Global, format: &[EventField], line: &[u8], order: u32) -> 
     Ok(Chunk {
         bytes: Items::from_vec(bytes),
         start: fields.start,
-        duration: (fields.end - fields.start).max(0),
+        duration: duration_between(fields.start, fields.end),
     })
+}
+
+/// The time from start to end, 0 where the end comes first.
+fn duration_between(start: i64, last: i64) -> i64
+    requires start { pos 0 ≤ℤ start }
+    requires last { pos 0 ≤ℤ last }
+    ensures { result ≡ duration_between start last }
+{
+    (last - start).max(0)
 }
