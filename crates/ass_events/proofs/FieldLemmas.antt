@@ -139,7 +139,7 @@ columns_step format line i place n d inside within count = elim (last_or_not (i 
 
 -- ---- the fields
 
-examined_some : (column : Column) (columns : List Column) (fields more : PlainFields) → column_put column fields ≡ Some more → examined (column ∷ columns) fields ≡ examined columns more
+pub examined_some : (column : Column) (columns : List Column) (fields more : PlainFields) → column_put column fields ≡ Some more → examined (column ∷ columns) fields ≡ examined columns more
 unfolding examined
 examined_some column columns fields more e = ap (λ o. option_map_or (examined columns) o (Err (Malformed column.field column.place))) e
 

@@ -4,3 +4,4 @@ pub mod Fields
 pub mod Plain
 pub mod Events
 pub mod Ranges
+pub mod Laws

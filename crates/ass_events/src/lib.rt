@@ -3,6 +3,7 @@
 
 mod event;
 mod fields;
+mod laws;
 mod line;
 mod numbers;
 mod read;
@@ -10,6 +11,7 @@ mod words;
 mod write;
 
 pub use event::{Chunk, ChunkRefusal, Event};
+pub use laws::{lines_give_events, numbers_are_read, written_is_read_back};
 pub use line::chunk_of_line;
 pub use read::read_chunk;
 pub use write::write_chunk;
