@@ -2,7 +2,6 @@
 
 ghost use Rattle.std.specs.Prelude.{◌≡◌, ◌≤◌, length};
 ghost use Rattle.std.specs.List.{prefix_len, suffix_len};
-ghost use Rattle.std.specs.Str.{IsCharBoundary};
 ghost use Rattle.ass_num.specs.Numerals.{is_blank};
 ghost use Rattle.ass_script.specs.Words.{before_blanks, trimmed, same_word, past_mark, is_star_or_blank, bare_name};
 
@@ -14,34 +13,33 @@ fn is_blank(byte: u8) -> bool
 }
 
 /// How many blanks stand at the front.
-fn blanks(text: &str) -> usize
+fn blanks(text: &[u8]) -> usize
     ensures count { result ≡ prefix_len is_blank text.now }
-    ensures boundary { IsCharBoundary text.now result }
+    ensures within { result ≤ length text.now }
 {
-    let bytes = text.as_bytes();
-    for (i, byte) in bytes.iter().enumerate() {
+    for (i, byte) in text.iter().enumerate() {
         if !is_blank(*byte) {
             return i;
         }
     }
-    bytes.len()
+    text.len()
 }
 
 /// How many stars and blanks stand at the front.
-fn stars_and_blanks(text: &str) -> usize
+fn stars_and_blanks(text: &[u8]) -> usize
     ensures count { result ≡ prefix_len is_star_or_blank text.now }
-    ensures boundary { IsCharBoundary text.now result }
+    ensures within { result ≤ length text.now }
 {
-    let bytes = text.as_bytes();
-    for (i, byte) in bytes.iter().enumerate() {
+    for (i, byte) in text.iter().enumerate() {
         if !(*byte == b'*' || is_blank(*byte)) {
             return i;
         }
     }
-    bytes.len()
+    text.len()
 }
 
 /// The text without the blanks at its end.
+#[tactic(auto, unfolding(crate::specs::Words::before_blanks))]
 fn before_blanks(text: &str) -> &str
     ensures { result.now ≡ before_blanks text.now }
 {
@@ -58,7 +56,7 @@ fn before_blanks(text: &str) -> &str
 pub fn trimmed(text: &str) -> &str
     ensures { result.now ≡ trimmed text.now }
 {
-    before_blanks(&text[blanks(text)..])
+    before_blanks(&text[blanks(text.as_bytes())..])
 }
 
 /// A style's name as it is looked for: without stars and blanks before it, and without blanks behind it.
@@ -66,7 +64,7 @@ pub fn trimmed(text: &str) -> &str
 pub fn bare_name(text: &str) -> &str
     ensures { result.now ≡ bare_name text.now }
 {
-    before_blanks(&text[stars_and_blanks(text)..])
+    before_blanks(&text[stars_and_blanks(text.as_bytes())..])
 }
 
 /// Whether two words are one without regard to ASCII case.
@@ -81,7 +79,7 @@ pub fn same_word(a: &str, b: &str) -> bool
 pub fn past_mark(text: &str) -> &str
     ensures { result.now ≡ past_mark text.now }
 {
-    if let [0xef, 0xbb, 0xbf, ..] = text.as_bytes() {
+    if text.as_bytes().starts_with(b"\xef\xbb\xbf") {
         return &text[3..];
     }
     text
