@@ -1,10 +1,21 @@
 //! Scripts of SSA and ASS: header, styles, the fields of event lines, and the Dialogue lines themselves.
 #![tactic(auto)]
 
+mod event_format;
+mod fields;
+mod header_lines;
+mod lines;
+mod read;
+mod reading;
 mod refusal;
 mod script;
 mod style;
+mod style_field;
+mod style_format;
+mod style_line;
+mod words;
 
+pub use read::read_script;
 pub use refusal::ScriptRefusal;
-pub use script::{EventField, Header, Script};
-pub use style::Style;
+pub use script::{EventField, Header, Script, find_style};
+pub use style::{Style, built_in_style};
