@@ -14,10 +14,13 @@ use Rattle.ass_events.specs.declared.event.Chunk.{Chunk}
 use Rattle.ass_events.specs.declared.event.Event.{Event}
 use Rattle.ass_events.specs.declared.event.ChunkRefusal.{ChunkRefusal}
 use Rattle.ass_events.specs.declared.event.ChunkRefusal.TheVariants.{Malformed, OutOfMemory}
-use Rattle.ass_events.specs.Cuts.{is_comma, pieces_of, past_blanks, before_blanks, trimmed}
+use Rattle.ass_script.specs.Words.{is_comma, before_blanks, trimmed}
+use Rattle.ass_events.specs.Cuts.{pieces_of}
 use Rattle.ass_events.specs.Numbers.{order_of, number_of, instant_of}
-use Rattle.ass_events.specs.Fields.{PlainFields, no_fields, Column, columns_from, columns_of, column_put, field_put, examined, Answers, HaveUtf8}
-use Rattle.ass_events.specs.Events.{chunk_format, is_time, event_at, timed, with_time, event_of, chunked, line_made, line_event}
+use Rattle.ass_events.specs.Fields.{PlainFields, no_fields, Column, columns_from, columns_of, column_put, field_put, examined, HaveUtf8}
+use Rattle.ass_events.specs.declared.fields.Fields.{Fields}
+use Rattle.ass_events.specs.Plain.{plain, Reads}
+use Rattle.ass_events.specs.Events.{Answers, chunk_format, is_time, event_at, timed, with_time, event_of, chunked, line_made, line_event}
 use Rattle.ass_events.specs.Ranges.{IsNumber, IsName}
 use Rattle.ass_events.proofs.NumberLemmas.{IsInstant, number_small, order_small, instant_small}
 use Rattle.ass_events.proofs.PieceLemmas.{EachUtf8, EachPlain, pieces_plain, pieces_utf8, joined_utf8}
@@ -203,7 +206,7 @@ zero_in_range = record {
     zero_number = (omega (arith, ints), omega (arith, ints))
 
 nothing_is_name : IsName []
-unfolding past_blanks before_blanks
+unfolding trimmed before_blanks
 nothing_is_name = record { utf8 = IsUtf8-nil; no_comma = All-nil (λ c. is_comma c ≡ false); bare = refl }
 
 -- the numbers and times of each line are in their ranges
@@ -235,9 +238,9 @@ unfolding event_of
 chunk_utf8 bytes start duration utf8 =
     ap (λ b. cond b (with_time (length bytes) start duration (chunk_said bytes)) (Err (Malformed field.Utf8 (utf8_valid_len bytes)))) (is_utf8-from_IsUtf8 bytes utf8)
 
-pub chunk_field_refused : {Value : Type 0} (view : Value → PlainFields) (bytes : List ℕ) (start duration : ℤ) (refusal : ChunkRefusal) → IsUtf8 bytes → Answers view (Err refusal) (chunk_said bytes) → Answers {Value = Event} (λ event. event) (Err refusal) (event_of bytes start duration)
-chunk_field_refused view bytes start duration (Malformed f place) utf8 said = chunk_utf8 bytes start duration utf8 ∙ ap (with_time (length bytes) start duration) said
-chunk_field_refused view bytes start duration OutOfMemory utf8 said = tt
+pub chunk_field_refused : (bytes : List ℕ) (start duration : ℤ) (refusal : ChunkRefusal) → IsUtf8 bytes → Reads (Err refusal) (chunk_said bytes) → Answers {Value = Event} (Err refusal) (event_of bytes start duration)
+chunk_field_refused bytes start duration (Malformed f place) utf8 said = chunk_utf8 bytes start duration utf8 ∙ ap (with_time (length bytes) start duration) said
+chunk_field_refused bytes start duration OutOfMemory utf8 said = tt
 
 pub chunk_timed : (bytes : List ℕ) (start duration : ℤ) (fields : PlainFields) → IsUtf8 bytes → chunk_said bytes ≡ Ok fields → event_of bytes start duration ≡ timed (length bytes) start duration fields
 chunk_timed bytes start duration fields utf8 said = chunk_utf8 bytes start duration utf8 ∙ ap (with_time (length bytes) start duration) said
@@ -268,10 +271,10 @@ chunk_have_utf8 bytes fields utf8 said =
 
 -- ---- the chunk of a line
 
-pub line_refused : {Value : Type 0} (view : Value → PlainFields) (format : List EventField) (i : ℕ) (line : List ℕ) (refusal : ChunkRefusal) → Answers view (Err refusal) (examined (columns_of format line) no_fields) → Answers {Value = Chunk} (λ chunk. chunk) (Err refusal) (chunked (line_event format i line))
+pub line_refused : (format : List EventField) (i : ℕ) (line : List ℕ) (refusal : ChunkRefusal) → Reads (Err refusal) (examined (columns_of format line) no_fields) → Answers {Value = Chunk} (Err refusal) (chunked (line_event format i line))
 unfolding line_event
-line_refused view format i line (Malformed f place) said = ap (λ z. chunked (line_made i z)) said
-line_refused view format i line OutOfMemory said = tt
+line_refused format i line (Malformed f place) said = ap (λ z. chunked (line_made i z)) said
+line_refused format i line OutOfMemory said = tt
 
 pub line_said : (format : List EventField) (i : ℕ) (line : List ℕ) (fields : PlainFields) → examined (columns_of format line) no_fields ≡ Ok fields → line_event format i line ≡ line_made i (Ok fields)
 unfolding line_event

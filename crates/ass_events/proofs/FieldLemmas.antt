@@ -9,7 +9,8 @@ use Rattle.std.proofs.lemmas.Bool.Decides.{nat_tests}
 use Rattle.ass_script.specs.declared.script.EventField.{EventField}
 use Rattle.ass_events.specs.declared.event.ChunkRefusal.{ChunkRefusal}
 use Rattle.ass_events.specs.declared.event.ChunkRefusal.TheVariants.{Malformed}
-use Rattle.ass_events.specs.Cuts.{is_comma, pieces_of}
+use Rattle.ass_script.specs.Words.{is_comma}
+use Rattle.ass_events.specs.Cuts.{pieces_of}
 use Rattle.ass_events.specs.Fields.{PlainFields, no_fields, Column, columns_from, columns_of, column_put, field_put, examined}
 
 -- the pieces from a place on; past the line's end there are none

@@ -1,5 +1,5 @@
 -- Events are written and read back.
-use Rattle.std.proofs.Common.{◌≡◌, ℕ, ◌+◌, ◌-◌, ◌<◌, ◌≤◌, ◌^◌, Bool, true, false, not, cond, List, [], ◌∷◌, ◌++◌, length, Option, Some, None, Result, Ok, Err, ℤ, pos, negsuc, ◌≤ℤ◌, refl, sym, ap, ◌∙◌, subst, arith}
+use Rattle.std.proofs.Common.{◌≡◌, ℕ, ◌+◌, ◌-◌, ◌<◌, ◌≤◌, ◌^◌, Bool, true, false, not, cond, List, [], ◌∷◌, ◌++◌, length, get_or, Option, Some, None, Result, Ok, Err, ℤ, pos, negsuc, ◌≤ℤ◌, refl, sym, ap, ◌∙◌, subst, arith}
 use Rattle.std.specs.Prelude.{option_and_then}
 use Rattle.std.specs.Int.{int_max}
 use Rattle.std.specs.Fmt.{decimal, signed_decimal}
@@ -10,18 +10,22 @@ use Rattle.std.proofs.lemmas.Fmt.{IsAscii-decimal, IsAscii-signed}
 use lib.Signed.{mag}
 use Rattle.std.proofs.lemmas.Int.{ints}
 use Rattle.std.proofs.lemmas.Str.{IsUtf8-from_is_utf8, IsUtf8-from_ascii}
+use Rattle.std.proofs.lemmas.List.Elements.{All-get_or}
 use Rattle.std.proofs.lemmas.List.Splits.{slice_split_at, length-slice_split, join_with_byte-slice_split}
 use Rattle.ass_script.specs.declared.script.EventField.{EventField}
 use Rattle.ass_script.specs.declared.script.EventField.TheVariants as field
 use Rattle.ass_events.specs.declared.event.Event.{Event}
 use Rattle.ass_events.specs.declared.event.ChunkRefusal.{ChunkRefusal}
 use Rattle.ass_events.specs.declared.event.ChunkRefusal.TheVariants.{Malformed}
-use Rattle.ass_events.specs.Cuts.{is_comma, pieces_of, trimmed}
+use Rattle.ass_script.specs.Words.{is_comma, trimmed}
+use Rattle.ass_script.specs.Fields.{is_text, event_field_number, ends_in_text}
+use Rattle.ass_script.specs.Scripts.{PlainScript}
+use Rattle.ass_script.specs.Ranges.{IsScript}
+use Rattle.ass_events.specs.Cuts.{pieces_of}
 use Rattle.ass_events.specs.Numbers.{order_of, number_of}
 use Rattle.ass_events.specs.Fields.{PlainFields, no_fields, Column, columns_from, columns_of, column_put, field_put, examined}
-use Rattle.ass_events.specs.Events.{chunk_format, is_time, event_at, timed, with_time, event_of, chunk_bytes, duration_between, line_made, line_event}
+use Rattle.ass_events.specs.Events.{chunk_format, is_time, event_at, timed, with_time, event_of, chunk_bytes, duration_between, line_made, line_event, event_of_line}
 use Rattle.ass_events.specs.Ranges.{IsNumber, IsName, IsEvent}
-use Rattle.ass_events.specs.Laws.{EndsInText}
 use Rattle.ass_events.proofs.NumberLemmas.{IsInstant, order-decimal, number-signed_decimal, decimal_no_comma, signed_no_comma}
 use Rattle.ass_events.proofs.PieceLemmas.{joined_utf8}
 use Rattle.ass_events.proofs.FieldLemmas.{examined_some}
@@ -64,9 +68,21 @@ between_is_time start last s l = grind (arith, ints, s.least, s.most, l.least, l
 instant_is_time : (t : ℤ) → IsInstant t → is_time t ≡ true
 instant_is_time t i = grind (arith, ints, i.least, i.most)
 
-pub line_gives_event : (format : List EventField) (i : ℕ) (line : List ℕ) (event : Event) → EndsInText format → i ≤ 2147483647 → IsUtf8 line → line_event format i line ≡ Ok event → IsEvent event
+-- the last field of the format is Text
+abbrev EndsInText : List EventField → Type 0
+EndsInText format = (front : List EventField) × (format ≡ front ++ (field.Text ∷ []))
+
+only_text : (f : EventField) → is_text f ≡ true → f ≡ field.Text
+only_text f e = ?
+
+text_ends : (format : List EventField) → ends_in_text format ≡ true → EndsInText format
+text_ends [] e = absurd (cc)
+text_ends (f ∷ []) e = ([], ap (λ z. z ∷ []) (only_text f e))
+text_ends (f ∷ (g ∷ gs)) e = let rest = text_ends (g ∷ gs) e in (f ∷ rest.0, ap (λ z. f ∷ z) rest.1)
+
+line_is_event : (format : List EventField) (i : ℕ) (line : List ℕ) (event : Event) → EndsInText format → i ≤ 2147483647 → IsUtf8 line → line_event format i line ≡ Ok event → IsEvent event
 unfolding line_event
-line_gives_event format i line event ends small utf8 e = cases (examined (columns_of format line) no_fields) refl e
+line_is_event format i line event ends small utf8 e = cases (examined (columns_of format line) no_fields) refl e
   where
     cases : (r : Result PlainFields ChunkRefusal) → examined (columns_of format line) no_fields ≡ r → line_made i r ≡ Ok event → IsEvent event
     cases (Err refusal) is e = absurd (cc)
@@ -80,6 +96,10 @@ line_gives_event format i line event ends small utf8 e = cases (examined (column
         (record { order = small; layer = r.layer; start = r.start; last = r.last; margin_l = r.margin_l; margin_r = r.margin_r; margin_v = r.margin_v })
         (record { style = t.style; name = t.name; effect = t.effect; text = t.text })
         (instant_is_time fields.start r.start) (between_is_time fields.start fields.end r.start r.last))
+
+pub line_gives_event : (script : PlainScript) (i : ℕ) (event : Event) → IsScript script → i < length script.lines → event_of_line script i ≡ Ok event → IsEvent event
+line_gives_event script i event is inside e =
+    line_is_event script.format i (get_or script.lines i []) event (text_ends script.format is.format) (omega (arith, is.few_lines)) (All-get_or IsUtf8 script.lines i [] inside is.lines) e
 
 -- ---- written and read back
 

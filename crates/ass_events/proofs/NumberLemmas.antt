@@ -14,8 +14,9 @@ use Rattle.ass_num.specs.Numerals.{is_blank, is_decimal, signed, IsWhole, IsTime
 use Rattle.ass_num.proofs.NumberLaws.{number_of_push}
 use Rattle.ass_num.proofs.Runs.{decimal_no_blank}
 use Rattle.ass_num.proofs.Clocks.{part_small}
-use Rattle.ass_events.specs.Cuts.{is_comma}
-use Rattle.ass_events.specs.Numbers.{whole_of, time_of, order_in, order_of, number_of, instant_of}
+use Rattle.ass_script.specs.Words.{is_comma}
+use Rattle.ass_script.specs.Numbers.{whole_of}
+use Rattle.ass_events.specs.Numbers.{time_of, order_in, order_of, number_of, instant_of}
 use Rattle.ass_events.specs.Ranges.{IsNumber}
 use Rattle.ass_events.proofs.WholeLemmas.{whole_from_shape, shape_from_whole}
 use Rattle.ass_events.proofs.TimeLemmas.{shape_from_time}

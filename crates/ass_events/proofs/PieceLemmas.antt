@@ -8,7 +8,8 @@ use Rattle.std.proofs.lemmas.List.{get_or_at}
 use Rattle.std.proofs.lemmas.List.Elements.{All-nil, All-cons}
 use Rattle.std.proofs.lemmas.List.Splits.{join_with_byte-slice_split}
 use Rattle.std.proofs.Math.Seq.{drop-append_seam, take-append_seam, drop-append-add}
-use Rattle.ass_events.specs.Cuts.{is_comma, pieces_of}
+use Rattle.ass_script.specs.Words.{is_comma}
+use Rattle.ass_events.specs.Cuts.{pieces_of}
 
 abbrev pub EachUtf8 : List (List ℕ) → Type 0
 EachUtf8 [] = Unit {0}

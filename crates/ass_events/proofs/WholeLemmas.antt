@@ -1,93 +1,32 @@
--- The whole number that a text is: the definition that computes, and the shape of the text.
-use Rattle.std.proofs.Common.{◌≡◌, ℕ, ◌<◌, ◌≤◌, Bool, true, false, ◌&&◌, cond, ltb, leb, List, [], ◌∷◌, ◌++◌, length, take, drop, Option, Some, None, ℤ, refl, sym, ap, ◌∙◌, subst, arith, rules, tests}
-use Rattle.std.specs.Prelude.{IfSome, IfNone}
-use Rattle.std.proofs.lemmas.List.{take-append-drop}
-use Rattle.std.proofs.lemmas.List.Sums.{AllPass-from_list_all, list_all-from_AllPass, prefix_len_passes}
+-- The whole number that a text is, and the shape of the text.
+use Rattle.std.proofs.Common.{◌≡◌, ℕ, ◌+◌, Bool, true, false, ◌||◌, cond, ltb, eqb, List, length, take, drop, Option, Some, None, ℤ, refl, sym, ap, ◌∙◌, subst, arith, min, ◌≤◌}
 use Rattle.std.proofs.lemmas.Bool.Decides.{nat_tests}
-use Rattle.std.proofs.Math.Seq.{drop-append_seam, take-append_seam}
-use Rattle.std.specs.List.{AllPass, prefix_len, list_all}
-use Rattle.ass_num.specs.Numerals.{is_blank, is_decimal, sign_len, number_of, IsSign, signed, IsWhole}
-use Rattle.ass_num.proofs.Runs.{prefix_len-append, AllPass-take, IsSign-take}
-use Rattle.ass_num.proofs.SignFronts.{unsigned_all, sign_before}
-use Rattle.ass_num.proofs.Wholes.{no_blank_signed, no_digit_blanks}
-use Rattle.ass_events.specs.Numbers.{whole_under, whole_behind, whole_at, whole_of}
-
-under_is : (sign digits rest : List ℕ) → 0 < length digits → number_of 10 digits ≤ 2147483647 → list_all is_blank rest ≡ true → whole_under sign digits rest ≡ Some (signed sign (number_of 10 digits))
-under_is sign digits rest some small blanks = grind (arith, nat_tests)
-
-behind_is : (sign digits after : List ℕ) → AllPass is_decimal digits → AllPass is_blank after → whole_behind sign (digits ++ after) ≡ whole_under sign digits after
-behind_is sign digits after passes blanks =
-    let count : prefix_len is_decimal (digits ++ after) ≡ length digits =
-    prefix_len-append is_decimal digits after passes ∙ omega (arith, no_digit_blanks after blanks) in
-    ap (λ n. whole_under sign (take n (digits ++ after)) (drop n (digits ++ after))) count
-    ∙ (ap (λ xs. whole_under sign xs (drop (length digits) (digits ++ after))) (take-append_seam digits after)
-    ∙ ap (whole_under sign digits) (drop-append_seam digits after))
-
-at_is : (sign digits after : List ℕ) → IsSign sign → AllPass is_decimal digits → 0 < length digits → whole_at (sign ++ (digits ++ after)) ≡ whole_behind sign (digits ++ after)
-at_is sign digits after is_sign passes some =
-    ap (λ n. whole_behind (take n (sign ++ (digits ++ after))) (drop n (sign ++ (digits ++ after)))) (sign_before sign digits after is_sign (unsigned_all digits passes some))
-    ∙ (ap (λ xs. whole_behind xs (drop (length sign) (sign ++ (digits ++ after)))) (take-append_seam sign (digits ++ after))
-    ∙ ap (whole_behind sign) (drop-append_seam sign (digits ++ after)))
+use Rattle.std.specs.List.{prefix_len}
+use Rattle.ass_num.specs.Numerals.{is_blank, is_decimal, sign_len, number_of, signed, IsWhole}
+use Rattle.ass_num.proofs.Wholes.{whole_some}
+use Rattle.ass_script.specs.Numbers.{whole_in, whole_of}
+use Rattle.ass_script.proofs.NumberReads.{whole_read}
 
 -- a text of the shape has its number
 pub whole_from_shape : (t : List ℕ) (z : ℤ) → IsWhole t z → whole_of t ≡ Some z
-unfolding whole_of
-whole_from_shape t z m =
-    let tail = m.sign ++ (m.digits ++ m.after) in
-    let count : prefix_len is_blank t ≡ length m.before =
-    ap (prefix_len is_blank) m.spelled ∙ prefix_len-append is_blank m.before tail m.blanks_before
-    ∙ omega (arith, no_blank_signed m.sign m.digits m.after m.sign_or_none m.all_digits m.some_digit) in
-    let behind : drop (prefix_len is_blank t) t ≡ tail =
-    ap (λ n. drop n t) count ∙ (ap (drop (length m.before)) m.spelled ∙ drop-append_seam m.before tail) in
-    ap whole_at behind
-    ∙ (at_is m.sign m.digits m.after m.sign_or_none m.all_digits m.some_digit
-    ∙ (behind_is m.sign m.digits m.after m.all_digits m.blanks_after
-    ∙ (under_is m.sign m.digits m.after m.some_digit m.small (list_all-from_AllPass is_blank m.after m.blanks_after) ∙ ap Some (sym m.value))))
+whole_from_shape t z m = sym (whole_read t (Some z) m tt)
 
-record Under (sign digits rest : List ℕ) (z : ℤ) : Type 0 where
-  some : 0 < length digits
-  small : number_of 10 digits ≤ 2147483647
-  blanks : list_all is_blank rest ≡ true
-  value : z ≡ signed sign (number_of 10 digits)
-
-under_shape : (sign digits rest : List ℕ) (z : ℤ) → whole_under sign digits rest ≡ Some z → Under sign digits rest z
-under_shape sign digits rest z e = cases _ _ _ refl refl refl
+shape_at : (t : List ℕ) (b s d e : ℕ) (z : ℤ) → b ≡ prefix_len is_blank t → s ≡ sign_len (drop b t) → d ≡ prefix_len is_decimal (drop (b + s) t) → e ≡ prefix_len is_blank (drop (b + s + d) t) → whole_in t b s d e ≡ Some z → IsWhole t z
+shape_at t b s d e z blanks sign digits after is = cases _ _ _ refl refl refl
   where
-    cases : (a b c : Bool) → ltb 0 (length digits) ≡ a → leb (number_of 10 digits) 2147483647 ≡ b → list_all is_blank rest ≡ c → Under sign digits rest z
-    cases true true true ea eb ec = record { some = grind (arith, nat_tests); small = grind (arith, nat_tests); blanks = ec; value = grind (arith, nat_tests) }
-    cases false b c ea eb ec = absurd (grind (arith, nat_tests))
-    cases true false c ea eb ec = absurd (grind (arith, nat_tests))
-    cases true true false ea eb ec = absurd (grind (arith, nat_tests))
+    cases : (x y w : Bool) → eqb d 0 ≡ x → ltb 2147483647 (number_of 10 (take d (drop (b + s) t))) ≡ y → ltb (b + s + d + e) (length t) ≡ w → IsWhole t z
+    cases true y w ex ey ew = absurd (grind (arith, nat_tests))
+    cases false true w ex ey ew = absurd (grind (arith, nat_tests))
+    cases false false true ex ey ew = absurd (grind (arith, nat_tests))
+    cases false false false ex ey ew =
+        let n = number_of 10 (take d (drop (b + s) t)) in
+        let small : n ≤ 2147483647 = grind (arith, nat_tests) in
+        let held : min n 4294967296 ≡ n = omega arith in
+        let said : signed (take s (drop b t)) n ≡ z = grind (arith, nat_tests) in
+        whole_some t b s d e (min n 4294967296) blanks sign digits refl after (grind (arith, nat_tests)) (omega arith) (grind (arith, nat_tests)) z
+        (sym said ∙ ap (signed (take s (drop b t))) (sym held))
 
 -- the number that a text has comes of its shape
 pub shape_from_whole : (t : List ℕ) (z : ℤ) → whole_of t ≡ Some z → IsWhole t z
 unfolding whole_of
-shape_from_whole t z e =
-    let b = prefix_len is_blank t in
-    let u = drop b t in
-    let v = drop (sign_len u) u in
-    let d = prefix_len is_decimal v in
-    let m = under_shape (take (sign_len u) u) (take d v) (drop d v) z e in
-    record {
-      before = take b t;
-      sign = take (sign_len u) u;
-      digits = take d v;
-      after = drop d v;
-      spelled = sym (take-append-drop b t) ∙ ap (λ xs. take b t ++ xs) (sym (take-append-drop (sign_len u) u) ∙ ap (λ xs. take (sign_len u) u ++ xs) (sym (take-append-drop d v)));
-      blanks_before = AllPass-take is_blank t;
-      sign_or_none = IsSign-take u;
-      all_digits = AllPass-take is_decimal v;
-      some_digit = m.some;
-      blanks_after = AllPass-from_list_all is_blank (drop d v) m.blanks;
-      small = m.small;
-      value = m.value;
-    }
-
--- what a reader says that answers exactly where the shape holds
-pub whole_read : (t : List ℕ) (r : Option ℤ) → IfSome r (IsWhole t) → IfNone r ((z : ℤ) → IsWhole t z → ⊥) → r ≡ whole_of t
-whole_read t (Some z) some none = sym (whole_from_shape t z some)
-whole_read t None some none = sym (cases (whole_of t) refl)
-  where
-    cases : (o : Option ℤ) → whole_of t ≡ o → o ≡ None
-    cases None e = refl
-    cases (Some z) e = absurd (none z (shape_from_whole t z e))
+shape_from_whole t z e = shape_at t _ _ _ _ z refl refl refl refl e

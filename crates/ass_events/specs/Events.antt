@@ -1,5 +1,5 @@
 -- Events, and the chunks that give them.
-use Rattle.std.specs.Prelude.{ℕ, ℤ, pos, ◌-ℤ◌, int_le, slice_index_or, Bool, not, ◌&&◌, if◌then◌else◌, List, [], ◌∷◌, length, Result, Ok, Err}
+use Rattle.std.specs.Prelude.{◌≡◌, ℕ, ℤ, pos, ◌-ℤ◌, int_le, slice_index_or, Bool, not, ◌&&◌, if◌then◌else◌, List, [], ◌∷◌, length, Result, Ok, Err}
 use Rattle.std.specs.List.{join_with_byte}
 use Rattle.ass_script.specs.Scripts.{PlainScript}
 use Rattle.std.specs.Int.{int_max}
@@ -11,8 +11,14 @@ use Rattle.ass_script.specs.declared.script.EventField.TheVariants as field
 use Rattle.ass_events.specs.declared.event.Event.{Event}
 use Rattle.ass_events.specs.declared.event.Chunk.{Chunk}
 use Rattle.ass_events.specs.declared.event.ChunkRefusal.{ChunkRefusal}
-use Rattle.ass_events.specs.declared.event.ChunkRefusal.TheVariants.{Malformed}
+use Rattle.ass_events.specs.declared.event.ChunkRefusal.TheVariants.{Malformed, OutOfMemory}
 use Rattle.ass_events.specs.Fields.{PlainFields, no_fields, columns_of, examined}
+
+-- The answer is this one, unless memory ran out.
+abbrev pub Answers : {Value : Type 0} → Result Value ChunkRefusal → Result Value ChunkRefusal → Type 0
+Answers (Ok value) wanted = wanted ≡ Ok value
+Answers (Err (Malformed f place)) wanted = wanted ≡ Err (Malformed f place)
+Answers (Err OutOfMemory) wanted = Unit {0}
 
 -- the fields of a chunk, in order
 abbrev pub chunk_format : List EventField
@@ -47,13 +53,13 @@ event_of bytes start duration =
     if is_utf8 bytes then with_time (length bytes) start duration (examined (columns_of chunk_format bytes) no_fields)
     else Err (Malformed field.Utf8 (utf8_valid_len bytes))
 
--- a chunk: what its bytes are, and its time
+-- the bytes of the chunk with these fields, which are joined by commas, and this ReadOrder
 abbrev pub fields_bytes : ℕ → PlainFields → List ℕ
 fields_bytes order fields = join_with_byte 44 (
     decimal order ∷ signed_decimal fields.layer ∷ fields.style ∷ fields.name ∷ signed_decimal fields.margin_l
     ∷ signed_decimal fields.margin_r ∷ signed_decimal fields.margin_v ∷ fields.effect ∷ fields.text ∷ [])
 
--- the bytes of an event's chunk: its fields with commas between them
+-- the bytes of an event's chunk, `ReadOrder,Layer,Style,Name,MarginL,MarginR,MarginV,Effect,Text`
 abbrev pub chunk_bytes : Event → List ℕ
 chunk_bytes event = join_with_byte 44 (
     decimal event.order ∷ signed_decimal event.layer ∷ event.style ∷ event.name ∷ signed_decimal event.margin_l

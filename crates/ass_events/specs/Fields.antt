@@ -1,13 +1,14 @@
 -- The fields of a line: what each says, and the first that can't be read.
-use Rattle.std.specs.Prelude.{◌≡◌, ℕ, ◌+◌, ℤ, pos, List, [], ◌∷◌, length, Option, Some, None, option_and_then, Result, Ok, Err}
+use Rattle.std.specs.Prelude.{ℕ, ◌+◌, ℤ, pos, List, [], ◌∷◌, length, Option, Some, None, option_and_then, Result, Ok, Err}
 use Rattle.std.specs.Option.{option_map_or}
 use Rattle.std.specs.Str.{IsUtf8}
 use Rattle.std.specs.List.{join_with_byte}
 use Rattle.ass_script.specs.declared.script.EventField.{EventField}
 use Rattle.ass_script.specs.declared.script.EventField.TheVariants as field
 use Rattle.ass_events.specs.declared.event.ChunkRefusal.{ChunkRefusal}
-use Rattle.ass_events.specs.declared.event.ChunkRefusal.TheVariants.{Malformed, OutOfMemory}
-use Rattle.ass_events.specs.Cuts.{pieces_of, trimmed}
+use Rattle.ass_events.specs.declared.event.ChunkRefusal.TheVariants.{Malformed}
+use Rattle.ass_script.specs.Words.{trimmed}
+use Rattle.ass_events.specs.Cuts.{pieces_of}
 use Rattle.ass_events.specs.Numbers.{order_of, number_of, instant_of}
 
 -- what the fields of a line say, in milliseconds and script pixels
@@ -73,12 +74,6 @@ column_put column fields = option_and_then (λ piece. field_put column.field pie
 unfoldable pub examined : List Column → PlainFields → Result PlainFields ChunkRefusal
 examined [] fields = Ok fields
 examined (column ∷ columns) fields = option_map_or (examined columns) (column_put column fields) (Err (Malformed column.field column.place))
-
--- The answer is this one, seen as a plain value, unless memory ran out.
-abbrev pub Answers : {Value Plain : Type 0} → (Value → Plain) → Result Value ChunkRefusal → Result Plain ChunkRefusal → Type 0
-Answers view (Ok value) wanted = wanted ≡ Ok (view value)
-Answers view (Err (Malformed f place)) wanted = wanted ≡ Err (Malformed f place)
-Answers view (Err OutOfMemory) wanted = Unit {0}
 
 -- the texts among the fields are UTF-8
 pub record HaveUtf8 (fields : PlainFields) : Type 0 where

@@ -1,12 +1,12 @@
 -- What holds of all chunks and lines.
-use Rattle.std.specs.Prelude.{◌≡◌, ℕ, ◌≤◌, ◌↔◌, ℤ, List, [], ◌∷◌, ◌++◌, Some, Ok}
-use Rattle.std.specs.Str.{IsUtf8}
+use Rattle.std.specs.Prelude.{◌≡◌, ℕ, ◌<◌, ◌↔◌, ℤ, List, length, Some, Ok}
 use Rattle.ass_num.specs.Numerals.{IsWhole, IsTime}
-use Rattle.ass_script.specs.declared.script.EventField.{EventField}
-use Rattle.ass_script.specs.declared.script.EventField.TheVariants as field
+use Rattle.ass_script.specs.Scripts.{PlainScript}
+use Rattle.ass_script.specs.Ranges.{IsScript}
+use Rattle.ass_script.specs.Numbers.{whole_of}
 use Rattle.ass_events.specs.declared.event.Event.{Event}
-use Rattle.ass_events.specs.Numbers.{whole_of, time_of}
-use Rattle.ass_events.specs.Events.{event_of, chunk_bytes, line_event}
+use Rattle.ass_events.specs.Numbers.{time_of}
+use Rattle.ass_events.specs.Events.{event_of, chunk_bytes, event_of_line}
 use Rattle.ass_events.specs.Ranges.{IsEvent}
 
 -- Each event of a chunk is within the ranges of events.
@@ -17,13 +17,9 @@ ChunksGiveEvents = (bytes : List ℕ) (start duration : ℤ) (event : Event) →
 abbrev pub WrittenIsReadBack : Type 0
 WrittenIsReadBack = (event : Event) → IsEvent event → event_of (chunk_bytes event) event.start event.duration ≡ Ok event
 
--- the last field of the format is Text
-abbrev pub EndsInText : List EventField → Type 0
-EndsInText format = (front : List EventField) × (format ≡ front ++ field.Text ∷ [])
-
--- So is each event of a line in UTF-8, under a format that ends in Text.
+-- So is each event of a line of a script.
 abbrev pub LinesGiveEvents : Type 0
-LinesGiveEvents = (format : List EventField) (i : ℕ) (line : List ℕ) (event : Event) → EndsInText format → i ≤ 2147483647 → IsUtf8 line → line_event format i line ≡ Ok event → IsEvent event
+LinesGiveEvents = (script : PlainScript) (i : ℕ) (event : Event) → IsScript script → i < length script.lines → event_of_line script i ≡ Ok event → IsEvent event
 
 -- Numbers and times are read as those of scripts are.
 abbrev pub NumbersAreWhole : Type 0

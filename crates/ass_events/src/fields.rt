@@ -2,9 +2,9 @@
 
 ghost use Rattle.std.specs.Prelude.{◌≡◌, ◌≤◌, length, if◌then◌else◌, Some, None, IfSome, IfNone};
 ghost use Rattle.std.specs.List.{position_or_len};
-ghost use Rattle.ass_events.specs.Cuts.{is_comma};
-ghost use Rattle.ass_events.specs.Plain.{plain};
-ghost use Rattle.ass_events.specs.Fields.{Answers, no_fields, field_put, columns_of, examined};
+ghost use Rattle.ass_script.specs.Words.{is_comma};
+ghost use Rattle.ass_events.specs.Plain.{plain, Reads};
+ghost use Rattle.ass_events.specs.Fields.{no_fields, field_put, columns_of, examined};
 
 use crate::event::ChunkRefusal;
 use crate::numbers::{instant, number, order};
@@ -82,7 +82,7 @@ fn piece_len(rest: &[u8], is_last: bool) -> usize
 /// What the fields of a line say, in the order of the format: the line is cut at its commas, but for those of the
 /// last field. Where a field can't be read or is missing, the first such field and its place.
 pub fn read_fields<'a>(format: &[EventField], line: &'a [u8]) -> Result<Fields<'a>, ChunkRefusal>
-    ensures { Answers plain result (examined (columns_of format.now line.now) no_fields) }
+    ensures { Reads result (examined (columns_of format.now line.now) no_fields) }
 {
     let mut fields = Fields::new(line);
     let mut place = 0;

@@ -8,7 +8,7 @@ pub fn written_is_read_back()
     ensures back { WrittenIsReadBack }
 {}
 
-/// The event of a line in UTF-8 is one that a chunk gives: its own chunk, which is the chunk of the line.
+/// The event of a line of a script that a text spells is one that a chunk gives: the chunk of the line.
 pub fn lines_give_events()
     ensures { LinesGiveEvents }
 {}

@@ -1,8 +1,7 @@
 //! Chunks of Dialogue lines.
 
 ghost use Rattle.std.specs.Prelude.{◌≡◌, ◌<◌, ◌≤◌, ◌≤ℤ◌, pos, length};
-ghost use Rattle.ass_events.specs.Fields.{Answers};
-ghost use Rattle.ass_events.specs.Events.{chunk_of, chunked, line_event, duration_between};
+ghost use Rattle.ass_events.specs.Events.{Answers, chunk_of, chunked, line_event, duration_between};
 
 use crate::event::{Chunk, ChunkRefusal};
 use crate::fields::read_fields;
@@ -16,14 +15,14 @@ use std::alloc::Global;
 pub fn chunk_of_line(alloc: Global, script: &Script, i: usize) -> Result<Chunk, ChunkRefusal>
     requires within { i < length script.now.lines }
     requires order { i ≤ 2147483647 }
-    ensures { Answers (λ chunk. chunk) result (chunk_of script.now i) }
+    ensures { Answers result (chunk_of script.now i) }
 {
     line_chunk(alloc, script.format(), script.line(i), i as u32)
 }
 
 /// The chunk of a line under a format.
 fn line_chunk(alloc: Global, format: &[EventField], line: &[u8], order: u32) -> Result<Chunk, ChunkRefusal>
-    ensures { Answers (λ chunk. chunk) result (chunked (line_event format.now order line.now)) }
+    ensures { Answers result (chunked (line_event format.now order line.now)) }
 {
     let fields = match read_fields(format, line) {
         Ok(fields) => fields,

@@ -1,7 +1,8 @@
 //! The numbers and times of a line.
 
 ghost use Rattle.std.specs.Prelude.{◌≡◌};
-ghost use Rattle.ass_events.specs.Numbers.{whole_of, time_of, order_of, number_of, instant_of};
+ghost use Rattle.ass_script.specs.Numbers.{whole_of};
+ghost use Rattle.ass_events.specs.Numbers.{time_of, order_of, number_of, instant_of};
 
 use crate::words::is_empty;
 use ass_num::{read_time, read_whole};

@@ -2,8 +2,8 @@
 
 ghost use Rattle.std.specs.Prelude.{◌≡◌, IfOk, IsUtf8};
 ghost use Rattle.ass_events.specs.Plain.{plain};
-ghost use Rattle.ass_events.specs.Fields.{Answers, HaveUtf8};
-ghost use Rattle.ass_events.specs.Events.{is_time, event_of, event_at};
+ghost use Rattle.ass_events.specs.Fields.{HaveUtf8};
+ghost use Rattle.ass_events.specs.Events.{Answers, is_time, event_of, event_at};
 
 use crate::event::{ChunkRefusal, Event};
 use crate::fields::{Fields, read_fields};
@@ -35,7 +35,7 @@ fn is_time(milliseconds: i64) -> bool
 
 /// The event that a chunk gives (`ass_process_chunk` in libass `ass.h`).
 pub fn read_chunk(alloc: Global, bytes: &[u8], start: i64, duration: i64) -> Result<Event, ChunkRefusal>
-    ensures { Answers (λ event. event) result (event_of bytes.now start duration) }
+    ensures { Answers result (event_of bytes.now start duration) }
 {
     if let Err(fault) = simdutf8::compat::from_utf8(bytes) {
         return Err(ChunkRefusal::Malformed(EventField::Utf8, fault.valid_up_to()));

@@ -1,9 +1,9 @@
 //! Commas and blanks.
 
-ghost use Rattle.std.specs.Prelude.{◌≡◌, ◌≤◌, length};
-ghost use Rattle.std.specs.List.{position_or_len, list_all};
+ghost use Rattle.std.specs.Prelude.{◌≡◌, ◌≤◌, length, drop};
+ghost use Rattle.std.specs.List.{position_or_len, prefix_len, list_all};
 ghost use Rattle.ass_num.specs.Numerals.{is_blank};
-ghost use Rattle.ass_events.specs.Cuts.{is_comma, past_blanks, before_blanks, trimmed};
+ghost use Rattle.ass_script.specs.Words.{is_comma, before_blanks, trimmed};
 
 fn is_blank(byte: u8) -> bool
     ensures { result ≡ is_blank byte }
@@ -32,9 +32,8 @@ pub fn before_comma(text: &[u8]) -> usize
 }
 
 /// The text from its first byte on that is no blank.
-#[tactic(auto, unfolding(crate::specs::Cuts::past_blanks))]
 fn past_blanks(text: &[u8]) -> &[u8]
-    ensures { result.now ≡ past_blanks text.now }
+    ensures { result.now ≡ drop (prefix_len is_blank text.now) text.now }
 {
     for (i, byte) in text.iter().enumerate() {
         if !is_blank(*byte) {
@@ -45,7 +44,7 @@ fn past_blanks(text: &[u8]) -> &[u8]
 }
 
 /// The text without the blanks at its end.
-#[tactic(auto, unfolding(crate::specs::Cuts::before_blanks))]
+#[tactic(auto, unfolding(ass_script::specs::Words::before_blanks))]
 fn before_blanks(text: &[u8]) -> &[u8]
     ensures { result.now ≡ before_blanks text.now }
 {
@@ -57,6 +56,7 @@ fn before_blanks(text: &[u8]) -> &[u8]
 }
 
 /// The text without the blanks at both its ends.
+#[tactic(auto, unfolding(ass_script::specs::Words::trimmed))]
 pub fn trimmed(text: &[u8]) -> &[u8]
     ensures { result.now ≡ trimmed text.now }
 {

@@ -5,7 +5,7 @@ use Rattle.ass_events.proofs.EventLemmas.{line_refused, line_said, fields_in_ran
 use Rattle.ass_events.proofs.line.line_chunk.Goals as goal
 
 pub returns-in-Err : goal.returns-in-Err
-returns-in-Err c = line_refused plain c.args.format.now c.args.order c.args.line.now c.in-Err.refusal c.in-Err.ensures
+returns-in-Err c = line_refused c.args.format.now c.args.order c.args.line.now c.in-Err.refusal c.in-Err.ensures
 
 pub duration_between-requires-clause-start : goal.duration_between-requires-clause-start
 duration_between-requires-clause-start c =

@@ -1,4 +1,4 @@
-use Rattle.ass_events.proofs.WholeLemmas.{whole_read}
+use Rattle.ass_script.proofs.NumberReads.{whole_read}
 use Rattle.ass_events.proofs.numbers.whole.Goals as goal
 
 pub returns : goal.returns

@@ -10,7 +10,7 @@ returns-in-Err c =
 
 pub returns-in-Err-read_fields : goal.returns-in-Err-read_fields
 returns-in-Err-read_fields c =
-    chunk_field_refused plain c.args.bytes.now c.args.start c.args.duration c.in-Err-read_fields.refusal c.in_default.ensures.cases.1 c.in-Err-read_fields.ensures
+    chunk_field_refused c.args.bytes.now c.args.start c.args.duration c.in-Err-read_fields.refusal c.in_default.ensures.cases.1 c.in-Err-read_fields.ensures
 
 pub returns-then-not-is_time : goal.returns-then-not-is_time
 returns-then-not-is_time c =
