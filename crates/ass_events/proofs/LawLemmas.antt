@@ -73,7 +73,8 @@ abbrev EndsInText : List EventField → Type 0
 EndsInText format = (front : List EventField) × (format ≡ front ++ (field.Text ∷ []))
 
 only_text : (f : EventField) → is_text f ≡ true → f ≡ field.Text
-only_text f e = ?
+only_text field.Text e = refl
+only_text _ e = absurd (cc)
 
 text_ends : (format : List EventField) → ends_in_text format ≡ true → EndsInText format
 text_ends [] e = absurd (cc)
