@@ -1,2 +1,6 @@
 pub mod NumberReads
 pub mod Cuts
+pub mod Picks
+pub mod LastOnes
+pub mod Yields
+pub mod StyleLemmas

@@ -212,7 +212,7 @@ Answers (Err (refusal.TooManyStyles n)) wanted = wanted ≡ Err (refusal.TooMany
 -- the place of the last style of this name, where the first of the styles has the place n
 abbrev pub last_named_from : ℕ → List ℕ → List Style → Option ℕ
 last_named_from n name [] = None
-last_named_from n name (style ∷ styles) = option_or (last_named_from (n + 1) name styles) (if bytes_eq name style.name then Some n else None)
+last_named_from n name (style ∷ styles) = option_or (last_named_from (n + 1) name styles) (if bytes_eq style.name name then Some n else None)
 
 abbrev pub last_named : List ℕ → List Style → Option ℕ
 last_named name styles = last_named_from 0 name styles
