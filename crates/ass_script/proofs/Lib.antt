@@ -4,3 +4,5 @@ pub mod Picks
 pub mod LastOnes
 pub mod Yields
 pub mod StyleLemmas
+pub mod MoreLines
+pub mod WalkLemmas
