@@ -1,6 +1,7 @@
 -- Events are written and read back.
-use Rattle.std.proofs.Common.{◌≡◌, ℕ, ◌+◌, ◌<◌, ◌≤◌, ◌^◌, Bool, true, false, not, cond, List, [], ◌∷◌, ◌++◌, length, get_or, Some, Result, Ok, Err, ℤ, pos, negsuc, refl, sym, ap, ◌∙◌, subst, arith}
-use Rattle.std.specs.Prelude.{option_and_then}
+use Rattle.std.proofs.Common.{◌≡◌, ℕ, suc, ◌-◌, ◌+◌, ◌<◌, ◌≤◌, ◌^◌, Bool, true, false, not, cond, List, [], ◌∷◌, ◌++◌, length, get_or, Some, Result, Ok, Err, ℤ, pos, negsuc, refl, sym, ap, ◌∙◌, subst, arith}
+use Rattle.std.specs.Prelude.{option_and_then, slice_get}
+use Rattle.std.specs.Option.{option_map_or}
 use Rattle.std.specs.Fmt.{decimal, signed_decimal}
 use Rattle.std.specs.Str.{IsUtf8, is_utf8}
 use Rattle.std.specs.Str.Lossy.{utf8_valid_len}
@@ -87,7 +88,11 @@ only_text _ e = absurd (cc)
 text_ends : (format : List EventField) → ends_in_text format ≡ true → EndsInText format
 text_ends [] e = absurd (cc)
 text_ends (f ∷ []) e = ([], ap (λ z. z ∷ []) (only_text f e))
-text_ends (f ∷ (g ∷ gs)) e = let rest = text_ends (g ∷ gs) e in (f ∷ rest.0, ap (λ z. f ∷ z) rest.1)
+text_ends (f ∷ (g ∷ gs)) e =
+    let here : length (f ∷ (g ∷ gs)) - 1 ≡ suc (length gs) = omega arith in
+    let there : length (g ∷ gs) - 1 ≡ length gs = omega arith in
+    let rest = text_ends (g ∷ gs) (ap (λ n. option_map_or is_text (slice_get (g ∷ gs) n) false) there ∙ sym (ap (λ n. option_map_or is_text (slice_get (f ∷ (g ∷ gs)) n) false) here) ∙ e) in
+    (f ∷ rest.0, ap (λ z. f ∷ z) rest.1)
 
 line_is_event : (format : List EventField) (i : ℕ) (line : List ℕ) (event : Event) → EndsInText format → i ≤ 2147483647 → IsUtf8 line → line_event format i line ≡ Ok event → IsEvent event
 unfolding line_event
