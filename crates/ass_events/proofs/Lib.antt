@@ -1,0 +1,8 @@
+pub mod EventLemmas
+pub mod FieldLemmas
+pub mod LawLemmas
+pub mod NameLemmas
+pub mod NumberLemmas
+pub mod PieceLemmas
+pub mod TimeLemmas
+pub mod WriteLemmas

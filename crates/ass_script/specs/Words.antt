@@ -1,0 +1,37 @@
+-- Words in a line.
+use Rattle.std.specs.Prelude.{ℕ, ◌-◌, ◌==◌, ◌||◌, Bool, List, length, take, drop, map, if◌then◌else◌, ◌∷◌, []}
+use Rattle.std.specs.List.{prefix_len, suffix_len, starts_with}
+use Rattle.std.specs.Bool.{nat_eq}
+use Rattle.std.specs.Str.{bytes_eq}
+use Rattle.std.specs.Char.{to_ascii_lowercase}
+use Rattle.ass_num.specs.Numerals.{is_blank}
+
+-- the text without the blanks at its end
+unfoldable pub before_blanks : List ℕ → List ℕ
+before_blanks text = take (length text - suffix_len is_blank text) text
+
+-- the text without the blanks at both its ends
+unfoldable pub trimmed : List ℕ → List ℕ
+trimmed text = before_blanks (drop (prefix_len is_blank text) text)
+
+-- two words are one without regard to ASCII case
+abbrev pub same_word : List ℕ → List ℕ → Bool
+same_word a b = bytes_eq (map to_ascii_lowercase a) (map to_ascii_lowercase b)
+
+abbrev pub is_colon : ℕ → Bool
+is_colon c = c == 58
+
+abbrev pub is_comma : ℕ → Bool
+is_comma c = c == 44
+
+-- the text behind a byte order mark
+unfoldable pub past_mark : List ℕ → List ℕ
+past_mark text = if starts_with nat_eq text (239 ∷ 187 ∷ 191 ∷ []) then drop 3 text else text
+
+-- what may stand before a style's name where it is looked for: `*` and blanks
+abbrev pub is_star_or_blank : ℕ → Bool
+is_star_or_blank c = (c == 42) || is_blank c
+
+-- the name that is looked for: the stars and blanks before it and the blanks behind it are dropped
+unfoldable pub bare_name : List ℕ → List ℕ
+bare_name text = before_blanks (drop (prefix_len is_star_or_blank text) text)
