@@ -1,7 +1,8 @@
 -- Lemmas on the characters of a line.
-use Rattle.std.proofs.Common.{◌≡◌, ℕ, zero, suc, ◌+◌, ◌-◌, ◌*◌, ◌/◌, ◌%◌, ◌<◌, ◌≤◌, ℤ, pos, negsuc, ◌+ℤ◌, ◌*ℤ◌, ◌≤ℤ◌, Bool, true, false, ◌&&◌, ◌||◌, int_le, nat_le, List, [], ◌∷◌, ◌++◌, Option, Some, None, option_and_then, slice_get, length, get_or, if◌then◌else◌, refl, sym, ap, ◌∙◌, arith}
+use Rattle.std.proofs.Common.{◌≡◌, ℕ, zero, suc, ◌*◌, ◌/◌, ◌%◌, ◌<◌, ◌≤◌, ℤ, pos, negsuc, ◌+ℤ◌, ◌-ℤ◌, ◌*ℤ◌, ◌≤ℤ◌, ◌<ℤ◌, Bool, true, false, ◌&&◌, ◌||◌, int_le, nat_le, List, [], ◌∷◌, ◌++◌, Option, Some, None, option_and_then, slice_get, length, take, drop, take-append-drop, get_or, if◌then◌else◌, refl, sym, ap, ◌∙◌, arith}
 use Rattle.std.specs.List.{list_all}
-use Rattle.std.specs.Str.{chars, chars_after, continuation_len, lead_bits}
+use Rattle.ass_num.specs.Floor.{floor_div}
+use Rattle.ass_num.proofs.Floor.{floor_div-lt}
 use Rattle.std.proofs.lemmas.List.{ext_get_or}
 use Rattle.std.proofs.lemmas.List.FromFn.{get_or-map-range_with_len, length-map-range_with_len}
 use Rattle.ass_num.specs.declared.colour.Rgba.{Rgba}
@@ -10,7 +11,7 @@ use Rattle.std.proofs.lemmas.Bool.Decides.{nat_tests}
 use Rattle.bdf_font.specs.declared.glyphs.FontGlyph.{FontGlyph}
 use Rattle.bdf_font.specs.Fonts.{PlainFont, glyph_of}
 use Rattle.plain_picture.specs.Pencils.{IsSmall}
-use Rattle.plain_picture.specs.Pictures.{advance_of, byte_of, channel, covers, glyph_for, line_covers, picture, small_font, small_glyph}
+use Rattle.plain_picture.specs.Pictures.{advance_of, byte_of, channel, column_of, covers, glyph_for, is_set, line_covers, picture, row_of, small_font, small_glyph}
 use Rattle.plain_picture.specs.Squares.{Adds, pen_after}
 
 and-first : (a b : Bool) → (a && b) ≡ true → a ≡ true
@@ -101,17 +102,62 @@ pub pen-more : (font : PlainFont) (zoom : ℕ) (pen : ℤ) (text : List ℕ) (c 
 pen-more font zoom pen [] c = refl
 pen-more font zoom pen (d ∷ rest) c = pen-more font zoom (pen +ℤ (pos zoom *ℤ advance_of (glyph_for font d))) rest c
 
--- A text has no more characters than bytes.
-after-few : (n c : ℕ) (bytes : List ℕ) → length (chars_after n c bytes) ≤ length bytes + 1
-after-few zero c [] = omega arith
-after-few zero c (b ∷ bs) = let rest : length (chars_after (continuation_len b) (lead_bits b) bs) ≤ length bs + 1 = after-few (continuation_len b) (lead_bits b) bs in omega arith
-after-few (suc n) c [] = omega arith
-after-few (suc n) c (b ∷ bs) = let rest : length (chars_after n (c * 64 + (b - 128)) bs) ≤ length bs + 1 = after-few n (c * 64 + (b - 128)) bs in omega arith
+-- some characters, and then others
+pub line-append : (font : PlainFont) (zoom : ℕ) (pen : ℤ) (text rest : List ℕ) (x y : ℕ)
+    → line_covers font zoom pen (text ++ rest) x y ≡ (line_covers font zoom pen text x y || line_covers font zoom (pen_after font zoom pen text) rest x y)
+line-append font zoom pen [] rest x y = refl
+line-append font zoom pen (d ∷ text) rest x y =
+    let next : ℤ = pen +ℤ (pos zoom *ℤ advance_of (glyph_for font d)) in
+    ap (λ (b : Bool). covers zoom font.ascent (glyph_for font d) pen x y || b) (line-append font zoom next text rest x y)
+    ∙ or-or (covers zoom font.ascent (glyph_for font d) pen x y) (line_covers font zoom next text x y)
+    (line_covers font zoom (pen_after font zoom next text) rest x y)
 
-pub chars-few : (bytes : List ℕ) → length (chars bytes) ≤ length bytes
-unfolding chars
-chars-few [] = omega arith
-chars-few (b ∷ bs) = let rest : length (chars_after (continuation_len b) (lead_bits b) bs) ≤ length bs + 1 = after-few (continuation_len b) (lead_bits b) bs in omega arith
+left-unset : (g : FontGlyph) (i j : ℤ) → i <ℤ pos 0 → is_set g i j ≡ false
+left-unset g (pos n) j left = absurd (omega (arith, ints))
+left-unset g (negsuc n) (pos j) left = refl
+left-unset g (negsuc n) (negsuc j) left = refl
+
+-- A glyph whose pen stands past all frames covers none of their pixels.
+glyph-past : (zoom : ℕ) (ascent : ℤ) (g : FontGlyph) (pen : ℤ) (x y : ℕ) → IsSmall g → 0 < zoom → zoom ≤ 16 → pos 8192 ≤ℤ pen → x < 4096
+    → covers zoom ascent (Some g) pen x y ≡ false
+glyph-past zoom ascent g pen x y small some few past less =
+    let far : floor_div (pos x -ℤ pen) (pos zoom) <ℤ negsuc 255 = floor_div-lt (pos x -ℤ pen) (negsuc 255) zoom some (omega (arith, ints)) in
+    left-unset g (column_of zoom g pen x) (row_of zoom ascent g y) (omega (arith, ints, small.x.0))
+
+option-past : (zoom : ℕ) (ascent : ℤ) (o : Option FontGlyph) (pen : ℤ) (x y : ℕ) → ((g : FontGlyph) → o ≡ Some g → IsSmall g)
+    → 0 < zoom → zoom ≤ 16 → pos 8192 ≤ℤ pen → x < 4096 → covers zoom ascent o pen x y ≡ false
+option-past zoom ascent (Some g) pen x y small some few past less = glyph-past zoom ascent g pen x y (small g refl) some few past less
+option-past zoom ascent None pen x y small some few past less = refl
+
+forward : (o : Option FontGlyph) → ((g : FontGlyph) → o ≡ Some g → IsSmall g) → pos 0 ≤ℤ advance_of o
+forward (Some g) small = (small g refl).advance.0
+forward None small = omega (arith, ints)
+
+further : (zoom : ℕ) (pen advance : ℤ) → pos 8192 ≤ℤ pen → pos 0 ≤ℤ advance → pos 8192 ≤ℤ (pen +ℤ (pos zoom *ℤ advance))
+further zoom pen (pos n) past some = omega (arith, ints)
+further zoom pen (negsuc n) past some = absurd (omega (arith, ints))
+
+-- A line whose pen stands past all frames covers none of their pixels.
+pub line-past : (font : PlainFont) (zoom : ℕ) (pen : ℤ) (text : List ℕ) (x y : ℕ) → small_font font ≡ true → 0 < zoom → zoom ≤ 16 → pos 8192 ≤ℤ pen → x < 4096
+    → line_covers font zoom pen text x y ≡ false
+line-past font zoom pen [] x y small some few past less = refl
+line-past font zoom pen (d ∷ text) x y small some few past less =
+    let is : (g : FontGlyph) → glyph_for font d ≡ Some g → IsSmall g = λ g e. small-found font d g small e in
+    let next : ℤ = pen +ℤ (pos zoom *ℤ advance_of (glyph_for font d)) in
+    rw (option-past zoom font.ascent (glyph_for font d) pen x y is some few past less)
+    (line-past font zoom next text x y small some few (further zoom pen (advance_of (glyph_for font d)) past (forward (glyph_for font d) is)) less)
+
+-- A line covers what its front covers, where the pen stands past all frames behind that.
+pub line-cut : (font : PlainFont) (zoom : ℕ) (text front : List ℕ) (x y : ℕ) → small_font font ≡ true → 0 < zoom → zoom ≤ 16
+    → front ≡ take (length front) text → pos 8192 ≤ℤ pen_after font zoom (pos 0) front → x < 4096
+    → line_covers font zoom (pos 0) text x y ≡ line_covers font zoom (pos 0) front x y
+line-cut font zoom text front x y small some few is past less =
+    let rest : List ℕ = drop (length front) text in
+    let whole : front ++ rest ≡ text = ap (λ (xs : List ℕ). xs ++ rest) is ∙ take-append-drop (length front) text in
+    ap (λ (xs : List ℕ). line_covers font zoom (pos 0) xs x y) (sym whole)
+    ∙ (line-append font zoom (pos 0) front rest x y
+    ∙ (ap (λ (b : Bool). line_covers font zoom (pos 0) front x y || b) (line-past font zoom (pen_after font zoom (pos 0) front) rest x y small some few past less)
+    ∙ or-false (line_covers font zoom (pos 0) front x y)))
 
 -- The bytes of a picture on black are the picture's.
 pub picture-is : (covered : ℕ → ℕ → Bool) (colour : Rgba) (w h : ℕ) (before after : List ℕ) → length before ≡ 3 * (w * h)

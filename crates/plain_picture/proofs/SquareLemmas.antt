@@ -1,14 +1,14 @@
 -- Lemmas on the squares of a glyph's set pixels.
-use Rattle.std.proofs.Common.{◌≡◌, ℕ, ◌+◌, ◌-◌, ◌*◌, ◌<◌, ◌≤◌, ℤ, pos, negsuc, ◌+ℤ◌, ◌-ℤ◌, ◌*ℤ◌, ◌≤ℤ◌, ◌<ℤ◌, Bool, true, false, ◌&&◌, ◌||◌, ◌==◌, nat_le, nat_lt, nat_eq, int_le, int_lt, refl, sym, ap, ◌∙◌, ◌⊎◌, inl, inr, ⊎_elim, arith}
+use Rattle.std.proofs.Common.{◌≡◌, ℕ, ◌+◌, ◌<◌, ◌≤◌, ℤ, pos, negsuc, ◌+ℤ◌, ◌-ℤ◌, ◌*ℤ◌, ◌≤ℤ◌, ◌<ℤ◌, Bool, true, false, ◌&&◌, ◌||◌, nat_le, nat_lt, int_le, int_lt, refl, sym, ap, ◌∙◌, ◌⊎◌, inl, inr, ⊎_elim, arith}
 use Rattle.std.proofs.lemmas.Int.{ints, by_lt_z}
 use Rattle.std.proofs.lemmas.Bool.{cases_lt, cases_eq}
 use Rattle.std.proofs.lemmas.Bool.Decides.{nat_tests, Decides-int_eq}
 use Rattle.std.specs.Ordering.{int_eq}
 use Rattle.ass_num.specs.Floor.{floor_div}
-use Rattle.ass_num.proofs.Floor.{floor_div-below, floor_div-above, le-floor_div, floor_div-lt, floor_div_is, product-add}
+use Rattle.ass_num.proofs.Floor.{le-floor_div, floor_div-lt, floor_div_is, product-add}
 use Rattle.bdf_font.specs.declared.glyphs.FontGlyph.{FontGlyph}
 use Rattle.plain_picture.specs.declared.fill.PixelBox.{PixelBox}
-use Rattle.plain_picture.specs.Pictures.{column_of, row_of, is_set}
+use Rattle.plain_picture.specs.Pictures.{is_set}
 use Rattle.plain_picture.specs.Squares.{IsGap, IsRun, in_box, in_columns, is_set_above, is_set_before, squares}
 
 le-yes : (a b : ℤ) → a ≤ℤ b → int_le a b ≡ true

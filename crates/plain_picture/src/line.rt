@@ -11,6 +11,9 @@ use ass_num::{Mem, Rgba, Size};
 use bdf_font::{Font, FontGlyph, glyph};
 use std::alloc::Global;
 
+// A pen here or further right draws nothing on any frame, since frames are at most 4,096 pixels wide.
+const PAST_FRAMES: u64 = 8192;
+
 // The glyph of a character.
 fn glyph_for(font: &Font, c: char) -> Option<&FontGlyph>
     ensures { MatchOption result (glyph_for font.now c ≡ None) (λ glyph. glyph_for font.now c ≡ Some glyph.now) }
@@ -47,7 +50,7 @@ fn draw_char(pixels: &mut [u8], size: &Size, font: &Font, pencil: Pencil, pen: u
     requires high { size.now.h ≤ 4096 }
     requires small { small_font font.now ≡ true }
     requires pencil { IsPencil pencil }
-    requires pen { pen ≤ 900000000000 }
+    requires pen { pen ≤ 8192 }
     ensures added { Adds (covers pencil.zoom (pos pencil.ascent) (glyph_for font.now c) (pos pen)) pencil.colour size.now.w pixels.old pixels.new }
     ensures pen { pos result ≡ pos pen +ℤ (pos pencil.zoom *ℤ advance_of (glyph_for font.now c)) }
     ensures few { result ≤ pen + 1024 }
@@ -69,11 +72,13 @@ fn draw_line(pixels: &mut [u8], size: &Size, font: &Font, pencil: Pencil, text: 
     requires small { small_font font.now ≡ true }
     requires pencil { IsPencil pencil }
     requires ascent { pos pencil.ascent ≡ font.now.ascent }
-    requires text { length text.now ≤ 134217728 }
     ensures { Adds (line_covers font.now pencil.zoom (pos 0) (chars text.now)) pencil.colour size.now.w pixels.old pixels.new }
 {
     let mut pen = 0;
     for c in text.chars() {
+        if pen >= PAST_FRAMES {
+            break;
+        }
         pen = draw_char(pixels, size, font, pencil, pen, c);
     }
 }
@@ -94,7 +99,6 @@ pub fn line_pixels(
     requires small { small_font font.now ≡ true }
     requires some { 0 < zoom }
     requires few { zoom ≤ 16 }
-    requires text { length text.now ≤ 134217728 }
     ensures { IfOk result (λ pixels. pixels.items ≡ picture (line_covers font.now zoom (pos 0) (chars text.now)) colour size.now.w size.now.h) }
 {
     let mut pixels = black(alloc, size)?;

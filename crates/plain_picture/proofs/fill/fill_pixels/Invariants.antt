@@ -1,4 +1,4 @@
-use Rattle.std.proofs.Common.{◌≡◌, ℕ, ◌*◌, ◌%◌, ◌<◌, length, get_or}
+use Rattle.std.proofs.Common.{◌≡◌, ℕ, ◌*◌, ◌%◌, ◌<◌, get_or}
 use Rattle.plain_picture.specs.Pictures.{channel}
 use Rattle.plain_picture.proofs.fill.fill_pixels.Given as goal
 

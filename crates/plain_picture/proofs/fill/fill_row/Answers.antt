@@ -1,4 +1,4 @@
-use Rattle.std.proofs.Common.{refl, arith}
+use Rattle.std.proofs.Common.{refl}
 use Rattle.plain_picture.proofs.FillLemmas.{row-filled}
 use Rattle.plain_picture.proofs.fill.fill_row.Goals as goal
 

@@ -1,4 +1,4 @@
-use Rattle.std.proofs.Common.{ℤ, pos, ◌+◌, ◌+ℤ◌, ◌-ℤ◌, refl, ap, w32, w64, FitsSigned, rules, ◌∙◌}
+use Rattle.std.proofs.Common.{pos, refl, w64, FitsSigned, rules, ◌∙◌}
 use Rattle.std.proofs.lemmas.Int.{to_z-of_z}
 use Rattle.plain_picture.proofs.SquareLemmas.{columns-box, moved_is}
 use Rattle.plain_picture.proofs.glyph.columns_box.Goals as goal

@@ -1,4 +1,4 @@
-use Rattle.std.proofs.Common.{pos, ◌≤◌, arith}
+use Rattle.std.proofs.Common.{pos, arith}
 use Rattle.plain_picture.specs.Pictures.{column_of, row_of}
 use Rattle.plain_picture.proofs.FillLemmas.{adds-none, adds-both, adds-same}
 use Rattle.plain_picture.proofs.SquareLemmas.{rows-all, rows-more, rows-none}

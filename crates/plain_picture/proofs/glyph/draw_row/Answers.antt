@@ -1,6 +1,5 @@
 use Rattle.std.proofs.Common.{arith}
-use Rattle.std.proofs.lemmas.Int.{to_z-of_z}
-use Rattle.std.proofs.Common.{pos, ◌≤◌, ◌∙◌, w64, FitsSigned, rules}
+use Rattle.std.proofs.Common.{pos, ◌∙◌}
 use Rattle.plain_picture.specs.Pictures.{column_of, row_of}
 use Rattle.plain_picture.proofs.FillLemmas.{adds-none, adds-both, adds-same}
 use Rattle.plain_picture.proofs.SquareLemmas.{columns-all, columns-more, columns-none}

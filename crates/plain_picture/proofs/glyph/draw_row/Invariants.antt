@@ -1,4 +1,4 @@
-use Rattle.std.proofs.Common.{◌≡◌, ◌+◌, ◌-◌, ◌*◌, ◌≤◌, pos, length}
+use Rattle.std.proofs.Common.{◌+◌, ◌-◌, ◌≤◌, pos}
 use Rattle.plain_picture.specs.Squares.{Adds, is_set_before, squares}
 use Rattle.plain_picture.proofs.glyph.draw_row.Given as goal
 

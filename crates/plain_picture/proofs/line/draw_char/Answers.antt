@@ -1,5 +1,3 @@
-use Rattle.std.proofs.Common.{arith}
-use Rattle.std.proofs.lemmas.Int.{ints}
 use Rattle.plain_picture.proofs.LineLemmas.{small-found}
 use Rattle.plain_picture.proofs.line.draw_char.Goals as goal
 

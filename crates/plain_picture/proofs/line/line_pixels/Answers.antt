@@ -1,4 +1,4 @@
-use Rattle.std.proofs.Common.{◌≡◌, ◌*◌, List, ℕ, length, replicate, get_or, refl, sym, ap, ◌∙◌, arith, rules}
+use Rattle.std.proofs.Common.{◌≡◌, ◌*◌, List, ℕ, length, replicate, get_or, ap, ◌∙◌, arith}
 use Rattle.std.proofs.lemmas.List.{with_items_is, get_or-replicate, length-replicate}
 use Rattle.plain_picture.proofs.LineLemmas.{picture-is}
 use Rattle.plain_picture.proofs.line.line_pixels.Goals as goal
