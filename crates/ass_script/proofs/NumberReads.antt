@@ -39,6 +39,7 @@ whole_told t b s d e blanks sign digits after = cases _ _ _ refl refl refl
   where
     n : ℕ
     n = number_of 10 (take d (drop (b + s) t))
+
     cases : (x y z : Bool) → eqb d 0 ≡ x → ltb 2147483647 n ≡ y → ltb (b + s + d + e) (length t) ≡ z → Tells (IsWhole t) (cond (x || (y || z)) None (Some (signed (take s (drop b t)) n)))
     cases true y z ex ey ez = whole_none t b s d e (min n 4294967296) blanks sign digits refl after (inl (grind (arith, nat_tests)))
     cases false true z ex ey ez = whole_none t b s d e (min n 4294967296) blanks sign digits refl after (inr (inl (grind (arith, nat_tests))))
@@ -95,6 +96,7 @@ plain_told t w count no_point = cases _ refl
   where
     n : ℕ
     n = number_of 10 (take w t)
+
     cases : (x : Bool) → eqb w 0 ≡ x → TellsFront IsHeldDecimal t (cond x None (Some (min (n * 1000) 1000000000)))
     cases true e = plain_none t w count no_point (grind (arith, nat_tests))
     cases false e = (w, subst (λ (v : ℕ). IsLongestFront IsHeldDecimal t v w) (held_plain n) (plain_front t (min n 4294967296) w refl count no_point (grind (arith, nat_tests))))
@@ -104,8 +106,10 @@ pointed_told t w f count inside at more = cases _ refl
   where
     n : ℕ
     n = number_of 10 (take w t)
+
     m : ℕ
     m = number_of 10 (take f (drop (w + 1) t)) * 1000 / 10 ^ f
+
     cases : (x : Bool) → eqb (w + f) 0 ≡ x → TellsFront IsHeldDecimal t (cond x None (Some (min (n * 1000 + m) 1000000000)))
     cases true e = point_none t w f count more (grind (arith, nat_tests))
     cases false e = (w + 1 + f, subst (λ (v : ℕ). IsLongestFront IsHeldDecimal t v (w + 1 + f)) (held_pointed n m) (point_front t (min n 4294967296) w m f refl count inside at refl more (grind (arith, nat_tests))))
@@ -143,8 +147,10 @@ hex_told t b d blanks start digits = cases _ refl
   where
     code : List ℕ
     code = drop b t
+
     m : ℕ
     m = prefix_len is_mark code
+
     cases : (x : Bool) → eqb d 0 ≡ x → TellsFront IsStyleColour t (cond x None (Some (number_of 16 (take d (drop m code)) % 2 ^ 32)))
     cases true e = style_hex_none t b blanks start (marked_none 32 code m d refl digits (grind (arith, nat_tests)))
     cases false e = style_hex_front t b blanks start _ _ (marked_front 32 code m d refl digits _ refl (grind (arith, nat_tests)))
@@ -154,8 +160,10 @@ wrapped_told t b d blanks start digits = cases _ refl
   where
     code : List ℕ
     code = drop b t
+
     n : ℤ
     n = signed (take (sign_len code) code) (number_of 10 (take d (drop (sign_len code) code)))
+
     cases : (x : Bool) → eqb d 0 ≡ x → TellsFront IsStyleColour t (cond x None (Some (unsigned_abs (int_rem_euclid n (pos (2 ^ 32))))))
     cases true e = style_decimal_none t b blanks start (wrapped_none code (sign_len code) d refl digits (grind (arith, nat_tests)))
     cases false e = style_decimal_front t b blanks start _ _ (wrapped_front code (sign_len code) d refl digits _ (rest_is_low n) (grind (arith, nat_tests)))
@@ -166,6 +174,7 @@ style_colour_is t = cases _ refl
   where
     b : ℕ
     b = prefix_len is_blank t
+
     cases : (x : Bool) → is_hex_start (drop b t) ≡ x → TellsFront IsStyleColour t (colour_in (drop b t))
     cases true e = rw e (hex_told t b _ refl e refl)
     cases false e = rw e (wrapped_told t b _ refl e refl)

@@ -288,6 +288,7 @@ keyed_plain t text = commented (is_comment text) _ (cases (list_any is_colon tex
     commented : (b : Bool) (rest : Line) → IsPlain rest.key → IsPlain (cond {A = Line} b (record { key = key.Other; value = [] }) rest).key
     commented true rest plain = record { stays = λ s. refl }
     commented false rest plain = plain
+
     cases : (b : Bool) → IsPlain (cond {A = Line} b (record { key = key_named t (trimmed (before_first is_colon text)); value = after_first is_colon text }) (record { key = key.Other; value = [] })).key
     cases true = named_plain t (trimmed (before_first is_colon text))
     cases false = record { stays = λ s. refl }
