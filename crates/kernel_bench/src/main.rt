@@ -2,8 +2,8 @@
 //! `KERNEL SIZE TURNS` it makes an input of that size and prints how long a turn takes.
 #![tactic(auto)]
 
-mod border;
 mod blurring;
+mod border;
 mod boxes;
 mod drawing;
 mod glyph;
