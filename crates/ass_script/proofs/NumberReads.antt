@@ -1,5 +1,5 @@
 -- The numbers as functions of the texts are what the readers give.
-use Rattle.std.proofs.Common.{◌≡◌, ℕ, ◌+◌, ◌*◌, ◌/◌, ◌%◌, ◌^◌, ◌<◌, ◌≤◌, min, Bool, true, false, cond, ltb, leb, eqb, ◌&&◌, ◌||◌, ◌⊎◌, inl, inr, List, [], ◌∷◌, length, get_or, take, drop, Option, Some, None, ℤ, pos, negsuc, neg_ℤ, refl, sym, ap, ◌∙◌, subst, arith}
+use Rattle.std.proofs.Common.{◌≡◌, ℕ, ◌+◌, ◌*◌, ◌/◌, ◌%◌, ◌^◌, ◌<◌, ◌≤◌, min, Bool, true, false, cond, ltb, eqb, ◌&&◌, ◌||◌, inl, inr, List, [], ◌∷◌, length, get_or, take, drop, Option, Some, None, ℤ, pos, negsuc, neg_ℤ, refl, sym, ap, subst, arith}
 use Rattle.std.specs.Prelude.{IfSome, IfNone, MatchOption, ◌↔◌}
 use Rattle.std.specs.List.{prefix_len}
 use Rattle.std.specs.Option.{option_map}
@@ -9,13 +9,13 @@ use Rattle.std.proofs.lemmas.Bool.Decides.{nat_tests}
 use Rattle.std.proofs.lemmas.Int.{ints}
 use Rattle.ass_script.specs.Ranges.{IsMargin}
 use Rattle.ass_num.specs.Fronts.{IsLongestFront, BeginsWith, HasNoFront, SpellsOne}
-use Rattle.ass_num.specs.Numerals.{is_blank, is_decimal, is_hexadecimal, is_mark, sign_len, number_of, signed, is_hex_start, IsWhole, IsHeldDecimal, IsMilli, IsColour, IsWrapped, IsStyleColour}
+use Rattle.ass_num.specs.Numerals.{is_blank, is_decimal, is_hexadecimal, is_mark, sign_len, number_of, signed, is_hex_start, IsWhole, IsHeldDecimal, IsMilli, IsStyleColour}
 use Rattle.ass_num.proofs.Wholes.{whole_none, whole_some}
 use Rattle.ass_num.proofs.DecimalFronts.{point_front, point_none, plain_front, plain_none}
 use Rattle.ass_num.proofs.SignFronts.{milli_front, milli_none}
 use Rattle.ass_num.proofs.ColourFronts.{marked_none, marked_front, wrapped_none, wrapped_front, style_hex_none, style_decimal_none, style_hex_front, style_decimal_front}
 use Rattle.ass_num.proofs.OneReading.{one_front, one_milli, one_whole, one_style_colour}
-use Rattle.ass_script.specs.Numbers.{whole_in, whole_of, plain_decimal, pointed_decimal, decimal_from, decimal_of, milli_of, hex_colour_in, decimal_colour_in, colour_in, style_colour_of}
+use Rattle.ass_script.specs.Numbers.{whole_in, whole_of, plain_decimal, pointed_decimal, decimal_from, milli_of, hex_colour_in, decimal_colour_in, colour_in, style_colour_of}
 
 -- What an answer says: a value that has the fact, or that no value has it.
 abbrev Tells : {V : Type 0} → (V → Type 0) → Option V → Type 0
