@@ -1,0 +1,4 @@
+pub mod BoxLemmas
+pub mod FillLemmas
+pub mod LineLemmas
+pub mod SquareLemmas

@@ -1,0 +1,3 @@
+pub mod Pencils
+pub mod Pictures
+pub mod Squares

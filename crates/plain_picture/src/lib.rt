@@ -1,0 +1,12 @@
+//! The picture of one line of text in a small font: neither turned nor bordered, from the frame's top left corner.
+#![tactic(auto)]
+
+mod fill;
+mod glyph;
+mod line;
+mod small;
+#[cfg(test)]
+mod tests;
+
+pub use line::line_pixels;
+pub use small::is_small;
