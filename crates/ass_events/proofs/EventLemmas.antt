@@ -1,11 +1,11 @@
 -- What holds of the fields that are read, and the steps of reading a chunk.
-use Rattle.std.proofs.Common.{◌≡◌, ℕ, ◌+◌, ◌<◌, ◌≤◌, Bool, true, false, not, cond, List, [], ◌∷◌, ◌++◌, length, Option, Some, None, Result, Ok, Err, ℤ, pos, refl, sym, ap, ◌∙◌, subst, arith}
+use Rattle.std.proofs.Common.{◌≡◌, ℕ, ◌+◌, ◌≤◌, true, false, not, cond, List, [], ◌∷◌, ◌++◌, length, Option, Some, None, Result, Ok, Err, ℤ, pos, refl, sym, ap, ◌∙◌, subst, arith}
 use Rattle.std.specs.Prelude.{option_and_then}
 use Rattle.std.specs.Option.{option_map_or}
 use Rattle.std.specs.Str.{IsUtf8, is_utf8}
 use Rattle.std.specs.Str.Lossy.{utf8_valid_len}
-use Rattle.std.specs.List.{All, join_with_byte, slice_split}
-use Rattle.std.proofs.lemmas.Str.{IsUtf8-from_is_utf8, is_utf8-from_IsUtf8, IsUtf8-nil, IsUtf8-append, IsUtf8-from_ascii}
+use Rattle.std.specs.List.{All, join_with_byte}
+use Rattle.std.proofs.lemmas.Str.{IsUtf8-from_is_utf8, is_utf8-from_IsUtf8, IsUtf8-nil}
 use Rattle.std.proofs.lemmas.Int.{ints}
 use Rattle.std.proofs.lemmas.List.Elements.{All-nil}
 use Rattle.ass_script.specs.declared.script.EventField.{EventField}
@@ -18,7 +18,6 @@ use Rattle.ass_script.specs.Words.{is_comma, before_blanks, trimmed}
 use Rattle.ass_events.specs.Cuts.{pieces_of}
 use Rattle.ass_events.specs.Numbers.{order_of, number_of, instant_of}
 use Rattle.ass_events.specs.Fields.{PlainFields, no_fields, Column, columns_from, columns_of, column_put, field_put, examined, HaveUtf8}
-use Rattle.ass_events.specs.declared.fields.Fields.{Fields}
 use Rattle.ass_events.specs.Plain.{plain, Reads}
 use Rattle.ass_events.specs.Events.{Answers, chunk_format, is_time, event_at, timed, with_time, event_of, chunked, line_made, line_event}
 use Rattle.ass_events.specs.Ranges.{IsNumber, IsName}

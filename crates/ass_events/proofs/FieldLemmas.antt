@@ -1,5 +1,5 @@
 -- A walk along a line, field by field, and the cut at all commas.
-use Rattle.std.proofs.Common.{◌≡◌, ℕ, ◌+◌, ◌-◌, ◌<◌, ◌≤◌, Bool, true, false, cond, leb, eqb, ltb, ◌⊎◌, inl, inr, List, [], ◌∷◌, ◌++◌, length, take, drop, get_or, Option, Some, None, Result, Ok, Err, refl, sym, ap, ◌∙◌, subst, arith}
+use Rattle.std.proofs.Common.{◌≡◌, ℕ, ◌+◌, ◌-◌, ◌<◌, ◌≤◌, Bool, true, false, cond, leb, eqb, ◌⊎◌, inl, inr, List, [], ◌∷◌, length, take, drop, get_or, Some, None, Result, Ok, Err, refl, sym, ap, ◌∙◌, arith}
 use Rattle.std.specs.Option.{option_map_or}
 use Rattle.std.specs.List.{position_or_len, join_with_byte}
 use Rattle.std.proofs.lemmas.List.{drop_more, drop_all, drop-drop, take_all, length-take-le, length-drop}
@@ -109,27 +109,27 @@ columns_step : (format : List EventField) (line : List ℕ) (i place n : ℕ) (d
     columns_from (length line) place (drop i format) (pieces_at line place)
     ≡ record { field = get_or format i d; place = place; piece = Some (take n (drop place line)) } ∷ columns_from (length line) (place + (n + 1)) (drop (i + 1) format) (pieces_at line (place + (n + 1)))
 columns_step format line i place n d inside within count = elim (last_or_not (i + 1) (length format)) [
-    | inl last ↦
-        let rest = drop place line in
-        let k = position_or_len is_comma rest in
-        let cut = pieces_cut line place k within refl in
-        let all : n ≡ length rest = count ∙ ap (λ b. cond b (length rest) k) last.0 in
-        let whole : join_with_byte 44 (take k rest ∷ pieces_at line (place + (k + 1))) ≡ take n rest =
-        ap (join_with_byte 44) (sym cut ∙ pieces_in line place within) ∙ join_with_byte-slice_split 44 rest ∙ sym (take_all n rest (omega arith)) in
-        ap (columns_from (length line) place (drop i format)) cut
-        ∙ columns_last (length line) place i format d (take k rest) (pieces_at line (place + (k + 1))) last.1
-        ∙ ap (λ z. record { field = get_or format i d; place = place; piece = Some z } ∷ []) whole
-        ∙ ap (λ z. record { field = get_or format i d; place = place; piece = Some (take n rest) } ∷ z) (sym (columns_none (length line) (place + (n + 1)) (i + 1) format (pieces_at line (place + (n + 1))) (omega (arith, last.1))))
-    | inr more ↦
-        let rest = drop place line in
-        let is : n ≡ position_or_len is_comma rest = count ∙ ap (λ b. cond b (length rest) (position_or_len is_comma rest)) more.0 in
-        let size : length (take n rest) ≡ n = length-take-le n rest (omega (arith, is, position_within rest)) in
-        let place_is : place + length (take n rest) + 1 ≡ place + (n + 1) = omega (arith, size) in
-        let column : Column = record { field = get_or format i d; place = place; piece = Some (take n rest) } in
-        ap (columns_from (length line) place (drop i format)) (pieces_cut line place n within is)
-        ∙ columns_more (length line) place i format d (take n rest) (pieces_at line (place + (n + 1))) (omega (arith, more.1))
-        ∙ ap (λ z. column ∷ columns_from (length line) z (drop (i + 1) format) (pieces_at line (place + (n + 1)))) place_is
-  ]
+  | inl last ↦
+      let rest = drop place line in
+      let k = position_or_len is_comma rest in
+      let cut = pieces_cut line place k within refl in
+      let all : n ≡ length rest = count ∙ ap (λ b. cond b (length rest) k) last.0 in
+      let whole : join_with_byte 44 (take k rest ∷ pieces_at line (place + (k + 1))) ≡ take n rest =
+      ap (join_with_byte 44) (sym cut ∙ pieces_in line place within) ∙ join_with_byte-slice_split 44 rest ∙ sym (take_all n rest (omega arith)) in
+      ap (columns_from (length line) place (drop i format)) cut
+      ∙ columns_last (length line) place i format d (take k rest) (pieces_at line (place + (k + 1))) last.1
+      ∙ ap (λ z. record { field = get_or format i d; place = place; piece = Some z } ∷ []) whole
+      ∙ ap (λ z. record { field = get_or format i d; place = place; piece = Some (take n rest) } ∷ z) (sym (columns_none (length line) (place + (n + 1)) (i + 1) format (pieces_at line (place + (n + 1))) (omega (arith, last.1))))
+  | inr more ↦
+      let rest = drop place line in
+      let is : n ≡ position_or_len is_comma rest = count ∙ ap (λ b. cond b (length rest) (position_or_len is_comma rest)) more.0 in
+      let size : length (take n rest) ≡ n = length-take-le n rest (omega (arith, is, position_within rest)) in
+      let place_is : place + length (take n rest) + 1 ≡ place + (n + 1) = omega (arith, size) in
+      let column : Column = record { field = get_or format i d; place = place; piece = Some (take n rest) } in
+      ap (columns_from (length line) place (drop i format)) (pieces_cut line place n within is)
+      ∙ columns_more (length line) place i format d (take n rest) (pieces_at line (place + (n + 1))) (omega (arith, more.1))
+      ∙ ap (λ z. column ∷ columns_from (length line) z (drop (i + 1) format) (pieces_at line (place + (n + 1)))) place_is
+]
   where
     last_or_not : (a b : ℕ) → ((eqb a b ≡ true) × (a ≡ b)) ⊎ ((eqb a b ≡ false) × (a ≡ b → ⊥))
     last_or_not a b = cases (eqb a b) refl

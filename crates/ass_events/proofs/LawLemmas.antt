@@ -1,11 +1,11 @@
 -- Events are written and read back.
-use Rattle.std.proofs.Common.{◌≡◌, ℕ, ◌+◌, ◌-◌, ◌<◌, ◌≤◌, ◌^◌, Bool, true, false, not, cond, List, [], ◌∷◌, ◌++◌, length, get_or, Option, Some, None, Result, Ok, Err, ℤ, pos, negsuc, ◌≤ℤ◌, refl, sym, ap, ◌∙◌, subst, arith}
-use Rattle.std.specs.Prelude.{option_and_then}
-use Rattle.std.specs.Int.{int_max}
+use Rattle.std.proofs.Common.{◌≡◌, ℕ, suc, ◌-◌, ◌+◌, ◌<◌, ◌≤◌, ◌^◌, Bool, true, false, not, cond, List, [], ◌∷◌, ◌++◌, length, get_or, Some, Result, Ok, Err, ℤ, pos, negsuc, refl, sym, ap, ◌∙◌, subst, arith}
+use Rattle.std.specs.Prelude.{option_and_then, slice_get}
+use Rattle.std.specs.Option.{option_map_or}
 use Rattle.std.specs.Fmt.{decimal, signed_decimal}
 use Rattle.std.specs.Str.{IsUtf8, is_utf8}
 use Rattle.std.specs.Str.Lossy.{utf8_valid_len}
-use Rattle.std.specs.List.{All, join_with_byte, slice_split, count_by}
+use Rattle.std.specs.List.{All, join_with_byte}
 use Rattle.std.proofs.lemmas.Fmt.{IsAscii-decimal, IsAscii-signed}
 use lib.Signed.{mag}
 use Rattle.std.proofs.lemmas.Int.{ints}
@@ -18,14 +18,14 @@ use Rattle.ass_events.specs.declared.event.Event.{Event}
 use Rattle.ass_events.specs.declared.event.ChunkRefusal.{ChunkRefusal}
 use Rattle.ass_events.specs.declared.event.ChunkRefusal.TheVariants.{Malformed}
 use Rattle.ass_script.specs.Words.{is_comma, trimmed}
-use Rattle.ass_script.specs.Fields.{is_text, event_field_number, ends_in_text}
+use Rattle.ass_script.specs.Fields.{is_text, ends_in_text}
 use Rattle.ass_script.specs.Scripts.{PlainScript}
 use Rattle.ass_script.specs.Ranges.{IsScript}
 use Rattle.ass_events.specs.Cuts.{pieces_of}
 use Rattle.ass_events.specs.Numbers.{order_of, number_of}
-use Rattle.ass_events.specs.Fields.{PlainFields, no_fields, Column, columns_from, columns_of, column_put, field_put, examined}
+use Rattle.ass_events.specs.Fields.{PlainFields, no_fields, columns_from, columns_of, field_put, examined}
 use Rattle.ass_events.specs.Events.{chunk_format, is_time, event_at, timed, with_time, event_of, chunk_bytes, duration_between, line_made, line_event, event_of_line}
-use Rattle.ass_events.specs.Ranges.{IsNumber, IsName, IsEvent}
+use Rattle.ass_events.specs.Ranges.{IsNumber, IsEvent}
 use Rattle.ass_events.proofs.NumberLemmas.{IsInstant, order-decimal, number-signed_decimal, decimal_no_comma, signed_no_comma}
 use Rattle.ass_events.proofs.PieceLemmas.{joined_utf8}
 use Rattle.ass_events.proofs.FieldLemmas.{examined_some}
@@ -35,8 +35,17 @@ use Rattle.ass_events.proofs.EventLemmas.{AreInRange, AreTexts, chunk_said, fiel
 
 event_is : (start duration : ℤ) (fields : PlainFields) → AreInRange fields → AreTexts fields → is_time start ≡ true → is_time duration ≡ true → IsEvent (event_at start duration fields)
 event_is start duration fields r t s d = record {
-  order = r.order; layer = r.layer; style = t.style; name = t.name; margin_l = r.margin_l; margin_r = r.margin_r; margin_v = r.margin_v;
-  effect = t.effect; text = t.text; start = s; duration = d
+  order = r.order;
+  layer = r.layer;
+  style = t.style;
+  name = t.name;
+  margin_l = r.margin_l;
+  margin_r = r.margin_r;
+  margin_v = r.margin_v;
+  effect = t.effect;
+  text = t.text;
+  start = s;
+  duration = d;
 }
 
 timed_event : (len : ℕ) (start duration : ℤ) (fields : PlainFields) (event : Event) → AreInRange fields → AreTexts fields → timed len start duration fields ≡ Ok event → IsEvent event
@@ -79,7 +88,11 @@ only_text _ e = absurd (cc)
 text_ends : (format : List EventField) → ends_in_text format ≡ true → EndsInText format
 text_ends [] e = absurd (cc)
 text_ends (f ∷ []) e = ([], ap (λ z. z ∷ []) (only_text f e))
-text_ends (f ∷ (g ∷ gs)) e = let rest = text_ends (g ∷ gs) e in (f ∷ rest.0, ap (λ z. f ∷ z) rest.1)
+text_ends (f ∷ (g ∷ gs)) e =
+    let here : length (f ∷ (g ∷ gs)) - 1 ≡ suc (length gs) = omega arith in
+    let there : length (g ∷ gs) - 1 ≡ length gs = omega arith in
+    let rest = text_ends (g ∷ gs) (ap (λ n. option_map_or is_text (slice_get (g ∷ gs) n) false) there ∙ sym (ap (λ n. option_map_or is_text (slice_get (f ∷ (g ∷ gs)) n) false) here) ∙ e) in
+    (f ∷ rest.0, ap (λ z. f ∷ z) rest.1)
 
 line_is_event : (format : List EventField) (i : ℕ) (line : List ℕ) (event : Event) → EndsInText format → i ≤ 2147483647 → IsUtf8 line → line_event format i line ≡ Ok event → IsEvent event
 unfolding line_event
@@ -183,8 +196,17 @@ module _ (event : Event) (is : IsEvent event) where
 
   abbrev written_fields : PlainFields
   written_fields = record {
-    order = event.order; layer = event.layer; start = pos 0; end = pos 0; style = event.style; name = event.name;
-    margin_l = event.margin_l; margin_r = event.margin_r; margin_v = event.margin_v; effect = event.effect; text = event.text
+    order = event.order;
+    layer = event.layer;
+    start = pos 0;
+    end = pos 0;
+    style = event.style;
+    name = event.name;
+    margin_l = event.margin_l;
+    margin_r = event.margin_r;
+    margin_v = event.margin_v;
+    effect = event.effect;
+    text = event.text;
   }
 
   written_said : chunk_said (chunk_bytes event) ≡ Ok written_fields
@@ -222,9 +244,22 @@ module _ (event : Event) (is : IsEvent event) where
   written_utf8 : IsUtf8 (chunk_bytes event)
   written_utf8 =
       joined_utf8 (decimal event.order)
-      (signed_decimal event.layer ∷ event.style ∷ event.name ∷ signed_decimal event.margin_l ∷ signed_decimal event.margin_r ∷ signed_decimal event.margin_v ∷ event.effect ∷ event.text ∷ [])
-      (decimal_utf8 event.order is.order, (signed_utf8 event.layer is.layer, (is.style.utf8, (is.name.utf8, (signed_utf8 event.margin_l is.margin_l,
-      (signed_utf8 event.margin_r is.margin_r, (signed_utf8 event.margin_v is.margin_v, (is.effect.utf8, (is.text, tt)))))))))
+      (signed_decimal event.layer ∷ event.style ∷ event.name ∷ signed_decimal event.margin_l ∷ signed_decimal event.margin_r ∷ signed_decimal event.margin_v ∷ event.effect ∷ event.text ∷ []) (
+        decimal_utf8 event.order is.order,
+        (
+          signed_utf8 event.layer is.layer,
+          (
+            is.style.utf8,
+            (
+              is.name.utf8,
+              (
+                signed_utf8 event.margin_l is.margin_l,
+                (signed_utf8 event.margin_r is.margin_r, (signed_utf8 event.margin_v is.margin_v, (is.effect.utf8, (is.text, tt)))),
+              ),
+            ),
+          ),
+        ),
+      )
 
   pub read_back : event_of (chunk_bytes event) event.start event.duration ≡ Ok event
   read_back =

@@ -3,7 +3,7 @@ use Rattle.std.proofs.Common.{◌≡◌, ℕ, zero, suc, ◌+◌, ◌-◌, ◌<�
 use Rattle.std.specs.Str.{IsUtf8, IsCharBoundary}
 use Rattle.std.specs.List.{All, prefix_len, suffix_len}
 use Rattle.std.proofs.lemmas.Str.{IsUtf8-take, IsUtf8-drop, IsCharBoundary-start, IsCharBoundary-end, IsCharBoundary-before_ascii, IsCharBoundary-after_ascii}
-use Rattle.std.proofs.lemmas.List.{take_all, get_or-reverse, length-reverse, length-take-le}
+use Rattle.std.proofs.lemmas.List.{take_all, get_or-reverse, length-reverse}
 use Rattle.std.proofs.lemmas.List.Elements.{All-take, All-drop}
 use Rattle.std.proofs.lemmas.List.Sums.{prefix_len-le-length, prefix_len_passes, prefix_len_stops, prefix_len-drop_no, prefix_len-drop_all, suffix_len-le-length, suffix_len-take_no}
 use Rattle.std.proofs.lemmas.Bool.Decides.{nat_tests}
@@ -28,9 +28,9 @@ less_or_not m n = grind arith
 
 front_bare : (t : List ℕ) → prefix_len is_blank (past_blanks t) ≡ 0
 front_bare t = elim (less_or_not (prefix_len is_blank t) (length t)) [
-    | inl inside ↦ prefix_len-drop_no is_blank t (prefix_len is_blank t) 0 inside (prefix_len_stops is_blank t 0 inside)
-    | inr past ↦ prefix_len-drop_all is_blank t (prefix_len is_blank t) past
-  ]
+  | inl inside ↦ prefix_len-drop_no is_blank t (prefix_len is_blank t) 0 inside (prefix_len_stops is_blank t 0 inside)
+  | inr past ↦ prefix_len-drop_all is_blank t (prefix_len is_blank t) past
+]
 
 front_utf8 : (t : List ℕ) → IsUtf8 t → IsUtf8 (past_blanks t)
 front_utf8 t utf8 = IsUtf8-drop t (prefix_len is_blank t) utf8 (cases (zero_or_more (prefix_len is_blank t)))

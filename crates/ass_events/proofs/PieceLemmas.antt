@@ -1,5 +1,5 @@
 -- The pieces between the commas of a text in UTF-8.
-use Rattle.std.proofs.Common.{◌≡◌, ℕ, ◌+◌, ◌<◌, Bool, true, false, cond, List, [], ◌∷◌, ◌++◌, length, take, drop, get_or, refl, sym, ap, ◌∙◌, subst, arith, length-append}
+use Rattle.std.proofs.Common.{◌≡◌, ℕ, ◌+◌, ◌<◌, true, false, cond, List, [], ◌∷◌, ◌++◌, length, get_or, refl, sym, subst, arith, length-append}
 use Rattle.std.specs.Str.{IsUtf8}
 use Rattle.std.specs.List.{All, join_with_byte, slice_split, onto_first}
 use Rattle.std.proofs.lemmas.Str.{IsUtf8-take, IsUtf8-drop, IsUtf8-append, IsUtf8-from_ascii, IsCharBoundary-before_ascii, IsCharBoundary-after_ascii}
@@ -7,7 +7,7 @@ use Rattle.std.proofs.lemmas.Str.Ascii.{IsAscii-cons, IsAscii-nil}
 use Rattle.std.proofs.lemmas.List.{get_or_at}
 use Rattle.std.proofs.lemmas.List.Elements.{All-nil, All-cons}
 use Rattle.std.proofs.lemmas.List.Splits.{join_with_byte-slice_split}
-use Rattle.std.proofs.Math.Seq.{drop-append_seam, take-append_seam, drop-append-add}
+use Rattle.std.proofs.Math.Seq.{take-append_seam, drop-append-add}
 use Rattle.ass_script.specs.Words.{is_comma}
 use Rattle.ass_events.specs.Cuts.{pieces_of}
 
@@ -44,8 +44,7 @@ sides_utf8 a b utf8 =
     let text = a ++ (44 ∷ b) in
     let inside : length a < length text = omega (arith, length-append a (44 ∷ b)) in
     let at : get_or text (length a) 0 ≡ 44 = get_or_at a 44 b 0 (length a) refl in
-    let low : get_or text (length a) 0 < 128 = omega (arith, at) in
-    (
+    let low : get_or text (length a) 0 < 128 = omega (arith, at) in (
       subst IsUtf8 (take-append_seam a (44 ∷ b)) (IsUtf8-take text (length a) utf8 (IsCharBoundary-before_ascii text (length a) inside low)),
       subst IsUtf8 (drop-append-add a (44 ∷ b) 1) (IsUtf8-drop text (length a + 1) utf8 (IsCharBoundary-after_ascii text (length a) utf8 inside low)),
     )

@@ -1,5 +1,5 @@
 -- The whole number that a text is, and the shape of the text.
-use Rattle.std.proofs.Common.{◌≡◌, ℕ, ◌+◌, Bool, true, false, ◌||◌, cond, ltb, eqb, List, length, take, drop, Option, Some, None, ℤ, refl, sym, ap, ◌∙◌, subst, arith, min, ◌≤◌}
+use Rattle.std.proofs.Common.{◌≡◌, ℕ, ◌+◌, Bool, true, false, ltb, eqb, List, length, take, drop, Some, ℤ, refl, sym, ap, ◌∙◌, arith, min, ◌≤◌}
 use Rattle.std.proofs.lemmas.Bool.Decides.{nat_tests}
 use Rattle.std.specs.List.{prefix_len}
 use Rattle.ass_num.specs.Numerals.{is_blank, is_decimal, sign_len, number_of, signed, IsWhole}

@@ -31,9 +31,17 @@ is_time t = int_le (pos 0) t && int_le t (pos 4000000000000)
 -- the event of these fields, at its time
 abbrev pub event_at : ℤ → ℤ → PlainFields → Event
 event_at start duration fields = record {
-  order = fields.order; layer = fields.layer; style = fields.style; name = fields.name;
-  margin_l = fields.margin_l; margin_r = fields.margin_r; margin_v = fields.margin_v;
-  effect = fields.effect; text = fields.text; start = start; duration = duration
+  order = fields.order;
+  layer = fields.layer;
+  style = fields.style;
+  name = fields.name;
+  margin_l = fields.margin_l;
+  margin_r = fields.margin_r;
+  margin_v = fields.margin_v;
+  effect = fields.effect;
+  text = fields.text;
+  start = start;
+  duration = duration;
 }
 
 -- the time beside a chunk of so many bytes, examined after its fields
@@ -53,17 +61,15 @@ event_of bytes start duration =
     if is_utf8 bytes then with_time (length bytes) start duration (examined (columns_of chunk_format bytes) no_fields)
     else Err (Malformed field.Utf8 (utf8_valid_len bytes))
 
--- the bytes of the chunk with these fields, which are joined by commas, and this ReadOrder
-abbrev pub fields_bytes : ℕ → PlainFields → List ℕ
-fields_bytes order fields = join_with_byte 44 (
-    decimal order ∷ signed_decimal fields.layer ∷ fields.style ∷ fields.name ∷ signed_decimal fields.margin_l
-    ∷ signed_decimal fields.margin_r ∷ signed_decimal fields.margin_v ∷ fields.effect ∷ fields.text ∷ [])
-
 -- the bytes of an event's chunk, `ReadOrder,Layer,Style,Name,MarginL,MarginR,MarginV,Effect,Text`
 abbrev pub chunk_bytes : Event → List ℕ
 chunk_bytes event = join_with_byte 44 (
     decimal event.order ∷ signed_decimal event.layer ∷ event.style ∷ event.name ∷ signed_decimal event.margin_l
     ∷ signed_decimal event.margin_r ∷ signed_decimal event.margin_v ∷ event.effect ∷ event.text ∷ [])
+
+-- the bytes of the chunk of these fields with this ReadOrder; the time stands beside them
+abbrev pub fields_bytes : ℕ → PlainFields → List ℕ
+fields_bytes order fields = chunk_bytes (event_at fields.start fields.end (record fields { order = order }))
 
 -- the chunk of an event
 abbrev pub chunk_made : Event → Chunk

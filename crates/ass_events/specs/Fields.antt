@@ -28,8 +28,17 @@ pub record PlainFields : Type 0 where
 -- a field that isn't there is empty, and an empty number or time is 0
 abbrev pub no_fields : PlainFields
 no_fields = record {
-  order = 0; layer = pos 0; start = pos 0; end = pos 0; style = []; name = [];
-  margin_l = pos 0; margin_r = pos 0; margin_v = pos 0; effect = []; text = []
+  order = 0;
+  layer = pos 0;
+  start = pos 0;
+  end = pos 0;
+  style = [];
+  name = [];
+  margin_l = pos 0;
+  margin_r = pos 0;
+  margin_v = pos 0;
+  effect = [];
+  text = [];
 }
 
 -- A field of a line: which one, the place where it begins, and what stands there. Where its comma is missing nothing

@@ -21,6 +21,11 @@ WrittenIsReadBack = (event : Event) → IsEvent event → event_of (chunk_bytes 
 abbrev pub LinesGiveEvents : Type 0
 LinesGiveEvents = (script : PlainScript) (i : ℕ) (event : Event) → IsScript script → i < length script.lines → event_of_line script i ≡ Ok event → IsEvent event
 
+-- The chunk of such a line gives the event of the line.
+abbrev pub ChunksOfLinesAreRead : Type 0
+ChunksOfLinesAreRead = (script : PlainScript) (i : ℕ) (event : Event) → IsScript script → i < length script.lines → event_of_line script i ≡ Ok event →
+    event_of (chunk_bytes event) event.start event.duration ≡ Ok event
+
 -- Numbers and times are read as those of scripts are.
 abbrev pub NumbersAreWhole : Type 0
 NumbersAreWhole = (text : List ℕ) (n : ℤ) → (whole_of text ≡ Some n) ↔ IsWhole text n

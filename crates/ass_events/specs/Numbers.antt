@@ -1,5 +1,5 @@
 -- The numbers and times of a line.
-use Rattle.std.specs.Prelude.{ℕ, ◌+◌, ◌*◌, ◌<◌, Bool, ◌&&◌, ◌==◌, nat_lt, nat_le, if◌then◌else◌, List, [], ◌∷◌, length, take, drop, slice_index, Option, Some, None, option_and_then, ℤ, pos, negsuc}
+use Rattle.std.specs.Prelude.{ℕ, ◌+◌, ◌*◌, ◌&&◌, ◌==◌, nat_lt, nat_le, if◌then◌else◌, List, length, take, drop, slice_index, Option, Some, None, option_and_then, ℤ, pos, negsuc}
 use Rattle.std.specs.List.{prefix_len, list_all}
 use Rattle.ass_num.specs.Numerals as numerals
 use Rattle.ass_num.specs.Numerals.{is_blank, is_decimal}

@@ -7,8 +7,17 @@ use Rattle.ass_events.specs.Fields.{PlainFields}
 
 abbrev pub plain : Fields → PlainFields
 plain fields = record {
-  order = fields.order; layer = fields.layer; start = fields.start; end = fields.end; style = fields.style.now; name = fields.name.now;
-  margin_l = fields.margin_l; margin_r = fields.margin_r; margin_v = fields.margin_v; effect = fields.effect.now; text = fields.text.now
+  order = fields.order;
+  layer = fields.layer;
+  start = fields.start;
+  end = fields.end;
+  style = fields.style.now;
+  name = fields.name.now;
+  margin_l = fields.margin_l;
+  margin_r = fields.margin_r;
+  margin_v = fields.margin_v;
+  effect = fields.effect.now;
+  text = fields.text.now;
 }
 
 -- A call read this of the fields, or found the first that refuses. It takes no memory.

@@ -5,7 +5,6 @@ ghost use Rattle.ass_events.specs.declared.event.ChunkRefusal.TheVariants.{OutOf
 
 use ass_num::{Items, OutOfMemory, Text};
 use ass_script::EventField;
-use std::alloc::AllocError;
 
 /// An event of a track (ASS specification, "Dialogue event lines").
 #[derive(Clone, Debug, PartialEq, Eq, Hash, Drop)]
@@ -53,14 +52,6 @@ impl From<OutOfMemory> for ChunkRefusal {
     ghost from_gives = { λ _ refusal. refusal ≡ memory_refusal };
 
     fn from(_refused: OutOfMemory) -> ChunkRefusal {
-        ChunkRefusal::OutOfMemory
-    }
-}
-
-impl From<AllocError> for ChunkRefusal {
-    ghost from_gives = { λ _ refusal. refusal ≡ memory_refusal };
-
-    fn from(_refused: AllocError) -> ChunkRefusal {
         ChunkRefusal::OutOfMemory
     }
 }

@@ -48,24 +48,57 @@ impl<'a> Fields<'a> {
         }
     }
 
-    #[tactic(auto, unfolding(crate::specs::Fields::field_put))]
     /// The fields with one more, or none where it can't be read.
+    #[tactic(auto, unfolding(crate::specs::Fields::field_put))]
     fn with(self, field: EventField, piece: &'a [u8]) -> Option<Fields<'a>>
         ensures some { IfSome result (λ fields. field_put field piece.now (plain self.entry) ≡ Some (plain fields)) }
         ensures none { IfNone result (field_put field piece.now (plain self.entry) ≡ None) }
     {
         match field {
-            EventField::ReadOrder => Some(Fields { order: order(piece)?, ..self }),
-            EventField::Layer => Some(Fields { layer: number(piece)?, ..self }),
-            EventField::Start => Some(Fields { start: instant(piece)?, ..self }),
-            EventField::End => Some(Fields { end: instant(piece)?, ..self }),
-            EventField::Style => Some(Fields { style: trimmed(piece), ..self }),
-            EventField::Name => Some(Fields { name: trimmed(piece), ..self }),
-            EventField::MarginL => Some(Fields { margin_l: number(piece)?, ..self }),
-            EventField::MarginR => Some(Fields { margin_r: number(piece)?, ..self }),
-            EventField::MarginV => Some(Fields { margin_v: number(piece)?, ..self }),
-            EventField::Effect => Some(Fields { effect: trimmed(piece), ..self }),
-            EventField::Text => Some(Fields { text: piece, ..self }),
+            EventField::ReadOrder => Some(Fields {
+                order: order(piece)?,
+                ..self
+            }),
+            EventField::Layer => Some(Fields {
+                layer: number(piece)?,
+                ..self
+            }),
+            EventField::Start => Some(Fields {
+                start: instant(piece)?,
+                ..self
+            }),
+            EventField::End => Some(Fields {
+                end: instant(piece)?,
+                ..self
+            }),
+            EventField::Style => Some(Fields {
+                style: trimmed(piece),
+                ..self
+            }),
+            EventField::Name => Some(Fields {
+                name: trimmed(piece),
+                ..self
+            }),
+            EventField::MarginL => Some(Fields {
+                margin_l: number(piece)?,
+                ..self
+            }),
+            EventField::MarginR => Some(Fields {
+                margin_r: number(piece)?,
+                ..self
+            }),
+            EventField::MarginV => Some(Fields {
+                margin_v: number(piece)?,
+                ..self
+            }),
+            EventField::Effect => Some(Fields {
+                effect: trimmed(piece),
+                ..self
+            }),
+            EventField::Text => Some(Fields {
+                text: piece,
+                ..self
+            }),
             EventField::Duration | EventField::Utf8 | EventField::Other => Some(self),
         }
     }
@@ -76,7 +109,11 @@ fn piece_len(rest: &[u8], is_last: bool) -> usize
     ensures len { result ≡ (if is_last then length rest.now else position_or_len is_comma rest.now) }
     ensures within { result ≤ length rest.now }
 {
-    if is_last { rest.len() } else { before_comma(rest) }
+    if is_last {
+        rest.len()
+    } else {
+        before_comma(rest)
+    }
 }
 
 /// What the fields of a line say, in the order of the format: the line is cut at its commas, but for those of the

@@ -1,6 +1,6 @@
 //! What holds of all chunks and lines: the theorems above the definitions of `read_chunk` and `chunk_of_line`.
 
-ghost use Rattle.ass_events.specs.Laws.{ChunksGiveEvents, WrittenIsReadBack, LinesGiveEvents, NumbersAreWhole, TimesAreTimes};
+ghost use Rattle.ass_events.specs.Laws.{ChunksGiveEvents, WrittenIsReadBack, LinesGiveEvents, ChunksOfLinesAreRead, NumbersAreWhole, TimesAreTimes};
 
 /// What `write_chunk` writes of an event that a chunk gave is read back as this event.
 pub fn written_is_read_back()
@@ -8,9 +8,10 @@ pub fn written_is_read_back()
     ensures back { WrittenIsReadBack }
 {}
 
-/// The event of a line of a script that a text spells is one that a chunk gives: the chunk of the line.
+/// The chunk of a line gives the event of this line, where the script is one that a text spells.
 pub fn lines_give_events()
-    ensures { LinesGiveEvents }
+    ensures ranges { LinesGiveEvents }
+    ensures chunk { ChunksOfLinesAreRead }
 {}
 
 /// Numbers and times are read as those of scripts are.

@@ -7,6 +7,8 @@ mod laws;
 mod line;
 mod numbers;
 mod read;
+#[cfg(test)]
+mod tests;
 mod words;
 mod write;
 

@@ -21,7 +21,12 @@ pub fn chunk_of_line(alloc: Global, script: &Script, i: usize) -> Result<Chunk, 
 }
 
 /// The chunk of a line under a format.
-fn line_chunk(alloc: Global, format: &[EventField], line: &[u8], order: u32) -> Result<Chunk, ChunkRefusal>
+fn line_chunk(
+    alloc: Global,
+    format: &[EventField],
+    line: &[u8],
+    order: u32,
+) -> Result<Chunk, ChunkRefusal>
     ensures { Answers result (chunked (line_event format.now order line.now)) }
 {
     let fields = match read_fields(format, line) {

@@ -34,7 +34,12 @@ fn is_time(milliseconds: i64) -> bool
 }
 
 /// The event that a chunk gives (`ass_process_chunk` in libass `ass.h`).
-pub fn read_chunk(alloc: Global, bytes: &[u8], start: i64, duration: i64) -> Result<Event, ChunkRefusal>
+pub fn read_chunk(
+    alloc: Global,
+    bytes: &[u8],
+    start: i64,
+    duration: i64,
+) -> Result<Event, ChunkRefusal>
     ensures { Answers result (event_of bytes.now start duration) }
 {
     if let Err(fault) = simdutf8::compat::from_utf8(bytes) {

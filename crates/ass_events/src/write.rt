@@ -46,7 +46,7 @@ fn margins(alloc: Global, l: i32, r: i32, v: i32) -> Mem<String>
     Ok(format!(in alloc; ",{l},{r},{v},")?)
 }
 
-/// The bytes of the chunk with these fields, but for another ReadOrder.
+/// The bytes of the chunk of these fields with this ReadOrder.
 pub fn write_fields(alloc: Global, order: u32, fields: &Fields) -> Mem<Vec<u8>>
     ensures { IfOk result (λ bytes. bytes.items ≡ fields_bytes order (plain fields.now)) }
 {

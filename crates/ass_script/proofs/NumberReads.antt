@@ -1,11 +1,13 @@
 -- The numbers as functions of the texts are what the readers give.
-use Rattle.std.proofs.Common.{◌≡◌, ℕ, ◌+◌, ◌*◌, ◌/◌, ◌%◌, ◌^◌, ◌<◌, ◌≤◌, min, Bool, true, false, cond, ltb, leb, eqb, ◌&&◌, ◌||◌, ◌⊎◌, inl, inr, List, length, get_or, take, drop, Option, Some, None, ℤ, pos, negsuc, refl, sym, ap, ◌∙◌, subst, arith}
+use Rattle.std.proofs.Common.{◌≡◌, ℕ, ◌+◌, ◌*◌, ◌/◌, ◌%◌, ◌^◌, ◌<◌, ◌≤◌, min, Bool, true, false, cond, ltb, leb, eqb, ◌&&◌, ◌||◌, ◌⊎◌, inl, inr, List, [], ◌∷◌, length, get_or, take, drop, Option, Some, None, ℤ, pos, negsuc, neg_ℤ, refl, sym, ap, ◌∙◌, subst, arith}
 use Rattle.std.specs.Prelude.{IfSome, IfNone, MatchOption}
 use Rattle.std.specs.List.{prefix_len}
 use Rattle.std.specs.Option.{option_map}
 use Rattle.std.specs.Int.{int_rem_euclid}
 use Rattle.std.specs.Int.RustNames.{unsigned_abs}
 use Rattle.std.proofs.lemmas.Bool.Decides.{nat_tests}
+use Rattle.std.proofs.lemmas.Int.{ints}
+use Rattle.ass_script.specs.Ranges.{IsMargin}
 use Rattle.ass_num.specs.Fronts.{IsLongestFront, BeginsWith, HasNoFront, SpellsOne}
 use Rattle.ass_num.specs.Numerals.{is_blank, is_decimal, is_hexadecimal, is_mark, sign_len, number_of, signed, is_hex_start, IsWhole, IsHeldDecimal, IsMilli, IsColour, IsWrapped, IsStyleColour}
 use Rattle.ass_num.proofs.Wholes.{whole_none, whole_some}
@@ -52,6 +54,18 @@ whole_is t = whole_told t _ _ _ _ refl refl refl refl
 
 pub whole_read : (t : List ℕ) (r : Option ℤ) → IfSome r (IsWhole t) → IfNone r ((z : ℤ) → IsWhole t z → ⊥) → r ≡ whole_of t
 whole_read t r some none = same_answer (IsWhole t) (one_whole t) r (whole_of t) (tells (IsWhole t) r some none) (whole_is t)
+
+signed_range : (sign : List ℕ) (n : ℕ) → n ≤ 2147483647 → IsMargin (signed sign n)
+signed_range [] n small = omega (arith, ints)
+signed_range (c ∷ cs) n small = under (eqb c 45)
+  where
+    under : (b : Bool) → IsMargin (cond b (neg_ℤ (pos n)) (pos n))
+    under true = omega (arith, ints)
+    under false = omega (arith, ints)
+
+pub whole_range : (t : List ℕ) (r : Option ℤ) → IfSome r (IsWhole t) → IfSome r IsMargin
+whole_range t None some = some
+whole_range t (Some z) m = subst (λ (v : ℤ). IsMargin v) (sym m.value) (signed_range m.sign (number_of 10 m.digits) m.small)
 
 -- ---- thousandths
 

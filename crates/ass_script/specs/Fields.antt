@@ -1,5 +1,6 @@
 -- The fields that Format lines name.
-use Rattle.std.specs.Prelude.{ℕ, ◌==◌, Bool, false, if◌then◌else◌, List, [], ◌∷◌, map, codes}
+use Rattle.std.specs.Prelude.{ℕ, ◌-◌, ◌==◌, Bool, false, if◌then◌else◌, List, [], ◌∷◌, length, map, slice_get, codes}
+use Rattle.std.specs.Option.{option_map_or}
 use Rattle.std.specs.List.{slice_split, list_any}
 use Rattle.ass_script.specs.Words.{trimmed, same_word, is_comma}
 use Rattle.ass_script.specs.declared.lines.Version.{Version}
@@ -150,9 +151,7 @@ is_text field = event_field_number field == 11
 
 -- the last field is the text
 abbrev pub ends_in_text : List EventField → Bool
-ends_in_text [] = false
-ends_in_text (field ∷ []) = is_text field
-ends_in_text (field ∷ next ∷ fields) = ends_in_text (next ∷ fields)
+ends_in_text fields = option_map_or is_text (slice_get fields (length fields - 1)) false
 
 -- the fields where no Format line counts
 abbrev pub usual_event_fields : Version → List EventField

@@ -171,11 +171,11 @@ event_fields_in all = option_map_or (λ fields. fields) (last_of (event_formats 
 
 -- ---- the whole script
 
--- what makes one line too many behind others
+-- why a line is one too many behind others: a million Dialogue lines, or ten thousand styles, stand before it
 abbrev pub limit_at : List Line → Line → Option ScriptRefusal
 limit_at before line =
     if is_dialogue line.key && nat_le 1000000 (length (values_of is_dialogue before)) then Some (refusal.TooManyLines 1000000)
-    else if is_style line.key && nat_le 10000 (length (values_of is_style before)) then Some (refusal.TooManyStyles 10000)
+    else if is_style line.key && nat_le 10000 (length (styles_behind [] before)) then Some (refusal.TooManyStyles 10000)
     else None
 
 -- the first line too many of some lines behind others
@@ -212,7 +212,7 @@ Answers (Err (refusal.TooManyStyles n)) wanted = wanted ≡ Err (refusal.TooMany
 -- the place of the last style of this name, where the first of the styles has the place n
 abbrev pub last_named_from : ℕ → List ℕ → List Style → Option ℕ
 last_named_from n name [] = None
-last_named_from n name (style ∷ styles) = option_or (last_named_from (n + 1) name styles) (if bytes_eq name style.name then Some n else None)
+last_named_from n name (style ∷ styles) = option_or (last_named_from (n + 1) name styles) (if bytes_eq style.name name then Some n else None)
 
 abbrev pub last_named : List ℕ → List Style → Option ℕ
 last_named name styles = last_named_from 0 name styles

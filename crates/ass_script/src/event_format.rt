@@ -1,9 +1,10 @@
 //! Format lines of events.
 
-ghost use Rattle.std.specs.Prelude.{◌≡◌, ◌++◌, IfOk};
+ghost use Rattle.std.specs.Prelude.{◌≡◌, true, IfOk, IfSome};
+ghost use Rattle.std.specs.Option.{option_map_or};
 ghost use Rattle.ass_script.specs.Fields.{event_margin_named, event_field_named, event_fields_of, ends_in_text, usual_event_fields};
 
-use crate::fields::keep_last;
+use crate::fields::last_ones;
 use crate::lines::Version;
 use crate::script::EventField;
 use crate::words::{same_word, trimmed};
@@ -81,15 +82,24 @@ fn event_field_named(name: &str) -> EventField
     event_margin_named(name)
 }
 
-/// The fields of event lines where no Format line counts.
-pub fn usual_event_fields(alloc: Global, version: Version) -> Mem<Items<EventField>>
-    ensures { IfOk result (λ fields. fields ≡ usual_event_fields version) }
+/// The fields of event lines: those of the Format line that counts, or else the usual ones.
+pub fn format_or_usual(
+    alloc: Global,
+    format: Option<Items<EventField>>,
+    version: Version,
+) -> Mem<Items<EventField>>
+    requires { IfSome format (λ fields. ends_in_text fields ≡ true) }
+    ensures fields { IfOk result (λ fields. fields ≡ option_map_or (λ given. given) format (usual_event_fields version)) }
+    ensures text { IfOk result (λ fields. ends_in_text fields ≡ true) }
 {
-    let fields: &[EventField] = match version {
+    if let Some(fields) = format {
+        return Ok(fields);
+    }
+    let usual: &[EventField] = match version {
         Version::V4 => &OLD_USUAL,
         Version::V4Plus => &USUAL,
     };
-    Ok(Items::from_vec(Vec::from_slice(alloc, fields)?))
+    Ok(Items::from_vec(Vec::from_slice(alloc, usual)?))
 }
 
 /// The fields that a Format line of events names.
@@ -101,8 +111,7 @@ pub fn event_fields(alloc: Global, value: &str) -> Mem<Items<EventField>>
     for name in value.split(',') {
         fields.push(event_field_named(trimmed(name)))?;
     }
-    keep_last(fields.as_mut_slice(), EventField::Other);
-    Ok(Items::from_vec(fields))
+    Ok(last_ones(fields, EventField::Other))
 }
 
 /// Whether the last field is the text.

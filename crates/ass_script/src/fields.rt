@@ -1,10 +1,11 @@
 //! The fields that a Format line names.
 
-ghost use Rattle.std.specs.Prelude.{◌≡◌, ◌<◌, map, OnOk};
-ghost use Rattle.ass_script.specs.Fields.{last_ones, names_of, event_field_number, style_field_number};
+ghost use Rattle.std.specs.Prelude.{◌≡◌};
+ghost use Rattle.ass_script.specs.Fields.{last_ones, event_field_number, style_field_number};
 
 use crate::script::EventField;
 use crate::style_field::StyleField;
+use ass_num::Items;
 
 /// How many numbers there are for the fields of one kind of line.
 const NUMBERS: usize = 32;
@@ -38,7 +39,7 @@ impl Field for EventField {
 }
 
 /// Of fields that stand twice keeps the last; an earlier one becomes `other`.
-pub fn keep_last<F: Field>(fields: &mut [F], other: F)
+fn keep_last<F: Field>(fields: &mut [F], other: F)
     ensures { fields.new ≡ last_ones F.number_of other fields.old }
 {
     let mut seen = [false; NUMBERS];
@@ -52,4 +53,13 @@ pub fn keep_last<F: Field>(fields: &mut [F], other: F)
             seen[number] = true;
         }
     }
+}
+
+/// The fields of a Format line, where those that stand twice are kept at the last place alone.
+pub fn last_ones<F: Field>(fields: Vec<F>, other: F) -> Items<F>
+    ensures { result ≡ last_ones F.number_of other fields.items }
+{
+    let mut fields = fields;
+    keep_last(fields.as_mut_slice(), other);
+    Items::from_vec(fields)
 }

@@ -2,7 +2,7 @@
 
 ghost use Rattle.std.specs.Prelude.{◌≡◌, ◌≤◌, IfSome, Some};
 ghost use Rattle.ass_script.specs.Numbers.{whole_of};
-ghost use Rattle.ass_script.specs.Ranges.{IsHeader, IsSide, IsHeaderLines};
+ghost use Rattle.ass_script.specs.Ranges.{IsHeader, IsMargin, IsSide, IsHeaderLines};
 ghost use Rattle.ass_script.specs.Scripts.{side_of, wrap_of, scaled_of, width_of, height_of};
 ghost use Rattle.ass_script.specs.Walk.{no_header_lines, header_line, made_header};
 
@@ -13,7 +13,8 @@ use ass_num::read_whole;
 
 /// The whole number that a text is.
 pub fn whole(text: &str) -> Option<i32>
-    ensures { result ≡ whole_of text.now }
+    ensures value { result ≡ whole_of text.now }
+    ensures range { IfSome result IsMargin }
 {
     read_whole(text.as_bytes())
 }

@@ -122,7 +122,7 @@ fn key_named(section: Section, word: &str) -> Key
 }
 
 /// A line that is no heading.
-#[tactic(auto, unfolding(crate::specs::Lines::keyed_line))]
+#[tactic(auto, using(crate::proofs::Picks::none_passes), unfolding(crate::specs::Lines::keyed_line))]
 fn keyed_line(section: Section, text: &str) -> (Key, &str)
     ensures key { result.0 ≡ (keyed_line section text.now).key }
     ensures value { result.1.now ≡ (keyed_line section text.now).value }

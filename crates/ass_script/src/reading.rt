@@ -6,7 +6,7 @@ ghost use Rattle.ass_script.specs.Ranges.{IsReading, IsScript};
 ghost use Rattle.ass_script.specs.Scripts.{Answers};
 ghost use Rattle.ass_script.specs.Walk.{no_lines, no_headings, with_heading, fields_of, style_step, format_step, event_format_step, dialogue_step, key_step, line_step, version_said, fields_said, made_script};
 
-use crate::event_format::{ends_in_text, event_fields, usual_event_fields};
+use crate::event_format::{ends_in_text, event_fields, format_or_usual};
 use crate::header_lines::HeaderLines;
 use crate::lines::{Key, Section, Version, line_in};
 use crate::refusal::ScriptRefusal;
@@ -137,7 +137,8 @@ impl Reading {
             return Ok(());
         }
         let style = style_line(alloc, version, self.style_fields(version), value)?;
-        self.styles.push(style)
+        self.styles.push(style)?;
+        Ok(())
     }
 
     /// A Format line of events.
@@ -163,7 +164,8 @@ impl Reading {
             self.refusal = Some(ScriptRefusal::TooManyLines(MOST_LINES));
             return Ok(());
         }
-        self.lines.push(value.as_bytes())
+        self.lines.push(value.as_bytes())?;
+        Ok(())
     }
 
     /// A line that is no heading, where no line before it was one too many.
@@ -203,16 +205,6 @@ impl Reading {
         self.keyed_line(alloc, key, value)
     }
 
-    /// The fields of event lines.
-    fn event_fields(&mut self, alloc: Global) -> Mem<Items<EventField>>
-        ensures { IfOk result (λ fields. fields ≡ fields_said self.old) }
-    {
-        match self.format.take() {
-            Some(fields) => Ok(fields),
-            None => usual_event_fields(alloc, self.headings.version()),
-        }
-    }
-
     /// The script that the lines make, or why they make none.
     pub fn made(self, alloc: Global) -> Result<Script, ScriptRefusal>
         requires { IsReading self }
@@ -225,10 +217,10 @@ impl Reading {
         if let Some(refusal) = self.refusal {
             return Err(refusal);
         }
-        let mut reading = self;
-        let format = reading.event_fields(alloc)?;
-        let header = reading.header.made();
-        let script = Script::new(alloc, header, reading.styles, format, reading.lines)?;
+        let version = self.headings.version();
+        let header = self.header.made();
+        let format = format_or_usual(alloc, self.format, version)?;
+        let script = Script::new(alloc, header, self.styles, format, self.lines)?;
         Ok(script)
     }
 }

@@ -3,7 +3,7 @@
 ghost use Rattle.std.specs.Prelude.{◌≡◌, IfOk};
 ghost use Rattle.ass_script.specs.Fields.{style_fields_of, usual_style_fields};
 
-use crate::fields::keep_last;
+use crate::fields::last_ones;
 use crate::lines::Version;
 use crate::style_field::{StyleField, version_field};
 use crate::words::trimmed;
@@ -76,6 +76,5 @@ pub fn style_fields(alloc: Global, version: Version, value: &str) -> Mem<Items<S
     for name in value.split(',') {
         fields.push(version_field(version, trimmed(name)))?;
     }
-    keep_last(fields.as_mut_slice(), StyleField::Other);
-    Ok(Items::from_vec(fields))
+    Ok(last_ones(fields, StyleField::Other))
 }

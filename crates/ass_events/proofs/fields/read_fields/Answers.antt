@@ -1,4 +1,4 @@
-use Rattle.std.proofs.Common.{◌≡◌, ◌+◌, ◌<◌, ◌≤◌, length, arith}
+use Rattle.std.proofs.Common.{arith}
 use Rattle.std.proofs.lemmas.List.{take_rest}
 use Rattle.ass_script.specs.declared.script.EventField.TheVariants.{ReadOrder}
 use Rattle.ass_events.specs.Plain.{plain}

@@ -1,4 +1,4 @@
-use Rattle.std.proofs.Common.{◌≡◌, ◌∙◌, ap, sym, rules, FitsSigned, w64, to_z-of_z}
+use Rattle.std.proofs.Common.{◌∙◌, ap, sym, rules, FitsSigned, w64, to_z-of_z}
 use Rattle.ass_events.specs.Plain.{plain}
 use Rattle.ass_events.specs.Events.{chunked, fields_bytes, duration_between}
 use Rattle.ass_events.proofs.EventLemmas.{line_refused, line_said, fields_in_range, same_chunk}

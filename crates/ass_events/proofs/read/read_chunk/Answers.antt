@@ -1,6 +1,5 @@
-use Rattle.std.proofs.Common.{◌≡◌, ◌∙◌, ap, sym, length, true, false, Ok, rules, FitsSigned, w64, to_z-of_z}
+use Rattle.std.proofs.Common.{◌∙◌, ap, sym, length, Ok, rules, FitsSigned, w64, to_z-of_z}
 use Rattle.ass_events.specs.Plain.{plain}
-use Rattle.ass_events.specs.Events.{is_time}
 use Rattle.ass_events.proofs.EventLemmas.{chunk_not_utf8, chunk_field_refused, chunk_timed, timed_start, timed_duration, timed_ok, chunk_have_utf8}
 use Rattle.ass_events.proofs.read.read_chunk.Goals as goal
 
