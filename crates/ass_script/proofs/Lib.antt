@@ -6,3 +6,4 @@ pub mod Yields
 pub mod StyleLemmas
 pub mod MoreLines
 pub mod WalkLemmas
+pub mod Refusals

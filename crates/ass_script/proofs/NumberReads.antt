@@ -1,6 +1,6 @@
 -- The numbers as functions of the texts are what the readers give.
 use Rattle.std.proofs.Common.{◌≡◌, ℕ, ◌+◌, ◌*◌, ◌/◌, ◌%◌, ◌^◌, ◌<◌, ◌≤◌, min, Bool, true, false, cond, ltb, leb, eqb, ◌&&◌, ◌||◌, ◌⊎◌, inl, inr, List, [], ◌∷◌, length, get_or, take, drop, Option, Some, None, ℤ, pos, negsuc, neg_ℤ, refl, sym, ap, ◌∙◌, subst, arith}
-use Rattle.std.specs.Prelude.{IfSome, IfNone, MatchOption}
+use Rattle.std.specs.Prelude.{IfSome, IfNone, MatchOption, ◌↔◌}
 use Rattle.std.specs.List.{prefix_len}
 use Rattle.std.specs.Option.{option_map}
 use Rattle.std.specs.Int.{int_rem_euclid}
@@ -176,3 +176,18 @@ style_colour_read t r some none = same_front IsStyleColour one_style_colour t r 
     told : (r : Option ℕ) → IfSome r (BeginsWith IsStyleColour t) → IfNone r (HasNoFront IsStyleColour t) → TellsFront IsStyleColour t r
     told None some none = none
     told (Some v) some none = some
+
+-- ---- both ways
+
+both : {V : Type 0} (P : V → Type 0) → ((v w : V) → P v → P w → v ≡ w) → (o : Option V) → Tells P o → (v : V) → (o ≡ Some v) ↔ P v
+both P one None none v = ((λ e. absurd (cc)), (λ p. absurd (none v p)))
+both P one (Some w) has v = ((λ e. let same : w ≡ v = cc in subst P same has), (λ p. ap Some (one w v has p)))
+
+pub whole_both : (t : List ℕ) (v : ℤ) → (whole_of t ≡ Some v) ↔ IsWhole t v
+whole_both t v = both (IsWhole t) (one_whole t) (whole_of t) (whole_is t) v
+
+pub milli_both : (t : List ℕ) (v : ℤ) → (milli_of t ≡ Some v) ↔ BeginsWith IsMilli t v
+milli_both t v = both (BeginsWith IsMilli t) (one_begins IsMilli one_milli t) (milli_of t) (tells_front IsMilli t (milli_of t) (milli_is t)) v
+
+pub style_colour_both : (t : List ℕ) (v : ℕ) → (style_colour_of t ≡ Some v) ↔ BeginsWith IsStyleColour t v
+style_colour_both t v = both (BeginsWith IsStyleColour t) (one_begins IsStyleColour one_style_colour t) (style_colour_of t) (tells_front IsStyleColour t (style_colour_of t) (style_colour_is t)) v

@@ -7,7 +7,7 @@ use Rattle.std.proofs.lemmas.List.{append-nil}
 use Rattle.ass_script.specs.Fields.{style_fields_of, usual_style_fields, event_fields_of, ends_in_text}
 use Rattle.ass_script.specs.Styles.{style_of}
 use Rattle.ass_script.specs.Words.{trimmed, is_colon}
-use Rattle.ass_script.specs.Lines.{Line, is_heading, section_named, info_key_named, style_key_named, event_key_named, key_named, keyed_line, line_in, section_behind, placed}
+use Rattle.ass_script.specs.Lines.{Line, is_heading, is_comment, section_named, info_key_named, style_key_named, event_key_named, key_named, keyed_line, line_in, section_behind, placed}
 use Rattle.ass_script.specs.Scripts.{PlainScript, has, values_of, last_of, last_value, is_res_x, is_res_y, is_wrap, is_scaled, is_dialogue, is_event_format, is_style_format, style_version, is_events_heading, is_styles_heading, side_of, wrap_of, scaled_of, style_fields_behind, styles_at, styles_behind, event_formats, limit_at, limit_behind, picked_script, script_of_lines}
 use Rattle.ass_script.specs.Walk.{header_line, with_heading, fields_of, key_step, keyed_step, line_step, walked, no_lines, script_said, made_script}
 use Rattle.ass_script.specs.declared.lines.Version.{Version}
@@ -283,8 +283,11 @@ named_plain section.Other word = record { stays = λ s. refl }
 
 keyed_plain : (t : Section) (text : List ℕ) → IsPlain (keyed_line t text).key
 unfolding keyed_line
-keyed_plain t text = cases (list_any is_colon text)
+keyed_plain t text = commented (is_comment text) _ (cases (list_any is_colon text))
   where
+    commented : (b : Bool) (rest : Line) → IsPlain rest.key → IsPlain (cond {A = Line} b (record { key = key.Other; value = [] }) rest).key
+    commented true rest plain = record { stays = λ s. refl }
+    commented false rest plain = plain
     cases : (b : Bool) → IsPlain (cond {A = Line} b (record { key = key_named t (trimmed (before_first is_colon text)); value = after_first is_colon text }) (record { key = key.Other; value = [] })).key
     cases true = named_plain t (trimmed (before_first is_colon text))
     cases false = record { stays = λ s. refl }

@@ -6,3 +6,4 @@ pub mod Lines
 pub mod Scripts
 pub mod Ranges
 pub mod Walk
+pub mod Laws

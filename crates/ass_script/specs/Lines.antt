@@ -58,10 +58,15 @@ key_named (section.Styles version) word = style_key_named version word
 key_named section.Events word = event_key_named word
 key_named section.Other word = key.Other
 
--- a line without a colon says nothing; else it is cut at the first one
+-- a line that begins with `;`
+abbrev pub is_comment : List ℕ → Bool
+is_comment text = slice_index text 0 == 59
+
+-- a comment and a line without a colon say nothing; every other line is cut at its first colon
 unfoldable pub keyed_line : Section → List ℕ → Line
 keyed_line s text =
-    if list_any is_colon text then record { key = key_named s (trimmed (before_first is_colon text)); value = after_first is_colon text }
+    if is_comment text then record { key = key.Other; value = [] }
+    else if list_any is_colon text then record { key = key_named s (trimmed (before_first is_colon text)); value = after_first is_colon text }
     else record { key = key.Other; value = [] }
 
 -- a line that stands in a section; a heading begins its own

@@ -59,7 +59,7 @@ fn scaled(value: &str) -> bool
 }
 
 /// What the last line of each key of the header said.
-#[derive(Clone, Copy, Debug, PartialEq, Eq)]
+#[derive(Clone, Copy)]
 pub struct HeaderLines {
     pub res_x: Option<u32>,
     pub res_y: Option<u32>,

@@ -4,6 +4,7 @@
 mod event_format;
 mod fields;
 mod header_lines;
+mod laws;
 mod lines;
 mod read;
 mod reading;
@@ -15,6 +16,7 @@ mod style_format;
 mod style_line;
 mod words;
 
+pub use laws::numbers_are_read;
 pub use read::read_script;
 pub use refusal::ScriptRefusal;
 pub use script::{EventField, Header, Script, find_style};

@@ -1,19 +1,19 @@
 //! The lines of a script: sections, keys and values.
 
 ghost use Rattle.std.specs.Prelude.{◌≡◌};
-ghost use Rattle.ass_script.specs.Lines.{is_bracketed, is_heading, section_named, info_key_named, style_key_named, event_key_named, key_named, keyed_line, line_in};
+ghost use Rattle.ass_script.specs.Lines.{is_bracketed, is_heading, is_comment, section_named, info_key_named, style_key_named, event_key_named, key_named, keyed_line, line_in};
 
 use crate::words::{same_word, trimmed};
 
 /// The version of a section of styles.
-#[derive(Clone, Copy, Debug, PartialEq, Eq)]
+#[derive(Clone, Copy)]
 pub enum Version {
     V4,
     V4Plus,
 }
 
 /// What the last heading began.
-#[derive(Clone, Copy, Debug, PartialEq, Eq)]
+#[derive(Clone, Copy)]
 pub enum Section {
     Info,
     Styles(Version),
@@ -23,7 +23,7 @@ pub enum Section {
 }
 
 /// What a line says in its section.
-#[derive(Clone, Copy, Debug, PartialEq, Eq)]
+#[derive(Clone, Copy)]
 pub enum Key {
     Heading(Section),
     ResX,
@@ -121,12 +121,23 @@ fn key_named(section: Section, word: &str) -> Key
     }
 }
 
+/// A line that begins with `;`.
+fn is_comment(text: &str) -> bool
+    ensures { result ≡ is_comment text.now }
+{
+    let bytes = text.as_bytes();
+    !bytes.is_empty() && bytes[0] == b';'
+}
+
 /// A line that is no heading.
 #[tactic(auto, using(crate::proofs::Picks::none_passes), unfolding(crate::specs::Lines::keyed_line))]
 fn keyed_line(section: Section, text: &str) -> (Key, &str)
     ensures key { result.0 ≡ (keyed_line section text.now).key }
     ensures value { result.1.now ≡ (keyed_line section text.now).value }
 {
+    if is_comment(text) {
+        return (Key::Other, "");
+    }
     match text.split_once(':') {
         Some((word, value)) => (key_named(section, trimmed(word)), value),
         None => (Key::Other, ""),

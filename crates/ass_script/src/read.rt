@@ -1,8 +1,10 @@
 //! Scripts from their bytes.
 
-ghost use Rattle.std.specs.Prelude.{◌≡◌, ◌≤◌, length, IfOk, IfErr};
+ghost use Rattle.std.specs.Prelude.{◌≡◌, ℕ, IfOk, Err};
+ghost use Rattle.std.specs.Str.{IsValidUpTo};
 ghost use Rattle.ass_script.specs.Ranges.{IsScript};
 ghost use Rattle.ass_script.specs.Scripts.{Answers, script_of};
+ghost use Rattle.ass_script.specs.declared.refusal.ScriptRefusal.TheVariants.{NotUtf8};
 
 use crate::reading::Reading;
 use crate::refusal::ScriptRefusal;
@@ -16,6 +18,7 @@ use std::alloc::Global;
 /// many, whichever line comes first.
 pub fn read_script(alloc: Global, bytes: &[u8]) -> Result<Script, ScriptRefusal>
     ensures answer { Answers result (script_of bytes.now) }
+    ensures front { (n : ℕ) → result ≡ Err (NotUtf8 n) → IsValidUpTo bytes.now n }
     ensures script { IfOk result IsScript }
 {
     let text = match from_utf8(bytes) {

@@ -25,7 +25,7 @@ pub const MOST_LINES: usize = 1_000_000;
 pub const MOST_STYLES: usize = 10_000;
 
 /// Which headings came so far.
-#[derive(Clone, Copy, Debug, PartialEq, Eq)]
+#[derive(Clone, Copy)]
 pub struct Headings {
     pub events: bool,
     pub styles: bool,
@@ -66,7 +66,7 @@ impl Headings {
 }
 
 /// What was read so far. Behind a line too many headings alone are noted.
-#[derive(Debug, Drop)]
+#[derive(Drop)]
 pub struct Reading {
     pub section: Section,
     pub headings: Headings,

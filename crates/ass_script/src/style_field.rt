@@ -7,7 +7,7 @@ use crate::lines::Version;
 use crate::words::same_word;
 
 /// A field of a Style line (ASS specification, "Style lines, [v4+ Styles] section").
-#[derive(Clone, Copy, Debug, PartialEq, Eq)]
+#[derive(Clone, Copy)]
 pub enum StyleField {
     Name,
     Font,

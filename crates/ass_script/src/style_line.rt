@@ -144,7 +144,7 @@ fn bare_style(alloc: Global, version: Version) -> Mem<Style>
     ensures range { IfOk result IsStyle }
 {
     let mut style = built_in_style(alloc)?;
-    if version == Version::V4 {
+    if let Version::V4 = version {
         style.colours[2] = colour_of(0x8000_0000);
     }
     Ok(style)

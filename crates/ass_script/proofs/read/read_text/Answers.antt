@@ -10,6 +10,7 @@ use Rattle.ass_script.specs.Scripts.{PlainScript, Answers, script_of, script_of_
 use Rattle.ass_script.specs.Walk.{walked, no_lines, made_script}
 use Rattle.ass_script.specs.declared.refusal.ScriptRefusal.{ScriptRefusal}
 use Rattle.ass_script.specs.declared.refusal.ScriptRefusal.TheVariants as refusal
+use Rattle.ass_script.proofs.Refusals.{script_of_utf8}
 use Rattle.ass_script.proofs.Yields.{Left, next_left, none_left}
 use Rattle.ass_script.proofs.WalkLemmas.{read_is, walk_on, walk_end}
 use Rattle.ass_script.proofs.read.read_text.Goals as goal
@@ -42,6 +43,5 @@ returns-clause-answer c =
     let bytes = c.args.text.now in
     let all = lines (past_mark bytes) in
     let left = walk_end c.loop-line.reading (walked all no_lines) (none_left _ _ _ _ _ c.loop-line.invariant.read c.in-None.ensures.steps) in
-    let valid = eq-eqb (utf8_valid_len bytes) (length bytes) (utf8_valid_len-IsUtf8 bytes c.utf8.text) in
-    let whole : script_of bytes ≡ script_of_lines (lines_of bytes) = ap (λ b. cond b (script_of_lines (lines_of bytes)) (Err (refusal.NotUtf8 (utf8_valid_len bytes)))) valid in
+    let whole = script_of_utf8 bytes c.utf8.text in
     subst (λ (w : Result PlainScript ScriptRefusal). Answers c.made.result w) (ap made_script left ∙ (read_is all ∙ sym whole)) c.made.ensures.answer
