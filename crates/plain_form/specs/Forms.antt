@@ -1,5 +1,5 @@
 -- The plain form of scripts and its picture (docs/PLAIN_FORM.md).
-use Rattle.std.specs.Prelude.{ℕ, ℤ, pos, negsuc, ◌+◌, ◌*◌, ◌/◌, ◌%◌, ◌+ℤ◌, Bool, not, ◌&&◌, ◌==◌, nat_le, int_le, int_lt, List, [], ◌∷◌, length, Option, Some, None, Result, Ok, Err, slice_get, unsigned_abs, if◌then◌else◌}
+use Rattle.std.specs.Prelude.{ℕ, ℤ, pos, negsuc, ◌+◌, ◌*◌, ◌/◌, ◌%◌, ◌+ℤ◌, Bool, false, not, ◌&&◌, ◌==◌, nat_le, int_le, int_lt, List, [], ◌∷◌, length, Option, Some, None, Result, Ok, Err, slice_get, unsigned_abs, if◌then◌else◌}
 use Rattle.std.specs.Int.{int_max}
 use Rattle.std.specs.List.{list_all}
 use Rattle.std.specs.Option.{option_map, option_map_or}
