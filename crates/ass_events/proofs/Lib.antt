@@ -5,5 +5,4 @@ pub mod NameLemmas
 pub mod NumberLemmas
 pub mod PieceLemmas
 pub mod TimeLemmas
-pub mod WholeLemmas
 pub mod WriteLemmas

@@ -18,7 +18,7 @@ use Rattle.ass_script.specs.Words.{is_comma}
 use Rattle.ass_script.specs.Numbers.{whole_of}
 use Rattle.ass_events.specs.Numbers.{time_of, order_in, order_of, number_of, instant_of}
 use Rattle.ass_events.specs.Ranges.{IsNumber}
-use Rattle.ass_events.proofs.WholeLemmas.{whole_from_shape, shape_from_whole}
+use Rattle.ass_script.proofs.NumberReads.{whole_both}
 use Rattle.ass_events.proofs.TimeLemmas.{shape_from_time}
 
 -- ---- ranges
@@ -32,7 +32,7 @@ signed_small (c ∷ cs) n z small e = cases (eqb c 45) e
     cases false e = (omega (arith, ints, e), omega (arith, ints, e))
 
 whole_small : (t : List ℕ) (z : ℤ) → whole_of t ≡ Some z → IsNumber z
-whole_small t z e = let m = shape_from_whole t z e in signed_small m.sign (numerals.number_of 10 m.digits) z m.small m.value
+whole_small t z e = let m = (whole_both t z).0 e in signed_small m.sign (numerals.number_of 10 m.digits) z m.small m.value
 
 zero_small : (z : ℤ) → Some (pos 0) ≡ Some z → IsNumber z
 zero_small z e = let is : pos 0 ≡ z = cc in (omega (arith, ints, is), omega (arith, ints, is))
@@ -150,7 +150,7 @@ minus_fits n small = omega (arith, ints, small.0)
 
 pub order-decimal : (n : ℕ) → n ≤ 2147483647 → order_of (decimal n) ≡ Some n
 unfolding order_of
-order-decimal n small = ap (option_and_then order_in) (whole_from_shape (decimal n) (pos n) (digits_whole (decimal n) n small (decimal_digits n (omega arith))))
+order-decimal n small = ap (option_and_then order_in) ((whole_both (decimal n) (pos n)).1 (digits_whole (decimal n) n small (decimal_digits n (omega arith))))
 
 digits_not_empty : (digits : List ℕ) → AllPass is_decimal digits → 0 < length digits → list_all is_blank digits ≡ false
 digits_not_empty [] all some = absurd (omega arith)
@@ -161,10 +161,10 @@ unfolding number_of
 number-signed_decimal (pos n) small =
     let fits = number_fits (pos n) small n refl in
     let d = decimal_digits n (omega arith) in
-    ap (λ b. cond b (Some (pos 0)) (whole_of (decimal n))) (digits_not_empty (decimal n) d.all d.some) ∙ whole_from_shape (decimal n) (pos n) (digits_whole (decimal n) n fits d)
+    ap (λ b. cond b (Some (pos 0)) (whole_of (decimal n))) (digits_not_empty (decimal n) d.all d.some) ∙ (whole_both (decimal n) (pos n)).1 (digits_whole (decimal n) n fits d)
 number-signed_decimal (negsuc n) small =
     let fits = minus_fits n small in
-    whole_from_shape (45 ∷ decimal (suc n)) (negsuc n) (minus_whole (decimal (suc n)) n fits (decimal_digits (suc n) (omega arith)))
+    (whole_both (45 ∷ decimal (suc n)) (negsuc n)).1 (minus_whole (decimal (suc n)) n fits (decimal_digits (suc n) (omega arith)))
 
 digits_no_comma : (digits : List ℕ) → AllPass is_decimal digits → All (λ c. is_comma c ≡ false) digits
 digits_no_comma digits all = All-weaker (λ c. is_decimal c ≡ true) (λ c. is_comma c ≡ false) differs digits all

@@ -1,9 +1,8 @@
 -- What holds of all chunks and lines.
 use Rattle.std.specs.Prelude.{◌≡◌, ℕ, ◌<◌, ◌↔◌, ℤ, List, length, Some, Ok}
-use Rattle.ass_num.specs.Numerals.{IsWhole, IsTime}
+use Rattle.ass_num.specs.Numerals.{IsTime}
 use Rattle.ass_script.specs.Scripts.{PlainScript}
 use Rattle.ass_script.specs.Ranges.{IsScript}
-use Rattle.ass_script.specs.Numbers.{whole_of}
 use Rattle.ass_events.specs.declared.event.Event.{Event}
 use Rattle.ass_events.specs.Numbers.{time_of}
 use Rattle.ass_events.specs.Events.{event_of, chunk_bytes, event_of_line}
@@ -26,9 +25,6 @@ abbrev pub ChunksOfLinesAreRead : Type 0
 ChunksOfLinesAreRead = (script : PlainScript) (i : ℕ) (event : Event) → IsScript script → i < length script.lines → event_of_line script i ≡ Ok event →
     event_of (chunk_bytes event) event.start event.duration ≡ Ok event
 
--- Numbers and times are read as those of scripts are.
-abbrev pub NumbersAreWhole : Type 0
-NumbersAreWhole = (text : List ℕ) (n : ℤ) → (whole_of text ≡ Some n) ↔ IsWhole text n
-
-abbrev pub TimesAreTimes : Type 0
-TimesAreTimes = (text : List ℕ) (t : ℤ) → (time_of text ≡ Some t) ↔ IsTime text t
+-- Times are read as those of scripts are.
+abbrev pub TimesAreRead : Type 0
+TimesAreRead = (text : List ℕ) (t : ℤ) → (time_of text ≡ Some t) ↔ IsTime text t

@@ -1,6 +1,6 @@
 //! What holds of all chunks and lines: the theorems above the definitions of `read_chunk` and `chunk_of_line`.
 
-ghost use Rattle.ass_events.specs.Laws.{ChunksGiveEvents, WrittenIsReadBack, LinesGiveEvents, ChunksOfLinesAreRead, NumbersAreWhole, TimesAreTimes};
+ghost use Rattle.ass_events.specs.Laws.{ChunksGiveEvents, WrittenIsReadBack, LinesGiveEvents, ChunksOfLinesAreRead, TimesAreRead};
 
 /// What `write_chunk` writes of an event that a chunk gave is read back as this event.
 pub fn written_is_read_back()
@@ -14,8 +14,7 @@ pub fn lines_give_events()
     ensures chunk { ChunksOfLinesAreRead }
 {}
 
-/// Numbers and times are read as those of scripts are.
-pub fn numbers_are_read()
-    ensures whole { NumbersAreWhole }
-    ensures time { TimesAreTimes }
+/// Times are read as `ass_num` reads them.
+pub fn times_are_read()
+    ensures { TimesAreRead }
 {}

@@ -1,5 +1,5 @@
 -- Where a text may be cut: behind a run of ASCII bytes, and behind a byte order mark.
-use Rattle.std.proofs.Common.{◌≡◌, ℕ, zero, suc, ◌+◌, ◌<◌, ◌≤◌, Bool, true, false, cond, eqb, ◌&&◌, List, [], ◌∷◌, ◌++◌, length, get_or, take, drop, refl, sym, ap, ◌∙◌, subst, arith, rules}
+use Rattle.std.proofs.Common.{◌≡◌, ℕ, zero, suc, ◌+◌, ◌<◌, Bool, true, false, cond, eqb, ◌&&◌, List, [], ◌∷◌, ◌++◌, length, get_or, refl, ap, ◌∙◌, subst, arith}
 use Rattle.std.specs.List.{prefix_len, starts_with}
 use Rattle.std.specs.Bool.{nat_eq}
 use Rattle.std.specs.Str.{IsUtf8, IsCharBoundary}

@@ -1,16 +1,13 @@
 -- What is picked from a list of lines, where one more line stands at its end.
-use Rattle.std.proofs.Common.{◌≡◌, ℕ, Bool, true, false, cond, ◌||◌, List, [], ◌∷◌, ◌++◌, length, map, Option, Some, None, refl, sym, ap, ◌∙◌, append_assoc}
+use Rattle.std.proofs.Common.{◌≡◌, Bool, true, false, cond, ◌||◌, List, [], ◌∷◌, ◌++◌, map, Option, Some, None, refl, sym, ap, ◌∙◌, append_assoc}
 use Rattle.std.specs.Prelude.{filter}
 use Rattle.std.specs.List.{list_any}
-use Rattle.std.specs.Option.{option_or, option_map, option_map_or}
+use Rattle.std.specs.Option.{option_or}
 use Rattle.std.proofs.lemmas.List.{append-nil}
 use Rattle.ass_script.specs.Lines.{Line}
 use Rattle.ass_script.specs.Fields.{event_fields_of, ends_in_text}
 use Rattle.ass_script.specs.Scripts.{has, values_of, last_of, last_value, styles_at, styles_behind, limit_at, limit_behind, event_formats, is_event_format}
 use Rattle.ass_script.specs.declared.lines.Key.{Key}
-use Rattle.ass_script.specs.declared.script.EventField.{EventField}
-use Rattle.ass_script.specs.declared.style.Style.{Style}
-use Rattle.ass_script.specs.declared.refusal.ScriptRefusal.{ScriptRefusal}
 
 any_more : {X : Type 0} (p : X → Bool) (xs : List X) (x : X) → list_any p (xs ++ x ∷ []) ≡ (list_any p xs || p x)
 any_more p [] x = cases (p x)

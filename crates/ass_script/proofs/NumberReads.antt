@@ -1,5 +1,5 @@
 -- The numbers as functions of the texts are what the readers give.
-use Rattle.std.proofs.Common.{◌≡◌, ℕ, ◌+◌, ◌*◌, ◌/◌, ◌%◌, ◌^◌, ◌<◌, ◌≤◌, min, Bool, true, false, cond, ltb, leb, eqb, ◌&&◌, ◌||◌, ◌⊎◌, inl, inr, List, [], ◌∷◌, length, get_or, take, drop, Option, Some, None, ℤ, pos, negsuc, neg_ℤ, refl, sym, ap, ◌∙◌, subst, arith}
+use Rattle.std.proofs.Common.{◌≡◌, ℕ, ◌+◌, ◌*◌, ◌/◌, ◌%◌, ◌^◌, ◌<◌, ◌≤◌, min, Bool, true, false, cond, ltb, eqb, ◌&&◌, ◌||◌, inl, inr, List, [], ◌∷◌, length, get_or, take, drop, Option, Some, None, ℤ, pos, negsuc, neg_ℤ, refl, sym, ap, subst, arith}
 use Rattle.std.specs.Prelude.{IfSome, IfNone, MatchOption, ◌↔◌}
 use Rattle.std.specs.List.{prefix_len}
 use Rattle.std.specs.Option.{option_map}
@@ -9,13 +9,13 @@ use Rattle.std.proofs.lemmas.Bool.Decides.{nat_tests}
 use Rattle.std.proofs.lemmas.Int.{ints}
 use Rattle.ass_script.specs.Ranges.{IsMargin}
 use Rattle.ass_num.specs.Fronts.{IsLongestFront, BeginsWith, HasNoFront, SpellsOne}
-use Rattle.ass_num.specs.Numerals.{is_blank, is_decimal, is_hexadecimal, is_mark, sign_len, number_of, signed, is_hex_start, IsWhole, IsHeldDecimal, IsMilli, IsColour, IsWrapped, IsStyleColour}
+use Rattle.ass_num.specs.Numerals.{is_blank, is_decimal, is_hexadecimal, is_mark, sign_len, number_of, signed, is_hex_start, IsWhole, IsHeldDecimal, IsMilli, IsStyleColour}
 use Rattle.ass_num.proofs.Wholes.{whole_none, whole_some}
 use Rattle.ass_num.proofs.DecimalFronts.{point_front, point_none, plain_front, plain_none}
 use Rattle.ass_num.proofs.SignFronts.{milli_front, milli_none}
 use Rattle.ass_num.proofs.ColourFronts.{marked_none, marked_front, wrapped_none, wrapped_front, style_hex_none, style_decimal_none, style_hex_front, style_decimal_front}
 use Rattle.ass_num.proofs.OneReading.{one_front, one_milli, one_whole, one_style_colour}
-use Rattle.ass_script.specs.Numbers.{whole_in, whole_of, plain_decimal, pointed_decimal, decimal_from, decimal_of, milli_of, hex_colour_in, decimal_colour_in, colour_in, style_colour_of}
+use Rattle.ass_script.specs.Numbers.{whole_in, whole_of, plain_decimal, pointed_decimal, decimal_from, milli_of, hex_colour_in, decimal_colour_in, colour_in, style_colour_of}
 
 -- What an answer says: a value that has the fact, or that no value has it.
 abbrev Tells : {V : Type 0} → (V → Type 0) → Option V → Type 0
@@ -39,6 +39,7 @@ whole_told t b s d e blanks sign digits after = cases _ _ _ refl refl refl
   where
     n : ℕ
     n = number_of 10 (take d (drop (b + s) t))
+
     cases : (x y z : Bool) → eqb d 0 ≡ x → ltb 2147483647 n ≡ y → ltb (b + s + d + e) (length t) ≡ z → Tells (IsWhole t) (cond (x || (y || z)) None (Some (signed (take s (drop b t)) n)))
     cases true y z ex ey ez = whole_none t b s d e (min n 4294967296) blanks sign digits refl after (inl (grind (arith, nat_tests)))
     cases false true z ex ey ez = whole_none t b s d e (min n 4294967296) blanks sign digits refl after (inr (inl (grind (arith, nat_tests))))
@@ -95,6 +96,7 @@ plain_told t w count no_point = cases _ refl
   where
     n : ℕ
     n = number_of 10 (take w t)
+
     cases : (x : Bool) → eqb w 0 ≡ x → TellsFront IsHeldDecimal t (cond x None (Some (min (n * 1000) 1000000000)))
     cases true e = plain_none t w count no_point (grind (arith, nat_tests))
     cases false e = (w, subst (λ (v : ℕ). IsLongestFront IsHeldDecimal t v w) (held_plain n) (plain_front t (min n 4294967296) w refl count no_point (grind (arith, nat_tests))))
@@ -104,8 +106,10 @@ pointed_told t w f count inside at more = cases _ refl
   where
     n : ℕ
     n = number_of 10 (take w t)
+
     m : ℕ
     m = number_of 10 (take f (drop (w + 1) t)) * 1000 / 10 ^ f
+
     cases : (x : Bool) → eqb (w + f) 0 ≡ x → TellsFront IsHeldDecimal t (cond x None (Some (min (n * 1000 + m) 1000000000)))
     cases true e = point_none t w f count more (grind (arith, nat_tests))
     cases false e = (w + 1 + f, subst (λ (v : ℕ). IsLongestFront IsHeldDecimal t v (w + 1 + f)) (held_pointed n m) (point_front t (min n 4294967296) w m f refl count inside at refl more (grind (arith, nat_tests))))
@@ -143,8 +147,10 @@ hex_told t b d blanks start digits = cases _ refl
   where
     code : List ℕ
     code = drop b t
+
     m : ℕ
     m = prefix_len is_mark code
+
     cases : (x : Bool) → eqb d 0 ≡ x → TellsFront IsStyleColour t (cond x None (Some (number_of 16 (take d (drop m code)) % 2 ^ 32)))
     cases true e = style_hex_none t b blanks start (marked_none 32 code m d refl digits (grind (arith, nat_tests)))
     cases false e = style_hex_front t b blanks start _ _ (marked_front 32 code m d refl digits _ refl (grind (arith, nat_tests)))
@@ -154,8 +160,10 @@ wrapped_told t b d blanks start digits = cases _ refl
   where
     code : List ℕ
     code = drop b t
+
     n : ℤ
     n = signed (take (sign_len code) code) (number_of 10 (take d (drop (sign_len code) code)))
+
     cases : (x : Bool) → eqb d 0 ≡ x → TellsFront IsStyleColour t (cond x None (Some (unsigned_abs (int_rem_euclid n (pos (2 ^ 32))))))
     cases true e = style_decimal_none t b blanks start (wrapped_none code (sign_len code) d refl digits (grind (arith, nat_tests)))
     cases false e = style_decimal_front t b blanks start _ _ (wrapped_front code (sign_len code) d refl digits _ (rest_is_low n) (grind (arith, nat_tests)))
@@ -166,6 +174,7 @@ style_colour_is t = cases _ refl
   where
     b : ℕ
     b = prefix_len is_blank t
+
     cases : (x : Bool) → is_hex_start (drop b t) ≡ x → TellsFront IsStyleColour t (colour_in (drop b t))
     cases true e = rw e (hex_told t b _ refl e refl)
     cases false e = rw e (wrapped_told t b _ refl e refl)

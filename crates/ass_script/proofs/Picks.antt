@@ -1,5 +1,5 @@
 -- What is picked from a list where one more stands at its end.
-use Rattle.std.proofs.Common.{◌≡◌, ℕ, suc, ◌+◌, ◌<◌, ◌≤◌, Bool, true, false, cond, not, ◌||◌, List, [], ◌∷◌, ◌++◌, length, Option, Some, None, refl, sym, ap, ◌∙◌, subst, arith, zero-add}
+use Rattle.std.proofs.Common.{◌≡◌, ℕ, suc, ◌+◌, Bool, true, false, cond, not, ◌||◌, List, [], ◌∷◌, ◌++◌, length, Some, None, refl, ap, ◌∙◌, arith, zero-add}
 use Rattle.std.specs.List.{position_or_len, list_any}
 use Rattle.std.specs.Option.{option_or}
 use Rattle.std.specs.Str.{bytes_eq}
@@ -22,6 +22,7 @@ named_more n name [] style = cases (bytes_eq style.name name)
   where
     here : n ≡ n + 0
     here = omega arith
+
     cases : (b : Bool) → cond b (Some n) None ≡ cond b (Some (n + 0)) None
     cases true = ap Some here
     cases false = refl
@@ -29,6 +30,7 @@ named_more n name (x ∷ xs) style = ap (λ o. option_or o (cond (bytes_eq x.nam
   where
     count : (n + 1) + length xs ≡ n + suc (length xs)
     count = omega arith
+
     cases : (b : Bool) → option_or (cond b (Some ((n + 1) + length xs)) (last_named_from (n + 1) name xs)) (cond (bytes_eq x.name name) (Some n) None)
         ≡ cond b (Some (n + suc (length xs))) (option_or (last_named_from (n + 1) name xs) (cond (bytes_eq x.name name) (Some n) None))
     cases true = ap Some count

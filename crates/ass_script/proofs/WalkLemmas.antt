@@ -1,5 +1,5 @@
 -- The walk over the lines keeps what is picked from the list of all lines so far.
-use Rattle.std.proofs.Common.{◌≡◌, ℕ, Bool, true, false, cond, ◌||◌, leb, List, [], ◌∷◌, ◌++◌, length, map, Option, Some, None, Ok, Err, Result, refl, sym, ap, ◌∙◌, subst, append_assoc}
+use Rattle.std.proofs.Common.{◌≡◌, ℕ, Bool, true, false, cond, leb, List, [], ◌∷◌, ◌++◌, length, Option, Some, None, Ok, Err, refl, sym, ap, ◌∙◌, subst, append_assoc}
 use Rattle.std.specs.Prelude.{is_some, option_and_then}
 use Rattle.std.specs.List.{list_any, before_first, after_first}
 use Rattle.std.specs.Option.{option_or, option_map, option_map_or}
@@ -8,8 +8,8 @@ use Rattle.ass_script.specs.Fields.{style_fields_of, usual_style_fields, event_f
 use Rattle.ass_script.specs.Styles.{style_of}
 use Rattle.ass_script.specs.Words.{trimmed, is_colon}
 use Rattle.ass_script.specs.Lines.{Line, is_heading, is_comment, section_named, info_key_named, style_key_named, event_key_named, key_named, keyed_line, line_in, section_behind, placed}
-use Rattle.ass_script.specs.Scripts.{PlainScript, has, values_of, last_of, last_value, is_res_x, is_res_y, is_wrap, is_scaled, is_dialogue, is_event_format, is_style_format, style_version, is_events_heading, is_styles_heading, side_of, wrap_of, scaled_of, style_fields_behind, styles_at, styles_behind, event_formats, limit_at, limit_behind, picked_script, script_of_lines}
-use Rattle.ass_script.specs.Walk.{header_line, with_heading, fields_of, key_step, keyed_step, line_step, walked, no_lines, script_said, made_script}
+use Rattle.ass_script.specs.Scripts.{has, values_of, last_of, last_value, is_res_x, is_res_y, is_wrap, is_scaled, is_dialogue, is_style_format, style_version, is_events_heading, is_styles_heading, side_of, wrap_of, scaled_of, style_fields_behind, styles_behind, event_formats, limit_at, limit_behind, picked_script, script_of_lines}
+use Rattle.ass_script.specs.Walk.{fields_of, key_step, keyed_step, line_step, walked, no_lines, script_said, made_script}
 use Rattle.ass_script.specs.declared.lines.Version.{Version}
 use Rattle.ass_script.specs.declared.lines.Version.TheVariants.{V4, V4Plus}
 use Rattle.ass_script.specs.declared.lines.Section.{Section}
@@ -288,6 +288,7 @@ keyed_plain t text = commented (is_comment text) _ (cases (list_any is_colon tex
     commented : (b : Bool) (rest : Line) → IsPlain rest.key → IsPlain (cond {A = Line} b (record { key = key.Other; value = [] }) rest).key
     commented true rest plain = record { stays = λ s. refl }
     commented false rest plain = plain
+
     cases : (b : Bool) → IsPlain (cond {A = Line} b (record { key = key_named t (trimmed (before_first is_colon text)); value = after_first is_colon text }) (record { key = key.Other; value = [] })).key
     cases true = named_plain t (trimmed (before_first is_colon text))
     cases false = record { stays = λ s. refl }

@@ -1,7 +1,6 @@
 -- The ranges of what a script holds.
 use Rattle.std.specs.Prelude.{◌≡◌, ℕ, ◌≤◌, ◌⊎◌, true, length, All, IfSome, ℤ, pos, neg_ℤ, ◌≤ℤ◌}
 use Rattle.std.specs.Str.{IsUtf8}
-use Rattle.ass_num.specs.declared.colour.Rgba.{Rgba}
 use Rattle.ass_script.specs.Fields.{ends_in_text}
 use Rattle.ass_script.specs.Scripts.{PlainScript}
 use Rattle.ass_script.specs.declared.script.Header.{Header}

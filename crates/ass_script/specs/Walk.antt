@@ -1,9 +1,9 @@
 -- What one line does to what was read of the lines before it. Private functions cite this; what a script is stands in Scripts.
-use Rattle.std.specs.Prelude.{ℕ, ◌≤◌, nat_le, Bool, true, false, ◌&&◌, not, if◌then◌else◌, List, [], ◌∷◌, ◌++◌, length, Option, Some, None, is_some, Result, Ok, Err}
-use Rattle.std.specs.Option.{option_or, option_map_or}
+use Rattle.std.specs.Prelude.{ℕ, nat_le, true, false, ◌&&◌, not, if◌then◌else◌, List, [], ◌∷◌, ◌++◌, length, Some, None, is_some, Result, Ok, Err}
+use Rattle.std.specs.Option.{option_map_or}
 use Rattle.ass_script.specs.Fields.{style_fields_of, usual_style_fields, event_fields_of, usual_event_fields, ends_in_text}
 use Rattle.ass_script.specs.Styles.{style_of}
-use Rattle.ass_script.specs.Lines.{Line, line_in}
+use Rattle.ass_script.specs.Lines.{line_in}
 use Rattle.ass_script.specs.Scripts.{PlainScript, side_of, wrap_of, scaled_of, width_of, height_of}
 use Rattle.ass_script.specs.declared.lines.Version.{Version}
 use Rattle.ass_script.specs.declared.lines.Version.TheVariants.{V4, V4Plus}

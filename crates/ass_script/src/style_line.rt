@@ -188,12 +188,7 @@ impl Style {
 }
 
 /// The style that a Style line spells under the fields of its Format.
-pub fn style_line(
-    alloc: Global,
-    version: Version,
-    fields: &[StyleField],
-    value: &str,
-) -> Mem<Style>
+pub fn style_line(alloc: Global, version: Version, fields: &[StyleField], value: &str) -> Mem<Style>
     ensures style { IfOk result (λ style. style ≡ style_of version fields.now value.now) }
     ensures range { IfOk result IsStyle }
 {

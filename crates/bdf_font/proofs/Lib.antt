@@ -1,4 +1,10 @@
-pub mod LawLemmas
-pub mod LikeLemmas
+pub mod Answering
+pub mod Faults
+pub mod Fronts
+pub mod Given
+pub mod Likes
+pub mod PlaceLemmas
 pub mod ReadLemmas
+pub mod States
+pub mod Walk
 pub mod WholeLemmas

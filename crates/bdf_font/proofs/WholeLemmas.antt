@@ -1,8 +1,8 @@
 -- The whole number that a text is: the definition that computes, and the shape of the text.
-use Rattle.std.proofs.Common.{◌≡◌, ℕ, ◌<◌, ◌≤◌, Bool, true, false, ◌&&◌, cond, ltb, leb, List, [], ◌∷◌, ◌++◌, length, take, drop, Option, Some, None, ℤ, refl, sym, ap, ◌∙◌, subst, arith, rules, tests}
+use Rattle.std.proofs.Common.{◌≡◌, ℕ, ◌<◌, ◌≤◌, Bool, true, false, ltb, leb, List, ◌++◌, length, take, drop, Option, Some, None, ℤ, refl, sym, ap, ◌∙◌, arith}
 use Rattle.std.specs.Prelude.{IfSome, IfNone}
 use Rattle.std.proofs.lemmas.List.{take-append-drop}
-use Rattle.std.proofs.lemmas.List.Sums.{AllPass-from_list_all, list_all-from_AllPass, prefix_len_passes}
+use Rattle.std.proofs.lemmas.List.Sums.{AllPass-from_list_all, list_all-from_AllPass}
 use Rattle.std.proofs.lemmas.Bool.Decides.{nat_tests}
 use Rattle.std.proofs.Math.Seq.{drop-append_seam, take-append_seam}
 use Rattle.std.specs.List.{AllPass, prefix_len, list_all}
@@ -10,7 +10,7 @@ use Rattle.ass_num.specs.Numerals.{is_blank, is_decimal, sign_len, number_of, Is
 use Rattle.ass_num.proofs.Runs.{prefix_len-append, AllPass-take, IsSign-take}
 use Rattle.ass_num.proofs.SignFronts.{unsigned_all, sign_before}
 use Rattle.ass_num.proofs.Wholes.{no_blank_signed, no_digit_blanks}
-use Rattle.bdf_font.specs.Words.{whole_under, whole_behind, whole_at, whole_of}
+use Rattle.bdf_font.specs.Whole.{whole_under, whole_behind, whole_at, whole_of}
 
 under_is : (sign digits rest : List ℕ) → 0 < length digits → number_of 10 digits ≤ 2147483647 → list_all is_blank rest ≡ true → whole_under sign digits rest ≡ Some (signed sign (number_of 10 digits))
 under_is sign digits rest some small blanks = grind (arith, nat_tests)

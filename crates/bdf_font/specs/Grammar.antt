@@ -1,9 +1,11 @@
--- What the lines of a font say, line by line.
-use Rattle.std.specs.Prelude.{◌≡◌, ℕ, ◌+◌, ◌-◌, ◌*◌, ◌/◌, ◌==◌, nat_le, Bool, true, false, if◌then◌else◌, List, [], ◌∷◌, ◌++◌, length, take, drop, map, Option, Some, None, unwrap_or, Result, Ok, Err, ℤ, pos, negsuc, neg_ℤ, ◌+ℤ◌}
-use Rattle.bstr.specs.Text.{lines_of, without_terminator}
-use Rattle.hex.specs.Hex.{decode_sized}
+-- The format on the whole list of a text's lines: the blocks that a font is made of, which of several like lines counts, and where a text first leaves the format.
+use Rattle.std.specs.Prelude.{◌≡◌, ℕ, ◌+◌, ◌*◌, ◌/◌, ◌≤◌, ◌⊎◌, ◌==◌, ◌&&◌, not, ◌||◌, Bool, true, false, if◌then◌else◌, List, [], ◌∷◌, ◌++◌, length, flat_map, Option, Some, None, is_some, IsSome, unwrap_or, Result, Ok, Err, ℤ, pos, negsuc, neg_ℤ, ◌+ℤ◌}
+use Rattle.std.specs.List.{AllByRecursion, list_all}
+use Rattle.std.specs.Option.{option_or}
+use Rattle.hex.specs.Hex.{is_hex_digit, decode_sized}
 use Rattle.hex.specs.declared.error.FromHexError.{FromHexError}
-use Rattle.bdf_font.specs.Words.{first_word, after_word, trimmed, whole_of, offset_of, bounding_box_of, family_name_of}
+use Rattle.bdf_font.specs.Words.{first_word, after_word, trimmed, offset_of, bounding_box_of, family_name_of}
+use Rattle.bdf_font.specs.Whole.{whole_of}
 use Rattle.bdf_font.specs.Keywords.{keyword_of}
 use Rattle.bdf_font.specs.Fonts.{PlainFont}
 use Rattle.bdf_font.specs.declared.cause.FontCause.{FontCause}
@@ -11,154 +13,199 @@ use Rattle.bdf_font.specs.declared.cause.FontCause.TheVariants.{NoStart, BadNumb
 use Rattle.bdf_font.specs.declared.cause.FontRefusal.{FontRefusal}
 use Rattle.bdf_font.specs.declared.cause.FontRefusal.TheVariants as refusal
 use Rattle.bdf_font.specs.declared.cause.FontRefusal.TheVariants.{BadFont, TooLarge}
-use Rattle.bdf_font.specs.declared.cause.Stop.{Stop}
-use Rattle.bdf_font.specs.declared.cause.Stop.TheVariants as stop
 use Rattle.bdf_font.specs.declared.glyphs.FontGlyph.{FontGlyph}
 use Rattle.bdf_font.specs.declared.glyphs.BoundingBox.{BoundingBox}
-use Rattle.bdf_font.specs.declared.header.Header.{Header}
-use Rattle.bdf_font.specs.declared.reading.Reading.{Reading}
-use Rattle.bdf_font.specs.declared.reading.Draft.{Draft}
-use Rattle.bdf_font.specs.declared.reading.Place.{Place}
-use Rattle.bdf_font.specs.declared.reading.Place.TheVariants as place
 use Rattle.bdf_font.specs.declared.keyword.Keyword.{Keyword}
-use Rattle.bdf_font.specs.declared.keyword.GlyphKeyword.{GlyphKeyword}
-use Rattle.bdf_font.specs.declared.keyword.HeaderKeyword.{HeaderKeyword}
-use Rattle.bdf_font.specs.declared.keyword.PropertyKeyword.{PropertyKeyword}
 use Rattle.bdf_font.specs.declared.keyword.Keyword.TheVariants as keyword
 use Rattle.bdf_font.specs.declared.keyword.GlyphKeyword.TheVariants as in_glyph
 use Rattle.bdf_font.specs.declared.keyword.HeaderKeyword.TheVariants as in_header
 use Rattle.bdf_font.specs.declared.keyword.PropertyKeyword.TheVariants as property
 
--- What a line leads to: the walk goes on, the font ends here, the line leaves the format, or a glyph too many begins.
-pub data Outcome (S : Type 0) : Type 0 where
-  Next : S → Outcome S
-  End : S → Outcome S
-  Fault : FontCause → Outcome S
-  Full : Outcome S
+-- what a line says, outside bitmaps: its first word
+abbrev pub says : List ℕ → Keyword
+says line = keyword_of (first_word line)
 
-abbrev pub outcome_map : {S T : Type 0} → (S → T) → Outcome S → Outcome T
-outcome_map f (Next s) = Next (f s)
-outcome_map f (End s) = End (f s)
-outcome_map f (Fault cause) = Fault cause
-outcome_map f Full = Full
+-- ---- blocks of lines
 
--- The call read the line so, unless memory ran out.
-abbrev pub Gives : {S : Type 0} → Result (Unit {0}) Stop → S → Outcome S → Type 0
-Gives (Ok _) new outcome = outcome ≡ Next new
-Gives (Err stop.End) new outcome = outcome ≡ End new
-Gives (Err (stop.Fault cause)) new outcome = outcome ≡ Fault cause
-Gives (Err stop.Full) new outcome = outcome ≡ Full
-Gives (Err stop.OutOfMemory) new outcome = Unit {0}
+-- A glyph: its STARTCHAR line, the lines behind it, its BITMAP line, the rows, and its ENDCHAR line.
+pub record GlyphBlock : Type 0 where
+  pub start : List ℕ
+  pub head : List (List ℕ)
+  pub bitmap : List ℕ
+  pub rows : List (List ℕ)
+  pub end : List ℕ
 
--- what follows from a number, where there is one
-abbrev pub with_number : {N S : Type 0} → Option N → (N → S) → Outcome S
-with_number None f = Fault BadNumber
-with_number (Some n) f = Next (f n)
+-- A glyph, or a line outside glyphs.
+pub data Block : Type 0 where
+  Single : List ℕ → Block
+  Glyph : GlyphBlock → Block
 
--- ---- the font itself
+-- What was begun and isn't ended: nothing, a glyph, or the bitmap of one.
+pub data Open : Type 0 where
+  Outside : Open
+  InGlyph : List ℕ → List (List ℕ) → Open
+  InBitmap : List ℕ → List (List ℕ) → List ℕ → List (List ℕ) → Open
 
-abbrev pub no_header : Header
-no_header = record { properties = false; title = None; family = None; bounding_box = None; ascent = None; descent = None; default_char = None }
+-- The front of a text: lines that are passed over, and then STARTFONT, whole blocks, and what is begun.
+pub data Front : Type 0 where
+  Unbegun : List (List ℕ) → Front
+  Begun : List (List ℕ) → List ℕ → List Block → Open → Front
 
--- a property; it replaces what an earlier one of its name said
-abbrev pub property_line : PropertyKeyword → List ℕ → Header → Outcome Header
-property_line property.Ascent rest header = with_number (offset_of (first_word rest)) (λ n. record header { ascent = Some n })
-property_line property.Descent rest header = with_number (offset_of (first_word rest)) (λ n. record header { descent = Some n })
-property_line property.DefaultChar rest header = with_number (whole_of (first_word rest)) (λ n. record header { default_char = Some n })
-property_line property.FamilyName rest header = Next (record header { family = Some (family_name_of rest) })
+abbrev pub lines_in : Block → List (List ℕ)
+lines_in (Single line) = line ∷ []
+lines_in (Glyph g) = g.start ∷ g.head ++ g.bitmap ∷ g.rows ++ g.end ∷ []
 
--- A line of the font itself; it replaces what an earlier one of its keyword said. Properties count between the property lines alone.
-abbrev pub header_line : HeaderKeyword → List ℕ → Header → Outcome Header
-header_line in_header.Name rest header = Next (record header { title = Some (trimmed rest) })
-header_line in_header.Box rest header = with_number (bounding_box_of rest) (λ b. record header { bounding_box = Some b })
-header_line in_header.StartProperties rest header = Next (record header { properties = true })
-header_line in_header.EndProperties rest header = Next (record header { properties = false })
-header_line (in_header.Property keyword) rest header = if header.properties then property_line keyword rest header else Next header
+abbrev pub open_lines : Open → List (List ℕ)
+open_lines Outside = []
+open_lines (InGlyph start head) = start ∷ head
+open_lines (InBitmap start head bitmap rows) = start ∷ head ++ bitmap ∷ rows
+
+abbrev pub front_lines : Front → List (List ℕ)
+front_lines (Unbegun before) = before
+front_lines (Begun before start blocks part) = before ++ start ∷ flat_map lines_in blocks ++ open_lines part
+
+-- the lines that may speak of the font itself: those outside glyphs, and those of a glyph before its bitmap
+abbrev pub font_lines_in : Block → List (List ℕ)
+font_lines_in (Single line) = line ∷ []
+font_lines_in (Glyph g) = g.head
+
+abbrev pub head_of : Open → List (List ℕ)
+head_of Outside = []
+head_of (InGlyph start head) = head
+head_of (InBitmap start head bitmap rows) = head
+
+abbrev pub font_lines : List Block → Open → List (List ℕ)
+font_lines blocks part = flat_map font_lines_in blocks ++ head_of part
+
+-- ---- which of several like lines counts
+
+-- the last value that lines give
+abbrev pub last_given : {V : Type 0} → (List ℕ → Option V) → List (List ℕ) → Option V
+last_given f [] = None
+last_given f (line ∷ lines) = option_or (last_given f lines) (f line)
+
+-- whether the properties are open behind a line
+abbrev pub switched : Keyword → Bool → Bool
+switched (keyword.Header in_header.StartProperties) on = true
+switched (keyword.Header in_header.EndProperties) on = false
+switched _ on = on
+
+-- whether they are open behind lines
+abbrev pub open_after : Bool → List (List ℕ) → Bool
+open_after on [] = on
+open_after on (line ∷ lines) = open_after (switched (says line) on) lines
+
+-- The last value that lines give, of which each is told whether the properties are open.
+abbrev pub last_property : {V : Type 0} → (Bool → List ℕ → Option V) → Bool → List (List ℕ) → Option V
+last_property f on [] = None
+last_property f on (line ∷ lines) = option_or (last_property f (switched (says line) on) lines) (f on line)
+
+-- ---- what single lines give
+
+abbrev pub title_in : Keyword → List ℕ → Option (List ℕ)
+title_in (keyword.Header in_header.Name) rest = Some (trimmed rest)
+title_in _ rest = None
+
+abbrev pub box_in : Keyword → List ℕ → Option BoundingBox
+box_in (keyword.Header in_header.Box) rest = bounding_box_of rest
+box_in _ rest = None
+
+-- properties, which count between the property lines alone
+abbrev pub family_in : Bool → Keyword → List ℕ → Option (List ℕ)
+family_in on (keyword.Header (in_header.Property property.FamilyName)) rest = if on then Some (family_name_of rest) else None
+family_in on _ rest = None
+
+abbrev pub ascent_in : Bool → Keyword → List ℕ → Option ℤ
+ascent_in on (keyword.Header (in_header.Property property.Ascent)) rest = if on then offset_of (first_word rest) else None
+ascent_in on _ rest = None
+
+abbrev pub descent_in : Bool → Keyword → List ℕ → Option ℤ
+descent_in on (keyword.Header (in_header.Property property.Descent)) rest = if on then offset_of (first_word rest) else None
+descent_in on _ rest = None
+
+abbrev pub default_in : Bool → Keyword → List ℕ → Option ℤ
+default_in on (keyword.Header (in_header.Property property.DefaultChar)) rest = if on then whole_of (first_word rest) else None
+default_in on _ rest = None
+
+abbrev pub code_in : Keyword → List ℕ → Option ℤ
+code_in (keyword.Glyph in_glyph.Encoding) rest = whole_of (first_word rest)
+code_in _ rest = None
+
+abbrev pub advance_in : Keyword → List ℕ → Option ℤ
+advance_in (keyword.Glyph in_glyph.Width) rest = offset_of (first_word rest)
+advance_in _ rest = None
+
+abbrev pub cell_in : Keyword → List ℕ → Option BoundingBox
+cell_in (keyword.Glyph in_glyph.Box) rest = bounding_box_of rest
+cell_in _ rest = None
+
+-- what a line gives, by its first word and what follows that
+abbrev pub given : {V : Type 0} → (Keyword → List ℕ → Option V) → List ℕ → Option V
+given f line = f (says line) (after_word line)
+
+-- whether a line has the numbers that its keyword wants; those of properties are wanted between the property lines alone
+abbrev pub is_read : Bool → Keyword → List ℕ → Bool
+is_read on (keyword.Glyph in_glyph.Encoding) rest = is_some (whole_of (first_word rest))
+is_read on (keyword.Glyph in_glyph.Width) rest = is_some (offset_of (first_word rest))
+is_read on (keyword.Glyph in_glyph.Box) rest = is_some (bounding_box_of rest)
+is_read on (keyword.Header in_header.Box) rest = is_some (bounding_box_of rest)
+is_read on (keyword.Header (in_header.Property property.Ascent)) rest = not on || is_some (offset_of (first_word rest))
+is_read on (keyword.Header (in_header.Property property.Descent)) rest = not on || is_some (offset_of (first_word rest))
+is_read on (keyword.Header (in_header.Property property.DefaultChar)) rest = not on || is_some (whole_of (first_word rest))
+is_read on _ rest = true
+
+-- each of the lines has its numbers
+abbrev pub AllRead : Bool → List (List ℕ) → Type 0
+AllRead on [] = Unit {0}
+AllRead on (line ∷ lines) = (is_read on (says line) (after_word line) ≡ true) × AllRead (switched (says line) on) lines
 
 -- ---- a glyph
 
-abbrev pub no_glyph : Draft
-no_glyph = record { code = negsuc 0; advance = None; bounding_box = None; bits = [] }
+abbrev pub no_cell : BoundingBox
+no_cell = record { w = 0; h = 0; x = pos 0; y = pos 0 }
 
--- a number of a glyph; it replaces what an earlier line of its keyword said
-abbrev pub draft_line : GlyphKeyword → List ℕ → Draft → Outcome Draft
-draft_line in_glyph.Encoding rest draft = with_number (whole_of (first_word rest)) (λ n. record draft { code = n })
-draft_line in_glyph.Width rest draft = with_number (offset_of (first_word rest)) (λ n. record draft { advance = Some n })
-draft_line in_glyph.Box rest draft = with_number (bounding_box_of rest) (λ b. record draft { bounding_box = Some b })
-draft_line in_glyph.Bitmap rest draft = Fault Misplaced
-draft_line in_glyph.EndChar rest draft = Fault Misplaced
+-- the box of a glyph, where it has one
+abbrev pub cell_said : List (List ℕ) → Option BoundingBox
+cell_said head = last_given (given cell_in) head
 
--- a missing advance is the width
-abbrev pub advance_or : Option ℤ → ℕ → ℤ
-advance_or (Some advance) w = advance
-advance_or None w = pos w
+abbrev pub cell_of : List (List ℕ) → BoundingBox
+cell_of head = unwrap_or (cell_said head) no_cell
 
-abbrev pub made_glyph : Draft → BoundingBox → FontGlyph
-made_glyph draft cell = record { code = draft.code; advance = advance_or draft.advance cell.w; w = cell.w; h = cell.h; x = cell.x; y = cell.y; bits = draft.bits }
+-- how many bytes a row of so many pixels has
+abbrev pub row_len : ℕ → ℕ
+row_len w = (w + 7) / 8
 
--- ---- lines by where they stand
+-- a row of so many bytes: two hexadecimal digits for each, between blanks
+abbrev pub is_row : ℕ → List ℕ → Bool
+is_row len line = (length (trimmed line) == 2 * len) && list_all is_hex_digit (trimmed line)
 
-abbrev pub no_lines : Reading
-no_lines = record { place = place.Start; header = no_header; glyphs = []; draft = no_glyph }
+abbrev pub bytes_or_none : Result (List ℕ) FromHexError → List ℕ
+bytes_or_none (Ok bytes) = bytes
+bytes_or_none (Err _) = []
 
--- before STARTFONT, where other words than keywords are passed over; so are properties, since no property lines stand there
-abbrev pub first_line : Keyword → Reading → Outcome Reading
-first_line keyword.StartFont reading = Next (record reading { place = place.Font })
-first_line keyword.Unknown reading = Next reading
-first_line (keyword.Header (in_header.Property _)) reading = Next reading
-first_line _ reading = Fault NoStart
+abbrev pub row_bytes : ℕ → List ℕ → List ℕ
+row_bytes len line = bytes_or_none (decode_sized (trimmed line) len)
 
--- in the font, outside its glyphs
-abbrev pub font_line : Keyword → List ℕ → Reading → Outcome Reading
-font_line keyword.StartFont rest reading = Next reading
-font_line keyword.EndFont rest reading = End reading
-font_line keyword.StartChar rest reading = if nat_le 131072 (length reading.glyphs) then Full else Next (record reading { place = place.Glyph })
-font_line (keyword.Glyph _) rest reading = Fault Misplaced
-font_line (keyword.Header keyword) rest reading = outcome_map (λ header. record reading { header = header }) (header_line keyword rest reading.header)
-font_line keyword.Unknown rest reading = Next reading
+-- what the lines of a glyph and its rows make; a missing code is -1, and a missing advance the width
+abbrev pub glyph_in : List (List ℕ) → List (List ℕ) → FontGlyph
+glyph_in head rows = record {
+  code = unwrap_or (last_given (given code_in) head) (negsuc 0);
+  advance = unwrap_or (last_given (given advance_in) head) (pos (cell_of head).w);
+  w = (cell_of head).w;
+  h = (cell_of head).h;
+  x = (cell_of head).x;
+  y = (cell_of head).y;
+  bits = flat_map (row_bytes (row_len (cell_of head).w)) rows;
+}
 
--- a bitmap begins, of as many rows as the box is high
-abbrev pub bitmap_begun : Option BoundingBox → Reading → Outcome Reading
-bitmap_begun None reading = Fault Misplaced
-bitmap_begun (Some cell) reading = Next (record reading { place = place.Bitmap cell cell.h; draft = record reading.draft { bits = [] } })
+abbrev pub glyphs_in : Block → List FontGlyph
+glyphs_in (Single line) = []
+glyphs_in (Glyph g) = glyph_in g.head g.rows ∷ []
 
--- in a glyph, before its bitmap
-abbrev pub glyph_line : Keyword → List ℕ → Reading → Outcome Reading
-glyph_line keyword.StartFont rest reading = Next reading
-glyph_line keyword.EndFont rest reading = Fault Misplaced
-glyph_line keyword.StartChar rest reading = Fault Misplaced
-glyph_line (keyword.Glyph in_glyph.Bitmap) rest reading = bitmap_begun reading.draft.bounding_box reading
-glyph_line (keyword.Glyph keyword) rest reading = outcome_map (λ draft. record reading { draft = draft }) (draft_line keyword rest reading.draft)
-glyph_line (keyword.Header keyword) rest reading = outcome_map (λ header. record reading { header = header }) (header_line keyword rest reading.header)
-glyph_line keyword.Unknown rest reading = Next reading
+abbrev pub glyphs_of : List Block → List FontGlyph
+glyphs_of blocks = flat_map glyphs_in blocks
 
--- a row of a bitmap: its bytes come behind those of the rows above
-abbrev pub with_row : BoundingBox → ℕ → Result (List ℕ) FromHexError → Reading → Outcome Reading
-with_row cell left (Ok row) reading = Next (record reading { place = place.Bitmap cell left; draft = record reading.draft { bits = reading.draft.bits ++ row } })
-with_row cell left (Err _) reading = Fault BadRow
-
-abbrev pub row_line : BoundingBox → ℕ → List ℕ → Reading → Outcome Reading
-row_line cell left digits reading = with_row cell left (decode_sized digits ((cell.w + 7) / 8)) reading
-
--- the line after the rows
-abbrev pub after_rows : BoundingBox → Keyword → Reading → Outcome Reading
-after_rows cell (keyword.Glyph in_glyph.EndChar) reading = Next (record { place = place.Font; header = reading.header; glyphs = reading.glyphs ++ made_glyph reading.draft cell ∷ []; draft = no_glyph })
-after_rows cell _ reading = Fault BadRow
-
-abbrev pub bitmap_line : BoundingBox → ℕ → List ℕ → Reading → Outcome Reading
-bitmap_line cell left line reading = if left == 0 then after_rows cell (keyword_of (first_word line)) reading else row_line cell (left - 1) (trimmed line) reading
-
-abbrev pub line_at : Place → List ℕ → Reading → Outcome Reading
-line_at place.Start line reading = first_line (keyword_of (first_word line)) reading
-line_at place.Font line reading = font_line (keyword_of (first_word line)) (after_word line) reading
-line_at place.Glyph line reading = glyph_line (keyword_of (first_word line)) (after_word line) reading
-line_at (place.Bitmap cell left) line reading = bitmap_line cell left line reading
-
--- what a line says, after the lines before it
-abbrev pub line_of : List ℕ → Reading → Outcome Reading
-line_of line reading = line_at reading.place line reading
-
--- ---- the whole text
+-- ---- the font
 
 -- below 0 becomes 0
 abbrev pub from_zero : ℤ → ℤ
@@ -174,45 +221,169 @@ abbrev pub box_depth : Option BoundingBox → ℤ
 box_depth None = pos 0
 box_depth (Some cell) = neg_ℤ cell.y
 
--- What the header and the glyphs make: the family name goes before the font's, and a missing ascent and descent are the box's.
-abbrev pub font_made : Header → List FontGlyph → PlainFont
-font_made header glyphs = record {
-  name = unwrap_or header.family (unwrap_or header.title []);
-  ascent = from_zero (unwrap_or header.ascent (box_top header.bounding_box));
-  descent = from_zero (unwrap_or header.descent (box_depth header.bounding_box));
-  default_char = header.default_char;
+-- What these lines and glyphs make: the family name goes before the font's, and a missing ascent and descent are the box's.
+abbrev pub font_said : List (List ℕ) → List FontGlyph → PlainFont
+font_said lines glyphs = record {
+  name = unwrap_or (last_property (λ on. given (family_in on)) false lines) (unwrap_or (last_given (given title_in) lines) []);
+  ascent = from_zero (unwrap_or (last_property (λ on. given (ascent_in on)) false lines) (box_top (last_given (given box_in) lines)));
+  descent = from_zero (unwrap_or (last_property (λ on. given (descent_in on)) false lines) (box_depth (last_given (given box_in) lines)));
+  default_char = last_property (λ on. given (default_in on)) false lines;
   glyphs = glyphs;
 }
 
--- what the lines from line n on say, after the lines before them
-unfoldable pub lines_read : ℕ → List (List ℕ) → Reading → Result PlainFont FontRefusal
-lines_read n [] reading = Err (BadFont n NoEnd)
-lines_read n (line ∷ lines) reading =
-    elim (line_of line reading) [
-      | Next next ↦ lines_read (n + 1) lines next
-      | End last ↦ Ok (font_made last.header last.glyphs)
-      | Fault cause ↦ Err (BadFont n cause)
-      | Full ↦ Err (TooLarge 131072)
-    ]
+-- ---- where a line may stand
 
--- the lines of a text, without the line feeds at their ends and a carriage return before each
-abbrev pub text_lines : List ℕ → List (List ℕ)
-text_lines bytes = map without_terminator (lines_of bytes)
+-- before STARTFONT: unknown words, which the properties are there
+abbrev pub is_passed : Keyword → Bool
+is_passed keyword.Unknown = true
+is_passed (keyword.Header (in_header.Property _)) = true
+is_passed _ = false
 
--- the font that a text spells, or the first line that leaves the format
-abbrev pub font_of : List ℕ → Result PlainFont FontRefusal
-font_of bytes = lines_read 1 (text_lines bytes) no_lines
+-- outside glyphs, where it neither begins one nor ends the font
+abbrev pub is_single : Keyword → Bool
+is_single keyword.StartFont = true
+is_single (keyword.Header _) = true
+is_single keyword.Unknown = true
+is_single _ = false
 
--- The answer is this one, unless memory ran out.
-abbrev pub Answers : Result PlainFont FontRefusal → Result PlainFont FontRefusal → Type 0
-Answers (Ok font) read = read ≡ Ok font
-Answers (Err (BadFont n cause)) read = read ≡ Err (BadFont n cause)
-Answers (Err (TooLarge most)) read = read ≡ Err (TooLarge most)
-Answers (Err refusal.OutOfMemory) read = Unit {0}
+-- in a glyph, before its bitmap
+abbrev pub is_in_head : Keyword → Bool
+is_in_head (keyword.Glyph in_glyph.Encoding) = true
+is_in_head (keyword.Glyph in_glyph.Width) = true
+is_in_head (keyword.Glyph in_glyph.Box) = true
+is_in_head kind = is_single kind
 
--- the same of a walk that stopped at line n
-abbrev pub Answered : ℕ → Stop → Reading → Result PlainFont FontRefusal → Type 0
-Answered n stop.End reading result = Answers result (Ok (font_made reading.header reading.glyphs))
-Answered n (stop.Fault cause) reading result = result ≡ Err (BadFont n cause)
-Answered n stop.Full reading result = result ≡ Err (TooLarge 131072)
-Answered n stop.OutOfMemory reading result = result ≡ Err refusal.OutOfMemory
+abbrev pub ArePassed : List (List ℕ) → Type 0
+ArePassed lines = AllByRecursion (λ line. is_passed (says line) ≡ true) lines
+
+abbrev pub AreInHead : List (List ℕ) → Type 0
+AreInHead lines = AllByRecursion (λ line. is_in_head (says line) ≡ true) lines
+
+abbrev pub AreRows : ℕ → List (List ℕ) → Type 0
+AreRows len rows = AllByRecursion (λ line. is_row len line ≡ true) rows
+
+-- A whole glyph: it has a box, and as many rows as that is high.
+pub record IsGlyphBlock (g : GlyphBlock) : Type 0 where
+  pub start : says g.start ≡ keyword.StartChar
+  pub head : AreInHead g.head
+  pub bitmap : says g.bitmap ≡ keyword.Glyph in_glyph.Bitmap
+  pub cell : IsSome (cell_said g.head)
+  pub rows : AreRows (row_len (cell_of g.head).w) g.rows
+  pub high : length g.rows ≡ (cell_of g.head).h
+  pub end : says g.end ≡ keyword.Glyph in_glyph.EndChar
+
+abbrev pub IsBlock : Block → Type 0
+IsBlock (Single line) = is_single (says line) ≡ true
+IsBlock (Glyph g) = IsGlyphBlock g
+
+abbrev pub IsOpen : Open → Type 0
+IsOpen Outside = Unit {0}
+IsOpen (InGlyph start head) = (says start ≡ keyword.StartChar) × AreInHead head
+IsOpen (InBitmap start head bitmap rows) = (says start ≡ keyword.StartChar) × AreInHead head × (says bitmap ≡ keyword.Glyph in_glyph.Bitmap)
+    × IsSome (cell_said head) × AreRows (row_len (cell_of head).w) rows × (length rows ≤ (cell_of head).h)
+
+-- the glyphs that are begun and not ended
+abbrev pub begun_in : Open → ℕ
+begun_in Outside = 0
+begun_in _ = 1
+
+-- A front that a font may have: nothing in it leaves the format.
+pub record IsBegun (before : List (List ℕ)) (start : List ℕ) (blocks : List Block) (part : Open) : Type 0 where
+  pub passed : ArePassed before
+  pub begins : says start ≡ keyword.StartFont
+  pub whole : AllByRecursion IsBlock blocks
+  pub begun : IsOpen part
+  pub numbers : AllRead false (font_lines blocks part)
+  pub room : length (glyphs_of blocks) + begun_in part ≤ 131072
+
+abbrev pub IsFront : Front → Type 0
+IsFront (Unbegun before) = ArePassed before
+IsFront (Begun before start blocks part) = IsBegun before start blocks part
+
+-- ---- how a line leaves the format
+
+abbrev pub start_fault : Keyword → Option FontCause
+start_fault keyword.StartFont = None
+start_fault kind = if is_passed kind then None else Some NoStart
+
+abbrev pub number_fault : Bool → Keyword → List ℕ → Option FontCause
+number_fault on kind rest = if is_read on kind rest then None else Some BadNumber
+
+abbrev pub single_fault : Bool → Keyword → List ℕ → Option FontCause
+single_fault on (keyword.Glyph _) rest = Some Misplaced
+single_fault on kind rest = number_fault on kind rest
+
+-- in a glyph with this box or none
+abbrev pub head_fault : Bool → Option BoundingBox → Keyword → List ℕ → Option FontCause
+head_fault on cell keyword.StartChar rest = Some Misplaced
+head_fault on cell keyword.EndFont rest = Some Misplaced
+head_fault on cell (keyword.Glyph in_glyph.EndChar) rest = Some Misplaced
+head_fault on cell (keyword.Glyph in_glyph.Bitmap) rest = if is_some cell then None else Some Misplaced
+head_fault on cell kind rest = number_fault on kind rest
+
+abbrev pub after_rows_fault : Keyword → Option FontCause
+after_rows_fault (keyword.Glyph in_glyph.EndChar) = None
+after_rows_fault _ = Some BadRow
+
+-- in a bitmap of this box, behind so many rows
+abbrev pub bitmap_fault : BoundingBox → ℕ → List ℕ → Option FontCause
+bitmap_fault cell done line =
+    if done == cell.h then after_rows_fault (says line)
+    else if is_row (row_len cell.w) line then None else Some BadRow
+
+-- how a line leaves the format behind a front, if it does
+abbrev pub fault_after : Front → List ℕ → Option FontCause
+fault_after (Unbegun before) line = start_fault (says line)
+fault_after (Begun before start blocks Outside) line = single_fault (open_after false (font_lines blocks Outside)) (says line) (after_word line)
+fault_after (Begun before start blocks (InGlyph begin head)) line = head_fault (open_after false (font_lines blocks (InGlyph begin head))) (cell_said head) (says line) (after_word line)
+fault_after (Begun before start blocks (InBitmap begin head bitmap rows)) line = bitmap_fault (cell_of head) (length rows) line
+
+-- ---- the answer to a text
+
+-- The lines are whole blocks up to ENDFONT, which say this font; anything may follow.
+pub record IsFontText (lines : List (List ℕ)) (font : PlainFont) : Type 0 where
+  pub before : List (List ℕ)
+  pub start : List ℕ
+  pub blocks : List Block
+  pub end : List ℕ
+  pub after : List (List ℕ)
+  pub spelled : lines ≡ front_lines (Begun before start blocks Outside) ++ end ∷ after
+  pub sound : IsBegun before start blocks Outside
+  pub ended : says end ≡ keyword.EndFont
+  pub said : font ≡ font_said (font_lines blocks Outside) (glyphs_of blocks)
+
+-- The lines are a front, and the line behind it leaves the format.
+pub record LeavesAt (lines : List (List ℕ)) (n : ℕ) (cause : FontCause) : Type 0 where
+  pub front : Front
+  pub line : List ℕ
+  pub after : List (List ℕ)
+  pub spelled : lines ≡ front_lines front ++ line ∷ after
+  pub sound : IsFront front
+  pub place : n ≡ 1 + length (front_lines front)
+  pub fault : fault_after front line ≡ Some cause
+
+-- The lines are a front, and nothing follows it.
+pub record LacksEnd (lines : List (List ℕ)) (n : ℕ) : Type 0 where
+  pub front : Front
+  pub spelled : lines ≡ front_lines front
+  pub sound : IsFront front
+  pub place : n ≡ 1 + length lines
+
+-- The lines are a front of 131,072 glyphs, and another glyph begins behind it.
+pub record HasTooMany (lines : List (List ℕ)) : Type 0 where
+  pub before : List (List ℕ)
+  pub start : List ℕ
+  pub blocks : List Block
+  pub line : List ℕ
+  pub after : List (List ℕ)
+  pub spelled : lines ≡ front_lines (Begun before start blocks Outside) ++ line ∷ after
+  pub sound : IsBegun before start blocks Outside
+  pub full : length (glyphs_of blocks) ≡ 131072
+  pub begins : says line ≡ keyword.StartChar
+
+-- the font that lines spell, the first line that leaves the format and how, or a glyph too many
+abbrev pub IsAnswer : List (List ℕ) → Result PlainFont FontRefusal → Type 0
+IsAnswer lines (Ok font) = IsFontText lines font
+IsAnswer lines (Err (BadFont n cause)) = LeavesAt lines n cause ⊎ ((cause ≡ NoEnd) × LacksEnd lines n)
+IsAnswer lines (Err (TooLarge most)) = (most ≡ 131072) × HasTooMany lines
+IsAnswer lines (Err refusal.OutOfMemory) = ⊥

@@ -1,54 +1,57 @@
 -- What holds of every text, in the words of its lines.
-use Rattle.std.specs.Prelude.{◌≡◌, ℕ, ◌+◌, ◌≤◌, ◌↔◌, List, ◌∷◌, ◌++◌, length, Some, Result, Ok, Err, MatchResult, ℤ}
+use Rattle.std.specs.Prelude.{◌≡◌, ℕ, ◌+◌, ◌↔◌, true, false, List, ◌∷◌, ◌++◌, length, Some, Result, Ok, Err, ℤ}
 use Rattle.ass_num.specs.Numerals.{IsWhole}
 use Rattle.bdf_font.specs.declared.cause.FontCause.{FontCause}
 use Rattle.bdf_font.specs.declared.cause.FontCause.TheVariants.{NoEnd}
 use Rattle.bdf_font.specs.declared.cause.FontRefusal.{FontRefusal}
-use Rattle.bdf_font.specs.declared.cause.FontRefusal.TheVariants as refusal
-use Rattle.bdf_font.specs.declared.header.Header.{Header}
-use Rattle.bdf_font.specs.declared.reading.Draft.{Draft}
+use Rattle.bdf_font.specs.declared.cause.FontRefusal.TheVariants.{BadFont}
+use Rattle.bdf_font.specs.declared.glyphs.FontGlyph.{FontGlyph}
+use Rattle.bdf_font.specs.declared.keyword.Keyword.TheVariants as keyword
 use Rattle.bdf_font.specs.declared.keyword.GlyphKeyword.{GlyphKeyword}
-use Rattle.bdf_font.specs.declared.keyword.HeaderKeyword.{HeaderKeyword}
-use Rattle.bdf_font.specs.Words.{whole_of}
+use Rattle.bdf_font.specs.declared.keyword.HeaderKeyword.TheVariants as in_header
+use Rattle.bdf_font.specs.declared.keyword.PropertyKeyword.{PropertyKeyword}
+use Rattle.bdf_font.specs.Words.{after_word}
+use Rattle.bdf_font.specs.Whole.{whole_of}
 use Rattle.bdf_font.specs.Fonts.{PlainFont}
-use Rattle.bdf_font.specs.Grammar.{Next, no_lines, lines_read, header_line, draft_line}
+use Rattle.bdf_font.specs.Grammar.{IsAnswer, says, is_read, open_after, glyph_in, font_said}
 
--- what the lines of a text say
-abbrev pub said : List (List ℕ) → Result PlainFont FontRefusal
-said lines = lines_read 1 lines no_lines
-
--- a refusal that so many lines may have
-abbrev pub IsRefusal : ℕ → FontRefusal → Type 0
-IsRefusal count (refusal.BadFont n cause) = (1 ≤ n) × (n ≤ count + 1)
-IsRefusal count (refusal.TooLarge most) = most ≡ 131072
-IsRefusal count refusal.OutOfMemory = ⊥
-
--- Each text is a font, or leaves the format at one of its lines or the line after its last, or has a glyph too many.
+-- Each list of lines has exactly one answer.
 abbrev pub OneAnswer : Type 0
-OneAnswer = (lines : List (List ℕ)) → MatchResult (said lines) (λ font. Unit {0}) (IsRefusal (length lines))
+OneAnswer = (lines : List (List ℕ)) → (answer : Result PlainFont FontRefusal) × IsAnswer lines answer × ((other : Result PlainFont FontRefusal) → IsAnswer lines other → other ≡ answer)
 
 -- What follows the end of a font changes nothing.
 abbrev pub EndsTheFont : Type 0
-EndsTheFont = (lines more : List (List ℕ)) (font : PlainFont) → said lines ≡ Ok font → said (lines ++ more) ≡ Ok font
+EndsTheFont = (lines more : List (List ℕ)) (font : PlainFont) → IsAnswer lines (Ok font) → IsAnswer (lines ++ more) (Ok font)
 
 -- The lines before the one that is refused lack an end alone.
 abbrev pub IsFirstFault : Type 0
-IsFirstFault = (front rest : List (List ℕ)) (cause : FontCause) → said (front ++ rest) ≡ Err (refusal.BadFont (1 + length front) cause) → said front ≡ Err (refusal.BadFont (1 + length front) NoEnd)
+IsFirstFault = (front rest : List (List ℕ)) (cause : FontCause) → IsAnswer (front ++ rest) (Err (BadFont (1 + length front) cause)) → IsAnswer front (Err (BadFont (1 + length front) NoEnd))
 
 -- A line that is refused is refused whatever follows it.
 abbrev pub StaysRefused : Type 0
 StaysRefused = (front : List (List ℕ)) (line : List ℕ) (rest more : List (List ℕ)) (cause : FontCause) →
-    said (front ++ line ∷ rest) ≡ Err (refusal.BadFont (1 + length front) cause) → said (front ++ line ∷ more) ≡ Err (refusal.BadFont (1 + length front) cause)
+    IsAnswer (front ++ line ∷ rest) (Err (BadFont (1 + length front) cause)) → IsAnswer (front ++ line ∷ more) (Err (BadFont (1 + length front) cause))
 
--- Of two like lines of the font itself the later counts, as if the earlier one, which was read, weren't there.
-abbrev pub LaterHeaderCounts : Type 0
-LaterHeaderCounts = (keyword : HeaderKeyword) (earlier later : List ℕ) (header next : Header) →
-    header_line keyword earlier header ≡ Next next → header_line keyword later next ≡ header_line keyword later header
-
--- The same of a glyph's lines.
+-- Of two lines of a glyph's keyword, with any lines between them, the earlier one changes nothing.
 abbrev pub LaterGlyphLineCounts : Type 0
-LaterGlyphLineCounts = (keyword : GlyphKeyword) (earlier later : List ℕ) (draft next : Draft) →
-    draft_line keyword earlier draft ≡ Next next → draft_line keyword later next ≡ draft_line keyword later draft
+LaterGlyphLineCounts = (kind : GlyphKeyword) (front : List (List ℕ)) (earlier : List ℕ) (mid : List (List ℕ)) (later : List ℕ) (back rows : List (List ℕ)) →
+    says earlier ≡ keyword.Glyph kind → says later ≡ keyword.Glyph kind → is_read true (keyword.Glyph kind) (after_word later) ≡ true →
+    glyph_in (front ++ earlier ∷ mid ++ later ∷ back) rows ≡ glyph_in (front ++ mid ++ later ∷ back) rows
+
+-- The same of two FONT lines and of two FONTBOUNDINGBOX lines.
+abbrev pub LaterFontLineCounts : Type 0
+LaterFontLineCounts = (front : List (List ℕ)) (earlier : List ℕ) (mid : List (List ℕ)) (later : List ℕ) (back : List (List ℕ)) (glyphs : List FontGlyph) →
+    (says earlier ≡ keyword.Header in_header.Name → says later ≡ keyword.Header in_header.Name →
+    font_said (front ++ earlier ∷ mid ++ later ∷ back) glyphs ≡ font_said (front ++ mid ++ later ∷ back) glyphs)
+    × (says earlier ≡ keyword.Header in_header.Box → says later ≡ keyword.Header in_header.Box → is_read true (keyword.Header in_header.Box) (after_word later) ≡ true →
+    font_said (front ++ earlier ∷ mid ++ later ∷ back) glyphs ≡ font_said (front ++ mid ++ later ∷ back) glyphs)
+
+-- The same of two lines of a property, of which the later stands between the property lines.
+abbrev pub LaterPropertyCounts : Type 0
+LaterPropertyCounts = (kind : PropertyKeyword) (front : List (List ℕ)) (earlier : List ℕ) (mid : List (List ℕ)) (later : List ℕ) (back : List (List ℕ)) (glyphs : List FontGlyph) →
+    says earlier ≡ keyword.Header (in_header.Property kind) → says later ≡ keyword.Header (in_header.Property kind) →
+    open_after false (front ++ earlier ∷ mid) ≡ true → is_read true (keyword.Header (in_header.Property kind)) (after_word later) ≡ true →
+    font_said (front ++ earlier ∷ mid ++ later ∷ back) glyphs ≡ font_said (front ++ mid ++ later ∷ back) glyphs
 
 -- The numbers are the whole numbers of scripts.
 abbrev pub NumbersAreWhole : Type 0

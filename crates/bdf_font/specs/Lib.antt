@@ -1,6 +1,11 @@
+pub mod Lines
+pub mod Whole
 pub mod Words
 pub mod Keywords
 pub mod Fonts
+pub mod Places
 pub mod Ranges
 pub mod Grammar
+pub mod Rows
+pub mod Steps
 pub mod Laws

@@ -1,5 +1,5 @@
 -- The ranges of what a font holds.
-use Rattle.std.specs.Prelude.{◌≡◌, ℕ, ◌+◌, ◌*◌, ◌/◌, ◌<◌, ◌≤◌, List, length, All, Option, IfSome, Result, Ok, Err, ℤ, pos, neg_ℤ, ◌≤ℤ◌}
+use Rattle.std.specs.Prelude.{◌≡◌, ℕ, ◌+◌, ◌*◌, ◌/◌, ◌<◌, ◌≤◌, length, All, IfSome, Result, Ok, Err, ℤ, pos, neg_ℤ, ◌≤ℤ◌}
 use Rattle.bdf_font.specs.declared.cause.Stop.{Stop}
 use Rattle.bdf_font.specs.declared.cause.Stop.TheVariants as stop
 use Rattle.bdf_font.specs.declared.glyphs.FontGlyph.{FontGlyph}

@@ -1,7 +1,8 @@
 -- Words, numbers and names in a line.
-use Rattle.std.specs.Prelude.{ℕ, ◌+◌, ◌-◌, Bool, ◌&&◌, ◌==◌, not, nat_lt, nat_le, int_le, if◌then◌else◌, List, [], ◌∷◌, length, take, drop, slice_index, Option, Some, None, option_and_then, ℤ, pos, negsuc, neg_ℤ}
-use Rattle.std.specs.List.{prefix_len, suffix_len, position_or_len, before_first, list_all}
-use Rattle.ass_num.specs.Numerals.{is_blank, is_decimal, is_sign, sign_len, number_of, signed}
+use Rattle.std.specs.Prelude.{ℕ, ◌-◌, Bool, ◌&&◌, ◌==◌, nat_lt, nat_le, int_le, if◌then◌else◌, List, length, take, drop, slice_index, Option, Some, None, option_and_then, ℤ, pos, negsuc, neg_ℤ}
+use Rattle.std.specs.List.{prefix_len, suffix_len, position_or_len, before_first}
+use Rattle.ass_num.specs.Numerals.{is_blank}
+use Rattle.bdf_font.specs.Whole.{whole_of}
 use Rattle.bdf_font.specs.declared.glyphs.BoundingBox.{BoundingBox}
 
 -- the text from its first byte on that is no blank
@@ -23,24 +24,6 @@ first_word text = take (position_or_len is_blank (past_blanks text)) (past_blank
 -- what follows the first word
 unfoldable pub after_word : List ℕ → List ℕ
 after_word text = drop (position_or_len is_blank (past_blanks text)) (past_blanks text)
-
--- the number that digits say under a sign, where there is a digit, the number has 31 bits, and blanks alone follow
-abbrev pub whole_under : List ℕ → List ℕ → List ℕ → Option ℤ
-whole_under sign digits rest =
-    if nat_lt 0 (length digits) && (nat_le (number_of 10 digits) 2147483647 && list_all is_blank rest)
-    then Some (signed sign (number_of 10 digits)) else None
-
--- the same behind the sign
-abbrev pub whole_behind : List ℕ → List ℕ → Option ℤ
-whole_behind sign text = whole_under sign (take (prefix_len is_decimal text) text) (drop (prefix_len is_decimal text) text)
-
--- a sign or none, digits, and blanks
-abbrev pub whole_at : List ℕ → Option ℤ
-whole_at text = whole_behind (take (sign_len text) text) (drop (sign_len text) text)
-
--- the whole number that a text is, between blanks
-unfoldable pub whole_of : List ℕ → Option ℤ
-whole_of text = whole_at (drop (prefix_len is_blank text) text)
 
 abbrev pub side_in : ℤ → Option ℕ
 side_in (pos n) = if nat_le n 1024 then Some n else None

@@ -1,19 +1,17 @@
 //! Fonts, and what is found in them.
 
-ghost use Rattle.std.specs.Prelude.{◌≡◌, ◌≤◌, length, ℕ, IfOk, ℤ};
-ghost use Rattle.std.specs.BTreeMap.{get};
+ghost use Rattle.std.specs.Prelude.{◌≡◌, ◌≤◌, length, IfOk};
 ghost use Rattle.std.specs.Option.{option_or};
-ghost use Rattle.std.specs.Ordering.{int_cmp};
-ghost use Rattle.bdf_font.specs.Fonts.{place_from, place_of_default, glyph_of, same_name, font_named};
+ghost use Rattle.bdf_font.specs.Fonts.{glyph_of, same_name, font_named};
+ghost use Rattle.bdf_font.specs.Places.{IsInOrder, IsIndex, entries_from, first_at};
 
 use crate::glyphs::FontGlyph;
-use ass_num::{Items, Mem, OutOfMemory};
+use ass_num::{Items, Mem};
 use std::alloc::Global;
-use std::collections::BTreeMap;
 use std::marker::Model;
 
 /// A font: its name, its height above and below the baseline, the code that stands in for missing ones, and its
-/// glyphs in the order of the text. It keeps the places of the glyphs by their codes.
+/// glyphs in the order of the text. It keeps the places of the glyphs in the order of their codes.
 #[derive(Debug, Drop)]
 pub struct Font {
     name: Items<u8>,
@@ -21,7 +19,7 @@ pub struct Font {
     descent: i32,
     default_char: Option<i64>,
     glyphs: Items<FontGlyph>,
-    places: BTreeMap<i64, u32>,
+    places: Vec<(i64, u32)>,
     default_place: Option<u32>,
 }
 
@@ -30,36 +28,47 @@ impl Model for Font {
 
     ghost Value = { PlainFont };
 
-    ghost use Rattle.std.specs.Prelude.{◌≡◌, ℤ};
-    ghost use Rattle.std.specs.BTreeMap.{get};
-    ghost use Rattle.std.specs.Ordering.{int_cmp};
-    ghost use Rattle.bdf_font.specs.Fonts.{place_from, place_of_default};
+    ghost use Rattle.std.specs.Prelude.{◌≡◌};
+    ghost use Rattle.bdf_font.specs.Fonts.{place_of_default};
+    ghost use Rattle.bdf_font.specs.Places.{IsIndex};
 
     ghost view = { λ f. record { name = f.name; ascent = f.ascent; descent = f.descent; default_char = f.default_char; glyphs = f.glyphs } };
 
-    ghost invariant = { λ f. ((code : ℤ) → get int_cmp f.places code ≡ place_from 0 code f.glyphs) × (f.default_place ≡ place_of_default f.default_char f.glyphs) };
+    ghost invariant = { λ f. IsIndex f.places.items f.glyphs × (f.default_place ≡ place_of_default f.default_char f.glyphs) };
 }
 
-/// The place of the first glyph with each code.
-fn places_of(alloc: Global, glyphs: &[FontGlyph]) -> Mem<BTreeMap<i64, u32>>
+/// The code and the place of each glyph.
+fn entries_of(alloc: Global, glyphs: &[FontGlyph]) -> Mem<Vec<(i64, u32)>>
     requires { length glyphs.now ≤ 131072 }
-    ensures { IfOk result (λ places. (code : ℤ) → get int_cmp places code ≡ place_from 0 code glyphs.now) }
+    ensures { IfOk result (λ entries. entries.items ≡ entries_from 0 glyphs.now) }
 {
-    let mut places = BTreeMap::new(alloc);
-    let mut place = glyphs.len();
-    while place > 0 {
-        place -= 1;
-        if places.insert(glyphs[place].code, place as u32).is_err() {
-            return Err(OutOfMemory);
-        }
+    let mut entries = Vec::with_capacity(alloc, glyphs.len())?;
+    for (place, glyph) in glyphs.iter().enumerate() {
+        entries.push((glyph.code, place as u32))?;
     }
+    Ok(entries)
+}
+
+/// The same in the order of the codes; equal codes stay in the order of their places.
+fn places_of(alloc: Global, glyphs: &[FontGlyph]) -> Mem<Vec<(i64, u32)>>
+    requires { length glyphs.now ≤ 131072 }
+    ensures { IfOk result (λ places. IsIndex places.items glyphs.now) }
+{
+    let mut places = entries_of(alloc, glyphs)?;
+    places.sort_by_key(|entry| entry.0)?;
     Ok(places)
 }
 
-fn found_place(places: &BTreeMap<i64, u32>, code: i64) -> Option<u32>
-    ensures { result ≡ get int_cmp places.now code }
+/// The first place with this code.
+fn found_place(places: &[(i64, u32)], code: i64) -> Option<u32>
+    requires { IsInOrder places.now }
+    ensures { result ≡ first_at code places.now }
 {
-    places.get(&code).copied()
+    let at = places.partition_point(|entry| entry.0 < code);
+    if at < places.len() && places[at].0 <= code {
+        return Some(places[at].1);
+    }
+    None
 }
 
 impl Font {
@@ -78,7 +87,7 @@ impl Font {
         let places = places_of(alloc, glyphs.as_slice())?;
         let default_place = match default_char {
             Some(-1) => None,
-            Some(code) => found_place(&places, code),
+            Some(code) => found_place(places.as_slice(), code),
             None => None,
         };
         Ok(Font {
@@ -129,8 +138,9 @@ impl Font {
 }
 
 /// The place of a code, or else the default one.
-fn place_or(places: &BTreeMap<i64, u32>, code: i64, default_place: Option<u32>) -> Option<u32>
-    ensures { result ≡ option_or (get int_cmp places.now code) default_place }
+fn place_or(places: &[(i64, u32)], code: i64, default_place: Option<u32>) -> Option<u32>
+    requires { IsInOrder places.now }
+    ensures { result ≡ option_or (first_at code places.now) default_place }
 {
     found_place(places, code).or(default_place)
 }
@@ -140,7 +150,7 @@ pub fn glyph(font: &Font, c: char) -> Option<u32>
     ensures { result ≡ glyph_of font.now c }
 {
     let code = i64::from(u32::from(c));
-    place_or(&font.places, code, font.default_place)
+    place_or(font.places.as_slice(), code, font.default_place)
 }
 
 /// Fonts, of which there are from 1 to 64.

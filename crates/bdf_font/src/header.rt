@@ -2,13 +2,16 @@
 
 ghost use Rattle.std.specs.Prelude.{◌≡◌, ◌≤◌, length, All, IfOk, IfSome, unwrap_or};
 ghost use Rattle.bdf_font.specs.Ranges.{IsBox, IsOffset, IsGlyph, IsHeader, IsFont};
-ghost use Rattle.bdf_font.specs.Grammar.{Gives, no_header, header_line, property_line, box_top, box_depth, from_zero, font_made};
+ghost use Rattle.bdf_font.specs.Grammar.{box_top, box_depth, from_zero};
+ghost use Rattle.bdf_font.specs.Rows.{Gives};
+ghost use Rattle.bdf_font.specs.Steps.{no_header, header_line, property_line, font_made};
 
 use crate::cause::{FontCause, Stop};
 use crate::font::Font;
 use crate::glyphs::{BoundingBox, FontGlyph};
 use crate::keyword::{HeaderKeyword, PropertyKeyword};
-use crate::numbers::{bounding_box, family_name, offset, whole};
+use crate::numbers::{bounding_box, family_name, offset};
+use crate::whole::whole;
 use crate::words::{first_word, trimmed};
 use ass_num::{Items, Mem};
 use std::alloc::Global;

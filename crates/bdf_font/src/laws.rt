@@ -1,8 +1,8 @@
 //! What holds of every text: the theorems above the definition of `read_font`.
 
-ghost use Rattle.bdf_font.specs.Laws.{OneAnswer, EndsTheFont, IsFirstFault, StaysRefused, LaterHeaderCounts, LaterGlyphLineCounts, NumbersAreWhole};
+ghost use Rattle.bdf_font.specs.Laws.{OneAnswer, EndsTheFont, IsFirstFault, StaysRefused, LaterFontLineCounts, LaterPropertyCounts, LaterGlyphLineCounts, NumbersAreWhole};
 
-/// Each text is a font, or it is refused at one line, or it has a glyph too many; and what follows the font isn't read.
+/// Each text is exactly one of three: a font, refused at one line for one cause, or of too many glyphs; and what follows the font isn't read.
 pub fn one_answer()
     ensures one { OneAnswer }
     ensures ends { EndsTheFont }
@@ -15,9 +15,10 @@ pub fn first_fault()
     ensures stays { StaysRefused }
 {}
 
-/// Of several like lines the last counts.
+/// Of several like lines the last counts, whatever stands between them.
 pub fn last_line_counts()
-    ensures header { LaterHeaderCounts }
+    ensures font { LaterFontLineCounts }
+    ensures property { LaterPropertyCounts }
     ensures glyph { LaterGlyphLineCounts }
 {}
 

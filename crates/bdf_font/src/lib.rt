@@ -1,6 +1,7 @@
 //! Bitmap fonts of Adobe BDF 2.1: the font that a text spells, or the first line that leaves the format.
 #![tactic(auto)]
 
+mod bits;
 mod cause;
 mod font;
 mod glyphs;
@@ -12,6 +13,7 @@ mod read;
 mod reading;
 #[cfg(test)]
 mod tests;
+mod whole;
 mod words;
 
 pub use cause::{FontCause, FontRefusal};

@@ -2,18 +2,11 @@
 
 ghost use Rattle.std.specs.Prelude.{◌≡◌, ◌≤◌, IfSome};
 ghost use Rattle.bdf_font.specs.Ranges.{IsOffset, IsBox};
-ghost use Rattle.bdf_font.specs.Words.{whole_of, side_of, offset_of, bounding_box_of, family_name_of, quoted};
+ghost use Rattle.bdf_font.specs.Words.{side_of, offset_of, bounding_box_of, family_name_of, quoted};
 
 use crate::glyphs::BoundingBox;
+use crate::whole::whole;
 use crate::words::{before_blanks, first_word, past_blanks};
-use ass_num::read_whole;
-
-/// The whole number that a word is.
-pub fn whole(word: &[u8]) -> Option<i32>
-    ensures { result ≡ whole_of word.now }
-{
-    read_whole(word)
-}
 
 /// A whole number from 0 to 1,024.
 #[tactic(auto, unfolding(crate::specs::Words::side_of))]

@@ -1,8 +1,11 @@
 //! Fonts from their texts.
 
-ghost use Rattle.std.specs.Prelude.{◌≡◌, ◌≤◌, length, IfOk, Err};
+ghost use Rattle.std.specs.Prelude.{◌≡◌, ◌≢◌, ◌⊎◌, ◌≤◌, length, IfOk, Result, Err};
 ghost use Rattle.bdf_font.specs.Ranges.{IsFont, IsReading, Keeps};
-ghost use Rattle.bdf_font.specs.Grammar.{Answers, Answered, font_of};
+ghost use Rattle.bdf_font.specs.Fonts.{PlainFont};
+ghost use Rattle.bdf_font.specs.Grammar.{IsAnswer};
+ghost use Rattle.bdf_font.specs.Lines.{text_lines};
+ghost use Rattle.bdf_font.specs.Steps.{Answered};
 
 use crate::cause::{FontCause, FontRefusal, Stop};
 use crate::font::Font;
@@ -14,7 +17,10 @@ use std::alloc::Global;
 /// and how; `TooLarge` comes where one glyph more than 131,072 begins.
 pub fn read_font(alloc: Global, bytes: &[u8]) -> Result<Font, FontRefusal>
     requires { length bytes.now ≤ 67108864 }
-    ensures answer { Answers result (font_of bytes.now) }
+    // What is answered is the answer of the format, unless memory ran out.
+    ensures answer { result ≢ Err FontRefusal.OutOfMemory → IsAnswer (text_lines bytes.now) result }
+    ensures only { (answer : Result PlainFont FontRefusal) → IsAnswer (text_lines bytes.now) answer → (result ≡ answer) ⊎ (result ≡ Err FontRefusal.OutOfMemory) }
+
     ensures font { IfOk result IsFont }
 {
     let mut reading = Reading::new(alloc);

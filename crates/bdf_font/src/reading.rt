@@ -2,13 +2,16 @@
 
 ghost use Rattle.std.specs.Prelude.{◌≡◌, ◌+◌, ◌*◌, ◌/◌, ◌<◌, ◌≤◌, length};
 ghost use Rattle.bdf_font.specs.Ranges.{IsBox, IsGlyph, IsDraft, IsPlace, IsReading, Keeps};
-ghost use Rattle.bdf_font.specs.Grammar.{Gives, no_lines, no_glyph, first_line, font_line, glyph_line, draft_line, bitmap_line, row_line, line_of, made_glyph};
+ghost use Rattle.bdf_font.specs.Rows.{Gives};
+ghost use Rattle.bdf_font.specs.Steps.{no_lines, no_glyph, first_line, font_line, glyph_line, draft_line, bitmap_line, row_line, line_of, made_glyph};
 
+use crate::bits::Bits;
 use crate::cause::{FontCause, Stop};
 use crate::glyphs::{BoundingBox, FontGlyph};
 use crate::header::Header;
 use crate::keyword::{GlyphKeyword, HeaderKeyword, Keyword, keyword_of};
-use crate::numbers::{bounding_box, offset, whole};
+use crate::numbers::{bounding_box, offset};
+use crate::whole::whole;
 use crate::words::{first_word, trimmed};
 use ass_num::Items;
 use std::alloc::Global;
@@ -36,7 +39,7 @@ pub struct Draft {
     pub code: i64,
     pub advance: Option<i16>,
     pub bounding_box: Option<BoundingBox>,
-    pub bits: Items<u8>,
+    pub bits: Bits,
 }
 
 impl Draft {
@@ -48,7 +51,7 @@ impl Draft {
             code: -1,
             advance: None,
             bounding_box: None,
-            bits: Items::new(alloc),
+            bits: Bits::new(alloc),
         }
     }
 
@@ -71,7 +74,7 @@ impl Draft {
             h: u32::from(cell.h),
             x: i32::from(cell.x),
             y: i32::from(cell.y),
-            bits: self.bits,
+            bits: self.bits.into_items(),
         }
     }
 
@@ -207,7 +210,7 @@ impl Reading {
                     return Err(Stop::Fault(FontCause::Misplaced));
                 };
                 let bytes = bitmap_bytes(cell.w, cell.h);
-                self.draft.bits = Items::from_vec(Vec::with_capacity(alloc, bytes)?);
+                self.draft.bits = Bits::with_room(alloc, bytes)?;
                 self.place = Place::Bitmap(cell, cell.h);
                 Ok(())
             }
@@ -236,7 +239,7 @@ impl Reading {
         ensures sound { Keeps result (IsReading self.new) }
     {
         if left > 0 {
-            return self.row_line(alloc, cell, left - 1, trimmed(line));
+            return self.row_line(cell, left - 1, trimmed(line));
         }
         if keyword_of(first_word(line).0) != Keyword::Glyph(GlyphKeyword::EndChar) {
             return Err(Stop::Fault(FontCause::BadRow));
@@ -247,25 +250,13 @@ impl Reading {
         Ok(())
     }
 
-    fn row_line(
-        &mut self,
-        alloc: Global,
-        cell: BoundingBox,
-        left: u16,
-        digits: &[u8],
-    ) -> Result<(), Stop>
+    fn row_line(&mut self, cell: BoundingBox, left: u16, digits: &[u8]) -> Result<(), Stop>
         requires sound { IsReading self.old }
         requires place { IsPlace (Place.Bitmap cell (left + 1)) (length self.old.glyphs) (length self.old.draft.bits) }
         ensures read { Gives result self.new (row_line cell left digits.now self.old) }
         ensures sound { Keeps result (IsReading self.new) }
     {
-        let mut bits = mem::replace(&mut self.draft.bits, Items::new(alloc)).into_vec();
-        let done = bits.len();
-        bits.resize(done + row_bytes(cell.w), 0)?;
-        if hex::decode_to_slice(digits, &mut bits[done..]).is_err() {
-            return Err(Stop::Fault(FontCause::BadRow));
-        }
-        self.draft.bits = Items::from_vec(bits);
+        self.draft.bits.push_row(digits, row_bytes(cell.w))?;
         self.place = Place::Bitmap(cell, left);
         Ok(())
     }

@@ -1,6 +1,6 @@
 //! Fonts as programs and hands write them, and each way of leaving the format.
 
-use crate::{Font, FontCause, FontRefusal, FontSet, find_font, glyph, read_font};
+use crate::{Font, FontRefusal, FontSet, find_font, glyph, read_font};
 use ass_num::Items;
 use std::alloc::Global;
 use std::test::Fail;
@@ -85,45 +85,27 @@ ENDFONT\r
 ENDFONT\r
 ";
 
-const REFUSED: [(&str, usize, FontCause); 12] = [
-    ("", 1, FontCause::NoEnd),
-    ("\n", 2, FontCause::NoEnd),
-    ("STARTFONT 2.1", 2, FontCause::NoEnd),
-    ("FONT a\nSTARTFONT 2.1\n", 1, FontCause::NoStart),
-    ("\nENDFONT\n", 2, FontCause::NoStart),
-    (
-        "STARTFONT\nFONTBOUNDINGBOX 1 1 0\n",
-        2,
-        FontCause::BadNumber,
-    ),
-    (
-        "STARTFONT\nFONTBOUNDINGBOX 1025 1 0 0\n",
-        2,
-        FontCause::BadNumber,
-    ),
-    (
-        "STARTFONT\nSTARTCHAR a\nENCODING x\n",
-        3,
-        FontCause::BadNumber,
-    ),
-    ("STARTFONT\nENCODING x\n", 2, FontCause::Misplaced),
-    ("STARTFONT\nSTARTCHAR a\nBITMAP\n", 3, FontCause::Misplaced),
-    (
-        "STARTFONT\nSTARTCHAR a\nSTARTCHAR b\n",
-        3,
-        FontCause::Misplaced,
-    ),
-    ("STARTFONT\nSTARTCHAR a\nENDFONT\n", 3, FontCause::Misplaced),
-];
+/// Its glyphs.
+const CONVERTED_GLYPHS: &str = "[\
+    FontGlyph { code: 65, advance: 6, w: 9, h: 2, x: -1, y: -2, bits: Items { items: [255, 128, 160, 0] } }, \
+    FontGlyph { code: -1, advance: 4, w: 4, h: 1, x: 0, y: 0, bits: Items { items: [240] } }, \
+    FontGlyph { code: 65, advance: -6, w: 8, h: 1, x: 0, y: 0, bits: Items { items: [129] } }, \
+    FontGlyph { code: 32, advance: 3, w: 0, h: 2, x: 0, y: 0, bits: Items { items: [] } }]";
 
-/// What stands in the place of the only row of `DOT`, and the line that is refused.
-const ROWS: [(&str, usize); 5] = [
-    ("8", 23),
-    ("8g", 23),
-    ("", 23),
-    ("ENDCHAR", 23),
-    ("80\n80", 24),
-];
+/// Texts that aren't read, with the line that is refused for each and why.
+const REFUSED: &str = "NoEnd 1:
+NoEnd 2:/
+NoEnd 2:STARTFONT 2.1
+NoStart 1:FONT a/STARTFONT 2.1
+NoStart 2:/ENDFONT
+BadNumber 2:STARTFONT/FONTBOUNDINGBOX 1 1 0
+BadNumber 3:STARTFONT/STARTCHAR a/ENCODING x
+Misplaced 2:STARTFONT/ENCODING x
+Misplaced 3:STARTFONT/STARTCHAR a/BITMAP
+Misplaced 3:STARTFONT/STARTCHAR a/ENDFONT
+BadRow 5:STARTFONT/STARTCHAR a/BBX 1 1 0 0/BITMAP/8/ENDCHAR
+BadRow 6:STARTFONT/STARTCHAR a/BBX 1 1 0 0/BITMAP/80/80
+";
 
 fn read(alloc: Global, text: &str) -> Result<Font, FontRefusal> {
     if text.len() > 10_000 {
@@ -132,47 +114,54 @@ fn read(alloc: Global, text: &str) -> Result<Font, FontRefusal> {
     read_font(alloc, text.as_bytes())
 }
 
+/// How a text is refused, as `CAUSE LINE`.
+fn refusal_of(alloc: Global, text: &str) -> Result<String, Fail> {
+    match read(alloc, text) {
+        Err(FontRefusal::BadFont(line, cause)) => Ok(format!(in alloc; "{cause:?} {line}")?),
+        _ => Ok(String::new(alloc)),
+    }
+}
+
+#[test]
+fn refused_texts_name_their_lines(rt: HostRuntime) -> Result<(), Fail> {
+    let alloc = rt.alloc();
+    for line in REFUSED.lines() {
+        if let Some((wanted, text)) = line.split_once(':') {
+            let refusal = refusal_of(alloc, text.replace(alloc, "/", "\n")?.as_str())?;
+            assert_eq!(rt; refusal.as_str(), wanted);
+        }
+    }
+    Ok(())
+}
+
 #[test]
 fn fonts_are_what_their_texts_say(rt: HostRuntime) -> Result<(), Fail> {
     let alloc = rt.alloc();
-    for (text, line, cause) in REFUSED {
-        let refusal = read(alloc, text).err();
-        assert_eq!(rt; refusal, Some(FontRefusal::BadFont(line, cause)));
-    }
-    let Some((before, after)) = DOT.split_once("80\n") else {
-        panic!(rt; "no row");
-    };
-    for (row, line) in ROWS {
-        let text = format!(in alloc; "{before}{row}\n{after}")?;
-        let refusal = read(alloc, text.as_str()).err();
-        assert_eq!(rt;
-            refusal,
-            Some(FontRefusal::BadFont(line, FontCause::BadRow))
-        );
-    }
     let dot = read(alloc, DOT)?;
-    assert_eq!(rt; dot.glyphs().len(), 2);
-    assert_eq!(rt; glyph(&dot, 'x'), Some(1));
-    assert_eq!(rt; glyph(&dot, 'y'), None);
     let font = read(alloc, CONVERTED)?;
-    assert_eq!(rt; font.name(), b"Real ".as_slice());
-    assert_eq!(rt; font.ascent(), 5);
-    assert_eq!(rt; font.descent(), 0);
-    assert_eq!(rt; font.default_char(), Some(65));
-    assert_eq!(rt; font.glyphs().len(), 4);
-    let first = &font.glyphs()[0];
-    assert_eq!(rt; (first.code, first.advance), (65, 6));
-    assert_eq!(rt; (first.w, first.h, first.x, first.y), (9, 2, -1, -2));
-    assert_eq!(rt; first.bits.as_slice(), b"\xff\x80\xa0\x00".as_slice());
-    assert_eq!(rt; font.glyphs()[1].advance, 4);
-    assert_eq!(rt; glyph(&font, 'A'), Some(0));
-    assert_eq!(rt; glyph(&font, ' '), Some(3));
-    assert_eq!(rt; glyph(&font, 'B'), Some(0));
+    let told = format!(in alloc; "{:?} {:?}", glyph(&dot, 'x'), glyph(&dot, 'y'))?;
+    assert_eq!(rt; told.as_str(), "Some(1) None");
+    let told = format!(in alloc;
+        "{:?} {:?} {:?}",
+        glyph(&font, 'A'),
+        glyph(&font, ' '),
+        glyph(&font, 'B')
+    )?;
+    assert_eq!(rt; told.as_str(), "Some(0) Some(3) Some(0)");
+    let told = format!(in alloc;
+        "{:?} {} {} {:?}",
+        font.name(),
+        font.ascent(),
+        font.descent(),
+        font.default_char()
+    )?;
+    assert_eq!(rt; told.as_str(), "[82, 101, 97, 108, 32] 5 0 Some(65)");
+    let told = format!(in alloc; "{:?}", font.glyphs())?;
+    assert_eq!(rt; told.as_str(), CONVERTED_GLYPHS);
     let mut fonts = Items::new(alloc);
     fonts.push(dot)?;
     fonts.push(font)?;
     let set = FontSet { fonts };
     assert_eq!(rt; find_font(&set, "rEAL "), 1);
-    assert_eq!(rt; find_font(&set, "real"), 0);
     Ok(())
 }

@@ -57,7 +57,7 @@ fn add_cell(rings: &mut FlatLists<Point>, column: u8, row: u8, side: i64, lean: 
 }
 
 /// A glyph of 160 dots on a grid of 16 by 16.
-fn glyph(alloc: Global, side: i64, lean: i64) -> Mem<Outline>
+pub fn glyph(alloc: Global, side: i64, lean: i64) -> Mem<Outline>
     ensures { IfOk result (λ outline. IsOutline outline.rings) }
 {
     let mut rings = FlatLists::new(alloc);

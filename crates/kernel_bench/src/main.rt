@@ -2,6 +2,8 @@
 //! `KERNEL SIZE TURNS` it makes an input of that size and prints how long a turn takes.
 #![tactic(auto)]
 
+mod blurring;
+mod border;
 mod boxes;
 mod drawing;
 mod glyph;
@@ -30,6 +32,8 @@ fn number_of(word: &String) -> Result<u32, Stop> {
 
 fn show_all(rt: &HostRuntime) -> Result<(), Stop> {
     glyph::show(rt)?;
+    border::show(rt)?;
+    blurring::show(rt)?;
     boxes::show(rt)?;
     paragraph::show(rt)?;
     drawing::show(rt)
@@ -38,6 +42,8 @@ fn show_all(rt: &HostRuntime) -> Result<(), Stop> {
 fn measure(rt: &HostRuntime, kernel: &str, size: u32, turns: u32) -> Result<(), Stop> {
     match kernel {
         "region" => glyph::measure(rt, size, turns),
+        "border" => border::measure(rt, size, turns),
+        "blur" => blurring::measure(rt, size, turns),
         "shift" => boxes::measure(rt, size, turns),
         "breaks" => paragraph::measure(rt, size, turns),
         "draw" => drawing::measure(rt, size, turns),

@@ -13,18 +13,18 @@ cell_below i j w h a b = let more : j + 1 ≤ h = omega arith in omega (arith, m
 pub mask_length : (m : PlainMask) → is_mask m ≡ true → length m.bytes ≡ m.w * m.h
 mask_length m h = eqb-true (length m.bytes) (m.w * m.h) (and_parts _ _ h).0
 
-offset_inside : (m : PlainMask) (u v : ℤ) (i j : ℕ) → u ≡ pos i → v ≡ pos j → i < m.w → j < m.h → offset_value m u v ≡ get_or m.bytes (j * m.w + i) 0
+pub offset_inside : (m : PlainMask) (u v : ℤ) (i j : ℕ) → u ≡ pos i → v ≡ pos j → i < m.w → j < m.h → offset_value m u v ≡ get_or m.bytes (j * m.w + i) 0
 offset_inside m u v i j e f a b = rw (e, f) (grind (arith, nat_tests))
 
 pub value_inside : (m : PlainMask) (x y : ℤ) (i j : ℕ) → x ≡ m.x +ℤ pos i → y ≡ m.y +ℤ pos j → i < m.w → j < m.h → value_at m x y ≡ get_or m.bytes (j * m.w + i) 0
 value_inside m x y i j e f a b = offset_inside m (x -ℤ m.x) (y -ℤ m.y) i j (omega (arith, ints)) (omega (arith, ints)) a b
 
-offset_left : (m : PlainMask) (u v : ℤ) → (u <ℤ pos 0) ⊎ (pos m.w ≤ℤ u) → offset_value m u v ≡ 0
+pub offset_left : (m : PlainMask) (u v : ℤ) → (u <ℤ pos 0) ⊎ (pos m.w ≤ℤ u) → offset_value m u v ≡ 0
 offset_left m (pos i) (pos j) h = let out : m.w ≤ i = omega (arith, ints) in grind (arith, nat_tests)
 offset_left m (pos i) (negsuc j) h = refl
 offset_left m (negsuc i) v h = refl
 
-offset_above : (m : PlainMask) (u v : ℤ) → (v <ℤ pos 0) ⊎ (pos m.h ≤ℤ v) → offset_value m u v ≡ 0
+pub offset_above : (m : PlainMask) (u v : ℤ) → (v <ℤ pos 0) ⊎ (pos m.h ≤ℤ v) → offset_value m u v ≡ 0
 offset_above m (pos i) (pos j) h = let out : m.h ≤ j = omega (arith, ints) in grind (arith, nat_tests)
 offset_above m (pos i) (negsuc j) h = refl
 offset_above m (negsuc i) v h = refl

@@ -1,2 +1,5 @@
 pub mod Columns
+pub mod Extents
+pub mod Rows
 pub mod Steps
+pub mod Sums

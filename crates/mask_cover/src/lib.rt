@@ -3,11 +3,15 @@
 
 mod axis;
 mod columns;
+mod extent;
 mod reading;
 mod region_mask;
 mod steps;
+mod sum;
 #[cfg(test)]
 mod tests;
 
+pub use extent::Extent;
 pub use reading::at;
 pub use region_mask::cover;
+pub use sum::{MaskSum, sum_of};

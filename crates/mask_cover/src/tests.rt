@@ -1,7 +1,10 @@
 //! Rows worked by hand.
 
-use crate::{at, cover};
-use ass_num::{FlatLists, Mask, Mem, Region, Run, is_canonical};
+ghost use Rattle.std.specs.Prelude.{IfOk};
+ghost use Rattle.mask_cover.specs.Sums.{IsWithinOf, IsPlaceable};
+
+use crate::{at, cover, sum_of};
+use ass_num::{FlatLists, Mask, Mem, Region, Run, is_canonical, is_mask};
 use std::alloc::Global;
 use std::test::Fail;
 
@@ -84,5 +87,30 @@ fn regions_cover_pixels(rt: HostRuntime) -> Result<(), Fail> {
     );
     let none = mask_of(alloc, 0, FlatLists::new(alloc), 3, 4)?;
     assert!(rt; is(none, 0, 0, 0, 0, [].as_slice()));
+    Ok(())
+}
+
+/// A mask of one pixel, and by how much it is moved.
+fn pixel(alloc: Global, value: u8, dx: i32, dy: i32) -> Mem<(Mask, i32, i32)>
+    requires dx { IsWithinOf 32768 dx }
+    requires dy { IsWithinOf 32768 dy }
+    ensures { IfOk result IsPlaceable }
+{
+    let bytes = vec![in alloc; value]?;
+    if !is_mask(0, 0, 1, 1, bytes.as_slice()) {
+        return Ok((Mask::empty(alloc), dx, dy));
+    }
+    Ok((Mask::new(0, 0, 1, 1, bytes), dx, dy))
+}
+
+#[test]
+fn masks_add_up(rt: HostRuntime) -> Result<(), Fail> {
+    let alloc = rt.alloc();
+    let first = pixel(alloc, 200, 0, 0)?;
+    let second = pixel(alloc, 100, 3, -2)?;
+    let parts = [first, second];
+    let sum = sum_of(alloc, parts.as_slice())?;
+    let want = [0, 0, 0, 100, 0, 0, 0, 0, 200, 0, 0, 0];
+    assert!(rt; is(Some(sum), 0, -2, 4, 3, want.as_slice()));
     Ok(())
 }

@@ -11,13 +11,13 @@ use Rattle.ass_num.specs.Winding.{place, spans, line, edges_of, inside}
 use Rattle.ass_num.specs.declared.geometry.Point.{Point}
 use Rattle.sample_region.specs.Crossings.{crossing_at, row_crossings, downs, ups, downs_to, ups_to, is_odd, is_inside, cut_of, IsSweepable}
 use Rattle.sample_region.specs.Edges.{down_from, IsEdge, IsOrdered}
-use Rattle.sample_region.specs.Growths.{IsRowHolding}
+use Rattle.region_rows.specs.Growths.{IsRowHolding}
 use Rattle.sample_region.specs.Rows.{IsRowOf}
 use Rattle.ass_num.specs.declared.region.Run.{Run}
 use Rattle.sample_region.specs.declared.edges.Edge.{Edge}
 use Rattle.sample_region.specs.declared.sweep.Crossing.{Crossing}
 use Rattle.sample_region.proofs.OutsideLemmas.{Ends, rings_ends}
-use Rattle.sample_region.proofs.SignedLemmas.{lt_true, lt_false, lt_is}
+use Rattle.region_rows.proofs.OrderLemmas.{lt_true, lt_false, lt_is}
 use Rattle.sample_region.proofs.WindingLemmas.{Way, crossing_of, crossings_of, SameSums, flat_sums, even, inside_is, spans_parts}
 
 -- ---- a ring, edge by edge

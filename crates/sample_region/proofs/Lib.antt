@@ -1,12 +1,9 @@
 mod BetweenLemmas
 mod EdgeLemmas
-mod GrowthLemmas
-mod JoinLemmas
-mod LimitLemmas
+mod InsideLemmas
 mod OutsideLemmas
 mod SignedLemmas
 mod SortLemmas
 mod SweepLemmas
-mod UniqueLemmas
 mod WalkLemmas
 mod WindingLemmas

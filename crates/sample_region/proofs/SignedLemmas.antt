@@ -1,33 +1,10 @@
 -- Signed products and quotients, and what a cut says of the samples.
-use Rattle.std.proofs.Common.{◌≡◌, ℕ, suc, ◌+◌, ◌-◌, ◌*◌, ◌<◌, ◌≤◌, true, false, ℤ, pos, negsuc, ◌+ℤ◌, ◌-ℤ◌, ◌*ℤ◌, neg_ℤ, ◌≤ℤ◌, ◌<ℤ◌, sym, ap, ◌∙◌, arith, int_lt, int_le, unsigned_abs, mul-le-mul}
+use Rattle.std.proofs.Common.{◌≡◌, ℕ, suc, ◌+◌, ◌-◌, ◌*◌, ◌<◌, ◌≤◌, ℤ, pos, negsuc, ◌+ℤ◌, ◌-ℤ◌, ◌*ℤ◌, neg_ℤ, ◌≤ℤ◌, ◌<ℤ◌, sym, ap, ◌∙◌, arith, int_lt, unsigned_abs, mul-le-mul}
 use Rattle.std.proofs.Math.Nat.{mul-le-mul_right}
 use Rattle.std.proofs.lemmas.Int.{ints, by_lt_z, unsigned_abs-mul}
 use Rattle.std.specs.Int.{int_div_euclid}
+use Rattle.region_rows.proofs.OrderLemmas.{lt_true, lt_false}
 use borrow.Author.Differences.{up, down, sum_is_lem, neg_is, product_is}
-
-pub lt_true : (a b : ℤ) → a <ℤ b → int_lt a b ≡ true
-lt_true a b h = grind (arith, ints)
-
-pub lt_false : (a b : ℤ) → b ≤ℤ a → int_lt a b ≡ false
-lt_false a b h = grind (arith, ints)
-
-pub le_true : (a b : ℤ) → a ≤ℤ b → int_le a b ≡ true
-le_true a b h = grind (arith, ints)
-
-pub le_false : (a b : ℤ) → b <ℤ a → int_le a b ≡ false
-le_false a b h = grind (arith, ints)
-
-pub lt_is : (a b : ℤ) → int_lt a b ≡ true → a <ℤ b
-lt_is a b h = grind (arith, ints)
-
-pub lt_not : (a b : ℤ) → int_lt a b ≡ false → b ≤ℤ a
-lt_not a b h = grind (arith, ints)
-
-pub le_is : (a b : ℤ) → int_le a b ≡ true → a ≤ℤ b
-le_is a b h = grind (arith, ints)
-
-pub le_not : (a b : ℤ) → int_le a b ≡ false → b <ℤ a
-le_not a b h = grind (arith, ints)
 
 pub same_lt : (a b c d : ℤ) → (a <ℤ b → c <ℤ d) → (c <ℤ d → a <ℤ b) → int_lt a b ≡ int_lt c d
 same_lt a b c d h k = grind (arith, ints)

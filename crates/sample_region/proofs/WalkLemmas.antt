@@ -1,5 +1,5 @@
 -- One step of the sweep along a row, as facts on lists.
-use Rattle.std.proofs.Common.{◌≡◌, ℕ, ◌+◌, ◌<◌, ◌≤◌, Bool, true, false, not, cond, eqb, ◌&&◌, ◌||◌, ℤ, pos, ◌-ℤ◌, ◌≤ℤ◌, ◌<ℤ◌, ◌⊎◌, inl, inr, refl, sym, ap, ◌∙◌, arith, int_lt, int_le, List, [], ◌∷◌, ◌++◌, All, ⊎_elim, Some, length, take, get_or}
+use Rattle.std.proofs.Common.{◌≡◌, ℕ, ◌+◌, ◌<◌, ◌≤◌, Bool, true, false, not, cond, eqb, ◌&&◌, ◌||◌, ℤ, pos, ◌-ℤ◌, ◌≤ℤ◌, ◌<ℤ◌, ◌⊎◌, inl, inr, refl, sym, ap, ◌∙◌, arith, int_le, List, [], ◌∷◌, ◌++◌, All, ⊎_elim, Some, length, take, get_or}
 use Rattle.std.proofs.lemmas.Int.{ints, by_lt_z}
 use Rattle.std.proofs.lemmas.List.Sums.{sum_by-cons, sum_by_push}
 use Rattle.std.proofs.lemmas.List.Elements.{All-head, All-tail, All-push, All-pop, All-weaker, All-nil, All-cons, All-from_get_or, All-get_or}
@@ -9,7 +9,8 @@ use Rattle.std.proofs.lemmas.Int.{clamps}
 use Rattle.std.specs.Int.{int_min, int_max}
 use Rattle.sample_region.specs.declared.row.Walk.{Walk}
 use Rattle.std.proofs.lemmas.Bool.{eq-eqb, ne_eqb}
-use Rattle.sample_region.proofs.SignedLemmas.{lt_true, lt_false, le_true, le_false}
+use Rattle.region_rows.proofs.OrderLemmas.{lt_true, lt_false, le_true, le_false}
+use Rattle.region_rows.proofs.JoinLemmas.{or_false, in_runs-push}
 use Rattle.ass_num.specs.Regions.{in_runs, ascend_from, ascend}
 use Rattle.sample_region.specs.Crossings.{downs, ups, downs_to, ups_to, IsAscending}
 use Rattle.sample_region.specs.Rows.{IsRow, Walked, Reopens, IsRowOf}
@@ -24,14 +25,6 @@ and_false false = refl
 pub and_nothing : (b : Bool) → ◌≡◌ {A = ℕ} (cond (b && false) 1 0) 0
 and_nothing true = refl
 and_nothing false = refl
-
-pub or_false : (b : Bool) → (b || false) ≡ b
-or_false true = refl
-or_false false = refl
-
-pub or_assoc : (a b c : Bool) → (a || (b || c)) ≡ ((a || b) || c)
-or_assoc true b c = refl
-or_assoc false b c = refl
 
 pub IsRow-wider : (low : ℤ) (rs : List Run) (high higher : ℤ) → high ≤ℤ higher → IsRow low rs high → IsRow low rs higher
 IsRow-wider low [] high higher h w = omega (arith, ints)
@@ -58,10 +51,6 @@ in_runs-after low (r ∷ rs) high i w h =
     let v = in_runs-after r.to rs high i w.2 h in
     let b = IsRow-bounds r.to rs high w.2 in
     rw (lt_false i r.to (omega (arith, ints)), v) (and_false (int_le r.from i))
-
-pub in_runs-push : (rs : List Run) (r : Run) (i : ℤ) → in_runs (rs ++ r ∷ []) i ≡ (in_runs rs i || (int_le r.from i && int_lt i r.to))
-in_runs-push [] r i = or_false (int_le r.from i && int_lt i r.to)
-in_runs-push (s ∷ rs) r i = ap (λ b. (int_le s.from i && int_lt i s.to) || b) (in_runs-push rs r i) ∙ or_assoc (int_le s.from i && int_lt i s.to) (in_runs rs i) (int_le r.from i && int_lt i r.to)
 
 -- ---- the counts of crossings, with one more that is no lower than any
 pub downs_to-push : (i : ℤ) (cs : List Crossing) (c : Crossing) → downs_to i (cs ++ c ∷ []) ≡ downs_to i cs + cond (c.down && int_le c.at i) 1 0

@@ -1,9 +1,7 @@
 pub mod Crossings
 pub mod Edges
-pub mod Grown
-pub mod Growths
 pub mod Heights
-pub mod Joins
 pub mod Rows
 pub mod Scans
+pub mod Unions
 pub mod Walks

@@ -3,7 +3,7 @@ use Rattle.std.specs.Prelude.{ℤ, List}
 use Rattle.ass_num.specs.Winding.{place}
 use Rattle.sample_region.specs.Crossings.{is_inside}
 use Rattle.sample_region.specs.Edges.{IsSwept}
-use Rattle.sample_region.specs.Grown.{IsGrown}
+use Rattle.region_rows.specs.Grown.{IsGrown}
 use Rattle.sample_region.specs.declared.edges.Edge.{Edge}
 use Rattle.sample_region.specs.declared.region.Scan.{Scan}
 

@@ -4,7 +4,6 @@
 mod cut;
 mod edges;
 mod either;
-mod growth;
 mod laws;
 mod region;
 mod row;

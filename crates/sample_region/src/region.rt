@@ -8,10 +8,10 @@ ghost use Rattle.sample_region.specs.Crossings.{IsSweepable, is_inside};
 ghost use Rattle.sample_region.specs.Heights.{IsBetween};
 
 use crate::edges::{Edge, ordered_edges};
-use crate::growth::{Growth, RowRange};
 use crate::row::Walk;
 use crate::sweep::Sweep;
 use ass_num::{Mem, Outline, Point, Region};
+use region_rows::{Growth, RowRange};
 use std::alloc::Global;
 
 /// The least and the greatest height of points.

@@ -1,4 +1,4 @@
-use Rattle.std.proofs.Common.{◌≡◌, ◌∷◌, [], ◌++◌, ℕ, List, map, lit<, refl, sym, ap, ◌∙◌}
+use Rattle.std.proofs.Common.{◌≡◌, ◌∷◌, [], ◌++◌, ℕ, List, map, lit<, sym, ap, ◌∙◌}
 use Rattle.std.specs.List.{slice_split}
 use Rattle.std.proofs.lemmas.List.{append-nil}
 use Rattle.std.proofs.lemmas.Iterator.Splits.{YieldsList-from_str_split}
@@ -6,7 +6,7 @@ use Rattle.ass_script.specs.Words.{trimmed, is_comma}
 use Rattle.ass_script.specs.Fields.{event_field_named, last_ones, event_field_number, names_of, event_fields_of}
 use Rattle.ass_script.specs.declared.script.EventField.{EventField}
 use Rattle.ass_script.specs.declared.script.EventField.TheVariants.{Other}
-use Rattle.ass_script.proofs.Yields.{Left, next_left, none_left, pushed}
+use Rattle.ass_script.proofs.Yields.{next_left, none_left, pushed}
 use Rattle.ass_script.proofs.event_format.event_fields.Goals as goal
 
 pub loop-name-init : goal.loop-name-init

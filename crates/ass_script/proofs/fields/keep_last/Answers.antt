@@ -1,4 +1,4 @@
-use Rattle.std.proofs.Common.{◌≡◌, ◌≤◌, ◌<◌, ℕ, suc, ◌-◌, ◌++◌, [], ◌∷◌, true, false, length, get_or, set, take, drop, eqb, sym, ap, ◌∙◌, arith, refl}
+use Rattle.std.proofs.Common.{◌≡◌, ◌<◌, ℕ, suc, ◌-◌, true, false, length, get_or, set, drop, eqb, sym, ap, ◌∙◌, arith, refl}
 use Rattle.std.specs.List.{list_any}
 use Rattle.std.proofs.lemmas.List.{length-set}
 use Rattle.ass_script.proofs.LastOnes.{replaced, kept, seen_still, seen_now, all_left, drop_all, none_seen}

@@ -1,17 +1,13 @@
-use Rattle.std.proofs.Common.{◌≡◌, ◌∷◌, [], ℕ, List, cond, length, refl, sym, ap, ◌∙◌, subst, eq-eqb}
-use Rattle.std.specs.Prelude.{Result, Err}
-use Rattle.std.specs.Str.Iter.{lines_steps, lines_rest}
+use Rattle.std.proofs.Common.{◌≡◌, sym, ap, ◌∙◌, subst}
+use Rattle.std.specs.Prelude.{Result}
 use Rattle.std.specs.Str.Lines.{lines}
-use Rattle.std.specs.Str.Lossy.{utf8_valid_len}
-use Rattle.std.proofs.lemmas.Str.{utf8_valid_len-IsUtf8}
 use Rattle.std.proofs.lemmas.Iterator.Splits.{YieldsList-from_lines}
 use Rattle.ass_script.specs.Words.{past_mark}
-use Rattle.ass_script.specs.Scripts.{PlainScript, Answers, script_of, script_of_lines, lines_of}
+use Rattle.ass_script.specs.Scripts.{PlainScript, Answers}
 use Rattle.ass_script.specs.Walk.{walked, no_lines, made_script}
 use Rattle.ass_script.specs.declared.refusal.ScriptRefusal.{ScriptRefusal}
-use Rattle.ass_script.specs.declared.refusal.ScriptRefusal.TheVariants as refusal
 use Rattle.ass_script.proofs.Refusals.{script_of_utf8}
-use Rattle.ass_script.proofs.Yields.{Left, next_left, none_left}
+use Rattle.ass_script.proofs.Yields.{next_left, none_left}
 use Rattle.ass_script.proofs.WalkLemmas.{read_is, walk_on, walk_end}
 use Rattle.ass_script.proofs.read.read_text.Goals as goal
 

@@ -1,4 +1,4 @@
-use Rattle.std.proofs.Common.{◌≡◌, ◌∷◌, [], ◌++◌, ℕ, List, map, lit<, refl, sym, ap, ◌∙◌}
+use Rattle.std.proofs.Common.{◌≡◌, ◌∷◌, [], ◌++◌, ℕ, List, map, lit<, sym, ap, ◌∙◌}
 use Rattle.std.specs.List.{slice_split}
 use Rattle.std.proofs.lemmas.List.{append-nil}
 use Rattle.std.proofs.lemmas.Iterator.Splits.{YieldsList-from_str_split}
@@ -6,7 +6,7 @@ use Rattle.ass_script.specs.Words.{trimmed, is_comma}
 use Rattle.ass_script.specs.Fields.{version_field, style_field_named, last_ones, style_field_number, names_of, style_fields_of}
 use Rattle.ass_script.specs.declared.style_field.StyleField.{StyleField}
 use Rattle.ass_script.specs.declared.style_field.StyleField.TheVariants.{Other}
-use Rattle.ass_script.proofs.Yields.{Left, next_left, none_left, pushed}
+use Rattle.ass_script.proofs.Yields.{next_left, none_left, pushed}
 use Rattle.ass_script.proofs.style_format.style_fields.Goals as goal
 
 pub loop-name-init : goal.loop-name-init

@@ -1,6 +1,6 @@
 use Rattle.ass_script.specs.Words.{is_star_or_blank}
 use Rattle.ass_script.proofs.Cuts.{boundary_behind, star_or_blank_is_ascii}
-use Rattle.std.proofs.Common.{◌≡◌, ap, ◌∙◌}
+use Rattle.std.proofs.Common.{ap, ◌∙◌}
 use Rattle.std.specs.List.{prefix_len}
 use Rattle.ass_script.proofs.words.bare_name.Goals as goal
 

@@ -1,6 +1,6 @@
 use Rattle.ass_num.specs.Numerals.{is_blank}
 use Rattle.ass_script.proofs.Cuts.{boundary_behind, blank_is_ascii}
-use Rattle.std.proofs.Common.{◌≡◌, ap, ◌∙◌}
+use Rattle.std.proofs.Common.{ap, ◌∙◌}
 use Rattle.std.specs.List.{prefix_len}
 use Rattle.ass_script.proofs.words.trimmed.Goals as goal
 

@@ -1,4 +1,4 @@
-use Rattle.std.proofs.Common.{◌≡◌, ◌≤◌, drop, length}
+use Rattle.std.proofs.Common.{◌≡◌, drop}
 use Rattle.bdf_font.specs.Fonts.{named_from, font_named}
 use Rattle.bdf_font.proofs.font.find_font.Given as goal
 

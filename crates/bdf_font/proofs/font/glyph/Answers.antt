@@ -1,11 +1,10 @@
 use Rattle.std.proofs.Common.{◌≡◌, ◌∙◌, ap, pos, rules}
-use Rattle.std.specs.BTreeMap.{get}
 use Rattle.std.specs.Option.{option_or}
-use Rattle.std.specs.Ordering.{int_cmp}
 use Rattle.std.proofs.lemmas.Int.{to_z-of_z}
 use mir.Syntax.{w64}
 use mir.Val.{SFits}
 use Rattle.bdf_font.specs.Fonts.{place_from}
+use Rattle.bdf_font.specs.Places.{first_at}
 use Rattle.bdf_font.proofs.font.glyph.Goals as goal
 
 pub returns : goal.returns
@@ -14,7 +13,7 @@ returns c =
     let inside = c.font.inside in
     let code : c.from-code.result ≡ pos c.args.c = c.from-code.ensures ∙ ap pos c.from.ensures in
     let kept = simp to_z-of_z at c.place_or.ensures in
-    let found : c.place_or.result ≡ option_or (get int_cmp inside.places (pos c.args.c)) inside.default_place = rw code at kept in
+    let found : c.place_or.result ≡ option_or (first_at (pos c.args.c) inside.places.items) inside.default_place = rw (code, c.as_slice.ensures.value) at kept in
     rw (← c.font.view_is)
-    (found ∙ ap (λ p. option_or p inside.default_place) (c.font.invariant.0 (pos c.args.c))
+    (found ∙ ap (λ p. option_or p inside.default_place) (c.font.invariant.0.known (pos c.args.c))
     ∙ ap (option_or (place_from 0 (pos c.args.c) inside.glyphs)) c.font.invariant.1)

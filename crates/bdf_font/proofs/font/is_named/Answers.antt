@@ -1,4 +1,4 @@
-use Rattle.std.proofs.Common.{rules, sym, ap, ◌∙◌, subst, Bool, IsTrue, List, ℕ, ◌≡◌, map}
+use Rattle.std.proofs.Common.{rules, Bool, List, ℕ, ◌≡◌, map}
 use Rattle.std.specs.Bool.{Decides}
 use Rattle.std.specs.Str.{bytes_eq}
 use Rattle.std.specs.Char.{to_ascii_lowercase}

@@ -1,6 +1,9 @@
-use Rattle.std.proofs.Common.{◌≡◌, ◌∷◌, [], sym, ◌∙◌, ap, arith, length}
-use Rattle.bdf_font.specs.Grammar.{lines_read, Answers}
-use Rattle.bdf_font.proofs.ReadLemmas.{read_on, read_stops, read_none}
+use Rattle.std.proofs.Common.{◌≡◌, ◌∷◌, [], Err, sym, ◌∙◌, ap, arith, length, inl}
+use Rattle.bdf_font.specs.declared.cause.FontCause.TheVariants.{NoEnd}
+use Rattle.bdf_font.specs.declared.cause.FontRefusal.TheVariants.{BadFont}
+use Rattle.bdf_font.specs.Lines.{text_lines}
+use Rattle.bdf_font.proofs.Walk.{lines_read, read_none}
+use Rattle.bdf_font.proofs.ReadLemmas.{read_on, read_stops, answers, answers_only}
 use Rattle.bdf_font.proofs.read.read_font.Goals as goal
 
 pub loop-line-preserved : goal.loop-line-preserved
@@ -16,10 +19,24 @@ loop-line-preserved c =
 
 pub returns-in-Err-clause-answer : goal.returns-in-Err-clause-answer
 returns-in-Err-clause-answer c =
-    rw (sym c.loop-line.invariant.read ∙ ap (λ lines. lines_read c.loop-line.number lines c.loop-line.reading) c.in-Some.ensures.steps)
+    answers (text_lines c.args.bytes.now) c.answer.result (lines_read c.loop-line.number (c.in-Some.line.now ∷ c.next.new.self) c.loop-line.reading)
+    (ap (λ lines. lines_read c.loop-line.number lines c.loop-line.reading) (sym c.in-Some.ensures.steps) ∙ c.loop-line.invariant.read)
+    (read_stops c.loop-line.number c.in-Some.line.now c.next.new.self c.loop-line.reading c.line.new.self c.in-Err.stop c.answer.result c.in-Err.ensures.read c.answer.ensures.answer)
+
+pub returns-in-Err-clause-only : goal.returns-in-Err-clause-only
+returns-in-Err-clause-only c =
+    answers_only (text_lines c.args.bytes.now) c.answer.result (lines_read c.loop-line.number (c.in-Some.line.now ∷ c.next.new.self) c.loop-line.reading)
+    (ap (λ lines. lines_read c.loop-line.number lines c.loop-line.reading) (sym c.in-Some.ensures.steps) ∙ c.loop-line.invariant.read)
     (read_stops c.loop-line.number c.in-Some.line.now c.next.new.self c.loop-line.reading c.line.new.self c.in-Err.stop c.answer.result c.in-Err.ensures.read c.answer.ensures.answer)
 
 pub returns-clause-answer : goal.returns-clause-answer
 returns-clause-answer c =
-    sym c.loop-line.invariant.read
-    ∙ (ap (λ lines. lines_read c.loop-line.number lines c.loop-line.reading) c.in-None.ensures.steps.0 ∙ read_none c.loop-line.number c.loop-line.reading)
+    answers (text_lines c.args.bytes.now) (Err (BadFont c.loop-line.number NoEnd)) (lines_read c.loop-line.number [] c.loop-line.reading)
+    (ap (λ lines. lines_read c.loop-line.number lines c.loop-line.reading) (sym c.in-None.ensures.steps.0) ∙ c.loop-line.invariant.read)
+    (inl (sym (read_none c.loop-line.number c.loop-line.reading)))
+
+pub returns-clause-only : goal.returns-clause-only
+returns-clause-only c =
+    answers_only (text_lines c.args.bytes.now) (Err (BadFont c.loop-line.number NoEnd)) (lines_read c.loop-line.number [] c.loop-line.reading)
+    (ap (λ lines. lines_read c.loop-line.number lines c.loop-line.reading) (sym c.in-None.ensures.steps.0) ∙ c.loop-line.invariant.read)
+    (inl (sym (read_none c.loop-line.number c.loop-line.reading)))

@@ -1,6 +1,6 @@
 use Rattle.std.proofs.Common.{refl, ◌∙◌, to_z-of_z}
-use Rattle.sample_region.specs.Growths.{IsRowHolding}
-use Rattle.sample_region.specs.Joins.{in_either}
+use Rattle.region_rows.specs.Growths.{IsRowHolding}
+use Rattle.sample_region.specs.Unions.{in_either}
 use Rattle.sample_region.proofs.either.add_row.Goals as goal
 
 pub returns : goal.returns

@@ -1,6 +1,6 @@
 use Rattle.std.proofs.Common.{◌≤ℤ◌}
-use Rattle.sample_region.specs.Grown.{IsGrown}
-use Rattle.sample_region.specs.Joins.{in_either}
+use Rattle.region_rows.specs.Grown.{IsGrown}
+use Rattle.sample_region.specs.Unions.{in_either}
 use Rattle.sample_region.proofs.either.add_rows.Given as goal
 
 abbrev pub invariant-loop-j : goal.invariant-loop-j

@@ -1,4 +1,4 @@
-use Rattle.sample_region.proofs.UniqueLemmas as law
+use Rattle.region_rows.proofs.UniqueLemmas as law
 use Rattle.sample_region.proofs.laws.one_region.Goals as goal
 
 pub returns : goal.returns

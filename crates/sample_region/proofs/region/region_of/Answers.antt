@@ -3,10 +3,11 @@ use Rattle.std.proofs.lemmas.Bool.{false≢true}
 use Rattle.ass_num.specs.Regions.{PlainRegion, member}
 use Rattle.ass_num.specs.Winding.{place}
 use Rattle.sample_region.specs.Crossings.{is_inside}
-use Rattle.sample_region.proofs.GrowthLemmas.{empty_members}
-use Rattle.sample_region.proofs.LimitLemmas.{near_wider, within_from, columns_near, rows_near}
+use Rattle.region_rows.proofs.GrowthLemmas.{empty_members}
+use Rattle.region_rows.proofs.LimitLemmas.{near_wider, within_from}
+use Rattle.sample_region.proofs.InsideLemmas.{columns_near, rows_near}
 use Rattle.sample_region.proofs.OutsideLemmas.{outside, outside_all}
-use Rattle.sample_region.proofs.SignedLemmas.{lt_is}
+use Rattle.region_rows.proofs.OrderLemmas.{lt_is}
 use Rattle.sample_region.proofs.region.region_of.Goals as goal
 
 pub returns-then-heights-clause-samples : goal.returns-then-heights-clause-samples

@@ -1,4 +1,4 @@
-use Rattle.std.proofs.Common.{rules, arith, ◌∷◌, [], length, length-append, ap}
+use Rattle.std.proofs.Common.{arith, ◌∷◌, [], length, length-append, ap}
 use Rattle.std.proofs.lemmas.List.Elements.{All-push}
 use Rattle.ass_script.specs.Ranges.{IsStyle}
 use Rattle.ass_script.proofs.reading.Reading.style.Goals as goal

@@ -1,6 +1,6 @@
 use Rattle.std.proofs.Common.{arith, length, length-append, [], ◌∷◌, ap}
 use Rattle.std.proofs.lemmas.List.Elements.{All-push}
-use Rattle.bdf_font.specs.Ranges.{IsDraft, IsGlyph}
+use Rattle.bdf_font.specs.Ranges.{IsGlyph}
 use Rattle.bdf_font.proofs.reading.Reading.bitmap_line.Goals as goal
 
 pub returns-clause-sound : goal.returns-clause-sound

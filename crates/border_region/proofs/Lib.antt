@@ -1,0 +1,5 @@
+mod FrontierLemmas
+mod EllipseLemmas
+mod RowLemmas
+mod SideLemmas
+mod WideLemmas

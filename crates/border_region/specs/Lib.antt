@@ -1,0 +1,6 @@
+pub mod Borders
+pub mod Ellipse
+pub mod Frontier
+pub mod Keys
+pub mod Sides
+pub mod Widths

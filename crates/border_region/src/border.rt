@@ -1,0 +1,106 @@
+//! A region widened by an ellipse.
+
+ghost use Rattle.std.specs.Prelude.{◌≡◌, ℕ, ℤ, pos, negsuc, ◌+ℤ◌, ◌-ℤ◌, ◌≤ℤ◌, ◌≤◌, ◌+◌, true, length, IfOk, OnOk};
+ghost use Rattle.ass_num.specs.Limits.{IsRegionWithin};
+ghost use Rattle.ass_num.specs.Regions.{is_canonical, member};
+ghost use Rattle.region_rows.specs.Widened.{in_widened};
+
+use crate::ellipse::{Ellipse, ellipse_of};
+use crate::frontier::frontier;
+use crate::merge::Merge;
+use ass_num::{Mem, Region};
+use region_rows::{Growth, RowRange, end};
+use std::alloc::Global;
+
+/// A widened region that grows row by row.
+#[derive(Drop)]
+struct Border {
+    ellipse: Ellipse,
+    above: Vec<i32>,
+    below: Vec<i32>,
+    merge: Merge,
+    growth: Growth,
+}
+
+impl Border {
+    ghost use Rattle.border_region.specs.Borders.{HasWidened};
+
+    /// Finds row j, the next one, and adds it.
+    fn add_row(&mut self, region: &Region, j: i32) -> Mem<()>
+        requires within { IsRegionWithin 131072 region.now.top region.now.rows }
+        requires low { negsuc 199999 ≤ℤ j }
+        requires high { j ≤ℤ pos 199999 }
+        requires rows { HasWidened region.now self.old.ellipse.rx self.old.ellipse.ry j self.old }
+        ensures { OnOk result (HasWidened region.now self.old.ellipse.rx self.old.ellipse.ry (j +ℤ pos 1) self.new) }
+    {
+        self.merge.find_row(
+            region,
+            self.above.as_slice(),
+            self.below.as_slice(),
+            &self.ellipse,
+            j,
+        )?;
+        self.growth.add(self.merge.runs.as_slice())?;
+        Ok(())
+    }
+
+    /// Adds rows from `first` up to `end`.
+    fn add_rows(&mut self, region: &Region, first: i32, end: i32) -> Mem<()>
+        requires within { IsRegionWithin 131072 region.now.top region.now.rows }
+        requires low { negsuc 199999 ≤ℤ first }
+        requires ordered { first ≤ℤ end }
+        requires high { end ≤ℤ pos 199999 }
+        requires rows { HasWidened region.now self.old.ellipse.rx self.old.ellipse.ry first self.old }
+        ensures { OnOk result (HasWidened region.now self.old.ellipse.rx self.old.ellipse.ry end self.new) }
+    {
+        for j in first..end {
+            self.add_row(region, j)?;
+        }
+        Ok(())
+    }
+}
+
+/// The rows that may hold samples within `ry` rows of the region.
+fn rows_around(region: &Region, ry: u32) -> RowRange
+    requires within { IsRegionWithin 131072 region.now.top region.now.rows }
+    requires down { ry ≤ 1600 }
+    ensures first { result.first ≡ region.now.top -ℤ pos ry }
+    ensures end { result.end ≡ (region.now.top +ℤ pos (length region.now.rows)) +ℤ pos ry }
+{
+    RowRange {
+        first: region.top() - ry as i32,
+        end: end(region) + ry as i32,
+    }
+}
+
+/// The samples with one of the region within the ellipse around them, which reaches `rx` samples across and `ry` rows
+/// up and down. The samples of the region lie within 131,072 of 0, and neither radius is above 1,600.
+pub fn widened(alloc: Global, region: &Region, rx: u32, ry: u32) -> Mem<Region>
+    requires within { IsRegionWithin 131072 region.now.top region.now.rows }
+    requires across { rx ≤ 1600 }
+    requires down { ry ≤ 1600 }
+    ensures samples { IfOk result (λ r. (i j : ℤ) → member r.top r.rows i j ≡ in_widened region.now rx ry i j) }
+    ensures canonical { IfOk result (λ r. is_canonical r.top r.rows ≡ true) }
+    ensures within { IfOk result (λ r. (limit further : ℕ) → rx ≤ further → ry ≤ further → IsRegionWithin limit region.now.top region.now.rows → IsRegionWithin (limit + further) r.top r.rows) }
+{
+    if region.rows().len() == 0 {
+        return Ok(Region::empty(alloc));
+    }
+    let rows = rows_around(region, ry);
+    let mut border = Border {
+        ellipse: ellipse_of(alloc, rx, ry)?,
+        above: frontier(alloc, region, true)?,
+        below: frontier(alloc, region, false)?,
+        merge: Merge::new(alloc),
+        growth: Growth::new(alloc, rows.first),
+    };
+    border.add_rows(region, rows.first, rows.end)?;
+    let Border {
+        ellipse: _,
+        above: _,
+        below: _,
+        merge: _,
+        growth,
+    } = border;
+    Ok(growth.finish())
+}

@@ -1,0 +1,12 @@
+//! Regions widened by an ellipse, as borders of glyphs and drawings are.
+#![tactic(auto)]
+
+mod border;
+mod ellipse;
+mod frontier;
+mod merge;
+#[cfg(test)]
+mod tests;
+mod wide_rows;
+
+pub use border::widened;

@@ -1,0 +1,4 @@
+pub mod LawLemmas
+pub mod RangeLemmas
+pub mod ReadingLemmas
+pub mod SplineLemmas

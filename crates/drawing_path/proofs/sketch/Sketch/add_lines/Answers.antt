@@ -1,0 +1,23 @@
+use Rattle.std.proofs.Common.{◌≡◌, ℕ, ◌==◌, false, Option, List, ◌++◌, length, map, vec_len, sym, ap, ◌∙◌, subst, rules}
+use Rattle.std.proofs.Math.ListN.{drop_of_length-le}
+use Rattle.std.proofs.lemmas.List.{append-nil}
+use Rattle.ass_num.specs.declared.geometry.Seg.{Seg}
+use Rattle.ass_num.specs.declared.geometry.Seg.TheVariants.{Line}
+use Rattle.drawing_path.specs.Sketches.{IsSplinePlace}
+use Rattle.drawing_path.proofs.SplineLemmas.{not_empty, continued_some, lines_plain, place_kept}
+use Rattle.drawing_path.proofs.sketch.Sketch.add_lines.Goals as goal
+
+pub returns : goal.returns
+returns c =
+    let old = c.args.self.now.segs.items in
+    let new = c.loop-point.self.segs.items in
+    let points = c.args.points.now in
+    let all : new ≡ old ++ map Line points = sym (ap (λ z. new ++ map Line z) (drop_of_length-le points c.loop-point-test.false) ∙ append-nil new) ∙ c.loop-point.invariant.segs in
+    let count : vec_len c.args.self.now.segs ≡ length old = search rules in
+    let some : (length old == 0) ≡ false = ap (λ n. n == 0) (sym count) ∙ sym c.is_empty.ensures ∙ c.if-is_empty.false in
+    let P : List Seg → Type 0 = λ z. IsSplinePlace z c.args.self.now.spline in
+    let Q : Option ℕ → Type 0 = λ z. IsSplinePlace new z in
+    record {
+      path = all ∙ sym (continued_some old (map Line points) (not_empty old some));
+      place = subst Q (sym c.loop-point.invariant.spline) (subst P (sym all) (place_kept old (map Line points) c.args.self.now.spline (lines_plain points) c.requires));
+    }

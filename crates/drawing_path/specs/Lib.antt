@@ -1,0 +1,5 @@
+pub mod Paths
+pub mod Ranges
+pub mod Runs
+pub mod Sketches
+pub mod Tokens

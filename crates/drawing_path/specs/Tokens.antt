@@ -1,0 +1,36 @@
+-- What a drawing says, byte by byte: letters of commands, numbers, and what means nothing.
+use Rattle.std.specs.Prelude.{◌≡◌, ℕ, ℤ, ◌==◌, if◌then◌else◌, Option, Some, None, List, [], ◌∷◌, drop}
+use Rattle.ass_num.specs.Fronts.{IsLongestFront, HasNoFront}
+use Rattle.ass_num.specs.Numerals.{IsMilli}
+use Rattle.drawing_path.specs.declared.command.Command.{Command}
+use Rattle.drawing_path.specs.declared.command.Command.TheVariants.{Begin, Lines, Cubics, NewSpline, Extend, Close}
+
+-- The command that a letter chooses: `m` and `n`, `l`, `b`, `s`, `p`, `c`, in this case alone.
+abbrev pub command_of : ℕ → Option Command
+command_of letter =
+    if letter == 109 then Some Begin
+    else if letter == 110 then Some Begin
+    else if letter == 108 then Some Lines
+    else if letter == 98 then Some Cubics
+    else if letter == 115 then Some NewSpline
+    else if letter == 112 then Some Extend
+    else if letter == 99 then Some Close
+    else None
+
+pub data Token : Type 0 where
+  Letter : Command → Token
+  Number : ℤ → Token
+  Skipped : Token
+
+-- The token at the front of a text and how many bytes it takes, the first of these cases that holds:
+-- the letter of a command; a number in thousandths, as long as it can be; any other byte, which means nothing.
+abbrev pub IsToken : List ℕ → Token → ℕ → Type 0
+IsToken [] _ len = ⊥
+IsToken (first ∷ text) (Letter command) len = (command_of first ≡ Some command) × (len ≡ 1)
+IsToken (first ∷ text) (Number value) len = (command_of first ≡ None) × IsLongestFront IsMilli (first ∷ text) value len
+IsToken (first ∷ text) Skipped len = (command_of first ≡ None) × HasNoFront IsMilli (first ∷ text) × (len ≡ 1)
+
+-- All tokens of a text: the one at its front, then those of the rest.
+abbrev pub AreTokens : List Token → List ℕ → Type 0
+AreTokens [] text = text ≡ []
+AreTokens (token ∷ tokens) text = (len : ℕ) × IsToken text token len × AreTokens tokens (drop len text)

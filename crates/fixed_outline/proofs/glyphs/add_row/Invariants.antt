@@ -1,0 +1,11 @@
+use Rattle.std.proofs.Common.{◌≡◌, ◌++◌, flat_map}
+use Rattle.std.specs.List.{range_with_len}
+use Rattle.ass_num.specs.Limits.{IsOutline}
+use Rattle.outline_points.specs.Glyphs.{pixel_quads}
+use Rattle.fixed_outline.specs.GlyphOutlines.{bitmap_of}
+use Rattle.fixed_outline.proofs.glyphs.add_row.Given as goal
+
+abbrev pub invariant-loop-i : goal.invariant-loop-i
+invariant-loop-i l =
+    (l.rings ≡ l.initial.rings ++ flat_map (pixel_quads l.style.matrix l.style.bold (bitmap_of l.glyph) l.j) (range_with_len 0 l.i))
+    × (IsOutline l.initial.rings → IsOutline l.rings)

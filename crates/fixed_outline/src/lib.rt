@@ -1,0 +1,14 @@
+//! Outlines of glyphs, drawings and boxes.
+#![tactic(auto)]
+
+mod boxes;
+mod drawings;
+mod glyphs;
+#[cfg(test)]
+mod tests;
+
+pub use ass_num::Matrix;
+pub use boxes::box_outline;
+pub use drawings::outline_of_path;
+pub use glyphs::quads_of;
+pub use outline_points::turned;

@@ -1,0 +1,88 @@
+//! Softening and blurring a square mask.
+
+ghost use Rattle.std.specs.Prelude.{◌≡◌, ◌≤◌, pos, IfOk};
+
+use crate::laps::Laps;
+use crate::stop::Stop;
+use ass_num::{Mask, is_mask};
+use mask_blur::{box_blur, soften};
+use std::alloc::Global;
+use std::time::Instant;
+
+/// A square mask at the origin, whose bytes grow by `step` from one to the next, without what is above 255.
+fn square(alloc: Global, side: u16, step: u8) -> Result<Mask, Stop>
+    ensures x { IfOk result (λ mask. mask.x ≡ pos 0) }
+    ensures y { IfOk result (λ mask. mask.y ≡ pos 0) }
+    ensures w { IfOk result (λ mask. mask.w ≡ side) }
+    ensures h { IfOk result (λ mask. mask.h ≡ side) }
+{
+    let mut bytes = vec![in alloc; 0u8; side as usize * side as usize]?;
+    let mut byte: u8 = 255;
+    for place in bytes.iter_mut() {
+        *place = byte;
+        byte = byte.wrapping_add(step);
+    }
+    let side = u32::from(side);
+    if !is_mask(0, 0, side, side, bytes.as_slice()) {
+        return Err(Stop::SizeOutOfRange);
+    }
+    Ok(Mask::new(0, 0, side, side, bytes))
+}
+
+fn middle(mask: &Mask) -> u8 {
+    let (w, h) = (mask.w() as usize, mask.h() as usize);
+    mask.bytes().get(h / 2 * w + w / 2).copied().unwrap_or(0)
+}
+
+fn measure_passes(rt: &HostRuntime, side: u16, n: u8, turns: u32) -> Result<(), Stop> {
+    let mask = square(rt.alloc(), side, 37)?;
+    let mut laps = Laps::new();
+    let mut byte = 0;
+    for _ in 0..turns {
+        let began = Instant::now(rt)?;
+        let softened = soften(rt.alloc(), &mask, u32::from(n))?;
+        laps.add(began.elapsed(rt)?);
+        byte = middle(&softened);
+    }
+    println!(rt; "soften, passes {n}: middle {byte}, {laps}")?;
+    Ok(())
+}
+
+fn measure_radius(rt: &HostRuntime, side: u16, r: u8, turns: u32) -> Result<(), Stop>
+    requires { r ≤ 100 }
+{
+    let mask = square(rt.alloc(), side, 37)?;
+    let mut laps = Laps::new();
+    let mut byte = 0;
+    for _ in 0..turns {
+        let began = Instant::now(rt)?;
+        let blurred = box_blur(rt.alloc(), &mask, u32::from(r))?;
+        laps.add(began.elapsed(rt)?);
+        byte = middle(&blurred);
+    }
+    println!(rt; "blur, radius {r}: middle {byte}, {laps}")?;
+    Ok(())
+}
+
+/// Times 1 and 10 passes of softening, and blurs of the radii 2, 20 and 100, of a mask with sides of so many pixels.
+pub fn measure(rt: &HostRuntime, side: u32, turns: u32) -> Result<(), Stop> {
+    if side > 1_080 {
+        return Err(Stop::SizeOutOfRange);
+    }
+    let side = side as u16;
+    measure_passes(rt, side, 1, turns)?;
+    measure_passes(rt, side, 10, turns)?;
+    measure_radius(rt, side, 2, turns)?;
+    measure_radius(rt, side, 20, turns)?;
+    measure_radius(rt, side, 100, turns)
+}
+
+/// Prints a pixel softened once, and four pixels blurred with the radius 1.
+pub fn show(rt: &HostRuntime) -> Result<(), Stop> {
+    let alloc = rt.alloc();
+    let softened = soften(alloc, &square(alloc, 1, 0)?, 1)?;
+    println!(rt; "softened once: {:?}", softened.bytes())?;
+    let blurred = box_blur(alloc, &square(alloc, 2, 85)?, 1)?;
+    println!(rt; "blurred by 1: {:?}", blurred.bytes())?;
+    Ok(())
+}

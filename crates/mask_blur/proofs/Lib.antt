@@ -1,0 +1,11 @@
+pub mod LineLemmas
+pub mod MeanLemmas
+pub mod SumLemmas
+pub mod WeightLemmas
+pub mod PutLemmas
+pub mod ShownLemmas
+pub mod ColumnLemmas
+pub mod MaskLemmas
+pub mod SoftenedLemmas
+pub mod GrowthLemmas
+pub mod BlurLemmas

@@ -1,0 +1,5 @@
+pub mod Blur
+pub mod Growth
+pub mod Lines
+pub mod Shown
+pub mod Softening

@@ -1,0 +1,71 @@
+//! Blurring along columns.
+
+ghost use Rattle.std.specs.Prelude.{◌≡◌, ℕ, ℤ, pos, ◌≤◌, ◌<◌, ◌+◌, ◌*◌, ◌-ℤ◌, ◌^◌, length, slice_index};
+ghost use Rattle.mask_blur.specs.Blur.{mean, along_columns};
+ghost use Rattle.mask_blur.specs.Shown.{Shows};
+
+use crate::means::Means;
+use crate::rows::row_or_zeros;
+
+/// Moves the columns' sums down by a row, and writes their means.
+fn slide(to: &mut [u8], sums: &mut [u16], entering: &[u8], leaving: &[u8], means: &Means)
+    requires sums { length sums.old ≡ length to.old }
+    requires entering { length entering.now ≡ length to.old }
+    requires leaving { length leaving.now ≡ length to.old }
+    requires low { (k : ℕ) → k < length to.old → slice_index leaving.now k ≤ slice_index sums.old k + slice_index entering.now k }
+    requires high { (k : ℕ) → k < length to.old
+        → slice_index sums.old k + slice_index entering.now k ≤ 255 * (2 * means.now.radius + 1) + slice_index leaving.now k }
+    ensures sums { (k : ℕ) → k < length to.old
+        → slice_index sums.new k + slice_index leaving.now k ≡ slice_index sums.old k + slice_index entering.now k }
+    ensures means { (k : ℕ) → k < length to.old → slice_index to.new k ≡ mean means.now.radius (slice_index sums.new k) }
+{
+    for k in 0..to.len() {
+        let sum = sums[k] + u16::from(entering[k]) - u16::from(leaving[k]);
+        sums[k] = sum;
+        to[k] = means.of(sum);
+    }
+}
+
+/// One pass along the columns of `h` rows of as many bytes as there are zeros.
+fn blur_columns(to: &mut [u8], sums: &mut [u16], from: &[u8], zeros: &[u8], h: usize, means: &Means)
+    requires height { h < 2 ^ 33 }
+    requires rows { h * length zeros.now ≤ length from.now }
+    requires room { (h + 2 * means.now.radius) * length zeros.now ≤ length to.old }
+    requires sums { length sums.old ≡ length zeros.now }
+    requires zeros { (i : ℕ) → slice_index zeros.now i ≡ 0 }
+    ensures { (f : ℤ → ℤ → ℕ) (x y : ℤ) → Shows f x y (length zeros.now) h from.now
+        → Shows (along_columns means.now.radius f) x (y -ℤ pos means.now.radius) (length zeros.now) (h + 2 * means.now.radius) to.new }
+{
+    let w = zeros.len();
+    let r = means.radius();
+    sums.fill(0);
+    for k in 0..h + 2 * r {
+        let entering = row_or_zeros(from, zeros, h, k, 0);
+        let leaving = row_or_zeros(from, zeros, h, k, 2 * r + 1);
+        slide(&mut to[k * w..k * w + w], sums, entering, leaving, means);
+    }
+}
+
+/// Three passes along the columns of the `h` rows in `spare`, which holds the second pass too; a row has as many bytes as there are zeros.
+pub fn blur_columns_thrice(
+    to: &mut [u8],
+    spare: &mut [u8],
+    sums: &mut [u16],
+    zeros: &[u8],
+    h: usize,
+    means: &Means,
+)
+    requires height { h + 6 * means.now.radius < 2 ^ 32 }
+    requires room { (h + 6 * means.now.radius) * length zeros.now ≤ length to.old }
+    requires spare { (h + 4 * means.now.radius) * length zeros.now ≤ length spare.old }
+    requires sums { length sums.old ≡ length zeros.now }
+    requires zeros { (i : ℕ) → slice_index zeros.now i ≡ 0 }
+    ensures { (f : ℤ → ℤ → ℕ) (x y : ℤ) → Shows f x y (length zeros.now) h spare.old
+        → Shows (along_columns means.now.radius (along_columns means.now.radius (along_columns means.now.radius f)))
+        x (y -ℤ pos (3 * means.now.radius)) (length zeros.now) (h + 6 * means.now.radius) to.new }
+{
+    let r = means.radius();
+    blur_columns(to, sums, spare, zeros, h, means);
+    blur_columns(spare, sums, to, zeros, h + 2 * r, means);
+    blur_columns(to, sums, spare, zeros, h + 4 * r, means);
+}

@@ -1,0 +1,25 @@
+//! Rows of bytes.
+
+ghost use Rattle.std.specs.Prelude.{◌≡◌, ℕ, ℤ, pos, ◌≤◌, ◌<◌, ◌+◌, ◌*◌, ◌+ℤ◌, ◌-ℤ◌, length, slice_index};
+ghost use Rattle.mask_blur.specs.Shown.{Shows};
+
+/// Row `k - skip` of `h` rows, or the zeros where there is no such row. A row has as many bytes as there are zeros.
+pub fn row_or_zeros<'a>(
+    bytes: &'a [u8],
+    zeros: &'a [u8],
+    h: usize,
+    k: usize,
+    skip: usize,
+) -> &'a [u8]
+    requires rows { h * length zeros.now ≤ length bytes.now }
+    requires zeros { (i : ℕ) → slice_index zeros.now i ≡ 0 }
+    ensures count { length result.now ≡ length zeros.now }
+    ensures row { (f : ℤ → ℤ → ℕ) (x y : ℤ) → Shows f x y (length zeros.now) h bytes.now
+        → (i : ℕ) → i < length zeros.now → slice_index result.now i ≡ f (x +ℤ pos i) ((y +ℤ pos k) -ℤ pos skip) }
+{
+    if k < skip || h <= k - skip {
+        return zeros;
+    }
+    let start = (k - skip) * zeros.len();
+    &bytes[start..start + zeros.len()]
+}

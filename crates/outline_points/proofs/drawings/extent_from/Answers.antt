@@ -1,0 +1,14 @@
+use Rattle.std.proofs.Common.{◌++◌, ◌∙◌, sym, ap, subst}
+use Rattle.outline_points.specs.Drawings.{IsSegment, segment_points}
+use Rattle.outline_points.proofs.Walks.{extent_more}
+use Rattle.outline_points.proofs.drawings.extent_from.Goals as goal
+
+pub loop-seg-preserved : goal.loop-seg-preserved
+loop-seg-preserved c = (
+  c.end_point-vertex.ensures.within c.loop-seg.invariant.0 (subst IsSegment (sym c.seg-item.is) (c.requires.segments c.loop-seg.seg-index c.seg-item.result c.loop-seg-test.true)),
+  c.clear.ensures.items,
+  extent_more c.args.m.now c.loop-seg.vertex c.end_point-vertex.result c.loop-seg.largest c.largest_from-largest.result c.args.segs.now c.loop-seg.seg-index c.seg-item.result
+      c.as_slice.result.now c.loop-seg-test.true c.seg-item.is c.end_point-vertex.ensures.value
+      (c.as_slice.ensures.value ∙ c.in_ok-points.ensures.added ∙ ap (λ ps. ps ++ segment_points c.args.m.now c.loop-seg.vertex c.seg-item.result) c.loop-seg.invariant.1)
+      c.largest_from-largest.ensures ∙ c.loop-seg.invariant.2,
+)

@@ -1,0 +1,73 @@
+-- The quads of a glyph. They are told of plain numbers, in pixels of the bitmap; b grows downwards from the baseline.
+use Rattle.std.specs.Prelude.{ℕ, ◌+◌, ◌-◌, ◌*◌, ◌/◌, ◌%◌, ◌^◌, ◌==◌, Bool, if◌then◌else◌, ℤ, pos, neg_ℤ, ◌+ℤ◌, ◌-ℤ◌, ◌*ℤ◌, List, [], ◌∷◌, ◌++◌, flat_map, slice_index}
+use Rattle.std.specs.List.{range_with_len}
+use Rattle.ass_num.specs.Floor.{floor_div}
+use Rattle.ass_num.specs.declared.geometry.Point.{Point}
+use Rattle.ass_num.specs.declared.geometry.Matrix.{Matrix}
+use Rattle.outline_points.specs.Placing.{outline_point}
+
+-- a bitmap of w by h pixels, whose lower left corner lies at (x, y) from the pen, y upwards
+pub record Bitmap : Type 0 where
+  pub w : ℕ
+  pub h : ℕ
+  pub x : ℤ
+  pub y : ℤ
+  pub bits : List ℕ
+
+-- how far italic moves a point to the right: by a quarter of its height
+abbrev pub slant : Bool → ℤ → ℤ
+slant italic y = if italic then floor_div (neg_ℤ y) (pos 4) else pos 0
+
+-- (a, b) scaled and slanted
+abbrev pub scaled_pixel : Matrix → ℤ → ℤ → Point
+scaled_pixel m a b =
+    let y = floor_div (b *ℤ m.uy) (pos 65536) in
+    record { x = floor_div (a *ℤ m.ux) (pos 65536) +ℤ slant m.italic y; y = y }
+
+-- and turned and held
+abbrev pub glyph_point : Matrix → ℤ → ℤ → Point
+glyph_point m a b = outline_point m.turn (scaled_pixel m a b)
+
+-- a rectangle of the bitmap's plane, from its upper left corner clockwise
+abbrev pub quad : Matrix → ℤ → ℤ → ℤ → ℤ → List Point
+quad m left top right bottom = glyph_point m left top ∷ glyph_point m right top ∷ glyph_point m right bottom ∷ glyph_point m left bottom ∷ []
+
+-- the pixel whose upper left corner is (a, b)
+abbrev pub pixel_quad : Matrix → ℤ → ℤ → List Point
+pixel_quad m a b = quad m a b (a +ℤ pos 1) (b +ℤ pos 1)
+
+-- Whether the pixel in column i and row j is set: rows from the top, each of whole bytes, the highest bit leftmost.
+abbrev pub is_set : Bitmap → ℕ → ℕ → Bool
+is_set bitmap i j = (slice_index bitmap.bits (j * ((bitmap.w + 7) / 8) + i / 8) / 2 ^ (7 - i % 8)) % 2 == 1
+
+-- a set pixel, and where the glyph is bold once more one pixel to the right
+abbrev pub set_quads : Matrix → Bool → ℤ → ℤ → List (List Point)
+set_quads m bold a b = pixel_quad m a b ∷ (if bold then pixel_quad m (a +ℤ pos 1) b ∷ [] else [])
+
+abbrev pub pixel_quads : Matrix → Bool → Bitmap → ℕ → ℕ → List (List Point)
+pixel_quads m bold bitmap j i =
+    if is_set bitmap i j
+    then set_quads m bold (bitmap.x +ℤ pos i) (neg_ℤ ((bitmap.y +ℤ pos bitmap.h) -ℤ pos j))
+    else []
+
+-- the set pixels of row j from the left
+abbrev pub row_quads : Matrix → Bool → Bitmap → ℕ → List (List Point)
+row_quads m bold bitmap j = flat_map (pixel_quads m bold bitmap j) (range_with_len 0 bitmap.w)
+
+-- the set pixels of all rows from the top
+abbrev pub bitmap_quads : Matrix → Bool → Bitmap → List (List Point)
+bitmap_quads m bold bitmap = flat_map (row_quads m bold bitmap) (range_with_len 0 bitmap.h)
+
+-- a bar one pixel high, from the pen as far as the glyph advances it
+abbrev pub bar_quad : Matrix → ℤ → ℤ → List Point
+bar_quad m advance top = quad m (pos 0) top advance (top +ℤ pos 1)
+
+-- where the strikeout begins: half of the font's ascent and one pixel above the baseline
+abbrev pub strikeout_top : ℤ → ℤ
+strikeout_top ascent = neg_ℤ (floor_div ascent (pos 2)) -ℤ pos 1
+
+-- The rings of a glyph: the pixels, and then the bars.
+abbrev pub glyph_rings : Matrix → Bool → Bool → Bool → ℤ → ℤ → Bitmap → List (List Point)
+glyph_rings m bold underline strikeout ascent advance bitmap =
+    (bitmap_quads m bold bitmap ++ (if underline then bar_quad m advance (pos 1) ∷ [] else []))
+    ++ (if strikeout then bar_quad m advance (strikeout_top ascent) ∷ [] else [])

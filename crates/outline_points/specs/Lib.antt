@@ -1,0 +1,5 @@
+pub mod Boxes
+pub mod Curves
+pub mod Drawings
+pub mod Glyphs
+pub mod Placing

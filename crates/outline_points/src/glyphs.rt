@@ -1,0 +1,80 @@
+//! The quads of glyphs.
+
+ghost use Rattle.std.specs.Prelude.{◌≡◌, ℕ, ◌+◌, ◌*◌, ◌/◌, ◌<◌, ◌^◌, ◌∷◌, [], length, All};
+ghost use Rattle.ass_num.specs.Limits.{IsOutlinePoint};
+ghost use Rattle.outline_points.specs.Placing.{IsWithin, IsPointWithin, IsMatrix};
+ghost use Rattle.outline_points.specs.Glyphs.{slant, scaled_pixel, glyph_point, quad, is_set};
+
+use crate::placing::Turn;
+use crate::products::scaled;
+use ass_num::{Matrix, Point};
+
+/// How far italic moves a point at this height to the right.
+fn slant(italic: bool, y: i64) -> i64
+    requires { IsWithin (2 ^ 54) y }
+    ensures value { result ≡ slant italic y }
+    ensures within { IsWithin (2 ^ 54) result }
+{
+    if italic {
+        return (-y).div_euclid(4);
+    }
+    0
+}
+
+/// A point of the bitmap's plane, scaled and slanted.
+fn scaled_pixel(m: &Matrix, a: i64, b: i64) -> Point
+    requires matrix { IsMatrix m.now }
+    requires a { IsWithin 8192 a }
+    requires b { IsWithin 8192 b }
+    ensures value { result ≡ scaled_pixel m.now a b }
+    ensures within { IsPointWithin (2 ^ 61) result }
+{
+    let x = scaled(a, m.ux, 65_536);
+    let y = scaled(b, m.uy, 65_536);
+    Point {
+        x: x + slant(m.italic, y),
+        y,
+    }
+}
+
+/// The point of an outline for a point of the bitmap's plane, b downwards from the baseline. `turn` is the matrix's.
+pub fn glyph_point(m: &Matrix, turn: &Turn, a: i64, b: i64) -> Point
+    requires matrix { IsMatrix m.now }
+    requires turn { turn.now.angle ≡ m.now.turn }
+    requires a { IsWithin 8192 a }
+    requires b { IsWithin 8192 b }
+    ensures value { result ≡ glyph_point m.now a b }
+    ensures within { IsOutlinePoint result }
+{
+    turn.outline_point(scaled_pixel(m, a, b))
+}
+
+/// A rectangle of the bitmap's plane, from its upper left corner clockwise.
+pub fn quad(m: &Matrix, turn: &Turn, left: i64, top: i64, right: i64, bottom: i64) -> [Point; 4]
+    requires matrix { IsMatrix m.now }
+    requires turn { turn.now.angle ≡ m.now.turn }
+    requires left { IsWithin 8192 left }
+    requires top { IsWithin 8192 top }
+    requires right { IsWithin 8192 right }
+    requires bottom { IsWithin 8192 bottom }
+    ensures value { result ≡ quad m.now left top right bottom }
+    ensures within { All IsOutlinePoint result }
+{
+    [
+        glyph_point(m, turn, left, top),
+        glyph_point(m, turn, right, top),
+        glyph_point(m, turn, right, bottom),
+        glyph_point(m, turn, left, bottom),
+    ]
+}
+
+/// Whether the pixel in column i and row j is set in a bitmap of rows of whole bytes, w pixels wide.
+pub fn pixel_is_set(bits: &[u8], w: u32, i: u32, j: u32) -> bool
+    requires column { i < w }
+    requires row { (j + 1) * ((w + 7) / 8) < length bits.now + 1 }
+    ensures { (h : ℕ) (x y : _) → result ≡ is_set (record { w = w; h = h; x = x; y = y; bits = bits.now }) i j }
+{
+    let row = j as usize * (w as usize).div_ceil(8);
+    let byte = bits[row + i as usize / 8];
+    (byte >> (7 - i % 8)) % 2 == 1
+}

@@ -1,0 +1,7 @@
+pub mod BlockLemmas
+pub mod CutLemmas
+pub mod FrontLemmas
+pub mod LawLemmas
+pub mod NumberShapes
+pub mod ReadLemmas
+pub mod TransformLemmas

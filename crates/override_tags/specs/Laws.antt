@@ -1,0 +1,18 @@
+-- How the items of a text cover it.
+use Rattle.std.specs.Prelude.{◌≡◌, ℕ, ◌<◌, Bool, true, false, MatchBool, List, [], ◌∷◌, length}
+use Rattle.override_tags.specs.Items as item
+use Rattle.override_tags.specs.Items.{PlainItem, PlainKind}
+use Rattle.override_tags.specs.Readings.{IsReading}
+
+abbrev pub is_tag : PlainKind → Bool
+is_tag (item.Tag _) = true
+is_tag _ = false
+
+-- The characters, breaks, hard spaces and blocks among the items take the bytes from a place to another, one after another and none of them no byte.
+abbrev pub Follow : ℕ → List PlainItem → ℕ → Type 0
+Follow from [] end = from ≡ end
+Follow from (i ∷ items) end = MatchBool (is_tag i.kind) (Follow from items end) ((i.from ≡ from) × (from < i.to) × Follow i.to items end)
+
+-- They cover the text.
+abbrev pub PartsCover : Type 0
+PartsCover = (text : List ℕ) (items : List PlainItem) → IsReading text items → Follow 0 items (length text)

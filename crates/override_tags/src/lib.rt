@@ -1,0 +1,23 @@
+//! Texts of events: characters, breaks, and the override tags in blocks.
+#![tactic(auto)]
+
+mod block;
+mod clip;
+mod cut;
+mod item;
+mod laws;
+mod read;
+mod scan;
+mod single;
+mod tag;
+#[cfg(test)]
+mod tests;
+mod transform;
+pub mod view;
+
+pub use item::{Item, ItemKind};
+pub use laws::parts_cover;
+pub use read::read_text;
+pub use tag::{ClipTag, Tag};
+pub use tag_arguments::{Num, Sung};
+pub use view::{EventView, Shown, ShownKind, State, Syllable};

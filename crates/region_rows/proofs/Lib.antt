@@ -1,0 +1,6 @@
+pub mod GrowthLemmas
+pub mod JoinLemmas
+pub mod LimitLemmas
+pub mod OrderLemmas
+pub mod UniqueLemmas
+pub mod WidenedLemmas

@@ -1,0 +1,27 @@
+-- The tests of order on whole numbers, and the facts that they decide.
+use Rattle.std.proofs.Common.{◌≡◌, true, false, ℤ, ◌≤ℤ◌, ◌<ℤ◌, arith, int_lt, int_le}
+use Rattle.std.proofs.lemmas.Int.{ints}
+
+pub lt_true : (a b : ℤ) → a <ℤ b → int_lt a b ≡ true
+lt_true a b h = grind (arith, ints)
+
+pub lt_false : (a b : ℤ) → b ≤ℤ a → int_lt a b ≡ false
+lt_false a b h = grind (arith, ints)
+
+pub le_true : (a b : ℤ) → a ≤ℤ b → int_le a b ≡ true
+le_true a b h = grind (arith, ints)
+
+pub le_false : (a b : ℤ) → b <ℤ a → int_le a b ≡ false
+le_false a b h = grind (arith, ints)
+
+pub lt_is : (a b : ℤ) → int_lt a b ≡ true → a <ℤ b
+lt_is a b h = grind (arith, ints)
+
+pub lt_not : (a b : ℤ) → int_lt a b ≡ false → b ≤ℤ a
+lt_not a b h = grind (arith, ints)
+
+pub le_is : (a b : ℤ) → int_le a b ≡ true → a ≤ℤ b
+le_is a b h = grind (arith, ints)
+
+pub le_not : (a b : ℤ) → int_le a b ≡ false → b <ℤ a
+le_not a b h = grind (arith, ints)

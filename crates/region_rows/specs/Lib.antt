@@ -1,0 +1,4 @@
+pub mod Grown
+pub mod Growths
+pub mod Joins
+pub mod Widened

@@ -1,0 +1,10 @@
+//! Regions row by row: runs that are joined, rows that are read, and a region that grows by its rows.
+#![tactic(auto)]
+
+mod growth;
+mod rows;
+mod runs;
+
+pub use growth::{Growth, RowRange};
+pub use rows::{end, row};
+pub use runs::{add_run, join};

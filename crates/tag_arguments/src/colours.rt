@@ -1,0 +1,30 @@
+//! Arguments that are colours and alphas.
+
+ghost use Rattle.ass_num.specs.Numerals.{IsColour, IsAlpha};
+ghost use Rattle.tag_arguments.specs.Numbers.{ReadsOptional};
+
+/// An argument that is empty, or begins with a colour.
+pub fn read_colour_argument(argument: &str) -> Option<Option<u32>>
+    ensures { ReadsOptional IsColour argument.now result }
+{
+    if argument.is_empty() {
+        return Some(None);
+    }
+    match ass_num::read_colour(argument.as_bytes()) {
+        Some(colour) => Some(Some(colour)),
+        None => None,
+    }
+}
+
+/// An argument that is empty, or begins with an alpha.
+pub fn read_alpha_argument(argument: &str) -> Option<Option<u8>>
+    ensures { ReadsOptional IsAlpha argument.now result }
+{
+    if argument.is_empty() {
+        return Some(None);
+    }
+    match ass_num::read_alpha(argument.as_bytes()) {
+        Some(alpha) => Some(Some(alpha)),
+        None => None,
+    }
+}

@@ -1,0 +1,128 @@
+//! Where tags and their arguments end.
+
+ghost use Rattle.std.specs.Prelude.{◌≡◌, ◌+◌, ◌^◌, ◌<◌, ◌≤◌, length, slice_index, true};
+ghost use Rattle.std.specs.List.{prefix_len, suffix_len};
+ghost use Rattle.std.specs.Str.{IsCharBoundary};
+ghost use Rattle.std.specs.Option.{option_copied};
+ghost use Rattle.ass_num.specs.Numerals.{is_blank};
+ghost use Rattle.tag_arguments.specs.Cuts.{past_blanks, before_blanks, trimmed, after_bracket, plain_argument, depth_after, outer_len, tag_len, bracketed};
+
+fn is_blank(byte: u8) -> bool
+    ensures { result ≡ is_blank byte }
+{
+    byte == b' ' || byte == b'\t'
+}
+
+/// How many blanks stand at the front.
+fn blanks_before(text: &[u8]) -> usize
+    ensures count { result ≡ prefix_len is_blank text.now }
+    ensures within { result ≤ length text.now }
+{
+    for (i, byte) in text.iter().enumerate() {
+        if !is_blank(*byte) {
+            return i;
+        }
+    }
+    text.len()
+}
+
+/// Where the blanks at the end begin.
+fn blanks_from(text: &[u8]) -> usize
+    ensures place { result + suffix_len is_blank text.now ≡ length text.now }
+    ensures blank { result < length text.now → is_blank (slice_index text.now result) ≡ true }
+{
+    let mut end = text.len();
+    while end > 0 && is_blank(text[end - 1]) {
+        end -= 1;
+    }
+    end
+}
+
+/// The text from its first byte on that is no blank.
+#[tactic(auto, unfolding(crate::specs::Cuts::past_blanks))]
+pub fn past_blanks(text: &str) -> &str
+    ensures { result.now ≡ past_blanks text.now }
+{
+    &text[blanks_before(text.as_bytes())..]
+}
+
+/// The text without the blanks at its end.
+#[tactic(auto, unfolding(crate::specs::Cuts::before_blanks))]
+fn before_blanks(text: &str) -> &str
+    ensures { result.now ≡ before_blanks text.now }
+{
+    &text[..blanks_from(text.as_bytes())]
+}
+
+/// The text without the blanks at both its ends.
+pub fn trimmed(text: &str) -> &str
+    ensures { result.now ≡ trimmed text.now }
+{
+    before_blanks(past_blanks(text))
+}
+
+/// The text behind a `(` at the front, if one stands there.
+fn after_bracket(text: &str) -> Option<&str>
+    ensures { option_copied result ≡ after_bracket text.now }
+{
+    text.strip_prefix('(')
+}
+
+/// An argument that needs no brackets: without the blanks at both its ends, and then without one `(`.
+pub fn plain_argument(text: &str) -> &str
+    ensures { result.now ≡ plain_argument text.now }
+{
+    let argument = trimmed(text);
+    match after_bracket(argument) {
+        Some(inside) => inside,
+        None => argument,
+    }
+}
+
+/// The depth in parentheses behind a byte.
+fn depth_after(byte: u8, depth: usize) -> usize
+    requires { depth + 1 < 2 ^ 64 }
+    ensures value { result ≡ depth_after byte depth }
+    ensures bound { result ≤ depth + 1 }
+{
+    match byte {
+        b'(' => depth + 1,
+        b')' => depth.saturating_sub(1),
+        _ => depth,
+    }
+}
+
+/// How many bytes stand before the next byte `stop` that isn't in parentheses, or before the end.
+fn outer_len(text: &[u8], stop: u8) -> usize
+    ensures len { result ≡ outer_len stop 0 text.now }
+    ensures within { result ≤ length text.now }
+    ensures stops { result < length text.now → slice_index text.now result ≡ stop }
+{
+    let mut depth: usize = 0;
+    for (i, byte) in text.iter().enumerate() {
+        if *byte == stop && depth == 0 {
+            return i;
+        }
+        depth = depth_after(*byte, depth);
+    }
+    text.len()
+}
+
+/// How long the tag is that begins behind a `\`: it ends before the next `\` that isn't in parentheses, or with the text.
+pub fn tag_len(text: &str) -> usize
+    ensures len { result ≡ tag_len text.now }
+    ensures boundary { IsCharBoundary text.now result }
+    ensures stops { result < length text.now → slice_index text.now result ≡ 92 }
+{
+    outer_len(text.as_bytes(), b'\\')
+}
+
+/// What stands in the brackets at the front of a text, up to the matching `)` or the end; none without a `(`.
+pub fn bracketed(text: &str) -> Option<&str>
+    ensures { option_copied result ≡ bracketed text.now }
+{
+    match after_bracket(text) {
+        Some(inside) => Some(&inside[..outer_len(inside.as_bytes(), b')')]),
+        None => None,
+    }
+}
