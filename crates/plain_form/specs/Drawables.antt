@@ -1,5 +1,5 @@
 -- What is known of lines that are drawn.
-use Rattle.std.specs.Prelude.{◌≡◌, ℕ, ◌<◌, ◌≤◌, true, Option, Some, None, Result, Ok, Err}
+use Rattle.std.specs.Prelude.{◌≡◌, ◌<◌, ◌≤◌, true, Option, Some, None, Result, Ok, Err}
 use Rattle.bdf_font.specs.Fonts.{PlainFont}
 use Rattle.ass_events.specs.Events.{is_time}
 use Rattle.ass_events.specs.declared.event.Event.{Event}

@@ -1,5 +1,5 @@
 -- The plain form of scripts and its picture (docs/PLAIN_FORM.md).
-use Rattle.std.specs.Prelude.{ℕ, ℤ, pos, negsuc, ◌+◌, ◌*◌, ◌/◌, ◌%◌, ◌+ℤ◌, Bool, false, not, ◌&&◌, ◌==◌, nat_le, int_le, int_lt, List, [], ◌∷◌, length, Option, Some, None, Result, Ok, Err, slice_get, unsigned_abs, if◌then◌else◌}
+use Rattle.std.specs.Prelude.{ℕ, ℤ, pos, negsuc, ◌*◌, ◌/◌, ◌%◌, ◌+ℤ◌, Bool, not, ◌&&◌, ◌==◌, nat_le, int_le, int_lt, List, [], length, Option, Some, None, Result, Ok, Err, slice_get, slice_index_or, unsigned_abs, if◌then◌else◌}
 use Rattle.std.specs.Int.{int_max}
 use Rattle.std.specs.List.{list_all}
 use Rattle.std.specs.Option.{option_map, option_map_or}
@@ -16,21 +16,21 @@ use Rattle.bdf_font.specs.Fonts.{PlainFont}
 use Rattle.plain_picture.specs.Pictures.{line_covers, picture, small_font}
 use Rattle.plain_form.specs.declared.line.PlainLine.{PlainLine}
 
+-- the first of the four colours
+abbrev pub primary_of : Style → Rgba
+primary_of s = slice_index_or s.colours 0 (record { r = 0; g = 0; b = 0; a = 0 })
+
 -- a style without border, shadow, weight, slant, lines, scaling, spacing or turn, whose text stands at the top left in an opaque colour
 abbrev pub is_plain_style : Style → Bool
 is_plain_style s =
     (s.border_style == 1) && int_eq s.outline (pos 0) && int_eq s.shadow (pos 0)
     && not s.bold && not s.italic && not s.underline && not s.strikeout
     && int_eq s.scale_x (pos 100000) && int_eq s.scale_y (pos 100000) && int_eq s.spacing (pos 0) && int_eq s.angle (pos 0)
-    && (s.alignment == 7) && option_map_or (λ colour. colour.a == 0) (slice_get s.colours 0) false
+    && (s.alignment == 7) && ((primary_of s).a == 0)
 
--- a margin of an event: its own, or the style's where its own is 0
-abbrev pub margin_for : ℤ → ℤ → ℤ
-margin_for own style = if int_eq own (pos 0) then style else own
-
--- the left and the vertical margin are 0
+-- the left and the vertical margin are 0: the event's, which at 0 stands for the style's, and the style's
 abbrev pub is_at_corner : Style → Event → Bool
-is_at_corner s e = int_eq (margin_for e.margin_l s.margin_l) (pos 0) && int_eq (margin_for e.margin_v s.margin_v) (pos 0)
+is_at_corner s e = int_eq e.margin_l (pos 0) && int_eq s.margin_l (pos 0) && int_eq e.margin_v (pos 0) && int_eq s.margin_v (pos 0)
 
 -- neither `{` nor `\` nor a tab
 abbrev pub is_plain_byte : ℕ → Bool
@@ -48,19 +48,19 @@ abbrev pub zoom_of : ℤ → ℕ → Option ℕ
 zoom_of (pos size) height = zoom_from size (1000 * height)
 zoom_of (negsuc size) height = None
 
--- the first of the four colours
-abbrev pub primary_of : Style → Rgba
-primary_of s = option_map_or (λ colour. colour) (slice_get s.colours 0) (record { r = 0; g = 0; b = 0; a = 0 })
-
 -- the style that an event's name for it means
 abbrev pub style_for : PlainScript → Event → Style
 style_for script e = option_map_or (λ s. s) (option_map_or (slice_get script.styles) (style_named e.style script.styles) None) built_in_style
+
+-- the line of an event in a style
+abbrev pub line_at : ℕ → Style → Event → PlainLine
+line_at zoom s e = record { zoom = zoom; colour = primary_of s; text = e.text; start = e.start; duration = e.duration }
 
 -- what an event of the plain form shows in a style and a font
 abbrev pub line_in : Style → Event → PlainFont → Option PlainLine
 line_in s e font =
     if is_plain_style s && is_at_corner s e && list_all is_plain_byte e.text && small_font font
-    then option_map (λ zoom. record { zoom = zoom; colour = primary_of s; text = e.text; start = e.start; duration = e.duration }) (zoom_of s.size (height_of font))
+    then option_map (λ zoom. line_at zoom s e) (zoom_of s.size (height_of font))
     else None
 
 abbrev pub line_of_event : PlainScript → PlainFont → Result Event ChunkRefusal → Option PlainLine

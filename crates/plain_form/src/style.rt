@@ -3,12 +3,19 @@
 ghost use Rattle.std.specs.Prelude.{◌≡◌, ◌==◌, ◌&&◌, not, pos, ◌<◌, ◌^◌};
 ghost use Rattle.std.specs.List.{list_all};
 ghost use Rattle.std.specs.Ordering.{int_eq};
-ghost use Rattle.plain_form.specs.Forms.{height_of, is_at_corner, is_plain_byte, is_plain_style, margin_for, zoom_from, zoom_of};
+ghost use Rattle.plain_form.specs.Forms.{height_of, is_at_corner, is_plain_byte, is_plain_style, primary_of, zoom_from, zoom_of};
 
 use ass_events::Event;
-use ass_num::Milli;
+use ass_num::{Milli, Rgba};
 use ass_script::Style;
 use bdf_font::Font;
+
+/// The primary colour of a style.
+pub fn primary_of(style: &Style) -> Rgba
+    ensures { result ≡ primary_of style.now }
+{
+    style.colours[0]
+}
 
 // Whether a style has no border, weight, slant or line.
 fn is_bare(style: &Style) -> bool
@@ -35,21 +42,14 @@ pub fn is_plain_style(style: &Style) -> bool
         && style.spacing == 0
         && style.angle == 0
         && style.alignment == 7
-        && style.colours[0].a == 0
+        && primary_of(style).a == 0
 }
 
-// The margin of an event: its own, or the style's where its own is 0.
-fn margin_for(own: i32, style: i32) -> i32
-    ensures { result ≡ margin_for own style }
-{
-    if own == 0 { style } else { own }
-}
-
-/// Whether the left and the vertical margin of an event are 0.
+/// Whether the left and the vertical margin of an event are 0, its own and the style's that stands in for it.
 pub fn is_at_corner(style: &Style, event: &Event) -> bool
     ensures { result ≡ is_at_corner style.now event.now }
 {
-    margin_for(event.margin_l, style.margin_l) == 0 && margin_for(event.margin_v, style.margin_v) == 0
+    event.margin_l == 0 && style.margin_l == 0 && event.margin_v == 0 && style.margin_v == 0
 }
 
 /// Whether a text has no `{`, no `\` and no tab.
