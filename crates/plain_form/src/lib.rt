@@ -4,6 +4,8 @@
 mod line;
 mod pixels;
 mod style;
+#[cfg(test)]
+mod tests;
 
 pub use line::{PlainLine, plain_line};
 pub use pixels::shown_pixels;

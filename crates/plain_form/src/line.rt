@@ -9,7 +9,9 @@ ghost use Rattle.plain_form.specs.Forms.{is_at_corner, is_for, is_plain_byte, is
 ghost use Rattle.plain_form.specs.Drawables.{IsDrawable, event_found};
 
 use crate::style::{is_at_corner, is_plain_style, is_plain_text, primary_of, zoom_of};
-use ass_events::{ChunkRefusal, Event, chunk_of_line, lines_give_events, read_chunk, written_is_read_back};
+use ass_events::{
+    ChunkRefusal, Event, chunk_of_line, lines_give_events, read_chunk, written_is_read_back,
+};
 use ass_num::{Mem, OutOfMemory, Rgba, Size, Text};
 use ass_script::{Script, Style, find_style};
 use bdf_font::Font;
@@ -108,7 +110,12 @@ fn line_of(alloc: Global, script: &Script, event: &Event, font: &Font) -> Mem<Op
 
 /// What a script of the plain form shows with a font on a frame of this size; of another script, `None`.
 #[tactic(auto, unfolding(crate::specs::Forms::plain_line_of))]
-pub fn plain_line(alloc: Global, script: &Script, font: &Font, size: &Size) -> Mem<Option<PlainLine>>
+pub fn plain_line(
+    alloc: Global,
+    script: &Script,
+    font: &Font,
+    size: &Size,
+) -> Mem<Option<PlainLine>>
     requires { IsScript script.now }
     ensures line { IfOk result (λ line. line ≡ plain_line_of script.now font.now size.now.w size.now.h) }
     ensures drawable { IfOk result (λ line. IfSome line (IsDrawable font.now)) }

@@ -27,16 +27,33 @@ fn shown_text(line: &PlainLine, at: i64) -> &str
     requires duration { is_time line.now.duration ≡ true }
     ensures { chars result.now ≡ shown_chars line.now at }
 {
-    if is_shown(line, at) { line.text.as_str() } else { "" }
+    if is_shown(line, at) {
+        line.text.as_str()
+    } else {
+        ""
+    }
 }
 
 /// The picture of a line at an instant in milliseconds: three bytes for each pixel, red, green and blue, row by row from
 /// the top left. While it is shown, the line stands in its colour on black.
-pub fn shown_pixels(alloc: Global, line: &PlainLine, font: &Font, at: i64, size: &Size) -> Mem<Vec<u8>>
+pub fn shown_pixels(
+    alloc: Global,
+    line: &PlainLine,
+    font: &Font,
+    at: i64,
+    size: &Size,
+) -> Mem<Vec<u8>>
     requires drawable { IsDrawable font.now line.now }
     requires wide { size.now.w ≤ 4096 }
     requires high { size.now.h ≤ 4096 }
     ensures { IfOk result (λ pixels. pixels.items ≡ pixels_of line.now font.now at size.now.w size.now.h) }
 {
-    line_pixels(alloc, font, line.zoom, shown_text(line, at), line.colour, size)
+    line_pixels(
+        alloc,
+        font,
+        line.zoom,
+        shown_text(line, at),
+        line.colour,
+        size,
+    )
 }

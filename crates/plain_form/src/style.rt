@@ -56,7 +56,9 @@ pub fn is_at_corner(style: &Style, event: &Event) -> bool
 pub fn is_plain_text(text: &str) -> bool
     ensures { result ≡ list_all is_plain_byte text.now }
 {
-    text.as_bytes().iter().all(|b| *b != b'{' && *b != b'\\' && *b != b'\t')
+    text.as_bytes()
+        .iter()
+        .all(|b| *b != b'{' && *b != b'\\' && *b != b'\t')
 }
 
 // The height of a font in its own pixels, at least 1.
