@@ -1,0 +1,2 @@
+pub mod Drawables
+pub mod Forms
