@@ -1,5 +1,5 @@
 -- The picture of one line of text whose glyphs are drawn as squares: neither turned nor bordered, and not softened
--- (docs/PLAIN_FORM.md).
+-- (docs/PLAIN_PICTURE.md).
 use Rattle.std.specs.Prelude.{ℕ, zero, suc, ℤ, pos, negsuc, ◌+◌, ◌-◌, ◌*◌, ◌/◌, ◌%◌, ◌^◌, ◌+ℤ◌, ◌-ℤ◌, ◌*ℤ◌, Bool, false, ◌&&◌, ◌||◌, ◌==◌, nat_le, nat_lt, int_le, List, [], ◌∷◌, map, Option, Some, None, option_and_then, slice_index, slice_get, if◌then◌else◌}
 use Rattle.std.specs.List.{list_all, range_with_len}
 use Rattle.ass_num.specs.Floor.{floor_div}
