@@ -15,7 +15,8 @@ use std::time::Instant;
 fn region(alloc: Global, side: i64, lean: i64) -> Mem<Region>
     ensures { IfOk result (λ r. IsRegionWithin 131072 r.top r.rows) }
 {
-    region_of(alloc, &glyph(alloc, side, lean)?)
+    let region = region_of(alloc, &glyph(alloc, side, lean)?)?;
+    Ok(region)
 }
 
 /// Times a border of so many pixels around a region.
