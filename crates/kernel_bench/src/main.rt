@@ -9,6 +9,7 @@ mod drawing;
 mod glyph;
 mod laps;
 mod paragraph;
+mod reading;
 mod stop;
 
 use std::{env, io};
@@ -36,7 +37,8 @@ fn show_all(rt: &HostRuntime) -> Result<(), Stop> {
     blurring::show(rt)?;
     boxes::show(rt)?;
     paragraph::show(rt)?;
-    drawing::show(rt)
+    drawing::show(rt)?;
+    reading::show(rt)
 }
 
 fn measure(rt: &HostRuntime, kernel: &str, size: u32, turns: u32) -> Result<(), Stop> {
@@ -47,6 +49,9 @@ fn measure(rt: &HostRuntime, kernel: &str, size: u32, turns: u32) -> Result<(), 
         "shift" => boxes::measure(rt, size, turns),
         "breaks" => paragraph::measure(rt, size, turns),
         "draw" => drawing::measure(rt, size, turns),
+        "font" => reading::measure_font(rt, size, turns),
+        "script" => reading::measure_script(rt, size, turns),
+        "text" => reading::measure_text(rt, size, turns),
         _ => Err(Stop::UnknownWords),
     }
 }

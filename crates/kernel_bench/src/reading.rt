@@ -1,0 +1,155 @@
+//! Reading fonts, scripts and texts, each beside a walk over its lines or bytes.
+
+ghost use Rattle.std.specs.Prelude.{◌≤◌, length};
+
+use crate::laps::Laps;
+use crate::stop::Stop;
+use ass_script::read_script;
+use bdf_font::read_font;
+use bstr::ByteSlice;
+use override_tags::read_text;
+use std::alloc::Global;
+use std::time::Instant;
+
+/// The most bytes that a font may have.
+const MAX_BYTES: usize = 67_108_864;
+
+/// A text that repeats a piece.
+fn repeated(alloc: Global, head: &str, piece: &str, count: u32) -> Result<String, Stop> {
+    let mut text = String::from_str(alloc, head)?;
+    for _ in 0..count {
+        text.push_str(piece)?;
+    }
+    Ok(text)
+}
+
+/// A font of so many glyphs of 16 by 16 pixels, each of its own code.
+fn font_text(alloc: Global, glyphs: u32) -> Result<String, Stop> {
+    let mut text = String::from_str(
+        alloc,
+        "STARTFONT 2.1\nFONT strokes\nFONTBOUNDINGBOX 16 16 0 -2\nSTARTPROPERTIES 2\nFONT_ASCENT 14\nFONT_DESCENT 2\nENDPROPERTIES\n",
+    )?;
+    for code in 0..glyphs {
+        let head = format!(in alloc;
+            "STARTCHAR U+{code:04X}\nENCODING {code}\nSWIDTH 1000 0\nDWIDTH 16 0\nBBX 16 16 0 -2\nBITMAP\n"
+        )?;
+        text.push_str(head.as_str())?;
+        text.push_str(
+            "0000\n0000\n0810\n0810\n7FFE\n0810\n0810\n0810\n7FFE\n0810\n0810\n0810\n0810\n7FFE\n0000\n0000\nENDCHAR\n",
+        )?;
+    }
+    text.push_str("ENDFONT\n")?;
+    Ok(text)
+}
+
+/// The lengths of the lines of a text, in one number.
+fn walked(bytes: &[u8]) -> usize {
+    let mut sum = 0usize;
+    for line in bytes.lines() {
+        sum = sum.wrapping_mul(31).wrapping_add(line.len());
+    }
+    sum
+}
+
+fn measure_walk(rt: &HostRuntime, bytes: &[u8], turns: u32) -> Result<(), Stop> {
+    let mut laps = Laps::new();
+    let mut sum = 0;
+    for _ in 0..turns {
+        let began = Instant::now(rt)?;
+        sum = walked(bytes);
+        laps.add(began.elapsed(rt)?);
+    }
+    let len = bytes.len();
+    println!(rt; "walk over the lines of {len} bytes, {sum}: {laps}")?;
+    Ok(())
+}
+
+fn font_glyphs(alloc: Global, bytes: &[u8]) -> Result<usize, Stop>
+    requires { length bytes.now ≤ MAX_BYTES }
+{
+    match read_font(alloc, bytes) {
+        Ok(font) => Ok(font.glyphs().len()),
+        Err(_) => Err(Stop::SizeOutOfRange),
+    }
+}
+
+fn script_lines(alloc: Global, bytes: &[u8]) -> Result<usize, Stop> {
+    match read_script(alloc, bytes) {
+        Ok(script) => Ok(script.line_count()),
+        Err(_) => Err(Stop::SizeOutOfRange),
+    }
+}
+
+/// Times reading a font of so many glyphs, and a walk over its lines.
+pub fn measure_font(rt: &HostRuntime, glyphs: u32, turns: u32) -> Result<(), Stop> {
+    let text = font_text(rt.alloc(), glyphs)?;
+    let bytes = text.as_bytes();
+    if bytes.len() > MAX_BYTES {
+        return Err(Stop::SizeOutOfRange);
+    }
+    measure_walk(rt, bytes, turns)?;
+    let mut laps = Laps::new();
+    let mut count = 0;
+    for _ in 0..turns {
+        let began = Instant::now(rt)?;
+        count = font_glyphs(rt.alloc(), bytes)?;
+        laps.add(began.elapsed(rt)?);
+    }
+    println!(rt; "font of {count} glyphs: {laps}")?;
+    Ok(())
+}
+
+/// Times reading a script of so many plain lines, and a walk over them.
+pub fn measure_script(rt: &HostRuntime, lines: u32, turns: u32) -> Result<(), Stop> {
+    let line = "Dialogue: 0,0:00:01.00,0:00:05.00,Default,,0,0,0,,Some words as people say them\n";
+    let text = repeated(rt.alloc(), "[Events]\n", line, lines)?;
+    let bytes = text.as_bytes();
+    measure_walk(rt, bytes, turns)?;
+    let mut laps = Laps::new();
+    let mut count = 0;
+    for _ in 0..turns {
+        let began = Instant::now(rt)?;
+        count = script_lines(rt.alloc(), bytes)?;
+        laps.add(began.elapsed(rt)?);
+    }
+    println!(rt; "script of {count} lines: {laps}")?;
+    Ok(())
+}
+
+fn measure_piece(rt: &HostRuntime, piece: &str, count: u32, turns: u32) -> Result<(), Stop> {
+    let text = repeated(rt.alloc(), "{\\b1}", piece, count)?;
+    let mut laps = Laps::new();
+    let mut items = 0;
+    for _ in 0..turns {
+        let began = Instant::now(rt)?;
+        items = read_text(rt.alloc(), text.as_str())?.len();
+        laps.add(began.elapsed(rt)?);
+    }
+    let len = text.len();
+    println!(rt; "text of {len} bytes, of {piece}: {items} items, {laps}")?;
+    Ok(())
+}
+
+/// Times reading texts that repeat a piece so often: plain words, braces, and parentheses in a block.
+pub fn measure_text(rt: &HostRuntime, count: u32, turns: u32) -> Result<(), Stop> {
+    for piece in ["w", "{", "{\\t(", "{\\b1}", "\\t(\\t(}"] {
+        measure_piece(rt, piece, count, turns)?;
+    }
+    Ok(())
+}
+
+/// Prints what a small font, script and text come to.
+pub fn show(rt: &HostRuntime) -> Result<(), Stop> {
+    let alloc = rt.alloc();
+    let font = font_text(alloc, 2)?;
+    let bytes = font.as_bytes();
+    if bytes.len() > MAX_BYTES {
+        return Err(Stop::SizeOutOfRange);
+    }
+    let glyphs = font_glyphs(alloc, bytes)?;
+    let script = repeated(alloc, "[Events]\n", "Dialogue: x\n", 3)?;
+    let lines = script_lines(alloc, script.as_bytes())?;
+    let items = read_text(alloc, "{\\b1}ab")?.len();
+    println!(rt; "read: {glyphs} glyphs, {lines} lines, {items} items")?;
+    Ok(())
+}
