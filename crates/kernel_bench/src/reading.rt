@@ -4,8 +4,8 @@ ghost use Rattle.std.specs.Prelude.{◌≤◌, length};
 
 use crate::laps::Laps;
 use crate::stop::Stop;
-use ass_script::read_script;
-use bdf_font::read_font;
+use ass_script::{Script, read_script};
+use bdf_font::{Font, read_font};
 use bstr::ByteSlice;
 use override_tags::read_text;
 use std::alloc::Global;
@@ -64,18 +64,18 @@ fn measure_walk(rt: &HostRuntime, bytes: &[u8], turns: u32) -> Result<(), Stop> 
     Ok(())
 }
 
-fn font_glyphs(alloc: Global, bytes: &[u8]) -> Result<usize, Stop>
+fn font_of(alloc: Global, bytes: &[u8]) -> Result<Font, Stop>
     requires { length bytes.now ≤ MAX_BYTES }
 {
     match read_font(alloc, bytes) {
-        Ok(font) => Ok(font.glyphs().len()),
+        Ok(font) => Ok(font),
         Err(_) => Err(Stop::SizeOutOfRange),
     }
 }
 
-fn script_lines(alloc: Global, bytes: &[u8]) -> Result<usize, Stop> {
+fn script_of(alloc: Global, bytes: &[u8]) -> Result<Script, Stop> {
     match read_script(alloc, bytes) {
-        Ok(script) => Ok(script.line_count()),
+        Ok(script) => Ok(script),
         Err(_) => Err(Stop::SizeOutOfRange),
     }
 }
@@ -92,8 +92,9 @@ pub fn measure_font(rt: &HostRuntime, glyphs: u32, turns: u32) -> Result<(), Sto
     let mut count = 0;
     for _ in 0..turns {
         let began = Instant::now(rt)?;
-        count = font_glyphs(rt.alloc(), bytes)?;
+        let font = font_of(rt.alloc(), bytes)?;
         laps.add(began.elapsed(rt)?);
+        count = font.glyphs().len();
     }
     println!(rt; "font of {count} glyphs: {laps}")?;
     Ok(())
@@ -109,31 +110,49 @@ pub fn measure_script(rt: &HostRuntime, lines: u32, turns: u32) -> Result<(), St
     let mut count = 0;
     for _ in 0..turns {
         let began = Instant::now(rt)?;
-        count = script_lines(rt.alloc(), bytes)?;
+        let script = script_of(rt.alloc(), bytes)?;
         laps.add(began.elapsed(rt)?);
+        count = script.line_count();
     }
     println!(rt; "script of {count} lines: {laps}")?;
     Ok(())
 }
 
-fn measure_piece(rt: &HostRuntime, piece: &str, count: u32, turns: u32) -> Result<(), Stop> {
-    let text = repeated(rt.alloc(), "{\\b1}", piece, count)?;
+fn measure_piece(
+    rt: &HostRuntime,
+    piece: &str,
+    close: &str,
+    count: u32,
+    turns: u32,
+) -> Result<(), Stop> {
+    let mut text = repeated(rt.alloc(), "{", piece, count)?;
+    text.push_str(close)?;
     let mut laps = Laps::new();
     let mut items = 0;
     for _ in 0..turns {
         let began = Instant::now(rt)?;
-        items = read_text(rt.alloc(), text.as_str())?.len();
+        let list = read_text(rt.alloc(), text.as_str())?;
         laps.add(began.elapsed(rt)?);
+        items = list.len();
     }
     let len = text.len();
-    println!(rt; "text of {len} bytes, of {piece}: {items} items, {laps}")?;
+    println!(rt; "text of {len} bytes, of {piece}, closed by {close:?}: {items} items, {laps}")?;
     Ok(())
 }
 
-/// Times reading texts that repeat a piece so often: plain words, braces, and parentheses in a block.
-pub fn measure_text(rt: &HostRuntime, count: u32, turns: u32) -> Result<(), Stop> {
-    for piece in ["w", "{", "{\\t(", "{\\b1}", "\\t(\\t(}"] {
-        measure_piece(rt, piece, count, turns)?;
+/// Times reading texts of so many bytes that repeat ten bytes behind a `{`, which a `}` closes or nothing does.
+pub fn measure_text(rt: &HostRuntime, bytes: u32, turns: u32) -> Result<(), Stop> {
+    let count = bytes / 10;
+    for piece in [
+        "some words",
+        "{{{{{{{{{{",
+        "((((((((((",
+        "\\t(\\t(\\t(x",
+        "\\clip(m 0,",
+        "\\b1\\i1\\u1x",
+    ] {
+        measure_piece(rt, piece, "", count, turns)?;
+        measure_piece(rt, piece, "}", count, turns)?;
     }
     Ok(())
 }
@@ -146,9 +165,9 @@ pub fn show(rt: &HostRuntime) -> Result<(), Stop> {
     if bytes.len() > MAX_BYTES {
         return Err(Stop::SizeOutOfRange);
     }
-    let glyphs = font_glyphs(alloc, bytes)?;
+    let glyphs = font_of(alloc, bytes)?.glyphs().len();
     let script = repeated(alloc, "[Events]\n", "Dialogue: x\n", 3)?;
-    let lines = script_lines(alloc, script.as_bytes())?;
+    let lines = script_of(alloc, script.as_bytes())?.line_count();
     let items = read_text(alloc, "{\\b1}ab")?.len();
     println!(rt; "read: {glyphs} glyphs, {lines} lines, {items} items")?;
     Ok(())
