@@ -10,7 +10,7 @@ use Rattle.override_tags.specs.Readings.{AreItems, ArePartTags, tag_items, part_
 use Rattle.override_tags.specs.Laws.{Follow}
 
 -- every part takes a byte
-some_bytes : (text : List ℕ) (part : Part) (rest : List ℕ) → IsFront text part rest → length rest < length text
+pub some_bytes : (text : List ℕ) (part : Part) (rest : List ℕ) → IsFront text part rest → length rest < length text
 some_bytes text (Char c) rest front =
     let written = front.1.0 in
     let e = ap length front.1.1 in

@@ -1,4 +1,4 @@
--- How the items of a text cover it.
+-- How the items of a text cover it, and that no other items are its reading.
 use Rattle.std.specs.Prelude.{◌≡◌, ℕ, ◌<◌, Bool, true, false, MatchBool, List, [], ◌∷◌, length}
 use Rattle.override_tags.specs.Items as item
 use Rattle.override_tags.specs.Items.{PlainItem, PlainKind}
@@ -16,3 +16,7 @@ Follow from (i ∷ items) end = MatchBool (is_tag i.kind) (Follow from items end
 -- They cover the text.
 abbrev pub PartsCover : Type 0
 PartsCover = (text : List ℕ) (items : List PlainItem) → IsReading text items → Follow 0 items (length text)
+
+-- No text has two readings.
+abbrev pub OneReading : Type 0
+OneReading = (text : List ℕ) (a b : List PlainItem) → IsReading text a → IsReading text b → a ≡ b

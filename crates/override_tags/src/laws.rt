@@ -1,8 +1,13 @@
-//! A law of readings.
+//! Laws of readings.
 
-ghost use Rattle.override_tags.specs.Laws.{PartsCover};
+ghost use Rattle.override_tags.specs.Laws.{OneReading, PartsCover};
 
 /// The characters, breaks, hard spaces and blocks of a text follow one another and cover it.
 pub fn parts_cover()
     ensures { PartsCover }
+{}
+
+/// A text has no two readings, so what `read_text` gives is the only reading that its contract allows.
+pub fn one_reading()
+    ensures { OneReading }
 {}

@@ -16,7 +16,7 @@ mod transform;
 pub mod view;
 
 pub use item::{Item, ItemKind};
-pub use laws::parts_cover;
+pub use laws::{one_reading, parts_cover};
 pub use read::read_text;
 pub use tag::{ClipTag, Tag};
 pub use tag_arguments::{Num, Sung};

@@ -1,3 +1,4 @@
 pub mod CutLemmas
+pub mod LongestLemmas
 pub mod NameLemmas
 pub mod NumberLemmas
