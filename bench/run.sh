@@ -9,7 +9,7 @@ program=$top/crates/kernel_bench/out/kernel_bench
 is_fresh() {
     local crate
     [ -x "$program" ] || return 1
-    for crate in ass_num region_rows sample_region border_region mask_blur placement line_layout blend kernel_bench; do
+    for crate in ass_num region_rows sample_region border_region mask_blur placement line_layout blend bdf_font ass_script tag_arguments drawing_path override_tags kernel_bench; do
         [ -z "$(find "$top/crates/$crate/src" -newer "$program" -print -quit)" ] || return 1
     done
 }
@@ -42,5 +42,10 @@ measure breaks 1000000 5
 measure draw 64 5000
 measure draw 256 1000
 measure draw 1080 100
+measure font 57000 30
+measure script 100000 20
+measure script 1000000 5
+measure text 1000000 20
+measure text 10000000 3
 
 printf '\nload after: %s\n' "$(cut -d ' ' -f 1-3 /proc/loadavg)"
