@@ -1,6 +1,6 @@
 //! The bytes of a bitmap while its rows are read.
 
-ghost use Rattle.std.specs.Prelude.{◌≡◌, ◌+◌, ◌≤◌, [], length, IfOk, OnOk};
+ghost use Rattle.std.specs.Prelude.{◌≡◌, ◌+◌, ◌≤◌, ℕ, List, [], ◌++◌, length, take, IfOk, OnOk};
 ghost use Rattle.hex.specs.Hex.{decode_sized};
 ghost use Rattle.bdf_font.specs.Rows.{Gives, row_pushed};
 
@@ -9,31 +9,50 @@ use ass_num::{Items, Mem};
 use std::alloc::Global;
 use std::marker::Model;
 
-/// The bytes of the rows so far.
+/// The bytes of the rows so far, in a list that may have room for the others.
 #[derive(Debug, Drop)]
 pub struct Bits {
     bytes: Vec<u8>,
+    filled: usize,
 }
 
 impl Model for Bits {
-    ghost use Rattle.std.specs.Prelude.{List, ℕ};
+    ghost use Rattle.std.specs.Prelude.{List, ℕ, take};
 
     ghost Value = { List ℕ };
 
-    ghost view = { λ b. b.bytes.items };
+    ghost view = { λ b. take b.filled b.bytes.items };
 }
 
-fn push_bytes(bytes: &mut Vec<u8>, digits: &[u8], len: usize) -> Result<(), Stop>
-    requires { len ≤ 8192 }
-    ensures row { Gives result bytes.new.items (row_pushed (decode_sized digits.now len) bytes.old.items) }
-    ensures len { OnOk result (length bytes.new.items ≡ length bytes.old.items + len) }
+/// Room for so many bytes.
+fn reserve(bytes: &mut Vec<u8>, len: usize) -> Mem<()>
+    ensures { OnOk result ((more : List ℕ) × (bytes.new.items ≡ bytes.old.items ++ more) × (len ≤ length bytes.new.items)) }
 {
-    let done = bytes.len();
-    bytes.resize(done + len, 0)?;
-    if hex::decode_to_slice(digits, &mut bytes[done..]).is_err() {
+    if bytes.len() < len {
+        bytes.resize(len, 0)?;
+    }
+    Ok(())
+}
+
+/// Writes the bytes that a row's digits spell.
+fn decode_row(digits: &[u8], row: &mut [u8]) -> Result<(), Stop>
+    ensures row { Gives result row.new (row_pushed (decode_sized digits.now (length row.old)) []) }
+    ensures len { length row.new ≡ length row.old }
+{
+    if hex::decode_to_slice(digits, row).is_err() {
         return Err(Stop::Fault(FontCause::BadRow));
     }
     Ok(())
+}
+
+/// Writes a row behind the first bytes.
+fn write_row(bytes: &mut [u8], begin: usize, digits: &[u8], len: usize) -> Result<(), Stop>
+    requires row { len ≤ 8192 }
+    requires room { begin + len ≤ length bytes.old }
+    ensures row { Gives result (take (begin + len) bytes.new) (row_pushed (decode_sized digits.now len) (take begin bytes.old)) }
+    ensures len { length bytes.new ≡ length bytes.old }
+{
+    decode_row(digits, &mut bytes[begin..begin + len])
 }
 
 impl Bits {
@@ -43,6 +62,7 @@ impl Bits {
     {
         Bits {
             bytes: Vec::new(alloc),
+            filled: 0,
         }
     }
 
@@ -50,8 +70,11 @@ impl Bits {
     pub fn with_room(alloc: Global, bytes: usize) -> Mem<Bits>
         ensures { IfOk result (λ bits. bits ≡ []) }
     {
+        let mut room = Vec::with_capacity(alloc, bytes)?;
+        room.resize(bytes, 0)?;
         Ok(Bits {
-            bytes: Vec::with_capacity(alloc, bytes)?,
+            bytes: room,
+            filled: 0,
         })
     }
 
@@ -59,7 +82,9 @@ impl Bits {
     pub fn into_items(self) -> Items<u8>
         ensures { result ≡ self }
     {
-        Items::from_vec(self.bytes)
+        let mut bytes = self.bytes;
+        bytes.truncate(self.filled);
+        Items::from_vec(bytes)
     }
 
     /// Adds a row of so many bytes, which these digits spell.
@@ -68,6 +93,11 @@ impl Bits {
         ensures row { Gives result self.new (row_pushed (decode_sized digits.now len) self.old) }
         ensures len { OnOk result (length self.new ≡ length self.old + len) }
     {
-        push_bytes(&mut self.bytes, digits, len)
+        let begin = self.filled.min(self.bytes.len());
+        let end = begin + len;
+        reserve(&mut self.bytes, end)?;
+        write_row(&mut self.bytes, begin, digits, len)?;
+        self.filled = end;
+        Ok(())
     }
 }
