@@ -1,6 +1,3 @@
-pub mod Answers
-pub mod Fixed
 pub mod Outcomes
-pub mod Pictures
-pub mod Statuses
-pub mod Words
+pub mod Outputs
+pub mod Runs

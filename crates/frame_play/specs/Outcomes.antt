@@ -1,12 +1,27 @@
 -- What each status says of the counts of faults and of what the sinks got.
-use Rattle.std.specs.Prelude.{◌≡◌, ◌⊎◌, ℕ, ◌+◌, ◌≤◌, List, Option, Result, Err}
+use Rattle.std.specs.Prelude.{◌≡◌, ◌⊎◌, ℕ, ◌+◌, ◌≤◌, List, [], Option, string_bytes}
 use Rattle.std.specs.Io.KnownBytes.{Appends, Keeps}
 use Rattle.ass_num.specs.Causes.{Rose}
 use Rattle.ass_io.specs.Counts.{IsOneMore}
 use Rattle.ass_io.specs.Written.{AppendsFront}
-use Rattle.frame_play.specs.Statuses.{line_of}
-use Rattle.frame_play.specs.declared.status.Status.{Status}
-use Rattle.frame_play.specs.declared.status.Status.TheVariants.{Done, ReadFault, WriteFault, OutOfMemory}
+use Rattle.play_words.specs.declared.job.Task.{Task}
+use Rattle.play_words.specs.declared.job.Task.TheVariants.{Check, Frame}
+use Rattle.run_status.specs.Statuses.{line_of}
+use Rattle.run_status.specs.declared.status.Status.{Status}
+use Rattle.run_status.specs.declared.status.Status.TheVariants.{Done, NotBuilt, ReadFault, WriteFault, OutOfMemory}
+use Rattle.run_status.specs.declared.status.Which.{Which}
+use Rattle.run_status.specs.declared.status.Which.TheVariants.{Frames, Report}
+use Rattle.frame_play.specs.Outputs.{sink_of}
+use Rattle.frame_play.specs.declared.outcome.Outcome.{Outcome}
+use Rattle.frame_play.specs.declared.outcome.Outcome.TheVariants.{Ended, Found}
+
+-- The answer is this one, or want of memory came in its place.
+abbrev pub IsOrMemory : Status → Status → Type 0
+IsOrMemory wanted answer = (answer ≡ wanted) ⊎ (answer ≡ OutOfMemory)
+
+-- The answer is this one; want of memory may come in its place, and a fault of the task's sink in the place of `Done`.
+abbrev pub IsOrFault : Task → Status → Status → Type 0
+IsOrFault task wanted answer = IsOrMemory wanted answer ⊎ ((wanted ≡ Done) × (answer ≡ WriteFault (sink_of task)))
 
 -- The shelf's count rose at a fault of reading. At want of memory it may have risen, and at any other status it is as it was.
 abbrev pub IsReadCounted : Status → ℕ → ℕ → Type 0
@@ -14,44 +29,79 @@ IsReadCounted (ReadFault _) before now = Rose before now × (before ≤ now)
 IsReadCounted OutOfMemory before now = before ≤ now
 IsReadCounted _ before now = now ≡ before
 
--- The frames sink's count rose at a fault of writing. At want of memory it may have risen, and at any other status it is as it was.
+-- The frames sink's count rose where it failed. At want of memory it may have risen, and at any other status it is as it was.
 abbrev pub IsWriteCounted : Status → ℕ → ℕ → Type 0
-IsWriteCounted (WriteFault _) before now = Rose before now × (before ≤ now)
+IsWriteCounted (WriteFault Frames) before now = Rose before now × (before ≤ now)
 IsWriteCounted OutOfMemory before now = before ≤ now
 IsWriteCounted _ before now = now ≡ before
 
--- The shelf's count rose where a file couldn't be read, and is as it was after any other answer.
-abbrev pub IsReadErrCounted : Result (Unit {0}) Status → ℕ → ℕ → Type 0
-IsReadErrCounted (Err (ReadFault _)) before now = Rose before now × (before ≤ now)
-IsReadErrCounted _ before now = now ≡ before
-
--- What the frames sink got: the whole image, a front of it, or nothing.
+-- What the frames sink got of what it was to get: all of it, a front, or nothing.
 abbrev pub IsShown : Status → Option (List ℕ) → Option (List ℕ) → List ℕ → Type 0
 IsShown Done old new image = Appends old new image
-IsShown (WriteFault _) old new image = AppendsFront old new image
+IsShown (WriteFault Frames) old new image = AppendsFront old new image
 IsShown OutOfMemory old new image = AppendsFront old new image
 IsShown _ old new image = Keeps old new
 
--- How often the frames sink was asked: once for the image, and not at all at a refusal.
-abbrev pub IsShownOnce : Status → ℕ → ℕ → Type 0
-IsShownOnce Done before now = IsOneMore before now
-IsShownOnce (WriteFault _) before now = IsOneMore before now
-IsShownOnce OutOfMemory before now = (before ≤ now) × (now ≤ before + 1)
-IsShownOnce _ before now = now ≡ before
+-- How often the frames sink was asked: once for an image, and not at all by a check or at a refusal.
+abbrev pub IsShownOnce : Task → Status → ℕ → ℕ → Type 0
+IsShownOnce (Frame at size) Done before now = IsOneMore before now
+IsShownOnce (Frame at size) (WriteFault Frames) before now = IsOneMore before now
+IsShownOnce (Frame at size) OutOfMemory before now = (before ≤ now) × (now ≤ before + 1)
+IsShownOnce _ _ before now = now ≡ before
 
 -- The report got the line of the status, or a front of it where its count rose.
 abbrev pub IsLinePut : Status → Option (List ℕ) → Option (List ℕ) → ℕ → ℕ → Type 0
 IsLinePut status old new before now =
     (Appends old new (line_of status) × (now ≡ before)) ⊎ (AppendsFront old new (line_of status) × Rose before now)
 
--- What the report got: nothing of a job that was done whole, the line of any other status. At want of memory a front of its line may be all.
-abbrev pub IsReported : Status → Option (List ℕ) → Option (List ℕ) → ℕ → ℕ → Type 0
-IsReported Done old new before now = Keeps old new × (now ≡ before)
-IsReported OutOfMemory old new before now = AppendsFront old new (line_of OutOfMemory) × (before ≤ now)
-IsReported status old new before now = IsLinePut status old new before now
+-- What the report got: of a job that was done whole what was to be reported, of a fault of the report a front of that, and of any other status its line. At want of memory a front of its line may be all.
+abbrev pub IsReported : Status → Option (List ℕ) → Option (List ℕ) → ℕ → ℕ → List ℕ → Type 0
+IsReported Done old new before now text = Appends old new text × (now ≡ before)
+IsReported (WriteFault Report) old new before now text = AppendsFront old new text × Rose before now × (before ≤ now)
+IsReported OutOfMemory old new before now text = AppendsFront old new (line_of OutOfMemory) × (before ≤ now)
+IsReported status old new before now text = IsLinePut status old new before now
 
--- How often the report was asked: once for the line of a refusal. Where that put wanted memory, the line of that is put too.
-abbrev pub IsReportedOnce : Status → ℕ → ℕ → Type 0
-IsReportedOnce Done before now = now ≡ before
-IsReportedOnce OutOfMemory before now = Rose before now × (before ≤ now) × (now ≤ before + 2)
-IsReportedOnce _ before now = IsOneMore before now
+-- How often the report was asked: once for a check's report or for the line of a refusal. Where that put wanted memory, the line of that is put too.
+abbrev pub IsReportedOnce : Task → Status → ℕ → ℕ → Type 0
+IsReportedOnce (Frame at size) Done before now = now ≡ before
+IsReportedOnce _ OutOfMemory before now = Rose before now × (before ≤ now) × (now ≤ before + 2)
+IsReportedOnce _ _ before now = IsOneMore before now
+
+abbrev pub not_built : Outcome
+not_built = Ended NotBuilt
+
+abbrev pub out_of_memory : Outcome
+out_of_memory = Ended OutOfMemory
+
+-- the status of an outcome, where what is to be reported is put whole
+abbrev pub status_in : Outcome → Status
+status_in (Ended status) = status
+status_in (Found text) = Done
+
+-- what is to be reported of a job that was done whole
+abbrev pub text_in : Outcome → List ℕ
+text_in (Ended status) = []
+text_in (Found text) = string_bytes text
+
+-- The report hasn't failed before anything was reported.
+abbrev pub IsReportable : Outcome → Type 0
+IsReportable (Ended (WriteFault Report)) = ⊥
+IsReportable _ = Unit {0}
+
+-- A check's report alone is found, and a check that was done whole has found its report.
+abbrev pub IsOwn : Task → Outcome → Type 0
+IsOwn task (Ended (WriteFault Report)) = ⊥
+IsOwn Check (Ended Done) = ⊥
+IsOwn (Frame at size) (Found text) = ⊥
+IsOwn _ _ = Unit {0}
+
+-- How a run ends after an outcome: as it says, or by a fault of the report or want of memory.
+abbrev pub IsEnded : Outcome → Status → Type 0
+IsEnded (Ended status) answer = IsOrMemory status answer
+IsEnded (Found text) answer = IsOrMemory Done answer ⊎ (answer ≡ WriteFault Report)
+
+-- How often the report was asked after an outcome.
+abbrev pub IsReportPut : Outcome → Status → ℕ → ℕ → Type 0
+IsReportPut (Ended Done) answer before now = now ≡ before
+IsReportPut outcome OutOfMemory before now = Rose before now × (before ≤ now) × (now ≤ before + 2)
+IsReportPut outcome answer before now = IsOneMore before now

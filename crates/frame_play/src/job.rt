@@ -1,54 +1,76 @@
-//! A job: the files, the picture, the image.
+//! A job, up to what is to be reported of it.
 
-ghost use Rattle.std.specs.Prelude.{◌≡◌, ◌≤◌, IfOk, pos};
-ghost use Rattle.frame_play.specs.Answers.{Answers};
-ghost use Rattle.frame_play.specs.Outcomes.{IsReadCounted, IsShown, IsShownOnce, IsWriteCounted};
-ghost use Rattle.frame_play.specs.Pictures.{image_of, row_pixels};
-ghost use Rattle.ppm_text.specs.Images.{image_bytes};
+ghost use Rattle.std.specs.Prelude.{◌≡◌, ◌≢◌, Ok, string_bytes};
+ghost use Rattle.ass_script.specs.Ranges.{IsScript};
+ghost use Rattle.frame_play.specs.Outcomes.{IsOrFault, IsOwn, IsReadCounted, IsShown, IsShownOnce, IsWriteCounted, status_in, text_in};
+ghost use Rattle.frame_play.specs.Outputs.{output_of, status_of};
+ghost use Rattle.frame_play.specs.Runs.{IsWorked, sunk};
+ghost use Rattle.play_words.specs.Words.{IsTask};
+ghost use Rattle.run_status.specs.declared.status.Status.TheVariants.{Done as done_status};
 
-use crate::files::read_files;
-use crate::picture::row_pixels;
-use crate::status::{Status, Which};
-use crate::words::{FrameJob, MAX_INSTANT};
-use ass_io::{Put, Shelf, Sink};
-use ass_num::{Mem, OutOfMemory, Size};
-use ppm_text::ppm_bytes;
+use crate::outcome::Outcome;
+use crate::picture::draw;
+use ass_io::{Shelf, Sink};
+use ass_num::OutOfMemory;
+use check_report::check_report;
+use input_files::{Inputs, read_inputs};
+use play_words::{Job, Task};
+use run_status::Status;
 use std::alloc::Global;
 
-/// Does a job. Its image goes to the frames sink by one put, and nothing goes there before the
-/// files were read.
-pub fn do_job<S: Shelf, F: Sink>(
-    alloc: Global,
-    job: FrameJob,
-    shelf: &mut S,
-    frames: &mut F,
-) -> Status
-    requires { job.at ≤ MAX_INSTANT }
-    ensures answer { Answers (S.told shelf.old) job result }
-    ensures read { IsReadCounted result (S.faults shelf.old) (S.faults shelf.new) }
-    ensures write { IsWriteCounted result (F.faults frames.old) (F.faults frames.new) }
-    ensures shown { IsShown result (F.held frames.old) (F.held frames.new) (image_of job) }
-    ensures once { IsShownOnce result (F.puts frames.old) (F.puts frames.new) }
+/// What a check is to report.
+fn check(alloc: Global, inputs: &Inputs) -> Outcome
+    requires { IsScript inputs.now.script }
+    ensures answered { IsOrFault Task.Check (status_of Task.Check inputs.now) (status_in result) }
+    ensures text { status_in result ≡ done_status → text_in result ≡ (output_of Task.Check inputs.now).report }
+    ensures own { IsOwn Task.Check result }
+    ensures memory { status_in result ≢ done_status → result ≡ Outcome.Ended Status.OutOfMemory }
 {
-    let image = match row_image(alloc, job.at) {
-        Ok(image) => image,
-        Err(OutOfMemory) => return Status::OutOfMemory,
-    };
-    match read_files(alloc, shelf, job) {
-        Ok(()) => match frames.put(image.as_slice()) {
-            Put::Done => Status::Done,
-            Put::Failed => Status::WriteFault(Which::Frames),
-            Put::OutOfMemory => Status::OutOfMemory,
-        },
-        Err(status) => status,
+    match check_report(alloc, &inputs.script, inputs.fonts.as_slice()) {
+        Ok(text) => Outcome::Found(text),
+        Err(OutOfMemory) => Outcome::Ended(Status::OutOfMemory),
     }
 }
 
-// The image of the script's line at an instant in milliseconds, at the script's size.
-fn row_image(alloc: Global, at: u64) -> Mem<Vec<u8>>
-    requires { at ≤ MAX_INSTANT }
-    ensures { IfOk result (λ bytes. bytes.items ≡ image_bytes 4 3 (row_pixels at) (pos at) 1) }
+/// Does a task with its inputs.
+fn do_task<F: Sink>(alloc: Global, task: &Task, inputs: &Inputs, frames: &mut F) -> Outcome
+    requires task { IsTask task.now }
+    requires script { IsScript inputs.now.script }
+    ensures answered { IsOrFault task.now (status_of task.now inputs.now) (status_in result) }
+    ensures shown { IsShown (status_in result) (F.held frames.old) (F.held frames.new) (output_of task.now inputs.now).frames }
+    ensures once { IsShownOnce task.now (status_in result) (F.puts frames.old) (F.puts frames.new) }
+    ensures counted { IsWriteCounted (status_in result) (F.faults frames.old) (F.faults frames.new) }
+    ensures text { status_in result ≡ done_status → text_in result ≡ (output_of task.now inputs.now).report }
+    ensures own { IsOwn task.now result }
 {
-    let pixels = row_pixels(alloc, at)?;
-    ppm_bytes(alloc, &Size { w: 4, h: 3 }, pixels.as_slice(), at as i64, 1)
+    match task {
+        Task::Check => check(alloc, inputs),
+        Task::Frame(at, size) => Outcome::Ended(draw(
+            alloc,
+            *at,
+            size,
+            &inputs.script,
+            inputs.fonts.as_slice(),
+            frames,
+        )),
+    }
+}
+
+/// Does a job. Nothing goes to the frames sink before all files were read.
+pub fn do_job<S: Shelf, F: Sink>(
+    alloc: Global,
+    job: &Job,
+    shelf: &mut S,
+    frames: &mut F,
+) -> Outcome
+    requires { IsTask job.now.task }
+    ensures run { IsWorked (S.told shelf.old) job.now (sunk (F.held frames.old) (F.held frames.new) (F.faults frames.old) (F.faults frames.new)) result }
+    ensures read { IsReadCounted (status_in result) (S.faults shelf.old) (S.faults shelf.new) }
+    ensures once { IsShownOnce job.now.task (status_in result) (F.puts frames.old) (F.puts frames.new) }
+    ensures write { IsWriteCounted (status_in result) (F.faults frames.old) (F.faults frames.new) }
+{
+    match read_inputs(alloc, shelf, &job.script, job.fonts.as_slice()) {
+        Ok(inputs) => do_task(alloc, &job.task, &inputs, frames),
+        Err(status) => Outcome::Ended(status),
+    }
 }

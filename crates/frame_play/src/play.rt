@@ -1,20 +1,20 @@
 //! The calls that the program makes.
 
-ghost use Rattle.std.specs.Prelude.{◌≡◌, ℕ, List, IsSomeAnd};
+ghost use Rattle.std.specs.Prelude.{◌≡◌, ◌⊎◌, [], IsSomeAnd};
 ghost use Rattle.ass_num.specs.Causes.{Rose};
-ghost use Rattle.frame_play.specs.Answers.{Answers, AsTold, IsBuilt, IsNoSuchFile, IsNotBuilt};
-ghost use Rattle.frame_play.specs.Answers.{IsOrMemory, IsOrRead};
-ghost use Rattle.frame_play.specs.Outcomes.{IsReadCounted, IsReported, IsReportedOnce};
-ghost use Rattle.frame_play.specs.Outcomes.{IsShown, IsShownOnce, IsWriteCounted};
-ghost use Rattle.frame_play.specs.Pictures.{image_of};
-ghost use Rattle.frame_play.specs.Words.{Spells, SpellsNone, texts};
+ghost use Rattle.frame_play.specs.Outcomes.{IsOrMemory, IsReadCounted, IsReportPut, IsReportable, IsReported, IsReportedOnce};
+ghost use Rattle.frame_play.specs.Outcomes.{IsShownOnce, IsWriteCounted, not_built, out_of_memory, status_in};
+ghost use Rattle.frame_play.specs.Runs.{Decides, IsRun, IsWorked, sunk};
+ghost use Rattle.play_words.specs.Words.{Spells, SpellsNone, texts};
 
 use crate::job::do_job;
-use crate::report::tell;
-use crate::status::Status;
-use crate::words::{FrameJob, read_words};
+use crate::outcome::Outcome;
+use crate::report::finish;
 use ass_io::{Gate, Rt, Shelf, Sink};
 use ass_num::OutOfMemory;
+use input_files::files_decide;
+use play_words::{Job, one_job, read_words};
+use run_status::Status;
 use std::alloc::Global;
 
 /// Does the job of the words, by `calm`. What waits for other threads comes here once it is built;
@@ -32,36 +32,31 @@ pub fn top<S: Shelf, F: Sink, R: Sink, G: Gate + Sync>(
     ensures other_words { SpellsNone (texts words.now) → IsOrMemory Status.NotBuilt result }
     ensures other_shelf { SpellsNone (texts words.now) → shelf.new ≡ shelf.old }
     ensures other_frames { SpellsNone (texts words.now) → frames.new ≡ frames.old }
+    ensures other_report { SpellsNone (texts words.now) → IsReported result (R.held report.old) (R.held report.new)
+        (R.faults report.old) (R.faults report.new) [] }
+    ensures other_once { SpellsNone (texts words.now) → IsReportPut not_built result (R.puts report.old) (R.puts report.new) }
 
-    // Each answer comes only where what is told of the files allows it.
-    ensures answer { (job : FrameJob) → Spells (texts words.now) job
-        → Answers (S.told shelf.old) job result }
+    // The files are read in order, and what they hold asks for the answer and for what both sinks get.
+    ensures run { (job : Job) → Spells (texts words.now) job → IsRun (S.told shelf.old) job
+        (sunk (F.held frames.old) (F.held frames.new) (F.faults frames.old) (F.faults frames.new))
+        (sunk (R.held report.old) (R.held report.new) (R.faults report.old) (R.faults report.new)) result }
 
-    // Each comes wherever what is told of the files asks for it.
-    ensures not_built { (job : FrameJob) → Spells (texts words.now) job
-        → IsNotBuilt AsTold (S.told shelf.old) job → IsOrRead Status.NotBuilt result }
-    ensures no_such_file { (job : FrameJob) → (name : List ℕ) → Spells (texts words.now) job
-        → IsNoSuchFile AsTold (S.told shelf.old) job name
-        → IsOrRead (Status.NoSuchFile name) result }
-    ensures done { (job : FrameJob) → Spells (texts words.now) job
-        → IsBuilt AsTold (S.told shelf.old) job
+    // Where all files are told and no count of faults rose, they decide the answer.
+    ensures decided { (job : Job) → Spells (texts words.now) job
         → (Rose (S.faults shelf.old) (S.faults shelf.new) → ⊥)
         → (Rose (F.faults frames.old) (F.faults frames.new) → ⊥)
-        → IsOrMemory Status.Done result }
+        → (Rose (R.faults report.old) (R.faults report.new) → ⊥)
+        → Decides (S.told shelf.old) job result }
 
     // A fault is answered only where its object's count rose.
     ensures read { IsReadCounted result (S.faults shelf.old) (S.faults shelf.new) }
     ensures write { IsWriteCounted result (F.faults frames.old) (F.faults frames.new) }
 
-    // What the frames sink gets of a job, by one put.
-    ensures shown { (job : FrameJob) → Spells (texts words.now) job →
-        IsShown result (F.held frames.old) (F.held frames.new) (image_of job) }
-    ensures shown_once { IsShownOnce result (F.puts frames.old) (F.puts frames.new) }
-
-    // What the report gets, by one put.
-    ensures reported { IsReported result (R.held report.old) (R.held report.new)
-        (R.faults report.old) (R.faults report.new) }
-    ensures reported_once { IsReportedOnce result (R.puts report.old) (R.puts report.new) }
+    // Each sink gets what it gets by one put.
+    ensures shown_once { (job : Job) → Spells (texts words.now) job
+        → IsShownOnce job.task result (F.puts frames.old) (F.puts frames.new) }
+    ensures reported_once { (job : Job) → Spells (texts words.now) job
+        → IsReportedOnce job.task result (R.puts report.old) (R.puts report.new) }
 {
     match calm(alloc, words, shelf, frames, report) {
         Some(status) => status,
@@ -69,7 +64,7 @@ pub fn top<S: Shelf, F: Sink, R: Sink, G: Gate + Sync>(
     }
 }
 
-/// Does a `frame`, and refuses all other words. It waits for nobody, and answers a status always.
+/// Does a `frame` or a `check`, and refuses all other words. It waits for nobody, and answers a status always.
 pub fn calm<S: Shelf, F: Sink, R: Sink>(
     alloc: Global,
     words: &[String],
@@ -81,68 +76,59 @@ pub fn calm<S: Shelf, F: Sink, R: Sink>(
     ensures other_words { SpellsNone (texts words.now) → IsSomeAnd result (IsOrMemory Status.NotBuilt) }
     ensures other_shelf { SpellsNone (texts words.now) → shelf.new ≡ shelf.old }
     ensures other_frames { SpellsNone (texts words.now) → frames.new ≡ frames.old }
+    ensures other_report { SpellsNone (texts words.now) → IsSomeAnd result (λ status. IsReported status (R.held report.old) (R.held report.new)
+        (R.faults report.old) (R.faults report.new) []) }
+    ensures other_once { SpellsNone (texts words.now) → IsSomeAnd result (λ status. IsReportPut not_built status (R.puts report.old) (R.puts report.new)) }
 
-    // Each answer comes only where what is told of the files allows it.
-    ensures answer { (job : FrameJob) → Spells (texts words.now) job
-        → IsSomeAnd result (Answers (S.told shelf.old) job) }
+    // The files are read in order, and what they hold asks for the answer and for what both sinks get.
+    ensures run { (job : Job) → Spells (texts words.now) job → IsSomeAnd result (IsRun (S.told shelf.old) job
+        (sunk (F.held frames.old) (F.held frames.new) (F.faults frames.old) (F.faults frames.new))
+        (sunk (R.held report.old) (R.held report.new) (R.faults report.old) (R.faults report.new))) }
 
-    // Each comes wherever what is told of the files asks for it.
-    ensures not_built { (job : FrameJob) → Spells (texts words.now) job
-        → IsNotBuilt AsTold (S.told shelf.old) job
-        → IsSomeAnd result (IsOrRead Status.NotBuilt) }
-    ensures no_such_file { (job : FrameJob) → (name : List ℕ) → Spells (texts words.now) job
-        → IsNoSuchFile AsTold (S.told shelf.old) job name
-        → IsSomeAnd result (IsOrRead (Status.NoSuchFile name)) }
-    ensures done { (job : FrameJob) → Spells (texts words.now) job
-        → IsBuilt AsTold (S.told shelf.old) job
+    // Where all files are told and no count of faults rose, they decide the answer.
+    ensures decided { (job : Job) → Spells (texts words.now) job
         → (Rose (S.faults shelf.old) (S.faults shelf.new) → ⊥)
         → (Rose (F.faults frames.old) (F.faults frames.new) → ⊥)
-        → IsSomeAnd result (IsOrMemory Status.Done) }
+        → (Rose (R.faults report.old) (R.faults report.new) → ⊥)
+        → IsSomeAnd result (Decides (S.told shelf.old) job) }
 
     // A fault is answered only where its object's count rose.
-    ensures read { IsSomeAnd result (λ status.
-        IsReadCounted status (S.faults shelf.old) (S.faults shelf.new)) }
-    ensures write { IsSomeAnd result (λ status.
-        IsWriteCounted status (F.faults frames.old) (F.faults frames.new)) }
+    ensures read { IsSomeAnd result (λ status. IsReadCounted status (S.faults shelf.old) (S.faults shelf.new)) }
+    ensures write { IsSomeAnd result (λ status. IsWriteCounted status (F.faults frames.old) (F.faults frames.new)) }
 
-    // What the frames sink gets of a job, by one put.
-    ensures shown { (job : FrameJob) → Spells (texts words.now) job → IsSomeAnd result (λ status.
-        IsShown status (F.held frames.old) (F.held frames.new) (image_of job)) }
-    ensures shown_once { IsSomeAnd result (λ status.
-        IsShownOnce status (F.puts frames.old) (F.puts frames.new)) }
-
-    // What the report gets, by one put.
-    ensures reported { IsSomeAnd result (λ status.
-        IsReported status (R.held report.old) (R.held report.new)
-        (R.faults report.old) (R.faults report.new)) }
-    ensures reported_once { IsSomeAnd result (λ status.
-        IsReportedOnce status (R.puts report.old) (R.puts report.new)) }
+    // Each sink gets what it gets by one put.
+    ensures shown_once { (job : Job) → Spells (texts words.now) job
+        → IsSomeAnd result (λ status. IsShownOnce job.task status (F.puts frames.old) (F.puts frames.new)) }
+    ensures reported_once { (job : Job) → Spells (texts words.now) job
+        → IsSomeAnd result (λ status. IsReportedOnce job.task status (R.puts report.old) (R.puts report.new)) }
 {
-    let status = do_words(alloc, words, shelf, frames);
-    Some(tell(alloc, status, report))
+    files_decide();
+    let outcome = do_words(alloc, words, shelf, frames);
+    Some(finish(alloc, outcome, report))
 }
 
-// Does what the words ask, and says nothing to the report.
+/// Does what the words ask, up to what is to be reported.
 fn do_words<S: Shelf, F: Sink>(
     alloc: Global,
     words: &[String],
     shelf: &mut S,
     frames: &mut F,
-) -> Status
-    ensures other_words { SpellsNone (texts words.now) → IsOrMemory Status.NotBuilt result }
+) -> Outcome
+    ensures other_words { SpellsNone (texts words.now) → (result ≡ not_built) ⊎ (result ≡ out_of_memory) }
     ensures other_shelf { SpellsNone (texts words.now) → shelf.new ≡ shelf.old }
     ensures other_frames { SpellsNone (texts words.now) → frames.new ≡ frames.old }
-    ensures answer { (job : FrameJob) → Spells (texts words.now) job
-        → Answers (S.told shelf.old) job result }
-    ensures read { IsReadCounted result (S.faults shelf.old) (S.faults shelf.new) }
-    ensures write { IsWriteCounted result (F.faults frames.old) (F.faults frames.new) }
-    ensures shown { (job : FrameJob) → Spells (texts words.now) job →
-        IsShown result (F.held frames.old) (F.held frames.new) (image_of job) }
-    ensures shown_once { IsShownOnce result (F.puts frames.old) (F.puts frames.new) }
+    ensures run { (job : Job) → Spells (texts words.now) job → IsWorked (S.told shelf.old) job
+        (sunk (F.held frames.old) (F.held frames.new) (F.faults frames.old) (F.faults frames.new)) result }
+    ensures read { IsReadCounted (status_in result) (S.faults shelf.old) (S.faults shelf.new) }
+    ensures once { (job : Job) → Spells (texts words.now) job
+        → IsShownOnce job.task (status_in result) (F.puts frames.old) (F.puts frames.new) }
+    ensures write { IsWriteCounted (status_in result) (F.faults frames.old) (F.faults frames.new) }
+    ensures reportable { IsReportable result }
 {
+    one_job();
     match read_words(alloc, words) {
-        Ok(Some(job)) => do_job(alloc, job, shelf, frames),
-        Ok(None) => Status::NotBuilt,
-        Err(OutOfMemory) => Status::OutOfMemory,
+        Ok(Some(job)) => do_job(alloc, &job, shelf, frames),
+        Ok(None) => Outcome::Ended(Status::NotBuilt),
+        Err(OutOfMemory) => Outcome::Ended(Status::OutOfMemory),
     }
 }

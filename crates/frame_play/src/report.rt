@@ -1,39 +1,46 @@
-//! The line that the report gets of a refusal.
+//! What the report gets.
 
-ghost use Rattle.std.specs.Prelude.{◌≡◌, ◌+◌, ◌≤◌};
+ghost use Rattle.std.specs.Prelude.{◌≡◌, ◌≤◌};
 ghost use Rattle.ass_io.specs.Counts.{IsOneMore};
 ghost use Rattle.ass_io.specs.Written.{AppendsFront};
-ghost use Rattle.frame_play.specs.Answers.{IsOrMemory};
-ghost use Rattle.frame_play.specs.Outcomes.{IsReported, IsReportedOnce};
-ghost use Rattle.frame_play.specs.Statuses.{line_of};
+ghost use Rattle.frame_play.specs.Outcomes.{IsEnded, IsReportable, IsReported, IsReportPut, text_in};
+ghost use Rattle.run_status.specs.Statuses.{line_of};
 
-use crate::status::Status;
+use crate::outcome::Outcome;
 use ass_io::{Put, Sink};
 use ass_num::OutOfMemory;
+use run_status::{Status, Which};
 use std::alloc::Global;
 
-/// Puts the line of a status, and answers that status. Where memory is wanting for the line or for
-/// its put, want of memory is answered in its place, and its line is put.
-pub fn tell<R: Sink>(alloc: Global, status: Status, report: &mut R) -> Status
-    ensures answer { IsOrMemory status result }
+/// Puts what is to be reported of an outcome, and answers how the run ended: the report of a check, or the line of a status
+/// that isn't `Done`. Where memory is wanting for the line or for its put, want of memory is answered in its place, and its
+/// line is put.
+pub fn finish<R: Sink>(alloc: Global, outcome: Outcome, report: &mut R) -> Status
+    requires { IsReportable outcome }
+    ensures answer { IsEnded outcome result }
     ensures report { IsReported result (R.held report.old) (R.held report.new)
-        (R.faults report.old) (R.faults report.new) }
-    ensures once { IsReportedOnce result (R.puts report.old) (R.puts report.new) }
+        (R.faults report.old) (R.faults report.new) (text_in outcome) }
+    ensures once { IsReportPut outcome result (R.puts report.old) (R.puts report.new) }
 {
-    match status {
-        Status::Done => Status::Done,
-        Status::OutOfMemory => give_up(report),
-        other => match other.line(alloc) {
+    match outcome {
+        Outcome::Found(text) => match report.put(text.as_bytes()) {
+            Put::Done => Status::Done,
+            Put::Failed => Status::WriteFault(Which::Report),
+            Put::OutOfMemory => give_up(report),
+        },
+        Outcome::Ended(Status::Done) => Status::Done,
+        Outcome::Ended(Status::OutOfMemory) => give_up(report),
+        Outcome::Ended(status) => match status.line(alloc) {
             Ok(line) => match report.put(line.as_bytes()) {
                 Put::OutOfMemory => give_up(report),
-                Put::Done | Put::Failed => other,
+                Put::Done | Put::Failed => status,
             },
             Err(OutOfMemory) => give_up(report),
         },
     }
 }
 
-// Puts the line of a want of memory, or a front of it.
+/// Puts the line of a want of memory, or a front of it.
 fn give_up<R: Sink>(report: &mut R) -> Status
     ensures answer { result ≡ Status.OutOfMemory }
     ensures report { AppendsFront (R.held report.old) (R.held report.new) (line_of Status.OutOfMemory) }

@@ -1,0 +1,47 @@
+-- What reading one file answers.
+use Rattle.std.specs.Prelude.{◌≡◌, ◌⊎◌, ℕ, ◌<◌, ◌≤◌, List, length, Option, Some, None, Result, Ok, Err}
+use Rattle.ass_num.specs.Causes.{Rose, IfTold, file_limit}
+use Rattle.ass_io.specs.Fetched.{Held, Told}
+use Rattle.ass_script.specs.Scripts.{PlainScript, script_of}
+use Rattle.bdf_font.specs.Fonts.{PlainFont}
+use Rattle.bdf_font.specs.Grammar.{IsAnswer}
+use Rattle.bdf_font.specs.Lines.{text_lines}
+use Rattle.bdf_font.specs.declared.cause.FontRefusal.{FontRefusal}
+use Rattle.run_status.specs.declared.status.Status.{Status}
+use Rattle.run_status.specs.declared.status.Status.TheVariants.{NoSuchFile, ReadFault, TooLarge, OutOfMemory}
+use Rattle.run_status.specs.declared.status.What.TheVariants.{Bytes}
+use Rattle.input_files.specs.Causes.{script_status, font_status, with_status}
+
+-- What a name holds asks for an answer.
+abbrev pub Asks : Type 0 → Type 1
+Asks Value = Held → Result Value Status → Type 0
+
+-- What a file is read to: nothing has the name, it holds too many bytes, or what its bytes ask for.
+abbrev pub AsksOf : {Value : Type 0} → (List ℕ → Result Value Status → Type 0) → List ℕ → Asks Value
+AsksOf asks name None answer = answer ≡ Err (NoSuchFile name)
+AsksOf asks name (Some bytes) answer =
+    ((length bytes ≤ file_limit) × asks bytes answer) ⊎ ((file_limit < length bytes) × (answer ≡ Err (TooLarge Bytes file_limit)))
+
+abbrev pub AsksBytes : List ℕ → Asks (List ℕ)
+AsksBytes = AsksOf (λ bytes answer. answer ≡ Ok bytes)
+
+abbrev pub AsksScript : List ℕ → Asks PlainScript
+AsksScript = AsksOf (λ bytes answer. answer ≡ with_status script_status (script_of bytes))
+
+-- What the bytes of a font ask for, whose place among the fonts is `index`.
+abbrev pub FontAsked : ℕ → List ℕ → Result PlainFont Status → Type 0
+FontAsked index bytes answer = (font : Result PlainFont FontRefusal) × IsAnswer (text_lines bytes) font × (answer ≡ with_status (font_status index) font)
+
+abbrev pub AsksFont : ℕ → List ℕ → Asks PlainFont
+AsksFont index = AsksOf (FontAsked index)
+
+-- What reading a file answers: a fault of this name, want of memory, or what the name holds asks for, where that is told.
+abbrev pub IsAnswered : {Value : Type 0} → Asks Value → Told → List ℕ → Result Value Status → Type 0
+IsAnswered asks told name (Err (ReadFault other)) = other ≡ name
+IsAnswered asks told name (Err OutOfMemory) = Unit {0}
+IsAnswered asks told name answer = IfTold told (λ held. asks held answer)
+
+-- The shelf's count rose where a file couldn't be read, and is as it was after any other answer.
+abbrev pub IsReadCounted : {Value : Type 0} → Result Value Status → ℕ → ℕ → Type 0
+IsReadCounted (Err (ReadFault _)) before now = Rose before now × (before ≤ now)
+IsReadCounted _ before now = now ≡ before

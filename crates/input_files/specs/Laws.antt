@@ -1,0 +1,28 @@
+-- What the files decide.
+use Rattle.std.specs.Prelude.{◌≡◌, ◌≢◌, ℕ, ◌<◌, List, length, slice_index_or, Option, None, Result, Ok, Err}
+use Rattle.ass_io.specs.Fetched.{Told}
+use Rattle.run_status.specs.declared.status.Status.{Status}
+use Rattle.run_status.specs.declared.status.Status.TheVariants.{ReadFault, OutOfMemory}
+use Rattle.input_files.specs.declared.inputs.Inputs.{Inputs}
+use Rattle.input_files.specs.Inputs.{AreRead}
+
+-- The shelf tells what the names hold.
+abbrev pub AreTold : (List ℕ → Told) → List ℕ → List (List ℕ) → Type 0
+AreTold told script fonts = (told script ≢ None) × ((index : ℕ) (none : List ℕ) → index < length fonts → told (slice_index_or fonts index none) ≢ None)
+
+-- The status is neither a fault nor want of memory.
+abbrev pub IsCause : Status → Type 0
+IsCause (ReadFault _) = ⊥
+IsCause OutOfMemory = ⊥
+IsCause _ = Unit {0}
+
+-- The answer is neither a fault nor want of memory.
+abbrev pub IsDecided : {Value : Type 0} → Result Value Status → Type 0
+IsDecided (Ok _) = Unit {0}
+IsDecided (Err status) = IsCause status
+
+-- Where it is told what the names hold, two answers that are neither faults nor want of memory are the same.
+abbrev pub FilesDecide : Type 0
+FilesDecide =
+    (told : List ℕ → Told) (script : List ℕ) (fonts : List (List ℕ)) (one other : Result Inputs Status) →
+    AreTold told script fonts → IsDecided one → IsDecided other → AreRead told script fonts one → AreRead told script fonts other → one ≡ other

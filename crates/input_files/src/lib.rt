@@ -1,0 +1,10 @@
+//! The script and the fonts of a job, from a shelf.
+#![tactic(auto)]
+
+mod causes;
+mod files;
+mod inputs;
+mod laws;
+
+pub use inputs::{Inputs, MOST_FONTS, read_inputs};
+pub use laws::files_decide;

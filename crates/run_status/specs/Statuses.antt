@@ -1,0 +1,64 @@
+-- The line and the exit status of each status (docs/PROGRAM.md).
+use Rattle.std.specs.Prelude.{ℕ, List, [], ◌++◌, codes, decimal}
+use Rattle.bdf_font.specs.declared.cause.FontCause.{FontCause}
+use Rattle.bdf_font.specs.declared.cause.FontCause.TheVariants.{NoStart, BadNumber, BadRow, Misplaced, NoEnd}
+use Rattle.run_status.specs.declared.status.BadScript.{BadScript}
+use Rattle.run_status.specs.declared.status.BadScript.TheVariants.{NotUtf8, NoEvents}
+use Rattle.run_status.specs.declared.status.Status.{Status}
+use Rattle.run_status.specs.declared.status.Status.TheVariants as status
+use Rattle.run_status.specs.declared.status.What.{What}
+use Rattle.run_status.specs.declared.status.What.TheVariants.{Bytes, Lines, Styles, Glyphs, Fonts}
+use Rattle.run_status.specs.declared.status.Which.{Which}
+use Rattle.run_status.specs.declared.status.Which.TheVariants.{Frames, Report}
+
+abbrev pub cause_text : FontCause → List ℕ
+cause_text NoStart = codes "no start"
+cause_text BadNumber = codes "bad number"
+cause_text BadRow = codes "bad row"
+cause_text Misplaced = codes "misplaced"
+cause_text NoEnd = codes "no end"
+
+abbrev pub what_text : What → List ℕ
+what_text Bytes = codes "bytes"
+what_text Lines = codes "lines"
+what_text Styles = codes "styles"
+what_text Glyphs = codes "glyphs"
+what_text Fonts = codes "fonts"
+
+abbrev pub sink_text : Which → List ℕ
+sink_text Frames = codes "frames"
+sink_text Report = codes "report"
+
+abbrev pub script_line : BadScript → List ℕ
+script_line (NotUtf8 n) = codes "bad script: not UTF-8 at byte " ++ decimal n ++ codes "\n"
+script_line NoEvents = codes "bad script: no [Events] section\n"
+
+abbrev pub font_line : ℕ → ℕ → List ℕ → List ℕ
+font_line index line cause = codes "bad font " ++ decimal index ++ codes " line " ++ decimal line ++ codes ": " ++ cause ++ codes "\n"
+
+abbrev pub limit_line : List ℕ → ℕ → List ℕ
+limit_line what limit = codes "too large: " ++ what ++ codes " passes " ++ decimal limit ++ codes "\n"
+
+-- what the report says of a status; of a job that was done whole it says nothing
+abbrev pub line_of : Status → List ℕ
+line_of status.Done = []
+line_of (status.NoSuchFile name) = codes "no such file: " ++ name ++ codes "\n"
+line_of (status.ReadFault name) = codes "read fault: " ++ name ++ codes "\n"
+line_of (status.BadScript cause) = script_line cause
+line_of (status.BadFont index line cause) = font_line index line (cause_text cause)
+line_of (status.WriteFault which) = codes "write fault: " ++ sink_text which ++ codes "\n"
+line_of (status.TooLarge what limit) = limit_line (what_text what) limit
+line_of status.OutOfMemory = codes "out of memory\n"
+line_of status.NotBuilt = codes "not built\n"
+
+-- the exit status of the program
+abbrev pub exit_status_of : Status → ℕ
+exit_status_of status.Done = 0
+exit_status_of (status.NoSuchFile _) = 3
+exit_status_of (status.ReadFault _) = 4
+exit_status_of (status.BadScript _) = 5
+exit_status_of (status.BadFont _ _ _) = 6
+exit_status_of (status.WriteFault _) = 7
+exit_status_of (status.TooLarge _ _) = 8
+exit_status_of status.OutOfMemory = 9
+exit_status_of status.NotBuilt = 10
