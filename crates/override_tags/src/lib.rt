@@ -11,6 +11,8 @@ mod scan;
 mod single;
 mod tag;
 #[cfg(test)]
+mod tag_table_tests;
+#[cfg(test)]
 mod tests;
 mod transform;
 pub mod view;
