@@ -1,0 +1,4 @@
+pub mod BalanceLemmas
+pub mod EndsLemmas
+pub mod GroupLemmas
+pub mod LineLemmas
