@@ -51,16 +51,15 @@ neither Greater Greater h k l = absurd (cc)
 abbrev point_of : ℤ → ℤ → Point
 point_of x y = record { x = x; y = y }
 
+abbrev ends_at : Bool → Point → Point → Ends
+ends_at b p q = cond b (p.x, p.y, q.x, q.y) (q.x, q.y, p.x, p.y)
+
 -- Edges with the same ends in order are the same, or opposite.
-same_from_ends : (d e : Edge) (b c : Bool)
-    → cond b (d.from.x, d.from.y, d.to.x, d.to.y) (d.to.x, d.to.y, d.from.x, d.from.y) ≡ cond c (e.from.x, e.from.y, e.to.x, e.to.y) (e.to.x, e.to.y, e.from.x, e.from.y) → HaveSameEnds d e
+same_from_ends : (d e : Edge) (b c : Bool) → ends_at b d.from d.to ≡ ends_at c e.from e.to → HaveSameEnds d e
 same_from_ends d e true true h = inl (ap (λ (t : Ends). (point_of t.0 t.1, point_of t.2 t.3)) h)
 same_from_ends d e true false h = inr (ap (λ (t : Ends). (point_of t.0 t.1, point_of t.2 t.3)) h)
 same_from_ends d e false true h = inr (ap (λ (t : Ends). (point_of t.2 t.3, point_of t.0 t.1)) h)
 same_from_ends d e false false h = inl (ap (λ (t : Ends). (point_of t.2 t.3, point_of t.0 t.1)) h)
-
-abbrev ends_at : Bool → Point → Point → Ends
-ends_at b p q = cond b (p.x, p.y, q.x, q.y) (q.x, q.y, p.x, p.y)
 
 before_left : (p q : Point) → p.x <ℤ q.x → (is_before p q ≡ true) × (is_before q p ≡ false)
 before_left p q h = (grind (arith, ints), grind (arith, ints))
