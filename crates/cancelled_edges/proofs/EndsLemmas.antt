@@ -1,16 +1,15 @@
 -- Edges in the order of their ends.
-use Rattle.std.proofs.Common.{Ordering, Less, Equal, Greater, ◌≡◌, ℕ, ◌<◌, ◌≤◌, ◌⊎◌, inl, inr, Bool, true, false, cond, ◌&&◌, ◌||◌, ℤ, List, length, get_or, int_lt, refl, sym, ap, ◌∙◌, ◌<ℤ◌, ◌≤ℤ◌, arith, IsSortedByKey}
+use Rattle.std.proofs.Common.{Ordering, Less, Equal, Greater, ◌≡◌, inl, inr, Bool, true, false, cond, ℤ, List, get_or, refl, sym, ap, ◌∙◌, ◌<ℤ◌, ◌≤ℤ◌, arith, IsSortedByKey}
 use Rattle.std.proofs.lemmas.Int.{ints, by_lt_z}
-use Rattle.std.proofs.lemmas.Cmp.{int_cmp_total, on_total, then_total, int_ranked}
+use Rattle.std.proofs.lemmas.Cmp.{int_cmp_total, on_total, then_total}
 use Rattle.std.proofs.lemmas.List.Sorted.{sorted_far, ranks_by, answers_always}
 use Rattle.std.specs.Cmp.{IsTotalOrder}
-use Rattle.std.specs.Ordering.{int_cmp, int_eq, is_lt, ordering_then, ordering_reverse}
+use Rattle.std.specs.Ordering.{int_cmp, is_lt, ordering_then, ordering_reverse}
 use Rattle.std.specs.Fn.{ComputesKey, Called}
 use denote.Param.Members.{Mut}
 use denote.Ref.{Bor}
 use Rattle.ass_num.specs.declared.geometry.Point.{Point}
-use Rattle.cancelled_edges.specs.Cancelling.{opposite}
-use Rattle.cancelled_edges.specs.Edges.{way, is_before, ends_of, HaveSameEnds, IsGrouped}
+use Rattle.cancelled_edges.specs.Edges.{is_before, ends_of, HaveSameEnds, IsGrouped}
 use Rattle.cancelled_edges.specs.declared.edges.Edge.{Edge}
 
 abbrev pub Ends : Type 0

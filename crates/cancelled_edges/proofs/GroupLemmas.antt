@@ -1,12 +1,10 @@
 -- Edges that stand together and cancel one another.
-use Rattle.std.proofs.Common.{◌≡◌, ℕ, ◌+◌, ◌-◌, ◌<◌, ◌≤◌, ◌⊎◌, inl, inr, Bool, true, false, cond, ltb, List, [], ◌∷◌, ◌++◌, suc, length, get_or, sum_by, refl, sym, ap, subst, ◌∙◌, append_assoc, arith, length-append}
+use Rattle.std.proofs.Common.{◌≡◌, ℕ, ◌+◌, ◌-◌, ◌<◌, ◌≤◌, inl, inr, cond, ltb, List, [], ◌∷◌, ◌++◌, suc, length, get_or, refl, sym, ap, ◌∙◌, arith, length-append}
 use Rattle.std.proofs.lemmas.Bool.{cases_lt}
 use Rattle.std.proofs.lemmas.Bool.Decides.{nat_tests}
 use Rattle.std.proofs.lemmas.List.{get_or_append_left, get_or-append_right, get_or_at}
-use Rattle.std.proofs.lemmas.List.Sums.{sum_by-cons, sum_by-append}
-use Rattle.ass_num.specs.declared.geometry.Point.{Point}
 use Rattle.cancelled_edges.specs.Cancelling.{opposite}
-use Rattle.cancelled_edges.specs.Edges.{way, HaveSameEnds, IsGrouped, HasNoOpposites, IsBalanced}
+use Rattle.cancelled_edges.specs.Edges.{way, HaveSameEnds, IsGrouped, HasNoOpposites}
 use Rattle.cancelled_edges.specs.declared.edges.Edge.{Edge}
 
 abbrev skip : ℕ → ℕ → ℕ

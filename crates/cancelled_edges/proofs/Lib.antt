@@ -1,4 +1,5 @@
 pub mod BalanceLemmas
 pub mod EndsLemmas
 pub mod GroupLemmas
+pub mod KeptLemmas
 pub mod LineLemmas

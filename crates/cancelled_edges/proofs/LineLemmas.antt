@@ -1,6 +1,6 @@
 -- The edges of rings, one after another.
 use Rattle.std.proofs.Common.{◌≡◌, ℕ, ◌+◌, ◌-◌, ◌<◌, ◌≤◌, List, [], ◌∷◌, ◌++◌, length, get_or, take, drop, flat_map, sum_by, refl, sym, ap, ◌∙◌, append_assoc, arith}
-use Rattle.std.proofs.lemmas.List.{append-nil, drop_more, drop_all, at_drop_more, at_drop_all, take_rest}
+use Rattle.std.proofs.lemmas.List.{append-nil, at_drop_more, at_drop_all, take_rest}
 use Rattle.std.proofs.lemmas.List.Sums.{sum_by-cons, sum_by-append}
 use Rattle.ass_num.specs.Winding.{line, edges, edges_of}
 use Rattle.ass_num.specs.declared.geometry.Point.{Point}

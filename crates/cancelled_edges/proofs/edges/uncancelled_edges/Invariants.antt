@@ -3,4 +3,8 @@ use Rattle.cancelled_edges.specs.Edges.{way, IsBalanced, IsGrouped, HasNoOpposit
 use Rattle.cancelled_edges.proofs.edges.uncancelled_edges.Given as goal
 
 abbrev pub invariant-loop-e : goal.invariant-loop-e
-invariant-loop-e l = IsBalanced (map way (take l.e-index l.e-items)) l.kept.items × IsGrouped (l.kept.items ++ drop l.e-index l.e-items) × HasNoOpposites l.kept.items
+invariant-loop-e l = record {
+  balanced : IsBalanced (map way (take l.e-index l.e-items)) l.kept.items;
+  grouped : IsGrouped (l.kept.items ++ drop l.e-index l.e-items);
+  single : HasNoOpposites l.kept.items;
+}
