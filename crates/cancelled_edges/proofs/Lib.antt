@@ -1,4 +1,5 @@
 pub mod BalanceLemmas
+pub mod CancelLemmas
 pub mod EndsLemmas
 pub mod GroupLemmas
 pub mod KeptLemmas
