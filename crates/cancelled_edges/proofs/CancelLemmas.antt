@@ -11,7 +11,7 @@ use Rattle.cancelled_edges.specs.declared.edges.Edge.{Edge}
 use Rattle.cancelled_edges.proofs.BalanceLemmas.{same_edge_is}
 use Rattle.cancelled_edges.proofs.LineLemmas.{rings_sums}
 
-abbrev one_if : Bool → ℕ
+abbrev pub one_if : Bool → ℕ
 one_if b = cond b 1 0
 
 -- Closed rings leave closed edges.
@@ -51,19 +51,19 @@ opposite_counts e (x ∷ es) =
     let more : sum_by f es ≡ sum_by g es = opposite_counts e es in
     omega (arith, sum_by-cons f x es, sum_by-cons g x es, here, more)
 
--- Where some edges are counted, one of them stands at a place.
-abbrev IsFound : (Edge → Bool) → List Edge → Edge → Type 0
-IsFound p es d = (i : ℕ) × (i < length es) × (p (get_or es i d) ≡ true)
+-- Where some are counted, one of them stands at a place.
+abbrev IsFound : {X : Type 0} → (X → Bool) → List X → X → Type 0
+IsFound p xs d = (i : ℕ) × (i < length xs) × (p (get_or xs i d) ≡ true)
 
-found : (p : Edge → Bool) (es : List Edge) (d : Edge) → 0 < count_by p es → IsFound p es d
+pub found : {X : Type 0} (p : X → Bool) (xs : List X) (d : X) → 0 < count_by p xs → IsFound p xs d
 found p [] d some = absurd (omega arith)
-found p (e ∷ es) d some = found_in (p e) refl (found p es d)
+found {X} p (x ∷ xs) d some = found_in (p x) refl (found p xs d)
   where
-    found_in : (b : Bool) → b ≡ p e → (0 < count_by p es → IsFound p es d) → IsFound p (e ∷ es) d
+    found_in : (b : Bool) → b ≡ p x → (0 < count_by p xs → IsFound p xs d) → IsFound p (x ∷ xs) d
     found_in true is later = (0, omega arith, sym is)
     found_in false is later =
-        let none : one_if (p e) ≡ 0 = ap one_if (sym is) in
-        let rest = later (omega (arith, sum_by-cons (λ (x : Edge). one_if (p x)) e es, none)) in
+        let none : one_if (p x) ≡ 0 = ap one_if (sym is) in
+        let rest = later (omega (arith, sum_by-cons (λ (y : X). one_if (p y)) x xs, none)) in
         (suc rest.0, omega (arith, rest.1), rest.2)
 
 -- An edge and its opposite aren't both counted.

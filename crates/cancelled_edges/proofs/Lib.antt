@@ -4,3 +4,4 @@ pub mod EndsLemmas
 pub mod GroupLemmas
 pub mod KeptLemmas
 pub mod LineLemmas
+pub mod PointLemmas

@@ -1,6 +1,7 @@
 //! Outlines without edges that cancel.
 
 ghost use Rattle.std.specs.Prelude.{◌≡◌, ℤ, IfOk};
+ghost use Rattle.ass_num.specs.Limits.{IsOutline};
 ghost use Rattle.ass_num.specs.Winding.{winding};
 ghost use Rattle.cancelled_edges.specs.Cancelling.{IsCancelled};
 
@@ -13,6 +14,7 @@ use std::alloc::Global;
 pub fn cancelled(alloc: Global, outline: &Outline) -> Mem<Outline>
     ensures edges { IfOk result (λ o. IsCancelled outline.now.rings o.rings) }
     ensures winding { IfOk result (λ o. (i j : ℤ) → winding o.rings i j ≡ winding outline.now.rings i j) }
+    ensures within { IfOk result (λ o. IsOutline outline.now.rings → IsOutline o.rings) }
 {
     let edges = uncancelled_edges(alloc, outline)?;
     let rings = rings_of(alloc, edges)?;

@@ -4,5 +4,7 @@
 mod cancel;
 mod edges;
 mod rings;
+#[cfg(test)]
+mod tests;
 
 pub use cancel::cancelled;
