@@ -71,7 +71,7 @@ neither_before p q a b =
     let y : p.y ≡ q.y = omega (arith, ints) in
     let whole : made p.x p.y ≡ made q.x q.y = ap (λ z. made z p.y) e ∙ ap (made q.x) y in whole))))
 
-some_of : {X : Type 0} (xs : List X) → 0 < length xs → X
+pub some_of : {X : Type 0} (xs : List X) → 0 < length xs → X
 some_of [] h = absurd (omega arith)
 some_of (x ∷ xs) h = x
 
