@@ -1,10 +1,10 @@
 -- Walks along next edges, until all are taken.
-use Rattle.std.proofs.Common.{◌≡◌, ◌≢◌, ℕ, ◌+◌, ◌-◌, ◌<◌, ◌≤◌, ◌⊎◌, inl, inr, zero, suc, subst, Bool, true, false, cond, List, [], ◌∷◌, ◌++◌, length, get_or, set, replicate, sum_by, refl, sym, ap, ◌∙◌, arith, IsPermutation}
-use Rattle.std.proofs.lemmas.Bool.{cases_Bool, cases_eq, cases_lt, false≢true, false_from_ne_true}
+use Rattle.std.proofs.Common.{◌≡◌, ℕ, ◌+◌, ◌<◌, ◌≤◌, ◌⊎◌, inl, inr, zero, suc, Bool, true, false, cond, List, [], ◌∷◌, ◌++◌, length, get_or, set, replicate, sum_by, refl, sym, ap, ◌∙◌, arith, IsPermutation}
+use Rattle.std.proofs.lemmas.Bool.{cases_eq, cases_lt, false≢true, false_from_ne_true}
 use Rattle.std.proofs.lemmas.List.{get_or-set_same, get_or-set_other, get_or_default, get_or_past, get_or-replicate, flat_map_more}
 use Rattle.std.proofs.lemmas.List.Sums.{sum_by-cons, sum_by-append, sum_by_push}
 use Rattle.std.proofs.lemmas.List.Sorted.{sum_by-IsPermutation}
-use Rattle.ass_num.specs.Winding.{line, edges, edges_of}
+use Rattle.ass_num.specs.Winding.{edges, edges_of}
 use Rattle.ass_num.specs.declared.geometry.Point.{Point}
 use Rattle.cancelled_edges.specs.Edges.{way, IsClosed}
 use Rattle.cancelled_edges.specs.Walks.{IsNext, IsTakenWhole, untaken_sum, open_line}
@@ -125,7 +125,7 @@ sums_more es next first start taken place ring more e is way pushed f d =
     let meets : q ≡ edge.to = is.meets place d way.within in
     let point : (get_or es place e).from ≡ edge.from = ap (λ (y : Edge). y.from) (get_or_default es place e d way.within) in
     let longer : open_line more q ≡ open_line ring edge.from ++ (edge.from, edge.to) ∷ [] =
-      ap (λ ps. open_line ps q) (pushed ∙ ap (λ x. ring ++ x ∷ []) point) ∙ open_line_more ring edge.from q ∙ ap (λ x. open_line ring edge.from ++ (edge.from, x) ∷ []) meets in
+    ap (λ ps. open_line ps q) (pushed ∙ ap (λ x. ring ++ x ∷ []) point) ∙ open_line_more ring edge.from q ∙ ap (λ x. open_line ring edge.from ++ (edge.from, x) ∷ []) meets in
     let a : sum_by f (open_line more q) ≡ sum_by f (open_line ring edge.from) + f (edge.from, edge.to) = ap (sum_by f) longer ∙ sum_by_push f (open_line ring edge.from) (edge.from, edge.to) in
     let b = untaken_take f es taken place d way.within way.free in
     let c = way.sums f d in
@@ -136,7 +136,7 @@ pub walk_goes_on : (es : List Edge) (next : List ℕ) (first : ℕ) (start taken
 walk_goes_on es next first start taken place ring more e is way pushed not_first = record {
   within = is.within place 0 way.within;
   free = false_from_ne_true (get_or (set taken place true) (get_or next place 0) true)
-    (λ h. false≢true (sym way.free ∙ before_taken es next first start taken place ring is way place way.within h not_first));
+      (λ h. false≢true (sym way.free ∙ before_taken es next first start taken place ring is way place way.within h not_first));
   whole = λ k w h other. set_keeps taken place k way.free (before_taken es next first start taken place ring is way k w h other);
   before = inr (place, way.within, refl, set_here taken place way.free);
   empty = λ at_first. absurd (not_first at_first);
@@ -182,13 +182,13 @@ pub record AreRings (es : List Edge) (next : List ℕ) (first : ℕ) (taken : Li
 pub rings_none : (es : List Edge) (next : List ℕ) (taken : List Bool) (rings : List (List Point)) → IsNext es next → taken ≡ replicate (length es) false → rings ≡ [] → AreRings es next 0 taken rings
 rings_none es next taken rings is untaken none = record {
   whole = λ k within h.
-    let low = is.within k 0 (omega (arith, is.same_length)) in
-    absurd (false≢true (sym (ap (λ ts. get_or ts (get_or next k 0) true) untaken ∙ get_or-replicate (length es) (get_or next k 0) false true low) ∙ h));
+      let low = is.within k 0 (omega (arith, is.same_length)) in
+      absurd (false≢true (sym (ap (λ ts. get_or ts (get_or next k 0) true) untaken ∙ get_or-replicate (length es) (get_or next k 0) false true low) ∙ h));
   done = λ k low. absurd (omega arith);
   sums = λ f.
-    let all = ap (untaken_sum f es) untaken ∙ untaken_all f es in
-    let zero : sum_by f (edges_of rings) ≡ 0 = ap (λ rs. sum_by f (edges_of rs)) none in
-    omega (arith, all, zero);
+      let all = ap (untaken_sum f es) untaken ∙ untaken_all f es in
+      let zero : sum_by f (edges_of rings) ≡ 0 = ap (λ rs. sum_by f (edges_of rs)) none in
+      omega (arith, all, zero);
 }
 
 pub rings_skip : (es : List Edge) (next : List ℕ) (first : ℕ) (taken : List Bool) (rings : List (List Point)) → AreRings es next first taken rings → get_or taken first true ≡ true → AreRings es next (first + 1) taken rings
@@ -202,8 +202,8 @@ rings_more es next first taken after rings more ring are whole sums kept here pu
   whole = whole;
   done = below_more _ _ (λ k low. kept k (are.done k low)) here;
   sums = λ f.
-    let longer = ap (λ rs. sum_by f (edges_of rs)) pushed ∙ ap (sum_by f) (sym (flat_map_more edges [] rings ring)) ∙ sum_by-append f (edges_of rings) (edges ring) in
-    omega (arith, longer, sums f, are.sums f);
+      let longer = ap (λ rs. sum_by f (edges_of rs)) pushed ∙ ap (sum_by f) (sym (flat_map_more edges [] rings ring)) ∙ sum_by-append f (edges_of rings) (edges ring) in
+      omega (arith, longer, sums f, are.sums f);
 }
 
 pub rings_whole : (given es : List Edge) (next : List ℕ) (first : ℕ) (taken : List Bool) (rings : List (List Point)) → IsPermutation given es → AreRings es next first taken rings → length es ≤ first

@@ -1,5 +1,4 @@
 use Rattle.cancelled_edges.proofs.WalkLemmas.{walk_goes_on, fewer_free, whole_at_end, sums_at_end}
-use Rattle.cancelled_edges.specs.declared.edges.Edge.{Edge}
 use Rattle.cancelled_edges.proofs.rings.walk.Goals as goal
 
 pub returns-then-place-first-clause-whole : goal.returns-then-place-first-clause-whole
