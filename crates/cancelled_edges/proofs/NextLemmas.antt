@@ -1,7 +1,7 @@
 -- The next edges, by a sort of the edges' beginnings.
-use Rattle.std.proofs.Common.{Ordering, Less, Equal, Greater, ◌≡◌, ℕ, ◌+◌, ◌<◌, ◌≤◌, inl, inr, suc, subst, Bool, true, false, not, cond, ◌&&◌, ◌||◌, ℤ, List, [], ◌∷◌, ◌++◌, length, get_or, take, map, sum_by, count_by, nat_eq, nat_lt, int_lt, refl, sym, ap, ◌∙◌, ◌<ℤ◌, ◌≤ℤ◌, arith, All, IsPermutation, IsSortedByKey}
-use Rattle.std.proofs.lemmas.Int.{ints, by_lt_z}
-use Rattle.std.proofs.lemmas.Bool.{cases_Bool, cases_order, false≢true}
+use Rattle.std.proofs.Common.{Ordering, Less, Equal, Greater, ◌≡◌, ℕ, ◌+◌, ◌<◌, ◌≤◌, inl, inr, suc, subst, Bool, true, false, not, cond, ◌&&◌, ◌||◌, ℤ, List, [], ◌∷◌, ◌++◌, length, get_or, take, map, sum_by, count_by, nat_eq, nat_lt, int_lt, refl, sym, ap, ◌∙◌, arith, All, IsPermutation, IsSortedByKey}
+use Rattle.std.proofs.lemmas.Int.{ints}
+use Rattle.std.proofs.lemmas.Bool.{cases_Bool, cases_order}
 use Rattle.std.proofs.lemmas.Bool.Decides.{nat_tests}
 use Rattle.std.proofs.lemmas.Cmp.{int_cmp_total, on_total, then_total}
 use Rattle.std.proofs.lemmas.List.{get_or-map, get_or-take, get_or_default, length-map, length-take-le, length_push, take_all}
@@ -45,31 +45,15 @@ by_tests false false false false = refl
 before_is : (p q : Point) → is_lt (place_cmp (place_of p) (place_of q)) ≡ is_before p q
 before_is p q = by_tests (int_lt p.x q.x) (int_lt q.x p.x) (int_lt p.y q.y) (int_lt q.y p.y) ∙ ap (λ t. int_lt p.x q.x || (t && int_lt p.y q.y)) (sym (equal_is p.x q.x))
 
-before_left : (p q : Point) → p.x <ℤ q.x → is_before p q ≡ true
-before_left p q h = grind (arith, ints)
-
-before_above : (p q : Point) → p.x ≡ q.x → p.y <ℤ q.y → is_before p q ≡ true
-before_above p q e h = grind (arith, ints)
-
 abbrev made : ℤ → ℤ → Point
 made x y = record { x = x; y = y }
 
 -- Of two different points one comes first.
 neither_before : (p q : Point) → is_before p q ≡ false → is_before q p ≡ false → p ≡ q
 neither_before p q a b =
-    by_lt_z p.x q.x
-    (λ (h : p.x <ℤ q.x). absurd (false≢true (sym a ∙ before_left p q h)))
-    (λ (h : q.x ≤ℤ p.x). by_lt_z q.x p.x
-    (λ (k : q.x <ℤ p.x). absurd (false≢true (sym b ∙ before_left q p k)))
-    (λ (k : p.x ≤ℤ q.x).
-    let e : p.x ≡ q.x = omega (arith, ints) in
-    by_lt_z p.y q.y
-    (λ (u : p.y <ℤ q.y). absurd (false≢true (sym a ∙ before_above p q e u)))
-    (λ (u : q.y ≤ℤ p.y). by_lt_z q.y p.y
-    (λ (v : q.y <ℤ p.y). absurd (false≢true (sym b ∙ before_above q p (sym e) v)))
-    (λ (v : p.y ≤ℤ q.y).
-    let y : p.y ≡ q.y = omega (arith, ints) in
-    let whole : made p.x p.y ≡ made q.x q.y = ap (λ z. made z p.y) e ∙ ap (made q.x) y in whole))))
+    let x : p.x ≡ q.x = grind (arith, ints) in
+    let y : p.y ≡ q.y = grind (arith, ints) in
+    let whole : made p.x p.y ≡ made q.x q.y = ap (λ z. made z p.y) x ∙ ap (made q.x) y in whole
 
 pub some_of : {X : Type 0} (xs : List X) → 0 < length xs → X
 some_of [] h = absurd (omega arith)
@@ -126,11 +110,19 @@ same_in_order (p ∷ ps) (q ∷ qs) a b sums =
     (λ f. let e : f p ≡ f q = ap f same in omega (arith, sums f, e, sum_by-cons f p ps, sum_by-cons f q qs)) in
     ap (λ r. r ∷ ps) same ∙ ap (λ rs. q ∷ rs) rest
 
--- ---- the beginnings of the first k edges
+-- ---- the beginnings of the first n edges
+-- Each place is below n, and each once.
+abbrev pub AreCounts : ℕ → List Start → Type 0
+AreCounts n starts = (j : ℕ) → count_by (λ (s : Start). nat_eq s.edge j) starts ≡ cond (nat_lt j n) 1 0
+
+-- The edge at the place begins there.
+abbrev pub IsBeginning : List Edge → Start → Type 0
+IsBeginning es s = (d : Edge) → s.edge < length es → s.from ≡ (get_or es s.edge d).from
+
 pub record AreStarts (es : List Edge) (k : ℕ) (starts : List Start) : Type 0 where
   pub same_length : length starts ≡ k
-  pub counts : (j : ℕ) → count_by (λ (s : Start). nat_eq s.edge j) starts ≡ cond (nat_lt j k) 1 0
-  pub begins : All (λ (s : Start). (d : Edge) → s.edge < length es → s.from ≡ (get_or es s.edge d).from) starts
+  pub counts : AreCounts k starts
+  pub begins : All (IsBeginning es) starts
   pub sums : (f : Point → ℕ) → sum_by (λ (s : Start). f s.from) starts ≡ sum_by (λ (e : Edge). f e.from) (take k es)
 
 pub starts_none : (es : List Edge) (starts : List Start) → starts ≡ [] → AreStarts es 0 starts
@@ -138,7 +130,7 @@ starts_none es starts none =
     let here : AreStarts es 0 [] = record {
       same_length = refl;
       counts = λ j. grind (arith, nat_tests);
-      begins = All-nil (λ (s : Start). (d : Edge) → s.edge < length es → s.from ≡ (get_or es s.edge d).from);
+      begins = All-nil (IsBeginning es);
       sums = λ f. refl;
     } in
     subst (AreStarts es 0) (sym none) here
@@ -149,15 +141,14 @@ counted j k = grind (arith, nat_tests)
 pub starts_more : (es : List Edge) (k : ℕ) (starts new : List Start) (e : Edge) → k < length es → AreStarts es k starts → new ≡ starts ++ record { from = (get_or es k e).from; edge = k } ∷ [] → AreStarts es (k + 1) new
 starts_more es k starts new e within old added =
     let s : Start = record { from = (get_or es k e).from; edge = k } in
-    let P = λ (s : Start). (d : Edge) → s.edge < length es → s.from ≡ (get_or es s.edge d).from in
     record {
       same_length = ap length added ∙ length_push starts s ∙ ap (λ n. n + 1) old.same_length;
       counts = λ j.
           let f = λ (s : Start). cond (nat_eq s.edge j) 1 0 in
           ap (sum_by f) added ∙ sum_by_push f starts s ∙ ap (λ n. n + f s) (old.counts j) ∙ counted j k;
       begins =
-          let all : All P (starts ++ s ∷ []) = All-push P starts s old.begins (λ d w. ap (λ (e : Edge). e.from) (get_or_default es k e d within)) in
-          subst (λ (ss : List Start). All P ss) (sym added) all;
+          let all : All (IsBeginning es) (starts ++ s ∷ []) = All-push (IsBeginning es) starts s old.begins (λ d w. ap (λ (e : Edge). e.from) (get_or_default es k e d within)) in
+          subst (λ (ss : List Start). All (IsBeginning es) ss) (sym added) all;
       sums = λ f.
           ap (sum_by (λ (s : Start). f s.from)) added ∙ sum_by_push (λ (s : Start). f s.from) starts s
           ∙ ap (λ n. n + f (get_or es k e).from) (old.sums f) ∙ sym (sum_by_more (λ (e : Edge). f e.from) es k e within);
@@ -184,10 +175,6 @@ at_most_one false n h = omega arith
 
 is_below : (j n c : ℕ) → c ≡ cond (nat_lt j n) 1 0 → 1 ≤ c → j < n
 is_below j n c h k = grind (arith, nat_tests)
-
--- Each place is below the length, and no place is there twice.
-abbrev AreCounts : ℕ → List Start → Type 0
-AreCounts n starts = (j : ℕ) → count_by (λ (s : Start). nat_eq s.edge j) starts ≡ cond (nat_lt j n) 1 0
 
 place_within : (n : ℕ) (starts : List Start) → AreCounts n starts → (k : ℕ) (s : Start) → k < length starts → (get_or starts k s).edge < n
 place_within n starts counts k s within =
@@ -218,8 +205,7 @@ next_from_starts es starts sorted closed order are moved in_order =
     let edge = λ (s : Start). s.edge in
     let long : length sorted ≡ n = length_permutation starts sorted moved ∙ are.same_length in
     let counts : AreCounts n sorted = λ j. sum_by-IsPermutation (λ (s : Start). cond (nat_eq s.edge j) 1 0) starts sorted moved ∙ are.counts j in
-    let P : Start → Type 0 = λ s. (d : Edge) → s.edge < length es → s.from ≡ (get_or es s.edge d).from in
-    let begins : All P sorted = All-permutation P starts sorted moved are.begins in
+    let begins : All (IsBeginning es) sorted = All-permutation (IsBeginning es) starts sorted moved are.begins in
     let sums : (f : Point → ℕ) → sum_by f (map (λ (e : Edge). e.to) es) ≡ sum_by f (map (λ (s : Start). s.from) sorted) = λ f.
     sum_by-map f (λ (e : Edge). e.to) es ∙ sym (closed f) ∙ ap (sum_by (λ (e : Edge). f e.from)) (sym (take_all n es (omega arith))) ∙ sym (are.sums f)
     ∙ sym (sum_by-IsPermutation (λ (s : Start). f s.from) starts sorted moved) ∙ sym (sum_by-map f (λ (s : Start). s.from) sorted) in
