@@ -4,4 +4,6 @@ pub mod EndsLemmas
 pub mod GroupLemmas
 pub mod KeptLemmas
 pub mod LineLemmas
+pub mod NextLemmas
 pub mod PointLemmas
+pub mod WalkLemmas

@@ -1,6 +1,6 @@
 -- Walks along edges: from each edge to the next one, until all are taken.
-use Rattle.std.specs.Prelude.{◌≡◌, ℕ, ◌+◌, ◌<◌, ◌≤◌, Bool, true, false, cond, List, [], ◌∷◌, length, sum_by, slice_index_or}
-use Rattle.ass_num.specs.Winding.{line, edges_of}
+use Rattle.std.specs.Prelude.{◌≡◌, ℕ, ◌+◌, ◌<◌, ◌≤◌, Bool, true, false, cond, List, [], ◌∷◌, length, slice_index_or}
+use Rattle.ass_num.specs.Winding.{line}
 use Rattle.ass_num.specs.declared.geometry.Point.{Point}
 use Rattle.cancelled_edges.specs.declared.edges.Edge.{Edge}
 use Rattle.cancelled_edges.specs.Edges.{way, is_before}
@@ -8,7 +8,7 @@ use Rattle.cancelled_edges.specs.Edges.{way, is_before}
 -- the sum over the edges that aren't taken
 abbrev pub untaken_sum : (Point × Point → ℕ) → List Edge → List Bool → ℕ
 untaken_sum f [] taken = 0
-untaken_sum f (e ∷ es) [] = f (way e) + untaken_sum f es []
+untaken_sum f (e ∷ es) [] = 0
 untaken_sum f (e ∷ es) (t ∷ taken) = cond t 0 (f (way e)) + untaken_sum f es taken
 
 -- the edges along points and on to q

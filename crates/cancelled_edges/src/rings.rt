@@ -1,7 +1,7 @@
 //! Closed rings of given edges.
 
 ghost use Rattle.std.specs.Prelude.{◌≡◌, ℕ, ◌+◌, ◌<◌, ◌≤◌, ◌++◌, [], Bool, true, false, length, map, replicate, sum_by, slice_index_or, IfOk, OnOk, IsPermutation};
-ghost use Rattle.ass_num.specs.Winding.{edges, edges_of};
+ghost use Rattle.ass_num.specs.Winding.{edges as ring_edges, edges_of};
 ghost use Rattle.cancelled_edges.specs.Edges.{IsClosed, way};
 ghost use Rattle.cancelled_edges.specs.Walks.{IsInOrder, IsNext, IsTakenWhole, untaken_sum};
 
@@ -66,7 +66,7 @@ fn walk(
     requires whole { IsTakenWhole next.now taken.old }
     requires ring { ring.old.items ≡ [] }
     ensures whole { OnOk result (IsTakenWhole next.now taken.new) }
-    ensures sums { OnOk result ((f : _) → sum_by f (edges ring.new.items) + untaken_sum f edges.now taken.new ≡ untaken_sum f edges.now taken.old) }
+    ensures sums { OnOk result ((f : _) → sum_by f (ring_edges ring.new.items) + untaken_sum f edges.now taken.new ≡ untaken_sum f edges.now taken.old) }
     ensures kept { OnOk result ((k : ℕ) → slice_index_or taken.old k true ≡ true → slice_index_or taken.new k true ≡ true) }
     ensures first { OnOk result (slice_index_or taken.new first true ≡ true) }
 {
