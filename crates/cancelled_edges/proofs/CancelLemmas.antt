@@ -1,5 +1,5 @@
 -- What cancelled edges count.
-use Rattle.std.proofs.Common.{◌≡◌, ℕ, suc, ◌+◌, ◌-◌, ◌<◌, ◌≤◌, inl, inr, Bool, true, false, cond, ◌&&◌, ℤ, pos, ◌-ℤ◌, List, [], ◌∷◌, length, get_or, sum_by, count_by, refl, sym, ap, ◌∙◌, arith}
+use Rattle.std.proofs.Common.{◌≡◌, ℕ, suc, ◌<◌, inl, inr, Bool, true, false, cond, ◌&&◌, ℤ, pos, List, [], ◌∷◌, length, get_or, sum_by, count_by, refl, sym, ap, ◌∙◌, arith}
 use Rattle.std.proofs.lemmas.Int.{ints}
 use Rattle.std.proofs.lemmas.Bool.{cases_lt}
 use Rattle.std.proofs.lemmas.List.Sums.{sum_by-cons}

@@ -1,12 +1,12 @@
 -- Rings that have no edges but those of an outline have no points but its points.
-use Rattle.std.proofs.Common.{◌≡◌, ℕ, ◌+◌, ◌-◌, ◌<◌, ◌≤◌, Bool, true, cond, List, [], ◌∷◌, ◌++◌, length, get_or, sum_by, count_by, refl, sym, ap, subst, ◌∙◌, arith, length-append}
+use Rattle.std.proofs.Common.{◌≡◌, ◌+◌, ◌-◌, ◌<◌, List, [], ◌∷◌, ◌++◌, length, get_or, count_by, refl, sym, ap, subst, ◌∙◌, arith, length-append}
 use Rattle.std.proofs.lemmas.List.{get_or_append_left, get_or-append_right}
 use Rattle.std.proofs.lemmas.List.Elements.{All-nil, All-cons, All-head, All-tail, All-append}
 use Rattle.std.proofs.lemmas.List.Sums.{get_or-le-sum_by}
 use Rattle.std.specs.List.{All}
 use Rattle.ass_num.specs.Winding.{line, edges, edges_of}
 use Rattle.ass_num.specs.declared.geometry.Point.{Point}
-use Rattle.cancelled_edges.specs.Cancelling.{same_edge, opposite, edge_count, IsCancelled}
+use Rattle.cancelled_edges.specs.Cancelling.{same_edge, IsCancelled}
 use Rattle.cancelled_edges.proofs.BalanceLemmas.{same_edge_is, same_edge_same}
 use Rattle.cancelled_edges.proofs.CancelLemmas.{one_if, found}
 
