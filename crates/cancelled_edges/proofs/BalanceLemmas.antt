@@ -17,15 +17,16 @@ use Rattle.cancelled_edges.specs.declared.edges.Edge.{Edge}
 int_eq_is : (a b : ℤ) → int_eq a b ≡ true → a ≡ b
 int_eq_is a b h = grind (arith, ints)
 
-abbrev made : ℤ → ℤ → Point
-made x y = record { x = x; y = y }
+abbrev pub point_of : ℤ → ℤ → Point
+point_of x y = record { x = x; y = y }
+
+pub same_from_parts : (p q : Point) → p.x ≡ q.x → p.y ≡ q.y → p ≡ q
+same_from_parts p q x y = let whole : point_of p.x p.y ≡ point_of q.x q.y = ap (λ z. point_of z p.y) x ∙ ap (point_of q.x) y in whole
 
 pub same_point_is : (p q : Point) → same_point p q ≡ true → p ≡ q
 same_point_is p q h =
     let parts = and_parts (int_eq p.x q.x) (int_eq p.y q.y) h in
-    let x : p.x ≡ q.x = int_eq_is p.x q.x parts.0 in
-    let y : p.y ≡ q.y = int_eq_is p.y q.y parts.1 in
-    let whole : made p.x p.y ≡ made q.x q.y = cc in whole
+    same_from_parts p q (int_eq_is p.x q.x parts.0) (int_eq_is p.y q.y parts.1)
 
 -- One edge, which may lead nowhere.
 single : (f : Point × Point → ℕ) (p q : Point) (same : Bool) → (same ≡ true → p ≡ q)
@@ -103,6 +104,10 @@ balanced_more all old new e was added f =
           omega (arith, w, a, b, p, q)
     ]
 
+pub sum_by-map : {X Y : Type 0} (f : Y → ℕ) (g : X → Y) (xs : List X) → sum_by f (map g xs) ≡ sum_by (λ x. f (g x)) xs
+sum_by-map f g [] = refl
+sum_by-map f g (x ∷ xs) = sum_by-cons f (g x) (map g xs) ∙ ap (λ n. f (g x) + n) (sum_by-map f g xs) ∙ sym (sum_by-cons (λ x. f (g x)) x xs)
+
 -- The balance of a list in another order.
 pub balanced_whole : (all : List (Point × Point)) (list kept : List Edge) → IsPermutation (flat_map edge_from all) list → IsBalanced (map way list) kept → IsBalanced all kept
 balanced_whole all list kept moved balance f =
@@ -110,13 +115,9 @@ balanced_whole all list kept moved balance f =
     let b = balance f in
     let c = sum_by-IsPermutation (λ (e : Edge). f (way e)) (flat_map edge_from all) list moved in
     let d = sum_by-IsPermutation (λ (e : Edge). f (opposite (way e))) (flat_map edge_from all) list moved in
-    let p : sum_by f (map way list) ≡ sum_by (λ (e : Edge). f (way e)) list = sum_of_ways f list in
-    let q : sum_by (λ (e : Point × Point). f (opposite e)) (map way list) ≡ sum_by (λ (e : Edge). f (opposite (way e))) list = sum_of_ways (λ e. f (opposite e)) list in
+    let p : sum_by f (map way list) ≡ sum_by (λ (e : Edge). f (way e)) list = sum_by-map f way list in
+    let q : sum_by (λ (e : Point × Point). f (opposite e)) (map way list) ≡ sum_by (λ (e : Edge). f (opposite (way e))) list = sum_by-map (λ e. f (opposite e)) way list in
     omega (arith, a, b, c, d, p, q)
-  where
-    sum_of_ways : (f : Point × Point → ℕ) (es : List Edge) → sum_by f (map way es) ≡ sum_by (λ (e : Edge). f (way e)) es
-    sum_of_ways f [] = refl
-    sum_of_ways f (e ∷ es) = sum_by-cons f (way e) (map way es) ∙ ap (λ n. f (way e) + n) (sum_of_ways f es) ∙ sym (sum_by-cons (λ (e : Edge). f (way e)) e es)
 
 -- No edge of the list is its own opposite.
 pub all_lead : (all : List (Point × Point)) → All LeadsSomewhere (flat_map edge_from all)

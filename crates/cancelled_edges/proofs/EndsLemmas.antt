@@ -11,6 +11,7 @@ use denote.Ref.{Bor}
 use Rattle.ass_num.specs.declared.geometry.Point.{Point}
 use Rattle.cancelled_edges.specs.Edges.{is_before, ends_of, HaveSameEnds, IsGrouped}
 use Rattle.cancelled_edges.specs.declared.edges.Edge.{Edge}
+use Rattle.cancelled_edges.proofs.BalanceLemmas.{point_of, same_from_parts}
 
 abbrev pub Ends : Type 0
 Ends = ℤ × ℤ × ℤ × ℤ
@@ -29,9 +30,6 @@ tied_parts Greater p h = absurd (cc)
 int_tied : (a b : ℤ) → int_cmp a b ≡ Equal → a ≡ b
 int_tied a b h = grind (arith, ints)
 
-made : ℤ → ℤ → ℤ → ℤ → Ends
-made a b c d = (a, b, c, d)
-
 ends_tied : (x y : Ends) → ends_cmp x y ≡ Equal → x ≡ y
 ends_tied x y h =
     let p = tied_parts (ordering_then (ordering_then (int_cmp x.0 y.0) (int_cmp x.1 y.1)) (int_cmp x.2 y.2)) (int_cmp x.3 y.3) h in
@@ -46,9 +44,6 @@ neither Equal p h k l = refl
 neither Greater Less h k l = absurd (cc)
 neither Greater Equal h k l = absurd (cc)
 neither Greater Greater h k l = absurd (cc)
-
-abbrev point_of : ℤ → ℤ → Point
-point_of x y = record { x = x; y = y }
 
 abbrev ends_at : Bool → Point → Point → Ends
 ends_at b p q = cond b (p.x, p.y, q.x, q.y) (q.x, q.y, p.x, p.y)
@@ -81,7 +76,7 @@ before_both p q =
     (λ (v : q.y <ℤ p.y). let r = before_above q p (sym e) v in rw (r.0, r.1) refl)
     (λ (v : p.y ≤ℤ q.y).
     let y : p.y ≡ q.y = omega (arith, ints) in
-    let same : p ≡ q = let whole : point_of p.x p.y ≡ point_of q.x q.y = ap (λ z. point_of z p.y) e ∙ ap (point_of q.x) y in whole in
+    let same = same_from_parts p q e y in
     ap (λ z. ends_at (is_before z q) z q) same ∙ ap (λ z. ends_at (is_before q z) q z) (sym same)))))
 
 pub ends_same : (d e : Edge) → HaveSameEnds d e → ends_of d ≡ ends_of e

@@ -18,6 +18,7 @@ use Rattle.cancelled_edges.specs.Edges.{is_before, IsClosed}
 use Rattle.cancelled_edges.specs.Walks.{IsInOrder, IsNext}
 use Rattle.cancelled_edges.specs.declared.edges.Edge.{Edge}
 use Rattle.cancelled_edges.specs.declared.rings.Start.{Start}
+use Rattle.cancelled_edges.proofs.BalanceLemmas.{same_from_parts, sum_by-map}
 
 -- ---- points in order
 abbrev pub Place : Type 0
@@ -45,15 +46,12 @@ by_tests false false false false = refl
 before_is : (p q : Point) → is_lt (place_cmp (place_of p) (place_of q)) ≡ is_before p q
 before_is p q = by_tests (int_lt p.x q.x) (int_lt q.x p.x) (int_lt p.y q.y) (int_lt q.y p.y) ∙ ap (λ t. int_lt p.x q.x || (t && int_lt p.y q.y)) (sym (equal_is p.x q.x))
 
-abbrev made : ℤ → ℤ → Point
-made x y = record { x = x; y = y }
-
 -- Of two different points one comes first.
 neither_before : (p q : Point) → is_before p q ≡ false → is_before q p ≡ false → p ≡ q
 neither_before p q a b =
     let x : p.x ≡ q.x = grind (arith, ints) in
     let y : p.y ≡ q.y = grind (arith, ints) in
-    let whole : made p.x p.y ≡ made q.x q.y = ap (λ z. made z p.y) x ∙ ap (made q.x) y in whole
+    same_from_parts p q x y
 
 pub some_of : {X : Type 0} (xs : List X) → 0 < length xs → X
 some_of [] h = absurd (omega arith)
@@ -74,10 +72,6 @@ in_order_from_sort {X} point {g = g} {f = f} xs up h i j d order within =
     ap (λ p. is_before p (get_or (map point xs) i d)) (get_or-map point xs j x d last)
     ∙ ap (λ q. is_before (point (get_or xs j x)) q) (get_or-map point xs i x d first)
     ∙ sym (before_is (point (get_or xs j x)) (point (get_or xs i x))) ∙ far
-
-sum_by-map : {X Y : Type 0} (f : Y → ℕ) (g : X → Y) (xs : List X) → sum_by f (map g xs) ≡ sum_by (λ x. f (g x)) xs
-sum_by-map f g [] = refl
-sum_by-map f g (x ∷ xs) = sum_by-cons f (g x) (map g xs) ∙ ap (λ n. f (g x) + n) (sum_by-map f g xs) ∙ sym (sum_by-cons (λ x. f (g x)) x xs)
 
 none_pass : {X : Type 0} (p : X → Bool) (xs : List X) → ((k : ℕ) (d : X) → k < length xs → p (get_or xs k d) ≡ false) → count_by p xs ≡ 0
 none_pass p [] h = refl

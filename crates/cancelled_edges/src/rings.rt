@@ -16,6 +16,7 @@ pub struct Start {
     pub edge: usize,
 }
 
+/// Brings edges into the order of their ends.
 fn sort_by_end(edges: &mut Vec<Edge>)
     ensures permutation { IsPermutation edges.old.items edges.new.items }
     ensures in_order { IsInOrder (map (λ e. e.to) edges.new.items) }
@@ -23,6 +24,7 @@ fn sort_by_end(edges: &mut Vec<Edge>)
     edges.sort_unstable_by_key(|e| (e.to.x, e.to.y));
 }
 
+/// Brings beginnings into the order of their points.
 fn sort_by_beginning(starts: &mut Vec<Start>)
     ensures permutation { IsPermutation starts.old.items starts.new.items }
     ensures in_order { IsInOrder (map (λ s. s.from) starts.new.items) }
