@@ -9,7 +9,7 @@ program=$top/crates/kernel_bench/out/kernel_bench
 is_fresh() {
     local crate
     [ -x "$program" ] || return 1
-    for crate in ass_num region_rows sample_region border_region mask_blur placement line_layout blend bdf_font ass_script tag_arguments drawing_path override_tags kernel_bench; do
+    for crate in ass_num region_rows sample_region cancelled_edges border_region mask_blur placement line_layout blend bdf_font ass_script tag_arguments drawing_path override_tags kernel_bench; do
         [ -z "$(find "$top/crates/$crate/src" -newer "$program" -print -quit)" ] || return 1
     done
 }
@@ -30,6 +30,8 @@ printf 'load before: %s\n' "$(cut -d ' ' -f 1-3 /proc/loadavg)"
 
 measure region 48 200
 measure region 200 100
+measure cancel 2000 200
+measure cancel 100000 10
 measure border 48 100
 measure border 200 20
 measure blur 200 300

@@ -9,6 +9,7 @@ mod tests;
 
 pub use ass_num::Matrix;
 pub use boxes::box_outline;
+pub use cancelled_edges::cancelled;
 pub use drawings::outline_of_path;
 pub use glyphs::quads_of;
 pub use outline_points::turned;

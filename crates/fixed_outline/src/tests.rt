@@ -1,10 +1,10 @@
-//! The outlines of a font of one dot, of a triangle and of a box, and turns by quarters and by -30.5 degrees.
+//! Outlines of a font of one dot, of a triangle and of a box, the edges that are left of the dot, and turns by quarters and by -30.5 degrees.
 
 ghost use Rattle.std.specs.Prelude.{IfOk};
 ghost use Rattle.outline_points.specs.Drawings.{IsPath};
 
-use crate::{Matrix, box_outline, outline_of_path, quads_of, turned};
-use ass_num::{Items, Mem, Outline, Path, Point, Seg};
+use crate::{Matrix, box_outline, cancelled, outline_of_path, quads_of, turned};
+use ass_num::{FlatLists, Items, Mem, Outline, Path, Point, Seg};
 use bdf_font::read_font;
 use outline_points::drawing_extent;
 use std::alloc::{AllocError, Global};
@@ -46,17 +46,25 @@ fn shown(alloc: Global, outline: &Outline) -> Result<String, AllocError> {
     Ok(text)
 }
 
-/// The outline of the dot, plain or with all that a style can add.
-fn dot(alloc: Global, adorned: bool) -> Result<String, Fail> {
+/// The outline of the dot. Bold makes it two pixels wide.
+fn dot(alloc: Global, bold: bool, bars: bool) -> Result<Outline, Fail> {
+    let none = Outline {
+        rings: FlatLists::new(alloc),
+    };
     if DOT.len() > 1_000 {
-        return Ok(String::new(alloc));
+        return Ok(none);
     }
     let font = read_font(alloc, DOT.as_bytes())?;
     if font.glyphs().is_empty() {
-        return Ok(String::new(alloc));
+        return Ok(none);
     }
-    let outline = quads_of(alloc, &font, 0, &PLAIN, adorned, adorned, adorned)?;
-    Ok(shown(alloc, &outline)?)
+    Ok(quads_of(alloc, &font, 0, &PLAIN, bold, bars, bars)?)
+}
+
+/// How many edges of the dot don't cancel.
+fn edges_left(alloc: Global, bold: bool) -> Result<usize, Fail> {
+    let boundary = cancelled(alloc, &dot(alloc, bold, false)?)?;
+    Ok(boundary.rings.all_items().len())
 }
 
 /// Half of a unit's square.
@@ -73,11 +81,16 @@ fn triangle(alloc: Global) -> Mem<Path>
 #[test]
 fn outlines_of_a_dot_a_triangle_and_a_box(rt: HostRuntime) -> Result<(), Fail> {
     let alloc = rt.alloc();
-    assert_eq!(rt; dot(alloc, false)?.as_str(), "| 0,-64 64,-64 64,0 0,0");
     assert_eq!(rt;
-        dot(alloc, true)?.as_str(),
+        shown(alloc, &dot(alloc, false, false)?)?.as_str(),
+        "| 0,-64 64,-64 64,0 0,0"
+    );
+    assert_eq!(rt;
+        shown(alloc, &dot(alloc, true, true)?)?.as_str(),
         "| 0,-64 64,-64 64,0 0,0| 64,-64 128,-64 128,0 64,0| 0,64 64,64 64,128 0,128| 0,-64 64,-64 64,0 0,0"
     );
+    assert_eq!(rt; edges_left(alloc, false)?, 4);
+    assert_eq!(rt; edges_left(alloc, true)?, 6);
     let path = triangle(alloc)?;
     let outline = outline_of_path(alloc, &path, &PLAIN, 0)?;
     assert_eq!(rt; shown(alloc, &outline)?.as_str(), "| 0,0 64,0 64,64");

@@ -21,7 +21,7 @@ fn point(x: i64, y: i64) -> Point
 }
 
 /// Adds a square dot with this corner, side and lean.
-fn add_dot(rings: &mut FlatLists<Point>, x: i64, y: i64, side: i64, lean: i64) -> Mem<()>
+pub fn add_dot(rings: &mut FlatLists<Point>, x: i64, y: i64, side: i64, lean: i64) -> Mem<()>
     requires { IsOutline rings.old }
     ensures { OnOk result (IsOutline rings.new) }
 {
@@ -69,6 +69,27 @@ pub fn glyph(alloc: Global, side: i64, lean: i64) -> Mem<Outline>
     Ok(Outline { rings })
 }
 
+/// Times the region of an outline.
+pub fn measure_region(
+    rt: &HostRuntime,
+    name: &str,
+    outline: &Outline,
+    turns: u32,
+) -> Result<(), Stop>
+    requires { IsOutline outline.now.rings }
+{
+    let mut laps = Laps::new();
+    let mut rows = 0;
+    for _ in 0..turns {
+        let began = Instant::now(rt)?;
+        let region = region_of(rt.alloc(), outline)?;
+        laps.add(began.elapsed(rt)?);
+        rows = region.rows().len();
+    }
+    println!(rt; "region, {name}: {rows} rows, {laps}")?;
+    Ok(())
+}
+
 fn measure_glyph(
     rt: &HostRuntime,
     name: &str,
@@ -76,18 +97,8 @@ fn measure_glyph(
     lean: i64,
     turns: u32,
 ) -> Result<(), Stop> {
-    let alloc = rt.alloc();
-    let outline = glyph(alloc, side, lean)?;
-    let mut laps = Laps::new();
-    let mut rows = 0;
-    for _ in 0..turns {
-        let began = Instant::now(rt)?;
-        let region = region_of(alloc, &outline)?;
-        laps.add(began.elapsed(rt)?);
-        rows = region.rows().len();
-    }
-    println!(rt; "region, {name}: {rows} rows, {laps}")?;
-    Ok(())
+    let outline = glyph(rt.alloc(), side, lean)?;
+    measure_region(rt, name, &outline, turns)
 }
 
 /// Times the region of a glyph that is so many pixels high, and of the same glyph turned a little.

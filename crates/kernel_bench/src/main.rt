@@ -5,6 +5,7 @@
 mod blurring;
 mod border;
 mod boxes;
+mod cancelling;
 mod drawing;
 mod glyph;
 mod laps;
@@ -33,6 +34,7 @@ fn number_of(word: &String) -> Result<u32, Stop> {
 
 fn show_all(rt: &HostRuntime) -> Result<(), Stop> {
     glyph::show(rt)?;
+    cancelling::show(rt)?;
     border::show(rt)?;
     blurring::show(rt)?;
     boxes::show(rt)?;
@@ -44,6 +46,7 @@ fn show_all(rt: &HostRuntime) -> Result<(), Stop> {
 fn measure(rt: &HostRuntime, kernel: &str, size: u32, turns: u32) -> Result<(), Stop> {
     match kernel {
         "region" => glyph::measure(rt, size, turns),
+        "cancel" => cancelling::measure(rt, size, turns),
         "border" => border::measure(rt, size, turns),
         "blur" => blurring::measure(rt, size, turns),
         "shift" => boxes::measure(rt, size, turns),

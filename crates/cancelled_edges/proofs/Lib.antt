@@ -1,0 +1,9 @@
+pub mod BalanceLemmas
+pub mod CancelLemmas
+pub mod EndsLemmas
+pub mod GroupLemmas
+pub mod KeptLemmas
+pub mod LineLemmas
+pub mod NextLemmas
+pub mod PointLemmas
+pub mod WalkLemmas
