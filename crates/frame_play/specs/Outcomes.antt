@@ -42,12 +42,22 @@ IsShown (WriteFault Frames) old new image = AppendsFront old new image
 IsShown OutOfMemory old new image = AppendsFront old new image
 IsShown _ old new image = Keeps old new
 
--- How often the frames sink was asked: once for an image, and not at all by a check or at a refusal.
+-- How often the frames sink was asked by a task that was done whole: once for an image, and not at all by a check.
+abbrev pub IsImagePut : Task → ℕ → ℕ → Type 0
+IsImagePut Check before now = now ≡ before
+IsImagePut (Frame at size) before now = IsOneMore before now
+
+-- How often it was asked by a task for which memory was wanting.
+abbrev pub MayBePut : Task → ℕ → ℕ → Type 0
+MayBePut Check before now = now ≡ before
+MayBePut (Frame at size) before now = (before ≤ now) × (now ≤ before + 1)
+
+-- How often it was asked at each status: not at all at a refusal.
 abbrev pub IsShownOnce : Task → Status → ℕ → ℕ → Type 0
-IsShownOnce (Frame at size) Done before now = IsOneMore before now
-IsShownOnce (Frame at size) (WriteFault Frames) before now = IsOneMore before now
-IsShownOnce (Frame at size) OutOfMemory before now = (before ≤ now) × (now ≤ before + 1)
-IsShownOnce _ _ before now = now ≡ before
+IsShownOnce task Done before now = IsImagePut task before now
+IsShownOnce task (WriteFault Frames) before now = IsOneMore before now
+IsShownOnce task OutOfMemory before now = MayBePut task before now
+IsShownOnce task _ before now = now ≡ before
 
 -- The report got the line of the status, or a front of it where its count rose.
 abbrev pub IsLinePut : Status → Option (List ℕ) → Option (List ℕ) → ℕ → ℕ → Type 0
@@ -61,11 +71,16 @@ IsReported (WriteFault Report) old new before now text = AppendsFront old new te
 IsReported OutOfMemory old new before now text = AppendsFront old new (line_of OutOfMemory) × (before ≤ now)
 IsReported status old new before now text = IsLinePut status old new before now
 
--- How often the report was asked: once for a check's report or for the line of a refusal. Where that put wanted memory, the line of that is put too.
+-- How often the report was asked by a task that was done whole: once for a check's report, and not at all by a picture.
+abbrev pub IsTextPut : Task → ℕ → ℕ → Type 0
+IsTextPut Check before now = IsOneMore before now
+IsTextPut (Frame at size) before now = now ≡ before
+
+-- How often it was asked at each status: once for its line. Where that put wanted memory, the line of that is put too.
 abbrev pub IsReportedOnce : Task → Status → ℕ → ℕ → Type 0
-IsReportedOnce (Frame at size) Done before now = now ≡ before
-IsReportedOnce _ OutOfMemory before now = Rose before now × (before ≤ now) × (now ≤ before + 2)
-IsReportedOnce _ _ before now = IsOneMore before now
+IsReportedOnce task Done before now = IsTextPut task before now
+IsReportedOnce task OutOfMemory before now = Rose before now × (before ≤ now) × (now ≤ before + 2)
+IsReportedOnce task _ before now = IsOneMore before now
 
 abbrev pub not_built : Outcome
 not_built = Ended NotBuilt
@@ -88,19 +103,21 @@ abbrev pub IsReportable : Outcome → Type 0
 IsReportable (Ended (WriteFault Report)) = ⊥
 IsReportable _ = Unit {0}
 
--- A check's report alone is found, and a check that was done whole has found its report.
+-- A check alone has found something to report where it was done whole, and no task has failed at another's sink.
 abbrev pub IsOwn : Task → Outcome → Type 0
 IsOwn task (Ended (WriteFault Report)) = ⊥
+IsOwn Check (Ended (WriteFault Frames)) = ⊥
 IsOwn Check (Ended Done) = ⊥
 IsOwn (Frame at size) (Found text) = ⊥
 IsOwn _ _ = Unit {0}
 
 -- How a run ends after an outcome: as it says, or by a fault of the report or want of memory.
 abbrev pub IsEnded : Outcome → Status → Type 0
+IsEnded (Ended Done) answer = answer ≡ Done
 IsEnded (Ended status) answer = IsOrMemory status answer
 IsEnded (Found text) answer = IsOrMemory Done answer ⊎ (answer ≡ WriteFault Report)
 
--- How often the report was asked after an outcome.
+-- How often the report was asked at the end of a run after an outcome.
 abbrev pub IsReportPut : Outcome → Status → ℕ → ℕ → Type 0
 IsReportPut (Ended Done) answer before now = now ≡ before
 IsReportPut outcome OutOfMemory before now = Rose before now × (before ≤ now) × (now ≤ before + 2)

@@ -57,12 +57,7 @@ fn do_task<F: Sink>(alloc: Global, task: &Task, inputs: &Inputs, frames: &mut F)
 }
 
 /// Does a job. Nothing goes to the frames sink before all files were read.
-pub fn do_job<S: Shelf, F: Sink>(
-    alloc: Global,
-    job: &Job,
-    shelf: &mut S,
-    frames: &mut F,
-) -> Outcome
+pub fn do_job<S: Shelf, F: Sink>(alloc: Global, job: &Job, shelf: &mut S, frames: &mut F) -> Outcome
     requires { IsTask job.now.task }
     ensures run { IsWorked (S.told shelf.old) job.now (sunk (F.held frames.old) (F.held frames.new) (F.faults frames.old) (F.faults frames.new)) result }
     ensures read { IsReadCounted (status_in result) (S.faults shelf.old) (S.faults shelf.new) }

@@ -6,6 +6,8 @@ mod outcome;
 mod picture;
 mod play;
 mod report;
+#[cfg(test)]
+mod tests;
 
 pub use play::{calm, top};
 pub use run_status::{BadScript, Status, What, Which};

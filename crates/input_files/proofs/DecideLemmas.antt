@@ -1,5 +1,5 @@
 -- What is told of the files decides the answer.
-use Rattle.std.proofs.Common.{◌≡◌, ◌≢◌, ℕ, ◌<◌, ◌≤◌, ◌⊎◌, inl, inr, List, [], length, slice_index_or, Option, Some, None, Result, Ok, Err, refl, sym, subst, ◌∙◌, ap, pos, arith, rules}
+use Rattle.std.proofs.Common.{◌≡◌, ◌≢◌, ℕ, ◌<◌, inl, inr, List, [], length, slice_index_or, Some, None, Result, Ok, Err, refl, sym, subst, ◌∙◌, ap, pos, arith}
 use Rattle.std.proofs.lemmas.List.{same_lists}
 use Rattle.std.proofs.lemmas.Bool.{cases_order}
 use Rattle.ass_io.specs.Fetched.{Held, Told}
@@ -12,21 +12,21 @@ use Rattle.run_status.specs.declared.status.Status.TheVariants as status
 use Rattle.input_files.specs.declared.inputs.Inputs.{Inputs}
 use Rattle.input_files.specs.Causes.{font_status, with_status}
 use Rattle.input_files.specs.Files.{Asks, AsksFont, AsksOf, AsksScript, FontAsked, IsAnswered}
-use Rattle.input_files.specs.Inputs.{AreFilesRead, AreFirstFonts, AreFontsRead, AreRead, IsFontRead, IsScriptRead}
+use Rattle.input_files.specs.Inputs.{AreFilesRead, AreFontsRead, IsFontRead, IsScriptRead}
 use Rattle.input_files.specs.Laws.{AreTold, FilesDecide, IsCause, IsDecided}
 
 -- What is held asks for an answer that is decided.
 asked : {Value : Type 0} (asks : Asks Value) (held : Held) (name : List ℕ) (answer : Result Value Status) → IsDecided answer → IsAnswered asks (Some held) name answer → asks held answer
 asked asks held name (Ok value) decided h = h
-asked asks held name (Err status.Done) decided h = h
+asked asks held name (Err status.Done) decided h = absurd h
 asked asks held name (Err (status.NoSuchFile other)) decided h = h
 asked asks held name (Err (status.ReadFault other)) decided h = absurd decided
 asked asks held name (Err (status.BadScript cause)) decided h = h
 asked asks held name (Err (status.BadFont index line cause)) decided h = h
-asked asks held name (Err (status.WriteFault which)) decided h = h
+asked asks held name (Err (status.WriteFault which)) decided h = absurd h
 asked asks held name (Err (status.TooLarge what limit)) decided h = h
 asked asks held name (Err status.OutOfMemory) decided h = absurd decided
-asked asks held name (Err status.NotBuilt) decided h = h
+asked asks held name (Err status.NotBuilt) decided h = absurd h
 
 -- One answer is asked for at most.
 abbrev AsksOne : {Value : Type 0} → Asks Value → Type 0
@@ -87,7 +87,7 @@ fonts_one : OneAnswer → (told : List ℕ → Told) (names : List (List ℕ)) �
     IsDecided one → IsDecided other → AreFontsRead told names one → AreFontsRead told names other → one ≡ other
 fonts_one law told names known (Ok one) (Ok other) d e h k =
     ap Ok (same_lists one other (h.0 ∙ sym k.0) (λ index none within.
-      fonts_agree law told names index (λ name. known index name (omega (arith, h.0, within))) _ _ (h.1 index none within) (k.1 index none (omega (arith, h.0, k.0, within)))))
+    fonts_agree law told names index (λ name. known index name (omega (arith, h.0, within))) _ _ (h.1 index none within) (k.1 index none (omega (arith, h.0, k.0, within)))))
 fonts_one law told names known (Ok one) (Err status) d e h k =
     let fonts = k.0 in
     let within : length fonts < length one = omega (arith, h.0, k.1) in
@@ -100,9 +100,10 @@ fonts_one law told names known (Err status) (Err cause) d e h k =
     let fonts = h.0 in
     let more = k.0 in
     elim (cases_order (length fonts) (length more)) [
-      inl same ↦ let answer = font_one law told names (length fonts) (Err status) (Err cause) (λ name. known (length fonts) name h.1) d e h.3 (subst (λ n. IsFontRead told names n (Err cause)) (sym same) k.3) in let equal : status ≡ cause = cc in ap Err equal
-    | inr (inl less) ↦ absurd (not_both law told names (length fonts) (λ name. known (length fonts) name h.1) _ status d (k.2 (length fonts) no_font less) h.3)
-    | inr (inr less) ↦ absurd (not_both law told names (length more) (λ name. known (length more) name k.1) _ cause e (h.2 (length more) no_font less) k.3) ]
+      | inl same ↦ let answer = font_one law told names (length fonts) (Err status) (Err cause) (λ name. known (length fonts) name h.1) d e h.3 (subst (λ n. IsFontRead told names n (Err cause)) (sym same) k.3) in let equal : status ≡ cause = cc in ap Err equal
+      | inr (inl less) ↦ absurd (not_both law told names (length fonts) (λ name. known (length fonts) name h.1) _ status d (k.2 (length fonts) no_font less) h.3)
+      | inr (inr less) ↦ absurd (not_both law told names (length more) (λ name. known (length more) name k.1) _ cause e (h.2 (length more) no_font less) k.3)
+    ]
 
 -- Two decided answers about files are the same.
 read_one : OneAnswer → (told : List ℕ → Told) (script : List ℕ) (fonts : List (List ℕ)) (one other : Result Inputs Status) → AreTold told script fonts →

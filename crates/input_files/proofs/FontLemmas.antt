@@ -1,5 +1,5 @@
 -- Fonts that are read one after another.
-use Rattle.std.proofs.Common.{◌≡◌, ℕ, ◌<◌, List, [], ◌∷◌, ◌++◌, All, length, slice_index_or, Ok, arith, rules}
+use Rattle.std.proofs.Common.{◌≡◌, ℕ, ◌<◌, List, [], ◌∷◌, ◌++◌, length, Ok, arith}
 use Rattle.std.proofs.Common.{inl, inr, Err, length-append, subst, sym}
 use Rattle.std.proofs.Math.Seq.{get_or-append_seam}
 use Rattle.std.proofs.lemmas.Bool.{cases_eq}
@@ -14,10 +14,11 @@ pub first_more : (told : List ℕ → Told) (names : List (List ℕ)) (fonts : L
     AreFirstFonts told names fonts → IsFontRead told names (length fonts) (Ok font) → AreFirstFonts told names (fonts ++ font ∷ [])
 first_more told names fonts font first next = λ index none within.
     elim (cases_eq index (length fonts)) [
-      inl last ↦ rw (last, get_or-append_seam fonts font [] none) next
-    | inr other ↦
-        let before : index < length fonts = omega (arith, within, length-append fonts (font ∷ []), other) in
-        rw (get_or_append_left fonts (font ∷ []) none index before) (first index none before) ]
+      | inl last ↦ rw (last, get_or-append_seam fonts font [] none) next
+      | inr other ↦
+          let before : index < length fonts = omega (arith, within, length-append fonts (font ∷ []), other) in
+          rw (get_or_append_left fonts (font ∷ []) none index before) (first index none before)
+    ]
 
 -- The same where what is told stays the same.
 pub next_first : (told now : List ℕ → Told) (names : List (List ℕ)) (fonts : List PlainFont) (index : ℕ) (font : PlainFont) → now ≡ told → length fonts ≡ index →

@@ -1,5 +1,5 @@
 -- What reading one file answers.
-use Rattle.std.specs.Prelude.{◌≡◌, ◌⊎◌, ℕ, ◌<◌, ◌≤◌, List, length, Option, Some, None, Result, Ok, Err}
+use Rattle.std.specs.Prelude.{◌≡◌, ◌⊎◌, ℕ, ◌<◌, ◌≤◌, List, length, Some, None, Result, Ok, Err}
 use Rattle.ass_num.specs.Causes.{Rose, IfTold, file_limit}
 use Rattle.ass_io.specs.Fetched.{Held, Told}
 use Rattle.ass_script.specs.Scripts.{PlainScript, script_of}
@@ -8,7 +8,7 @@ use Rattle.bdf_font.specs.Grammar.{IsAnswer}
 use Rattle.bdf_font.specs.Lines.{text_lines}
 use Rattle.bdf_font.specs.declared.cause.FontRefusal.{FontRefusal}
 use Rattle.run_status.specs.declared.status.Status.{Status}
-use Rattle.run_status.specs.declared.status.Status.TheVariants.{NoSuchFile, ReadFault, TooLarge, OutOfMemory}
+use Rattle.run_status.specs.declared.status.Status.TheVariants.{Done, NoSuchFile, NotBuilt, OutOfMemory, ReadFault, TooLarge, WriteFault}
 use Rattle.run_status.specs.declared.status.What.TheVariants.{Bytes}
 use Rattle.input_files.specs.Causes.{script_status, font_status, with_status}
 
@@ -35,10 +35,13 @@ FontAsked index bytes answer = (font : Result PlainFont FontRefusal) × IsAnswer
 abbrev pub AsksFont : ℕ → List ℕ → Asks PlainFont
 AsksFont index = AsksOf (FontAsked index)
 
--- What reading a file answers: a fault of this name, want of memory, or what the name holds asks for, where that is told.
+-- What reading a file answers: a fault of this name, want of memory, or what the name holds asks for, where that is told. Nothing is done or written, and nothing is unbuilt.
 abbrev pub IsAnswered : {Value : Type 0} → Asks Value → Told → List ℕ → Result Value Status → Type 0
 IsAnswered asks told name (Err (ReadFault other)) = other ≡ name
 IsAnswered asks told name (Err OutOfMemory) = Unit {0}
+IsAnswered asks told name (Err Done) = ⊥
+IsAnswered asks told name (Err (WriteFault _)) = ⊥
+IsAnswered asks told name (Err NotBuilt) = ⊥
 IsAnswered asks told name answer = IfTold told (λ held. asks held answer)
 
 -- The shelf's count rose where a file couldn't be read, and is as it was after any other answer.

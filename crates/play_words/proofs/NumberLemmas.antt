@@ -49,4 +49,3 @@ pub same_size : (w h w' h' : ℕ) → w ≤ 4096 → h ≤ 4096 → w' ≤ 4096 
 same_size w h w' h' a b a' b' e =
     let parts = same_parts 120 (decimal w) (decimal w') (decimal h) (decimal h') (no_x_in_decimal w (omega arith)) (no_x_in_decimal w' (omega arith)) e in
     (decimal_injective w w' (omega arith) (omega arith) parts.0, decimal_injective h h' (omega arith) (omega arith) parts.1)
-

@@ -9,7 +9,7 @@ pub returns-in-Err-clause-read : goal.returns-in-Err-clause-read
 returns-in-Err-clause-read g c =
     let kept = c.loop-index.invariant in
     stopped _ (g.S.Shelf.told c.loop-index.shelf) c.args.names.now c.loop-index.fonts c.loop-index.index _ kept.0 kept.2 c.loop-index-test.true kept.3
-      (rw c.in-Err.is at c.fetch_font_at.ensures.read)
+    (rw c.in-Err.is at c.fetch_font_at.ensures.read)
 
 pub loop-index-preserved : goal.loop-index-preserved
 loop-index-preserved g c =
@@ -17,9 +17,10 @@ loop-index-preserved g c =
     let told = g.S.Shelf.told c.args.shelf.now in
     let pushed : c.push.new.self ≡ c.loop-index.fonts ++ c.in-Ok.font ∷ [] = c.in_ok-push.ensures.ok in
     let read = next_first told (g.S.Shelf.told c.loop-index.shelf) c.args.names.now c.loop-index.fonts c.loop-index.index c.in-Ok.font kept.0 kept.2 kept.3 c.in-Ok.ensures.read in
-    let counted : g.S.Shelf.faults c.fetch_font_at.new.shelf ≡ g.S.Shelf.faults c.loop-index.shelf = c.in-Ok.ensures.counted in
-    ( c.fetch_font_at.ensures.kept ∙ kept.0
-    , counted ∙ kept.1
-    , ap length pushed ∙ length-append c.loop-index.fonts (c.in-Ok.font ∷ []) ∙ ap (λ n. n + 1) kept.2
-    , subst (λ fonts. AreFirstFonts told c.args.names.now fonts) (sym pushed) read
-    , subst (All IsFont) (sym pushed) (All-append IsFont c.loop-index.fonts (c.in-Ok.font ∷ []) kept.4 (All-cons IsFont c.in-Ok.font [] c.in-Ok.ensures.font (All-nil IsFont))) )
+    let counted : g.S.Shelf.faults c.fetch_font_at.new.shelf ≡ g.S.Shelf.faults c.loop-index.shelf = c.in-Ok.ensures.counted in (
+      c.fetch_font_at.ensures.kept ∙ kept.0,
+      counted ∙ kept.1,
+      ap length pushed ∙ length-append c.loop-index.fonts (c.in-Ok.font ∷ []) ∙ ap (λ n. n + 1) kept.2,
+      subst (λ fonts. AreFirstFonts told c.args.names.now fonts) (sym pushed) read,
+      subst (All IsFont) (sym pushed) (All-append IsFont c.loop-index.fonts (c.in-Ok.font ∷ []) kept.4 (All-cons IsFont c.in-Ok.font [] c.in-Ok.ensures.font (All-nil IsFont))),
+    )

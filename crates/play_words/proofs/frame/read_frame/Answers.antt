@@ -1,4 +1,4 @@
-use Rattle.std.proofs.Common.{◌≡◌, arith, rules, subst}
+use Rattle.std.proofs.Common.{arith, rules}
 use Rattle.play_words.specs.Words.{Spells, frame_job, texts}
 use Rattle.play_words.proofs.WordsLemmas.{seven, same_seven}
 use Rattle.play_words.proofs.frame.read_frame.Goals as goal
