@@ -42,35 +42,33 @@ text='The quick brown fox jumps over the lazy dog, 0123456789, and then sits in 
 { script 1280 720 80; lines 100000 'What the river said, nobody wrote down.'; } > "$room/100000.ass"
 { script 1280 720 80; lines 1000000 'So she said.'; } > "$room/1000000.ass"
 
-# measure NAME RUNS FILE WORDS..: the least time on the processor, the part of it in the program itself, the least time on the
-# clock, and the peak memory, also as a multiple of the file.
+# measure NAME RUNS SCRIPT WORDS..: the least time on the processors and on the clock, and the peak memory.
 measure() {
     ASAN_OPTIONS=detect_leaks=0 python3 - "$@" << 'END'
-import os, resource, subprocess, sys, tempfile, time
+import os, subprocess, sys, tempfile, time
 
-name, runs, file, words = sys.argv[1], int(sys.argv[2]), sys.argv[3], sys.argv[4:]
+name, runs, script, words = sys.argv[1], int(sys.argv[2]), sys.argv[3], sys.argv[4:]
 
 def run(words):
-    """How the words end: status, seconds in the program, in the system and on the clock, and peak KiB."""
+    """How the words end: the status, milliseconds on the processors (user and system) and on the clock, and the peak in KiB."""
     begun = time.monotonic()
     child = subprocess.Popen(words, stdout=subprocess.DEVNULL, stderr=subprocess.DEVNULL)
     status, usage = os.wait4(child.pid, 0)[1:]
     child.returncode = os.waitstatus_to_exitcode(status)
-    return child.returncode, usage.ru_utime, usage.ru_stime, time.monotonic() - begun, usage.ru_maxrss
+    return child.returncode, 1000 * (usage.ru_utime + usage.ru_stime), 1000 * (time.monotonic() - begun), usage.ru_maxrss
 
 found = [run(words) for _ in range(runs)]
 if any(each[0] != 0 for each in found):
-    sys.exit(f"{name}: exit status {found[0][0]}")
-peak = min(each[4] for each in found)
+    sys.exit(f"{name}: exit status {max(each[0] for each in found)}")
+peak = min(each[3] for each in found)
 if os.path.exists("/usr/bin/time"):
     # A child of Python begins with Python's own peak, a child of `time` with a small one.
     with tempfile.NamedTemporaryFile("r") as said:
         run(["/usr/bin/time", "-f", "%M", "-o", said.name] + words)
         peak = int(said.read().split()[-1])
-size = os.path.getsize(file)
-print(f"{name}: processor {1000 * min(e[1] + e[2] for e in found):.1f} ms, of it user {1000 * min(e[1] for e in found):.1f} ms, "
-      f"clock {1000 * min(e[3] for e in found):.1f} ms, peak {peak / 1024:.1f} MiB, file {size} bytes, "
-      f"peak over file {1024 * peak / size:.2f}")
+size = os.path.getsize(script)
+print(f"{name}: {min(each[1] for each in found):.1f} ms on the processors, {min(each[2] for each in found):.1f} ms on the clock, "
+      f"peak {peak / 1024:.1f} MiB; the script has {size / 1048576:.1f} MiB")
 END
 }
 
