@@ -1,8 +1,8 @@
 #!/usr/bin/env bash
 # Measures the program: one picture of 1920x1080, and checks of 100,000 and of 1,000,000 Dialogue lines. It makes its inputs
 # itself, and each time is the least of RUNS runs, 20 where none are given. It takes the proved build where one is at hand. Else it
-# takes the toolchain's unproved one, which tests itself at each step and is up to a hundred times as slow, and leaves out what
-# would take minutes.
+# takes the toolchain's unproved one, which tests itself at each step and is hundreds of times as slow, and leaves out what would take
+# minutes.
 set -eu
 
 top=$(dirname -- "$(dirname -- "$(readlink -f -- "${BASH_SOURCE[0]}")")")
