@@ -77,6 +77,8 @@ font=$top/examples/letter.bdf
 measure 'frame 16x16' "$runs" small.ass "$program" frame --at 2000 --size 16x16 small.ass "$font"
 measure 'frame 1920x1080' "$runs" large.ass "$program" frame --at 2000 --size 1920x1080 large.ass "$font"
 measure 'check 100,000 lines' "$runs" 100000.ass "$program" check 100000.ass "$font"
-[ "$program" = "$top/out/play_main" ] || measure 'check 1,000,000 lines' $(((runs + 3) / 4)) 1000000.ass "$program" check 1000000.ass "$font"
+if [ "$program" != "$top/out/play_main" ]; then
+    measure 'check 1,000,000 lines' $(((runs + 3) / 4)) 1000000.ass "$program" check 1000000.ass "$font"
+fi
 
 printf 'load after: %s\n' "$(cut -d ' ' -f 1-3 /proc/loadavg)"
