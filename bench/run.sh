@@ -31,7 +31,7 @@ printf 'load before: %s\n' "$(cut -d ' ' -f 1-3 /proc/loadavg)"
 measure region 48 200
 measure region 200 100
 measure cancel 2000 200
-measure cancel 100000 10
+measure cancel 100000 5
 measure border 48 100
 measure border 200 20
 measure blur 200 300

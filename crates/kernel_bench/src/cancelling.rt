@@ -11,28 +11,33 @@ use cancelled_edges::cancelled;
 use std::alloc::Global;
 use std::time::Instant;
 
-/// The side of a bitmap's pixel: a pixel of the picture.
-const SIDE: i64 = 64;
-
 /// Adds the quad of set pixel k of a chessboard.
-fn add_pixel(rings: &mut FlatLists<Point>, k: u32, columns: u32, block: u16) -> Mem<()>
+fn add_pixel(rings: &mut FlatLists<Point>, k: u32, columns: u32, block: u16, zoom: u8) -> Mem<()>
     requires { IsOutline rings.old }
     ensures { OnOk result (IsOutline rings.new) }
 {
     let (place, row) = (i64::from(k % columns.max(1)), i64::from(k / columns.max(1)));
     let block = i64::from(block.max(1));
     let column = place / block * block + place + row / block % 2 * block;
-    add_dot(rings, column * SIDE, row * SIDE, SIDE, 0)
+    let side = 64 * i64::from(zoom);
+    add_dot(
+        rings,
+        column.wrapping_mul(side),
+        row.wrapping_mul(side),
+        side,
+        0,
+    )
 }
 
-/// A chessboard of so many set pixels, its fields `block` pixels wide and high, a quarter more of them in a row than there are rows.
-fn chessboard(alloc: Global, pixels: u32, block: u16) -> Mem<Outline>
+/// A chessboard of so many set pixels, each `zoom` pixels of the picture wide and high. Its fields are `block` set pixels wide
+/// and high, and a row has a quarter more set pixels than there are rows.
+fn chessboard(alloc: Global, pixels: u32, block: u16, zoom: u8) -> Mem<Outline>
     ensures { IfOk result (λ outline. IsOutline outline.rings) }
 {
     let columns = (pixels / 4).saturating_mul(5).isqrt();
     let mut rings = FlatLists::new(alloc);
     for k in 0..pixels {
-        add_pixel(&mut rings, k, columns, block)?;
+        add_pixel(&mut rings, k, columns, block, zoom)?;
     }
     Ok(Outline { rings })
 }
@@ -61,6 +66,23 @@ fn measure_cancelled(
     Ok(())
 }
 
+/// Times the region of a chessboard, of all its edges and of those that are left.
+fn measure_regions(
+    rt: &HostRuntime,
+    pixels: u32,
+    block: u16,
+    zoom: u8,
+    turns: u32,
+) -> Result<(), Stop> {
+    let alloc = rt.alloc();
+    let outline = chessboard(alloc, pixels, block, zoom)?;
+    let boundary = cancelled(alloc, &outline)?;
+    let before = format!(in alloc; "zoom {zoom}, all edges")?;
+    measure_region(rt, before.as_str(), &outline, turns)?;
+    let after = format!(in alloc; "zoom {zoom}, edges left")?;
+    measure_region(rt, after.as_str(), &boundary, turns)
+}
+
 fn measure_chessboard(
     rt: &HostRuntime,
     name: &str,
@@ -68,18 +90,16 @@ fn measure_chessboard(
     block: u16,
     turns: u32,
 ) -> Result<(), Stop> {
-    let alloc = rt.alloc();
-    let outline = chessboard(alloc, pixels, block)?;
+    let outline = chessboard(rt.alloc(), pixels, block, 1)?;
     measure_cancelled(rt, name, &outline, turns)?;
-    measure_region(rt, "before", &outline, turns)?;
-    let boundary = cancelled(alloc, &outline)?;
-    measure_region(rt, "after", &boundary, turns)
+    measure_regions(rt, pixels, block, 1, turns)?;
+    measure_regions(rt, pixels, block, 4, turns)
 }
 
 /// Times a rectangle of so many set pixels, a chessboard with fields of 4 by 4 pixels, and one of single pixels, where no
-/// edges cancel; and the region of each before and after.
+/// edges cancel; and the regions of each before and after, where a set pixel is one of the picture, and 4 by 4.
 pub fn measure(rt: &HostRuntime, pixels: u32, turns: u32) -> Result<(), Stop> {
-    if pixels > 1_000_000 {
+    if pixels > 200_000 {
         return Err(Stop::SizeOutOfRange);
     }
     measure_chessboard(rt, "rectangle", pixels, u16::MAX, turns)?;
@@ -91,7 +111,7 @@ pub fn measure(rt: &HostRuntime, pixels: u32, turns: u32) -> Result<(), Stop> {
 pub fn show(rt: &HostRuntime) -> Result<(), Stop> {
     let alloc = rt.alloc();
     for block in [5, 2, 1] {
-        let outline = chessboard(alloc, 20, block)?;
+        let outline = chessboard(alloc, 20, block, 1)?;
         let left = edge_count(&cancelled(alloc, &outline)?);
         let edges = edge_count(&outline);
         println!(rt; "20 pixels, fields of {block} by {block}: {left} of {edges} edges left")?;
