@@ -1,5 +1,5 @@
 -- How often the sinks were asked, from an outcome to the end of a run.
-use Rattle.std.proofs.Common.{◌≡◌, inl, inr, ℕ, ◌+◌, ◌≤◌, refl, sym, subst, arith}
+use Rattle.std.proofs.Common.{◌≡◌, inl, inr, ℕ, sym, subst, arith}
 use Rattle.play_words.specs.declared.job.Task.{Task}
 use Rattle.play_words.specs.declared.job.Task.TheVariants.{Check, Frame}
 use Rattle.run_status.specs.declared.status.Status.{Status}

@@ -1,13 +1,13 @@
 -- How the parts of a run make the whole.
-use Rattle.std.proofs.Common.{◌≡◌, ◌≢◌, ◌⊎◌, inl, inr, ℕ, ◌+◌, ◌≤◌, ◌<◌, List, [], ◌++◌, length, slice_index_or, Option, Some, None, Result, Ok, Err, refl, sym, subst, ap, ◌∙◌, append-nil, arith, rules}
+use Rattle.std.proofs.Common.{◌≡◌, ◌⊎◌, inl, inr, ℕ, ◌≤◌, List, [], length, slice_index_or, Option, Some, None, Result, Ok, Err, refl, sym, subst, ◌∙◌, append-nil, arith}
 use Rattle.std.specs.Io.KnownBytes.{Appends, Keeps}
 use Rattle.std.proofs.lemmas.Bool.{cases_lt}
 use Rattle.ass_num.specs.Causes.{Rose}
-use Rattle.ass_io.specs.Fetched.{Held, Told}
+use Rattle.ass_io.specs.Fetched.{Told}
 use Rattle.ass_io.specs.Written.{AppendsFront}
 use Rattle.input_files.specs.Files.{Asks, AsksFont, AsksScript, IsAnswered}
 use Rattle.input_files.specs.Inputs.{AreRead}
-use Rattle.input_files.specs.Laws.{AreTold, FilesDecide, IsCause, IsDecided}
+use Rattle.input_files.specs.Laws.{FilesDecide, IsDecided}
 use Rattle.input_files.specs.declared.inputs.Inputs.{Inputs}
 use Rattle.play_words.specs.declared.job.Job.{Job}
 use Rattle.play_words.specs.declared.job.Task.{Task}

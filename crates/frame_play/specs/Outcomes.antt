@@ -9,7 +9,6 @@ use Rattle.play_words.specs.declared.job.Task.TheVariants.{Check, Frame}
 use Rattle.run_status.specs.Statuses.{line_of}
 use Rattle.run_status.specs.declared.status.Status.{Status}
 use Rattle.run_status.specs.declared.status.Status.TheVariants.{Done, NotBuilt, ReadFault, WriteFault, OutOfMemory}
-use Rattle.run_status.specs.declared.status.Which.{Which}
 use Rattle.run_status.specs.declared.status.Which.TheVariants.{Frames, Report}
 use Rattle.frame_play.specs.Outputs.{sink_of}
 use Rattle.frame_play.specs.declared.outcome.Outcome.{Outcome}

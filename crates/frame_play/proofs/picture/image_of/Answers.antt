@@ -1,4 +1,4 @@
-use Rattle.std.proofs.Common.{◌∙◌, ap, length, rules}
+use Rattle.std.proofs.Common.{rules}
 use Rattle.frame_play.proofs.PixelLemmas.{pixels_count}
 use Rattle.frame_play.proofs.picture.image_of.Goals as goal
 
