@@ -14,7 +14,8 @@ use Rattle.ass_events.specs.declared.event.Chunk.{Chunk}
 use Rattle.ass_events.specs.declared.event.Event.{Event}
 use Rattle.ass_events.specs.declared.event.ChunkRefusal.{ChunkRefusal}
 use Rattle.ass_events.specs.declared.event.ChunkRefusal.TheVariants.{Malformed, OutOfMemory}
-use Rattle.ass_script.specs.Words.{is_comma, before_blanks, trimmed}
+use Rattle.blanks.specs.Blanks.{past_blanks, before_blanks, trimmed}
+use Rattle.ass_script.specs.Words.{is_comma}
 use Rattle.ass_events.specs.Cuts.{pieces_of}
 use Rattle.ass_events.specs.Numbers.{order_of, number_of, instant_of}
 use Rattle.ass_events.specs.Fields.{PlainFields, no_fields, Column, columns_from, columns_of, column_put, field_put, examined, HaveUtf8}
@@ -205,7 +206,7 @@ zero_in_range = record {
     zero_number = (omega (arith, ints), omega (arith, ints))
 
 nothing_is_name : IsName []
-unfolding trimmed before_blanks
+unfolding trimmed past_blanks before_blanks
 nothing_is_name = record { utf8 = IsUtf8-nil; no_comma = All-nil (λ c. is_comma c ≡ false); bare = refl }
 
 -- the numbers and times of each line are in their ranges

@@ -8,11 +8,8 @@ use Rattle.std.proofs.lemmas.List.Elements.{All-take, All-drop}
 use Rattle.std.proofs.lemmas.List.Sums.{prefix_len-le-length, prefix_len_passes, prefix_len_stops, prefix_len-drop_no, prefix_len-drop_all, suffix_len-le-length, suffix_len-take_no}
 use Rattle.std.proofs.lemmas.Bool.Decides.{nat_tests}
 use Rattle.ass_num.specs.Numerals.{is_blank}
-use Rattle.ass_script.specs.Words.{is_comma, before_blanks, trimmed}
-
--- the text from its first byte on that is no blank
-abbrev past_blanks : List ℕ → List ℕ
-past_blanks text = drop (prefix_len is_blank text) text
+use Rattle.blanks.specs.Blanks.{past_blanks, before_blanks, trimmed}
+use Rattle.ass_script.specs.Words.{is_comma}
 
 blank_is_ascii : (c : ℕ) → is_blank c ≡ true → c < 128
 blank_is_ascii c passes = grind (arith, nat_tests)
@@ -27,12 +24,14 @@ less_or_not m n = grind arith
 -- ---- the blanks at the front
 
 front_bare : (t : List ℕ) → prefix_len is_blank (past_blanks t) ≡ 0
+unfolding past_blanks
 front_bare t = elim (less_or_not (prefix_len is_blank t) (length t)) [
   | inl inside ↦ prefix_len-drop_no is_blank t (prefix_len is_blank t) 0 inside (prefix_len_stops is_blank t 0 inside)
   | inr past ↦ prefix_len-drop_all is_blank t (prefix_len is_blank t) past
 ]
 
 front_utf8 : (t : List ℕ) → IsUtf8 t → IsUtf8 (past_blanks t)
+unfolding past_blanks
 front_utf8 t utf8 = IsUtf8-drop t (prefix_len is_blank t) utf8 (cases (zero_or_more (prefix_len is_blank t)))
   where
     cases : (prefix_len is_blank t ≡ 0) ⊎ (0 < prefix_len is_blank t) → IsCharBoundary t (prefix_len is_blank t)
@@ -92,7 +91,7 @@ front_of_bare (c ∷ cs) (suc n) bare = ap (λ b. cond b (1 + prefix_len is_blan
 
 -- what has no blanks at its ends stays
 pub trimmed_bare : (w : List ℕ) → prefix_len is_blank w ≡ 0 → suffix_len is_blank w ≡ 0 → trimmed w ≡ w
-unfolding trimmed before_blanks
+unfolding trimmed past_blanks before_blanks
 trimmed_bare w front back =
     ap (λ n. before_blanks (drop n w)) front ∙ ap (λ n. take (length w - n) w) back ∙ take_all (length w - 0) w (omega arith)
 
@@ -109,7 +108,7 @@ unfolding trimmed
 trimmed_utf8 t utf8 = back_utf8 (past_blanks t) (front_utf8 t utf8)
 
 pub trimmed_no_comma : (t : List ℕ) → All (λ c. is_comma c ≡ false) t → All (λ c. is_comma c ≡ false) (trimmed t)
-unfolding trimmed before_blanks
+unfolding trimmed past_blanks before_blanks
 trimmed_no_comma t none =
     let u = drop (prefix_len is_blank t) t in
     All-take (λ c. is_comma c ≡ false) (length u - suffix_len is_blank u) u (All-drop (λ c. is_comma c ≡ false) (prefix_len is_blank t) t none)
