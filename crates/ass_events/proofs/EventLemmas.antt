@@ -24,7 +24,7 @@ use Rattle.ass_events.specs.Events.{Answers, chunk_format, is_time, event_at, ti
 use Rattle.ass_events.specs.Ranges.{IsNumber, IsName}
 use Rattle.ass_events.proofs.NumberLemmas.{IsInstant, number_small, order_small, instant_small}
 use Rattle.ass_events.proofs.PieceLemmas.{EachUtf8, EachPlain, pieces_plain, pieces_utf8, joined_utf8}
-use Rattle.ass_events.proofs.NameLemmas.{trimmed-trimmed, trimmed_utf8, trimmed_no_comma}
+use Rattle.blanks.proofs.TrimmedLemmas.{trimmed-trimmed, trimmed_utf8, All-trimmed}
 
 -- ---- a fact that each field keeps
 
@@ -115,7 +115,7 @@ abbrev pub SoundColumn : Column → Type 0
 SoundColumn column = (piece : List ℕ) → column.piece ≡ Some piece → IsSound column piece
 
 name_of : (piece : List ℕ) → IsUtf8 piece → All (λ c. is_comma c ≡ false) piece → IsName (trimmed piece)
-name_of piece utf8 none = record { utf8 = trimmed_utf8 piece utf8; no_comma = trimmed_no_comma piece none; bare = trimmed-trimmed piece }
+name_of piece utf8 none = record { utf8 = trimmed_utf8 piece utf8; no_comma = All-trimmed (λ c. is_comma c ≡ false) piece none; bare = trimmed-trimmed piece }
 
 texts_put : (f : EventField) (piece : List ℕ) (fields more : PlainFields) → IsUtf8 piece → ((f ≡ field.Text → ⊥) → All (λ c. is_comma c ≡ false) piece) → AreTexts fields → field_put f piece fields ≡ Some more → AreTexts more
 unfolding field_put
