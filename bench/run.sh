@@ -9,7 +9,7 @@ program=$top/crates/kernel_bench/out/kernel_bench
 is_fresh() {
     local crate
     [ -x "$program" ] || return 1
-    for crate in ass_num region_rows sample_region cancelled_edges border_region mask_blur placement line_layout blend bdf_font ass_script tag_arguments drawing_path override_tags kernel_bench; do
+    for crate in ass_num blanks region_rows sample_region cancelled_edges border_region mask_blur placement line_layout blend bdf_font ass_script tag_arguments drawing_path override_tags kernel_bench; do
         [ -z "$(find "$top/crates/$crate/src" -newer "$program" -print -quit)" ] || return 1
     done
 }

@@ -14,7 +14,8 @@ use Rattle.ass_events.specs.declared.event.Chunk.{Chunk}
 use Rattle.ass_events.specs.declared.event.Event.{Event}
 use Rattle.ass_events.specs.declared.event.ChunkRefusal.{ChunkRefusal}
 use Rattle.ass_events.specs.declared.event.ChunkRefusal.TheVariants.{Malformed, OutOfMemory}
-use Rattle.ass_script.specs.Words.{is_comma, before_blanks, trimmed}
+use Rattle.blanks.specs.Blanks.{past_blanks, before_blanks, trimmed}
+use Rattle.ass_script.specs.Words.{is_comma}
 use Rattle.ass_events.specs.Cuts.{pieces_of}
 use Rattle.ass_events.specs.Numbers.{order_of, number_of, instant_of}
 use Rattle.ass_events.specs.Fields.{PlainFields, no_fields, Column, columns_from, columns_of, column_put, field_put, examined, HaveUtf8}
@@ -23,7 +24,7 @@ use Rattle.ass_events.specs.Events.{Answers, chunk_format, is_time, event_at, ti
 use Rattle.ass_events.specs.Ranges.{IsNumber, IsName}
 use Rattle.ass_events.proofs.NumberLemmas.{IsInstant, number_small, order_small, instant_small}
 use Rattle.ass_events.proofs.PieceLemmas.{EachUtf8, EachPlain, pieces_plain, pieces_utf8, joined_utf8}
-use Rattle.ass_events.proofs.NameLemmas.{trimmed-trimmed, trimmed_utf8, trimmed_no_comma}
+use Rattle.blanks.proofs.TrimmedLemmas.{trimmed-trimmed, trimmed_utf8, All-trimmed}
 
 -- ---- a fact that each field keeps
 
@@ -114,7 +115,7 @@ abbrev pub SoundColumn : Column → Type 0
 SoundColumn column = (piece : List ℕ) → column.piece ≡ Some piece → IsSound column piece
 
 name_of : (piece : List ℕ) → IsUtf8 piece → All (λ c. is_comma c ≡ false) piece → IsName (trimmed piece)
-name_of piece utf8 none = record { utf8 = trimmed_utf8 piece utf8; no_comma = trimmed_no_comma piece none; bare = trimmed-trimmed piece }
+name_of piece utf8 none = record { utf8 = trimmed_utf8 piece utf8; no_comma = All-trimmed (λ c. is_comma c ≡ false) piece none; bare = trimmed-trimmed piece }
 
 texts_put : (f : EventField) (piece : List ℕ) (fields more : PlainFields) → IsUtf8 piece → ((f ≡ field.Text → ⊥) → All (λ c. is_comma c ≡ false) piece) → AreTexts fields → field_put f piece fields ≡ Some more → AreTexts more
 unfolding field_put
@@ -205,7 +206,7 @@ zero_in_range = record {
     zero_number = (omega (arith, ints), omega (arith, ints))
 
 nothing_is_name : IsName []
-unfolding trimmed before_blanks
+unfolding trimmed past_blanks before_blanks
 nothing_is_name = record { utf8 = IsUtf8-nil; no_comma = All-nil (λ c. is_comma c ≡ false); bare = refl }
 
 -- the numbers and times of each line are in their ranges

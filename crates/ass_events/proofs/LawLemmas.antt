@@ -17,7 +17,8 @@ use Rattle.ass_script.specs.declared.script.EventField.TheVariants as field
 use Rattle.ass_events.specs.declared.event.Event.{Event}
 use Rattle.ass_events.specs.declared.event.ChunkRefusal.{ChunkRefusal}
 use Rattle.ass_events.specs.declared.event.ChunkRefusal.TheVariants.{Malformed}
-use Rattle.ass_script.specs.Words.{is_comma, trimmed}
+use Rattle.blanks.specs.Blanks.{trimmed}
+use Rattle.ass_script.specs.Words.{is_comma}
 use Rattle.ass_script.specs.Fields.{is_text, ends_in_text}
 use Rattle.ass_script.specs.Scripts.{PlainScript}
 use Rattle.ass_script.specs.Ranges.{IsScript}

@@ -1,7 +1,6 @@
 pub mod EventLemmas
 pub mod FieldLemmas
 pub mod LawLemmas
-pub mod NameLemmas
 pub mod NumberLemmas
 pub mod PieceLemmas
 pub mod TimeLemmas

@@ -2,7 +2,8 @@
 use Rattle.std.specs.Prelude.{◌≡◌, ℕ, ◌≤◌, true, false, ℤ, pos, neg_ℤ, ◌≤ℤ◌, List, All}
 use Rattle.std.specs.Str.{IsUtf8}
 use Rattle.ass_events.specs.declared.event.Event.{Event}
-use Rattle.ass_script.specs.Words.{is_comma, trimmed}
+use Rattle.blanks.specs.Blanks.{trimmed}
+use Rattle.ass_script.specs.Words.{is_comma}
 use Rattle.ass_events.specs.Events.{is_time}
 
 -- a number within 2,147,483,647 on both sides

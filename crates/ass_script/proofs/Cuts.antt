@@ -7,7 +7,6 @@ use Rattle.std.specs.Char.{encode_utf8}
 use Rattle.std.proofs.lemmas.Str.{IsCharBoundary-start, IsCharBoundary-after_ascii, IsCharBoundary-from_drop, IsUtf8-past_char}
 use Rattle.std.proofs.lemmas.Bool.{false≢true}
 use Rattle.std.proofs.lemmas.Bool.Decides.{nat_tests}
-use Rattle.ass_num.specs.Numerals.{is_blank}
 use Rattle.ass_script.specs.Words.{is_star_or_blank}
 use Rattle.std.proofs.lemmas.List.Sums.{prefix_len-le-length}
 
@@ -28,9 +27,6 @@ boundary_behind p ascii text utf8 (suc k) is =
     let inside : k < length text = omega (arith, prefix_len-le-length p text) in
     let next : k + 1 ≡ suc k = omega arith in
     subst (λ (n : ℕ). IsCharBoundary text n) next (IsCharBoundary-after_ascii text k utf8 inside low)
-
-pub blank_is_ascii : (c : ℕ) → is_blank c ≡ true → c < 128
-blank_is_ascii c e = grind (arith, nat_tests)
 
 pub star_or_blank_is_ascii : (c : ℕ) → is_star_or_blank c ≡ true → c < 128
 star_or_blank_is_ascii c e = grind (arith, nat_tests)

@@ -6,7 +6,8 @@ use Rattle.std.specs.Option.{option_or, option_map, option_map_or}
 use Rattle.std.proofs.lemmas.List.{append-nil}
 use Rattle.ass_script.specs.Fields.{style_fields_of, usual_style_fields, event_fields_of, ends_in_text}
 use Rattle.ass_script.specs.Styles.{style_of}
-use Rattle.ass_script.specs.Words.{trimmed, is_colon}
+use Rattle.blanks.specs.Blanks.{trimmed}
+use Rattle.ass_script.specs.Words.{is_colon}
 use Rattle.ass_script.specs.Lines.{Line, is_heading, is_comment, section_named, info_key_named, style_key_named, event_key_named, key_named, keyed_line, line_in, section_behind, placed}
 use Rattle.ass_script.specs.Scripts.{has, values_of, last_of, last_value, is_res_x, is_res_y, is_wrap, is_scaled, is_dialogue, is_style_format, style_version, is_events_heading, is_styles_heading, side_of, wrap_of, scaled_of, style_fields_behind, styles_behind, event_formats, limit_at, limit_behind, picked_script, script_of_lines}
 use Rattle.ass_script.specs.Walk.{fields_of, key_step, keyed_step, line_step, walked, no_lines, script_said, made_script}

@@ -2,7 +2,8 @@
 use Rattle.std.specs.Prelude.{ℕ, ◌-◌, ◌==◌, Bool, false, if◌then◌else◌, List, [], ◌∷◌, length, map, slice_get, codes}
 use Rattle.std.specs.Option.{option_map_or}
 use Rattle.std.specs.List.{slice_split, list_any}
-use Rattle.ass_script.specs.Words.{trimmed, same_word, is_comma}
+use Rattle.blanks.specs.Blanks.{trimmed}
+use Rattle.ass_script.specs.Words.{same_word, is_comma}
 use Rattle.ass_script.specs.declared.lines.Version.{Version}
 use Rattle.ass_script.specs.declared.lines.Version.TheVariants.{V4, V4Plus}
 use Rattle.ass_script.specs.declared.style_field.StyleField.{StyleField}

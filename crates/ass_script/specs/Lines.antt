@@ -1,7 +1,8 @@
 -- The lines of a script: the section that each stands in, and its key and value.
 use Rattle.std.specs.Prelude.{ℕ, ◌-◌, ◌==◌, ◌&&◌, Bool, if◌then◌else◌, List, [], ◌∷◌, length, slice_index, codes}
 use Rattle.std.specs.List.{list_any, before_first, after_first}
-use Rattle.ass_script.specs.Words.{trimmed, same_word, is_colon}
+use Rattle.blanks.specs.Blanks.{trimmed}
+use Rattle.ass_script.specs.Words.{same_word, is_colon}
 use Rattle.ass_script.specs.declared.lines.Version.{Version}
 use Rattle.ass_script.specs.declared.lines.Version.TheVariants.{V4, V4Plus}
 use Rattle.ass_script.specs.declared.lines.Section.{Section}

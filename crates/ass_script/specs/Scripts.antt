@@ -5,7 +5,8 @@ use Rattle.std.specs.Option.{option_or, option_map_or}
 use Rattle.std.specs.Str.{bytes_eq}
 use Rattle.std.specs.Str.Lines.{lines}
 use Rattle.std.specs.Str.Lossy.{utf8_valid_len}
-use Rattle.ass_script.specs.Words.{trimmed, same_word, past_mark, bare_name}
+use Rattle.blanks.specs.Blanks.{trimmed}
+use Rattle.ass_script.specs.Words.{same_word, past_mark, bare_name}
 use Rattle.ass_script.specs.Numbers.{whole_of}
 use Rattle.ass_script.specs.Fields.{style_fields_of, usual_style_fields, event_fields_of, usual_event_fields, ends_in_text}
 use Rattle.ass_script.specs.Styles.{style_of}

@@ -5,7 +5,8 @@ use Rattle.std.specs.Option.{option_map_or}
 use Rattle.std.specs.Int.{int_max}
 use Rattle.std.specs.Ordering.{int_eq}
 use Rattle.ass_num.specs.declared.colour.Rgba.{Rgba}
-use Rattle.ass_script.specs.Words.{trimmed, is_comma}
+use Rattle.blanks.specs.Blanks.{trimmed}
+use Rattle.ass_script.specs.Words.{is_comma}
 use Rattle.ass_script.specs.Numbers.{whole_of, milli_of, style_colour_of}
 use Rattle.ass_script.specs.declared.lines.Version.{Version}
 use Rattle.ass_script.specs.declared.lines.Version.TheVariants.{V4, V4Plus}

@@ -1,18 +1,11 @@
 -- Words in a line.
-use Rattle.std.specs.Prelude.{ℕ, ◌-◌, ◌==◌, ◌||◌, Bool, List, length, take, drop, map, if◌then◌else◌, ◌∷◌, []}
-use Rattle.std.specs.List.{prefix_len, suffix_len, starts_with}
+use Rattle.std.specs.Prelude.{ℕ, ◌==◌, ◌||◌, Bool, List, drop, map, if◌then◌else◌, ◌∷◌, []}
+use Rattle.std.specs.List.{prefix_len, starts_with}
 use Rattle.std.specs.Bool.{nat_eq}
 use Rattle.std.specs.Str.{bytes_eq}
 use Rattle.std.specs.Char.{to_ascii_lowercase}
 use Rattle.ass_num.specs.Numerals.{is_blank}
-
--- the text without the blanks at its end
-unfoldable pub before_blanks : List ℕ → List ℕ
-before_blanks text = take (length text - suffix_len is_blank text) text
-
--- the text without the blanks at both its ends
-unfoldable pub trimmed : List ℕ → List ℕ
-trimmed text = before_blanks (drop (prefix_len is_blank text) text)
+use Rattle.blanks.specs.Blanks.{before_blanks}
 
 -- two words are one without regard to ASCII case
 abbrev pub same_word : List ℕ → List ℕ → Bool

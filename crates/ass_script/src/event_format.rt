@@ -7,8 +7,9 @@ ghost use Rattle.ass_script.specs.Fields.{event_margin_named, event_field_named,
 use crate::fields::last_ones;
 use crate::lines::Version;
 use crate::script::EventField;
-use crate::words::{same_word, trimmed};
+use crate::words::same_word;
 use ass_num::{Items, Mem};
+use blanks::text::trimmed;
 use std::alloc::Global;
 
 const USUAL: [EventField; 10] = [

@@ -8,8 +8,9 @@ ghost use Rattle.ass_script.specs.Walk.{no_header_lines, header_line, made_heade
 
 use crate::lines::Key;
 use crate::script::Header;
-use crate::words::{same_word, trimmed};
+use crate::words::same_word;
 use ass_num::read_whole;
+use blanks::text::trimmed;
 
 /// The whole number that a text is.
 pub fn whole(text: &str) -> Option<i32>

@@ -3,7 +3,8 @@
 ghost use Rattle.std.specs.Prelude.{◌≡◌};
 ghost use Rattle.ass_script.specs.Lines.{is_bracketed, is_heading, is_comment, section_named, info_key_named, style_key_named, event_key_named, key_named, keyed_line, line_in};
 
-use crate::words::{same_word, trimmed};
+use crate::words::same_word;
+use blanks::text::trimmed;
 
 /// The version of a section of styles.
 #[derive(Clone, Copy)]

@@ -9,8 +9,8 @@ use crate::header_lines::whole;
 use crate::lines::Version;
 use crate::style::{Style, built_in_style, colour_of};
 use crate::style_field::StyleField;
-use crate::words::trimmed;
 use ass_num::{Mem, Milli, Rgba, Text, read_milli, read_style_colour};
+use blanks::text::trimmed;
 use std::alloc::Global;
 
 /// The number at the front of a text, in thousandths.

@@ -2,7 +2,8 @@
 use Rattle.std.specs.Prelude.{◌≡◌, ℕ, ◌+◌, ◌-◌, ◌/◌, ◌==◌, ◌⊎◌, nat_le, true, false, if◌then◌else◌, List, [], ◌∷◌, ◌++◌, length, Option, Some, None, unwrap_or, Result, Ok, Err, ℤ, pos, negsuc}
 use Rattle.hex.specs.Hex.{decode_sized}
 use Rattle.hex.specs.declared.error.FromHexError.{FromHexError}
-use Rattle.bdf_font.specs.Words.{first_word, after_word, trimmed, offset_of, bounding_box_of, family_name_of}
+use Rattle.blanks.specs.Blanks.{trimmed}
+use Rattle.bdf_font.specs.Words.{first_word, after_word, offset_of, bounding_box_of, family_name_of}
 use Rattle.bdf_font.specs.Whole.{whole_of}
 use Rattle.bdf_font.specs.Keywords.{keyword_of}
 use Rattle.bdf_font.specs.Fonts.{PlainFont}

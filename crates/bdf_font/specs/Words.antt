@@ -1,21 +1,10 @@
 -- Words, numbers and names in a line.
-use Rattle.std.specs.Prelude.{ℕ, ◌-◌, Bool, ◌&&◌, ◌==◌, nat_lt, nat_le, int_le, if◌then◌else◌, List, length, take, drop, slice_index, Option, Some, None, option_and_then, ℤ, pos, negsuc, neg_ℤ}
-use Rattle.std.specs.List.{prefix_len, suffix_len, position_or_len, before_first}
+use Rattle.std.specs.Prelude.{ℕ, Bool, ◌&&◌, ◌==◌, nat_lt, nat_le, int_le, if◌then◌else◌, List, length, take, drop, slice_index, Option, Some, None, option_and_then, ℤ, pos, negsuc, neg_ℤ}
+use Rattle.std.specs.List.{position_or_len, before_first}
 use Rattle.ass_num.specs.Numerals.{is_blank}
+use Rattle.blanks.specs.Blanks.{past_blanks, before_blanks}
 use Rattle.bdf_font.specs.Whole.{whole_of}
 use Rattle.bdf_font.specs.declared.glyphs.BoundingBox.{BoundingBox}
-
--- the text from its first byte on that is no blank
-unfoldable pub past_blanks : List ℕ → List ℕ
-past_blanks text = drop (prefix_len is_blank text) text
-
--- the text without the blanks at its end
-unfoldable pub before_blanks : List ℕ → List ℕ
-before_blanks text = take (length text - suffix_len is_blank text) text
-
--- the text without the blanks at both its ends
-abbrev pub trimmed : List ℕ → List ℕ
-trimmed text = before_blanks (past_blanks text)
 
 -- the first word, which ends at a blank or with the text; it is empty where there is none
 unfoldable pub first_word : List ℕ → List ℕ

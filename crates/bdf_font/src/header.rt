@@ -12,8 +12,9 @@ use crate::glyphs::{BoundingBox, FontGlyph};
 use crate::keyword::{HeaderKeyword, PropertyKeyword};
 use crate::numbers::{bounding_box, family_name, offset};
 use crate::whole::whole;
-use crate::words::{first_word, trimmed};
+use crate::words::first_word;
 use ass_num::{Items, Mem};
+use blanks::trimmed;
 use std::alloc::Global;
 
 /// What was said so far; of several like lines the last.

@@ -6,7 +6,8 @@ ghost use Rattle.bdf_font.specs.Words.{side_of, offset_of, bounding_box_of, fami
 
 use crate::glyphs::BoundingBox;
 use crate::whole::whole;
-use crate::words::{before_blanks, first_word, past_blanks};
+use crate::words::first_word;
+use blanks::{before_blanks, past_blanks};
 
 /// A whole number from 0 to 1,024.
 #[tactic(auto, unfolding(crate::specs::Words::side_of))]

@@ -12,8 +12,9 @@ use crate::header::Header;
 use crate::keyword::{GlyphKeyword, HeaderKeyword, Keyword, keyword_of};
 use crate::numbers::{bounding_box, offset};
 use crate::whole::whole;
-use crate::words::{first_word, trimmed};
+use crate::words::first_word;
 use ass_num::Items;
+use blanks::trimmed;
 use std::alloc::Global;
 use std::mem;
 

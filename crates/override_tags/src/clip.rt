@@ -9,9 +9,10 @@ ghost use Rattle.override_tags.specs.Singles.{rectangle_of, scale_of, ReadsDrawn
 use crate::single::whole;
 use crate::tag::{ClipTag, Tag};
 use ass_num::{Mem, Milli, hold};
+use blanks::text::trimmed;
 use drawing_path::read_path;
 use std::alloc::Global;
-use tag_arguments::{Numbers, bracketed, first_piece, number_list, read_front, trimmed};
+use tag_arguments::{Numbers, bracketed, first_piece, number_list, read_front};
 
 /// A clip by four numbers.
 fn rectangle(inverse: bool, numbers: &[Milli]) -> Option<Tag>

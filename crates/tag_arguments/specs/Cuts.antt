@@ -1,20 +1,7 @@
 -- Where tags and their arguments begin and end.
-use Rattle.std.specs.Prelude.{ℕ, ◌+◌, ◌-◌, ◌&&◌, ◌==◌, if◌then◌else◌, List, [], ◌∷◌, length, take, drop, Option, Some, None, unwrap_or}
-use Rattle.std.specs.List.{prefix_len, suffix_len}
+use Rattle.std.specs.Prelude.{ℕ, ◌+◌, ◌-◌, ◌&&◌, ◌==◌, if◌then◌else◌, List, [], ◌∷◌, take, Option, Some, None, unwrap_or}
 use Rattle.std.specs.Option.{option_map}
-use Rattle.ass_num.specs.Numerals.{is_blank}
-
--- the text from its first byte on that is no blank
-unfoldable pub past_blanks : List ℕ → List ℕ
-past_blanks text = drop (prefix_len is_blank text) text
-
--- the text without the blanks at its end
-unfoldable pub before_blanks : List ℕ → List ℕ
-before_blanks text = take (length text - suffix_len is_blank text) text
-
--- the text without the blanks at both its ends
-abbrev pub trimmed : List ℕ → List ℕ
-trimmed text = before_blanks (past_blanks text)
+use Rattle.blanks.specs.Blanks.{trimmed}
 
 -- the text behind a `(` at the front, if one stands there
 abbrev pub after_bracket : List ℕ → Option (List ℕ)

@@ -5,7 +5,7 @@ use Rattle.tag_arguments.specs.declared.kinds.Num.TheVariants as num
 use Rattle.tag_arguments.specs.declared.kinds.Sung.TheVariants as sung
 use Rattle.tag_arguments.specs.declared.kinds.TagName.{TagName}
 use Rattle.tag_arguments.specs.declared.kinds.TagName.TheVariants as name
-use Rattle.tag_arguments.specs.Cuts.{past_blanks}
+use Rattle.blanks.specs.Blanks.{past_blanks}
 
 -- names with what they stand for
 abbrev pub Names : Type 0

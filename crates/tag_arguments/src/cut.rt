@@ -1,65 +1,11 @@
 //! Where tags and their arguments end.
 
 ghost use Rattle.std.specs.Prelude.{◌≡◌, ◌+◌, ◌^◌, ◌<◌, ◌≤◌, length, slice_index, true};
-ghost use Rattle.std.specs.List.{prefix_len, suffix_len};
 ghost use Rattle.std.specs.Str.{IsCharBoundary};
 ghost use Rattle.std.specs.Option.{option_copied};
-ghost use Rattle.ass_num.specs.Numerals.{is_blank};
-ghost use Rattle.tag_arguments.specs.Cuts.{past_blanks, before_blanks, trimmed, after_bracket, plain_argument, depth_after, outer_len, tag_len, bracketed};
+ghost use Rattle.tag_arguments.specs.Cuts.{after_bracket, plain_argument, depth_after, outer_len, tag_len, bracketed};
 
-fn is_blank(byte: u8) -> bool
-    ensures { result ≡ is_blank byte }
-{
-    byte == b' ' || byte == b'\t'
-}
-
-/// How many blanks stand at the front.
-fn blanks_before(text: &[u8]) -> usize
-    ensures count { result ≡ prefix_len is_blank text.now }
-    ensures within { result ≤ length text.now }
-{
-    for (i, byte) in text.iter().enumerate() {
-        if !is_blank(*byte) {
-            return i;
-        }
-    }
-    text.len()
-}
-
-/// Where the blanks at the end begin.
-fn blanks_from(text: &[u8]) -> usize
-    ensures place { result + suffix_len is_blank text.now ≡ length text.now }
-    ensures blank { result < length text.now → is_blank (slice_index text.now result) ≡ true }
-{
-    let mut end = text.len();
-    while end > 0 && is_blank(text[end - 1]) {
-        end -= 1;
-    }
-    end
-}
-
-/// The text from its first byte on that is no blank.
-#[tactic(auto, unfolding(crate::specs::Cuts::past_blanks))]
-pub fn past_blanks(text: &str) -> &str
-    ensures { result.now ≡ past_blanks text.now }
-{
-    &text[blanks_before(text.as_bytes())..]
-}
-
-/// The text without the blanks at its end.
-#[tactic(auto, unfolding(crate::specs::Cuts::before_blanks))]
-fn before_blanks(text: &str) -> &str
-    ensures { result.now ≡ before_blanks text.now }
-{
-    &text[..blanks_from(text.as_bytes())]
-}
-
-/// The text without the blanks at both its ends.
-pub fn trimmed(text: &str) -> &str
-    ensures { result.now ≡ trimmed text.now }
-{
-    before_blanks(past_blanks(text))
-}
+use blanks::text::trimmed;
 
 /// The text behind a `(` at the front, if one stands there.
 fn after_bracket(text: &str) -> Option<&str>

@@ -9,7 +9,7 @@ mod names;
 mod numbers;
 
 pub use colours::{read_alpha_argument, read_colour_argument};
-pub use cut::{bracketed, plain_argument, tag_len, trimmed};
+pub use cut::{bracketed, plain_argument, tag_len};
 pub use kinds::{Num, Sung, TagName};
 pub use laws::longest_counts;
 pub use names::tag_name;

@@ -4,8 +4,8 @@ ghost use Rattle.std.specs.Prelude.{◌≡◌, ◌∷◌, [], map, slice_index};
 ghost use Rattle.std.specs.Option.{option_map};
 ghost use Rattle.tag_arguments.specs.Names.{name_in, names_on, longest_name, tag_name};
 
-use crate::cut::past_blanks;
 use crate::kinds::{Num, Sung, TagName};
+use blanks::text::past_blanks;
 
 /// The first of the names that the text begins with: what it stands for, and the text behind it.
 fn first_name<'a>(text: &'a str, rows: &[(&'static str, TagName)]) -> Option<(TagName, &'a str)>

@@ -6,9 +6,10 @@ ghost use Rattle.ass_num.specs.Numerals.{IsMilli};
 ghost use Rattle.tag_arguments.specs.Cuts.{bracketed};
 ghost use Rattle.tag_arguments.specs.Numbers.{begins_signed, ReadsUnsigned, ReadsOptional, ReadsFront, ReadsNumbers, ReadsBracketed, pieces, counted_pieces, left_pieces};
 
-use crate::cut::{bracketed, trimmed};
+use crate::cut::bracketed;
 use arrayvec::ArrayVec;
 use ass_num::{Milli, read_milli};
+use blanks::text::trimmed;
 
 /// The numbers of an argument.
 pub type Numbers = ArrayVec<Milli, 7>;

@@ -2,20 +2,13 @@
 use Rattle.std.proofs.Common.{◌≡◌, ℕ, zero, suc, ◌+◌, ◌-◌, ◌<◌, ◌≤◌, Bool, true, false, cond, ◌⊎◌, inl, inr, List, [], ◌∷◌, length, take, drop, get_or, reverse, refl, sym, ap, ◌∙◌, subst, arith}
 use Rattle.std.specs.Str.{IsUtf8, IsCharBoundary}
 use Rattle.std.specs.List.{All, prefix_len, suffix_len}
-use Rattle.std.proofs.lemmas.Str.{IsUtf8-take, IsUtf8-drop, IsCharBoundary-start, IsCharBoundary-end, IsCharBoundary-before_ascii, IsCharBoundary-after_ascii}
+use Rattle.std.proofs.lemmas.Str.{IsUtf8-take, IsUtf8-drop, IsCharBoundary-start, IsCharBoundary-end, IsCharBoundary-before_ascii}
 use Rattle.std.proofs.lemmas.List.{take_all, get_or-reverse, length-reverse}
 use Rattle.std.proofs.lemmas.List.Elements.{All-take, All-drop}
 use Rattle.std.proofs.lemmas.List.Sums.{prefix_len-le-length, prefix_len_passes, prefix_len_stops, prefix_len-drop_no, prefix_len-drop_all, suffix_len-le-length, suffix_len-take_no}
-use Rattle.std.proofs.lemmas.Bool.Decides.{nat_tests}
 use Rattle.ass_num.specs.Numerals.{is_blank}
-use Rattle.ass_script.specs.Words.{is_comma, before_blanks, trimmed}
-
--- the text from its first byte on that is no blank
-abbrev past_blanks : List ℕ → List ℕ
-past_blanks text = drop (prefix_len is_blank text) text
-
-blank_is_ascii : (c : ℕ) → is_blank c ≡ true → c < 128
-blank_is_ascii c passes = grind (arith, nat_tests)
+use Rattle.blanks.specs.Blanks.{past_blanks, before_blanks, trimmed}
+use Rattle.blanks.proofs.CutLemmas.{blank_ascii, past_ascii}
 
 zero_or_more : (n : ℕ) → (n ≡ 0) ⊎ (0 < n)
 zero_or_more zero = inl refl
@@ -27,21 +20,20 @@ less_or_not m n = grind arith
 -- ---- the blanks at the front
 
 front_bare : (t : List ℕ) → prefix_len is_blank (past_blanks t) ≡ 0
+unfolding past_blanks
 front_bare t = elim (less_or_not (prefix_len is_blank t) (length t)) [
   | inl inside ↦ prefix_len-drop_no is_blank t (prefix_len is_blank t) 0 inside (prefix_len_stops is_blank t 0 inside)
   | inr past ↦ prefix_len-drop_all is_blank t (prefix_len is_blank t) past
 ]
 
 front_utf8 : (t : List ℕ) → IsUtf8 t → IsUtf8 (past_blanks t)
+unfolding past_blanks
 front_utf8 t utf8 = IsUtf8-drop t (prefix_len is_blank t) utf8 (cases (zero_or_more (prefix_len is_blank t)))
   where
     cases : (prefix_len is_blank t ≡ 0) ⊎ (0 < prefix_len is_blank t) → IsCharBoundary t (prefix_len is_blank t)
     cases (inl none) = let P : ℕ → Type 0 = IsCharBoundary t in subst P (sym none) (IsCharBoundary-start t utf8)
     cases (inr some) =
-        let j = prefix_len is_blank t - 1 in
-        let next : j + 1 ≡ prefix_len is_blank t = omega arith in
-        let P : ℕ → Type 0 = IsCharBoundary t in
-        subst P next (IsCharBoundary-after_ascii t j utf8 (omega (arith, prefix_len-le-length is_blank t)) (blank_is_ascii _ (prefix_len_passes is_blank t j 0 (omega arith))))
+        past_ascii t (prefix_len is_blank t) utf8 (prefix_len-le-length is_blank t) some (blank_ascii _ (prefix_len_passes is_blank t (prefix_len is_blank t - 1) 0 (omega arith)))
 
 -- ---- the blanks at the end
 
@@ -76,7 +68,7 @@ back_utf8 u utf8 = IsUtf8-take u (length u - suffix_len is_blank u) utf8 (cases 
   where
     cases : (suffix_len is_blank u ≡ 0) ⊎ (0 < suffix_len is_blank u) → IsCharBoundary u (length u - suffix_len is_blank u)
     cases (inl none) = let P : ℕ → Type 0 = IsCharBoundary u in let all : length u ≡ length u - suffix_len is_blank u = omega arith in subst P all (IsCharBoundary-end u)
-    cases (inr some) = IsCharBoundary-before_ascii u (length u - suffix_len is_blank u) (omega (arith, suffix_len-le-length is_blank u)) (blank_is_ascii _ (back_passes u some))
+    cases (inr some) = IsCharBoundary-before_ascii u (length u - suffix_len is_blank u) (omega (arith, suffix_len-le-length is_blank u)) (blank_ascii _ (back_passes u some))
 
 -- a front of what begins with no blank begins with none
 front_of_bare : (u : List ℕ) (n : ℕ) → prefix_len is_blank u ≡ 0 → prefix_len is_blank (take n u) ≡ 0
@@ -92,7 +84,7 @@ front_of_bare (c ∷ cs) (suc n) bare = ap (λ b. cond b (1 + prefix_len is_blan
 
 -- what has no blanks at its ends stays
 pub trimmed_bare : (w : List ℕ) → prefix_len is_blank w ≡ 0 → suffix_len is_blank w ≡ 0 → trimmed w ≡ w
-unfolding trimmed before_blanks
+unfolding trimmed past_blanks before_blanks
 trimmed_bare w front back =
     ap (λ n. before_blanks (drop n w)) front ∙ ap (λ n. take (length w - n) w) back ∙ take_all (length w - 0) w (omega arith)
 
@@ -108,8 +100,9 @@ pub trimmed_utf8 : (t : List ℕ) → IsUtf8 t → IsUtf8 (trimmed t)
 unfolding trimmed
 trimmed_utf8 t utf8 = back_utf8 (past_blanks t) (front_utf8 t utf8)
 
-pub trimmed_no_comma : (t : List ℕ) → All (λ c. is_comma c ≡ false) t → All (λ c. is_comma c ≡ false) (trimmed t)
-unfolding trimmed before_blanks
-trimmed_no_comma t none =
+-- what each byte of a text passes, each that is left passes
+pub All-trimmed : (P : ℕ → Type 0) (t : List ℕ) → All P t → All P (trimmed t)
+unfolding trimmed past_blanks before_blanks
+All-trimmed P t each =
     let u = drop (prefix_len is_blank t) t in
-    All-take (λ c. is_comma c ≡ false) (length u - suffix_len is_blank u) u (All-drop (λ c. is_comma c ≡ false) (prefix_len is_blank t) t none)
+    All-take P (length u - suffix_len is_blank u) u (All-drop P (prefix_len is_blank t) t each)

@@ -1,7 +1,7 @@
 use Rattle.std.proofs.Common.{◌≡◌, ◌+◌, ◌≤◌, ◌<◌, length, take, get_or, true}
 use Rattle.std.specs.List.{suffix_len}
 use Rattle.ass_num.specs.Numerals.{is_blank}
-use Rattle.tag_arguments.proofs.cut.blanks_from.Given as goal
+use Rattle.blanks.proofs.bytes.blanks_from.Given as goal
 
 abbrev pub invariant-loop-end : goal.invariant-loop-end
 invariant-loop-end l = record {

@@ -1,8 +1,8 @@
 use Rattle.std.proofs.Common.{◌-◌, arith}
 use Rattle.std.proofs.lemmas.List.Sums.{prefix_len_passes}
 use Rattle.ass_num.specs.Numerals.{is_blank}
-use Rattle.tag_arguments.proofs.CutLemmas.{blank_ascii, past_ascii}
-use Rattle.tag_arguments.proofs.cut.past_blanks.Goals as goal
+use Rattle.blanks.proofs.CutLemmas.{blank_ascii, past_ascii}
+use Rattle.blanks.proofs.text.past_blanks.Goals as goal
 
 pub range_from-requires : goal.range_from-requires
 range_from-requires c = λ some.
