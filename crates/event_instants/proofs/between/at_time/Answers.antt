@@ -1,0 +1,74 @@
+use Rattle.std.proofs.Common.{◌≡◌, refl, ℕ, ◌≤◌, ◌*◌, ◌^◌, pos, neg_ℤ, ℤ, ◌-ℤ◌, ◌*ℤ◌, ◌≤ℤ◌, FitsSigned, to_z, of_z, to_z-of_z, w64, arith}
+use Rattle.std.proofs.lemmas.Int.{ints, clamps}
+use Rattle.event_instants.specs.Instants.{IsBetween}
+use Rattle.event_instants.specs.Instants as rule
+use Rattle.event_instants.proofs.OnTheWay.{product_within}
+use Rattle.event_instants.proofs.between.at_time.Goals as goal
+use mir.Syntax.{w128}
+
+weight_is : (r : ℤ) (n : ℕ) → r ≡ pos n → n ≤ 65536 → to_z w64 (of_z w64 r) ≡ pos n
+weight_is r n e order = let f : FitsSigned w64 (pos n) = omega (arith, ints) in rw (e, to_z-of_z f) refl
+
+time_is : (r a b : ℤ) → FitsSigned w64 a → FitsSigned w64 b → r ≡ to_z w64 (of_z w64 a) -ℤ to_z w64 (of_z w64 b) → to_z w128 (of_z w128 r) ≡ a -ℤ b
+time_is r a b first second e =
+    let k : r ≡ a -ℤ b = rw (to_z-of_z first, to_z-of_z second) at e in
+    let f : FitsSigned w128 (a -ℤ b) = omega (arith, ints) in
+    rw (k, to_z-of_z f) refl
+
+product : (c : goal.After-from-2) → (neg_ℤ (pos (65536 * 2 ^ 64)) ≤ℤ ((pos c.args.new -ℤ pos c.args.old) *ℤ (c.args.elapsed -ℤ c.args.begin))) × (((pos c.args.new -ℤ pos c.args.old) *ℤ (c.args.elapsed -ℤ c.args.begin)) ≤ℤ pos (65536 * 2 ^ 64))
+product c =
+    let e = c.ranges.elapsed in let b = c.ranges.begin in
+    product_within 65536 (2 ^ 64) (pos c.args.new -ℤ pos c.args.old) (c.args.elapsed -ℤ c.args.begin)
+    (omega (arith, ints, c.requires.old, c.requires.new)) (omega (arith, ints, c.requires.old, c.requires.new))
+    (omega (arith, ints, c.requires.begun)) (omega (arith, ints, e, b))
+
+product_is : (c : goal.After-from-2) → (to_z w64 (of_z w64 c.from-2.result) -ℤ to_z w64 (of_z w64 c.from.result)) *ℤ to_z w128 (of_z w128 c.difference-part.result) ≡ (pos c.args.new -ℤ pos c.args.old) *ℤ (c.args.elapsed -ℤ c.args.begin)
+product_is c =
+    rw (
+      weight_is c.from-2.result c.args.new c.from-2.ensures c.requires.new,
+      weight_is c.from.result c.args.old c.from.ensures c.requires.old,
+      time_is c.difference-part.result c.args.elapsed c.args.begin c.ranges.elapsed c.ranges.begin c.difference-part.ensures.value,
+    )
+    refl
+
+pub between-requires-clause-above : goal.between-requires-clause-above
+between-requires-clause-above c = rw (product_is c) (let t = (product c).0 in omega (arith, ints, t))
+
+pub between-requires-clause-below : goal.between-requires-clause-below
+between-requires-clause-below c = rw (product_is c) (let t = (product c).1 in omega (arith, ints, t))
+
+value : (c : goal.After-between) → c.between.result ≡ rule.at_time (pos c.args.old) (pos c.args.new) c.args.begin c.args.end c.args.elapsed
+value c =
+    rw (
+      weight_is c.from-2.result c.args.new c.from-2.ensures c.requires.new,
+      weight_is c.from.result c.args.old c.from.ensures c.requires.old,
+      time_is c.difference-part.result c.args.elapsed c.args.begin c.ranges.elapsed c.ranges.begin c.difference-part.ensures.value,
+      time_is c.difference-whole.result c.args.end c.args.begin c.ranges.end c.ranges.begin c.difference-whole.ensures.value,
+    ) at c.between.ensures.value
+
+within : (c : goal.After-between) → IsBetween (pos c.args.old) (pos c.args.new) c.between.result
+within c =
+    rw (weight_is c.from-2.result c.args.new c.from-2.ensures c.requires.new, weight_is c.from.result c.args.old c.from.ensures c.requires.old) at c.between.ensures.within
+
+fits : (c : goal.After-between) → (pos 0 ≤ℤ c.between.result) × (c.between.result ≤ℤ pos 65536)
+fits c =
+    let t = within c in
+    (omega (arith, ints, clamps, t.0), omega (arith, ints, clamps, t.1, c.requires.old, c.requires.new))
+
+narrow : (c : goal.After-between) → to_z w64 (of_z w64 c.between.result) ≡ c.between.result
+narrow c =
+    let t = fits c in
+    let f : FitsSigned w64 c.between.result = omega (arith, ints, t.0, t.1) in
+    to_z-of_z f
+
+pub overflow_cast-result : goal.overflow_cast-result
+overflow_cast-result c = let t = fits c in rw (narrow c) (omega (arith, ints, t.0, t.1), omega (arith, ints, t.0, t.1))
+
+pub returns-clause-value : goal.returns-clause-value
+returns-clause-value c = let t = fits c in rw (narrow c, ← value c) (omega (arith, ints, t.0))
+
+pub returns-clause-within : goal.returns-clause-within
+returns-clause-within c =
+    let t = fits c in
+    let w = within c in
+    rw (narrow c) (omega (arith, ints, clamps, t.0, w.0), omega (arith, ints, clamps, t.0, w.1))

@@ -1,0 +1,15 @@
+//! What the movement, the fade and the transforms of an event come to at an instant. Times are in milliseconds from the event's
+//! start, points in thousandths. Each call takes every `i64` as a time or a point, and takes no memory.
+#![tactic(auto)]
+
+mod between;
+mod fades;
+mod movement;
+#[cfg(test)]
+mod tests;
+mod weights;
+
+pub use between::moved;
+pub use fades::{fade_at, faded};
+pub use movement::move_at;
+pub use weights::weight_at;
