@@ -1,0 +1,30 @@
+-- The keys' `==`, and what their `hash` feeds a hasher.
+use Rattle.std.specs.Prelude.{Bool}
+use Rattle.std.specs.Hash.{HashWrites}
+use Rattle.mask_keys.specs.declared.keys.OutlineKey.{OutlineKey}
+use Rattle.mask_keys.specs.declared.keys.MaskKey.{MaskKey}
+use Rattle.mask_keys.specs.declared.keys.CompositeKey.{CompositeKey}
+use Rattle.mask_keys.specs.contracts.keys.OutlineKeyPartialEq.TheImpl as outline_eq
+use Rattle.mask_keys.specs.contracts.keys.MaskKeyPartialEq.TheImpl as mask_eq
+use Rattle.mask_keys.specs.contracts.keys.CompositeKeyPartialEq.TheImpl as composite_eq
+use Rattle.mask_keys.specs.contracts.keys.OutlineKeyHash.TheImpl as outline_hash
+use Rattle.mask_keys.specs.contracts.keys.MaskKeyHash.TheImpl as mask_hash
+use Rattle.mask_keys.specs.contracts.keys.CompositeKeyHash.TheImpl as composite_hash
+
+abbrev pub equal_outlines : OutlineKey → OutlineKey → Bool
+equal_outlines = outline_eq.ghosts.eq
+
+abbrev pub equal_masks : MaskKey → MaskKey → Bool
+equal_masks = mask_eq.ghosts.eq
+
+abbrev pub equal_composites : CompositeKey → CompositeKey → Bool
+equal_composites = composite_eq.ghosts.eq
+
+abbrev pub outline_writes : OutlineKey → HashWrites
+outline_writes = outline_hash.ghosts.hash_input
+
+abbrev pub mask_writes : MaskKey → HashWrites
+mask_writes = mask_hash.ghosts.hash_input
+
+abbrev pub composite_writes : CompositeKey → HashWrites
+composite_writes = composite_hash.ghosts.hash_input
