@@ -1,28 +1,26 @@
 -- Keys are equal by `==` exactly where they are one.
-use Rattle.std.proofs.Common.{arith, ◌≡◌, refl, true, false, Bool, List, [], ◌∷◌, ◌&&◌, subst, nat_eq}
+use Rattle.std.proofs.Common.{arith, ◌≡◌, refl, true, Bool, List, [], ◌∷◌, ◌&&◌, subst, nat_eq}
 use Rattle.std.specs.Cmp.{IsEquivalence}
-use Rattle.std.proofs.lemmas.Grind.{common_steps}
 use Rattle.std.proofs.lemmas.Int.{ints}
 use Rattle.std.specs.Bool.{Decides, beq}
 use Rattle.std.specs.Cmp.{unsigned_Decides, signed_Decides, booleans_Decides}
 use Rattle.std.specs.Cmp.Lexicographic.{pointwise}
 use Rattle.ass_num.specs.declared.geometry.Point.{Point}
 use Rattle.ass_num.specs.declared.geometry.Matrix.{Matrix}
-use Rattle.ass_num.specs.declared.geometry.Path.{Path}
 use Rattle.ass_num.specs.declared.geometry.Seg.{Seg}
 use Rattle.ass_num.specs.declared.geometry.Seg.TheVariants.{Move, Line, Cubic, Spline}
 use Rattle.ass_num.specs.contracts.geometry.PointPartialEq.TheImpl as point
 use Rattle.ass_num.specs.contracts.geometry.MatrixPartialEq.TheImpl as matrix
 use Rattle.ass_num.specs.contracts.geometry.SegPartialEq.TheImpl as seg
-use Rattle.mask_keys.specs.declared.keys.OutlineKey.{OutlineKey}
-use Rattle.mask_keys.specs.declared.keys.OutlineKey.TheVariants.{Glyph, Drawing, Box}
-use Rattle.mask_keys.specs.declared.keys.MaskKey.{MaskKey}
-use Rattle.mask_keys.specs.declared.keys.Part.{Part}
-use Rattle.mask_keys.specs.declared.keys.CompositeKey.{CompositeKey}
-use Rattle.mask_keys.specs.contracts.keys.PartPartialEq.TheImpl as part
-use Rattle.mask_keys.specs.contracts.keys.OutlineKeyEq.TheImpl.Laws as outline_laws
-use Rattle.mask_keys.specs.contracts.keys.MaskKeyEq.TheImpl.Laws as mask_laws
-use Rattle.mask_keys.specs.contracts.keys.CompositeKeyEq.TheImpl.Laws as composite_laws
+use Rattle.mask_keys.specs.declared.outline_key.OutlineKey.{OutlineKey}
+use Rattle.mask_keys.specs.declared.outline_key.OutlineKey.TheVariants.{Glyph, Drawing, Box}
+use Rattle.mask_keys.specs.declared.mask_key.MaskKey.{MaskKey}
+use Rattle.mask_keys.specs.declared.composite_key.Part.{Part}
+use Rattle.mask_keys.specs.declared.composite_key.CompositeKey.{CompositeKey}
+use Rattle.mask_keys.specs.contracts.composite_key.PartPartialEq.TheImpl as part
+use Rattle.mask_keys.specs.contracts.outline_key.OutlineKeyEq.TheImpl.Laws as outline_laws
+use Rattle.mask_keys.specs.contracts.mask_key.MaskKeyEq.TheImpl.Laws as mask_laws
+use Rattle.mask_keys.specs.contracts.composite_key.CompositeKeyEq.TheImpl.Laws as composite_laws
 use Rattle.mask_keys.specs.Equality.{equal_outlines, equal_masks, equal_composites}
 
 pub both : (r s : Bool) → (r && s) ≡ true → (r ≡ true) × (s ≡ true)
@@ -61,8 +59,15 @@ outline_same (Glyph f g m b u s) (Glyph f2 g2 m2 b2 u2 s2) e =
     let under = both (matrix.ghosts.eq m m2) _ glyph.1 in
     let bold = both (beq b b2) _ under.1 in
     let bars = both (beq u u2) _ bold.1 in
-    grind (arith, (unsigned_Decides f f2).0 font.0, (unsigned_Decides g g2).0 glyph.0, matrix_same m m2 under.0, (booleans_Decides b b2).0 bold.0,
-        (booleans_Decides u u2).0 bars.0, (booleans_Decides s s2).0 bars.1)
+    grind (
+      arith,
+      (unsigned_Decides f f2).0 font.0,
+      (unsigned_Decides g g2).0 glyph.0,
+      matrix_same m m2 under.0,
+      (booleans_Decides b b2).0 bold.0,
+      (booleans_Decides u u2).0 bars.0,
+      (booleans_Decides s s2).0 bars.1,
+    )
 outline_same (Drawing p m s) (Drawing q n t) e =
     let first = both (pointwise seg.ghosts.eq p.segs q.segs) (matrix.ghosts.eq m n && _) e in
     let rest = both (matrix.ghosts.eq m n) _ first.1 in
@@ -73,8 +78,17 @@ outline_same a b e = grind arith
 pub mask_same : (a b : MaskKey) → equal_masks a b ≡ true → a ≡ b
 mask_same a b e =
     let parts = both (equal_outlines a.outline b.outline) _ e in
-    grind (arith, outline_same a.outline b.outline parts.0, parts.1, unsigned_Decides a.rx b.rx, unsigned_Decides a.ry b.ry, unsigned_Decides a.px b.px,
-        unsigned_Decides a.py b.py, unsigned_Decides a.edges b.edges, unsigned_Decides a.blur b.blur)
+    grind (
+      arith,
+      outline_same a.outline b.outline parts.0,
+      parts.1,
+      unsigned_Decides a.rx b.rx,
+      unsigned_Decides a.ry b.ry,
+      unsigned_Decides a.px b.px,
+      unsigned_Decides a.py b.py,
+      unsigned_Decides a.edges b.edges,
+      unsigned_Decides a.blur b.blur,
+    )
 
 pub part_same : (a b : Part) → part.ghosts.eq a b ≡ true → a ≡ b
 part_same a b e =

@@ -1,15 +1,15 @@
 -- The keys' `==`, and what their `hash` feeds a hasher.
 use Rattle.std.specs.Prelude.{Bool}
 use Rattle.std.specs.Hash.{HashWrites}
-use Rattle.mask_keys.specs.declared.keys.OutlineKey.{OutlineKey}
-use Rattle.mask_keys.specs.declared.keys.MaskKey.{MaskKey}
-use Rattle.mask_keys.specs.declared.keys.CompositeKey.{CompositeKey}
-use Rattle.mask_keys.specs.contracts.keys.OutlineKeyPartialEq.TheImpl as outline_eq
-use Rattle.mask_keys.specs.contracts.keys.MaskKeyPartialEq.TheImpl as mask_eq
-use Rattle.mask_keys.specs.contracts.keys.CompositeKeyPartialEq.TheImpl as composite_eq
-use Rattle.mask_keys.specs.contracts.keys.OutlineKeyHash.TheImpl as outline_hash
-use Rattle.mask_keys.specs.contracts.keys.MaskKeyHash.TheImpl as mask_hash
-use Rattle.mask_keys.specs.contracts.keys.CompositeKeyHash.TheImpl as composite_hash
+use Rattle.mask_keys.specs.declared.outline_key.OutlineKey.{OutlineKey}
+use Rattle.mask_keys.specs.declared.mask_key.MaskKey.{MaskKey}
+use Rattle.mask_keys.specs.declared.composite_key.CompositeKey.{CompositeKey}
+use Rattle.mask_keys.specs.contracts.outline_key.OutlineKeyPartialEq.TheImpl as outline_eq
+use Rattle.mask_keys.specs.contracts.mask_key.MaskKeyPartialEq.TheImpl as mask_eq
+use Rattle.mask_keys.specs.contracts.composite_key.CompositeKeyPartialEq.TheImpl as composite_eq
+use Rattle.mask_keys.specs.contracts.outline_key.OutlineKeyHash.TheImpl as outline_hash
+use Rattle.mask_keys.specs.contracts.mask_key.MaskKeyHash.TheImpl as mask_hash
+use Rattle.mask_keys.specs.contracts.composite_key.CompositeKeyHash.TheImpl as composite_hash
 
 abbrev pub equal_outlines : OutlineKey → OutlineKey → Bool
 equal_outlines = outline_eq.ghosts.eq

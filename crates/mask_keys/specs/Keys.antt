@@ -1,16 +1,16 @@
 -- Which keys are valid. `glyphs` has the number of glyphs of each font, in the order of the fonts. These are conditions of calls.
-use Rattle.std.specs.Prelude.{◌≡◌, ℕ, ℤ, pos, ◌^◌, ◌<◌, ◌≤◌, ◌≤ℤ◌, ◌<ℤ◌, Bool, false, List, length, slice_index, All}
+use Rattle.std.specs.Prelude.{◌≡◌, ℕ, ℤ, pos, ◌^◌, ◌<◌, ◌≤◌, ◌≤ℤ◌, ◌<ℤ◌, false, List, length, slice_index, All}
 use Rattle.ass_num.specs.declared.geometry.Matrix.{Matrix}
 use Rattle.ass_num.specs.declared.geometry.Path.{Path}
 use Rattle.outline_points.specs.Placing.{IsWithin, IsMatrix}
 use Rattle.outline_points.specs.Drawings.{IsPath}
-use Rattle.mask_keys.specs.declared.keys.OutlineKey.{OutlineKey}
-use Rattle.mask_keys.specs.declared.keys.OutlineKey.TheVariants.{Glyph, Drawing, Box}
-use Rattle.mask_keys.specs.declared.keys.MaskKey.{MaskKey}
-use Rattle.mask_keys.specs.declared.keys.Part.{Part}
-use Rattle.mask_keys.specs.declared.keys.CompositeKey.{CompositeKey}
+use Rattle.mask_keys.specs.declared.outline_key.OutlineKey.{OutlineKey}
+use Rattle.mask_keys.specs.declared.outline_key.OutlineKey.TheVariants.{Glyph, Drawing, Box}
+use Rattle.mask_keys.specs.declared.mask_key.MaskKey.{MaskKey}
+use Rattle.mask_keys.specs.declared.composite_key.Part.{Part}
+use Rattle.mask_keys.specs.declared.composite_key.CompositeKey.{CompositeKey}
 use Rattle.mask_keys.specs.declared.plans.Clip.{Clip}
-use Rattle.mask_keys.specs.declared.plans.Clip.TheVariants.{Free, Rect, Drawn}
+use Rattle.mask_keys.specs.declared.plans.Clip.TheVariants.{Drawn}
 use Rattle.mask_keys.specs.declared.plans.Draw.{Draw}
 
 -- there is such a glyph

@@ -2,27 +2,31 @@
 
 ghost use Rattle.std.specs.Prelude.{◌≡◌, IfOk};
 
-use crate::keys::{CompositeKey, MaskKey, OutlineKey};
+use crate::composite_key::CompositeKey;
+use crate::mask_key::MaskKey;
+use crate::outline_key::OutlineKey;
 use ass_num::Mem;
 use std::alloc::Global;
 
-/// A copy of the key.
+/// A copy of a composite's key.
+#[tactic(auto, using(crate::proofs::Copied::composite_same))]
 pub fn key_copy(alloc: Global, key: &CompositeKey) -> Mem<CompositeKey>
     ensures { IfOk result (λ copy. copy ≡ key.now) }
 {
     Ok(key.clone()?)
 }
 
-/// A copy of the key.
-pub fn mask_key_copy(alloc: Global, key: &MaskKey) -> Mem<MaskKey>
-    ensures { IfOk result (λ copy. copy ≡ key.now) }
+/// A copy of a mask's key.
+#[tactic(auto, using(crate::proofs::Copied::mask_same))]
+pub fn mask_key_copy(alloc: Global, mask: &MaskKey) -> Mem<MaskKey>
+    ensures { IfOk result (λ copy. copy ≡ mask.now) }
 {
-    Ok(key.clone()?)
+    Ok(mask.clone()?)
 }
 
-/// A copy of the key.
-pub fn outline_key_copy(alloc: Global, key: &OutlineKey) -> Mem<OutlineKey>
-    ensures { IfOk result (λ copy. copy ≡ key.now) }
+/// A copy of an outline's key.
+pub fn outline_key_copy(alloc: Global, outline: &OutlineKey) -> Mem<OutlineKey>
+    ensures { IfOk result (λ copy. copy ≡ outline.now) }
 {
-    Ok(key.clone()?)
+    Ok(outline.clone()?)
 }

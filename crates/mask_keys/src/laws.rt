@@ -3,10 +3,17 @@
 ghost use Rattle.std.specs.Prelude.{◌≡◌, true};
 ghost use Rattle.std.specs.Bool.{Decides};
 ghost use Rattle.mask_keys.specs.Equality.{
-    equal_outlines, equal_masks, equal_composites, outline_writes, mask_writes, composite_writes
+  equal_outlines,
+  equal_masks,
+  equal_composites,
+  outline_writes,
+  mask_writes,
+  composite_writes,
 };
 
-use crate::keys::{CompositeKey, MaskKey, OutlineKey};
+use crate::composite_key::CompositeKey;
+use crate::mask_key::MaskKey;
+use crate::outline_key::OutlineKey;
 
 /// Keys are equal by `==` exactly where all their fields are.
 pub fn equal_keys()

@@ -1,6 +1,6 @@
 //! What is drawn of a picture, in order.
 
-use crate::keys::CompositeKey;
+use crate::composite_key::CompositeKey;
 use ass_num::{Items, Rgba};
 
 /// Where a draw may show. All numbers are pixels of the frame.

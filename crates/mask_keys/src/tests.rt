@@ -1,6 +1,9 @@
 //! That calls succeed with ample memory, and that equality and hashing serve.
 
-use crate::{Clip, CompositeKey, Draw, MaskKey, OutlineKey, Part, Plan, key_copy, mask_key_copy, outline_key_copy};
+use crate::{
+    Clip, CompositeKey, Draw, MaskKey, OutlineKey, Part, Plan, key_copy, mask_key_copy,
+    outline_key_copy,
+};
 use ass_num::{Items, Matrix, Mem, Path, Point, Rgba, Seg};
 use std::alloc::Global;
 use std::hash::{DefaultHasher, Hash, Hasher};
@@ -114,6 +117,10 @@ fn plans_compare_by_their_draws(rt: HostRuntime) -> Result<(), Fail> {
     })?;
     let plan = Plan { draws };
     assert!(rt; plan == plan.clone()?);
-    assert!(rt; plan != Plan { draws: Items::new(alloc) });
+    assert!(rt;
+        plan != Plan {
+            draws: Items::new(alloc)
+        }
+    );
     Ok(())
 }
