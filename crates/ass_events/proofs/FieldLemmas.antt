@@ -11,18 +11,18 @@ use Rattle.ass_events.specs.declared.event.ChunkRefusal.{ChunkRefusal}
 use Rattle.ass_events.specs.declared.event.ChunkRefusal.TheVariants.{Malformed}
 use Rattle.ass_script.specs.Words.{is_comma}
 use Rattle.ass_events.specs.Cuts.{pieces_of}
-use Rattle.ass_events.specs.Fields.{PlainFields, no_fields, Column, columns_from, columns_of, column_put, field_put, examined}
+use Rattle.ass_events.specs.Fields.{FieldValues, no_fields, Column, columns_from, columns_of, column_put, field_put, examined}
 
 -- the pieces from a place on; past the line's end there are none
 abbrev pub pieces_at : List ℕ → ℕ → List (List ℕ)
 pieces_at line place = cond (leb place (length line)) (pieces_of (drop place line)) []
 
 -- what the fields from the i-th on say, where they begin at a place
-abbrev pub said_from : List EventField → List ℕ → ℕ → ℕ → PlainFields → Result PlainFields ChunkRefusal
+abbrev pub said_from : List EventField → List ℕ → ℕ → ℕ → FieldValues → Result FieldValues ChunkRefusal
 said_from format line i place fields = examined (columns_from (length line) place (drop i format) (pieces_at line place)) fields
 
 -- what was read and what is left say what the line says
-pub record Walked (format : List EventField) (line : List ℕ) (i place : ℕ) (fields : PlainFields) : Type 0 where
+pub record Walked (format : List EventField) (line : List ℕ) (i place : ℕ) (fields : FieldValues) : Type 0 where
   pub within : place ≤ length line + 1
   pub rest : said_from format line i place fields ≡ examined (columns_of format line) no_fields
 
@@ -140,21 +140,21 @@ columns_step format line i place n d inside within count = elim (last_or_not (i 
 
 -- ---- the fields
 
-pub examined_some : (column : Column) (columns : List Column) (fields more : PlainFields) → column_put column fields ≡ Some more → examined (column ∷ columns) fields ≡ examined columns more
+pub examined_some : (column : Column) (columns : List Column) (fields more : FieldValues) → column_put column fields ≡ Some more → examined (column ∷ columns) fields ≡ examined columns more
 unfolding examined
 examined_some column columns fields more e = ap (λ o. option_map_or (examined columns) o (Err (Malformed column.field column.place))) e
 
-examined_none : (column : Column) (columns : List Column) (fields : PlainFields) → column_put column fields ≡ None → examined (column ∷ columns) fields ≡ Err (Malformed column.field column.place)
+examined_none : (column : Column) (columns : List Column) (fields : FieldValues) → column_put column fields ≡ None → examined (column ∷ columns) fields ≡ Err (Malformed column.field column.place)
 unfolding examined
 examined_none column columns fields e = ap (λ o. option_map_or (examined columns) o (Err (Malformed column.field column.place))) e
 
-examined_all : (columns : List Column) (fields : PlainFields) → columns ≡ [] → examined columns fields ≡ Ok fields
+examined_all : (columns : List Column) (fields : FieldValues) → columns ≡ [] → examined columns fields ≡ Ok fields
 unfolding examined
 examined_all columns fields e = ap (λ z. examined z fields) e
 
-module _ (format : List EventField) (line : List ℕ) (i place n : ℕ) (fields : PlainFields) (d : EventField) (so_far : Walked format line i place fields) where
+module _ (format : List EventField) (line : List ℕ) (i place n : ℕ) (fields : FieldValues) (d : EventField) (so_far : Walked format line i place fields) where
   -- one field more
-  pub walk_on : (more : PlainFields) → i < length format → place ≤ length line → n ≡ piece_count format line i place → field_put (get_or format i d) (take n (drop place line)) fields ≡ Some more → Walked format line (i + 1) (place + (n + 1)) more
+  pub walk_on : (more : FieldValues) → i < length format → place ≤ length line → n ≡ piece_count format line i place → field_put (get_or format i d) (take n (drop place line)) fields ≡ Some more → Walked format line (i + 1) (place + (n + 1)) more
   walk_on more inside within count put =
       let size : length (drop place line) ≡ length line - place = length-drop place line in
       let bounded : n ≤ length (drop place line) = count_within format line i place n count in

@@ -20,11 +20,11 @@ use Rattle.ass_events.specs.declared.event.ChunkRefusal.TheVariants.{Malformed}
 use Rattle.blanks.specs.Blanks.{trimmed}
 use Rattle.ass_script.specs.Words.{is_comma}
 use Rattle.ass_script.specs.Fields.{is_text, ends_in_text}
-use Rattle.ass_script.specs.Scripts.{PlainScript}
+use Rattle.ass_script.specs.Scripts.{ScriptValue}
 use Rattle.ass_script.specs.Ranges.{IsScript}
 use Rattle.ass_events.specs.Cuts.{pieces_of}
-use Rattle.ass_events.specs.Numbers.{order_of, number_of}
-use Rattle.ass_events.specs.Fields.{PlainFields, no_fields, columns_from, columns_of, field_put, examined}
+use Rattle.ass_events.specs.Numbers.{order_of, whole_or_zero}
+use Rattle.ass_events.specs.Fields.{FieldValues, no_fields, columns_from, columns_of, field_put, examined}
 use Rattle.ass_events.specs.Events.{chunk_format, is_time, event_at, timed, with_time, event_of, chunk_bytes, duration_between, line_made, line_event, event_of_line}
 use Rattle.ass_events.specs.Ranges.{IsNumber, IsEvent}
 use Rattle.ass_events.proofs.NumberLemmas.{IsInstant, order-decimal, number-signed_decimal, decimal_no_comma, signed_no_comma}
@@ -34,7 +34,7 @@ use Rattle.ass_events.proofs.EventLemmas.{AreInRange, AreTexts, chunk_said, fiel
 
 -- ---- the events of chunks
 
-event_is : (start duration : ℤ) (fields : PlainFields) → AreInRange fields → AreTexts fields → is_time start ≡ true → is_time duration ≡ true → IsEvent (event_at start duration fields)
+event_is : (start duration : ℤ) (fields : FieldValues) → AreInRange fields → AreTexts fields → is_time start ≡ true → is_time duration ≡ true → IsEvent (event_at start duration fields)
 event_is start duration fields r t s d = record {
   order = r.order;
   layer = r.layer;
@@ -49,7 +49,7 @@ event_is start duration fields r t s d = record {
   duration = d;
 }
 
-timed_event : (len : ℕ) (start duration : ℤ) (fields : PlainFields) (event : Event) → AreInRange fields → AreTexts fields → timed len start duration fields ≡ Ok event → IsEvent event
+timed_event : (len : ℕ) (start duration : ℤ) (fields : FieldValues) (event : Event) → AreInRange fields → AreTexts fields → timed len start duration fields ≡ Ok event → IsEvent event
 timed_event len start duration fields event r t e = cases (is_time start) (is_time duration) refl refl e
   where
     cases : (a b : Bool) → is_time start ≡ a → is_time duration ≡ b → cond (not a) (Err (Malformed field.Start len)) (cond (not b) (Err (Malformed field.Duration len)) (Ok (event_at start duration fields))) ≡ Ok event → IsEvent event
@@ -61,7 +61,7 @@ pub chunk_gives_event : (bytes : List ℕ) (start duration : ℤ) (event : Event
 unfolding event_of
 chunk_gives_event bytes start duration event e = cases (is_utf8 bytes) refl e
   where
-    said : IsUtf8 bytes → (r : Result PlainFields ChunkRefusal) → chunk_said bytes ≡ r → with_time (length bytes) start duration r ≡ Ok event → IsEvent event
+    said : IsUtf8 bytes → (r : Result FieldValues ChunkRefusal) → chunk_said bytes ≡ r → with_time (length bytes) start duration r ≡ Ok event → IsEvent event
     said utf8 (Ok fields) is e = timed_event (length bytes) start duration fields event (fields_in_range chunk_format bytes fields is) (chunk_texts bytes fields utf8 is) e
     said utf8 (Err refusal) is e = absurd (cc)
 
@@ -99,66 +99,66 @@ line_is_event : (format : List EventField) (i : ℕ) (line : List ℕ) (event : 
 unfolding line_event
 line_is_event format i line event ends small utf8 e = cases (examined (columns_of format line) no_fields) refl e
   where
-    cases : (r : Result PlainFields ChunkRefusal) → examined (columns_of format line) no_fields ≡ r → line_made i r ≡ Ok event → IsEvent event
+    cases : (r : Result FieldValues ChunkRefusal) → examined (columns_of format line) no_fields ≡ r → line_made i r ≡ Ok event → IsEvent event
     cases (Err refusal) is e = absurd (cc)
     cases (Ok fields) is e =
         let r = fields_in_range format line fields is in
         let P : List EventField → Type 0 = λ z. examined (columns_of z line) no_fields ≡ Ok fields in
         let t = fields_are_texts ends.0 line fields utf8 (subst P ends.1 is) in
-        let more : PlainFields = record fields { order = i } in
+        let more : FieldValues = record fields { order = i } in
         let same : event_at fields.start (duration_between fields.start fields.end) more ≡ event = cc in
         subst IsEvent same (event_is fields.start (duration_between fields.start fields.end) more
         (record { order = small; layer = r.layer; start = r.start; last = r.last; margin_l = r.margin_l; margin_r = r.margin_r; margin_v = r.margin_v })
         (record { style = t.style; name = t.name; effect = t.effect; text = t.text })
         (instant_is_time fields.start r.start) (between_is_time fields.start fields.end r.start r.last))
 
-pub line_gives_event : (script : PlainScript) (i : ℕ) (event : Event) → IsScript script → i < length script.lines → event_of_line script i ≡ Ok event → IsEvent event
+pub line_gives_event : (script : ScriptValue) (i : ℕ) (event : Event) → IsScript script → i < length script.lines → event_of_line script i ≡ Ok event → IsEvent event
 line_gives_event script i event is inside e =
     line_is_event script.format i (get_or script.lines i []) event (text_ends script.format is.format) (omega (arith, is.few_lines)) (All-get_or IsUtf8 script.lines i [] inside is.lines) e
 
 -- ---- written and read back
 
-put_order : (n : ℕ) (piece : List ℕ) (fields : PlainFields) → order_of piece ≡ Some n → field_put field.ReadOrder piece fields ≡ Some (record fields { order = n })
+put_order : (n : ℕ) (piece : List ℕ) (fields : FieldValues) → order_of piece ≡ Some n → field_put field.ReadOrder piece fields ≡ Some (record fields { order = n })
 unfolding field_put
 put_order n piece fields e = ap (option_and_then (λ n. Some (record fields { order = n }))) e
 
-put_layer : (n : ℤ) (piece : List ℕ) (fields : PlainFields) → number_of piece ≡ Some n → field_put field.Layer piece fields ≡ Some (record fields { layer = n })
+put_layer : (n : ℤ) (piece : List ℕ) (fields : FieldValues) → whole_or_zero piece ≡ Some n → field_put field.Layer piece fields ≡ Some (record fields { layer = n })
 unfolding field_put
 put_layer n piece fields e = ap (option_and_then (λ n. Some (record fields { layer = n }))) e
 
-put_left : (n : ℤ) (piece : List ℕ) (fields : PlainFields) → number_of piece ≡ Some n → field_put field.MarginL piece fields ≡ Some (record fields { margin_l = n })
+put_left : (n : ℤ) (piece : List ℕ) (fields : FieldValues) → whole_or_zero piece ≡ Some n → field_put field.MarginL piece fields ≡ Some (record fields { margin_l = n })
 unfolding field_put
 put_left n piece fields e = ap (option_and_then (λ n. Some (record fields { margin_l = n }))) e
 
-put_right : (n : ℤ) (piece : List ℕ) (fields : PlainFields) → number_of piece ≡ Some n → field_put field.MarginR piece fields ≡ Some (record fields { margin_r = n })
+put_right : (n : ℤ) (piece : List ℕ) (fields : FieldValues) → whole_or_zero piece ≡ Some n → field_put field.MarginR piece fields ≡ Some (record fields { margin_r = n })
 unfolding field_put
 put_right n piece fields e = ap (option_and_then (λ n. Some (record fields { margin_r = n }))) e
 
-put_vertical : (n : ℤ) (piece : List ℕ) (fields : PlainFields) → number_of piece ≡ Some n → field_put field.MarginV piece fields ≡ Some (record fields { margin_v = n })
+put_vertical : (n : ℤ) (piece : List ℕ) (fields : FieldValues) → whole_or_zero piece ≡ Some n → field_put field.MarginV piece fields ≡ Some (record fields { margin_v = n })
 unfolding field_put
 put_vertical n piece fields e = ap (option_and_then (λ n. Some (record fields { margin_v = n }))) e
 
-put_style : (piece : List ℕ) (fields : PlainFields) → trimmed piece ≡ piece → field_put field.Style piece fields ≡ Some (record fields { style = piece })
+put_style : (piece : List ℕ) (fields : FieldValues) → trimmed piece ≡ piece → field_put field.Style piece fields ≡ Some (record fields { style = piece })
 unfolding field_put
 put_style piece fields e = ap (λ z. Some (record fields { style = z })) e
 
-put_name : (piece : List ℕ) (fields : PlainFields) → trimmed piece ≡ piece → field_put field.Name piece fields ≡ Some (record fields { name = piece })
+put_name : (piece : List ℕ) (fields : FieldValues) → trimmed piece ≡ piece → field_put field.Name piece fields ≡ Some (record fields { name = piece })
 unfolding field_put
 put_name piece fields e = ap (λ z. Some (record fields { name = z })) e
 
-put_effect : (piece : List ℕ) (fields : PlainFields) → trimmed piece ≡ piece → field_put field.Effect piece fields ≡ Some (record fields { effect = piece })
+put_effect : (piece : List ℕ) (fields : FieldValues) → trimmed piece ≡ piece → field_put field.Effect piece fields ≡ Some (record fields { effect = piece })
 unfolding field_put
 put_effect piece fields e = ap (λ z. Some (record fields { effect = z })) e
 
 -- one column more is read
-read_on : (len place : ℕ) (f g : EventField) (format : List EventField) (p : List ℕ) (pieces : List (List ℕ)) (fields more : PlainFields) → field_put f p fields ≡ Some more →
+read_on : (len place : ℕ) (f g : EventField) (format : List EventField) (p : List ℕ) (pieces : List (List ℕ)) (fields more : FieldValues) → field_put f p fields ≡ Some more →
     examined (columns_from len place (f ∷ (g ∷ format)) (p ∷ pieces)) fields ≡ examined (columns_from len (place + length p + 1) (g ∷ format) pieces) more
 unfolding columns_from
 read_on len place f g format p pieces fields more put =
     examined_some (record { field = f; place = place; piece = Some p }) (columns_from len (place + length p + 1) (g ∷ format) pieces) fields more put
 
 -- the text with its commas
-read_text : (len place : ℕ) (text : List ℕ) (fields : PlainFields) → examined (columns_from len place (field.Text ∷ []) (pieces_of text)) fields ≡ Ok (record fields { text = text })
+read_text : (len place : ℕ) (text : List ℕ) (fields : FieldValues) → examined (columns_from len place (field.Text ∷ []) (pieces_of text)) fields ≡ Ok (record fields { text = text })
 unfolding columns_from examined field_put
 read_text len place text fields = cases (pieces_of text) refl
   where
@@ -195,7 +195,7 @@ module _ (event : Event) (is : IsEvent event) where
       ∙ ap (λ z. r ∷ z) (cut v g (signed_no_comma event.margin_v is.margin_v)
       ∙ ap (λ z. v ∷ z) (cut event.effect event.text is.effect.no_comma)))))))
 
-  abbrev written_fields : PlainFields
+  abbrev written_fields : FieldValues
   written_fields = record {
     order = event.order;
     layer = event.layer;
@@ -213,14 +213,14 @@ module _ (event : Event) (is : IsEvent event) where
   written_said : chunk_said (chunk_bytes event) ≡ Ok written_fields
   written_said =
       let len = length (chunk_bytes event) in
-      let a : PlainFields = record no_fields { order = event.order } in
-      let b : PlainFields = record a { layer = event.layer } in
-      let c : PlainFields = record b { style = event.style } in
-      let d : PlainFields = record c { name = event.name } in
-      let e : PlainFields = record d { margin_l = event.margin_l } in
-      let f : PlainFields = record e { margin_r = event.margin_r } in
-      let g : PlainFields = record f { margin_v = event.margin_v } in
-      let h : PlainFields = record g { effect = event.effect } in
+      let a : FieldValues = record no_fields { order = event.order } in
+      let b : FieldValues = record a { layer = event.layer } in
+      let c : FieldValues = record b { style = event.style } in
+      let d : FieldValues = record c { name = event.name } in
+      let e : FieldValues = record d { margin_l = event.margin_l } in
+      let f : FieldValues = record e { margin_r = event.margin_r } in
+      let g : FieldValues = record f { margin_v = event.margin_v } in
+      let h : FieldValues = record g { effect = event.effect } in
       ap (λ z. examined (columns_from len 0 chunk_format z) no_fields) written_pieces
       ∙ read_on len _ field.ReadOrder field.Layer _ (decimal event.order) _ no_fields a (put_order event.order (decimal event.order) no_fields (order-decimal event.order is.order))
       ∙ read_on len _ field.Layer field.Style _ (signed_decimal event.layer) _ a b (put_layer event.layer (signed_decimal event.layer) a (number-signed_decimal event.layer is.layer))

@@ -10,13 +10,13 @@ use Rattle.std.proofs.lemmas.List.{append-nil}
 use Rattle.std.proofs.lemmas.List.Elements.{All-nil, All-cons, All-head, All-push, All-weaker}
 use Rattle.std.proofs.lemmas.Bool.Decides.{nat_tests}
 use Rattle.ass_num.specs.Numerals as numerals
-use Rattle.ass_num.specs.Numerals.{is_blank, is_decimal, signed, IsWhole, IsTime}
+use Rattle.ass_num.specs.Numerals.{is_blank, is_decimal, signed, IsWholeNumber, IsTime}
 use Rattle.ass_num.proofs.NumberLaws.{number_of_push}
 use Rattle.ass_num.proofs.Runs.{decimal_no_blank}
 use Rattle.ass_num.proofs.Clocks.{part_small}
 use Rattle.ass_script.specs.Words.{is_comma}
 use Rattle.ass_script.specs.Numbers.{whole_of}
-use Rattle.ass_events.specs.Numbers.{time_of, order_in, order_of, number_of, instant_of}
+use Rattle.ass_events.specs.Numbers.{time_of, order_in, order_of, whole_or_zero, instant_of}
 use Rattle.ass_events.specs.Ranges.{IsNumber}
 use Rattle.ass_script.proofs.NumberReads.{whole_both}
 use Rattle.ass_events.proofs.TimeLemmas.{shape_from_time}
@@ -32,13 +32,13 @@ signed_small (c ∷ cs) n z small e = cases (eqb c 45) e
     cases false e = (omega (arith, ints, e), omega (arith, ints, e))
 
 whole_small : (t : List ℕ) (z : ℤ) → whole_of t ≡ Some z → IsNumber z
-whole_small t z e = let m = (whole_both t z).0 e in signed_small m.sign (numerals.number_of 10 m.digits) z m.small m.value
+whole_small t z e = let m = (whole_both t z).0 e in signed_small m.sign (numerals.whole_or_zero 10 m.digits) z m.small m.value
 
 zero_small : (z : ℤ) → Some (pos 0) ≡ Some z → IsNumber z
 zero_small z e = let is : pos 0 ≡ z = cc in (omega (arith, ints, is), omega (arith, ints, is))
 
-pub number_small : (t : List ℕ) (z : ℤ) → number_of t ≡ Some z → IsNumber z
-unfolding number_of
+pub number_small : (t : List ℕ) (z : ℤ) → whole_or_zero t ≡ Some z → IsNumber z
+unfolding whole_or_zero
 number_small t z e = cases (list_all is_blank t) e
   where
     cases : (b : Bool) → cond b (Some (pos 0)) (whole_of t) ≡ Some z → IsNumber z
@@ -66,7 +66,7 @@ time_small t z e =
     let i = part_small m.minutes m.minutes_part in
     let s = part_small m.seconds m.seconds_part in
     let c = part_small m.hundredths m.hundredths_part in
-    bounded (numerals.number_of 10 m.hours) (numerals.number_of 10 m.minutes) (numerals.number_of 10 m.seconds) (numerals.number_of 10 m.hundredths) z h i s c m.value
+    bounded (numerals.whole_or_zero 10 m.hours) (numerals.whole_or_zero 10 m.minutes) (numerals.whole_or_zero 10 m.seconds) (numerals.whole_or_zero 10 m.hundredths) z h i s c m.value
   where
     bounded : (h i s c : ℕ) (z : ℤ) → h < 1000000 → i < 1000000 → s < 1000000 → c < 1000000 → z ≡ pos (((h * 60 + i) * 60 + s) * 1000 + c * 10) → IsInstant z
     bounded h i s c z hh ii ss cc' e = record { least = omega (arith, ints, e); most = omega (arith, ints, e) }
@@ -84,7 +84,7 @@ instant_small t z e = cases (list_all is_blank t) e
 -- the digits of a number
 pub record AreDigits (n : ℕ) (digits : List ℕ) : Type 0 where
   pub all : AllPass is_decimal digits
-  pub value : numerals.number_of 10 digits ≡ n
+  pub value : numerals.whole_or_zero 10 digits ≡ n
   pub some : 0 < length digits
 
 pub decimal_digits : (n : ℕ) → n < 2 ^ 64 → AreDigits n (decimal n)
@@ -110,7 +110,7 @@ decimal_digits = decimal_by_steps AreDigits one more
       some = omega (arith, length-append ds ((48 + n % 10) ∷ []));
     }
 
-digits_whole : (digits : List ℕ) (n : ℕ) → n ≤ 2147483647 → AreDigits n digits → IsWhole digits (pos n)
+digits_whole : (digits : List ℕ) (n : ℕ) → n ≤ 2147483647 → AreDigits n digits → IsWholeNumber digits (pos n)
 digits_whole digits n small d = record {
   before = [];
   sign = [];
@@ -126,7 +126,7 @@ digits_whole digits n small d = record {
   value = ap pos (sym d.value);
 }
 
-minus_whole : (digits : List ℕ) (n : ℕ) → suc n ≤ 2147483647 → AreDigits (suc n) digits → IsWhole (45 ∷ digits) (negsuc n)
+minus_whole : (digits : List ℕ) (n : ℕ) → suc n ≤ 2147483647 → AreDigits (suc n) digits → IsWholeNumber (45 ∷ digits) (negsuc n)
 minus_whole digits n small d = record {
   before = [];
   sign = codes "-";
@@ -156,8 +156,8 @@ digits_not_empty : (digits : List ℕ) → AllPass is_decimal digits → 0 < len
 digits_not_empty [] all some = absurd (omega arith)
 digits_not_empty (c ∷ cs) all some = ap (λ b. b && list_all is_blank cs) (decimal_no_blank c (All-head (λ z. is_decimal z ≡ true) c cs all))
 
-pub number-signed_decimal : (z : ℤ) → IsNumber z → number_of (signed_decimal z) ≡ Some z
-unfolding number_of
+pub number-signed_decimal : (z : ℤ) → IsNumber z → whole_or_zero (signed_decimal z) ≡ Some z
+unfolding whole_or_zero
 number-signed_decimal (pos n) small =
     let fits = number_fits (pos n) small n refl in
     let d = decimal_digits n (omega arith) in

@@ -1,7 +1,7 @@
 -- Events, and the chunks that give them.
 use Rattle.std.specs.Prelude.{◌≡◌, ℕ, ℤ, pos, ◌-ℤ◌, int_le, slice_index_or, Bool, not, ◌&&◌, if◌then◌else◌, List, [], ◌∷◌, length, Result, Ok, Err}
 use Rattle.std.specs.List.{join_with_byte}
-use Rattle.ass_script.specs.Scripts.{PlainScript}
+use Rattle.ass_script.specs.Scripts.{ScriptValue}
 use Rattle.std.specs.Int.{int_max}
 use Rattle.std.specs.Fmt.{decimal, signed_decimal}
 use Rattle.std.specs.Str.{is_utf8}
@@ -12,13 +12,13 @@ use Rattle.ass_events.specs.declared.event.Event.{Event}
 use Rattle.ass_events.specs.declared.event.Chunk.{Chunk}
 use Rattle.ass_events.specs.declared.event.ChunkRefusal.{ChunkRefusal}
 use Rattle.ass_events.specs.declared.event.ChunkRefusal.TheVariants.{Malformed, OutOfMemory}
-use Rattle.ass_events.specs.Fields.{PlainFields, no_fields, columns_of, examined}
+use Rattle.ass_events.specs.Fields.{FieldValues, no_fields, columns_of, examined}
 
 -- The answer is this one, unless memory ran out.
-abbrev pub Answers : {Value : Type 0} → Result Value ChunkRefusal → Result Value ChunkRefusal → Type 0
-Answers (Ok value) wanted = wanted ≡ Ok value
-Answers (Err (Malformed f place)) wanted = wanted ≡ Err (Malformed f place)
-Answers (Err OutOfMemory) wanted = Unit {0}
+abbrev pub IsChunkAnswer : {Value : Type 0} → Result Value ChunkRefusal → Result Value ChunkRefusal → Type 0
+IsChunkAnswer (Ok value) wanted = wanted ≡ Ok value
+IsChunkAnswer (Err (Malformed f place)) wanted = wanted ≡ Err (Malformed f place)
+IsChunkAnswer (Err OutOfMemory) wanted = Unit {0}
 
 -- the fields of a chunk, in order
 abbrev pub chunk_format : List EventField
@@ -29,7 +29,7 @@ abbrev pub is_time : ℤ → Bool
 is_time t = int_le (pos 0) t && int_le t (pos 4000000000000)
 
 -- the event of these fields, at its time
-abbrev pub event_at : ℤ → ℤ → PlainFields → Event
+abbrev pub event_at : ℤ → ℤ → FieldValues → Event
 event_at start duration fields = record {
   order = fields.order;
   layer = fields.layer;
@@ -45,13 +45,13 @@ event_at start duration fields = record {
 }
 
 -- the time beside a chunk of so many bytes, examined after its fields
-abbrev pub timed : ℕ → ℤ → ℤ → PlainFields → Result Event ChunkRefusal
+abbrev pub timed : ℕ → ℤ → ℤ → FieldValues → Result Event ChunkRefusal
 timed len start duration fields =
     if not (is_time start) then Err (Malformed field.Start len)
     else (if not (is_time duration) then Err (Malformed field.Duration len)
     else Ok (event_at start duration fields))
 
-abbrev pub with_time : ℕ → ℤ → ℤ → Result PlainFields ChunkRefusal → Result Event ChunkRefusal
+abbrev pub with_time : ℕ → ℤ → ℤ → Result FieldValues ChunkRefusal → Result Event ChunkRefusal
 with_time len start duration (Ok fields) = timed len start duration fields
 with_time len start duration (Err refusal) = Err refusal
 
@@ -68,7 +68,7 @@ chunk_bytes event = join_with_byte 44 (
     ∷ signed_decimal event.margin_r ∷ signed_decimal event.margin_v ∷ event.effect ∷ event.text ∷ [])
 
 -- the bytes of the chunk of these fields with this ReadOrder; the time stands beside them
-abbrev pub fields_bytes : ℕ → PlainFields → List ℕ
+abbrev pub fields_bytes : ℕ → FieldValues → List ℕ
 fields_bytes order fields = chunk_bytes (event_at fields.start fields.end (record fields { order = order }))
 
 -- the chunk of an event
@@ -80,7 +80,7 @@ abbrev pub duration_between : ℤ → ℤ → ℤ
 duration_between start last = int_max (pos 0) (last -ℤ start)
 
 -- the event of the fields of the line at `i`
-abbrev pub line_made : ℕ → Result PlainFields ChunkRefusal → Result Event ChunkRefusal
+abbrev pub line_made : ℕ → Result FieldValues ChunkRefusal → Result Event ChunkRefusal
 line_made i (Ok fields) = Ok (event_at fields.start (duration_between fields.start fields.end) (record fields { order = i }))
 line_made i (Err refusal) = Err refusal
 
@@ -89,7 +89,7 @@ unfoldable pub line_event : List EventField → ℕ → List ℕ → Result Even
 line_event format i line = line_made i (examined (columns_of format line) no_fields)
 
 -- the event of the Dialogue line at `i` of a script
-abbrev pub event_of_line : PlainScript → ℕ → Result Event ChunkRefusal
+abbrev pub event_of_line : ScriptValue → ℕ → Result Event ChunkRefusal
 event_of_line script i = line_event script.format i (slice_index_or script.lines i [])
 
 abbrev pub chunked : Result Event ChunkRefusal → Result Chunk ChunkRefusal
@@ -97,5 +97,5 @@ chunked (Ok event) = Ok (chunk_made event)
 chunked (Err refusal) = Err refusal
 
 -- The chunk of the Dialogue line at `i` of a script, or the first field that refuses.
-abbrev pub chunk_of : PlainScript → ℕ → Result Chunk ChunkRefusal
+abbrev pub chunk_of : ScriptValue → ℕ → Result Chunk ChunkRefusal
 chunk_of script i = chunked (event_of_line script i)

@@ -9,10 +9,10 @@ use Rattle.ass_events.specs.declared.event.ChunkRefusal.{ChunkRefusal}
 use Rattle.ass_events.specs.declared.event.ChunkRefusal.TheVariants.{Malformed}
 use Rattle.blanks.specs.Blanks.{trimmed}
 use Rattle.ass_events.specs.Cuts.{pieces_of}
-use Rattle.ass_events.specs.Numbers.{order_of, number_of, instant_of}
+use Rattle.ass_events.specs.Numbers.{order_of, whole_or_zero, instant_of}
 
 -- what the fields of a line say, in milliseconds and script pixels
-pub record PlainFields : Type 0 where
+pub record FieldValues : Type 0 where
   pub order : ℕ
   pub layer : ℤ
   pub start : ℤ
@@ -26,7 +26,7 @@ pub record PlainFields : Type 0 where
   pub text : List ℕ
 
 -- a field that isn't there is empty, and an empty number or time is 0
-abbrev pub no_fields : PlainFields
+abbrev pub no_fields : FieldValues
 no_fields = record {
   order = 0;
   layer = pos 0;
@@ -60,32 +60,32 @@ abbrev pub columns_of : List EventField → List ℕ → List Column
 columns_of format line = columns_from (length line) 0 format (pieces_of line)
 
 -- the fields with one more, where it can be read
-unfoldable pub field_put : EventField → List ℕ → PlainFields → Option PlainFields
+unfoldable pub field_put : EventField → List ℕ → FieldValues → Option FieldValues
 field_put field.ReadOrder piece fields = option_and_then (λ n. Some (record fields { order = n })) (order_of piece)
-field_put field.Layer piece fields = option_and_then (λ n. Some (record fields { layer = n })) (number_of piece)
+field_put field.Layer piece fields = option_and_then (λ n. Some (record fields { layer = n })) (whole_or_zero piece)
 field_put field.Start piece fields = option_and_then (λ t. Some (record fields { start = t })) (instant_of piece)
 field_put field.End piece fields = option_and_then (λ t. Some (record fields { end = t })) (instant_of piece)
 field_put field.Duration piece fields = Some fields
 field_put field.Style piece fields = Some (record fields { style = trimmed piece })
 field_put field.Name piece fields = Some (record fields { name = trimmed piece })
-field_put field.MarginL piece fields = option_and_then (λ n. Some (record fields { margin_l = n })) (number_of piece)
-field_put field.MarginR piece fields = option_and_then (λ n. Some (record fields { margin_r = n })) (number_of piece)
-field_put field.MarginV piece fields = option_and_then (λ n. Some (record fields { margin_v = n })) (number_of piece)
+field_put field.MarginL piece fields = option_and_then (λ n. Some (record fields { margin_l = n })) (whole_or_zero piece)
+field_put field.MarginR piece fields = option_and_then (λ n. Some (record fields { margin_r = n })) (whole_or_zero piece)
+field_put field.MarginV piece fields = option_and_then (λ n. Some (record fields { margin_v = n })) (whole_or_zero piece)
 field_put field.Effect piece fields = Some (record fields { effect = trimmed piece })
 field_put field.Text piece fields = Some (record fields { text = piece })
 field_put field.Utf8 piece fields = Some fields
 field_put field.Other piece fields = Some fields
 
-abbrev pub column_put : Column → PlainFields → Option PlainFields
+abbrev pub column_put : Column → FieldValues → Option FieldValues
 column_put column fields = option_and_then (λ piece. field_put column.field piece fields) column.piece
 
 -- what the columns say, from the first to the last, or the first that can't be read or isn't there, with its place
-unfoldable pub examined : List Column → PlainFields → Result PlainFields ChunkRefusal
+unfoldable pub examined : List Column → FieldValues → Result FieldValues ChunkRefusal
 examined [] fields = Ok fields
 examined (column ∷ columns) fields = option_map_or (examined columns) (column_put column fields) (Err (Malformed column.field column.place))
 
 -- the texts among the fields are UTF-8
-pub record HaveUtf8 (fields : PlainFields) : Type 0 where
+pub record HaveUtf8 (fields : FieldValues) : Type 0 where
   pub style : IsUtf8 fields.style
   pub name : IsUtf8 fields.name
   pub effect : IsUtf8 fields.effect

@@ -1,7 +1,7 @@
 -- What holds of all chunks and lines.
 use Rattle.std.specs.Prelude.{◌≡◌, ℕ, ◌<◌, ◌↔◌, ℤ, List, length, Some, Ok}
 use Rattle.ass_num.specs.Numerals.{IsTime}
-use Rattle.ass_script.specs.Scripts.{PlainScript}
+use Rattle.ass_script.specs.Scripts.{ScriptValue}
 use Rattle.ass_script.specs.Ranges.{IsScript}
 use Rattle.ass_events.specs.declared.event.Event.{Event}
 use Rattle.ass_events.specs.Numbers.{time_of}
@@ -18,11 +18,11 @@ WrittenIsReadBack = (event : Event) → IsEvent event → event_of (chunk_bytes 
 
 -- So is each event of a line of a script.
 abbrev pub LinesGiveEvents : Type 0
-LinesGiveEvents = (script : PlainScript) (i : ℕ) (event : Event) → IsScript script → i < length script.lines → event_of_line script i ≡ Ok event → IsEvent event
+LinesGiveEvents = (script : ScriptValue) (i : ℕ) (event : Event) → IsScript script → i < length script.lines → event_of_line script i ≡ Ok event → IsEvent event
 
 -- The chunk of such a line gives the event of the line.
 abbrev pub ChunksOfLinesAreRead : Type 0
-ChunksOfLinesAreRead = (script : PlainScript) (i : ℕ) (event : Event) → IsScript script → i < length script.lines → event_of_line script i ≡ Ok event →
+ChunksOfLinesAreRead = (script : ScriptValue) (i : ℕ) (event : Event) → IsScript script → i < length script.lines → event_of_line script i ≡ Ok event →
     event_of (chunk_bytes event) event.start event.duration ≡ Ok event
 
 -- Times are read as those of scripts are.

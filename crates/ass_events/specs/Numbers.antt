@@ -9,7 +9,7 @@ use Rattle.ass_script.specs.Numbers.{whole_of}
 abbrev pub part_cut : ℕ → List ℕ → ℕ → Option (ℕ × List ℕ)
 part_cut mark text digits =
     if nat_lt 0 digits && (nat_le digits 6 && (nat_lt digits (length text) && (slice_index text digits == mark)))
-    then Some (numerals.number_of 10 (take digits text), drop (digits + 1) text) else None
+    then Some (numerals.whole_or_zero 10 (take digits text), drop (digits + 1) text) else None
 
 -- all the digits at the front, before that byte
 abbrev pub part_before : ℕ → List ℕ → Option (ℕ × List ℕ)
@@ -18,7 +18,7 @@ part_before mark text = part_cut mark text (prefix_len is_decimal text)
 -- `digits` digits, one to six, and then blanks alone
 abbrev pub last_cut : List ℕ → ℕ → Option ℕ
 last_cut text digits =
-    if nat_lt 0 digits && (nat_le digits 6 && list_all is_blank (drop digits text)) then Some (numerals.number_of 10 (take digits text)) else None
+    if nat_lt 0 digits && (nat_le digits 6 && list_all is_blank (drop digits text)) then Some (numerals.whole_or_zero 10 (take digits text)) else None
 
 -- all the digits at the front
 abbrev pub last_part : List ℕ → Option ℕ
@@ -47,8 +47,8 @@ unfoldable pub order_of : List ℕ → Option ℕ
 order_of text = option_and_then order_in (whole_of text)
 
 -- a whole number, 0 where there are blanks alone
-unfoldable pub number_of : List ℕ → Option ℤ
-number_of text = if list_all is_blank text then Some (pos 0) else whole_of text
+unfoldable pub whole_or_zero : List ℕ → Option ℤ
+whole_or_zero text = if list_all is_blank text then Some (pos 0) else whole_of text
 
 -- a time in milliseconds, 0 where there are blanks alone
 unfoldable pub instant_of : List ℕ → Option ℤ

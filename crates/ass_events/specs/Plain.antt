@@ -3,9 +3,9 @@ use Rattle.std.specs.Prelude.{◌≡◌, Result, Ok, Err}
 use Rattle.ass_events.specs.declared.event.ChunkRefusal.{ChunkRefusal}
 use Rattle.ass_events.specs.declared.event.ChunkRefusal.TheVariants.{Malformed, OutOfMemory}
 use Rattle.ass_events.specs.declared.fields.Fields.{Fields}
-use Rattle.ass_events.specs.Fields.{PlainFields}
+use Rattle.ass_events.specs.Fields.{FieldValues}
 
-abbrev pub plain : Fields → PlainFields
+abbrev pub plain : Fields → FieldValues
 plain fields = record {
   order = fields.order;
   layer = fields.layer;
@@ -21,7 +21,7 @@ plain fields = record {
 }
 
 -- A call read this of the fields, or found the first that refuses. It takes no memory.
-abbrev pub Reads : Result Fields ChunkRefusal → Result PlainFields ChunkRefusal → Type 0
+abbrev pub Reads : Result Fields ChunkRefusal → Result FieldValues ChunkRefusal → Type 0
 Reads (Ok fields) said = said ≡ Ok (plain fields)
 Reads (Err (Malformed field place)) said = said ≡ Err (Malformed field place)
 Reads (Err OutOfMemory) said = ⊥

@@ -1,7 +1,7 @@
 //! Chunks of Dialogue lines.
 
 ghost use Rattle.std.specs.Prelude.{◌≡◌, ◌<◌, ◌≤◌, ◌≤ℤ◌, pos, length};
-ghost use Rattle.ass_events.specs.Events.{Answers, chunk_of, chunked, line_event, duration_between};
+ghost use Rattle.ass_events.specs.Events.{IsChunkAnswer, chunk_of, chunked, line_event, duration_between};
 
 use crate::event::{Chunk, ChunkRefusal};
 use crate::fields::read_fields;
@@ -15,7 +15,7 @@ use std::alloc::Global;
 pub fn chunk_of_line(alloc: Global, script: &Script, i: usize) -> Result<Chunk, ChunkRefusal>
     requires within { i < length script.now.lines }
     requires order { i ≤ 2147483647 }
-    ensures { Answers result (chunk_of script.now i) }
+    ensures { IsChunkAnswer result (chunk_of script.now i) }
 {
     line_chunk(alloc, script.format(), script.line(i), i as u32)
 }
@@ -27,7 +27,7 @@ fn line_chunk(
     line: &[u8],
     order: u32,
 ) -> Result<Chunk, ChunkRefusal>
-    ensures { Answers result (chunked (line_event format.now order line.now)) }
+    ensures { IsChunkAnswer result (chunked (line_event format.now order line.now)) }
 {
     let fields = match read_fields(format, line) {
         Ok(fields) => fields,

@@ -2,7 +2,7 @@
 
 ghost use Rattle.std.specs.Prelude.{◌≡◌};
 ghost use Rattle.ass_script.specs.Numbers.{whole_of};
-ghost use Rattle.ass_events.specs.Numbers.{time_of, order_of, number_of, instant_of};
+ghost use Rattle.ass_events.specs.Numbers.{time_of, order_of, whole_or_zero, instant_of};
 
 use crate::words::is_empty;
 use ass_num::{read_time, read_whole};
@@ -32,9 +32,9 @@ pub fn order(text: &[u8]) -> Option<u32>
 }
 
 /// A whole number, 0 where the text is empty.
-#[tactic(auto, unfolding(crate::specs::Numbers::number_of))]
+#[tactic(auto, unfolding(crate::specs::Numbers::whole_or_zero))]
 pub fn number(text: &[u8]) -> Option<i32>
-    ensures { result ≡ number_of text.now }
+    ensures { result ≡ whole_or_zero text.now }
 {
     if is_empty(text) {
         return Some(0);

@@ -3,7 +3,7 @@
 ghost use Rattle.std.specs.Prelude.{◌≡◌, IfOk, IsUtf8};
 ghost use Rattle.ass_events.specs.Plain.{plain};
 ghost use Rattle.ass_events.specs.Fields.{HaveUtf8};
-ghost use Rattle.ass_events.specs.Events.{Answers, is_time, event_of, event_at};
+ghost use Rattle.ass_events.specs.Events.{IsChunkAnswer, is_time, event_of, event_at};
 
 use crate::event::{ChunkRefusal, Event};
 use crate::fields::{Fields, read_fields};
@@ -40,7 +40,7 @@ pub fn read_chunk(
     start: i64,
     duration: i64,
 ) -> Result<Event, ChunkRefusal>
-    ensures { Answers result (event_of bytes.now start duration) }
+    ensures { IsChunkAnswer result (event_of bytes.now start duration) }
 {
     if let Err(fault) = simdutf8::compat::from_utf8(bytes) {
         return Err(ChunkRefusal::Malformed(EventField::Utf8, fault.valid_up_to()));

@@ -39,13 +39,13 @@ MayComeInstead OutOfMemory = Unit {0}
 MayComeInstead _ = ⊥
 
 -- the answer that what a name holds asks for
-abbrev pub answer_of : Held → Fetch
-answer_of None = Missing
-answer_of (Some bytes) = if nat_le (length bytes) file_limit then Got else TooLarge
+abbrev pub fetch_answer : Held → Fetch
+fetch_answer None = Missing
+fetch_answer (Some bytes) = if nat_le (length bytes) file_limit then Got else TooLarge
 
 -- Where it is told what the name holds, the answer is the one for that, or came instead.
-abbrev pub IsDecided : Told → Fetch → Type 0
-IsDecided told answer = IfTold told (λ held. (answer ≡ answer_of held) ⊎ MayComeInstead answer)
+abbrev pub IsFetchDecided : Told → Fetch → Type 0
+IsFetchDecided told answer = IfTold told (λ held. (answer ≡ fetch_answer held) ⊎ MayComeInstead answer)
 
 -- The count rose at `Failed`, and is as it was after any other answer.
 abbrev pub IsFetchCounted : Fetch → ℕ → ℕ → Type 0

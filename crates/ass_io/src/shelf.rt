@@ -1,7 +1,7 @@
 //! Files by name.
 
 ghost use Rattle.std.specs.Prelude.{◌≡◌, ℕ, List, []};
-ghost use Rattle.ass_io.specs.Fetched.{Told, IsDecided, IsFetchCounted, IsFetched};
+ghost use Rattle.ass_io.specs.Fetched.{Told, IsFetchDecided, IsFetchCounted, IsFetched};
 
 use std::alloc::Global;
 
@@ -41,7 +41,7 @@ pub trait Shelf {
         ensures fetched { IsFetched (told self.old name.now) result into.new.items }
 
         // What is held decides the answer, but for a fault and for want of memory.
-        ensures decided { IsDecided (told self.old name.now) result }
+        ensures decided { IsFetchDecided (told self.old name.now) result }
 
         ensures counted { IsFetchCounted result (faults self.old) (faults self.new) };
 }

@@ -7,7 +7,7 @@ use Rattle.std.specs.Int.{int_rem_euclid}
 use Rattle.std.specs.List.{AllPass, prefix_len}
 use Rattle.ass_num.specs.Floor.{held}
 use Rattle.ass_num.specs.Fronts.{IsLongestFront, SpellsOne}
-use Rattle.ass_num.specs.Numerals.{is_blank, is_decimal, is_mark, sign_len, number_of, IsSign, signed, IsDecimal, IsMilli, IsWhole, IsMarked, IsWrapped, IsStyleColour, is_hex_start, IsTimePart, IsTime}
+use Rattle.ass_num.specs.Numerals.{is_blank, is_decimal, is_mark, sign_len, number_of, IsSign, signed, IsDecimal, IsMilli, IsWholeNumber, IsMarked, IsWrapped, IsStyleColour, is_hex_start, IsTimePart, IsTime}
 use Rattle.ass_num.proofs.Runs.{prefix_len-append, sign_len-append}
 use Rattle.ass_num.proofs.SignFronts.{IsUnsigned, unsigned_all, unsigned_decimal}
 use Rattle.ass_num.proofs.Wholes.{no_blank_digits, no_blank_signed, no_digit_blanks}
@@ -70,7 +70,7 @@ one_milli bytes v w a b =
 
 -- ---- whole numbers
 
-whole_parts : (bytes : List ℕ) (v : ℤ) → (a : IsWhole bytes v) → (rest : List ℕ) × (rest ≡ drop (prefix_len is_blank bytes) bytes) × (a.sign ≡ take (sign_len rest) rest) × (a.digits ≡ take (prefix_len is_decimal (drop (sign_len rest) rest)) (drop (sign_len rest) rest))
+whole_parts : (bytes : List ℕ) (v : ℤ) → (a : IsWholeNumber bytes v) → (rest : List ℕ) × (rest ≡ drop (prefix_len is_blank bytes) bytes) × (a.sign ≡ take (sign_len rest) rest) × (a.digits ≡ take (prefix_len is_decimal (drop (sign_len rest) rest)) (drop (sign_len rest) rest))
 whole_parts bytes v a =
     let rest = a.sign ++ (a.digits ++ a.after) in
     let u = unsigned_all a.digits a.all_digits a.some_digit in
@@ -80,7 +80,7 @@ whole_parts bytes v a =
     let third = front_is is_decimal (a.digits ++ a.after) a.digits a.after refl a.all_digits (no_digit_blanks a.after a.blanks_after) in
     (rest, first.1, second.0, third.0 ∙ ap (λ z. take (prefix_len is_decimal z) z) second.1)
 
-pub one_whole : SpellsOne IsWhole
+pub one_whole : SpellsOne IsWholeNumber
 one_whole bytes v w a b =
     let p = whole_parts bytes v a in
     let q = whole_parts bytes w b in

@@ -5,7 +5,7 @@ use Rattle.std.proofs.lemmas.List.Elements.{All-head}
 use Rattle.std.proofs.lemmas.List.Sums.{prefix_len-le-length}
 use Rattle.std.proofs.Math.Seq.{drop-append_seam, take-append_seam}
 use Rattle.std.specs.List.{AllPass, prefix_len}
-use Rattle.ass_num.specs.Numerals.{is_blank, is_decimal, sign_len, number_of, IsSign, signed, IsWhole}
+use Rattle.ass_num.specs.Numerals.{is_blank, is_decimal, sign_len, number_of, IsSign, signed, IsWholeNumber}
 use Rattle.ass_num.proofs.Runs.{prefix_len-append, prefix_len_all, AllPass-take, AllPass-from_prefix_len, cut_at, IsSign-take, decimal_no_blank, blank_no_decimal}
 use Rattle.ass_num.proofs.SignFronts.{unsigned_all, sign_before}
 
@@ -27,7 +27,7 @@ no_digit_blanks (c ∷ cs) all = ap (λ b. cond b (1 + prefix_len is_decimal cs)
 module _ (t : List ℕ) (b s d e number : ℕ)
     (blanks : b ≡ prefix_len is_blank t) (sign : s ≡ sign_len (drop b t)) (digits : d ≡ prefix_len is_decimal (drop (b + s) t))
     (value : number ≡ min (number_of 10 (take d (drop (b + s) t))) 4294967296) (after : e ≡ prefix_len is_blank (drop (b + s + d) t)) where
-  whole_shape : (v : ℤ) → (m : IsWhole t v) → (d ≡ length m.digits) × (take d (drop (b + s) t) ≡ m.digits) × (b + s + d + e ≡ length t)
+  whole_shape : (v : ℤ) → (m : IsWholeNumber t v) → (d ≡ length m.digits) × (take d (drop (b + s) t) ≡ m.digits) × (b + s + d + e ≡ length t)
   whole_shape v m =
       let b_is : b ≡ length m.before =
       blanks ∙ ap (prefix_len is_blank) m.spelled ∙ prefix_len-append is_blank m.before (m.sign ++ (m.digits ++ m.after)) m.blanks_before
@@ -47,7 +47,7 @@ module _ (t : List ℕ) (b s d e number : ℕ)
       ∙ ap (λ z. length m.before + z) (length-append m.sign (m.digits ++ m.after) ∙ ap (λ z. length m.sign + z) (length-append m.digits m.after)) in
       (d_is, ap (take d) digits_rest ∙ ap (λ z. take z (m.digits ++ m.after)) d_is ∙ take-append_seam m.digits m.after, omega arith)
 
-  pub whole_none : (d ≡ 0) ⊎ ((2147483647 < number) ⊎ (b + s + d + e < length t)) → (v : ℤ) → IsWhole t v → ⊥
+  pub whole_none : (d ≡ 0) ⊎ ((2147483647 < number) ⊎ (b + s + d + e < length t)) → (v : ℤ) → IsWholeNumber t v → ⊥
   whole_none why v m =
       let shape = whole_shape v m in
       let n : number_of 10 (take d (drop (b + s) t)) ≤ 2147483647 = rw shape.1 m.small in
@@ -56,7 +56,7 @@ module _ (t : List ℕ) (b s d e number : ℕ)
         | inr other ↦ elim other [ inl large ↦ omega (arith, n) | inr more ↦ omega (arith, shape.2) ]
       ]
 
-  pub whole_some : 0 < d → number ≤ 2147483647 → length t ≤ b + s + d + e → (v : ℤ) → v ≡ signed (take s (drop b t)) number → IsWhole t v
+  pub whole_some : 0 < d → number ≤ 2147483647 → length t ≤ b + s + d + e → (v : ℤ) → v ≡ signed (take s (drop b t)) number → IsWholeNumber t v
   whole_some some small all v v_is = record {
     before = take b t;
     sign = take s (drop b t);

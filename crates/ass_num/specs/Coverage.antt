@@ -1,7 +1,7 @@
 -- Coverage: how much of a pixel the samples of a region cover, the least boxes of pixels, and sums of masks.
 use Rattle.std.specs.Prelude.{◌≡◌, ℕ, zero, suc, ℤ, pos, ◌+◌, ◌*◌, ◌/◌, ◌<◌, ◌+ℤ◌, ◌-ℤ◌, ◌*ℤ◌, ◌<ℤ◌, ◌≤ℤ◌, if◌then◌else◌, List, Any, sum_by, min}
-use Rattle.ass_num.specs.Regions.{PlainRegion, member}
-use Rattle.ass_num.specs.Masks.{PlainMask, value_at}
+use Rattle.ass_num.specs.Regions.{RegionValue, member}
+use Rattle.ass_num.specs.Masks.{MaskValue, value_at}
 
 -- the sum of f over the n whole numbers from i on
 unfoldable pub sum_from : (ℤ → ℕ) → ℤ → ℕ → ℕ
@@ -13,16 +13,16 @@ abbrev pub first_sample : ℕ → ℤ → ℤ
 first_sample phase x = (x *ℤ pos 16) -ℤ pos phase
 
 -- 1 for a sample of the region, else 0
-abbrev pub inside : PlainRegion → ℤ → ℤ → ℕ
+abbrev pub inside : RegionValue → ℤ → ℤ → ℕ
 inside region i j = if member region.top region.rows i j then 1 else 0
 
 -- how many of the 16 by 16 samples of pixel (x, y) belong to the region
-unfoldable pub samples_of : PlainRegion → ℕ → ℕ → ℤ → ℤ → ℕ
+unfoldable pub samples_of : RegionValue → ℕ → ℕ → ℤ → ℤ → ℕ
 samples_of region px py x y = sum_from (λ j. sum_from (λ i. inside region i j) (first_sample px x) 16) (first_sample py y) 16
 
 -- the byte of so many of 256 samples, to the nearest
-abbrev pub byte_of : ℕ → ℕ
-byte_of count = (count * 255 + 128) / 256
+abbrev pub coverage_byte : ℕ → ℕ
+coverage_byte count = (count * 255 + 128) / 256
 
 -- a box of pixels with the corner (x, y), w pixels wide and h high
 pub record PixelBox : Type 0 where
@@ -31,7 +31,7 @@ pub record PixelBox : Type 0 where
   pub w : ℕ
   pub h : ℕ
 
-abbrev pub box_of : PlainMask → PixelBox
+abbrev pub box_of : MaskValue → PixelBox
 box_of m = record { x = m.x; y = m.y; w = m.w; h = m.h }
 
 -- Pixel (i, j) lies in the box.
@@ -47,19 +47,19 @@ pub record IsLeastBox (P : ℤ → ℤ → Type 0) (b : PixelBox) : Type 0 where
   pub least : (other : PixelBox) → ((i j : ℤ) → P i j → InBox other i j) → (i j : ℤ) → InBox b i j → InBox other i j
 
 -- The mask of a region under a phase: the coverage of each pixel, in the least box that has all pixels with a sample.
-pub record IsCover (region : PlainRegion) (px py : ℕ) (m : PlainMask) : Type 0 where
-  pub value : (x y : ℤ) → value_at m x y ≡ byte_of (samples_of region px py x y)
+pub record IsCover (region : RegionValue) (px py : ℕ) (m : MaskValue) : Type 0 where
+  pub value : (x y : ℤ) → value_at m x y ≡ coverage_byte (samples_of region px py x y)
   pub box : IsLeastBox (λ x y. 0 < samples_of region px py x y) (box_of m)
 
 -- the value at pixel (x, y) of a mask that is moved right by dx and down by dy
-abbrev pub moved_value : PlainMask × ℤ × ℤ → ℤ → ℤ → ℕ
+abbrev pub moved_value : MaskValue × ℤ × ℤ → ℤ → ℤ → ℕ
 moved_value p x y = value_at p.0 (x -ℤ p.1) (y -ℤ p.2)
 
 -- Pixel (x, y) lies in the moved mask's box.
-abbrev pub IsMovedPixel : PlainMask × ℤ × ℤ → ℤ → ℤ → Type 0
+abbrev pub IsMovedPixel : MaskValue × ℤ × ℤ → ℤ → ℤ → Type 0
 IsMovedPixel p x y = InBox (box_of p.0) (x -ℤ p.1) (y -ℤ p.2)
 
 -- The sum of moved masks, at most 255 at each pixel, in the least box that has all their boxes.
-pub record IsSum (parts : List (PlainMask × ℤ × ℤ)) (m : PlainMask) : Type 0 where
+pub record IsSum (parts : List (MaskValue × ℤ × ℤ)) (m : MaskValue) : Type 0 where
   pub value : (x y : ℤ) → value_at m x y ≡ min 255 (sum_by (λ p. moved_value p x y) parts)
   pub box : IsLeastBox (λ x y. Any (λ p. IsMovedPixel p x y) parts) (box_of m)

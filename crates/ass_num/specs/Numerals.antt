@@ -71,7 +71,7 @@ pub record IsMilli (bytes : List ℕ) (milli : ℤ) : Type 0 where
   pub value : milli ≡ held (neg_ℤ (pos 1000000000)) (pos 1000000000) (signed sign thousandths)
 
 -- Blanks, a sign or none, digits and blanks: a whole number of 31 bits under its sign.
-pub record IsWhole (bytes : List ℕ) (whole : ℤ) : Type 0 where
+pub record IsWholeNumber (bytes : List ℕ) (whole : ℤ) : Type 0 where
   pub before : List ℕ
   pub sign : List ℕ
   pub digits : List ℕ

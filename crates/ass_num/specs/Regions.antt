@@ -4,7 +4,7 @@ use Rattle.std.specs.Ordering.{int_eq}
 use Rattle.ass_num.specs.declared.region.Run.{Run}
 
 -- A region as contracts see it: the rows from `top` down, each a list of runs.
-pub record PlainRegion : Type 0 where
+pub record RegionValue : Type 0 where
   pub top : ℤ
   pub rows : List (List Run)
 

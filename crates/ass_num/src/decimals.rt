@@ -2,7 +2,7 @@
 
 ghost use Rattle.std.specs.Prelude.{ℤ, ◌≤◌, IfSome, IfNone};
 ghost use Rattle.ass_num.specs.Fronts.{IsLongestFront, HasNoFront};
-ghost use Rattle.ass_num.specs.Numerals.{IsHeldDecimal, IsMilli, IsWhole};
+ghost use Rattle.ass_num.specs.Numerals.{IsHeldDecimal, IsMilli, IsWholeNumber};
 
 use crate::Milli;
 use crate::digits::{blanks, decimal_digits, fraction_digits, sign};
@@ -48,8 +48,8 @@ pub fn read_milli(text: &[u8]) -> Option<(Milli, usize)>
 
 /// A whole number within 2,147,483,647 on both sides that is all of a text but blanks.
 pub fn read_whole(text: &[u8]) -> Option<i32>
-    ensures some { IfSome result (IsWhole text.now) }
-    ensures none { IfNone result ((whole : ℤ) → IsWhole text.now whole → ⊥) }
+    ensures some { IfSome result (IsWholeNumber text.now) }
+    ensures none { IfNone result ((whole : ℤ) → IsWholeNumber text.now whole → ⊥) }
 {
     let before = blanks(text);
     let (minus, len) = sign(&text[before..]);

@@ -1,7 +1,7 @@
 //! Masks of coverage.
 
 ghost use Rattle.std.specs.Prelude.{◌≡◌, ℕ, List, [], pos, true, length};
-ghost use Rattle.ass_num.specs.Masks.{PlainMask, is_mask, value_at};
+ghost use Rattle.ass_num.specs.Masks.{MaskValue, is_mask, value_at};
 
 use std::alloc::Global;
 use std::marker::Model;
@@ -19,9 +19,9 @@ pub struct Mask {
 
 impl Model for Mask {
     ghost use Rattle.std.specs.Prelude.{◌≡◌, true};
-    ghost use Rattle.ass_num.specs.Masks.{PlainMask, is_mask};
+    ghost use Rattle.ass_num.specs.Masks.{MaskValue, is_mask};
 
-    ghost Value = { PlainMask };
+    ghost Value = { MaskValue };
 
     ghost view = { λ m. record { x = m.x; y = m.y; w = m.w; h = m.h; bytes = m.bytes.items } };
 

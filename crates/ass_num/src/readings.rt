@@ -2,13 +2,13 @@
 
 ghost use Rattle.std.specs.Prelude.{◌≡◌, ℕ, List};
 ghost use Rattle.ass_num.specs.Fronts.{IsLongestFront, SpellsOne};
-ghost use Rattle.ass_num.specs.Numerals.{IsMilli, IsWhole, IsColour, IsAlpha, IsStyleColour, IsTime};
+ghost use Rattle.ass_num.specs.Numerals.{IsMilli, IsWholeNumber, IsColour, IsAlpha, IsStyleColour, IsTime};
 
 /// No bytes spell two numbers, colours or times, so what a reader gives is the only value that its
 /// contract allows.
 pub fn one_reading()
     ensures milli { SpellsOne IsMilli }
-    ensures whole { SpellsOne IsWhole }
+    ensures whole { SpellsOne IsWholeNumber }
     ensures colour { SpellsOne IsColour }
     ensures alpha { SpellsOne IsAlpha }
     ensures style_colour { SpellsOne IsStyleColour }

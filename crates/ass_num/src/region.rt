@@ -1,7 +1,7 @@
 //! Regions of samples.
 
 ghost use Rattle.std.specs.Prelude.{◌≡◌, [], pos, true, int_lt, ◌&&◌};
-ghost use Rattle.ass_num.specs.Regions.{PlainRegion, ascend, all_ascend, has_run, is_canonical};
+ghost use Rattle.ass_num.specs.Regions.{RegionValue, ascend, all_ascend, has_run, is_canonical};
 
 use crate::flat_lists::FlatLists;
 use std::alloc::Global;
@@ -24,9 +24,9 @@ pub struct Region {
 
 impl Model for Region {
     ghost use Rattle.std.specs.Prelude.{◌≡◌, true};
-    ghost use Rattle.ass_num.specs.Regions.{PlainRegion, is_canonical};
+    ghost use Rattle.ass_num.specs.Regions.{RegionValue, is_canonical};
 
-    ghost Value = { PlainRegion };
+    ghost Value = { RegionValue };
 
     ghost view = { λ r. record { top = r.top; rows = r.rows } };
 

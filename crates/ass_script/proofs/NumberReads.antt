@@ -9,7 +9,7 @@ use Rattle.std.proofs.lemmas.Bool.Decides.{nat_tests}
 use Rattle.std.proofs.lemmas.Int.{ints}
 use Rattle.ass_script.specs.Ranges.{IsMargin}
 use Rattle.ass_num.specs.Fronts.{IsLongestFront, BeginsWith, HasNoFront, SpellsOne}
-use Rattle.ass_num.specs.Numerals.{is_blank, is_decimal, is_hexadecimal, is_mark, sign_len, number_of, signed, is_hex_start, IsWhole, IsHeldDecimal, IsMilli, IsStyleColour}
+use Rattle.ass_num.specs.Numerals.{is_blank, is_decimal, is_hexadecimal, is_mark, sign_len, number_of, signed, is_hex_start, IsWholeNumber, IsHeldDecimal, IsMilli, IsStyleColour}
 use Rattle.ass_num.proofs.Wholes.{whole_none, whole_some}
 use Rattle.ass_num.proofs.DecimalFronts.{point_front, point_none, plain_front, plain_none}
 use Rattle.ass_num.proofs.SignFronts.{milli_front, milli_none}
@@ -34,13 +34,13 @@ tells P (Some v) some none = some
 
 -- ---- whole numbers
 
-whole_told : (t : List ℕ) (b s d e : ℕ) → b ≡ prefix_len is_blank t → s ≡ sign_len (drop b t) → d ≡ prefix_len is_decimal (drop (b + s) t) → e ≡ prefix_len is_blank (drop (b + s + d) t) → Tells (IsWhole t) (whole_in t b s d e)
+whole_told : (t : List ℕ) (b s d e : ℕ) → b ≡ prefix_len is_blank t → s ≡ sign_len (drop b t) → d ≡ prefix_len is_decimal (drop (b + s) t) → e ≡ prefix_len is_blank (drop (b + s + d) t) → Tells (IsWholeNumber t) (whole_in t b s d e)
 whole_told t b s d e blanks sign digits after = cases _ _ _ refl refl refl
   where
     n : ℕ
     n = number_of 10 (take d (drop (b + s) t))
 
-    cases : (x y z : Bool) → eqb d 0 ≡ x → ltb 2147483647 n ≡ y → ltb (b + s + d + e) (length t) ≡ z → Tells (IsWhole t) (cond (x || (y || z)) None (Some (signed (take s (drop b t)) n)))
+    cases : (x y z : Bool) → eqb d 0 ≡ x → ltb 2147483647 n ≡ y → ltb (b + s + d + e) (length t) ≡ z → Tells (IsWholeNumber t) (cond (x || (y || z)) None (Some (signed (take s (drop b t)) n)))
     cases true y z ex ey ez = whole_none t b s d e (min n 4294967296) blanks sign digits refl after (inl (grind (arith, nat_tests)))
     cases false true z ex ey ez = whole_none t b s d e (min n 4294967296) blanks sign digits refl after (inr (inl (grind (arith, nat_tests))))
     cases false false true ex ey ez = whole_none t b s d e (min n 4294967296) blanks sign digits refl after (inr (inr (grind (arith, nat_tests))))
@@ -49,12 +49,12 @@ whole_told t b s d e blanks sign digits after = cases _ _ _ refl refl refl
         let held : min n 4294967296 ≡ n = omega arith in
         whole_some t b s d e (min n 4294967296) blanks sign digits refl after (grind (arith, nat_tests)) (omega arith) (grind (arith, nat_tests)) _ (ap (signed (take s (drop b t))) (sym held))
 
-whole_is : (t : List ℕ) → Tells (IsWhole t) (whole_of t)
+whole_is : (t : List ℕ) → Tells (IsWholeNumber t) (whole_of t)
 unfolding whole_of
 whole_is t = whole_told t _ _ _ _ refl refl refl refl
 
-pub whole_read : (t : List ℕ) (r : Option ℤ) → IfSome r (IsWhole t) → IfNone r ((z : ℤ) → IsWhole t z → ⊥) → r ≡ whole_of t
-whole_read t r some none = same_answer (IsWhole t) (one_whole t) r (whole_of t) (tells (IsWhole t) r some none) (whole_is t)
+pub whole_read : (t : List ℕ) (r : Option ℤ) → IfSome r (IsWholeNumber t) → IfNone r ((z : ℤ) → IsWholeNumber t z → ⊥) → r ≡ whole_of t
+whole_read t r some none = same_answer (IsWholeNumber t) (one_whole t) r (whole_of t) (tells (IsWholeNumber t) r some none) (whole_is t)
 
 signed_range : (sign : List ℕ) (n : ℕ) → n ≤ 2147483647 → IsMargin (signed sign n)
 signed_range [] n small = omega (arith, ints)
@@ -64,7 +64,7 @@ signed_range (c ∷ cs) n small = under (eqb c 45)
     under true = omega (arith, ints)
     under false = omega (arith, ints)
 
-pub whole_range : (t : List ℕ) (r : Option ℤ) → IfSome r (IsWhole t) → IfSome r IsMargin
+pub whole_range : (t : List ℕ) (r : Option ℤ) → IfSome r (IsWholeNumber t) → IfSome r IsMargin
 whole_range t None some = some
 whole_range t (Some z) m = subst (λ (v : ℤ). IsMargin v) (sym m.value) (signed_range m.sign (number_of 10 m.digits) m.small)
 
@@ -192,8 +192,8 @@ both : {V : Type 0} (P : V → Type 0) → ((v w : V) → P v → P w → v ≡ 
 both P one None none v = ((λ e. absurd (cc)), (λ p. absurd (none v p)))
 both P one (Some w) has v = ((λ e. let same : w ≡ v = cc in subst P same has), (λ p. ap Some (one w v has p)))
 
-pub whole_both : (t : List ℕ) (v : ℤ) → (whole_of t ≡ Some v) ↔ IsWhole t v
-whole_both t v = both (IsWhole t) (one_whole t) (whole_of t) (whole_is t) v
+pub whole_both : (t : List ℕ) (v : ℤ) → (whole_of t ≡ Some v) ↔ IsWholeNumber t v
+whole_both t v = both (IsWholeNumber t) (one_whole t) (whole_of t) (whole_is t) v
 
 pub milli_both : (t : List ℕ) (v : ℤ) → (milli_of t ≡ Some v) ↔ BeginsWith IsMilli t v
 milli_both t v = both (BeginsWith IsMilli t) (one_begins IsMilli one_milli t) (milli_of t) (tells_front IsMilli t (milli_of t) (milli_is t)) v

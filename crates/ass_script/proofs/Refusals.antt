@@ -5,7 +5,7 @@ use Rattle.std.specs.Str.{IsUtf8}
 use Rattle.std.specs.Str.Lossy.{utf8_valid_len}
 use Rattle.std.proofs.lemmas.Str.{utf8_valid_len-IsUtf8}
 use Rattle.ass_script.specs.Lines.{Line}
-use Rattle.ass_script.specs.Scripts.{PlainScript, Answers, has, is_events_heading, is_dialogue, is_style, values_of, styles_behind, limit_at, limit_behind, picked_script, script_of_lines, script_of, lines_of}
+use Rattle.ass_script.specs.Scripts.{ScriptValue, IsScriptAnswer, has, is_events_heading, is_dialogue, is_style, values_of, styles_behind, limit_at, limit_behind, picked_script, script_of_lines, script_of, lines_of}
 use Rattle.ass_script.specs.declared.refusal.ScriptRefusal.{ScriptRefusal}
 use Rattle.ass_script.specs.declared.refusal.ScriptRefusal.TheVariants as refusal
 
@@ -52,7 +52,7 @@ pub script_of_utf8 : (bytes : List ℕ) → IsUtf8 bytes → script_of bytes ≡
 script_of_utf8 bytes utf8 =
     ap (λ b. cond b (script_of_lines (lines_of bytes)) (Err (refusal.NotUtf8 (utf8_valid_len bytes)))) (eq-eqb (utf8_valid_len bytes) (length bytes) (utf8_valid_len-IsUtf8 bytes utf8))
 
-pub never_not_utf8 : (bytes : List ℕ) (result : Result PlainScript ScriptRefusal) (n : ℕ) → IsUtf8 bytes → Answers result (script_of bytes) → result ≡ Err (refusal.NotUtf8 n) → ⊥
+pub never_not_utf8 : (bytes : List ℕ) (result : Result ScriptValue ScriptRefusal) (n : ℕ) → IsUtf8 bytes → IsScriptAnswer result (script_of bytes) → result ≡ Err (refusal.NotUtf8 n) → ⊥
 never_not_utf8 bytes result n utf8 answer e =
-    let said : script_of bytes ≡ Err (refusal.NotUtf8 n) = subst (λ (r : Result PlainScript ScriptRefusal). Answers r (script_of bytes)) e answer in
+    let said : script_of bytes ≡ Err (refusal.NotUtf8 n) = subst (λ (r : Result ScriptValue ScriptRefusal). IsScriptAnswer r (script_of bytes)) e answer in
     lines_are_utf8 (lines_of bytes) n (sym (script_of_utf8 bytes utf8) ∙ said)

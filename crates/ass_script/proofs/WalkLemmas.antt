@@ -8,9 +8,9 @@ use Rattle.ass_script.specs.Fields.{style_fields_of, usual_style_fields, event_f
 use Rattle.ass_script.specs.Styles.{style_of}
 use Rattle.blanks.specs.Blanks.{trimmed}
 use Rattle.ass_script.specs.Words.{is_colon}
-use Rattle.ass_script.specs.Lines.{Line, is_heading, is_comment, section_named, info_key_named, style_key_named, event_key_named, key_named, keyed_line, line_in, section_behind, placed}
-use Rattle.ass_script.specs.Scripts.{has, values_of, last_of, last_value, is_res_x, is_res_y, is_wrap, is_scaled, is_dialogue, is_style_format, style_version, is_events_heading, is_styles_heading, side_of, wrap_of, scaled_of, style_fields_behind, styles_behind, event_formats, limit_at, limit_behind, picked_script, script_of_lines}
-use Rattle.ass_script.specs.Walk.{fields_of, key_step, keyed_step, line_step, walked, no_lines, script_said, made_script}
+use Rattle.ass_script.specs.Lines.{Line, is_heading, is_comment, section_named, info_key_named, style_key_named, event_key_named, key_named, keyed_line, line_in, section_behind, lines_in_sections}
+use Rattle.ass_script.specs.Scripts.{has, values_of, last_of, last_value, is_res_x, is_res_y, is_wrap, is_scaled, is_dialogue, is_style_format, style_version, is_events_heading, is_styles_heading, canvas_side_of, wrap_style_of, scaled_of, style_fields_behind, styles_behind, event_formats, limit_at, limit_behind, picked_script, script_of_lines}
+use Rattle.ass_script.specs.Walk.{fields_of, key_step, keyed_step, line_step, walked, no_script_lines, script_said, made_script}
 use Rattle.ass_script.specs.declared.lines.Version.{Version}
 use Rattle.ass_script.specs.declared.lines.Version.TheVariants.{V4, V4Plus}
 use Rattle.ass_script.specs.declared.lines.Section.{Section}
@@ -34,9 +34,9 @@ headings_in before = record { events = has is_events_heading before; styles = ha
 
 abbrev header_in : List Line → HeaderLines
 header_in before = record {
-  res_x = option_and_then side_of (last_value is_res_x before);
-  res_y = option_and_then side_of (last_value is_res_y before);
-  wrap = option_map_or wrap_of (last_value is_wrap before) 0;
+  res_x = option_and_then canvas_side_of (last_value is_res_x before);
+  res_y = option_and_then canvas_side_of (last_value is_res_y before);
+  wrap = option_map_or wrap_style_of (last_value is_wrap before) 0;
   scaled = option_map_or scaled_of (last_value is_scaled before) false;
 }
 
@@ -96,9 +96,9 @@ module _ (before : List Line) (k : Key) (value : List ℕ) where
 
   same_header : is_res_x k ≡ false → is_res_y k ≡ false → is_wrap k ≡ false → is_scaled k ≡ false → header_in before ≡ header_in after
   same_header a b c d = λ i. record {
-    res_x = option_and_then side_of (last_no before line is_res_x a i);
-    res_y = option_and_then side_of (last_no before line is_res_y b i);
-    wrap = option_map_or wrap_of (last_no before line is_wrap c i) 0;
+    res_x = option_and_then canvas_side_of (last_no before line is_res_x a i);
+    res_y = option_and_then canvas_side_of (last_no before line is_res_y b i);
+    wrap = option_map_or wrap_style_of (last_no before line is_wrap c i) 0;
     scaled = option_map_or scaled_of (last_no before line is_scaled d i) false;
   }
 
@@ -142,9 +142,9 @@ picked_step (key.Heading (section.Styles V4)) value s before = let k = key.Headi
 picked_step key.ResX value s before = let k = key.ResX in
     reading_path s (same_headings before k value refl refl refl)
     (λ i. record {
-      res_x = option_and_then side_of (last_yes before (record { key = k; value = value }) is_res_x refl i);
-      res_y = option_and_then side_of (last_no before (record { key = k; value = value }) is_res_y refl i);
-      wrap = option_map_or wrap_of (last_no before (record { key = k; value = value }) is_wrap refl i) 0;
+      res_x = option_and_then canvas_side_of (last_yes before (record { key = k; value = value }) is_res_x refl i);
+      res_y = option_and_then canvas_side_of (last_no before (record { key = k; value = value }) is_res_y refl i);
+      wrap = option_map_or wrap_style_of (last_no before (record { key = k; value = value }) is_wrap refl i) 0;
       scaled = option_map_or scaled_of (last_no before (record { key = k; value = value }) is_scaled refl i) false;
     })
     (same_fields before k value V4Plus refl) (same_fields before k value V4 refl)
@@ -152,9 +152,9 @@ picked_step key.ResX value s before = let k = key.ResX in
 picked_step key.ResY value s before = let k = key.ResY in
     reading_path s (same_headings before k value refl refl refl)
     (λ i. record {
-      res_x = option_and_then side_of (last_no before (record { key = k; value = value }) is_res_x refl i);
-      res_y = option_and_then side_of (last_yes before (record { key = k; value = value }) is_res_y refl i);
-      wrap = option_map_or wrap_of (last_no before (record { key = k; value = value }) is_wrap refl i) 0;
+      res_x = option_and_then canvas_side_of (last_no before (record { key = k; value = value }) is_res_x refl i);
+      res_y = option_and_then canvas_side_of (last_yes before (record { key = k; value = value }) is_res_y refl i);
+      wrap = option_map_or wrap_style_of (last_no before (record { key = k; value = value }) is_wrap refl i) 0;
       scaled = option_map_or scaled_of (last_no before (record { key = k; value = value }) is_scaled refl i) false;
     })
     (same_fields before k value V4Plus refl) (same_fields before k value V4 refl)
@@ -162,9 +162,9 @@ picked_step key.ResY value s before = let k = key.ResY in
 picked_step key.Wrap value s before = let k = key.Wrap in
     reading_path s (same_headings before k value refl refl refl)
     (λ i. record {
-      res_x = option_and_then side_of (last_no before (record { key = k; value = value }) is_res_x refl i);
-      res_y = option_and_then side_of (last_no before (record { key = k; value = value }) is_res_y refl i);
-      wrap = option_map_or wrap_of (last_yes before (record { key = k; value = value }) is_wrap refl i) 0;
+      res_x = option_and_then canvas_side_of (last_no before (record { key = k; value = value }) is_res_x refl i);
+      res_y = option_and_then canvas_side_of (last_no before (record { key = k; value = value }) is_res_y refl i);
+      wrap = option_map_or wrap_style_of (last_yes before (record { key = k; value = value }) is_wrap refl i) 0;
       scaled = option_map_or scaled_of (last_no before (record { key = k; value = value }) is_scaled refl i) false;
     })
     (same_fields before k value V4Plus refl) (same_fields before k value V4 refl)
@@ -172,9 +172,9 @@ picked_step key.Wrap value s before = let k = key.Wrap in
 picked_step key.Scaled value s before = let k = key.Scaled in
     reading_path s (same_headings before k value refl refl refl)
     (λ i. record {
-      res_x = option_and_then side_of (last_no before (record { key = k; value = value }) is_res_x refl i);
-      res_y = option_and_then side_of (last_no before (record { key = k; value = value }) is_res_y refl i);
-      wrap = option_map_or wrap_of (last_no before (record { key = k; value = value }) is_wrap refl i) 0;
+      res_x = option_and_then canvas_side_of (last_no before (record { key = k; value = value }) is_res_x refl i);
+      res_y = option_and_then canvas_side_of (last_no before (record { key = k; value = value }) is_res_y refl i);
+      wrap = option_map_or wrap_style_of (last_no before (record { key = k; value = value }) is_wrap refl i) 0;
       scaled = option_map_or scaled_of (last_yes before (record { key = k; value = value }) is_scaled refl i) false;
     })
     (same_fields before k value V4Plus refl) (same_fields before k value V4 refl)
@@ -324,15 +324,15 @@ made_is s before r holds = cases (limit_behind [] before) holds
     cases None is = ap made_script is
     cases (Some why) is = λ i. cond (is.1 i) (option_map_or Err (is.2 i) (Ok (script_said r))) (Err refusal.NoEvents)
 
-walked_is : (texts : List (List ℕ)) (s : Section) (before : List Line) (r : Reading) → Holds s before r → made_script (walked texts r) ≡ script_of_lines (before ++ placed s texts)
+walked_is : (texts : List (List ℕ)) (s : Section) (before : List Line) (r : Reading) → Holds s before r → made_script (walked texts r) ≡ script_of_lines (before ++ lines_in_sections s texts)
 unfolding walked
 walked_is [] s before r holds = made_is s before r holds ∙ ap script_of_lines (sym (append-nil before))
 walked_is (text ∷ texts) s before r holds =
     walked_is texts (section_behind s text) (before ++ line_in s text ∷ []) (line_step text r) (line_holds s before r text holds)
-    ∙ ap script_of_lines (append_assoc before (line_in s text ∷ []) (placed (section_behind s text) texts))
+    ∙ ap script_of_lines (append_assoc before (line_in s text ∷ []) (lines_in_sections (section_behind s text) texts))
 
-pub read_is : (texts : List (List ℕ)) → made_script (walked texts no_lines) ≡ script_of_lines (placed section.Other texts)
-read_is texts = walked_is texts section.Other [] no_lines refl
+pub read_is : (texts : List (List ℕ)) → made_script (walked texts no_script_lines) ≡ script_of_lines (lines_in_sections section.Other texts)
+read_is texts = walked_is texts section.Other [] no_script_lines refl
 
 pub walk_on : (text : List ℕ) (rest : List (List ℕ)) (r next : Reading) (wanted : Reading) → next ≡ line_step text r → walked (text ∷ rest) r ≡ wanted → walked rest next ≡ wanted
 unfolding walked

@@ -79,6 +79,6 @@ abbrev pub section_behind : Section → List ℕ → Section
 section_behind s text = if is_heading text then section_named (trimmed text) else s
 
 -- the lines of a text behind a section's lines, each in the section of the last heading before it
-abbrev pub placed : Section → List (List ℕ) → List Line
-placed s [] = []
-placed s (text ∷ texts) = line_in s text ∷ placed (section_behind s text) texts
+abbrev pub lines_in_sections : Section → List (List ℕ) → List Line
+lines_in_sections s [] = []
+lines_in_sections s (text ∷ texts) = line_in s text ∷ lines_in_sections (section_behind s text) texts

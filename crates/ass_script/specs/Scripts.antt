@@ -10,7 +10,7 @@ use Rattle.ass_script.specs.Words.{same_word, past_mark, bare_name}
 use Rattle.ass_script.specs.Numbers.{whole_of}
 use Rattle.ass_script.specs.Fields.{style_fields_of, usual_style_fields, event_fields_of, usual_event_fields, ends_in_text}
 use Rattle.ass_script.specs.Styles.{style_of}
-use Rattle.ass_script.specs.Lines.{Line, placed}
+use Rattle.ass_script.specs.Lines.{Line, lines_in_sections}
 use Rattle.ass_script.specs.declared.lines.Version.{Version}
 use Rattle.ass_script.specs.declared.lines.Version.TheVariants.{V4, V4Plus}
 use Rattle.ass_script.specs.declared.lines.Section.TheVariants as section
@@ -24,7 +24,7 @@ use Rattle.ass_script.specs.declared.refusal.ScriptRefusal.{ScriptRefusal}
 use Rattle.ass_script.specs.declared.refusal.ScriptRefusal.TheVariants as refusal
 
 -- A script: header, styles in the order of the text, the fields of event lines, and what stands behind `Dialogue:`.
-pub record PlainScript : Type 0 where
+pub record ScriptValue : Type 0 where
   pub header : Header
   pub styles : List Style
   pub format : List EventField
@@ -99,21 +99,21 @@ last_value kind all = last_of (values_of kind all)
 
 -- ---- the header
 
-abbrev pub side_in : ℤ → Option ℕ
-side_in (pos n) = if nat_le 1 n && nat_le n 16384 then Some n else None
-side_in (negsuc n) = None
+abbrev pub canvas_side_in : ℤ → Option ℕ
+canvas_side_in (pos n) = if nat_le 1 n && nat_le n 16384 then Some n else None
+canvas_side_in (negsuc n) = None
 
 -- a whole number from 1 to 16,384
-unfoldable pub side_of : List ℕ → Option ℕ
-side_of value = option_and_then side_in (whole_of value)
+unfoldable pub canvas_side_of : List ℕ → Option ℕ
+canvas_side_of value = option_and_then canvas_side_in (whole_of value)
 
 abbrev pub wrap_in : ℤ → ℕ
 wrap_in (pos n) = if nat_le n 3 then n else 0
 wrap_in (negsuc n) = 0
 
 -- a whole number from 0 to 3, or else 0
-unfoldable pub wrap_of : List ℕ → ℕ
-wrap_of value = option_map_or wrap_in (whole_of value) 0
+unfoldable pub wrap_style_of : List ℕ → ℕ
+wrap_style_of value = option_map_or wrap_in (whole_of value) 0
 
 -- `yes` without regard to ASCII case, or a whole number above 0
 unfoldable pub scaled_of : List ℕ → Bool
@@ -125,19 +125,19 @@ width_of (Some x) y = x
 width_of None (Some y) = if y == 1024 then 1280 else min (y * 4 / 3) 16384
 width_of None None = 384
 
-abbrev pub height_of : Option ℕ → Option ℕ → ℕ
-height_of x (Some y) = y
-height_of (Some x) None = if x == 1280 then 1024 else max (x * 3 / 4) 1
-height_of None None = 288
+abbrev pub canvas_height : Option ℕ → Option ℕ → ℕ
+canvas_height x (Some y) = y
+canvas_height (Some x) None = if x == 1280 then 1024 else max (x * 3 / 4) 1
+canvas_height None None = 288
 
 abbrev pub header_of : List Line → Header
 header_of all =
-    let x = option_and_then side_of (last_value is_res_x all) in
-    let y = option_and_then side_of (last_value is_res_y all) in
+    let x = option_and_then canvas_side_of (last_value is_res_x all) in
+    let y = option_and_then canvas_side_of (last_value is_res_y all) in
     record {
       res_x = width_of x y;
-      res_y = height_of x y;
-      wrap = option_map_or wrap_of (last_value is_wrap all) 0;
+      res_y = canvas_height x y;
+      wrap = option_map_or wrap_style_of (last_value is_wrap all) 0;
       scaled = option_map_or scaled_of (last_value is_scaled all) false;
     }
 
@@ -184,29 +184,29 @@ abbrev pub limit_behind : List Line → List Line → Option ScriptRefusal
 limit_behind before [] = None
 limit_behind before (line ∷ all) = option_or (limit_at before line) (limit_behind (before ++ line ∷ []) all)
 
-abbrev pub picked_script : List Line → PlainScript
+abbrev pub picked_script : List Line → ScriptValue
 picked_script all = record { header = header_of all; styles = styles_behind [] all; format = event_fields_in all; lines = values_of is_dialogue all }
 
 -- the script of some lines: there must be events, and no line too many
-abbrev pub script_of_lines : List Line → Result PlainScript ScriptRefusal
+abbrev pub script_of_lines : List Line → Result ScriptValue ScriptRefusal
 script_of_lines all = if has is_events_heading all then option_map_or Err (limit_behind [] all) (Ok (picked_script all)) else Err refusal.NoEvents
 
 -- the lines of a text, behind a byte order mark
 abbrev pub lines_of : List ℕ → List Line
-lines_of text = placed section.Other (lines (past_mark text))
+lines_of text = lines_in_sections section.Other (lines (past_mark text))
 
 -- the script that bytes spell, or why they spell none
-abbrev pub script_of : List ℕ → Result PlainScript ScriptRefusal
+abbrev pub script_of : List ℕ → Result ScriptValue ScriptRefusal
 script_of bytes = if utf8_valid_len bytes == length bytes then script_of_lines (lines_of bytes) else Err (refusal.NotUtf8 (utf8_valid_len bytes))
 
 -- The answer is this one, unless memory ran out.
-abbrev pub Answers : Result PlainScript ScriptRefusal → Result PlainScript ScriptRefusal → Type 0
-Answers (Err refusal.OutOfMemory) wanted = Unit {0}
-Answers (Ok script) wanted = wanted ≡ Ok script
-Answers (Err (refusal.NotUtf8 n)) wanted = wanted ≡ Err (refusal.NotUtf8 n)
-Answers (Err refusal.NoEvents) wanted = wanted ≡ Err refusal.NoEvents
-Answers (Err (refusal.TooManyLines n)) wanted = wanted ≡ Err (refusal.TooManyLines n)
-Answers (Err (refusal.TooManyStyles n)) wanted = wanted ≡ Err (refusal.TooManyStyles n)
+abbrev pub IsScriptAnswer : Result ScriptValue ScriptRefusal → Result ScriptValue ScriptRefusal → Type 0
+IsScriptAnswer (Err refusal.OutOfMemory) wanted = Unit {0}
+IsScriptAnswer (Ok script) wanted = wanted ≡ Ok script
+IsScriptAnswer (Err (refusal.NotUtf8 n)) wanted = wanted ≡ Err (refusal.NotUtf8 n)
+IsScriptAnswer (Err refusal.NoEvents) wanted = wanted ≡ Err refusal.NoEvents
+IsScriptAnswer (Err (refusal.TooManyLines n)) wanted = wanted ≡ Err (refusal.TooManyLines n)
+IsScriptAnswer (Err (refusal.TooManyStyles n)) wanted = wanted ≡ Err (refusal.TooManyStyles n)
 
 -- ---- styles by name
 

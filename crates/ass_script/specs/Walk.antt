@@ -4,7 +4,7 @@ use Rattle.std.specs.Option.{option_map_or}
 use Rattle.ass_script.specs.Fields.{style_fields_of, usual_style_fields, event_fields_of, usual_event_fields, ends_in_text}
 use Rattle.ass_script.specs.Styles.{style_of}
 use Rattle.ass_script.specs.Lines.{line_in}
-use Rattle.ass_script.specs.Scripts.{PlainScript, side_of, wrap_of, scaled_of, width_of, height_of}
+use Rattle.ass_script.specs.Scripts.{ScriptValue, canvas_side_of, wrap_style_of, scaled_of, width_of, canvas_height}
 use Rattle.ass_script.specs.declared.lines.Version.{Version}
 use Rattle.ass_script.specs.declared.lines.Version.TheVariants.{V4, V4Plus}
 use Rattle.ass_script.specs.declared.lines.Section.{Section}
@@ -24,14 +24,14 @@ abbrev pub no_header_lines : HeaderLines
 no_header_lines = record { res_x = None; res_y = None; wrap = 0; scaled = false }
 
 abbrev pub made_header : HeaderLines → Header
-made_header h = record { res_x = width_of h.res_x h.res_y; res_y = height_of h.res_x h.res_y; wrap = h.wrap; scaled = h.scaled }
+made_header h = record { res_x = width_of h.res_x h.res_y; res_y = canvas_height h.res_x h.res_y; wrap = h.wrap; scaled = h.scaled }
 
-abbrev pub header_line : Key → List ℕ → HeaderLines → HeaderLines
-header_line key.ResX value h = record h { res_x = side_of value }
-header_line key.ResY value h = record h { res_y = side_of value }
-header_line key.Wrap value h = record h { wrap = wrap_of value }
-header_line key.Scaled value h = record h { scaled = scaled_of value }
-header_line _ value h = h
+abbrev pub header_lines_after : Key → List ℕ → HeaderLines → HeaderLines
+header_lines_after key.ResX value h = record h { res_x = canvas_side_of value }
+header_lines_after key.ResY value h = record h { res_y = canvas_side_of value }
+header_lines_after key.Wrap value h = record h { wrap = wrap_style_of value }
+header_lines_after key.Scaled value h = record h { scaled = scaled_of value }
+header_lines_after _ value h = h
 
 -- ---- headings
 
@@ -50,8 +50,8 @@ version_said h = if h.old_styles && not h.styles then V4 else V4Plus
 
 -- ---- lines
 
-abbrev pub no_lines : Reading
-no_lines = record { section = section.Other; headings = no_headings; header = no_header_lines; fields = None; old_fields = None; styles = []; format = None; lines = []; refusal = None }
+abbrev pub no_script_lines : Reading
+no_script_lines = record { section = section.Other; headings = no_headings; header = no_header_lines; fields = None; old_fields = None; styles = []; format = None; lines = []; refusal = None }
 
 abbrev pub fields_of : Version → Reading → List StyleField
 fields_of V4 r = option_map_or (λ fields. fields) r.old_fields (usual_style_fields V4)
@@ -82,7 +82,7 @@ key_step key.EventFormat value r = event_format_step value r
 key_step key.Dialogue value r = dialogue_step value r
 key_step (key.Heading _) value r = r
 key_step key.Other value r = r
-key_step k value r = record r { header = header_line k value r.header }
+key_step k value r = record r { header = header_lines_after k value r.header }
 
 abbrev pub keyed_step : Key → List ℕ → Reading → Reading
 keyed_step (key.Heading s) value r = record r { section = s; headings = with_heading s r.headings }
@@ -102,8 +102,8 @@ walked (text ∷ texts) r = walked texts (line_step text r)
 abbrev pub fields_said : Reading → List EventField
 fields_said r = option_map_or (λ fields. fields) r.format (usual_event_fields (version_said r.headings))
 
-abbrev pub script_said : Reading → PlainScript
+abbrev pub script_said : Reading → ScriptValue
 script_said r = record { header = made_header r.header; styles = r.styles; format = fields_said r; lines = r.lines }
 
-abbrev pub made_script : Reading → Result PlainScript ScriptRefusal
+abbrev pub made_script : Reading → Result ScriptValue ScriptRefusal
 made_script r = if r.headings.events then option_map_or Err r.refusal (Ok (script_said r)) else Err refusal.NoEvents

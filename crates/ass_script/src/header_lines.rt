@@ -2,9 +2,9 @@
 
 ghost use Rattle.std.specs.Prelude.{◌≡◌, ◌≤◌, IfSome, Some};
 ghost use Rattle.ass_script.specs.Numbers.{whole_of};
-ghost use Rattle.ass_script.specs.Ranges.{IsHeader, IsMargin, IsSide, IsHeaderLines};
-ghost use Rattle.ass_script.specs.Scripts.{side_of, wrap_of, scaled_of, width_of, height_of};
-ghost use Rattle.ass_script.specs.Walk.{no_header_lines, header_line, made_header};
+ghost use Rattle.ass_script.specs.Ranges.{IsScriptHeader, IsMargin, IsCanvasSide, IsHeaderLines};
+ghost use Rattle.ass_script.specs.Scripts.{canvas_side_of, wrap_style_of, scaled_of, width_of, canvas_height};
+ghost use Rattle.ass_script.specs.Walk.{no_header_lines, header_lines_after, made_header};
 
 use crate::lines::Key;
 use crate::script::Header;
@@ -21,10 +21,10 @@ pub fn whole(text: &str) -> Option<i32>
 }
 
 /// A whole number from 1 to 16,384.
-#[tactic(auto, unfolding(crate::specs::Scripts::side_of))]
+#[tactic(auto, unfolding(crate::specs::Scripts::canvas_side_of))]
 fn side(value: &str) -> Option<u32>
-    ensures value { result ≡ side_of value.now }
-    ensures range { IfSome result IsSide }
+    ensures value { result ≡ canvas_side_of value.now }
+    ensures range { IfSome result IsCanvasSide }
 {
     let number = whole(value)?;
     if 1 <= number && number <= 16_384 {
@@ -34,9 +34,9 @@ fn side(value: &str) -> Option<u32>
 }
 
 /// A wrap style, or else 0.
-#[tactic(auto, unfolding(crate::specs::Scripts::wrap_of))]
+#[tactic(auto, unfolding(crate::specs::Scripts::wrap_style_of))]
 fn wrap(value: &str) -> u8
-    ensures value { result ≡ wrap_of value.now }
+    ensures value { result ≡ wrap_style_of value.now }
     ensures range { result ≤ 3 }
 {
     match whole(value) {
@@ -85,7 +85,7 @@ impl HeaderLines {
     /// A line; it replaces what an earlier one of its key said.
     pub fn line(&mut self, key: Key, value: &str)
         requires { IsHeaderLines self.old }
-        ensures read { self.new ≡ header_line key value.now self.old }
+        ensures read { self.new ≡ header_lines_after key value.now self.old }
         ensures range { IsHeaderLines self.new }
     {
         match key {
@@ -101,7 +101,7 @@ impl HeaderLines {
     fn width(&self) -> u32
         requires { IsHeaderLines self.now }
         ensures value { result ≡ width_of self.now.res_x self.now.res_y }
-        ensures range { IsSide result }
+        ensures range { IsCanvasSide result }
     {
         match (self.res_x, self.res_y) {
             (Some(width), _) => width,
@@ -114,8 +114,8 @@ impl HeaderLines {
     /// The height, also where it is missing.
     fn height(&self) -> u32
         requires { IsHeaderLines self.now }
-        ensures value { result ≡ height_of self.now.res_x self.now.res_y }
-        ensures range { IsSide result }
+        ensures value { result ≡ canvas_height self.now.res_x self.now.res_y }
+        ensures range { IsCanvasSide result }
     {
         match (self.res_x, self.res_y) {
             (_, Some(height)) => height,
@@ -129,7 +129,7 @@ impl HeaderLines {
     pub fn made(&self) -> Header
         requires { IsHeaderLines self.now }
         ensures made { result ≡ made_header self.now }
-        ensures range { IsHeader result }
+        ensures range { IsScriptHeader result }
     {
         Header {
             res_x: self.width(),

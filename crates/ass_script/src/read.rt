@@ -3,7 +3,7 @@
 ghost use Rattle.std.specs.Prelude.{◌≡◌, ℕ, IfOk, Err};
 ghost use Rattle.std.specs.Str.{IsValidUpTo};
 ghost use Rattle.ass_script.specs.Ranges.{IsScript};
-ghost use Rattle.ass_script.specs.Scripts.{Answers, script_of};
+ghost use Rattle.ass_script.specs.Scripts.{IsScriptAnswer, script_of};
 ghost use Rattle.ass_script.specs.declared.refusal.ScriptRefusal.TheVariants.{NotUtf8};
 
 use crate::reading::Reading;
@@ -17,7 +17,7 @@ use std::alloc::Global;
 /// no line is the heading `[Events]`; `TooManyLines(1,000,000)` and `TooManyStyles(10,000)` come at the line after that
 /// many, whichever line comes first.
 pub fn read_script(alloc: Global, bytes: &[u8]) -> Result<Script, ScriptRefusal>
-    ensures answer { Answers result (script_of bytes.now) }
+    ensures answer { IsScriptAnswer result (script_of bytes.now) }
     ensures front { (n : ℕ) → result ≡ Err (NotUtf8 n) → IsValidUpTo bytes.now n }
     ensures script { IfOk result IsScript }
 {
@@ -29,7 +29,7 @@ pub fn read_script(alloc: Global, bytes: &[u8]) -> Result<Script, ScriptRefusal>
 }
 
 fn read_text(alloc: Global, text: &str) -> Result<Script, ScriptRefusal>
-    ensures answer { Answers result (script_of text.now) }
+    ensures answer { IsScriptAnswer result (script_of text.now) }
     ensures script { IfOk result IsScript }
 {
     let mut reading = Reading::new(alloc);

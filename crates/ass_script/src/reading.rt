@@ -2,9 +2,9 @@
 
 ghost use Rattle.std.specs.Prelude.{◌≡◌, ◌≤◌, length, OnOk, IfOk};
 ghost use Rattle.ass_script.specs.Fields.{usual_style_fields};
-ghost use Rattle.ass_script.specs.Ranges.{IsReading, IsScript};
-ghost use Rattle.ass_script.specs.Scripts.{Answers};
-ghost use Rattle.ass_script.specs.Walk.{no_lines, no_headings, with_heading, fields_of, style_step, format_step, event_format_step, dialogue_step, key_step, line_step, version_said, fields_said, made_script};
+ghost use Rattle.ass_script.specs.Ranges.{IsScriptReading, IsScript};
+ghost use Rattle.ass_script.specs.Scripts.{IsScriptAnswer};
+ghost use Rattle.ass_script.specs.Walk.{no_script_lines, no_headings, with_heading, fields_of, style_step, format_step, event_format_step, dialogue_step, key_step, line_step, version_said, fields_said, made_script};
 
 use crate::event_format::{ends_in_text, event_fields, format_or_usual};
 use crate::header_lines::HeaderLines;
@@ -82,8 +82,8 @@ pub struct Reading {
 impl Reading {
     /// Before the first line.
     pub fn new(alloc: Global) -> Reading
-        ensures new { result ≡ no_lines }
-        ensures sound { IsReading result }
+        ensures new { result ≡ no_script_lines }
+        ensures sound { IsScriptReading result }
     {
         Reading {
             section: Section::Other,
@@ -114,9 +114,9 @@ impl Reading {
 
     /// A Format line of styles.
     fn style_format(&mut self, alloc: Global, version: Version, value: &str) -> Mem<()>
-        requires { IsReading self.old }
+        requires { IsScriptReading self.old }
         ensures read { OnOk result (self.new ≡ format_step version value.now self.old) }
-        ensures sound { OnOk result (IsReading self.new) }
+        ensures sound { OnOk result (IsScriptReading self.new) }
     {
         let fields = style_fields(alloc, version, value)?;
         match version {
@@ -128,9 +128,9 @@ impl Reading {
 
     /// A Style line.
     fn style(&mut self, alloc: Global, version: Version, value: &str) -> Mem<()>
-        requires { IsReading self.old }
+        requires { IsScriptReading self.old }
         ensures read { OnOk result (self.new ≡ style_step version value.now self.old) }
-        ensures sound { OnOk result (IsReading self.new) }
+        ensures sound { OnOk result (IsScriptReading self.new) }
     {
         if MOST_STYLES <= self.styles.len() {
             self.refusal = Some(ScriptRefusal::TooManyStyles(MOST_STYLES));
@@ -143,9 +143,9 @@ impl Reading {
 
     /// A Format line of events.
     fn event_format(&mut self, alloc: Global, value: &str) -> Mem<()>
-        requires { IsReading self.old }
+        requires { IsScriptReading self.old }
         ensures read { OnOk result (self.new ≡ event_format_step value.now self.old) }
-        ensures sound { OnOk result (IsReading self.new) }
+        ensures sound { OnOk result (IsScriptReading self.new) }
     {
         let fields = event_fields(alloc, value)?;
         if ends_in_text(fields.as_slice()) {
@@ -156,9 +156,9 @@ impl Reading {
 
     /// A Dialogue line.
     fn dialogue(&mut self, value: &str) -> Mem<()>
-        requires { IsReading self.old }
+        requires { IsScriptReading self.old }
         ensures read { OnOk result (self.new ≡ dialogue_step value.now self.old) }
-        ensures sound { OnOk result (IsReading self.new) }
+        ensures sound { OnOk result (IsScriptReading self.new) }
     {
         if MOST_LINES <= self.lines.len() {
             self.refusal = Some(ScriptRefusal::TooManyLines(MOST_LINES));
@@ -170,9 +170,9 @@ impl Reading {
 
     /// A line that is no heading, where no line before it was one too many.
     fn keyed_line(&mut self, alloc: Global, key: Key, value: &str) -> Mem<()>
-        requires { IsReading self.old }
+        requires { IsScriptReading self.old }
         ensures read { OnOk result (self.new ≡ key_step key value.now self.old) }
-        ensures sound { OnOk result (IsReading self.new) }
+        ensures sound { OnOk result (IsScriptReading self.new) }
     {
         match key {
             Key::StyleFormat(version) => self.style_format(alloc, version, value),
@@ -189,9 +189,9 @@ impl Reading {
 
     /// Reads the next line.
     pub fn line(&mut self, alloc: Global, text: &str) -> Mem<()>
-        requires { IsReading self.old }
+        requires { IsScriptReading self.old }
         ensures read { OnOk result (self.new ≡ line_step text.now self.old) }
-        ensures sound { OnOk result (IsReading self.new) }
+        ensures sound { OnOk result (IsScriptReading self.new) }
     {
         let (key, value) = line_in(self.section, text);
         if let Key::Heading(section) = key {
@@ -207,8 +207,8 @@ impl Reading {
 
     /// The script that the lines make, or why they make none.
     pub fn made(self, alloc: Global) -> Result<Script, ScriptRefusal>
-        requires { IsReading self }
-        ensures answer { Answers result (made_script self) }
+        requires { IsScriptReading self }
+        ensures answer { IsScriptAnswer result (made_script self) }
         ensures script { IfOk result IsScript }
     {
         if !self.headings.events {

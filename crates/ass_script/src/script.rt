@@ -59,9 +59,9 @@ pub struct Script {
 impl Model for Script {
     ghost use Rattle.std.specs.Prelude.{◌≡◌, List, ℕ};
     ghost use Rattle.std.specs.BTreeMap.{get_by_text};
-    ghost use Rattle.ass_script.specs.Scripts.{PlainScript, last_named};
+    ghost use Rattle.ass_script.specs.Scripts.{ScriptValue, last_named};
 
-    ghost Value = { PlainScript };
+    ghost Value = { ScriptValue };
 
     ghost view = { λ s. record { header = s.header; styles = s.styles; format = s.format; lines = s.lines } };
 

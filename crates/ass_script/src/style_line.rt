@@ -2,7 +2,7 @@
 
 ghost use Rattle.std.specs.Prelude.{◌≡◌, ◌≤◌, ◌⊎◌, OnOk, OnErr, IfOk, IfSome, length};
 ghost use Rattle.ass_script.specs.Numbers.{milli_of, style_colour_of};
-ghost use Rattle.ass_script.specs.Ranges.{IsMilli, IsLength, IsMargin, IsStyle};
+ghost use Rattle.ass_script.specs.Ranges.{IsHeldNumber, IsLength, IsMargin, IsStyle};
 ghost use Rattle.ass_script.specs.Styles.{bare_style, milli_or, size_or, margin_or, flag_or, border_style_or, alignment_or, old_alignment_or, colours_with, with_field, style_of};
 
 use crate::header_lines::whole;
@@ -16,7 +16,7 @@ use std::alloc::Global;
 /// The number at the front of a text, in thousandths.
 fn milli(text: &str) -> Option<Milli>
     ensures value { result ≡ milli_of text.now }
-    ensures range { IfSome result IsMilli }
+    ensures range { IfSome result IsHeldNumber }
 {
     let (number, _len) = read_milli(text.as_bytes())?;
     Some(number)
@@ -30,9 +30,9 @@ fn style_colour(text: &str) -> Option<u32>
 }
 
 fn put_milli(place: &mut Milli, text: &str)
-    requires { IsMilli place.old }
+    requires { IsHeldNumber place.old }
     ensures value { place.new ≡ milli_or place.old text.now }
-    ensures range { IsMilli place.new }
+    ensures range { IsHeldNumber place.new }
 {
     if let Some(number) = milli(text) {
         *place = number;

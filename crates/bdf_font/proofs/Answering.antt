@@ -4,7 +4,7 @@ use Rattle.std.proofs.lemmas.List.Concat.{flat_map-append}
 use Rattle.std.proofs.lemmas.Bool.{leb-true, leb-false}
 use Rattle.std.proofs.lemmas.Bool.Decides.{nat_tests}
 use Rattle.bdf_font.specs.Words.{after_word}
-use Rattle.bdf_font.specs.Fonts.{PlainFont}
+use Rattle.bdf_font.specs.Fonts.{FontValue}
 use Rattle.bdf_font.specs.declared.cause.FontCause.{FontCause}
 use Rattle.bdf_font.specs.declared.cause.FontCause.TheVariants.{NoStart, BadRow, NoEnd}
 use Rattle.bdf_font.specs.declared.cause.FontRefusal.{FontRefusal}
@@ -14,9 +14,9 @@ use Rattle.bdf_font.specs.declared.glyphs.BoundingBox.{BoundingBox}
 use Rattle.bdf_font.specs.declared.reading.Reading.{Reading}
 use Rattle.bdf_font.specs.declared.keyword.Keyword.TheVariants as keyword
 use Rattle.bdf_font.specs.declared.keyword.GlyphKeyword.TheVariants as in_glyph
-use Rattle.bdf_font.specs.Grammar.{Block, Single, Glyph, Outside, InGlyph, InBitmap, Front, Unbegun, Begun, says, is_passed, is_single, is_in_head, is_read, is_row, row_len, open_after, lines_in, open_lines, front_lines, font_lines_in, font_lines, glyphs_in, glyphs_of, glyph_in, cell_of, cell_said, AllRead, ArePassed, IsBlock, IsBegun, IsFront, start_fault, single_fault, head_fault, bitmap_fault, after_rows_fault, fault_after, HasTooMany, IsAnswer}
+use Rattle.bdf_font.specs.Grammar.{Block, Single, Glyph, Outside, InGlyph, InBitmap, Front, Unbegun, Begun, says, is_passed, is_single, is_in_head, is_read, is_row, row_len, open_after, lines_in, open_lines, front_lines, font_lines_in, font_lines, glyphs_in, glyphs_of, glyph_in, cell_of, cell_said, AllRead, ArePassed, IsBlock, IsBegun, IsSoundFront, start_fault, single_fault, head_fault, bitmap_fault, after_rows_fault, fault_after, HasTooMany, IsFontAnswer}
 use Rattle.bdf_font.specs.Rows.{Outcome, Next, End, Fault, Full}
-use Rattle.bdf_font.specs.Steps.{no_lines, line_of, font_line, font_made}
+use Rattle.bdf_font.specs.Steps.{no_font_lines, reading_after, font_step, font_made}
 use Rattle.bdf_font.proofs.Walk.{lines_read, after_line, read_at, read_none}
 use Rattle.bdf_font.proofs.Given.{header_of, draft_of, AllRead-push, All-pushed}
 use Rattle.bdf_font.proofs.States.{outside_at, glyph_at, bitmap_at, state_of, passed_next, start_next, start_stops, glyph_next, full_stops, state_stops, single_step, head_step, bitmap_step, row_step, end_next, start_cases, single_cases, head_cases, after_rows_cases}
@@ -26,7 +26,7 @@ use Rattle.bdf_font.proofs.Fronts.{reach_front, front_stops}
 
 pub record Goes (front : Front) (line : List ℕ) (next : Reading) : Type 0 where
   pub longer : Front
-  pub sound : IsFront longer
+  pub sound : IsSoundFront longer
   pub lines : front_lines longer ≡ front_lines front ++ line ∷ []
   pub state : next ≡ state_of longer
 
@@ -57,20 +57,20 @@ stepped_to front line outcome there e s = subst (λ o. Stepped front line o) (sy
 
 -- ---- before STARTFONT
 
-unbegun_ways : (before : List (List ℕ)) (line : List ℕ) → ArePassed before → (says line ≡ keyword.StartFont) ⊎ ((is_passed (says line) ≡ true) ⊎ (start_fault (says line) ≡ Some NoStart)) → Stepped (Unbegun before) line (line_of line no_lines)
-unbegun_ways before line all (inl e) = stepped_to (Unbegun before) line (line_of line no_lines) (Next (outside_at (header_of []) [])) (start_next (says line) e) (record {
+unbegun_ways : (before : List (List ℕ)) (line : List ℕ) → ArePassed before → (says line ≡ keyword.StartFont) ⊎ ((is_passed (says line) ≡ true) ⊎ (start_fault (says line) ≡ Some NoStart)) → Stepped (Unbegun before) line (reading_after line no_font_lines)
+unbegun_ways before line all (inl e) = stepped_to (Unbegun before) line (reading_after line no_font_lines) (Next (outside_at (header_of []) [])) (start_next (says line) e) (record {
   longer = Begun before line [] Outside;
   sound = record { passed = all; begins = e; whole = tt; begun = tt; numbers = tt; room = omega arith };
   lines = append-nil (before ++ line ∷ []);
   state = refl;
 })
-unbegun_ways before line all (inr (inl p)) = stepped_to (Unbegun before) line (line_of line no_lines) (Next no_lines) (passed_next (says line) p) (record {
+unbegun_ways before line all (inr (inl p)) = stepped_to (Unbegun before) line (reading_after line no_font_lines) (Next no_font_lines) (passed_next (says line) p) (record {
   longer = Unbegun (before ++ line ∷ []);
   sound = All-pushed (λ l. is_passed (says l) ≡ true) before line all p;
   lines = refl;
   state = refl;
 })
-unbegun_ways before line all (inr (inr f)) = stepped_to (Unbegun before) line (line_of line no_lines) (Fault NoStart) (start_stops (says line) NoStart f) f
+unbegun_ways before line all (inr (inr f)) = stepped_to (Unbegun before) line (reading_after line no_font_lines) (Fault NoStart) (start_stops (says line) NoStart f) f
 
 -- ---- outside glyphs
 
@@ -115,32 +115,32 @@ glyph_longer before start blocks line is begins few = record {
 }
 
 glyph_ways : (before : List (List ℕ)) (start : List ℕ) (blocks : List Block) (line : List ℕ) → IsBegun before start blocks Outside → says line ≡ keyword.StartChar → (full : Bool) → nat_le 131072 (length (glyphs_of blocks)) ≡ full →
-    Stepped (Begun before start blocks Outside) line (line_of line (state_of (Begun before start blocks Outside)))
+    Stepped (Begun before start blocks Outside) line (reading_after line (state_of (Begun before start blocks Outside)))
 glyph_ways before start blocks line is begins true e =
     let full : length (glyphs_of blocks) ≡ 131072 = omega (arith, is.room, leb-true 131072 (length (glyphs_of blocks)) e) in
-    stepped_to (Begun before start blocks Outside) line (line_of line (state_of (Begun before start blocks Outside))) Full
+    stepped_to (Begun before start blocks Outside) line (reading_after line (state_of (Begun before start blocks Outside))) Full
     (full_stops (says line) (after_word line) (header_of (font_lines blocks Outside)) (glyphs_of blocks) begins full)
     (record { before = before; start = start; blocks = blocks; is = refl; begins = begins; full = full })
 glyph_ways before start blocks line is begins false e =
     let few : length (glyphs_of blocks) < 131072 = leb-false 131072 (length (glyphs_of blocks)) e in
-    stepped_to (Begun before start blocks Outside) line (line_of line (state_of (Begun before start blocks Outside))) (Next (glyph_at (header_of (font_lines blocks Outside)) (glyphs_of blocks) (draft_of [])))
+    stepped_to (Begun before start blocks Outside) line (reading_after line (state_of (Begun before start blocks Outside))) (Next (glyph_at (header_of (font_lines blocks Outside)) (glyphs_of blocks) (draft_of [])))
     (glyph_next (says line) (after_word line) (header_of (font_lines blocks Outside)) (glyphs_of blocks) begins few)
     (glyph_longer before start blocks line is begins few)
 
 outside_ways : (before : List (List ℕ)) (start : List ℕ) (blocks : List Block) (line : List ℕ) → IsBegun before start blocks Outside →
     (says line ≡ keyword.StartChar) ⊎ ((says line ≡ keyword.EndFont) ⊎ (((is_single (says line) ≡ true) × (is_read (open_after false (font_lines blocks Outside)) (says line) (after_word line) ≡ true)) ⊎ ((cause : FontCause) × (single_fault (open_after false (font_lines blocks Outside)) (says line) (after_word line) ≡ Some cause)))) →
-    Stepped (Begun before start blocks Outside) line (line_of line (state_of (Begun before start blocks Outside)))
+    Stepped (Begun before start blocks Outside) line (reading_after line (state_of (Begun before start blocks Outside)))
 outside_ways before start blocks line is (inl e) = glyph_ways before start blocks line is e (nat_le 131072 (length (glyphs_of blocks))) refl
 outside_ways before start blocks line is (inr (inl e)) =
     let here = state_of (Begun before start blocks Outside) in
-    stepped_to (Begun before start blocks Outside) line (line_of line here) (End here) (ap (λ k. font_line k (after_word line) here) e)
+    stepped_to (Begun before start blocks Outside) line (reading_after line here) (End here) (ap (λ k. font_step k (after_word line) here) e)
     (record { before = before; start = start; blocks = blocks; is = refl; ended = e; state = refl })
 outside_ways before start blocks line is (inr (inr (inl one))) =
-    stepped_to (Begun before start blocks Outside) line (line_of line (state_of (Begun before start blocks Outside))) (Next (outside_at (header_of (font_lines blocks Outside ++ line ∷ [])) (glyphs_of blocks)))
+    stepped_to (Begun before start blocks Outside) line (reading_after line (state_of (Begun before start blocks Outside))) (Next (outside_at (header_of (font_lines blocks Outside ++ line ∷ [])) (glyphs_of blocks)))
     (single_step line (font_lines blocks Outside) (glyphs_of blocks) one.0 one.1)
     (single_longer before start blocks line is one.0 one.1)
 outside_ways before start blocks line is (inr (inr (inr f))) =
-    stepped_to (Begun before start blocks Outside) line (line_of line (state_of (Begun before start blocks Outside))) (Fault f.0)
+    stepped_to (Begun before start blocks Outside) line (reading_after line (state_of (Begun before start blocks Outside))) (Fault f.0)
     (state_stops (font_lines blocks Outside) (glyphs_of blocks) line f.0 f.1) f.1
 
 -- ---- in a glyph
@@ -177,19 +177,19 @@ bitmap_longer before start blocks begin head line is e some = record {
 head_ways : (before : List (List ℕ)) (start : List ℕ) (blocks : List Block) (begin : List ℕ) (head : List (List ℕ)) (line : List ℕ) → IsBegun before start blocks (InGlyph begin head) →
     ((is_in_head (says line) ≡ true) × (is_read (open_after false (font_lines blocks (InGlyph begin head))) (says line) (after_word line) ≡ true))
     ⊎ (((says line ≡ keyword.Glyph in_glyph.Bitmap) × IsSome (cell_said head)) ⊎ ((cause : FontCause) × (head_fault (open_after false (font_lines blocks (InGlyph begin head))) (cell_said head) (says line) (after_word line) ≡ Some cause))) →
-    Stepped (Begun before start blocks (InGlyph begin head)) line (line_of line (state_of (Begun before start blocks (InGlyph begin head))))
+    Stepped (Begun before start blocks (InGlyph begin head)) line (reading_after line (state_of (Begun before start blocks (InGlyph begin head))))
 head_ways before start blocks begin head line is (inl one) =
-    stepped_to (Begun before start blocks (InGlyph begin head)) line (line_of line (state_of (Begun before start blocks (InGlyph begin head))))
+    stepped_to (Begun before start blocks (InGlyph begin head)) line (reading_after line (state_of (Begun before start blocks (InGlyph begin head))))
     (Next (glyph_at (header_of (font_lines blocks (InGlyph begin head) ++ line ∷ [])) (glyphs_of blocks) (draft_of (head ++ line ∷ []))))
     (head_step line (font_lines blocks (InGlyph begin head)) head (glyphs_of blocks) one.0 one.1)
     (head_longer before start blocks begin head line is one.0 one.1)
 head_ways before start blocks begin head line is (inr (inl one)) =
-    stepped_to (Begun before start blocks (InGlyph begin head)) line (line_of line (state_of (Begun before start blocks (InGlyph begin head))))
+    stepped_to (Begun before start blocks (InGlyph begin head)) line (reading_after line (state_of (Begun before start blocks (InGlyph begin head))))
     (Next (bitmap_at (header_of (font_lines blocks (InGlyph begin head))) (glyphs_of blocks) (draft_of head) (cell_of head) (cell_of head).h []))
     (bitmap_step line (font_lines blocks (InGlyph begin head)) head (glyphs_of blocks) one.0 one.1)
     (bitmap_longer before start blocks begin head line is one.0 one.1)
 head_ways before start blocks begin head line is (inr (inr f)) =
-    stepped_to (Begun before start blocks (InGlyph begin head)) line (line_of line (state_of (Begun before start blocks (InGlyph begin head)))) (Fault f.0)
+    stepped_to (Begun before start blocks (InGlyph begin head)) line (reading_after line (state_of (Begun before start blocks (InGlyph begin head)))) (Fault f.0)
     (front_stops (Begun before start blocks (InGlyph begin head)) line f.0 is f.1) f.1
 
 -- ---- in a bitmap
@@ -250,11 +250,11 @@ fault_among cell done line room f =
 
 bitmap_ways : (before : List (List ℕ)) (start : List ℕ) (blocks : List Block) (begin : List ℕ) (head : List (List ℕ)) (bitmap : List ℕ) (rows : List (List ℕ)) (line : List ℕ) → IsBegun before start blocks (InBitmap begin head bitmap rows) →
     (over row : Bool) → (length rows == (cell_of head).h) ≡ over → is_row (row_len (cell_of head).w) line ≡ row → (says line ≡ keyword.Glyph in_glyph.EndChar) ⊎ (after_rows_fault (says line) ≡ Some BadRow) →
-    Stepped (Begun before start blocks (InBitmap begin head bitmap rows)) line (line_of line (state_of (Begun before start blocks (InBitmap begin head bitmap rows))))
+    Stepped (Begun before start blocks (InBitmap begin head bitmap rows)) line (reading_after line (state_of (Begun before start blocks (InBitmap begin head bitmap rows))))
 bitmap_ways before start blocks begin head bitmap rows line is true row o r (inl e) =
     let high : length rows ≡ (cell_of head).h = grind (arith, nat_tests) in
     let part = InBitmap begin head bitmap rows in
-    stepped_to (Begun before start blocks part) line (line_of line (state_of (Begun before start blocks part)))
+    stepped_to (Begun before start blocks part) line (reading_after line (state_of (Begun before start blocks part)))
     (Next (outside_at (header_of (font_lines blocks part)) (glyphs_of blocks ++ glyph_in head rows ∷ [])))
     (end_next line (header_of (font_lines blocks part)) (glyphs_of blocks) head ((cell_of head).h - length rows) rows (omega (arith, high)) e)
     (end_longer before start blocks begin head bitmap rows line is high e)
@@ -262,13 +262,13 @@ bitmap_ways before start blocks begin head bitmap rows line is true row o r (inr
     let high : length rows ≡ (cell_of head).h = grind (arith, nat_tests) in
     let part = InBitmap begin head bitmap rows in
     let fault = fault_over (cell_of head) (length rows) line BadRow high f in
-    stepped_to (Begun before start blocks part) line (line_of line (state_of (Begun before start blocks part))) (Fault BadRow)
+    stepped_to (Begun before start blocks part) line (reading_after line (state_of (Begun before start blocks part))) (Fault BadRow)
     (front_stops (Begun before start blocks part) line BadRow is fault) fault
 bitmap_ways before start blocks begin head bitmap rows line is false true o r way =
     let other : length rows ≢ (cell_of head).h = grind (arith, nat_tests) in
     let room : length rows < (cell_of head).h = omega (arith, other, is.begun.5) in
     let part = InBitmap begin head bitmap rows in
-    stepped_to (Begun before start blocks part) line (line_of line (state_of (Begun before start blocks part)))
+    stepped_to (Begun before start blocks part) line (reading_after line (state_of (Begun before start blocks part)))
     (Next (state_of (Begun before start blocks (InBitmap begin head bitmap (rows ++ line ∷ [])))))
     (row_step line (header_of (font_lines blocks part)) (glyphs_of blocks) (draft_of head) (cell_of head) rows room r)
     (row_longer before start blocks begin head bitmap rows line is room r)
@@ -277,12 +277,12 @@ bitmap_ways before start blocks begin head bitmap rows line is false false o r w
     let room : length rows < (cell_of head).h = omega (arith, other, is.begun.5) in
     let part = InBitmap begin head bitmap rows in
     let fault = fault_among (cell_of head) (length rows) line room r in
-    stepped_to (Begun before start blocks part) line (line_of line (state_of (Begun before start blocks part))) (Fault BadRow)
+    stepped_to (Begun before start blocks part) line (reading_after line (state_of (Begun before start blocks part))) (Fault BadRow)
     (front_stops (Begun before start blocks part) line BadRow is fault) fault
 
 -- ---- each line
 
-pub stepped : (front : Front) (line : List ℕ) → IsFront front → Stepped front line (line_of line (state_of front))
+pub stepped : (front : Front) (line : List ℕ) → IsSoundFront front → Stepped front line (reading_after line (state_of front))
 stepped (Unbegun before) line is = unbegun_ways before line is (start_cases (says line))
 stepped (Begun before start blocks Outside) line is = outside_ways before start blocks line is (single_cases (open_after false (font_lines blocks Outside)) (says line) (after_word line))
 stepped (Begun before start blocks (InGlyph begin head)) line is = head_ways before start blocks begin head line is (head_cases (open_after false (font_lines blocks (InGlyph begin head))) (cell_said head) (says line) (after_word line))
@@ -295,15 +295,15 @@ spelled_on : (front longer : Front) (line : List ℕ) (lines : List (List ℕ)) 
 spelled_on front longer line lines e = ap (λ ls. ls ++ lines) e ∙ append_assoc (front_lines front) (line ∷ []) lines
 
 goes_on : (front : Front) (line : List ℕ) (lines : List (List ℕ)) (next : Reading) (g : Goes front line next) →
-    IsAnswer (front_lines g.longer ++ lines) (lines_read (1 + length (front_lines g.longer)) lines (state_of g.longer)) →
-    IsAnswer (front_lines front ++ line ∷ lines) (lines_read (1 + length (front_lines front) + 1) lines next)
+    IsFontAnswer (front_lines g.longer ++ lines) (lines_read (1 + length (front_lines g.longer)) lines (state_of g.longer)) →
+    IsFontAnswer (front_lines front ++ line ∷ lines) (lines_read (1 + length (front_lines front) + 1) lines next)
 goes_on front line lines next g again =
     let count : 1 + length (front_lines g.longer) ≡ 1 + length (front_lines front) + 1 = omega (arith, ap length g.lines, length-append (front_lines front) (line ∷ [])) in
-    let here = subst (λ ls. IsAnswer ls (lines_read (1 + length (front_lines g.longer)) lines (state_of g.longer))) (spelled_on front g.longer line lines g.lines) again in
-    let there = subst (λ n. IsAnswer (front_lines front ++ line ∷ lines) (lines_read n lines (state_of g.longer))) count here in
-    subst (λ s. IsAnswer (front_lines front ++ line ∷ lines) (lines_read (1 + length (front_lines front) + 1) lines s)) (sym g.state) there
+    let here = subst (λ ls. IsFontAnswer ls (lines_read (1 + length (front_lines g.longer)) lines (state_of g.longer))) (spelled_on front g.longer line lines g.lines) again in
+    let there = subst (λ n. IsFontAnswer (front_lines front ++ line ∷ lines) (lines_read n lines (state_of g.longer))) count here in
+    subst (λ s. IsFontAnswer (front_lines front ++ line ∷ lines) (lines_read (1 + length (front_lines front) + 1) lines s)) (sym g.state) there
 
-ends_here : (front : Front) (line : List ℕ) (lines : List (List ℕ)) (last : Reading) → IsFront front → Ends front line last → IsAnswer (front_lines front ++ line ∷ lines) (Ok (font_made last.header last.glyphs))
+ends_here : (front : Front) (line : List ℕ) (lines : List (List ℕ)) (last : Reading) → IsSoundFront front → Ends front line last → IsFontAnswer (front_lines front ++ line ∷ lines) (Ok (font_made last.header last.glyphs))
 ends_here front line lines last is e = record {
   before = e.before;
   start = e.start;
@@ -311,12 +311,12 @@ ends_here front line lines last is e = record {
   end = line;
   after = lines;
   spelled = ap (λ f. front_lines f ++ line ∷ lines) e.is;
-  sound = subst IsFront e.is is;
+  sound = subst IsSoundFront e.is is;
   ended = e.ended;
   said = ap (λ (r : Reading). font_made r.header r.glyphs) e.state;
 }
 
-fills_here : (front : Front) (line : List ℕ) (lines : List (List ℕ)) → IsFront front → Fills front line → HasTooMany (front_lines front ++ line ∷ lines)
+fills_here : (front : Front) (line : List ℕ) (lines : List (List ℕ)) → IsSoundFront front → Fills front line → HasTooMany (front_lines front ++ line ∷ lines)
 fills_here front line lines is e = record {
   before = e.before;
   start = e.start;
@@ -324,19 +324,19 @@ fills_here front line lines is e = record {
   line = line;
   after = lines;
   spelled = ap (λ f. front_lines f ++ line ∷ lines) e.is;
-  sound = subst IsFront e.is is;
+  sound = subst IsSoundFront e.is is;
   full = e.full;
   begins = e.begins;
 }
 
-pub answered : (lines : List (List ℕ)) (front : Front) → IsFront front → IsAnswer (front_lines front ++ lines) (lines_read (1 + length (front_lines front)) lines (state_of front))
+pub answered : (lines : List (List ℕ)) (front : Front) → IsSoundFront front → IsFontAnswer (front_lines front ++ lines) (lines_read (1 + length (front_lines front)) lines (state_of front))
 answered [] front is =
     let same : front_lines front ++ [] ≡ front_lines front = append-nil (front_lines front) in
     rw (read_none (1 + length (front_lines front)) (state_of front))
     (inr (refl, record { front = front; spelled = same; sound = is; place = ap (λ ls. 1 + length ls) (sym same) }))
-answered (line ∷ lines) front is = cases (λ longer sound. answered lines longer sound) (line_of line (state_of front)) refl (stepped front line is)
+answered (line ∷ lines) front is = cases (λ longer sound. answered lines longer sound) (reading_after line (state_of front)) refl (stepped front line is)
   where
-    cases : ((longer : Front) → IsFront longer → IsAnswer (front_lines longer ++ lines) (lines_read (1 + length (front_lines longer)) lines (state_of longer))) → (outcome : Outcome Reading) → line_of line (state_of front) ≡ outcome → Stepped front line outcome → IsAnswer (front_lines front ++ line ∷ lines) (lines_read (1 + length (front_lines front)) (line ∷ lines) (state_of front))
+    cases : ((longer : Front) → IsSoundFront longer → IsFontAnswer (front_lines longer ++ lines) (lines_read (1 + length (front_lines longer)) lines (state_of longer))) → (outcome : Outcome Reading) → reading_after line (state_of front) ≡ outcome → Stepped front line outcome → IsFontAnswer (front_lines front ++ line ∷ lines) (lines_read (1 + length (front_lines front)) (line ∷ lines) (state_of front))
     cases again (Next next) e s = rw (read_at (1 + length (front_lines front)) line lines (state_of front) (Next next) e) (goes_on front line lines next s (again s.longer s.sound))
     cases again (End last) e s = rw (read_at (1 + length (front_lines front)) line lines (state_of front) (End last) e) (ends_here front line lines last is s)
     cases again (Fault cause) e s = rw (read_at (1 + length (front_lines front)) line lines (state_of front) (Fault cause) e) (inl (record { front = front; line = line; after = lines; spelled = refl; sound = is; place = refl; fault = s }))
@@ -344,20 +344,20 @@ answered (line ∷ lines) front is = cases (λ longer sound. answered lines long
 
 -- ---- and there is no other answer
 
-come : (front : Front) (line : List ℕ) (after lines : List (List ℕ)) (outcome : Outcome Reading) → IsFront front → lines ≡ front_lines front ++ line ∷ after → line_of line (state_of front) ≡ outcome →
-    lines_read 1 lines no_lines ≡ after_line (1 + length (front_lines front)) after outcome
+come : (front : Front) (line : List ℕ) (after lines : List (List ℕ)) (outcome : Outcome Reading) → IsSoundFront front → lines ≡ front_lines front ++ line ∷ after → reading_after line (state_of front) ≡ outcome →
+    lines_read 1 lines no_font_lines ≡ after_line (1 + length (front_lines front)) after outcome
 come front line after lines outcome is spelled e =
-    ap (λ ls. lines_read 1 ls no_lines) spelled
+    ap (λ ls. lines_read 1 ls no_font_lines) spelled
     ∙ (reach_front front is 1 (line ∷ after) ∙ read_at (1 + length (front_lines front)) line after (state_of front) outcome e)
 
-pub one_answer : (lines : List (List ℕ)) (answer : Result PlainFont FontRefusal) → IsAnswer lines answer → lines_read 1 lines no_lines ≡ answer
+pub one_answer : (lines : List (List ℕ)) (answer : Result FontValue FontRefusal) → IsFontAnswer lines answer → lines_read 1 lines no_font_lines ≡ answer
 one_answer lines (Ok font) a =
     let front = Begun a.before a.start a.blocks Outside in
-    come front a.end a.after lines (End (state_of front)) a.sound a.spelled (ap (λ k. font_line k (after_word a.end) (state_of front)) a.ended) ∙ ap Ok (sym a.said)
+    come front a.end a.after lines (End (state_of front)) a.sound a.spelled (ap (λ k. font_step k (after_word a.end) (state_of front)) a.ended) ∙ ap Ok (sym a.said)
 one_answer lines (Err (BadFont n cause)) (inl a) =
     come a.front a.line a.after lines (Fault cause) a.sound a.spelled (front_stops a.front a.line cause a.sound a.fault) ∙ ap (λ k. Err (BadFont k cause)) (sym a.place)
 one_answer lines (Err (BadFont n cause)) (inr (e, a)) =
-    ap (λ ls. lines_read 1 ls no_lines) (a.spelled ∙ sym (append-nil (front_lines a.front)))
+    ap (λ ls. lines_read 1 ls no_font_lines) (a.spelled ∙ sym (append-nil (front_lines a.front)))
     ∙ (reach_front a.front a.sound 1 []
     ∙ (read_none (1 + length (front_lines a.front)) (state_of a.front)
     ∙ (ap (λ k. Err (BadFont k NoEnd)) (sym (a.place ∙ ap (λ ls. 1 + length ls) a.spelled)) ∙ ap (λ c. Err (BadFont n c)) (sym e))))
@@ -366,5 +366,5 @@ one_answer lines (Err (TooLarge most)) (e, a) =
     come front a.line a.after lines Full a.sound a.spelled (full_stops (says a.line) (after_word a.line) (header_of (font_lines a.blocks Outside)) (glyphs_of a.blocks) a.begins a.full) ∙ ap (λ k. Err (TooLarge k)) (sym e)
 one_answer lines (Err refusal.OutOfMemory) a = absurd a
 
-pub read_answer : (lines : List (List ℕ)) → IsAnswer lines (lines_read 1 lines no_lines)
+pub read_answer : (lines : List (List ℕ)) → IsFontAnswer lines (lines_read 1 lines no_font_lines)
 read_answer lines = answered lines (Unbegun []) tt

@@ -8,9 +8,9 @@ use Rattle.bdf_font.specs.declared.glyphs.BoundingBox.{BoundingBox}
 use Rattle.bdf_font.specs.declared.header.Header.{Header}
 use Rattle.bdf_font.specs.declared.reading.Reading.{Reading}
 use Rattle.bdf_font.specs.declared.reading.Draft.{Draft}
-use Rattle.bdf_font.specs.Grammar.{Block, Single, Glyph, Open, Outside, InGlyph, InBitmap, Front, Unbegun, Begun, says, switched, open_after, lines_in, open_lines, front_lines, font_lines_in, head_of, font_lines, glyphs_in, glyphs_of, cell_of, row_len, AllRead, ArePassed, AreInHead, AreRows, IsBlock, IsOpen, IsFront, begun_in, fault_after}
+use Rattle.bdf_font.specs.Grammar.{Block, Single, Glyph, Open, Outside, InGlyph, InBitmap, Front, Unbegun, Begun, says, switched, open_after, lines_in, open_lines, front_lines, font_lines_in, head_of, font_lines, glyphs_in, glyphs_of, cell_of, row_len, AllRead, ArePassed, AreInHead, AreRows, IsBlock, IsOpen, IsSoundFront, begun_in, fault_after}
 use Rattle.bdf_font.specs.Rows.{Next, Fault}
-use Rattle.bdf_font.specs.Steps.{no_lines, line_of}
+use Rattle.bdf_font.specs.Steps.{no_font_lines, reading_after}
 use Rattle.bdf_font.proofs.Walk.{lines_read, read_at}
 use Rattle.bdf_font.proofs.Given.{header_of, draft_of, open_after-push}
 use Rattle.bdf_font.proofs.States.{outside_at, glyph_at, bitmap_at, state_in, state_of, passed_next, start_next, glyph_next, start_stops, head_stops, bitmap_stops, state_stops, single_step, head_step, bitmap_step, row_step, end_next}
@@ -22,7 +22,7 @@ Reaches lines from to = (n : ℕ) (rest : List (List ℕ)) → lines_read n (lin
 reach_none : (s : Reading) → Reaches [] s s
 reach_none s n rest = ap (λ k. lines_read k rest s) (omega arith)
 
-reach_one : (line : List ℕ) (s t : Reading) → line_of line s ≡ Next t → Reaches (line ∷ []) s t
+reach_one : (line : List ℕ) (s t : Reading) → reading_after line s ≡ Next t → Reaches (line ∷ []) s t
 reach_one line s t e n rest = read_at n line rest s (Next t) e
 
 reach_then : (xs ys : List (List ℕ)) (s t u : Reading) → Reaches xs s t → Reaches ys t u → Reaches (xs ++ ys) s u
@@ -30,15 +30,15 @@ reach_then xs ys s t u f g n rest =
     ap (λ zs. lines_read n zs s) (append_assoc xs ys rest)
     ∙ (f n (ys ++ rest) ∙ (g (n + length xs) rest ∙ ap (λ k. lines_read k rest u) (omega (arith, length-append xs ys))))
 
-reach_more : (line : List ℕ) (ys : List (List ℕ)) (s t u : Reading) → line_of line s ≡ Next t → Reaches ys t u → Reaches (line ∷ ys) s u
+reach_more : (line : List ℕ) (ys : List (List ℕ)) (s t u : Reading) → reading_after line s ≡ Next t → Reaches ys t u → Reaches (line ∷ ys) s u
 reach_more line ys s t u e g = reach_then (line ∷ []) ys s t u (reach_one line s t e) g
 
 reach_to : (xs : List (List ℕ)) (s t u : Reading) → t ≡ u → Reaches xs s t → Reaches xs s u
 reach_to xs s t u e f = subst (λ v. Reaches xs s v) e f
 
-reach_passed : (before : List (List ℕ)) → ArePassed before → Reaches before no_lines no_lines
-reach_passed [] all = reach_none no_lines
-reach_passed (line ∷ before) all = reach_more line before no_lines no_lines no_lines (passed_next (says line) all.0) (reach_passed before all.1)
+reach_passed : (before : List (List ℕ)) → ArePassed before → Reaches before no_font_lines no_font_lines
+reach_passed [] all = reach_none no_font_lines
+reach_passed (line ∷ before) all = reach_more line before no_font_lines no_font_lines no_font_lines (passed_next (says line) all.0) (reach_passed before all.1)
 
 -- ---- numbers of lines that follow one another
 
@@ -138,21 +138,21 @@ reach_blocks (block ∷ blocks) lines glyphs all numbers room =
     (reach_then (lines_in block) (flat_map lines_in blocks) (outside_at (header_of lines) glyphs) (outside_at (header_of lines') glyphs') there
     (reach_block block lines glyphs all.0 split.0 (omega (arith, long))) rest)
 
-pub reach_front : (front : Front) → IsFront front → Reaches (front_lines front) no_lines (state_of front)
+pub reach_front : (front : Front) → IsSoundFront front → Reaches (front_lines front) no_font_lines (state_of front)
 reach_front (Unbegun before) is = reach_passed before is
 reach_front (Begun before start blocks part) is =
     let split = AllRead-split false (flat_map font_lines_in blocks) (head_of part) is.numbers in
     let first = outside_at (header_of []) [] in
     let middle = outside_at (header_of (flat_map font_lines_in blocks)) (glyphs_of blocks) in
-    reach_then (before ++ start ∷ flat_map lines_in blocks) (open_lines part) no_lines middle (state_of (Begun before start blocks part))
-    (reach_then before (start ∷ flat_map lines_in blocks) no_lines no_lines middle
+    reach_then (before ++ start ∷ flat_map lines_in blocks) (open_lines part) no_font_lines middle (state_of (Begun before start blocks part))
+    (reach_then before (start ∷ flat_map lines_in blocks) no_font_lines no_font_lines middle
     (reach_passed before is.passed)
-    (reach_more start (flat_map lines_in blocks) no_lines first middle (start_next (says start) is.begins)
+    (reach_more start (flat_map lines_in blocks) no_font_lines first middle (start_next (says start) is.begins)
     (reach_blocks blocks [] [] is.whole split.0 (omega (arith, is.room)))))
     (reach_part part (flat_map font_lines_in blocks) (glyphs_of blocks) is.begun split.1 is.room)
 
 -- where a line leaves the format, the reader stops so
-pub front_stops : (front : Front) (line : List ℕ) (cause : FontCause) → IsFront front → fault_after front line ≡ Some cause → line_of line (state_of front) ≡ Fault cause
+pub front_stops : (front : Front) (line : List ℕ) (cause : FontCause) → IsSoundFront front → fault_after front line ≡ Some cause → reading_after line (state_of front) ≡ Fault cause
 front_stops (Unbegun before) line cause is f = start_stops (says line) cause f
 front_stops (Begun before start blocks Outside) line cause is f = state_stops (font_lines blocks Outside) (glyphs_of blocks) line cause f
 front_stops (Begun before start blocks (InGlyph begin head)) line cause is f = head_stops (says line) (after_word line) (header_of (font_lines blocks (InGlyph begin head))) (glyphs_of blocks) (draft_of head) cause f

@@ -14,9 +14,9 @@ use Rattle.bdf_font.specs.declared.keyword.Keyword.TheVariants as keyword
 use Rattle.bdf_font.specs.declared.keyword.GlyphKeyword.TheVariants as in_glyph
 use Rattle.bdf_font.specs.declared.keyword.HeaderKeyword.TheVariants as in_header
 use Rattle.bdf_font.specs.declared.keyword.PropertyKeyword.TheVariants as property
-use Rattle.bdf_font.specs.Grammar.{says, given, last_given, last_property, switched, open_after, title_in, box_in, family_in, ascent_in, descent_in, default_in, code_in, advance_in, cell_in, is_read, AllRead}
+use Rattle.bdf_font.specs.Grammar.{says, line_value, last_given, last_property, switched, open_after, title_in, box_in, family_in, ascent_in, descent_in, default_in, code_in, advance_in, cell_in, is_read, AllRead}
 use Rattle.bdf_font.specs.Rows.{Outcome, Next, Fault}
-use Rattle.bdf_font.specs.Steps.{with_number, header_line, property_line, draft_line}
+use Rattle.bdf_font.specs.Steps.{with_number, header_step, property_line, draft_line}
 
 -- ---- options
 
@@ -60,20 +60,20 @@ All-pushed P (y ∷ xs) x all one = (all.0, All-pushed P xs x all.1 one)
 abbrev pub header_of : List (List ℕ) → Header
 header_of lines = record {
   properties = open_after false lines;
-  title = last_given (given title_in) lines;
-  family = last_property (λ on. given (family_in on)) false lines;
-  bounding_box = last_given (given box_in) lines;
-  ascent = last_property (λ on. given (ascent_in on)) false lines;
-  descent = last_property (λ on. given (descent_in on)) false lines;
-  default_char = last_property (λ on. given (default_in on)) false lines;
+  title = last_given (line_value title_in) lines;
+  family = last_property (λ on. line_value (family_in on)) false lines;
+  bounding_box = last_given (line_value box_in) lines;
+  ascent = last_property (λ on. line_value (ascent_in on)) false lines;
+  descent = last_property (λ on. line_value (descent_in on)) false lines;
+  default_char = last_property (λ on. line_value (default_in on)) false lines;
 }
 
 -- of the lines of a glyph before its bitmap
 abbrev pub draft_of : List (List ℕ) → Draft
 draft_of head = record {
-  code = unwrap_or (last_given (given code_in) head) (negsuc 0);
-  advance = last_given (given advance_in) head;
-  bounding_box = last_given (given cell_in) head;
+  code = unwrap_or (last_given (line_value code_in) head) (negsuc 0);
+  advance = last_given (line_value advance_in) head;
+  bounding_box = last_given (line_value cell_in) head;
   bits = [];
 }
 
@@ -144,14 +144,14 @@ property_unread property.Descent rest false h r = absurd cc
 property_unread property.DefaultChar rest false h r = absurd cc
 property_unread property.FamilyName rest false h r = absurd cc
 
-pub header_read : (kind : HeaderKeyword) (rest : List ℕ) (h : Header) → is_read h.properties (keyword.Header kind) rest ≡ true → header_line kind rest h ≡ Next (header_with (keyword.Header kind) rest h)
+pub header_read : (kind : HeaderKeyword) (rest : List ℕ) (h : Header) → is_read h.properties (keyword.Header kind) rest ≡ true → header_step kind rest h ≡ Next (header_with (keyword.Header kind) rest h)
 header_read in_header.Name rest h r = refl
 header_read in_header.Box rest h r = number_read (bounding_box_of rest) _ (λ o. record h { bounding_box = option_or o h.bounding_box }) (λ n. refl) r
 header_read in_header.StartProperties rest h r = refl
 header_read in_header.EndProperties rest h r = refl
 header_read (in_header.Property kind) rest h r = property_read kind rest h.properties h r
 
-pub header_unread : (kind : HeaderKeyword) (rest : List ℕ) (h : Header) → is_read h.properties (keyword.Header kind) rest ≡ false → header_line kind rest h ≡ Fault BadNumber
+pub header_unread : (kind : HeaderKeyword) (rest : List ℕ) (h : Header) → is_read h.properties (keyword.Header kind) rest ≡ false → header_step kind rest h ≡ Fault BadNumber
 header_unread in_header.Name rest h r = absurd cc
 header_unread in_header.Box rest h r = number_unread (bounding_box_of rest) _ r
 header_unread in_header.StartProperties rest h r = absurd cc

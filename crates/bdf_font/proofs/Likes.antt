@@ -10,7 +10,7 @@ use Rattle.bdf_font.specs.declared.keyword.Keyword.TheVariants as keyword
 use Rattle.bdf_font.specs.declared.keyword.GlyphKeyword.TheVariants as in_glyph
 use Rattle.bdf_font.specs.declared.keyword.HeaderKeyword.TheVariants as in_header
 use Rattle.bdf_font.specs.declared.keyword.PropertyKeyword.TheVariants as property
-use Rattle.bdf_font.specs.Grammar.{says, given, last_given, last_property, switched, open_after, title_in, box_in, family_in, ascent_in, descent_in, default_in, code_in, advance_in, cell_in, is_read, glyph_in, font_said}
+use Rattle.bdf_font.specs.Grammar.{says, line_value, last_given, last_property, switched, open_after, title_in, box_in, family_in, ascent_in, descent_in, default_in, code_in, advance_in, cell_in, is_read, glyph_in, font_said}
 use Rattle.bdf_font.proofs.Given.{or_none, or_assoc}
 use Rattle.bdf_font.proofs.Fronts.{open_after-append}
 
@@ -78,7 +78,7 @@ property_same f front earlier mid later back still (inr one) =
 
 -- what a line gives, by what it says
 given_at : {V : Type 0} (f : Keyword → List ℕ → Option V) (earlier later : List ℕ) (kind : Keyword) → says earlier ≡ kind → says later ≡ kind →
-    (f kind (after_word earlier) ≡ None) ⊎ IsSome (f kind (after_word later)) → (given f earlier ≡ None) ⊎ IsSome (given f later)
+    (f kind (after_word earlier) ≡ None) ⊎ IsSome (f kind (after_word later)) → (line_value f earlier ≡ None) ⊎ IsSome (line_value f later)
 given_at f earlier later kind e l (inl none) = inl (ap (λ k. f k (after_word earlier)) e ∙ none)
 given_at f earlier later kind e l (inr some) = inr (rw l some)
 
@@ -107,19 +107,19 @@ pub later_glyph_line : (kind : GlyphKeyword) (front : List (List ℕ)) (earlier 
     says earlier ≡ keyword.Glyph kind → says later ≡ keyword.Glyph kind → is_read true (keyword.Glyph kind) (after_word later) ≡ true →
     glyph_in (front ++ earlier ∷ mid ++ later ∷ back) rows ≡ glyph_in (front ++ mid ++ later ∷ back) rows
 later_glyph_line kind front earlier mid later back rows e l r =
-    let code = last_same (given code_in) front earlier mid later back (given_at code_in earlier later (keyword.Glyph kind) e l (code_like kind (after_word earlier) (after_word later) r)) in
-    let advance = last_same (given advance_in) front earlier mid later back (given_at advance_in earlier later (keyword.Glyph kind) e l (advance_like kind (after_word earlier) (after_word later) r)) in
-    let cell = last_same (given cell_in) front earlier mid later back (given_at cell_in earlier later (keyword.Glyph kind) e l (cell_like kind (after_word earlier) (after_word later) r)) in
+    let code = last_same (line_value code_in) front earlier mid later back (given_at code_in earlier later (keyword.Glyph kind) e l (code_like kind (after_word earlier) (after_word later) r)) in
+    let advance = last_same (line_value advance_in) front earlier mid later back (given_at advance_in earlier later (keyword.Glyph kind) e l (advance_like kind (after_word earlier) (after_word later) r)) in
+    let cell = last_same (line_value cell_in) front earlier mid later back (given_at cell_in earlier later (keyword.Glyph kind) e l (cell_like kind (after_word earlier) (after_word later) r)) in
     rw (code, advance, cell) refl
 
 -- a property's line, by what it says
 property_at : {V : Type 0} (f : Bool → Keyword → List ℕ → Option V) (earlier later : List ℕ) (kind : Keyword) (open_there : Type 0) → says earlier ≡ kind → says later ≡ kind → open_there →
-    ((on : Bool) → f on kind (after_word earlier) ≡ None) ⊎ IsSome (f true kind (after_word later)) → ((on : Bool) → given (f on) earlier ≡ None) ⊎ (open_there × IsSome (given (f true) later))
+    ((on : Bool) → f on kind (after_word earlier) ≡ None) ⊎ IsSome (f true kind (after_word later)) → ((on : Bool) → line_value (f on) earlier ≡ None) ⊎ (open_there × IsSome (line_value (f true) later))
 property_at f earlier later kind open_there e l there (inl none) = inl (λ on. ap (λ k. f on k (after_word earlier)) e ∙ none on)
 property_at f earlier later kind open_there e l there (inr some) = inr (there, rw l some)
 
 -- a line of another kind gives no property
-no_property : {V : Type 0} (f : Bool → Keyword → List ℕ → Option V) (line : List ℕ) (kind : Keyword) → says line ≡ kind → ((on : Bool) → f on kind (after_word line) ≡ None) → (on : Bool) → given (f on) line ≡ None
+no_property : {V : Type 0} (f : Bool → Keyword → List ℕ → Option V) (line : List ℕ) (kind : Keyword) → says line ≡ kind → ((on : Bool) → f on kind (after_word line) ≡ None) → (on : Bool) → line_value (f on) line ≡ None
 no_property f line kind e none on = ap (λ k. f on k (after_word line)) e ∙ none on
 
 still_at : (line : List ℕ) (kind : Keyword) → says line ≡ kind → ((on : Bool) → switched kind on ≡ on) → (on : Bool) → switched (says line) on ≡ on
@@ -130,12 +130,12 @@ pub later_name : (front : List (List ℕ)) (earlier : List ℕ) (mid : List (Lis
 later_name front earlier mid later back glyphs e l =
     let kind = keyword.Header in_header.Name in
     let still = still_at earlier kind e (λ on. refl) in
-    let title = last_same (given title_in) front earlier mid later back (given_at title_in earlier later kind e l (inr refl)) in
-    let box = last_same (given box_in) front earlier mid later back (given_at box_in earlier later kind e l (inl refl)) in
-    let family = property_same (λ on. given (family_in on)) front earlier mid later back still (inl (no_property family_in earlier kind e (λ on. refl))) in
-    let ascent = property_same (λ on. given (ascent_in on)) front earlier mid later back still (inl (no_property ascent_in earlier kind e (λ on. refl))) in
-    let descent = property_same (λ on. given (descent_in on)) front earlier mid later back still (inl (no_property descent_in earlier kind e (λ on. refl))) in
-    let default = property_same (λ on. given (default_in on)) front earlier mid later back still (inl (no_property default_in earlier kind e (λ on. refl))) in
+    let title = last_same (line_value title_in) front earlier mid later back (given_at title_in earlier later kind e l (inr refl)) in
+    let box = last_same (line_value box_in) front earlier mid later back (given_at box_in earlier later kind e l (inl refl)) in
+    let family = property_same (λ on. line_value (family_in on)) front earlier mid later back still (inl (no_property family_in earlier kind e (λ on. refl))) in
+    let ascent = property_same (λ on. line_value (ascent_in on)) front earlier mid later back still (inl (no_property ascent_in earlier kind e (λ on. refl))) in
+    let descent = property_same (λ on. line_value (descent_in on)) front earlier mid later back still (inl (no_property descent_in earlier kind e (λ on. refl))) in
+    let default = property_same (λ on. line_value (default_in on)) front earlier mid later back still (inl (no_property default_in earlier kind e (λ on. refl))) in
     rw (title, box, family, ascent, descent, default) refl
 
 pub later_box : (front : List (List ℕ)) (earlier : List ℕ) (mid : List (List ℕ)) (later : List ℕ) (back : List (List ℕ)) (glyphs : List FontGlyph) → says earlier ≡ keyword.Header in_header.Box → says later ≡ keyword.Header in_header.Box →
@@ -143,12 +143,12 @@ pub later_box : (front : List (List ℕ)) (earlier : List ℕ) (mid : List (List
 later_box front earlier mid later back glyphs e l r =
     let kind = keyword.Header in_header.Box in
     let still = still_at earlier kind e (λ on. refl) in
-    let title = last_same (given title_in) front earlier mid later back (given_at title_in earlier later kind e l (inl refl)) in
-    let box = last_same (given box_in) front earlier mid later back (given_at box_in earlier later kind e l (inr r)) in
-    let family = property_same (λ on. given (family_in on)) front earlier mid later back still (inl (no_property family_in earlier kind e (λ on. refl))) in
-    let ascent = property_same (λ on. given (ascent_in on)) front earlier mid later back still (inl (no_property ascent_in earlier kind e (λ on. refl))) in
-    let descent = property_same (λ on. given (descent_in on)) front earlier mid later back still (inl (no_property descent_in earlier kind e (λ on. refl))) in
-    let default = property_same (λ on. given (default_in on)) front earlier mid later back still (inl (no_property default_in earlier kind e (λ on. refl))) in
+    let title = last_same (line_value title_in) front earlier mid later back (given_at title_in earlier later kind e l (inl refl)) in
+    let box = last_same (line_value box_in) front earlier mid later back (given_at box_in earlier later kind e l (inr r)) in
+    let family = property_same (λ on. line_value (family_in on)) front earlier mid later back still (inl (no_property family_in earlier kind e (λ on. refl))) in
+    let ascent = property_same (λ on. line_value (ascent_in on)) front earlier mid later back still (inl (no_property ascent_in earlier kind e (λ on. refl))) in
+    let descent = property_same (λ on. line_value (descent_in on)) front earlier mid later back still (inl (no_property descent_in earlier kind e (λ on. refl))) in
+    let default = property_same (λ on. line_value (default_in on)) front earlier mid later back still (inl (no_property default_in earlier kind e (λ on. refl))) in
     rw (title, box, family, ascent, descent, default) refl
 
 family_like : (kind : PropertyKeyword) (a b : List ℕ) → ((on : Bool) → family_in on (keyword.Header (in_header.Property kind)) a ≡ None) ⊎ IsSome (family_in true (keyword.Header (in_header.Property kind)) b)
@@ -185,10 +185,10 @@ later_property kind front earlier mid later back glyphs e l there r =
     let b = after_word later in
     let is_there = open_after false (front ++ earlier ∷ mid) ≡ true in
     let still = still_at earlier word e (λ on. refl) in
-    let title = last_same (given title_in) front earlier mid later back (given_at title_in earlier later word e l (inl refl)) in
-    let box = last_same (given box_in) front earlier mid later back (given_at box_in earlier later word e l (inl refl)) in
-    let family = property_same (λ on. given (family_in on)) front earlier mid later back still (property_at family_in earlier later word is_there e l there (family_like kind a b)) in
-    let ascent = property_same (λ on. given (ascent_in on)) front earlier mid later back still (property_at ascent_in earlier later word is_there e l there (ascent_like kind a b r)) in
-    let descent = property_same (λ on. given (descent_in on)) front earlier mid later back still (property_at descent_in earlier later word is_there e l there (descent_like kind a b r)) in
-    let default = property_same (λ on. given (default_in on)) front earlier mid later back still (property_at default_in earlier later word is_there e l there (default_like kind a b r)) in
+    let title = last_same (line_value title_in) front earlier mid later back (given_at title_in earlier later word e l (inl refl)) in
+    let box = last_same (line_value box_in) front earlier mid later back (given_at box_in earlier later word e l (inl refl)) in
+    let family = property_same (λ on. line_value (family_in on)) front earlier mid later back still (property_at family_in earlier later word is_there e l there (family_like kind a b)) in
+    let ascent = property_same (λ on. line_value (ascent_in on)) front earlier mid later back still (property_at ascent_in earlier later word is_there e l there (ascent_like kind a b r)) in
+    let descent = property_same (λ on. line_value (descent_in on)) front earlier mid later back still (property_at descent_in earlier later word is_there e l there (descent_like kind a b r)) in
+    let default = property_same (λ on. line_value (default_in on)) front earlier mid later back still (property_at default_in earlier later word is_there e l there (default_like kind a b r)) in
     rw (title, box, family, ascent, descent, default) refl

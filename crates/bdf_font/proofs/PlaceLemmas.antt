@@ -11,7 +11,7 @@ use Rattle.std.proofs.lemmas.List.Sorted.{sorted_far, ranks_by}
 use Rattle.std.proofs.lemmas.List.Recursion.{found_at, found_nowhere}
 use Rattle.bdf_font.specs.declared.glyphs.FontGlyph.{FontGlyph}
 use Rattle.bdf_font.specs.Fonts.{place_from}
-use Rattle.bdf_font.specs.Places.{entries_from, first_at, IsInOrder, IsIndex}
+use Rattle.bdf_font.specs.Places.{entries_from, first_at, IsInCodeOrder, IsIndex}
 
 first_at-entries : (n : ℕ) (code : ℤ) (glyphs : List FontGlyph) → first_at code (entries_from n glyphs) ≡ place_from n code glyphs
 first_at-entries n code [] = refl
@@ -46,7 +46,7 @@ first_at-ties code (entry ∷ entries) =
     cases false rest = refl
 
 -- a stable sort keeps the first place of each code
-pub index_sorted : (glyphs : List FontGlyph) (sorted : List (ℤ × ℕ)) → IsInOrder sorted → IsStableByKey (λ entry. entry.0) int_cmp (entries_from 0 glyphs) sorted → IsIndex sorted glyphs
+pub index_sorted : (glyphs : List FontGlyph) (sorted : List (ℤ × ℕ)) → IsInCodeOrder sorted → IsStableByKey (λ entry. entry.0) int_cmp (entries_from 0 glyphs) sorted → IsIndex sorted glyphs
 index_sorted glyphs sorted order stable = record {
   in_order = order;
   known = λ code.
@@ -75,7 +75,7 @@ eq_is a b = cases (int_lt a b) (int_lt b a)
     cases false false = refl
 
 -- no code is below one that stands before it
-rises : (entries : List (ℤ × ℕ)) → IsInOrder entries → (i j : ℕ) (d : ℤ × ℕ) → i ≤ j → j < length entries → int_lt (get_or entries j d).0 (get_or entries i d).0 ≡ false
+rises : (entries : List (ℤ × ℕ)) → IsInCodeOrder entries → (i j : ℕ) (d : ℤ × ℕ) → i ≤ j → j < length entries → int_lt (get_or entries j d).0 (get_or entries i d).0 ≡ false
 rises entries order i j d le room =
     sym (lt_is (get_or entries j d).0 (get_or entries i d).0) ∙ sorted_far lt_key (ranks_by int_cmp_total (λ entry. entry.0)) entries order i j d le room
 
@@ -85,7 +85,7 @@ below_too a b c h k = grind (arith, ints)
 above_too : (a b c : ℤ) → int_lt b a ≡ false → int_lt c a ≡ true → int_lt c b ≡ true
 above_too a b c h k = grind (arith, ints)
 
-pub is_parted : (entries : List (ℤ × ℕ)) (code : ℤ) → IsInOrder entries → IsPartitionedBy (λ entry. int_lt entry.0 code) entries
+pub is_parted : (entries : List (ℤ × ℕ)) (code : ℤ) → IsInCodeOrder entries → IsPartitionedBy (λ entry. int_lt entry.0 code) entries
 is_parted entries code order i j d le room below = below_too (get_or entries i d).0 (get_or entries j d).0 code (rises entries order i j d le room) below
 
 eq_below : (a b : ℤ) → int_lt a b ≡ true → int_eq a b ≡ false
@@ -122,7 +122,7 @@ first_at-there entries code at d room point le =
     (λ k less. eq_below (get_or entries k d).0 code (point.0 k d (omega arith) less)) (meets (get_or entries at d).0 code (point.1 at d (le_refl at) room) le)
 
 -- where it doesn't
-pub first_at-nowhere : (entries : List (ℤ × ℕ)) (code : ℤ) (at : ℕ) (d : ℤ × ℕ) → IsInOrder entries → IsPartitionPoint (λ entry. int_lt entry.0 code ≡ true) (λ entry. int_lt entry.0 code ≡ false) entries at →
+pub first_at-nowhere : (entries : List (ℤ × ℕ)) (code : ℤ) (at : ℕ) (d : ℤ × ℕ) → IsInCodeOrder entries → IsPartitionPoint (λ entry. int_lt entry.0 code ≡ true) (λ entry. int_lt entry.0 code ≡ false) entries at →
     (at < length entries → code <ℤ (get_or entries at d).0) → first_at code entries ≡ None
 first_at-nowhere entries code at d order point other =
     found_nowhere (first_at code) (λ entry. int_eq entry.0 code) (λ entry. Some entry.1) None refl (λ entry rest. refl) entries d (λ k room. sides k room (lt_or_ge k at))

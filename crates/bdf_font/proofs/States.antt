@@ -25,7 +25,7 @@ use Rattle.bdf_font.specs.declared.keyword.GlyphKeyword.TheVariants as in_glyph
 use Rattle.bdf_font.specs.declared.keyword.HeaderKeyword.TheVariants as in_header
 use Rattle.bdf_font.specs.Grammar.{Open, Outside, InGlyph, InBitmap, Front, Unbegun, Begun, says, is_read, is_passed, is_single, is_in_head, is_row, row_bytes, row_len, bytes_or_none, cell_said, cell_of, no_cell, glyph_in, glyphs_of, font_lines, open_after, start_fault, single_fault, head_fault, number_fault, after_rows_fault, bitmap_fault}
 use Rattle.bdf_font.specs.Rows.{Next, Fault, Full, outcome_map}
-use Rattle.bdf_font.specs.Steps.{no_lines, no_header, no_glyph, first_line, font_line, glyph_line, bitmap_line, bitmap_begun, with_row, row_line, after_rows, line_of, made_glyph, advance_or}
+use Rattle.bdf_font.specs.Steps.{no_font_lines, no_header, no_glyph, first_line, font_step, glyph_line, bitmap_line, bitmap_begun, with_row, row_line, after_rows, reading_after, made_glyph, advance_or}
 use Rattle.bdf_font.proofs.Given.{header_of, draft_of, header_with, draft_with, header_of-push, draft_of-push, header_read, header_unread, encoding_read, width_read, cell_read, encoding_unread, width_unread, cell_unread}
 
 -- ---- states
@@ -46,12 +46,12 @@ state_in lines glyphs (InGlyph start head) = glyph_at (header_of lines) glyphs (
 state_in lines glyphs (InBitmap start head bitmap rows) = bitmap_at (header_of lines) glyphs (draft_of head) (cell_of head) ((cell_of head).h - length rows) rows
 
 abbrev pub state_of : Front → Reading
-state_of (Unbegun before) = no_lines
+state_of (Unbegun before) = no_font_lines
 state_of (Begun before start blocks part) = state_in (font_lines blocks part) (glyphs_of blocks) part
 
 -- ---- before STARTFONT
 
-pub passed_next : (kind : Keyword) → is_passed kind ≡ true → first_line kind no_lines ≡ Next no_lines
+pub passed_next : (kind : Keyword) → is_passed kind ≡ true → first_line kind no_font_lines ≡ Next no_font_lines
 passed_next keyword.StartFont h = absurd cc
 passed_next keyword.EndFont h = absurd cc
 passed_next keyword.StartChar h = absurd cc
@@ -63,10 +63,10 @@ passed_next (keyword.Header in_header.EndProperties) h = absurd cc
 passed_next (keyword.Header (in_header.Property kind)) h = refl
 passed_next keyword.Unknown h = refl
 
-pub start_next : (kind : Keyword) → kind ≡ keyword.StartFont → first_line kind no_lines ≡ Next (outside_at no_header [])
-start_next kind e = ap (λ k. first_line k no_lines) e
+pub start_next : (kind : Keyword) → kind ≡ keyword.StartFont → first_line kind no_font_lines ≡ Next (outside_at no_header [])
+start_next kind e = ap (λ k. first_line k no_font_lines) e
 
-pub start_stops : (kind : Keyword) (cause : FontCause) → start_fault kind ≡ Some cause → first_line kind no_lines ≡ Fault cause
+pub start_stops : (kind : Keyword) (cause : FontCause) → start_fault kind ≡ Some cause → first_line kind no_font_lines ≡ Fault cause
 start_stops keyword.StartFont cause h = absurd cc
 start_stops keyword.EndFont cause h = cc
 start_stops keyword.StartChar cause h = cc
@@ -88,7 +88,7 @@ unread on kind rest cause h = cases (is_read on kind rest) h
     cases true h = absurd cc
     cases false h = (refl, cc)
 
-pub single_next : (kind : Keyword) (rest : List ℕ) (h : Header) (glyphs : List FontGlyph) → is_single kind ≡ true → is_read h.properties kind rest ≡ true → font_line kind rest (outside_at h glyphs) ≡ Next (outside_at (header_with kind rest h) glyphs)
+pub single_next : (kind : Keyword) (rest : List ℕ) (h : Header) (glyphs : List FontGlyph) → is_single kind ≡ true → is_read h.properties kind rest ≡ true → font_step kind rest (outside_at h glyphs) ≡ Next (outside_at (header_with kind rest h) glyphs)
 single_next keyword.StartFont rest h glyphs s r = refl
 single_next keyword.EndFont rest h glyphs s r = absurd cc
 single_next keyword.StartChar rest h glyphs s r = absurd cc
@@ -96,17 +96,17 @@ single_next (keyword.Glyph kind) rest h glyphs s r = absurd cc
 single_next (keyword.Header kind) rest h glyphs s r = ap (outcome_map (λ header. outside_at header glyphs)) (header_read kind rest h r)
 single_next keyword.Unknown rest h glyphs s r = refl
 
-pub glyph_next : (kind : Keyword) (rest : List ℕ) (h : Header) (glyphs : List FontGlyph) → kind ≡ keyword.StartChar → length glyphs < 131072 → font_line kind rest (outside_at h glyphs) ≡ Next (glyph_at h glyphs no_glyph)
+pub glyph_next : (kind : Keyword) (rest : List ℕ) (h : Header) (glyphs : List FontGlyph) → kind ≡ keyword.StartChar → length glyphs < 131072 → font_step kind rest (outside_at h glyphs) ≡ Next (glyph_at h glyphs no_glyph)
 glyph_next kind rest h glyphs e few =
-    ap (λ k. font_line k rest (outside_at h glyphs)) e
+    ap (λ k. font_step k rest (outside_at h glyphs)) e
     ∙ ap (λ b. cond b Full (Next (glyph_at h glyphs no_glyph))) (lt-leb 131072 (length glyphs) few)
 
-pub full_stops : (kind : Keyword) (rest : List ℕ) (h : Header) (glyphs : List FontGlyph) → kind ≡ keyword.StartChar → length glyphs ≡ 131072 → font_line kind rest (outside_at h glyphs) ≡ Full
+pub full_stops : (kind : Keyword) (rest : List ℕ) (h : Header) (glyphs : List FontGlyph) → kind ≡ keyword.StartChar → length glyphs ≡ 131072 → font_step kind rest (outside_at h glyphs) ≡ Full
 full_stops kind rest h glyphs e full =
-    ap (λ k. font_line k rest (outside_at h glyphs)) e
+    ap (λ k. font_step k rest (outside_at h glyphs)) e
     ∙ ap (λ n. cond (leb 131072 n) Full (Next (glyph_at h glyphs no_glyph))) full
 
-pub font_stops : (kind : Keyword) (rest : List ℕ) (h : Header) (glyphs : List FontGlyph) (cause : FontCause) → single_fault h.properties kind rest ≡ Some cause → font_line kind rest (outside_at h glyphs) ≡ Fault cause
+pub font_stops : (kind : Keyword) (rest : List ℕ) (h : Header) (glyphs : List FontGlyph) (cause : FontCause) → single_fault h.properties kind rest ≡ Some cause → font_step kind rest (outside_at h glyphs) ≡ Fault cause
 font_stops keyword.StartFont rest h glyphs cause f = absurd cc
 font_stops keyword.EndFont rest h glyphs cause f = absurd cc
 font_stops keyword.StartChar rest h glyphs cause f = absurd cc
@@ -262,22 +262,22 @@ bitmap_stops line h glyphs d cell rows cause within f = cases (length rows == ce
 -- ---- the same steps behind lines
 
 pub single_step : (line : List ℕ) (lines : List (List ℕ)) (glyphs : List FontGlyph) → is_single (says line) ≡ true → is_read (open_after false lines) (says line) (after_word line) ≡ true →
-    line_of line (outside_at (header_of lines) glyphs) ≡ Next (outside_at (header_of (lines ++ line ∷ [])) glyphs)
+    reading_after line (outside_at (header_of lines) glyphs) ≡ Next (outside_at (header_of (lines ++ line ∷ [])) glyphs)
 single_step line lines glyphs s r = single_next (says line) (after_word line) (header_of lines) glyphs s r ∙ ap (λ h. Next (outside_at h glyphs)) (sym (header_of-push lines line))
 
 pub head_step : (line : List ℕ) (lines head : List (List ℕ)) (glyphs : List FontGlyph) → is_in_head (says line) ≡ true → is_read (open_after false lines) (says line) (after_word line) ≡ true →
-    line_of line (glyph_at (header_of lines) glyphs (draft_of head)) ≡ Next (glyph_at (header_of (lines ++ line ∷ [])) glyphs (draft_of (head ++ line ∷ [])))
+    reading_after line (glyph_at (header_of lines) glyphs (draft_of head)) ≡ Next (glyph_at (header_of (lines ++ line ∷ [])) glyphs (draft_of (head ++ line ∷ [])))
 head_step line lines head glyphs s r =
     head_next (says line) (after_word line) (header_of lines) glyphs (draft_of head) s r
     ∙ (ap (λ h. Next (glyph_at h glyphs (draft_with (says line) (after_word line) (draft_of head)))) (sym (header_of-push lines line))
     ∙ ap (λ d. Next (glyph_at (header_of (lines ++ line ∷ [])) glyphs d)) (sym (draft_of-push head line)))
 
 pub bitmap_step : (line : List ℕ) (lines head : List (List ℕ)) (glyphs : List FontGlyph) → says line ≡ keyword.Glyph in_glyph.Bitmap → IsSome (cell_said head) →
-    line_of line (glyph_at (header_of lines) glyphs (draft_of head)) ≡ Next (bitmap_at (header_of lines) glyphs (draft_of head) (cell_of head) (cell_of head).h [])
+    reading_after line (glyph_at (header_of lines) glyphs (draft_of head)) ≡ Next (bitmap_at (header_of lines) glyphs (draft_of head) (cell_of head) (cell_of head).h [])
 bitmap_step line lines head glyphs e some = bitmap_next (says line) (after_word line) (header_of lines) glyphs (draft_of head) (cell_of head) e (said_is (cell_said head) some)
 
 pub row_step : (line : List ℕ) (h : Header) (glyphs : List FontGlyph) (d : Draft) (cell : BoundingBox) (rows : List (List ℕ)) → length rows < cell.h → is_row (row_len cell.w) line ≡ true →
-    line_of line (bitmap_at h glyphs d cell (cell.h - length rows) rows) ≡ Next (bitmap_at h glyphs d cell (cell.h - length (rows ++ line ∷ [])) (rows ++ line ∷ []))
+    reading_after line (bitmap_at h glyphs d cell (cell.h - length rows) rows) ≡ Next (bitmap_at h glyphs d cell (cell.h - length (rows ++ line ∷ [])) (rows ++ line ∷ []))
 row_step line h glyphs d cell rows room row =
     let less : cell.h - length rows - 1 ≡ cell.h - length (rows ++ line ∷ []) = omega (arith, length-append rows (line ∷ [])) in
     row_next line h glyphs d cell (cell.h - length rows) rows (omega arith) row
@@ -285,7 +285,7 @@ row_step line h glyphs d cell rows room row =
 
 -- ---- where a line leaves the format, the reader stops so
 
-pub state_stops : (lines : List (List ℕ)) (glyphs : List FontGlyph) (line : List ℕ) (cause : FontCause) → single_fault (open_after false lines) (says line) (after_word line) ≡ Some cause → line_of line (outside_at (header_of lines) glyphs) ≡ Fault cause
+pub state_stops : (lines : List (List ℕ)) (glyphs : List FontGlyph) (line : List ℕ) (cause : FontCause) → single_fault (open_after false lines) (says line) (after_word line) ≡ Some cause → reading_after line (outside_at (header_of lines) glyphs) ≡ Fault cause
 state_stops lines glyphs line cause f = font_stops (says line) (after_word line) (header_of lines) glyphs cause f
 
 -- ---- which way a line goes

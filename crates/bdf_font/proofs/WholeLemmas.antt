@@ -6,7 +6,7 @@ use Rattle.std.proofs.lemmas.List.Sums.{AllPass-from_list_all, list_all-from_All
 use Rattle.std.proofs.lemmas.Bool.Decides.{nat_tests}
 use Rattle.std.proofs.Math.Seq.{drop-append_seam, take-append_seam}
 use Rattle.std.specs.List.{AllPass, prefix_len, list_all}
-use Rattle.ass_num.specs.Numerals.{is_blank, is_decimal, sign_len, number_of, IsSign, signed, IsWhole}
+use Rattle.ass_num.specs.Numerals.{is_blank, is_decimal, sign_len, number_of, IsSign, signed, IsWholeNumber}
 use Rattle.ass_num.proofs.Runs.{prefix_len-append, AllPass-take, IsSign-take}
 use Rattle.ass_num.proofs.SignFronts.{unsigned_all, sign_before}
 use Rattle.ass_num.proofs.Wholes.{no_blank_signed, no_digit_blanks}
@@ -30,7 +30,7 @@ at_is sign digits after is_sign passes some =
     ∙ ap (whole_behind sign) (drop-append_seam sign (digits ++ after)))
 
 -- a text of the shape has its number
-pub whole_from_shape : (t : List ℕ) (z : ℤ) → IsWhole t z → whole_of t ≡ Some z
+pub whole_from_shape : (t : List ℕ) (z : ℤ) → IsWholeNumber t z → whole_of t ≡ Some z
 unfolding whole_of
 whole_from_shape t z m =
     let tail = m.sign ++ (m.digits ++ m.after) in
@@ -60,7 +60,7 @@ under_shape sign digits rest z e = cases _ _ _ refl refl refl
     cases true true false ea eb ec = absurd (grind (arith, nat_tests))
 
 -- the number that a text has comes of its shape
-pub shape_from_whole : (t : List ℕ) (z : ℤ) → whole_of t ≡ Some z → IsWhole t z
+pub shape_from_whole : (t : List ℕ) (z : ℤ) → whole_of t ≡ Some z → IsWholeNumber t z
 unfolding whole_of
 shape_from_whole t z e =
     let b = prefix_len is_blank t in
@@ -84,7 +84,7 @@ shape_from_whole t z e =
     }
 
 -- what a reader says that answers exactly where the shape holds
-pub whole_read : (t : List ℕ) (r : Option ℤ) → IfSome r (IsWhole t) → IfNone r ((z : ℤ) → IsWhole t z → ⊥) → r ≡ whole_of t
+pub whole_read : (t : List ℕ) (r : Option ℤ) → IfSome r (IsWholeNumber t) → IfNone r ((z : ℤ) → IsWholeNumber t z → ⊥) → r ≡ whole_of t
 whole_read t (Some z) some none = sym (whole_from_shape t z some)
 whole_read t None some none = sym (cases (whole_of t) refl)
   where

@@ -7,7 +7,7 @@ use Rattle.std.specs.Char.{to_ascii_lowercase}
 use Rattle.bdf_font.specs.declared.glyphs.FontGlyph.{FontGlyph}
 
 -- A font as contracts see it.
-pub record PlainFont : Type 0 where
+pub record FontValue : Type 0 where
   pub name : List ℕ
   pub ascent : ℤ
   pub descent : ℤ
@@ -28,7 +28,7 @@ abbrev pub place_of_default : Option ℤ → List FontGlyph → Option ℕ
 place_of_default default_char glyphs = option_and_then (place_of glyphs) default_char
 
 -- the glyph of a character: the first with its code, or else the first with the default code
-abbrev pub glyph_of : PlainFont → ℕ → Option ℕ
+abbrev pub glyph_of : FontValue → ℕ → Option ℕ
 glyph_of font c = option_or (place_of font.glyphs (pos c)) (place_of_default font.default_char font.glyphs)
 
 -- two names are one without regard to ASCII case
@@ -36,10 +36,10 @@ abbrev pub same_name : List ℕ → List ℕ → Bool
 same_name a b = bytes_eq (map to_ascii_lowercase a) (map to_ascii_lowercase b)
 
 -- the place of the first font of this name, where the first of the fonts has the place n; 0 where there is none
-abbrev pub named_from : ℕ → List ℕ → List PlainFont → ℕ
+abbrev pub named_from : ℕ → List ℕ → List FontValue → ℕ
 named_from n name [] = 0
 named_from n name (font ∷ fonts) = if same_name font.name name then n else named_from (n + 1) name fonts
 
 -- the place of the first font of this name, or else 0
-abbrev pub font_named : List ℕ → List PlainFont → ℕ
+abbrev pub font_named : List ℕ → List FontValue → ℕ
 font_named name fonts = named_from 0 name fonts

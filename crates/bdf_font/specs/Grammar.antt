@@ -8,7 +8,7 @@ use Rattle.blanks.specs.Blanks.{trimmed}
 use Rattle.bdf_font.specs.Words.{first_word, after_word, offset_of, bounding_box_of, family_name_of}
 use Rattle.bdf_font.specs.Whole.{whole_of}
 use Rattle.bdf_font.specs.Keywords.{keyword_of}
-use Rattle.bdf_font.specs.Fonts.{PlainFont}
+use Rattle.bdf_font.specs.Fonts.{FontValue}
 use Rattle.bdf_font.specs.declared.cause.FontCause.{FontCause}
 use Rattle.bdf_font.specs.declared.cause.FontCause.TheVariants.{NoStart, BadNumber, BadRow, Misplaced, NoEnd}
 use Rattle.bdf_font.specs.declared.cause.FontRefusal.{FontRefusal}
@@ -141,8 +141,8 @@ cell_in (keyword.Glyph in_glyph.Box) rest = bounding_box_of rest
 cell_in _ rest = None
 
 -- what a line gives, by its first word and what follows that
-abbrev pub given : {V : Type 0} → (Keyword → List ℕ → Option V) → List ℕ → Option V
-given f line = f (says line) (after_word line)
+abbrev pub line_value : {V : Type 0} → (Keyword → List ℕ → Option V) → List ℕ → Option V
+line_value f line = f (says line) (after_word line)
 
 -- whether a line has the numbers that its keyword wants; those of properties are wanted between the property lines alone
 abbrev pub is_read : Bool → Keyword → List ℕ → Bool
@@ -167,7 +167,7 @@ no_cell = record { w = 0; h = 0; x = pos 0; y = pos 0 }
 
 -- the box of a glyph, where it has one
 abbrev pub cell_said : List (List ℕ) → Option BoundingBox
-cell_said head = last_given (given cell_in) head
+cell_said head = last_given (line_value cell_in) head
 
 abbrev pub cell_of : List (List ℕ) → BoundingBox
 cell_of head = unwrap_or (cell_said head) no_cell
@@ -190,8 +190,8 @@ row_bytes len line = bytes_or_none (decode_sized (trimmed line) len)
 -- what the lines of a glyph and its rows make; a missing code is -1, and a missing advance the width
 abbrev pub glyph_in : List (List ℕ) → List (List ℕ) → FontGlyph
 glyph_in head rows = record {
-  code = unwrap_or (last_given (given code_in) head) (negsuc 0);
-  advance = unwrap_or (last_given (given advance_in) head) (pos (cell_of head).w);
+  code = unwrap_or (last_given (line_value code_in) head) (negsuc 0);
+  advance = unwrap_or (last_given (line_value advance_in) head) (pos (cell_of head).w);
   w = (cell_of head).w;
   h = (cell_of head).h;
   x = (cell_of head).x;
@@ -223,12 +223,12 @@ box_depth None = pos 0
 box_depth (Some cell) = neg_ℤ cell.y
 
 -- What these lines and glyphs make: the family name goes before the font's, and a missing ascent and descent are the box's.
-abbrev pub font_said : List (List ℕ) → List FontGlyph → PlainFont
+abbrev pub font_said : List (List ℕ) → List FontGlyph → FontValue
 font_said lines glyphs = record {
-  name = unwrap_or (last_property (λ on. given (family_in on)) false lines) (unwrap_or (last_given (given title_in) lines) []);
-  ascent = from_zero (unwrap_or (last_property (λ on. given (ascent_in on)) false lines) (box_top (last_given (given box_in) lines)));
-  descent = from_zero (unwrap_or (last_property (λ on. given (descent_in on)) false lines) (box_depth (last_given (given box_in) lines)));
-  default_char = last_property (λ on. given (default_in on)) false lines;
+  name = unwrap_or (last_property (λ on. line_value (family_in on)) false lines) (unwrap_or (last_given (line_value title_in) lines) []);
+  ascent = from_zero (unwrap_or (last_property (λ on. line_value (ascent_in on)) false lines) (box_top (last_given (line_value box_in) lines)));
+  descent = from_zero (unwrap_or (last_property (λ on. line_value (descent_in on)) false lines) (box_depth (last_given (line_value box_in) lines)));
+  default_char = last_property (λ on. line_value (default_in on)) false lines;
   glyphs = glyphs;
 }
 
@@ -297,9 +297,9 @@ pub record IsBegun (before : List (List ℕ)) (start : List ℕ) (blocks : List 
   pub numbers : AllRead false (font_lines blocks part)
   pub room : length (glyphs_of blocks) + begun_in part ≤ 131072
 
-abbrev pub IsFront : Front → Type 0
-IsFront (Unbegun before) = ArePassed before
-IsFront (Begun before start blocks part) = IsBegun before start blocks part
+abbrev pub IsSoundFront : Front → Type 0
+IsSoundFront (Unbegun before) = ArePassed before
+IsSoundFront (Begun before start blocks part) = IsBegun before start blocks part
 
 -- ---- how a line leaves the format
 
@@ -342,7 +342,7 @@ fault_after (Begun before start blocks (InBitmap begin head bitmap rows)) line =
 -- ---- the answer to a text
 
 -- The lines are whole blocks up to ENDFONT, which say this font; anything may follow.
-pub record IsFontText (lines : List (List ℕ)) (font : PlainFont) : Type 0 where
+pub record IsFontText (lines : List (List ℕ)) (font : FontValue) : Type 0 where
   pub before : List (List ℕ)
   pub start : List ℕ
   pub blocks : List Block
@@ -359,7 +359,7 @@ pub record LeavesAt (lines : List (List ℕ)) (n : ℕ) (cause : FontCause) : Ty
   pub line : List ℕ
   pub after : List (List ℕ)
   pub spelled : lines ≡ front_lines front ++ line ∷ after
-  pub sound : IsFront front
+  pub sound : IsSoundFront front
   pub place : n ≡ 1 + length (front_lines front)
   pub fault : fault_after front line ≡ Some cause
 
@@ -367,7 +367,7 @@ pub record LeavesAt (lines : List (List ℕ)) (n : ℕ) (cause : FontCause) : Ty
 pub record LacksEnd (lines : List (List ℕ)) (n : ℕ) : Type 0 where
   pub front : Front
   pub spelled : lines ≡ front_lines front
-  pub sound : IsFront front
+  pub sound : IsSoundFront front
   pub place : n ≡ 1 + length lines
 
 -- The lines are a front of 131,072 glyphs, and another glyph begins behind it.
@@ -383,8 +383,8 @@ pub record HasTooMany (lines : List (List ℕ)) : Type 0 where
   pub begins : says line ≡ keyword.StartChar
 
 -- the font that lines spell, the first line that leaves the format and how, or a glyph too many
-abbrev pub IsAnswer : List (List ℕ) → Result PlainFont FontRefusal → Type 0
-IsAnswer lines (Ok font) = IsFontText lines font
-IsAnswer lines (Err (BadFont n cause)) = LeavesAt lines n cause ⊎ ((cause ≡ NoEnd) × LacksEnd lines n)
-IsAnswer lines (Err (TooLarge most)) = (most ≡ 131072) × HasTooMany lines
-IsAnswer lines (Err refusal.OutOfMemory) = ⊥
+abbrev pub IsFontAnswer : List (List ℕ) → Result FontValue FontRefusal → Type 0
+IsFontAnswer lines (Ok font) = IsFontText lines font
+IsFontAnswer lines (Err (BadFont n cause)) = LeavesAt lines n cause ⊎ ((cause ≡ NoEnd) × LacksEnd lines n)
+IsFontAnswer lines (Err (TooLarge most)) = (most ≡ 131072) × HasTooMany lines
+IsFontAnswer lines (Err refusal.OutOfMemory) = ⊥

@@ -1,6 +1,6 @@
 -- What holds of every text, in the words of its lines.
 use Rattle.std.specs.Prelude.{◌≡◌, ℕ, ◌+◌, ◌↔◌, true, false, List, ◌∷◌, ◌++◌, length, Some, Result, Ok, Err, ℤ}
-use Rattle.ass_num.specs.Numerals.{IsWhole}
+use Rattle.ass_num.specs.Numerals.{IsWholeNumber}
 use Rattle.bdf_font.specs.declared.cause.FontCause.{FontCause}
 use Rattle.bdf_font.specs.declared.cause.FontCause.TheVariants.{NoEnd}
 use Rattle.bdf_font.specs.declared.cause.FontRefusal.{FontRefusal}
@@ -12,25 +12,25 @@ use Rattle.bdf_font.specs.declared.keyword.HeaderKeyword.TheVariants as in_heade
 use Rattle.bdf_font.specs.declared.keyword.PropertyKeyword.{PropertyKeyword}
 use Rattle.bdf_font.specs.Words.{after_word}
 use Rattle.bdf_font.specs.Whole.{whole_of}
-use Rattle.bdf_font.specs.Fonts.{PlainFont}
-use Rattle.bdf_font.specs.Grammar.{IsAnswer, says, is_read, open_after, glyph_in, font_said}
+use Rattle.bdf_font.specs.Fonts.{FontValue}
+use Rattle.bdf_font.specs.Grammar.{IsFontAnswer, says, is_read, open_after, glyph_in, font_said}
 
 -- Each list of lines has exactly one answer.
 abbrev pub OneAnswer : Type 0
-OneAnswer = (lines : List (List ℕ)) → (answer : Result PlainFont FontRefusal) × IsAnswer lines answer × ((other : Result PlainFont FontRefusal) → IsAnswer lines other → other ≡ answer)
+OneAnswer = (lines : List (List ℕ)) → (answer : Result FontValue FontRefusal) × IsFontAnswer lines answer × ((other : Result FontValue FontRefusal) → IsFontAnswer lines other → other ≡ answer)
 
 -- What follows the end of a font changes nothing.
 abbrev pub EndsTheFont : Type 0
-EndsTheFont = (lines more : List (List ℕ)) (font : PlainFont) → IsAnswer lines (Ok font) → IsAnswer (lines ++ more) (Ok font)
+EndsTheFont = (lines more : List (List ℕ)) (font : FontValue) → IsFontAnswer lines (Ok font) → IsFontAnswer (lines ++ more) (Ok font)
 
 -- The lines before the one that is refused lack an end alone.
 abbrev pub IsFirstFault : Type 0
-IsFirstFault = (front rest : List (List ℕ)) (cause : FontCause) → IsAnswer (front ++ rest) (Err (BadFont (1 + length front) cause)) → IsAnswer front (Err (BadFont (1 + length front) NoEnd))
+IsFirstFault = (front rest : List (List ℕ)) (cause : FontCause) → IsFontAnswer (front ++ rest) (Err (BadFont (1 + length front) cause)) → IsFontAnswer front (Err (BadFont (1 + length front) NoEnd))
 
 -- A line that is refused is refused whatever follows it.
 abbrev pub StaysRefused : Type 0
 StaysRefused = (front : List (List ℕ)) (line : List ℕ) (rest more : List (List ℕ)) (cause : FontCause) →
-    IsAnswer (front ++ line ∷ rest) (Err (BadFont (1 + length front) cause)) → IsAnswer (front ++ line ∷ more) (Err (BadFont (1 + length front) cause))
+    IsFontAnswer (front ++ line ∷ rest) (Err (BadFont (1 + length front) cause)) → IsFontAnswer (front ++ line ∷ more) (Err (BadFont (1 + length front) cause))
 
 -- Of two lines of a glyph's keyword, with any lines between them, the earlier one changes nothing.
 abbrev pub LaterGlyphLineCounts : Type 0
@@ -55,4 +55,4 @@ LaterPropertyCounts = (kind : PropertyKeyword) (front : List (List ℕ)) (earlie
 
 -- The numbers are the whole numbers of scripts.
 abbrev pub NumbersAreWhole : Type 0
-NumbersAreWhole = (text : List ℕ) (n : ℤ) → (whole_of text ≡ Some n) ↔ IsWhole text n
+NumbersAreWhole = (text : List ℕ) (n : ℤ) → (whole_of text ≡ Some n) ↔ IsWholeNumber text n

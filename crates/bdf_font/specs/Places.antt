@@ -16,10 +16,10 @@ first_at code [] = None
 first_at code (entry ∷ entries) = if int_eq entry.0 code then Some entry.1 else first_at code entries
 
 -- in the order of the codes
-abbrev pub IsInOrder : List (ℤ × ℕ) → Type 0
-IsInOrder entries = IsSortedByKey (λ entry. entry.0) int_cmp entries
+abbrev pub IsInCodeOrder : List (ℤ × ℕ) → Type 0
+IsInCodeOrder entries = IsSortedByKey (λ entry. entry.0) int_cmp entries
 
 -- the entries have the first place of each code, and stand in the order of the codes
 pub record IsIndex (entries : List (ℤ × ℕ)) (glyphs : List FontGlyph) : Type 0 where
-  pub in_order : IsInOrder entries
+  pub in_order : IsInCodeOrder entries
   pub known : (code : ℤ) → first_at code entries ≡ place_from 0 code glyphs

@@ -9,7 +9,7 @@ use Rattle.bdf_font.specs.declared.reading.Reading.{Reading}
 use Rattle.bdf_font.specs.declared.reading.Draft.{Draft}
 use Rattle.bdf_font.specs.declared.reading.Place.{Place}
 use Rattle.bdf_font.specs.declared.reading.Place.TheVariants as place
-use Rattle.bdf_font.specs.Fonts.{PlainFont}
+use Rattle.bdf_font.specs.Fonts.{FontValue}
 
 -- within 4,096 on both sides
 abbrev pub IsOffset : ℤ → Type 0
@@ -30,7 +30,7 @@ pub record IsGlyph (glyph : FontGlyph) : Type 0 where
   pub y : IsOffset glyph.y
   pub rows : length glyph.bits ≡ glyph.h * ((glyph.w + 7) / 8)
 
-pub record IsFont (font : PlainFont) : Type 0 where
+pub record IsFont (font : FontValue) : Type 0 where
   pub ascent : pos 0 ≤ℤ font.ascent
   pub ascent_most : font.ascent ≤ℤ pos 5120
   pub descent : pos 0 ≤ℤ font.descent
@@ -40,7 +40,7 @@ pub record IsFont (font : PlainFont) : Type 0 where
 
 -- ---- while a font is read
 
-pub record IsHeader (header : Header) : Type 0 where
+pub record IsFontHeader (header : Header) : Type 0 where
   pub bounding_box : IfSome header.bounding_box IsBox
   pub ascent : IfSome header.ascent IsOffset
   pub descent : IfSome header.descent IsOffset
@@ -50,17 +50,17 @@ pub record IsDraft (draft : Draft) : Type 0 where
   pub bounding_box : IfSome draft.bounding_box IsBox
 
 -- so many glyphs and bytes of a bitmap there may be at a place
-abbrev pub IsPlace : Place → ℕ → ℕ → Type 0
-IsPlace place.Start glyphs bytes = glyphs ≤ 131072
-IsPlace place.Font glyphs bytes = glyphs ≤ 131072
-IsPlace place.Glyph glyphs bytes = glyphs < 131072
-IsPlace (place.Bitmap cell left) glyphs bytes = (glyphs < 131072) × IsBox cell × (bytes + left * ((cell.w + 7) / 8) ≡ cell.h * ((cell.w + 7) / 8))
+abbrev pub IsReadingPlace : Place → ℕ → ℕ → Type 0
+IsReadingPlace place.Start glyphs bytes = glyphs ≤ 131072
+IsReadingPlace place.Font glyphs bytes = glyphs ≤ 131072
+IsReadingPlace place.Glyph glyphs bytes = glyphs < 131072
+IsReadingPlace (place.Bitmap cell left) glyphs bytes = (glyphs < 131072) × IsBox cell × (bytes + left * ((cell.w + 7) / 8) ≡ cell.h * ((cell.w + 7) / 8))
 
-pub record IsReading (reading : Reading) : Type 0 where
-  pub header : IsHeader reading.header
+pub record IsFontReading (reading : Reading) : Type 0 where
+  pub header : IsFontHeader reading.header
   pub draft : IsDraft reading.draft
   pub glyphs : All IsGlyph reading.glyphs
-  pub place : IsPlace reading.place (length reading.glyphs) (length reading.draft.bits)
+  pub place : IsReadingPlace reading.place (length reading.glyphs) (length reading.draft.bits)
 
 -- what is kept where the walk goes on, or ends with the font
 abbrev pub Keeps : Result (Unit {0}) Stop → Type 0 → Type 0

@@ -6,7 +6,7 @@ use Rattle.blanks.specs.Blanks.{trimmed}
 use Rattle.bdf_font.specs.Words.{first_word, after_word, offset_of, bounding_box_of, family_name_of}
 use Rattle.bdf_font.specs.Whole.{whole_of}
 use Rattle.bdf_font.specs.Keywords.{keyword_of}
-use Rattle.bdf_font.specs.Fonts.{PlainFont}
+use Rattle.bdf_font.specs.Fonts.{FontValue}
 use Rattle.bdf_font.specs.Grammar.{from_zero, box_top, box_depth}
 use Rattle.bdf_font.specs.Rows.{Outcome, Next, End, Fault, Full, outcome_map, row_pushed}
 use Rattle.bdf_font.specs.declared.cause.FontCause.TheVariants.{NoStart, BadNumber, BadRow, Misplaced}
@@ -49,12 +49,12 @@ property_line property.DefaultChar rest header = with_number (whole_of (first_wo
 property_line property.FamilyName rest header = Next (record header { family = Some (family_name_of rest) })
 
 -- A line of the font itself; it replaces what an earlier one of its keyword said. Properties count between the property lines alone.
-abbrev pub header_line : HeaderKeyword → List ℕ → Header → Outcome Header
-header_line in_header.Name rest header = Next (record header { title = Some (trimmed rest) })
-header_line in_header.Box rest header = with_number (bounding_box_of rest) (λ b. record header { bounding_box = Some b })
-header_line in_header.StartProperties rest header = Next (record header { properties = true })
-header_line in_header.EndProperties rest header = Next (record header { properties = false })
-header_line (in_header.Property keyword) rest header = if header.properties then property_line keyword rest header else Next header
+abbrev pub header_step : HeaderKeyword → List ℕ → Header → Outcome Header
+header_step in_header.Name rest header = Next (record header { title = Some (trimmed rest) })
+header_step in_header.Box rest header = with_number (bounding_box_of rest) (λ b. record header { bounding_box = Some b })
+header_step in_header.StartProperties rest header = Next (record header { properties = true })
+header_step in_header.EndProperties rest header = Next (record header { properties = false })
+header_step (in_header.Property keyword) rest header = if header.properties then property_line keyword rest header else Next header
 
 -- ---- a glyph
 
@@ -79,8 +79,8 @@ made_glyph draft cell = record { code = draft.code; advance = advance_or draft.a
 
 -- ---- lines by where they stand
 
-abbrev pub no_lines : Reading
-no_lines = record { place = place.Start; header = no_header; glyphs = []; draft = no_glyph }
+abbrev pub no_font_lines : Reading
+no_font_lines = record { place = place.Start; header = no_header; glyphs = []; draft = no_glyph }
 
 -- before STARTFONT, where other words than keywords are passed over; so are properties, since no property lines stand there
 abbrev pub first_line : Keyword → Reading → Outcome Reading
@@ -90,13 +90,13 @@ first_line (keyword.Header (in_header.Property _)) reading = Next reading
 first_line _ reading = Fault NoStart
 
 -- in the font, outside its glyphs
-abbrev pub font_line : Keyword → List ℕ → Reading → Outcome Reading
-font_line keyword.StartFont rest reading = Next reading
-font_line keyword.EndFont rest reading = End reading
-font_line keyword.StartChar rest reading = if nat_le 131072 (length reading.glyphs) then Full else Next (record reading { place = place.Glyph })
-font_line (keyword.Glyph _) rest reading = Fault Misplaced
-font_line (keyword.Header keyword) rest reading = outcome_map (λ header. record reading { header = header }) (header_line keyword rest reading.header)
-font_line keyword.Unknown rest reading = Next reading
+abbrev pub font_step : Keyword → List ℕ → Reading → Outcome Reading
+font_step keyword.StartFont rest reading = Next reading
+font_step keyword.EndFont rest reading = End reading
+font_step keyword.StartChar rest reading = if nat_le 131072 (length reading.glyphs) then Full else Next (record reading { place = place.Glyph })
+font_step (keyword.Glyph _) rest reading = Fault Misplaced
+font_step (keyword.Header keyword) rest reading = outcome_map (λ header. record reading { header = header }) (header_step keyword rest reading.header)
+font_step keyword.Unknown rest reading = Next reading
 
 -- a bitmap begins, of as many rows as the box is high
 abbrev pub bitmap_begun : Option BoundingBox → Reading → Outcome Reading
@@ -110,7 +110,7 @@ glyph_line keyword.EndFont rest reading = Fault Misplaced
 glyph_line keyword.StartChar rest reading = Fault Misplaced
 glyph_line (keyword.Glyph in_glyph.Bitmap) rest reading = bitmap_begun reading.draft.bounding_box reading
 glyph_line (keyword.Glyph keyword) rest reading = outcome_map (λ draft. record reading { draft = draft }) (draft_line keyword rest reading.draft)
-glyph_line (keyword.Header keyword) rest reading = outcome_map (λ header. record reading { header = header }) (header_line keyword rest reading.header)
+glyph_line (keyword.Header keyword) rest reading = outcome_map (λ header. record reading { header = header }) (header_step keyword rest reading.header)
 glyph_line keyword.Unknown rest reading = Next reading
 
 -- a row of a bitmap
@@ -128,20 +128,20 @@ after_rows cell _ reading = Fault BadRow
 abbrev pub bitmap_line : BoundingBox → ℕ → List ℕ → Reading → Outcome Reading
 bitmap_line cell left line reading = if left == 0 then after_rows cell (keyword_of (first_word line)) reading else row_line cell (left - 1) (trimmed line) reading
 
-abbrev pub line_at : Place → List ℕ → Reading → Outcome Reading
-line_at place.Start line reading = first_line (keyword_of (first_word line)) reading
-line_at place.Font line reading = font_line (keyword_of (first_word line)) (after_word line) reading
-line_at place.Glyph line reading = glyph_line (keyword_of (first_word line)) (after_word line) reading
-line_at (place.Bitmap cell left) line reading = bitmap_line cell left line reading
+abbrev pub line_step_at : Place → List ℕ → Reading → Outcome Reading
+line_step_at place.Start line reading = first_line (keyword_of (first_word line)) reading
+line_step_at place.Font line reading = font_step (keyword_of (first_word line)) (after_word line) reading
+line_step_at place.Glyph line reading = glyph_line (keyword_of (first_word line)) (after_word line) reading
+line_step_at (place.Bitmap cell left) line reading = bitmap_line cell left line reading
 
 -- what a line says, after the lines before it
-abbrev pub line_of : List ℕ → Reading → Outcome Reading
-line_of line reading = line_at reading.place line reading
+abbrev pub reading_after : List ℕ → Reading → Outcome Reading
+reading_after line reading = line_step_at reading.place line reading
 
 -- ---- the whole text
 
 -- What the header and the glyphs make: the family name goes before the font's, and a missing ascent and descent are the box's.
-abbrev pub font_made : Header → List FontGlyph → PlainFont
+abbrev pub font_made : Header → List FontGlyph → FontValue
 font_made header glyphs = record {
   name = unwrap_or header.family (unwrap_or header.title []);
   ascent = from_zero (unwrap_or header.ascent (box_top header.bounding_box));
@@ -151,7 +151,7 @@ font_made header glyphs = record {
 }
 
 -- The result of a walk that stopped at line n.
-abbrev pub Answered : ℕ → Stop → Reading → Result PlainFont FontRefusal → Type 0
+abbrev pub Answered : ℕ → Stop → Reading → Result FontValue FontRefusal → Type 0
 Answered n stop.End reading result = (result ≡ Ok (font_made reading.header reading.glyphs)) ⊎ (result ≡ Err refusal.OutOfMemory)
 Answered n (stop.Fault cause) reading result = result ≡ Err (BadFont n cause)
 Answered n stop.Full reading result = result ≡ Err (TooLarge 131072)

@@ -14,13 +14,13 @@ first_word text = take (position_or_len is_blank (past_blanks text)) (past_blank
 unfoldable pub after_word : List ℕ → List ℕ
 after_word text = drop (position_or_len is_blank (past_blanks text)) (past_blanks text)
 
-abbrev pub side_in : ℤ → Option ℕ
-side_in (pos n) = if nat_le n 1024 then Some n else None
-side_in (negsuc n) = None
+abbrev pub bitmap_side_in : ℤ → Option ℕ
+bitmap_side_in (pos n) = if nat_le n 1024 then Some n else None
+bitmap_side_in (negsuc n) = None
 
 -- a whole number from 0 to 1,024
-unfoldable pub side_of : List ℕ → Option ℕ
-side_of word = option_and_then side_in (whole_of word)
+unfoldable pub bitmap_side_of : List ℕ → Option ℕ
+bitmap_side_of word = option_and_then bitmap_side_in (whole_of word)
 
 abbrev pub offset_in : ℤ → Option ℤ
 offset_in n = if int_le (neg_ℤ (pos 4096)) n && int_le n (pos 4096) then Some n else None
@@ -37,7 +37,7 @@ bounding_box_of text =
     let after_x = after_word after_h in
     option_and_then (λ w. option_and_then (λ h. option_and_then (λ x. option_and_then (λ y.
     Some (record { w = w; h = h; x = x; y = y }))
-    (offset_of (first_word after_x))) (offset_of (first_word after_h))) (side_of (first_word after_w))) (side_of (first_word text))
+    (offset_of (first_word after_x))) (offset_of (first_word after_h))) (bitmap_side_of (first_word after_w))) (bitmap_side_of (first_word text))
 
 abbrev pub is_quote : ℕ → Bool
 is_quote c = c == 34

@@ -3,7 +3,7 @@
 ghost use Rattle.std.specs.Prelude.{◌≡◌, ◌≤◌, length, IfOk};
 ghost use Rattle.std.specs.Option.{option_or};
 ghost use Rattle.bdf_font.specs.Fonts.{glyph_of, same_name, font_named};
-ghost use Rattle.bdf_font.specs.Places.{IsInOrder, IsIndex, entries_from, first_at};
+ghost use Rattle.bdf_font.specs.Places.{IsInCodeOrder, IsIndex, entries_from, first_at};
 
 use crate::glyphs::FontGlyph;
 use ass_num::{Items, Mem};
@@ -24,9 +24,9 @@ pub struct Font {
 }
 
 impl Model for Font {
-    ghost use Rattle.bdf_font.specs.Fonts.{PlainFont};
+    ghost use Rattle.bdf_font.specs.Fonts.{FontValue};
 
-    ghost Value = { PlainFont };
+    ghost Value = { FontValue };
 
     ghost use Rattle.std.specs.Prelude.{◌≡◌};
     ghost use Rattle.bdf_font.specs.Fonts.{place_of_default};
@@ -61,7 +61,7 @@ fn places_of(alloc: Global, glyphs: &[FontGlyph]) -> Mem<Vec<(i64, u32)>>
 
 /// The first place with this code.
 fn found_place(places: &[(i64, u32)], code: i64) -> Option<u32>
-    requires { IsInOrder places.now }
+    requires { IsInCodeOrder places.now }
     ensures { result ≡ first_at code places.now }
 {
     let at = places.partition_point(|entry| entry.0 < code);
@@ -139,7 +139,7 @@ impl Font {
 
 /// The place of a code, or else the default one.
 fn place_or(places: &[(i64, u32)], code: i64, default_place: Option<u32>) -> Option<u32>
-    requires { IsInOrder places.now }
+    requires { IsInCodeOrder places.now }
     ensures { result ≡ option_or (first_at code places.now) default_place }
 {
     found_place(places, code).or(default_place)

@@ -1,10 +1,10 @@
 //! What the lines of a font say of the font itself.
 
 ghost use Rattle.std.specs.Prelude.{◌≡◌, ◌≤◌, length, All, IfOk, IfSome, unwrap_or};
-ghost use Rattle.bdf_font.specs.Ranges.{IsBox, IsOffset, IsGlyph, IsHeader, IsFont};
+ghost use Rattle.bdf_font.specs.Ranges.{IsBox, IsOffset, IsGlyph, IsFontHeader, IsFont};
 ghost use Rattle.bdf_font.specs.Grammar.{box_top, box_depth, from_zero};
 ghost use Rattle.bdf_font.specs.Rows.{Gives};
-ghost use Rattle.bdf_font.specs.Steps.{no_header, header_line, property_line, font_made};
+ghost use Rattle.bdf_font.specs.Steps.{no_header, header_step, property_line, font_made};
 
 use crate::cause::{FontCause, Stop};
 use crate::font::Font;
@@ -58,7 +58,7 @@ fn box_depth(bounding_box: Option<BoundingBox>) -> i32
 
 /// A height that is given, or else another; below 0 it is 0.
 fn height(given: Option<i16>, other: i32) -> i32
-    ensures { result ≡ from_zero (unwrap_or given other) }
+    ensures { result ≡ from_zero (unwrap_or line_value other) }
 {
     let height = match given {
         Some(height) => i32::from(height),
@@ -71,7 +71,7 @@ impl Header {
     /// Nothing was said yet.
     pub fn new() -> Header
         ensures new { result ≡ no_header }
-        ensures sound { IsHeader result }
+        ensures sound { IsFontHeader result }
     {
         Header {
             properties: false,
@@ -86,9 +86,9 @@ impl Header {
 
     /// Reads a line of the font itself: `rest` follows its keyword.
     pub fn line(&mut self, alloc: Global, keyword: HeaderKeyword, rest: &[u8]) -> Result<(), Stop>
-        requires { IsHeader self.old }
-        ensures read { Gives result self.new (header_line keyword rest.now self.old) }
-        ensures sound { IsHeader self.new }
+        requires { IsFontHeader self.old }
+        ensures read { Gives result self.new (header_step keyword rest.now self.old) }
+        ensures sound { IsFontHeader self.new }
     {
         match keyword {
             HeaderKeyword::Name => {
@@ -125,9 +125,9 @@ impl Header {
         keyword: PropertyKeyword,
         rest: &[u8],
     ) -> Result<(), Stop>
-        requires { IsHeader self.old }
+        requires { IsFontHeader self.old }
         ensures read { Gives result self.new (property_line keyword rest.now self.old) }
-        ensures sound { IsHeader self.new }
+        ensures sound { IsFontHeader self.new }
     {
         match keyword {
             PropertyKeyword::Ascent => {
@@ -162,7 +162,7 @@ impl Header {
     pub fn made(self, alloc: Global, glyphs: Items<FontGlyph>) -> Mem<Font>
         requires few { length glyphs ≤ 131072 }
         requires glyphs { All IsGlyph glyphs }
-        requires sound { IsHeader self }
+        requires sound { IsFontHeader self }
         ensures made { IfOk result (λ font. font ≡ font_made self glyphs) }
         ensures font { IfOk result IsFont }
     {

@@ -2,7 +2,7 @@
 
 ghost use Rattle.std.specs.Prelude.{◌≡◌, ◌≤◌, IfSome};
 ghost use Rattle.bdf_font.specs.Ranges.{IsOffset, IsBox};
-ghost use Rattle.bdf_font.specs.Words.{side_of, offset_of, bounding_box_of, family_name_of, quoted};
+ghost use Rattle.bdf_font.specs.Words.{bitmap_side_of, offset_of, bounding_box_of, family_name_of, quoted};
 
 use crate::glyphs::BoundingBox;
 use crate::whole::whole;
@@ -10,9 +10,9 @@ use crate::words::first_word;
 use blanks::{before_blanks, past_blanks};
 
 /// A whole number from 0 to 1,024.
-#[tactic(auto, unfolding(crate::specs::Words::side_of))]
+#[tactic(auto, unfolding(crate::specs::Words::bitmap_side_of))]
 fn side(word: &[u8]) -> Option<u16>
-    ensures value { result ≡ side_of word.now }
+    ensures value { result ≡ bitmap_side_of word.now }
     ensures small { IfSome result (λ side. side ≤ 1024) }
 {
     let number = whole(word)?;

@@ -1,9 +1,9 @@
 //! Fonts from their texts.
 
 ghost use Rattle.std.specs.Prelude.{◌≡◌, ◌≢◌, ◌⊎◌, ◌≤◌, length, IfOk, Result, Err};
-ghost use Rattle.bdf_font.specs.Ranges.{IsFont, IsReading, Keeps};
-ghost use Rattle.bdf_font.specs.Fonts.{PlainFont};
-ghost use Rattle.bdf_font.specs.Grammar.{IsAnswer};
+ghost use Rattle.bdf_font.specs.Ranges.{IsFont, IsFontReading, Keeps};
+ghost use Rattle.bdf_font.specs.Fonts.{FontValue};
+ghost use Rattle.bdf_font.specs.Grammar.{IsFontAnswer};
 ghost use Rattle.bdf_font.specs.Lines.{text_lines};
 ghost use Rattle.bdf_font.specs.Steps.{Answered};
 
@@ -18,8 +18,8 @@ use std::alloc::Global;
 pub fn read_font(alloc: Global, bytes: &[u8]) -> Result<Font, FontRefusal>
     requires { length bytes.now ≤ 67108864 }
     // What is answered is the answer of the format, unless memory ran out.
-    ensures answer { result ≢ Err FontRefusal.OutOfMemory → IsAnswer (text_lines bytes.now) result }
-    ensures only { (answer : Result PlainFont FontRefusal) → IsAnswer (text_lines bytes.now) answer → (result ≡ answer) ⊎ (result ≡ Err FontRefusal.OutOfMemory) }
+    ensures answer { result ≢ Err FontRefusal.OutOfMemory → IsFontAnswer (text_lines bytes.now) result }
+    ensures only { (answer : Result FontValue FontRefusal) → IsFontAnswer (text_lines bytes.now) answer → (result ≡ answer) ⊎ (result ≡ Err FontRefusal.OutOfMemory) }
 
     ensures font { IfOk result IsFont }
 {
@@ -36,7 +36,7 @@ pub fn read_font(alloc: Global, bytes: &[u8]) -> Result<Font, FontRefusal>
 
 /// The answer where a line ends the walk.
 fn answer(alloc: Global, reading: Reading, number: usize, stop: Stop) -> Result<Font, FontRefusal>
-    requires { Keeps (Err stop) (IsReading reading) }
+    requires { Keeps (Err stop) (IsFontReading reading) }
     ensures answer { Answered number stop reading result }
     ensures font { IfOk result IsFont }
 {

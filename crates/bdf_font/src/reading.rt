@@ -1,9 +1,9 @@
 //! The walk over the lines of a font.
 
 ghost use Rattle.std.specs.Prelude.{◌≡◌, ◌+◌, ◌*◌, ◌/◌, ◌<◌, ◌≤◌, length};
-ghost use Rattle.bdf_font.specs.Ranges.{IsBox, IsGlyph, IsDraft, IsPlace, IsReading, Keeps};
+ghost use Rattle.bdf_font.specs.Ranges.{IsBox, IsGlyph, IsDraft, IsReadingPlace, IsFontReading, Keeps};
 ghost use Rattle.bdf_font.specs.Rows.{Gives};
-ghost use Rattle.bdf_font.specs.Steps.{no_lines, no_glyph, first_line, font_line, glyph_line, draft_line, bitmap_line, row_line, line_of, made_glyph};
+ghost use Rattle.bdf_font.specs.Steps.{no_font_lines, no_glyph, first_line, font_step, glyph_line, draft_line, bitmap_line, row_line, reading_after, made_glyph};
 
 use crate::bits::Bits;
 use crate::cause::{FontCause, Stop};
@@ -126,8 +126,8 @@ pub struct Reading {
 impl Reading {
     /// Before the first line.
     pub fn new(alloc: Global) -> Reading
-        ensures new { result ≡ no_lines }
-        ensures sound { IsReading result }
+        ensures new { result ≡ no_font_lines }
+        ensures sound { IsFontReading result }
     {
         Reading {
             place: Place::Start,
@@ -139,9 +139,9 @@ impl Reading {
 
     /// Reads the next line.
     pub fn line(&mut self, alloc: Global, line: &[u8]) -> Result<(), Stop>
-        requires sound { IsReading self.old }
-        ensures read { Gives result self.new (line_of line.now self.old) }
-        ensures sound { Keeps result (IsReading self.new) }
+        requires sound { IsFontReading self.old }
+        ensures read { Gives result self.new (reading_after line.now self.old) }
+        ensures sound { Keeps result (IsFontReading self.new) }
     {
         if let Place::Bitmap(cell, left) = self.place {
             return self.bitmap_line(alloc, cell, left, line);
@@ -150,16 +150,16 @@ impl Reading {
         let keyword = keyword_of(word);
         match self.place {
             Place::Start => self.first_line(keyword),
-            Place::Font => self.font_line(alloc, keyword, rest),
+            Place::Font => self.font_step(alloc, keyword, rest),
             Place::Glyph => self.glyph_line(alloc, keyword, rest),
             Place::Bitmap(_, _) => unreachable!(),
         }
     }
 
     fn first_line(&mut self, keyword: Keyword) -> Result<(), Stop>
-        requires sound { IsReading self.old }
+        requires sound { IsFontReading self.old }
         ensures read { Gives result self.new (first_line keyword self.old) }
-        ensures sound { Keeps result (IsReading self.new) }
+        ensures sound { Keeps result (IsFontReading self.new) }
     {
         match keyword {
             Keyword::StartFont => {
@@ -172,10 +172,10 @@ impl Reading {
         }
     }
 
-    fn font_line(&mut self, alloc: Global, keyword: Keyword, rest: &[u8]) -> Result<(), Stop>
-        requires sound { IsReading self.old }
-        ensures read { Gives result self.new (font_line keyword rest.now self.old) }
-        ensures sound { Keeps result (IsReading self.new) }
+    fn font_step(&mut self, alloc: Global, keyword: Keyword, rest: &[u8]) -> Result<(), Stop>
+        requires sound { IsFontReading self.old }
+        ensures read { Gives result self.new (font_step keyword rest.now self.old) }
+        ensures sound { Keeps result (IsFontReading self.new) }
     {
         match keyword {
             Keyword::StartFont => Ok(()),
@@ -197,10 +197,10 @@ impl Reading {
     }
 
     fn glyph_line(&mut self, alloc: Global, keyword: Keyword, rest: &[u8]) -> Result<(), Stop>
-        requires sound { IsReading self.old }
+        requires sound { IsFontReading self.old }
         requires open { length self.old.glyphs < 131072 }
         ensures read { Gives result self.new (glyph_line keyword rest.now self.old) }
-        ensures sound { Keeps result (IsReading self.new) }
+        ensures sound { Keeps result (IsFontReading self.new) }
     {
         match keyword {
             Keyword::StartFont => Ok(()),
@@ -234,10 +234,10 @@ impl Reading {
         left: u16,
         line: &[u8],
     ) -> Result<(), Stop>
-        requires sound { IsReading self.old }
-        requires place { IsPlace (Place.Bitmap cell left) (length self.old.glyphs) (length self.old.draft.bits) }
+        requires sound { IsFontReading self.old }
+        requires place { IsReadingPlace (Place.Bitmap cell left) (length self.old.glyphs) (length self.old.draft.bits) }
         ensures read { Gives result self.new (bitmap_line cell left line.now self.old) }
-        ensures sound { Keeps result (IsReading self.new) }
+        ensures sound { Keeps result (IsFontReading self.new) }
     {
         if left > 0 {
             return self.row_line(cell, left - 1, trimmed(line));
@@ -252,10 +252,10 @@ impl Reading {
     }
 
     fn row_line(&mut self, cell: BoundingBox, left: u16, digits: &[u8]) -> Result<(), Stop>
-        requires sound { IsReading self.old }
-        requires place { IsPlace (Place.Bitmap cell (left + 1)) (length self.old.glyphs) (length self.old.draft.bits) }
+        requires sound { IsFontReading self.old }
+        requires place { IsReadingPlace (Place.Bitmap cell (left + 1)) (length self.old.glyphs) (length self.old.draft.bits) }
         ensures read { Gives result self.new (row_line cell left digits.now self.old) }
-        ensures sound { Keeps result (IsReading self.new) }
+        ensures sound { Keeps result (IsFontReading self.new) }
     {
         self.draft.bits.push_row(digits, row_bytes(cell.w))?;
         self.place = Place::Bitmap(cell, left);

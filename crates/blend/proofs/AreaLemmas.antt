@@ -7,10 +7,10 @@ use Rattle.std.proofs.lemmas.List.{get_or-take, get_or-drop}
 use Rattle.std.specs.Ordering.{int_eq}
 use Rattle.std.proofs.lemmas.Bool.{cases_lt}
 use Rattle.std.proofs.lemmas.Bool.Decides.{nat_tests}
-use Rattle.ass_num.specs.Masks.{PlainMask, is_mask, offset_value}
+use Rattle.ass_num.specs.Masks.{MaskValue, is_mask, offset_value}
 use Rattle.blend.specs.declared.area.Area.{Area}
-use Rattle.blend.specs.Blending.{in_rect, moved_value}
-use Rattle.blend.specs.Areas.{in_area, in_box, IsPart, IsCovered, IsMeeting}
+use Rattle.blend.specs.Blending.{in_rect, placed_value}
+use Rattle.blend.specs.Areas.{in_area, in_moved_box, IsPart, IsAreaCovered, IsMeeting}
 
 pub lt-yes : (a b : ℕ) → a < b → nat_lt a b ≡ true
 lt-yes a b h = grind (arith, nat_tests)
@@ -103,24 +103,24 @@ between-rect x1 y1 x2 y2 i j e =
     }
 
 -- the bytes of a mask fill its box
-pub mask-length : (m : PlainMask) → is_mask m ≡ true → length m.bytes ≡ m.w * m.h
+pub mask-length : (m : MaskValue) → is_mask m ≡ true → length m.bytes ≡ m.w * m.h
 mask-length m e =
     let first : (length m.bytes == m.w * m.h) ≡ true =
     and-first (length m.bytes == m.w * m.h) (not (length m.bytes == 0) || (int_eq m.x (pos 0) && (int_eq m.y (pos 0) && ((m.w == 0) && (m.h == 0))))) e in
     grind (arith, nat_tests)
 
 -- a value in the box
-pub moved_value-inside : (m : PlainMask) (x y : ℤ) (i j p q : ℕ) → pos i -ℤ x -ℤ m.x ≡ pos p → pos j -ℤ y -ℤ m.y ≡ pos q → p < m.w → q < m.h
-    → moved_value m x y i j ≡ get_or m.bytes (q * m.w + p) 0
-moved_value-inside m x y i j p q column row in_w in_h = rw (column, row, lt-yes p m.w in_w, lt-yes q m.h in_h) refl
+pub placed_value-inside : (m : MaskValue) (x y : ℤ) (i j p q : ℕ) → pos i -ℤ x -ℤ m.x ≡ pos p → pos j -ℤ y -ℤ m.y ≡ pos q → p < m.w → q < m.h
+    → placed_value m x y i j ≡ get_or m.bytes (q * m.w + p) 0
+placed_value-inside m x y i j p q column row in_w in_h = rw (column, row, lt-yes p m.w in_w, lt-yes q m.h in_h) refl
 
 -- where a piece of a row begins in a mask's bytes, and that it lies in them
-pub record IsPlace (m : PlainMask) (count p q : ℕ) : Type 0 where
+pub record IsPlace (m : MaskValue) (count p q : ℕ) : Type 0 where
   pub row : q < m.h
   pub columns : p + count ≤ m.w
   pub bytes : q * m.w + p + count ≤ length m.bytes
 
-pub place : (m : PlainMask) (x y : ℤ) (left right j p q : ℕ) → is_mask m ≡ true → left < right → in_box m x y left j ≡ true → in_box m x y (right - 1) j ≡ true
+pub place : (m : MaskValue) (x y : ℤ) (left right j p q : ℕ) → is_mask m ≡ true → left < right → in_moved_box m x y left j ≡ true → in_moved_box m x y (right - 1) j ≡ true
     → pos left -ℤ x -ℤ m.x ≡ pos p → pos j -ℤ y -ℤ m.y ≡ pos q → IsPlace m (right - left) p q
 place m x y left right j p q canonical some first last column row =
     let a : IsBetween (m.x +ℤ x) (m.y +ℤ y) (m.x +ℤ x +ℤ pos m.w) (m.y +ℤ y +ℤ pos m.h) (pos left) (pos j) = between-rect _ _ _ _ _ _ first in
@@ -131,12 +131,12 @@ place m x y left right j p q canonical some first last column row =
     record { row = in_h; columns = in_w; bytes = omega (arith, mask-length m canonical) }
 
 -- the values of a piece of a row
-pub values-inside : (m : PlainMask) (x y : ℤ) (left j p q count k : ℕ) (s : List ℕ) → IsPlace m count p q → pos left -ℤ x -ℤ m.x ≡ pos p → pos j -ℤ y -ℤ m.y ≡ pos q
-    → s ≡ take count (drop (q * m.w + p) m.bytes) → k < count → slice_index s k ≡ moved_value m x y (left + k) j
+pub values-inside : (m : MaskValue) (x y : ℤ) (left j p q count k : ℕ) (s : List ℕ) → IsPlace m count p q → pos left -ℤ x -ℤ m.x ≡ pos p → pos j -ℤ y -ℤ m.y ≡ pos q
+    → s ≡ take count (drop (q * m.w + p) m.bytes) → k < count → slice_index s k ≡ placed_value m x y (left + k) j
 values-inside m x y left j p q count k s inside column row is less =
     let at : pos (left + k) -ℤ x -ℤ m.x ≡ pos (p + k) = omega (arith, ints) in
-    let value : moved_value m x y (left + k) j ≡ get_or m.bytes (q * m.w + (p + k)) 0 =
-    moved_value-inside m x y (left + k) j (p + k) q at row (omega (arith, inside.columns)) inside.row in
+    let value : placed_value m x y (left + k) j ≡ get_or m.bytes (q * m.w + (p + k)) 0 =
+    placed_value-inside m x y (left + k) j (p + k) q at row (omega (arith, inside.columns)) inside.row in
     let index : q * m.w + p + k ≡ q * m.w + (p + k) = omega arith in
     ap (λ (t : List ℕ). get_or t k 0) is
     ∙ (get_or-take count (drop (q * m.w + p) m.bytes) k 0 less ∙ (get_or-drop (q * m.w + p) m.bytes k 0 ∙ (ap (λ i. get_or m.bytes i 0) index ∙ sym value)))
@@ -185,19 +185,19 @@ inside a i j e =
     }
 
 -- the test of a box, whose bounds are known
-pub box-both : (area part : Area) (m : PlainMask) (x y : ℤ) (i j : ℕ) (x1 y1 x2 y2 : ℤ) → x1 ≡ m.x +ℤ x → y1 ≡ m.y +ℤ y → x2 ≡ m.x +ℤ x +ℤ pos m.w → y2 ≡ m.y +ℤ y +ℤ pos m.h
-    → in_area part i j ≡ (in_area area i j && in_rect x1 y1 x2 y2 (pos i) (pos j)) → in_area part i j ≡ (in_area area i j && in_box m x y i j)
+pub box-both : (area part : Area) (m : MaskValue) (x y : ℤ) (i j : ℕ) (x1 y1 x2 y2 : ℤ) → x1 ≡ m.x +ℤ x → y1 ≡ m.y +ℤ y → x2 ≡ m.x +ℤ x +ℤ pos m.w → y2 ≡ m.y +ℤ y +ℤ pos m.h
+    → in_area part i j ≡ (in_area area i j && in_rect x1 y1 x2 y2 (pos i) (pos j)) → in_area part i j ≡ (in_area area i j && in_moved_box m x y i j)
 box-both area part m x y i j x1 y1 x2 y2 e f g h both = rw (e, f, g, h) at both
 
-pub meeting-is : (r : Area) (w top h : ℕ) (m : PlainMask) (x y : ℤ) → IsPart r (record { left = 0; top = top; right = w; bottom = top + h })
-    → ((i j : ℕ) → in_area r i j ≡ (in_area (record { left = 0; top = top; right = w; bottom = top + h }) i j && in_box m x y i j)) → IsMeeting r w top h m x y
+pub meeting-is : (r : Area) (w top h : ℕ) (m : MaskValue) (x y : ℤ) → IsPart r (record { left = 0; top = top; right = w; bottom = top + h })
+    → ((i j : ℕ) → in_area r i j ≡ (in_area (record { left = 0; top = top; right = w; bottom = top + h }) i j && in_moved_box m x y i j)) → IsMeeting r w top h m x y
 meeting-is r w top h m x y part both =
     let whole : Area = record { left = 0; top = top; right = w; bottom = top + h } in
     let few : w * (r.bottom - top) ≤ w * h = mul-le-mul_left w (let p : r.bottom - top ≤ h = omega (arith, part.bottom) in p) in
     record {
       in_rows = record { columns = part.columns; right = part.right; top_row = part.top; rows = part.rows; bottom = omega arith };
-      covered = record { covered = λ i j e. and-second (in_area whole i j) (in_box m x y i j) (sym (both i j) ∙ e) };
-      whole = λ i j p q l. both i j ∙ ap (λ (b : Bool). b && in_box m x y i j) (in_area-yes whole i j (omega arith) p q l);
+      covered = record { covered = λ i j e. and-second (in_area whole i j) (in_moved_box m x y i j) (sym (both i j) ∙ e) };
+      whole = λ i j p q l. both i j ∙ ap (λ (b : Bool). b && in_moved_box m x y i j) (in_area-yes whole i j (omega arith) p q l);
     }
 
 in_rect-yes : (x1 y1 x2 y2 i j : ℤ) → x1 ≤ℤ i → i <ℤ x2 → y1 ≤ℤ j → j <ℤ y2 → in_rect x1 y1 x2 y2 i j ≡ true
@@ -209,7 +209,7 @@ in_rect-yes x1 y1 x2 y2 i j p q r s =
     rw (a, b, c, d) refl
 
 -- a value at a place that isn't in the box
-offset_value-outside : (m : PlainMask) (a b : ℤ) → ((p q : ℕ) → a ≡ pos p → b ≡ pos q → p < m.w → q < m.h → ⊥) → offset_value m a b ≡ 0
+offset_value-outside : (m : MaskValue) (a b : ℤ) → ((p q : ℕ) → a ≡ pos p → b ≡ pos q → p < m.w → q < m.h → ⊥) → offset_value m a b ≡ 0
 offset_value-outside m (pos p) (pos q) out =
     ⊎_elim
     (λ (l : p < m.w). ⊎_elim (λ (h : q < m.h). absurd (out p q refl refl l h)) (λ (h : m.h ≤ q). rw (lt-no q m.h h, and-false (nat_lt p m.w)) refl) (cases_lt q m.h))
@@ -219,10 +219,10 @@ offset_value-outside m (pos p) (negsuc q) out = refl
 offset_value-outside m (negsuc p) (pos q) out = refl
 offset_value-outside m (negsuc p) (negsuc q) out = refl
 
-pub moved_value-outside : (m : PlainMask) (x y : ℤ) (i j : ℕ) → in_box m x y i j ≡ false → moved_value m x y i j ≡ 0
-moved_value-outside m x y i j e =
+pub placed_value-outside : (m : MaskValue) (x y : ℤ) (i j : ℕ) → in_moved_box m x y i j ≡ false → placed_value m x y i j ≡ 0
+placed_value-outside m x y i j e =
     offset_value-outside m (pos i -ℤ x -ℤ m.x) (pos j -ℤ y -ℤ m.y) (λ p q a b l h.
-    let yes : in_box m x y i j ≡ true =
+    let yes : in_moved_box m x y i j ≡ true =
     in_rect-yes (m.x +ℤ x) (m.y +ℤ y) (m.x +ℤ x +ℤ pos m.w) (m.y +ℤ y +ℤ pos m.h) (pos i) (pos j)
     (omega (arith, ints)) (omega (arith, ints)) (omega (arith, ints)) (omega (arith, ints)) in
     cc)
@@ -233,5 +233,5 @@ pub rect-both : (area part : Area) (i j : ℕ) (x1 y1 x2 y2 p1 q1 p2 q2 : ℤ) �
 rect-both area part i j x1 y1 x2 y2 p1 q1 p2 q2 e f g h both = rw (e, f, g, h) at both
 
 -- what a cut leaves lies in the box
-pub part-covered : (area part : Area) (m : PlainMask) (x y : ℤ) → ((i j : ℕ) → in_area part i j ≡ (in_area area i j && in_box m x y i j)) → IsCovered part m x y
-part-covered area part m x y both = record { covered = λ i j e. and-second (in_area area i j) (in_box m x y i j) (sym (both i j) ∙ e) }
+pub part-covered : (area part : Area) (m : MaskValue) (x y : ℤ) → ((i j : ℕ) → in_area part i j ≡ (in_area area i j && in_moved_box m x y i j)) → IsAreaCovered part m x y
+part-covered area part m x y both = record { covered = λ i j e. and-second (in_area area i j) (in_moved_box m x y i j) (sym (both i j) ∙ e) }

@@ -2,13 +2,13 @@
 use Rattle.std.proofs.Common.{◌≡◌, ℕ, ℤ, pos, ◌+◌, ◌-◌, ◌*◌, ◌/◌, ◌%◌, ◌<◌, ◌≤◌, ◌⊎◌, Bool, true, false, ◌&&◌, if◌then◌else◌, List, length, refl, sym, ap, ◌∙◌, inl, inr, ⊎_elim, arith}
 use Rattle.std.proofs.lemmas.Bool.{cases_lt}
 use Rattle.std.proofs.lemmas.Nat.{mod_below, le-div, div_below}
-use Rattle.ass_num.specs.Masks.{PlainMask}
+use Rattle.ass_num.specs.Masks.{MaskValue}
 use Rattle.ass_num.specs.declared.colour.Rgba.{Rgba}
 use Rattle.blend.specs.declared.area.Area.{Area}
 use Rattle.blend.specs.declared.fill.Colours.{Colours}
-use Rattle.blend.specs.Blending.{Tint, Image, Free, Rect, Drawn, by_255, in_rect, clipped, moved_value, tint_of, tint_at, tinted, by_number, painted}
-use Rattle.blend.specs.Areas.{in_area, in_box, IsPart, IsMeeting, within, without, no_tint, colour_of, image_of}
-use Rattle.blend.proofs.AreaLemmas.{in_area-yes, in_area-left, in_area-right, in_area-top, in_area-bottom, inside, and-false, moved_value-outside}
+use Rattle.blend.specs.Blending.{Tint, Image, Free, Rect, Drawn, by_255, in_rect, clipped, placed_value, tint_of, tint_at, tinted, by_number, painted}
+use Rattle.blend.specs.Areas.{in_area, in_moved_box, IsPart, IsMeeting, within, without, no_tint, column_colour, coloured_image}
+use Rattle.blend.proofs.AreaLemmas.{in_area-yes, in_area-left, in_area-right, in_area-top, in_area-bottom, inside, and-false, placed_value-outside}
 use Rattle.blend.proofs.TintedLemmas.{IsSame, tinted-none, tinted-shift, weightless, tint_of-none, by_255-none}
 use Rattle.blend.proofs.FillLemmas.{within-yes, within-no, add-area}
 
@@ -146,28 +146,28 @@ tints-drawn w top h image tint s t len was same =
         (div_below (w * top + k) w (top + h) some (omega arith))
 
 -- the tints of an image without a clip
-abbrev pub plain_tints : Colours → PlainMask → ℤ → ℤ → ℕ → ℕ → Tint
-plain_tints colours m x y i j = tint_of (colour_of colours i) (moved_value m x y i j)
+abbrev pub plain_tints : Colours → MaskValue → ℤ → ℤ → ℕ → ℕ → Tint
+plain_tints colours m x y i j = tint_of (column_colour colours i) (placed_value m x y i j)
 
 -- the tints of an image under a mask
-abbrev pub clipped_tints : Colours → PlainMask → ℤ → ℤ → PlainMask → ℤ → ℤ → Bool → ℕ → ℕ → Tint
-clipped_tints colours m x y clip cx cy inverse i j = tint_of (colour_of colours i) (clipped (Drawn clip cx cy inverse) i j (moved_value m x y i j))
+abbrev pub clipped_tints : Colours → MaskValue → ℤ → ℤ → MaskValue → ℤ → ℤ → Bool → ℕ → ℕ → Tint
+clipped_tints colours m x y clip cx cy inverse i j = tint_of (column_colour colours i) (clipped (Drawn clip cx cy inverse) i j (placed_value m x y i j))
 
 none-same : (t : Tint) (colour : Rgba) (m : ℕ) → t ≡ no_tint → m ≡ 0 → IsSame t (tint_of colour m)
 none-same t colour m e z = inr (weightless t e, tint_of-none colour m z)
 
 -- no clip
-pub free-same : (colours : Colours) (m : PlainMask) (x y : ℤ) (area : Area) (i j : ℕ) → in_area area i j ≡ in_box m x y i j
-    → IsSame (within area (plain_tints colours m x y) i j) (tint_of (colour_of colours i) (moved_value m x y i j))
-free-same colours m x y area i j at = go (in_box m x y i j) refl
+pub free-same : (colours : Colours) (m : MaskValue) (x y : ℤ) (area : Area) (i j : ℕ) → in_area area i j ≡ in_moved_box m x y i j
+    → IsSame (within area (plain_tints colours m x y) i j) (tint_of (column_colour colours i) (placed_value m x y i j))
+free-same colours m x y area i j at = go (in_moved_box m x y i j) refl
   where
-    go : (b : Bool) → in_box m x y i j ≡ b → IsSame (within area (plain_tints colours m x y) i j) (tint_of (colour_of colours i) (moved_value m x y i j))
+    go : (b : Bool) → in_moved_box m x y i j ≡ b → IsSame (within area (plain_tints colours m x y) i j) (tint_of (column_colour colours i) (placed_value m x y i j))
     go true e = inl (within-yes area (plain_tints colours m x y) i j (at ∙ e))
-    go false e = none-same _ (colour_of colours i) (moved_value m x y i j) (within-no area (plain_tints colours m x y) i j (at ∙ e)) (moved_value-outside m x y i j e)
+    go false e = none-same _ (column_colour colours i) (placed_value m x y i j) (within-no area (plain_tints colours m x y) i j (at ∙ e)) (placed_value-outside m x y i j e)
 
 -- inside a rectangle
-pub rect-same : (colours : Colours) (m : PlainMask) (x y : ℤ) (area part : Area) (i j : ℕ) (r : Bool) → in_area area i j ≡ in_box m x y i j → in_area part i j ≡ (in_area area i j && r)
-    → IsSame (within part (plain_tints colours m x y) i j) (tint_of (colour_of colours i) (if r then moved_value m x y i j else 0))
+pub rect-same : (colours : Colours) (m : MaskValue) (x y : ℤ) (area part : Area) (i j : ℕ) (r : Bool) → in_area area i j ≡ in_moved_box m x y i j → in_area part i j ≡ (in_area area i j && r)
+    → IsSame (within part (plain_tints colours m x y) i j) (tint_of (column_colour colours i) (if r then placed_value m x y i j else 0))
 rect-same colours m x y area part i j true at both =
     free-same colours m x y part i j (both ∙ (go (in_area area i j) ∙ at))
   where
@@ -175,100 +175,100 @@ rect-same colours m x y area part i j true at both =
     go true = refl
     go false = refl
 rect-same colours m x y area part i j false at both =
-    none-same _ (colour_of colours i) 0 (within-no part (plain_tints colours m x y) i j (both ∙ and-false (in_area area i j))) refl
+    none-same _ (column_colour colours i) 0 (within-no part (plain_tints colours m x y) i j (both ∙ and-false (in_area area i j))) refl
 
 -- outside a rectangle
-pub around-same : (colours : Colours) (m : PlainMask) (x y : ℤ) (area part : Area) (i j : ℕ) (r : Bool) → in_area area i j ≡ in_box m x y i j → in_area part i j ≡ (in_area area i j && r)
-    → IsSame (without part (within area (plain_tints colours m x y)) i j) (tint_of (colour_of colours i) (if r then 0 else moved_value m x y i j))
+pub around-same : (colours : Colours) (m : MaskValue) (x y : ℤ) (area part : Area) (i j : ℕ) (r : Bool) → in_area area i j ≡ in_moved_box m x y i j → in_area part i j ≡ (in_area area i j && r)
+    → IsSame (without part (within area (plain_tints colours m x y)) i j) (tint_of (column_colour colours i) (if r then 0 else placed_value m x y i j))
 around-same colours m x y area part i j r at both = go (in_area area i j) r refl refl
   where
-    go : (b q : Bool) → in_area area i j ≡ b → r ≡ q → IsSame (without part (within area (plain_tints colours m x y)) i j) (tint_of (colour_of colours i) (if r then 0 else moved_value m x y i j))
+    go : (b q : Bool) → in_area area i j ≡ b → r ≡ q → IsSame (without part (within area (plain_tints colours m x y)) i j) (tint_of (column_colour colours i) (if r then 0 else placed_value m x y i j))
     go true true e f =
-        rw f (none-same _ (colour_of colours i) 0 (without-yes part (within area (plain_tints colours m x y)) i j (both ∙ rw (e, f) refl)) refl)
+        rw f (none-same _ (column_colour colours i) 0 (without-yes part (within area (plain_tints colours m x y)) i j (both ∙ rw (e, f) refl)) refl)
     go b false e f =
         rw f (rw (without-no part (within area (plain_tints colours m x y)) i j (both ∙ rw f (and-false (in_area area i j)))) (free-same colours m x y area i j at))
     go false true e f =
-        rw f (none-same _ (colour_of colours i) 0
+        rw f (none-same _ (column_colour colours i) 0
         (without-no part (within area (plain_tints colours m x y)) i j (both ∙ rw e refl) ∙ within-no area (plain_tints colours m x y) i j e) refl)
 
 -- under a mask, in its box
-under-same : (colours : Colours) (m : PlainMask) (x y : ℤ) (clip : PlainMask) (cx cy : ℤ) (area part : Area) (i j : ℕ)
-    → in_area area i j ≡ in_box m x y i j → in_area part i j ≡ (in_area area i j && in_box clip cx cy i j)
+under-same : (colours : Colours) (m : MaskValue) (x y : ℤ) (clip : MaskValue) (cx cy : ℤ) (area part : Area) (i j : ℕ)
+    → in_area area i j ≡ in_moved_box m x y i j → in_area part i j ≡ (in_area area i j && in_moved_box clip cx cy i j)
     → IsSame (within part (clipped_tints colours m x y clip cx cy false) i j) (clipped_tints colours m x y clip cx cy false i j)
-under-same colours m x y clip cx cy area part i j at both = go (in_box m x y i j) (in_box clip cx cy i j) refl refl
+under-same colours m x y clip cx cy area part i j at both = go (in_moved_box m x y i j) (in_moved_box clip cx cy i j) refl refl
   where
-    go : (b q : Bool) → in_box m x y i j ≡ b → in_box clip cx cy i j ≡ q
+    go : (b q : Bool) → in_moved_box m x y i j ≡ b → in_moved_box clip cx cy i j ≡ q
         → IsSame (within part (clipped_tints colours m x y clip cx cy false) i j) (clipped_tints colours m x y clip cx cy false i j)
     go true true e f = inl (within-yes part (clipped_tints colours m x y clip cx cy false) i j (both ∙ rw (at, e, f) refl))
     go false q e f =
-        none-same _ (colour_of colours i) _ (within-no part (clipped_tints colours m x y clip cx cy false) i j (both ∙ rw (at, e) refl))
-        (by_255-none (moved_value m x y i j) _ (moved_value-outside m x y i j e))
+        none-same _ (column_colour colours i) _ (within-no part (clipped_tints colours m x y clip cx cy false) i j (both ∙ rw (at, e) refl))
+        (by_255-none (placed_value m x y i j) _ (placed_value-outside m x y i j e))
     go true false e f =
-        none-same _ (colour_of colours i) _ (within-no part (clipped_tints colours m x y clip cx cy false) i j (both ∙ rw (at, e, f) refl))
-        (let z : moved_value clip cx cy i j ≡ 0 = moved_value-outside clip cx cy i j f in rw z (omega arith))
+        none-same _ (column_colour colours i) _ (within-no part (clipped_tints colours m x y clip cx cy false) i j (both ∙ rw (at, e, f) refl))
+        (let z : placed_value clip cx cy i j ≡ 0 = placed_value-outside clip cx cy i j f in rw z (omega arith))
 
 -- in the clip's box the tints under the clip, and elsewhere the plain ones
 abbrev either : Area → (ℕ → ℕ → Tint) → (ℕ → ℕ → Tint) → ℕ → ℕ → Tint
 either part first second i j = if in_area part i j then first i j else second i j
 
 -- under what a mask leaves
-beside-same : (colours : Colours) (m : PlainMask) (x y : ℤ) (clip : PlainMask) (cx cy : ℤ) (area part : Area) (i j : ℕ)
-    → in_area area i j ≡ in_box m x y i j → in_area part i j ≡ (in_area area i j && in_box clip cx cy i j)
+beside-same : (colours : Colours) (m : MaskValue) (x y : ℤ) (clip : MaskValue) (cx cy : ℤ) (area part : Area) (i j : ℕ)
+    → in_area area i j ≡ in_moved_box m x y i j → in_area part i j ≡ (in_area area i j && in_moved_box clip cx cy i j)
     → IsSame (either part (clipped_tints colours m x y clip cx cy true) (within area (plain_tints colours m x y)) i j) (clipped_tints colours m x y clip cx cy true i j)
-beside-same colours m x y clip cx cy area part i j at both = go (in_box m x y i j) (in_box clip cx cy i j) refl refl
+beside-same colours m x y clip cx cy area part i j at both = go (in_moved_box m x y i j) (in_moved_box clip cx cy i j) refl refl
   where
-    go : (b q : Bool) → in_box m x y i j ≡ b → in_box clip cx cy i j ≡ q
+    go : (b q : Bool) → in_moved_box m x y i j ≡ b → in_moved_box clip cx cy i j ≡ q
         → IsSame (either part (clipped_tints colours m x y clip cx cy true) (within area (plain_tints colours m x y)) i j) (clipped_tints colours m x y clip cx cy true i j)
     go true true e f = let p : in_area part i j ≡ true = both ∙ rw (at, e, f) refl in inl (rw p refl)
     go false q e f =
         let p : in_area part i j ≡ false = both ∙ rw (at, e) refl in
         let o : in_area area i j ≡ false = at ∙ e in
-        none-same _ (colour_of colours i) _ (rw (p, o) refl) (by_255-none (moved_value m x y i j) _ (moved_value-outside m x y i j e))
+        none-same _ (column_colour colours i) _ (rw (p, o) refl) (by_255-none (placed_value m x y i j) _ (placed_value-outside m x y i j e))
     go true false e f =
         let p : in_area part i j ≡ false = both ∙ rw (at, e, f) refl in
         let o : in_area area i j ≡ true = at ∙ e in
-        let z : moved_value clip cx cy i j ≡ 0 = moved_value-outside clip cx cy i j f in
-        let v : by_255 (moved_value m x y i j * (255 - moved_value clip cx cy i j)) ≡ moved_value m x y i j = rw z (omega arith) in
-        inl (rw (p, o) (ap (tint_of (colour_of colours i)) (sym v)))
+        let z : placed_value clip cx cy i j ≡ 0 = placed_value-outside clip cx cy i j f in
+        let v : by_255 (placed_value m x y i j * (255 - placed_value clip cx cy i j)) ≡ placed_value m x y i j = rw z (omega arith) in
+        inl (rw (p, o) (ap (tint_of (column_colour colours i)) (sym v)))
 
-pub drawn-under : (w top h : ℕ) (colours : Colours) (m : PlainMask) (x y : ℤ) (clip : PlainMask) (cx cy : ℤ) (inverse : Bool) (area part : Area) (s t : List ℕ)
-    → inverse ≡ false → length s ≡ 3 * (w * h) → IsMeeting area w top h m x y → ((i j : ℕ) → in_area part i j ≡ (in_area area i j && in_box clip cx cy i j))
+pub drawn-under : (w top h : ℕ) (colours : Colours) (m : MaskValue) (x y : ℤ) (clip : MaskValue) (cx cy : ℤ) (inverse : Bool) (area part : Area) (s t : List ℕ)
+    → inverse ≡ false → length s ≡ 3 * (w * h) → IsMeeting area w top h m x y → ((i j : ℕ) → in_area part i j ≡ (in_area area i j && in_moved_box clip cx cy i j))
     → t ≡ tinted (by_number w (within part (clipped_tints colours m x y clip cx cy inverse))) (w * top) s
-    → t ≡ painted (image_of colours m x y (Drawn clip cx cy inverse)) w (w * top) s
+    → t ≡ painted (coloured_image colours m x y (Drawn clip cx cy inverse)) w (w * top) s
 drawn-under w top h colours m x y clip cx cy inverse area part s t e len met both was =
-    rw e (tints-drawn w top h (image_of colours m x y (Drawn clip cx cy false)) _ s t len (rw e at was) (λ i j p q r. under-same colours m x y clip cx cy area part i j (met.whole i j p q r) (both i j)))
+    rw e (tints-drawn w top h (coloured_image colours m x y (Drawn clip cx cy false)) _ s t len (rw e at was) (λ i j p q r. under-same colours m x y clip cx cy area part i j (met.whole i j p q r) (both i j)))
 
-pub drawn-beside : (w top h : ℕ) (colours : Colours) (m : PlainMask) (x y : ℤ) (clip : PlainMask) (cx cy : ℤ) (inverse : Bool) (area part : Area) (s t u : List ℕ)
-    → inverse ≡ true → length s ≡ 3 * (w * h) → IsMeeting area w top h m x y → ((i j : ℕ) → in_area part i j ≡ (in_area area i j && in_box clip cx cy i j))
+pub drawn-beside : (w top h : ℕ) (colours : Colours) (m : MaskValue) (x y : ℤ) (clip : MaskValue) (cx cy : ℤ) (inverse : Bool) (area part : Area) (s t u : List ℕ)
+    → inverse ≡ true → length s ≡ 3 * (w * h) → IsMeeting area w top h m x y → ((i j : ℕ) → in_area part i j ≡ (in_area area i j && in_moved_box clip cx cy i j))
     → t ≡ tinted (by_number w (without part (within area (plain_tints colours m x y)))) (w * top) s
     → u ≡ tinted (by_number w (within part (clipped_tints colours m x y clip cx cy inverse))) (w * top) t
-    → u ≡ painted (image_of colours m x y (Drawn clip cx cy inverse)) w (w * top) s
+    → u ≡ painted (coloured_image colours m x y (Drawn clip cx cy inverse)) w (w * top) s
 drawn-beside w top h colours m x y clip cx cy inverse area part s t u e len met both was is =
-    rw e (tints-drawn w top h (image_of colours m x y (Drawn clip cx cy true)) (either part (clipped_tints colours m x y clip cx cy true) (within area (plain_tints colours m x y))) s u len
+    rw e (tints-drawn w top h (coloured_image colours m x y (Drawn clip cx cy true)) (either part (clipped_tints colours m x y clip cx cy true) (within area (plain_tints colours m x y))) s u len
     (add-area w (w * top) part (clipped_tints colours m x y clip cx cy true) (without part (within area (plain_tints colours m x y)))
     (either part (clipped_tints colours m x y clip cx cy true) (within area (plain_tints colours m x y))) s t u was (rw e at is)
     (λ i j e. (weightless _ (without-yes part (within area (plain_tints colours m x y)) i j e), rw e refl))
     (λ i j e. without-no part (within area (plain_tints colours m x y)) i j e ∙ rw e refl))
     (λ i j p q r. beside-same colours m x y clip cx cy area part i j (met.whole i j p q r) (both i j)))
 
-pub drawn-free : (w top h : ℕ) (colours : Colours) (m : PlainMask) (x y : ℤ) (area : Area) (s t : List ℕ) → length s ≡ 3 * (w * h) → IsMeeting area w top h m x y
+pub drawn-free : (w top h : ℕ) (colours : Colours) (m : MaskValue) (x y : ℤ) (area : Area) (s t : List ℕ) → length s ≡ 3 * (w * h) → IsMeeting area w top h m x y
     → t ≡ tinted (by_number w (within area (plain_tints colours m x y))) (w * top) s
-    → t ≡ painted (image_of colours m x y Free) w (w * top) s
+    → t ≡ painted (coloured_image colours m x y Free) w (w * top) s
 drawn-free w top h colours m x y area s t len met was =
-    tints-drawn w top h (image_of colours m x y Free) _ s t len was (λ i j p q r. free-same colours m x y area i j (met.whole i j p q r))
+    tints-drawn w top h (coloured_image colours m x y Free) _ s t len was (λ i j p q r. free-same colours m x y area i j (met.whole i j p q r))
 
-pub drawn-inside : (w top h : ℕ) (colours : Colours) (m : PlainMask) (x y x1 y1 x2 y2 : ℤ) (inverse : Bool) (area part : Area) (s t : List ℕ)
+pub drawn-inside : (w top h : ℕ) (colours : Colours) (m : MaskValue) (x y x1 y1 x2 y2 : ℤ) (inverse : Bool) (area part : Area) (s t : List ℕ)
     → inverse ≡ false → length s ≡ 3 * (w * h) → IsMeeting area w top h m x y → ((i j : ℕ) → in_area part i j ≡ (in_area area i j && in_rect x1 y1 x2 y2 (pos i) (pos j)))
     → t ≡ tinted (by_number w (within part (plain_tints colours m x y))) (w * top) s
-    → t ≡ painted (image_of colours m x y (Rect x1 y1 x2 y2 inverse)) w (w * top) s
+    → t ≡ painted (coloured_image colours m x y (Rect x1 y1 x2 y2 inverse)) w (w * top) s
 drawn-inside w top h colours m x y x1 y1 x2 y2 inverse area part s t e len met both was =
-    rw e (tints-drawn w top h (image_of colours m x y (Rect x1 y1 x2 y2 false)) _ s t len was
+    rw e (tints-drawn w top h (coloured_image colours m x y (Rect x1 y1 x2 y2 false)) _ s t len was
     (λ i j p q r. rect-same colours m x y area part i j (in_rect x1 y1 x2 y2 (pos i) (pos j)) (met.whole i j p q r) (both i j)))
 
-pub drawn-outside : (w top h : ℕ) (colours : Colours) (m : PlainMask) (x y x1 y1 x2 y2 : ℤ) (inverse : Bool) (area part : Area) (s t : List ℕ)
+pub drawn-outside : (w top h : ℕ) (colours : Colours) (m : MaskValue) (x y x1 y1 x2 y2 : ℤ) (inverse : Bool) (area part : Area) (s t : List ℕ)
     → inverse ≡ true → length s ≡ 3 * (w * h) → IsMeeting area w top h m x y → ((i j : ℕ) → in_area part i j ≡ (in_area area i j && in_rect x1 y1 x2 y2 (pos i) (pos j)))
     → t ≡ tinted (by_number w (without part (within area (plain_tints colours m x y)))) (w * top) s
-    → t ≡ painted (image_of colours m x y (Rect x1 y1 x2 y2 inverse)) w (w * top) s
+    → t ≡ painted (coloured_image colours m x y (Rect x1 y1 x2 y2 inverse)) w (w * top) s
 drawn-outside w top h colours m x y x1 y1 x2 y2 inverse area part s t e len met both was =
-    rw e (tints-drawn w top h (image_of colours m x y (Rect x1 y1 x2 y2 true)) _ s t len was
+    rw e (tints-drawn w top h (coloured_image colours m x y (Rect x1 y1 x2 y2 true)) _ s t len was
     (λ i j p q r. around-same colours m x y area part i j (in_rect x1 y1 x2 y2 (pos i) (pos j)) (met.whole i j p q r) (both i j)))

@@ -5,11 +5,11 @@ use Rattle.std.proofs.lemmas.Nat.{div-mul-add, mod-mul-add}
 use Rattle.std.proofs.Math.Nat.{mul-le-mul_left}
 use borrow.Rule.Slice.PartMut.{put_mid}
 use Rattle.blend.specs.declared.area.Area.{Area}
-use Rattle.ass_num.specs.Masks.{PlainMask}
+use Rattle.ass_num.specs.Masks.{MaskValue}
 use Rattle.ass_num.specs.declared.colour.Rgba.{Rgba}
-use Rattle.blend.specs.Blending.{Tint, Drawn, by_255, clipped, moved_value, tint_of, tinted, by_number}
+use Rattle.blend.specs.Blending.{Tint, Drawn, by_255, clipped, placed_value, tint_of, tinted, by_number}
 use Rattle.blend.specs.declared.fill.Colours.{Colours}
-use Rattle.blend.specs.Areas.{in_area, IsCovered, within, no_tint, colour_of}
+use Rattle.blend.specs.Areas.{in_area, IsAreaCovered, within, no_tint, column_colour}
 use Rattle.blend.proofs.AreaLemmas.{lt-yes, lt-no, le-yes, in_area-yes, in_area-left, in_area-right, in_area-top, in_area-bottom, inside}
 use Rattle.blend.proofs.TintedLemmas.{IsSame, IsJoined, tinted-none, tinted-write, tinted-tinted, weightless}
 
@@ -152,25 +152,25 @@ halves w n middle area left right tint s t u low high on_left on_right was is =
         (ap (λ (x : Bool). (nat_le area.left i && x) && (nat_le area.top j && nat_lt j area.bottom)) (lt-yes i area.right (omega arith) ∙ sym (lt-yes i middle less)) ∙ e))
 
 -- the colour of a column on either side of the edge, which a call is shown by its bits
-pub colour-left : (colours : Colours) (i middle : ℕ) (edge : ℤ) → edge ≡ colours.edge → i < middle → nat_lt i middle ≡ int_lt (pos i) edge → colour_of colours i ≡ colours.left
+pub colour-left : (colours : Colours) (i middle : ℕ) (edge : ℤ) → edge ≡ colours.edge → i < middle → nat_lt i middle ≡ int_lt (pos i) edge → column_colour colours i ≡ colours.left
 colour-left colours i middle edge edge_is less same =
     let e : int_lt (pos i) colours.edge ≡ true = ap (int_lt (pos i)) (sym edge_is) ∙ (sym same ∙ lt-yes i middle less) in
     rw e refl
 
-pub colour-right : (colours : Colours) (i middle : ℕ) (edge : ℤ) → edge ≡ colours.edge → middle ≤ i → nat_lt i middle ≡ int_lt (pos i) edge → colour_of colours i ≡ colours.right
+pub colour-right : (colours : Colours) (i middle : ℕ) (edge : ℤ) → edge ≡ colours.edge → middle ≤ i → nat_lt i middle ≡ int_lt (pos i) edge → column_colour colours i ≡ colours.right
 colour-right colours i middle edge edge_is past same =
     let e : int_lt (pos i) colours.edge ≡ false = ap (int_lt (pos i)) (sym edge_is) ∙ (sym same ∙ lt-no i middle past) in
     rw e refl
 
 -- a pixel under a clip, from the values of both
-pub clipped-value : (colour : Rgba) (clip : PlainMask) (cx cy : ℤ) (inverse : Bool) (i j m n v : ℕ) → m ≡ v → n ≡ moved_value clip cx cy i j
+pub clipped-value : (colour : Rgba) (clip : MaskValue) (cx cy : ℤ) (inverse : Bool) (i j m n v : ℕ) → m ≡ v → n ≡ placed_value clip cx cy i j
     → tint_of colour (by_255 (m * (if inverse then 255 - n else n))) ≡ tint_of colour (clipped (Drawn clip cx cy inverse) i j v)
 clipped-value colour clip cx cy inverse i j m n v p q = rw (p, q) refl
 
 -- a part of an area is covered where the area is
-pub IsCovered-part : (area part : Area) (m : PlainMask) (x y : ℤ) → area.left ≤ part.left → part.right ≤ area.right → area.top ≤ part.top → part.bottom ≤ area.bottom
-    → IsCovered area m x y → IsCovered part m x y
-IsCovered-part area part m x y l r t b whole = record {
+pub IsAreaCovered-part : (area part : Area) (m : MaskValue) (x y : ℤ) → area.left ≤ part.left → part.right ≤ area.right → area.top ≤ part.top → part.bottom ≤ area.bottom
+    → IsAreaCovered area m x y → IsAreaCovered part m x y
+IsAreaCovered-part area part m x y l r t b whole = record {
   covered = λ i j e.
       let p = inside part i j e in
       whole.covered i j (in_area-yes area i j (omega arith) (omega arith) (omega arith) (omega arith));

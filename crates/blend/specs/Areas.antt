@@ -1,10 +1,10 @@
 -- Rectangles of pixels of a picture, and tints that fall on one of them alone.
 use Rattle.std.specs.Prelude.{◌≡◌, ℕ, ℤ, pos, ◌+◌, ◌-◌, ◌*◌, ◌+ℤ◌, ◌<◌, ◌≤◌, Bool, true, ◌&&◌, nat_le, nat_lt, int_lt, if◌then◌else◌}
-use Rattle.ass_num.specs.Masks.{PlainMask}
+use Rattle.ass_num.specs.Masks.{MaskValue}
 use Rattle.ass_num.specs.declared.colour.Rgba.{Rgba}
 use Rattle.blend.specs.declared.area.Area.{Area}
 use Rattle.blend.specs.declared.fill.Colours.{Colours}
-use Rattle.blend.specs.Blending.{Tint, Image, PlainStencil, in_rect}
+use Rattle.blend.specs.Blending.{Tint, Image, StencilValue, in_rect}
 
 -- pixel (i, j) lies in the area
 abbrev pub in_area : Area → ℕ → ℕ → Bool
@@ -20,12 +20,12 @@ pub record IsPart (part area : Area) : Type 0 where
   pub bottom : part.bottom ≤ area.bottom
 
 -- pixel (i, j) lies in the box of a mask that is moved by (x, y)
-abbrev pub in_box : PlainMask → ℤ → ℤ → ℕ → ℕ → Bool
-in_box m x y i j = in_rect (m.x +ℤ x) (m.y +ℤ y) (m.x +ℤ x +ℤ pos m.w) (m.y +ℤ y +ℤ pos m.h) (pos i) (pos j)
+abbrev pub in_moved_box : MaskValue → ℤ → ℤ → ℕ → ℕ → Bool
+in_moved_box m x y i j = in_rect (m.x +ℤ x) (m.y +ℤ y) (m.x +ℤ x +ℤ pos m.w) (m.y +ℤ y +ℤ pos m.h) (pos i) (pos j)
 
 -- the whole area lies in the box of the moved mask
-pub record IsCovered (area : Area) (m : PlainMask) (x y : ℤ) : Type 0 where
-  pub covered : (i j : ℕ) → in_area area i j ≡ true → in_box m x y i j ≡ true
+pub record IsAreaCovered (area : Area) (m : MaskValue) (x y : ℤ) : Type 0 where
+  pub covered : (i j : ℕ) → in_area area i j ≡ true → in_moved_box m x y i j ≡ true
 
 -- the area lies in the rows from `top` on of a picture of width w, of which there are `count` bytes
 pub record IsInRows (area : Area) (w top count : ℕ) : Type 0 where
@@ -44,19 +44,19 @@ abbrev pub within : Area → (ℕ → ℕ → Tint) → ℕ → ℕ → Tint
 within area tint i j = if in_area area i j then tint i j else no_tint
 
 -- the colour of column i
-abbrev pub colour_of : Colours → ℕ → Rgba
-colour_of c i = if int_lt (pos i) c.edge then c.left else c.right
+abbrev pub column_colour : Colours → ℕ → Rgba
+column_colour c i = if int_lt (pos i) c.edge then c.left else c.right
 
 -- the tints, and none on the area
 abbrev pub without : Area → (ℕ → ℕ → Tint) → ℕ → ℕ → Tint
 without area tint i j = if in_area area i j then no_tint else tint i j
 
 -- The area is what h rows from `top` on, of a picture of width w, have of the box of the moved mask.
-pub record IsMeeting (area : Area) (w top h : ℕ) (m : PlainMask) (x y : ℤ) : Type 0 where
+pub record IsMeeting (area : Area) (w top h : ℕ) (m : MaskValue) (x y : ℤ) : Type 0 where
   pub in_rows : IsInRows area w top (3 * (w * h))
-  pub covered : IsCovered area m x y
-  pub whole : (i j : ℕ) → i < w → top ≤ j → j < top + h → in_area area i j ≡ in_box m x y i j
+  pub covered : IsAreaCovered area m x y
+  pub whole : (i j : ℕ) → i < w → top ≤ j → j < top + h → in_area area i j ≡ in_moved_box m x y i j
 
 -- an image whose colours are given together
-abbrev pub image_of : Colours → PlainMask → ℤ → ℤ → PlainStencil → Image
-image_of c m x y stencil = record { mask = m; x = x; y = y; left = c.left; right = c.right; edge = c.edge; stencil = stencil }
+abbrev pub coloured_image : Colours → MaskValue → ℤ → ℤ → StencilValue → Image
+coloured_image c m x y stencil = record { mask = m; x = x; y = y; left = c.left; right = c.right; edge = c.edge; stencil = stencil }

@@ -1,24 +1,24 @@
 -- What drawing an image does to the pixels of a picture (docs/BLENDING.md).
 use Rattle.std.specs.Prelude.{ℕ, ℤ, pos, ◌+◌, ◌-◌, ◌*◌, ◌/◌, ◌%◌, ◌-ℤ◌, Bool, ◌&&◌, int_lt, int_le, List, ◌∷◌, if◌then◌else◌}
-use Rattle.ass_num.specs.Masks.{PlainMask, value_at}
+use Rattle.ass_num.specs.Masks.{MaskValue, value_at}
 use Rattle.ass_num.specs.declared.colour.Rgba.{Rgba}
 
 -- A clip: nothing is hidden; or what lies outside a rectangle, whose left and top bounds belong to it and whose
 -- right and bottom bounds don't; or what a mask at an offset doesn't cover. At `true` the inside is hidden instead.
-pub data PlainStencil : Type 0 where
-  Free : PlainStencil
-  Rect : ℤ → ℤ → ℤ → ℤ → Bool → PlainStencil
-  Drawn : PlainMask → ℤ → ℤ → Bool → PlainStencil
+pub data StencilValue : Type 0 where
+  Free : StencilValue
+  Rect : ℤ → ℤ → ℤ → ℤ → Bool → StencilValue
+  Drawn : MaskValue → ℤ → ℤ → Bool → StencilValue
 
 -- An image to be drawn: the mask at its offset, the colour of the columns left of the edge and of those from it on, and the clip.
 pub record Image : Type 0 where
-  pub mask : PlainMask
+  pub mask : MaskValue
   pub x : ℤ
   pub y : ℤ
   pub left : Rgba
   pub right : Rgba
   pub edge : ℤ
-  pub stencil : PlainStencil
+  pub stencil : StencilValue
 
 -- a product of two numbers in 255ths, rounded
 abbrev pub by_255 : ℕ → ℕ
@@ -28,15 +28,15 @@ abbrev pub in_rect : ℤ → ℤ → ℤ → ℤ → ℤ → ℤ → Bool
 in_rect x1 y1 x2 y2 i j = (int_le x1 i && int_lt i x2) && (int_le y1 j && int_lt j y2)
 
 -- the coverage of a mask, moved by (x, y), at pixel (i, j)
-abbrev pub moved_value : PlainMask → ℤ → ℤ → ℕ → ℕ → ℕ
-moved_value m x y i j = value_at m (pos i -ℤ x) (pos j -ℤ y)
+abbrev pub placed_value : MaskValue → ℤ → ℤ → ℕ → ℕ → ℕ
+placed_value m x y i j = value_at m (pos i -ℤ x) (pos j -ℤ y)
 
 -- what the clip leaves of the coverage m of pixel (i, j)
-abbrev pub clipped : PlainStencil → ℕ → ℕ → ℕ → ℕ
+abbrev pub clipped : StencilValue → ℕ → ℕ → ℕ → ℕ
 clipped Free i j m = m
 clipped (Rect x1 y1 x2 y2 inverse) i j m =
     if in_rect x1 y1 x2 y2 (pos i) (pos j) then (if inverse then 0 else m) else (if inverse then m else 0)
-clipped (Drawn c x y inverse) i j m = by_255 (m * (if inverse then 255 - moved_value c x y i j else moved_value c x y i j))
+clipped (Drawn c x y inverse) i j m = by_255 (m * (if inverse then 255 - placed_value c x y i j else placed_value c x y i j))
 
 -- A colour that falls on a pixel, and its weight in 255ths. The colour's own alpha is in the weight already.
 pub record Tint : Type 0 where
@@ -51,7 +51,7 @@ tint_of colour m = record { colour = colour; weight = by_255 (m * (255 - colour.
 abbrev pub tint_at : Image → ℕ → ℕ → Tint
 tint_at image i j =
     tint_of (if int_lt (pos i) image.edge then image.left else image.right)
-    (clipped image.stencil i j (moved_value image.mask image.x image.y i j))
+    (clipped image.stencil i j (placed_value image.mask image.x image.y i j))
 
 -- a channel of a pixel under a channel of a colour of this weight
 abbrev pub blended : ℕ → ℕ → ℕ → ℕ

@@ -20,9 +20,9 @@ pub struct Canvas {
 
 impl Model for Canvas {
     ghost use Rattle.std.specs.Prelude.{◌≡◌, ◌*◌, length};
-    ghost use Rattle.blend.specs.Canvases.{PlainCanvas};
+    ghost use Rattle.blend.specs.Canvases.{CanvasValue};
 
-    ghost Value = { PlainCanvas };
+    ghost Value = { CanvasValue };
 
     ghost view = { λ c. record { w = c.w; h = c.h; bytes = c.bytes.items } };
 

@@ -1,8 +1,8 @@
 //! Drawing an image under a clip.
 
 ghost use Rattle.std.specs.Prelude.{◌≡◌, ℕ, ◌≤◌, ◌<◌, ◌+◌, ◌*◌, ◌^◌, ◌&&◌, length};
-ghost use Rattle.blend.specs.Blending.{Free, Rect, Drawn, moved_value, tint_of, tinted, by_number, painted};
-ghost use Rattle.blend.specs.Areas.{in_area, in_box, IsPart, IsCovered, IsInRows, IsMeeting, within, without, colour_of, image_of};
+ghost use Rattle.blend.specs.Blending.{Free, Rect, Drawn, placed_value, tint_of, tinted, by_number, painted};
+ghost use Rattle.blend.specs.Areas.{in_area, in_moved_box, IsPart, IsAreaCovered, IsInRows, IsMeeting, within, without, column_colour, coloured_image};
 ghost use Rattle.blend.specs.Stencils.{plain_of};
 
 use crate::area::{Area, cut};
@@ -15,7 +15,7 @@ fn cut_to_box(area: Area, mask: &Mask, x: i32, y: i32) -> Area
     requires columns { area.left ≤ area.right }
     requires rows { area.top ≤ area.bottom }
     ensures part { IsPart result area }
-    ensures both { (i j : ℕ) → in_area result i j ≡ (in_area area i j && in_box mask.now x y i j) }
+    ensures both { (i j : ℕ) → in_area result i j ≡ (in_area area i j && in_moved_box mask.now x y i j) }
 {
     let left = i64::from(mask.x()) + i64::from(x);
     let top = i64::from(mask.y()) + i64::from(y);
@@ -56,10 +56,10 @@ fn fill_around(
     colours: Colours,
 )
     requires in_rows { IsInRows area w top (length rows.old) }
-    requires covered { IsCovered area mask.now x y }
+    requires covered { IsAreaCovered area mask.now x y }
     requires hole { IsPart hole area }
     ensures { rows.new ≡ tinted (by_number w (without hole (within area
-        (λ i j. tint_of (colour_of colours i) (moved_value mask.now x y i j))))) (w * top) rows.old }
+        (λ i j. tint_of (column_colour colours i) (placed_value mask.now x y i j))))) (w * top) rows.old }
 {
     let above = Area {
         bottom: hole.top,
@@ -98,7 +98,7 @@ fn draw_free(
 )
     requires bytes { length rows.old ≡ 3 * (w * h) }
     requires rows { top + h < 2 ^ 32 }
-    ensures { rows.new ≡ painted (image_of colours mask.now x y Free) w (w * top) rows.old }
+    ensures { rows.new ≡ painted (coloured_image colours mask.now x y Free) w (w * top) rows.old }
 {
     let area = meeting(w, top, h, mask, x, y);
     fill_colours(rows, w, top, area, mask, x, y, colours);
@@ -122,7 +122,7 @@ fn draw_rect(
 )
     requires bytes { length rows.old ≡ 3 * (w * h) }
     requires rows { top + h < 2 ^ 32 }
-    ensures { rows.new ≡ painted (image_of colours mask.now x y (Rect x1 y1 x2 y2 inverse)) w (w * top) rows.old }
+    ensures { rows.new ≡ painted (coloured_image colours mask.now x y (Rect x1 y1 x2 y2 inverse)) w (w * top) rows.old }
 {
     let area = meeting(w, top, h, mask, x, y);
     let part = cut(
@@ -156,7 +156,7 @@ fn draw_clipped(
 )
     requires bytes { length rows.old ≡ 3 * (w * h) }
     requires rows { top + h < 2 ^ 32 }
-    ensures { rows.new ≡ painted (image_of colours mask.now x y (Drawn clip.now cx cy inverse)) w (w * top) rows.old }
+    ensures { rows.new ≡ painted (coloured_image colours mask.now x y (Drawn clip.now cx cy inverse)) w (w * top) rows.old }
 {
     let area = meeting(w, top, h, mask, x, y);
     let part = cut_to_box(area, clip, cx, cy);

@@ -1,8 +1,8 @@
 //! Blending colours into areas that masks cover.
 
 ghost use Rattle.std.specs.Prelude.{◌≡◌, ℕ, pos, ◌+ℤ◌, ◌-ℤ◌, ◌≤ℤ◌, ◌≤◌, ◌<◌, ◌+◌, ◌-◌, ◌*◌, true, length, take, drop, slice_index, if◌then◌else◌};
-ghost use Rattle.blend.specs.Blending.{Drawn, clipped, moved_value, tint_of, tinted, by_number};
-ghost use Rattle.blend.specs.Areas.{in_box, IsCovered, IsInRows, within, colour_of};
+ghost use Rattle.blend.specs.Blending.{Drawn, clipped, placed_value, tint_of, tinted, by_number};
+ghost use Rattle.blend.specs.Areas.{in_moved_box, IsAreaCovered, IsInRows, within, column_colour};
 
 use crate::area::{Area, held};
 use crate::span::{tint_clipped_span, tint_span};
@@ -37,10 +37,10 @@ fn piece(bytes: &[u8], w: usize, row: usize, column: usize, count: usize) -> &[u
 /// The coverage of the columns from `left` to `right` of row `j` by a mask that is moved by (x, y).
 fn cover(mask: &Mask, x: i32, y: i32, left: u32, right: u32, j: u32) -> &[u8]
     requires columns { left < right }
-    requires first { in_box mask.now x y left j ≡ true }
-    requires last { in_box mask.now x y (right - 1) j ≡ true }
+    requires first { in_moved_box mask.now x y left j ≡ true }
+    requires last { in_moved_box mask.now x y (right - 1) j ≡ true }
     ensures count { length result.now ≡ right - left }
-    ensures values { (k : ℕ) → k < right - left → slice_index result.now k ≡ moved_value mask.now x y (left + k) j }
+    ensures values { (k : ℕ) → k < right - left → slice_index result.now k ≡ placed_value mask.now x y (left + k) j }
 {
     let row = offset(j, y, mask.y());
     let column = offset(left, x, mask.x());
@@ -56,8 +56,8 @@ fn cover(mask: &Mask, x: i32, y: i32, left: u32, right: u32, j: u32) -> &[u8]
 /// Blends one colour into an area that the moved mask's box has.
 fn fill(rows: &mut [u8], w: u32, top: u32, area: Area, mask: &Mask, x: i32, y: i32, colour: Rgba)
     requires in_rows { IsInRows area w top (length rows.old) }
-    requires covered { IsCovered area mask.now x y }
-    ensures { rows.new ≡ tinted (by_number w (within area (λ i j. tint_of colour (moved_value mask.now x y i j)))) (w * top) rows.old }
+    requires covered { IsAreaCovered area mask.now x y }
+    ensures { rows.new ≡ tinted (by_number w (within area (λ i j. tint_of colour (placed_value mask.now x y i j)))) (w * top) rows.old }
 {
     if area.left >= area.right {
         return;
@@ -75,8 +75,8 @@ fn middle(area: Area, colours: Colours) -> u32
     requires { area.left ≤ area.right }
     ensures low { area.left ≤ result }
     ensures high { result ≤ area.right }
-    ensures before { (i : ℕ) → area.left ≤ i → i < result → colour_of colours i ≡ colours.left }
-    ensures after { (i : ℕ) → result ≤ i → i < area.right → colour_of colours i ≡ colours.right }
+    ensures before { (i : ℕ) → area.left ≤ i → i < result → column_colour colours i ≡ colours.left }
+    ensures after { (i : ℕ) → result ≤ i → i < area.right → column_colour colours i ≡ colours.right }
 {
     held(i64::from(colours.edge), area.left, area.right)
 }
@@ -93,9 +93,9 @@ pub fn fill_colours(
     colours: Colours,
 )
     requires in_rows { IsInRows area w top (length rows.old) }
-    requires covered { IsCovered area mask.now x y }
+    requires covered { IsAreaCovered area mask.now x y }
     ensures { rows.new ≡ tinted (by_number w (within area
-        (λ i j. tint_of (colour_of colours i) (moved_value mask.now x y i j)))) (w * top) rows.old }
+        (λ i j. tint_of (column_colour colours i) (placed_value mask.now x y i j)))) (w * top) rows.old }
 {
     let middle = middle(area, colours);
     let left = Area {
@@ -126,9 +126,9 @@ fn fill_clipped(
     inverse: bool,
 )
     requires in_rows { IsInRows area w top (length rows.old) }
-    requires covered { IsCovered area mask.now x y }
-    requires clip { IsCovered area clip.now cx cy }
-    ensures { rows.new ≡ tinted (by_number w (within area (λ i j. tint_of colour (clipped (Drawn clip.now cx cy inverse) i j (moved_value mask.now x y i j))))) (w * top) rows.old }
+    requires covered { IsAreaCovered area mask.now x y }
+    requires clip { IsAreaCovered area clip.now cx cy }
+    ensures { rows.new ≡ tinted (by_number w (within area (λ i j. tint_of colour (clipped (Drawn clip.now cx cy inverse) i j (placed_value mask.now x y i j))))) (w * top) rows.old }
 {
     if area.left >= area.right {
         return;
@@ -164,10 +164,10 @@ pub fn fill_clipped_colours(
     inverse: bool,
 )
     requires in_rows { IsInRows area w top (length rows.old) }
-    requires covered { IsCovered area mask.now x y }
-    requires clip { IsCovered area clip.now cx cy }
+    requires covered { IsAreaCovered area mask.now x y }
+    requires clip { IsAreaCovered area clip.now cx cy }
     ensures { rows.new ≡ tinted (by_number w (within area
-        (λ i j. tint_of (colour_of colours i) (clipped (Drawn clip.now cx cy inverse) i j (moved_value mask.now x y i j))))) (w * top) rows.old }
+        (λ i j. tint_of (column_colour colours i) (clipped (Drawn clip.now cx cy inverse) i j (placed_value mask.now x y i j))))) (w * top) rows.old }
 {
     let middle = middle(area, colours);
     let left = Area {

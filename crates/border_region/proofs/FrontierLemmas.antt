@@ -5,7 +5,7 @@ use Rattle.std.proofs.lemmas.Bool.{false≢true, cases_lt}
 use Rattle.std.proofs.lemmas.List.{get_or_append_left, get_or_push, get_or_past, length_push}
 use Rattle.std.proofs.lemmas.List.Elements.{All-get_or, All-nil}
 use Rattle.ass_num.specs.Limits.{IsRunWithin}
-use Rattle.ass_num.specs.Regions.{PlainRegion, in_runs, row_at}
+use Rattle.ass_num.specs.Regions.{RegionValue, in_runs, row_at}
 use Rattle.ass_num.specs.declared.region.Run.{Run}
 use Rattle.border_region.specs.Frontier.{IsFrontier, is_seen}
 use Rattle.border_region.specs.Keys.{AreAscending, key_at}
@@ -21,13 +21,13 @@ row_within limit rows (pos n) w =
     (cases_lt n (length rows))
 
 -- what is known of the keys found before the row at `key`
-pub record HasFound (region : PlainRegion) (upwards : Bool) (key : ℤ) (found : List ℤ) : Type 0 where
+pub record HasFound (region : RegionValue) (upwards : Bool) (key : ℤ) (found : List ℤ) : Type 0 where
   pub ascends : AreAscending found
   pub below : (n : ℕ) → n < length found → key_at found n <ℤ key
   pub near : (n : ℕ) → n < length found → (negsuc 199999 ≤ℤ key_at found n) × (key_at found n ≤ℤ pos 200000)
   pub complete : (k i : ℤ) → k <ℤ key → is_seen region upwards k i ≡ true → (is_seen region upwards (k -ℤ pos 1) i ≡ true) ⊎ ((n : ℕ) × (n < length found) × (key_at found n ≡ k))
 
-pub found_none : (region : PlainRegion) (upwards : Bool) (first : ℤ) → ((k i : ℤ) → k <ℤ first → is_seen region upwards k i ≡ false) → HasFound region upwards first []
+pub found_none : (region : RegionValue) (upwards : Bool) (first : ℤ) → ((k i : ℤ) → k <ℤ first → is_seen region upwards k i ≡ false) → HasFound region upwards first []
 found_none region upwards first none = record {
   ascends = λ m n l h. absurd (omega arith);
   below = λ n h. absurd (omega arith);
@@ -36,7 +36,7 @@ found_none region upwards first none = record {
 }
 
 -- the row at `key` reaches nowhere beyond the row before
-pub found_same : (region : PlainRegion) (upwards : Bool) (key : ℤ) (found : List ℤ) (before row : List Run) → ((i : ℤ) → in_runs before i ≡ is_seen region upwards (key -ℤ pos 1) i) → ((i : ℤ) → in_runs row i ≡ is_seen region upwards key i) → Covers 0 row before → HasFound region upwards key found → HasFound region upwards (key +ℤ pos 1) found
+pub found_same : (region : RegionValue) (upwards : Bool) (key : ℤ) (found : List ℤ) (before row : List Run) → ((i : ℤ) → in_runs before i ≡ is_seen region upwards (key -ℤ pos 1) i) → ((i : ℤ) → in_runs row i ≡ is_seen region upwards key i) → Covers 0 row before → HasFound region upwards key found → HasFound region upwards (key +ℤ pos 1) found
 found_same region upwards key found before row eb er covers old = record {
   ascends = old.ascends;
   below = λ n h. let b = old.below n h in omega (arith, ints);
@@ -54,7 +54,7 @@ key_last : (found : List ℤ) (key : ℤ) (n : ℕ) → length found ≡ n → k
 key_last found key n e = get_or_push found key (pos 0) n e
 
 -- it may, and its key is kept
-pub found_more : (region : PlainRegion) (upwards : Bool) (key : ℤ) (found : List ℤ) → negsuc 199999 ≤ℤ key → key ≤ℤ pos 200000 → HasFound region upwards key found → HasFound region upwards (key +ℤ pos 1) (found ++ key ∷ [])
+pub found_more : (region : RegionValue) (upwards : Bool) (key : ℤ) (found : List ℤ) → negsuc 199999 ≤ℤ key → key ≤ℤ pos 200000 → HasFound region upwards key found → HasFound region upwards (key +ℤ pos 1) (found ++ key ∷ [])
 found_more region upwards key found low high old =
     let more = length_push found key in
     record {
@@ -77,7 +77,7 @@ found_more region upwards key found low high old =
           (λ (m : key ≤ℤ k). let e : key ≡ k = omega (arith, ints) in inr (length found, omega arith, key_last found key (length found) refl ∙ e));
     }
 
-pub found_all : (region : PlainRegion) (upwards : Bool) (key : ℤ) (found : List ℤ) → ((k i : ℤ) → key ≤ℤ k → is_seen region upwards k i ≡ false) → HasFound region upwards key found → IsFrontier region upwards found
+pub found_all : (region : RegionValue) (upwards : Bool) (key : ℤ) (found : List ℤ) → ((k i : ℤ) → key ≤ℤ k → is_seen region upwards k i ≡ false) → HasFound region upwards key found → IsFrontier region upwards found
 found_all region upwards key found none old = record {
   ascends = old.ascends;
   near = old.near;

@@ -4,22 +4,22 @@ use Rattle.std.proofs.lemmas.Int.{ints}
 use Rattle.std.proofs.lemmas.Bool.{cases_lt}
 use Rattle.std.proofs.lemmas.List.{get_or_default}
 use Rattle.std.specs.List.Sorted.{IsPartitionedBy, IsPartitionPoint}
-use Rattle.ass_num.specs.Regions.{PlainRegion, in_runs, ascend}
+use Rattle.ass_num.specs.Regions.{RegionValue, in_runs, ascend}
 use Rattle.ass_num.specs.declared.region.Run.{Run}
 use Rattle.region_rows.proofs.OrderLemmas.{le_is, le_not, le_true}
 use Rattle.border_region.specs.Ellipse.{AreFalling}
 use Rattle.border_region.specs.Frontier.{IsFrontier, is_seen}
 use Rattle.border_region.specs.Keys.{AreAscending, AreUpTo, key_at}
 use Rattle.border_region.specs.Sides.{IsReachedFrom, AddsSide, HoldsMiddle}
-use Rattle.border_region.specs.Widths.{IsWithin, AddsWidened}
+use Rattle.border_region.specs.Widths.{IsWithinWidth, AddsWidened}
 
-IsWithin-wider : (w v : ℕ) (k i : ℤ) → w ≤ v → IsWithin w k i → IsWithin v k i
-IsWithin-wider w v k i l h = let a = h.left in let b = h.right in record { left = omega (arith, ints); right = omega (arith, ints) }
+IsWithinWidth-wider : (w v : ℕ) (k i : ℤ) → w ≤ v → IsWithinWidth w k i → IsWithinWidth v k i
+IsWithinWidth-wider w v k i l h = let a = h.left in let b = h.right in record { left = omega (arith, ints); right = omega (arith, ints) }
 
 -- the keys before the n-th one are done
-pub record HasAdded (region : PlainRegion) (upwards : Bool) (keys : List ℤ) (widths : List ℕ) (key : ℤ) (n : ℕ) (old new : List Run) : Type 0 where
+pub record HasAdded (region : RegionValue) (upwards : Bool) (keys : List ℤ) (widths : List ℕ) (key : ℤ) (n : ℕ) (old new : List Run) : Type 0 where
   pub keeps : (i : ℤ) → in_runs old i ≡ true → in_runs new i ≡ true
-  pub covers : (m d : ℕ) (i k : ℤ) → 0 < d → m < n → key_at keys m ≡ key +ℤ pos d → is_seen region upwards (key +ℤ pos d) k ≡ true → IsWithin (slice_index widths d) k i → in_runs new i ≡ true
+  pub covers : (m d : ℕ) (i k : ℤ) → 0 < d → m < n → key_at keys m ≡ key +ℤ pos d → is_seen region upwards (key +ℤ pos d) k ≡ true → IsWithinWidth (slice_index widths d) k i → in_runs new i ≡ true
   pub reached : (i : ℤ) → in_runs new i ≡ true → (in_runs old i ≡ true) ⊎ ((d : ℕ) × (k : ℤ) × IsReachedFrom region upwards widths key i d k)
   pub ascends : ascend new ≡ true
 
@@ -38,7 +38,7 @@ up_to key keys count b p = record {
 }
 
 -- ---- one side
-pub adds_none : (region : PlainRegion) (upwards : Bool) (keys : List ℤ) (widths : List ℕ) (key : ℤ) (n : ℕ) (runs : List Run) → AreUpTo key keys n → ascend runs ≡ true → HasAdded region upwards keys widths key n runs runs
+pub adds_none : (region : RegionValue) (upwards : Bool) (keys : List ℤ) (widths : List ℕ) (key : ℤ) (n : ℕ) (runs : List Run) → AreUpTo key keys n → ascend runs ≡ true → HasAdded region upwards keys widths key n runs runs
 adds_none region upwards keys widths key n runs up a = record {
   keeps = λ i m. m;
   covers = λ m d i k p l e s near. absurd (let b = up.before m l in omega (arith, ints));
@@ -47,7 +47,7 @@ adds_none region upwards keys widths key n runs up a = record {
 }
 
 -- the row at the n-th key, d rows on, is added
-pub adds_more : (region : PlainRegion) (upwards : Bool) (keys : List ℤ) (widths : List ℕ) (key : ℤ) (n d : ℕ) (row first old new : List Run) → pos d ≡ key_at keys n -ℤ key → d < length widths → ((i : ℤ) → in_runs row i ≡ is_seen region upwards (key_at keys n) i)
+pub adds_more : (region : RegionValue) (upwards : Bool) (keys : List ℤ) (widths : List ℕ) (key : ℤ) (n d : ℕ) (row first old new : List Run) → pos d ≡ key_at keys n -ℤ key → d < length widths → ((i : ℤ) → in_runs row i ≡ is_seen region upwards (key_at keys n) i)
     → HasAdded region upwards keys widths key n first old → AddsWidened (slice_index widths d) row old new → HasAdded region upwards keys widths key (n + 1) first new
 adds_more region upwards keys widths key n d row first old new e l seen before step =
     let at : key_at keys n ≡ key +ℤ pos d = omega (arith, ints) in
@@ -69,7 +69,7 @@ adds_more region upwards keys widths key n d row first old new e l seen before s
     }
 
 -- what the rows that are no frontier reach, those before them reach too
-side_covers : (region : PlainRegion) (upwards : Bool) (keys : List ℤ) (widths : List ℕ) (key : ℤ) (count n : ℕ) (first new : List Run) → IsFrontier region upwards keys → AreFalling widths → HoldsMiddle region upwards widths key first → AreUpTo (key +ℤ pos (length widths - 1)) keys count → count ≤ n → HasAdded region upwards keys widths key n first new
+side_covers : (region : RegionValue) (upwards : Bool) (keys : List ℤ) (widths : List ℕ) (key : ℤ) (count n : ℕ) (first new : List Run) → IsFrontier region upwards keys → AreFalling widths → HoldsMiddle region upwards widths key first → AreUpTo (key +ℤ pos (length widths - 1)) keys count → count ≤ n → HasAdded region upwards keys widths key n first new
     → (d : ℕ) (i k : ℤ) → IsReachedFrom region upwards widths key i d k → in_runs new i ≡ true
 side_covers region upwards keys widths key count n first new all falls middle up over added zero i k r =
     let e : key +ℤ pos 0 ≡ key = omega (arith, ints) in
@@ -83,7 +83,7 @@ side_covers region upwards keys widths key count n first new all falls middle up
     (λ s. side_covers region upwards keys widths key count n first new all falls middle up over added d i k (record {
       within = omega arith;
       seen = rw e at s;
-      near = IsWithin-wider (slice_index widths (suc d)) (slice_index widths d) k i (rw g at f) r.near;
+      near = IsWithinWidth-wider (slice_index widths (suc d)) (slice_index widths d) k i (rw g at f) r.near;
     }))
     (λ q.
     let q1 = q.1 in
@@ -92,7 +92,7 @@ side_covers region upwards keys widths key count n first new all falls middle up
     added.covers q.0 (suc d) i k (omega arith) (omega arith) q.2 r.seen r.near)
     (all.complete (key +ℤ pos (suc d)) k r.seen)
 
-pub side_added : (region : PlainRegion) (upwards : Bool) (keys : List ℤ) (widths : List ℕ) (key : ℤ) (count n : ℕ) (first new : List Run) → IsFrontier region upwards keys → AreFalling widths → HoldsMiddle region upwards widths key first → AreUpTo (key +ℤ pos (length widths - 1)) keys count → count ≤ n → HasAdded region upwards keys widths key n first new → AddsSide region upwards widths key first new
+pub side_added : (region : RegionValue) (upwards : Bool) (keys : List ℤ) (widths : List ℕ) (key : ℤ) (count n : ℕ) (first new : List Run) → IsFrontier region upwards keys → AreFalling widths → HoldsMiddle region upwards widths key first → AreUpTo (key +ℤ pos (length widths - 1)) keys count → count ≤ n → HasAdded region upwards keys widths key n first new → AddsSide region upwards widths key first new
 side_added region upwards keys widths key count n first new all falls middle up over added = record {
   keeps = added.keeps;
   covers = λ i d k r. side_covers region upwards keys widths key count n first new all falls middle up over added d i k r;

@@ -10,10 +10,10 @@ use Rattle.region_rows.specs.Joins.{AllBegin, IsJoinedTo}
 use Rattle.region_rows.proofs.JoinLemmas.{in_runs-push, run_at, next_at}
 use Rattle.region_rows.proofs.LimitLemmas.{run_covers}
 use Rattle.region_rows.proofs.OrderLemmas.{lt_is, le_is, lt_true, le_true}
-use Rattle.border_region.specs.Widths.{IsWithin, IsCovered, Covers, IsWidenedRow, AddsWidened}
+use Rattle.border_region.specs.Widths.{IsWithinWidth, IsRunCovered, Covers, IsWidenedRow, AddsWidened}
 
 -- ---- runs that hold a run
-pub covered_by : (rs : List Run) (n : ℕ) (d run : Run) → n < length rs → (get_or rs n d).from ≤ℤ run.from → run.to ≤ℤ (get_or rs n d).to → IsCovered run rs
+pub covered_by : (rs : List Run) (n : ℕ) (d run : Run) → n < length rs → (get_or rs n d).from ≤ℤ run.from → run.to ≤ℤ (get_or rs n d).to → IsRunCovered run rs
 covered_by rs n d run l a b = λ i p q. run_covers rs n d i l (omega (arith, ints)) (omega (arith, ints))
 
 -- ---- the first runs of a row
@@ -38,7 +38,7 @@ front_from row n d k l f =
 pub covers_none : (w : ℕ) (runs : List Run) → Covers w [] runs
 covers_none w runs = λ k i m near. absurd (false≢true m)
 
-pub covers_more : (w : ℕ) (row : List Run) (n : ℕ) (d wide : Run) (runs : List Run) → n < length row → wide.from ≡ (get_or row n d).from -ℤ pos w → wide.to ≡ (get_or row n d).to +ℤ pos w → Covers w (take n row) runs → IsCovered wide runs → Covers w (take (n + 1) row) runs
+pub covers_more : (w : ℕ) (row : List Run) (n : ℕ) (d wide : Run) (runs : List Run) → n < length row → wide.from ≡ (get_or row n d).from -ℤ pos w → wide.to ≡ (get_or row n d).to +ℤ pos w → Covers w (take n row) runs → IsRunCovered wide runs → Covers w (take (n + 1) row) runs
 covers_more w row n d wide runs l f t old new = λ k i m near.
     let nl = near.left in
     let nr = near.right in
@@ -60,7 +60,7 @@ widened_none w row = record {
 }
 
 -- the sample of a run that is nearest to i
-nearest : (w : ℕ) (r : Run) (i : ℤ) → r.from <ℤ r.to → (r.from -ℤ pos w) ≤ℤ i → i <ℤ (r.to +ℤ pos w) → (k : ℤ) × ((r.from ≤ℤ k) × (k <ℤ r.to)) × IsWithin w k i
+nearest : (w : ℕ) (r : Run) (i : ℤ) → r.from <ℤ r.to → (r.from -ℤ pos w) ≤ℤ i → i <ℤ (r.to +ℤ pos w) → (k : ℤ) × ((r.from ≤ℤ k) × (k <ℤ r.to)) × IsWithinWidth w k i
 nearest w r i s a b =
     by_lt_z i r.from
     (λ (l : i <ℤ r.from). (r.from, (omega (arith, ints), s), record { left = a; right = omega (arith, ints) }))

@@ -4,21 +4,21 @@ use Rattle.ass_num.specs.Regions.{in_runs, ascend}
 use Rattle.ass_num.specs.declared.region.Run.{Run}
 
 -- sample k lies within `width` of sample i
-pub record IsWithin (width : ℕ) (k i : ℤ) : Type 0 where
+pub record IsWithinWidth (width : ℕ) (k i : ℤ) : Type 0 where
   pub left : (k -ℤ pos width) ≤ℤ i
   pub right : i ≤ℤ (k +ℤ pos width)
 
 -- all samples of the run lie in the runs
-abbrev pub IsCovered : Run → List Run → Type 0
-IsCovered run runs = (i : ℤ) → run.from ≤ℤ i → i <ℤ run.to → in_runs runs i ≡ true
+abbrev pub IsRunCovered : Run → List Run → Type 0
+IsRunCovered run runs = (i : ℤ) → run.from ≤ℤ i → i <ℤ run.to → in_runs runs i ≡ true
 
 -- all samples within `width` of one of the row lie in the runs
 abbrev pub Covers : ℕ → List Run → List Run → Type 0
-Covers width row runs = (k i : ℤ) → in_runs row k ≡ true → IsWithin width k i → in_runs runs i ≡ true
+Covers width row runs = (k i : ℤ) → in_runs row k ≡ true → IsWithinWidth width k i → in_runs runs i ≡ true
 
 -- some sample of the row lies within `width` of sample i
 abbrev pub Reaches : ℕ → List Run → ℤ → Type 0
-Reaches width row i = (k : ℤ) × (in_runs row k ≡ true) × IsWithin width k i
+Reaches width row i = (k : ℤ) × (in_runs row k ≡ true) × IsWithinWidth width k i
 
 -- the runs hold just the samples within `width` of one of the row
 pub record IsWidenedRow (width : ℕ) (row runs : List Run) : Type 0 where

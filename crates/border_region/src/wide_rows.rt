@@ -3,7 +3,7 @@
 ghost use Rattle.std.specs.Prelude.{◌≡◌, ℕ, ℤ, pos, ◌+ℤ◌, ◌-ℤ◌, ◌≤◌, true, All, IsTrue, OnOk};
 ghost use Rattle.ass_num.specs.Limits.{IsRunWithin};
 ghost use Rattle.ass_num.specs.Regions.{ascend};
-ghost use Rattle.border_region.specs.Widths.{Covers, IsCovered, IsWidenedRow};
+ghost use Rattle.border_region.specs.Widths.{Covers, IsRunCovered, IsWidenedRow};
 
 use ass_num::{Mem, Run};
 use region_rows::add_run;
@@ -23,7 +23,7 @@ fn wider(run: Run, width: u16) -> Run
 
 /// Whether one of the runs holds all samples of a run. The runs ascend, else it may be missed.
 fn covers(runs: &[Run], run: Run) -> bool
-    ensures { IsTrue result → IsCovered run runs.now }
+    ensures { IsTrue result → IsRunCovered run runs.now }
 {
     let k = runs.partition_point(|r| r.to < run.to);
     if k == runs.len() {

@@ -15,7 +15,7 @@ use denote.Param.Members.{Mut}
 use denote.Ref.{Bor}
 use Rattle.ass_num.specs.declared.geometry.Point.{Point}
 use Rattle.cancelled_edges.specs.Edges.{is_before, IsClosed}
-use Rattle.cancelled_edges.specs.Walks.{IsInOrder, IsNext}
+use Rattle.cancelled_edges.specs.Walks.{IsInPointOrder, IsNext}
 use Rattle.cancelled_edges.specs.declared.edges.Edge.{Edge}
 use Rattle.cancelled_edges.specs.declared.rings.Start.{Start}
 use Rattle.cancelled_edges.proofs.BalanceLemmas.{same_from_parts, sum_by-map}
@@ -59,7 +59,7 @@ some_of (x ∷ xs) h = x
 
 pub in_order_from_sort : {X : Type 0} (point : X → Point) {F : Type 0} {g : Mut F (Bor X × Unit {0}) Place} {f : F} (xs : List X)
     → ((k : X → Place) → ComputesKey g k f → IsSortedByKey k place_cmp xs)
-    → ((f : F) (a : Bor X × Unit {0}) (r : Place) (f' : F) → Called g f a r f' → r ≡ place_of (point a.0.now)) → IsInOrder (map point xs)
+    → ((f : F) (a : Bor X × Unit {0}) (r : Place) (f' : F) → Called g f a r f' → r ≡ place_of (point a.0.now)) → IsInPointOrder (map point xs)
 in_order_from_sort {X} point {g = g} {f = f} xs up h i j d order within =
     let key = λ (x : X). place_of (point x) in
     let sorted = up key (answers_always g (λ a r. r ≡ place_of (point a.0.now)) f h) in
@@ -82,7 +82,7 @@ none_pass p (x ∷ xs) h =
     omega (arith, zero, rest, sum_by-cons (λ x. cond (p x) 1 0) x xs)
 
 -- The first of points in order isn't after one of the same points.
-head_not_before : (p : Point) (ps : List Point) (q : Point) (qs : List Point) → IsInOrder (q ∷ qs) → ((f : Point → ℕ) → sum_by f (p ∷ ps) ≡ sum_by f (q ∷ qs)) → is_before p q ≡ false
+head_not_before : (p : Point) (ps : List Point) (q : Point) (qs : List Point) → IsInPointOrder (q ∷ qs) → ((f : Point → ℕ) → sum_by f (p ∷ ps) ≡ sum_by f (q ∷ qs)) → is_before p q ≡ false
 head_not_before p ps q qs order sums =
     elim (cases_Bool (is_before p q)) [
       | inl before ↦
@@ -94,7 +94,7 @@ head_not_before p ps q qs order sums =
     ]
 
 -- Points in order are fixed by how often each is there.
-pub same_in_order : (ps qs : List Point) → IsInOrder ps → IsInOrder qs → ((f : Point → ℕ) → sum_by f ps ≡ sum_by f qs) → ps ≡ qs
+pub same_in_order : (ps qs : List Point) → IsInPointOrder ps → IsInPointOrder qs → ((f : Point → ℕ) → sum_by f ps ≡ sum_by f qs) → ps ≡ qs
 same_in_order [] [] a b sums = refl
 same_in_order [] (q ∷ qs) a b sums = let one = sums (λ r. 1) in absurd (omega (arith, one, sum_by-cons (λ (r : Point). 1) q qs))
 same_in_order (p ∷ ps) [] a b sums = let one = sums (λ r. 1) in absurd (omega (arith, one, sum_by-cons (λ (r : Point). 1) p ps))
@@ -192,8 +192,8 @@ place_once n starts counts j k s first_within second_within same =
       ]
     ]
 
-pub next_from_starts : (es : List Edge) (starts sorted : List Start) → IsClosed es → IsInOrder (map (λ (e : Edge). e.to) es) → AreStarts es (length es) starts → IsPermutation starts sorted
-    → IsInOrder (map (λ (s : Start). s.from) sorted) → IsNext es (map (λ (s : Start). s.edge) sorted)
+pub next_from_starts : (es : List Edge) (starts sorted : List Start) → IsClosed es → IsInPointOrder (map (λ (e : Edge). e.to) es) → AreStarts es (length es) starts → IsPermutation starts sorted
+    → IsInPointOrder (map (λ (s : Start). s.from) sorted) → IsNext es (map (λ (s : Start). s.edge) sorted)
 next_from_starts es starts sorted closed order are moved in_order =
     let n = length es in
     let edge = λ (s : Start). s.edge in
@@ -222,8 +222,8 @@ next_from_starts es starts sorted closed order are moved in_order =
           place_once n sorted counts j k s v' w' (sym (get_or-map edge sorted j s 0 v') ∙ e ∙ get_or-map edge sorted k s 0 w');
     }
 
-pub next_at_end : (es : List Edge) (starts sorted items : List Start) (k i : ℕ) (next : List ℕ) → IsClosed es → IsInOrder (map (λ (e : Edge). e.to) es) → AreStarts es k starts → k ≡ length es → IsPermutation starts sorted
-    → IsInOrder (map (λ (s : Start). s.from) sorted) → items ≡ sorted → next ≡ map (λ (s : Start). s.edge) (take i items) → length items ≤ i → IsNext es next
+pub next_at_end : (es : List Edge) (starts sorted items : List Start) (k i : ℕ) (next : List ℕ) → IsClosed es → IsInPointOrder (map (λ (e : Edge). e.to) es) → AreStarts es k starts → k ≡ length es → IsPermutation starts sorted
+    → IsInPointOrder (map (λ (s : Start). s.from) sorted) → items ≡ sorted → next ≡ map (λ (s : Start). s.edge) (take i items) → length items ≤ i → IsNext es next
 next_at_end es starts sorted items k i next closed order are whole moved in_order same is past =
     let given : AreStarts es (length es) starts = subst (λ n. AreStarts es n starts) whole are in
     let all : take i items ≡ sorted = take_all i items past ∙ same in

@@ -17,8 +17,8 @@ open_line [] q = []
 open_line (p ∷ rest) q = line p rest q
 
 -- No point comes before an earlier one.
-abbrev pub IsInOrder : List Point → Type 0
-IsInOrder points = (i j : ℕ) (d : Point) → i ≤ j → j < length points → is_before (slice_index_or points j d) (slice_index_or points i d) ≡ false
+abbrev pub IsInPointOrder : List Point → Type 0
+IsInPointOrder points = (i j : ℕ) (d : Point) → i ≤ j → j < length points → is_before (slice_index_or points j d) (slice_index_or points i d) ≡ false
 
 -- For each edge, the place of another that begins where it ends; no place twice.
 pub record IsNext (es : List Edge) (next : List ℕ) : Type 0 where

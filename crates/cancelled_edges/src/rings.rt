@@ -3,7 +3,7 @@
 ghost use Rattle.std.specs.Prelude.{◌≡◌, ℕ, ◌+◌, ◌<◌, ◌≤◌, ◌++◌, [], Bool, true, false, length, map, replicate, sum_by, slice_index_or, IfOk, OnOk, IsPermutation};
 ghost use Rattle.ass_num.specs.Winding.{edges as ring_edges, edges_of};
 ghost use Rattle.cancelled_edges.specs.Edges.{IsClosed, way};
-ghost use Rattle.cancelled_edges.specs.Walks.{IsInOrder, IsNext, IsTakenWhole, untaken_sum};
+ghost use Rattle.cancelled_edges.specs.Walks.{IsInPointOrder, IsNext, IsTakenWhole, untaken_sum};
 
 use crate::edges::Edge;
 use ass_num::{FlatLists, Mem, Point};
@@ -19,7 +19,7 @@ pub struct Start {
 /// Brings edges into the order of their ends.
 fn sort_by_end(edges: &mut Vec<Edge>)
     ensures permutation { IsPermutation edges.old.items edges.new.items }
-    ensures in_order { IsInOrder (map (λ e. e.to) edges.new.items) }
+    ensures in_order { IsInPointOrder (map (λ e. e.to) edges.new.items) }
 {
     edges.sort_unstable_by_key(|e| (e.to.x, e.to.y));
 }
@@ -27,7 +27,7 @@ fn sort_by_end(edges: &mut Vec<Edge>)
 /// Brings beginnings into the order of their points.
 fn sort_by_beginning(starts: &mut Vec<Start>)
     ensures permutation { IsPermutation starts.old.items starts.new.items }
-    ensures in_order { IsInOrder (map (λ s. s.from) starts.new.items) }
+    ensures in_order { IsInPointOrder (map (λ s. s.from) starts.new.items) }
 {
     starts.sort_unstable_by_key(|s| (s.from.x, s.from.y));
 }
@@ -36,7 +36,7 @@ fn sort_by_beginning(starts: &mut Vec<Start>)
 /// of the one that the second list has there.
 fn next_edges(alloc: Global, edges: &[Edge]) -> Mem<Vec<usize>>
     requires closed { IsClosed edges.now }
-    requires in_order { IsInOrder (map (λ e. e.to) edges.now) }
+    requires in_order { IsInPointOrder (map (λ e. e.to) edges.now) }
     ensures { IfOk result (λ next. IsNext edges.now next.items) }
 {
     let mut starts = Vec::with_capacity(alloc, edges.len())?;

@@ -1,14 +1,14 @@
 -- The report of a check (docs/PROGRAM.md).
 use Rattle.std.specs.Prelude.{ℕ, ◌+◌, List, [], ◌∷◌, ◌++◌, codes, decimal, flat_map, length, Result, Err}
 use Rattle.std.specs.List.{range_with_len}
-use Rattle.ass_script.specs.Scripts.{PlainScript}
+use Rattle.ass_script.specs.Scripts.{ScriptValue}
 use Rattle.ass_script.specs.declared.script.EventField.{EventField}
 use Rattle.ass_script.specs.declared.script.EventField.TheVariants as field
 use Rattle.ass_events.specs.Events.{chunk_of}
 use Rattle.ass_events.specs.declared.event.Chunk.{Chunk}
 use Rattle.ass_events.specs.declared.event.ChunkRefusal.{ChunkRefusal}
 use Rattle.ass_events.specs.declared.event.ChunkRefusal.TheVariants.{Malformed}
-use Rattle.bdf_font.specs.Fonts.{PlainFont}
+use Rattle.bdf_font.specs.Fonts.{FontValue}
 
 -- the name of a field of event lines
 abbrev pub field_name : EventField → List ℕ
@@ -28,7 +28,7 @@ field_name field.Utf8 = codes "Utf8"
 field_name field.Other = codes "Other"
 
 -- the lines on the script's resolution, styles and Dialogue lines
-abbrev pub head_lines : PlainScript → List ℕ
+abbrev pub head_lines : ScriptValue → List ℕ
 head_lines script =
     codes "play " ++ decimal script.header.res_x ++ codes " " ++ decimal script.header.res_y
     ++ codes "\nstyles " ++ decimal (length script.styles) ++ codes "\nlines " ++ decimal (length script.lines) ++ codes "\n"
@@ -39,18 +39,18 @@ malformed_line i (Err (Malformed f place)) = codes "malformed " ++ decimal i ++ 
 malformed_line i _ = []
 
 -- the lines on all malformed Dialogue lines, in order
-abbrev pub malformed_lines : PlainScript → List ℕ
+abbrev pub malformed_lines : ScriptValue → List ℕ
 malformed_lines script = flat_map (λ i. malformed_line i (chunk_of script i)) (range_with_len 0 (length script.lines))
 
 -- the line on the font at `i`
-abbrev pub font_line : ℕ → PlainFont → List ℕ
-font_line i font = codes "font " ++ decimal i ++ codes " glyphs " ++ decimal (length font.glyphs) ++ codes "\n"
+abbrev pub font_report : ℕ → FontValue → List ℕ
+font_report i font = codes "font " ++ decimal i ++ codes " glyphs " ++ decimal (length font.glyphs) ++ codes "\n"
 
 -- the lines on fonts, the first of which has the place `i`
-abbrev pub font_lines : ℕ → List PlainFont → List ℕ
-font_lines i [] = []
-font_lines i (font ∷ fonts) = font_line i font ++ font_lines (i + 1) fonts
+abbrev pub font_reports : ℕ → List FontValue → List ℕ
+font_reports i [] = []
+font_reports i (font ∷ fonts) = font_report i font ++ font_reports (i + 1) fonts
 
 -- the report on a script and fonts
-unfoldable pub check_text : PlainScript → List PlainFont → List ℕ
-check_text script fonts = head_lines script ++ malformed_lines script ++ font_lines 0 fonts
+unfoldable pub check_text : ScriptValue → List FontValue → List ℕ
+check_text script fonts = head_lines script ++ malformed_lines script ++ font_reports 0 fonts

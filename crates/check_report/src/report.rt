@@ -4,7 +4,7 @@ ghost use Rattle.std.specs.Prelude.{◌≡◌, ◌++◌, ◌<◌, length, Err, I
 ghost use Rattle.ass_script.specs.Ranges.{IsScript};
 ghost use Rattle.ass_events.specs.Events.{chunk_of};
 ghost use Rattle.ass_events.specs.declared.event.ChunkRefusal.TheVariants.{Malformed};
-ghost use Rattle.check_report.specs.Reports.{check_text, font_line, font_lines, head_lines, malformed_line, malformed_lines};
+ghost use Rattle.check_report.specs.Reports.{check_text, font_report, font_reports, head_lines, malformed_line, malformed_lines};
 
 use crate::fields::field_name;
 use ass_events::{ChunkRefusal, chunk_of_line};
@@ -62,7 +62,7 @@ fn add_all_malformed(alloc: Global, script: &Script, report: &mut String) -> Mem
 
 /// Adds the line on a font.
 fn add_font(alloc: Global, i: usize, font: &Font, report: &mut String) -> Mem<()>
-    ensures { OnOk result (string_bytes report.new ≡ string_bytes report.old ++ font_line i font.now) }
+    ensures { OnOk result (string_bytes report.new ≡ string_bytes report.old ++ font_report i font.now) }
 {
     let glyphs = font.glyphs().len();
     let line = format!(in alloc; "font {i} glyphs {glyphs}\n")?;
@@ -72,7 +72,7 @@ fn add_font(alloc: Global, i: usize, font: &Font, report: &mut String) -> Mem<()
 
 /// Adds the lines on all fonts.
 fn add_fonts(alloc: Global, fonts: &[Font], report: &mut String) -> Mem<()>
-    ensures { OnOk result (string_bytes report.new ≡ string_bytes report.old ++ font_lines 0 fonts.now) }
+    ensures { OnOk result (string_bytes report.new ≡ string_bytes report.old ++ font_reports 0 fonts.now) }
 {
     for (i, font) in fonts.iter().enumerate() {
         add_font(alloc, i, font, report)?;

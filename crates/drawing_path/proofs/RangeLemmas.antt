@@ -14,8 +14,8 @@ use Rattle.ass_num.specs.declared.geometry.Seg.TheVariants.{Move, Line, Cubic, S
 use Rattle.drawing_path.specs.declared.command.Command.{Command}
 use Rattle.drawing_path.specs.declared.command.Command.TheVariants.{Begin, Lines, Cubics, NewSpline, Extend, Close}
 use Rattle.drawing_path.specs.Tokens.{Token, Letter, Number, Skipped, IsToken, AreTokens}
-use Rattle.drawing_path.specs.Paths.{numbers_of, points_of, cubics_of, end_of, last_vertex, spline_by, continued, is_figure_or_spline, spline_changed, last_spline_changed, after, path_after, IsPathOf}
-use Rattle.drawing_path.specs.Ranges.{points_in, IsHeldNumber, IsHeldPoint, begins_figure, IsDrawable}
+use Rattle.drawing_path.specs.Paths.{leading_numbers, points_of, cubics_of, end_of, last_vertex, spline_by, continued, is_figure_or_spline, spline_changed, last_spline_changed, path_after, path_after, IsPathOf}
+use Rattle.drawing_path.specs.Ranges.{points_in, IsHeldNumber, IsHeldPoint, begins_figure, IsDrawablePath}
 
 -- the points of a segment are held
 abbrev IsHeldSeg : Seg → Type 0
@@ -29,10 +29,10 @@ milli_held bytes value m =
     let P : ℤ → Type 0 = λ z. IsHeldNumber z in
     subst P (sym m.value) record { above = both.0; below = both.1 }
 
-numbers_held : (tokens : List Token) (text : List ℕ) → AreTokens tokens text → All IsHeldNumber (numbers_of tokens)
+numbers_held : (tokens : List Token) (text : List ℕ) → AreTokens tokens text → All IsHeldNumber (leading_numbers tokens)
 numbers_held [] text read = All-nil IsHeldNumber
 numbers_held (Letter _ ∷ tokens) text read = All-nil IsHeldNumber
-numbers_held (Number value ∷ tokens) text read = All-cons IsHeldNumber value (numbers_of tokens) (number_held text value read.0 read.1) (numbers_held tokens (drop read.0 text) read.2)
+numbers_held (Number value ∷ tokens) text read = All-cons IsHeldNumber value (leading_numbers tokens) (number_held text value read.0 read.1) (numbers_held tokens (drop read.0 text) read.2)
   where
     number_held : (z : List ℕ) (v : ℤ) (n : ℕ) → IsToken z (Number v) n → IsHeldNumber v
     number_held [] v n token = absurd token
@@ -130,7 +130,7 @@ close_keeps : Keeps (λ control _. Spline (control ++ take 3 control) true)
 unfolding Keeps
 close_keeps = λ control closed is. All-append IsHeldPoint control (take 3 control) is (All-take IsHeldPoint 3 control is)
 
-after_held : (path : List Seg) (command : Command) (points : List Point) → All IsHeldSeg path → All IsHeldPoint points → All IsHeldSeg (after path command points)
+after_held : (path : List Seg) (command : Command) (points : List Point) → All IsHeldSeg path → All IsHeldPoint points → All IsHeldSeg (path_after path command points)
 after_held path Begin points all held = All-append IsHeldSeg path (map Move points) all (moves_held points held)
 after_held path Lines points all held = continued_held path (map Line points) all (lines_held points held)
 after_held path Cubics points all held = continued_held path (cubics_of points) all (cubics_held points held)
@@ -163,7 +163,7 @@ changed_begins change (Line _ ∷ path) is = absurd (cc)
 changed_begins change (Cubic _ _ _ ∷ path) is = absurd (cc)
 changed_begins change (Spline _ _ ∷ path) is = absurd (cc)
 
-after_begins : (path : List Seg) (command : Command) (points : List Point) → begins_figure path ≡ true → begins_figure (after path command points) ≡ true
+after_begins : (path : List Seg) (command : Command) (points : List Point) → begins_figure path ≡ true → begins_figure (path_after path command points) ≡ true
 after_begins path Begin points is = moves_begin path points is
 after_begins path Lines points is = continued_begins path (map Line points) is
 after_begins path Cubics points is = continued_begins path (cubics_of points) is
@@ -173,18 +173,18 @@ after_begins path Close points is = changed_begins (λ control _. Spline (contro
 
 -- ---- whole paths
 
-path_drawable : (path : List Seg) (tokens : List Token) (text : List ℕ) → AreTokens tokens text → IsDrawable path → IsDrawable (path_after path tokens)
+path_drawable : (path : List Seg) (tokens : List Token) (text : List ℕ) → AreTokens tokens text → IsDrawablePath path → IsDrawablePath (path_after path tokens)
 path_drawable path [] text read is = is
 path_drawable path (Letter command ∷ tokens) text read is =
-    let points = points_of (numbers_of tokens) in
-    path_drawable (after path command points) tokens (drop read.0 text) read.2 (record {
+    let points = points_of (leading_numbers tokens) in
+    path_drawable (path_after path command points) tokens (drop read.0 text) read.2 (record {
       begins = after_begins path command points is.begins;
-      held = after_held path command points is.held (points_held (numbers_of tokens) (numbers_held tokens (drop read.0 text) read.2));
+      held = after_held path command points is.held (points_held (leading_numbers tokens) (numbers_held tokens (drop read.0 text) read.2));
     })
 path_drawable path (Number _ ∷ tokens) text read is = path_drawable path tokens (drop read.0 text) read.2 is
 path_drawable path (Skipped ∷ tokens) text read is = path_drawable path tokens (drop read.0 text) read.2 is
 
-pub drawing_drawable : (text : List ℕ) (path : List Seg) → IsPathOf text path → IsDrawable path
+pub drawing_drawable : (text : List ℕ) (path : List Seg) → IsPathOf text path → IsDrawablePath path
 drawing_drawable text path is =
-    let P : List Seg → Type 0 = λ z. IsDrawable z in
+    let P : List Seg → Type 0 = λ z. IsDrawablePath z in
     subst P (sym is.drawn) (path_drawable [] is.tokens text is.read (record { begins = refl; held = All-nil IsHeldSeg }))

@@ -11,8 +11,8 @@ use Rattle.ass_num.specs.declared.geometry.Point.{Point}
 use Rattle.ass_num.specs.declared.geometry.Seg.{Seg}
 use Rattle.drawing_path.specs.declared.command.Command.{Command}
 use Rattle.drawing_path.specs.Tokens.{Token, Letter, Number, Skipped, IsToken, AreTokens, command_of}
-use Rattle.drawing_path.specs.Paths.{numbers_of, points_of, after, path_after, IsPathOf}
-use Rattle.drawing_path.specs.Runs.{command_at, BeginsWithPoints, IsRun, coordinates, AddsNumber}
+use Rattle.drawing_path.specs.Paths.{leading_numbers, points_of, path_after, path_after, IsPathOf}
+use Rattle.drawing_path.specs.Runs.{command_at, BeginsWithPoints, IsPointRun, coordinates, AddsNumber}
 
 -- ---- numbers and points
 
@@ -63,7 +63,7 @@ some_bytes text value (suc len) front = omega arith
 pub record BeginsWithNumbers (text : List ℕ) (points : List Point) (waiting : Option ℤ) (rest : List Token) : Type 0 where
   pub tokens : List Token
   pub read : AreTokens tokens text
-  pub numbers : numbers_of tokens ≡ coordinates points ++ (option_to_list waiting ++ numbers_of rest)
+  pub numbers : leading_numbers tokens ≡ coordinates points ++ (option_to_list waiting ++ leading_numbers rest)
   pub skipped : (path : List Seg) → path_after path tokens ≡ path_after path rest
 
 -- What was read before a place.
@@ -88,7 +88,7 @@ reading_number text at points waiting value len new left lt none front adds read
       begins = λ rest read.
           let P : List ℕ → Type 0 = λ z. AreTokens rest z in
           let old : BeginsWithNumbers text points waiting (Number value ∷ rest) = reading.begins (Number value ∷ rest) (len, token, subst P (sym (drop-drop len at text)) read) in
-          record { tokens = old.tokens; read = old.read; numbers = old.numbers ∙ sym (adds (numbers_of rest)); skipped = old.skipped };
+          record { tokens = old.tokens; read = old.read; numbers = old.numbers ∙ sym (adds (leading_numbers rest)); skipped = old.skipped };
     }
 
 pub reading_skipped : (text : List ℕ) (at : ℕ) (points : List Point) (waiting : Option ℤ) → at < length text → command_of (get_or text at 0) ≡ None → HasNoFront IsMilli (drop at text) → IsReading text at points waiting → IsReading text (at + 1) points waiting
@@ -102,7 +102,7 @@ reading_skipped text at points waiting lt none nothing reading =
           record { tokens = old.tokens; read = old.read; numbers = old.numbers; skipped = old.skipped };
     }
 
-pub reading_ends : (text : List ℕ) (at : ℕ) (points : List Point) (waiting : Option ℤ) → IsReading text at points waiting → (command_at text at ≡ None → length text ≤ at) → IsRun text at points
+pub reading_ends : (text : List ℕ) (at : ℕ) (points : List Point) (waiting : Option ℤ) → IsReading text at points waiting → (command_at text at ≡ None → length text ≤ at) → IsPointRun text at points
 reading_ends text at points waiting reading ends = record {
   within = reading.within;
   ends = ends;
@@ -153,9 +153,9 @@ pub record GoesOn (text : List ℕ) (segs : List Seg) (rest : List Token) : Type
 pub record IsDrawn (text : List ℕ) (at : ℕ) (segs : List Seg) : Type 0 where
   pub within : at ≤ length text
   pub ends : command_at text at ≡ None → length text ≤ at
-  pub goes_on : (rest : List Token) → numbers_of rest ≡ [] → AreTokens rest (drop at text) → GoesOn text segs rest
+  pub goes_on : (rest : List Token) → leading_numbers rest ≡ [] → AreTokens rest (drop at text) → GoesOn text segs rest
 
-pub drawn_first : (text : List ℕ) (at : ℕ) (points : List Point) → IsRun text at points → IsDrawn text at []
+pub drawn_first : (text : List ℕ) (at : ℕ) (points : List Point) → IsPointRun text at points → IsDrawn text at []
 drawn_first text at points run = record {
   within = run.within;
   ends = run.ends;
@@ -174,7 +174,7 @@ letter_at text at command is = elim (slice_get_cases text at).1 [
 pub letter_within : (text : List ℕ) (at : ℕ) (command : Command) → command_at text at ≡ Some command → at < length text
 letter_within text at command is = (letter_at text at command is).0
 
-pub drawn_more : (text : List ℕ) (at : ℕ) (segs : List Seg) (command : Command) (len : ℕ) (points : List Point) (new : List Seg) → command_at text at ≡ Some command → IsRun (drop (at + 1) text) len points → new ≡ after segs command points → IsDrawn text at segs → IsDrawn text (at + (1 + len)) new
+pub drawn_more : (text : List ℕ) (at : ℕ) (segs : List Seg) (command : Command) (len : ℕ) (points : List Point) (new : List Seg) → command_at text at ≡ Some command → IsPointRun (drop (at + 1) text) len points → new ≡ path_after segs command points → IsDrawn text at segs → IsDrawn text (at + (1 + len)) new
 drawn_more text at segs command len points new is run does drawn =
     let letter = letter_at text at command is in
     let token : IsToken (drop at text) (Letter command) 1 = letter_token (drop at text) (get_or text at 0) (drop (suc at) text) command (front_of text at letter.0) letter.1 in
@@ -190,7 +190,7 @@ drawn_more text at segs command len points new is run does drawn =
           record {
             tokens = all.tokens;
             read = all.read;
-            path = all.path ∙ ap (λ z. path_after (after segs command z) first.tokens) first.points_are ∙ ap (λ z. path_after z first.tokens) (sym does) ∙ first.skipped new;
+            path = all.path ∙ ap (λ z. path_after (path_after segs command z) first.tokens) first.points_are ∙ ap (λ z. path_after z first.tokens) (sym does) ∙ first.skipped new;
           };
     }
   where

@@ -10,11 +10,11 @@ use Rattle.drawing_path.specs.declared.command.Command.TheVariants.{Begin, Lines
 use Rattle.drawing_path.specs.Tokens.{Token, Letter, Number, Skipped, AreTokens}
 
 -- the numbers before the next letter
-abbrev pub numbers_of : List Token → List ℤ
-numbers_of [] = []
-numbers_of (Letter _ ∷ _) = []
-numbers_of (Number value ∷ tokens) = value ∷ numbers_of tokens
-numbers_of (Skipped ∷ tokens) = numbers_of tokens
+abbrev pub leading_numbers : List Token → List ℤ
+leading_numbers [] = []
+leading_numbers (Letter _ ∷ _) = []
+leading_numbers (Number value ∷ tokens) = value ∷ leading_numbers tokens
+leading_numbers (Skipped ∷ tokens) = leading_numbers tokens
 
 -- Two numbers are a point; one that is left over is dropped.
 abbrev pub points_of : List ℤ → List Point
@@ -67,18 +67,18 @@ last_spline_changed change (seg ∷ path) =
 -- The path after a command with its points:
 -- `m` and `n` begin a figure with each point; `l` adds a line to each; `b` takes three for each cubic;
 -- `s` adds a spline, `p` adds its points to the last spline of the figure, and `c` the first three points of that spline once more.
-abbrev pub after : List Seg → Command → List Point → List Seg
-after path Begin points = path ++ map Move points
-after path Lines points = continued path (map Line points)
-after path Cubics points = continued path (cubics_of points)
-after path NewSpline points = continued path (spline_by (last_vertex path) points)
-after path Extend points = last_spline_changed (λ control closed. Spline (control ++ points) closed) path
-after path Close points = last_spline_changed (λ control _. Spline (control ++ take 3 control) true) path
+abbrev pub path_after : List Seg → Command → List Point → List Seg
+path_after path Begin points = path ++ map Move points
+path_after path Lines points = continued path (map Line points)
+path_after path Cubics points = continued path (cubics_of points)
+path_after path NewSpline points = continued path (spline_by (last_vertex path) points)
+path_after path Extend points = last_spline_changed (λ control closed. Spline (control ++ points) closed) path
+path_after path Close points = last_spline_changed (λ control _. Spline (control ++ take 3 control) true) path
 
 -- the path after all commands of these tokens; numbers before the first letter belong to none
 abbrev pub path_after : List Seg → List Token → List Seg
 path_after path [] = path
-path_after path (Letter command ∷ tokens) = path_after (after path command (points_of (numbers_of tokens))) tokens
+path_after path (Letter command ∷ tokens) = path_after (path_after path command (points_of (leading_numbers tokens))) tokens
 path_after path (Number _ ∷ tokens) = path_after path tokens
 path_after path (Skipped ∷ tokens) = path_after path tokens
 

@@ -27,6 +27,6 @@ begins_figure (Move _ ∷ _) = true
 begins_figure _ = false
 
 -- A path that can be drawn: nothing stands before its first figure, and no point lies far out.
-pub record IsDrawable (path : List Seg) : Type 0 where
+pub record IsDrawablePath (path : List Seg) : Type 0 where
   pub begins : begins_figure path ≡ true
   pub held : All (λ seg. All IsHeldPoint (points_in seg)) path

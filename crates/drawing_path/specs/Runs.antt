@@ -5,7 +5,7 @@ use Rattle.ass_num.specs.declared.geometry.Point.{Point}
 use Rattle.ass_num.specs.declared.geometry.Seg.{Seg}
 use Rattle.drawing_path.specs.declared.command.Command.{Command}
 use Rattle.drawing_path.specs.Tokens.{Token, AreTokens, command_of}
-use Rattle.drawing_path.specs.Paths.{numbers_of, points_of, path_after}
+use Rattle.drawing_path.specs.Paths.{leading_numbers, points_of, path_after}
 
 -- the command whose letter stands at a place, if one does
 abbrev pub command_at : List ℕ → ℕ → Option Command
@@ -15,14 +15,14 @@ command_at text at = option_and_then command_of (slice_get text at)
 pub record BeginsWithPoints (text : List ℕ) (points : List Point) (rest : List Token) : Type 0 where
   pub tokens : List Token
   pub read : AreTokens tokens text
-  pub points_are : points_of (numbers_of tokens) ≡ points
+  pub points_are : points_of (leading_numbers tokens) ≡ points
   pub skipped : (path : List Seg) → path_after path tokens ≡ path_after path rest
 
 -- The first `len` bytes of a text hold numbers for these points and no letter of a command; behind them stands one, or nothing.
-pub record IsRun (text : List ℕ) (len : ℕ) (points : List Point) : Type 0 where
+pub record IsPointRun (text : List ℕ) (len : ℕ) (points : List Point) : Type 0 where
   pub within : len ≤ length text
   pub ends : command_at text len ≡ None → length text ≤ len
-  pub begins : (rest : List Token) → numbers_of rest ≡ [] → AreTokens rest (drop len text) → BeginsWithPoints text points rest
+  pub begins : (rest : List Token) → leading_numbers rest ≡ [] → AreTokens rest (drop len text) → BeginsWithPoints text points rest
 
 -- the coordinates of points, x before y
 abbrev pub coordinates : List Point → List ℤ

@@ -1,7 +1,7 @@
 //! The points behind the letter of a command.
 
 ghost use Rattle.std.specs.Prelude.{◌≡◌, IfOk};
-ghost use Rattle.drawing_path.specs.Runs.{IsRun, AddsNumber, command_at};
+ghost use Rattle.drawing_path.specs.Runs.{IsPointRun, AddsNumber, command_at};
 
 use crate::command::{Command, command_of};
 use ass_num::{Mem, Milli, Point, read_milli};
@@ -29,7 +29,7 @@ fn add_number(points: &mut Vec<Point>, waiting: Option<Milli>, number: Milli) ->
 /// Reads the numbers up to the next letter of a command or the end, and says how many bytes they
 /// take. The points that they pair to take the place of those in `points`.
 pub fn read_points(text: &[u8], points: &mut Vec<Point>) -> Mem<usize>
-    ensures { IfOk result (λ len. IsRun text.now len points.new.items) }
+    ensures { IfOk result (λ len. IsPointRun text.now len points.new.items) }
 {
     points.clear();
     let mut waiting: Option<Milli> = None;

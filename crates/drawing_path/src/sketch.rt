@@ -2,7 +2,7 @@
 
 ghost use Rattle.std.specs.Prelude.{◌≡◌, List, [], ◌++◌, take, OnOk};
 ghost use Rattle.drawing_path.specs.Paths.{end_of};
-ghost use Rattle.drawing_path.specs.Sketches.{IsSketch, Follows};
+ghost use Rattle.drawing_path.specs.Sketches.{IsSketch, FollowsCommand};
 
 use crate::command::Command;
 use ass_num::{Items, Mem, Point, Seg};
@@ -69,7 +69,7 @@ impl Sketch {
     /// Does a command with its points.
     pub fn apply(&mut self, alloc: Global, command: Command, points: &[Point]) -> Mem<()>
         requires { IsSketch self.old }
-        ensures { OnOk result (Follows self.old self.new command points.now) }
+        ensures { OnOk result (FollowsCommand self.old self.new command points.now) }
     {
         match command {
             Command::Begin => self.begin(points),
@@ -84,7 +84,7 @@ impl Sketch {
     /// Begins a figure with each of the points.
     fn begin(&mut self, points: &[Point]) -> Mem<()>
         requires { IsSketch self.old }
-        ensures { OnOk result (Follows self.old self.new Command.Begin points.now) }
+        ensures { OnOk result (FollowsCommand self.old self.new Command.Begin points.now) }
     {
         if points.is_empty() {
             return Ok(());
@@ -99,7 +99,7 @@ impl Sketch {
     /// Adds a line to each of the points.
     fn add_lines(&mut self, points: &[Point]) -> Mem<()>
         requires { IsSketch self.old }
-        ensures { OnOk result (Follows self.old self.new Command.Lines points.now) }
+        ensures { OnOk result (FollowsCommand self.old self.new Command.Lines points.now) }
     {
         if self.segs.is_empty() {
             return Ok(());
@@ -113,7 +113,7 @@ impl Sketch {
     /// Adds a cubic curve by each three points.
     fn add_cubics(&mut self, points: &[Point]) -> Mem<()>
         requires { IsSketch self.old }
-        ensures { OnOk result (Follows self.old self.new Command.Cubics points.now) }
+        ensures { OnOk result (FollowsCommand self.old self.new Command.Cubics points.now) }
     {
         if self.segs.is_empty() {
             return Ok(());
@@ -129,7 +129,7 @@ impl Sketch {
     /// Adds a spline from the last vertex by the points, which are three or more.
     fn add_spline(&mut self, alloc: Global, points: &[Point]) -> Mem<()>
         requires { IsSketch self.old }
-        ensures { OnOk result (Follows self.old self.new Command.NewSpline points.now) }
+        ensures { OnOk result (FollowsCommand self.old self.new Command.NewSpline points.now) }
     {
         if points.len() < 3 {
             return Ok(());
@@ -150,7 +150,7 @@ impl Sketch {
     /// Adds the points to the last spline of the figure.
     fn extend_spline(&mut self, points: &[Point]) -> Mem<()>
         requires { IsSketch self.old }
-        ensures { OnOk result (Follows self.old self.new Command.Extend points.now) }
+        ensures { OnOk result (FollowsCommand self.old self.new Command.Extend points.now) }
     {
         if let Some(place) = self.spline {
             if let Seg::Spline(control, _) = &mut self.segs[place] {
@@ -163,7 +163,7 @@ impl Sketch {
     /// Closes the last spline of the figure.
     fn close_spline(&mut self) -> Mem<()>
         requires { IsSketch self.old }
-        ensures { OnOk result ((points : List Point) → Follows self.old self.new Command.Close points) }
+        ensures { OnOk result ((points : List Point) → FollowsCommand self.old self.new Command.Close points) }
     {
         if let Some(place) = self.spline {
             if let Seg::Spline(control, closed) = &mut self.segs[place] {

@@ -157,14 +157,14 @@ module _ {K X : Type 0} (test : X → Bool) where
     there : slice_get es (end - 1) ≡ Some x
     there = slice_get_read es (length es) (end - 1) x refl (omega arith) read
 
-    after : some_passes test (drop (suc (end - 1)) es) ≡ false
-    after = let same : end ≡ suc (end - 1) = omega arith in subst (λ n. some_passes test (drop n es) ≡ false) same busy
+    state_after : some_passes test (drop (suc (end - 1)) es) ≡ false
+    state_after = let same : end ≡ suc (end - 1) = omega arith in subst (λ n. some_passes test (drop n es) ≡ false) same busy
 
     pub idle-found : test x.1 ≡ true → (end - 1 < length es) × (some_passes test es ≡ true) × (without_last test es ≡ remove es (end - 1))
-    idle-found passes = (omega arith, passes-at es (end - 1) x there passes, without-at es (end - 1) x there passes after)
+    idle-found passes = (omega arith, passes-at es (end - 1) x there passes, without-at es (end - 1) x there passes state_after)
 
     pub idle-passed : test x.1 ≡ false → some_passes test (drop (end - 1) es) ≡ false
-    idle-passed fails = busy-from es (end - 1) x there fails after
+    idle-passed fails = busy-from es (end - 1) x there fails state_after
 
   pub none-after : (es : List (K × X)) → some_passes test (drop (length es) es) ≡ false
   none-after es = rw (drop_all (length es) es (omega arith))

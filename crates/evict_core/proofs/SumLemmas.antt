@@ -119,7 +119,7 @@ module _ {V : Type 0} where
 
   -- an entry that may be evicted, before and after one more pin
   pub record IdleFacts (st : Status V) : Type 0 where
-    pub held : held_cost st ≡ 0
+    pub pins_held : held_cost st ≡ 0
     pub one : idle_one st ≡ 1
     pub then_held : held_cost (one_pin_more st) ≡ idle_cost st
     pub then_idle : idle_cost (one_pin_more st) ≡ 0
@@ -129,7 +129,7 @@ module _ {V : Type 0} where
   pub idle-facts : (st : Status V) → is_idle st ≡ true → IdleFacts st
   idle-facts (Flying n) idle = absurd (true≢false (sym idle))
   idle-facts (Ready pins cost value) idle = let none = eqb-true pins 0 idle in record {
-    held = rw idle;
+    pins_held = rw idle;
     one = rw idle;
     then_held = rw none;
     then_idle = rw none;
@@ -231,15 +231,15 @@ module _ {K V : Type 0} where
           by (Some st) h some idle =
               let f = idle-facts (one_pin_less st) idle.0 in
               let again = held-again st some in
-              let held : held_cost st ≡ cost = ap held_cost (sym again) ∙ (f.then_held ∙ sym idle.1) in
+              let pins_held : held_cost st ≡ cost = ap held_cost (sym again) ∙ (f.then_held ∙ sym idle.1) in
               let none : idle_cost st ≡ 0 = ap idle_cost (sym again) ∙ f.then_idle in
               let zero-one : idle_one st ≡ 0 = ap idle_one (sym again) ∙ f.then_one in
               let same : excess st ≡ excess (one_pin_less st) = ap excess (sym again) ∙ f.same in
-              let enough : cost ≤ p = let t = rw h at (total-found held_cost (eq k) es) in omega (arith, t, held, sums.pinned_is) in (
+              let enough : cost ≤ p = let t = rw h at (total-found held_cost (eq k) es) in omega (arith, t, pins_held, sums.pinned_is) in (
                 enough,
                 sums-moved es (change (eq k) one_pin_less es) u p i (u + cost) (p - cost) (i + 1) (Some st) (Some (one_pin_less st)) sums
                     (λ w. rw h at (total-change w (eq k) one_pin_less es)) (omega (arith, length-change (eq k) one_pin_less es))
-                    (omega (arith, none, idle.1)) (omega (arith, held, f.held, enough)) (omega (arith, zero-one, f.one)) (omega (arith, same)),
+                    (omega (arith, none, idle.1)) (omega (arith, pins_held, f.held, enough)) (omega (arith, zero-one, f.one)) (omega (arith, same)),
               )
 
       pub drop-busy : IsBusyAt (lookup (eq k) (change (eq k) one_pin_less es)) → AreSums (change (eq k) one_pin_less es) u p i
@@ -250,13 +250,13 @@ module _ {K V : Type 0} where
           by (Some st) h some busy =
               let f = busy-facts (one_pin_less st) busy in
               let again = held-again st some in
-              let held : held_cost st ≡ held_cost (one_pin_less st) = ap held_cost (sym again) ∙ f.then_held in
+              let pins_held : held_cost st ≡ held_cost (one_pin_less st) = ap held_cost (sym again) ∙ f.then_held in
               let none : idle_cost st ≡ 0 = ap idle_cost (sym again) ∙ f.then_idle in
               let zero-one : idle_one st ≡ 0 = ap idle_one (sym again) ∙ f.then_one in
               let same : excess st ≡ excess (one_pin_less st) = ap excess (sym again) ∙ f.same in
               sums-moved es (change (eq k) one_pin_less es) u p i u p i (Some st) (Some (one_pin_less st)) sums
               (λ w. rw h at (total-change w (eq k) one_pin_less es)) (omega (arith, length-change (eq k) one_pin_less es))
-              (omega (arith, none, f.idle)) (omega (arith, held)) (omega (arith, zero-one, f.one)) (omega (arith, same))
+              (omega (arith, none, f.idle)) (omega (arith, pins_held)) (omega (arith, zero-one, f.one)) (omega (arith, same))
 
     -- what a key weighs that is being made
     pub fill-sums : (cost : ℕ) (value : V) → (m : ℕ) → maker_in (lookup (eq k) es) ≡ Some m → cost ≤ 4294967296 → AreSums (to_front (eq k) (λ _. Ready 1 cost value) es) u (p + cost) i

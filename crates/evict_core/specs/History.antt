@@ -1,7 +1,7 @@
 -- Histories of a cache: lists of a number and the step that it made, the oldest first.
 use Rattle.std.specs.Prelude.{◌≡◌, ℕ, zero, suc, ◌+◌, ◌-◌, ◌<◌, Bool, true, false, not, ◌&&◌, ◌||◌, ◌==◌, if◌then◌else◌, is_some, List, [], ◌∷◌, ◌++◌}
 use Rattle.evict_core.specs.declared.counts.Counts.{Counts}
-use Rattle.evict_core.specs.Machine.{State, Hit, Claim, Crowded, Step, Ask, PinAll, Fill, Fail, Unpin, Limits, status_of, after, IsEnabled}
+use Rattle.evict_core.specs.Machine.{State, Hit, Claim, Crowded, Step, Ask, PinAll, Fill, Fail, Unpin, Limits, status_of, state_after, IsEnabled}
 
 abbrev pub no_counts : Counts
 no_counts = record { hits = 0; claims = 0; fills = 0; fails = 0; crowded = 0; evictions = 0 }
@@ -15,9 +15,9 @@ abbrev pub one_if : Bool → ℕ
 one_if test = if test then 1 else 0
 
 -- how often the list names k
-abbrev pub places : {K : Type 0} → (K → K → Bool) → K → List K → ℕ
-places eq k [] = 0
-places eq k (x ∷ xs) = one_if (eq k x) + places eq k xs
+abbrev pub times_named : {K : Type 0} → (K → K → Bool) → K → List K → ℕ
+times_named eq k [] = 0
+times_named eq k (x ∷ xs) = one_if (eq k x) + times_named eq k xs
 
 -- each key passes
 abbrev pub all_pass : {K : Type 0} → (K → Bool) → List K → Bool
@@ -50,7 +50,7 @@ module _ {K V : Type 0} where
 module _ {K V : Type 0} (eq : K → K → Bool) where
   abbrev pub replay_from : State K V → List (ℕ × Step K V) → State K V
   replay_from s [] = s
-  replay_from s (e ∷ h) = replay_from (after eq s e.0 e.1) h
+  replay_from s (e ∷ h) = replay_from (state_after eq s e.0 e.1) h
 
   -- the state after a history that began with these limits
   abbrev pub replay : ℕ → ℕ → List (ℕ × Step K V) → State K V
@@ -61,7 +61,7 @@ module _ {K V : Type 0} (eq : K → K → Bool) where
   takes k (Ask key Hit) = one_if (eq k key)
   takes k (Ask key Claim) = 0
   takes k (Ask key Crowded) = 0
-  takes k (PinAll keys) = places eq k keys
+  takes k (PinAll keys) = times_named eq k keys
   takes k (Fill key cost value) = one_if (eq k key)
   takes k (Fail key) = 0
   takes k (Unpin key) = 0
@@ -77,22 +77,22 @@ module _ {K V : Type 0} (eq : K → K → Bool) where
   gives k (Limits entries budget) = 0
 
   -- the pins of k that m took in the history, and those that it gave back
-  abbrev pub taken : List (ℕ × Step K V) → ℕ → K → ℕ
-  taken [] m k = 0
-  taken (e ∷ h) m k = (if e.0 == m then takes k e.1 else 0) + taken h m k
+  abbrev pub pins_taken : List (ℕ × Step K V) → ℕ → K → ℕ
+  pins_taken [] m k = 0
+  pins_taken (e ∷ h) m k = (if e.0 == m then takes k e.1 else 0) + pins_taken h m k
 
-  abbrev pub given : List (ℕ × Step K V) → ℕ → K → ℕ
-  given [] m k = 0
-  given (e ∷ h) m k = (if e.0 == m then gives k e.1 else 0) + given h m k
+  abbrev pub pins_given : List (ℕ × Step K V) → ℕ → K → ℕ
+  pins_given [] m k = 0
+  pins_given (e ∷ h) m k = (if e.0 == m then gives k e.1 else 0) + pins_given h m k
 
   -- the pins of k that m holds after the history
-  abbrev pub held : List (ℕ × Step K V) → ℕ → K → ℕ
-  held h m k = taken h m k - given h m k
+  abbrev pub pins_held : List (ℕ × Step K V) → ℕ → K → ℕ
+  pins_held h m k = pins_taken h m k - pins_given h m k
 
   -- the pins of k that the numbers below n hold
   abbrev pub held_below : List (ℕ × Step K V) → ℕ → K → ℕ
   held_below h zero k = 0
-  held_below h (suc n) k = held_below h n k + held h n k
+  held_below h (suc n) k = held_below h n k + pins_held h n k
 
   -- whether a claim of k is open after a step of its number, where `was` says whether one was before
   abbrev pub is_open_after : Step K V → K → Bool → Bool
@@ -115,7 +115,7 @@ module _ {K V : Type 0} (eq : K → K → Bool) where
 
   -- after h, the entry's number may make its step, which names keys that may stand in the history
   pub record MayFollow (may : K → Bool) (limit budget : ℕ) (h : List (ℕ × Step K V)) (e : ℕ × Step K V) : Type 0 where
-    pub enabled : IsEnabled eq (replay limit budget h) (held h e.0) e.0 e.1
+    pub enabled : IsEnabled eq (replay limit budget h) (pins_held h e.0) e.0 e.1
     pub named : names may e.1 ≡ true
 
   -- each step is enabled in its turn, and each ask says what the machine answers there
@@ -124,7 +124,7 @@ module _ {K V : Type 0} (eq : K → K → Bool) where
 
   -- the step takes the entry of k away, and isn't a fail
   abbrev pub is_evicted : State K V → ℕ × Step K V → K → Bool
-  is_evicted s e k = is_some (status_of eq s k) && not (is_some (status_of eq (after eq s e.0 e.1) k)) && not (is_fail e.1)
+  is_evicted s e k = is_some (status_of eq s k) && not (is_some (status_of eq (state_after eq s e.0 e.1) k)) && not (is_fail e.1)
 
   -- the step is a fail of k
   abbrev pub is_fail_of : Step K V → K → Bool

@@ -1,7 +1,7 @@
 -- What holds of every legal history of a cache.
 use Rattle.std.specs.Prelude.{◌≡◌, ℕ, ◌<◌, ◌≤◌, Bool, true, false, ◌⊎◌, ◌↔◌, List, [], ◌∷◌, ◌++◌, length, Some}
 use Rattle.evict_core.specs.Machine.{State, Claim, Step, Ask, Fill, maker_in, pins_in, unpinned, has_idle, status_of, is_within, evict_all, trim}
-use Rattle.evict_core.specs.History.{replay, replay_from, held, held_below, is_pending, IsLegal, NumbersBelow, is_evicted, is_fail_of}
+use Rattle.evict_core.specs.History.{replay, replay_from, pins_held, held_below, is_pending, IsLegal, NumbersBelow, is_evicted, is_fail_of}
 
 module _ {K V : Type 0} (eq : K → K → Bool) where
   -- within `between`, which follows the state s, some entry is a fail of k, or evicts it
@@ -22,15 +22,15 @@ module _ {K V : Type 0} (eq : K → K → Bool) where
 module _ {K : Type 0} (V : Type 0) (eq : K → K → Bool) where
   -- between two claims of a key stands its fail or an eviction of it
   abbrev pub ClaimsOnce : Type 0
-  ClaimsOnce = (may : K → Bool) (limit budget : ℕ) (before between after : List (ℕ × Step K V)) (m n : ℕ) (k again : K)
-      → IsLegal eq may limit budget (before ++ (m, Ask k Claim) ∷ (between ++ (n, Ask again Claim) ∷ after))
+  ClaimsOnce = (may : K → Bool) (limit budget : ℕ) (before between state_after : List (ℕ × Step K V)) (m n : ℕ) (k again : K)
+      → IsLegal eq may limit budget (before ++ (m, Ask k Claim) ∷ (between ++ (n, Ask again Claim) ∷ state_after))
       → eq k again ≡ true
       → IsLostWithin eq (replay eq limit budget (before ++ (m, Ask k Claim) ∷ [])) between k
 
   -- between two fills of a key stands an eviction of it
   abbrev pub FillsOnce : Type 0
-  FillsOnce = (may : K → Bool) (limit budget : ℕ) (before between after : List (ℕ × Step K V)) (m n : ℕ) (k again : K) (c d : ℕ) (v w : V)
-      → IsLegal eq may limit budget (before ++ (m, Fill k c v) ∷ (between ++ (n, Fill again d w) ∷ after))
+  FillsOnce = (may : K → Bool) (limit budget : ℕ) (before between state_after : List (ℕ × Step K V)) (m n : ℕ) (k again : K) (c d : ℕ) (v w : V)
+      → IsLegal eq may limit budget (before ++ (m, Fill k c v) ∷ (between ++ (n, Fill again d w) ∷ state_after))
       → eq k again ≡ true
       → IsEvictedWithin eq (replay eq limit budget (before ++ (m, Fill k c v) ∷ [])) between k
 
@@ -59,7 +59,7 @@ module _ {K : Type 0} (V : Type 0) (eq : K → K → Bool) where
   abbrev pub HeldIsKept : Type 0
   HeldIsKept = (may : K → Bool) (limit budget : ℕ) (h : List (ℕ × Step K V)) (e : ℕ × Step K V) → IsLegal eq may limit budget (h ++ e ∷ [])
       → (k : K) → is_evicted eq (replay eq limit budget h) e k ≡ true
-      → (m : ℕ) → held eq (h ++ e ∷ []) m k ≡ 0
+      → (m : ℕ) → pins_held eq (h ++ e ∷ []) m k ≡ 0
 
 -- what `trim` does, said of the number of its evictions: after so many the state is within its limits or has nothing more to evict, and after fewer it isn't
 module _ {K V : Type 0} where

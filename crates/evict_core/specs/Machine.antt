@@ -135,8 +135,8 @@ module _ {K V : Type 0} (eq : K → K → Bool) where
   abbrev pub status_of : State K V → K → Option (Status V)
   status_of s k = lookup (eq k) s.entries
 
-  abbrev pub answer_of : State K V → K → Option Answer
-  answer_of s k = answer_at s (status_of s k)
+  abbrev pub ask_answer : State K V → K → Option Answer
+  ask_answer s k = answer_at s (status_of s k)
 
   abbrev pub hit : State K V → K → State K V
   hit s k = record s { entries = to_front (eq k) one_pin_more s.entries; counts = record s.counts { hits = raised s.counts.hits } }
@@ -146,26 +146,26 @@ module _ {K V : Type 0} (eq : K → K → Bool) where
   hit_all s (k ∷ ks) = hit_all (hit s k) ks
 
   -- the state after a step that the number m makes
-  abbrev pub after : State K V → ℕ → Step K V → State K V
-  after s m (Ask k Hit) = hit s k
-  after s m (Ask k Claim) = put_first (room_for_one s) k m
-  after s m (Ask k Crowded) = record s { counts = record s.counts { crowded = raised s.counts.crowded } }
-  after s m (PinAll ks) = hit_all s ks
-  after s m (Fill k cost value) = record s { entries = to_front (eq k) (λ _. Ready 1 cost value) s.entries; counts = record s.counts { fills = raised s.counts.fills } }
-  after s m (Fail k) = record s { entries = remove_entry (eq k) s.entries; counts = record s.counts { fails = raised s.counts.fails } }
-  after s m (Unpin k) = trim (record s { entries = change (eq k) one_pin_less s.entries })
-  after s m (Limits entries budget) = trim (record s { limit = entries; budget = budget })
+  abbrev pub state_after : State K V → ℕ → Step K V → State K V
+  state_after s m (Ask k Hit) = hit s k
+  state_after s m (Ask k Claim) = put_first (room_for_one s) k m
+  state_after s m (Ask k Crowded) = record s { counts = record s.counts { crowded = raised s.counts.crowded } }
+  state_after s m (PinAll ks) = hit_all s ks
+  state_after s m (Fill k cost value) = record s { entries = to_front (eq k) (λ _. Ready 1 cost value) s.entries; counts = record s.counts { fills = raised s.counts.fills } }
+  state_after s m (Fail k) = record s { entries = remove_entry (eq k) s.entries; counts = record s.counts { fails = raised s.counts.fails } }
+  state_after s m (Unpin k) = trim (record s { entries = change (eq k) one_pin_less s.entries })
+  state_after s m (Limits entries budget) = trim (record s { limit = entries; budget = budget })
 
   -- each key in turn would be a hit
   abbrev pub HitsEach : State K V → List K → Type 0
   HitsEach s [] = Unit {0}
-  HitsEach s (k ∷ ks) = (answer_of s k ≡ Some Hit) × HitsEach (hit s k) ks
+  HitsEach s (k ∷ ks) = (ask_answer s k ≡ Some Hit) × HitsEach (hit s k) ks
 
   -- m may make the step; `held` says how often m holds a key
   abbrev pub IsEnabled : State K V → (K → ℕ) → ℕ → Step K V → Type 0
-  IsEnabled s held m (Ask k answer) = answer_of s k ≡ Some answer
-  IsEnabled s held m (PinAll ks) = HitsEach s ks
-  IsEnabled s held m (Fill k cost value) = maker_in (status_of s k) ≡ Some m
-  IsEnabled s held m (Fail k) = maker_in (status_of s k) ≡ Some m
-  IsEnabled s held m (Unpin k) = 1 ≤ held k
-  IsEnabled s held m (Limits entries budget) = (1 ≤ entries) × (entries ≤ largest_limit) × (budget ≤ largest_budget)
+  IsEnabled s pins_held m (Ask k answer) = ask_answer s k ≡ Some answer
+  IsEnabled s pins_held m (PinAll ks) = HitsEach s ks
+  IsEnabled s pins_held m (Fill k cost value) = maker_in (status_of s k) ≡ Some m
+  IsEnabled s pins_held m (Fail k) = maker_in (status_of s k) ≡ Some m
+  IsEnabled s pins_held m (Unpin k) = 1 ≤ pins_held k
+  IsEnabled s pins_held m (Limits entries budget) = (1 ≤ entries) × (entries ≤ largest_limit) × (budget ≤ largest_budget)

@@ -9,9 +9,9 @@ use Rattle.evict_core.specs.declared.stored.Stored.{Stored}
 use Rattle.evict_core.specs.declared.stored.Stored.TheVariants.{Making, Made}
 use Rattle.evict_core.specs.declared.recency.Place.{Place}
 
-abbrev pub status_in : {V : Type 0} → Stored V → Status V
-status_in (Making number) = Flying number
-status_in (Made pins cost value) = Ready pins cost (arc_value value)
+abbrev pub stored_status : {V : Type 0} → Stored V → Status V
+stored_status (Making number) = Flying number
+stored_status (Made pins cost value) = Ready pins cost (arc_value value)
 
 module _ {K P X : Type 0} (index : P → ℕ) (view : P → X) where
   abbrev pub with_key : Option (K × ℕ) → X → List (K × X) → List (K × X)
@@ -33,14 +33,14 @@ pub record Ties {K P : Type 0} (index : P → ℕ) (eq : K → K → Bool) (es :
 
 module _ {K V : Type 0} where
   abbrev pub entries_in : List (K × ℕ) → List (ℕ × Place V) → List (K × Status V)
-  entries_in es os = shown (λ p. p.index) (λ p. status_in p.stored) es os
+  entries_in es os = shown (λ p. p.index) (λ p. stored_status p.stored) es os
 
   abbrev pub IsTied : (K → K → Bool) → List (K × ℕ) → List (ℕ × Place V) → ℕ → ℕ → Type 0
   IsTied eq es os cap next = Ties (λ p. p.index) eq es os next × (cap ≡ 18446744073709551615)
 
 module _ {V : Type 0} where
   abbrev pub is_idle_place : Place V → Bool
-  is_idle_place p = is_idle (status_in p.stored)
+  is_idle_place p = is_idle (stored_status p.stored)
 
   -- n is the number of the least recent place that may be evicted, which costs so much
   pub record IsOldestIdle (os : List (ℕ × Place V)) (n price : ℕ) : Type 0 where
@@ -49,5 +49,5 @@ module _ {V : Type 0} where
     pub older : List (ℕ × Place V)
     pub is : os ≡ newer ++ (n, place) ∷ older
     pub idle : is_idle_place place ≡ true
-    pub costs : price ≡ idle_cost (status_in place.stored)
+    pub costs : price ≡ idle_cost (stored_status place.stored)
     pub busy : some_passes is_idle_place older ≡ false

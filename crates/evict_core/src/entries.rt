@@ -1,10 +1,10 @@
 //! The entries of a cache.
 ghost use Rattle.std.specs.Prelude.{◌≡◌, ℕ, ◌+◌, ◌<◌, ◌≤◌, true, false, ◌||◌, Some, None, length, nat_lt, IfOk, IsSome, option_map};
 ghost use Rattle.std.specs.Arc.{arc_value};
-ghost use Rattle.evict_core.specs.Machine.{Hit, Claim, Crowded, Ask as ask_step, Fill, Fail, Unpin, Limits, Flying, one_pin_less, has_idle, status_of, pins_in, maker_in, is_within, evict, trim, answer_of, after, hit};
+ghost use Rattle.evict_core.specs.Machine.{Hit, Claim, Crowded, Ask as ask_step, Fill, Fail, Unpin, Limits, Flying, one_pin_less, has_idle, status_of, pins_in, maker_in, is_within, evict, trim, ask_answer, state_after, hit};
 ghost use Rattle.evict_core.specs.History.{opening};
 ghost use Rattle.evict_core.specs.Recency.{change};
-ghost use Rattle.evict_core.specs.Asked.{IsAnswer, ready_pins, ready_value, totals_of};
+ghost use Rattle.evict_core.specs.Asked.{IsAskAnswer, ready_pins, ready_value, totals_of};
 
 use crate::ask::Ask;
 use crate::counts::{Counts, Totals, raise};
@@ -70,7 +70,7 @@ impl<K: Eq + Hash, V> Entries<K, V> {
     where
         K: Drop,
         V: Drop,
-        ensures { IsAnswer K.eq self.old key number result self.new }
+        ensures { IsAskAnswer K.eq self.old key number result self.new }
     {
         match self.list.get(&key) {
             Some(Stored::Making(maker)) => Ask::Flying(*maker),
@@ -95,7 +95,7 @@ impl<K: Eq + Hash, V> Entries<K, V> {
         V: Drop,
         requires flying { IsSome (maker_in (status_of K.eq self.old key.now)) }
         requires cost { cost ≤ 4294967296 }
-        ensures { (m : ℕ) → self.new ≡ after K.eq self.old m (Fill key.now cost (arc_value value)) }
+        ensures { (m : ℕ) → self.new ≡ state_after K.eq self.old m (Fill key.now cost (arc_value value)) }
     {
         self.list.fill(key, cost, value);
         self.counts.fills = raise(self.counts.fills);
@@ -107,7 +107,7 @@ impl<K: Eq + Hash, V> Entries<K, V> {
         K: Drop,
         V: Drop,
         requires { IsSome (maker_in (status_of K.eq self.old key.now)) }
-        ensures { (m : ℕ) → self.new ≡ after K.eq self.old m (Fail key.now) }
+        ensures { (m : ℕ) → self.new ≡ state_after K.eq self.old m (Fail key.now) }
     {
         self.list.remove(key);
         self.counts.fails = raise(self.counts.fails);
@@ -119,7 +119,7 @@ impl<K: Eq + Hash, V> Entries<K, V> {
         K: Drop,
         V: Drop,
         requires { 1 ≤ pins_in (status_of K.eq self.old key.now) }
-        ensures { (m : ℕ) → self.new ≡ after K.eq self.old m (Unpin key.now) }
+        ensures { (m : ℕ) → self.new ≡ state_after K.eq self.old m (Unpin key.now) }
     {
         self.give_back(key);
         self.trim();
@@ -133,7 +133,7 @@ impl<K: Eq + Hash, V> Entries<K, V> {
         requires least { 1 ≤ entries }
         requires most { entries ≤ 65536 }
         requires budget { budget ≤ 1099511627776 }
-        ensures { (m : ℕ) → self.new ≡ after K.eq self.old m (Limits entries budget) }
+        ensures { (m : ℕ) → self.new ≡ state_after K.eq self.old m (Limits entries budget) }
     {
         self.limit = entries;
         self.budget = budget;
@@ -162,8 +162,8 @@ impl<K: Eq + Hash, V> Entries<K, V> {
 
     /// The hit of an ask, without the value. It takes no memory.
     pub fn pin(&mut self, key: &K)
-        requires { answer_of K.eq self.old key.now ≡ Some Hit }
-        ensures { (m : ℕ) → self.new ≡ after K.eq self.old m (ask_step key.now Hit) }
+        requires { ask_answer K.eq self.old key.now ≡ Some Hit }
+        ensures { (m : ℕ) → self.new ≡ state_after K.eq self.old m (ask_step key.now Hit) }
     {
         self.list.add_pin(key);
         self.counts.hits = raise(self.counts.hits);
@@ -193,7 +193,7 @@ impl<K: Eq + Hash, V> Entries<K, V> {
         K: Drop,
         V: Drop,
         requires { status_of K.eq self.old key ≡ None }
-        ensures { IsAnswer K.eq self.old key number result self.new }
+        ensures { IsAskAnswer K.eq self.old key number result self.new }
     {
         if self.list.len() < self.limit as usize {
             return self.claim_free(key, number);
@@ -211,7 +211,7 @@ impl<K: Eq + Hash, V> Entries<K, V> {
         V: Drop,
         requires absent { status_of K.eq self.old key ≡ None }
         requires room { length self.old.entries < self.old.limit }
-        ensures { IsAnswer K.eq self.old key number result self.new }
+        ensures { IsAskAnswer K.eq self.old key number result self.new }
     {
         let Ok(_) = self.list.insert(key, number) else {
             return Ask::OutOfMemory;
@@ -228,7 +228,7 @@ impl<K: Eq + Hash, V> Entries<K, V> {
         requires absent { status_of K.eq self.old key ≡ None }
         requires full { self.old.limit ≤ length self.old.entries }
         requires idle { has_idle self.old.entries ≡ true }
-        ensures { IsAnswer K.eq self.old key number result self.new }
+        ensures { IsAskAnswer K.eq self.old key number result self.new }
     {
         let Ok(_) = self.list.insert(key, number) else {
             return Ask::OutOfMemory;
@@ -240,7 +240,7 @@ impl<K: Eq + Hash, V> Entries<K, V> {
     }
 
     fn refuse(&mut self)
-        ensures { (k : K) (m : ℕ) → self.new ≡ after K.eq self.old m (ask_step k Crowded) }
+        ensures { (k : K) (m : ℕ) → self.new ≡ state_after K.eq self.old m (ask_step k Crowded) }
     {
         self.counts.crowded = raise(self.counts.crowded);
     }

@@ -4,7 +4,7 @@ ghost use Rattle.std.specs.Map.{lookup, remove_entry};
 ghost use Rattle.std.specs.Arc.{arc_value};
 ghost use Rattle.evict_core.specs.Recency.{to_front, change, without_last};
 ghost use Rattle.evict_core.specs.Machine.{Flying, Ready, is_idle, has_idle, unpinned, pinned, pins_in, maker_in, one_pin_more, one_pin_less};
-ghost use Rattle.evict_core.specs.Places.{status_in};
+ghost use Rattle.evict_core.specs.Places.{stored_status};
 
 use crate::recency::Recency;
 use crate::stored::Stored;
@@ -82,7 +82,7 @@ impl<K: Eq + Hash, V> Ledger<K, V> {
 
     /// What is known of the key.
     pub fn get(&self, key: &K) -> Option<&Stored<V>>
-        ensures { option_map (λ s. status_in s.now) result ≡ lookup (K.eq key.now) self.now }
+        ensures { option_map (λ s. stored_status s.now) result ≡ lookup (K.eq key.now) self.now }
     {
         self.entries.get(key)
     }

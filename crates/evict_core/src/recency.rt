@@ -6,7 +6,7 @@ ghost use Rattle.std.specs.Arc.{arc_value};
 ghost use Rattle.evict_core.specs.Recency.{to_front, change, some_passes, without_last};
 ghost use Rattle.evict_core.specs.Machine.{Flying, Ready, is_idle, has_idle, unpinned, pins_in, one_pin_more, one_pin_less};
 ghost use Rattle.evict_core.specs.Sums.{IsIdleAt, IsBusyAt};
-ghost use Rattle.evict_core.specs.Places.{status_in, entries_in, is_idle_place, IsTied, IsOldestIdle};
+ghost use Rattle.evict_core.specs.Places.{stored_status, entries_in, is_idle_place, IsTied, IsOldestIdle};
 
 use crate::stored::Stored;
 use indexmap::IndexMap;
@@ -70,7 +70,7 @@ impl<K: Eq + Hash, V> Recency<K, V> {
 
     /// What is known of the key.
     pub fn get(&self, key: &K) -> Option<&Stored<V>>
-        ensures { option_map (λ s. status_in s.now) result ≡ lookup (K.eq key.now) self.now }
+        ensures { option_map (λ s. stored_status s.now) result ≡ lookup (K.eq key.now) self.now }
     {
         let number = *self.keys.get(key)?;
         let place = self.order.peek(&number)?;
@@ -205,7 +205,7 @@ fn take_out<K: Eq + Hash + Drop, V>(
     order: &mut LruCache<u64, Place<V>>,
     number: u64,
 ) -> Option<Stored<V>>
-    ensures taken { result ≡ option_map (λ p. p.stored) (lookup (nat_eq number) order.old.entries) }
+    ensures pins_taken { result ≡ option_map (λ p. p.stored) (lookup (nat_eq number) order.old.entries) }
     ensures shown { (next : ℕ) → IsTied K.eq keys.old.entries order.old.entries order.old.cap next
         → entries_in keys.new.entries order.new.entries ≡ entries_in keys.old.entries (remove_entry (nat_eq number) order.old.entries) }
     ensures tied { (next : ℕ) → IsTied K.eq keys.old.entries order.old.entries order.old.cap next

@@ -2,7 +2,7 @@
 ghost use Rattle.std.specs.Prelude.{◌≡◌, ◌<◌, Some, is_some, IfSome};
 ghost use Rattle.std.specs.Arc.{arc_value};
 ghost use Rattle.evict_core.specs.Machine.{Ready, is_idle, idle_cost, pins_in, one_pin_more, one_pin_less};
-ghost use Rattle.evict_core.specs.Places.{status_in};
+ghost use Rattle.evict_core.specs.Places.{stored_status};
 
 use std::sync::Arc;
 
@@ -16,8 +16,8 @@ pub enum Stored<V> {
 impl<V> Stored<V> {
     /// What it costs, where it may be evicted.
     pub fn idle_cost(&self) -> Option<u64>
-        ensures idle { is_some result ≡ is_idle (status_in self.now) }
-        ensures cost { IfSome result (λ cost. cost ≡ idle_cost (status_in self.now)) }
+        ensures idle { is_some result ≡ is_idle (stored_status self.now) }
+        ensures cost { IfSome result (λ cost. cost ≡ idle_cost (stored_status self.now)) }
     {
         match self {
             Stored::Made(0, cost, _) => Some(*cost),
@@ -28,8 +28,8 @@ impl<V> Stored<V> {
 
     /// One pin more on a value.
     pub fn add_pin(&mut self)
-        requires { pins_in (Some (status_in self.old)) < 4294967295 }
-        ensures { status_in self.new ≡ one_pin_more (status_in self.old) }
+        requires { pins_in (Some (stored_status self.old)) < 4294967295 }
+        ensures { stored_status self.new ≡ one_pin_more (stored_status self.old) }
     {
         match self {
             Stored::Making(_) => {}
@@ -39,7 +39,7 @@ impl<V> Stored<V> {
 
     /// One pin less.
     pub fn drop_pin(&mut self)
-        ensures { status_in self.new ≡ one_pin_less (status_in self.old) }
+        ensures { stored_status self.new ≡ one_pin_less (stored_status self.old) }
     {
         match self {
             Stored::Making(_) => {}
@@ -51,7 +51,7 @@ impl<V> Stored<V> {
     pub fn fill(&mut self, cost: u64, value: Arc<V>)
     where
         V: Drop,
-        ensures { status_in self.new ≡ Ready 1 cost (arc_value value) }
+        ensures { stored_status self.new ≡ Ready 1 cost (arc_value value) }
     {
         *self = Stored::Made(1, cost, value);
     }

@@ -5,7 +5,7 @@ use Rattle.play_words.specs.declared.job.Task.TheVariants.{Check, Frame}
 use Rattle.run_status.specs.declared.status.Status.{Status}
 use Rattle.run_status.specs.declared.status.Status.TheVariants as status
 use Rattle.run_status.specs.declared.status.Which.TheVariants.{Frames, Report}
-use Rattle.frame_play.specs.Outcomes.{IsEnded, IsImagePut, IsOrMemory, IsOwn, IsReportPut, IsReportedOnce, IsShownOnce, MayBePut, status_in}
+use Rattle.frame_play.specs.Outcomes.{IsEnded, IsImagePut, IsOrMemory, IsOwn, IsReportPut, IsReportedOnce, IsShownOnce, MayBePut, outcome_status}
 use Rattle.frame_play.specs.declared.outcome.Outcome.{Outcome}
 use Rattle.frame_play.specs.declared.outcome.Outcome.TheVariants.{Ended, Found}
 use Rattle.frame_play.proofs.RunLemmas.{ended}
@@ -33,7 +33,7 @@ shown_may task status.NotBuilt before now own h = same_may task before now h
 
 -- The frames sink isn't asked again at the end.
 pub shown_once_after : (task : Task) (outcome : Outcome) (answer : Status) (before now : ℕ) → IsOwn task outcome → IsEnded outcome answer →
-    IsShownOnce task (status_in outcome) before now → IsShownOnce task answer before now
+    IsShownOnce task (outcome_status outcome) before now → IsShownOnce task answer before now
 shown_once_after task (Ended s) answer before now own e h = elim (ended s answer e) [
   | inl same ↦ subst (λ s. IsShownOnce task s before now) (sym same) h
   | inr memory ↦ subst (λ s. IsShownOnce task s before now) (sym memory) (shown_may task s before now own h)

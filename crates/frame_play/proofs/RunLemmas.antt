@@ -7,7 +7,7 @@ use Rattle.ass_io.specs.Fetched.{Told}
 use Rattle.ass_io.specs.Written.{AppendsFront}
 use Rattle.input_files.specs.Files.{Asks, AsksFont, AsksScript, IsAnswered}
 use Rattle.input_files.specs.Inputs.{AreRead}
-use Rattle.input_files.specs.Laws.{FilesDecide, IsDecided}
+use Rattle.input_files.specs.Laws.{FilesDecide, IsReadDecided}
 use Rattle.input_files.specs.declared.inputs.Inputs.{Inputs}
 use Rattle.play_words.specs.declared.job.Job.{Job}
 use Rattle.play_words.specs.declared.job.Task.{Task}
@@ -16,9 +16,9 @@ use Rattle.run_status.specs.declared.status.Status.{Status}
 use Rattle.run_status.specs.declared.status.Status.TheVariants as status
 use Rattle.run_status.specs.declared.status.What.TheVariants.{Fonts}
 use Rattle.run_status.specs.declared.status.Which.TheVariants.{Frames, Report}
-use Rattle.frame_play.specs.Outcomes.{IsEnded, IsOrFault, IsOrMemory, IsOwn, IsReadCounted, IsReported, IsShown, IsShownOnce, IsWriteCounted, out_of_memory, status_in, text_in}
+use Rattle.frame_play.specs.Outcomes.{IsEnded, IsOrFault, IsOrMemory, IsOwn, IsStatusReadCounted, IsReported, IsImageShown, IsShownOnce, IsWriteCounted, out_of_memory, outcome_status, text_in}
 use Rattle.frame_play.specs.Outputs.{output_asked, sink_of, status_asked}
-use Rattle.frame_play.specs.Runs.{Decides, IsRun, IsWorked, Sunk, sunk}
+use Rattle.frame_play.specs.Runs.{Decides, IsJobRun, IsWorked, Sunk, sunk}
 use Rattle.frame_play.specs.declared.outcome.Outcome.{Outcome}
 use Rattle.frame_play.specs.declared.outcome.Outcome.TheVariants.{Ended, Found}
 
@@ -49,7 +49,7 @@ front_by_none : (old new : Option (List ℕ)) (piece : List ℕ) → Keeps old n
 front_by_none old new piece h = ([], piece, refl, appends_kept old new h)
 
 -- nothing is shown of nothing
-pub shown_none : (answer : Status) (held : Option (List ℕ)) → IsShown answer held held []
+pub shown_none : (answer : Status) (held : Option (List ℕ)) → IsImageShown answer held held []
 shown_none status.Done held = appends_none held
 shown_none (status.NoSuchFile name) held = keeps held
 shown_none (status.ReadFault name) held = keeps held
@@ -61,7 +61,7 @@ shown_none (status.TooLarge what limit) held = keeps held
 shown_none status.OutOfMemory held = front_by_all held held [] (appends_none held)
 shown_none status.NotBuilt held = keeps held
 
-shown_front : (answer : Status) (old new : Option (List ℕ)) (image : List ℕ) → IsShown answer old new image → AppendsFront old new image
+shown_front : (answer : Status) (old new : Option (List ℕ)) (image : List ℕ) → IsImageShown answer old new image → AppendsFront old new image
 shown_front status.Done old new image h = front_by_all old new image h
 shown_front (status.NoSuchFile name) old new image h = front_by_none old new image h
 shown_front (status.ReadFault name) old new image h = front_by_none old new image h
@@ -165,7 +165,7 @@ ended status.OutOfMemory answer h = h
 ended status.NotBuilt answer h = h
 
 answered_after : (task : Task) (wanted : Status) (outcome : Outcome) (answer : Status) → IsOwn task outcome →
-    IsOrFault task wanted (status_in outcome) → IsEnded outcome answer → IsOrFault task wanted answer
+    IsOrFault task wanted (outcome_status outcome) → IsEnded outcome answer → IsOrFault task wanted answer
 answered_after task wanted (Ended before) answer own asked h = elim (ended before answer h) [
   | inl same ↦ subst (IsOrFault task wanted) (sym same) asked
   | inr memory ↦ inl (inr memory)
@@ -178,16 +178,16 @@ answered_after Check wanted (Found text) answer own (inl (inr memory)) (inr faul
 answered_after Check wanted (Found text) answer own (inr (done, other)) (inr fault) = absurd cc
 
 shown_after : (task : Task) (reading : Result Inputs Status) (outcome : Outcome) (answer : Status) (old new : Option (List ℕ)) → IsOwn task outcome →
-    IsEnded outcome answer → IsShown (status_in outcome) old new (output_asked task reading).frames → IsShown answer old new (output_asked task reading).frames
+    IsEnded outcome answer → IsImageShown (outcome_status outcome) old new (output_asked task reading).frames → IsImageShown answer old new (output_asked task reading).frames
 shown_after task reading (Ended before) answer old new own e h = elim (ended before answer e) [
-  | inl same ↦ subst (λ s. IsShown s old new (output_asked task reading).frames) (sym same) h
-  | inr memory ↦ subst (λ s. IsShown s old new (output_asked task reading).frames) (sym memory) (shown_front before old new _ h)
+  | inl same ↦ subst (λ s. IsImageShown s old new (output_asked task reading).frames) (sym same) h
+  | inr memory ↦ subst (λ s. IsImageShown s old new (output_asked task reading).frames) (sym memory) (shown_front before old new _ h)
 ]
 shown_after (Frame at size) reading (Found text) answer old new own ended h = absurd own
-shown_after Check reading (Found text) answer old new own (inl (inl done)) h = subst (λ s. IsShown s old new (output_asked Check reading).frames) (sym done) h
-shown_after Check reading (Found text) answer old new own (inl (inr memory)) h = subst (λ s. IsShown s old new (output_asked Check reading).frames) (sym memory) (front_by_all old new _ h)
-shown_after Check (Ok inputs) (Found text) answer old new own (inr fault) h = subst (λ s. IsShown s old new []) (sym fault) (keeps_appended old new h)
-shown_after Check (Err other) (Found text) answer old new own (inr fault) h = subst (λ s. IsShown s old new []) (sym fault) (keeps_appended old new h)
+shown_after Check reading (Found text) answer old new own (inl (inl done)) h = subst (λ s. IsImageShown s old new (output_asked Check reading).frames) (sym done) h
+shown_after Check reading (Found text) answer old new own (inl (inr memory)) h = subst (λ s. IsImageShown s old new (output_asked Check reading).frames) (sym memory) (front_by_all old new _ h)
+shown_after Check (Ok inputs) (Found text) answer old new own (inr fault) h = subst (λ s. IsImageShown s old new []) (sym fault) (keeps_appended old new h)
+shown_after Check (Err other) (Found text) answer old new own (inr fault) h = subst (λ s. IsImageShown s old new []) (sym fault) (keeps_appended old new h)
 
 -- What is to be reported counts where all is done or the report failed.
 reported_same : (answer : Status) (old new : Option (List ℕ)) (before now : ℕ) (text other : List ℕ) →
@@ -204,14 +204,14 @@ reported_same (status.TooLarge what limit) old new before now text other d f h =
 reported_same status.OutOfMemory old new before now text other d f h = h
 reported_same status.NotBuilt old new before now text other d f h = h
 
-done_before : (task : Task) (outcome : Outcome) (answer : Status) → IsOwn task outcome → IsEnded outcome answer → answer ≡ status.Done → status_in outcome ≡ status.Done
+done_before : (task : Task) (outcome : Outcome) (answer : Status) → IsOwn task outcome → IsEnded outcome answer → answer ≡ status.Done → outcome_status outcome ≡ status.Done
 done_before task (Ended before) answer own e done = elim (ended before answer e) [
   | inl same ↦ sym same ∙ done
   | inr memory ↦ absurd cc
 ]
 done_before task (Found text) answer own e done = refl
 
-found_before : (task : Task) (outcome : Outcome) (answer : Status) → IsOwn task outcome → IsEnded outcome answer → answer ≡ status.WriteFault Report → status_in outcome ≡ status.Done
+found_before : (task : Task) (outcome : Outcome) (answer : Status) → IsOwn task outcome → IsEnded outcome answer → answer ≡ status.WriteFault Report → outcome_status outcome ≡ status.Done
 found_before task (Ended before) answer own e fault = elim (ended before answer e) [
   | inl same ↦ let equal : before ≡ status.WriteFault Report = cc in absurd (subst (λ s. IsOwn task (Ended s)) equal own)
   | inr memory ↦ absurd cc
@@ -222,7 +222,7 @@ found_before task (Found text) answer own e fault = refl
 pub run_after : (told : List ℕ → Told) (job : Job) (frames report : Sunk) (outcome : Outcome) (answer : Status) →
     IsWorked told job frames outcome → IsEnded outcome answer →
     IsReported answer report.held_before report.held_now report.faults_before report.faults_now (text_in outcome) →
-    IsRun told job frames report answer
+    IsJobRun told job frames report answer
 run_after told job frames report outcome answer worked ended reported = record {
   reading = worked.reading;
   read = worked.read;
@@ -235,7 +235,7 @@ run_after told job frames report outcome answer worked ended reported = record {
 
 -- ---- the counts
 
-read_rises : (answer : Status) (before now : ℕ) → IsReadCounted answer before now → before ≤ now
+read_rises : (answer : Status) (before now : ℕ) → IsStatusReadCounted answer before now → before ≤ now
 read_rises status.Done before now h = omega (arith, h)
 read_rises (status.NoSuchFile name) before now h = omega (arith, h)
 read_rises (status.ReadFault name) before now h = h.1
@@ -246,14 +246,14 @@ read_rises (status.TooLarge what limit) before now h = omega (arith, h)
 read_rises status.OutOfMemory before now h = h
 read_rises status.NotBuilt before now h = omega (arith, h)
 
-pub read_after : (outcome : Outcome) (answer : Status) (before now : ℕ) → IsEnded outcome answer → IsReadCounted (status_in outcome) before now → IsReadCounted answer before now
+pub read_after : (outcome : Outcome) (answer : Status) (before now : ℕ) → IsEnded outcome answer → IsStatusReadCounted (outcome_status outcome) before now → IsStatusReadCounted answer before now
 read_after (Ended s) answer before now e h = elim (ended s answer e) [
-  | inl same ↦ subst (λ s. IsReadCounted s before now) (sym same) h
-  | inr memory ↦ subst (λ s. IsReadCounted s before now) (sym memory) (read_rises s before now h)
+  | inl same ↦ subst (λ s. IsStatusReadCounted s before now) (sym same) h
+  | inr memory ↦ subst (λ s. IsStatusReadCounted s before now) (sym memory) (read_rises s before now h)
 ]
-read_after (Found text) answer before now (inl (inl done)) h = subst (λ s. IsReadCounted s before now) (sym done) h
-read_after (Found text) answer before now (inl (inr memory)) h = subst (λ s. IsReadCounted s before now) (sym memory) (omega (arith, h))
-read_after (Found text) answer before now (inr fault) h = subst (λ s. IsReadCounted s before now) (sym fault) h
+read_after (Found text) answer before now (inl (inl done)) h = subst (λ s. IsStatusReadCounted s before now) (sym done) h
+read_after (Found text) answer before now (inl (inr memory)) h = subst (λ s. IsStatusReadCounted s before now) (sym memory) (omega (arith, h))
+read_after (Found text) answer before now (inr fault) h = subst (λ s. IsStatusReadCounted s before now) (sym fault) h
 
 written_rises : (answer : Status) (before now : ℕ) → IsWriteCounted answer before now → before ≤ now
 written_rises status.Done before now h = omega (arith, h)
@@ -267,7 +267,7 @@ written_rises (status.TooLarge what limit) before now h = omega (arith, h)
 written_rises status.OutOfMemory before now h = h
 written_rises status.NotBuilt before now h = omega (arith, h)
 
-pub written_after : (outcome : Outcome) (answer : Status) (before now : ℕ) → IsEnded outcome answer → IsWriteCounted (status_in outcome) before now → IsWriteCounted answer before now
+pub written_after : (outcome : Outcome) (answer : Status) (before now : ℕ) → IsEnded outcome answer → IsWriteCounted (outcome_status outcome) before now → IsWriteCounted answer before now
 written_after (Ended s) answer before now e h = elim (ended s answer e) [
   | inl same ↦ subst (λ s. IsWriteCounted s before now) (sym same) h
   | inr memory ↦ subst (λ s. IsWriteCounted s before now) (sym memory) (written_rises s before now h)
@@ -312,7 +312,7 @@ refused_written told job answer n read = written_of answer n (read_kind told job
 abbrev IsFault : Result Inputs Status → Type 0
 IsFault reading = ((name : List ℕ) × (reading ≡ Err (status.ReadFault name))) ⊎ (reading ≡ Err status.OutOfMemory)
 
-fault_or_decided : (reading : Result Inputs Status) → IsDecided reading ⊎ IsFault reading
+fault_or_decided : (reading : Result Inputs Status) → IsReadDecided reading ⊎ IsFault reading
 fault_or_decided (Ok inputs) = inl tt
 fault_or_decided (Err status.Done) = inl tt
 fault_or_decided (Err (status.NoSuchFile name)) = inl tt
@@ -336,9 +336,9 @@ unfailed : (task : Task) (wanted answer : Status) → (answer ≡ status.WriteFa
 unfailed task wanted answer fails (inl h) = h
 unfailed task wanted answer fails (inr (done, fault)) = absurd (fails fault)
 
-unread : (task : Task) (name : List ℕ) (answer : Status) (before now : ℕ) → (Rose before now → ⊥) → IsReadCounted answer before now →
+unread : (task : Task) (name : List ℕ) (answer : Status) (before now : ℕ) → (Rose before now → ⊥) → IsStatusReadCounted answer before now →
     IsOrFault task (status.ReadFault name) answer → answer ≡ status.OutOfMemory
-unread task name answer before now stays counted (inl (inl same)) = absurd (stays (subst (λ s. IsReadCounted s before now) same counted).0)
+unread task name answer before now stays counted (inl (inl same)) = absurd (stays (subst (λ s. IsStatusReadCounted s before now) same counted).0)
 unread task name answer before now stays counted (inl (inr memory)) = memory
 unread task name answer before now stays counted (inr (done, fault)) = absurd cc
 
@@ -349,7 +349,7 @@ wanting task answer (inr (done, fault)) = absurd cc
 
 -- Files that are told decide a run without a fault.
 pub decides : FilesDecide → (told : List ℕ → Told) (job : Job) (frames report : Sunk) (before now : ℕ) (answer : Status) →
-    IsRun told job frames report answer → IsReadCounted answer before now → IsWriteCounted answer frames.faults_before frames.faults_now →
+    IsJobRun told job frames report answer → IsStatusReadCounted answer before now → IsWriteCounted answer frames.faults_before frames.faults_now →
     (Rose before now → ⊥) → (Rose frames.faults_before frames.faults_now → ⊥) → (Rose report.faults_before report.faults_now → ⊥) → Decides told job answer
 decides law told job frames report before now answer run counted written stays shows reports = λ reading known read decided.
     elim (fault_or_decided run.reading) [

@@ -6,7 +6,7 @@ use Rattle.ass_io.specs.Counts.{IsOneMore}
 use Rattle.ass_io.specs.Written.{AppendsFront}
 use Rattle.play_words.specs.declared.job.Task.{Task}
 use Rattle.play_words.specs.declared.job.Task.TheVariants.{Check, Frame}
-use Rattle.run_status.specs.Statuses.{line_of}
+use Rattle.run_status.specs.Statuses.{status_line}
 use Rattle.run_status.specs.declared.status.Status.{Status}
 use Rattle.run_status.specs.declared.status.Status.TheVariants.{Done, NotBuilt, ReadFault, WriteFault, OutOfMemory}
 use Rattle.run_status.specs.declared.status.Which.TheVariants.{Frames, Report}
@@ -23,10 +23,10 @@ abbrev pub IsOrFault : Task → Status → Status → Type 0
 IsOrFault task wanted answer = IsOrMemory wanted answer ⊎ ((wanted ≡ Done) × (answer ≡ WriteFault (sink_of task)))
 
 -- The shelf's count rose at a fault of reading. At want of memory it may have risen, and at any other status it is as it was.
-abbrev pub IsReadCounted : Status → ℕ → ℕ → Type 0
-IsReadCounted (ReadFault _) before now = Rose before now × (before ≤ now)
-IsReadCounted OutOfMemory before now = before ≤ now
-IsReadCounted _ before now = now ≡ before
+abbrev pub IsStatusReadCounted : Status → ℕ → ℕ → Type 0
+IsStatusReadCounted (ReadFault _) before now = Rose before now × (before ≤ now)
+IsStatusReadCounted OutOfMemory before now = before ≤ now
+IsStatusReadCounted _ before now = now ≡ before
 
 -- The frames sink's count rose where it failed. At want of memory it may have risen, and at any other status it is as it was.
 abbrev pub IsWriteCounted : Status → ℕ → ℕ → Type 0
@@ -35,11 +35,11 @@ IsWriteCounted OutOfMemory before now = before ≤ now
 IsWriteCounted _ before now = now ≡ before
 
 -- What the frames sink got of what it was to get: all of it, a front, or nothing.
-abbrev pub IsShown : Status → Option (List ℕ) → Option (List ℕ) → List ℕ → Type 0
-IsShown Done old new image = Appends old new image
-IsShown (WriteFault Frames) old new image = AppendsFront old new image
-IsShown OutOfMemory old new image = AppendsFront old new image
-IsShown _ old new image = Keeps old new
+abbrev pub IsImageShown : Status → Option (List ℕ) → Option (List ℕ) → List ℕ → Type 0
+IsImageShown Done old new image = Appends old new image
+IsImageShown (WriteFault Frames) old new image = AppendsFront old new image
+IsImageShown OutOfMemory old new image = AppendsFront old new image
+IsImageShown _ old new image = Keeps old new
 
 -- How often the frames sink was asked by a task that was done whole: once for an image, and not at all by a check.
 abbrev pub IsImagePut : Task → ℕ → ℕ → Type 0
@@ -61,13 +61,13 @@ IsShownOnce task _ before now = now ≡ before
 -- The report got the line of the status, or a front of it where its count rose.
 abbrev pub IsLinePut : Status → Option (List ℕ) → Option (List ℕ) → ℕ → ℕ → Type 0
 IsLinePut status old new before now =
-    (Appends old new (line_of status) × (now ≡ before)) ⊎ (AppendsFront old new (line_of status) × Rose before now)
+    (Appends old new (status_line status) × (now ≡ before)) ⊎ (AppendsFront old new (status_line status) × Rose before now)
 
 -- What the report got: of a job that was done whole what was to be reported, of a fault of the report a front of that, and of any other status its line. At want of memory a front of its line may be all.
 abbrev pub IsReported : Status → Option (List ℕ) → Option (List ℕ) → ℕ → ℕ → List ℕ → Type 0
 IsReported Done old new before now text = Appends old new text × (now ≡ before)
 IsReported (WriteFault Report) old new before now text = AppendsFront old new text × Rose before now × (before ≤ now)
-IsReported OutOfMemory old new before now text = AppendsFront old new (line_of OutOfMemory) × (before ≤ now)
+IsReported OutOfMemory old new before now text = AppendsFront old new (status_line OutOfMemory) × (before ≤ now)
 IsReported status old new before now text = IsLinePut status old new before now
 
 -- How often the report was asked by a task that was done whole: once for a check's report, and not at all by a picture.
@@ -88,9 +88,9 @@ abbrev pub out_of_memory : Outcome
 out_of_memory = Ended OutOfMemory
 
 -- the status of an outcome, where what is to be reported is put whole
-abbrev pub status_in : Outcome → Status
-status_in (Ended status) = status
-status_in (Found text) = Done
+abbrev pub outcome_status : Outcome → Status
+outcome_status (Ended status) = status
+outcome_status (Found text) = Done
 
 -- what is to be reported of a job that was done whole
 abbrev pub text_in : Outcome → List ℕ

@@ -2,8 +2,8 @@
 use Rattle.std.specs.Prelude.{ℕ, pos, List, [], ◌∷◌, Option, Some, None, Result, Ok, Err}
 use Rattle.std.specs.Option.{option_map, option_map_or}
 use Rattle.ass_num.specs.declared.size.Size.{Size}
-use Rattle.ass_script.specs.Scripts.{PlainScript}
-use Rattle.bdf_font.specs.Fonts.{PlainFont}
+use Rattle.ass_script.specs.Scripts.{ScriptValue}
+use Rattle.bdf_font.specs.Fonts.{FontValue}
 use Rattle.check_report.specs.Reports.{check_text}
 use Rattle.input_files.specs.declared.inputs.Inputs.{Inputs}
 use Rattle.plain_form.specs.Forms.{pixels_of, plain_line_of}
@@ -21,12 +21,12 @@ pub record Output : Type 0 where
   pub report : List ℕ
 
 -- the image of a picture at an instant in milliseconds, of one event: the script's line in the font, if the script is of the plain form
-abbrev pub image_of : ℕ → Size → PlainScript → PlainFont → Option (List ℕ)
+abbrev pub image_of : ℕ → Size → ScriptValue → FontValue → Option (List ℕ)
 image_of at size script font =
     option_map (λ line. image_bytes size.w size.h (pixels_of line font (pos at) size.w size.h) (pos at) 1) (plain_line_of script font size.w size.h)
 
 -- the image with the first font
-abbrev pub image_in : ℕ → Size → PlainScript → List PlainFont → Option (List ℕ)
+abbrev pub image_in : ℕ → Size → ScriptValue → List FontValue → Option (List ℕ)
 image_in at size script [] = None
 image_in at size script (font ∷ fonts) = image_of at size script font
 
@@ -35,9 +35,9 @@ status_of_image None = NotBuilt
 status_of_image (Some image) = Done
 
 -- the status that a task's inputs ask for: what isn't of the plain form isn't built so far
-abbrev pub status_of : Task → Inputs → Status
-status_of Check inputs = Done
-status_of (Frame at size) inputs = status_of_image (image_in at size inputs.script inputs.fonts)
+abbrev pub task_status : Task → Inputs → Status
+task_status Check inputs = Done
+task_status (Frame at size) inputs = status_of_image (image_in at size inputs.script inputs.fonts)
 
 -- What a task puts to the sinks: a check its report, a picture its image.
 abbrev pub output_of : Task → Inputs → Output
@@ -52,7 +52,7 @@ sink_of (Frame at size) = sink.Frames
 -- the status that an answer about the inputs asks for
 abbrev pub status_asked : Task → Result Inputs Status → Status
 status_asked task (Err status) = status
-status_asked task (Ok inputs) = status_of task inputs
+status_asked task (Ok inputs) = task_status task inputs
 
 -- what it asks for
 abbrev pub output_asked : Task → Result Inputs Status → Output

@@ -2,12 +2,12 @@
 use Rattle.std.specs.Prelude.{◌≡◌, ℕ, List, Option, Result}
 use Rattle.ass_io.specs.Fetched.{Told}
 use Rattle.input_files.specs.Inputs.{AreRead}
-use Rattle.input_files.specs.Laws.{AreTold, IsDecided}
+use Rattle.input_files.specs.Laws.{AreTold, IsReadDecided}
 use Rattle.input_files.specs.declared.inputs.Inputs.{Inputs}
 use Rattle.play_words.specs.declared.job.Job.{Job}
 use Rattle.run_status.specs.declared.status.Status.{Status}
 use Rattle.run_status.specs.declared.status.Status.TheVariants.{Done}
-use Rattle.frame_play.specs.Outcomes.{IsOrFault, IsOrMemory, IsOwn, IsReported, IsShown, status_in, text_in}
+use Rattle.frame_play.specs.Outcomes.{IsOrFault, IsOrMemory, IsOwn, IsReported, IsImageShown, outcome_status, text_in}
 use Rattle.frame_play.specs.Outputs.{output_asked, status_asked}
 use Rattle.frame_play.specs.declared.outcome.Outcome.{Outcome}
 
@@ -25,21 +25,21 @@ sunk held_before held_now faults_before faults_now = record { held_before = held
 pub record IsWorked (told : List ℕ → Told) (job : Job) (frames : Sunk) (outcome : Outcome) : Type 0 where
   pub reading : Result Inputs Status
   pub read : AreRead told job.script job.fonts reading
-  pub answered : IsOrFault job.task (status_asked job.task reading) (status_in outcome)
-  pub shown : IsShown (status_in outcome) frames.held_before frames.held_now (output_asked job.task reading).frames
-  pub text : status_in outcome ≡ Done → text_in outcome ≡ (output_asked job.task reading).report
+  pub answered : IsOrFault job.task (status_asked job.task reading) (outcome_status outcome)
+  pub shown : IsImageShown (outcome_status outcome) frames.held_before frames.held_now (output_asked job.task reading).frames
+  pub text : outcome_status outcome ≡ Done → text_in outcome ≡ (output_asked job.task reading).report
   pub own : IsOwn job.task outcome
 
 -- A run of a job. Its files are read with one answer, as far as it is told what they hold; that answer asks for the status, and for what the sinks get.
-pub record IsRun (told : List ℕ → Told) (job : Job) (frames report : Sunk) (status : Status) : Type 0 where
+pub record IsJobRun (told : List ℕ → Told) (job : Job) (frames report : Sunk) (status : Status) : Type 0 where
   pub reading : Result Inputs Status
   pub read : AreRead told job.script job.fonts reading
   pub answered : IsOrFault job.task (status_asked job.task reading) status
-  pub shown : IsShown status frames.held_before frames.held_now (output_asked job.task reading).frames
+  pub shown : IsImageShown status frames.held_before frames.held_now (output_asked job.task reading).frames
   pub reported : IsReported status report.held_before report.held_now report.faults_before report.faults_now (output_asked job.task reading).report
 
 -- Files that are all told of decide a run where no fault came: the answer that their reading asks for, or want of memory.
 abbrev pub Decides : (List ℕ → Told) → Job → Status → Type 0
 Decides told job status =
-    (reading : Result Inputs Status) → AreTold told job.script job.fonts → AreRead told job.script job.fonts reading → IsDecided reading →
+    (reading : Result Inputs Status) → AreTold told job.script job.fonts → AreRead told job.script job.fonts reading → IsReadDecided reading →
     IsOrMemory (status_asked job.task reading) status

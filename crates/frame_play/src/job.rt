@@ -2,8 +2,8 @@
 
 ghost use Rattle.std.specs.Prelude.{◌≡◌, ◌≢◌, Ok, string_bytes};
 ghost use Rattle.ass_script.specs.Ranges.{IsScript};
-ghost use Rattle.frame_play.specs.Outcomes.{IsOrFault, IsOwn, IsReadCounted, IsShown, IsShownOnce, IsWriteCounted, status_in, text_in};
-ghost use Rattle.frame_play.specs.Outputs.{output_of, status_of};
+ghost use Rattle.frame_play.specs.Outcomes.{IsOrFault, IsOwn, IsStatusReadCounted, IsImageShown, IsShownOnce, IsWriteCounted, outcome_status, text_in};
+ghost use Rattle.frame_play.specs.Outputs.{output_of, task_status};
 ghost use Rattle.frame_play.specs.Runs.{IsWorked, sunk};
 ghost use Rattle.play_words.specs.Words.{IsTask};
 ghost use Rattle.run_status.specs.declared.status.Status.TheVariants.{Done as done_status};
@@ -21,10 +21,10 @@ use std::alloc::Global;
 /// What a check is to report.
 fn check(alloc: Global, inputs: &Inputs) -> Outcome
     requires { IsScript inputs.now.script }
-    ensures answered { IsOrFault Task.Check (status_of Task.Check inputs.now) (status_in result) }
-    ensures text { status_in result ≡ done_status → text_in result ≡ (output_of Task.Check inputs.now).report }
+    ensures answered { IsOrFault Task.Check (task_status Task.Check inputs.now) (outcome_status result) }
+    ensures text { outcome_status result ≡ done_status → text_in result ≡ (output_of Task.Check inputs.now).report }
     ensures own { IsOwn Task.Check result }
-    ensures memory { status_in result ≢ done_status → result ≡ Outcome.Ended Status.OutOfMemory }
+    ensures memory { outcome_status result ≢ done_status → result ≡ Outcome.Ended Status.OutOfMemory }
 {
     match check_report(alloc, &inputs.script, inputs.fonts.as_slice()) {
         Ok(text) => Outcome::Found(text),
@@ -36,11 +36,11 @@ fn check(alloc: Global, inputs: &Inputs) -> Outcome
 fn do_task<F: Sink>(alloc: Global, task: &Task, inputs: &Inputs, frames: &mut F) -> Outcome
     requires task { IsTask task.now }
     requires script { IsScript inputs.now.script }
-    ensures answered { IsOrFault task.now (status_of task.now inputs.now) (status_in result) }
-    ensures shown { IsShown (status_in result) (F.held frames.old) (F.held frames.new) (output_of task.now inputs.now).frames }
-    ensures once { IsShownOnce task.now (status_in result) (F.puts frames.old) (F.puts frames.new) }
-    ensures counted { IsWriteCounted (status_in result) (F.faults frames.old) (F.faults frames.new) }
-    ensures text { status_in result ≡ done_status → text_in result ≡ (output_of task.now inputs.now).report }
+    ensures answered { IsOrFault task.now (task_status task.now inputs.now) (outcome_status result) }
+    ensures shown { IsImageShown (outcome_status result) (F.held frames.old) (F.held frames.new) (output_of task.now inputs.now).frames }
+    ensures once { IsShownOnce task.now (outcome_status result) (F.puts frames.old) (F.puts frames.new) }
+    ensures counted { IsWriteCounted (outcome_status result) (F.faults frames.old) (F.faults frames.new) }
+    ensures text { outcome_status result ≡ done_status → text_in result ≡ (output_of task.now inputs.now).report }
     ensures own { IsOwn task.now result }
 {
     match task {
@@ -60,9 +60,9 @@ fn do_task<F: Sink>(alloc: Global, task: &Task, inputs: &Inputs, frames: &mut F)
 pub fn do_job<S: Shelf, F: Sink>(alloc: Global, job: &Job, shelf: &mut S, frames: &mut F) -> Outcome
     requires { IsTask job.now.task }
     ensures run { IsWorked (S.told shelf.old) job.now (sunk (F.held frames.old) (F.held frames.new) (F.faults frames.old) (F.faults frames.new)) result }
-    ensures read { IsReadCounted (status_in result) (S.faults shelf.old) (S.faults shelf.new) }
-    ensures once { IsShownOnce job.now.task (status_in result) (F.puts frames.old) (F.puts frames.new) }
-    ensures write { IsWriteCounted (status_in result) (F.faults frames.old) (F.faults frames.new) }
+    ensures read { IsStatusReadCounted (outcome_status result) (S.faults shelf.old) (S.faults shelf.new) }
+    ensures once { IsShownOnce job.now.task (outcome_status result) (F.puts frames.old) (F.puts frames.new) }
+    ensures write { IsWriteCounted (outcome_status result) (F.faults frames.old) (F.faults frames.new) }
 {
     match read_inputs(alloc, shelf, &job.script, job.fonts.as_slice()) {
         Ok(inputs) => do_task(alloc, &job.task, &inputs, frames),

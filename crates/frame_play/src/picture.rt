@@ -3,7 +3,7 @@
 ghost use Rattle.std.specs.Prelude.{◌≡◌, ◌≤◌, ◌≢◌, ℕ, [], IfOk};
 ghost use Rattle.std.specs.Option.{option_map, option_map_or};
 ghost use Rattle.ass_script.specs.Ranges.{IsScript};
-ghost use Rattle.frame_play.specs.Outcomes.{IsOrFault, IsShown, IsShownOnce, IsWriteCounted};
+ghost use Rattle.frame_play.specs.Outcomes.{IsOrFault, IsImageShown, IsShownOnce, IsWriteCounted};
 ghost use Rattle.frame_play.specs.Outputs.{image_in, image_of, status_of_image};
 ghost use Rattle.play_words.specs.declared.job.Task.TheVariants.{Frame};
 
@@ -63,7 +63,7 @@ fn image_in(
 /// Puts an image to the frames sink.
 fn put_image<F: Sink>(image: &[u8], frames: &mut F) -> Status
     ensures answered { (at : ℕ) (size : Size) → IsOrFault (Frame at size) Status.Done result }
-    ensures shown { IsShown result (F.held frames.old) (F.held frames.new) image.now }
+    ensures shown { IsImageShown result (F.held frames.old) (F.held frames.new) image.now }
     ensures once { (at : ℕ) (size : Size) → IsShownOnce (Frame at size) result (F.puts frames.old) (F.puts frames.new) }
     ensures counted { IsWriteCounted result (F.faults frames.old) (F.faults frames.new) }
     ensures own { result ≢ Status.WriteFault Which.Report }
@@ -89,7 +89,7 @@ pub fn draw<F: Sink>(
     requires wide { size.now.w ≤ 4096 }
     requires high { size.now.h ≤ 4096 }
     ensures answered { IsOrFault (Frame at size.now) (status_of_image (image_in at size.now script.now fonts.now)) result }
-    ensures shown { IsShown result (F.held frames.old) (F.held frames.new) (option_map_or (λ image. image) (image_in at size.now script.now fonts.now) []) }
+    ensures shown { IsImageShown result (F.held frames.old) (F.held frames.new) (option_map_or (λ image. image) (image_in at size.now script.now fonts.now) []) }
     ensures once { IsShownOnce (Frame at size.now) result (F.puts frames.old) (F.puts frames.new) }
     ensures counted { IsWriteCounted result (F.faults frames.old) (F.faults frames.new) }
     ensures own { result ≢ Status.WriteFault Which.Report }

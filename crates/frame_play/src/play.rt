@@ -2,9 +2,9 @@
 
 ghost use Rattle.std.specs.Prelude.{◌≡◌, ◌⊎◌, [], IsSomeAnd};
 ghost use Rattle.ass_num.specs.Causes.{Rose};
-ghost use Rattle.frame_play.specs.Outcomes.{IsOrMemory, IsReadCounted, IsReportPut, IsReportable, IsReported, IsReportedOnce};
-ghost use Rattle.frame_play.specs.Outcomes.{IsShownOnce, IsWriteCounted, not_built, out_of_memory, status_in};
-ghost use Rattle.frame_play.specs.Runs.{Decides, IsRun, IsWorked, sunk};
+ghost use Rattle.frame_play.specs.Outcomes.{IsOrMemory, IsStatusReadCounted, IsReportPut, IsReportable, IsReported, IsReportedOnce};
+ghost use Rattle.frame_play.specs.Outcomes.{IsShownOnce, IsWriteCounted, not_built, out_of_memory, outcome_status};
+ghost use Rattle.frame_play.specs.Runs.{Decides, IsJobRun, IsWorked, sunk};
 ghost use Rattle.play_words.specs.Words.{Spells, SpellsNone, texts};
 
 use crate::job::do_job;
@@ -37,7 +37,7 @@ pub fn top<S: Shelf, F: Sink, R: Sink, G: Gate + Sync>(
     ensures other_once { SpellsNone (texts words.now) → IsReportPut not_built result (R.puts report.old) (R.puts report.new) }
 
     // The files are read in order, and what they hold asks for the answer and for what both sinks get.
-    ensures run { (job : Job) → Spells (texts words.now) job → IsRun (S.told shelf.old) job
+    ensures run { (job : Job) → Spells (texts words.now) job → IsJobRun (S.told shelf.old) job
         (sunk (F.held frames.old) (F.held frames.new) (F.faults frames.old) (F.faults frames.new))
         (sunk (R.held report.old) (R.held report.new) (R.faults report.old) (R.faults report.new)) result }
 
@@ -49,7 +49,7 @@ pub fn top<S: Shelf, F: Sink, R: Sink, G: Gate + Sync>(
         → Decides (S.told shelf.old) job result }
 
     // A fault is answered only where its object's count rose.
-    ensures read { IsReadCounted result (S.faults shelf.old) (S.faults shelf.new) }
+    ensures read { IsStatusReadCounted result (S.faults shelf.old) (S.faults shelf.new) }
     ensures write { IsWriteCounted result (F.faults frames.old) (F.faults frames.new) }
 
     // Each sink gets what it gets by one put.
@@ -81,7 +81,7 @@ pub fn calm<S: Shelf, F: Sink, R: Sink>(
     ensures other_once { SpellsNone (texts words.now) → IsSomeAnd result (λ status. IsReportPut not_built status (R.puts report.old) (R.puts report.new)) }
 
     // The files are read in order, and what they hold asks for the answer and for what both sinks get.
-    ensures run { (job : Job) → Spells (texts words.now) job → IsSomeAnd result (IsRun (S.told shelf.old) job
+    ensures run { (job : Job) → Spells (texts words.now) job → IsSomeAnd result (IsJobRun (S.told shelf.old) job
         (sunk (F.held frames.old) (F.held frames.new) (F.faults frames.old) (F.faults frames.new))
         (sunk (R.held report.old) (R.held report.new) (R.faults report.old) (R.faults report.new))) }
 
@@ -93,7 +93,7 @@ pub fn calm<S: Shelf, F: Sink, R: Sink>(
         → IsSomeAnd result (Decides (S.told shelf.old) job) }
 
     // A fault is answered only where its object's count rose.
-    ensures read { IsSomeAnd result (λ status. IsReadCounted status (S.faults shelf.old) (S.faults shelf.new)) }
+    ensures read { IsSomeAnd result (λ status. IsStatusReadCounted status (S.faults shelf.old) (S.faults shelf.new)) }
     ensures write { IsSomeAnd result (λ status. IsWriteCounted status (F.faults frames.old) (F.faults frames.new)) }
 
     // Each sink gets what it gets by one put.
@@ -119,10 +119,10 @@ fn do_words<S: Shelf, F: Sink>(
     ensures other_frames { SpellsNone (texts words.now) → frames.new ≡ frames.old }
     ensures run { (job : Job) → Spells (texts words.now) job → IsWorked (S.told shelf.old) job
         (sunk (F.held frames.old) (F.held frames.new) (F.faults frames.old) (F.faults frames.new)) result }
-    ensures read { IsReadCounted (status_in result) (S.faults shelf.old) (S.faults shelf.new) }
+    ensures read { IsStatusReadCounted (outcome_status result) (S.faults shelf.old) (S.faults shelf.new) }
     ensures once { (job : Job) → Spells (texts words.now) job
-        → IsShownOnce job.task (status_in result) (F.puts frames.old) (F.puts frames.new) }
-    ensures write { IsWriteCounted (status_in result) (F.faults frames.old) (F.faults frames.new) }
+        → IsShownOnce job.task (outcome_status result) (F.puts frames.old) (F.puts frames.new) }
+    ensures write { IsWriteCounted (outcome_status result) (F.faults frames.old) (F.faults frames.new) }
     ensures reportable { IsReportable result }
 {
     one_job();

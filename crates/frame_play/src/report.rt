@@ -4,7 +4,7 @@ ghost use Rattle.std.specs.Prelude.{◌≡◌, ◌≤◌};
 ghost use Rattle.ass_io.specs.Counts.{IsOneMore};
 ghost use Rattle.ass_io.specs.Written.{AppendsFront};
 ghost use Rattle.frame_play.specs.Outcomes.{IsEnded, IsReportable, IsReported, IsReportPut, text_in};
-ghost use Rattle.run_status.specs.Statuses.{line_of};
+ghost use Rattle.run_status.specs.Statuses.{status_line};
 
 use crate::outcome::Outcome;
 use ass_io::{Put, Sink};
@@ -43,7 +43,7 @@ pub fn finish<R: Sink>(alloc: Global, outcome: Outcome, report: &mut R) -> Statu
 /// Puts the line of a want of memory, or a front of it.
 fn give_up<R: Sink>(report: &mut R) -> Status
     ensures answer { result ≡ Status.OutOfMemory }
-    ensures report { AppendsFront (R.held report.old) (R.held report.new) (line_of Status.OutOfMemory) }
+    ensures report { AppendsFront (R.held report.old) (R.held report.new) (status_line Status.OutOfMemory) }
     ensures counted { R.faults report.old ≤ R.faults report.new }
     ensures once { IsOneMore (R.puts report.old) (R.puts report.new) }
 {

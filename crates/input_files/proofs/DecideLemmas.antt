@@ -3,8 +3,8 @@ use Rattle.std.proofs.Common.{◌≡◌, ◌≢◌, ℕ, ◌<◌, inl, inr, List
 use Rattle.std.proofs.lemmas.List.{same_lists}
 use Rattle.std.proofs.lemmas.Bool.{cases_order}
 use Rattle.ass_io.specs.Fetched.{Held, Told}
-use Rattle.ass_script.specs.Scripts.{PlainScript}
-use Rattle.bdf_font.specs.Fonts.{PlainFont}
+use Rattle.ass_script.specs.Scripts.{ScriptValue}
+use Rattle.bdf_font.specs.Fonts.{FontValue}
 use Rattle.bdf_font.specs.Laws.{OneAnswer}
 use Rattle.bdf_font.specs.Lines.{text_lines}
 use Rattle.run_status.specs.declared.status.Status.{Status}
@@ -13,10 +13,10 @@ use Rattle.input_files.specs.declared.inputs.Inputs.{Inputs}
 use Rattle.input_files.specs.Causes.{font_status, with_status}
 use Rattle.input_files.specs.Files.{Asks, AsksFont, AsksOf, AsksScript, FontAsked, IsAnswered}
 use Rattle.input_files.specs.Inputs.{AreFilesRead, AreFontsRead, IsFontRead, IsScriptRead}
-use Rattle.input_files.specs.Laws.{AreTold, FilesDecide, IsCause, IsDecided}
+use Rattle.input_files.specs.Laws.{AreTold, FilesDecide, IsCause, IsReadDecided}
 
 -- What is held asks for an answer that is decided.
-asked : {Value : Type 0} (asks : Asks Value) (held : Held) (name : List ℕ) (answer : Result Value Status) → IsDecided answer → IsAnswered asks (Some held) name answer → asks held answer
+asked : {Value : Type 0} (asks : Asks Value) (held : Held) (name : List ℕ) (answer : Result Value Status) → IsReadDecided answer → IsAnswered asks (Some held) name answer → asks held answer
 asked asks held name (Ok value) decided h = h
 asked asks held name (Err status.Done) decided h = absurd h
 asked asks held name (Err (status.NoSuchFile other)) decided h = h
@@ -42,49 +42,49 @@ asks_one asks name same (Some bytes) one other (inr h) (inr k) = h.1 ∙ sym k.1
 
 -- Two decided answers about one name are the same.
 answered_one : {Value : Type 0} (asks : Asks Value) → AsksOne asks → (told : Told) (name : List ℕ) (one other : Result Value Status) →
-    told ≢ None → IsDecided one → IsDecided other → IsAnswered asks told name one → IsAnswered asks told name other → one ≡ other
+    told ≢ None → IsReadDecided one → IsReadDecided other → IsAnswered asks told name one → IsAnswered asks told name other → one ≡ other
 answered_one asks unique None name one other known d e h k = absurd (known refl)
 answered_one asks unique (Some held) name one other known d e h k = unique held one other (asked asks held name one d h) (asked asks held name other e k)
 
-script_one : (told : List ℕ → Told) (name : List ℕ) (one other : Result PlainScript Status) → told name ≢ None →
-    IsDecided one → IsDecided other → IsScriptRead told name one → IsScriptRead told name other → one ≡ other
+script_one : (told : List ℕ → Told) (name : List ℕ) (one other : Result ScriptValue Status) → told name ≢ None →
+    IsReadDecided one → IsReadDecided other → IsScriptRead told name one → IsScriptRead told name other → one ≡ other
 script_one told name one other known d e h k =
     answered_one (AsksScript name) (asks_one _ name (λ bytes a b p q. p ∙ sym q)) (told name) name one other known d e h k
 
-same_font : OneAnswer → (index : ℕ) (bytes : List ℕ) (one other : Result PlainFont Status) → FontAsked index bytes one → FontAsked index bytes other → one ≡ other
+same_font : OneAnswer → (index : ℕ) (bytes : List ℕ) (one other : Result FontValue Status) → FontAsked index bytes one → FontAsked index bytes other → one ≡ other
 same_font law index bytes one other p q =
     let answer = law (text_lines bytes) in
     p.2 ∙ ap (with_status (font_status index)) (answer.2 p.0 p.1 ∙ sym (answer.2 q.0 q.1)) ∙ sym q.2
 
-font_one : OneAnswer → (told : List ℕ → Told) (names : List (List ℕ)) (index : ℕ) (one other : Result PlainFont Status) →
+font_one : OneAnswer → (told : List ℕ → Told) (names : List (List ℕ)) (index : ℕ) (one other : Result FontValue Status) →
     ((none : List ℕ) → told (slice_index_or names index none) ≢ None) →
-    IsDecided one → IsDecided other → IsFontRead told names index one → IsFontRead told names index other → one ≡ other
+    IsReadDecided one → IsReadDecided other → IsFontRead told names index one → IsFontRead told names index other → one ≡ other
 font_one law told names index one other known d e h k =
     let name = slice_index_or names index [] in
     answered_one (AsksFont index name) (asks_one (FontAsked index) name (same_font law index)) (told name) name one other (known []) d e (h []) (k [])
 
 -- Two lists of first fonts agree as far as both go.
 fonts_agree : OneAnswer → (told : List ℕ → Told) (names : List (List ℕ)) (index : ℕ) → ((none : List ℕ) → told (slice_index_or names index none) ≢ None) →
-    (one other : PlainFont) → IsFontRead told names index (Ok one) → IsFontRead told names index (Ok other) → one ≡ other
+    (one other : FontValue) → IsFontRead told names index (Ok one) → IsFontRead told names index (Ok other) → one ≡ other
 fonts_agree law told names index known one other h k = let same = font_one law told names index (Ok one) (Ok other) known tt tt h k in cc
 
 -- A font isn't both read and refused.
 not_both : OneAnswer → (told : List ℕ → Told) (names : List (List ℕ)) (index : ℕ) → ((none : List ℕ) → told (slice_index_or names index none) ≢ None) →
-    (font : PlainFont) (status : Status) → IsCause status → IsFontRead told names index (Ok font) → IsFontRead told names index (Err status) → ⊥
+    (font : FontValue) (status : Status) → IsCause status → IsFontRead told names index (Ok font) → IsFontRead told names index (Err status) → ⊥
 not_both law told names index known font status cause h k = let same = font_one law told names index (Ok font) (Err status) known tt cause h k in absurd cc
 
-no_font : PlainFont
+no_font : FontValue
 no_font = record { name = []; ascent = pos 0; descent = pos 0; default_char = None; glyphs = [] }
 
-abbrev inputs : PlainScript → List PlainFont → Inputs
+abbrev inputs : ScriptValue → List FontValue → Inputs
 inputs script fonts = record { script = script; fonts = fonts }
 
 abbrev AreNamesTold : (List ℕ → Told) → List (List ℕ) → Type 0
 AreNamesTold told names = (index : ℕ) (none : List ℕ) → index < length names → told (slice_index_or names index none) ≢ None
 
 -- Two decided answers about fonts are the same.
-fonts_one : OneAnswer → (told : List ℕ → Told) (names : List (List ℕ)) → AreNamesTold told names → (one other : Result (List PlainFont) Status) →
-    IsDecided one → IsDecided other → AreFontsRead told names one → AreFontsRead told names other → one ≡ other
+fonts_one : OneAnswer → (told : List ℕ → Told) (names : List (List ℕ)) → AreNamesTold told names → (one other : Result (List FontValue) Status) →
+    IsReadDecided one → IsReadDecided other → AreFontsRead told names one → AreFontsRead told names other → one ≡ other
 fonts_one law told names known (Ok one) (Ok other) d e h k =
     ap Ok (same_lists one other (h.0 ∙ sym k.0) (λ index none within.
     fonts_agree law told names index (λ name. known index name (omega (arith, h.0, within))) _ _ (h.1 index none within) (k.1 index none (omega (arith, h.0, k.0, within)))))
@@ -107,7 +107,7 @@ fonts_one law told names known (Err status) (Err cause) d e h k =
 
 -- Two decided answers about files are the same.
 read_one : OneAnswer → (told : List ℕ → Told) (script : List ℕ) (fonts : List (List ℕ)) (one other : Result Inputs Status) → AreTold told script fonts →
-    IsDecided one → IsDecided other → AreFilesRead told script fonts one → AreFilesRead told script fonts other → one ≡ other
+    IsReadDecided one → IsReadDecided other → AreFilesRead told script fonts one → AreFilesRead told script fonts other → one ≡ other
 read_one law told script fonts (Ok one) (Ok other) known d e h k =
     let scripts = script_one told script (Ok one.script) (Ok other.script) known.0 tt tt h.0 k.0 in
     let lists = fonts_one law told fonts known.1 (Ok one.fonts) (Ok other.fonts) tt tt h.1 k.1 in

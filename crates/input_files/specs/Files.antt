@@ -2,9 +2,9 @@
 use Rattle.std.specs.Prelude.{◌≡◌, ◌⊎◌, ℕ, ◌<◌, ◌≤◌, List, length, Some, None, Result, Ok, Err}
 use Rattle.ass_num.specs.Causes.{Rose, IfTold, file_limit}
 use Rattle.ass_io.specs.Fetched.{Held, Told}
-use Rattle.ass_script.specs.Scripts.{PlainScript, script_of}
-use Rattle.bdf_font.specs.Fonts.{PlainFont}
-use Rattle.bdf_font.specs.Grammar.{IsAnswer}
+use Rattle.ass_script.specs.Scripts.{ScriptValue, script_of}
+use Rattle.bdf_font.specs.Fonts.{FontValue}
+use Rattle.bdf_font.specs.Grammar.{IsFontAnswer}
 use Rattle.bdf_font.specs.Lines.{text_lines}
 use Rattle.bdf_font.specs.declared.cause.FontRefusal.{FontRefusal}
 use Rattle.run_status.specs.declared.status.Status.{Status}
@@ -25,14 +25,14 @@ AsksOf asks name (Some bytes) answer =
 abbrev pub AsksBytes : List ℕ → Asks (List ℕ)
 AsksBytes = AsksOf (λ bytes answer. answer ≡ Ok bytes)
 
-abbrev pub AsksScript : List ℕ → Asks PlainScript
+abbrev pub AsksScript : List ℕ → Asks ScriptValue
 AsksScript = AsksOf (λ bytes answer. answer ≡ with_status script_status (script_of bytes))
 
 -- What the bytes of a font ask for, whose place among the fonts is `index`.
-abbrev pub FontAsked : ℕ → List ℕ → Result PlainFont Status → Type 0
-FontAsked index bytes answer = (font : Result PlainFont FontRefusal) × IsAnswer (text_lines bytes) font × (answer ≡ with_status (font_status index) font)
+abbrev pub FontAsked : ℕ → List ℕ → Result FontValue Status → Type 0
+FontAsked index bytes answer = (font : Result FontValue FontRefusal) × IsFontAnswer (text_lines bytes) font × (answer ≡ with_status (font_status index) font)
 
-abbrev pub AsksFont : ℕ → List ℕ → Asks PlainFont
+abbrev pub AsksFont : ℕ → List ℕ → Asks FontValue
 AsksFont index = AsksOf (FontAsked index)
 
 -- What reading a file answers: a fault of this name, want of memory, or what the name holds asks for, where that is told. Nothing is done or written, and nothing is unbuilt.
@@ -45,6 +45,6 @@ IsAnswered asks told name (Err NotBuilt) = ⊥
 IsAnswered asks told name answer = IfTold told (λ held. asks held answer)
 
 -- The shelf's count rose where a file couldn't be read, and is as it was after any other answer.
-abbrev pub IsReadCounted : {Value : Type 0} → Result Value Status → ℕ → ℕ → Type 0
-IsReadCounted (Err (ReadFault _)) before now = Rose before now × (before ≤ now)
-IsReadCounted _ before now = now ≡ before
+abbrev pub IsAnswerReadCounted : {Value : Type 0} → Result Value Status → ℕ → ℕ → Type 0
+IsAnswerReadCounted (Err (ReadFault _)) before now = Rose before now × (before ≤ now)
+IsAnswerReadCounted _ before now = now ≡ before

@@ -17,12 +17,12 @@ IsCause OutOfMemory = ⊥
 IsCause _ = Unit {0}
 
 -- The answer is neither a fault nor want of memory.
-abbrev pub IsDecided : {Value : Type 0} → Result Value Status → Type 0
-IsDecided (Ok _) = Unit {0}
-IsDecided (Err status) = IsCause status
+abbrev pub IsReadDecided : {Value : Type 0} → Result Value Status → Type 0
+IsReadDecided (Ok _) = Unit {0}
+IsReadDecided (Err status) = IsCause status
 
 -- Where it is told what the names hold, two answers that are neither faults nor want of memory are the same.
 abbrev pub FilesDecide : Type 0
 FilesDecide =
     (told : List ℕ → Told) (script : List ℕ) (fonts : List (List ℕ)) (one other : Result Inputs Status) →
-    AreTold told script fonts → IsDecided one → IsDecided other → AreRead told script fonts one → AreRead told script fonts other → one ≡ other
+    AreTold told script fonts → IsReadDecided one → IsReadDecided other → AreRead told script fonts one → AreRead told script fonts other → one ≡ other

@@ -4,7 +4,7 @@ ghost use Rattle.std.specs.Prelude.{◌≡◌, ◌≤◌, IfOk, length};
 ghost use Rattle.ass_num.specs.Causes.{file_limit};
 ghost use Rattle.ass_script.specs.Ranges.{IsScript};
 ghost use Rattle.bdf_font.specs.Ranges.{IsFont};
-ghost use Rattle.input_files.specs.Files.{AsksBytes, AsksFont, AsksScript, IsAnswered, IsReadCounted};
+ghost use Rattle.input_files.specs.Files.{AsksBytes, AsksFont, AsksScript, IsAnswered, IsAnswerReadCounted};
 
 use crate::causes::{font_status, script_status};
 use ass_io::{FILE_LIMIT, Fetch, Shelf};
@@ -18,7 +18,7 @@ use std::alloc::Global;
 fn fetch_file<S: Shelf>(alloc: Global, shelf: &mut S, name: &Text) -> Result<Items<u8>, Status>
     ensures kept { S.told shelf.new ≡ S.told shelf.old }
     ensures read { IsAnswered (AsksBytes name.now) (S.told shelf.old name.now) name.now result }
-    ensures counted { IsReadCounted result (S.faults shelf.old) (S.faults shelf.new) }
+    ensures counted { IsAnswerReadCounted result (S.faults shelf.old) (S.faults shelf.new) }
     ensures short { IfOk result (λ bytes. length bytes ≤ file_limit) }
 {
     // The name is copied first, so that it is at hand whatever the shelf answers.
@@ -37,7 +37,7 @@ fn fetch_file<S: Shelf>(alloc: Global, shelf: &mut S, name: &Text) -> Result<Ite
 pub fn fetch_script<S: Shelf>(alloc: Global, shelf: &mut S, name: &Text) -> Result<Script, Status>
     ensures kept { S.told shelf.new ≡ S.told shelf.old }
     ensures read { IsAnswered (AsksScript name.now) (S.told shelf.old name.now) name.now result }
-    ensures counted { IsReadCounted result (S.faults shelf.old) (S.faults shelf.new) }
+    ensures counted { IsAnswerReadCounted result (S.faults shelf.old) (S.faults shelf.new) }
     ensures script { IfOk result IsScript }
 {
     let bytes = fetch_file(alloc, shelf, name)?;
@@ -56,7 +56,7 @@ pub fn fetch_font<S: Shelf>(
 ) -> Result<Font, Status>
     ensures kept { S.told shelf.new ≡ S.told shelf.old }
     ensures read { IsAnswered (AsksFont index name.now) (S.told shelf.old name.now) name.now result }
-    ensures counted { IsReadCounted result (S.faults shelf.old) (S.faults shelf.new) }
+    ensures counted { IsAnswerReadCounted result (S.faults shelf.old) (S.faults shelf.new) }
     ensures font { IfOk result IsFont }
 {
     let bytes = fetch_file(alloc, shelf, name)?;

@@ -3,7 +3,7 @@
 ghost use Rattle.std.specs.Prelude.{◌≡◌, ◌<◌, All, IfOk, length};
 ghost use Rattle.ass_script.specs.Ranges.{IsScript};
 ghost use Rattle.bdf_font.specs.Ranges.{IsFont};
-ghost use Rattle.input_files.specs.Files.{IsReadCounted};
+ghost use Rattle.input_files.specs.Files.{IsAnswerReadCounted};
 ghost use Rattle.input_files.specs.Inputs.{AreFilesRead, AreFontsRead, AreRead, IsFontRead};
 
 use crate::files::{fetch_font, fetch_script};
@@ -34,7 +34,7 @@ fn fetch_font_at<S: Shelf>(
     requires { index < length names.now }
     ensures kept { S.told shelf.new ≡ S.told shelf.old }
     ensures read { IsFontRead (S.told shelf.old) names.now index result }
-    ensures counted { IsReadCounted result (S.faults shelf.old) (S.faults shelf.new) }
+    ensures counted { IsAnswerReadCounted result (S.faults shelf.old) (S.faults shelf.new) }
     ensures font { IfOk result IsFont }
 {
     fetch_font(alloc, shelf, index, &names[index])
@@ -48,7 +48,7 @@ fn fetch_fonts<S: Shelf>(
 ) -> Result<Items<Font>, Status>
     ensures kept { S.told shelf.new ≡ S.told shelf.old }
     ensures read { AreFontsRead (S.told shelf.old) names.now result }
-    ensures counted { IsReadCounted result (S.faults shelf.old) (S.faults shelf.new) }
+    ensures counted { IsAnswerReadCounted result (S.faults shelf.old) (S.faults shelf.new) }
     ensures fonts { IfOk result (All IsFont) }
 {
     let mut fonts = Items::new(alloc);
@@ -71,7 +71,7 @@ fn fetch_files<S: Shelf>(
 ) -> Result<Inputs, Status>
     ensures kept { S.told shelf.new ≡ S.told shelf.old }
     ensures read { AreFilesRead (S.told shelf.old) script.now fonts.now result }
-    ensures counted { IsReadCounted result (S.faults shelf.old) (S.faults shelf.new) }
+    ensures counted { IsAnswerReadCounted result (S.faults shelf.old) (S.faults shelf.new) }
     ensures script { IfOk result (λ inputs. IsScript inputs.script) }
     ensures fonts { IfOk result (λ inputs. All IsFont inputs.fonts) }
 {
@@ -95,7 +95,7 @@ pub fn read_inputs<S: Shelf>(
 ) -> Result<Inputs, Status>
     ensures kept { S.told shelf.new ≡ S.told shelf.old }
     ensures read { AreRead (S.told shelf.old) script.now fonts.now result }
-    ensures counted { IsReadCounted result (S.faults shelf.old) (S.faults shelf.new) }
+    ensures counted { IsAnswerReadCounted result (S.faults shelf.old) (S.faults shelf.new) }
     ensures script { IfOk result (λ inputs. IsScript inputs.script) }
     ensures fonts { IfOk result (λ inputs. All IsFont inputs.fonts) }
 {

@@ -2,7 +2,7 @@
 
 ghost use Rattle.std.specs.Prelude.{◌^◌, ◌≤◌, length, pos, IsTrue};
 ghost use Rattle.std.specs.List.{All};
-ghost use Rattle.placement.specs.Placement.{AreInOrder, IsPlaceable, IsWithin};
+ghost use Rattle.placement.specs.Placement.{AreInOrder, IsPlaceableStand, IsBoxWithin};
 
 use crate::laps::Laps;
 use crate::stop::Stop;
@@ -33,7 +33,7 @@ fn stands_of(alloc: Global, count: u32, shown: u8) -> Mem<Vec<Stand>> {
 }
 
 fn is_near(b: &Box2) -> bool
-    ensures { IsTrue result → IsWithin (pos (2 ^ 20)) b.now }
+    ensures { IsTrue result → IsBoxWithin (pos (2 ^ 20)) b.now }
 {
     if b.left < -1_000_000 || b.left > 1_000_000 {
         return false;
@@ -51,7 +51,7 @@ fn is_near(b: &Box2) -> bool
 }
 
 fn is_placeable(s: &Stand) -> bool
-    ensures { IsTrue result → IsPlaceable s.now }
+    ensures { IsTrue result → IsPlaceableStand s.now }
 {
     is_near(&s.place)
 }
@@ -70,7 +70,7 @@ fn are_in_order(list: &[Stand]) -> bool
 /// Whether the list is one that `replay` takes.
 fn are_replayable(list: &[Stand]) -> bool
     ensures few { IsTrue result → length list.now ≤ 1000000 }
-    ensures placeable { IsTrue result → All IsPlaceable list.now }
+    ensures placeable { IsTrue result → All IsPlaceableStand list.now }
     ensures in_order { IsTrue result → AreInOrder list.now }
 {
     list.len() <= 1_000_000 && list.iter().all(|s| is_placeable(s)) && are_in_order(list)

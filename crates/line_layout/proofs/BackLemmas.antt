@@ -3,7 +3,7 @@ use Rattle.std.proofs.Common.{◌≡◌, ℕ, ℤ, ◌+◌, ◌-◌, ◌<◌, �
 use Rattle.std.proofs.lemmas.Bool.{cases_lt}
 use Rattle.std.proofs.lemmas.Int.{ints}
 use Rattle.std.proofs.lemmas.List.{reverse-append}
-use Rattle.line_layout.specs.Breaks.{IsParagraph, pen, IsPlace, LineFits, AreFrom, AllFit, IsAtMost}
+use Rattle.line_layout.specs.Breaks.{IsParagraph, pen, IsBreakPlace, LineFits, AreFrom, AllFit, IsAtMost}
 use Rattle.line_layout.specs.Filling.{line_start, line_end, IsOutermost}
 use Rattle.line_layout.proofs.PenLemmas.{pen-le}
 use Rattle.line_layout.proofs.PlaceLemmas.{places-le, place-index, start-at, before-start, from-start, end-place, end-last, end-within, start-le-end}
@@ -17,10 +17,10 @@ ends count (p ∷ places) = p
 -- a line that ends at `to` is broken at `p`, as early as it fits
 pub record IsEarliest (ws : List ℤ) (s : List ℕ) (limit : ℤ) (p to : ℕ) : Type 0 where
   pub needed : LineFits ws s limit 0 to → ⊥
-  pub place : IsPlace s p
+  pub place : IsBreakPlace s p
   pub before : p < to
   pub fits : LineFits ws s limit (p + 1) to
-  pub first : (other : ℕ) → IsPlace s other → other < p → LineFits ws s limit (other + 1) to → ⊥
+  pub first : (other : ℕ) → IsBreakPlace s other → other < p → LineFits ws s limit (other + 1) to → ⊥
 
 abbrev pub AreEarliest : List ℤ → List ℕ → ℤ → List ℕ → Type 0
 AreEarliest ws s limit [] = Unit {0}
@@ -126,7 +126,7 @@ Below (p ∷ places) (q ∷ others) = (p ≤ q) × Below places others
 -- the lines after the first place fit
 abbrev RestFit : List ℤ → List ℕ → ℤ → List ℕ → Type 0
 RestFit ws s limit [] = Unit {0}
-RestFit ws s limit (q ∷ others) = IsPlace s q × LineFits ws s limit (q + 1) (ends (length ws) others) × RestFit ws s limit others
+RestFit ws s limit (q ∷ others) = IsBreakPlace s q × LineFits ws s limit (q + 1) (ends (length ws) others) × RestFit ws s limit others
 
 rest-fit : (ws : List ℤ) (s : List ℕ) (limit : ℤ) (from : ℕ) (others : List ℕ) → AreFrom s from others → AllFit ws s limit from others → LineFits ws s limit from (ends (length ws) others) × RestFit ws s limit others
 rest-fit ws s limit from [] a h = (h, tt)

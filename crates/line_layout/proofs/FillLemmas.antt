@@ -2,7 +2,7 @@
 use Rattle.std.proofs.Common.{◌≡◌, ℕ, ℤ, ◌+◌, ◌<◌, ◌≤◌, ◌-ℤ◌, ◌<ℤ◌, ◌≤ℤ◌, true, List, [], ◌∷◌, ◌++◌, length, get_or, ◌⊎◌, inl, inr, refl, ap, arith, append_assoc, append-nil}
 use Rattle.std.proofs.lemmas.Bool.{cases_lt}
 use Rattle.std.proofs.lemmas.Int.{ints, by_lt_z}
-use Rattle.line_layout.specs.Breaks.{IsParagraph, pen, width, IsPlace, LineFits, AreFrom, AllFit, IsAtMost, IsLastWithin, IsFirstOfNone, IsNextBreak, AreFilled}
+use Rattle.line_layout.specs.Breaks.{IsParagraph, pen, width, IsBreakPlace, LineFits, AreFrom, AllFit, IsAtMost, IsLastWithin, IsFirstOfNone, IsNextBreak, AreFilled}
 use Rattle.line_layout.specs.Filling.{line_start, line_end, IsOutermost}
 use Rattle.line_layout.proofs.PenLemmas.{pen-le}
 use Rattle.line_layout.proofs.PlaceLemmas.{places-le, place-index, start-next, before-start, from-start, from-start-index, end-place, end-last, end-within}
@@ -25,7 +25,7 @@ pub record LineTo (ws : List ℤ) (s : List ℕ) (limit : ℤ) (first end : ℕ)
   pub narrow : first < end → (pen ws (line_end ws s end) -ℤ pen ws (line_start s first)) ≤ℤ limit
   pub last : end < length s → limit <ℤ (pen ws (line_end ws s (end + 1)) -ℤ pen ws (line_start s first))
 
-later_wide : (ws : List ℤ) (s : List ℕ) (limit : ℤ) (first end other : ℕ) → IsParagraph ws s → end < length s → LineTo ws s limit first end → IsPlace s other → get_or s end 0 < other → limit <ℤ width ws (line_start s first) other
+later_wide : (ws : List ℤ) (s : List ℕ) (limit : ℤ) (first end other : ℕ) → IsParagraph ws s → end < length s → LineTo ws s limit first end → IsBreakPlace s other → get_or s end 0 < other → limit <ℤ width ws (line_start s first) other
 later_wide ws s limit first end other g m t i h =
     let n = i.0 in
     let e = i.2 in
@@ -40,7 +40,7 @@ next_broken : (ws : List ℤ) (s : List ℕ) (limit : ℤ) (first end : ℕ) →
 next_broken ws s limit first end g m t =
     let from = line_start s first in
     let p = get_or s end 0 in
-    let later : (other : ℕ) → IsPlace s other → p < other → limit <ℤ width ws from other = λ other i h. later_wide ws s limit first end other g m t i h in
+    let later : (other : ℕ) → IsBreakPlace s other → p < other → limit <ℤ width ws from other = λ other i h. later_wide ws s limit first end other g m t i h in
     elim (cases_lt first end) [
       | inl l ↦
           let n = t.narrow l in
@@ -113,7 +113,7 @@ break-fits ws s limit from p b =
       | inr f ↦ inr (λ q i a h. let k = (f q i a).0 in omega (arith, h, k))
     ]
 
-break-last : (ws : List ℤ) (s : List ℕ) (limit : ℤ) (from p q : ℕ) → IsNextBreak ws s limit from p → IsPlace s q → p < q → LineFits ws s limit from q → ⊥
+break-last : (ws : List ℤ) (s : List ℕ) (limit : ℤ) (from p q : ℕ) → IsNextBreak ws s limit from p → IsBreakPlace s q → p < q → LineFits ws s limit from q → ⊥
 break-last ws s limit from p q b i l =
     let o = b.onward in
     let wide : limit <ℤ width ws from q =

@@ -2,7 +2,7 @@
 use Rattle.std.proofs.Common.{ℕ, ℤ, ◌+◌, ◌<◌, ◌≤◌, ◌<ℤ◌, ◌≤ℤ◌, List, [], ◌∷◌, length, get_or, inl, inr, arith}
 use Rattle.std.proofs.lemmas.Bool.{cases_lt}
 use Rattle.std.proofs.lemmas.Int.{ints, clamps}
-use Rattle.line_layout.specs.Breaks.{IsParagraph, width, IsPlace, IsUnbreakable, LineFits, AreFrom, AllFit, widest}
+use Rattle.line_layout.specs.Breaks.{IsParagraph, width, IsBreakPlace, IsUnbreakable, LineFits, AreFrom, AllFit, widest}
 use Rattle.line_layout.proofs.PenLemmas.{pen-le}
 
 pub width-le : (ws : List ℤ) (s : List ℕ) (a b from to : ℕ) → IsParagraph ws s → from ≤ a → b ≤ to → width ws a b ≤ℤ width ws from to
@@ -20,7 +20,7 @@ LineFits-wider ws s limit more from to l (inl h) = inl (omega (arith, ints, h, l
 LineFits-wider ws s limit more from to l (inr u) = inr u
 
 -- a line that is too wide and can be broken
-pub LineFits-not : (ws : List ℤ) (s : List ℕ) (limit : ℤ) (from to p : ℕ) → limit <ℤ width ws from to → IsPlace s p → from ≤ p → p < to → LineFits ws s limit from to → ⊥
+pub LineFits-not : (ws : List ℤ) (s : List ℕ) (limit : ℤ) (from to p : ℕ) → limit <ℤ width ws from to → IsBreakPlace s p → from ≤ p → p < to → LineFits ws s limit from to → ⊥
 LineFits-not ws s limit from to p h i f t (inl k) = omega (arith, ints, h, k)
 LineFits-not ws s limit from to p h i f t (inr u) = u p i f t
 

@@ -21,12 +21,12 @@ abbrev pub width : List ℤ → ℕ → ℕ → ℤ
 width widths from to = pen widths to -ℤ pen widths from
 
 -- The item is a break place.
-abbrev pub IsPlace : List ℕ → ℕ → Type 0
-IsPlace spaces place = (k : ℕ) × (k < length spaces) × (slice_index spaces k ≡ place)
+abbrev pub IsBreakPlace : List ℕ → ℕ → Type 0
+IsBreakPlace spaces place = (k : ℕ) × (k < length spaces) × (slice_index spaces k ≡ place)
 
 -- No break place lies in the line of the items from `from` up to `to`.
 abbrev pub IsUnbreakable : List ℕ → ℕ → ℕ → Type 0
-IsUnbreakable spaces from to = (place : ℕ) → IsPlace spaces place → from ≤ place → place < to → ⊥
+IsUnbreakable spaces from to = (place : ℕ) → IsBreakPlace spaces place → from ≤ place → place < to → ⊥
 
 -- The line fits: it is no wider than the limit, or it can't be broken.
 abbrev pub LineFits : List ℤ → List ℕ → ℤ → ℕ → ℕ → Type 0
@@ -35,7 +35,7 @@ LineFits widths spaces limit from to = (width widths from to ≤ℤ limit) ⊎ I
 -- The places are a set of break places, none before `from`.
 abbrev pub AreFrom : List ℕ → ℕ → List ℕ → Type 0
 AreFrom spaces from [] = Unit {0}
-AreFrom spaces from (p ∷ places) = IsPlace spaces p × (from ≤ p) × AreFrom spaces (p + 1) places
+AreFrom spaces from (p ∷ places) = IsBreakPlace spaces p × (from ≤ p) × AreFrom spaces (p + 1) places
 
 -- The places cut the items from `from` on into lines, which all fit. An item at which a line is broken belongs to no line.
 abbrev pub AllFit : List ℤ → List ℕ → ℤ → ℕ → List ℕ → Type 0
@@ -75,16 +75,16 @@ pub record IsBest (widths : List ℤ) (spaces : List ℕ) (max : ℤ) (greatest 
 -- `p` is the last break place up to which the line from `from` is no wider than the limit.
 pub record IsLastWithin (widths : List ℤ) (spaces : List ℕ) (limit : ℤ) (from p : ℕ) : Type 0 where
   pub narrow : width widths from p ≤ℤ limit
-  pub last : (other : ℕ) → IsPlace spaces other → p < other → limit <ℤ width widths from other
+  pub last : (other : ℕ) → IsBreakPlace spaces other → p < other → limit <ℤ width widths from other
 
 -- `p` is the first break place from `from` on, and there is none up to which the line is no wider than the limit.
 abbrev pub IsFirstOfNone : List ℤ → List ℕ → ℤ → ℕ → ℕ → Type 0
-IsFirstOfNone widths spaces limit from p = (other : ℕ) → IsPlace spaces other → from ≤ other → (p ≤ other) × (limit <ℤ width widths from other)
+IsFirstOfNone widths spaces limit from p = (other : ℕ) → IsBreakPlace spaces other → from ≤ other → (p ≤ other) × (limit <ℤ width widths from other)
 
 -- The items from `from` on don't fit in one line, and `p` is where the line is broken.
 pub record IsNextBreak (widths : List ℤ) (spaces : List ℕ) (limit : ℤ) (from p : ℕ) : Type 0 where
   pub needed : LineFits widths spaces limit from (length widths) → ⊥
-  pub place : IsPlace spaces p
+  pub place : IsBreakPlace spaces p
   pub onward : from ≤ p
   pub broken : IsLastWithin widths spaces limit from p ⊎ IsFirstOfNone widths spaces limit from p
 

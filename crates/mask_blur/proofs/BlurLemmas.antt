@@ -2,7 +2,7 @@
 use Rattle.std.proofs.Common.{◌≡◌, ℕ, ◌+◌, ◌*◌, ℤ, pos, ◌+ℤ◌, ◌-ℤ◌, true, List, ap, sym, ◌∙◌, arith}
 use Rattle.std.proofs.lemmas.Int.{ints}
 use Rattle.ass_num.specs.Coverage.{sum_from}
-use Rattle.ass_num.specs.Masks.{PlainMask, is_mask, value_at}
+use Rattle.ass_num.specs.Masks.{MaskValue, is_mask, value_at}
 use Rattle.mask_blur.specs.Blur.{smoothed, along_rows, along_columns, blurred, IsBlurred}
 use Rattle.mask_blur.specs.Shown.{Shows}
 use Rattle.mask_blur.proofs.GrowthLemmas.{value_none, mask_none, mask_some, box_kept, box_same, box_grown, grown_value}
@@ -32,18 +32,18 @@ blurred_alone f x y =
     columns (along_columns 0 (along_columns 0 along)) ∙ columns (along_columns 0 along) ∙ columns along ∙ rows (along_rows 0 (along_rows 0 f)) ∙ rows (along_rows 0 f) ∙ rows f
 
 -- a mask without pixels stays
-pub none_blurred : (r : ℕ) (m : PlainMask) → is_mask m ≡ true → m.w ≡ 0 → IsBlurred r m m
+pub none_blurred : (r : ℕ) (m : MaskValue) → is_mask m ≡ true → m.w ≡ 0 → IsBlurred r m m
 none_blurred r m canonical narrow = record {
   value = λ x y. value_none m narrow x y ∙ sym (blurred_zero r (value_at m) (value_none m narrow) x y);
   box = box_kept (3 * r) m (mask_none m canonical narrow);
 }
 
 -- and so does any with the radius 0
-pub same_blurred : (r : ℕ) (m : PlainMask) → r ≡ 0 → IsBlurred r m m
+pub same_blurred : (r : ℕ) (m : MaskValue) → r ≡ 0 → IsBlurred r m m
 same_blurred r m none = rw none (record { value = λ x y. sym (blurred_alone (value_at m) x y); box = box_same m })
 
 -- the mask of the blurred bytes
-pub is_blurred : (r : ℕ) (m : PlainMask) (x y : ℤ) (w h : ℕ) (bytes : List ℕ) → is_mask m ≡ true → (m.w ≡ 0 → ⊥)
+pub is_blurred : (r : ℕ) (m : MaskValue) (x y : ℤ) (w h : ℕ) (bytes : List ℕ) → is_mask m ≡ true → (m.w ≡ 0 → ⊥)
     → x ≡ m.x -ℤ pos (3 * r) → y ≡ m.y -ℤ pos (3 * r) → w ≡ m.w + 2 * (3 * r) → h ≡ m.h + 2 * (3 * r)
     → Shows (blurred r (value_at m)) (m.x -ℤ pos (3 * r)) (m.y -ℤ pos (3 * r)) (m.w + 2 * (3 * r)) (m.h + 2 * (3 * r)) bytes
     → IsBlurred r m (record { x = x; y = y; w = w; h = h; bytes = bytes })

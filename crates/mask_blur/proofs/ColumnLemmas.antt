@@ -2,7 +2,7 @@
 use Rattle.std.proofs.Common.{◌≡◌, ℕ, ◌+◌, ◌*◌, ◌<◌, ◌≤◌, ℤ, pos, ◌+ℤ◌, ◌-ℤ◌, get_or, ap, arith}
 use Rattle.std.proofs.lemmas.Int.{ints}
 use Rattle.ass_num.specs.Coverage.{sum_from}
-use Rattle.ass_num.specs.Masks.{PlainMask, value_at}
+use Rattle.ass_num.specs.Masks.{MaskValue, value_at}
 use Rattle.mask_blur.specs.Blur.{mean, smoothed}
 use Rattle.mask_blur.specs.Lines.{IsZeroBeside}
 use Rattle.mask_blur.proofs.MaskLemmas.{value_small}
@@ -26,7 +26,7 @@ pub column_step : (g : ℤ → ℕ) (y : ℤ) (k width sum enters leaves : ℕ) 
 column_step g y k width sum enters leaves is e l = omega (arith, sums_next g y k width)
 
 -- a running sum of bytes is small, before and after a step
-pub column_bounds : (m : PlainMask) (i k width sum enters leaves : ℕ) → ((j : ℕ) → get_or m.bytes j 0 < 256)
+pub column_bounds : (m : MaskValue) (i k width sum enters leaves : ℕ) → ((j : ℕ) → get_or m.bytes j 0 < 256)
     → sum ≡ sum_from (value_at m (pos 0 +ℤ pos i)) ((pos 0 +ℤ pos k) -ℤ pos width) width
     → enters ≡ value_at m (pos 0 +ℤ pos i) ((pos 0 +ℤ pos k) -ℤ pos 0) → leaves ≡ value_at m (pos 0 +ℤ pos i) ((pos 0 +ℤ pos k) -ℤ pos width)
     → (leaves ≤ sum + enters) × (sum + enters ≤ 255 * width + leaves)

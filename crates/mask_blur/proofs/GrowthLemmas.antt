@@ -6,7 +6,7 @@ use Rattle.std.proofs.lemmas.Int.{ints, by_lt_z}
 use Rattle.std.proofs.lemmas.Nat.{mul-lt}
 use Rattle.std.specs.Ordering.{int_eq}
 use Rattle.ass_num.specs.Coverage.{box_of}
-use Rattle.ass_num.specs.Masks.{PlainMask, is_mask, value_at}
+use Rattle.ass_num.specs.Masks.{MaskValue, is_mask, value_at}
 use Rattle.mask_blur.specs.Growth.{grown_box}
 use Rattle.mask_blur.specs.Shown.{Shows}
 use Rattle.mask_blur.proofs.MaskLemmas.{mask_shows}
@@ -36,7 +36,7 @@ shows_same f g x y w h bytes a b u v =
         ∙ b.inside.cells column.0 row.0 (omega (arith, ints, column.1)) (omega (arith, ints, row.1)))
 
 -- the values of a mask whose bytes show a picture
-pub shown_value : (g : ℤ → ℤ → ℕ) (m : PlainMask) → Shows g m.x m.y m.w m.h m.bytes → (u v : ℤ) → value_at m u v ≡ g u v
+pub shown_value : (g : ℤ → ℤ → ℕ) (m : MaskValue) → Shows g m.x m.y m.w m.h m.bytes → (u v : ℤ) → value_at m u v ≡ g u v
 shown_value g m shows = shows_same (value_at m) g m.x m.y m.w m.h m.bytes (mask_shows m) shows
 
 -- a box of bytes with a pixel makes a mask
@@ -48,7 +48,7 @@ mask_ok x y w h bytes count a b =
     rw (same, full) refl
 
 -- a mask with a column has a pixel
-pub mask_some : (m : PlainMask) → is_mask m ≡ true → (m.w ≡ 0 → ⊥) → eqb (length m.bytes) 0 ≡ false
+pub mask_some : (m : MaskValue) → is_mask m ≡ true → (m.w ≡ 0 → ⊥) → eqb (length m.bytes) 0 ≡ false
 mask_some m canonical wide = by_test (eqb (length m.bytes) 0) (and_parts (eqb (length m.bytes) (m.w * m.h)) _ canonical).1
   where
     by_test : (b : Bool) → (not b || (int_eq m.x (pos 0) && (int_eq m.y (pos 0) && (eqb m.w 0 && eqb m.h 0)))) ≡ true → b ≡ false
@@ -59,19 +59,19 @@ mask_some m canonical wide = by_test (eqb (length m.bytes) 0) (and_parts (eqb (l
     by_test false h = refl
 
 -- a mask without a column has no pixel
-pub mask_none : (m : PlainMask) → is_mask m ≡ true → m.w ≡ 0 → eqb (length m.bytes) 0 ≡ true
+pub mask_none : (m : MaskValue) → is_mask m ≡ true → m.w ≡ 0 → eqb (length m.bytes) 0 ≡ true
 mask_none m canonical narrow =
     let count : length m.bytes ≡ m.w * m.h = eqb-true (length m.bytes) (m.w * m.h) (and_parts _ _ canonical).0 in
     let none : length m.bytes ≡ 0 = omega (arith, count, ap (λ n. n * m.h) narrow) in
     rw none refl
 
-pub value_none : (m : PlainMask) → m.w ≡ 0 → (x y : ℤ) → value_at m x y ≡ 0
+pub value_none : (m : MaskValue) → m.w ≡ 0 → (x y : ℤ) → value_at m x y ≡ 0
 value_none m narrow x y = by_lt_z x m.x (λ out. ((mask_shows m).outside.rows y).before x out) (λ behind. ((mask_shows m).outside.rows y).behind x (omega (arith, ints, narrow)))
 
-pub box_kept : (k : ℕ) (m : PlainMask) → eqb (length m.bytes) 0 ≡ true → box_of m ≡ grown_box k m
+pub box_kept : (k : ℕ) (m : MaskValue) → eqb (length m.bytes) 0 ≡ true → box_of m ≡ grown_box k m
 box_kept k m none = rw none refl
 
-pub box_same : (m : PlainMask) → box_of m ≡ grown_box 0 m
+pub box_same : (m : MaskValue) → box_of m ≡ grown_box 0 m
 box_same m =
     let x : m.x +ℤ pos 0 ≡ m.x = omega (arith, ints) in
     let y : m.y +ℤ pos 0 ≡ m.y = omega (arith, ints) in
@@ -84,13 +84,13 @@ box_same m =
     by_test true x y w h = refl
     by_test false x y w h = rw (x, y, w, h) refl
 
-pub box_grown : (k : ℕ) (m : PlainMask) (x y : ℤ) (w h : ℕ) (bytes : List ℕ) → eqb (length m.bytes) 0 ≡ false
+pub box_grown : (k : ℕ) (m : MaskValue) (x y : ℤ) (w h : ℕ) (bytes : List ℕ) → eqb (length m.bytes) 0 ≡ false
     → x ≡ m.x -ℤ pos k → y ≡ m.y -ℤ pos k → w ≡ m.w + 2 * k → h ≡ m.h + 2 * k
     → box_of (record { x = x; y = y; w = w; h = h; bytes = bytes }) ≡ grown_box k m
 box_grown k m x y w h bytes some a b c d = rw (some, a, b, c, d) refl
 
 -- the mask of the bytes of a grown box that show a picture
-pub grown_value : (g : ℤ → ℤ → ℕ) (k : ℕ) (m : PlainMask) (x y : ℤ) (w h : ℕ) (bytes : List ℕ)
+pub grown_value : (g : ℤ → ℤ → ℕ) (k : ℕ) (m : MaskValue) (x y : ℤ) (w h : ℕ) (bytes : List ℕ)
     → x ≡ m.x -ℤ pos k → y ≡ m.y -ℤ pos k → w ≡ m.w + 2 * k → h ≡ m.h + 2 * k
     → Shows g (m.x -ℤ pos k) (m.y -ℤ pos k) (m.w + 2 * k) (m.h + 2 * k) bytes
     → (u v : ℤ) → value_at (record { x = x; y = y; w = w; h = h; bytes = bytes }) u v ≡ g u v

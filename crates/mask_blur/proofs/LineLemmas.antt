@@ -6,25 +6,25 @@ use Rattle.std.proofs.lemmas.List.{get_or_past, get_or-replicate, length-replica
 use borrow.Rule.Slice.PartMut.{put_mid}
 use Rattle.ass_num.specs.Coverage.{sum_from}
 use Rattle.mask_blur.specs.Blur.{mean, smoothed}
-use Rattle.mask_blur.specs.Lines.{line_of, Lays, IsZeroBeside, IsPadded}
+use Rattle.mask_blur.specs.Lines.{line_values, Lays, IsZeroBeside, IsPadded}
 use Rattle.mask_blur.proofs.SumLemmas.{sum_from-same, sum_from-next, sum_from-zero, sum_from-bound}
 use Rattle.mask_blur.proofs.MeanLemmas.{mean-zero}
 use Rattle.mask_blur.proofs.PutLemmas.{put_below, put_inside, put_behind, length-put}
 
 -- ---- the running sum of a list
 
-pub line_start : (line : List ℕ) (n : ℕ) → ((k : ℕ) → k < n → get_or line k 0 ≡ 0) → sum_from (line_of line) (pos 0) n ≡ 0
-line_start line n zeros = sum_from-zero (line_of line) (pos 0) n (λ k h. let at : 0 + k ≡ k = omega arith in rw at (zeros k h))
+pub line_start : (line : List ℕ) (n : ℕ) → ((k : ℕ) → k < n → get_or line k 0 ≡ 0) → sum_from (line_values line) (pos 0) n ≡ 0
+line_start line n zeros = sum_from-zero (line_values line) (pos 0) n (λ k h. let at : 0 + k ≡ k = omega arith in rw at (zeros k h))
 
-line_next : (line : List ℕ) (k n : ℕ) → sum_from (line_of line) (pos (k + 1)) n + get_or line k 0 ≡ sum_from (line_of line) (pos k) n + get_or line (k + n) 0
-line_next line k n = sum_from-next (line_of line) (pos k) n
+line_next : (line : List ℕ) (k n : ℕ) → sum_from (line_values line) (pos (k + 1)) n + get_or line k 0 ≡ sum_from (line_values line) (pos k) n + get_or line (k + n) 0
+line_next line k n = sum_from-next (line_values line) (pos k) n
 
-pub line_bound : (line : List ℕ) (k n : ℕ) → ((j : ℕ) → get_or line j 0 < 256) → sum_from (line_of line) (pos k) n ≤ 255 * n
-line_bound line k n bytes = sum_from-bound (line_of line) (pos k) n 255 (λ j h. omega (arith, bytes (k + j)))
+pub line_bound : (line : List ℕ) (k n : ℕ) → ((j : ℕ) → get_or line j 0 < 256) → sum_from (line_values line) (pos k) n ≤ 255 * n
+line_bound line k n bytes = sum_from-bound (line_values line) (pos k) n 255 (λ j h. omega (arith, bytes (k + j)))
 
-pub line_step : (line : List ℕ) (r k sum enters leaves : ℕ) → sum ≡ sum_from (line_of line) (pos k) (2 * r + 1)
+pub line_step : (line : List ℕ) (r k sum enters leaves : ℕ) → sum ≡ sum_from (line_values line) (pos k) (2 * r + 1)
     → enters ≡ get_or line (k + (2 * r + 1)) 0 → leaves ≡ get_or line k 0
-    → (leaves ≤ sum + enters) × (sum + enters - leaves ≡ sum_from (line_of line) (pos (k + 1)) (2 * r + 1))
+    → (leaves ≤ sum + enters) × (sum + enters - leaves ≡ sum_from (line_values line) (pos (k + 1)) (2 * r + 1))
 line_step line r k sum enters leaves is e l = let next = line_next line k (2 * r + 1) in (omega arith, omega arith)
 
 pub smoothed_behind : (f : ℤ → ℕ) (r k : ℕ) → smoothed r f (pos (r + 1) +ℤ pos k) ≡ mean r (sum_from f (pos (k + 1)) (2 * r + 1))
@@ -51,7 +51,7 @@ pub record Holds (f : ℤ → ℕ) (at : ℤ) (start n : ℕ) (xs : List ℕ) : 
   pub inside : (k : ℕ) → k < n → get_or xs (start + k) 0 ≡ f (at +ℤ pos k)
   pub beside : IsZeroBeside f at n
 
-line_is : (f : ℤ → ℕ) (at : ℤ) (start n : ℕ) (xs : List ℕ) → Holds f at start n xs → (z : ℤ) → line_of xs z ≡ f ((at -ℤ pos start) +ℤ z)
+line_is : (f : ℤ → ℕ) (at : ℤ) (start n : ℕ) (xs : List ℕ) → Holds f at start n xs → (z : ℤ) → line_values xs z ≡ f ((at -ℤ pos start) +ℤ z)
 line_is f at start n xs holds (pos t) = ⊎_elim
     (λ (front : t < start). holds.padded.before t front ∙ sym (holds.beside.before ((at -ℤ pos start) +ℤ pos t) (omega (arith, ints))))
     (λ (past : start ≤ t). ⊎_elim
@@ -66,21 +66,21 @@ line_is f at start n xs holds (negsuc t) = sym (holds.beside.before ((at -ℤ po
 
 -- the means along the list are those along the line
 line_smoothed : (r : ℕ) (f : ℤ → ℕ) (at : ℤ) (start n : ℕ) (xs : List ℕ) → Holds f at start n xs
-    → (z to : ℤ) → (at -ℤ pos start) +ℤ z ≡ to → smoothed r (line_of xs) z ≡ smoothed r f to
-line_smoothed r f at start n xs holds z to place = ap (mean r) (sum_from-same (line_of xs) f (z -ℤ pos r) (to -ℤ pos r) (2 * r + 1)
+    → (z to : ℤ) → (at -ℤ pos start) +ℤ z ≡ to → smoothed r (line_values xs) z ≡ smoothed r f to
+line_smoothed r f at start n xs holds z to place = ap (mean r) (sum_from-same (line_values xs) f (z -ℤ pos r) (to -ℤ pos r) (2 * r + 1)
     (λ k h.
     let here : (at -ℤ pos start) +ℤ ((z -ℤ pos r) +ℤ pos k) ≡ (to -ℤ pos r) +ℤ pos k = omega (arith, ints) in
     line_is f at start n xs holds ((z -ℤ pos r) +ℤ pos k) ∙ ap f here))
 
 -- what a pass writes
 pub pass_lays : (r : ℕ) (f : ℤ → ℕ) (at : ℤ) (start n : ℕ) (line out : List ℕ) → start ≡ 2 * r + 1 → Holds f at start n line
-    → Lays (smoothed r (line_of line)) (pos (r + 1)) out → Lays (smoothed r f) (at -ℤ pos r) out
+    → Lays (smoothed r (line_values line)) (pos (r + 1)) out → Lays (smoothed r f) (at -ℤ pos r) out
 pass_lays r f at start n line out width holds lays = λ k h.
     lays k h ∙ line_smoothed r f at start n line holds (pos (r + 1) +ℤ pos k) ((at -ℤ pos r) +ℤ pos k) (omega (arith, ints))
 
 -- a list after a pass was written into it
 pub pass_holds : (r : ℕ) (f : ℤ → ℕ) (at : ℤ) (start n count : ℕ) (line out xs : List ℕ) → start ≡ 2 * r + 1 → Holds f at start n line
-    → Lays (smoothed r (line_of line)) (pos (r + 1)) out → length out ≡ n + 2 * r → count ≡ n + 2 * r → start + count ≤ length xs → IsPadded (2 * r + 1) (n + 2 * r) xs
+    → Lays (smoothed r (line_values line)) (pos (r + 1)) out → length out ≡ n + 2 * r → count ≡ n + 2 * r → start + count ≤ length xs → IsPadded (2 * r + 1) (n + 2 * r) xs
     → Holds (smoothed r f) (at -ℤ pos r) start (n + 2 * r) (put_mid start count xs out)
 pass_holds r f at start n count line out xs width holds lays long same fits padded = record {
   padded = record {

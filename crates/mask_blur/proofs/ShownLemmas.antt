@@ -6,19 +6,19 @@ use Rattle.std.proofs.lemmas.Nat.{mul-le}
 use borrow.Rule.Slice.PartMut.{put_mid}
 use Rattle.mask_blur.specs.Blur.{along_rows, along_columns}
 use Rattle.mask_blur.specs.Lines.{Lays}
-use Rattle.mask_blur.specs.Shown.{HasRows, IsBoxed, Shows}
-use Rattle.mask_blur.specs.Softening.{weighted, softer}
+use Rattle.mask_blur.specs.Shown.{HasMaskRows, IsBoxed, Shows}
+use Rattle.mask_blur.specs.Softening.{neighbour_sum, softer}
 use Rattle.mask_blur.proofs.LineLemmas.{smoothed_zero, smoothed_beside}
 use Rattle.mask_blur.proofs.PutLemmas.{put_below, put_inside}
 
 -- no rows
-pub rows_none : (f : ℤ → ℤ → ℕ) (x y : ℤ) (w : ℕ) (bytes : List ℕ) → HasRows f x y w 0 bytes
+pub rows_none : (f : ℤ → ℤ → ℕ) (x y : ℤ) (w : ℕ) (bytes : List ℕ) → HasMaskRows f x y w 0 bytes
 rows_none f x y w bytes = record { cells = λ i j a b. absurd (omega arith) }
 
 -- one row more
-pub rows_more : (f : ℤ → ℤ → ℕ) (x y v : ℤ) (w k start count : ℕ) (bytes row : List ℕ) → HasRows f x y w k bytes → v ≡ y +ℤ pos k
+pub rows_more : (f : ℤ → ℤ → ℕ) (x y v : ℤ) (w k start count : ℕ) (bytes row : List ℕ) → HasMaskRows f x y w k bytes → v ≡ y +ℤ pos k
     → start ≡ k * w → start + w ≤ length bytes → length row ≡ w → Lays (λ u. f u v) x row
-    → HasRows f x y w (k + 1) (put_mid start count bytes row)
+    → HasMaskRows f x y w (k + 1) (put_mid start count bytes row)
 rows_more f x y v w k start count bytes row has place at fits long lays = record {
   cells = λ i j a b. ⊎_elim
       (λ (above : j < k).
@@ -53,7 +53,7 @@ softer_boxed f x y w h none = record {
         let left = zeros (u -ℤ pos 1) j (omega (arith, ints), omega (arith, ints)) b in
         let here = zeros u j (omega (arith, ints), omega (arith, ints)) b in
         let right = zeros (u +ℤ pos 1) j (omega (arith, ints), omega (arith, ints)) b in
-        let sum : weighted (λ i. f i j) u ≡ 0 = omega arith in sum in
+        let sum : neighbour_sum (λ i. f i j) u ≡ 0 = omega arith in sum in
         let above = row (v -ℤ pos 1) (omega (arith, ints), omega (arith, ints)) in
         let middle = row v (omega (arith, ints), omega (arith, ints)) in
         let below = row (v +ℤ pos 1) (omega (arith, ints), omega (arith, ints)) in

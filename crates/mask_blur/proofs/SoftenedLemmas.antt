@@ -1,7 +1,7 @@
 -- Passes of softening, one after another.
 use Rattle.std.proofs.Common.{◌≡◌, ℕ, zero, suc, ◌+◌, ◌*◌, ℤ, pos, ◌+ℤ◌, ◌-ℤ◌, true, List, add-one, refl, ap, subst, sym, ◌∙◌, arith}
 use Rattle.std.proofs.lemmas.Int.{ints}
-use Rattle.ass_num.specs.Masks.{PlainMask, is_mask, value_at}
+use Rattle.ass_num.specs.Masks.{MaskValue, is_mask, value_at}
 use Rattle.mask_blur.specs.Shown.{Shows}
 use Rattle.mask_blur.specs.Softening.{softer, softened, IsSoftened}
 use Rattle.mask_blur.proofs.GrowthLemmas.{value_none, mask_none, mask_some, box_kept, box_same, box_grown, grown_value}
@@ -60,19 +60,19 @@ softened_zero f (suc n) none x y =
     )
 
 -- a mask without pixels stays
-pub none_softened : (n : ℕ) (m : PlainMask) → is_mask m ≡ true → m.w ≡ 0 → IsSoftened n m m
+pub none_softened : (n : ℕ) (m : MaskValue) → is_mask m ≡ true → m.w ≡ 0 → IsSoftened n m m
 none_softened n m canonical narrow = record {
   value = λ x y. value_none m narrow x y ∙ sym (softened_zero (value_at m) n (value_none m narrow) x y);
   box = box_kept n m (mask_none m canonical narrow);
 }
 
 -- and so does any without a pass
-pub same_softened : (n : ℕ) (m : PlainMask) → n ≡ 0 → IsSoftened n m m
+pub same_softened : (n : ℕ) (m : MaskValue) → n ≡ 0 → IsSoftened n m m
 unfolding softened
 same_softened n m none = rw none (record { value = λ x y. refl; box = box_same m })
 
 -- the mask of the softened bytes
-pub is_softened : (n : ℕ) (m : PlainMask) (x y : ℤ) (w h : ℕ) (bytes : List ℕ) → is_mask m ≡ true → (m.w ≡ 0 → ⊥)
+pub is_softened : (n : ℕ) (m : MaskValue) (x y : ℤ) (w h : ℕ) (bytes : List ℕ) → is_mask m ≡ true → (m.w ≡ 0 → ⊥)
     → x ≡ m.x -ℤ pos n → y ≡ m.y -ℤ pos n → w ≡ m.w + 2 * n → h ≡ m.h + 2 * n
     → Shows (softened n (value_at m)) (m.x -ℤ pos n) (m.y -ℤ pos n) (m.w + 2 * n) (m.h + 2 * n) bytes
     → IsSoftened n m (record { x = x; y = y; w = w; h = h; bytes = bytes })

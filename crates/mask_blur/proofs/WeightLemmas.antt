@@ -3,7 +3,7 @@ use Rattle.std.proofs.Common.{◌≡◌, ℕ, ◌+◌, ◌-◌, ◌*◌, ◌/◌
 use Rattle.std.proofs.lemmas.Bool.{cases_lt}
 use Rattle.std.proofs.lemmas.Int.{ints}
 use Rattle.mask_blur.specs.Lines.{Lays, IsZeroBeside}
-use Rattle.mask_blur.specs.Softening.{weighted, softer}
+use Rattle.mask_blur.specs.Softening.{neighbour_sum, softer}
 
 -- three kinds of places: the two in front, those of w columns, and those behind
 by_place : {P : Type 0} (w t : ℕ) → (t < 2 → P) → ((j : ℕ) → t ≡ j + 2 → j < w → P) → (w + 2 ≤ t → P) → P
@@ -31,7 +31,7 @@ sums_line : (sums above middle below : List ℕ) (w : ℕ) (f : ℤ → ℤ → 
     → ((k : ℕ) → k < w → get_or above k 0 ≡ f (x +ℤ pos k) (y -ℤ pos 1))
     → ((k : ℕ) → k < w → get_or middle k 0 ≡ f (x +ℤ pos k) y)
     → ((k : ℕ) → k < w → get_or below k 0 ≡ f (x +ℤ pos k) (y +ℤ pos 1))
-    → (t : ℕ) (u : ℤ) → u ≡ (x -ℤ pos 2) +ℤ pos t → get_or sums t 0 ≡ weighted (f u) y
+    → (t : ℕ) (u : ℤ) → u ≡ (x -ℤ pos 2) +ℤ pos t → get_or sums t 0 ≡ neighbour_sum (f u) y
 sums_line sums above middle below w f x y are zero a m b t u place = by_place w t
     (λ (front : t < 2).
     let out = λ (v : ℤ). (zero v).before u (omega (arith, ints)) in

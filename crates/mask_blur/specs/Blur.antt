@@ -1,7 +1,7 @@
 -- The box blur: every value of a picture becomes the mean of those around it, three times along its row and three times along its column.
 use Rattle.std.specs.Prelude.{◌≡◌, ℕ, ℤ, pos, ◌+◌, ◌*◌, ◌/◌, ◌-ℤ◌}
 use Rattle.ass_num.specs.Coverage.{sum_from, box_of}
-use Rattle.ass_num.specs.Masks.{PlainMask, value_at}
+use Rattle.ass_num.specs.Masks.{MaskValue, value_at}
 use Rattle.mask_blur.specs.Growth.{grown_box}
 
 -- the mean of 2 * r + 1 values with this sum, to the nearest
@@ -24,6 +24,6 @@ unfoldable pub blurred : ℕ → (ℤ → ℤ → ℕ) → ℤ → ℤ → ℕ
 blurred r f = along_columns r (along_columns r (along_columns r (along_rows r (along_rows r (along_rows r f)))))
 
 -- The mask, blurred with the radius r; its box is wider by r pixels at both ends for each pass along that direction.
-pub record IsBlurred (r : ℕ) (mask result : PlainMask) : Type 0 where
+pub record IsBlurred (r : ℕ) (mask result : MaskValue) : Type 0 where
   pub value : (x y : ℤ) → value_at result x y ≡ blurred r (value_at mask) x y
   pub box : box_of result ≡ grown_box (3 * r) mask

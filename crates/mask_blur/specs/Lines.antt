@@ -2,9 +2,9 @@
 use Rattle.std.specs.Prelude.{◌≡◌, ℕ, ℤ, pos, negsuc, ◌+◌, ◌<◌, ◌≤◌, ◌+ℤ◌, ◌<ℤ◌, ◌≤ℤ◌, List, length, slice_index}
 
 -- the numbers of a list, from place 0 on, and 0 elsewhere
-abbrev pub line_of : List ℕ → ℤ → ℕ
-line_of xs (pos k) = slice_index xs k
-line_of xs (negsuc _) = 0
+abbrev pub line_values : List ℕ → ℤ → ℕ
+line_values xs (pos k) = slice_index xs k
+line_values xs (negsuc _) = 0
 
 -- The list has the values from `at` on.
 abbrev pub Lays : (ℤ → ℕ) → ℤ → List ℕ → Type 0

@@ -3,7 +3,7 @@ use Rattle.std.specs.Prelude.{◌≡◌, ℕ, ℤ, pos, ◌+◌, ◌*◌, ◌<�
 use Rattle.mask_blur.specs.Lines.{IsZeroBeside}
 
 -- The bytes begin with the values of h rows of w pixels from (x, y) on, row by row.
-pub record HasRows (f : ℤ → ℤ → ℕ) (x y : ℤ) (w h : ℕ) (bytes : List ℕ) : Type 0 where
+pub record HasMaskRows (f : ℤ → ℤ → ℕ) (x y : ℤ) (w h : ℕ) (bytes : List ℕ) : Type 0 where
   pub cells : (i j : ℕ) → i < w → j < h → slice_index bytes (j * w + i) ≡ f (x +ℤ pos i) (y +ℤ pos j)
 
 -- The values outside a box are 0.
@@ -13,5 +13,5 @@ pub record IsBoxed (f : ℤ → ℤ → ℕ) (x y : ℤ) (w h : ℕ) : Type 0 wh
 
 -- Both: the bytes tell the whole picture.
 pub record Shows (f : ℤ → ℤ → ℕ) (x y : ℤ) (w h : ℕ) (bytes : List ℕ) : Type 0 where
-  pub inside : HasRows f x y w h bytes
+  pub inside : HasMaskRows f x y w h bytes
   pub outside : IsBoxed f x y w h

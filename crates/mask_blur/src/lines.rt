@@ -2,7 +2,7 @@
 
 ghost use Rattle.std.specs.Prelude.{◌≡◌, ℕ, ℤ, pos, ◌≤◌, ◌<◌, ◌+◌, ◌*◌, ◌-ℤ◌, ◌^◌, length, slice_index, OnOk};
 ghost use Rattle.mask_blur.specs.Blur.{smoothed, along_rows};
-ghost use Rattle.mask_blur.specs.Lines.{line_of, Lays, IsZeroBeside, IsPadded};
+ghost use Rattle.mask_blur.specs.Lines.{line_values, Lays, IsZeroBeside, IsPadded};
 ghost use Rattle.mask_blur.specs.Shown.{Shows};
 
 use crate::means::Means;
@@ -13,7 +13,7 @@ use std::alloc::Global;
 fn blur_line(to: &mut [u8], line: &[u8], means: &Means)
     requires room { length to.old + (2 * means.now.radius + 1) ≤ length line.now }
     requires zeros { (k : ℕ) → k < 2 * means.now.radius + 1 → slice_index line.now k ≡ 0 }
-    ensures { Lays (smoothed means.now.radius (line_of line.now)) (pos (means.now.radius + 1)) to.new }
+    ensures { Lays (smoothed means.now.radius (line_values line.now)) (pos (means.now.radius + 1)) to.new }
 {
     let width = 2 * means.radius() + 1;
     let mut sum: u16 = 0;

@@ -5,10 +5,10 @@ use Rattle.std.proofs.lemmas.Bool.{and_parts, false≢true}
 use Rattle.std.proofs.lemmas.Bool.Decides.{nat_tests}
 use Rattle.std.specs.Int.RustNames.{FitsSigned}
 use Rattle.std.specs.List.{All}
-use Rattle.ass_num.specs.Coverage.{sum_from, first_sample, inside, samples_of, byte_of, box_of, PixelBox, InBox, IsCover}
+use Rattle.ass_num.specs.Coverage.{sum_from, first_sample, inside, samples_of, coverage_byte, box_of, PixelBox, InBox, IsCover}
 use Rattle.ass_num.specs.Floor.{floor_div}
-use Rattle.ass_num.specs.Masks.{PlainMask, value_at, is_mask}
-use Rattle.ass_num.specs.Regions.{PlainRegion, in_runs, row_at, member, ascend, all_ascend, has_run, first_has_run, last_has_run, last_has_run_after, is_canonical}
+use Rattle.ass_num.specs.Masks.{MaskValue, value_at, is_mask}
+use Rattle.ass_num.specs.Regions.{RegionValue, in_runs, row_at, member, ascend, all_ascend, has_run, first_has_run, last_has_run, last_has_run_after, is_canonical}
 use Rattle.ass_num.specs.declared.region.Run.{Run}
 use Rattle.ass_num.proofs.Floor.{floor_div-below, floor_div-above}
 use Rattle.mask_cover.proofs.MaskLemmas.{cell_below, value_inside, value_beside, value_over}
@@ -38,7 +38,7 @@ falls_somewhere phase i =
     (x, record { low = floor_div-below (i +ℤ pos phase) 16 (omega arith); high = floor_div-above (i +ℤ pos phase) 16 (omega arith) })
 
 -- a sample makes the count of its pixel positive
-pub sample_counts : (region : PlainRegion) (px py : ℕ) (i j x y : ℤ) → member region.top region.rows i j ≡ true → Falls px i x → Falls py j y → 0 < samples_of region px py x y
+pub sample_counts : (region : RegionValue) (px py : ℕ) (i j x y : ℤ) → member region.top region.rows i j ≡ true → Falls px i x → Falls py j y → 0 < samples_of region px py x y
 unfolding samples_of
 sample_counts region px py i j x y is across down =
     let al = across.low in let ah = across.high in let dl = down.low in let dh = down.high in
@@ -49,7 +49,7 @@ sample_counts region px py i j x y is across down =
     (sum_from-positive (λ s. inside region s (first_sample py y +ℤ pos b.0)) (first_sample px x) 16 a.0 (omega (arith, ints, a.1)) here)
 
 -- a pixel with a positive count has a sample
-pub counted_sample : (region : PlainRegion) (px py : ℕ) (x y : ℤ) → 0 < samples_of region px py x y → (i : ℤ) × (j : ℤ) × (member region.top region.rows i j ≡ true) × Falls px i x × Falls py j y
+pub counted_sample : (region : RegionValue) (px py : ℕ) (x y : ℤ) → 0 < samples_of region px py x y → (i : ℤ) × (j : ℤ) × (member region.top region.rows i j ≡ true) × Falls px i x × Falls py j y
 unfolding samples_of
 counted_sample region px py x y some =
     let b = some_positive (λ t. sum_from (λ s. inside region s t) (first_sample px x) 16) (first_sample py y) 16 some in
@@ -72,7 +72,7 @@ sample_row rows i (pos k) h = (k, inner rows k h, refl, h)
     inner (r ∷ rows) zero h = omega arith
     inner (r ∷ rows) (suc k) h = omega (arith, inner rows k h)
 
-row_member : (region : PlainRegion) (k : ℕ) (i : ℤ) → in_runs (get_or region.rows k []) i ≡ true → member region.top region.rows i (region.top +ℤ pos k) ≡ true
+row_member : (region : RegionValue) (k : ℕ) (i : ℤ) → in_runs (get_or region.rows k []) i ≡ true → member region.top region.rows i (region.top +ℤ pos k) ≡ true
 row_member region k i h = let e : (region.top +ℤ pos k) -ℤ region.top ≡ pos k = omega (arith, ints) in rw e h
 
 -- ---- the first and the last row
@@ -99,7 +99,7 @@ end_rows top (r ∷ rows) h some =
 -- ---- the box
 
 -- The box from the pixel (x, y) on has the pixels of the region's span.
-pub record Spans (region : PlainRegion) (px py : ℕ) (b : PixelBox) : Type 0 where
+pub record Spans (region : RegionValue) (px py : ℕ) (b : PixelBox) : Type 0 where
   pub span : Run
   pub is_span : IsSpanOfRows region.rows (length region.rows) span
   pub canonical : is_canonical region.top region.rows ≡ true
@@ -112,7 +112,7 @@ pub record Spans (region : PlainRegion) (px py : ℕ) (b : PixelBox) : Type 0 wh
 in_order : (phase : ℕ) (i j x y : ℤ) → i ≤ℤ j → Falls phase i x → Falls phase j y → x ≤ℤ y
 in_order phase i j x y order f g = let a = f.low in let b = g.high in omega (arith, ints)
 
-pub spanned_has : (region : PlainRegion) (px py : ℕ) (b : PixelBox) → Spans region px py b → (x y : ℤ) → 0 < samples_of region px py x y → InBox b x y
+pub spanned_has : (region : RegionValue) (px py : ℕ) (b : PixelBox) → Spans region px py b → (x y : ℤ) → 0 < samples_of region px py x y → InBox b x y
 spanned_has region px py b s x y some =
     let c = counted_sample region px py x y some in
     let row = sample_row region.rows c.0 (c.1 -ℤ region.top) c.2 in
@@ -129,7 +129,7 @@ spanned_has region px py b s x y some =
       bottom = omega (arith, ints, t);
     }
 
-pub spanned_least : (region : PlainRegion) (px py : ℕ) (b : PixelBox) → Spans region px py b
+pub spanned_least : (region : RegionValue) (px py : ℕ) (b : PixelBox) → Spans region px py b
     → (other : PixelBox) → ((x y : ℤ) → 0 < samples_of region px py x y → InBox other x y) → (x y : ℤ) → InBox b x y → InBox other x y
 spanned_least region px py b s other has x y in_b =
     let ends = end_rows region.top region.rows s.canonical s.some in
@@ -151,7 +151,7 @@ spanned_least region px py b s other has x y in_b =
 
 -- ---- the bytes
 
-pub cell_is : (region : PlainRegion) (px py : ℕ) (x y left : ℤ) (above i j : ℕ) → left ≡ first_sample px x → pos above ≡ region.top -ℤ first_sample py y
+pub cell_is : (region : RegionValue) (px py : ℕ) (x y left : ℤ) (above i j : ℕ) → left ≡ first_sample px x → pos above ≡ region.top -ℤ first_sample py y
     → samples_of region px py (x +ℤ pos i) (y +ℤ pos j) ≡ cell_count region.rows left above j i 16
 unfolding samples_of cell_count row_count
 cell_is region px py x y left above i j e f =
@@ -164,12 +164,12 @@ cell_is region px py x y left above i j e f =
         ap (λ z. sum_from (λ s. bit (in_runs (row_at region.rows z) s)) (first_sample px (x +ℤ pos i)) 16) down
         ∙ ap (λ z. sum_from (λ s. bit (in_runs (row_at region.rows ((pos (16 * j) -ℤ pos above) +ℤ pos b)) s)) z 16) across
 
-none_counted : (n : ℕ) → (0 < n → ⊥) → byte_of n ≡ 0
+none_counted : (n : ℕ) → (0 < n → ⊥) → coverage_byte n ≡ 0
 none_counted zero h = refl
 none_counted (suc n) h = absurd (h (omega arith))
 
-pub is_cover : (region : PlainRegion) (px py : ℕ) (m : PlainMask) (left : ℤ) (above : ℕ) → Spans region px py (box_of m) → left ≡ first_sample px m.x → pos above ≡ region.top -ℤ first_sample py m.y
-    → ((i j : ℕ) → i < m.w → j < m.h → get_or m.bytes (j * m.w + i) 0 ≡ byte_of (cell_count region.rows left above j i 16)) → IsCover region px py m
+pub is_cover : (region : RegionValue) (px py : ℕ) (m : MaskValue) (left : ℤ) (above : ℕ) → Spans region px py (box_of m) → left ≡ first_sample px m.x → pos above ≡ region.top -ℤ first_sample py m.y
+    → ((i j : ℕ) → i < m.w → j < m.h → get_or m.bytes (j * m.w + i) 0 ≡ coverage_byte (cell_count region.rows left above j i 16)) → IsCover region px py m
 is_cover region px py m left above s e f bytes = record {
   value = λ x y. by_lt_z x m.x
       (λ (l : x <ℤ m.x). outside x y (value_beside m x y (inl l)) (λ b. let z = b.left in omega (arith, ints)))
@@ -183,21 +183,21 @@ is_cover region px py m left above s e f bytes = record {
   box = record { has = spanned_has region px py (box_of m) s; least = spanned_least region px py (box_of m) s };
 }
   where
-    outside : (x y : ℤ) → value_at m x y ≡ 0 → (InBox (box_of m) x y → ⊥) → value_at m x y ≡ byte_of (samples_of region px py x y)
+    outside : (x y : ℤ) → value_at m x y ≡ 0 → (InBox (box_of m) x y → ⊥) → value_at m x y ≡ coverage_byte (samples_of region px py x y)
     outside x y zero_there out = zero_there ∙ sym (none_counted (samples_of region px py x y) (λ some. out (spanned_has region px py (box_of m) s x y some)))
 
-    within : (x y : ℤ) → m.x ≤ℤ x → x <ℤ (m.x +ℤ pos m.w) → m.y ≤ℤ y → y <ℤ (m.y +ℤ pos m.h) → value_at m x y ≡ byte_of (samples_of region px py x y)
+    within : (x y : ℤ) → m.x ≤ℤ x → x <ℤ (m.x +ℤ pos m.w) → m.y ≤ℤ y → y <ℤ (m.y +ℤ pos m.h) → value_at m x y ≡ coverage_byte (samples_of region px py x y)
     within x y l r t b =
         let i = distance m.x x l in
         let j = distance m.y y t in
         let a : i.0 < m.w = omega (arith, ints, i.1) in
         let c : j.0 < m.h = omega (arith, ints, j.1) in
-        value_inside m x y i.0 j.0 i.1 j.1 a c ∙ bytes i.0 j.0 a c ∙ ap byte_of (sym (rw (sym i.1, sym j.1) at (cell_is region px py m.x m.y left above i.0 j.0 e f)))
+        value_inside m x y i.0 j.0 i.1 j.1 a c ∙ bytes i.0 j.0 a c ∙ ap coverage_byte (sym (rw (sym i.1, sym j.1) at (cell_is region px py m.x m.y left above i.0 j.0 e f)))
 
-abbrev no_pixels : PlainMask
+abbrev no_pixels : MaskValue
 no_pixels = record { x = pos 0; y = pos 0; w = 0; h = 0; bytes = [] }
 
-nowhere : (region : PlainRegion) (px py : ℕ) → region.rows ≡ [] → (x y : ℤ) → 0 < samples_of region px py x y → ⊥
+nowhere : (region : RegionValue) (px py : ℕ) → region.rows ≡ [] → (x y : ℤ) → 0 < samples_of region px py x y → ⊥
 nowhere region px py none x y some =
     let c = counted_sample region px py x y some in
     let row = sample_row region.rows c.0 (c.1 -ℤ region.top) c.2 in
@@ -211,7 +211,7 @@ no_value x y = by_lt_z x (pos 0)
     (λ (l : pos 0 ≤ℤ x). value_beside no_pixels x y (inr l))
 
 -- a region without rows
-pub empty_cover : (region : PlainRegion) (px py : ℕ) → region.rows ≡ [] → IsCover region px py no_pixels
+pub empty_cover : (region : RegionValue) (px py : ℕ) → region.rows ≡ [] → IsCover region px py no_pixels
 empty_cover region px py none = record {
   value = λ x y. no_value x y ∙ sym (none_counted (samples_of region px py x y) (nowhere region px py none x y));
   box = record { has = λ x y some. absurd (nowhere region px py none x y some); least = λ other has x y b. let l = b.left in let r = b.right in absurd (omega (arith, ints)) };

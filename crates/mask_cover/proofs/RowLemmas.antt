@@ -3,13 +3,13 @@ use Rattle.std.proofs.Common.{◌≡◌, ℕ, zero, suc, ◌+◌, ◌-◌, ◌*�
 use Rattle.std.proofs.lemmas.Int.{ints, by_lt_z}
 use Rattle.std.proofs.lemmas.Bool.{and_parts}
 use Rattle.std.proofs.lemmas.List.{get_or_append_left, get_or_push}
-use Rattle.ass_num.specs.Coverage.{sum_from, byte_of}
+use Rattle.ass_num.specs.Coverage.{sum_from, coverage_byte}
 use Rattle.ass_num.specs.Regions.{ascend, all_ascend, row_at}
 use Rattle.ass_num.specs.declared.region.Run.{Run}
 use Rattle.mask_cover.proofs.MaskLemmas.{cell_below}
 use Rattle.mask_cover.proofs.SampleLemmas.{first_ascends, rest_ascends, row_count-cons, row_count-none, row_count-le, sum_from-le_16}
 use Rattle.mask_cover.proofs.StepLemmas.{sum_first-none}
-use Rattle.mask_cover.specs.Steps.{sum_first, after, row_count, cell_count, CountsWithin, IsRowPushed, HasCells, HasMoreCells}
+use Rattle.mask_cover.specs.Steps.{sum_first, samples_after, row_count, cell_count, CountsWithin, IsRowPushed, HasCells, HasMoreCells}
 
 drop_ascends : (runs : List Run) (k : ℕ) → ascend runs ≡ true → ascend (drop k runs) ≡ true
 drop_ascends [] zero h = refl
@@ -19,7 +19,7 @@ drop_ascends (r ∷ rs) (suc k) h = drop_ascends rs k (rest_ascends r rs h)
 
 -- the run at k is counted
 pub drop_step : (runs : List Run) (k : ℕ) (d : Run) (left : ℤ) (a b c : ℕ) → ascend runs ≡ true → k < length runs → (get_or runs k d).from ≡ left +ℤ pos a → (get_or runs k d).to ≡ left +ℤ pos b
-    → row_count (drop k runs) left c + after b c ≡ row_count (drop (k + 1) runs) left c + after a c
+    → row_count (drop k runs) left c + samples_after b c ≡ row_count (drop (k + 1) runs) left c + samples_after a c
 drop_step runs k d left a b c h p e f =
     let next : k + 1 ≡ suc k = omega arith in
     let cut : drop k runs ≡ get_or runs k d ∷ drop (suc k) runs = drop-cons runs k d p in
@@ -95,7 +95,7 @@ row_ascends (r ∷ rows) zero h = (and_parts (ascend r) (all_ascend rows) h).0
 row_ascends (r ∷ rows) (suc k) h = row_ascends rows k (and_parts (ascend r) (all_ascend rows) h).1
 
 -- one more byte
-pub row_push : (steps : List ℤ) (c v : ℕ) (before now : List ℕ) → IsRowPushed steps c before now → v ≡ byte_of (unsigned_abs (sum_first steps (c + 1))) → IsRowPushed steps (c + 1) before (now ++ v ∷ [])
+pub row_push : (steps : List ℤ) (c v : ℕ) (before now : List ℕ) → IsRowPushed steps c before now → v ≡ coverage_byte (unsigned_abs (sum_first steps (c + 1))) → IsRowPushed steps (c + 1) before (now ++ v ∷ [])
 row_push steps c v before now h e =
     let size = h.count in
     record {
@@ -116,7 +116,7 @@ row_count-end [] (suc k) left c h = row_count-none left c
 row_count-end (r ∷ rs) zero left c h = absurd (omega arith)
 row_count-end (r ∷ rs) (suc k) left c h = row_count-end rs k left c (omega arith)
 
-pub byte_same : (v : ℤ) (b : ℕ) (z : ℤ) → b ≡ byte_of (unsigned_abs v) → v ≡ z → b ≡ byte_of (unsigned_abs z)
+pub byte_same : (v : ℤ) (b : ℕ) (z : ℤ) → b ≡ coverage_byte (unsigned_abs v) → v ≡ z → b ≡ coverage_byte (unsigned_abs z)
 byte_same v b z e f = rw (sym f) e
 
 -- the counted row stands behind the others
@@ -124,7 +124,7 @@ pub more_cells : (rows : List (List Run)) (left : ℤ) (above w row : ℕ) (step
 more_cells rows left above w row steps before now e h = record {
   count = h.count;
   kept = h.kept;
-  cells = λ i p. h.row i p ∙ ap (λ z. byte_of (unsigned_abs z)) (e i);
+  cells = λ i p. h.row i p ∙ ap (λ z. coverage_byte (unsigned_abs z)) (e i);
 }
 
 pub no_cells : (rows : List (List Run)) (left : ℤ) (above w : ℕ) (bytes : List ℕ) → length bytes ≡ 0 → HasCells rows left above w 0 bytes

@@ -7,7 +7,7 @@ use Rattle.std.proofs.lemmas.List.{get_or-take, get_or-drop, take_more, take_all
 use Rattle.std.proofs.lemmas.List.Sums.{sum_by-append}
 use Rattle.std.specs.List.{Any}
 use Rattle.ass_num.specs.Coverage.{PixelBox, box_of, IsLeastBox, moved_value, IsMovedPixel, IsSum}
-use Rattle.ass_num.specs.Masks.{PlainMask, is_mask, value_at, offset_value}
+use Rattle.ass_num.specs.Masks.{MaskValue, is_mask, value_at, offset_value}
 use Rattle.mask_cover.proofs.CoverLemmas.{distance}
 use Rattle.mask_cover.proofs.MaskLemmas.{cell_below, mask_length, offset_inside, offset_left, offset_above, value_inside, value_beside, value_over}
 use Rattle.mask_cover.specs.Rows.{AddsRow, AddsCells, cell_added}
@@ -18,15 +18,15 @@ split a zero = inr (omega arith)
 split zero (suc b) = inl (omega arith)
 split (suc a) (suc b) = elim (split a b) [ inl l ↦ inl (omega arith) | inr g ↦ inr (omega arith) ]
 
-cell_on : (mask : PlainMask) (column row count r i : ℕ) → r < row + count → cell_added mask column row count r i ≡ offset_value mask (pos i -ℤ pos column) (pos r -ℤ pos row)
+cell_on : (mask : MaskValue) (column row count r i : ℕ) → r < row + count → cell_added mask column row count r i ≡ offset_value mask (pos i -ℤ pos column) (pos r -ℤ pos row)
 cell_on mask column row count r i on = let test : nat_lt r (row + count) ≡ true = grind (arith, nat_tests) in rw test
 
-cell_off : (mask : PlainMask) (column row count r i : ℕ) → row + count ≤ r → cell_added mask column row count r i ≡ 0
+cell_off : (mask : MaskValue) (column row count r i : ℕ) → row + count ≤ r → cell_added mask column row count r i ≡ 0
 cell_off mask column row count r i off = let test : nat_lt r (row + count) ≡ false = grind (arith, nat_tests) in rw test
 
 -- ---- rows of bytes
 
-pub cells_none : (mask : PlainMask) (width column row : ℕ) (old : List ℕ) → ((k : ℕ) → get_or old k 0 ≤ 255) → AddsCells mask width column row 0 old old
+pub cells_none : (mask : MaskValue) (width column row : ℕ) (old : List ℕ) → ((k : ℕ) → get_or old k 0 ≤ 255) → AddsCells mask width column row 0 old old
 cells_none mask width column row old bytes = record {
   cells = λ r i lt fit. let none = nothing r i in let small = bytes (r * width + i) in omega (arith, none, small);
 }
@@ -37,7 +37,7 @@ cells_none mask width column row old bytes = record {
       | inr off ↦ cell_off mask column row 0 r i off
     ]
 
-pub cells_more : (mask : PlainMask) (width column row j : ℕ) (old mid new part : List ℕ) → column + mask.w ≤ width → j < mask.h → length part ≡ mask.w
+pub cells_more : (mask : MaskValue) (width column row j : ℕ) (old mid new part : List ℕ) → column + mask.w ≤ width → j < mask.h → length part ≡ mask.w
     → ((i : ℕ) → i < mask.w → get_or part i 0 ≡ get_or mask.bytes (j * mask.w + i) 0) → AddsRow ((row + j) * width + column) part mid new → AddsCells mask width column row j old mid → AddsCells mask width column row (j + 1) old new
 cells_more mask width column row j old mid new part fits below size bytes adds cells = record {
   cells = λ r i lt fit. elim (split r (row + j)) [
@@ -87,7 +87,7 @@ part_fits j w h n below all = let more : j + 1 ≤ h = omega arith in omega (ari
 
 -- ---- whole masks
 
-pub add_is : (p : PlainMask × ℤ × ℤ) (old : PlainMask) (bytes : List ℕ) (column row : ℕ) → (p.0.x +ℤ p.1) ≡ (old.x +ℤ pos column) → (p.0.y +ℤ p.2) ≡ (old.y +ℤ pos row) → column + p.0.w ≤ old.w → row + p.0.h ≤ old.h
+pub add_is : (p : MaskValue × ℤ × ℤ) (old : MaskValue) (bytes : List ℕ) (column row : ℕ) → (p.0.x +ℤ p.1) ≡ (old.x +ℤ pos column) → (p.0.y +ℤ p.2) ≡ (old.y +ℤ pos row) → column + p.0.w ≤ old.w → row + p.0.h ≤ old.h
     → is_mask old ≡ true → AddsCells p.0 old.w column row p.0.h old.bytes bytes → AddsMask p old (record { x = old.x; y = old.y; w = old.w; h = old.h; bytes = bytes })
 add_is p old bytes column row across down wide high is cells = record {
   box = refl;
@@ -102,7 +102,7 @@ add_is p old bytes column row across down wide high is cells = record {
       (λ (r : (old.x +ℤ pos old.w) ≤ℤ x). nothing x y (value_beside new x y (inr r)) (value_beside old x y (inr r)) (value_beside p.0 (x -ℤ p.1) (y -ℤ p.2) (inr (omega (arith, ints))))));
 }
   where
-    new : PlainMask
+    new : MaskValue
     new = record { x = old.x; y = old.y; w = old.w; h = old.h; bytes = bytes }
 
     nothing : (x y : ℤ) → value_at new x y ≡ 0 → value_at old x y ≡ 0 → moved_value p x y ≡ 0 → value_at new x y ≡ min 255 (value_at old x y + moved_value p x y)
@@ -129,7 +129,7 @@ add_is p old bytes column row across down wide high is cells = record {
         omega (arith, cell, before, behind, moved, added)
 
 -- a mask without pixels adds nothing
-pub add_none : (p : PlainMask × ℤ × ℤ) (old : PlainMask) → p.0.w ≡ 0 → ((k : ℕ) → get_or old.bytes k 0 ≤ 255) → AddsMask p old old
+pub add_none : (p : MaskValue × ℤ × ℤ) (old : MaskValue) → p.0.w ≡ 0 → ((k : ℕ) → get_or old.bytes k 0 ≤ 255) → AddsMask p old old
 add_none p old none bytes = record {
   box = refl;
   value = λ x y. let nothing = outside x y in let small = value_small old bytes x y in omega (arith, nothing, small);
@@ -140,16 +140,16 @@ add_none p old none bytes = record {
         (λ (l : (x -ℤ p.1) <ℤ p.0.x). value_beside p.0 (x -ℤ p.1) (y -ℤ p.2) (inl l))
         (λ (l : p.0.x ≤ℤ (x -ℤ p.1)). value_beside p.0 (x -ℤ p.1) (y -ℤ p.2) (inr (omega (arith, ints))))
 
-    offset_small : (m : PlainMask) → ((k : ℕ) → get_or m.bytes k 0 ≤ 255) → (u v : ℤ) → offset_value m u v ≤ 255
+    offset_small : (m : MaskValue) → ((k : ℕ) → get_or m.bytes k 0 ≤ 255) → (u v : ℤ) → offset_value m u v ≤ 255
     offset_small m all (pos i) (pos j) = let small = all (j * m.w + i) in grind arith
     offset_small m all (pos i) (negsuc j) = omega arith
     offset_small m all (negsuc i) v = omega arith
 
-    value_small : (m : PlainMask) → ((k : ℕ) → get_or m.bytes k 0 ≤ 255) → (x y : ℤ) → value_at m x y ≤ 255
+    value_small : (m : MaskValue) → ((k : ℕ) → get_or m.bytes k 0 ≤ 255) → (x y : ℤ) → value_at m x y ≤ 255
     value_small m all x y = offset_small m all (x -ℤ m.x) (y -ℤ m.y)
 
 -- a mask of zeros
-pub value_zero : (m : PlainMask) → ((k : ℕ) → get_or m.bytes k 0 ≡ 0) → (x y : ℤ) → value_at m x y ≡ 0
+pub value_zero : (m : MaskValue) → ((k : ℕ) → get_or m.bytes k 0 ≡ 0) → (x y : ℤ) → value_at m x y ≡ 0
 value_zero m all x y = offset_zero (x -ℤ m.x) (y -ℤ m.y)
   where
     offset_zero : (u v : ℤ) → offset_value m u v ≡ 0
@@ -158,7 +158,7 @@ value_zero m all x y = offset_zero (x -ℤ m.x) (y -ℤ m.y)
     offset_zero (negsuc i) v = refl
 
 -- the bytes of a row of a mask
-pub part_is : (m : PlainMask) (bytes : List ℕ) (w j : ℕ) → bytes ≡ m.bytes → w ≡ m.w → is_mask m ≡ true → j < m.h
+pub part_is : (m : MaskValue) (bytes : List ℕ) (w j : ℕ) → bytes ≡ m.bytes → w ≡ m.w → is_mask m ≡ true → j < m.h
     → (length (take ((j * w + w) - j * w) (drop (j * w) bytes)) ≡ m.w) × ((i : ℕ) → i < m.w → get_or (take ((j * w + w) - j * w) (drop (j * w) bytes)) i 0 ≡ get_or m.bytes (j * m.w + i) 0)
 part_is m bytes w j same wide is below =
     let size : length bytes ≡ w * m.h = ap length same ∙ mask_length m is ∙ ap (λ z. z * m.h) (sym wide) in
@@ -179,18 +179,18 @@ zeros (suc n) (suc k) = zeros n k
 -- ---- several masks
 
 -- the sum of the values of the first masks at a pixel
-pub first_sum : List (PlainMask × ℤ × ℤ) → ℕ → ℤ → ℤ → ℕ
+pub first_sum : List (MaskValue × ℤ × ℤ) → ℕ → ℤ → ℤ → ℕ
 first_sum parts n x y = sum_by (λ p. moved_value p x y) (take n parts)
 
-pub sum_none : (parts : List (PlainMask × ℤ × ℤ)) (m : PlainMask) → ((x y : ℤ) → value_at m x y ≡ 0) → (x y : ℤ) → value_at m x y ≡ min 255 (first_sum parts 0 x y)
+pub sum_none : (parts : List (MaskValue × ℤ × ℤ)) (m : MaskValue) → ((x y : ℤ) → value_at m x y ≡ 0) → (x y : ℤ) → value_at m x y ≡ min 255 (first_sum parts 0 x y)
 unfolding first_sum
 sum_none parts m zero_there x y = zero_there x y
 
-pub sum_more : (parts : List (PlainMask × ℤ × ℤ)) (n : ℕ) (item : PlainMask × ℤ × ℤ) (old new : PlainMask) → n < length parts → item ≡ get_or parts n item → AddsMask item old new
+pub sum_more : (parts : List (MaskValue × ℤ × ℤ)) (n : ℕ) (item : MaskValue × ℤ × ℤ) (old new : MaskValue) → n < length parts → item ≡ get_or parts n item → AddsMask item old new
     → ((x y : ℤ) → value_at old x y ≡ min 255 (first_sum parts n x y)) → (x y : ℤ) → value_at new x y ≡ min 255 (first_sum parts (n + 1) x y)
 unfolding first_sum
 sum_more parts n item old new there is adds before x y =
-    let f : PlainMask × ℤ × ℤ → ℕ = λ p. moved_value p x y in
+    let f : MaskValue × ℤ × ℤ → ℕ = λ p. moved_value p x y in
     let more : sum_by f (take (n + 1) parts) ≡ sum_by f (take n parts) + sum_by f (get_or parts n item ∷ []) = ap (sum_by f) (take_more parts n item there) ∙ sum_by-append f (take n parts) (get_or parts n item ∷ []) in
     let one : sum_by f (item ∷ []) ≡ moved_value item x y = omega arith in
     let last : sum_by f (get_or parts n item ∷ []) ≡ moved_value item x y = ap (λ z. sum_by f (z ∷ [])) (sym is) ∙ one in
@@ -198,7 +198,7 @@ sum_more parts n item old new there is adds before x y =
     let old_value = before x y in
     omega (arith, value, old_value, more, last)
 
-pub sum_all : (parts : List (PlainMask × ℤ × ℤ)) (n : ℕ) (m : PlainMask) (b : PixelBox) → length parts ≤ n → ((x y : ℤ) → value_at m x y ≡ min 255 (first_sum parts n x y)) → box_of m ≡ b → IsLeastBox (λ x y. Any (λ p. IsMovedPixel p x y) parts) b → IsSum parts m
+pub sum_all : (parts : List (MaskValue × ℤ × ℤ)) (n : ℕ) (m : MaskValue) (b : PixelBox) → length parts ≤ n → ((x y : ℤ) → value_at m x y ≡ min 255 (first_sum parts n x y)) → box_of m ≡ b → IsLeastBox (λ x y. Any (λ p. IsMovedPixel p x y) parts) b → IsSum parts m
 unfolding first_sum
 sum_all parts n m b all value same least =
     let P : PixelBox → Type 0 = λ z. IsLeastBox (λ x y. Any (λ p. IsMovedPixel p x y) parts) z in

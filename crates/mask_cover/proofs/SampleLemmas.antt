@@ -6,7 +6,7 @@ use Rattle.ass_num.specs.Regions.{in_runs, ascend, ascend_from}
 use Rattle.ass_num.specs.Coverage.{sum_from}
 use Rattle.ass_num.specs.declared.region.Run.{Run}
 use Rattle.mask_cover.proofs.Comparisons.{lt_true, lt_false, le_true, le_false, lt_is}
-use Rattle.mask_cover.specs.Steps.{after, row_count}
+use Rattle.mask_cover.specs.Steps.{samples_after, row_count}
 
 -- ---- sums
 
@@ -129,7 +129,7 @@ bit-cons r rs h i =
     or_none false = refl
 
 -- a row's samples in a pixel, by its first run and the others
-pub row_count-cons : (r : Run) (rs : List Run) (left : ℤ) (a b c : ℕ) → ascend (r ∷ rs) ≡ true → r.from ≡ left +ℤ pos a → r.to ≡ left +ℤ pos b → row_count (r ∷ rs) left c + after b c ≡ row_count rs left c + after a c
+pub row_count-cons : (r : Run) (rs : List Run) (left : ℤ) (a b c : ℕ) → ascend (r ∷ rs) ≡ true → r.from ≡ left +ℤ pos a → r.to ≡ left +ℤ pos b → row_count (r ∷ rs) left c + samples_after b c ≡ row_count rs left c + samples_after a c
 unfolding row_count
 row_count-cons r rs left a b c h e f =
     let p = (first_ascends r rs h).0 in

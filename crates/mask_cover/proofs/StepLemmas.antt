@@ -3,7 +3,7 @@ use Rattle.std.proofs.Common.{◌≡◌, ℕ, zero, suc, ◌+◌, ◌-◌, ◌/�
 use Rattle.std.proofs.Math.ListN.{set}
 use Rattle.std.proofs.lemmas.List.{get_or-set_same, get_or-set_other}
 use Rattle.std.proofs.lemmas.Int.{ints, by_lt_z}
-use Rattle.mask_cover.specs.Steps.{sum_first, after, IsWithin, CountsWithin}
+use Rattle.mask_cover.specs.Steps.{sum_first, samples_after, AreStepsWithin, CountsWithin}
 
 -- sums up to the changed step stay
 pub sum_first-set_before : (steps : List ℤ) (k : ℕ) (v : ℤ) (n : ℕ) → n ≤ k → sum_first (set steps k v) n ≡ sum_first steps n
@@ -31,8 +31,8 @@ sum_first-set_behind steps k v (suc n) i h = by_lt_z (pos k) (pos n)
     omega (arith, ints, rest, here, was))
 
 -- one changed step
-pub IsWithin-set : (limit more : ℕ) (steps : List ℤ) (k : ℕ) (v : ℤ) → limit ≤ more → k < length steps → IsWithin limit steps → (neg_ℤ (pos more) ≤ℤ v) × (v ≤ℤ pos more) → IsWithin more (set steps k v)
-IsWithin-set limit more steps k v wider i h fits = λ n. by_lt_z (pos n) (pos k)
+pub AreStepsWithin-set : (limit more : ℕ) (steps : List ℤ) (k : ℕ) (v : ℤ) → limit ≤ more → k < length steps → AreStepsWithin limit steps → (neg_ℤ (pos more) ≤ℤ v) × (v ≤ℤ pos more) → AreStepsWithin more (set steps k v)
+AreStepsWithin-set limit more steps k v wider i h fits = λ n. by_lt_z (pos n) (pos k)
     (λ (less : pos n <ℤ pos k). other n (λ e. omega (arith, ints)))
     (λ (order : pos k ≤ℤ pos n). by_lt_z (pos k) (pos n)
     (λ (less : pos k <ℤ pos n). other n (λ e. omega (arith, ints)))
@@ -43,13 +43,13 @@ IsWithin-set limit more steps k v wider i h fits = λ n. by_lt_z (pos n) (pos k)
     other : (n : ℕ) → (n ≡ k → ⊥) → (neg_ℤ (pos more) ≤ℤ get_or (set steps k v) n (pos 0)) × (get_or (set steps k v) n (pos 0) ≤ℤ pos more)
     other n differs = let was = h n in rw (get_or-set_other steps k n v (pos 0) differs) (omega (arith, ints, was.0, was.1), omega (arith, ints, was.0, was.1))
 
-pub IsWithin-wider : (limit more : ℕ) (steps : List ℤ) → limit ≤ more → IsWithin limit steps → IsWithin more steps
-IsWithin-wider limit more steps wider h = λ k. let was = h k in (omega (arith, ints, was.0, was.1), omega (arith, ints, was.0, was.1))
+pub AreStepsWithin-wider : (limit more : ℕ) (steps : List ℤ) → limit ≤ more → AreStepsWithin limit steps → AreStepsWithin more steps
+AreStepsWithin-wider limit more steps wider h = λ k. let was = h k in (omega (arith, ints, was.0, was.1), omega (arith, ints, was.0, was.1))
 
 -- a step is the difference of two sums
-pub IsWithin-from_counts : (limit : ℕ) (steps : List ℤ) → CountsWithin limit steps → IsWithin limit steps
+pub AreStepsWithin-from_counts : (limit : ℕ) (steps : List ℤ) → CountsWithin limit steps → AreStepsWithin limit steps
 unfolding sum_first
-IsWithin-from_counts limit steps h = λ k.
+AreStepsWithin-from_counts limit steps h = λ k.
     let here = h k in
     let next = h (suc k) in
     (omega (arith, ints, here.0, here.1, next.0, next.1), omega (arith, ints, here.0, here.1, next.0, next.1))
@@ -74,7 +74,7 @@ behind_by steps k v by n i h e = omega (arith, ints, sum_first-set_behind steps 
 -- the sums behind two changed steps, where samples begin and where they end
 pub rise : (s t u one two : ℤ) (at c : ℕ) → one ≡ pos (16 - at % 16) → two ≡ pos (at % 16)
     → (c + 1 ≤ at / 16 → t ≡ s) → (at / 16 < c + 1 → t ≡ s +ℤ one) → (c + 1 ≤ at / 16 + 1 → u ≡ t) → (at / 16 + 1 < c + 1 → u ≡ t +ℤ two)
-    → u ≡ s +ℤ pos (after at c)
+    → u ≡ s +ℤ pos (samples_after at c)
 rise s t u one two at c e f a b p q = by_lt_z (pos c) (pos (at / 16))
     (λ (less : pos c <ℤ pos (at / 16)). let x = a (omega (arith, ints)) in let y = p (omega (arith, ints)) in omega (arith, ints, x, y))
     (λ (order : pos (at / 16) ≤ℤ pos c). let x = b (omega (arith, ints)) in by_lt_z (pos (at / 16)) (pos c)
@@ -83,7 +83,7 @@ rise s t u one two at c e f a b p q = by_lt_z (pos c) (pos (at / 16))
 
 pub fall : (s t u one two : ℤ) (at c : ℕ) → one +ℤ pos (16 - at % 16) ≡ pos 0 → two +ℤ pos (at % 16) ≡ pos 0
     → (c + 1 ≤ at / 16 → t ≡ s) → (at / 16 < c + 1 → t ≡ s +ℤ one) → (c + 1 ≤ at / 16 + 1 → u ≡ t) → (at / 16 + 1 < c + 1 → u ≡ t +ℤ two)
-    → u +ℤ pos (after at c) ≡ s
+    → u +ℤ pos (samples_after at c) ≡ s
 fall s t u one two at c e f a b p q = by_lt_z (pos c) (pos (at / 16))
     (λ (less : pos c <ℤ pos (at / 16)). let x = a (omega (arith, ints)) in let y = p (omega (arith, ints)) in omega (arith, ints, x, y))
     (λ (order : pos (at / 16) ≤ℤ pos c). let x = b (omega (arith, ints)) in by_lt_z (pos (at / 16)) (pos c)

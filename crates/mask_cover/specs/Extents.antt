@@ -3,14 +3,14 @@ use Rattle.std.specs.Prelude.{◌≡◌, ℕ, ℤ, pos, neg_ℤ, ◌<◌, ◌+�
 use Rattle.ass_num.specs.Coverage.{PixelBox}
 
 -- A stretch that masks with a corner within 65,536 of 0 and sides of at most 65,536 can reach when they are moved by at most 32,768.
-pub record IsNear (from : ℤ) (len : ℕ) : Type 0 where
+pub record IsStretchNear (from : ℤ) (len : ℕ) : Type 0 where
   pub low : neg_ℤ (pos 98304) ≤ℤ from
   pub high : (from +ℤ pos len) ≤ℤ pos 163840
 
 -- A box of pixels that such masks can reach, or the one without pixels.
 pub record IsExtent (b : PixelBox) : Type 0 where
-  pub across : IsNear b.x b.w
-  pub down : IsNear b.y b.h
+  pub across : IsStretchNear b.x b.w
+  pub down : IsStretchNear b.y b.h
   pub full : 0 < b.w → 0 < b.h
   pub x : b.w ≡ 0 → b.x ≡ pos 0
   pub y : b.w ≡ 0 → b.y ≡ pos 0
@@ -18,7 +18,7 @@ pub record IsExtent (b : PixelBox) : Type 0 where
 
 -- The least stretch that has two, of which the first may be empty.
 pub record JoinsStretch (a : ℤ) (a_len : ℕ) (b : ℤ) (b_len : ℕ) (from : ℤ) (len : ℕ) : Type 0 where
-  pub near : IsNear from len
+  pub near : IsStretchNear from len
   pub some : 0 < len
   pub first_from : 0 < a_len → from ≤ℤ a
   pub first_to : 0 < a_len → (a +ℤ pos a_len) ≤ℤ (from +ℤ pos len)

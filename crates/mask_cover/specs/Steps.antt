@@ -1,7 +1,7 @@
 -- Counts of samples as sums of steps.
 use Rattle.std.specs.Prelude.{◌≡◌, ℕ, zero, suc, ℤ, pos, neg_ℤ, ◌+◌, ◌-◌, ◌*◌, ◌<◌, ◌+ℤ◌, ◌-ℤ◌, ◌<ℤ◌, ◌≤ℤ◌, min, if◌then◌else◌, List, All, length, slice_index, slice_index_or, unsigned_abs}
 use Rattle.ass_num.specs.Regions.{in_runs, row_at}
-use Rattle.ass_num.specs.Coverage.{sum_from, byte_of}
+use Rattle.ass_num.specs.Coverage.{sum_from, coverage_byte}
 use Rattle.ass_num.specs.declared.region.Run.{Run}
 
 -- the sum of the first n steps
@@ -10,12 +10,12 @@ sum_first steps zero = pos 0
 sum_first steps (suc n) = sum_first steps n +ℤ slice_index_or steps n (pos 0)
 
 -- how many samples of pixel c stand at sample t or after it, counted from the first sample of pixel 0
-abbrev pub after : ℕ → ℕ → ℕ
-after t c = min 16 ((16 * c + 16) - t)
+abbrev pub samples_after : ℕ → ℕ → ℕ
+samples_after t c = min 16 ((16 * c + 16) - t)
 
 -- Each step lies within so much of 0.
-abbrev pub IsWithin : ℕ → List ℤ → Type 0
-IsWithin limit steps = (k : ℕ) → (neg_ℤ (pos limit) ≤ℤ slice_index_or steps k (pos 0)) × (slice_index_or steps k (pos 0) ≤ℤ pos limit)
+abbrev pub AreStepsWithin : ℕ → List ℤ → Type 0
+AreStepsWithin limit steps = (k : ℕ) → (neg_ℤ (pos limit) ≤ℤ slice_index_or steps k (pos 0)) × (slice_index_or steps k (pos 0) ≤ℤ pos limit)
 
 -- Each sum of first steps lies from 0 to so much.
 abbrev pub CountsWithin : ℕ → List ℤ → Type 0
@@ -34,18 +34,18 @@ abbrev pub IsInside : ℤ → ℕ → List Run → Type 0
 IsInside left n runs = All (λ r. (left ≤ℤ r.from) × ((r.to +ℤ pos 16) <ℤ (left +ℤ pos (16 * n)))) runs
 
 -- The bytes of the counts of w pixels stand behind what was there.
-pub record IsRowPushed (steps : List ℤ) (w : ℕ) (before after : List ℕ) : Type 0 where
-  pub count : length after ≡ length before + w
-  pub kept : (k : ℕ) → k < length before → slice_index after k ≡ slice_index before k
-  pub row : (c : ℕ) → c < w → slice_index after (length before + c) ≡ byte_of (unsigned_abs (sum_first steps (c + 1)))
+pub record IsRowPushed (steps : List ℤ) (w : ℕ) (before samples_after : List ℕ) : Type 0 where
+  pub count : length samples_after ≡ length before + w
+  pub kept : (k : ℕ) → k < length before → slice_index samples_after k ≡ slice_index before k
+  pub row : (c : ℕ) → c < w → slice_index samples_after (length before + c) ≡ coverage_byte (unsigned_abs (sum_first steps (c + 1)))
 
 -- Row by row, the bytes are the coverage of h rows of w pixels.
 pub record HasCells (rows : List (List Run)) (left : ℤ) (above w h : ℕ) (bytes : List ℕ) : Type 0 where
   pub count : length bytes ≡ w * h
-  pub cells : (i j : ℕ) → i < w → j < h → slice_index bytes (j * w + i) ≡ byte_of (cell_count rows left above j i 16)
+  pub cells : (i j : ℕ) → i < w → j < h → slice_index bytes (j * w + i) ≡ coverage_byte (cell_count rows left above j i 16)
 
 -- The coverage of w pixels of a row stands behind what was there.
-pub record HasMoreCells (rows : List (List Run)) (left : ℤ) (above w row : ℕ) (before after : List ℕ) : Type 0 where
-  pub count : length after ≡ length before + w
-  pub kept : (k : ℕ) → k < length before → slice_index after k ≡ slice_index before k
-  pub cells : (i : ℕ) → i < w → slice_index after (length before + i) ≡ byte_of (cell_count rows left above row i 16)
+pub record HasMoreCells (rows : List (List Run)) (left : ℤ) (above w row : ℕ) (before samples_after : List ℕ) : Type 0 where
+  pub count : length samples_after ≡ length before + w
+  pub kept : (k : ℕ) → k < length before → slice_index samples_after k ≡ slice_index before k
+  pub cells : (i : ℕ) → i < w → slice_index samples_after (length before + i) ≡ coverage_byte (cell_count rows left above row i 16)

@@ -1,8 +1,8 @@
 //! The least box that has the boxes of several masks.
 
 ghost use Rattle.std.specs.Prelude.{◌≡◌, pos, ◌<◌, ◌^◌, ◌+ℤ◌, ◌≤ℤ◌};
-ghost use Rattle.mask_cover.specs.Extents.{IsNear, IsExtent, JoinsStretch};
-ghost use Rattle.mask_cover.specs.Sums.{IsPlaceable, IsJoin};
+ghost use Rattle.mask_cover.specs.Extents.{IsStretchNear, IsExtent, JoinsStretch};
+ghost use Rattle.mask_cover.specs.Sums.{IsPlaceableMask, IsJoin};
 
 use ass_num::Mask;
 use std::marker::Model;
@@ -42,7 +42,7 @@ impl Extent {
 
     /// The least box that has this one, and the box of the mask that is moved right by `dx` and down by `dy`.
     pub fn with(self, mask: &Mask, dx: i32, dy: i32) -> Extent
-        requires { IsPlaceable (mask.now, dx, dy) }
+        requires { IsPlaceableMask (mask.now, dx, dy) }
         ensures { IsJoin self (mask.now, dx, dy) result }
     {
         if mask.bytes().is_empty() {
@@ -85,8 +85,8 @@ impl Extent {
 
 /// The least stretch, as its first place and its length, that has two; an empty first one is passed over.
 fn joined(a: i32, a_len: u32, b: i32, b_len: u32) -> (i32, u32)
-    requires first { IsNear a a_len }
-    requires second { IsNear b b_len }
+    requires first { IsStretchNear a a_len }
+    requires second { IsStretchNear b b_len }
     requires some { 0 < b_len }
     ensures { JoinsStretch a a_len b b_len result.0 result.1 }
 {

@@ -2,8 +2,8 @@
 
 ghost use Rattle.std.specs.Prelude.{◌≡◌, ℕ, pos, neg_ℤ, true, length, ◌<◌, ◌≤◌, ◌+◌, ◌*◌, ◌^◌, ◌+ℤ◌, ◌-ℤ◌, ◌<ℤ◌, ◌≤ℤ◌, All, IfOk, slice_index, slice_index_or, unsigned_abs};
 ghost use Rattle.ass_num.specs.Regions.{ascend, all_ascend};
-ghost use Rattle.ass_num.specs.Coverage.{byte_of};
-ghost use Rattle.mask_cover.specs.Steps.{sum_first, after, IsWithin, CountsWithin, row_count, cell_count, IsInside, IsRowPushed};
+ghost use Rattle.ass_num.specs.Coverage.{coverage_byte};
+ghost use Rattle.mask_cover.specs.Steps.{sum_first, samples_after, AreStepsWithin, CountsWithin, row_count, cell_count, IsInside, IsRowPushed};
 
 use crate::axis::place_of;
 use ass_num::{FlatLists, Mem, Run};
@@ -18,12 +18,12 @@ pub fn clear(steps: &mut [i16])
 /// Adds `by` to the step at `k`.
 fn add_step(steps: &mut [i16], k: usize, by: i16)
     requires place { k < length steps.old }
-    requires small { IsWithin 1000 steps.old }
+    requires small { AreStepsWithin 1000 steps.old }
     requires low { neg_ℤ (pos 16) ≤ℤ by }
     requires high { by ≤ℤ pos 16 }
     ensures before { (n : ℕ) → n ≤ k → sum_first steps.new n ≡ sum_first steps.old n }
     ensures behind { (n : ℕ) → k < n → sum_first steps.new n ≡ sum_first steps.old n +ℤ by }
-    ensures small { (limit : ℕ) → IsWithin limit steps.old → IsWithin (limit + 16) steps.new }
+    ensures small { (limit : ℕ) → AreStepsWithin limit steps.old → AreStepsWithin (limit + 16) steps.new }
 {
     steps[k] += by;
 }
@@ -32,8 +32,8 @@ fn add_step(steps: &mut [i16], k: usize, by: i16)
 fn add_run(steps: &mut [i16], from: usize, to: usize)
     requires ascends { from ≤ to }
     requires inside { to + 16 < 16 * length steps.old }
-    requires small { IsWithin 300 steps.old }
-    ensures counts { (c : ℕ) → sum_first steps.new (c + 1) +ℤ pos (after to c) ≡ sum_first steps.old (c + 1) +ℤ pos (after from c) }
+    requires small { AreStepsWithin 300 steps.old }
+    ensures counts { (c : ℕ) → sum_first steps.new (c + 1) +ℤ pos (samples_after to c) ≡ sum_first steps.old (c + 1) +ℤ pos (samples_after from c) }
 {
     let (first, past_first) = (from / 16, (from % 16) as i16);
     add_step(steps, first, 16 - past_first);
@@ -82,16 +82,16 @@ pub fn push_row(bytes: &mut Vec<u8>, steps: &[i16], w: usize) -> Mem<()>
     let mut count: i16 = 0;
     for c in 0..w {
         count += steps[c];
-        bytes.push(byte_of(count))?;
+        bytes.push(coverage_byte(count))?;
     }
     Ok(())
 }
 
 /// The byte of so many of 256 samples.
-fn byte_of(count: i16) -> u8
+fn coverage_byte(count: i16) -> u8
     requires low { pos 0 ≤ℤ count }
     requires high { count ≤ℤ pos 256 }
-    ensures { result ≡ byte_of (unsigned_abs count) }
+    ensures { result ≡ coverage_byte (unsigned_abs count) }
 {
     ((count as u32 * 255 + 128) / 256) as u8
 }

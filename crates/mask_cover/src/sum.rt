@@ -4,7 +4,7 @@ ghost use Rattle.std.specs.Prelude.{◌≡◌, ℤ, ◌+◌, ◌*◌, ◌≤◌,
 ghost use Rattle.ass_num.specs.Masks.{value_at};
 ghost use Rattle.ass_num.specs.Coverage.{box_of, InBox, IsLeastBox, IsMovedPixel, IsSum};
 ghost use Rattle.mask_cover.specs.Rows.{AddsRow, AddsCells};
-ghost use Rattle.mask_cover.specs.Sums.{IsPlaceable, AddsMask};
+ghost use Rattle.mask_cover.specs.Sums.{IsPlaceableMask, AddsMask};
 
 use crate::axis::place_of;
 use crate::extent::Extent;
@@ -25,9 +25,9 @@ pub struct MaskSum {
 
 impl Model for MaskSum {
     ghost use Rattle.std.specs.Prelude.{◌≡◌, true};
-    ghost use Rattle.ass_num.specs.Masks.{PlainMask, is_mask};
+    ghost use Rattle.ass_num.specs.Masks.{MaskValue, is_mask};
 
-    ghost Value = { PlainMask };
+    ghost Value = { MaskValue };
 
     ghost view = { λ m. record { x = m.x; y = m.y; w = m.w; h = m.h; bytes = m.bytes.items } };
 
@@ -99,7 +99,7 @@ fn add_row(sums: &mut [u8], from: usize, bytes: &[u8])
 /// The sum of masks, each moved right by its first number and down by its second, at most 255 at each pixel.
 /// The box is the least one that has the moved boxes; masks without pixels are passed over.
 pub fn sum_of(alloc: Global, parts: &[(Mask, i32, i32)]) -> Mem<Mask>
-    requires { All IsPlaceable parts.now }
+    requires { All IsPlaceableMask parts.now }
     ensures { IfOk result (IsSum parts.now) }
 {
     let mut sum = MaskSum::new(alloc, &extent_of(parts))?;
@@ -111,7 +111,7 @@ pub fn sum_of(alloc: Global, parts: &[(Mask, i32, i32)]) -> Mem<Mask>
 
 /// The least box that has the boxes of the moved masks.
 fn extent_of(parts: &[(Mask, i32, i32)]) -> Extent
-    requires { All IsPlaceable parts.now }
+    requires { All IsPlaceableMask parts.now }
     ensures { IsLeastBox (λ x y. Any (λ p. IsMovedPixel p x y) parts.now) result }
 {
     let mut extent = Extent::empty();

@@ -1,7 +1,7 @@
 //! Rows worked by hand.
 
 ghost use Rattle.std.specs.Prelude.{IfOk};
-ghost use Rattle.mask_cover.specs.Sums.{IsWithinOf, IsPlaceable};
+ghost use Rattle.mask_cover.specs.Sums.{IsWithinOf, IsPlaceableMask};
 
 use crate::{at, cover, sum_of};
 use ass_num::{FlatLists, Mask, Mem, Region, Run, is_canonical, is_mask};
@@ -94,7 +94,7 @@ fn regions_cover_pixels(rt: HostRuntime) -> Result<(), Fail> {
 fn pixel(alloc: Global, value: u8, dx: i32, dy: i32) -> Mem<(Mask, i32, i32)>
     requires dx { IsWithinOf 32768 dx }
     requires dy { IsWithinOf 32768 dy }
-    ensures { IfOk result IsPlaceable }
+    ensures { IfOk result IsPlaceableMask }
 {
     let bytes = vec![in alloc; value]?;
     if !is_mask(0, 0, 1, 1, bytes.as_slice()) {

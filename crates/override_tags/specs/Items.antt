@@ -3,18 +3,18 @@ use Rattle.std.specs.Prelude.{ℕ}
 use Rattle.override_tags.specs.declared.item.Item.{Item}
 use Rattle.override_tags.specs.declared.item.ItemKind.{ItemKind}
 use Rattle.override_tags.specs.declared.item.ItemKind.TheVariants as item
-use Rattle.override_tags.specs.Tags.{PlainTag, plain_tag}
+use Rattle.override_tags.specs.Tags.{TagValue, plain_tag}
 
 -- A character, a break, a hard space, a block, or a tag of the block before it.
-pub data PlainKind : Type 0 where
-  Char : ℕ → PlainKind
-  HardBreak : PlainKind
-  SoftBreak : PlainKind
-  HardSpace : PlainKind
-  Block : PlainKind
-  Tag : PlainTag → PlainKind
+pub data KindValue : Type 0 where
+  Char : ℕ → KindValue
+  HardBreak : KindValue
+  SoftBreak : KindValue
+  HardSpace : KindValue
+  Block : KindValue
+  Tag : TagValue → KindValue
 
-abbrev pub plain_kind : ItemKind → PlainKind
+abbrev pub plain_kind : ItemKind → KindValue
 plain_kind (item.Char c) = Char c
 plain_kind item.HardBreak = HardBreak
 plain_kind item.SoftBreak = SoftBreak
@@ -23,10 +23,10 @@ plain_kind item.Block = Block
 plain_kind (item.Tag tag) = Tag (plain_tag tag)
 
 -- an item, and the bytes that it takes: from the first on, up to `to`
-pub record PlainItem : Type 0 where
+pub record ItemValue : Type 0 where
   pub from : ℕ
   pub to : ℕ
-  pub kind : PlainKind
+  pub kind : KindValue
 
-abbrev pub plain_item : Item → PlainItem
+abbrev pub plain_item : Item → ItemValue
 plain_item i = record { from = i.from; to = i.to; kind = plain_kind i.kind }

@@ -10,7 +10,7 @@ use Rattle.ass_num.specs.declared.geometry.Path.{Path}
 use Rattle.drawing_path.specs.Paths.{IsPathOf}
 use Rattle.blanks.specs.Blanks.{trimmed}
 use Rattle.tag_arguments.specs.Cuts.{plain_argument, bracketed}
-use Rattle.tag_arguments.specs.Numbers.{ReadsOptional, ReadsUnsigned, ReadsFront, ReadsNumbers, ReadsBracketed, pieces}
+use Rattle.tag_arguments.specs.Numbers.{ReadsOptional, ReadsUnsigned, ReadsFront, ReadsNumbers, ReadsBracketed, comma_pieces}
 use Rattle.tag_arguments.specs.declared.kinds.Num.TheVariants as num
 use Rattle.tag_arguments.specs.declared.kinds.Sung.{Sung}
 use Rattle.tag_arguments.specs.declared.kinds.TagName.{TagName}
@@ -26,10 +26,10 @@ whole value = floor_div value (pos 1000)
 abbrev pub is_wrap_style : ℤ → Bool
 is_wrap_style value = int_eq value (pos 0) || (int_eq value (pos 1000) || (int_eq value (pos 2000) || int_eq value (pos 3000)))
 
-abbrev pub wrap_of : Option (Option ℤ) → Option Tag
-wrap_of None = None
-wrap_of (Some None) = Some (Number num.Wrap None)
-wrap_of (Some (Some value)) = if is_wrap_style value then Some (Number num.Wrap (Some value)) else None
+abbrev pub wrap_tag : Option (Option ℤ) → Option Tag
+wrap_tag None = None
+wrap_tag (Some None) = Some (Number num.Wrap None)
+wrap_tag (Some (Some value)) = if is_wrap_style value then Some (Number num.Wrap (Some value)) else None
 
 -- 1 to 9, as the keys of a numeric keypad lie
 abbrev pub align_of : Option ℤ → Option Tag
@@ -110,7 +110,7 @@ ReadsClipPieces inverse numbers tag = (values : Option (List ℤ)) × ReadsNumbe
 
 abbrev pub ReadsClip : Bool → Option (List ℕ) → Option Tag → Type 0
 ReadsClip inverse None tag = tag ≡ None
-ReadsClip inverse (Some inside) tag = ReadsClipPieces inverse (pieces inside) tag
+ReadsClip inverse (Some inside) tag = ReadsClipPieces inverse (comma_pieces inside) tag
 
 -- a tag of a name by the numbers in brackets behind it
 abbrev pub ReadsNumbered : TagName → List ℕ → Option Tag → Type 0
@@ -120,7 +120,7 @@ ReadsNumbered name rest tag = (values : Option (List ℤ)) × ReadsBracketed (br
 abbrev pub ReadsSingle : TagName → List ℕ → Option Tag → Type 0
 ReadsSingle (name.Number property) rest tag = (value : Option (Option ℤ)) × ReadsOptional IsMilli (plain_argument rest) value × (tag ≡ option_map (Number property) value)
 ReadsSingle name.Size rest tag = (value : Option (Option ℤ)) × ReadsUnsigned (plain_argument rest) value × (tag ≡ option_map (Number num.Size) value)
-ReadsSingle name.Wrap rest tag = (value : Option (Option ℤ)) × ReadsOptional IsMilli (plain_argument rest) value × (tag ≡ wrap_of value)
+ReadsSingle name.Wrap rest tag = (value : Option (Option ℤ)) × ReadsOptional IsMilli (plain_argument rest) value × (tag ≡ wrap_tag value)
 ReadsSingle (name.Colour which) rest tag = (value : Option (Option ℕ)) × ReadsOptional IsColour (plain_argument rest) value × (tag ≡ option_map (Colour which) value)
 ReadsSingle (name.Alpha which) rest tag = (value : Option (Option ℕ)) × ReadsOptional IsAlpha (plain_argument rest) value × (tag ≡ option_map (Alpha which) value)
 ReadsSingle name.FontName rest tag = tag ≡ Some (FontName (plain_argument rest))

@@ -17,11 +17,11 @@ use Rattle.override_tags.specs.declared.transform.Course.{Course}
 use Rattle.override_tags.specs.Singles.{whole, ReadsSingle}
 
 -- A tag as contracts see it: a transform is its times, its speed in quarters, and the list of its tags.
-pub data PlainTag : Type 0 where
-  Single : Tag → PlainTag
-  Gradual : Option (ℤ × ℤ) → ℕ → List Tag → PlainTag
+pub data TagValue : Type 0 where
+  Single : Tag → TagValue
+  Gradual : Option (ℤ × ℤ) → ℕ → List Tag → TagValue
 
-abbrev pub plain_tag : Tag → PlainTag
+abbrev pub plain_tag : Tag → TagValue
 plain_tag (Transform' times quarters shape tags) = Gradual times quarters (items-the_row-Tag _ tags)
 plain_tag tag = Single tag
 
@@ -103,24 +103,24 @@ pub data AreKept : List ℕ → List Tag → Type 0 where
   more : (text : List ℕ) (tag : Option Tag) (tags : List Tag) → ReadsKept (take (tag_len text) text) tag → AreKept (drop (tag_len text) text) tags → AreKept (92 ∷ text) (option_to_list tag ++ tags)
 
 -- a transform of a course and the text of its tags, unless it has no course
-abbrev pub ReadsCourse : Option Course → List ℕ → Option PlainTag → Type 0
+abbrev pub ReadsCourse : Option Course → List ℕ → Option TagValue → Type 0
 ReadsCourse None tags tag = tag ≡ None
 ReadsCourse (Some course) tags tag = (all : List Tag) × AreKept tags all × (tag ≡ Some (Gradual course.times course.quarters all))
 
 -- a transform by what stands in its brackets
-abbrev pub ReadsTransform : Option (List ℕ) → Option PlainTag → Type 0
+abbrev pub ReadsTransform : Option (List ℕ) → Option TagValue → Type 0
 ReadsTransform None tag = tag ≡ None
 ReadsTransform (Some inside) tag = (values : Option (List ℤ)) × ReadsNumbers (counted_pieces true (before_tags inside)) values × ReadsCourse (course_of values) (from_tags inside) tag
 
 -- a tag by its name and the text behind it
-abbrev pub ReadsNamed : TagName → List ℕ → Option PlainTag → Type 0
+abbrev pub ReadsNamed : TagName → List ℕ → Option TagValue → Type 0
 ReadsNamed name.Transform rest tag = ReadsTransform (bracketed rest) tag
 ReadsNamed other rest tag = (single : Option Tag) × ReadsSingle other rest single × (tag ≡ option_map plain_tag single)
 
-abbrev pub ReadsAny : Option (TagName × List ℕ) → Option PlainTag → Type 0
+abbrev pub ReadsAny : Option (TagName × List ℕ) → Option TagValue → Type 0
 ReadsAny None tag = tag ≡ None
 ReadsAny (Some found) tag = ReadsNamed found.0 found.1 tag
 
 -- The tag of a text behind a `\`. There is none where it begins with no name, or no argument of its name follows.
-abbrev pub ReadsTag : List ℕ → Option PlainTag → Type 0
+abbrev pub ReadsTag : List ℕ → Option TagValue → Type 0
 ReadsTag text tag = ReadsAny (tag_name text) tag

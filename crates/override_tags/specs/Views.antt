@@ -1,6 +1,6 @@
 -- The ranges of states and of what an event shows at an instant. They are conditions of calls.
 use Rattle.std.specs.Prelude.{◌≡◌, ℕ, ◌<◌, ◌≤◌, ◌⊎◌, ℤ, pos, neg_ℤ, ◌≤ℤ◌, length, All, IfSome}
-use Rattle.drawing_path.specs.Ranges.{IsDrawable}
+use Rattle.drawing_path.specs.Ranges.{IsDrawablePath}
 use Rattle.override_tags.specs.declared.tag.ClipTag.{ClipTag}
 use Rattle.override_tags.specs.declared.tag.ClipTag.TheVariants.{Rect, Drawn}
 use Rattle.override_tags.specs.declared.view.EventView.{EventView}
@@ -44,31 +44,31 @@ pub record IsState (state : State) : Type 0 where
 
 -- a drawing that is shown, or a character or break
 abbrev pub IsShownKind : ShownKind → Type 0
-IsShownKind (shown.Drawing path) = IsDrawable path.segs
+IsShownKind (shown.Drawing path) = IsDrawablePath path.segs
 IsShownKind _ = Unit {0}
 
 -- what is shown in one of so many states
-pub record IsShown (states : ℕ) (shown : Shown) : Type 0 where
+pub record IsShownItem (states : ℕ) (shown : Shown) : Type 0 where
   pub kind : IsShownKind shown.kind
   pub state : shown.state < states
 
 -- a clip by four held numbers, or by a drawing at a scale from 1 to 30
 abbrev pub IsClip : ClipTag → Type 0
 IsClip (Rect corners _) = (length corners ≡ 4) × All IsHeld corners
-IsClip (Drawn path scale _) = IsDrawable path.segs × (1 ≤ scale) × (scale ≤ 30)
+IsClip (Drawn path scale _) = IsDrawablePath path.segs × (1 ≤ scale) × (scale ≤ 30)
 
 -- a point in thousandths of script pixels
-abbrev pub IsPlace : ℤ × ℤ → Type 0
-IsPlace place = IsHeld place.0 × IsHeld place.1
+abbrev pub IsHeldPoint : ℤ × ℤ → Type 0
+IsHeldPoint place = IsHeld place.0 × IsHeld place.1
 
 -- What an event shows: it has a state at least, which is the one after the whole text.
 pub record IsView (view : EventView) : Type 0 where
   pub states : All IsState view.states.items
   pub some_state : 0 < length view.states.items
-  pub items : All (IsShown (length view.states.items)) view.items.items
+  pub items : All (IsShownItem (length view.states.items)) view.items.items
   pub least_align : 1 ≤ view.align
   pub greatest_align : view.align ≤ 9
   pub wrap : view.wrap ≤ 3
-  pub position : IfSome view.pos IsPlace
-  pub origin : IfSome view.org IsPlace
+  pub position : IfSome view.pos IsHeldPoint
+  pub origin : IfSome view.org IsHeldPoint
   pub clip : IfSome view.clip IsClip

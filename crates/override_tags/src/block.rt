@@ -2,7 +2,7 @@
 
 ghost use Rattle.std.specs.Prelude.{◌≡◌, ◌+◌, ◌^◌, ◌<◌, ◌++◌, List, length, map, IfOk, OnOk};
 ghost use Rattle.std.specs.Option.{option_map};
-ghost use Rattle.override_tags.specs.Items.{PlainItem, plain_item};
+ghost use Rattle.override_tags.specs.Items.{ItemValue, plain_item};
 ghost use Rattle.override_tags.specs.Readings.{tag_items, AreTags, AreBlockTags};
 ghost use Rattle.override_tags.specs.Tags.{plain_tag, BeginsTag, ReadsNamed, ReadsTag};
 
@@ -56,7 +56,7 @@ fn push_tag(items: &mut Vec<Item>, from: usize, to: usize, tag: Option<Tag>) -> 
 fn add_tags(alloc: Global, items: &mut Vec<Item>, from: usize, text: &str) -> Mem<()>
     requires begins { BeginsTag text.now }
     requires fits { from + length text.now < 2 ^ 64 }
-    ensures { OnOk result ((tags : List PlainItem) × AreTags from text.now tags
+    ensures { OnOk result ((tags : List ItemValue) × AreTags from text.now tags
         × (map plain_item items.new.items ≡ map plain_item items.old.items ++ tags)) }
 {
     let mut from = from;
@@ -74,7 +74,7 @@ fn add_tags(alloc: Global, items: &mut Vec<Item>, from: usize, text: &str) -> Me
 /// Adds the tags of a block by what stands between its braces, which begins at a place.
 pub fn add_block_tags(alloc: Global, items: &mut Vec<Item>, from: usize, body: &str) -> Mem<()>
     requires { from + length body.now < 2 ^ 64 }
-    ensures { OnOk result ((tags : List PlainItem) × AreBlockTags from body.now tags
+    ensures { OnOk result ((tags : List ItemValue) × AreBlockTags from body.now tags
         × (map plain_item items.new.items ≡ map plain_item items.old.items ++ tags)) }
 {
     let (before, tags) = split_at_tags(body);

@@ -3,7 +3,7 @@
 ghost use Rattle.std.specs.Prelude.{◌≡◌, IfOk};
 ghost use Rattle.std.specs.Option.{option_map};
 ghost use Rattle.tag_arguments.specs.Cuts.{bracketed};
-ghost use Rattle.tag_arguments.specs.Numbers.{pieces};
+ghost use Rattle.tag_arguments.specs.Numbers.{comma_pieces};
 ghost use Rattle.override_tags.specs.Singles.{rectangle_of, scale_of, ReadsDrawn, ReadsScaled, ReadsClipPieces, ReadsClip};
 
 use crate::single::whole;
@@ -61,7 +61,7 @@ fn scaled_tag(alloc: Global, inverse: bool, drawing: &str, scale: Option<Milli>)
 
 /// A clip by what stands in its brackets: a drawing, a scale and a drawing, or four numbers.
 fn inside_tag(alloc: Global, inverse: bool, inside: &str) -> Mem<Option<Tag>>
-    ensures { IfOk result (λ tag. ReadsClipPieces inverse (pieces inside.now) tag) }
+    ensures { IfOk result (λ tag. ReadsClipPieces inverse (comma_pieces inside.now) tag) }
 {
     let (first, others) = first_piece(inside);
     match others {

@@ -1,9 +1,9 @@
 //! The one reading of a text.
 
 ghost use Rattle.std.specs.Prelude.{◌≡◌, ◌+◌, ◌<◌, ◌^◌, ◌∷◌, ◌++◌, List, map, IfOk, OnOk};
-ghost use Rattle.override_tags.specs.Items.{PlainItem, plain_item, plain_kind};
+ghost use Rattle.override_tags.specs.Items.{ItemValue, plain_item, plain_kind};
 ghost use Rattle.override_tags.specs.Fronts.{part_of, body_len};
-ghost use Rattle.override_tags.specs.Readings.{kind_of, part_item, ArePartTags, IsReading};
+ghost use Rattle.override_tags.specs.Readings.{kind_of, part_item, ArePartTags, IsTextReading};
 
 use crate::block::add_block_tags;
 use crate::item::{Item, ItemKind};
@@ -33,7 +33,7 @@ fn add_part(
     kind: FrontKind<'_>,
 ) -> Mem<()>
     requires { from + 1 + body_len (part_of kind) < 2 ^ 64 }
-    ensures { OnOk result ((tags : List PlainItem) × ArePartTags from (part_of kind.entry) tags
+    ensures { OnOk result ((tags : List ItemValue) × ArePartTags from (part_of kind.entry) tags
         × (map plain_item items.new.items ≡ map plain_item items.old.items ++ part_item from to (part_of kind.entry) ∷ tags)) }
 {
     items.push(Item {
@@ -49,7 +49,7 @@ fn add_part(
 
 /// The items of a text, in order. A block is followed by its tags.
 pub fn read_text(alloc: Global, text: &str) -> Mem<Vec<Item>>
-    ensures { IfOk result (λ items. IsReading text.now (map plain_item items.items)) }
+    ensures { IfOk result (λ items. IsTextReading text.now (map plain_item items.items)) }
 {
     let mut items = Vec::new(alloc);
     let mut rest = text;

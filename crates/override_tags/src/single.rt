@@ -3,7 +3,7 @@
 ghost use Rattle.std.specs.Prelude.{◌≡◌, ◌∷◌, [], IfOk};
 ghost use Rattle.std.specs.Option.{option_map};
 ghost use Rattle.override_tags.specs.declared.tag.Tag.{Number, Colour, Alpha, Move, Fade};
-ghost use Rattle.override_tags.specs.Singles.{whole, is_wrap_style, wrap_of, align_of, old_align_of, karaoke_of, pos_of, org_of, move_of, fade_of, numbered_of, ReadsNumbered, ReadsSingle};
+ghost use Rattle.override_tags.specs.Singles.{whole, is_wrap_style, wrap_tag, align_of, old_align_of, karaoke_of, pos_of, org_of, move_of, fade_of, numbered_of, ReadsNumbered, ReadsSingle};
 
 use crate::clip::clip_tag;
 use crate::tag::Tag;
@@ -37,7 +37,7 @@ fn is_wrap_style(value: Milli) -> bool
 }
 
 fn wrap_tag(value: Option<Option<Milli>>) -> Option<Tag>
-    ensures { result ≡ wrap_of value }
+    ensures { result ≡ wrap_tag value }
 {
     match value {
         None => None,

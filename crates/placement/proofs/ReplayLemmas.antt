@@ -9,8 +9,8 @@ use Rattle.std.proofs.lemmas.List.Sorted.{All-permutation}
 use Rattle.std.proofs.lemmas.Int.{ints}
 use Rattle.placement.specs.declared.boxes.Box2.{Box2}
 use Rattle.placement.specs.declared.boxes.Stand.{Stand}
-use Rattle.placement.specs.Placement.{moved, moved_stand, placed, ends_after, places, places_after, IsLeastShift, IsWithin, IsPlaceable, AreLeastShifts, AreInOrder}
-use Rattle.placement.proofs.ShiftLemmas.{least-permutation, least-IsWithin, IsWithin-wider}
+use Rattle.placement.specs.Placement.{moved_box, moved_stand, placed_stands, ends_after, boxes_of, places_after, IsLeastShift, IsBoxWithin, IsPlaceableStand, AreLeastShifts, AreInOrder}
+use Rattle.placement.proofs.ShiftLemmas.{least-permutation, least-IsWithin, IsBoxWithin-wider}
 
 -- what ends after a time ends after an earlier one
 ends_earlier : (s : Stand) (t u : ℤ) → t ≤ℤ u → ends_after u s ≡ true → ends_after t s ≡ true
@@ -29,7 +29,7 @@ filter-filter t u (s ∷ stands) l =
           ]
     ]
 
-placed-push : (stands : List Stand) (shifts : List ℤ) (s : Stand) (shift : ℤ) → length stands ≡ length shifts → placed (stands ++ s ∷ []) (shifts ++ shift ∷ []) ≡ placed stands shifts ++ moved_stand shift s ∷ []
+placed-push : (stands : List Stand) (shifts : List ℤ) (s : Stand) (shift : ℤ) → length stands ≡ length shifts → placed_stands (stands ++ s ∷ []) (shifts ++ shift ∷ []) ≡ placed_stands stands shifts ++ moved_stand shift s ∷ []
 placed-push [] [] s shift e = refl
 placed-push [] (x ∷ shifts) s shift e = absurd (omega arith)
 placed-push (r ∷ stands) [] s shift e = absurd (omega arith)
@@ -38,9 +38,9 @@ placed-push (r ∷ stands) (x ∷ shifts) s shift e = ap (λ (rest : List Stand)
 -- the replay has come to the stand at `index`
 pub record Replayed (stands shown : List Stand) (shifts : List ℤ) (index : ℕ) : Type 0 where
   pub count : length shifts ≡ index
-  pub least : (k : ℕ) (s : Stand) → k < index → s ≡ get_or stands k s → IsLeastShift s.place (places_after s.start (placed (take k stands) (take k shifts))) s.down (get_or shifts k (pos 0))
-  pub serve : (time : ℤ) (d : Stand) → index < length stands → (get_or stands index d).start ≤ℤ time → filter (ends_after time) shown ≡ filter (ends_after time) (placed (take index stands) shifts)
-  pub near : All (λ (s : Stand). IsWithin (pos (2 ^ 50 + index * 2 ^ 40)) s.place) shown
+  pub least : (k : ℕ) (s : Stand) → k < index → s ≡ get_or stands k s → IsLeastShift s.place (places_after s.start (placed_stands (take k stands) (take k shifts))) s.down (get_or shifts k (pos 0))
+  pub serve : (time : ℤ) (d : Stand) → index < length stands → (get_or stands index d).start ≤ℤ time → filter (ends_after time) shown ≡ filter (ends_after time) (placed_stands (take index stands) shifts)
+  pub near : All (λ (s : Stand). IsBoxWithin (pos (2 ^ 50 + index * 2 ^ 40)) s.place) shown
 
 pub Replayed-none : (stands : List Stand) → Replayed stands [] [] 0
 Replayed-none stands = record {
@@ -54,17 +54,17 @@ Replayed-none stands = record {
 abbrev pub kept : List Stand → Stand → List Stand
 kept shown s = filter (ends_after s.start) shown
 
-kept_are : (stands shown : List Stand) (shifts : List ℤ) (index : ℕ) (s : Stand) → index < length stands → s ≡ get_or stands index s → Replayed stands shown shifts index → kept shown s ≡ kept (placed (take index stands) shifts) s
+kept_are : (stands shown : List Stand) (shifts : List ℤ) (index : ℕ) (s : Stand) → index < length stands → s ≡ get_or stands index s → Replayed stands shown shifts index → kept shown s ≡ kept (placed_stands (take index stands) shifts) s
 kept_are stands shown shifts index s l e r = r.serve s.start s l (let q : (get_or stands index s).start ≡ s.start = ap (λ (x : Stand). x.start) (sym e) in omega (arith, ints, q))
 
-pub kept_near : (stands shown : List Stand) (shifts : List ℤ) (index : ℕ) (s : Stand) → Replayed stands shown shifts index → All (IsWithin (pos (2 ^ 50 + index * 2 ^ 40))) (places (kept shown s))
+pub kept_near : (stands shown : List Stand) (shifts : List ℤ) (index : ℕ) (s : Stand) → Replayed stands shown shifts index → All (IsBoxWithin (pos (2 ^ 50 + index * 2 ^ 40))) (boxes_of (kept shown s))
 kept_near stands shown shifts index s r =
-    let near = λ (x : Stand). IsWithin (pos (2 ^ 50 + index * 2 ^ 40)) x.place in
-    All-map (IsWithin (pos (2 ^ 50 + index * 2 ^ 40))) (λ (x : Stand). x.place) (kept shown s) (All-filter (ends_after s.start) near shown r.near)
+    let near = λ (x : Stand). IsBoxWithin (pos (2 ^ 50 + index * 2 ^ 40)) x.place in
+    All-map (IsBoxWithin (pos (2 ^ 50 + index * 2 ^ 40))) (λ (x : Stand). x.place) (kept shown s) (All-filter (ends_after s.start) near shown r.near)
 
-later_least : (stands : List Stand) (shifts : List ℤ) (shift : ℤ) (index : ℕ) (s : Stand) → index ≡ length shifts → index < length stands → s ≡ get_or stands index s → IsLeastShift s.place (places_after s.start (placed (take index stands) shifts)) s.down shift
-    → ((k : ℕ) (r : Stand) → k < index → r ≡ get_or stands k r → IsLeastShift r.place (places_after r.start (placed (take k stands) (take k shifts))) r.down (get_or shifts k (pos 0)))
-    → (k : ℕ) (r : Stand) → k < index + 1 → r ≡ get_or stands k r → IsLeastShift r.place (places_after r.start (placed (take k stands) (take k (shifts ++ shift ∷ [])))) r.down (get_or (shifts ++ shift ∷ []) k (pos 0))
+later_least : (stands : List Stand) (shifts : List ℤ) (shift : ℤ) (index : ℕ) (s : Stand) → index ≡ length shifts → index < length stands → s ≡ get_or stands index s → IsLeastShift s.place (places_after s.start (placed_stands (take index stands) shifts)) s.down shift
+    → ((k : ℕ) (r : Stand) → k < index → r ≡ get_or stands k r → IsLeastShift r.place (places_after r.start (placed_stands (take k stands) (take k shifts))) r.down (get_or shifts k (pos 0)))
+    → (k : ℕ) (r : Stand) → k < index + 1 → r ≡ get_or stands k r → IsLeastShift r.place (places_after r.start (placed_stands (take k stands) (take k (shifts ++ shift ∷ [])))) r.down (get_or (shifts ++ shift ∷ []) k (pos 0))
 later_least stands shifts shift index s n l e here before k r b f =
     elim (cases_lt k index) [
       | inl below ↦
@@ -78,7 +78,7 @@ later_least stands shifts shift index s n l e here before k r b f =
 
 later_shown : (stands shown : List Stand) (shifts : List ℤ) (shift : ℤ) (index : ℕ) (s : Stand) → index ≡ length shifts → index < length stands → s ≡ get_or stands index s → AreInOrder stands → Replayed stands shown shifts index
     → (time : ℤ) (d : Stand) → index + 1 < length stands → (get_or stands (index + 1) d).start ≤ℤ time
-    → filter (ends_after time) (kept shown s ++ moved_stand shift s ∷ []) ≡ filter (ends_after time) (placed (take (index + 1) stands) (shifts ++ shift ∷ []))
+    → filter (ends_after time) (kept shown s ++ moved_stand shift s ∷ []) ≡ filter (ends_after time) (placed_stands (take (index + 1) stands) (shifts ++ shift ∷ []))
 later_shown stands shown shifts shift index s n l e order r time d m t =
     let o = order index d m in
     let q : (get_or stands index d).start ≡ s.start = ap (λ (x : Stand). x.start) (get_or_default stands index d s l ∙ sym e) in
@@ -90,30 +90,30 @@ later_shown stands shown shifts shift index s n l e order r time d m t =
     let w : length (take index stands) ≡ length shifts = omega (arith, length-take index stands) in
     filter-append (ends_after time) (kept shown s) added
     ∙ ap (λ (x : List Stand). x ++ z added) (filter-filter s.start time shown u ∙ r.serve time d l p)
-    ∙ sym (filter-append (ends_after time) (placed (take index stands) shifts) added)
-    ∙ ap z (sym (ap (λ (x : List Stand). placed x (shifts ++ shift ∷ [])) more ∙ placed-push (take index stands) shifts s shift w))
+    ∙ sym (filter-append (ends_after time) (placed_stands (take index stands) shifts) added)
+    ∙ ap z (sym (ap (λ (x : List Stand). placed_stands x (shifts ++ shift ∷ [])) more ∙ placed-push (take index stands) shifts s shift w))
 
 -- one stand more
-pub Replayed-more : (stands shown : List Stand) (shifts : List ℤ) (shift : ℤ) (others : List Box2) (index : ℕ) (s : Stand) → AreInOrder stands → All IsPlaceable stands → index < length stands → s ≡ get_or stands index s
-    → IsPermutation (places (kept shown s)) others → IsLeastShift s.place others s.down shift → Replayed stands shown shifts index
+pub Replayed-more : (stands shown : List Stand) (shifts : List ℤ) (shift : ℤ) (others : List Box2) (index : ℕ) (s : Stand) → AreInOrder stands → All IsPlaceableStand stands → index < length stands → s ≡ get_or stands index s
+    → IsPermutation (boxes_of (kept shown s)) others → IsLeastShift s.place others s.down shift → Replayed stands shown shifts index
     → Replayed stands (kept shown s ++ moved_stand shift s ∷ []) (shifts ++ shift ∷ []) (index + 1)
 Replayed-more stands shown shifts shift others index s order placeable l e p least r =
     let n : index ≡ length shifts = sym r.count in
-    let known : IsLeastShift s.place (places (kept shown s)) s.down shift = least-permutation s.place (places (kept shown s)) others s.down shift p least in
-    let here : IsLeastShift s.place (places_after s.start (placed (take index stands) shifts)) s.down shift = rw (← kept_are stands shown shifts index s l e r) known in
-    let fits : IsPlaceable s = (let P : Stand → Type 0 = IsPlaceable in subst P (sym e) (placeable index s l)) in
+    let known : IsLeastShift s.place (boxes_of (kept shown s)) s.down shift = least-permutation s.place (boxes_of (kept shown s)) others s.down shift p least in
+    let here : IsLeastShift s.place (places_after s.start (placed_stands (take index stands) shifts)) s.down shift = rw (← kept_are stands shown shifts index s l e r) known in
+    let fits : IsPlaceableStand s = (let P : Stand → Type 0 = IsPlaceableStand in subst P (sym e) (placeable index s l)) in
     let bound = 2 ^ 50 + index * 2 ^ 40 in
-    let wide : IsWithin (pos bound) s.place = IsWithin-wider (2 ^ 50) bound s.place (omega arith) fits.within in
-    let placed_near : IsWithin (pos (bound + 2 ^ 40)) (moved s.down shift s.place) = least-IsWithin s.place (places (kept shown s)) s.down bound (2 ^ 40) shift wide (kept_near stands shown shifts index s r) fits.height known in
+    let wide : IsBoxWithin (pos bound) s.place = IsBoxWithin-wider (2 ^ 50) bound s.place (omega arith) fits.within in
+    let placed_near : IsBoxWithin (pos (bound + 2 ^ 40)) (moved_box s.down shift s.place) = least-IsWithin s.place (boxes_of (kept shown s)) s.down bound (2 ^ 40) shift wide (kept_near stands shown shifts index s r) fits.height known in
     let next : bound + 2 ^ 40 ≡ 2 ^ 50 + (index + 1) * 2 ^ 40 = omega arith in
-    let Near = λ (x : Stand). IsWithin (pos (2 ^ 50 + index * 2 ^ 40)) x.place in
-    let Wide = λ (x : Stand). IsWithin (pos (2 ^ 50 + (index + 1) * 2 ^ 40)) x.place in
+    let Near = λ (x : Stand). IsBoxWithin (pos (2 ^ 50 + index * 2 ^ 40)) x.place in
+    let Wide = λ (x : Stand). IsBoxWithin (pos (2 ^ 50 + (index + 1) * 2 ^ 40)) x.place in
     record {
       count = length-append shifts (shift ∷ []) ∙ ap (λ k. k + 1) r.count;
       least = later_least stands shifts shift index s n l e here r.least;
       serve = later_shown stands shown shifts shift index s n l e order r;
       near = All-push Wide (kept shown s) (moved_stand shift s)
-          (All-weaker Near Wide (λ x w. IsWithin-wider bound (2 ^ 50 + (index + 1) * 2 ^ 40) x.place (omega arith) w) (kept shown s) (All-filter (ends_after s.start) Near shown r.near))
+          (All-weaker Near Wide (λ x w. IsBoxWithin-wider bound (2 ^ 50 + (index + 1) * 2 ^ 40) x.place (omega arith) w) (kept shown s) (All-filter (ends_after s.start) Near shown r.near))
           (rw (← next) placed_near);
     }
 
@@ -125,14 +125,14 @@ abbrev pub no_stand : Stand
 no_stand = record { start = pos 0; end = pos 0; place = record { left = pos 0; top = pos 0; right = pos 0; bottom = pos 0 }; down = false }
 
 -- what `replay` sorts
-pub sorted_are : (stands shown dropped slice : List Stand) (boxes sorted : List Box2) (index : ℕ) → dropped ≡ filter (ends_after (get_or stands index no_stand).start) shown → slice ≡ dropped → boxes ≡ places slice → IsPermutation boxes sorted → IsPermutation (places (kept shown (get_or stands index no_stand))) sorted
+pub sorted_are : (stands shown dropped slice : List Stand) (boxes sorted : List Box2) (index : ℕ) → dropped ≡ filter (ends_after (get_or stands index no_stand).start) shown → slice ≡ dropped → boxes ≡ boxes_of slice → IsPermutation boxes sorted → IsPermutation (boxes_of (kept shown (get_or stands index no_stand))) sorted
 sorted_are stands shown dropped slice boxes sorted index e f g p =
     let P : List Box2 → Type 0 = λ x. IsPermutation x sorted in
-    subst P (g ∙ ap places (f ∙ e)) p
+    subst P (g ∙ ap boxes_of (f ∙ e)) p
 
 -- the boxes lie within reach
-pub sorted_near : (stands shown : List Stand) (shifts : List ℤ) (sorted : List Box2) (index : ℕ) → length stands ≤ 1000000 → index < length stands → IsPermutation (places (kept shown (get_or stands index no_stand))) sorted → Replayed stands shown shifts index → All (IsWithin (pos (2 ^ 61))) sorted
+pub sorted_near : (stands shown : List Stand) (shifts : List ℤ) (sorted : List Box2) (index : ℕ) → length stands ≤ 1000000 → index < length stands → IsPermutation (boxes_of (kept shown (get_or stands index no_stand))) sorted → Replayed stands shown shifts index → All (IsBoxWithin (pos (2 ^ 61))) sorted
 sorted_near stands shown shifts sorted index few l p r =
     let bound = 2 ^ 50 + index * 2 ^ 40 in
-    All-weaker (IsWithin (pos bound)) (IsWithin (pos (2 ^ 61))) (λ x w. IsWithin-wider bound (2 ^ 61) x (omega arith) w) sorted
-    (All-permutation (IsWithin (pos bound)) (places (kept shown (get_or stands index no_stand))) sorted p (kept_near stands shown shifts index (get_or stands index no_stand) r))
+    All-weaker (IsBoxWithin (pos bound)) (IsBoxWithin (pos (2 ^ 61))) (λ x w. IsBoxWithin-wider bound (2 ^ 61) x (omega arith) w) sorted
+    (All-permutation (IsBoxWithin (pos bound)) (boxes_of (kept shown (get_or stands index no_stand))) sorted p (kept_near stands shown shifts index (get_or stands index no_stand) r))

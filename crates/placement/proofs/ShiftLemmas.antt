@@ -8,15 +8,15 @@ use Rattle.std.proofs.lemmas.List.{get_or_default}
 use Rattle.std.proofs.lemmas.Int.{ints, by_lt_z}
 use Rattle.std.proofs.lemmas.List.Sorted.{All-permutation, IsPermutation-sym}
 use Rattle.placement.specs.declared.boxes.Box2.{Box2}
-use Rattle.placement.specs.Placement.{Meet, moved, IsClear, IsLeastShift, IsWithin, IsShift, passing}
+use Rattle.placement.specs.Placement.{Meet, moved_box, IsClear, IsLeastShift, IsBoxWithin, IsShift, passing}
 
 -- a box that is met is passed later
-pub passing-later : (down : Bool) (b other : Box2) (s : ℤ) → Meet (moved down s b) other → s <ℤ passing down b other
+pub passing-later : (down : Bool) (b other : Box2) (s : ℤ) → Meet (moved_box down s b) other → s <ℤ passing down b other
 passing-later true b other s m = let h = m.1.2 in omega (arith, ints, h)
 passing-later false b other s m = let h = m.1.3 in omega (arith, ints, h)
 
 -- no shift between is clear of it
-pub passing-least : (down : Bool) (b other : Box2) (s t : ℤ) → Meet (moved down s b) other → s ≤ℤ t → (Meet (moved down t b) other → ⊥) → passing down b other ≤ℤ t
+pub passing-least : (down : Bool) (b other : Box2) (s t : ℤ) → Meet (moved_box down s b) other → s ≤ℤ t → (Meet (moved_box down t b) other → ⊥) → passing down b other ≤ℤ t
 passing-least true b other s t m l n =
     by_lt_z t (other.bottom -ℤ b.top)
     (λ (h : t <ℤ (other.bottom -ℤ b.top)).
@@ -34,7 +34,7 @@ passing-least false b other s t m l n =
     absurd (n (m.0, (omega (arith, ints, a), d, omega (arith, ints, e), omega (arith, ints, h)))))
     (λ h. h)
 
-pub passing-IsShift : (down : Bool) (b other : Box2) (s : ℤ) → IsWithin (pos (2 ^ 61)) b → IsWithin (pos (2 ^ 61)) other → IsShift s → Meet (moved down s b) other → IsShift (passing down b other)
+pub passing-IsShift : (down : Bool) (b other : Box2) (s : ℤ) → IsBoxWithin (pos (2 ^ 61)) b → IsBoxWithin (pos (2 ^ 61)) other → IsShift s → Meet (moved_box down s b) other → IsShift (passing down b other)
 passing-IsShift true b other s p q f m =
     let l : s <ℤ (other.bottom -ℤ b.top) = passing-later true b other s m in
     let z = f.from_zero in
@@ -53,7 +53,7 @@ abbrev pub Reaches : Bool → ℤ → Box2 → ℤ → Type 0
 Reaches true limit b s = (b.top +ℤ s) ≤ℤ limit
 Reaches false limit b s = neg_ℤ limit ≤ℤ (b.bottom -ℤ s)
 
-clear_beyond : (down : Bool) (b other : Box2) (limit s : ℤ) → IsWithin limit other → (Reaches down limit b (s +ℤ pos 1) → ⊥) → Meet (moved down s b) other → ⊥
+clear_beyond : (down : Bool) (b other : Box2) (limit s : ℤ) → IsBoxWithin limit other → (Reaches down limit b (s +ℤ pos 1) → ⊥) → Meet (moved_box down s b) other → ⊥
 clear_beyond true b other limit s w n m =
     let h = m.1.2 in
     let u = w.bottom.1 in
@@ -67,7 +67,7 @@ reaches_or : (down : Bool) (b : Box2) (limit s : ℤ) (P : Type 0) → (Reaches 
 reaches_or true b limit s P reach beyond = by_lt_z limit (b.top +ℤ s) (λ (h : limit <ℤ (b.top +ℤ s)). beyond (λ (r : (b.top +ℤ s) ≤ℤ limit). omega (arith, ints, h, r))) reach
 reaches_or false b limit s P reach beyond = by_lt_z (b.bottom -ℤ s) (neg_ℤ limit) (λ (h : (b.bottom -ℤ s) <ℤ neg_ℤ limit). beyond (λ (r : neg_ℤ limit ≤ℤ (b.bottom -ℤ s)). omega (arith, ints, h, r))) reach
 
-some_shift : (down : Bool) (b : Box2) (limit s : ℤ) → IsWithin limit b → pos 0 ≤ℤ s → (Reaches down limit b s → ⊥) → pos 0 ≤ℤ (s -ℤ pos 1)
+some_shift : (down : Bool) (b : Box2) (limit s : ℤ) → IsBoxWithin limit b → pos 0 ≤ℤ s → (Reaches down limit b s → ⊥) → pos 0 ≤ℤ (s -ℤ pos 1)
 some_shift true b limit s w z n =
     by_lt_z (pos 0) s
     (λ (h : pos 0 <ℤ s). omega (arith, ints, h))
@@ -78,7 +78,7 @@ some_shift false b limit s w z n =
     (λ (h : s ≤ℤ pos 0). let u = w.bottom.0 in absurd (n (omega (arith, ints, h, z, u))))
 
 -- the least shift brings the box no further than just past the others
-pub least-Reaches : (down : Bool) (b : Box2) (others : List Box2) (limit s : ℤ) → IsWithin limit b → All (IsWithin limit) others → IsLeastShift b others down s → Reaches down limit b s
+pub least-Reaches : (down : Bool) (b : Box2) (others : List Box2) (limit s : ℤ) → IsBoxWithin limit b → All (IsBoxWithin limit) others → IsLeastShift b others down s → Reaches down limit b s
 least-Reaches down b others limit s w ws least =
     let z = least.from_zero in
     reaches_or down b limit s (Reaches down limit b s) (λ r. r)
@@ -91,7 +91,7 @@ least-Reaches down b others limit s w ws least =
     absurd (omega (arith, ints, g)))
 
 -- so it fits
-pub least-IsShift : (b : Box2) (others : List Box2) (down : Bool) (s : ℤ) → IsWithin (pos (2 ^ 61)) b → All (IsWithin (pos (2 ^ 61))) others → IsLeastShift b others down s → IsShift s
+pub least-IsShift : (b : Box2) (others : List Box2) (down : Bool) (s : ℤ) → IsBoxWithin (pos (2 ^ 61)) b → All (IsBoxWithin (pos (2 ^ 61))) others → IsLeastShift b others down s → IsShift s
 least-IsShift b others true s w ws least =
     let r : (b.top +ℤ s) ≤ℤ pos (2 ^ 61) = least-Reaches true b others (pos (2 ^ 61)) s w ws least in
     let u = w.top.0 in
@@ -102,7 +102,7 @@ least-IsShift b others false s w ws least =
     record { from_zero = least.from_zero; bounded = omega (arith, ints, r, u) }
 
 -- and the moved box lies further out than the limit by no more than its height
-pub least-IsWithin : (b : Box2) (others : List Box2) (down : Bool) (n h : ℕ) (s : ℤ) → IsWithin (pos n) b → All (IsWithin (pos n)) others → b.bottom ≤ℤ (b.top +ℤ pos h) → IsLeastShift b others down s → IsWithin (pos (n + h)) (moved down s b)
+pub least-IsWithin : (b : Box2) (others : List Box2) (down : Bool) (n h : ℕ) (s : ℤ) → IsBoxWithin (pos n) b → All (IsBoxWithin (pos n)) others → b.bottom ≤ℤ (b.top +ℤ pos h) → IsLeastShift b others down s → IsBoxWithin (pos (n + h)) (moved_box down s b)
 least-IsWithin b others true n h s w ws high least =
     let r : (b.top +ℤ s) ≤ℤ pos n = least-Reaches true b others (pos n) s w ws least in
     let z = least.from_zero in
@@ -130,8 +130,8 @@ least-IsWithin b others false n h s w ws high least =
       bottom = (omega (arith, ints, r), omega (arith, ints, u.1, z));
     }
 
-pub IsWithin-wider : (n m : ℕ) (b : Box2) → n ≤ m → IsWithin (pos n) b → IsWithin (pos m) b
-IsWithin-wider n m b l w =
+pub IsBoxWithin-wider : (n m : ℕ) (b : Box2) → n ≤ m → IsBoxWithin (pos n) b → IsBoxWithin (pos m) b
+IsBoxWithin-wider n m b l w =
     let p = w.left in
     let t = w.top in
     let g = w.right in
@@ -148,8 +148,8 @@ pub least-permutation : (b : Box2) (xs ys : List Box2) (down : Bool) (s : ℤ) �
 least-permutation b xs ys down s p least =
     record {
       from_zero = least.from_zero;
-      clear = All-permutation (λ other. Meet (moved down s b) other → ⊥) ys xs (IsPermutation-sym xs ys p) least.clear;
-      least = λ t z c. least.least t z (All-permutation (λ other. Meet (moved down t b) other → ⊥) xs ys p c);
+      clear = All-permutation (λ other. Meet (moved_box down s b) other → ⊥) ys xs (IsPermutation-sym xs ys p) least.clear;
+      least = λ t z c. least.least t z (All-permutation (λ other. Meet (moved_box down t b) other → ⊥) xs ys p c);
     }
 
 -- what is left of the way falls
@@ -161,9 +161,9 @@ pub record Hops (b : Box2) (others : List Box2) (down : Bool) (from shift : ℤ)
   pub fits : IsShift shift
   pub onward : from ≤ℤ shift
   pub least : (t : ℤ) → from ≤ℤ t → IsClear b others down t → shift ≤ℤ t
-  pub stays : shift ≡ from → (k : ℕ) (d : Box2) → k < index → Meet (moved down from b) (get_or others k d) → ⊥
+  pub stays : shift ≡ from → (k : ℕ) (d : Box2) → k < index → Meet (moved_box down from b) (get_or others k d) → ⊥
 
-pub Hops-met : (b : Box2) (others : List Box2) (down : Bool) (from shift : ℤ) (index : ℕ) (d : Box2) → IsWithin (pos (2 ^ 61)) b → All (IsWithin (pos (2 ^ 61))) others → index < length others → Meet (moved down shift b) (get_or others index d) → Hops b others down from shift index → Hops b others down from (passing down b (get_or others index d)) (index + 1)
+pub Hops-met : (b : Box2) (others : List Box2) (down : Bool) (from shift : ℤ) (index : ℕ) (d : Box2) → IsBoxWithin (pos (2 ^ 61)) b → All (IsBoxWithin (pos (2 ^ 61))) others → index < length others → Meet (moved_box down shift b) (get_or others index d) → Hops b others down from shift index → Hops b others down from (passing down b (get_or others index d)) (index + 1)
 Hops-met b others down from shift index d w ws l m h =
     let other = get_or others index d in
     let p = passing-later down b other shift m in
@@ -175,14 +175,14 @@ Hops-met b others down from shift index d w ws l m h =
       stays = λ e. absurd (omega (arith, ints, p, o, e));
     }
 
-pub Hops-clear : (b : Box2) (others : List Box2) (down : Bool) (from shift : ℤ) (index : ℕ) (d : Box2) → index < length others → (Meet (moved down shift b) (get_or others index d) → ⊥) → Hops b others down from shift index → Hops b others down from shift (index + 1)
+pub Hops-clear : (b : Box2) (others : List Box2) (down : Bool) (from shift : ℤ) (index : ℕ) (d : Box2) → index < length others → (Meet (moved_box down shift b) (get_or others index d) → ⊥) → Hops b others down from shift index → Hops b others down from shift (index + 1)
 Hops-clear b others down from shift index d l n h =
     record {
       fits = h.fits;
       onward = h.onward;
       least = h.least;
       stays = λ e.
-          let here : Meet (moved down from b) (get_or others index d) → ⊥ = rw e at n in
+          let here : Meet (moved_box down from b) (get_or others index d) → ⊥ = rw e at n in
           λ k f j. elim (cases_lt k index) [
             | inl below ↦ h.stays e k f below
             | inr above ↦

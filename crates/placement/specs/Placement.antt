@@ -14,13 +14,13 @@ abbrev pub Meet : Box2 → Box2 → Type 0
 Meet a b = Overlap a.left a.right b.left b.right × Overlap a.top a.bottom b.top b.bottom
 
 -- the box, moved by `shift` down or up
-abbrev pub moved : Bool → ℤ → Box2 → Box2
-moved true shift b = record b { top = b.top +ℤ shift; bottom = b.bottom +ℤ shift }
-moved false shift b = record b { top = b.top -ℤ shift; bottom = b.bottom -ℤ shift }
+abbrev pub moved_box : Bool → ℤ → Box2 → Box2
+moved_box true shift b = record b { top = b.top +ℤ shift; bottom = b.bottom +ℤ shift }
+moved_box false shift b = record b { top = b.top -ℤ shift; bottom = b.bottom -ℤ shift }
 
 -- The box, moved by `shift`, meets none of the others.
 abbrev pub IsClear : Box2 → List Box2 → Bool → ℤ → Type 0
-IsClear b others down shift = All (λ other. Meet (moved down shift b) other → ⊥) others
+IsClear b others down shift = All (λ other. Meet (moved_box down shift b) other → ⊥) others
 
 -- Of the numbers from 0 on, `shift` is the least by which the box is moved clear of the others.
 pub record IsLeastShift (b : Box2) (others : List Box2) (down : Bool) (shift : ℤ) : Type 0 where
@@ -30,32 +30,32 @@ pub record IsLeastShift (b : Box2) (others : List Box2) (down : Bool) (shift : �
 
 -- the stand with its box moved
 abbrev pub moved_stand : ℤ → Stand → Stand
-moved_stand shift s = record s { place = moved s.down shift s.place }
+moved_stand shift s = record s { place = moved_box s.down shift s.place }
 
 -- each stand with its box where its shift puts it
-abbrev pub placed : List Stand → List ℤ → List Stand
-placed [] shifts = []
-placed (s ∷ stands) [] = []
-placed (s ∷ stands) (shift ∷ shifts) = moved_stand shift s ∷ placed stands shifts
+abbrev pub placed_stands : List Stand → List ℤ → List Stand
+placed_stands [] shifts = []
+placed_stands (s ∷ stands) [] = []
+placed_stands (s ∷ stands) (shift ∷ shifts) = moved_stand shift s ∷ placed_stands stands shifts
 
 -- The stand ends after `time`.
 abbrev pub ends_after : ℤ → Stand → Bool
 ends_after time s = int_lt time s.end
 
 -- the stands' boxes
-abbrev pub places : List Stand → List Box2
-places stands = map (λ (s : Stand). s.place) stands
+abbrev pub boxes_of : List Stand → List Box2
+boxes_of stands = map (λ (s : Stand). s.place) stands
 
 -- the boxes of the stands that end after `time`
 abbrev pub places_after : ℤ → List Stand → List Box2
-places_after time stands = places (filter (ends_after time) stands)
+places_after time stands = boxes_of (filter (ends_after time) stands)
 
 -- Each shift is the least that keeps its stand's box clear of the boxes, where they were moved to, of all stands before it in the list
 -- that end after it starts.
 pub record AreLeastShifts (stands : List Stand) (shifts : List ℤ) : Type 0 where
   pub each : length shifts ≡ length stands
   pub least : (k : ℕ) (s : Stand) → k < length stands → s ≡ slice_index_or stands k s
-      → IsLeastShift s.place (places_after s.start (placed (take k stands) (take k shifts))) s.down (slice_index_or shifts k (pos 0))
+      → IsLeastShift s.place (places_after s.start (placed_stands (take k stands) (take k shifts))) s.down (slice_index_or shifts k (pos 0))
 
 -- The stands are in order of start.
 abbrev pub AreInOrder : List Stand → Type 0
@@ -66,15 +66,15 @@ abbrev pub IsNear : ℤ → ℤ → Type 0
 IsNear limit x = (neg_ℤ limit ≤ℤ x) × (x ≤ℤ limit)
 
 -- All four sides lie within `limit` of 0.
-pub record IsWithin (limit : ℤ) (b : Box2) : Type 0 where
+pub record IsBoxWithin (limit : ℤ) (b : Box2) : Type 0 where
   pub left : IsNear limit b.left
   pub top : IsNear limit b.top
   pub right : IsNear limit b.right
   pub bottom : IsNear limit b.bottom
 
 -- The stand's box lies within 2^50 of 0, and is at most 2^40 high.
-pub record IsPlaceable (s : Stand) : Type 0 where
-  pub within : IsWithin (pos (2 ^ 50)) s.place
+pub record IsPlaceableStand (s : Stand) : Type 0 where
+  pub within : IsBoxWithin (pos (2 ^ 50)) s.place
   pub height : s.place.bottom ≤ℤ (s.place.top +ℤ pos (2 ^ 40))
 
 -- a shift that a box within 2^61 of 0 may need

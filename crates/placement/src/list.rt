@@ -3,7 +3,7 @@
 ghost use Rattle.std.specs.Prelude.{◌≡◌, ◌^◌, ◌≤◌, ℤ, pos, length, IfOk, OnOk};
 ghost use Rattle.std.specs.List.{All, filter};
 ghost use Rattle.std.specs.List.Sorted.{IsPermutation};
-ghost use Rattle.placement.specs.Placement.{AreInOrder, AreLeastShifts, IsPlaceable, IsShift, IsWithin, ends_after, moved_stand, places};
+ghost use Rattle.placement.specs.Placement.{AreInOrder, AreLeastShifts, IsPlaceableStand, IsShift, IsBoxWithin, ends_after, moved_stand, boxes_of};
 
 use crate::boxes::{Box2, Stand};
 use crate::shift::{least_shift, moved};
@@ -14,7 +14,7 @@ use std::alloc::Global;
 /// Only the stands that are still shown are kept, so a list in which few stand at once costs no more than its length.
 pub fn replay(alloc: Global, list: &[Stand]) -> Mem<Vec<Fix>>
     requires few { length list.now ≤ 1000000 }
-    requires placeable { All IsPlaceable list.now }
+    requires placeable { All IsPlaceableStand list.now }
     requires in_order { AreInOrder list.now }
     ensures { IfOk result (λ shifts. AreLeastShifts list.now shifts.items) }
 {
@@ -42,7 +42,7 @@ fn drop_ended(shown: &mut Vec<Stand>, next: &Stand)
 
 /// The stand, with its box moved.
 fn moved_stand(stand: &Stand, shift: Fix) -> Stand
-    requires within { IsWithin (pos (2 ^ 61)) stand.now.place }
+    requires within { IsBoxWithin (pos (2 ^ 61)) stand.now.place }
     requires shift { IsShift shift }
     ensures { result ≡ moved_stand shift stand.now }
 {
@@ -54,7 +54,7 @@ fn moved_stand(stand: &Stand, shift: Fix) -> Stand
 
 /// Puts the stands' boxes in place of what `boxes` had.
 fn boxes_of(stands: &[Stand], boxes: &mut Vec<Box2>) -> Mem<()>
-    ensures { OnOk result (boxes.new.items ≡ places stands.now) }
+    ensures { OnOk result (boxes.new.items ≡ boxes_of stands.now) }
 {
     boxes.clear();
     for stand in stands {

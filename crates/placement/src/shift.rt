@@ -2,7 +2,7 @@
 
 ghost use Rattle.std.specs.Prelude.{◌≡◌, ◌↔◌, ◌^◌, ℤ, pos, ◌≤ℤ◌, IsTrue, true};
 ghost use Rattle.std.specs.List.{All};
-ghost use Rattle.placement.specs.Placement.{Meet, Overlap, moved, passing, IsClear, IsLeastShift, IsWithin, IsShift};
+ghost use Rattle.placement.specs.Placement.{Meet, Overlap, moved_box, passing, IsClear, IsLeastShift, IsBoxWithin, IsShift};
 
 use crate::boxes::Box2;
 use ass_num::Fix;
@@ -11,8 +11,8 @@ use ass_num::Fix;
 /// It hops from box to box; where the others come in the order in which `b` gets to them, one walk over them is enough, and a second
 /// one sees that nothing is met.
 pub fn least_shift(b: &Box2, others: &[Box2], down: bool) -> Fix
-    requires within { IsWithin (pos (2 ^ 61)) b.now }
-    requires others_within { All (IsWithin (pos (2 ^ 61))) others.now }
+    requires within { IsBoxWithin (pos (2 ^ 61)) b.now }
+    requires others_within { All (IsBoxWithin (pos (2 ^ 61))) others.now }
     ensures { IsLeastShift b.now others.now down result }
 {
     let mut shift = 0;
@@ -27,8 +27,8 @@ pub fn least_shift(b: &Box2, others: &[Box2], down: bool) -> Fix
 
 /// One walk over the others, past each that is met on the way.
 fn hop(b: &Box2, others: &[Box2], down: bool, from: Fix) -> Fix
-    requires within { IsWithin (pos (2 ^ 61)) b.now }
-    requires others_within { All (IsWithin (pos (2 ^ 61))) others.now }
+    requires within { IsBoxWithin (pos (2 ^ 61)) b.now }
+    requires others_within { All (IsBoxWithin (pos (2 ^ 61))) others.now }
     requires shift { IsShift from }
     ensures shift { IsShift result }
     ensures onward { from ≤ℤ result }
@@ -46,9 +46,9 @@ fn hop(b: &Box2, others: &[Box2], down: bool, from: Fix) -> Fix
 
 /// The box, moved by a shift.
 pub(crate) fn moved(b: &Box2, down: bool, shift: Fix) -> Box2
-    requires within { IsWithin (pos (2 ^ 61)) b.now }
+    requires within { IsBoxWithin (pos (2 ^ 61)) b.now }
     requires shift { IsShift shift }
-    ensures { result ≡ moved down shift b.now }
+    ensures { result ≡ moved_box down shift b.now }
 {
     if down {
         Box2 {
@@ -79,8 +79,8 @@ fn overlap(a: Fix, b: Fix, c: Fix, d: Fix) -> bool
 
 /// The shift from which on the box is past the other one.
 fn shift_past(b: &Box2, other: &Box2, down: bool) -> Fix
-    requires within { IsWithin (pos (2 ^ 61)) b.now }
-    requires other_within { IsWithin (pos (2 ^ 61)) other.now }
+    requires within { IsBoxWithin (pos (2 ^ 61)) b.now }
+    requires other_within { IsBoxWithin (pos (2 ^ 61)) other.now }
     ensures { result ≡ passing down b.now other.now }
 {
     if down {

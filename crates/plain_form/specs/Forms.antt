@@ -6,13 +6,13 @@ use Rattle.std.specs.Option.{option_map, option_map_or}
 use Rattle.std.specs.Ordering.{int_eq}
 use Rattle.std.specs.Str.{chars}
 use Rattle.ass_num.specs.declared.colour.Rgba.{Rgba}
-use Rattle.ass_script.specs.Scripts.{PlainScript, style_named}
+use Rattle.ass_script.specs.Scripts.{ScriptValue, style_named}
 use Rattle.ass_script.specs.declared.style.Style.{Style}
 use Rattle.ass_script.specs.Styles.{built_in_style}
 use Rattle.ass_events.specs.declared.event.Event.{Event}
 use Rattle.ass_events.specs.declared.event.ChunkRefusal.{ChunkRefusal}
 use Rattle.ass_events.specs.Events.{event_of_line}
-use Rattle.bdf_font.specs.Fonts.{PlainFont}
+use Rattle.bdf_font.specs.Fonts.{FontValue}
 use Rattle.plain_picture.specs.Pictures.{line_covers, picture, small_font}
 use Rattle.plain_form.specs.declared.line.PlainLine.{PlainLine}
 
@@ -37,8 +37,8 @@ abbrev pub is_plain_byte : ℕ → Bool
 is_plain_byte b = not (b == 123) && not (b == 92) && not (b == 9)
 
 -- the font's height in its own pixels, at least 1
-abbrev pub height_of : PlainFont → ℕ
-height_of font = unsigned_abs (int_max (pos 1) (font.ascent +ℤ font.descent))
+abbrev pub font_height : FontValue → ℕ
+font_height font = unsigned_abs (int_max (pos 1) (font.ascent +ℤ font.descent))
 
 abbrev pub zoom_from : ℕ → ℕ → Option ℕ
 zoom_from size unit = if (size % unit == 0) && nat_le 1 (size / unit) && nat_le (size / unit) 16 then Some (size / unit) else None
@@ -49,30 +49,30 @@ zoom_of (pos size) height = zoom_from size (1000 * height)
 zoom_of (negsuc size) height = None
 
 -- the style that an event's name for it means
-abbrev pub style_for : PlainScript → Event → Style
+abbrev pub style_for : ScriptValue → Event → Style
 style_for script e = option_map_or (λ s. s) (option_map_or (slice_get script.styles) (style_named e.style script.styles) None) built_in_style
 
 -- the line of an event in a style
-abbrev pub line_at : ℕ → Style → Event → PlainLine
-line_at zoom s e = record { zoom = zoom; colour = primary_of s; text = e.text; start = e.start; duration = e.duration }
+abbrev pub plain_line_at : ℕ → Style → Event → PlainLine
+plain_line_at zoom s e = record { zoom = zoom; colour = primary_of s; text = e.text; start = e.start; duration = e.duration }
 
 -- what an event of the plain form shows in a style and a font
-abbrev pub line_in : Style → Event → PlainFont → Option PlainLine
-line_in s e font =
+abbrev pub plain_line_in : Style → Event → FontValue → Option PlainLine
+plain_line_in s e font =
     if is_plain_style s && is_at_corner s e && list_all is_plain_byte e.text && small_font font
-    then option_map (λ zoom. line_at zoom s e) (zoom_of s.size (height_of font))
+    then option_map (λ zoom. plain_line_at zoom s e) (zoom_of s.size (font_height font))
     else None
 
-abbrev pub line_of_event : PlainScript → PlainFont → Result Event ChunkRefusal → Option PlainLine
-line_of_event script font (Ok e) = line_in (style_for script e) e font
+abbrev pub line_of_event : ScriptValue → FontValue → Result Event ChunkRefusal → Option PlainLine
+line_of_event script font (Ok e) = plain_line_in (style_for script e) e font
 line_of_event script font (Err refusal) = None
 
 -- a script of one line, without wrapping, for a frame of this size
-abbrev pub is_for : PlainScript → ℕ → ℕ → Bool
+abbrev pub is_for : ScriptValue → ℕ → ℕ → Bool
 is_for script w h = (length script.lines == 1) && (script.header.res_x == w) && (script.header.res_y == h) && (script.header.wrap == 2)
 
 -- What a script of the plain form shows with a font on a frame of w by h pixels; other scripts show none.
-unfoldable pub plain_line_of : PlainScript → PlainFont → ℕ → ℕ → Option PlainLine
+unfoldable pub plain_line_of : ScriptValue → FontValue → ℕ → ℕ → Option PlainLine
 plain_line_of script font w h = if is_for script w h then line_of_event script font (event_of_line script 0) else None
 
 -- an instant lies in the line's time
@@ -84,5 +84,5 @@ abbrev pub shown_chars : PlainLine → ℤ → List ℕ
 shown_chars line at = if is_shown line at then chars line.text else []
 
 -- the picture at an instant: the line in its colour while it is shown, on black
-unfoldable pub pixels_of : PlainLine → PlainFont → ℤ → ℕ → ℕ → List ℕ
+unfoldable pub pixels_of : PlainLine → FontValue → ℤ → ℕ → ℕ → List ℕ
 pixels_of line font at w h = picture (line_covers font line.zoom (pos 0) (shown_chars line at)) line.colour w h

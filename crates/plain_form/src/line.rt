@@ -5,8 +5,8 @@ ghost use Rattle.std.specs.List.{list_all};
 ghost use Rattle.plain_picture.specs.Pictures.{small_font};
 ghost use Rattle.ass_script.specs.Ranges.{IsScript};
 ghost use Rattle.ass_events.specs.Events.{event_of_line};
-ghost use Rattle.plain_form.specs.Forms.{is_at_corner, is_for, is_plain_byte, is_plain_style, line_at, line_in, plain_line_of, style_for};
-ghost use Rattle.plain_form.specs.Drawables.{IsDrawable, event_found};
+ghost use Rattle.plain_form.specs.Forms.{is_at_corner, is_for, is_plain_byte, is_plain_style, plain_line_at, plain_line_in, plain_line_of, style_for};
+ghost use Rattle.plain_form.specs.Drawables.{IsPlainDrawable, event_found};
 
 use crate::style::{is_at_corner, is_plain_style, is_plain_text, primary_of, zoom_of};
 use ass_events::{
@@ -68,7 +68,7 @@ fn is_plain(style: &Style, event: &Event, font: &Font) -> bool
 
 // The line of an event in a style.
 fn line_at(alloc: Global, zoom: u32, style: &Style, event: &Event) -> Mem<PlainLine>
-    ensures { IfOk result (λ line. line ≡ line_at zoom style.now event.now) }
+    ensures { IfOk result (λ line. line ≡ plain_line_at zoom style.now event.now) }
 {
     Ok(PlainLine {
         zoom,
@@ -80,8 +80,8 @@ fn line_at(alloc: Global, zoom: u32, style: &Style, event: &Event) -> Mem<PlainL
 }
 
 // What an event shows in a style and a font.
-fn line_in(alloc: Global, style: &Style, event: &Event, font: &Font) -> Mem<Option<PlainLine>>
-    ensures { IfOk result (λ line. line ≡ line_in style.now event.now font.now) }
+fn plain_line_in(alloc: Global, style: &Style, event: &Event, font: &Font) -> Mem<Option<PlainLine>>
+    ensures { IfOk result (λ line. line ≡ plain_line_in style.now event.now font.now) }
 {
     if !is_plain(style, event, font) {
         return Ok(None);
@@ -97,11 +97,11 @@ fn line_in(alloc: Global, style: &Style, event: &Event, font: &Font) -> Mem<Opti
 
 // What an event of a script shows in a font.
 fn line_of(alloc: Global, script: &Script, event: &Event, font: &Font) -> Mem<Option<PlainLine>>
-    ensures { IfOk result (λ line. line ≡ line_in (style_for script.now event.now) event.now font.now) }
+    ensures { IfOk result (λ line. line ≡ plain_line_in (style_for script.now event.now) event.now font.now) }
 {
     match find_style(script, event.style.as_str()) {
         Some(place) => match script.styles().get(place) {
-            Some(style) => line_in(alloc, style, event, font),
+            Some(style) => plain_line_in(alloc, style, event, font),
             None => Ok(None),
         },
         None => Ok(None),
@@ -118,7 +118,7 @@ pub fn plain_line(
 ) -> Mem<Option<PlainLine>>
     requires { IsScript script.now }
     ensures line { IfOk result (λ line. line ≡ plain_line_of script.now font.now size.now.w size.now.h) }
-    ensures drawable { IfOk result (λ line. IfSome line (IsDrawable font.now)) }
+    ensures drawable { IfOk result (λ line. IfSome line (IsPlainDrawable font.now)) }
 {
     if !is_for(script, size) {
         return Ok(None);

@@ -3,7 +3,7 @@
 ghost use Rattle.std.specs.Prelude.{◌≡◌, ◌==◌, ◌&&◌, not, pos, ◌<◌, ◌^◌};
 ghost use Rattle.std.specs.List.{list_all};
 ghost use Rattle.std.specs.Ordering.{int_eq};
-ghost use Rattle.plain_form.specs.Forms.{height_of, is_at_corner, is_plain_byte, is_plain_style, primary_of, zoom_from, zoom_of};
+ghost use Rattle.plain_form.specs.Forms.{font_height, is_at_corner, is_plain_byte, is_plain_style, primary_of, zoom_from, zoom_of};
 
 use ass_events::Event;
 use ass_num::{Milli, Rgba};
@@ -62,8 +62,8 @@ pub fn is_plain_text(text: &str) -> bool
 }
 
 // The height of a font in its own pixels, at least 1.
-fn height_of(font: &Font) -> u64
-    ensures value { result ≡ height_of font.now }
+fn font_height(font: &Font) -> u64
+    ensures value { result ≡ font_height font.now }
     ensures some { 0 < result }
     ensures few { result < 2 ^ 33 }
 {
@@ -88,10 +88,10 @@ fn zoom_from(size: u64, unit: u64) -> Option<u32>
 /// How many pixels wide a pixel of a font is drawn at a size: from 1 to 16, where the size is a whole multiple of the
 /// font's height.
 pub fn zoom_of(size: Milli, font: &Font) -> Option<u32>
-    ensures { result ≡ zoom_of size (height_of font.now) }
+    ensures { result ≡ zoom_of size (font_height font.now) }
 {
     match u64::try_from(size) {
-        Ok(size) => zoom_from(size, 1000 * height_of(font)),
+        Ok(size) => zoom_from(size, 1000 * font_height(font)),
         Err(_) => None,
     }
 }

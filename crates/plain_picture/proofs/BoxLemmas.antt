@@ -2,7 +2,7 @@
 use Rattle.std.proofs.Common.{◌≡◌, ℕ, ℤ, pos, negsuc, ◌+◌, ◌<◌, ◌≤◌, Bool, true, false, not, ◌&&◌, ◌||◌, nat_lt, int_le, int_lt, max, refl, sym, ap, ◌∙◌, arith}
 use Rattle.std.proofs.lemmas.Bool.Decides.{nat_tests}
 use Rattle.plain_picture.specs.declared.fill.PixelBox.{PixelBox}
-use Rattle.plain_picture.specs.Squares.{in_box, in_row, in_box_above}
+use Rattle.plain_picture.specs.Squares.{in_pixel_box, in_row, in_box_above}
 
 int_le-not : (x : ℤ) (i : ℕ) → int_le x (pos i) ≡ not (int_lt (pos i) x)
 int_le-not (pos a) i = grind (arith, nat_tests)
@@ -33,7 +33,7 @@ pub box-begin : (b : PixelBox) (top h : ℕ) → ((i : ℕ) → i < h → nat_lt
 box-begin b top h is x y l = rw (int_le-not b.top y, ← is y l) (flags (int_le b.left (pos x) && int_lt (pos x) b.right) (nat_lt y top) (int_lt (pos y) b.bottom))
 
 pub box-end : (b : PixelBox) (bottom row h : ℕ) → bottom ≤ row → ((i : ℕ) → i < h → nat_lt i bottom ≡ int_lt (pos i) b.bottom)
-    → (x y : ℕ) → y < h → in_box_above b row x y ≡ in_box b x y
+    → (x y : ℕ) → y < h → in_box_above b row x y ≡ in_pixel_box b x y
 box-end b bottom row h le is x y l =
     ap (λ (t : Bool). (int_le b.left (pos x) && int_lt (pos x) b.right) && (int_le b.top (pos y) && t) && nat_lt y row) (sym (is y l))
     ∙ (below-both (int_le b.left (pos x) && int_lt (pos x) b.right) (int_le b.top (pos y)) y bottom row le

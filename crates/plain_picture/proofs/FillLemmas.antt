@@ -8,7 +8,7 @@ use Rattle.std.proofs.Math.Nat.{mul-le-mul_left}
 use borrow.Rule.Slice.PartMut.{put_mid}
 use Rattle.ass_num.specs.declared.colour.Rgba.{Rgba}
 use Rattle.plain_picture.specs.Pictures.{channel}
-use Rattle.plain_picture.specs.Squares.{Adds, in_row}
+use Rattle.plain_picture.specs.Squares.{AddsColour, in_row}
 
 put_mid-below : (a k m : ℕ) (s t : List ℕ) → m < a → a ≤ length s → get_or (put_mid a k s t) m 0 ≡ get_or s m 0
 put_mid-below a k m s t h b = search (rules, places)
@@ -49,7 +49,7 @@ pub row-filled : (row left right w h from len : ℕ) (colour : Rgba) (s t : List
     → from ≡ 3 * (row * w + left) → len ≡ 3 * (row * w + right) - 3 * (row * w + left) → left ≤ right → right ≤ w → row < h
     → length s ≡ 3 * (w * h) → length t ≡ length (take len (drop from s))
     → ((m : ℕ) → m < length (take len (drop from s)) → get_or t m 0 ≡ channel colour (m % 3))
-    → Adds (in_row row left right) colour w s (put_mid from len s t)
+    → AddsColour (in_row row left right) colour w s (put_mid from len s t)
 row-filled row left right w h from len colour s t from_is len_is order inside low count same filled =
     let rows : w * (row + 1) ≤ w * h = mul-le-mul_left w (let p : row + 1 ≤ h = omega arith in p) in
     let fits : from + len ≤ length s = omega (arith, rows) in
@@ -100,7 +100,7 @@ either false false v u = refl
 
 -- Parts that name the same pixels of a frame add the same.
 pub adds-same : {p q : ℕ → ℕ → Bool} {colour : Rgba} (w h : ℕ) (before after : List ℕ) → length before ≡ 3 * (w * h)
-    → ((x y : ℕ) → x < w → y < h → p x y ≡ q x y) → Adds p colour w before after → Adds q colour w before after
+    → ((x y : ℕ) → x < w → y < h → p x y ≡ q x y) → AddsColour p colour w before after → AddsColour q colour w before after
 adds-same {p} {q} {colour} w h before after count same adds = record {
   count = adds.count;
   bytes = λ m less.
@@ -110,7 +110,7 @@ adds-same {p} {q} {colour} w h before after count same adds = record {
 
 -- Nothing adds to a frame what no pixel belongs to.
 pub adds-none : {p : ℕ → ℕ → Bool} {colour : Rgba} (w h : ℕ) (before : List ℕ) → length before ≡ 3 * (w * h)
-    → ((x y : ℕ) → x < w → y < h → p x y ≡ false) → Adds p colour w before before
+    → ((x y : ℕ) → x < w → y < h → p x y ≡ false) → AddsColour p colour w before before
 adds-none {p} {colour} w h before count none = record {
   count = refl;
   bytes = λ m less.
@@ -120,8 +120,8 @@ adds-none {p} {colour} w h before count none = record {
 
 -- One part after another adds both.
 pub adds-both : {p q r : ℕ → ℕ → Bool} {colour : Rgba} (w h : ℕ) (before between after : List ℕ) → length before ≡ 3 * (w * h)
-    → ((x y : ℕ) → x < w → y < h → r x y ≡ (p x y || q x y)) → Adds p colour w before between → Adds q colour w between after
-    → Adds r colour w before after
+    → ((x y : ℕ) → x < w → y < h → r x y ≡ (p x y || q x y)) → AddsColour p colour w before between → AddsColour q colour w between after
+    → AddsColour r colour w before after
 adds-both {p} {q} {r} {colour} w h before between after count both first second = record {
   count = second.count ∙ first.count;
   bytes = λ m less.

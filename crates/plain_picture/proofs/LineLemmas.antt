@@ -9,10 +9,10 @@ use Rattle.ass_num.specs.declared.colour.Rgba.{Rgba}
 use Rattle.std.proofs.lemmas.Int.{ints}
 use Rattle.std.proofs.lemmas.Bool.Decides.{nat_tests}
 use Rattle.bdf_font.specs.declared.glyphs.FontGlyph.{FontGlyph}
-use Rattle.bdf_font.specs.Fonts.{PlainFont, glyph_of}
+use Rattle.bdf_font.specs.Fonts.{FontValue, glyph_of}
 use Rattle.plain_picture.specs.Pencils.{IsSmall}
-use Rattle.plain_picture.specs.Pictures.{advance_of, byte_of, channel, column_of, covers, glyph_for, is_set, line_covers, picture, row_of, small_font, small_glyph}
-use Rattle.plain_picture.specs.Squares.{Adds, pen_after}
+use Rattle.plain_picture.specs.Pictures.{advance_of, picture_byte, channel, column_of, covers, glyph_for, is_set, line_covers, picture, row_of, small_font, small_glyph}
+use Rattle.plain_picture.specs.Squares.{AddsColour, pen_after}
 
 and-first : (a b : Bool) → (a && b) ≡ true → a ≡ true
 and-first true b e = refl
@@ -74,7 +74,7 @@ found-option p xs (Some k) g all e = found p xs k g all e
 found-option p xs None g all e = cc
 
 -- The glyphs of a small font are small, and so is its ascent.
-pub small-found : (font : PlainFont) (c : ℕ) (g : FontGlyph) → small_font font ≡ true → glyph_for font c ≡ Some g → IsSmall g
+pub small-found : (font : FontValue) (c : ℕ) (g : FontGlyph) → small_font font ≡ true → glyph_for font c ≡ Some g → IsSmall g
 small-found font c g small e =
     small-glyph g (found-option small_glyph font.glyphs (glyph_of font c) g (and-second _ _ small) e)
 
@@ -87,7 +87,7 @@ or-or true b c = refl
 or-or false b c = refl
 
 -- one character more
-pub line-more : (font : PlainFont) (zoom : ℕ) (pen : ℤ) (text : List ℕ) (c x y : ℕ)
+pub line-more : (font : FontValue) (zoom : ℕ) (pen : ℤ) (text : List ℕ) (c x y : ℕ)
     → line_covers font zoom pen (text ++ c ∷ []) x y
     ≡ (line_covers font zoom pen text x y || covers zoom font.ascent (glyph_for font c) (pen_after font zoom pen text) x y)
 line-more font zoom pen [] c x y = or-false (covers zoom font.ascent (glyph_for font c) pen x y)
@@ -97,13 +97,13 @@ line-more font zoom pen (d ∷ rest) c x y =
     ∙ or-or (covers zoom font.ascent (glyph_for font d) pen x y) (line_covers font zoom next rest x y)
     (covers zoom font.ascent (glyph_for font c) (pen_after font zoom next rest) x y)
 
-pub pen-more : (font : PlainFont) (zoom : ℕ) (pen : ℤ) (text : List ℕ) (c : ℕ)
+pub pen-more : (font : FontValue) (zoom : ℕ) (pen : ℤ) (text : List ℕ) (c : ℕ)
     → pen_after font zoom pen (text ++ c ∷ []) ≡ pen_after font zoom pen text +ℤ (pos zoom *ℤ advance_of (glyph_for font c))
 pen-more font zoom pen [] c = refl
 pen-more font zoom pen (d ∷ rest) c = pen-more font zoom (pen +ℤ (pos zoom *ℤ advance_of (glyph_for font d))) rest c
 
 -- some characters, and then others
-pub line-append : (font : PlainFont) (zoom : ℕ) (pen : ℤ) (text rest : List ℕ) (x y : ℕ)
+pub line-append : (font : FontValue) (zoom : ℕ) (pen : ℤ) (text rest : List ℕ) (x y : ℕ)
     → line_covers font zoom pen (text ++ rest) x y ≡ (line_covers font zoom pen text x y || line_covers font zoom (pen_after font zoom pen text) rest x y)
 line-append font zoom pen [] rest x y = refl
 line-append font zoom pen (d ∷ text) rest x y =
@@ -138,7 +138,7 @@ further zoom pen (pos n) past some = omega (arith, ints)
 further zoom pen (negsuc n) past some = absurd (omega (arith, ints))
 
 -- A line whose pen stands past all frames covers none of their pixels.
-pub line-past : (font : PlainFont) (zoom : ℕ) (pen : ℤ) (text : List ℕ) (x y : ℕ) → small_font font ≡ true → 0 < zoom → zoom ≤ 16 → pos 8192 ≤ℤ pen → x < 4096
+pub line-past : (font : FontValue) (zoom : ℕ) (pen : ℤ) (text : List ℕ) (x y : ℕ) → small_font font ≡ true → 0 < zoom → zoom ≤ 16 → pos 8192 ≤ℤ pen → x < 4096
     → line_covers font zoom pen text x y ≡ false
 line-past font zoom pen [] x y small some few past less = refl
 line-past font zoom pen (d ∷ text) x y small some few past less =
@@ -148,7 +148,7 @@ line-past font zoom pen (d ∷ text) x y small some few past less =
     (line-past font zoom next text x y small some few (further zoom pen (advance_of (glyph_for font d)) past (forward (glyph_for font d) is)) less)
 
 -- A line covers what its front covers, where the pen stands past all frames behind that.
-pub line-cut : (font : PlainFont) (zoom : ℕ) (text front : List ℕ) (x y : ℕ) → small_font font ≡ true → 0 < zoom → zoom ≤ 16
+pub line-cut : (font : FontValue) (zoom : ℕ) (text front : List ℕ) (x y : ℕ) → small_font font ≡ true → 0 < zoom → zoom ≤ 16
     → front ≡ take (length front) text → pos 8192 ≤ℤ pen_after font zoom (pos 0) front → x < 4096
     → line_covers font zoom (pos 0) text x y ≡ line_covers font zoom (pos 0) front x y
 line-cut font zoom text front x y small some few is past less =
@@ -161,12 +161,12 @@ line-cut font zoom text front x y small some few is past less =
 
 -- The bytes of a picture on black are the picture's.
 pub picture-is : (covered : ℕ → ℕ → Bool) (colour : Rgba) (w h : ℕ) (before after : List ℕ) → length before ≡ 3 * (w * h)
-    → ((m : ℕ) → m < 3 * (w * h) → get_or before m 0 ≡ 0) → Adds covered colour w before after → after ≡ picture covered colour w h
+    → ((m : ℕ) → m < 3 * (w * h) → get_or before m 0 ≡ 0) → AddsColour covered colour w before after → after ≡ picture covered colour w h
 picture-is covered colour w h before after count black adds =
     let n : ℕ = 3 * (w * h) in
-    ext_get_or 0 after (picture covered colour w h) (adds.count ∙ (count ∙ sym (length-map-range_with_len (byte_of covered colour w) 0 n)))
+    ext_get_or 0 after (picture covered colour w h) (adds.count ∙ (count ∙ sym (length-map-range_with_len (picture_byte covered colour w) 0 n)))
     (λ i l.
     let less : i < n = omega (arith, adds.count, count) in
     let value : get_or after i 0 ≡ (if covered ((i / 3) % w) ((i / 3) / w) then channel colour (i % 3) else get_or before i 0) = adds.bytes i (rw count less) in
     value ∙ (ap (λ (v : ℕ). if covered ((i / 3) % w) ((i / 3) / w) then channel colour (i % 3) else v) (black i less)
-    ∙ sym (get_or-map-range_with_len (byte_of covered colour w) 0 n i i 0 less (omega arith))))
+    ∙ sym (get_or-map-range_with_len (picture_byte covered colour w) 0 n i i 0 less (omega arith))))

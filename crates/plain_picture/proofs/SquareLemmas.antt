@@ -9,7 +9,7 @@ use Rattle.ass_num.proofs.Floor.{le-floor_div, floor_div-lt, floor_div_is, produ
 use Rattle.bdf_font.specs.declared.glyphs.FontGlyph.{FontGlyph}
 use Rattle.plain_picture.specs.declared.fill.PixelBox.{PixelBox}
 use Rattle.plain_picture.specs.Pictures.{is_set}
-use Rattle.plain_picture.specs.Squares.{IsGap, IsRun, in_box, in_columns, is_set_above, is_set_before, squares}
+use Rattle.plain_picture.specs.Squares.{IsGap, IsSetRun, in_pixel_box, in_columns, is_set_above, is_set_before, squares}
 
 le-yes : (a b : ℤ) → a ≤ℤ b → int_le a b ≡ true
 le-yes a b p = grind (arith, ints)
@@ -74,7 +74,7 @@ of-row z top bottom y above row some top_is bottom_is =
 pub columns-box : (b : PixelBox) (z : ℕ) (ascent : ℤ) (g : FontGlyph) (pen : ℤ) (row from to : ℕ) → 0 < z
     → b.left ≡ pen +ℤ ((g.x +ℤ pos from) *ℤ pos z) → b.right ≡ pen +ℤ ((g.x +ℤ pos to) *ℤ pos z)
     → b.top ≡ pos 0 +ℤ (((ascent -ℤ g.y -ℤ pos g.h) +ℤ pos row) *ℤ pos z) → b.bottom ≡ pos 0 +ℤ (((ascent -ℤ g.y -ℤ pos g.h) +ℤ pos (row + 1)) *ℤ pos z)
-    → (x y : ℕ) → in_box b x y ≡ squares z ascent g pen (in_columns row from to) x y
+    → (x y : ℕ) → in_pixel_box b x y ≡ squares z ascent g pen (in_columns row from to) x y
 columns-box b z ascent g pen row from to some left right top bottom x y =
     let last : b.bottom ≡ pos 0 +ℤ (((ascent -ℤ g.y -ℤ pos g.h) +ℤ pos row +ℤ pos 1) *ℤ pos z) =
     bottom ∙ ap (λ (n : ℤ). pos 0 +ℤ (n *ℤ pos z)) (omega (arith, ints)) in
@@ -91,7 +91,7 @@ set-column g (pos i) (negsuc j) e = absurd (let f : false ≡ true = e in cc)
 set-column g (negsuc i) (pos j) e = absurd (let f : false ≡ true = e in cc)
 set-column g (negsuc i) (negsuc j) e = absurd (let f : false ≡ true = e in cc)
 
-row-columns : (g : FontGlyph) (row from start to n : ℕ) → IsGap g row from start → IsRun g row start to
+row-columns : (g : FontGlyph) (row from start to n : ℕ) → IsGap g row from start → IsSetRun g row start to
     → (nat_lt n (to + 1) && is_set g (pos n) (pos row)) ≡ ((nat_lt n from && is_set g (pos n) (pos row)) || (nat_le start n && nat_lt n to))
 row-columns g row from start to n gap run =
     ⊎_elim
@@ -139,7 +139,7 @@ column row (pos n) (negsuc j) = without (inr (λ e. let f : negsuc j ≡ pos row
 column row (negsuc n) j = without (inl (omega (arith, ints)))
 
 -- a gap and then a run of a row's columns
-pub columns-more : (g : FontGlyph) (row from start to : ℕ) → IsGap g row from start → IsRun g row start to → (i j : ℤ)
+pub columns-more : (g : FontGlyph) (row from start to : ℕ) → IsGap g row from start → IsSetRun g row start to → (i j : ℤ)
     → is_set_before g row (to + 1) i j ≡ (is_set_before g row from i j || in_columns row start to i j)
 columns-more g row from start to gap run i j =
     elim (column row i j) [

@@ -5,7 +5,7 @@ use Rattle.std.specs.List.{list_all, range_with_len}
 use Rattle.ass_num.specs.Floor.{floor_div}
 use Rattle.ass_num.specs.declared.colour.Rgba.{Rgba}
 use Rattle.bdf_font.specs.declared.glyphs.FontGlyph.{FontGlyph}
-use Rattle.bdf_font.specs.Fonts.{PlainFont, glyph_of}
+use Rattle.bdf_font.specs.Fonts.{FontValue, glyph_of}
 
 -- bit k of a byte, where bit 0 is the highest
 abbrev pub bit : ℕ → ℕ → Bool
@@ -30,7 +30,7 @@ abbrev pub glyph_covers : ℕ → ℤ → FontGlyph → ℤ → ℕ → ℕ → 
 glyph_covers zoom ascent g pen x y = is_set g (column_of zoom g pen x) (row_of zoom ascent g y)
 
 -- the glyph of a character
-abbrev pub glyph_for : PlainFont → ℕ → Option FontGlyph
+abbrev pub glyph_for : FontValue → ℕ → Option FontGlyph
 glyph_for font c = option_and_then (slice_get font.glyphs) (glyph_of font c)
 
 -- how far a glyph moves the pen; no glyph moves it not at all
@@ -44,7 +44,7 @@ covers zoom ascent None pen x y = false
 covers zoom ascent (Some g) pen x y = glyph_covers zoom ascent g pen x y
 
 -- whether pixel (x, y) lies in a square of a character, where the first character's pen is given
-abbrev pub line_covers : PlainFont → ℕ → ℤ → List ℕ → ℕ → ℕ → Bool
+abbrev pub line_covers : FontValue → ℕ → ℤ → List ℕ → ℕ → ℕ → Bool
 line_covers font zoom pen [] x y = false
 line_covers font zoom pen (c ∷ rest) x y =
     covers zoom font.ascent (glyph_for font c) pen x y
@@ -57,12 +57,12 @@ channel colour (suc zero) = colour.g
 channel colour (suc (suc _)) = colour.b
 
 -- byte m of a picture w pixels wide: of a pixel of the line in the line's colour, of any other 0
-abbrev pub byte_of : (ℕ → ℕ → Bool) → Rgba → ℕ → ℕ → ℕ
-byte_of covered colour w m = if covered ((m / 3) % w) ((m / 3) / w) then channel colour (m % 3) else 0
+abbrev pub picture_byte : (ℕ → ℕ → Bool) → Rgba → ℕ → ℕ → ℕ
+picture_byte covered colour w m = if covered ((m / 3) % w) ((m / 3) / w) then channel colour (m % 3) else 0
 
 -- the picture: three bytes for each pixel, red, green and blue, row by row from the top left
 abbrev pub picture : (ℕ → ℕ → Bool) → Rgba → ℕ → ℕ → List ℕ
-picture covered colour w h = map (byte_of covered colour w) (range_with_len 0 (3 * (w * h)))
+picture covered colour w h = map (picture_byte covered colour w) (range_with_len 0 (3 * (w * h)))
 
 -- A glyph of a small font: its advance and its sides are from 0 to 64, and its corner lies within 64 on both sides.
 abbrev pub small_glyph : FontGlyph → Bool
@@ -71,7 +71,7 @@ small_glyph g =
     && int_le (negsuc 63) g.x && int_le g.x (pos 64) && int_le (negsuc 63) g.y && int_le g.y (pos 64)
 
 -- A small font: its ascent and its descent are from 0 to 64, and its glyphs are small.
-abbrev pub small_font : PlainFont → Bool
+abbrev pub small_font : FontValue → Bool
 small_font font =
     int_le (pos 0) font.ascent && int_le font.ascent (pos 64) && int_le (pos 0) font.descent && int_le font.descent (pos 64)
     && list_all small_glyph font.glyphs

@@ -3,12 +3,12 @@ use Rattle.std.specs.Prelude.{◌≡◌, ℕ, ℤ, pos, ◌/◌, ◌%◌, ◌<�
 use Rattle.std.specs.Ordering.{int_eq}
 use Rattle.ass_num.specs.declared.colour.Rgba.{Rgba}
 use Rattle.bdf_font.specs.declared.glyphs.FontGlyph.{FontGlyph}
-use Rattle.bdf_font.specs.Fonts.{PlainFont}
+use Rattle.bdf_font.specs.Fonts.{FontValue}
 use Rattle.plain_picture.specs.declared.fill.PixelBox.{PixelBox}
 use Rattle.plain_picture.specs.Pictures.{advance_of, channel, column_of, glyph_for, row_of, is_set}
 
 -- The pixels of a part have the colour, and the others are as before.
-pub record Adds (part : ℕ → ℕ → Bool) (colour : Rgba) (w : ℕ) (before after : List ℕ) : Type 0 where
+pub record AddsColour (part : ℕ → ℕ → Bool) (colour : Rgba) (w : ℕ) (before after : List ℕ) : Type 0 where
   pub count : length after ≡ length before
   pub bytes : (m : ℕ) → m < length before →
       slice_index after m ≡ (if part ((m / 3) % w) ((m / 3) / w) then channel colour (m % 3) else slice_index before m)
@@ -18,15 +18,15 @@ abbrev pub in_row : ℕ → ℕ → ℕ → ℕ → ℕ → Bool
 in_row row left right x y = (nat_le left x && nat_lt x right) && (y == row)
 
 -- whether pixel (x, y) lies in a box
-abbrev pub in_box : PixelBox → ℕ → ℕ → Bool
-in_box b x y = (int_le b.left (pos x) && int_lt (pos x) b.right) && (int_le b.top (pos y) && int_lt (pos y) b.bottom)
+abbrev pub in_pixel_box : PixelBox → ℕ → ℕ → Bool
+in_pixel_box b x y = (int_le b.left (pos x) && int_lt (pos x) b.right) && (int_le b.top (pos y) && int_lt (pos y) b.bottom)
 
 -- whether pixel (x, y) lies in a box and above a row
 abbrev pub in_box_above : PixelBox → ℕ → ℕ → ℕ → Bool
-in_box_above b row x y = in_box b x y && nat_lt y row
+in_box_above b row x y = in_pixel_box b x y && nat_lt y row
 
 -- The columns of a row of a glyph are set from one on up to another, which isn't.
-pub record IsRun (g : FontGlyph) (row from to : ℕ) : Type 0 where
+pub record IsSetRun (g : FontGlyph) (row from to : ℕ) : Type 0 where
   pub order : from ≤ to
   pub inside : to ≤ g.w
   pub set : (i : ℕ) → from ≤ i → i < to → is_set g (pos i) (pos row) ≡ true
@@ -55,6 +55,6 @@ abbrev pub squares : ℕ → ℤ → FontGlyph → ℤ → (ℤ → ℤ → Bool
 squares zoom ascent g pen test x y = test (column_of zoom g pen x) (row_of zoom ascent g y)
 
 -- where the pen stands after characters
-abbrev pub pen_after : PlainFont → ℕ → ℤ → List ℕ → ℤ
+abbrev pub pen_after : FontValue → ℕ → ℤ → List ℕ → ℤ
 pen_after font zoom pen [] = pen
 pen_after font zoom pen (c ∷ rest) = pen_after font zoom (pen +ℤ (pos zoom *ℤ advance_of (glyph_for font c))) rest

@@ -2,7 +2,7 @@
 
 ghost use Rattle.std.specs.Prelude.{◌≡◌, ℕ, ◌*◌, ◌%◌, ◌<◌, ◌≤◌, ◌+◌, pos, ◌&&◌, int_lt, nat_lt, length, slice_index};
 ghost use Rattle.plain_picture.specs.Pictures.{channel};
-ghost use Rattle.plain_picture.specs.Squares.{Adds, in_box, in_row};
+ghost use Rattle.plain_picture.specs.Squares.{AddsColour, in_pixel_box, in_row};
 
 use ass_num::{Rgba, Size};
 
@@ -49,7 +49,7 @@ fn fill_row(pixels: &mut [u8], size: &Size, row: usize, left: usize, right: usiz
     requires row { row < size.now.h }
     requires order { left ≤ right }
     requires right { right ≤ size.now.w }
-    ensures { Adds (in_row row left right) colour size.now.w pixels.old pixels.new }
+    ensures { AddsColour (in_row row left right) colour size.now.w pixels.old pixels.new }
 {
     let first = row * size.w as usize;
     let part = &mut pixels[3 * (first + left)..3 * (first + right)];
@@ -61,7 +61,7 @@ pub fn fill_box(pixels: &mut [u8], size: &Size, area: &PixelBox, colour: Rgba)
     requires bytes { length pixels.old ≡ 3 * (size.now.w * size.now.h) }
     requires wide { size.now.w ≤ 4096 }
     requires high { size.now.h ≤ 4096 }
-    ensures { Adds (in_box area.now) colour size.now.w pixels.old pixels.new }
+    ensures { AddsColour (in_pixel_box area.now) colour size.now.w pixels.old pixels.new }
 {
     let left = held(area.left, size.w);
     let right = held(area.right, size.w).max(left);

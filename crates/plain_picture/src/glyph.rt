@@ -2,7 +2,7 @@
 
 ghost use Rattle.std.specs.Prelude.{◌≡◌, ℕ, ℤ, pos, negsuc, ◌+ℤ◌, ◌-ℤ◌, ◌*ℤ◌, ◌+◌, ◌*◌, ◌<◌, ◌≤◌, ◌≤ℤ◌, true, length};
 ghost use Rattle.plain_picture.specs.Pictures.{glyph_covers, is_set};
-ghost use Rattle.plain_picture.specs.Squares.{Adds, IsGap, IsRun, in_box, in_columns, is_set_before, squares};
+ghost use Rattle.plain_picture.specs.Squares.{AddsColour, IsGap, IsSetRun, in_pixel_box, in_columns, is_set_before, squares};
 ghost use Rattle.plain_picture.specs.Pencils.{IsCount, IsPencil, IsSmall};
 
 use crate::fill::{PixelBox, fill_box};
@@ -54,7 +54,7 @@ fn run_end(glyph: &FontGlyph, row: u32, from: u32) -> u32
     requires small { IsSmall glyph.now }
     requires inside { from ≤ glyph.now.w }
     requires row { row ≤ 64 }
-    ensures { IsRun glyph.now row from result }
+    ensures { IsSetRun glyph.now row from result }
 {
     let mut to = from;
     while to < glyph.w && is_set(glyph, to, row) {
@@ -110,7 +110,7 @@ fn columns_box(
     requires row { row ≤ 64 }
     requires from { from ≤ 64 }
     requires to { to ≤ 64 }
-    ensures { (x y : ℕ) → in_box result x y ≡ squares pencil.zoom (pos pencil.ascent) glyph.now (pos pen) (in_columns row from to) x y }
+    ensures { (x y : ℕ) → in_pixel_box result x y ≡ squares pencil.zoom (pos pencil.ascent) glyph.now (pos pen) (in_columns row from to) x y }
 {
     let left = squares_before(glyph, from);
     let right = squares_before(glyph, to);
@@ -132,7 +132,7 @@ fn draw_row(pixels: &mut [u8], size: &Size, glyph: &FontGlyph, pencil: Pencil, p
     requires pencil { IsPencil pencil }
     requires pen { pen ≤ 1000000000000 }
     requires row { row ≤ 64 }
-    ensures { Adds (squares pencil.zoom (pos pencil.ascent) glyph.now (pos pen) (is_set_before glyph.now row glyph.now.w)) pencil.colour size.now.w pixels.old pixels.new }
+    ensures { AddsColour (squares pencil.zoom (pos pencil.ascent) glyph.now (pos pen) (is_set_before glyph.now row glyph.now.w)) pencil.colour size.now.w pixels.old pixels.new }
 {
     let mut from = 0;
     while from < glyph.w {
@@ -152,7 +152,7 @@ pub fn draw_glyph(pixels: &mut [u8], size: &Size, glyph: &FontGlyph, pencil: Pen
     requires small { IsSmall glyph.now }
     requires pencil { IsPencil pencil }
     requires pen { pen ≤ 1000000000000 }
-    ensures { Adds (glyph_covers pencil.zoom (pos pencil.ascent) glyph.now (pos pen)) pencil.colour size.now.w pixels.old pixels.new }
+    ensures { AddsColour (glyph_covers pencil.zoom (pos pencil.ascent) glyph.now (pos pen)) pencil.colour size.now.w pixels.old pixels.new }
 {
     for row in 0..glyph.h {
         draw_row(pixels, size, glyph, pencil, pen, row);

@@ -4,7 +4,7 @@ ghost use Rattle.std.specs.Prelude.{◌≡◌, ℕ, pos, ◌+ℤ◌, ◌*ℤ◌,
 ghost use Rattle.std.specs.Str.{chars};
 ghost use Rattle.plain_picture.specs.Pencils.{IsPencil, IsSmall};
 ghost use Rattle.plain_picture.specs.Pictures.{advance_of, covers, glyph_for, line_covers, picture, small_font};
-ghost use Rattle.plain_picture.specs.Squares.{Adds};
+ghost use Rattle.plain_picture.specs.Squares.{AddsColour};
 
 use crate::glyph::{Pencil, draw_glyph};
 use ass_num::{Mem, Rgba, Size};
@@ -51,7 +51,7 @@ fn draw_char(pixels: &mut [u8], size: &Size, font: &Font, pencil: Pencil, pen: u
     requires small { small_font font.now ≡ true }
     requires pencil { IsPencil pencil }
     requires pen { pen ≤ 8192 }
-    ensures added { Adds (covers pencil.zoom (pos pencil.ascent) (glyph_for font.now c) (pos pen)) pencil.colour size.now.w pixels.old pixels.new }
+    ensures added { AddsColour (covers pencil.zoom (pos pencil.ascent) (glyph_for font.now c) (pos pen)) pencil.colour size.now.w pixels.old pixels.new }
     ensures pen { pos result ≡ pos pen +ℤ (pos pencil.zoom *ℤ advance_of (glyph_for font.now c)) }
     ensures few { result ≤ pen + 1024 }
 {
@@ -72,7 +72,7 @@ fn draw_line(pixels: &mut [u8], size: &Size, font: &Font, pencil: Pencil, text: 
     requires small { small_font font.now ≡ true }
     requires pencil { IsPencil pencil }
     requires ascent { pos pencil.ascent ≡ font.now.ascent }
-    ensures { Adds (line_covers font.now pencil.zoom (pos 0) (chars text.now)) pencil.colour size.now.w pixels.old pixels.new }
+    ensures { AddsColour (line_covers font.now pencil.zoom (pos 0) (chars text.now)) pencil.colour size.now.w pixels.old pixels.new }
 {
     let mut pen = 0;
     for c in text.chars() {

@@ -22,8 +22,8 @@ abbrev pub size_text : ℕ → ℕ → List ℕ
 size_text width height = decimal width ++ 120 ∷ decimal height
 
 -- The number of columns or rows of a picture.
-abbrev pub IsSide : ℕ → Type 0
-IsSide side = (1 ≤ side) × (side ≤ 4096)
+abbrev pub IsFrameSide : ℕ → Type 0
+IsFrameSide side = (1 ≤ side) × (side ≤ 4096)
 
 -- the words before the names of the files; a number is in decimal digits, without a leading zero
 abbrev pub task_words : Task → List (List ℕ)
@@ -33,7 +33,7 @@ task_words (Frame at size) = codes "frame" ∷ codes "--at" ∷ decimal at ∷ c
 -- The numbers of a task are within their limits.
 abbrev pub IsTask : Task → Type 0
 IsTask Check = Unit {0}
-IsTask (Frame at size) = (at ≤ 4000000000000) × IsSide size.w × IsSide size.h
+IsTask (Frame at size) = (at ≤ 4000000000000) × IsFrameSide size.w × IsFrameSide size.h
 
 -- A check takes one font or more, a picture takes one.
 abbrev pub IsFontCount : Task → ℕ → Type 0

@@ -1,7 +1,7 @@
 //! Numbers and sizes.
 
 ghost use Rattle.std.specs.Prelude.{◌≡◌, ◌≤◌, ℕ, IfOk, IfSome, IfNone, decimal};
-ghost use Rattle.play_words.specs.Words.{IsSide, size_text};
+ghost use Rattle.play_words.specs.Words.{IsFrameSide, size_text};
 
 use crate::job::MAX_SIDE;
 use ass_num::{Mem, Size};
@@ -30,9 +30,9 @@ pub fn read_number(alloc: Global, text: &str, least: u64, most: u64) -> Mem<Opti
 /// The size that the text is: two numbers with an `x` between.
 pub fn read_size(alloc: Global, text: &str) -> Mem<Option<Size>>
     ensures some { IfOk result (λ o. IfSome o (λ size.
-        (text.now ≡ size_text size.w size.h) × IsSide size.w × IsSide size.h)) }
+        (text.now ≡ size_text size.w size.h) × IsFrameSide size.w × IsFrameSide size.h)) }
     ensures none { IfOk result (λ o. IfNone o (
-        (w h : ℕ) → text.now ≡ size_text w h → IsSide w → IsSide h → ⊥)) }
+        (w h : ℕ) → text.now ≡ size_text w h → IsFrameSide w → IsFrameSide h → ⊥)) }
 {
     let Some((width, height)) = text.split_once('x') else {
         return Ok(None);

@@ -4,7 +4,7 @@ use Rattle.std.proofs.lemmas.Int.{ints, by_lt_z}
 use Rattle.std.proofs.lemmas.Bool.{and_parts, and_from, cases_lt, cases_eq}
 use Rattle.std.proofs.lemmas.List.{get_or_append_left, get_or_push, get_or_past, length_push, take-append-le, take_all, get_or-take}
 use Rattle.ass_num.specs.Regions.{in_runs, ascend, row_at, member, has_run, all_ascend, first_has_run, last_has_run, last_has_run_after, top_fits, is_canonical}
-use Rattle.region_rows.specs.Growths.{HasRows, IsFormed, IsRowHolding}
+use Rattle.region_rows.specs.Growths.{HasRunRows, IsFormed, IsRowHolding}
 use Rattle.ass_num.specs.declared.region.Run.{Run}
 
 -- ---- rows
@@ -53,7 +53,7 @@ member-push wanted j top rows r e m c i k h =
     (λ (l : k <ℤ j). ap (λ x. in_runs x i) (row_at-before rows r (k -ℤ top) (omega (arith, ints))) ∙ m i k l)
     (λ (l : j ≤ℤ k). let s : k ≡ j = omega (arith, ints) in ap (λ x. in_runs x i) (row_at-new rows r (k -ℤ top) (omega (arith, ints))) ∙ c i ∙ ap (λ x. wanted i x) (sym s))
 
-pub skipped : (wanted : ℤ → ℤ → Bool) (j top : ℤ) (rows : List (List Run)) (filled : ℕ) (r : List Run) → HasRows wanted j top rows filled → IsRowHolding (λ i. wanted i j) r → length rows ≡ 0 → r ≡ [] → HasRows wanted (j +ℤ pos 1) (top +ℤ pos 1) rows filled
+pub skipped : (wanted : ℤ → ℤ → Bool) (j top : ℤ) (rows : List (List Run)) (filled : ℕ) (r : List Run) → HasRunRows wanted j top rows filled → IsRowHolding (λ i. wanted i j) r → length rows ≡ 0 → r ≡ [] → HasRunRows wanted (j +ℤ pos 1) (top +ℤ pos 1) rows filled
 skipped wanted j top (s ∷ rows) filled r w c z e = absurd (omega arith)
 skipped wanted j top [] filled r w c z e = record {
   ends = let q = w.ends in omega (arith, ints);
@@ -75,7 +75,7 @@ rest-push rows filled h k l =
     (λ (a : length rows ≤ k). ⊎_elim (λ (e : length rows ≡ k). get_or_push rows [] [] k e) (λ ne. get_or_past (rows ++ [] ∷ []) k [] (omega (arith, ne, length_push rows []))) (cases_eq (length rows) k))
     (cases_lt k (length rows))
 
-pub grown_empty : (wanted : ℤ → ℤ → Bool) (j top : ℤ) (rows : List (List Run)) (filled : ℕ) (r : List Run) → HasRows wanted j top rows filled → IsRowHolding (λ i. wanted i j) r → (length rows ≡ 0 → ⊥) → r ≡ [] → HasRows wanted (j +ℤ pos 1) top (rows ++ r ∷ []) filled
+pub grown_empty : (wanted : ℤ → ℤ → Bool) (j top : ℤ) (rows : List (List Run)) (filled : ℕ) (r : List Run) → HasRunRows wanted j top rows filled → IsRowHolding (λ i. wanted i j) r → (length rows ≡ 0 → ⊥) → r ≡ [] → HasRunRows wanted (j +ℤ pos 1) top (rows ++ r ∷ []) filled
 grown_empty wanted j top rows filled r w c z e = record {
   ends = let q = w.ends in let n = length_push rows r in omega (arith, ints);
   members = member-push wanted j top rows r w.ends w.members c.covers;
@@ -88,7 +88,7 @@ grown_empty wanted j top rows filled r w c z e = record {
   rest = rw e (rest-push rows filled w.rest);
 }
 
-pub grown_full : (wanted : ℤ → ℤ → Bool) (j top : ℤ) (rows : List (List Run)) (filled n : ℕ) (r : List Run) → HasRows wanted j top rows filled → IsRowHolding (λ i. wanted i j) r → has_run r ≡ true → n ≡ length (rows ++ r ∷ []) → HasRows wanted (j +ℤ pos 1) top (rows ++ r ∷ []) n
+pub grown_full : (wanted : ℤ → ℤ → Bool) (j top : ℤ) (rows : List (List Run)) (filled n : ℕ) (r : List Run) → HasRunRows wanted j top rows filled → IsRowHolding (λ i. wanted i j) r → has_run r ≡ true → n ≡ length (rows ++ r ∷ []) → HasRunRows wanted (j +ℤ pos 1) top (rows ++ r ∷ []) n
 grown_full wanted j top rows filled n r w c f e = record {
   ends = let q = w.ends in let n = length_push rows r in omega (arith, ints);
   members = member-push wanted j top rows r w.ends w.members c.covers;
@@ -106,8 +106,8 @@ full_from_length [] h = absurd (h refl)
 full_from_length (x ∷ r) h = refl
 
 -- ---- the first and the last row
-pub HasRows-none : (wanted : ℤ → ℤ → Bool) (first : ℤ) → ((i k : ℤ) → k <ℤ first → wanted i k ≡ false) → HasRows wanted first first [] 0
-HasRows-none wanted first h = record {
+pub HasRunRows-none : (wanted : ℤ → ℤ → Bool) (first : ℤ) → ((i k : ℤ) → k <ℤ first → wanted i k ≡ false) → HasRunRows wanted first first [] 0
+HasRunRows-none wanted first h = record {
   ends = omega (arith, ints);
   members = λ i k l. ap (λ x. in_runs x i) (row_at-nil (k -ℤ first)) ∙ sym (h i k l);
   formed = record {
@@ -130,14 +130,14 @@ pub row_at-past : (rows : List (List Run)) (z : ℤ) → pos (length rows) ≤�
 row_at-past rows (pos k) h = get_or_past rows k [] (omega (arith, ints))
 row_at-past rows (negsuc k) h = absurd (omega (arith, ints))
 
-all_members : (wanted : ℤ → ℤ → Bool) (last top : ℤ) (rows : List (List Run)) (filled : ℕ) → HasRows wanted last top rows filled → ((i k : ℤ) → last ≤ℤ k → wanted i k ≡ false)
+all_members : (wanted : ℤ → ℤ → Bool) (last top : ℤ) (rows : List (List Run)) (filled : ℕ) → HasRunRows wanted last top rows filled → ((i k : ℤ) → last ≤ℤ k → wanted i k ≡ false)
     → (i k : ℤ) → member top (take filled rows) i k ≡ wanted i k
 all_members wanted last top rows filled w h i k =
     ap (λ x. in_runs x i) (row_at-take filled rows w.rest (k -ℤ top)) ∙ by_lt_z k last
     (λ (l : k <ℤ last). w.members i k l)
     (λ (l : last ≤ℤ k). let q = w.ends in ap (λ x. in_runs x i) (row_at-past rows (k -ℤ top) (omega (arith, ints))) ∙ sym (h i k l))
 
-pub members_some : (wanted : ℤ → ℤ → Bool) (last top : ℤ) (rows : List (List Run)) (filled : ℕ) → HasRows wanted last top rows filled → ((i k : ℤ) → last ≤ℤ k → wanted i k ≡ false)
+pub members_some : (wanted : ℤ → ℤ → Bool) (last top : ℤ) (rows : List (List Run)) (filled : ℕ) → HasRunRows wanted last top rows filled → ((i k : ℤ) → last ≤ℤ k → wanted i k ≡ false)
     → (top' : ℤ) → (top' ≡ top) ⊎ (filled ≡ 0) → (i k : ℤ) → member top' (take filled rows) i k ≡ wanted i k
 members_some wanted last top rows filled w h top' c i k =
     ⊎_elim (λ e. rw e (all_members wanted last top rows filled w h i k))

@@ -7,7 +7,7 @@ use Rattle.std.proofs.lemmas.List.{take_more, get_or_default}
 use Rattle.std.proofs.lemmas.List.Elements.{All-push, All-pop, All-weaker, All-nil}
 use Rattle.ass_num.specs.Regions.{in_runs, ascend, ascend_from, member}
 use Rattle.ass_num.specs.declared.region.Run.{Run}
-use Rattle.region_rows.specs.Joins.{AllBegin, IsJoinedTo, IsFirst, IsJoined}
+use Rattle.region_rows.specs.Joins.{AllBegin, IsJoinedTo, BeginsFirst, AreRunsJoined}
 use Rattle.region_rows.proofs.OrderLemmas.{lt_true, lt_false, le_true, le_false, lt_is}
 use Rattle.region_rows.proofs.GrowthLemmas.{row_at-past}
 use Rattle.region_rows.proofs.UniqueLemmas.{row_above}
@@ -153,7 +153,7 @@ or_comm true false = refl
 or_comm false true = refl
 or_comm false false = refl
 
-pub joined_more : (a : List Run) (k : ℕ) (b : List Run) (m : ℕ) (runs new : List Run) (d : Run) → ascend a ≡ true → IsFirst a k b m → IsJoined a k b m runs → IsJoinedTo runs (get_or a k d) new → IsJoined a (k + 1) b m new
+pub joined_more : (a : List Run) (k : ℕ) (b : List Run) (m : ℕ) (runs new : List Run) (d : Run) → ascend a ≡ true → BeginsFirst a k b m → AreRunsJoined a k b m runs → IsJoinedTo runs (get_or a k d) new → AreRunsJoined a (k + 1) b m new
 joined_more a k b m runs new d up first old step = record {
   covers = λ i.
       step.covers i ∙ rw (old.covers i, take_more a k d first.within, in_runs-push (take k a) (get_or a k d) i) (or_swap (in_runs (take k a) i) (in_runs (take m b) i) (int_le (get_or a k d).from i && int_lt i (get_or a k d).to));
@@ -162,7 +162,7 @@ joined_more a k b m runs new d up first old step = record {
   right = λ e l. step.begin (get_or b m e).from (rw (get_or_default a k d e first.within) (first.before e l));
 }
 
-pub joined_none : (a b : List Run) → IsJoined a 0 b 0 []
+pub joined_none : (a b : List Run) → AreRunsJoined a 0 b 0 []
 joined_none a b = record {
   covers = λ i. refl;
   ascends = refl;
@@ -170,7 +170,7 @@ joined_none a b = record {
   right = λ d l. All-nil (λ (r : Run). r.from ≤ℤ (get_or b 0 d).from);
 }
 
-pub joined_swap : (a : List Run) (k : ℕ) (b : List Run) (m : ℕ) (runs : List Run) → IsJoined a k b m runs → IsJoined b m a k runs
+pub joined_swap : (a : List Run) (k : ℕ) (b : List Run) (m : ℕ) (runs : List Run) → AreRunsJoined a k b m runs → AreRunsJoined b m a k runs
 joined_swap a k b m runs h = record {
   covers = λ i. h.covers i ∙ or_comm (in_runs (take k a) i) (in_runs (take m b) i);
   ascends = h.ascends;

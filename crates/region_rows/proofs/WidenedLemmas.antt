@@ -1,7 +1,7 @@
 -- Which samples a widened region has.
 use Rattle.std.proofs.Common.{◌≡◌, ℕ, zero, suc, ◌+◌, ◌*◌, ◌≤◌, Bool, true, ◌||◌, ◌&&◌, ℤ, pos, negsuc, ◌+ℤ◌, unsigned_abs, leb, arith, ⊎_elim, ap, sym, ◌∙◌}
 use Rattle.std.proofs.lemmas.Bool.{or_left, or_right, or_cases, and_parts, and_from, leb-true, le-leb, cases_eq}
-use Rattle.ass_num.specs.Regions.{PlainRegion, member}
+use Rattle.ass_num.specs.Regions.{RegionValue, member}
 use Rattle.region_rows.specs.Widened.{some_within, square, in_ellipse, in_widened}
 
 pub some_within-found : (n : ℕ) (passes : ℤ → Bool) → some_within n passes ≡ true → (z : ℤ) × (unsigned_abs z ≤ n) × (passes z ≡ true)
@@ -52,7 +52,7 @@ in_ellipse-from rx ry a b w =
     (le-leb (square (unsigned_abs a) * square ry + square (unsigned_abs b) * square rx) (square rx * square ry) w.round)
 
 -- the sample of the region that a sample of the widened one is near to
-pub in_widened-found : (region : PlainRegion) (rx ry : ℕ) (i j : ℤ) → in_widened region rx ry i j ≡ true → (a : ℤ) × (b : ℤ) × IsInEllipse rx ry a b × (member region.top region.rows (i +ℤ a) (j +ℤ b) ≡ true)
+pub in_widened-found : (region : RegionValue) (rx ry : ℕ) (i j : ℤ) → in_widened region rx ry i j ≡ true → (a : ℤ) × (b : ℤ) × IsInEllipse rx ry a b × (member region.top region.rows (i +ℤ a) (j +ℤ b) ≡ true)
 unfolding in_widened
 in_widened-found region rx ry i j h =
     let q = some_within-found ry (λ b. some_within rx (λ a. in_ellipse rx ry a b && member region.top region.rows (i +ℤ a) (j +ℤ b))) h in
@@ -60,7 +60,7 @@ in_widened-found region rx ry i j h =
     let p = and_parts (in_ellipse rx ry r.0 q.0) (member region.top region.rows (i +ℤ r.0) (j +ℤ q.0)) r.2 in
     (r.0, q.0, in_ellipse-parts rx ry r.0 q.0 p.0, p.1)
 
-pub in_widened-from : (region : PlainRegion) (rx ry : ℕ) (i j a b : ℤ) → IsInEllipse rx ry a b → member region.top region.rows (i +ℤ a) (j +ℤ b) ≡ true → in_widened region rx ry i j ≡ true
+pub in_widened-from : (region : RegionValue) (rx ry : ℕ) (i j a b : ℤ) → IsInEllipse rx ry a b → member region.top region.rows (i +ℤ a) (j +ℤ b) ≡ true → in_widened region rx ry i j ≡ true
 unfolding in_widened
 in_widened-from region rx ry i j a b w m =
     some_within-from ry (λ b. some_within rx (λ a. in_ellipse rx ry a b && member region.top region.rows (i +ℤ a) (j +ℤ b))) b w.down

@@ -16,7 +16,7 @@ pub record IsFormed (rows : List (List Run)) (filled : ℕ) : Type 0 where
   pub fills : last_has_run (take filled rows) ≡ true
 
 -- The rows from `top` down hold the wanted samples before row j; from `filled` on they are empty.
-pub record HasRows (wanted : ℤ → ℤ → Bool) (j top : ℤ) (rows : List (List Run)) (filled : ℕ) : Type 0 where
+pub record HasRunRows (wanted : ℤ → ℤ → Bool) (j top : ℤ) (rows : List (List Run)) (filled : ℕ) : Type 0 where
   pub ends : (pos (length rows) +ℤ top) ≡ j
   pub members : (i k : ℤ) → k <ℤ j → member top rows i k ≡ wanted i k
   pub formed : IsFormed rows filled

@@ -14,12 +14,12 @@ pub record IsJoinedTo (old : List Run) (run : Run) (new : List Run) : Type 0 whe
   pub begin : (limit : ℤ) → run.from ≤ℤ limit → AllBegin limit new
 
 -- of the runs from k on and those of another row from m on, the one at k begins first
-pub record IsFirst (a : List Run) (k : ℕ) (b : List Run) (m : ℕ) : Type 0 where
+pub record BeginsFirst (a : List Run) (k : ℕ) (b : List Run) (m : ℕ) : Type 0 where
   pub within : k < length a
   pub before : (d : Run) → m < length b → (slice_index_or a k d).from ≤ℤ (slice_index_or b m d).from
 
 -- the runs hold the samples of the first k runs of one row and the first m of another, and the others begin no earlier
-pub record IsJoined (a : List Run) (k : ℕ) (b : List Run) (m : ℕ) (runs : List Run) : Type 0 where
+pub record AreRunsJoined (a : List Run) (k : ℕ) (b : List Run) (m : ℕ) (runs : List Run) : Type 0 where
   pub covers : (i : ℤ) → in_runs runs i ≡ (in_runs (take k a) i || in_runs (take m b) i)
   pub ascends : ascend runs ≡ true
   pub left : (d : Run) → k < length a → AllBegin (slice_index_or a k d).from runs

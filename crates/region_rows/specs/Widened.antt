@@ -1,6 +1,6 @@
 -- A region widened by an ellipse of samples.
 use Rattle.std.specs.Prelude.{ℕ, zero, suc, ◌+◌, ◌*◌, ℤ, pos, negsuc, ◌+ℤ◌, Bool, ◌&&◌, ◌||◌, nat_le, unsigned_abs}
-use Rattle.ass_num.specs.Regions.{PlainRegion, member}
+use Rattle.ass_num.specs.Regions.{RegionValue, member}
 
 -- some whole number whose size is at most n passes
 unfoldable pub some_within : ℕ → (ℤ → Bool) → Bool
@@ -17,6 +17,6 @@ in_ellipse rx ry a b =
     && nat_le (square (unsigned_abs a) * square ry + square (unsigned_abs b) * square rx) (square rx * square ry)
 
 -- some sample of the region lies within the ellipse around sample i of row j
-unfoldable pub in_widened : PlainRegion → ℕ → ℕ → ℤ → ℤ → Bool
+unfoldable pub in_widened : RegionValue → ℕ → ℕ → ℤ → ℤ → Bool
 in_widened region rx ry i j =
     some_within ry (λ b. some_within rx (λ a. in_ellipse rx ry a b && member region.top region.rows (i +ℤ a) (j +ℤ b)))

@@ -22,7 +22,7 @@ pub struct Growth {
 }
 
 impl Growth {
-    ghost use Rattle.region_rows.specs.Grown.{Adds, HasRoom, IsGrown, IsWhole};
+    ghost use Rattle.region_rows.specs.Grown.{AddsRuns, HasRoom, IsGrown, IsWholeGrowth};
 
     /// No rows yet, and the first that may come.
     pub fn new(alloc: Global, first: i32) -> Growth
@@ -38,7 +38,7 @@ impl Growth {
     /// Adds the next row.
     pub fn add(&mut self, runs: &[Run]) -> Mem<()>
         requires { HasRoom self.old }
-        ensures { OnOk result (Adds runs.now self.old self.new) }
+        ensures { OnOk result (AddsRuns runs.now self.old self.new) }
     {
         if runs.is_empty() {
             if self.rows.len() == 0 {
@@ -55,7 +55,7 @@ impl Growth {
 
     /// The region of the rows, without the empty rows at the end.
     pub fn finish(self) -> Region
-        requires { IsWhole self }
+        requires { IsWholeGrowth self }
         ensures samples { (wanted : ℤ → ℤ → Bool) (last : ℤ) → IsGrown wanted last self → ((i j : ℤ) → last ≤ℤ j → wanted i j ≡ false) → (i j : ℤ) → member result.top result.rows i j ≡ wanted i j }
         ensures canonical { is_canonical result.top result.rows ≡ true }
     {

@@ -3,7 +3,7 @@
 ghost use Rattle.std.specs.Prelude.{◌≡◌, ℤ, ◌<ℤ◌, ◌||◌, ◌+◌, ◌≤◌, ◌<◌, ◌⊎◌, true, length, OnOk};
 ghost use Rattle.std.specs.Bool.{MatchBool};
 ghost use Rattle.ass_num.specs.Regions.{ascend, in_runs};
-ghost use Rattle.region_rows.specs.Joins.{AllBegin, IsFirst, IsJoined, IsJoinedTo};
+ghost use Rattle.region_rows.specs.Joins.{AllBegin, BeginsFirst, AreRunsJoined, IsJoinedTo};
 
 use ass_num::{Mem, Run};
 
@@ -34,7 +34,7 @@ pub fn add_run(runs: &mut Vec<Run>, run: Run) -> Mem<()>
 fn is_first(a: &[Run], k: usize, b: &[Run], m: usize) -> bool
     requires left { k ≤ length a.now }
     requires right { m ≤ length b.now }
-    ensures { MatchBool result (IsFirst a.now k b.now m) ((k < length a.now) ⊎ (m < length b.now) → IsFirst b.now m a.now k) }
+    ensures { MatchBool result (BeginsFirst a.now k b.now m) ((k < length a.now) ⊎ (m < length b.now) → BeginsFirst b.now m a.now k) }
 {
     if k == a.len() {
         return false;
@@ -48,9 +48,9 @@ fn is_first(a: &[Run], k: usize, b: &[Run], m: usize) -> bool
 /// Adds the run of `a` at `k`.
 fn add_first(a: &[Run], k: usize, b: &[Run], m: usize, runs: &mut Vec<Run>) -> Mem<()>
     requires ascends { ascend a.now ≡ true }
-    requires first { IsFirst a.now k b.now m }
-    requires joined { IsJoined a.now k b.now m runs.old.items }
-    ensures { OnOk result (IsJoined a.now (k + 1) b.now m runs.new.items) }
+    requires first { BeginsFirst a.now k b.now m }
+    requires joined { AreRunsJoined a.now k b.now m runs.old.items }
+    ensures { OnOk result (AreRunsJoined a.now (k + 1) b.now m runs.new.items) }
 {
     add_run(runs, a[k])
 }

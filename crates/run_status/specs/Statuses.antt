@@ -33,23 +33,23 @@ abbrev pub script_line : BadScript → List ℕ
 script_line (NotUtf8 n) = codes "bad script: not UTF-8 at byte " ++ decimal n ++ codes "\n"
 script_line NoEvents = codes "bad script: no [Events] section\n"
 
-abbrev pub font_line : ℕ → ℕ → List ℕ → List ℕ
-font_line index line cause = codes "bad font " ++ decimal index ++ codes " line " ++ decimal line ++ codes ": " ++ cause ++ codes "\n"
+abbrev pub bad_font_line : ℕ → ℕ → List ℕ → List ℕ
+bad_font_line index line cause = codes "bad font " ++ decimal index ++ codes " line " ++ decimal line ++ codes ": " ++ cause ++ codes "\n"
 
 abbrev pub limit_line : List ℕ → ℕ → List ℕ
 limit_line what limit = codes "too large: " ++ what ++ codes " passes " ++ decimal limit ++ codes "\n"
 
 -- what the report says of a status; of a job that was done whole it says nothing
-abbrev pub line_of : Status → List ℕ
-line_of status.Done = []
-line_of (status.NoSuchFile name) = codes "no such file: " ++ name ++ codes "\n"
-line_of (status.ReadFault name) = codes "read fault: " ++ name ++ codes "\n"
-line_of (status.BadScript cause) = script_line cause
-line_of (status.BadFont index line cause) = font_line index line (cause_text cause)
-line_of (status.WriteFault which) = codes "write fault: " ++ sink_text which ++ codes "\n"
-line_of (status.TooLarge what limit) = limit_line (what_text what) limit
-line_of status.OutOfMemory = codes "out of memory\n"
-line_of status.NotBuilt = codes "not built\n"
+abbrev pub status_line : Status → List ℕ
+status_line status.Done = []
+status_line (status.NoSuchFile name) = codes "no such file: " ++ name ++ codes "\n"
+status_line (status.ReadFault name) = codes "read fault: " ++ name ++ codes "\n"
+status_line (status.BadScript cause) = script_line cause
+status_line (status.BadFont index line cause) = bad_font_line index line (cause_text cause)
+status_line (status.WriteFault which) = codes "write fault: " ++ sink_text which ++ codes "\n"
+status_line (status.TooLarge what limit) = limit_line (what_text what) limit
+status_line status.OutOfMemory = codes "out of memory\n"
+status_line status.NotBuilt = codes "not built\n"
 
 -- the exit status of the program
 abbrev pub exit_status_of : Status → ℕ

@@ -1,7 +1,7 @@
 //! How a run of the program ended.
 
 ghost use Rattle.std.specs.Prelude.{◌≡◌, IfOk, string_bytes};
-ghost use Rattle.run_status.specs.Statuses.{cause_text, font_line, limit_line, what_text};
+ghost use Rattle.run_status.specs.Statuses.{cause_text, bad_font_line, limit_line, what_text};
 ghost use Rattle.run_status.specs.declared.status.Status.TheVariants.{OutOfMemory as memory_status};
 
 use ass_num::{Mem, OutOfMemory, Text};
@@ -100,8 +100,8 @@ fn what_text(what: What) -> &'static str
 }
 
 /// The line of the report on a font that isn't one.
-fn font_line(alloc: Global, index: usize, line: usize, cause: &str) -> Mem<String>
-    ensures { IfOk result (λ text. string_bytes text ≡ font_line index line cause.now) }
+fn bad_font_line(alloc: Global, index: usize, line: usize, cause: &str) -> Mem<String>
+    ensures { IfOk result (λ text. string_bytes text ≡ bad_font_line index line cause.now) }
 {
     Ok(format!(in alloc; "bad font {index} line {line}: {cause}\n")?)
 }
@@ -147,7 +147,7 @@ impl BadScript {
 
 impl Status {
     ghost use Rattle.std.specs.Prelude.{◌≡◌, IfOk, string_bytes};
-    ghost use Rattle.run_status.specs.Statuses.{exit_status_of, line_of};
+    ghost use Rattle.run_status.specs.Statuses.{exit_status_of, status_line};
 
     /// The exit status of the program.
     pub fn exit_status(&self) -> u8
@@ -168,7 +168,7 @@ impl Status {
 
     /// The line of the report, with its line feed; of a job that was done whole there is none.
     pub fn line(&self, alloc: Global) -> Mem<String>
-        ensures { IfOk result (λ line. string_bytes line ≡ line_of self.now) }
+        ensures { IfOk result (λ line. string_bytes line ≡ status_line self.now) }
     {
         match self {
             Status::Done => Ok(String::new(alloc)),
@@ -182,7 +182,7 @@ impl Status {
             }
             Status::BadScript(cause) => cause.line(alloc),
             Status::BadFont(index, line, cause) => {
-                font_line(alloc, *index, *line, cause_text(*cause))
+                bad_font_line(alloc, *index, *line, cause_text(*cause))
             }
             Status::WriteFault(which) => {
                 let sink = which.text();

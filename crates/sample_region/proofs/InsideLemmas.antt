@@ -11,7 +11,7 @@ use Rattle.region_rows.proofs.LimitLemmas.{Near}
 use Rattle.region_rows.proofs.OrderLemmas.{le_false}
 use Rattle.sample_region.specs.Crossings.{crossing_at, row_crossings, ups, downs_to, ups_to, is_odd, is_inside, IsSweepable}
 use Rattle.sample_region.specs.Edges.{IsEdge}
-use Rattle.sample_region.specs.Heights.{IsBetween}
+use Rattle.sample_region.specs.Heights.{IsHeightBetween}
 use Rattle.sample_region.specs.declared.edges.Edge.{Edge}
 use Rattle.sample_region.specs.declared.sweep.Crossing.{Crossing}
 use Rattle.sample_region.proofs.OutsideLemmas.{outside}
@@ -66,8 +66,8 @@ columns_near list w i j h =
 
 pub rows_near : (rings : List (List Point)) → IsOutline rings → (i j : ℤ) → inside rings i j ≡ true → Near 65536 j
 rows_near rings near i j h =
-    let between : All (All (IsBetween (negsuc 262143) (pos 262144))) rings =
-    All-weaker (All IsOutlinePoint) (All (IsBetween (negsuc 262143) (pos 262144))) (λ ring w. All-weaker IsOutlinePoint (IsBetween (negsuc 262143) (pos 262144)) (λ p v. (v.above, v.below)) ring w) rings near in
+    let between : All (All (IsHeightBetween (negsuc 262143) (pos 262144))) rings =
+    All-weaker (All IsOutlinePoint) (All (IsHeightBetween (negsuc 262143) (pos 262144))) (λ ring w. All-weaker IsOutlinePoint (IsHeightBetween (negsuc 262143) (pos 262144)) (λ p v. (v.above, v.below)) ring w) rings near in
     by_lt_z (place j) (negsuc 262143)
     (λ (l : place j <ℤ negsuc 262143). absurd (false≢true (sym (outside (negsuc 262143) (pos 262144) rings between i j (inl l)) ∙ h)))
     (λ (l : negsuc 262143 ≤ℤ place j). by_lt_z (place j) (pos 262144)

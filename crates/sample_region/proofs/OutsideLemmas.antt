@@ -6,7 +6,7 @@ use Rattle.std.proofs.lemmas.List.Sums.{sum_by-cons}
 use Rattle.std.proofs.lemmas.List.Elements.{All-head, All-tail, All-cons, All-nil, All-append}
 use Rattle.region_rows.proofs.OrderLemmas.{lt_false, le_false}
 use Rattle.ass_num.specs.Winding.{place, spans, counts, line, edges, edges_of, inside}
-use Rattle.sample_region.specs.Heights.{IsBetween}
+use Rattle.sample_region.specs.Heights.{IsHeightBetween}
 use Rattle.sample_region.proofs.WindingLemmas.{Way}
 use Rattle.ass_num.specs.declared.geometry.Point.{Point}
 
@@ -29,24 +29,24 @@ none_counted : (P : Point → Type 0) (t : Way → Bool) → ((e : Way) → Ends
 none_counted P t f [] h = refl
 none_counted P t f (e ∷ es) h = sum_by-cons (λ (e : Way). cond (t e) 1 0) e es ∙ rw (f e (All-head (Ends P) e es h), none_counted P t f es (All-tail (Ends P) e es h)) refl
 
-spans_none : (low high y : ℤ) (a b : Point) → IsBetween low high a → IsBetween low high b → (y <ℤ low) ⊎ (high ≤ℤ y) → spans a b y ≡ false
+spans_none : (low high y : ℤ) (a b : Point) → IsHeightBetween low high a → IsHeightBetween low high b → (y <ℤ low) ⊎ (high ≤ℤ y) → spans a b y ≡ false
 spans_none low high y a b ha hb o =
     let a0 = ha.0 in
     let b1 = hb.1 in
     ⊎_elim (λ (l : y <ℤ low). and_left (int_le a.y y) (int_lt y b.y) (le_false a.y y (omega (arith, ints))))
     (λ (l : high ≤ℤ y). and_right (int_le a.y y) (int_lt y b.y) (lt_false y b.y (omega (arith, ints)))) o
 
-counts_none : (low high x y : ℤ) (a b : Point) → IsBetween low high a → IsBetween low high b → (y <ℤ low) ⊎ (high ≤ℤ y) → counts a b x y ≡ false
+counts_none : (low high x y : ℤ) (a b : Point) → IsHeightBetween low high a → IsHeightBetween low high b → (y <ℤ low) ⊎ (high ≤ℤ y) → counts a b x y ≡ false
 counts_none low high x y a b ha hb o = and_left (spans a b y) (int_lt ((x -ℤ a.x) *ℤ (b.y -ℤ a.y)) ((b.x -ℤ a.x) *ℤ (y -ℤ a.y))) (spans_none low high y a b ha hb o)
 
-pub outside : (low high : ℤ) (rings : List (List Point)) → All (All (IsBetween low high)) rings → (i j : ℤ) → (place j <ℤ low) ⊎ (high ≤ℤ place j) → inside rings i j ≡ false
+pub outside : (low high : ℤ) (rings : List (List Point)) → All (All (IsHeightBetween low high)) rings → (i j : ℤ) → (place j <ℤ low) ⊎ (high ≤ℤ place j) → inside rings i j ≡ false
 outside low high rings h i j o =
-    let P : Point → Type 0 = IsBetween low high in
+    let P : Point → Type 0 = IsHeightBetween low high in
     let all = rings_ends P rings h in
     let a : count_by (λ (e : Way). counts e.0 e.1 (place i) (place j)) (edges_of rings) ≡ 0 = none_counted P (λ (e : Way). counts e.0 e.1 (place i) (place j)) (λ e b. counts_none low high (place i) (place j) e.0 e.1 b.0 b.1 o) (edges_of rings) all in
     let b : count_by (λ (e : Way). counts e.1 e.0 (place i) (place j)) (edges_of rings) ≡ 0 = none_counted P (λ (e : Way). counts e.1 e.0 (place i) (place j)) (λ e b. counts_none low high (place i) (place j) e.1 e.0 b.1 b.0 o) (edges_of rings) all in
     rw (a, b) refl
 
 -- without points no sample is inside
-pub outside_all : (low high : ℤ) (rings : List (List Point)) → All (All (IsBetween low high)) rings → high <ℤ low → (i j : ℤ) → inside rings i j ≡ false
+pub outside_all : (low high : ℤ) (rings : List (List Point)) → All (All (IsHeightBetween low high)) rings → high <ℤ low → (i j : ℤ) → inside rings i j ≡ false
 outside_all low high rings h l i j = outside low high rings h i j (by_lt_z (place j) low (λ (k : place j <ℤ low). inl k) (λ (k : low ≤ℤ place j). inr (omega (arith, ints))))

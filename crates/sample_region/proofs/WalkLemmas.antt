@@ -13,7 +13,7 @@ use Rattle.region_rows.proofs.OrderLemmas.{lt_true, lt_false, le_true, le_false}
 use Rattle.region_rows.proofs.JoinLemmas.{or_false, in_runs-push}
 use Rattle.ass_num.specs.Regions.{in_runs, ascend_from, ascend}
 use Rattle.sample_region.specs.Crossings.{downs, ups, downs_to, ups_to, IsAscending}
-use Rattle.sample_region.specs.Rows.{IsRow, Walked, Reopens, IsRowOf}
+use Rattle.sample_region.specs.Rows.{IsRowBetween, Walked, Reopens, IsRowOf}
 use Rattle.sample_region.specs.Walks.{HasWalked, Passes}
 use Rattle.ass_num.specs.declared.region.Run.{Run}
 use Rattle.sample_region.specs.declared.sweep.Crossing.{Crossing}
@@ -26,30 +26,30 @@ pub and_nothing : (b : Bool) → ◌≡◌ {A = ℕ} (cond (b && false) 1 0) 0
 and_nothing true = refl
 and_nothing false = refl
 
-pub IsRow-wider : (low : ℤ) (rs : List Run) (high higher : ℤ) → high ≤ℤ higher → IsRow low rs high → IsRow low rs higher
-IsRow-wider low [] high higher h w = omega (arith, ints)
-IsRow-wider low (r ∷ rs) high higher h w = (w.0, w.1, IsRow-wider r.to rs high higher h w.2)
+pub IsRowBetween-wider : (low : ℤ) (rs : List Run) (high higher : ℤ) → high ≤ℤ higher → IsRowBetween low rs high → IsRowBetween low rs higher
+IsRowBetween-wider low [] high higher h w = omega (arith, ints)
+IsRowBetween-wider low (r ∷ rs) high higher h w = (w.0, w.1, IsRowBetween-wider r.to rs high higher h w.2)
 
 -- one more run at the end
-pub IsRow-push : (low : ℤ) (rs : List Run) (high : ℤ) (r : Run) → IsRow low rs high → high <ℤ r.from → r.from <ℤ r.to → IsRow low (rs ++ r ∷ []) r.to
-IsRow-push low [] high r w h k = (omega (arith, ints), k, omega (arith, ints))
-IsRow-push low (s ∷ rs) high r w h k = (w.0, w.1, IsRow-push s.to rs high r w.2 h k)
+pub IsRowBetween-push : (low : ℤ) (rs : List Run) (high : ℤ) (r : Run) → IsRowBetween low rs high → high <ℤ r.from → r.from <ℤ r.to → IsRowBetween low (rs ++ r ∷ []) r.to
+IsRowBetween-push low [] high r w h k = (omega (arith, ints), k, omega (arith, ints))
+IsRowBetween-push low (s ∷ rs) high r w h k = (w.0, w.1, IsRowBetween-push s.to rs high r w.2 h k)
 
 -- and without the last
-pub IsRow-pop : (low : ℤ) (rs : List Run) (high : ℤ) (r : Run) → IsRow low (rs ++ r ∷ []) high → IsRow low rs (r.from -ℤ pos 1) × ((r.from <ℤ r.to) × (r.to ≤ℤ high))
-IsRow-pop low [] high r w = (omega (arith, ints, w.0), (w.1, w.2))
-IsRow-pop low (s ∷ rs) high r w = let v = IsRow-pop s.to rs high r w.2 in ((w.0, w.1, v.0), v.1)
+pub IsRowBetween-pop : (low : ℤ) (rs : List Run) (high : ℤ) (r : Run) → IsRowBetween low (rs ++ r ∷ []) high → IsRowBetween low rs (r.from -ℤ pos 1) × ((r.from <ℤ r.to) × (r.to ≤ℤ high))
+IsRowBetween-pop low [] high r w = (omega (arith, ints, w.0), (w.1, w.2))
+IsRowBetween-pop low (s ∷ rs) high r w = let v = IsRowBetween-pop s.to rs high r w.2 in ((w.0, w.1, v.0), v.1)
 
-pub IsRow-bounds : (low : ℤ) (rs : List Run) (high : ℤ) → IsRow low rs high → low ≤ℤ high
-IsRow-bounds low [] high w = w
-IsRow-bounds low (r ∷ rs) high w = let v = IsRow-bounds r.to rs high w.2 in let a = w.0 in let b = w.1 in omega (arith, ints)
+pub IsRowBetween-bounds : (low : ℤ) (rs : List Run) (high : ℤ) → IsRowBetween low rs high → low ≤ℤ high
+IsRowBetween-bounds low [] high w = w
+IsRowBetween-bounds low (r ∷ rs) high w = let v = IsRowBetween-bounds r.to rs high w.2 in let a = w.0 in let b = w.1 in omega (arith, ints)
 
 -- no sample after the end lies in a run
-pub in_runs-after : (low : ℤ) (rs : List Run) (high i : ℤ) → IsRow low rs high → high ≤ℤ i → in_runs rs i ≡ false
+pub in_runs-after : (low : ℤ) (rs : List Run) (high i : ℤ) → IsRowBetween low rs high → high ≤ℤ i → in_runs rs i ≡ false
 in_runs-after low [] high i w h = refl
 in_runs-after low (r ∷ rs) high i w h =
     let v = in_runs-after r.to rs high i w.2 h in
-    let b = IsRow-bounds r.to rs high w.2 in
+    let b = IsRowBetween-bounds r.to rs high w.2 in
     rw (lt_false i r.to (omega (arith, ints)), v) (and_false (int_le r.from i))
 
 -- ---- the counts of crossings, with one more that is no lower than any
@@ -90,13 +90,13 @@ pub ups_to-before : (i : ℤ) (cs : List Crossing) (c : Crossing) → i <ℤ c.a
 ups_to-before i cs c h = ups_to-push i cs c ∙ rw (le_false c.at i h, and_nothing (not c.down)) (omega arith)
 
 -- the last run does not end at high
-pub IsRow-below : (low : ℤ) (rs : List Run) (r : Run) (high : ℤ) → IsRow low (rs ++ r ∷ []) high → (r.to ≡ high → ⊥) → IsRow low (rs ++ r ∷ []) (high -ℤ pos 1)
-IsRow-below low rs r high w ne =
-    let p = IsRow-pop low rs high r w in
+pub IsRowBetween-below : (low : ℤ) (rs : List Run) (r : Run) (high : ℤ) → IsRowBetween low (rs ++ r ∷ []) high → (r.to ≡ high → ⊥) → IsRowBetween low (rs ++ r ∷ []) (high -ℤ pos 1)
+IsRowBetween-below low rs r high w ne =
+    let p = IsRowBetween-pop low rs high r w in
     let a = p.1.0 in
     let b = p.1.1 in
     let e : r.to ≤ℤ (high -ℤ pos 1) = by_lt_z r.to high (λ (l : r.to <ℤ high). omega (arith, ints)) (λ (l : high ≤ℤ r.to). absurd (ne (omega (arith, ints)))) in
-    IsRow-wider low (rs ++ r ∷ []) r.to (high -ℤ pos 1) e (IsRow-push low rs (r.from -ℤ pos 1) r p.0 (omega (arith, ints)) a)
+    IsRowBetween-wider low (rs ++ r ∷ []) r.to (high -ℤ pos 1) e (IsRowBetween-push low rs (r.from -ℤ pos 1) r p.0 (omega (arith, ints)) a)
 
 or_and_false : (b x : Bool) → (b || (x && false)) ≡ b
 or_and_false true x = refl
@@ -165,9 +165,9 @@ module _ (low : ℤ) (done : List Crossing) (d u : ℕ) (from : ℤ) (runs : Lis
   unfolding odd
   opened e apart =
       let ne : d' ≡ u' → ⊥ = tipped c.down d u d' u' ed eu e in
-      let row : IsRow low runs (c.at -ℤ pos 1) =
+      let row : IsRowBetween low runs (c.at -ℤ pos 1) =
       ⊎_elim (λ n. rw n (omega (arith, ints)))
-      (λ t. rw t.2 (IsRow-below low t.0 t.1 c.at (rw t.2 at (w.outer e c.at (omega (arith, ints)) all)) (apart t.0 t.1 t.2)))
+      (λ t. rw t.2 (IsRowBetween-below low t.0 t.1 c.at (rw t.2 at (w.outer e c.at (omega (arith, ints)) all)) (apart t.0 t.1 t.2)))
       (last_or_nil runs) in
       record {
         downs_is = sym downs_all;
@@ -183,7 +183,7 @@ module _ (low : ℤ) (done : List Crossing) (d u : ℕ) (from : ℤ) (runs : Lis
   unfolding odd
   reopened e rs r er et =
       let ne : d' ≡ u' → ⊥ = tipped c.down d u d' u' ed eu e in
-      let p : IsRow low rs (r.from -ℤ pos 1) × ((r.from <ℤ r.to) × (r.to ≤ℤ c.at)) = IsRow-pop low rs c.at r (rw er at (w.outer e c.at (omega (arith, ints)) all)) in
+      let p : IsRowBetween low rs (r.from -ℤ pos 1) × ((r.from <ℤ r.to) × (r.to ≤ℤ c.at)) = IsRowBetween-pop low rs c.at r (rw er at (w.outer e c.at (omega (arith, ints)) all)) in
       let p0 : r.from <ℤ r.to = p.1.0 in
       record {
         downs_is = sym downs_all;
@@ -201,7 +201,7 @@ module _ (low : ℤ) (done : List Crossing) (d u : ℕ) (from : ℤ) (runs : Lis
   unfolding odd
   closed ne e l f r rf rt =
       let i0 = w.inner ne in
-      let row : IsRow low (runs ++ r ∷ []) r.to = IsRow-push low runs (from -ℤ pos 1) r i0.0 (omega (arith, ints)) (omega (arith, ints)) in
+      let row : IsRowBetween low (runs ++ r ∷ []) r.to = IsRowBetween-push low runs (from -ℤ pos 1) r i0.0 (omega (arith, ints)) (omega (arith, ints)) in
       record {
         downs_is = sym downs_all;
         ups_is = sym ups_all;
@@ -212,7 +212,7 @@ module _ (low : ℤ) (done : List Crossing) (d u : ℕ) (from : ℤ) (runs : Lis
             (λ (l : c.at ≤ℤ i). meet false
             (rw (eq-eqb d' u' e, in_runs-after low (runs ++ r ∷ []) r.to i row (omega (arith, ints))) refl)
             (counted_even e i l));
-        outer = λ _ high h a. let q = (parts high a).1 in IsRow-wider low (runs ++ r ∷ []) r.to high (omega (arith, ints)) row;
+        outer = λ _ high h a. let q = (parts high a).1 in IsRowBetween-wider low (runs ++ r ∷ []) r.to high (omega (arith, ints)) row;
         inner = λ k. absurd (k e);
       }
 
@@ -231,7 +231,7 @@ module _ (low : ℤ) (done : List Crossing) (d u : ℕ) (from : ℤ) (runs : Lis
             (λ (l' : c.at ≤ℤ i). meet false
             (rw (eq-eqb d' u' e, in_runs-after low runs (from -ℤ pos 1) i i0.0 (omega (arith, ints))) refl)
             (counted_even e i l'));
-        outer = λ _ high h a. let q = (parts high a).1 in IsRow-wider low runs (from -ℤ pos 1) high (omega (arith, ints)) i0.0;
+        outer = λ _ high h a. let q = (parts high a).1 in IsRowBetween-wider low runs (from -ℤ pos 1) high (omega (arith, ints)) i0.0;
         inner = λ k. absurd (k e);
       }
 
@@ -279,11 +279,11 @@ bounded (c ∷ cs) =
       All-cons (λ (c : Crossing). c.at ≤ℤ h) c cs (omega (arith, ints, clamps)) (All-weaker (λ (c : Crossing). c.at ≤ℤ b.1) (λ (c : Crossing). c.at ≤ℤ h) (λ e k. omega (arith, ints, clamps, k)) cs b.4),
     )
 
-ascend_from-row : (low : ℤ) (rs : List Run) (high : ℤ) → IsRow low rs high → ascend_from low rs ≡ true
+ascend_from-row : (low : ℤ) (rs : List Run) (high : ℤ) → IsRowBetween low rs high → ascend_from low rs ≡ true
 ascend_from-row low [] high w = refl
 ascend_from-row low (r ∷ rs) high w = rw (lt_true low r.from w.0, lt_true r.from r.to w.1, ascend_from-row r.to rs high w.2) refl
 
-ascend-row : (low : ℤ) (rs : List Run) (high : ℤ) → IsRow low rs high → ascend rs ≡ true
+ascend-row : (low : ℤ) (rs : List Run) (high : ℤ) → IsRowBetween low rs high → ascend rs ≡ true
 ascend-row low [] high w = refl
 ascend-row low (r ∷ rs) high w = rw (lt_true r.from r.to w.1, ascend_from-row r.to rs high w.2) refl
 

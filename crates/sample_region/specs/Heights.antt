@@ -2,5 +2,5 @@
 use Rattle.std.specs.Prelude.{ℤ, ◌≤ℤ◌}
 use Rattle.ass_num.specs.declared.geometry.Point.{Point}
 
-abbrev pub IsBetween : ℤ → ℤ → Point → Type 0
-IsBetween low high p = (low ≤ℤ p.y) × (p.y ≤ℤ high)
+abbrev pub IsHeightBetween : ℤ → ℤ → Point → Type 0
+IsHeightBetween low high p = (low ≤ℤ p.y) × (p.y ≤ℤ high)

@@ -5,7 +5,7 @@ ghost use Rattle.ass_num.specs.Limits.{IsOutline, IsOutlinePoint, IsRegionWithin
 ghost use Rattle.ass_num.specs.Regions.{is_canonical, member};
 ghost use Rattle.ass_num.specs.Winding.{inside, place};
 ghost use Rattle.sample_region.specs.Crossings.{IsSweepable, is_inside};
-ghost use Rattle.sample_region.specs.Heights.{IsBetween};
+ghost use Rattle.sample_region.specs.Heights.{IsHeightBetween};
 
 use crate::edges::{Edge, ordered_edges};
 use crate::row::Walk;
@@ -26,7 +26,7 @@ fn widened(heights: Heights, ring: &[Point]) -> Heights
     requires near { All IsOutlinePoint ring.now }
     requires low { negsuc 262143 ≤ℤ heights.low }
     requires high { heights.high ≤ℤ pos 262144 }
-    ensures between { All (IsBetween result.low result.high) ring.now }
+    ensures between { All (IsHeightBetween result.low result.high) ring.now }
     ensures lower { result.low ≤ℤ heights.low }
     ensures higher { heights.high ≤ℤ result.high }
     ensures low { negsuc 262143 ≤ℤ result.low }
@@ -45,7 +45,7 @@ fn widened(heights: Heights, ring: &[Point]) -> Heights
 /// The heights of an outline; of no points the low one is greater.
 fn find_heights(outline: &Outline) -> Heights
     requires { IsOutline outline.now.rings }
-    ensures between { All (All (IsBetween result.low result.high)) outline.now.rings }
+    ensures between { All (All (IsHeightBetween result.low result.high)) outline.now.rings }
     ensures low { negsuc 262143 ≤ℤ result.low }
     ensures high { result.high ≤ℤ pos 262144 }
 {

@@ -10,7 +10,7 @@ use Rattle.std.proofs.Math.Seq.{take-append_seam}
 use Rattle.std.proofs.lemmas.Option.{some_pair_parts}
 use Rattle.tag_arguments.specs.declared.kinds.TagName.{TagName}
 use Rattle.tag_arguments.specs.Names.{Names, names_on, name_in, longest_name}
-use Rattle.tag_arguments.specs.Laws.{IsRow, BeginsWithName, LongestCounts, NoneIsNone}
+use Rattle.tag_arguments.specs.Laws.{IsNameRow, BeginsWithName, LongestCounts, NoneIsNone}
 use Rattle.tag_arguments.proofs.NameLemmas.{begins}
 
 -- ---- the table
@@ -57,7 +57,7 @@ ordered c =
     record { heads = refl; order = refl })))))))))))))))))))))
 
 -- what each row passes
-all_rows : (test : List ℕ × TagName → Bool) (rows : Names) (spelling : List ℕ) (n : TagName) → list_all test rows ≡ true → IsRow rows spelling n → test (spelling, n) ≡ true
+all_rows : (test : List ℕ × TagName → Bool) (rows : Names) (spelling : List ℕ) (n : TagName) → list_all test rows ≡ true → IsNameRow rows spelling n → test (spelling, n) ≡ true
 all_rows test [] spelling n all row = absurd row
 all_rows test (r ∷ rows) spelling n all row = elim row [
   | inl e ↦ let P : List ℕ × TagName → Type 0 = λ z. test z ≡ true in subst P e (and_parts _ _ all).0
@@ -82,12 +82,12 @@ first_byte : (front rest : List ℕ) → 0 < length front → slice_index (front
 first_byte [] rest some = absurd (omega arith)
 first_byte (c ∷ front) rest some = refl
 
-on_first : (text spelling : List ℕ) (n : TagName) → BeginsWithName text spelling n → IsRow (names_on (slice_index text 0)) spelling n
+on_first : (text spelling : List ℕ) (n : TagName) → BeginsWithName text spelling n → IsNameRow (names_on (slice_index text 0)) spelling n
 on_first text spelling n is =
     let head = and_parts _ _ (all_rows (headed is.letter) (names_on is.letter) spelling n (ordered is.letter).heads is.listed) in
     let letter : slice_index text 0 ≡ is.letter =
     ap (λ z. slice_index z 0) (split text spelling is.begins) ∙ first_byte spelling (drop (length spelling) text) (ltb-true _ _ head.0) ∙ eqb-true _ _ head.1 in
-    let P : ℕ → Type 0 = λ z. IsRow (names_on z) spelling n in
+    let P : ℕ → Type 0 = λ z. IsNameRow (names_on z) spelling n in
     subst P (sym letter) is.listed
 
 -- ---- the first name
@@ -95,10 +95,10 @@ on_first text spelling n is =
 -- the name that is found among rows, and that the others are shorter
 record IsFirst (rows : Names) (text : List ℕ) (name : TagName) (rest : List ℕ) : Type 0 where
   spelling : List ℕ
-  listed : IsRow rows spelling name
+  listed : IsNameRow rows spelling name
   begun : starts_with nat_eq text spelling ≡ true
   behind : rest ≡ drop (length spelling) text
-  others : (other : List ℕ) (n : TagName) → IsRow rows other n → starts_with nat_eq text other ≡ true → ((other ≡ spelling) × (n ≡ name)) ⊎ (length other < length spelling)
+  others : (other : List ℕ) (n : TagName) → IsNameRow rows other n → starts_with nat_eq text other ≡ true → ((other ≡ spelling) × (n ≡ name)) ⊎ (length other < length spelling)
 
 first : (rows : Names) (text : List ℕ) (name : TagName) (rest : List ℕ) → in_order rows ≡ true → name_in rows text ≡ Some (name, rest) → IsFirst rows text name rest
 first [] text name rest order found = absurd (cc)
@@ -134,7 +134,7 @@ first (r ∷ rows) text name rest order found = elim (cases_Bool (starts_with na
       }
 ]
 
-none_begins : (rows : Names) (text other : List ℕ) (n : TagName) → name_in rows text ≡ None → IsRow rows other n → starts_with nat_eq text other ≡ true → ⊥
+none_begins : (rows : Names) (text other : List ℕ) (n : TagName) → name_in rows text ≡ None → IsNameRow rows other n → starts_with nat_eq text other ≡ true → ⊥
 none_begins [] text other n none listed starts = listed
 none_begins (r ∷ rows) text other n none listed starts = elim (cases_Bool (starts_with nat_eq text r.0)) [
   | inl does ↦

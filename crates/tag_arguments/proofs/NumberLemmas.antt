@@ -6,10 +6,10 @@ use Rattle.std.proofs.lemmas.List.Splits.{slice_split_none, slice_split_first}
 use Rattle.ass_num.specs.Fronts.{BeginsWith, HasNoFront}
 use Rattle.ass_num.specs.Numerals.{IsMilli}
 use Rattle.blanks.specs.Blanks.{trimmed}
-use Rattle.tag_arguments.specs.Numbers.{pieces, unless_blank, without_blank_last, counted_pieces, AreNumbers, AreFewNumbers}
+use Rattle.tag_arguments.specs.Numbers.{comma_pieces, unless_blank, without_blank_last, counted_pieces, AreNumbers, AreFewNumbers}
 
 -- a text without a comma is one piece
-pub pieces_none : (text : List ℕ) → position_or_len (λ c. eqb c 44) text ≡ length text → pieces text ≡ text ∷ []
+pub pieces_none : (text : List ℕ) → position_or_len (λ c. eqb c 44) text ≡ length text → comma_pieces text ≡ text ∷ []
 pieces_none text e = slice_split_none (λ c. eqb c 44) text (λ k d h. fails_before_first (λ c. eqb c 44) text k d (omega arith))
 
 -- no text is without a piece
@@ -17,24 +17,24 @@ onto_cons : (c : ℕ) (parts : List (List ℕ)) → (q : List ℕ) × (qs : List
 onto_cons c [] = (c ∷ [], [], refl)
 onto_cons c (part ∷ parts) = (c ∷ part, parts, refl)
 
-cond_cons : (b : Bool) (c : ℕ) (text : List ℕ) → (q : List ℕ) × (qs : List (List ℕ)) × (cond b ([] ∷ pieces text) (onto_first c (pieces text)) ≡ q ∷ qs)
-cond_cons true c text = ([], pieces text, refl)
-cond_cons false c text = onto_cons c (pieces text)
+cond_cons : (b : Bool) (c : ℕ) (text : List ℕ) → (q : List ℕ) × (qs : List (List ℕ)) × (cond b ([] ∷ comma_pieces text) (onto_first c (comma_pieces text)) ≡ q ∷ qs)
+cond_cons true c text = ([], comma_pieces text, refl)
+cond_cons false c text = onto_cons c (comma_pieces text)
 
-pub pieces_cons : (text : List ℕ) → (q : List ℕ) × (qs : List (List ℕ)) × (pieces text ≡ q ∷ qs)
+pub pieces_cons : (text : List ℕ) → (q : List ℕ) × (qs : List (List ℕ)) × (comma_pieces text ≡ q ∷ qs)
 pieces_cons [] = ([], [], refl)
 pieces_cons (c ∷ text) = cond_cons (eqb c 44) c text
 
 blank_last_more : (piece : List ℕ) (more : List (List ℕ)) → (q : List ℕ) (qs : List (List ℕ)) → more ≡ q ∷ qs → without_blank_last (piece ∷ more) ≡ piece ∷ without_blank_last more
 blank_last_more piece more q qs e = ap (λ z. without_blank_last (piece ∷ z)) e ∙ ap (λ z. piece ∷ without_blank_last z) (sym e)
 
-pub counted_more : (drops_blank : Bool) (text piece rest : List ℕ) → pieces text ≡ piece ∷ pieces rest → counted_pieces drops_blank text ≡ piece ∷ counted_pieces drops_blank rest
+pub counted_more : (drops_blank : Bool) (text piece rest : List ℕ) → comma_pieces text ≡ piece ∷ comma_pieces rest → counted_pieces drops_blank text ≡ piece ∷ counted_pieces drops_blank rest
 counted_more true text piece rest e =
     let first = pieces_cons rest in
-    ap without_blank_last e ∙ blank_last_more piece (pieces rest) first.0 first.1 first.2
+    ap without_blank_last e ∙ blank_last_more piece (comma_pieces rest) first.0 first.1 first.2
 counted_more false text piece rest e = e
 
-pub counted_last : (drops_blank : Bool) (text : List ℕ) → pieces text ≡ text ∷ [] → counted_pieces drops_blank text ≡ cond drops_blank (unless_blank text) (text ∷ [])
+pub counted_last : (drops_blank : Bool) (text : List ℕ) → comma_pieces text ≡ text ∷ [] → counted_pieces drops_blank text ≡ cond drops_blank (unless_blank text) (text ∷ [])
 counted_last true text e = ap without_blank_last e
 counted_last false text e = e
 
@@ -76,5 +76,5 @@ too_many whole done p more numbers values e h seven few =
     absurd (omega arith)
 
 -- the piece before the first comma
-pub pieces_first : (text piece rest : List ℕ) → piece ≡ before_first (λ c. eqb c 44) text → rest ≡ after_first (λ c. eqb c 44) text → position_or_len (λ c. eqb c 44) text < length text → pieces text ≡ piece ∷ pieces rest
-pieces_first text piece rest front back within = let e = slice_split_first (λ c. eqb c 44) text 0 within in let a = ap pieces back in cc
+pub pieces_first : (text piece rest : List ℕ) → piece ≡ before_first (λ c. eqb c 44) text → rest ≡ after_first (λ c. eqb c 44) text → position_or_len (λ c. eqb c 44) text < length text → comma_pieces text ≡ piece ∷ comma_pieces rest
+pieces_first text piece rest front back within = let e = slice_split_first (λ c. eqb c 44) text 0 within in let a = ap comma_pieces back in cc

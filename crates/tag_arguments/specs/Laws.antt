@@ -5,14 +5,14 @@ use Rattle.tag_arguments.specs.Names.{Names, names_on, longest_name}
 use Rattle.tag_arguments.specs.declared.kinds.TagName.{TagName}
 
 -- Some row says that this spelling stands for this name.
-abbrev pub IsRow : Names → List ℕ → TagName → Type 0
-IsRow [] spelling name = ⊥
-IsRow (row ∷ rows) spelling name = (row ≡ (spelling, name)) ⊎ IsRow rows spelling name
+abbrev pub IsNameRow : Names → List ℕ → TagName → Type 0
+IsNameRow [] spelling name = ⊥
+IsNameRow (row ∷ rows) spelling name = (row ≡ (spelling, name)) ⊎ IsNameRow rows spelling name
 
 -- A text begins with a spelling of a name, on whatever letter it is listed.
 pub record BeginsWithName (text spelling : List ℕ) (name : TagName) : Type 0 where
   pub letter : ℕ
-  pub listed : IsRow (names_on letter) spelling name
+  pub listed : IsNameRow (names_on letter) spelling name
   pub begins : starts_with nat_eq text spelling ≡ true
 
 -- The name that is found begins the text, and each other one that does is shorter.

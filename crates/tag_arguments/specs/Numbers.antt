@@ -26,8 +26,8 @@ ReadsFront Spells argument None = HasNoFront Spells argument
 ReadsFront Spells argument (Some value) = BeginsWith Spells argument value
 
 -- the text between commas
-abbrev pub pieces : List ℕ → List (List ℕ)
-pieces text = slice_split (λ c. c == 44) text
+abbrev pub comma_pieces : List ℕ → List (List ℕ)
+comma_pieces text = slice_split (λ c. c == 44) text
 
 -- a last piece, unless it is blank
 abbrev pub unless_blank : List ℕ → List (List ℕ)
@@ -41,7 +41,7 @@ without_blank_last (piece ∷ (next ∷ more)) = piece ∷ without_blank_last (n
 
 -- the pieces that count, where a blank last one may be dropped
 abbrev pub counted_pieces : Bool → List ℕ → List (List ℕ)
-counted_pieces drops_blank text = if drops_blank then without_blank_last (pieces text) else pieces text
+counted_pieces drops_blank text = if drops_blank then without_blank_last (comma_pieces text) else comma_pieces text
 
 -- the same of what stands behind a comma, where one is left
 abbrev pub left_pieces : Bool → Option (List ℕ) → List (List ℕ)
@@ -51,19 +51,19 @@ left_pieces drops_blank (Some rest) = counted_pieces drops_blank rest
 -- Each piece, without blanks at its ends, begins with its number.
 abbrev pub AreNumbers : List (List ℕ) → List ℤ → Type 0
 AreNumbers [] [] = Unit {0}
-AreNumbers (piece ∷ pieces) (value ∷ values) = BeginsWith IsMilli (trimmed piece) value × AreNumbers pieces values
+AreNumbers (piece ∷ comma_pieces) (value ∷ values) = BeginsWith IsMilli (trimmed piece) value × AreNumbers comma_pieces values
 AreNumbers _ _ = ⊥
 
 -- the pieces are numbers, of which there are at most seven
 abbrev pub AreFewNumbers : List (List ℕ) → List ℤ → Type 0
-AreFewNumbers pieces values = (length values ≤ 7) × AreNumbers pieces values
+AreFewNumbers comma_pieces values = (length values ≤ 7) × AreNumbers comma_pieces values
 
 -- These are the numbers of the pieces; none are read where some piece isn't a number, or there are more than seven.
 abbrev pub ReadsNumbers : List (List ℕ) → Option (List ℤ) → Type 0
-ReadsNumbers pieces (Some values) = AreFewNumbers pieces values
-ReadsNumbers pieces None = (values : List ℤ) → AreFewNumbers pieces values → ⊥
+ReadsNumbers comma_pieces (Some values) = AreFewNumbers comma_pieces values
+ReadsNumbers comma_pieces None = (values : List ℤ) → AreFewNumbers comma_pieces values → ⊥
 
 -- the same of an argument in brackets; none are read without a bracket
 abbrev pub ReadsBracketed : Option (List ℕ) → Option (List ℤ) → Type 0
 ReadsBracketed None values = values ≡ None
-ReadsBracketed (Some inside) values = ReadsNumbers (pieces inside) values
+ReadsBracketed (Some inside) values = ReadsNumbers (comma_pieces inside) values

@@ -4,7 +4,7 @@ ghost use Rattle.std.specs.Prelude.{◌≡◌, ◌+◌, ◌<◌, ◌∷◌, [], 
 ghost use Rattle.std.specs.Option.{option_map, option_copied};
 ghost use Rattle.ass_num.specs.Numerals.{IsMilli};
 ghost use Rattle.tag_arguments.specs.Cuts.{bracketed};
-ghost use Rattle.tag_arguments.specs.Numbers.{begins_signed, ReadsUnsigned, ReadsOptional, ReadsFront, ReadsNumbers, ReadsBracketed, pieces, counted_pieces, left_pieces};
+ghost use Rattle.tag_arguments.specs.Numbers.{begins_signed, ReadsUnsigned, ReadsOptional, ReadsFront, ReadsNumbers, ReadsBracketed, comma_pieces, counted_pieces, left_pieces};
 
 use crate::cut::bracketed;
 use arrayvec::ArrayVec;
@@ -56,7 +56,7 @@ pub fn read_unsigned(argument: &str) -> Option<Option<Milli>>
 
 /// The first piece of a text, and what stands behind the comma after it.
 pub fn first_piece(text: &str) -> (&str, Option<&str>)
-    ensures pieces { MatchOption result.1 (pieces text.now ≡ result.0.now ∷ []) (λ rest. pieces text.now ≡ result.0.now ∷ pieces rest.now) }
+    ensures comma_pieces { MatchOption result.1 (comma_pieces text.now ≡ result.0.now ∷ []) (λ rest. comma_pieces text.now ≡ result.0.now ∷ comma_pieces rest.now) }
     ensures whole { IfNone result.1 (result.0.now ≡ text.now) }
     ensures shorter { IfSome result.1 (λ rest. length rest.now < length text.now) }
 {
@@ -68,8 +68,8 @@ pub fn first_piece(text: &str) -> (&str, Option<&str>)
 
 /// A text without a comma as its only piece, unless that doesn't count.
 fn only_piece(text: &str, drops_blank: bool) -> Option<(&str, Option<&str>)>
-    requires { pieces text.now ≡ text.now ∷ [] }
-    ensures pieces { MatchOption result
+    requires { comma_pieces text.now ≡ text.now ∷ [] }
+    ensures comma_pieces { MatchOption result
         (counted_pieces drops_blank text.now ≡ [])
         (λ next. counted_pieces drops_blank text.now ≡ next.0.now ∷ left_pieces drops_blank (option_copied next.1)) }
     ensures last { IfSome result (λ next. IsNone next.1) }
@@ -85,7 +85,7 @@ fn only_piece(text: &str, drops_blank: bool) -> Option<(&str, Option<&str>)>
 
 /// The first piece of a text that counts, and what stands behind the comma after it.
 fn next_piece(text: &str, drops_blank: bool) -> Option<(&str, Option<&str>)>
-    ensures pieces { MatchOption result
+    ensures comma_pieces { MatchOption result
         (counted_pieces drops_blank text.now ≡ [])
         (λ next. counted_pieces drops_blank text.now ≡ next.0.now ∷ left_pieces drops_blank (option_copied next.1)) }
     ensures shorter { IfSome result (λ next. IfSome next.1 (λ rest. length rest.now < length text.now)) }

@@ -3,7 +3,7 @@ ghost use Rattle.std.specs.Prelude.{◌≡◌, ◌≢◌, ℕ, ◌+◌, ◌<◌,
 ghost use mathlib.Core.Option.{none};
 ghost use Rattle.atomic_table.specs.Table.{step};
 ghost use Rattle.turn_cell.specs.History.{History, IsPrefix, IsBelow, with_entry};
-ghost use Rattle.turn_cell.specs.Passes.{IsOf, IsTurnOf, IsTurnAfterTries, Extends, IsWhole, IsUnjoined, first_pass, split_pass, new_pass, joined_pass, mine};
+ghost use Rattle.turn_cell.specs.Passes.{IsOf, IsTurnOf, IsTurnAfterTries, Extends, IsWholePass, IsUnjoined, first_pass, split_pass, new_pass, joined_pass, mine};
 ghost use Rattle.turn_cell.specs.Plays.{IsReadyToGive, GiveTells};
 
 use crate::book::Book;
@@ -232,7 +232,7 @@ impl<B: Book> TurnCell<B> {
         ensures value { IfSome result
             (λ b. (list : History B.Entry) × B.stands self.tag b list × Extends pass list) }
         ensures out { IfNone result ((n : ℕ) × IsUnjoined pass n) }
-        ensures whole { IsWhole pass → IsSome result }
+        ensures whole { IsWholePass pass → IsSome result }
     {
         let Pass {
             number: _,

@@ -4,10 +4,10 @@ ghost use Rattle.std.specs.List.{position_or_len, remove};
 ghost use Rattle.std.specs.Map.{lookup, remove_entry};
 ghost use Rattle.std.specs.Arc.{arc_value};
 ghost use Rattle.evict_core.specs.Recency.{to_front, change, without_last};
-ghost use Rattle.evict_core.specs.Machine.{Status, Hit, Ask as ask_step, Crowded, Fill, Fail, Unpin, Limits, Flying, Ready, is_idle, idle_cost, held_cost, has_idle, unpinned, pinned, pins_in, one_pin_more, one_pin_less, status_of, answer_of, is_within, evict, trim, after};
+ghost use Rattle.evict_core.specs.Machine.{Status, Hit, Ask as ask_step, Crowded, Fill, Fail, Unpin, Limits, Flying, Ready, is_idle, idle_cost, held_cost, has_idle, unpinned, pinned, pins_in, one_pin_more, one_pin_less, status_of, ask_answer, is_within, evict, trim, state_after};
 ghost use Rattle.evict_core.specs.History.{opening};
-ghost use Rattle.evict_core.specs.Asked.{IsAnswer, ready_pins, totals_of};
-ghost use Rattle.evict_core.specs.Places.{status_in};
+ghost use Rattle.evict_core.specs.Asked.{IsAskAnswer, ready_pins, totals_of};
+ghost use Rattle.evict_core.specs.Places.{stored_status};
 
 use super::{Call, Reply, reply_of};
 use crate::counts::raise;
@@ -29,13 +29,13 @@ impl Model for Line {
     ghost use Rattle.std.specs.Coded.{coded×, coded_ℕ};
     ghost use Rattle.evict_core.specs.Machine.{Status};
     ghost use Rattle.evict_core.specs.Codes.{status_code};
-    ghost use Rattle.evict_core.specs.Places.{status_in};
+    ghost use Rattle.evict_core.specs.Places.{stored_status};
 
     ghost Value = { ℕ × Status ℕ };
 
     ghost coded = { coded× coded_ℕ (status_code coded_ℕ) };
 
-    ghost view = { λ l. (l.key, status_in l.stored) };
+    ghost view = { λ l. (l.key, stored_status l.stored) };
 }
 
 impl Line {
@@ -46,7 +46,7 @@ impl Line {
     }
 
     fn stored(&self) -> &Stored<u32>
-        ensures { status_in result.now ≡ self.now.1 }
+        ensures { stored_status result.now ≡ self.now.1 }
     {
         &self.stored
     }
@@ -256,7 +256,7 @@ impl Plain {
 
     /// The ask of a key under a number.
     pub fn ask(&mut self, key: u32, number: u32) -> Ask<u32>
-        ensures { IsAnswer nat_eq self.old key number result self.new }
+        ensures { IsAskAnswer nat_eq self.old key number result self.new }
     {
         match self.get(key) {
             Some(Stored::Making(maker)) => Ask::Flying(*maker),
@@ -277,7 +277,7 @@ impl Plain {
 
     /// The key has its value, with one pin, and is the first.
     pub fn fill(&mut self, key: u32, value: Arc<u32>, cost: u64)
-        ensures { (m : ℕ) → self.new ≡ after nat_eq self.old m (Fill key cost (arc_value value)) }
+        ensures { (m : ℕ) → self.new ≡ state_after nat_eq self.old m (Fill key cost (arc_value value)) }
     {
         fill_line(&mut self.lines, key, cost, value);
         self.counts.fills = raise(self.counts.fills);
@@ -285,7 +285,7 @@ impl Plain {
 
     /// The key is taken away.
     pub fn fail(&mut self, key: u32)
-        ensures { (m : ℕ) → self.new ≡ after nat_eq self.old m (Fail key) }
+        ensures { (m : ℕ) → self.new ≡ state_after nat_eq self.old m (Fail key) }
     {
         remove_line(&mut self.lines, key);
         self.counts.fails = raise(self.counts.fails);
@@ -293,8 +293,8 @@ impl Plain {
 
     /// The hit of an ask, without the value.
     pub fn pin(&mut self, key: u32)
-        requires { answer_of nat_eq self.old key ≡ Some Hit }
-        ensures { (m : ℕ) → self.new ≡ after nat_eq self.old m (ask_step key Hit) }
+        requires { ask_answer nat_eq self.old key ≡ Some Hit }
+        ensures { (m : ℕ) → self.new ≡ state_after nat_eq self.old m (ask_step key Hit) }
     {
         pin_line(&mut self.lines, key);
         self.counts.hits = raise(self.counts.hits);
@@ -302,7 +302,7 @@ impl Plain {
 
     /// One pin less on the key, and then the trim.
     pub fn unpin(&mut self, key: u32)
-        ensures { (m : ℕ) → self.new ≡ after nat_eq self.old m (Unpin key) }
+        ensures { (m : ℕ) → self.new ≡ state_after nat_eq self.old m (Unpin key) }
     {
         self.give_back(key);
         self.trim();
@@ -310,7 +310,7 @@ impl Plain {
 
     /// New limits, and then the trim.
     pub fn set_limits(&mut self, limit: u32, budget: u64)
-        ensures { (m : ℕ) → self.new ≡ after nat_eq self.old m (Limits limit budget) }
+        ensures { (m : ℕ) → self.new ≡ state_after nat_eq self.old m (Limits limit budget) }
     {
         self.limit = limit;
         self.budget = budget;
@@ -328,7 +328,7 @@ impl Plain {
     }
 
     fn get(&self, key: u32) -> Option<&Stored<u32>>
-        ensures { option_map (λ s. status_in s.now) result ≡ status_of nat_eq self.now key }
+        ensures { option_map (λ s. stored_status s.now) result ≡ status_of nat_eq self.now key }
     {
         let i = place_of(&self.lines, key);
         if i < self.lines.len() {
@@ -341,7 +341,7 @@ impl Plain {
     // An ask of a key that isn't there.
     fn claim(&mut self, key: u32, number: u32) -> Ask<u32>
         requires { status_of nat_eq self.old key ≡ None }
-        ensures { IsAnswer nat_eq self.old key number result self.new }
+        ensures { IsAskAnswer nat_eq self.old key number result self.new }
     {
         if self.lines.len() < self.limit as usize {
             return self.claim_free(key, number);
@@ -356,7 +356,7 @@ impl Plain {
     fn claim_free(&mut self, key: u32, number: u32) -> Ask<u32>
         requires absent { status_of nat_eq self.old key ≡ None }
         requires room { length self.old.entries < self.old.limit }
-        ensures { IsAnswer nat_eq self.old key number result self.new }
+        ensures { IsAskAnswer nat_eq self.old key number result self.new }
     {
         let Ok(_) = put_line(&mut self.lines, key, number) else {
             return Ask::OutOfMemory;
@@ -370,7 +370,7 @@ impl Plain {
         requires absent { status_of nat_eq self.old key ≡ None }
         requires full { self.old.limit ≤ length self.old.entries }
         requires idle { has_idle self.old.entries ≡ true }
-        ensures { IsAnswer nat_eq self.old key number result self.new }
+        ensures { IsAskAnswer nat_eq self.old key number result self.new }
     {
         let Ok(_) = put_line(&mut self.lines, key, number) else {
             return Ask::OutOfMemory;
@@ -381,7 +381,7 @@ impl Plain {
     }
 
     fn refuse(&mut self)
-        ensures { (k m : ℕ) → self.new ≡ after nat_eq self.old m (ask_step k Crowded) }
+        ensures { (k m : ℕ) → self.new ≡ state_after nat_eq self.old m (ask_step k Crowded) }
     {
         self.counts.crowded = raise(self.counts.crowded);
     }

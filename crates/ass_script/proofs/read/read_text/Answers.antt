@@ -3,8 +3,8 @@ use Rattle.std.specs.Prelude.{Result}
 use Rattle.std.specs.Str.Lines.{lines}
 use Rattle.std.proofs.lemmas.Iterator.Splits.{YieldsList-from_lines}
 use Rattle.ass_script.specs.Words.{past_mark}
-use Rattle.ass_script.specs.Scripts.{PlainScript, Answers}
-use Rattle.ass_script.specs.Walk.{walked, no_lines, made_script}
+use Rattle.ass_script.specs.Scripts.{ScriptValue, IsScriptAnswer}
+use Rattle.ass_script.specs.Walk.{walked, no_script_lines, made_script}
 use Rattle.ass_script.specs.declared.refusal.ScriptRefusal.{ScriptRefusal}
 use Rattle.ass_script.proofs.Refusals.{script_of_utf8}
 use Rattle.ass_script.proofs.Yields.{next_left, none_left}
@@ -26,7 +26,7 @@ loop-line-init c =
 
 pub loop-line-preserved : goal.loop-line-preserved
 loop-line-preserved c =
-    let wanted = walked (lines (past_mark c.args.text.now)) no_lines in
+    let wanted = walked (lines (past_mark c.args.text.now)) no_script_lines in
     record {
       sound = c.in_ok-line.ensures.sound;
       read = next_left _ _ (λ rest. walked rest c.loop-line.reading ≡ wanted) (λ rest. walked rest c.line.new.self ≡ wanted) _ _ c.in-Some.line
@@ -38,6 +38,6 @@ pub returns-clause-answer : goal.returns-clause-answer
 returns-clause-answer c =
     let bytes = c.args.text.now in
     let all = lines (past_mark bytes) in
-    let left = walk_end c.loop-line.reading (walked all no_lines) (none_left _ _ _ _ _ c.loop-line.invariant.read c.in-None.ensures.steps) in
+    let left = walk_end c.loop-line.reading (walked all no_script_lines) (none_left _ _ _ _ _ c.loop-line.invariant.read c.in-None.ensures.steps) in
     let whole = script_of_utf8 bytes c.utf8.text in
-    subst (λ (w : Result PlainScript ScriptRefusal). Answers c.made.result w) (ap made_script left ∙ (read_is all ∙ sym whole)) c.made.ensures.answer
+    subst (λ (w : Result ScriptValue ScriptRefusal). IsScriptAnswer c.made.result w) (ap made_script left ∙ (read_is all ∙ sym whole)) c.made.ensures.answer

@@ -1,14 +1,14 @@
 use Rattle.std.proofs.Common.{w32, ◌∙◌}
 use Rattle.std.proofs.lemmas.Int.{to_z-of_z}
 use Rattle.blend.proofs.AreaLemmas.{part-covered}
-use Rattle.blend.proofs.FillLemmas.{IsCovered-part}
+use Rattle.blend.proofs.FillLemmas.{IsAreaCovered-part}
 use Rattle.blend.proofs.DrawLemmas.{drawn-under, drawn-beside}
 use Rattle.blend.proofs.drawing.draw_clipped.Goals as goal
 use Rattle.blend.proofs.drawing.draw_clipped.Goals.{then-inverse, else-inverse}
 
 pub fill_clipped_colours-requires-clause-covered : goal.fill_clipped_colours-requires-clause-covered
 fill_clipped_colours-requires-clause-covered c =
-    IsCovered-part c.meeting-area.result _ c.args.mask.now _ _ c.cut_to_box-part.ensures.part.left c.cut_to_box-part.ensures.part.right
+    IsAreaCovered-part c.meeting-area.result _ c.args.mask.now _ _ c.cut_to_box-part.ensures.part.left c.cut_to_box-part.ensures.part.right
     c.cut_to_box-part.ensures.part.top c.cut_to_box-part.ensures.part.bottom c.meeting-area.ensures.covered
 
 pub fill_clipped_colours-requires-clause-clip : goal.fill_clipped_colours-requires-clause-clip

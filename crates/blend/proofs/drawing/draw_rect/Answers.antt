@@ -1,13 +1,13 @@
 use Rattle.std.proofs.Common.{w32, arith}
 use Rattle.std.proofs.lemmas.Int.{ints, to_z-of_z}
 use Rattle.blend.proofs.AreaLemmas.{rect-both}
-use Rattle.blend.proofs.FillLemmas.{IsCovered-part}
+use Rattle.blend.proofs.FillLemmas.{IsAreaCovered-part}
 use Rattle.blend.proofs.DrawLemmas.{drawn-inside, drawn-outside}
 use Rattle.blend.proofs.drawing.draw_rect.Goals as goal
 
 pub fill_colours-requires-clause-covered : goal.fill_colours-requires-clause-covered
 fill_colours-requires-clause-covered c =
-    IsCovered-part c.meeting-area.result _ c.args.mask.now _ _ c.cut-part.ensures.part.left c.cut-part.ensures.part.right
+    IsAreaCovered-part c.meeting-area.result _ c.args.mask.now _ _ c.cut-part.ensures.part.left c.cut-part.ensures.part.right
     c.cut-part.ensures.part.top c.cut-part.ensures.part.bottom c.meeting-area.ensures.covered
 
 pub returns-then-inverse : goal.returns-then-inverse

@@ -1,5 +1,5 @@
 use Rattle.std.proofs.Common.{rules, ◌+◌, ◌≡◌, ◌∙◌, refl, sym, ap, ◌≤ℤ◌, ◌<ℤ◌, ℤ, pos, false, w32, to_z-of_z, FitsSigned}
-use Rattle.ass_num.specs.Regions.{PlainRegion, member}
+use Rattle.ass_num.specs.Regions.{RegionValue, member}
 use Rattle.region_rows.specs.Widened.{in_widened}
 use Rattle.region_rows.proofs.GrowthLemmas.{empty_members}
 use Rattle.region_rows.proofs.LimitLemmas.{within_from}
@@ -8,7 +8,7 @@ use Rattle.border_region.proofs.border.widened.Goals as goal
 
 pub returns-then-len-eq0-clause-samples : goal.returns-then-len-eq0-clause-samples
 returns-then-len-eq0-clause-samples c = λ i j.
-    ap (λ (r : PlainRegion). member r.top r.rows i j) c.empty.ensures ∙ empty_members (pos 0) i j ∙ sym (none_widened c.args.region.now c.args.rx c.args.ry i j (let n = rw c.rows.ensures.rows at c.len.ensures in sym n ∙ c.if-len-eq0.true))
+    ap (λ (r : RegionValue). member r.top r.rows i j) c.empty.ensures ∙ empty_members (pos 0) i j ∙ sym (none_widened c.args.region.now c.args.rx c.args.ry i j (let n = rw c.rows.ensures.rows at c.len.ensures in sym n ∙ c.if-len-eq0.true))
 
 pub add_rows-requires-clause-rows : goal.add_rows-requires-clause-rows
 add_rows-requires-clause-rows c =

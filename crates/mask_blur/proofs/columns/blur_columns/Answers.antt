@@ -1,9 +1,9 @@
 use Rattle.std.proofs.Common.{◌≡◌, ℕ, ◌+◌, ◌-◌, ◌*◌, ◌<◌, ◌≤◌, pos, ◌+ℤ◌, ◌-ℤ◌, length, get_or, ap, refl, ◌∙◌, sym, arith, rules}
 use Rattle.std.proofs.lemmas.Nat.{mul-le}
 use Rattle.ass_num.specs.Coverage.{sum_from}
-use Rattle.ass_num.specs.Masks.{PlainMask, value_at}
+use Rattle.ass_num.specs.Masks.{MaskValue, value_at}
 use Rattle.mask_blur.specs.Blur.{mean, along_columns}
-use Rattle.mask_blur.specs.Shown.{Shows, HasRows}
+use Rattle.mask_blur.specs.Shown.{Shows, HasMaskRows}
 use Rattle.mask_blur.proofs.ColumnLemmas.{sums_none, column_step, column_bounds, column_mean}
 use Rattle.mask_blur.proofs.MaskLemmas.{mask_shows}
 use Rattle.mask_blur.proofs.LineLemmas.{replicate_zero}
@@ -37,7 +37,7 @@ slide-requires-clause-low c = λ i h.
     let rows : (k + 1) * w ≤ (c.args.h + 2 * r) * w = mul-le (k + 1) w (c.args.h + 2 * r) w (omega (arith, c.radius-r.ensures.value)) (omega arith) in
     let fits : k * w + w ≤ length c.loop-k.to = omega (arith, c.requires.room, rows) in
     let part = length_part (k * w) (k * w + w) c.loop-k.to fits in
-    let m : PlainMask = record { x = pos 0; y = pos 0; w = w; h = c.args.h; bytes = c.args.from.now } in
+    let m : MaskValue = record { x = pos 0; y = pos 0; w = w; h = c.args.h; bytes = c.args.from.now } in
     let shows : Shows (value_at m) (pos 0) (pos 0) w c.args.h c.args.from.now = mask_shows m in
     let column : i < w = omega (arith, part) in
     let last = leaves.ensures.row (value_at m) (pos 0) (pos 0) shows i column ∙ ap (λ n. value_at m (pos 0 +ℤ pos i) ((pos 0 +ℤ pos k) -ℤ pos (2 * n + 1))) c.radius-r.ensures.value in
@@ -55,7 +55,7 @@ slide-requires-clause-high c = λ i h.
     let rows : (k + 1) * w ≤ (c.args.h + 2 * r) * w = mul-le (k + 1) w (c.args.h + 2 * r) w (omega (arith, c.radius-r.ensures.value)) (omega arith) in
     let fits : k * w + w ≤ length c.loop-k.to = omega (arith, c.requires.room, rows) in
     let part = length_part (k * w) (k * w + w) c.loop-k.to fits in
-    let m : PlainMask = record { x = pos 0; y = pos 0; w = w; h = c.args.h; bytes = c.args.from.now } in
+    let m : MaskValue = record { x = pos 0; y = pos 0; w = w; h = c.args.h; bytes = c.args.from.now } in
     let shows : Shows (value_at m) (pos 0) (pos 0) w c.args.h c.args.from.now = mask_shows m in
     let column : i < w = omega (arith, part) in
     let last = leaves.ensures.row (value_at m) (pos 0) (pos 0) shows i column ∙ ap (λ n. value_at m (pos 0 +ℤ pos i) ((pos 0 +ℤ pos k) -ℤ pos (2 * n + 1))) c.radius-r.ensures.value in
@@ -87,5 +87,5 @@ loop-k-preserved c = λ f x y shows.
 pub returns : goal.returns
 returns c = λ f x y shows.
     let rows : c.loop-k.k ≡ c.args.h + 2 * c.args.means.now.radius = omega (arith, c.radius-r.ensures.value) in
-    let has : HasRows (along_columns c.args.means.now.radius f) x (y -ℤ pos c.args.means.now.radius) (length c.args.zeros.now) (c.args.h + 2 * c.args.means.now.radius) c.loop-k.to = rw (← rows) (c.loop-k.invariant f x y shows).1 in
+    let has : HasMaskRows (along_columns c.args.means.now.radius f) x (y -ℤ pos c.args.means.now.radius) (length c.args.zeros.now) (c.args.h + 2 * c.args.means.now.radius) c.loop-k.to = rw (← rows) (c.loop-k.invariant f x y shows).1 in
     record { inside = has; outside = along_columns_boxed c.args.means.now.radius f x y (length c.args.zeros.now) c.args.h shows.outside }

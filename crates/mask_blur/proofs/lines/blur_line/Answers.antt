@@ -1,7 +1,7 @@
 use Rattle.std.proofs.Common.{◌≡◌, ◌+◌, ◌*◌, pos, ◌+ℤ◌, get_or, ap, ◌∙◌, sym, arith}
 use Rattle.std.proofs.lemmas.List.Edits.{fill_by_more}
 use Rattle.mask_blur.specs.Blur.{mean, smoothed}
-use Rattle.mask_blur.specs.Lines.{line_of}
+use Rattle.mask_blur.specs.Lines.{line_values}
 use Rattle.mask_blur.proofs.LineLemmas.{line_start, line_step, line_bound, smoothed_behind}
 use Rattle.mask_blur.proofs.lines.blur_line.Goals as goal
 
@@ -42,5 +42,5 @@ loop-k-preserved c =
     let k = c.loop-k.k in
     let enters = c.from.ensures ∙ ap (λ n. get_or line (k + (2 * n + 1)) 0) c.radius.ensures.value in
     let step = line_step line r k c.loop-k.sum c.from.result c.from-in-loop-k.result c.loop-k.invariant.0 enters c.from-in-loop-k.ensures in
-    let is : c.of.result ≡ smoothed r (line_of line) (pos (r + 1) +ℤ pos k) = c.of.ensures ∙ ap (mean r) step.1 ∙ sym (smoothed_behind (line_of line) r k) in
-    (step.1, rw is (fill_by_more (λ j. smoothed r (line_of line) (pos (r + 1) +ℤ pos j)) c.loop-k.to k 0 (omega arith) c.loop-k.invariant.1))
+    let is : c.of.result ≡ smoothed r (line_values line) (pos (r + 1) +ℤ pos k) = c.of.ensures ∙ ap (mean r) step.1 ∙ sym (smoothed_behind (line_values line) r k) in
+    (step.1, rw is (fill_by_more (λ j. smoothed r (line_values line) (pos (r + 1) +ℤ pos j)) c.loop-k.to k 0 (omega arith) c.loop-k.invariant.1))

@@ -2,7 +2,7 @@ use Rattle.std.proofs.Common.{◌≡◌, ◌+◌, ◌-◌, ◌*◌, ◌≤◌, p
 use Rattle.std.proofs.lemmas.List.Edits.{get_or-between}
 use Rattle.std.proofs.lemmas.Nat.{mul-le}
 use Rattle.mask_blur.specs.Blur.{along_rows}
-use Rattle.mask_blur.specs.Shown.{HasRows}
+use Rattle.mask_blur.specs.Shown.{HasMaskRows}
 use Rattle.mask_blur.proofs.PutLemmas.{length_part}
 use Rattle.mask_blur.proofs.ShownLemmas.{rows_more, along_rows_thrice_boxed}
 use Rattle.mask_blur.proofs.lines.blur_rows.Goals as goal
@@ -37,5 +37,5 @@ pub returns : goal.returns
 returns c = λ f x y shows.
     let r = c.args.means.now.radius in
     let rows : c.loop-j.j ≡ c.args.h = omega arith in
-    let has : HasRows (along_rows r (along_rows r (along_rows r f))) (x -ℤ pos (3 * r)) y (c.args.w + 6 * r) c.args.h c.loop-j.to = rw (← rows) (c.loop-j.invariant.4 f x y shows) in
+    let has : HasMaskRows (along_rows r (along_rows r (along_rows r f))) (x -ℤ pos (3 * r)) y (c.args.w + 6 * r) c.args.h c.loop-j.to = rw (← rows) (c.loop-j.invariant.4 f x y shows) in
     record { inside = has; outside = along_rows_thrice_boxed r f x y c.args.w c.args.h shows.outside }

@@ -2,7 +2,7 @@ use Rattle.std.proofs.Common.{◌≡◌, ◌+◌, ◌-◌, ◌*◌, ◌≤◌, p
 use Rattle.std.proofs.lemmas.Int.{ints}
 use Rattle.std.proofs.lemmas.Nat.{mul-le}
 use Rattle.mask_blur.specs.Softening.{softer}
-use Rattle.mask_blur.specs.Shown.{HasRows}
+use Rattle.mask_blur.specs.Shown.{HasMaskRows}
 use Rattle.mask_blur.proofs.PutLemmas.{length_part}
 use Rattle.mask_blur.proofs.ShownLemmas.{rows_more, softer_boxed}
 use Rattle.mask_blur.proofs.softening.soften_once.Goals as goal
@@ -35,5 +35,5 @@ loop-k-preserved c = (
 pub returns-clause-softer : goal.returns-clause-softer
 returns-clause-softer c = λ f x y shows.
     let rows : c.loop-k.k ≡ c.args.h + 2 = omega arith in
-    let has : HasRows (softer f) (x -ℤ pos 1) (y -ℤ pos 1) (length c.args.zeros.now + 2) (c.args.h + 2) c.loop-k.to = rw (← rows) (c.loop-k.invariant.2 f x y shows) in
+    let has : HasMaskRows (softer f) (x -ℤ pos 1) (y -ℤ pos 1) (length c.args.zeros.now + 2) (c.args.h + 2) c.loop-k.to = rw (← rows) (c.loop-k.invariant.2 f x y shows) in
     record { inside = has; outside = softer_boxed f x y (length c.args.zeros.now) c.args.h shows.outside }

@@ -3,7 +3,7 @@ use Rattle.std.proofs.lemmas.Int.{ints, to_z-of_z}
 use Rattle.std.proofs.lemmas.Bool.{and_parts}
 use Rattle.std.specs.Int.RustNames.{FitsSigned}
 use Rattle.ass_num.specs.Coverage.{first_sample}
-use Rattle.ass_num.specs.Masks.{PlainMask}
+use Rattle.ass_num.specs.Masks.{MaskValue}
 use Rattle.ass_num.specs.Regions.{all_ascend}
 use Rattle.mask_cover.proofs.CoverLemmas.{Spans, is_cover, empty_cover, spans_inside, falls_same, some_pixels, span_order, mask_ok, last_row, cells_for}
 use Rattle.mask_cover.proofs.SpanLemmas.{no_items}
@@ -86,7 +86,7 @@ returns c =
     let len : c.len-2.result ≡ length region.rows = c.len-2.ensures ∙ ap length c.rows-rows.ensures.rows in
     let top : FitsSigned w32 c.top-top.result = search rules in
     let from : c.from-2.result ≡ c.args.region.now.top = omega (arith, ints, c.from-2.ensures, c.top-top.ensures) in
-    let m : PlainMask = record { x = across.first; y = down.first; w = across.count; h = down.count; bytes = c.in_ok-bytes.bytes.items } in
+    let m : MaskValue = record { x = across.first; y = down.first; w = across.count; h = down.count; bytes = c.in_ok-bytes.bytes.items } in
     let is : c.new.result ≡ record { x = across.first; y = down.first; w = across.count; h = down.count; bytes = c.in_ok-bytes.bytes.items } = rw (x_is, y_is) at c.new.ensures in
     let some : 0 < length region.rows = omega (arith, len, c.len.ensures, c.len-2.ensures, c.if-len-eq0.false) in
     let spans : Spans region c.args.px c.args.py (record { x = across.first; y = down.first; w = across.count; h = down.count }) = record {

@@ -3,7 +3,7 @@ use Rattle.std.proofs.lemmas.Int.{ints, to_z-of_z}
 use Rattle.std.specs.Int.RustNames.{FitsSigned}
 use Rattle.mask_cover.proofs.RowLemmas.{drop_step, run_at, counts_now, row_count-end}
 use Rattle.mask_cover.proofs.SpanLemmas.{none}
-use Rattle.mask_cover.proofs.StepLemmas.{IsWithin-wider, IsWithin-from_counts}
+use Rattle.mask_cover.proofs.StepLemmas.{AreStepsWithin-wider, AreStepsWithin-from_counts}
 use Rattle.mask_cover.specs.Steps.{row_count}
 use Rattle.mask_cover.proofs.steps.add_row.Goals as goal
 
@@ -35,7 +35,7 @@ add_run-requires-clause-inside c =
 
 pub add_run-requires-clause-small : goal.add_run-requires-clause-small
 add_run-requires-clause-small c =
-    IsWithin-wider 256 300 c.loop-run.steps (omega arith) (IsWithin-from_counts 256 c.loop-run.steps
+    AreStepsWithin-wider 256 300 c.loop-run.steps (omega arith) (AreStepsWithin-from_counts 256 c.loop-run.steps
     (counts_now c.args.steps.now c.loop-run.steps c.args.runs.now (drop c.loop-run.run-index c.args.runs.now) (to_z w64 (of_z w64 c.args.left)) c.requires.counts c.loop-run.invariant.0 c.loop-run.invariant.1))
 
 pub loop-run-preserved : goal.loop-run-preserved

@@ -1,17 +1,17 @@
 use Rattle.std.proofs.Common.{◌+◌, arith}
 use Rattle.std.proofs.lemmas.Int.{ints}
-use Rattle.mask_cover.proofs.StepLemmas.{IsWithin-wider, rise, fall}
+use Rattle.mask_cover.proofs.StepLemmas.{AreStepsWithin-wider, rise, fall}
 use Rattle.mask_cover.specs.Steps.{sum_first}
 use Rattle.mask_cover.proofs.steps.add_run.Goals as goal
 
 pub add_step-requires-2-clause-small : goal.add_step-requires-2-clause-small
-add_step-requires-2-clause-small c = IsWithin-wider 316 1000 c.add_step.new.steps (omega arith) (c.add_step.ensures.small 300 c.requires.small)
+add_step-requires-2-clause-small c = AreStepsWithin-wider 316 1000 c.add_step.new.steps (omega arith) (c.add_step.ensures.small 300 c.requires.small)
 
 pub add_step-requires-3-clause-small : goal.add_step-requires-3-clause-small
-add_step-requires-3-clause-small c = IsWithin-wider 332 1000 c.add_step-2.new.steps (omega arith) (c.add_step-2.ensures.small 316 (c.add_step.ensures.small 300 c.requires.small))
+add_step-requires-3-clause-small c = AreStepsWithin-wider 332 1000 c.add_step-2.new.steps (omega arith) (c.add_step-2.ensures.small 316 (c.add_step.ensures.small 300 c.requires.small))
 
 pub add_step-requires-4-clause-small : goal.add_step-requires-4-clause-small
-add_step-requires-4-clause-small c = IsWithin-wider 348 1000 c.add_step-3.new.steps (omega arith) (c.add_step-3.ensures.small 332 (c.add_step-2.ensures.small 316 (c.add_step.ensures.small 300 c.requires.small)))
+add_step-requires-4-clause-small c = AreStepsWithin-wider 348 1000 c.add_step-3.new.steps (omega arith) (c.add_step-3.ensures.small 332 (c.add_step-2.ensures.small 316 (c.add_step.ensures.small 300 c.requires.small)))
 
 pub returns : goal.returns
 returns c = record {

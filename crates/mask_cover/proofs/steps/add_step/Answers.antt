@@ -1,6 +1,6 @@
 use Rattle.std.proofs.Common.{◌+◌, arith}
 use Rattle.std.proofs.lemmas.Int.{ints}
-use Rattle.mask_cover.proofs.StepLemmas.{sum_first-set_before, behind_by, IsWithin-set}
+use Rattle.mask_cover.proofs.StepLemmas.{sum_first-set_before, behind_by, AreStepsWithin-set}
 use Rattle.mask_cover.proofs.steps.add_step.Goals as goal
 
 pub returns-clause-before : goal.returns-clause-before
@@ -15,4 +15,4 @@ pub returns-clause-small : goal.returns-clause-small
 returns-clause-small c = λ limit h.
     let small = c.requires.small c.args.k in
     let was = h c.args.k in
-    IsWithin-set limit (limit + 16) c.args.steps.now c.args.k _ (omega arith) c.requires.place h (omega (arith, ints, small.0, small.1, was.0), omega (arith, ints, small.0, small.1, was.1))
+    AreStepsWithin-set limit (limit + 16) c.args.steps.now c.args.k _ (omega arith) c.requires.place h (omega (arith, ints, small.0, small.1, was.0), omega (arith, ints, small.0, small.1, was.1))

@@ -2,7 +2,7 @@ use Rattle.std.proofs.Common.{ℤ, refl, w32, sym, ◌∙◌, subst, rules}
 use Rattle.std.proofs.lemmas.Int.{to_z-of_z}
 use Rattle.std.specs.Int.RustNames.{FitsSigned}
 use Rattle.ass_num.specs.Coverage.{PixelBox, InBox, IsMovedPixel}
-use Rattle.ass_num.specs.Masks.{PlainMask}
+use Rattle.ass_num.specs.Masks.{MaskValue}
 use Rattle.mask_cover.specs.Sums.{AddsMask}
 use Rattle.mask_cover.proofs.RowSums.{sum_none, sum_more, sum_all}
 use Rattle.mask_cover.proofs.sum.sum_of.Goals as goal
@@ -12,7 +12,7 @@ loop-mask-init c = record { place = refl; value = sum_none c.args.parts.now c.in
 
 pub add-requires : goal.add-requires
 add-requires c = λ i j pixel.
-    let item : PlainMask × ℤ × ℤ = c.loop-mask-item.result in
+    let item : MaskValue × ℤ × ℤ = c.loop-mask-item.result in
     let dx : FitsSigned w32 item.1 = search rules in
     let dy : FitsSigned w32 item.2 = search rules in
     let P : PixelBox → Type 0 = λ z. InBox z i j in
@@ -21,7 +21,7 @@ add-requires c = λ i j pixel.
 
 pub loop-mask-preserved : goal.loop-mask-preserved
 loop-mask-preserved c =
-    let item : PlainMask × ℤ × ℤ = c.loop-mask-item.result in
+    let item : MaskValue × ℤ × ℤ = c.loop-mask-item.result in
     let dx : FitsSigned w32 item.1 = search rules in
     let dy : FitsSigned w32 item.2 = search rules in
     let adds : AddsMask item c.loop-mask.sum c.add.new.self = rw (to_z-of_z w32 item.1 dx, to_z-of_z w32 item.2 dy) at c.add.ensures in

@@ -1,6 +1,6 @@
 use Rattle.std.proofs.Common.{◌∷◌, ap, ◌∙◌}
 use Rattle.std.specs.Option.{option_map}
-use Rattle.tag_arguments.specs.Numbers.{pieces}
+use Rattle.tag_arguments.specs.Numbers.{comma_pieces}
 use Rattle.tag_arguments.proofs.NumberLemmas.{pieces_cons}
 use Rattle.override_tags.proofs.NumberShapes.{many_pieces}
 use Rattle.override_tags.proofs.clip.inside_tag.Goals as goal
@@ -12,5 +12,5 @@ returns-in-Some-more c =
     let third = pieces_cons c.in-Some-more.field-0.now in
     let a = c.first_piece.result.0.now in
     let b = c.first_piece-in-Some.result.0.now in
-    many_pieces c.args.inverse (pieces c.args.inside.now) a b third.0 third.1 c.rectangle_tag.result (option_map (λ n. n.items) c.number_list.result)
+    many_pieces c.args.inverse (comma_pieces c.args.inside.now) a b third.0 third.1 c.rectangle_tag.result (option_map (λ n. n.items) c.number_list.result)
     (first ∙ ap (λ z. a ∷ z) (second ∙ ap (λ z. b ∷ z) third.2)) c.number_list.ensures c.rectangle_tag.ensures

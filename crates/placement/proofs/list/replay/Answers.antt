@@ -1,7 +1,7 @@
 use Rattle.std.proofs.Common.{rules, arith, ◌^◌, get_or, SFits, w64}
 use Rattle.std.proofs.lemmas.Int.{to_z-of_z}
 use Rattle.std.proofs.lemmas.List.{get_or_default}
-use Rattle.placement.proofs.ShiftLemmas.{IsWithin-wider, least-IsShift}
+use Rattle.placement.proofs.ShiftLemmas.{IsBoxWithin-wider, least-IsShift}
 use Rattle.placement.proofs.ReplayLemmas.{Replayed-none, Replayed-more, sorted_are, sorted_near, no_stand}
 use Rattle.placement.proofs.list.replay.Goals as goal
 
@@ -9,7 +9,7 @@ pub loop-stand-init : goal.loop-stand-init
 loop-stand-init c = rw (c.new-shown.ensures.items, c.in_ok-shifts.ensures.items) (Replayed-none c.args.list.now)
 
 pub least_shift-shift-requires-clause-within : goal.least_shift-shift-requires-clause-within
-least_shift-shift-requires-clause-within c = IsWithin-wider (2 ^ 50) (2 ^ 61) _ (omega arith) (c.requires.placeable c.loop-stand.stand-index _ c.loop-stand-test.true).within
+least_shift-shift-requires-clause-within c = IsBoxWithin-wider (2 ^ 50) (2 ^ 61) _ (omega arith) (c.requires.placeable c.loop-stand.stand-index _ c.loop-stand-test.true).within
 
 pub least_shift-shift-requires-clause-others_within : goal.least_shift-shift-requires-clause-others_within
 least_shift-shift-requires-clause-others_within c =
@@ -18,7 +18,7 @@ least_shift-shift-requires-clause-others_within c =
     rw c.as_slice-in-loop-stand.ensures.value (sorted_near c.args.list.now c.loop-stand.shown.items c.loop-stand.shifts.items _ i c.requires.few c.loop-stand-test.true p c.loop-stand.invariant)
 
 pub moved_stand-requires-clause-within : goal.moved_stand-requires-clause-within
-moved_stand-requires-clause-within c = IsWithin-wider (2 ^ 50) (2 ^ 61) _ (omega arith) (c.requires.placeable c.loop-stand.stand-index _ c.loop-stand-test.true).within
+moved_stand-requires-clause-within c = IsBoxWithin-wider (2 ^ 50) (2 ^ 61) _ (omega arith) (c.requires.placeable c.loop-stand.stand-index _ c.loop-stand-test.true).within
 
 pub moved_stand-requires-clause-shift : goal.moved_stand-requires-clause-shift
 moved_stand-requires-clause-shift c =
@@ -27,7 +27,7 @@ moved_stand-requires-clause-shift c =
     let f : SFits w64 c.least_shift-shift.result = search rules in
     let p = sorted_are c.args.list.now c.loop-stand.shown.items _ _ _ _ i c.drop_ended.ensures c.as_slice.ensures.value c.in_ok-boxes_of.ensures c.sort_along.ensures in
     let near = sorted_near c.args.list.now c.loop-stand.shown.items c.loop-stand.shifts.items _ i c.requires.few c.loop-stand-test.true p c.loop-stand.invariant in
-    let within = IsWithin-wider (2 ^ 50) (2 ^ 61) s.place (omega arith) (c.requires.placeable i no_stand c.loop-stand-test.true).within in
+    let within = IsBoxWithin-wider (2 ^ 50) (2 ^ 61) s.place (omega arith) (c.requires.placeable i no_stand c.loop-stand-test.true).within in
     rw (to_z-of_z w64 c.least_shift-shift.result f) (least-IsShift s.place _ s.down _ within near (rw c.as_slice-in-loop-stand.ensures.value at c.least_shift-shift.ensures))
 
 pub loop-stand-preserved : goal.loop-stand-preserved

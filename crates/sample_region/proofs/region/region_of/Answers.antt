@@ -1,6 +1,6 @@
 use Rattle.std.proofs.Common.{rules, FitsSigned, w32, w64, to_z-of_z, ap, pos, inl, inr, ◌∙◌, ◌≡◌, ◌<ℤ◌, ◌≤ℤ◌, ℤ, sym, refl, [], false}
 use Rattle.std.proofs.lemmas.Bool.{false≢true}
-use Rattle.ass_num.specs.Regions.{PlainRegion, member}
+use Rattle.ass_num.specs.Regions.{RegionValue, member}
 use Rattle.ass_num.specs.Winding.{place}
 use Rattle.sample_region.specs.Crossings.{is_inside}
 use Rattle.region_rows.proofs.GrowthLemmas.{empty_members}
@@ -15,7 +15,7 @@ returns-then-heights-clause-samples c = λ i j.
     let fl : FitsSigned w64 c.find_heights-heights.result.low = search rules in
     let fh : FitsSigned w64 c.find_heights-heights.result.high = search rules in
     let l = lt_is c.find_heights-heights.result.high c.find_heights-heights.result.low (rw (to_z-of_z fl, to_z-of_z fh) at c.if-heights.true) in
-    ap (λ (r : PlainRegion). member r.top r.rows i j) c.empty.ensures ∙ empty_members (pos 0) i j ∙ sym (outside_all c.find_heights-heights.result.low c.find_heights-heights.result.high c.args.outline.now.rings c.find_heights-heights.ensures.between l i j)
+    ap (λ (r : RegionValue). member r.top r.rows i j) c.empty.ensures ∙ empty_members (pos 0) i j ∙ sym (outside_all c.find_heights-heights.result.low c.find_heights-heights.result.high c.args.outline.now.rings c.find_heights-heights.ensures.between l i j)
 
 pub add_rows-requires-clause-rows : goal.add_rows-requires-clause-rows
 add_rows-requires-clause-rows c =

@@ -1,11 +1,11 @@
 use Rattle.std.proofs.Common.{sym, subst}
 use Rattle.ass_script.specs.Ranges.{IsScript}
-use Rattle.ass_script.specs.Scripts.{PlainScript}
+use Rattle.ass_script.specs.Scripts.{ScriptValue}
 use Rattle.ass_script.proofs.reading.Reading.made.Goals as goal
 
 pub returns-clause-script : goal.returns-clause-script
 returns-clause-script c =
-    subst (λ (s : PlainScript). IsScript s) (sym c.in_ok-script.ensures)
+    subst (λ (s : ScriptValue). IsScript s) (sym c.in_ok-script.ensures)
     (record {
       header = c.made-header.ensures.range;
       styles = c.requires.styles;

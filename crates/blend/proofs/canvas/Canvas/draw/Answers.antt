@@ -2,7 +2,7 @@ use Rattle.std.proofs.Common.{◌≡◌, ℕ, ◌*◌, List, w32, ap, ◌∙◌,
 use Rattle.std.proofs.lemmas.Int.{to_z-of_z}
 use Rattle.std.proofs.lemmas.List.{with_items_is}
 use Rattle.blend.specs.Blending.{Image}
-use Rattle.blend.specs.Canvases.{PlainCanvas, drawn}
+use Rattle.blend.specs.Canvases.{CanvasValue, drawn}
 use Rattle.blend.specs.Stencils.{plain_of}
 use Rattle.blend.proofs.canvas.Canvas.draw.Goals as goal
 
@@ -13,4 +13,4 @@ returns c =
     let none : inside.w * 0 ≡ 0 = omega arith in
     let painted_is = rw (to_z-of_z w32 c.args.x c.ranges.x, to_z-of_z w32 c.args.y c.ranges.y, to_z-of_z w32 c.args.edge c.ranges.edge, none, c.as_mut_slice.ensures.value) at c.draw_rows.ensures in
     let kept = with_items_is inside.bytes c.draw_rows.new.rows (omega arith) in
-    ap (λ (bytes : List ℕ). let p : PlainCanvas = record { w = inside.w; h = inside.h; bytes = bytes } in p) (kept ∙ painted_is) ∙ ap (λ (p : PlainCanvas). drawn p image) c.self.view_is
+    ap (λ (bytes : List ℕ). let p : CanvasValue = record { w = inside.w; h = inside.h; bytes = bytes } in p) (kept ∙ painted_is) ∙ ap (λ (p : CanvasValue). drawn p image) c.self.view_is

@@ -2,7 +2,7 @@ use Rattle.std.proofs.Common.{◌≡◌, ◌==◌, true, false, ℤ, ◌+ℤ◌,
 use Rattle.std.proofs.lemmas.Int.{to_z-of_z}
 use Rattle.std.specs.Int.RustNames.{FitsSigned}
 use Rattle.ass_num.specs.Coverage.{PixelBox}
-use Rattle.ass_num.specs.Masks.{PlainMask}
+use Rattle.ass_num.specs.Masks.{MaskValue}
 use Rattle.mask_cover.specs.Extents.{JoinsStretch}
 use Rattle.mask_cover.specs.Sums.{IsJoin}
 use Rattle.mask_cover.proofs.ExtentLemmas.{join_is, join_none, empty_mask, full_mask, extent_joined, moved_corner}
@@ -10,7 +10,7 @@ use Rattle.mask_cover.proofs.extent.Extent.with.Goals as goal
 
 pub returns-then-is_empty : goal.returns-then-is_empty
 returns-then-is_empty c =
-    let p : PlainMask × ℤ × ℤ = (c.args.mask.now, c.args.dx, c.args.dy) in
+    let p : MaskValue × ℤ × ℤ = (c.args.mask.now, c.args.dx, c.args.dy) in
     let none : (length c.args.mask.now.bytes == 0) ≡ true = ap (λ z. length z == 0) (sym c.bytes.ensures.bytes) ∙ sym c.is_empty.ensures ∙ c.if-is_empty.true in
     let P : PixelBox → Type 0 = λ z. IsJoin c.args.self p z in
     subst P (sym c.self.view_is) (join_none c.args.self p (empty_mask c.args.mask.now c.bytes.ensures.canonical none))
@@ -29,7 +29,7 @@ invariant_of-result-2 c =
 
 pub returns : goal.returns
 returns c =
-    let p : PlainMask × ℤ × ℤ = (c.args.mask.now, c.args.dx, c.args.dy) in
+    let p : MaskValue × ℤ × ℤ = (c.args.mask.now, c.args.dx, c.args.dy) in
     let m = c.args.mask.now in
     let none : (length m.bytes == 0) ≡ false = ap (λ z. length z == 0) (sym c.bytes.ensures.bytes) ∙ sym c.is_empty.ensures ∙ c.if-is_empty.false in
     let sides = full_mask m c.bytes.ensures.canonical none in

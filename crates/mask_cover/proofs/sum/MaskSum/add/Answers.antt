@@ -5,7 +5,7 @@ use Rattle.std.proofs.lemmas.List.{with_items_is}
 use Rattle.std.specs.Int.RustNames.{FitsSigned}
 use Rattle.std.specs.Vec.{with_items}
 use Rattle.ass_num.specs.Coverage.{box_of, InBox, IsMovedPixel}
-use Rattle.ass_num.specs.Masks.{PlainMask}
+use Rattle.ass_num.specs.Masks.{MaskValue}
 use Rattle.mask_cover.specs.Rows.{AddsCells}
 use Rattle.mask_cover.specs.Sums.{AddsMask}
 use Rattle.mask_cover.proofs.MaskLemmas.{mask_length}
@@ -15,23 +15,23 @@ use Rattle.mask_cover.proofs.sum.MaskSum.add.Goals as goal
 
 pub returns-then-is_empty : goal.returns-then-is_empty
 returns-then-is_empty c =
-    let m : PlainMask = c.args.mask.now in
-    let p : PlainMask × ℤ × ℤ = (m, c.args.dx, c.args.dy) in
-    let old : PlainMask = record { x = c.self.inside.x; y = c.self.inside.y; w = c.self.inside.w; h = c.self.inside.h; bytes = c.self.inside.bytes.items } in
+    let m : MaskValue = c.args.mask.now in
+    let p : MaskValue × ℤ × ℤ = (m, c.args.dx, c.args.dy) in
+    let old : MaskValue = record { x = c.self.inside.x; y = c.self.inside.y; w = c.self.inside.w; h = c.self.inside.h; bytes = c.self.inside.bytes.items } in
     let none : (length m.bytes == 0) ≡ true = ap (λ z. length z == 0) (sym c.bytes.ensures.bytes) ∙ sym c.is_empty.ensures ∙ c.if-is_empty.true in
     let kept : (with_items c.self.inside.bytes c.as_mut_slice-sums.result.now).items ≡ c.as_mut_slice-sums.result.now = with_items_is c.self.inside.bytes c.as_mut_slice-sums.result.now (omega arith) in
     let fits : (k : ℕ) → Fits w8 (get_or c.as_mut_slice-sums.result.now k 0) = λ k. search rules in
     let small : (k : ℕ) → get_or old.bytes k 0 ≤ 255 = λ k. let f = fits k in let e = ap (λ z. get_or z k 0) c.as_mut_slice-sums.ensures.value in omega (arith, e, f) in
     let B : List ℕ → Type 0 = λ z. AddsMask p c.args.self.now (record { x = c.self.inside.x; y = c.self.inside.y; w = c.self.inside.w; h = c.self.inside.h; bytes = z }) in
-    let Q : PlainMask → Type 0 = λ z. AddsMask p z old in
+    let Q : MaskValue → Type 0 = λ z. AddsMask p z old in
     subst B (sym (kept ∙ c.as_mut_slice-sums.ensures.value)) (subst Q c.self.view_is (add_none p old (empty_mask m c.bytes.ensures.canonical none) small))
 
 pub place_of-column-requires-clause-behind : goal.place_of-column-requires-clause-behind
 place_of-column-requires-clause-behind c =
-    let m : PlainMask = c.args.mask.now in
-    let p : PlainMask × ℤ × ℤ = (m, c.args.dx, c.args.dy) in
-    let old : PlainMask = record { x = c.self.inside.x; y = c.self.inside.y; w = c.self.inside.w; h = c.self.inside.h; bytes = c.self.inside.bytes.items } in
-    let P : PlainMask → Type 0 = λ z. (i j : ℤ) → IsMovedPixel p i j → InBox (box_of z) i j in
+    let m : MaskValue = c.args.mask.now in
+    let p : MaskValue × ℤ × ℤ = (m, c.args.dx, c.args.dy) in
+    let old : MaskValue = record { x = c.self.inside.x; y = c.self.inside.y; w = c.self.inside.w; h = c.self.inside.h; bytes = c.self.inside.bytes.items } in
+    let P : MaskValue → Type 0 = λ z. (i j : ℤ) → IsMovedPixel p i j → InBox (box_of z) i j in
     let some : (length m.bytes == 0) ≡ false = ap (λ z. length z == 0) (sym c.bytes.ensures.bytes) ∙ sym c.is_empty.ensures ∙ c.if-is_empty.false in
     let sides = full_mask m c.bytes.ensures.canonical some in
     let moved : HasMoved (box_of old) p = has_moved (box_of old) p sides.0 sides.1 (subst P (sym c.self.view_is) c.requires) in
@@ -45,10 +45,10 @@ place_of-column-requires-clause-behind c =
 
 pub place_of-row-requires-clause-behind : goal.place_of-row-requires-clause-behind
 place_of-row-requires-clause-behind c =
-    let m : PlainMask = c.args.mask.now in
-    let p : PlainMask × ℤ × ℤ = (m, c.args.dx, c.args.dy) in
-    let old : PlainMask = record { x = c.self.inside.x; y = c.self.inside.y; w = c.self.inside.w; h = c.self.inside.h; bytes = c.self.inside.bytes.items } in
-    let P : PlainMask → Type 0 = λ z. (i j : ℤ) → IsMovedPixel p i j → InBox (box_of z) i j in
+    let m : MaskValue = c.args.mask.now in
+    let p : MaskValue × ℤ × ℤ = (m, c.args.dx, c.args.dy) in
+    let old : MaskValue = record { x = c.self.inside.x; y = c.self.inside.y; w = c.self.inside.w; h = c.self.inside.h; bytes = c.self.inside.bytes.items } in
+    let P : MaskValue → Type 0 = λ z. (i j : ℤ) → IsMovedPixel p i j → InBox (box_of z) i j in
     let some : (length m.bytes == 0) ≡ false = ap (λ z. length z == 0) (sym c.bytes.ensures.bytes) ∙ sym c.is_empty.ensures ∙ c.if-is_empty.false in
     let sides = full_mask m c.bytes.ensures.canonical some in
     let moved : HasMoved (box_of old) p = has_moved (box_of old) p sides.0 sides.1 (subst P (sym c.self.view_is) c.requires) in
@@ -68,10 +68,10 @@ place_of-row-requires-clause-low c =
 
 pub add_rows-requires-clause-columns : goal.add_rows-requires-clause-columns
 add_rows-requires-clause-columns c =
-    let m : PlainMask = c.args.mask.now in
-    let p : PlainMask × ℤ × ℤ = (m, c.args.dx, c.args.dy) in
-    let old : PlainMask = record { x = c.self.inside.x; y = c.self.inside.y; w = c.self.inside.w; h = c.self.inside.h; bytes = c.self.inside.bytes.items } in
-    let P : PlainMask → Type 0 = λ z. (i j : ℤ) → IsMovedPixel p i j → InBox (box_of z) i j in
+    let m : MaskValue = c.args.mask.now in
+    let p : MaskValue × ℤ × ℤ = (m, c.args.dx, c.args.dy) in
+    let old : MaskValue = record { x = c.self.inside.x; y = c.self.inside.y; w = c.self.inside.w; h = c.self.inside.h; bytes = c.self.inside.bytes.items } in
+    let P : MaskValue → Type 0 = λ z. (i j : ℤ) → IsMovedPixel p i j → InBox (box_of z) i j in
     let some : (length m.bytes == 0) ≡ false = ap (λ z. length z == 0) (sym c.bytes.ensures.bytes) ∙ sym c.is_empty.ensures ∙ c.if-is_empty.false in
     let sides = full_mask m c.bytes.ensures.canonical some in
     let moved : HasMoved (box_of old) p = has_moved (box_of old) p sides.0 sides.1 (subst P (sym c.self.view_is) c.requires) in
@@ -86,10 +86,10 @@ add_rows-requires-clause-columns c =
 
 pub add_rows-requires-clause-rows : goal.add_rows-requires-clause-rows
 add_rows-requires-clause-rows c =
-    let m : PlainMask = c.args.mask.now in
-    let p : PlainMask × ℤ × ℤ = (m, c.args.dx, c.args.dy) in
-    let old : PlainMask = record { x = c.self.inside.x; y = c.self.inside.y; w = c.self.inside.w; h = c.self.inside.h; bytes = c.self.inside.bytes.items } in
-    let P : PlainMask → Type 0 = λ z. (i j : ℤ) → IsMovedPixel p i j → InBox (box_of z) i j in
+    let m : MaskValue = c.args.mask.now in
+    let p : MaskValue × ℤ × ℤ = (m, c.args.dx, c.args.dy) in
+    let old : MaskValue = record { x = c.self.inside.x; y = c.self.inside.y; w = c.self.inside.w; h = c.self.inside.h; bytes = c.self.inside.bytes.items } in
+    let P : MaskValue → Type 0 = λ z. (i j : ℤ) → IsMovedPixel p i j → InBox (box_of z) i j in
     let some : (length m.bytes == 0) ≡ false = ap (λ z. length z == 0) (sym c.bytes.ensures.bytes) ∙ sym c.is_empty.ensures ∙ c.if-is_empty.false in
     let sides = full_mask m c.bytes.ensures.canonical some in
     let moved : HasMoved (box_of old) p = has_moved (box_of old) p sides.0 sides.1 (subst P (sym c.self.view_is) c.requires) in
@@ -106,10 +106,10 @@ add_rows-requires-clause-rows c =
 
 pub returns : goal.returns
 returns c =
-    let m : PlainMask = c.args.mask.now in
-    let p : PlainMask × ℤ × ℤ = (m, c.args.dx, c.args.dy) in
-    let old : PlainMask = record { x = c.self.inside.x; y = c.self.inside.y; w = c.self.inside.w; h = c.self.inside.h; bytes = c.self.inside.bytes.items } in
-    let P : PlainMask → Type 0 = λ z. (i j : ℤ) → IsMovedPixel p i j → InBox (box_of z) i j in
+    let m : MaskValue = c.args.mask.now in
+    let p : MaskValue × ℤ × ℤ = (m, c.args.dx, c.args.dy) in
+    let old : MaskValue = record { x = c.self.inside.x; y = c.self.inside.y; w = c.self.inside.w; h = c.self.inside.h; bytes = c.self.inside.bytes.items } in
+    let P : MaskValue → Type 0 = λ z. (i j : ℤ) → IsMovedPixel p i j → InBox (box_of z) i j in
     let some : (length m.bytes == 0) ≡ false = ap (λ z. length z == 0) (sym c.bytes.ensures.bytes) ∙ sym c.is_empty.ensures ∙ c.if-is_empty.false in
     let sides = full_mask m c.bytes.ensures.canonical some in
     let moved : HasMoved (box_of old) p = has_moved (box_of old) p sides.0 sides.1 (subst P (sym c.self.view_is) c.requires) in
@@ -129,8 +129,8 @@ returns c =
     let b = moved.bottom in
     let bytes : List ℕ = c.add_rows.new.sums in
     let C : List ℕ → Type 0 = λ z. AddsCells m c.self.inside.w c.place_of-column.result c.place_of-row.result m.h z bytes in
-    let new : PlainMask = record { x = c.self.inside.x; y = c.self.inside.y; w = c.self.inside.w; h = c.self.inside.h; bytes = bytes } in
-    let Q : PlainMask → Type 0 = λ z. AddsMask p z new in
+    let new : MaskValue = record { x = c.self.inside.x; y = c.self.inside.y; w = c.self.inside.w; h = c.self.inside.h; bytes = bytes } in
+    let Q : MaskValue → Type 0 = λ z. AddsMask p z new in
     let kept : (with_items c.self.inside.bytes bytes).items ≡ bytes = with_items_is c.self.inside.bytes bytes (omega arith) in
     let B : List ℕ → Type 0 = λ z. AddsMask p c.args.self.now (record { x = c.self.inside.x; y = c.self.inside.y; w = c.self.inside.w; h = c.self.inside.h; bytes = z }) in
     subst B (sym kept) (subst Q c.self.view_is (add_is p old bytes c.place_of-column.result c.place_of-row.result (omega (arith, ints, column)) (omega (arith, ints, row)) (omega (arith, ints, column, r)) (omega (arith, ints, row, b)) c.self.invariant
