@@ -1,7 +1,71 @@
--- How far from 0 the points of outlines and the samples of regions lie. These are conditions of calls.
-use Rattle.std.specs.Prelude.{ℕ, ℤ, pos, negsuc, neg_ℤ, ◌+◌, ◌+ℤ◌, ◌≤ℤ◌, List, length, All}
+-- Public: the limits that several crates cite, and how far numbers, points and samples lie from 0. These are conditions of calls.
+use Rattle.std.specs.Prelude.{◌≡◌, ℕ, ℤ, pos, negsuc, neg_ℤ, ◌+◌, ◌+ℤ◌, ◌≤◌, ◌≤ℤ◌, List, length, All}
 use Rattle.ass_num.specs.declared.geometry.Point.{Point}
 use Rattle.ass_num.specs.declared.region.Run.{Run}
+use Rattle.ass_num.specs.declared.size.Size.{Size}
+
+-- the most bytes that a script or a font may have
+abbrev pub max_file_bytes : ℕ
+max_file_bytes = 67108864
+
+-- the most bytes of a chunk, of an event's texts together, and the most items of a text
+abbrev pub max_text_bytes : ℕ
+max_text_bytes = 134217728
+
+-- the last instant, in milliseconds
+abbrev pub max_instant : ℕ
+max_instant = 4000000000000
+
+-- the most columns and the most rows of a frame
+abbrev pub max_frame_side : ℕ
+max_frame_side = 4096
+
+-- the farthest from 0 that a number of a script or a tag may be, in thousandths
+abbrev pub max_held : ℕ
+max_held = 1000000000
+
+-- the farthest from 0 that a coordinate of an outline may be, in 1/64 pixel
+abbrev pub max_coordinate : ℕ
+max_coordinate = 262144
+
+-- the farthest from 0 that a sample of a region may be
+abbrev pub max_sample : ℕ
+max_sample = 131072
+
+-- 1 in numbers with 16 fraction bits
+abbrev pub one_16 : ℕ
+one_16 = 65536
+
+-- the number lies within `limit` of 0
+abbrev pub IsWithin : ℕ → ℤ → Type 0
+IsWithin limit z = (neg_ℤ (pos limit) ≤ℤ z) × (z ≤ℤ pos limit)
+
+-- both coordinates do
+pub record IsPointWithin (limit : ℕ) (p : Point) : Type 0 where
+  pub x : IsWithin limit p.x
+  pub y : IsWithin limit p.y
+
+-- a number as scripts and tags hold it, in thousandths
+abbrev pub IsHeldNumber : ℤ → Type 0
+IsHeldNumber z = IsWithin max_held z
+
+-- the same, and not below 0
+abbrev pub IsHeldLength : ℤ → Type 0
+IsHeldLength z = (pos 0 ≤ℤ z) × (z ≤ℤ pos max_held)
+
+-- a point of a drawing
+pub record IsHeldPoint (p : Point) : Type 0 where
+  pub x : IsHeldNumber p.x
+  pub y : IsHeldNumber p.y
+
+-- an instant of a run, in milliseconds
+abbrev pub IsInstant : ℕ → Type 0
+IsInstant t = t ≤ max_instant
+
+-- a frame of at most so many columns and rows
+pub record IsFrameSize (size : Size) : Type 0 where
+  pub wide : size.w ≤ max_frame_side
+  pub high : size.h ≤ max_frame_side
 
 -- the point lies within 262,144 of 0
 pub record IsOutlinePoint (p : Point) : Type 0 where
