@@ -1,3 +1,4 @@
+pub mod Bitmaps
 pub mod Causes
 pub mod Coverage
 pub mod Floor
@@ -5,6 +6,7 @@ pub mod Fronts
 pub mod Limits
 pub mod Masks
 pub mod Numerals
+pub mod Paths
 pub mod Pieces
 pub mod Powers
 pub mod Regions

@@ -1,5 +1,5 @@
 -- Public: the limits that several crates cite, and how far numbers, points and samples lie from 0. These are conditions of calls.
-use Rattle.std.specs.Prelude.{◌≡◌, ℕ, ℤ, pos, negsuc, neg_ℤ, ◌+◌, ◌+ℤ◌, ◌≤◌, ◌≤ℤ◌, List, length, All}
+use Rattle.std.specs.Prelude.{◌≡◌, ℕ, ℤ, pos, neg_ℤ, ◌+◌, ◌+ℤ◌, ◌≤◌, ◌≤ℤ◌, List, length, All}
 use Rattle.ass_num.specs.declared.geometry.Point.{Point}
 use Rattle.ass_num.specs.declared.region.Run.{Run}
 use Rattle.ass_num.specs.declared.size.Size.{Size}
@@ -53,10 +53,9 @@ IsHeldNumber z = IsWithin max_held z
 abbrev pub IsHeldLength : ℤ → Type 0
 IsHeldLength z = (pos 0 ≤ℤ z) × (z ≤ℤ pos max_held)
 
--- a point of a drawing
-pub record IsHeldPoint (p : Point) : Type 0 where
-  pub x : IsHeldNumber p.x
-  pub y : IsHeldNumber p.y
+-- a point of a path
+abbrev pub IsHeldPoint : Point → Type 0
+IsHeldPoint p = IsPointWithin max_held p
 
 -- an instant of a run, in milliseconds
 abbrev pub IsInstant : ℕ → Type 0
@@ -67,14 +66,11 @@ pub record IsFrameSize (size : Size) : Type 0 where
   pub wide : size.w ≤ max_frame_side
   pub high : size.h ≤ max_frame_side
 
--- the point lies within 262,144 of 0
-pub record IsOutlinePoint (p : Point) : Type 0 where
-  pub left : negsuc 262143 ≤ℤ p.x
-  pub right : p.x ≤ℤ pos 262144
-  pub above : negsuc 262143 ≤ℤ p.y
-  pub below : p.y ≤ℤ pos 262144
+-- a point of an outline
+abbrev pub IsOutlinePoint : Point → Type 0
+IsOutlinePoint p = IsPointWithin max_coordinate p
 
--- all points of the rings do
+-- all points of the rings are
 abbrev pub IsOutline : List (List Point) → Type 0
 IsOutline rings = All (All IsOutlinePoint) rings
 

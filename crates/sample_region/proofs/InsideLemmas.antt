@@ -38,7 +38,7 @@ edge_near y e w h =
     let p1 = p.1 in
     let u = w.upper in
     let l = w.lower in
-    cut_within e.upper.x e.lower.x (y -ℤ e.upper.y) (e.lower.y -ℤ e.upper.y) u.left u.right l.left l.right (omega (arith, ints)) (omega (arith, ints))
+    cut_within e.upper.x e.lower.x (y -ℤ e.upper.y) (e.lower.y -ℤ e.upper.y) u.x.0 u.x.1 l.x.0 l.x.1 (omega (arith, ints)) (omega (arith, ints))
 
 cuts_near : (y : ℤ) (list : List Edge) → All IsEdge list → All IsNearCut (row_crossings y list)
 cuts_near y list near =
@@ -67,7 +67,7 @@ columns_near list w i j h =
 pub rows_near : (rings : List (List Point)) → IsOutline rings → (i j : ℤ) → inside rings i j ≡ true → Near 65536 j
 rows_near rings near i j h =
     let between : All (All (IsHeightBetween (negsuc 262143) (pos 262144))) rings =
-    All-weaker (All IsOutlinePoint) (All (IsHeightBetween (negsuc 262143) (pos 262144))) (λ ring w. All-weaker IsOutlinePoint (IsHeightBetween (negsuc 262143) (pos 262144)) (λ p v. (v.above, v.below)) ring w) rings near in
+    All-weaker (All IsOutlinePoint) (All (IsHeightBetween (negsuc 262143) (pos 262144))) (λ ring w. All-weaker IsOutlinePoint (IsHeightBetween (negsuc 262143) (pos 262144)) (λ p v. v.y) ring w) rings near in
     by_lt_z (place j) (negsuc 262143)
     (λ (l : place j <ℤ negsuc 262143). absurd (false≢true (sym (outside (negsuc 262143) (pos 262144) rings between i j (inl l)) ∙ h)))
     (λ (l : negsuc 262143 ≤ℤ place j). by_lt_z (place j) (pos 262144)
