@@ -1,0 +1,439 @@
+#!/usr/bin/env python3
+"""The test of the documents: that they say of the code what is so, as far as a script can tell.
+
+usage: python3 tools/check_docs.py [--write [PART..]]
+
+It looks at these things, and ends with a line `N passed, M failed`:
+  marks     each file of specs/ says in its first line whether it is public or inner (spec_marks.py)
+  trust     docs/TRUST.md quotes the contract of `top`, says what each clause says, and lists the definitions that it reaches
+  edits     each edit of must-fail/ stands in its crate's table in docs/PROMISES.md, and each named there exists
+  names     each function, clause and definition that docs/PROMISES.md names in its second column exists
+  words     each name of code in any page exists somewhere in the repository
+  crates    docs/ARCHITECTURE.md and docs/PROMISES.md have each crate of crates.txt, with what it stands on
+  quoted    the program in README.md stands in a test, line by line
+  links     each link between pages leads to a file
+  widths    no line of a page is longer than 120 columns, but for tables and pictures
+
+--write makes the list of docs/TRUST.md, takes edits that are gone out of docs/PROMISES.md, puts new ones into the row
+`also refused` of their crate (from where they are moved to the row of their promise by hand), marks specs/, and breaks
+long lines of pages anew. With names of parts (marks, trust, edits, widths) it writes those alone.
+"""
+
+import os
+import re
+import sys
+
+sys.path.insert(0, os.path.dirname(os.path.abspath(__file__)))
+import spec_marks  # noqa: E402
+
+TOP = spec_marks.TOP
+WORDS = sys.argv[1:]
+WIDTH = 120
+ALSO = "also refused"
+
+
+def writes(part):
+    return "--write" in WORDS and (WORDS == ["--write"] or part in WORDS)
+
+
+def read(path):
+    with open(os.path.join(TOP, path), encoding="utf-8") as f:
+        return f.read()
+
+
+def write(path, text):
+    with open(os.path.join(TOP, path), "w", encoding="utf-8") as f:
+        f.write(text)
+
+
+class Score:
+    def __init__(self):
+        self.passed = self.failed = 0
+
+    def check(self, holds, where, what):
+        if holds:
+            self.passed += 1
+        else:
+            self.failed += 1
+            print(f"{where}: {what}")
+
+
+def pages():
+    found = ["README.md", "bench/RESULTS.md"] if os.path.isfile(os.path.join(TOP, "bench/RESULTS.md")) else ["README.md"]
+    return found + sorted("docs/" + f for f in os.listdir(os.path.join(TOP, "docs")) if f.endswith(".md"))
+
+
+def crates_of():
+    """The crates of crates.txt in its order, each with what it stands on."""
+    found = {}
+    for line in read("crates.txt").splitlines():
+        if line.strip() and not line.startswith("#"):
+            head, _, tail = line.partition(":")
+            found[head.split()[0]] = tail.split()
+    return found
+
+
+def marks(score, reach):
+    reached = reach.closure(root for crate in reach.crates for root in reach.roots(crate))
+    public = spec_marks.files_of(reached)
+    for name, crate in reach.crates.items():
+        for path, spec in crate.specs.items():
+            word = "Public" if (name, path) in public else "Inner"
+            right = spec_marks.marked(spec.first, word) or f"-- {word}: ..\n{spec.first}"
+            where = os.path.relpath(spec.file, TOP)
+            if writes("marks") and spec.first != right:
+                text = read(where)
+                write(where, right + text[len(spec.first):])
+                spec.first = right
+            score.check(spec.first == right, where, f"the first line isn't marked {word}")
+
+
+def trusted(reach):
+    """The table of the definitions that `top` reaches."""
+    reached = reach.closure(("top", node) for node in reach.of_call("frame_play", ("play",), "top"))
+    files = spec_marks.files_of(reached)
+    order = list(crates_of())
+    rows = ["| File | Lines | What it defines |", "|---|---|---|"]
+    total = count = 0
+    for crate in reversed(order):
+        for (name, path) in files:
+            if name != crate:
+                continue
+            spec = reach.crates[name].specs[path]
+            says = re.sub(r"^--\s*((Public|Inner):\s*)?", "", spec.first).strip().rstrip(".")
+            says = says[:1].upper() + says[1:]
+            says = re.sub(r"\s*\(docs/\w+\.md\)", "", says)
+            file = f"{name}/specs/{path}.antt"
+            rows.append(f"| [{file}](../crates/{file}) | {spec.length} | {says} |")
+            total += spec.length
+            count += 1
+    rows.append(f"| {count} files | {total} | |")
+    types = sorted({(node[1], "/".join(node[2]), node[3]) for node in reached if node[0] == "type"})
+    rows += ["", "They speak of these types of the code: " + ", ".join(f"`{name}` ({crate})" for crate, _, name in types) + "."]
+    return "\n".join(rows[:-1] + wrapped(rows[-1]))
+
+
+def wrapped(text):
+    lines, line = [], ""
+    for word in text.split():
+        if line and len(line) + 1 + len(word) > WIDTH:
+            lines.append(line)
+            line = word
+        else:
+            line = f"{line} {word}".strip()
+    return lines + [line]
+
+
+def between(text, name, path):
+    begin, end = f"<!-- {name} -->\n", f"<!-- end of {name} -->"
+    if begin not in text or end not in text:
+        return None
+    at = text.index(begin) + len(begin)
+    return text[:at], text[at:text.index(end)], text[text.index(end):]
+
+
+def trust(score, reach):
+    path = "docs/TRUST.md"
+    if not os.path.isfile(os.path.join(TOP, path)):
+        return score.check(False, path, "is missing")
+    parts = between(read(path), "definitions", path)
+    if parts is None:
+        return score.check(False, path, "has no list of definitions")
+    right = trusted(reach) + "\n"
+    if writes("trust") and parts[1] != right:
+        write(path, parts[0] + right + parts[2])
+        parts = parts[0], right, parts[2]
+    have, want = parts[1].splitlines(), right.splitlines()
+    for line in want:
+        score.check(line in have, path, f"the list lacks: {line}")
+    for line in have:
+        score.check(line in want, path, f"the list has: {line}")
+    parts = between(read(path), "contract", path)
+    if parts is None:
+        return score.check(False, path, "doesn't quote the contract of top")
+    right = contract_of_top()
+    if writes("trust") and parts[1] != right:
+        write(path, parts[0] + right + parts[2])
+        parts = parts[0], right, parts[2]
+    score.check(parts[1] == right, path, "doesn't quote the contract of top as it stands")
+    for item in reach.crates["frame_play"].files[("play",)]:
+        if item.kind == "fn" and item.name == "top":
+            for _, name, _ in item.clauses:
+                score.check(f"`{name}`" in parts[2], path, f"doesn't say what the clause {name} says")
+
+
+def contract_of_top():
+    """The head and the clauses of `top`, as play.rt has them."""
+    text = read("crates/frame_play/src/play.rt")
+    at = text.index("pub fn top<")
+    return "```rust\n" + text[at:text.index("\n{", at) + 1] + "```\n"
+
+
+def sections(text):
+    """The parts of a page by their second headings."""
+    found, name, start = [], None, 0
+    lines = text.split("\n")
+    for i, line in enumerate(lines):
+        if line.startswith("## "):
+            found.append([line[3:].strip(), i, len(lines)])
+            if len(found) > 1:
+                found[-2][2] = i
+    return lines, found
+
+
+def cells(line):
+    return [cell.strip() for cell in line.strip().strip("|").split("|")]
+
+
+def edits(score, crates):
+    path = "docs/PROMISES.md"
+    lines, found = sections(read(path))
+    named_sections = {}
+    for name, begin, end in found:
+        for crate in re.split(r",\s*", name):
+            named_sections[crate] = (begin, end)
+    changed = []
+    for crate in crates:
+        folder = os.path.join(TOP, "crates", crate, "must-fail")
+        there = sorted(f[:-5] for f in os.listdir(folder) if f.endswith(".edit")) if os.path.isdir(folder) else []
+        if crate not in named_sections:
+            score.check(False, path, f"has no part on {crate}")
+            continue
+        begin, end = named_sections[crate]
+        rows = [i for i in range(begin, end) if lines[i].startswith("|") and len(cells(lines[i])) == 3]
+        named = []
+        for i in rows[2:]:
+            row = cells(lines[i])
+            words = [w for w in re.split(r",\s*", row[2]) if w]
+            kept = [w for w in words if w in there]
+            if writes("edits") and kept != words:
+                lines[i] = f"| {row[0]} | {row[1]} | {', '.join(kept)} |" if kept else f"| {row[0]} | {row[1]} | |"
+                words = kept
+            for word in words:
+                score.check(word in there, path, f"{crate} has no edit {word}")
+            named += words
+        missing = [e for e in there if e not in named]
+        if writes("edits") and missing and rows:
+            last = rows[-1]
+            row = cells(lines[last])
+            if row[0] == ALSO:
+                old = [w for w in re.split(r",\s*", row[2]) if w]
+                lines[last] = f"| {ALSO} | | {', '.join(old + missing)} |"
+            else:
+                changed.append((last + 1, f"| {ALSO} | | {', '.join(missing)} |"))
+            missing = []
+        for edit in there:
+            score.check(edit not in missing, path, f"{crate} doesn't name the edit {edit}")
+    if writes("edits"):
+        for at, line in sorted(changed, reverse=True):
+            lines.insert(at, line)
+        lines = [line for line in lines if line != f"| {ALSO} | | |"]
+        write(path, "\n".join(lines))
+
+
+def functions(reach, crate):
+    """The functions and types of a crate: name or Type::name, each with the names of its clauses."""
+    found = {}
+
+    def add(name, clauses):
+        found.setdefault(name, set()).update(clauses)
+
+    for module, items in reach.crates[crate].files.items():
+        for item in items:
+            if item.test:
+                continue
+            if item.kind in ("fn", "type", "trait"):
+                clauses = {name for _, name, _ in item.clauses}
+                add(item.name, clauses)
+                for at in range(len(module)):
+                    add("::".join(module[at:] + (item.name,)), clauses)
+            of = item.name if item.kind == "trait" else spec_marks.target_of(item.head)[0] if item.kind == "impl" else ""
+            for inner in item.items:
+                if inner.kind == "fn":
+                    clauses = {name for _, name, _ in inner.clauses}
+                    add(inner.name, clauses)
+                    add(f"{of}::{inner.name}", clauses)
+                    trait = spec_marks.target_of(item.head)[1] if item.kind == "impl" else None
+                    for kept in clauses_of_trait(reach, trait, inner.name):
+                        add(f"{of}::{inner.name}", {kept})
+    return found
+
+
+def clauses_of_trait(reach, trait, name):
+    for crate in reach.crates.values():
+        for items in crate.files.values():
+            for item in items:
+                if trait and item.kind == "trait" and item.name == trait:
+                    for inner in item.items:
+                        if inner.name == name:
+                            yield from (clause for _, clause, _ in inner.clauses)
+
+
+def names(score, reach):
+    path = "docs/PROMISES.md"
+    lines, found = sections(read(path))
+    definitions = {name for crate in reach.crates.values() for spec in crate.specs.values() for name in spec.by_name}
+    for title, begin, end in found:
+        crates = [c for c in re.split(r",\s*", title) if c in reach.crates]
+        if not crates:
+            continue
+        known = {}
+        for crate in crates:
+            for name, clauses in functions(reach, crate).items():
+                known.setdefault(name, set()).update(clauses)
+        for line in lines[begin:end]:
+            row = cells(line) if line.startswith("|") else []
+            if len(row) != 3 or row[0] in ("Promise", "---", ALSO):
+                continue
+            last = None
+            for call, inside in re.findall(r"`([^`]+)`|\(([^)]*)\)", row[1]):
+                if call:
+                    last = call
+                    score.check(call in known, path, f"{title}: no function or type {call}")
+                    continue
+                for word in re.findall(r"`([^`]+)`", inside):
+                    score.check(word.split(".")[0] in definitions, path, f"{title}: no definition {word}")
+                for word in re.split(r"[,:;]\s*", re.sub(r"`[^`]+`", "", inside)):
+                    word = word.strip()
+                    if re.fullmatch(r"\w+", word) and last in known:
+                        score.check(word in known[last], path, f"{title}: {last} has no clause {word}")
+
+
+def words(score):
+    known = set()
+    for at, folders, files in os.walk(TOP):
+        folders[:] = [f for f in folders if f not in (".git", "out", "docs", "target")]
+        for file in files:
+            known.update(re.split(r"[._]", file)[:1] + [file, file.split(".")[0]])
+            if file.endswith((".rt", ".antt", ".edit", ".txt", ".sh", ".py")) or file in ("vimalorua", "HANDLES", "run"):
+                with open(os.path.join(at, file), encoding="utf-8", errors="replace") as f:
+                    known.update(re.findall(r"[^\W\d][\w'\-]*", f.read()))
+    for page in pages():
+        if page.startswith("bench/"):
+            continue
+        text = re.sub(r"```.*?```", "", read(page), flags=re.S)
+        for span in re.findall(r"`([^`\n]+)`", text):
+            if not re.fullmatch(r"[A-Za-z_][\w:.]*(\(\))?", span) or "." in span and re.search(r"\.\w{1,5}$", span) and "_" not in span:
+                continue
+            for part in re.split(r"::|\.", span.rstrip("()")):
+                if "_" in part.strip("_") or re.search(r"[a-z][A-Z]", part):
+                    score.check(part in known, page, f"nothing is called `{span}`")
+
+
+def crate_tables(score, crates):
+    lines = read("docs/ARCHITECTURE.md").splitlines()
+    rows = {}
+    for line in lines:
+        row = cells(line) if line.startswith("|") else []
+        if len(row) >= 3 and row[0] in crates:
+            rows.setdefault(row[0], row)
+    for crate, below in crates.items():
+        row = rows.get(crate)
+        if row is None:
+            score.check(False, "docs/ARCHITECTURE.md", f"lacks the crate {crate}")
+            continue
+        said = {w for w in re.findall(r"\w+", row[2].replace("the kit's", "").replace(" and ", " ")) if w != "-"}
+        score.check(said == set(below), "docs/ARCHITECTURE.md",
+                    f"{crate} stands on {', '.join(below) or 'nothing'}, not on {', '.join(sorted(said)) or 'nothing'}")
+
+
+def quoted(score):
+    tests = set()
+    for at, _, files in os.walk(os.path.join(TOP, "crates")):
+        for file in files:
+            if "tests" in os.path.join(at, file) and file.endswith(".rt"):
+                with open(os.path.join(at, file), encoding="utf-8") as f:
+                    tests.update(line.strip() for line in f)
+    for block in re.findall(r"```rust\n(.*?)```", read("README.md"), re.S):
+        for line in block.splitlines():
+            if line.strip():
+                score.check(line.strip() in tests, "README.md", f"stands in no test: {line.strip()}")
+
+
+def links(score):
+    for page in pages():
+        for target in re.findall(r"\]\(([^)\s]+)\)", read(page)):
+            if "://" in target or target.startswith("#"):
+                continue
+            full = os.path.normpath(os.path.join(TOP, os.path.dirname(page), target.split("#")[0]))
+            score.check(os.path.exists(full), page, f"leads nowhere: {target}")
+
+
+def rewrapped(text):
+    """A page whose paragraphs with a line that is too long are broken anew."""
+    done, part, fenced = [], [], False
+
+    def end():
+        if any(len(line) > WIDTH for line in part):
+            m = re.match(r"(\s*(?:[-*]|\d+\.)\s+|\s*)", part[0])
+            hang = " " * len(m.group(1))
+            words = re.findall(r"(?:`[^`]*`|\S)+", " ".join(part))
+            if m.group(1).strip():
+                words = words[1:]
+            line = m.group(1)
+            begun = False
+            for word in words:
+                if begun and len(line) + 1 + len(word) > WIDTH:
+                    done.append(line)
+                    line, begun = hang + word, True
+                else:
+                    line, begun = (line + " " + word if begun else line + word), True
+            done.append(line)
+        else:
+            done.extend(part)
+        part.clear()
+
+    for line in text.split("\n"):
+        if line.startswith("```"):
+            end()
+            fenced = not fenced
+            done.append(line)
+        elif fenced or not line.strip() or re.match(r"[|#<]|!\[|    ", line) and not part:
+            end()
+            done.append(line)
+        elif re.match(r"[|#<]|!\[", line):
+            end()
+            done.append(line)
+        elif re.match(r"\s*([-*]|\d+\.)\s", line):
+            end()
+            part.append(line)
+        else:
+            part.append(line)
+    end()
+    return "\n".join(done)
+
+
+def widths(score):
+    for page in pages():
+        if page.startswith("bench/"):
+            continue
+        if writes("widths"):
+            text = read(page)
+            if rewrapped(text) != text:
+                write(page, rewrapped(text))
+        fenced = False
+        for number, line in enumerate(read(page).splitlines(), 1):
+            fenced = fenced != line.startswith("```")
+            if not (line.startswith("|") or line.startswith("![") or fenced):
+                score.check(len(line) <= WIDTH, f"{page}:{number}", f"has {len(line)} columns")
+
+
+def main():
+    score = Score()
+    reach = spec_marks.Reach()
+    crates = crates_of()
+    marks(score, reach)
+    trust(score, reach)
+    edits(score, crates)
+    names(score, reach)
+    words(score)
+    crate_tables(score, crates)
+    quoted(score)
+    links(score)
+    widths(score)
+    print(f"{score.passed} passed, {score.failed} failed")
+    return score.failed > 0
+
+
+if __name__ == "__main__":
+    sys.exit(main())
