@@ -28,7 +28,7 @@ BLANKED = re.compile(
     r"""//[^\n]*|(?<![\w'])b?r(?P<hash>\#*)".*?"(?P=hash)|(?<![\w'])b?"(?:\\.|[^"\\])*"|(?<![\w'])b?'(?:\\[^']+|[^'\\])'""",
     re.S,
 )
-CLAUSE = re.compile(r"(requires|ensures|decreases)(?:\s+(\w+))?\s*$")
+CLAUSE = re.compile(r"(requires|ensures|decreases)\*?(?:\s+(\w+))?\s*$")
 WORD = re.compile(r"[^\s(){}\[\],;]+")
 
 
