@@ -14,7 +14,7 @@ use Rattle.ass_num.specs.declared.geometry.Seg.TheVariants.{Move, Line, Cubic, S
 use Rattle.drawing_path.specs.declared.command.Command.{Command}
 use Rattle.drawing_path.specs.declared.command.Command.TheVariants.{Begin, Lines, Cubics, NewSpline, Extend, Close}
 use Rattle.drawing_path.specs.Tokens.{Token, Letter, Number, Skipped, IsToken, AreTokens}
-use Rattle.drawing_path.specs.Paths.{leading_numbers, points_of, cubics_of, end_of, last_vertex, spline_by, continued, is_figure_or_spline, spline_changed, last_spline_changed, path_after, path_after, IsPathOf}
+use Rattle.drawing_path.specs.Paths.{leading_numbers, points_of, cubics_of, end_of, last_vertex, spline_by, continued, is_figure_or_spline, spline_changed, last_spline_changed, after_command, path_after, IsPathOf}
 use Rattle.drawing_path.specs.Ranges.{points_in, IsHeldNumber, IsHeldPoint, begins_figure, IsDrawablePath}
 
 -- the points of a segment are held
@@ -130,7 +130,7 @@ close_keeps : Keeps (λ control _. Spline (control ++ take 3 control) true)
 unfolding Keeps
 close_keeps = λ control closed is. All-append IsHeldPoint control (take 3 control) is (All-take IsHeldPoint 3 control is)
 
-after_held : (path : List Seg) (command : Command) (points : List Point) → All IsHeldSeg path → All IsHeldPoint points → All IsHeldSeg (path_after path command points)
+after_held : (path : List Seg) (command : Command) (points : List Point) → All IsHeldSeg path → All IsHeldPoint points → All IsHeldSeg (after_command path command points)
 after_held path Begin points all held = All-append IsHeldSeg path (map Move points) all (moves_held points held)
 after_held path Lines points all held = continued_held path (map Line points) all (lines_held points held)
 after_held path Cubics points all held = continued_held path (cubics_of points) all (cubics_held points held)
@@ -163,7 +163,7 @@ changed_begins change (Line _ ∷ path) is = absurd (cc)
 changed_begins change (Cubic _ _ _ ∷ path) is = absurd (cc)
 changed_begins change (Spline _ _ ∷ path) is = absurd (cc)
 
-after_begins : (path : List Seg) (command : Command) (points : List Point) → begins_figure path ≡ true → begins_figure (path_after path command points) ≡ true
+after_begins : (path : List Seg) (command : Command) (points : List Point) → begins_figure path ≡ true → begins_figure (after_command path command points) ≡ true
 after_begins path Begin points is = moves_begin path points is
 after_begins path Lines points is = continued_begins path (map Line points) is
 after_begins path Cubics points is = continued_begins path (cubics_of points) is
@@ -177,7 +177,7 @@ path_drawable : (path : List Seg) (tokens : List Token) (text : List ℕ) → Ar
 path_drawable path [] text read is = is
 path_drawable path (Letter command ∷ tokens) text read is =
     let points = points_of (leading_numbers tokens) in
-    path_drawable (path_after path command points) tokens (drop read.0 text) read.2 (record {
+    path_drawable (after_command path command points) tokens (drop read.0 text) read.2 (record {
       begins = after_begins path command points is.begins;
       held = after_held path command points is.held (points_held (leading_numbers tokens) (numbers_held tokens (drop read.0 text) read.2));
     })

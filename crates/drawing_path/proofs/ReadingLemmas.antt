@@ -11,7 +11,7 @@ use Rattle.ass_num.specs.declared.geometry.Point.{Point}
 use Rattle.ass_num.specs.declared.geometry.Seg.{Seg}
 use Rattle.drawing_path.specs.declared.command.Command.{Command}
 use Rattle.drawing_path.specs.Tokens.{Token, Letter, Number, Skipped, IsToken, AreTokens, command_of}
-use Rattle.drawing_path.specs.Paths.{leading_numbers, points_of, path_after, path_after, IsPathOf}
+use Rattle.drawing_path.specs.Paths.{leading_numbers, points_of, after_command, path_after, IsPathOf}
 use Rattle.drawing_path.specs.Runs.{command_at, BeginsWithPoints, IsPointRun, coordinates, AddsNumber}
 
 -- ---- numbers and points
@@ -174,7 +174,7 @@ letter_at text at command is = elim (slice_get_cases text at).1 [
 pub letter_within : (text : List ℕ) (at : ℕ) (command : Command) → command_at text at ≡ Some command → at < length text
 letter_within text at command is = (letter_at text at command is).0
 
-pub drawn_more : (text : List ℕ) (at : ℕ) (segs : List Seg) (command : Command) (len : ℕ) (points : List Point) (new : List Seg) → command_at text at ≡ Some command → IsPointRun (drop (at + 1) text) len points → new ≡ path_after segs command points → IsDrawn text at segs → IsDrawn text (at + (1 + len)) new
+pub drawn_more : (text : List ℕ) (at : ℕ) (segs : List Seg) (command : Command) (len : ℕ) (points : List Point) (new : List Seg) → command_at text at ≡ Some command → IsPointRun (drop (at + 1) text) len points → new ≡ after_command segs command points → IsDrawn text at segs → IsDrawn text (at + (1 + len)) new
 drawn_more text at segs command len points new is run does drawn =
     let letter = letter_at text at command is in
     let token : IsToken (drop at text) (Letter command) 1 = letter_token (drop at text) (get_or text at 0) (drop (suc at) text) command (front_of text at letter.0) letter.1 in
@@ -190,7 +190,7 @@ drawn_more text at segs command len points new is run does drawn =
           record {
             tokens = all.tokens;
             read = all.read;
-            path = all.path ∙ ap (λ z. path_after (path_after segs command z) first.tokens) first.points_are ∙ ap (λ z. path_after z first.tokens) (sym does) ∙ first.skipped new;
+            path = all.path ∙ ap (λ z. path_after (after_command segs command z) first.tokens) first.points_are ∙ ap (λ z. path_after z first.tokens) (sym does) ∙ first.skipped new;
           };
     }
   where

@@ -67,18 +67,18 @@ last_spline_changed change (seg ∷ path) =
 -- The path after a command with its points:
 -- `m` and `n` begin a figure with each point; `l` adds a line to each; `b` takes three for each cubic;
 -- `s` adds a spline, `p` adds its points to the last spline of the figure, and `c` the first three points of that spline once more.
-abbrev pub path_after : List Seg → Command → List Point → List Seg
-path_after path Begin points = path ++ map Move points
-path_after path Lines points = continued path (map Line points)
-path_after path Cubics points = continued path (cubics_of points)
-path_after path NewSpline points = continued path (spline_by (last_vertex path) points)
-path_after path Extend points = last_spline_changed (λ control closed. Spline (control ++ points) closed) path
-path_after path Close points = last_spline_changed (λ control _. Spline (control ++ take 3 control) true) path
+abbrev pub after_command : List Seg → Command → List Point → List Seg
+after_command path Begin points = path ++ map Move points
+after_command path Lines points = continued path (map Line points)
+after_command path Cubics points = continued path (cubics_of points)
+after_command path NewSpline points = continued path (spline_by (last_vertex path) points)
+after_command path Extend points = last_spline_changed (λ control closed. Spline (control ++ points) closed) path
+after_command path Close points = last_spline_changed (λ control _. Spline (control ++ take 3 control) true) path
 
 -- the path after all commands of these tokens; numbers before the first letter belong to none
 abbrev pub path_after : List Seg → List Token → List Seg
 path_after path [] = path
-path_after path (Letter command ∷ tokens) = path_after (path_after path command (points_of (leading_numbers tokens))) tokens
+path_after path (Letter command ∷ tokens) = path_after (after_command path command (points_of (leading_numbers tokens))) tokens
 path_after path (Number _ ∷ tokens) = path_after path tokens
 path_after path (Skipped ∷ tokens) = path_after path tokens
 

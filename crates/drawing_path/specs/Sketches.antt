@@ -6,7 +6,7 @@ use Rattle.ass_num.specs.declared.geometry.Seg.{Seg}
 use Rattle.ass_num.specs.declared.geometry.Seg.TheVariants.{Spline}
 use Rattle.drawing_path.specs.declared.command.Command.{Command}
 use Rattle.drawing_path.specs.declared.sketch.Sketch.{Sketch}
-use Rattle.drawing_path.specs.Paths.{is_figure_or_spline, last_spline_changed, path_after}
+use Rattle.drawing_path.specs.Paths.{is_figure_or_spline, last_spline_changed, after_command}
 
 -- At this place stands a spline, and behind it neither another one nor the beginning of a figure.
 pub record IsLastSpline (path : List Seg) (place : ℕ) : Type 0 where
@@ -29,5 +29,5 @@ IsSketch sketch = IsSplinePlace sketch.segs.items sketch.spline
 
 -- A sketch after a command.
 pub record FollowsCommand (old new : Sketch) (command : Command) (points : List Point) : Type 0 where
-  pub path : new.segs.items ≡ path_after old.segs.items command points
+  pub path : new.segs.items ≡ after_command old.segs.items command points
   pub place : IsSplinePlace new.segs.items new.spline

@@ -2,7 +2,7 @@ use Rattle.std.proofs.Common.{◌≡◌, ℕ, ◌+◌, Option, Some, None, List,
 use Rattle.ass_num.specs.declared.geometry.Point.{Point}
 use Rattle.ass_num.specs.declared.geometry.Seg.{Seg}
 use Rattle.drawing_path.specs.declared.command.Command.{Command}
-use Rattle.drawing_path.specs.Paths.{path_after, IsPathOf}
+use Rattle.drawing_path.specs.Paths.{after_command, IsPathOf}
 use Rattle.drawing_path.specs.Runs.{IsPointRun, command_at}
 use Rattle.drawing_path.proofs.RangeLemmas.{drawing_drawable}
 use Rattle.drawing_path.proofs.ReadingLemmas.{IsDrawn, drawn_more, drawn_all, rest_of}
@@ -14,8 +14,8 @@ loop-command-preserved c =
     let points : List Point = c.read_points-in-Some.new.points.items in
     let P : List ℕ → Type 0 = λ z. IsPointRun z c.in_ok-at-2.field-0 points in
     let letter : command_at text c.loop-command.at ≡ Some c.in-Some.command = sym c.command_at.ensures ∙ c.in-Some.is in
-    let path : c.apply.new.self.segs.items ≡ path_after c.loop-command.sketch.segs.items c.in-Some.command points =
-    c.in_ok-apply.ensures.path ∙ ap (path_after c.loop-command.sketch.segs.items c.in-Some.command) c.as_slice.ensures.value in (
+    let path : c.apply.new.self.segs.items ≡ after_command c.loop-command.sketch.segs.items c.in-Some.command points =
+    c.in_ok-apply.ensures.path ∙ ap (after_command c.loop-command.sketch.segs.items c.in-Some.command) c.as_slice.ensures.value in (
       drawn_more text c.loop-command.at c.loop-command.sketch.segs.items c.in-Some.command c.in_ok-at-2.field-0 points c.apply.new.self.segs.items letter
           (subst P (rest_of text (c.loop-command.at + 1)) c.in_ok-at-2.ensures) path c.loop-command.invariant.0,
       c.in_ok-apply.ensures.place,
