@@ -13,6 +13,7 @@ It looks at these things, and ends with a line `N passed, M failed`:
   quoted    the program in README.md stands in a test, line by line
   links     each link between pages leads to a file
   widths    no line of a page is longer than 120 columns, but for tables and pictures
+  filled    no page has a place that was left for a number
 
 --write makes the list of docs/TRUST.md, takes edits that are gone out of docs/PROMISES.md, puts new ones into the row
 `also refused` of their crate (from where they are moved to the row of their promise by hand), marks specs/, and breaks
@@ -418,6 +419,11 @@ def widths(score):
                 score.check(len(line) <= WIDTH, f"{page}:{number}", f"has {len(line)} columns")
 
 
+def filled(score):
+    for page in pages():
+        score.check("GATE-TIME" not in read(page), page, "a measured time is to be filled in")
+
+
 def main():
     score = Score()
     reach = spec_marks.Reach()
@@ -431,6 +437,7 @@ def main():
     quoted(score)
     links(score)
     widths(score)
+    filled(score)
     print(f"{score.passed} passed, {score.failed} failed")
     return score.failed > 0
 
