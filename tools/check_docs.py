@@ -13,6 +13,8 @@ It looks at these things, and ends with a line `N passed, M failed`:
   quoted    the program in README.md stands in a test, line by line
   links     each link between pages leads to a file
   widths    no line of a page is longer than 120 columns, but for tables and pictures
+  unsafe    docs/TRUST.md has a link to each file that has an unsafe call
+  kit       README.md, docs/TRUST.md and the wrapper name the toolchain that `rt version` says, where rt is at hand
   filled    no page has a place that was left for a number
 
 --write makes the list of docs/TRUST.md, takes edits that are gone out of docs/PROMISES.md, puts new ones into the row
@@ -22,6 +24,7 @@ long lines of pages anew. With names of parts (marks, trust, edits, widths) it w
 
 import os
 import re
+import subprocess
 import sys
 
 sys.path.insert(0, os.path.dirname(os.path.abspath(__file__)))
@@ -29,6 +32,7 @@ import spec_marks  # noqa: E402
 
 TOP = spec_marks.TOP
 WORDS = sys.argv[1:]
+OF_STD = {"for_each_mut", "from_utf8_unchecked"}
 WIDTH = 120
 ALSO = "also refused"
 
@@ -318,7 +322,7 @@ def words(score):
                 continue
             for part in re.split(r"::|\.", span.rstrip("()")):
                 if "_" in part.strip("_") or re.search(r"[a-z][A-Z]", part):
-                    score.check(part in known, page, f"nothing is called `{span}`")
+                    score.check(part in known or part in OF_STD, page, f"nothing is called `{span}`")
 
 
 def crate_tables(score, crates):
@@ -419,6 +423,29 @@ def widths(score):
                 score.check(len(line) <= WIDTH, f"{page}:{number}", f"has {len(line)} columns")
 
 
+def unsafe(score, reach):
+    text = read("docs/TRUST.md")
+    for crate in reach.crates:
+        for at, _, files in os.walk(os.path.join(TOP, "crates", crate, "src")):
+            for file in files:
+                full = os.path.join(at, file)
+                with open(full, encoding="utf-8") as f:
+                    if re.search(r"\bunsafe\b", spec_marks.blank(f.read())):
+                        where = os.path.relpath(full, TOP)
+                        score.check(f"(../{where})" in text, "docs/TRUST.md", f"doesn't name the unsafe call in {where}")
+
+
+def kit(score):
+    try:
+        said = subprocess.run(["rt", "version"], capture_output=True, text=True, timeout=60).stdout.split()
+    except (OSError, subprocess.TimeoutExpired):
+        return
+    if said:
+        for page in ("README.md", "docs/TRUST.md"):
+            score.check(" ".join(said[:3]) in read(page), page, f"doesn't name {' '.join(said[:3])}")
+        score.check(f"kit={said[0]}" in read("vimalorua"), "vimalorua", f"doesn't name {said[0]}")
+
+
 def filled(score):
     for page in pages():
         score.check("GATE-TIME" not in read(page), page, "a measured time is to be filled in")
@@ -437,6 +464,8 @@ def main():
     quoted(score)
     links(score)
     widths(score)
+    unsafe(score, reach)
+    kit(score)
     filled(score)
     print(f"{score.passed} passed, {score.failed} failed")
     return score.failed > 0
