@@ -5,7 +5,8 @@ usage: python3 tools/check_docs.py [--write [PART..]]
 
 It looks at these things, and ends with a line `N passed, M failed`:
   marks     each file of specs/ says in its first line whether it is public or inner (spec_marks.py)
-  trust     docs/TRUST.md quotes the contract of `top`, says what each clause says, and lists the definitions that it reaches
+  trust     docs/TRUST.md quotes the contract of `top`, says what each clause says, and lists the definitions that it
+            reaches
   edits     each edit of must-fail/ stands in its crate's table in docs/PROMISES.md, and each named there exists
   names     each function, clause and definition that docs/PROMISES.md names in its second column exists
   words     each name of code in any page exists somewhere in the repository
@@ -64,8 +65,8 @@ class Score:
 
 
 def pages():
-    found = ["README.md", "bench/RESULTS.md"] if os.path.isfile(os.path.join(TOP, "bench/RESULTS.md")) else ["README.md"]
-    return found + sorted("docs/" + f for f in os.listdir(os.path.join(TOP, "docs")) if f.endswith(".md"))
+    docs = os.listdir(os.path.join(TOP, "docs"))
+    return ["README.md", "bench/RESULTS.md"] + sorted(f"docs/{f}" for f in docs if f.endswith(".md"))
 
 
 def crates_of():
@@ -114,7 +115,8 @@ def trusted(reach):
             count += 1
     rows.append(f"| {count} files | {total} | |")
     types = sorted({(node[1], "/".join(node[2]), node[3]) for node in reached if node[0] == "type"})
-    rows += ["", "They speak of these types of the code: " + ", ".join(f"`{name}` ({crate})" for crate, _, name in types) + "."]
+    named = ", ".join(f"`{name}` ({crate})" for crate, _, name in types)
+    rows += ["", f"They speak of these types of the code: {named}."]
     return "\n".join(rows[:-1] + wrapped(rows[-1]))
 
 
@@ -252,13 +254,12 @@ def functions(reach, crate):
                 add(item.name, clauses)
                 for at in range(len(module)):
                     add("::".join(module[at:] + (item.name,)), clauses)
-            of = item.name if item.kind == "trait" else spec_marks.target_of(item.head)[0] if item.kind == "impl" else ""
+            of, trait = spec_marks.target_of(item.head) if item.kind == "impl" else (item.name, None)
             for inner in item.items:
                 if inner.kind == "fn":
                     clauses = {name for _, name, _ in inner.clauses}
                     add(inner.name, clauses)
                     add(f"{of}::{inner.name}", clauses)
-                    trait = spec_marks.target_of(item.head)[1] if item.kind == "impl" else None
                     for kept in clauses_of_trait(reach, trait, inner.name):
                         add(f"{of}::{inner.name}", {kept})
     return found
@@ -310,7 +311,7 @@ def words(score):
         folders[:] = [f for f in folders if f not in (".git", "out", "docs", "target")]
         for file in files:
             known.update(re.split(r"[._]", file)[:1] + [file, file.split(".")[0]])
-            if file.endswith((".rt", ".antt", ".edit", ".txt", ".sh", ".py")) or file in ("vimalorua", "HANDLES", "run"):
+            if file.endswith((".rt", ".antt", ".edit", ".txt", ".sh", ".py")) or file in ("vimalorua", "HANDLES"):
                 with open(os.path.join(at, file), encoding="utf-8", errors="replace") as f:
                     known.update(re.findall(r"[^\W\d][\w'\-]*", f.read()))
     for page in pages():
@@ -318,7 +319,8 @@ def words(score):
             continue
         text = re.sub(r"```.*?```", "", read(page), flags=re.S)
         for span in re.findall(r"`([^`\n]+)`", text):
-            if not re.fullmatch(r"[A-Za-z_][\w:.]*(\(\))?", span) or "." in span and re.search(r"\.\w{1,5}$", span) and "_" not in span:
+            is_file = re.search(r"\.\w{1,5}$", span) and "_" not in span
+            if is_file or not re.fullmatch(r"[A-Za-z_][\w:.]*(\(\))?", span):
                 continue
             for part in re.split(r"::|\.", span.rstrip("()")):
                 if "_" in part.strip("_") or re.search(r"[a-z][A-Z]", part):
@@ -430,9 +432,10 @@ def unsafe(score, reach):
             for file in files:
                 full = os.path.join(at, file)
                 with open(full, encoding="utf-8") as f:
-                    if re.search(r"\bunsafe\b", spec_marks.blank(f.read())):
-                        where = os.path.relpath(full, TOP)
-                        score.check(f"(../{where})" in text, "docs/TRUST.md", f"doesn't name the unsafe call in {where}")
+                    found = re.search(r"\bunsafe\b", spec_marks.blank(f.read()))
+                where = os.path.relpath(full, TOP)
+                if found:
+                    score.check(f"(../{where})" in text, "docs/TRUST.md", f"doesn't name the unsafe call in {where}")
 
 
 def kit(score):

@@ -25,7 +25,8 @@ if not os.path.isdir(os.path.join(TOP, "crates")):
     TOP = os.getcwd()
 
 BLANKED = re.compile(
-    r"""//[^\n]*|(?<![\w'])b?r(?P<hash>\#*)".*?"(?P=hash)|(?<![\w'])b?"(?:\\.|[^"\\])*"|(?<![\w'])b?'(?:\\[^']+|[^'\\])'""",
+    r"""//[^\n]*|(?<![\w'])b?r(?P<hash>\#*)".*?"(?P=hash)"""
+    r"""|(?<![\w'])b?"(?:\\.|[^"\\])*"|(?<![\w'])b?'(?:\\[^']+|[^'\\])'""",
     re.S,
 )
 CLAUSE = re.compile(r"(requires|ensures|decreases)\*?(?:\s+(\w+))?\s*$")
