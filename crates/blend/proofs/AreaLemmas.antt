@@ -2,14 +2,15 @@
 use Rattle.std.proofs.Common.{◌≡◌, ℕ, ◌+◌, ◌*◌, ◌<◌, ◌≤◌, ℤ, pos, negsuc, ◌-◌, ◌+ℤ◌, ◌-ℤ◌, ◌≤ℤ◌, ◌<ℤ◌, Bool, true, false, not, List, ◌&&◌, ◌||◌, ◌==◌, nat_le, nat_lt, int_le, int_lt, length, get_or, take, drop, slice_index, refl, sym, ap, ◌∙◌, ⊎_elim, arith}
 use Rattle.std.proofs.lemmas.Int.{ints}
 use Rattle.std.proofs.lemmas.Nat.{mul-add-lt}
-use Rattle.std.proofs.Math.Nat.{mul-le-mul_left}
 use Rattle.std.proofs.lemmas.List.{get_or-take, get_or-drop}
 use Rattle.std.specs.Ordering.{int_eq}
 use Rattle.std.proofs.lemmas.Bool.{cases_lt}
 use Rattle.std.proofs.lemmas.Bool.Decides.{nat_tests}
 use Rattle.ass_num.specs.Masks.{MaskValue, is_mask, offset_value}
 use Rattle.blend.specs.declared.area.Area.{Area}
-use Rattle.blend.specs.Blending.{in_rect, placed_value}
+use Rattle.blend.specs.declared.area.Band.{Band}
+use Rattle.ass_num.specs.Coverage.{moved_value}
+use Rattle.blend.specs.Blending.{in_rect}
 use Rattle.blend.specs.Areas.{in_area, in_moved_box, IsPart, IsAreaCovered, IsMeeting}
 
 pub lt-yes : (a b : ℕ) → a < b → nat_lt a b ≡ true
@@ -110,9 +111,9 @@ mask-length m e =
     grind (arith, nat_tests)
 
 -- a value in the box
-pub placed_value-inside : (m : MaskValue) (x y : ℤ) (i j p q : ℕ) → pos i -ℤ x -ℤ m.x ≡ pos p → pos j -ℤ y -ℤ m.y ≡ pos q → p < m.w → q < m.h
-    → placed_value m x y i j ≡ get_or m.bytes (q * m.w + p) 0
-placed_value-inside m x y i j p q column row in_w in_h = rw (column, row, lt-yes p m.w in_w, lt-yes q m.h in_h) refl
+pub moved_value-inside : (m : MaskValue) (x y : ℤ) (i j p q : ℕ) → pos i -ℤ x -ℤ m.x ≡ pos p → pos j -ℤ y -ℤ m.y ≡ pos q → p < m.w → q < m.h
+    → moved_value (m, x, y) (pos i) (pos j) ≡ get_or m.bytes (q * m.w + p) 0
+moved_value-inside m x y i j p q column row in_w in_h = rw (column, row, lt-yes p m.w in_w, lt-yes q m.h in_h) refl
 
 -- where a piece of a row begins in a mask's bytes, and that it lies in them
 pub record IsPlace (m : MaskValue) (count p q : ℕ) : Type 0 where
@@ -120,7 +121,7 @@ pub record IsPlace (m : MaskValue) (count p q : ℕ) : Type 0 where
   pub columns : p + count ≤ m.w
   pub bytes : q * m.w + p + count ≤ length m.bytes
 
-pub place : (m : MaskValue) (x y : ℤ) (left right j p q : ℕ) → is_mask m ≡ true → left < right → in_moved_box m x y left j ≡ true → in_moved_box m x y (right - 1) j ≡ true
+pub place : (m : MaskValue) (x y : ℤ) (left right j p q : ℕ) → is_mask m ≡ true → left < right → in_moved_box (m, x, y) left j ≡ true → in_moved_box (m, x, y) (right - 1) j ≡ true
     → pos left -ℤ x -ℤ m.x ≡ pos p → pos j -ℤ y -ℤ m.y ≡ pos q → IsPlace m (right - left) p q
 place m x y left right j p q canonical some first last column row =
     let a : IsBetween (m.x +ℤ x) (m.y +ℤ y) (m.x +ℤ x +ℤ pos m.w) (m.y +ℤ y +ℤ pos m.h) (pos left) (pos j) = between-rect _ _ _ _ _ _ first in
@@ -132,11 +133,11 @@ place m x y left right j p q canonical some first last column row =
 
 -- the values of a piece of a row
 pub values-inside : (m : MaskValue) (x y : ℤ) (left j p q count k : ℕ) (s : List ℕ) → IsPlace m count p q → pos left -ℤ x -ℤ m.x ≡ pos p → pos j -ℤ y -ℤ m.y ≡ pos q
-    → s ≡ take count (drop (q * m.w + p) m.bytes) → k < count → slice_index s k ≡ placed_value m x y (left + k) j
+    → s ≡ take count (drop (q * m.w + p) m.bytes) → k < count → slice_index s k ≡ moved_value (m, x, y) (pos (left + k)) (pos j)
 values-inside m x y left j p q count k s inside column row is less =
     let at : pos (left + k) -ℤ x -ℤ m.x ≡ pos (p + k) = omega (arith, ints) in
-    let value : placed_value m x y (left + k) j ≡ get_or m.bytes (q * m.w + (p + k)) 0 =
-    placed_value-inside m x y (left + k) j (p + k) q at row (omega (arith, inside.columns)) inside.row in
+    let value : moved_value (m, x, y) (pos (left + k)) (pos j) ≡ get_or m.bytes (q * m.w + (p + k)) 0 =
+    moved_value-inside m x y (left + k) j (p + k) q at row (omega (arith, inside.columns)) inside.row in
     let index : q * m.w + p + k ≡ q * m.w + (p + k) = omega arith in
     ap (λ (t : List ℕ). get_or t k 0) is
     ∙ (get_or-take count (drop (q * m.w + p) m.bytes) k 0 less ∙ (get_or-drop (q * m.w + p) m.bytes k 0 ∙ (ap (λ i. get_or m.bytes i 0) index ∙ sym value)))
@@ -185,20 +186,25 @@ inside a i j e =
     }
 
 -- the test of a box, whose bounds are known
-pub box-both : (area part : Area) (m : MaskValue) (x y : ℤ) (i j : ℕ) (x1 y1 x2 y2 : ℤ) → x1 ≡ m.x +ℤ x → y1 ≡ m.y +ℤ y → x2 ≡ m.x +ℤ x +ℤ pos m.w → y2 ≡ m.y +ℤ y +ℤ pos m.h
-    → in_area part i j ≡ (in_area area i j && in_rect x1 y1 x2 y2 (pos i) (pos j)) → in_area part i j ≡ (in_area area i j && in_moved_box m x y i j)
-box-both area part m x y i j x1 y1 x2 y2 e f g h both = rw (e, f, g, h) at both
+pub box-both : (area part : Area) (p : MaskValue × ℤ × ℤ) (i j : ℕ) (x1 y1 x2 y2 : ℤ) → x1 ≡ p.0.x +ℤ p.1 → y1 ≡ p.0.y +ℤ p.2 → x2 ≡ p.0.x +ℤ p.1 +ℤ pos p.0.w → y2 ≡ p.0.y +ℤ p.2 +ℤ pos p.0.h
+    → in_area part i j ≡ (in_area area i j && in_rect x1 y1 x2 y2 (pos i) (pos j)) → in_area part i j ≡ (in_area area i j && in_moved_box p i j)
+box-both area part p i j x1 y1 x2 y2 e f g h both = rw (e, f, g, h) at both
 
-pub meeting-is : (r : Area) (w top h : ℕ) (m : MaskValue) (x y : ℤ) → IsPart r (record { left = 0; top = top; right = w; bottom = top + h })
-    → ((i j : ℕ) → in_area r i j ≡ (in_area (record { left = 0; top = top; right = w; bottom = top + h }) i j && in_moved_box m x y i j)) → IsMeeting r w top h m x y
-meeting-is r w top h m x y part both =
-    let whole : Area = record { left = 0; top = top; right = w; bottom = top + h } in
-    let few : w * (r.bottom - top) ≤ w * h = mul-le-mul_left w (let p : r.bottom - top ≤ h = omega (arith, part.bottom) in p) in
-    record {
-      in_rows = record { columns = part.columns; right = part.right; top_row = part.top; rows = part.rows; bottom = omega arith };
-      covered = record { covered = λ i j e. and-second (in_area whole i j) (in_moved_box m x y i j) (sym (both i j) ∙ e) };
-      whole = λ i j p q l. both i j ∙ ap (λ (b : Bool). b && in_moved_box m x y i j) (in_area-yes whole i j (omega arith) p q l);
-    }
+-- what a cut leaves lies in the box
+pub part-covered : (area part : Area) (p : MaskValue × ℤ × ℤ) → ((i j : ℕ) → in_area part i j ≡ (in_area area i j && in_moved_box p i j)) → IsAreaCovered part p
+part-covered area part p both = record { covered = λ i j e. and-second (in_area area i j) (in_moved_box p i j) (sym (both i j) ∙ e) }
+
+-- the rows of a band
+abbrev pub whole_band : Band → Area
+whole_band band = record { left = 0; top = band.top; right = band.w; bottom = band.top + band.h }
+
+pub meeting-is : (r : Area) (band : Band) (p : MaskValue × ℤ × ℤ) → IsPart r (whole_band band)
+    → ((i j : ℕ) → in_area r i j ≡ (in_area (whole_band band) i j && in_moved_box p i j)) → IsMeeting r band p
+meeting-is r band p part both = record {
+  in_band = record { columns = part.columns; right = part.right; top = part.top; rows = part.rows; bottom = part.bottom };
+  covered = part-covered (whole_band band) r p both;
+  whole = λ i j a b c. both i j ∙ ap (λ (t : Bool). t && in_moved_box p i j) (in_area-yes (whole_band band) i j (omega arith) a b c);
+}
 
 in_rect-yes : (x1 y1 x2 y2 i j : ℤ) → x1 ≤ℤ i → i <ℤ x2 → y1 ≤ℤ j → j <ℤ y2 → in_rect x1 y1 x2 y2 i j ≡ true
 in_rect-yes x1 y1 x2 y2 i j p q r s =
@@ -219,11 +225,11 @@ offset_value-outside m (pos p) (negsuc q) out = refl
 offset_value-outside m (negsuc p) (pos q) out = refl
 offset_value-outside m (negsuc p) (negsuc q) out = refl
 
-pub placed_value-outside : (m : MaskValue) (x y : ℤ) (i j : ℕ) → in_moved_box m x y i j ≡ false → placed_value m x y i j ≡ 0
-placed_value-outside m x y i j e =
-    offset_value-outside m (pos i -ℤ x -ℤ m.x) (pos j -ℤ y -ℤ m.y) (λ p q a b l h.
-    let yes : in_moved_box m x y i j ≡ true =
-    in_rect-yes (m.x +ℤ x) (m.y +ℤ y) (m.x +ℤ x +ℤ pos m.w) (m.y +ℤ y +ℤ pos m.h) (pos i) (pos j)
+pub moved_value-outside : (p : MaskValue × ℤ × ℤ) (i j : ℕ) → in_moved_box p i j ≡ false → moved_value p (pos i) (pos j) ≡ 0
+moved_value-outside p i j e =
+    offset_value-outside p.0 (pos i -ℤ p.1 -ℤ p.0.x) (pos j -ℤ p.2 -ℤ p.0.y) (λ a b column row l h.
+    let yes : in_moved_box p i j ≡ true =
+    in_rect-yes (p.0.x +ℤ p.1) (p.0.y +ℤ p.2) (p.0.x +ℤ p.1 +ℤ pos p.0.w) (p.0.y +ℤ p.2 +ℤ pos p.0.h) (pos i) (pos j)
     (omega (arith, ints)) (omega (arith, ints)) (omega (arith, ints)) (omega (arith, ints)) in
     cc)
 
@@ -231,7 +237,3 @@ placed_value-outside m x y i j e =
 pub rect-both : (area part : Area) (i j : ℕ) (x1 y1 x2 y2 p1 q1 p2 q2 : ℤ) → p1 ≡ x1 → q1 ≡ y1 → p2 ≡ x2 → q2 ≡ y2
     → in_area part i j ≡ (in_area area i j && in_rect p1 q1 p2 q2 (pos i) (pos j)) → in_area part i j ≡ (in_area area i j && in_rect x1 y1 x2 y2 (pos i) (pos j))
 rect-both area part i j x1 y1 x2 y2 p1 q1 p2 q2 e f g h both = rw (e, f, g, h) at both
-
--- what a cut leaves lies in the box
-pub part-covered : (area part : Area) (m : MaskValue) (x y : ℤ) → ((i j : ℕ) → in_area part i j ≡ (in_area area i j && in_moved_box m x y i j)) → IsAreaCovered part m x y
-part-covered area part m x y both = record { covered = λ i j e. and-second (in_area area i j) (in_moved_box m x y i j) (sym (both i j) ∙ e) }

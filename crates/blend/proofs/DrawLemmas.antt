@@ -1,14 +1,15 @@
 -- Lemmas on whole images: a hole in an area, and what an image's tints are in and outside its box.
-use Rattle.std.proofs.Common.{◌≡◌, ℕ, ℤ, pos, ◌+◌, ◌-◌, ◌*◌, ◌/◌, ◌%◌, ◌<◌, ◌≤◌, ◌⊎◌, Bool, true, false, ◌&&◌, if◌then◌else◌, List, length, refl, sym, ap, ◌∙◌, inl, inr, ⊎_elim, arith}
+use Rattle.std.proofs.Common.{◌≡◌, ℕ, ℤ, pos, int_lt, ◌+◌, ◌*◌, ◌/◌, ◌%◌, ◌<◌, ◌≤◌, ◌⊎◌, Bool, true, false, ◌&&◌, if◌then◌else◌, List, length, refl, sym, ap, ◌∙◌, inl, inr, ⊎_elim, arith}
 use Rattle.std.proofs.lemmas.Bool.{cases_lt}
 use Rattle.std.proofs.lemmas.Nat.{mod_below, le-div, div_below}
 use Rattle.ass_num.specs.Masks.{MaskValue}
+use Rattle.ass_num.specs.Coverage.{moved_value}
 use Rattle.ass_num.specs.declared.colour.Rgba.{Rgba}
 use Rattle.blend.specs.declared.area.Area.{Area}
-use Rattle.blend.specs.declared.fill.Colours.{Colours}
-use Rattle.blend.specs.Blending.{Tint, Image, Free, Rect, Drawn, by_255, in_rect, clipped, placed_value, tint_of, tint_at, tinted, by_number, painted}
-use Rattle.blend.specs.Areas.{in_area, in_moved_box, IsPart, IsMeeting, within, without, no_tint, column_colour, coloured_image}
-use Rattle.blend.proofs.AreaLemmas.{in_area-yes, in_area-left, in_area-right, in_area-top, in_area-bottom, inside, and-false, placed_value-outside}
+use Rattle.blend.specs.declared.area.Band.{Band}
+use Rattle.blend.specs.Blending.{Tint, Image, StencilValue, Free, Rect, Drawn, in_rect, stencilled, tint_of, tint_at, tinted, by_number, painted}
+use Rattle.blend.specs.Areas.{in_area, in_moved_box, IsPart, IsMeeting, within, without, no_tint, tints, placed_stencil, with_tints}
+use Rattle.blend.proofs.AreaLemmas.{in_area-yes, in_area-left, in_area-right, in_area-top, in_area-bottom, inside, and-first, moved_value-outside}
 use Rattle.blend.proofs.TintedLemmas.{IsSame, tinted-none, tinted-shift, weightless, tint_of-none, by_255-none}
 use Rattle.blend.proofs.FillLemmas.{within-yes, within-no, add-area}
 
@@ -133,142 +134,110 @@ around w n area hole tint s a b c d part above below before after =
     (λ i j e. let p = inside (record third { left = hole.right }) i j e in
     in_area-yes area i j (omega (arith, p.left, part.left, part.columns)) p.right (omega (arith, p.top, part.top)) (omega (arith, p.bottom, part.bottom)))
 
--- Tints on the rows of a picture draw an image, where they do what the image's do.
-pub tints-drawn : (w top h : ℕ) (image : Image) (tint : ℕ → ℕ → Tint) (s t : List ℕ) → length s ≡ 3 * (w * h) → t ≡ tinted (by_number w tint) (w * top) s
-    → ((i j : ℕ) → i < w → top ≤ j → j < top + h → IsSame (tint i j) (tint_at image i j)) → t ≡ painted image w (w * top) s
-tints-drawn w top h image tint s t len was same =
-    was ∙ tinted-shift (by_number w tint) (by_number w (tint_at image)) (w * top) (w * top) (w * h) s (omega arith)
-    (λ k l. at_pixel k l (⊎_elim (λ (p : 0 < w). p) (λ (z : w ≤ 0). absurd (let e : w ≡ 0 = omega arith in let f : k < 0 * h = rw e at l in omega arith)) (cases_lt 0 w)))
+-- tints that do the same
+pub same-tints : (band : Band) (f g : ℕ → ℕ → Tint) (s t : List ℕ) → t ≡ with_tints band f s → ((i j : ℕ) → IsSame (f i j) (g i j)) → t ≡ with_tints band g s
+same-tints band f g s t was same =
+    was ∙ tinted-shift (by_number band.w f) (by_number band.w g) (band.w * band.top) (band.w * band.top) (length s) s (omega arith)
+    (λ k _. same ((band.w * band.top + k) % band.w) ((band.w * band.top + k) / band.w))
+
+-- Under a rectangle, of which the area has a part: its inside has all tints.
+pub rect-inside : (colour : Rgba) (p : MaskValue × ℤ × ℤ) (x1 y1 x2 y2 : ℤ) (area part : Area) (i j : ℕ)
+    → in_area part i j ≡ (in_area area i j && in_rect x1 y1 x2 y2 (pos i) (pos j))
+    → IsSame (within part (tints colour p Free) i j) (within area (tints colour p (Rect x1 y1 x2 y2 false)) i j)
+rect-inside colour p x1 y1 x2 y2 area part i j both = go (in_area area i j) (in_rect x1 y1 x2 y2 (pos i) (pos j)) refl refl
   where
-    at_pixel : (k : ℕ) → k < w * h → 0 < w → IsSame (by_number w tint (w * top + k)) (by_number w (tint_at image) (w * top + k))
+    go : (b r : Bool) → in_area area i j ≡ b → in_rect x1 y1 x2 y2 (pos i) (pos j) ≡ r
+        → IsSame (within part (tints colour p Free) i j) (within area (tints colour p (Rect x1 y1 x2 y2 false)) i j)
+    go true true e f = let q : in_area part i j ≡ true = both ∙ rw (e, f) refl in inl (rw (q, e, f) refl)
+    go true false e f = let q : in_area part i j ≡ false = both ∙ rw (e, f) refl in inr (rw q refl, rw (e, f) (tint_of-none colour 0 refl))
+    go false r e f = let q : in_area part i j ≡ false = both ∙ rw e refl in inl (rw (q, e) refl)
+
+-- And outside it has all, where it is inverse.
+pub rect-outside : (colour : Rgba) (p : MaskValue × ℤ × ℤ) (x1 y1 x2 y2 : ℤ) (area part : Area) (i j : ℕ)
+    → in_area part i j ≡ (in_area area i j && in_rect x1 y1 x2 y2 (pos i) (pos j))
+    → IsSame (without part (within area (tints colour p Free)) i j) (within area (tints colour p (Rect x1 y1 x2 y2 true)) i j)
+rect-outside colour p x1 y1 x2 y2 area part i j both = go (in_area area i j) (in_rect x1 y1 x2 y2 (pos i) (pos j)) refl refl
+  where
+    go : (b r : Bool) → in_area area i j ≡ b → in_rect x1 y1 x2 y2 (pos i) (pos j) ≡ r
+        → IsSame (without part (within area (tints colour p Free)) i j) (within area (tints colour p (Rect x1 y1 x2 y2 true)) i j)
+    go true true e f = let q : in_area part i j ≡ true = both ∙ rw (e, f) refl in inr (rw q refl, rw (e, f) (tint_of-none colour 0 refl))
+    go true false e f = let q : in_area part i j ≡ false = both ∙ rw (e, f) refl in inl (rw (q, e, f) refl)
+    go false r e f = let q : in_area part i j ≡ false = both ∙ rw e refl in inl (rw (q, e) refl)
+
+-- Under a mask, of whose box the area has a part: the rest has no tints.
+pub under-inside : (colour : Rgba) (p over : MaskValue × ℤ × ℤ) (area part : Area) (i j : ℕ) → in_area part i j ≡ (in_area area i j && in_moved_box over i j)
+    → IsSame (within part (tints colour p (placed_stencil over false)) i j) (within area (tints colour p (placed_stencil over false)) i j)
+under-inside colour p over area part i j both = go (in_area area i j) (in_moved_box over i j) refl refl
+  where
+    go : (b r : Bool) → in_area area i j ≡ b → in_moved_box over i j ≡ r
+        → IsSame (within part (tints colour p (placed_stencil over false)) i j) (within area (tints colour p (placed_stencil over false)) i j)
+    go true true e f = let q : in_area part i j ≡ true = both ∙ rw (e, f) refl in inl (rw (q, e) refl)
+    go true false e f =
+        let q : in_area part i j ≡ false = both ∙ rw (e, f) refl in
+        let none : stencilled (placed_stencil over false) i j (moved_value p (pos i) (pos j)) ≡ 0 = rw (moved_value-outside over i j f) (omega arith) in
+        inr (rw q refl, rw e (tint_of-none colour _ none))
+    go false r e f = let q : in_area part i j ≡ false = both ∙ rw e refl in inl (rw (q, e) refl)
+
+-- And has all, where it is inverse.
+pub under-outside : (colour : Rgba) (p over : MaskValue × ℤ × ℤ) (area part : Area) (i j : ℕ) → in_area part i j ≡ (in_area area i j && in_moved_box over i j) → in_area part i j ≡ false
+    → without part (within area (tints colour p Free)) i j ≡ within area (tints colour p (placed_stencil over true)) i j
+under-outside colour p over area part i j both q = go (in_area area i j) refl
+  where
+    go : (b : Bool) → in_area area i j ≡ b → without part (within area (tints colour p Free)) i j ≡ within area (tints colour p (placed_stencil over true)) i j
+    go true e =
+        let f : in_moved_box over i j ≡ false = sym (both ∙ rw e refl) ∙ q in
+        let v : moved_value p (pos i) (pos j) ≡ stencilled (placed_stencil over true) i j (moved_value p (pos i) (pos j)) = rw (moved_value-outside over i j f) (omega arith) in
+        rw (q, e) (ap (tint_of colour) v)
+    go false e = rw (q, e) refl
+
+-- What lies around a mask's box gets its tints, and then what lies in it.
+pub under-inverse : (band : Band) (colour : Rgba) (p over : MaskValue × ℤ × ℤ) (area part : Area) (s t u : List ℕ)
+    → ((i j : ℕ) → in_area part i j ≡ (in_area area i j && in_moved_box over i j))
+    → t ≡ with_tints band (without part (within area (tints colour p Free))) s
+    → u ≡ with_tints band (within part (tints colour p (placed_stencil over true))) t
+    → u ≡ with_tints band (within area (tints colour p (placed_stencil over true))) s
+under-inverse band colour p over area part s t u both was is =
+    add-area band.w (band.w * band.top) part (tints colour p (placed_stencil over true)) (without part (within area (tints colour p Free)))
+    (within area (tints colour p (placed_stencil over true))) s t u was is
+    (λ i j e. (
+      weightless _ (without-yes part (within area (tints colour p Free)) i j e),
+      sym (within-yes area (tints colour p (placed_stencil over true)) i j (and-first (in_area area i j) (in_moved_box over i j) (sym (both i j) ∙ e))),
+    ))
+    (λ i j e. under-outside colour p over area part i j (both i j) e)
+
+-- no stencil makes coverage where there is none
+stencilled-none : (stencil : StencilValue) (i j m : ℕ) → m ≡ 0 → stencilled stencil i j m ≡ 0
+stencilled-none Free i j m e = e
+stencilled-none (Rect x1 y1 x2 y2 inverse) i j m e = either (in_rect x1 y1 x2 y2 (pos i) (pos j)) inverse
+  where
+    either : (r b : Bool) → (let left : ℕ = if r then (if b then 0 else m) else (if b then m else 0) in left) ≡ 0
+    either true true = refl
+    either true false = e
+    either false true = e
+    either false false = refl
+stencilled-none (Drawn c x y inverse) i j m e = by_255-none m _ e
+
+-- in a band an image's tints are those in its mask's box
+same-inside : (area : Area) (image : Image) (i j : ℕ) (b : Bool) → in_area area i j ≡ b → in_area area i j ≡ in_moved_box (image.mask, image.x, image.y) i j → IsSame (within area (tint_at image) i j) (tint_at image i j)
+same-inside area image i j true e at = inl (within-yes area (tint_at image) i j e)
+same-inside area image i j false e at =
+    inr (
+      weightless (within area (tint_at image) i j) (within-no area (tint_at image) i j e),
+      tint_of-none (if int_lt (pos i) image.edge then image.left else image.right) _ (stencilled-none image.stencil i j _ (moved_value-outside (image.mask, image.x, image.y) i j (sym at ∙ e))),
+    )
+
+-- The tints of an image in what a band has of its mask's box draw it on the band.
+pub tints-drawn : (band : Band) (area : Area) (image : Image) (s t : List ℕ) → length s ≡ 3 * (band.w * band.h) → IsMeeting area band (image.mask, image.x, image.y)
+    → t ≡ with_tints band (within area (tint_at image)) s → t ≡ painted image band.w (band.w * band.top) s
+tints-drawn band area image s t len met was =
+    was ∙ tinted-shift (by_number w (within area (tint_at image))) (by_number w (tint_at image)) (w * band.top) (w * band.top) (w * band.h) s (omega arith)
+    (λ k l. at_pixel k l (⊎_elim (λ (p : 0 < w). p) (λ (z : w ≤ 0). absurd (let e : w ≡ 0 = omega arith in let f : k < 0 * band.h = rw e at l in omega arith)) (cases_lt 0 w)))
+  where
+    w : ℕ
+    w = band.w
+
+    at_pixel : (k : ℕ) → k < w * band.h → 0 < w → IsSame (by_number w (within area (tint_at image)) (w * band.top + k)) (by_number w (tint_at image) (w * band.top + k))
     at_pixel k l some =
-        same ((w * top + k) % w) ((w * top + k) / w) (mod_below (w * top + k) w some) (le-div top (w * top + k) w some (omega arith))
-        (div_below (w * top + k) w (top + h) some (omega arith))
-
--- the tints of an image without a clip
-abbrev pub plain_tints : Colours → MaskValue → ℤ → ℤ → ℕ → ℕ → Tint
-plain_tints colours m x y i j = tint_of (column_colour colours i) (placed_value m x y i j)
-
--- the tints of an image under a mask
-abbrev pub clipped_tints : Colours → MaskValue → ℤ → ℤ → MaskValue → ℤ → ℤ → Bool → ℕ → ℕ → Tint
-clipped_tints colours m x y clip cx cy inverse i j = tint_of (column_colour colours i) (clipped (Drawn clip cx cy inverse) i j (placed_value m x y i j))
-
-none-same : (t : Tint) (colour : Rgba) (m : ℕ) → t ≡ no_tint → m ≡ 0 → IsSame t (tint_of colour m)
-none-same t colour m e z = inr (weightless t e, tint_of-none colour m z)
-
--- no clip
-pub free-same : (colours : Colours) (m : MaskValue) (x y : ℤ) (area : Area) (i j : ℕ) → in_area area i j ≡ in_moved_box m x y i j
-    → IsSame (within area (plain_tints colours m x y) i j) (tint_of (column_colour colours i) (placed_value m x y i j))
-free-same colours m x y area i j at = go (in_moved_box m x y i j) refl
-  where
-    go : (b : Bool) → in_moved_box m x y i j ≡ b → IsSame (within area (plain_tints colours m x y) i j) (tint_of (column_colour colours i) (placed_value m x y i j))
-    go true e = inl (within-yes area (plain_tints colours m x y) i j (at ∙ e))
-    go false e = none-same _ (column_colour colours i) (placed_value m x y i j) (within-no area (plain_tints colours m x y) i j (at ∙ e)) (placed_value-outside m x y i j e)
-
--- inside a rectangle
-pub rect-same : (colours : Colours) (m : MaskValue) (x y : ℤ) (area part : Area) (i j : ℕ) (r : Bool) → in_area area i j ≡ in_moved_box m x y i j → in_area part i j ≡ (in_area area i j && r)
-    → IsSame (within part (plain_tints colours m x y) i j) (tint_of (column_colour colours i) (if r then placed_value m x y i j else 0))
-rect-same colours m x y area part i j true at both =
-    free-same colours m x y part i j (both ∙ (go (in_area area i j) ∙ at))
-  where
-    go : (b : Bool) → (b && true) ≡ b
-    go true = refl
-    go false = refl
-rect-same colours m x y area part i j false at both =
-    none-same _ (column_colour colours i) 0 (within-no part (plain_tints colours m x y) i j (both ∙ and-false (in_area area i j))) refl
-
--- outside a rectangle
-pub around-same : (colours : Colours) (m : MaskValue) (x y : ℤ) (area part : Area) (i j : ℕ) (r : Bool) → in_area area i j ≡ in_moved_box m x y i j → in_area part i j ≡ (in_area area i j && r)
-    → IsSame (without part (within area (plain_tints colours m x y)) i j) (tint_of (column_colour colours i) (if r then 0 else placed_value m x y i j))
-around-same colours m x y area part i j r at both = go (in_area area i j) r refl refl
-  where
-    go : (b q : Bool) → in_area area i j ≡ b → r ≡ q → IsSame (without part (within area (plain_tints colours m x y)) i j) (tint_of (column_colour colours i) (if r then 0 else placed_value m x y i j))
-    go true true e f =
-        rw f (none-same _ (column_colour colours i) 0 (without-yes part (within area (plain_tints colours m x y)) i j (both ∙ rw (e, f) refl)) refl)
-    go b false e f =
-        rw f (rw (without-no part (within area (plain_tints colours m x y)) i j (both ∙ rw f (and-false (in_area area i j)))) (free-same colours m x y area i j at))
-    go false true e f =
-        rw f (none-same _ (column_colour colours i) 0
-        (without-no part (within area (plain_tints colours m x y)) i j (both ∙ rw e refl) ∙ within-no area (plain_tints colours m x y) i j e) refl)
-
--- under a mask, in its box
-under-same : (colours : Colours) (m : MaskValue) (x y : ℤ) (clip : MaskValue) (cx cy : ℤ) (area part : Area) (i j : ℕ)
-    → in_area area i j ≡ in_moved_box m x y i j → in_area part i j ≡ (in_area area i j && in_moved_box clip cx cy i j)
-    → IsSame (within part (clipped_tints colours m x y clip cx cy false) i j) (clipped_tints colours m x y clip cx cy false i j)
-under-same colours m x y clip cx cy area part i j at both = go (in_moved_box m x y i j) (in_moved_box clip cx cy i j) refl refl
-  where
-    go : (b q : Bool) → in_moved_box m x y i j ≡ b → in_moved_box clip cx cy i j ≡ q
-        → IsSame (within part (clipped_tints colours m x y clip cx cy false) i j) (clipped_tints colours m x y clip cx cy false i j)
-    go true true e f = inl (within-yes part (clipped_tints colours m x y clip cx cy false) i j (both ∙ rw (at, e, f) refl))
-    go false q e f =
-        none-same _ (column_colour colours i) _ (within-no part (clipped_tints colours m x y clip cx cy false) i j (both ∙ rw (at, e) refl))
-        (by_255-none (placed_value m x y i j) _ (placed_value-outside m x y i j e))
-    go true false e f =
-        none-same _ (column_colour colours i) _ (within-no part (clipped_tints colours m x y clip cx cy false) i j (both ∙ rw (at, e, f) refl))
-        (let z : placed_value clip cx cy i j ≡ 0 = placed_value-outside clip cx cy i j f in rw z (omega arith))
-
--- in the clip's box the tints under the clip, and elsewhere the plain ones
-abbrev either : Area → (ℕ → ℕ → Tint) → (ℕ → ℕ → Tint) → ℕ → ℕ → Tint
-either part first second i j = if in_area part i j then first i j else second i j
-
--- under what a mask leaves
-beside-same : (colours : Colours) (m : MaskValue) (x y : ℤ) (clip : MaskValue) (cx cy : ℤ) (area part : Area) (i j : ℕ)
-    → in_area area i j ≡ in_moved_box m x y i j → in_area part i j ≡ (in_area area i j && in_moved_box clip cx cy i j)
-    → IsSame (either part (clipped_tints colours m x y clip cx cy true) (within area (plain_tints colours m x y)) i j) (clipped_tints colours m x y clip cx cy true i j)
-beside-same colours m x y clip cx cy area part i j at both = go (in_moved_box m x y i j) (in_moved_box clip cx cy i j) refl refl
-  where
-    go : (b q : Bool) → in_moved_box m x y i j ≡ b → in_moved_box clip cx cy i j ≡ q
-        → IsSame (either part (clipped_tints colours m x y clip cx cy true) (within area (plain_tints colours m x y)) i j) (clipped_tints colours m x y clip cx cy true i j)
-    go true true e f = let p : in_area part i j ≡ true = both ∙ rw (at, e, f) refl in inl (rw p refl)
-    go false q e f =
-        let p : in_area part i j ≡ false = both ∙ rw (at, e) refl in
-        let o : in_area area i j ≡ false = at ∙ e in
-        none-same _ (column_colour colours i) _ (rw (p, o) refl) (by_255-none (placed_value m x y i j) _ (placed_value-outside m x y i j e))
-    go true false e f =
-        let p : in_area part i j ≡ false = both ∙ rw (at, e, f) refl in
-        let o : in_area area i j ≡ true = at ∙ e in
-        let z : placed_value clip cx cy i j ≡ 0 = placed_value-outside clip cx cy i j f in
-        let v : by_255 (placed_value m x y i j * (255 - placed_value clip cx cy i j)) ≡ placed_value m x y i j = rw z (omega arith) in
-        inl (rw (p, o) (ap (tint_of (column_colour colours i)) (sym v)))
-
-pub drawn-under : (w top h : ℕ) (colours : Colours) (m : MaskValue) (x y : ℤ) (clip : MaskValue) (cx cy : ℤ) (inverse : Bool) (area part : Area) (s t : List ℕ)
-    → inverse ≡ false → length s ≡ 3 * (w * h) → IsMeeting area w top h m x y → ((i j : ℕ) → in_area part i j ≡ (in_area area i j && in_moved_box clip cx cy i j))
-    → t ≡ tinted (by_number w (within part (clipped_tints colours m x y clip cx cy inverse))) (w * top) s
-    → t ≡ painted (coloured_image colours m x y (Drawn clip cx cy inverse)) w (w * top) s
-drawn-under w top h colours m x y clip cx cy inverse area part s t e len met both was =
-    rw e (tints-drawn w top h (coloured_image colours m x y (Drawn clip cx cy false)) _ s t len (rw e at was) (λ i j p q r. under-same colours m x y clip cx cy area part i j (met.whole i j p q r) (both i j)))
-
-pub drawn-beside : (w top h : ℕ) (colours : Colours) (m : MaskValue) (x y : ℤ) (clip : MaskValue) (cx cy : ℤ) (inverse : Bool) (area part : Area) (s t u : List ℕ)
-    → inverse ≡ true → length s ≡ 3 * (w * h) → IsMeeting area w top h m x y → ((i j : ℕ) → in_area part i j ≡ (in_area area i j && in_moved_box clip cx cy i j))
-    → t ≡ tinted (by_number w (without part (within area (plain_tints colours m x y)))) (w * top) s
-    → u ≡ tinted (by_number w (within part (clipped_tints colours m x y clip cx cy inverse))) (w * top) t
-    → u ≡ painted (coloured_image colours m x y (Drawn clip cx cy inverse)) w (w * top) s
-drawn-beside w top h colours m x y clip cx cy inverse area part s t u e len met both was is =
-    rw e (tints-drawn w top h (coloured_image colours m x y (Drawn clip cx cy true)) (either part (clipped_tints colours m x y clip cx cy true) (within area (plain_tints colours m x y))) s u len
-    (add-area w (w * top) part (clipped_tints colours m x y clip cx cy true) (without part (within area (plain_tints colours m x y)))
-    (either part (clipped_tints colours m x y clip cx cy true) (within area (plain_tints colours m x y))) s t u was (rw e at is)
-    (λ i j e. (weightless _ (without-yes part (within area (plain_tints colours m x y)) i j e), rw e refl))
-    (λ i j e. without-no part (within area (plain_tints colours m x y)) i j e ∙ rw e refl))
-    (λ i j p q r. beside-same colours m x y clip cx cy area part i j (met.whole i j p q r) (both i j)))
-
-pub drawn-free : (w top h : ℕ) (colours : Colours) (m : MaskValue) (x y : ℤ) (area : Area) (s t : List ℕ) → length s ≡ 3 * (w * h) → IsMeeting area w top h m x y
-    → t ≡ tinted (by_number w (within area (plain_tints colours m x y))) (w * top) s
-    → t ≡ painted (coloured_image colours m x y Free) w (w * top) s
-drawn-free w top h colours m x y area s t len met was =
-    tints-drawn w top h (coloured_image colours m x y Free) _ s t len was (λ i j p q r. free-same colours m x y area i j (met.whole i j p q r))
-
-pub drawn-inside : (w top h : ℕ) (colours : Colours) (m : MaskValue) (x y x1 y1 x2 y2 : ℤ) (inverse : Bool) (area part : Area) (s t : List ℕ)
-    → inverse ≡ false → length s ≡ 3 * (w * h) → IsMeeting area w top h m x y → ((i j : ℕ) → in_area part i j ≡ (in_area area i j && in_rect x1 y1 x2 y2 (pos i) (pos j)))
-    → t ≡ tinted (by_number w (within part (plain_tints colours m x y))) (w * top) s
-    → t ≡ painted (coloured_image colours m x y (Rect x1 y1 x2 y2 inverse)) w (w * top) s
-drawn-inside w top h colours m x y x1 y1 x2 y2 inverse area part s t e len met both was =
-    rw e (tints-drawn w top h (coloured_image colours m x y (Rect x1 y1 x2 y2 false)) _ s t len was
-    (λ i j p q r. rect-same colours m x y area part i j (in_rect x1 y1 x2 y2 (pos i) (pos j)) (met.whole i j p q r) (both i j)))
-
-pub drawn-outside : (w top h : ℕ) (colours : Colours) (m : MaskValue) (x y x1 y1 x2 y2 : ℤ) (inverse : Bool) (area part : Area) (s t : List ℕ)
-    → inverse ≡ true → length s ≡ 3 * (w * h) → IsMeeting area w top h m x y → ((i j : ℕ) → in_area part i j ≡ (in_area area i j && in_rect x1 y1 x2 y2 (pos i) (pos j)))
-    → t ≡ tinted (by_number w (without part (within area (plain_tints colours m x y)))) (w * top) s
-    → t ≡ painted (coloured_image colours m x y (Rect x1 y1 x2 y2 inverse)) w (w * top) s
-drawn-outside w top h colours m x y x1 y1 x2 y2 inverse area part s t e len met both was =
-    rw e (tints-drawn w top h (coloured_image colours m x y (Rect x1 y1 x2 y2 true)) _ s t len was
-    (λ i j p q r. around-same colours m x y area part i j (in_rect x1 y1 x2 y2 (pos i) (pos j)) (met.whole i j p q r) (both i j)))
+        same-inside area image ((w * band.top + k) % w) ((w * band.top + k) / w) (in_area area ((w * band.top + k) % w) ((w * band.top + k) / w)) refl
+        (met.whole ((w * band.top + k) % w) ((w * band.top + k) / w) (mod_below (w * band.top + k) w some) (le-div band.top (w * band.top + k) w some (omega arith))
+        (div_below (w * band.top + k) w (band.top + band.h) some (omega arith)))

@@ -6,10 +6,10 @@ use Rattle.std.proofs.Math.Nat.{mul-le-mul_left}
 use borrow.Rule.Slice.PartMut.{put_mid}
 use Rattle.blend.specs.declared.area.Area.{Area}
 use Rattle.ass_num.specs.Masks.{MaskValue}
+use Rattle.ass_num.specs.Coverage.{moved_value}
 use Rattle.ass_num.specs.declared.colour.Rgba.{Rgba}
-use Rattle.blend.specs.Blending.{Tint, Drawn, by_255, clipped, placed_value, tint_of, tinted, by_number}
-use Rattle.blend.specs.declared.fill.Colours.{Colours}
-use Rattle.blend.specs.Areas.{in_area, IsAreaCovered, within, no_tint, column_colour}
+use Rattle.blend.specs.Blending.{Tint, by_255, stencilled, tint_of, tinted, by_number}
+use Rattle.blend.specs.Areas.{in_area, IsAreaCovered, placed_stencil, within, no_tint}
 use Rattle.blend.proofs.AreaLemmas.{lt-yes, lt-no, le-yes, in_area-yes, in_area-left, in_area-right, in_area-top, in_area-bottom, inside}
 use Rattle.blend.proofs.TintedLemmas.{IsSame, IsJoined, tinted-none, tinted-write, tinted-tinted, weightless}
 
@@ -152,26 +152,26 @@ halves w n middle area left right tint s t u low high on_left on_right was is =
         (ap (λ (x : Bool). (nat_le area.left i && x) && (nat_le area.top j && nat_lt j area.bottom)) (lt-yes i area.right (omega arith) ∙ sym (lt-yes i middle less)) ∙ e))
 
 -- the colour of a column on either side of the edge, which a call is shown by its bits
-pub colour-left : (colours : Colours) (i middle : ℕ) (edge : ℤ) → edge ≡ colours.edge → i < middle → nat_lt i middle ≡ int_lt (pos i) edge → column_colour colours i ≡ colours.left
-colour-left colours i middle edge edge_is less same =
-    let e : int_lt (pos i) colours.edge ≡ true = ap (int_lt (pos i)) (sym edge_is) ∙ (sym same ∙ lt-yes i middle less) in
+pub colour-left : (left right : Rgba) (i middle : ℕ) (edge shown : ℤ) → shown ≡ edge → i < middle → nat_lt i middle ≡ int_lt (pos i) shown → (if int_lt (pos i) edge then left else right) ≡ left
+colour-left left right i middle edge shown edge_is less same =
+    let e : int_lt (pos i) edge ≡ true = ap (int_lt (pos i)) (sym edge_is) ∙ (sym same ∙ lt-yes i middle less) in
     rw e refl
 
-pub colour-right : (colours : Colours) (i middle : ℕ) (edge : ℤ) → edge ≡ colours.edge → middle ≤ i → nat_lt i middle ≡ int_lt (pos i) edge → column_colour colours i ≡ colours.right
-colour-right colours i middle edge edge_is past same =
-    let e : int_lt (pos i) colours.edge ≡ false = ap (int_lt (pos i)) (sym edge_is) ∙ (sym same ∙ lt-no i middle past) in
+pub colour-right : (left right : Rgba) (i middle : ℕ) (edge shown : ℤ) → shown ≡ edge → middle ≤ i → nat_lt i middle ≡ int_lt (pos i) shown → (if int_lt (pos i) edge then left else right) ≡ right
+colour-right left right i middle edge shown edge_is past same =
+    let e : int_lt (pos i) edge ≡ false = ap (int_lt (pos i)) (sym edge_is) ∙ (sym same ∙ lt-no i middle past) in
     rw e refl
 
--- a pixel under a clip, from the values of both
-pub clipped-value : (colour : Rgba) (clip : MaskValue) (cx cy : ℤ) (inverse : Bool) (i j m n v : ℕ) → m ≡ v → n ≡ placed_value clip cx cy i j
-    → tint_of colour (by_255 (m * (if inverse then 255 - n else n))) ≡ tint_of colour (clipped (Drawn clip cx cy inverse) i j v)
-clipped-value colour clip cx cy inverse i j m n v p q = rw (p, q) refl
+-- a pixel under a stencil, from the values of both masks
+pub stencilled-value : (colour : Rgba) (over : MaskValue × ℤ × ℤ) (inverse : Bool) (i j m n v : ℕ) → m ≡ v → n ≡ moved_value over (pos i) (pos j)
+    → tint_of colour (by_255 (m * (if inverse then 255 - n else n))) ≡ tint_of colour (stencilled (placed_stencil over inverse) i j v)
+stencilled-value colour over inverse i j m n v p q = rw (p, q) refl
 
 -- a part of an area is covered where the area is
-pub IsAreaCovered-part : (area part : Area) (m : MaskValue) (x y : ℤ) → area.left ≤ part.left → part.right ≤ area.right → area.top ≤ part.top → part.bottom ≤ area.bottom
-    → IsAreaCovered area m x y → IsAreaCovered part m x y
-IsAreaCovered-part area part m x y l r t b whole = record {
+pub IsAreaCovered-part : (area part : Area) (p : MaskValue × ℤ × ℤ) → area.left ≤ part.left → part.right ≤ area.right → area.top ≤ part.top → part.bottom ≤ area.bottom
+    → IsAreaCovered area p → IsAreaCovered part p
+IsAreaCovered-part area part p l r t b whole = record {
   covered = λ i j e.
-      let p = inside part i j e in
+      let q = inside part i j e in
       whole.covered i j (in_area-yes area i j (omega arith) (omega arith) (omega arith) (omega arith));
 }

@@ -1,16 +1,17 @@
--- What drawing an image does to the pixels of a picture (docs/BLENDING.md).
-use Rattle.std.specs.Prelude.{ℕ, ℤ, pos, ◌+◌, ◌-◌, ◌*◌, ◌/◌, ◌%◌, ◌-ℤ◌, Bool, ◌&&◌, int_lt, int_le, List, ◌∷◌, if◌then◌else◌}
-use Rattle.ass_num.specs.Masks.{MaskValue, value_at}
+-- Public: what drawing an image does to the pixels of a picture (docs/BLENDING.md).
+use Rattle.std.specs.Prelude.{ℕ, ℤ, pos, ◌+◌, ◌-◌, ◌*◌, ◌/◌, ◌%◌, Bool, ◌&&◌, int_lt, int_le, List, ◌∷◌, if◌then◌else◌}
+use Rattle.ass_num.specs.Masks.{MaskValue}
+use Rattle.ass_num.specs.Coverage.{moved_value}
 use Rattle.ass_num.specs.declared.colour.Rgba.{Rgba}
 
--- A clip: nothing is hidden; or what lies outside a rectangle, whose left and top bounds belong to it and whose
--- right and bottom bounds don't; or what a mask at an offset doesn't cover. At `true` the inside is hidden instead.
+-- A stencil: nothing is hidden; or what lies outside a rectangle, whose left and top bounds belong to it and whose
+-- right and bottom bounds don't; or what a moved mask doesn't cover. At `true` the inside is hidden instead.
 pub data StencilValue : Type 0 where
   Free : StencilValue
   Rect : ℤ → ℤ → ℤ → ℤ → Bool → StencilValue
   Drawn : MaskValue → ℤ → ℤ → Bool → StencilValue
 
--- An image to be drawn: the mask at its offset, the colour of the columns left of the edge and of those from it on, and the clip.
+-- An image to be drawn: the mask and how far it is moved, the colour of the columns left of the edge and of those from it on, and the stencil.
 pub record Image : Type 0 where
   pub mask : MaskValue
   pub x : ℤ
@@ -27,16 +28,13 @@ by_255 v = (v + 127) / 255
 abbrev pub in_rect : ℤ → ℤ → ℤ → ℤ → ℤ → ℤ → Bool
 in_rect x1 y1 x2 y2 i j = (int_le x1 i && int_lt i x2) && (int_le y1 j && int_lt j y2)
 
--- the coverage of a mask, moved by (x, y), at pixel (i, j)
-abbrev pub placed_value : MaskValue → ℤ → ℤ → ℕ → ℕ → ℕ
-placed_value m x y i j = value_at m (pos i -ℤ x) (pos j -ℤ y)
-
--- what the clip leaves of the coverage m of pixel (i, j)
-abbrev pub clipped : StencilValue → ℕ → ℕ → ℕ → ℕ
-clipped Free i j m = m
-clipped (Rect x1 y1 x2 y2 inverse) i j m =
+-- what the stencil leaves of the coverage m of pixel (i, j)
+abbrev pub stencilled : StencilValue → ℕ → ℕ → ℕ → ℕ
+stencilled Free i j m = m
+stencilled (Rect x1 y1 x2 y2 inverse) i j m =
     if in_rect x1 y1 x2 y2 (pos i) (pos j) then (if inverse then 0 else m) else (if inverse then m else 0)
-clipped (Drawn c x y inverse) i j m = by_255 (m * (if inverse then 255 - placed_value c x y i j else placed_value c x y i j))
+stencilled (Drawn c x y inverse) i j m =
+    by_255 (m * (if inverse then 255 - moved_value (c, x, y) (pos i) (pos j) else moved_value (c, x, y) (pos i) (pos j)))
 
 -- A colour that falls on a pixel, and its weight in 255ths. The colour's own alpha is in the weight already.
 pub record Tint : Type 0 where
@@ -51,7 +49,7 @@ tint_of colour m = record { colour = colour; weight = by_255 (m * (255 - colour.
 abbrev pub tint_at : Image → ℕ → ℕ → Tint
 tint_at image i j =
     tint_of (if int_lt (pos i) image.edge then image.left else image.right)
-    (clipped image.stencil i j (placed_value image.mask image.x image.y i j))
+    (stencilled image.stencil i j (moved_value (image.mask, image.x, image.y) (pos i) (pos j)))
 
 -- a channel of a pixel under a channel of a colour of this weight
 abbrev pub blended : ℕ → ℕ → ℕ → ℕ

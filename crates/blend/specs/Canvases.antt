@@ -1,4 +1,4 @@
--- Canvases, and the fold that makes a picture: `fold drawn (black w h) images`.
+-- Public: canvases, and the fold that makes a picture: `fold drawn (black w h) images`.
 use Rattle.std.specs.Prelude.{ℕ, ◌*◌, List, replicate}
 use Rattle.blend.specs.Blending.{Image, painted}
 

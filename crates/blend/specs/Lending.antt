@@ -1,4 +1,4 @@
--- What is written behind the bytes that a canvas lends.
+-- Public: what is written behind the bytes that a canvas lends.
 use Rattle.std.specs.Prelude.{ℕ, List, length}
 use Rattle.std.specs.List.{refill}
 use Rattle.std.specs.Borrow.{Lends, MutBor, Fml, Array, u8}

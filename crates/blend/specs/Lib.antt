@@ -2,4 +2,5 @@ pub mod Blending
 pub mod Canvases
 pub mod Lending
 pub mod Areas
+pub mod Bands
 pub mod Stencils

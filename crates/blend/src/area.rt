@@ -1,4 +1,4 @@
-//! Rectangles of pixels.
+//! Rectangles of pixels, and the rows of a picture that they lie in.
 
 ghost use Rattle.std.specs.Prelude.{◌≡◌, ℕ, ◌≤◌, ◌<◌, pos, ◌&&◌, nat_lt, int_lt};
 ghost use Rattle.blend.specs.Blending.{in_rect};
@@ -11,6 +11,14 @@ pub struct Area {
     pub top: u32,
     pub right: u32,
     pub bottom: u32,
+}
+
+/// Rows of a picture that lie one under another: `h` rows of `w` pixels, from row `top` on.
+#[derive(Clone, Copy)]
+pub struct Band {
+    pub w: u32,
+    pub top: u32,
+    pub h: u32,
 }
 
 /// A bound held within two limits: what lies between them is below it exactly where it was before.

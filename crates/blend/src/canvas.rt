@@ -1,8 +1,9 @@
 //! Canvases.
 
-ghost use Rattle.std.specs.Prelude.{◌≡◌, ◌≤◌, ◌*◌, length, replicate, IfOk};
+ghost use Rattle.std.specs.Prelude.{◌≡◌, ◌*◌, length, replicate, IfOk};
+ghost use Rattle.ass_num.specs.Limits.{IsFrameSize};
 ghost use Rattle.blend.specs.Canvases.{black, drawn};
-ghost use Rattle.blend.specs.Stencils.{plain_of};
+ghost use Rattle.blend.specs.Stencils.{stencil_value};
 
 use crate::drawing::draw_rows;
 use crate::stencil::Stencil;
@@ -33,10 +34,9 @@ impl Canvas {
     ghost use Rattle.std.specs.Borrow.{sem};
     ghost use Rattle.blend.specs.Lending.{LendsPixels};
 
-    /// A black canvas, whose sides are at most 4,096 pixels long.
+    /// A black canvas.
     pub fn new(alloc: Global, size: &Size) -> Mem<Canvas>
-        requires wide { size.now.w ≤ 4096 }
-        requires high { size.now.h ≤ 4096 }
+        requires { IsFrameSize size.now }
         ensures { IfOk result (λ c. c ≡ black size.now.w size.now.h) }
     {
         let count = 3 * (size.w as usize * size.h as usize);
@@ -82,7 +82,7 @@ impl Canvas {
           left = left;
           right = right;
           edge = edge;
-          stencil = plain_of stencil.now;
+          stencil = stencil_value stencil.now;
         }) }
     {
         let w = self.w;

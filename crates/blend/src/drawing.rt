@@ -1,171 +1,88 @@
-//! Drawing an image under a clip.
+//! Drawing an image under a stencil.
 
-ghost use Rattle.std.specs.Prelude.{◌≡◌, ℕ, ◌≤◌, ◌<◌, ◌+◌, ◌*◌, ◌^◌, ◌&&◌, length};
-ghost use Rattle.blend.specs.Blending.{Free, Rect, Drawn, placed_value, tint_of, tinted, by_number, painted};
-ghost use Rattle.blend.specs.Areas.{in_area, in_moved_box, IsPart, IsAreaCovered, IsInRows, IsMeeting, within, without, column_colour, coloured_image};
-ghost use Rattle.blend.specs.Stencils.{plain_of};
+ghost use Rattle.std.specs.Prelude.{◌≡◌, ◌<◌, ◌+◌, ◌*◌, ◌^◌, length};
+ghost use Rattle.blend.specs.Blending.{painted};
+ghost use Rattle.blend.specs.Areas.{placed_of, placed_stencil, tints, within, with_tints, IsAreaCovered, IsInBand, IsMeeting};
+ghost use Rattle.blend.specs.Stencils.{stencil_value};
 
-use crate::area::{Area, cut};
-use crate::fill::{Colours, fill_clipped_colours, fill_colours};
+use crate::area::{Area, Band, cut, held};
+use crate::fill::{fill, fill_around, fill_under};
+use crate::placed::{Placed, cut_to_box};
 use crate::stencil::Stencil;
 use ass_num::{Mask, Rgba};
 
-/// The part of an area that lies in the box of a mask that is moved by (x, y).
-fn cut_to_box(area: Area, mask: &Mask, x: i32, y: i32) -> Area
-    requires columns { area.left ≤ area.right }
-    requires rows { area.top ≤ area.bottom }
-    ensures part { IsPart result area }
-    ensures both { (i j : ℕ) → in_area result i j ≡ (in_area area i j && in_moved_box mask.now x y i j) }
+/// What a band has of the box of a placed mask.
+fn meeting(band: Band, placed: Placed<'_>) -> Area
+    requires { band.top + band.h < 2 ^ 32 }
+    ensures { IsMeeting result band (placed_of placed.entry) }
 {
-    let left = i64::from(mask.x()) + i64::from(x);
-    let top = i64::from(mask.y()) + i64::from(y);
-    cut(
-        area,
-        left,
-        top,
-        left + i64::from(mask.w()),
-        top + i64::from(mask.h()),
-    )
-}
-
-/// What `h` rows from `top` on, of a picture of width `w`, have of the box of a mask that is moved by (x, y).
-fn meeting(w: u32, top: u32, h: u32, mask: &Mask, x: i32, y: i32) -> Area
-    requires { top + h < 2 ^ 32 }
-    ensures { IsMeeting result w top h mask.now x y }
-{
-    let bottom = top + h;
     let whole = Area {
         left: 0,
-        top,
-        right: w,
-        bottom,
+        top: band.top,
+        right: band.w,
+        bottom: band.top + band.h,
     };
-    cut_to_box(whole, mask, x, y)
+    cut_to_box(whole, placed)
 }
 
-/// Blends two colours into what an area has outside a part of it.
-fn fill_around(
+/// Blends a colour into an area under a mask.
+fn draw_under(
     rows: &mut [u8],
-    w: u32,
-    top: u32,
+    band: Band,
     area: Area,
-    hole: Area,
-    mask: &Mask,
-    x: i32,
-    y: i32,
-    colours: Colours,
-)
-    requires in_rows { IsInRows area w top (length rows.old) }
-    requires covered { IsAreaCovered area mask.now x y }
-    requires hole { IsPart hole area }
-    ensures { rows.new ≡ tinted (by_number w (without hole (within area
-        (λ i j. tint_of (column_colour colours i) (placed_value mask.now x y i j))))) (w * top) rows.old }
-{
-    let above = Area {
-        bottom: hole.top,
-        ..area
-    };
-    let below = Area {
-        top: hole.bottom,
-        ..area
-    };
-    let before = Area {
-        left: area.left,
-        right: hole.left,
-        ..hole
-    };
-    let after = Area {
-        left: hole.right,
-        right: area.right,
-        ..hole
-    };
-    fill_colours(rows, w, top, above, mask, x, y, colours);
-    fill_colours(rows, w, top, below, mask, x, y, colours);
-    fill_colours(rows, w, top, before, mask, x, y, colours);
-    fill_colours(rows, w, top, after, mask, x, y, colours);
-}
-
-/// Draws an image without a clip.
-fn draw_free(
-    rows: &mut [u8],
-    w: u32,
-    top: u32,
-    h: u32,
-    mask: &Mask,
-    x: i32,
-    y: i32,
-    colours: Colours,
-)
-    requires bytes { length rows.old ≡ 3 * (w * h) }
-    requires rows { top + h < 2 ^ 32 }
-    ensures { rows.new ≡ painted (coloured_image colours mask.now x y Free) w (w * top) rows.old }
-{
-    let area = meeting(w, top, h, mask, x, y);
-    fill_colours(rows, w, top, area, mask, x, y, colours);
-}
-
-/// Draws an image under a rectangle.
-fn draw_rect(
-    rows: &mut [u8],
-    w: u32,
-    top: u32,
-    h: u32,
-    mask: &Mask,
-    x: i32,
-    y: i32,
-    colours: Colours,
-    x1: i32,
-    y1: i32,
-    x2: i32,
-    y2: i32,
+    placed: Placed<'_>,
+    colour: Rgba,
+    over: Placed<'_>,
     inverse: bool,
 )
-    requires bytes { length rows.old ≡ 3 * (w * h) }
-    requires rows { top + h < 2 ^ 32 }
-    ensures { rows.new ≡ painted (coloured_image colours mask.now x y (Rect x1 y1 x2 y2 inverse)) w (w * top) rows.old }
+    requires bytes { length rows.old ≡ 3 * (band.w * band.h) }
+    requires in_band { IsInBand area band }
+    requires covered { IsAreaCovered area (placed_of placed) }
+    ensures { rows.new ≡ with_tints band (within area
+        (tints colour (placed_of placed.entry) (placed_stencil (placed_of over.entry) inverse))) rows.old }
 {
-    let area = meeting(w, top, h, mask, x, y);
-    let part = cut(
-        area,
-        i64::from(x1),
-        i64::from(y1),
-        i64::from(x2),
-        i64::from(y2),
-    );
+    let part = cut_to_box(area, over);
     if inverse {
-        fill_around(rows, w, top, area, part, mask, x, y, colours);
-    } else {
-        fill_colours(rows, w, top, part, mask, x, y, colours);
+        fill_around(rows, band, area, part, placed, colour);
     }
+    fill_under(rows, band, part, placed, colour, over, inverse);
 }
 
-/// Draws an image under a mask.
-fn draw_clipped(
+/// Blends a colour into an area that the placed mask's box has, under a stencil.
+fn draw_area(
     rows: &mut [u8],
-    w: u32,
-    top: u32,
-    h: u32,
-    mask: &Mask,
-    x: i32,
-    y: i32,
-    colours: Colours,
-    clip: &Mask,
-    cx: i32,
-    cy: i32,
-    inverse: bool,
+    band: Band,
+    area: Area,
+    placed: Placed<'_>,
+    colour: Rgba,
+    stencil: &Stencil<'_>,
 )
-    requires bytes { length rows.old ≡ 3 * (w * h) }
-    requires rows { top + h < 2 ^ 32 }
-    ensures { rows.new ≡ painted (coloured_image colours mask.now x y (Drawn clip.now cx cy inverse)) w (w * top) rows.old }
+    requires bytes { length rows.old ≡ 3 * (band.w * band.h) }
+    requires in_band { IsInBand area band }
+    requires covered { IsAreaCovered area (placed_of placed) }
+    ensures { rows.new ≡ with_tints band (within area (tints colour (placed_of placed.entry) (stencil_value stencil.now))) rows.old }
 {
-    let area = meeting(w, top, h, mask, x, y);
-    let part = cut_to_box(area, clip, cx, cy);
-    if inverse {
-        fill_around(rows, w, top, area, part, mask, x, y, colours);
+    match *stencil {
+        Stencil::Free => fill(rows, band, area, placed, colour),
+        Stencil::Rect(x1, y1, x2, y2, inverse) => {
+            let part = cut(
+                area,
+                i64::from(x1),
+                i64::from(y1),
+                i64::from(x2),
+                i64::from(y2),
+            );
+            if inverse {
+                fill_around(rows, band, area, part, placed, colour);
+            } else {
+                fill(rows, band, part, placed, colour);
+            }
+        }
+        Stencil::Drawn(mask, x, y, inverse) => {
+            let over = Placed { mask, x, y };
+            draw_under(rows, band, area, placed, colour, over, inverse);
+        }
     }
-    fill_clipped_colours(
-        rows, w, top, part, mask, x, y, colours, clip, cx, cy, inverse,
-    );
 }
 
 /// Draws an image on the `h` rows from row `top` on of a picture of width `w`. It takes no memory.
@@ -191,17 +108,21 @@ pub fn draw_rows(
       left = left;
       right = right;
       edge = edge;
-      stencil = plain_of stencil.now;
+      stencil = stencil_value stencil.now;
     }) w (w * top) rows.old }
 {
-    let colours = Colours { left, right, edge };
-    match *stencil {
-        Stencil::Free => draw_free(rows, w, top, h, mask, x, y, colours),
-        Stencil::Rect(x1, y1, x2, y2, inverse) => draw_rect(
-            rows, w, top, h, mask, x, y, colours, x1, y1, x2, y2, inverse,
-        ),
-        Stencil::Drawn(clip, cx, cy, inverse) => draw_clipped(
-            rows, w, top, h, mask, x, y, colours, clip, cx, cy, inverse,
-        ),
-    }
+    let band = Band { w, top, h };
+    let placed = Placed { mask, x, y };
+    let area = meeting(band, placed);
+    let middle = held(i64::from(edge), area.left, area.right);
+    let before = Area {
+        right: middle,
+        ..area
+    };
+    let from = Area {
+        left: middle,
+        ..area
+    };
+    draw_area(rows, band, before, placed, left, stencil);
+    draw_area(rows, band, from, placed, right, stencil);
 }

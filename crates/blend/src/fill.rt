@@ -1,209 +1,102 @@
-//! Blending colours into areas that masks cover.
+//! Blending one colour into areas that masks cover.
 
-ghost use Rattle.std.specs.Prelude.{◌≡◌, ℕ, pos, ◌+ℤ◌, ◌-ℤ◌, ◌≤ℤ◌, ◌≤◌, ◌<◌, ◌+◌, ◌-◌, ◌*◌, true, length, take, drop, slice_index, if◌then◌else◌};
-ghost use Rattle.blend.specs.Blending.{Drawn, clipped, placed_value, tint_of, tinted, by_number};
-ghost use Rattle.blend.specs.Areas.{in_moved_box, IsAreaCovered, IsInRows, within, column_colour};
+ghost use Rattle.std.specs.Prelude.{◌≡◌, ◌*◌, length};
+ghost use Rattle.blend.specs.Blending.{Free};
+ghost use Rattle.blend.specs.Areas.{IsAreaCovered, IsInBand, IsPart, placed_of, placed_stencil, tints, with_tints, within, without};
 
-use crate::area::{Area, held};
-use crate::span::{tint_clipped_span, tint_span};
-use ass_num::{Mask, Rgba};
+use crate::area::{Area, Band};
+use crate::placed::{Placed, cover};
+use crate::span::{tint_span, tint_span_under};
+use ass_num::Rgba;
 
-/// The colour of the columns left of the edge, and of those from it on.
-#[derive(Clone, Copy)]
-pub struct Colours {
-    pub left: Rgba,
-    pub right: Rgba,
-    pub edge: i32,
-}
-
-/// How far column or row `i` lies past the side `at` of a box that is moved by `by`.
-fn offset(i: u32, by: i32, at: i32) -> usize
-    requires { (at +ℤ by) ≤ℤ pos i }
-    ensures { pos i -ℤ by -ℤ at ≡ pos result }
-{
-    (i64::from(i) - i64::from(by) - i64::from(at)) as usize
-}
-
-/// So many bytes of a row from a column on, where rows have `w` bytes.
-fn piece(bytes: &[u8], w: usize, row: usize, column: usize, count: usize) -> &[u8]
-    requires { row * w + column + count ≤ length bytes.now }
-    ensures bytes { result.now ≡ take count (drop (row * w + column) bytes.now) }
-    ensures count { length result.now ≡ count }
-{
-    let from = row * w + column;
-    &bytes[from..from + count]
-}
-
-/// The coverage of the columns from `left` to `right` of row `j` by a mask that is moved by (x, y).
-fn cover(mask: &Mask, x: i32, y: i32, left: u32, right: u32, j: u32) -> &[u8]
-    requires columns { left < right }
-    requires first { in_moved_box mask.now x y left j ≡ true }
-    requires last { in_moved_box mask.now x y (right - 1) j ≡ true }
-    ensures count { length result.now ≡ right - left }
-    ensures values { (k : ℕ) → k < right - left → slice_index result.now k ≡ placed_value mask.now x y (left + k) j }
-{
-    let row = offset(j, y, mask.y());
-    let column = offset(left, x, mask.x());
-    piece(
-        mask.bytes(),
-        mask.w() as usize,
-        row,
-        column,
-        (right - left) as usize,
-    )
-}
-
-/// Blends one colour into an area that the moved mask's box has.
-fn fill(rows: &mut [u8], w: u32, top: u32, area: Area, mask: &Mask, x: i32, y: i32, colour: Rgba)
-    requires in_rows { IsInRows area w top (length rows.old) }
-    requires covered { IsAreaCovered area mask.now x y }
-    ensures { rows.new ≡ tinted (by_number w (within area (λ i j. tint_of colour (placed_value mask.now x y i j)))) (w * top) rows.old }
+/// Blends a colour into an area that the placed mask's box has.
+pub fn fill(rows: &mut [u8], band: Band, area: Area, placed: Placed<'_>, colour: Rgba)
+    requires bytes { length rows.old ≡ 3 * (band.w * band.h) }
+    requires in_band { IsInBand area band }
+    requires covered { IsAreaCovered area (placed_of placed) }
+    ensures { rows.new ≡ with_tints band (within area (tints colour (placed_of placed.entry) Free)) rows.old }
 {
     if area.left >= area.right {
         return;
     }
     let count = (area.right - area.left) as usize;
     for j in area.top..area.bottom {
-        let start = (j - top) as usize * w as usize + area.left as usize;
-        let bytes = cover(mask, x, y, area.left, area.right, j);
+        let start = (j - band.top) as usize * band.w as usize + area.left as usize;
+        let bytes = cover(placed, area.left, area.right, j);
         tint_span(&mut rows[3 * start..3 * (start + count)], bytes, colour);
     }
 }
 
-/// The column in an area that parts its two colours.
-fn middle(area: Area, colours: Colours) -> u32
-    requires { area.left ≤ area.right }
-    ensures low { area.left ≤ result }
-    ensures high { result ≤ area.right }
-    ensures before { (i : ℕ) → area.left ≤ i → i < result → column_colour colours i ≡ colours.left }
-    ensures after { (i : ℕ) → result ≤ i → i < area.right → column_colour colours i ≡ colours.right }
-{
-    held(i64::from(colours.edge), area.left, area.right)
-}
-
-/// Blends two colours into an area that the moved mask's box has.
-pub fn fill_colours(
+/// Blends a colour into an area that the boxes of the placed mask and of a drawn stencil have.
+pub fn fill_under(
     rows: &mut [u8],
-    w: u32,
-    top: u32,
+    band: Band,
     area: Area,
-    mask: &Mask,
-    x: i32,
-    y: i32,
-    colours: Colours,
-)
-    requires in_rows { IsInRows area w top (length rows.old) }
-    requires covered { IsAreaCovered area mask.now x y }
-    ensures { rows.new ≡ tinted (by_number w (within area
-        (λ i j. tint_of (column_colour colours i) (placed_value mask.now x y i j)))) (w * top) rows.old }
-{
-    let middle = middle(area, colours);
-    let left = Area {
-        right: middle,
-        ..area
-    };
-    let right = Area {
-        left: middle,
-        ..area
-    };
-    fill(rows, w, top, left, mask, x, y, colours.left);
-    fill(rows, w, top, right, mask, x, y, colours.right);
-}
-
-/// Blends one colour into an area that the boxes of the moved mask and of the moved clip have.
-fn fill_clipped(
-    rows: &mut [u8],
-    w: u32,
-    top: u32,
-    area: Area,
-    mask: &Mask,
-    x: i32,
-    y: i32,
+    placed: Placed<'_>,
     colour: Rgba,
-    clip: &Mask,
-    cx: i32,
-    cy: i32,
+    over: Placed<'_>,
     inverse: bool,
 )
-    requires in_rows { IsInRows area w top (length rows.old) }
-    requires covered { IsAreaCovered area mask.now x y }
-    requires clip { IsAreaCovered area clip.now cx cy }
-    ensures { rows.new ≡ tinted (by_number w (within area (λ i j. tint_of colour (clipped (Drawn clip.now cx cy inverse) i j (placed_value mask.now x y i j))))) (w * top) rows.old }
+    requires bytes { length rows.old ≡ 3 * (band.w * band.h) }
+    requires in_band { IsInBand area band }
+    requires covered { IsAreaCovered area (placed_of placed) }
+    requires over { IsAreaCovered area (placed_of over) }
+    ensures { rows.new ≡ with_tints band (within area
+        (tints colour (placed_of placed.entry) (placed_stencil (placed_of over.entry) inverse))) rows.old }
 {
     if area.left >= area.right {
         return;
     }
     let count = (area.right - area.left) as usize;
     for j in area.top..area.bottom {
-        let start = (j - top) as usize * w as usize + area.left as usize;
-        let bytes = cover(mask, x, y, area.left, area.right, j);
-        let clipping = cover(clip, cx, cy, area.left, area.right, j);
-        tint_clipped_span(
+        let start = (j - band.top) as usize * band.w as usize + area.left as usize;
+        let bytes = cover(placed, area.left, area.right, j);
+        let hiding = cover(over, area.left, area.right, j);
+        tint_span_under(
             &mut rows[3 * start..3 * (start + count)],
             bytes,
-            clipping,
+            hiding,
             inverse,
             colour,
         );
     }
 }
 
-/// Blends two colours into an area that the boxes of the moved mask and of the moved clip have.
-pub fn fill_clipped_colours(
+/// Blends a colour into what an area has outside a part of it.
+pub fn fill_around(
     rows: &mut [u8],
-    w: u32,
-    top: u32,
+    band: Band,
     area: Area,
-    mask: &Mask,
-    x: i32,
-    y: i32,
-    colours: Colours,
-    clip: &Mask,
-    cx: i32,
-    cy: i32,
-    inverse: bool,
+    hole: Area,
+    placed: Placed<'_>,
+    colour: Rgba,
 )
-    requires in_rows { IsInRows area w top (length rows.old) }
-    requires covered { IsAreaCovered area mask.now x y }
-    requires clip { IsAreaCovered area clip.now cx cy }
-    ensures { rows.new ≡ tinted (by_number w (within area
-        (λ i j. tint_of (column_colour colours i) (clipped (Drawn clip.now cx cy inverse) i j (placed_value mask.now x y i j))))) (w * top) rows.old }
+    requires bytes { length rows.old ≡ 3 * (band.w * band.h) }
+    requires in_band { IsInBand area band }
+    requires covered { IsAreaCovered area (placed_of placed) }
+    requires hole { IsPart hole area }
+    ensures { rows.new ≡ with_tints band (without hole (within area (tints colour (placed_of placed.entry) Free))) rows.old }
 {
-    let middle = middle(area, colours);
-    let left = Area {
-        right: middle,
+    let above = Area {
+        bottom: hole.top,
         ..area
     };
-    let right = Area {
-        left: middle,
+    let below = Area {
+        top: hole.bottom,
         ..area
     };
-    fill_clipped(
-        rows,
-        w,
-        top,
-        left,
-        mask,
-        x,
-        y,
-        colours.left,
-        clip,
-        cx,
-        cy,
-        inverse,
-    );
-    fill_clipped(
-        rows,
-        w,
-        top,
-        right,
-        mask,
-        x,
-        y,
-        colours.right,
-        clip,
-        cx,
-        cy,
-        inverse,
-    );
+    let before = Area {
+        left: area.left,
+        right: hole.left,
+        ..hole
+    };
+    let after = Area {
+        left: hole.right,
+        right: area.right,
+        ..hole
+    };
+    fill(rows, band, above, placed, colour);
+    fill(rows, band, below, placed, colour);
+    fill(rows, band, before, placed, colour);
+    fill(rows, band, after, placed, colour);
 }

@@ -5,6 +5,8 @@ mod area;
 mod canvas;
 mod drawing;
 mod fill;
+mod laws;
+mod placed;
 mod span;
 mod stencil;
 #[cfg(test)]
@@ -12,4 +14,5 @@ mod tests;
 
 pub use canvas::Canvas;
 pub use drawing::draw_rows;
+pub use laws::bands_make_the_picture;
 pub use stencil::Stencil;

@@ -51,17 +51,17 @@ pub fn tint_span(pixels: &mut [u8], cover: &[u8], colour: Rgba)
     }
 }
 
-/// Blends a colour into pixels that are covered so far and under a clip, or at `inverse` under what the clip leaves.
-pub fn tint_clipped_span(pixels: &mut [u8], cover: &[u8], clip: &[u8], inverse: bool, colour: Rgba)
+/// Blends a colour into pixels that are covered so far, under so much of a drawn stencil, or at `inverse` under what it leaves.
+pub fn tint_span_under(pixels: &mut [u8], cover: &[u8], over: &[u8], inverse: bool, colour: Rgba)
     requires pixels { length pixels.old ≡ 3 * length cover.now }
-    requires clip { length clip.now ≡ length cover.now }
+    requires over { length over.now ≡ length cover.now }
     ensures { pixels.new ≡ tinted (λ k. tint_of colour (by_255 (slice_index cover.now k
-        * (if inverse then 255 - slice_index clip.now k else slice_index clip.now k)))) 0 pixels.old }
+        * (if inverse then 255 - slice_index over.now k else slice_index over.now k)))) 0 pixels.old }
 {
     let hidden = if inverse { 255 } else { 0 };
     for (i, m) in cover.iter().enumerate() {
         if *m != 0 {
-            let shown = clip[i].abs_diff(hidden);
+            let shown = over[i].abs_diff(hidden);
             let left = by_255(u16::from(*m) * u16::from(shown));
             tint_pixel(&mut pixels[3 * i..3 * i + 3], colour, weight(left, colour));
         }

@@ -1,4 +1,4 @@
-//! Clips.
+//! Stencils: clips as drawing takes them, in pixels and with the mask of a drawn clip at hand.
 
 use ass_num::Mask;
 

@@ -2,8 +2,8 @@ use Rattle.std.proofs.Common.{◌≡◌, ℕ, ◌*◌, ◌-◌, ◌<◌, Bool, t
 use Rattle.std.specs.Int.{abs_diff}
 use Rattle.blend.specs.Blending.{Tint, by_255, tint_of}
 use Rattle.blend.proofs.TintedLemmas.{tinted-start, tinted-end, below-skip, below-step, tint_of-weight, tint_of-none, by_255-none}
-use Rattle.blend.proofs.span.tint_clipped_span.Goals as goal
-use Rattle.blend.proofs.span.tint_clipped_span.Goals.{then-m-ne0, else-m-ne0, then-inverse, else-inverse}
+use Rattle.blend.proofs.span.tint_span_under.Goals as goal
+use Rattle.blend.proofs.span.tint_span_under.Goals.{then-m-ne0, else-m-ne0, then-inverse, else-inverse}
 
 shown-inside : (inverse : Bool) (m hidden shown : ℕ) → inverse ≡ true → hidden ≡ 255 → shown ≡ abs_diff m hidden → m < 256 → shown ≡ if inverse then 255 - m else m
 shown-inside inverse m hidden shown p q h l = rw p (omega arith)
@@ -12,18 +12,18 @@ shown-outside : (inverse : Bool) (m hidden shown : ℕ) → inverse ≡ false �
 shown-outside inverse m hidden shown p q h = rw p (omega arith)
 
 pub loop-i-init : goal.loop-i-init
-loop-i-init c = tinted-start (λ k. tint_of c.args.colour (by_255 (slice_index c.args.cover.now k * (if c.args.inverse then 255 - slice_index c.args.clip.now k else slice_index c.args.clip.now k)))) _
+loop-i-init c = tinted-start (λ k. tint_of c.args.colour (by_255 (slice_index c.args.cover.now k * (if c.args.inverse then 255 - slice_index c.args.over.now k else slice_index c.args.over.now k)))) _
 
 pub loop-i-preserved : goal.loop-i-preserved
 loop-i-preserved c =
     let i = c.loop-i.i in
-    let shown_at : ℕ → ℕ = λ k. if c.args.inverse then 255 - slice_index c.args.clip.now k else slice_index c.args.clip.now k in
+    let shown_at : ℕ → ℕ = λ k. if c.args.inverse then 255 - slice_index c.args.over.now k else slice_index c.args.over.now k in
     let tint : ℕ → Tint = λ k. tint_of c.args.colour (by_255 (slice_index c.args.cover.now k * shown_at k)) in
     elim c.if-m-ne0.branch [
       | then-m-ne0 w ↦
           let shown_is : w.abs_diff-shown.result ≡ shown_at i =
           elim c.if-inverse.branch [
-            | then-inverse v ↦ shown-inside _ _ _ _ v.if-inverse.true v.hidden-is w.abs_diff-shown.ensures (omega (arith, c.type_inv.clip i))
+            | then-inverse v ↦ shown-inside _ _ _ _ v.if-inverse.true v.hidden-is w.abs_diff-shown.ensures (omega (arith, c.type_inv.over i))
             | else-inverse v ↦ shown-outside _ _ _ _ v.if-inverse.false v.hidden-is w.abs_diff-shown.ensures
           ] in
           let cover_is : w.from.result ≡ slice_index c.args.cover.now i = w.from.ensures in
@@ -39,5 +39,5 @@ loop-i-preserved c =
 
 pub returns : goal.returns
 returns c =
-    let tint : ℕ → Tint = λ k. tint_of c.args.colour (by_255 (slice_index c.args.cover.now k * (if c.args.inverse then 255 - slice_index c.args.clip.now k else slice_index c.args.clip.now k))) in
+    let tint : ℕ → Tint = λ k. tint_of c.args.colour (by_255 (slice_index c.args.cover.now k * (if c.args.inverse then 255 - slice_index c.args.over.now k else slice_index c.args.over.now k))) in
     tinted-end tint c.loop-i.i _ _ (omega arith) c.loop-i.invariant
