@@ -1,7 +1,7 @@
 -- A list that is cut at ascending ends.
 use Rattle.std.proofs.Common.{drop-drop, flat_map, ◌≡◌, ℕ, zero, suc, ◌+◌, ◌-◌, ◌<◌, ◌≤◌, refl, sym, ap, subst, ◌∙◌, arith, List, [], ◌∷◌, ◌++◌, length, get_or, take, drop, length-append, length-drop}
 use Rattle.std.proofs.lemmas.List.{drop-append-le, take-append-le, drop_at, take_all, drop-take, take-take, drop_all, take-append-drop}
-use Rattle.ass_num.specs.Pieces.{pieces, IsCut}
+use Rattle.ass_num.specs.Pieces.{pieces, IsCut, start}
 
 pub length-pieces : {X : Type 0} (from : ℕ) (es : List ℕ) (xs : List X) → length (pieces from es xs) ≡ length es
 length-pieces from [] xs = refl
@@ -22,10 +22,6 @@ pieces-push from (b ∷ es) xs ys m h e =
     let l : b ≤ length xs = IsCut-above b es (length xs) h.1 in
     let f : from ≤ length xs = omega (arith, h.0) in
     rw (drop-append-le from xs ys, i) (ap (λ z. z ∷ (pieces b es xs ++ ys ∷ [])) (take-append-le (b - from) (drop from xs) ys (omega (arith, length-drop from xs))))
-
-abbrev pub start : ℕ → List ℕ → ℕ → ℕ
-start from es zero = from
-start from es (suc k) = get_or es k 0
 
 pub start-suc : (from : ℕ) (es : List ℕ) (k : ℕ) → 0 < k → start from es k ≡ get_or es (k - 1) 0
 start-suc from es zero h = absurd (omega arith)
@@ -54,13 +50,20 @@ piece_within from [] n k h l = absurd (omega arith)
 piece_within from (e ∷ es) n zero h l = (h.0, IsCut-above e es n h.1)
 piece_within from (e ∷ es) n (suc k) h l = let i = piece_within e es n k h.1 (omega arith) in let s = start-cons e es k in (omega (arith, i.0), i.1)
 
-pub start-zero : (es : List ℕ) (k : ℕ) → k ≡ 0 → 0 ≡ start 0 es k
-start-zero es zero h = refl
-start-zero es (suc k) h = absurd (omega arith)
-
-pub piece_is : {X : Type 0} (es : List ℕ) (xs : List X) (k from to : ℕ) (s : List X) (lists : List (List X)) → pieces 0 es xs ≡ lists → k < length es → to ≡ get_or es k 0 → from ≡ start 0 es k → s ≡ xs
+pub piece_is : {X : Type 0} (es : List ℕ) (xs : List X) (k from to : ℕ) (s : List X) (lists : List (List X)) → pieces 0 es xs ≡ lists → k < length es → to ≡ start 0 es (k + 1) → from ≡ start 0 es k → s ≡ xs
     → take (to - from) (drop from s) ≡ get_or lists k []
-piece_is es xs k from to s lists v l t f e = rw (t, f, e, ← v) (sym (piece_at 0 es xs k [] l))
+piece_is es xs k from to s lists v l t f e = let next : k + 1 ≡ suc k = omega arith in rw (t, next, f, e, ← v) (sym (piece_at 0 es xs k [] l))
+
+-- the ends of a piece
+pub piece_ends : (es : List ℕ) (n k : ℕ) → IsCut 0 es n → k < length es → (start 0 es k ≤ start 0 es (k + 1)) × (start 0 es (k + 1) ≤ n)
+piece_ends es n k h l = let next : k + 1 ≡ suc k = omega arith in rw next (piece_within 0 es n k h l)
+
+-- a place among the pieces, and up to their end, is one among the ends
+pub place_within : {X : Type 0} (es : List ℕ) (xs : List X) (lists : List (List X)) (k : ℕ) → pieces 0 es xs ≡ lists → k < length lists → k < length es
+place_within es xs lists k v l = omega (arith, l, sym (length-pieces 0 es xs) ∙ ap length v)
+
+pub count_within : {X : Type 0} (es : List ℕ) (xs : List X) (lists : List (List X)) (k : ℕ) → pieces 0 es xs ≡ lists → k ≤ length lists → k ≤ length es
+count_within es xs lists k v l = omega (arith, l, sym (length-pieces 0 es xs) ∙ ap length v)
 
 -- the first n pieces are those of the first n ends
 pub take-pieces : {X : Type 0} (from : ℕ) (es : List ℕ) (xs : List X) (n m : ℕ) → n ≤ length es → IsCut from es (length xs) → start from es n ≤ m → take n (pieces from es xs) ≡ pieces from (take n es) (take m xs)

@@ -1,6 +1,5 @@
--- Coverage: how much of a pixel the samples of a region cover, the least boxes of pixels, and sums of masks.
-use Rattle.std.specs.Prelude.{◌≡◌, ℕ, zero, suc, ℤ, pos, ◌+◌, ◌*◌, ◌/◌, ◌<◌, ◌+ℤ◌, ◌-ℤ◌, ◌*ℤ◌, ◌<ℤ◌, ◌≤ℤ◌, if◌then◌else◌, List, Any, sum_by, min}
-use Rattle.ass_num.specs.Regions.{RegionValue, member}
+-- Public: how much of a pixel a set of samples covers, the least boxes of pixels, and sums of masks.
+use Rattle.std.specs.Prelude.{◌≡◌, ℕ, zero, suc, ℤ, pos, ◌+◌, ◌*◌, ◌/◌, ◌<◌, ◌+ℤ◌, ◌-ℤ◌, ◌*ℤ◌, ◌<ℤ◌, ◌≤ℤ◌, Bool, if◌then◌else◌, List, Any, sum_by, min}
 use Rattle.ass_num.specs.Masks.{MaskValue, value_at}
 
 -- the sum of f over the n whole numbers from i on
@@ -12,13 +11,13 @@ sum_from f i (suc n) = sum_from f i n + f (i +ℤ pos n)
 abbrev pub first_sample : ℕ → ℤ → ℤ
 first_sample phase x = (x *ℤ pos 16) -ℤ pos phase
 
--- 1 for a sample of the region, else 0
-abbrev pub inside : RegionValue → ℤ → ℤ → ℕ
-inside region i j = if member region.top region.rows i j then 1 else 0
+-- 1 for a sample that the test passes, else 0
+abbrev pub counted : (ℤ → ℤ → Bool) → ℤ → ℤ → ℕ
+counted has i j = if has i j then 1 else 0
 
--- how many of the 16 by 16 samples of pixel (x, y) belong to the region
-unfoldable pub samples_of : RegionValue → ℕ → ℕ → ℤ → ℤ → ℕ
-samples_of region px py x y = sum_from (λ j. sum_from (λ i. inside region i j) (first_sample px x) 16) (first_sample py y) 16
+-- How many of the 16 by 16 samples of pixel (x, y) the test passes. A region's test is `member` of its top and its rows.
+unfoldable pub samples_of : (ℤ → ℤ → Bool) → ℕ → ℕ → ℤ → ℤ → ℕ
+samples_of has px py x y = sum_from (λ j. sum_from (λ i. counted has i j) (first_sample px x) 16) (first_sample py y) 16
 
 -- the byte of so many of 256 samples, to the nearest
 abbrev pub coverage_byte : ℕ → ℕ
@@ -46,10 +45,10 @@ pub record IsLeastBox (P : ℤ → ℤ → Type 0) (b : PixelBox) : Type 0 where
   pub has : (i j : ℤ) → P i j → InBox b i j
   pub least : (other : PixelBox) → ((i j : ℤ) → P i j → InBox other i j) → (i j : ℤ) → InBox b i j → InBox other i j
 
--- The mask of a region under a phase: the coverage of each pixel, in the least box that has all pixels with a sample.
-pub record IsCover (region : RegionValue) (px py : ℕ) (m : MaskValue) : Type 0 where
-  pub value : (x y : ℤ) → value_at m x y ≡ coverage_byte (samples_of region px py x y)
-  pub box : IsLeastBox (λ x y. 0 < samples_of region px py x y) (box_of m)
+-- The mask of a set of samples under a phase: the coverage of each pixel, in the least box that has all pixels with a sample.
+pub record IsCover (has : ℤ → ℤ → Bool) (px py : ℕ) (m : MaskValue) : Type 0 where
+  pub value : (x y : ℤ) → value_at m x y ≡ coverage_byte (samples_of has px py x y)
+  pub box : IsLeastBox (λ x y. 0 < samples_of has px py x y) (box_of m)
 
 -- the value at pixel (x, y) of a mask that is moved right by dx and down by dy
 abbrev pub moved_value : MaskValue × ℤ × ℤ → ℤ → ℤ → ℕ

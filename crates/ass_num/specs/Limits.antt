@@ -1,5 +1,6 @@
 -- Public: the limits that several crates cite, and how far numbers, points and samples lie from 0. These are conditions of calls.
 use Rattle.std.specs.Prelude.{◌≡◌, ℕ, ℤ, pos, neg_ℤ, ◌+◌, ◌+ℤ◌, ◌≤◌, ◌≤ℤ◌, List, length, All}
+use Rattle.ass_num.specs.Masks.{MaskValue}
 use Rattle.ass_num.specs.declared.geometry.Point.{Point}
 use Rattle.ass_num.specs.declared.region.Run.{Run}
 use Rattle.ass_num.specs.declared.size.Size.{Size}
@@ -31,6 +32,17 @@ max_coordinate = 262144
 -- the farthest from 0 that a sample of a region may be
 abbrev pub max_sample : ℕ
 max_sample = 131072
+
+-- the farthest from 0 that the corner of a mask that is placed may lie, and the most pixels that such a mask has along a side
+abbrev pub max_mask_corner : ℕ
+max_mask_corner = 65536
+
+abbrev pub max_mask_side : ℕ
+max_mask_side = 65536
+
+-- the farthest that such a mask may be moved
+abbrev pub max_mask_shift : ℕ
+max_mask_shift = 32768
 
 -- 1 in numbers with 16 fraction bits
 abbrev pub one_16 : ℕ
@@ -84,3 +96,10 @@ pub record IsRegionWithin (limit : ℕ) (top : ℤ) (rows : List (List Run)) : T
   pub above : neg_ℤ (pos limit) ≤ℤ top
   pub below : (top +ℤ pos (length rows)) ≤ℤ pos (limit + 1)
   pub runs : All (All (IsRunWithin limit)) rows
+
+-- the corner of the mask lies within `corner` of 0, and no side has more than `side` pixels
+pub record IsMaskWithin (corner side : ℕ) (m : MaskValue) : Type 0 where
+  pub x : IsWithin corner m.x
+  pub y : IsWithin corner m.y
+  pub w : m.w ≤ side
+  pub h : m.h ≤ side

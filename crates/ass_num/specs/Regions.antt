@@ -1,4 +1,4 @@
--- Regions: sets of samples by rows of runs, and the one form that each set has.
+-- Public: regions, sets of samples by rows of runs, and the one form that each set has.
 use Rattle.std.specs.Prelude.{ℤ, pos, negsuc, ◌-ℤ◌, Bool, true, false, ◌&&◌, ◌||◌, int_lt, int_le, List, [], ◌∷◌, slice_index_or}
 use Rattle.std.specs.Ordering.{int_eq}
 use Rattle.ass_num.specs.declared.region.Run.{Run}

@@ -1,7 +1,8 @@
 //! A list of lists that is kept flat: the items one after another, and where each list ends.
 
-ghost use Rattle.std.specs.Prelude.{◌≡◌, ◌≤◌, ◌<◌, ◌-◌, List, [], ◌∷◌, ◌++◌, length, slice_index_or, take, drop, OnOk, OnErr};
+ghost use Rattle.std.specs.Prelude.{◌≡◌, ◌≤◌, ◌<◌, ◌-◌, List, [], ◌∷◌, ◌++◌, length, slice_index_or, take, drop, IfOk, OnOk, OnErr};
 ghost use Rattle.std.specs.List.{flat_map};
+ghost use Rattle.ass_num.specs.Pieces.{start};
 
 use crate::memory::{Mem, OutOfMemory};
 use std::alloc::Global;
@@ -36,6 +37,26 @@ impl<T> FlatLists<T> {
         }
     }
 
+    /// No lists yet, and room for so many lists and so many items.
+    pub fn with_capacity(alloc: Global, lists: usize, items: usize) -> Mem<FlatLists<T>>
+    where
+        T: Drop,
+        ensures { IfOk result (λ flat. flat ≡ []) }
+    {
+        Ok(FlatLists {
+            items: Vec::with_capacity(alloc, items)?,
+            ends: Vec::with_capacity(alloc, lists)?,
+        })
+    }
+
+    /// Gives back the room that no list takes.
+    pub fn shrink_to_fit(&mut self)
+        ensures { self.new ≡ self.old }
+    {
+        self.items.shrink_to_fit();
+        self.ends.shrink_to_fit();
+    }
+
     /// How many lists there are.
     pub fn len(&self) -> usize
         ensures { result ≡ length self.now }
@@ -55,12 +76,8 @@ impl<T> FlatLists<T> {
         requires { k < length self.now }
         ensures { result.now ≡ slice_index_or self.now k [] }
     {
-        let to = self.ends[k];
-        if k == 0 {
-            return part(self.items.as_slice(), 0, to);
-        }
-        let from = self.ends[k - 1];
-        part(self.items.as_slice(), from, to)
+        let ends = self.ends.as_slice();
+        part(self.items.as_slice(), start(ends, k), start(ends, k + 1))
     }
 
     /// Puts a list at the end. For want of memory the lists stay as they are.
@@ -88,17 +105,24 @@ impl<T> FlatLists<T> {
         requires { count ≤ length self.old }
         ensures { self.new ≡ take count self.old }
     {
-        if count == 0 {
-            self.items.truncate(0);
-            self.ends.truncate(0);
-            return;
-        }
-        let end = self.ends[count - 1];
+        let end = start(self.ends.as_slice(), count);
         self.items.truncate(end);
         self.ends.truncate(count);
     }
 }
 
+/// Where list `k` begins.
+fn start(ends: &[usize], k: usize) -> usize
+    requires { k ≤ length ends.now }
+    ensures { result ≡ start 0 ends.now k }
+{
+    if k == 0 {
+        return 0;
+    }
+    ends[k - 1]
+}
+
+/// The items from a place up to but not with another.
 fn part<T>(items: &[T], from: usize, to: usize) -> &[T]
     requires ascends { from ≤ to }
     requires within { to ≤ length items.now }

@@ -1,6 +1,6 @@
 //! An owned list, which contracts see as the list of its items.
 
-ghost use Rattle.std.specs.Prelude.{◌≡◌, ◌↔◌, List, [], ◌∷◌, ◌++◌, length, IsTrue, OnOk, OnErr};
+ghost use Rattle.std.specs.Prelude.{◌≡◌, ◌↔◌, List, [], ◌∷◌, ◌++◌, length, IsTrue, IfOk, OnOk, OnErr};
 
 use crate::memory::Mem;
 use std::alloc::Global;
@@ -28,6 +28,22 @@ impl<T> Items<T> {
         Items {
             items: Vec::new(alloc),
         }
+    }
+
+    /// An empty list with room for so many items.
+    pub fn with_capacity(alloc: Global, count: usize) -> Mem<Items<T>>
+        ensures { IfOk result (λ list. list ≡ []) }
+    {
+        Ok(Items {
+            items: Vec::with_capacity(alloc, count)?,
+        })
+    }
+
+    /// Gives back the room that no item takes.
+    pub fn shrink_to_fit(&mut self)
+        ensures { self.new ≡ self.old }
+    {
+        self.items.shrink_to_fit();
     }
 
     /// The list of a vector's items; nothing is copied.

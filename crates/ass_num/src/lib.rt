@@ -11,6 +11,7 @@ mod floors;
 mod geometry;
 mod items;
 mod items_compare;
+mod laws;
 mod mask;
 mod memory;
 #[cfg(test)]
@@ -33,6 +34,7 @@ pub use flat_lists::FlatLists;
 pub use floors::{div_floor, hold};
 pub use geometry::{Fix, Matrix, Milli, Outline, Path, Point, Seg};
 pub use items::Items;
+pub use laws::{one_mask, one_region, same_samples};
 pub use mask::{Mask, is_mask};
 pub use memory::{Mem, OutOfMemory};
 pub use powers::power;

@@ -6,7 +6,7 @@ use Rattle.std.proofs.lemmas.List.{get_or_default}
 use Rattle.std.specs.List.Sorted.{IsPartitionedBy, IsPartitionPoint}
 use Rattle.ass_num.specs.Regions.{RegionValue, in_runs, ascend}
 use Rattle.ass_num.specs.declared.region.Run.{Run}
-use Rattle.region_rows.proofs.OrderLemmas.{le_is, le_not, le_true}
+use Rattle.ass_num.proofs.OrderLemmas.{le_is, le_not, le_true}
 use Rattle.border_region.specs.Ellipse.{AreFalling}
 use Rattle.border_region.specs.Frontier.{IsFrontier, is_seen}
 use Rattle.border_region.specs.Keys.{AreAscending, AreUpTo, key_at}

@@ -9,7 +9,7 @@ use Rattle.ass_num.specs.declared.region.Run.{Run}
 use Rattle.region_rows.specs.Joins.{AllBegin, IsJoinedTo}
 use Rattle.region_rows.proofs.JoinLemmas.{in_runs-push, run_at, next_at}
 use Rattle.region_rows.proofs.LimitLemmas.{run_covers}
-use Rattle.region_rows.proofs.OrderLemmas.{lt_is, le_is, lt_true, le_true}
+use Rattle.ass_num.proofs.OrderLemmas.{lt_is, le_is, lt_true, le_true}
 use Rattle.border_region.specs.Widths.{IsWithinWidth, IsRunCovered, Covers, IsWidenedRow, AddsWidened}
 
 -- ---- runs that hold a run

@@ -5,8 +5,8 @@ use Rattle.ass_num.specs.Coverage.{sum_from}
 use Rattle.ass_num.specs.Masks.{MaskValue, value_at}
 use Rattle.mask_blur.specs.Blur.{mean, smoothed}
 use Rattle.mask_blur.specs.Lines.{IsZeroBeside}
-use Rattle.mask_blur.proofs.MaskLemmas.{value_small}
-use Rattle.mask_blur.proofs.SumLemmas.{sum_from-next, sum_from-zero, sum_from-bound}
+use Rattle.ass_num.proofs.MaskLemmas.{value_most}
+use Rattle.ass_num.proofs.SumLemmas.{sum_from-next, sum_from-zero, sum_from-bound}
 
 -- the window over the rows before the first one
 pub sums_none : (g : ℤ → ℕ) (y : ℤ) (h width : ℕ) → IsZeroBeside g y h → sum_from g ((y +ℤ pos 0) -ℤ pos width) width ≡ 0
@@ -33,7 +33,7 @@ pub column_bounds : (m : MaskValue) (i k width sum enters leaves : ℕ) → ((j 
 column_bounds m i k width sum enters leaves bytes is e l =
     let g = value_at m (pos 0 +ℤ pos i) in
     let step = column_step g (pos 0) k width sum enters leaves is e l in
-    let small = sum_from-bound g ((pos 0 +ℤ pos (k + 1)) -ℤ pos width) width 255 (λ j h. value_small m (pos 0 +ℤ pos i) (((pos 0 +ℤ pos (k + 1)) -ℤ pos width) +ℤ pos j) bytes) in
+    let small = sum_from-bound g ((pos 0 +ℤ pos (k + 1)) -ℤ pos width) width 255 (λ j h. value_most m (pos 0 +ℤ pos i) (((pos 0 +ℤ pos (k + 1)) -ℤ pos width) +ℤ pos j) 255 (λ n. let byte = bytes n in omega (arith, byte))) in
     (omega (arith, step), omega (arith, step, small))
 
 -- the mean of the window that ends with row k

@@ -1,6 +1,5 @@
 pub mod LineLemmas
 pub mod MeanLemmas
-pub mod SumLemmas
 pub mod WeightLemmas
 pub mod PutLemmas
 pub mod ShownLemmas

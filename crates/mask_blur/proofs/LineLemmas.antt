@@ -7,7 +7,7 @@ use borrow.Rule.Slice.PartMut.{put_mid}
 use Rattle.ass_num.specs.Coverage.{sum_from}
 use Rattle.mask_blur.specs.Blur.{mean, smoothed}
 use Rattle.mask_blur.specs.Lines.{line_values, Lays, IsZeroBeside, IsPadded}
-use Rattle.mask_blur.proofs.SumLemmas.{sum_from-same, sum_from-next, sum_from-zero, sum_from-bound}
+use Rattle.ass_num.proofs.SumLemmas.{sum_from-same, sum_from-next, sum_from-zero, sum_from-bound}
 use Rattle.mask_blur.proofs.MeanLemmas.{mean-zero}
 use Rattle.mask_blur.proofs.PutLemmas.{put_below, put_inside, put_behind, length-put}
 

@@ -5,16 +5,20 @@ use Rattle.std.proofs.lemmas.Bool.{and_parts, false≢true}
 use Rattle.std.proofs.lemmas.Bool.Decides.{nat_tests}
 use Rattle.std.specs.Int.RustNames.{FitsSigned}
 use Rattle.std.specs.List.{All}
-use Rattle.ass_num.specs.Coverage.{sum_from, first_sample, inside, samples_of, coverage_byte, box_of, PixelBox, InBox, IsCover}
+use Rattle.ass_num.specs.Coverage.{sum_from, first_sample, counted, samples_of, coverage_byte, box_of, PixelBox, InBox, IsCover}
 use Rattle.ass_num.specs.Floor.{floor_div}
 use Rattle.ass_num.specs.Masks.{MaskValue, value_at, is_mask}
 use Rattle.ass_num.specs.Regions.{RegionValue, in_runs, row_at, member, ascend, all_ascend, has_run, first_has_run, last_has_run, last_has_run_after, is_canonical}
 use Rattle.ass_num.specs.declared.region.Run.{Run}
 use Rattle.ass_num.proofs.Floor.{floor_div-below, floor_div-above}
-use Rattle.mask_cover.proofs.MaskLemmas.{cell_below, value_inside, value_beside, value_over}
-use Rattle.mask_cover.proofs.RowLemmas.{row_ascends}
-use Rattle.mask_cover.proofs.SampleLemmas.{first_ascends, rest_ascends, bit, sum_from-along, sum_from-positive, some_positive}
-use Rattle.mask_cover.proofs.SpanLemmas.{first_in, or_true, span_row}
+use Rattle.ass_num.proofs.MaskLemmas.{cell_below, value_inside, value_beside, value_over}
+use Rattle.std.proofs.Math.Bool.{or-true}
+use Rattle.std.proofs.lemmas.List.{get_or_default}
+use Rattle.ass_num.proofs.OrderLemmas.{first_in}
+use Rattle.ass_num.proofs.RegionLemmas.{first_ascends, rest_ascends, row_ascends, last_full, full_has, row_none}
+use Rattle.ass_num.proofs.SumLemmas.{sum_from-same, sum_from-positive, some_positive}
+use Rattle.mask_cover.proofs.SampleLemmas.{bit}
+use Rattle.mask_cover.proofs.SpanLemmas.{span_row}
 use Rattle.mask_cover.specs.Columns.{IsSpanOfRows, Falls}
 use Rattle.mask_cover.specs.Steps.{cell_count, row_count, IsInside, HasCells}
 
@@ -38,22 +42,22 @@ falls_somewhere phase i =
     (x, record { low = floor_div-below (i +ℤ pos phase) 16 (omega arith); high = floor_div-above (i +ℤ pos phase) 16 (omega arith) })
 
 -- a sample makes the count of its pixel positive
-pub sample_counts : (region : RegionValue) (px py : ℕ) (i j x y : ℤ) → member region.top region.rows i j ≡ true → Falls px i x → Falls py j y → 0 < samples_of region px py x y
+pub sample_counts : (has : ℤ → ℤ → Bool) (px py : ℕ) (i j x y : ℤ) → has i j ≡ true → Falls px i x → Falls py j y → 0 < samples_of has px py x y
 unfolding samples_of
-sample_counts region px py i j x y is across down =
+sample_counts has px py i j x y is across down =
     let al = across.low in let ah = across.high in let dl = down.low in let dh = down.high in
     let a = distance (first_sample px x) i (omega (arith, ints)) in
     let b = distance (first_sample py y) j (omega (arith, ints)) in
-    let here : 0 < inside region (first_sample px x +ℤ pos a.0) (first_sample py y +ℤ pos b.0) = rw (sym a.1, sym b.1, is) (omega arith) in
-    sum_from-positive (λ t. sum_from (λ s. inside region s t) (first_sample px x) 16) (first_sample py y) 16 b.0 (omega (arith, ints, b.1))
-    (sum_from-positive (λ s. inside region s (first_sample py y +ℤ pos b.0)) (first_sample px x) 16 a.0 (omega (arith, ints, a.1)) here)
+    let here : 0 < counted has (first_sample px x +ℤ pos a.0) (first_sample py y +ℤ pos b.0) = rw (sym a.1, sym b.1, is) (omega arith) in
+    sum_from-positive (λ t. sum_from (λ s. counted has s t) (first_sample px x) 16) (first_sample py y) 16 b.0 (omega (arith, ints, b.1))
+    (sum_from-positive (λ s. counted has s (first_sample py y +ℤ pos b.0)) (first_sample px x) 16 a.0 (omega (arith, ints, a.1)) here)
 
 -- a pixel with a positive count has a sample
-pub counted_sample : (region : RegionValue) (px py : ℕ) (x y : ℤ) → 0 < samples_of region px py x y → (i : ℤ) × (j : ℤ) × (member region.top region.rows i j ≡ true) × Falls px i x × Falls py j y
+pub counted_sample : (has : ℤ → ℤ → Bool) (px py : ℕ) (x y : ℤ) → 0 < samples_of has px py x y → (i : ℤ) × (j : ℤ) × (has i j ≡ true) × Falls px i x × Falls py j y
 unfolding samples_of
-counted_sample region px py x y some =
-    let b = some_positive (λ t. sum_from (λ s. inside region s t) (first_sample px x) 16) (first_sample py y) 16 some in
-    let a = some_positive (λ s. inside region s (first_sample py y +ℤ pos b.0)) (first_sample px x) 16 b.2 in
+counted_sample has px py x y some =
+    let b = some_positive (λ t. sum_from (λ s. counted has s t) (first_sample px x) 16) (first_sample py y) 16 some in
+    let a = some_positive (λ s. counted has s (first_sample py y +ℤ pos b.0)) (first_sample px x) 16 b.2 in
     let al = a.1 in let bl = b.1 in (
       first_sample px x +ℤ pos a.0,
       first_sample py y +ℤ pos b.0,
@@ -80,10 +84,6 @@ row_member region k i h = let e : (region.top +ℤ pos k) -ℤ region.top ≡ po
 row_sample : (runs : List Run) → ascend runs ≡ true → has_run runs ≡ true → (i : ℤ) × (in_runs runs i ≡ true)
 row_sample runs h some = let s = span_row runs (record { from = pos 0; to = pos 0 }) h some in (_, s.first)
 
-last_has : (r : List Run) (rows : List (List Run)) → last_has_run_after r rows ≡ true → has_run (get_or (r ∷ rows) (length rows) []) ≡ true
-last_has r [] h = h
-last_has r (s ∷ rows) h = last_has s rows h
-
 pub end_rows : (top : ℤ) (rows : List (List Run)) → is_canonical top rows ≡ true → 0 < length rows
     → ((i : ℤ) × (in_runs (get_or rows 0 []) i ≡ true)) × ((i : ℤ) × (in_runs (get_or rows (length rows - 1) []) i ≡ true))
 end_rows top [] h some = absurd (omega arith)
@@ -93,7 +93,7 @@ end_rows top (r ∷ rows) h some =
     let s = and_parts (last_has_run (r ∷ rows)) _ q.1 in
     let e : suc (length rows) - 1 ≡ length rows = omega arith in (
       row_sample r (row_ascends (r ∷ rows) 0 p.0) q.0,
-      rw e (row_sample (get_or (r ∷ rows) (length rows) []) (row_ascends (r ∷ rows) (length rows) p.0) (last_has r rows s.0)),
+      rw e (row_sample (get_or (r ∷ rows) (length rows) []) (row_ascends (r ∷ rows) (length rows) p.0) (last_full r rows s.0)),
     )
 
 -- ---- the box
@@ -112,9 +112,9 @@ pub record Spans (region : RegionValue) (px py : ℕ) (b : PixelBox) : Type 0 wh
 in_order : (phase : ℕ) (i j x y : ℤ) → i ≤ℤ j → Falls phase i x → Falls phase j y → x ≤ℤ y
 in_order phase i j x y order f g = let a = f.low in let b = g.high in omega (arith, ints)
 
-pub spanned_has : (region : RegionValue) (px py : ℕ) (b : PixelBox) → Spans region px py b → (x y : ℤ) → 0 < samples_of region px py x y → InBox b x y
+pub spanned_has : (region : RegionValue) (px py : ℕ) (b : PixelBox) → Spans region px py b → (x y : ℤ) → 0 < samples_of (member region.top region.rows) px py x y → InBox b x y
 spanned_has region px py b s x y some =
-    let c = counted_sample region px py x y some in
+    let c = counted_sample (member region.top region.rows) px py x y some in
     let row = sample_row region.rows c.0 (c.1 -ℤ region.top) c.2 in
     let within = s.is_span.inside row.0 c.0 row.1 row.3 in
     let last : c.0 ≤ℤ (s.span.to -ℤ pos 1) = omega (arith, ints, within.1) in
@@ -130,7 +130,7 @@ spanned_has region px py b s x y some =
     }
 
 pub spanned_least : (region : RegionValue) (px py : ℕ) (b : PixelBox) → Spans region px py b
-    → (other : PixelBox) → ((x y : ℤ) → 0 < samples_of region px py x y → InBox other x y) → (x y : ℤ) → InBox b x y → InBox other x y
+    → (other : PixelBox) → ((x y : ℤ) → 0 < samples_of (member region.top region.rows) px py x y → InBox other x y) → (x y : ℤ) → InBox b x y → InBox other x y
 spanned_least region px py b s other has x y in_b =
     let ends = end_rows region.top region.rows s.canonical s.some in
     let a = s.is_span.first in
@@ -142,22 +142,22 @@ spanned_least region px py b s other has x y in_b =
     let top_row : region.top +ℤ pos 0 ≡ region.top = omega (arith, ints) in
     let some = s.some in
     let last_row : region.top +ℤ pos (length region.rows - 1) ≡ (region.top +ℤ pos (length region.rows)) -ℤ pos 1 = omega (arith, ints) in
-    let left = has b.x ya.0 (sample_counts region px py s.span.from (region.top +ℤ pos a.0) b.x ya.0 (row_member region a.0 s.span.from a.2) s.left ya.1) in
-    let right = has ((b.x +ℤ pos b.w) -ℤ pos 1) yz.0 (sample_counts region px py (s.span.to -ℤ pos 1) (region.top +ℤ pos z.0) _ yz.0 (row_member region z.0 (s.span.to -ℤ pos 1) z.2) s.right yz.1) in
-    let top = has xt.0 b.y (sample_counts region px py ends.0.0 region.top xt.0 b.y (rw top_row at (row_member region 0 ends.0.0 ends.0.1)) xt.1 s.top) in
-    let bottom = has xb.0 ((b.y +ℤ pos b.h) -ℤ pos 1) (sample_counts region px py ends.1.0 ((region.top +ℤ pos (length region.rows)) -ℤ pos 1) xb.0 _ (rw last_row at (row_member region (length region.rows - 1) ends.1.0 ends.1.1)) xb.1 s.bottom) in
+    let left = has b.x ya.0 (sample_counts (member region.top region.rows) px py s.span.from (region.top +ℤ pos a.0) b.x ya.0 (row_member region a.0 s.span.from a.2) s.left ya.1) in
+    let right = has ((b.x +ℤ pos b.w) -ℤ pos 1) yz.0 (sample_counts (member region.top region.rows) px py (s.span.to -ℤ pos 1) (region.top +ℤ pos z.0) _ yz.0 (row_member region z.0 (s.span.to -ℤ pos 1) z.2) s.right yz.1) in
+    let top = has xt.0 b.y (sample_counts (member region.top region.rows) px py ends.0.0 region.top xt.0 b.y (rw top_row at (row_member region 0 ends.0.0 ends.0.1)) xt.1 s.top) in
+    let bottom = has xb.0 ((b.y +ℤ pos b.h) -ℤ pos 1) (sample_counts (member region.top region.rows) px py ends.1.0 ((region.top +ℤ pos (length region.rows)) -ℤ pos 1) xb.0 _ (rw last_row at (row_member region (length region.rows - 1) ends.1.0 ends.1.1)) xb.1 s.bottom) in
     let bl = in_b.left in let br = in_b.right in let bt = in_b.top in let bb = in_b.bottom in
     record { left = omega (arith, ints, left.left); right = omega (arith, ints, right.right); top = omega (arith, ints, top.top); bottom = omega (arith, ints, bottom.bottom) }
 
 -- ---- the bytes
 
 pub cell_is : (region : RegionValue) (px py : ℕ) (x y left : ℤ) (above i j : ℕ) → left ≡ first_sample px x → pos above ≡ region.top -ℤ first_sample py y
-    → samples_of region px py (x +ℤ pos i) (y +ℤ pos j) ≡ cell_count region.rows left above j i 16
+    → samples_of (member region.top region.rows) px py (x +ℤ pos i) (y +ℤ pos j) ≡ cell_count region.rows left above j i 16
 unfolding samples_of cell_count row_count
 cell_is region px py x y left above i j e f =
-    sum_from-along _ _ (first_sample py (y +ℤ pos j)) (pos (16 * j) -ℤ pos above) 16 (λ b less. row b)
+    sum_from-same _ _ (first_sample py (y +ℤ pos j)) (pos (16 * j) -ℤ pos above) 16 (λ b less. row b)
   where
-    row : (b : ℕ) → sum_from (λ s. inside region s (first_sample py (y +ℤ pos j) +ℤ pos b)) (first_sample px (x +ℤ pos i)) 16 ≡ row_count (row_at region.rows ((pos (16 * j) -ℤ pos above) +ℤ pos b)) left i
+    row : (b : ℕ) → sum_from (λ s. counted (member region.top region.rows) s (first_sample py (y +ℤ pos j) +ℤ pos b)) (first_sample px (x +ℤ pos i)) 16 ≡ row_count (row_at region.rows ((pos (16 * j) -ℤ pos above) +ℤ pos b)) left i
     row b =
         let down : (first_sample py (y +ℤ pos j) +ℤ pos b) -ℤ region.top ≡ (pos (16 * j) -ℤ pos above) +ℤ pos b = omega (arith, ints, f) in
         let across : first_sample px (x +ℤ pos i) ≡ left +ℤ pos (16 * i) = omega (arith, ints, e) in
@@ -169,7 +169,7 @@ none_counted zero h = refl
 none_counted (suc n) h = absurd (h (omega arith))
 
 pub is_cover : (region : RegionValue) (px py : ℕ) (m : MaskValue) (left : ℤ) (above : ℕ) → Spans region px py (box_of m) → left ≡ first_sample px m.x → pos above ≡ region.top -ℤ first_sample py m.y
-    → ((i j : ℕ) → i < m.w → j < m.h → get_or m.bytes (j * m.w + i) 0 ≡ coverage_byte (cell_count region.rows left above j i 16)) → IsCover region px py m
+    → ((i j : ℕ) → i < m.w → j < m.h → get_or m.bytes (j * m.w + i) 0 ≡ coverage_byte (cell_count region.rows left above j i 16)) → IsCover (member region.top region.rows) px py m
 is_cover region px py m left above s e f bytes = record {
   value = λ x y. by_lt_z x m.x
       (λ (l : x <ℤ m.x). outside x y (value_beside m x y (inl l)) (λ b. let z = b.left in omega (arith, ints)))
@@ -183,10 +183,10 @@ is_cover region px py m left above s e f bytes = record {
   box = record { has = spanned_has region px py (box_of m) s; least = spanned_least region px py (box_of m) s };
 }
   where
-    outside : (x y : ℤ) → value_at m x y ≡ 0 → (InBox (box_of m) x y → ⊥) → value_at m x y ≡ coverage_byte (samples_of region px py x y)
-    outside x y zero_there out = zero_there ∙ sym (none_counted (samples_of region px py x y) (λ some. out (spanned_has region px py (box_of m) s x y some)))
+    outside : (x y : ℤ) → value_at m x y ≡ 0 → (InBox (box_of m) x y → ⊥) → value_at m x y ≡ coverage_byte (samples_of (member region.top region.rows) px py x y)
+    outside x y zero_there out = zero_there ∙ sym (none_counted (samples_of (member region.top region.rows) px py x y) (λ some. out (spanned_has region px py (box_of m) s x y some)))
 
-    within : (x y : ℤ) → m.x ≤ℤ x → x <ℤ (m.x +ℤ pos m.w) → m.y ≤ℤ y → y <ℤ (m.y +ℤ pos m.h) → value_at m x y ≡ coverage_byte (samples_of region px py x y)
+    within : (x y : ℤ) → m.x ≤ℤ x → x <ℤ (m.x +ℤ pos m.w) → m.y ≤ℤ y → y <ℤ (m.y +ℤ pos m.h) → value_at m x y ≡ coverage_byte (samples_of (member region.top region.rows) px py x y)
     within x y l r t b =
         let i = distance m.x x l in
         let j = distance m.y y t in
@@ -197,9 +197,9 @@ is_cover region px py m left above s e f bytes = record {
 abbrev no_pixels : MaskValue
 no_pixels = record { x = pos 0; y = pos 0; w = 0; h = 0; bytes = [] }
 
-nowhere : (region : RegionValue) (px py : ℕ) → region.rows ≡ [] → (x y : ℤ) → 0 < samples_of region px py x y → ⊥
+nowhere : (region : RegionValue) (px py : ℕ) → region.rows ≡ [] → (x y : ℤ) → 0 < samples_of (member region.top region.rows) px py x y → ⊥
 nowhere region px py none x y some =
-    let c = counted_sample region px py x y some in
+    let c = counted_sample (member region.top region.rows) px py x y some in
     let row = sample_row region.rows c.0 (c.1 -ℤ region.top) c.2 in
     let e : length region.rows ≡ 0 = rw none refl in
     omega (arith, row.1, e)
@@ -211,9 +211,9 @@ no_value x y = by_lt_z x (pos 0)
     (λ (l : pos 0 ≤ℤ x). value_beside no_pixels x y (inr l))
 
 -- a region without rows
-pub empty_cover : (region : RegionValue) (px py : ℕ) → region.rows ≡ [] → IsCover region px py no_pixels
+pub empty_cover : (region : RegionValue) (px py : ℕ) → region.rows ≡ [] → IsCover (member region.top region.rows) px py no_pixels
 empty_cover region px py none = record {
-  value = λ x y. no_value x y ∙ sym (none_counted (samples_of region px py x y) (nowhere region px py none x y));
+  value = λ x y. no_value x y ∙ sym (none_counted (samples_of (member region.top region.rows) px py x y) (nowhere region px py none x y));
   box = record { has = λ x y some. absurd (nowhere region px py none x y some); least = λ other has x y b. let l = b.left in let r = b.right in absurd (omega (arith, ints)) };
 }
 
@@ -229,17 +229,12 @@ run_in (r ∷ rs) zero d h p =
     (first_in r rs r.from (omega (arith, ints)) full, first_in r rs (r.to -ℤ pos 1) (omega (arith, ints)) (omega (arith, ints)))
 run_in (r ∷ rs) (suc k) d h p =
     let rest = run_in rs k d (rest_ascends r rs h) (omega arith) in
-    (rw rest.0 (or_true _), rw rest.1 (or_true _))
-
-same_default : {X : Type 0} (xs : List X) (k : ℕ) (d e : X) → k < length xs → get_or xs k d ≡ get_or xs k e
-same_default [] k d e p = absurd (omega arith)
-same_default (x ∷ xs) zero d e p = refl
-same_default (x ∷ xs) (suc k) d e p = same_default xs k d e (omega arith)
+    (rw rest.0 (or-true _), rw rest.1 (or-true _))
 
 pub spans_inside : (rows : List (List Run)) (px : ℕ) (span : Run) (first start : ℤ) (count : ℕ) → all_ascend rows ≡ true → IsSpanOfRows rows (length rows) span
     → Falls px span.from first → Falls px (span.to -ℤ pos 1) ((first +ℤ pos count) -ℤ pos 1) → start ≡ first_sample px first → All (IsInside start (count + 2)) rows
 spans_inside rows px span first start count h s f g e = λ k d p.
-    rw (same_default rows k d [] p) (λ n o q.
+    rw (get_or_default rows k d [] p) (λ n o q.
     let ends = run_in (get_or rows k []) n o (row_ascends rows k h) q in
     let low = s.inside k (get_or (get_or rows k []) n o).from p ends.0 in
     let high = s.inside k ((get_or (get_or rows k []) n o).to -ℤ pos 1) p ends.1 in

@@ -9,7 +9,7 @@ use Rattle.std.proofs.lemmas.Bool.{and_parts, false≢true}
 use Rattle.std.specs.Ordering.{int_eq}
 use Rattle.ass_num.specs.Masks.{MaskValue, is_mask}
 use Rattle.mask_cover.proofs.CoverLemmas.{mask_ok}
-use Rattle.mask_cover.proofs.MaskLemmas.{mask_length}
+use Rattle.ass_num.proofs.MaskLemmas.{mask_length}
 use Rattle.mask_cover.specs.Extents.{IsStretchNear, IsExtent, JoinsStretch}
 use Rattle.mask_cover.specs.Sums.{IsWithinOf, IsJoin}
 

@@ -1,7 +1,5 @@
-pub mod Comparisons
 pub mod CoverLemmas
 pub mod ExtentLemmas
-pub mod MaskLemmas
 pub mod RowLemmas
 pub mod RowSums
 pub mod SampleLemmas

@@ -2,12 +2,14 @@
 use Rattle.std.proofs.Common.{◌≡◌, ℕ, zero, suc, ◌+◌, ◌-◌, ◌*◌, ◌<◌, ◌≤◌, true, ℤ, pos, negsuc, ◌+ℤ◌, ◌-ℤ◌, ◌<ℤ◌, ◌≤ℤ◌, refl, sym, ap, ◌∙◌, arith, List, [], ◌∷◌, ◌++◌, length, length-append, unsigned_abs, get_or, drop, drop-cons}
 use Rattle.std.proofs.lemmas.Int.{ints, by_lt_z}
 use Rattle.std.proofs.lemmas.Bool.{and_parts}
-use Rattle.std.proofs.lemmas.List.{get_or_append_left, get_or_push}
+use Rattle.std.proofs.lemmas.List.{get_or_append_left, get_or_push, get_or_past}
 use Rattle.ass_num.specs.Coverage.{sum_from, coverage_byte}
 use Rattle.ass_num.specs.Regions.{ascend, all_ascend, row_at}
 use Rattle.ass_num.specs.declared.region.Run.{Run}
-use Rattle.mask_cover.proofs.MaskLemmas.{cell_below}
-use Rattle.mask_cover.proofs.SampleLemmas.{first_ascends, rest_ascends, row_count-cons, row_count-none, row_count-le, sum_from-le_16}
+use Rattle.ass_num.proofs.MaskLemmas.{cell_below}
+use Rattle.ass_num.proofs.RegionLemmas.{first_ascends, rest_ascends, row_ascends}
+use Rattle.ass_num.proofs.SumLemmas.{sum_from-bound}
+use Rattle.mask_cover.proofs.SampleLemmas.{row_count-cons, row_count-none, row_count-le}
 use Rattle.mask_cover.proofs.StepLemmas.{sum_first-none}
 use Rattle.mask_cover.specs.Steps.{sum_first, samples_after, row_count, cell_count, CountsWithin, IsRowPushed, HasCells, HasMoreCells}
 
@@ -52,7 +54,7 @@ cell_count-none rows left above row c = refl
 
 pub cell_count-le : (rows : List (List Run)) (left : ℤ) (above row c n : ℕ) → cell_count rows left above row c n ≤ 16 * n
 unfolding cell_count
-cell_count-le rows left above row c n = sum_from-le_16 (λ k. row_count (row_at rows k) left c) _ n (λ k. row_count-le (row_at rows k) left c)
+cell_count-le rows left above row c n = sum_from-bound (λ k. row_count (row_at rows k) left c) (pos (16 * row) -ℤ pos above) n 16 (λ k less. row_count-le (row_at rows ((pos (16 * row) -ℤ pos above) +ℤ pos k)) left c)
 
 cell_count-next : (rows : List (List Run)) (left : ℤ) (above row c n : ℕ) → cell_count rows left above row c (n + 1) ≡ cell_count rows left above row c n + row_count (row_at rows ((pos (16 * row) -ℤ pos above) +ℤ pos n)) left c
 unfolding cell_count sum_from
@@ -70,14 +72,9 @@ cell_count-above rows left above row c n e =
     cell_count-next rows left above row c n ∙ ap (λ z. cell_count rows left above row c n + row_count (row_at rows z) left c) at
     ∙ omega (arith, row_count-none left c)
 
-beyond : (rows : List (List Run)) (k : ℕ) → length rows ≤ k → get_or rows k [] ≡ []
-beyond [] k h = refl
-beyond (r ∷ rows) zero h = absurd (omega arith)
-beyond (r ∷ rows) (suc k) h = beyond rows k (omega arith)
-
 pub cell_count-below : (rows : List (List Run)) (left : ℤ) (above row c n k : ℕ) → 16 * row + n ≡ above + k → length rows ≤ k → cell_count rows left above row c (n + 1) ≡ cell_count rows left above row c n
 cell_count-below rows left above row c n k e h =
-    cell_count-row rows left above row c n k e ∙ ap (λ z. cell_count rows left above row c n + row_count z left c) (beyond rows k h)
+    cell_count-row rows left above row c n k e ∙ ap (λ z. cell_count rows left above row c n + row_count z left c) (get_or_past rows k [] h)
     ∙ omega (arith, row_count-none left c)
 
 -- counts of pixels are sums of steps
@@ -88,11 +85,6 @@ counts_of steps f most e h (suc c) =
     let is = e c in
     let small = h c in
     rw (sym next) (omega (arith, ints), omega (arith, ints))
-
-pub row_ascends : (rows : List (List Run)) (k : ℕ) → all_ascend rows ≡ true → ascend (get_or rows k []) ≡ true
-row_ascends [] k h = refl
-row_ascends (r ∷ rows) zero h = (and_parts (ascend r) (all_ascend rows) h).0
-row_ascends (r ∷ rows) (suc k) h = row_ascends rows k (and_parts (ascend r) (all_ascend rows) h).1
 
 -- one more byte
 pub row_push : (steps : List ℤ) (c v : ℕ) (before now : List ℕ) → IsRowPushed steps c before now → v ≡ coverage_byte (unsigned_abs (sum_first steps (c + 1))) → IsRowPushed steps (c + 1) before (now ++ v ∷ [])

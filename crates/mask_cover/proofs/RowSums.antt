@@ -9,7 +9,7 @@ use Rattle.std.specs.List.{Any}
 use Rattle.ass_num.specs.Coverage.{PixelBox, box_of, IsLeastBox, moved_value, IsMovedPixel, IsSum}
 use Rattle.ass_num.specs.Masks.{MaskValue, is_mask, value_at, offset_value}
 use Rattle.mask_cover.proofs.CoverLemmas.{distance}
-use Rattle.mask_cover.proofs.MaskLemmas.{cell_below, mask_length, offset_inside, offset_left, offset_above, value_inside, value_beside, value_over}
+use Rattle.ass_num.proofs.MaskLemmas.{cell_below, mask_length, offset_inside, offset_left, offset_above, value_inside, value_beside, value_over, value_most}
 use Rattle.mask_cover.specs.Rows.{AddsRow, AddsCells, cell_added}
 use Rattle.mask_cover.specs.Sums.{AddsMask}
 
@@ -132,7 +132,7 @@ add_is p old bytes column row across down wide high is cells = record {
 pub add_none : (p : MaskValue × ℤ × ℤ) (old : MaskValue) → p.0.w ≡ 0 → ((k : ℕ) → get_or old.bytes k 0 ≤ 255) → AddsMask p old old
 add_none p old none bytes = record {
   box = refl;
-  value = λ x y. let nothing = outside x y in let small = value_small old bytes x y in omega (arith, nothing, small);
+  value = λ x y. let nothing = outside x y in let small = value_most old x y 255 bytes in omega (arith, nothing, small);
 }
   where
     outside : (x y : ℤ) → moved_value p x y ≡ 0
@@ -140,22 +140,9 @@ add_none p old none bytes = record {
         (λ (l : (x -ℤ p.1) <ℤ p.0.x). value_beside p.0 (x -ℤ p.1) (y -ℤ p.2) (inl l))
         (λ (l : p.0.x ≤ℤ (x -ℤ p.1)). value_beside p.0 (x -ℤ p.1) (y -ℤ p.2) (inr (omega (arith, ints))))
 
-    offset_small : (m : MaskValue) → ((k : ℕ) → get_or m.bytes k 0 ≤ 255) → (u v : ℤ) → offset_value m u v ≤ 255
-    offset_small m all (pos i) (pos j) = let small = all (j * m.w + i) in grind arith
-    offset_small m all (pos i) (negsuc j) = omega arith
-    offset_small m all (negsuc i) v = omega arith
-
-    value_small : (m : MaskValue) → ((k : ℕ) → get_or m.bytes k 0 ≤ 255) → (x y : ℤ) → value_at m x y ≤ 255
-    value_small m all x y = offset_small m all (x -ℤ m.x) (y -ℤ m.y)
-
 -- a mask of zeros
 pub value_zero : (m : MaskValue) → ((k : ℕ) → get_or m.bytes k 0 ≡ 0) → (x y : ℤ) → value_at m x y ≡ 0
-value_zero m all x y = offset_zero (x -ℤ m.x) (y -ℤ m.y)
-  where
-    offset_zero : (u v : ℤ) → offset_value m u v ≡ 0
-    offset_zero (pos i) (pos j) = let none = all (j * m.w + i) in grind arith
-    offset_zero (pos i) (negsuc j) = refl
-    offset_zero (negsuc i) v = refl
+value_zero m all x y = let none = value_most m x y 0 (λ k. let e = all k in omega (arith, e)) in omega (arith, none)
 
 -- the bytes of a row of a mask
 pub part_is : (m : MaskValue) (bytes : List ℕ) (w j : ℕ) → bytes ≡ m.bytes → w ≡ m.w → is_mask m ≡ true → j < m.h

@@ -5,17 +5,14 @@ use Rattle.std.proofs.lemmas.Bool.{and_parts, false≢true}
 use Rattle.std.specs.Int.{int_min, int_max}
 use Rattle.ass_num.specs.Regions.{in_runs, ascend, has_run}
 use Rattle.ass_num.specs.declared.region.Run.{Run}
-use Rattle.mask_cover.proofs.SampleLemmas.{ascends_parts, first_ascends, rest_ascends, below}
-use Rattle.mask_cover.proofs.Comparisons.{lt_true, lt_false, le_true, lt_is, le_is}
+use Rattle.std.proofs.Math.Bool.{or-true}
+use Rattle.ass_num.proofs.RegionLemmas.{ascends_parts, first_ascends, rest_ascends, below}
+use Rattle.ass_num.proofs.OrderLemmas.{first_in, lt_true, lt_false, le_true, lt_is, le_is}
 use Rattle.mask_cover.specs.Columns.{IsSpan, IsSpanOfRows}
 
 -- what stands where a list has no run
 abbrev pub none : Run
 none = record { from = pos 0; to = pos 0 }
-
-pub or_true : (b : Bool) → (b || true) ≡ true
-or_true true = refl
-or_true false = refl
 
 or_none : (b : Bool) → (b || false) ≡ true → b ≡ true
 or_none true h = refl
@@ -27,9 +24,6 @@ no_and false c h = h
 
 run_of : (r : Run) (i : ℤ) → (int_le r.from i && int_lt i r.to) ≡ true → (r.from ≤ℤ i) × (i <ℤ r.to)
 run_of r i h = let p = and_parts (int_le r.from i) (int_lt i r.to) h in (le_is r.from i p.0, lt_is i r.to p.1)
-
-pub first_in : (r : Run) (rs : List Run) (i : ℤ) → r.from ≤ℤ i → i <ℤ r.to → in_runs (r ∷ rs) i ≡ true
-first_in r rs i a b = rw (le_true r.from i a, lt_true i r.to b) refl
 
 -- an ascending row spans from its first run's begin to its last run's end
 pub span_cons : (rs : List Run) (r d : Run) → ascend (r ∷ rs) ≡ true → IsSpan (r ∷ rs) (record { from = r.from; to = (get_or (r ∷ rs) (length rs) d).to })
@@ -56,7 +50,7 @@ span_cons (s ∷ rs) r d h =
           let later = rest.inside i (no_and (int_le r.from i) _ (rw (lt_false i r.to l) at e)) in
           (omega (arith, ints), later.1));
       first = first_in r (s ∷ rs) r.from (omega (arith, ints)) full;
-      last = rw rest.last (or_true _);
+      last = rw rest.last (or-true _);
     }
 
 pub span_row : (runs : List Run) (d : Run) → ascend runs ≡ true → has_run runs ≡ true → IsSpan runs (record { from = (get_or runs 0 d).from; to = (get_or runs (length runs - 1) d).to })

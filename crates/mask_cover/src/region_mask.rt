@@ -2,7 +2,7 @@
 
 ghost use Rattle.std.specs.Prelude.{◌≡◌, ℕ, pos, ◌+◌, ◌*◌, ◌<◌, ◌≤◌, ◌^◌, neg_ℤ, ◌+ℤ◌, ◌-ℤ◌, ◌*ℤ◌, ◌<ℤ◌, ◌≤ℤ◌, true, length, IfOk, All, slice_index};
 ghost use Rattle.ass_num.specs.Coverage.{IsCover};
-ghost use Rattle.ass_num.specs.Regions.{all_ascend};
+ghost use Rattle.ass_num.specs.Regions.{all_ascend, member};
 ghost use Rattle.mask_cover.specs.Steps.{IsInside, HasCells, HasMoreCells};
 
 use crate::axis::{axis_of, place_of};
@@ -64,7 +64,7 @@ pub fn cover(alloc: Global, region: &Region, px: u8, py: u8) -> Mem<Mask>
     requires px { px < 16 }
     requires py { py < 16 }
     requires rows { (region.now.top +ℤ pos (length region.now.rows)) ≤ℤ pos (2 ^ 31) }
-    ensures { IfOk result (IsCover region.now px py) }
+    ensures { IfOk result (IsCover (member region.now.top region.now.rows) px py) }
 {
     let rows = region.rows();
     if rows.len() == 0 {

@@ -8,9 +8,9 @@ use Rattle.std.proofs.lemmas.List.Elements.{All-push, All-pop, All-weaker, All-n
 use Rattle.ass_num.specs.Regions.{in_runs, ascend, ascend_from, member}
 use Rattle.ass_num.specs.declared.region.Run.{Run}
 use Rattle.region_rows.specs.Joins.{AllBegin, IsJoinedTo, BeginsFirst, AreRunsJoined}
-use Rattle.region_rows.proofs.OrderLemmas.{lt_true, lt_false, le_true, le_false, lt_is}
+use Rattle.ass_num.proofs.OrderLemmas.{lt_true, lt_false, le_true, le_false, lt_is}
 use Rattle.region_rows.proofs.GrowthLemmas.{row_at-past}
-use Rattle.region_rows.proofs.UniqueLemmas.{row_above}
+use Rattle.ass_num.proofs.RegionLemmas.{row_above}
 
 pub or_false : (b : Bool) → (b || false) ≡ b
 or_false true = refl

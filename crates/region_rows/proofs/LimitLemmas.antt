@@ -8,8 +8,8 @@ use Rattle.ass_num.specs.Limits.{IsRunWithin, IsRegionWithin}
 use Rattle.ass_num.specs.Regions.{in_runs, row_at, member, is_canonical}
 use Rattle.ass_num.specs.declared.region.Run.{Run}
 use Rattle.region_rows.proofs.JoinLemmas.{run_at}
-use Rattle.region_rows.proofs.OrderLemmas.{lt_is, le_is}
-use Rattle.region_rows.proofs.UniqueLemmas.{zero_test, within, row_ascends, region_parts, full_has, last_full}
+use Rattle.ass_num.proofs.OrderLemmas.{first_in, lt_is, le_is}
+use Rattle.ass_num.proofs.RegionLemmas.{zero_test, row_ascends, region_parts, full_has, last_full}
 
 abbrev pub Near : ℕ → ℤ → Type 0
 Near limit i = (neg_ℤ (pos limit) ≤ℤ i) × (i ≤ℤ pos limit)
@@ -20,7 +20,7 @@ near_wider limit i l h = let a = h.0 in let b = h.1 in (omega (arith, ints), ome
 -- ---- from the samples to the region
 pub run_covers : (rs : List Run) (n : ℕ) (d : Run) (i : ℤ) → n < length rs → (get_or rs n d).from ≤ℤ i → i <ℤ (get_or rs n d).to → in_runs rs i ≡ true
 run_covers [] n d i l a b = absurd (omega arith)
-run_covers (r ∷ rs) zero d i l a b = within r rs i a b
+run_covers (r ∷ rs) zero d i l a b = first_in r rs i a b
 run_covers (r ∷ rs) (suc n) d i l a b = or_right (int_le r.from i && int_lt i r.to) (in_runs rs i) (run_covers rs n d i (omega arith) a b)
 
 row_member : (top : ℤ) (rows : List (List Run)) (k : ℕ) (i : ℤ) → in_runs (get_or rows k []) i ≡ true → member top rows i (top +ℤ pos k) ≡ true

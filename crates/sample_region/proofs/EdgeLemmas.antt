@@ -17,7 +17,7 @@ use Rattle.ass_num.specs.declared.region.Run.{Run}
 use Rattle.sample_region.specs.declared.edges.Edge.{Edge}
 use Rattle.sample_region.specs.declared.sweep.Crossing.{Crossing}
 use Rattle.sample_region.proofs.OutsideLemmas.{Ends, rings_ends}
-use Rattle.region_rows.proofs.OrderLemmas.{lt_true, lt_false, lt_is}
+use Rattle.ass_num.proofs.OrderLemmas.{lt_true, lt_false, lt_is}
 use Rattle.sample_region.proofs.WindingLemmas.{Way, crossing_of, crossings_of, SameSums, flat_sums, even, inside_is, spans_parts}
 
 -- ---- a ring, edge by edge

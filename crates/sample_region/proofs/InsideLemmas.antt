@@ -8,7 +8,7 @@ use Rattle.ass_num.specs.Limits.{IsOutlinePoint, IsOutline}
 use Rattle.ass_num.specs.Winding.{place, spans, inside}
 use Rattle.ass_num.specs.declared.geometry.Point.{Point}
 use Rattle.region_rows.proofs.LimitLemmas.{Near}
-use Rattle.region_rows.proofs.OrderLemmas.{le_false}
+use Rattle.ass_num.proofs.OrderLemmas.{le_false}
 use Rattle.sample_region.specs.Crossings.{crossing_at, row_crossings, ups, downs_to, ups_to, is_odd, is_inside, IsSweepable}
 use Rattle.sample_region.specs.Edges.{IsEdge}
 use Rattle.sample_region.specs.Heights.{IsHeightBetween}

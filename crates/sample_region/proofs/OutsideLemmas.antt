@@ -4,7 +4,7 @@ use Rattle.std.proofs.lemmas.Int.{ints, by_lt_z}
 use Rattle.std.proofs.lemmas.Bool.{and_left, and_right}
 use Rattle.std.proofs.lemmas.List.Sums.{sum_by-cons}
 use Rattle.std.proofs.lemmas.List.Elements.{All-head, All-tail, All-cons, All-nil, All-append}
-use Rattle.region_rows.proofs.OrderLemmas.{lt_false, le_false}
+use Rattle.ass_num.proofs.OrderLemmas.{lt_false, le_false}
 use Rattle.ass_num.specs.Winding.{place, spans, counts, line, edges, edges_of, inside}
 use Rattle.sample_region.specs.Heights.{IsHeightBetween}
 use Rattle.sample_region.proofs.WindingLemmas.{Way}

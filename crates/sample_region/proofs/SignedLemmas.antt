@@ -3,7 +3,7 @@ use Rattle.std.proofs.Common.{◌≡◌, ℕ, suc, ◌+◌, ◌-◌, ◌*◌, �
 use Rattle.std.proofs.Math.Nat.{mul-le-mul_right}
 use Rattle.std.proofs.lemmas.Int.{ints, by_lt_z, unsigned_abs-mul}
 use Rattle.std.specs.Int.{int_div_euclid}
-use Rattle.region_rows.proofs.OrderLemmas.{lt_true, lt_false}
+use Rattle.ass_num.proofs.OrderLemmas.{lt_true, lt_false}
 use borrow.Author.Differences.{up, down, sum_is_lem, neg_is, product_is}
 
 pub same_lt : (a b c d : ℤ) → (a <ℤ b → c <ℤ d) → (c <ℤ d → a <ℤ b) → int_lt a b ≡ int_lt c d

@@ -7,7 +7,7 @@ use Rattle.std.proofs.lemmas.List.Elements.{All-head, All-tail, All-from_get_or,
 use Rattle.ass_num.specs.Winding.{spans}
 use Rattle.sample_region.specs.Edges.{IsEdge, IsOrdered, IsSwept, IsCrossed, unended}
 use Rattle.sample_region.specs.declared.edges.Edge.{Edge}
-use Rattle.region_rows.proofs.OrderLemmas.{lt_true, lt_false, le_true, le_false, lt_is}
+use Rattle.ass_num.proofs.OrderLemmas.{lt_true, lt_false, le_true, le_false, lt_is}
 
 -- tests that agree at each item of a list keep the same items
 filter_same_at : {X : Type 0} (p q : X → Bool) (xs : List X) → All (λ x. p x ≡ q x) xs → filter p xs ≡ filter q xs

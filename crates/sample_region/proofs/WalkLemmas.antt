@@ -9,7 +9,7 @@ use Rattle.std.proofs.lemmas.Int.{clamps}
 use Rattle.std.specs.Int.{int_min, int_max}
 use Rattle.sample_region.specs.declared.row.Walk.{Walk}
 use Rattle.std.proofs.lemmas.Bool.{eq-eqb, ne_eqb}
-use Rattle.region_rows.proofs.OrderLemmas.{lt_true, lt_false, le_true, le_false}
+use Rattle.ass_num.proofs.OrderLemmas.{lt_true, lt_false, le_true, le_false}
 use Rattle.region_rows.proofs.JoinLemmas.{or_false, in_runs-push}
 use Rattle.ass_num.specs.Regions.{in_runs, ascend_from, ascend}
 use Rattle.sample_region.specs.Crossings.{downs, ups, downs_to, ups_to, IsAscending}

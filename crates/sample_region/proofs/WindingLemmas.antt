@@ -5,7 +5,7 @@ use Rattle.std.proofs.lemmas.Int.{ints, by_lt_z}
 use Rattle.std.proofs.lemmas.Bool.{and_parts}
 use Rattle.std.proofs.lemmas.List.Sums.{sum_by-cons, sum_by-append}
 use Rattle.std.specs.Ordering.{int_eq}
-use Rattle.region_rows.proofs.OrderLemmas.{lt_true, lt_false, le_true, le_false, lt_is, le_is}
+use Rattle.ass_num.proofs.OrderLemmas.{lt_true, lt_false, le_true, le_false, lt_is, le_is}
 use Rattle.sample_region.proofs.SignedLemmas.{below_cut}
 use Rattle.ass_num.specs.Winding.{place, spans, counts, line, edges, edges_of, inside}
 use Rattle.sample_region.specs.Crossings.{cut_of, downs, ups, downs_to, ups_to, downs_after, ups_after, is_odd}

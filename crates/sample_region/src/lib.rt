@@ -4,7 +4,6 @@
 mod cut;
 mod edges;
 mod either;
-mod laws;
 mod region;
 mod row;
 mod sweep;
@@ -12,5 +11,4 @@ mod sweep;
 mod tests;
 
 pub use either::union;
-pub use laws::one_region;
 pub use region::region_of;

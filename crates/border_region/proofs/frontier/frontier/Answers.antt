@@ -1,6 +1,6 @@
 use Rattle.std.proofs.Common.{rules, arith, ◌≡◌, ℤ, pos, ◌+ℤ◌, ◌-ℤ◌, ◌≤ℤ◌, ◌<ℤ◌, to_z, w32, to_z-of_z, FitsSigned}
 use Rattle.std.proofs.lemmas.Int.{ints}
-use Rattle.region_rows.proofs.OrderLemmas.{lt_is, lt_not}
+use Rattle.ass_num.proofs.OrderLemmas.{lt_is, lt_not}
 use Rattle.border_region.proofs.FrontierLemmas.{HasFound, found_none, found_same, found_more, found_all}
 use Rattle.border_region.proofs.frontier.frontier.Goals as goal
 use Rattle.border_region.proofs.frontier.frontier.Goals.{then-not-covers_row+in_ok-push, else-not-covers_row}

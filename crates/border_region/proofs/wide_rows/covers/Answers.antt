@@ -1,6 +1,6 @@
 use Rattle.std.proofs.Common.{rules, arith, FitsSigned, w32, to_z-of_z, pos, get_or}
 use Rattle.ass_num.specs.declared.region.Run.{Run}
-use Rattle.region_rows.proofs.OrderLemmas.{le_is}
+use Rattle.ass_num.proofs.OrderLemmas.{le_is}
 use Rattle.border_region.proofs.WideLemmas.{covered_by}
 use Rattle.border_region.proofs.wide_rows.covers.Goals as goal
 

@@ -1,6 +1,6 @@
 use Rattle.std.proofs.Common.{◌≡◌, length, sym, ◌∙◌, rules, arith}
 use Rattle.std.proofs.lemmas.Bool.Decides.{nat_tests}
-use Rattle.mask_cover.proofs.RowLemmas.{row_ascends}
+use Rattle.ass_num.proofs.RegionLemmas.{row_ascends}
 use Rattle.mask_cover.proofs.SpanLemmas.{span_skip, span_more, no_items}
 use Rattle.mask_cover.proofs.columns.span_of.Goals as goal
 use Rattle.mask_cover.proofs.columns.span_of.Goals.{then-not-is_empty, else-not-is_empty}

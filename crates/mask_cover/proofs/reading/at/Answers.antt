@@ -1,6 +1,6 @@
 use Rattle.std.proofs.Common.{◌≡◌, ◌*◌, ◌<◌, ◌⊎◌, pos, ◌+ℤ◌, ◌<ℤ◌, ◌≤ℤ◌, length, sym, arith, rules}
 use Rattle.std.proofs.lemmas.Int.{ints}
-use Rattle.mask_cover.proofs.MaskLemmas.{cell_below, mask_length, value_inside, value_over}
+use Rattle.ass_num.proofs.MaskLemmas.{cell_below, mask_length, value_inside, value_over}
 use Rattle.mask_cover.proofs.reading.at.Goals as goal
 
 pub returns-in_default-place : goal.returns-in_default-place

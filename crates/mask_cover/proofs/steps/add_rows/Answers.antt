@@ -1,6 +1,7 @@
 use Rattle.std.proofs.Common.{◌≡◌, ◌+◌, ◌-◌, ◌*◌, pos, [], get_or, w64, to_z, of_z, refl, sym, ap, ◌∙◌, arith}
 use Rattle.std.proofs.lemmas.Int.{ints, to_z-of_z}
-use Rattle.mask_cover.proofs.RowLemmas.{row_ascends, cell_count-none, cell_count-le, cell_count-row, cell_count-above, cell_count-below, counts_of}
+use Rattle.ass_num.proofs.RegionLemmas.{row_ascends}
+use Rattle.mask_cover.proofs.RowLemmas.{cell_count-none, cell_count-le, cell_count-row, cell_count-above, cell_count-below, counts_of}
 use Rattle.mask_cover.specs.Steps.{cell_count, row_count}
 use Rattle.mask_cover.proofs.steps.add_rows.Goals as goal
 use Rattle.mask_cover.proofs.steps.add_rows.Goals.{then-above-k+then-k-above, else-above-k, else-above-k-via-then-above-k+else-k-above, else-above-k-via-else-above-k}

@@ -1,4 +1,4 @@
-use Rattle.region_rows.proofs.UniqueLemmas.{row_ascends, region_parts}
+use Rattle.ass_num.proofs.RegionLemmas.{row_ascends, region_parts}
 use Rattle.region_rows.proofs.rows.row.Goals as goal
 
 pub returns-clause-ascends : goal.returns-clause-ascends

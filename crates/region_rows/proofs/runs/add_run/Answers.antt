@@ -1,6 +1,6 @@
 use Rattle.std.proofs.Common.{rules, FitsSigned, w32, to_z-of_z}
 use Rattle.region_rows.proofs.JoinLemmas.{joined_apart, joined_meeting}
-use Rattle.region_rows.proofs.OrderLemmas.{lt_is, lt_not}
+use Rattle.ass_num.proofs.OrderLemmas.{lt_is, lt_not}
 use Rattle.region_rows.proofs.runs.add_run.Goals as goal
 
 pub returns-then-last-run : goal.returns-then-last-run

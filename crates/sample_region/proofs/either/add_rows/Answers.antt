@@ -1,6 +1,6 @@
 use Rattle.std.proofs.Common.{arith, ◌≡◌, pos, ◌+ℤ◌, to_z, w32, to_z-of_z, FitsSigned, ◌≤ℤ◌, ◌<ℤ◌}
 use Rattle.std.proofs.lemmas.Int.{ints}
-use Rattle.region_rows.proofs.OrderLemmas.{lt_is, lt_not}
+use Rattle.ass_num.proofs.OrderLemmas.{lt_is, lt_not}
 use Rattle.sample_region.proofs.either.add_rows.Goals as goal
 
 pub loop-j-preserved : goal.loop-j-preserved

@@ -7,7 +7,7 @@ use Rattle.region_rows.proofs.GrowthLemmas.{empty_members}
 use Rattle.region_rows.proofs.LimitLemmas.{near_wider, within_from}
 use Rattle.sample_region.proofs.InsideLemmas.{columns_near, rows_near}
 use Rattle.sample_region.proofs.OutsideLemmas.{outside, outside_all}
-use Rattle.region_rows.proofs.OrderLemmas.{lt_is}
+use Rattle.ass_num.proofs.OrderLemmas.{lt_is}
 use Rattle.sample_region.proofs.region.region_of.Goals as goal
 
 pub returns-then-heights-clause-samples : goal.returns-then-heights-clause-samples

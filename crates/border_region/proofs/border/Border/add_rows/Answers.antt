@@ -1,6 +1,6 @@
 use Rattle.std.proofs.Common.{arith, refl, ◌≡◌, pos, ◌+ℤ◌, to_z, w32, to_z-of_z, FitsSigned, ◌≤ℤ◌, ◌<ℤ◌}
 use Rattle.std.proofs.lemmas.Int.{ints}
-use Rattle.region_rows.proofs.OrderLemmas.{lt_is, lt_not}
+use Rattle.ass_num.proofs.OrderLemmas.{lt_is, lt_not}
 use Rattle.border_region.proofs.border.Border.add_rows.Goals as goal
 
 pub add_row-requires-clause-rows : goal.add_row-requires-clause-rows

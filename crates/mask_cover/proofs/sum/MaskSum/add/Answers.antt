@@ -8,7 +8,7 @@ use Rattle.ass_num.specs.Coverage.{box_of, InBox, IsMovedPixel}
 use Rattle.ass_num.specs.Masks.{MaskValue}
 use Rattle.mask_cover.specs.Rows.{AddsCells}
 use Rattle.mask_cover.specs.Sums.{AddsMask}
-use Rattle.mask_cover.proofs.MaskLemmas.{mask_length}
+use Rattle.ass_num.proofs.MaskLemmas.{mask_length}
 use Rattle.mask_cover.proofs.ExtentLemmas.{empty_mask, full_mask, HasMoved, has_moved, start_is}
 use Rattle.mask_cover.proofs.RowSums.{add_is, add_none}
 use Rattle.mask_cover.proofs.sum.MaskSum.add.Goals as goal

@@ -1,7 +1,7 @@
 use Rattle.std.proofs.Common.{rules, arith, ℕ, Bool, true, false, ◌+◌, ◌≡◌, to_z-of_z, FitsSigned, w32, cond, not}
 use Rattle.std.specs.Int.{from_bool}
 use Rattle.sample_region.proofs.WalkLemmas.{reopens, stayed, closed, closed_empty}
-use Rattle.region_rows.proofs.OrderLemmas.{lt_is, lt_not}
+use Rattle.ass_num.proofs.OrderLemmas.{lt_is, lt_not}
 use Rattle.sample_region.proofs.row.Walk.pass.Goals as goal
 
 bit : (b : Bool) (n m : ℕ) → m ≡ from_bool b → n + m ≡ n + cond b 1 0

@@ -4,7 +4,7 @@ use Rattle.std.proofs.lemmas.List.{drop_all}
 use Rattle.std.proofs.lemmas.List.Elements.{filter_more, All-more, All-nil, All-get_or}
 use Rattle.sample_region.specs.Edges.{unended, IsEdge}
 use Rattle.sample_region.specs.declared.edges.Edge.{Edge}
-use Rattle.region_rows.proofs.OrderLemmas.{lt_is, lt_not}
+use Rattle.ass_num.proofs.OrderLemmas.{lt_is, lt_not}
 use Rattle.sample_region.proofs.SweepLemmas.{all_below}
 use Rattle.sample_region.proofs.sweep.Sweep.begin_edges.Goals as goal
 

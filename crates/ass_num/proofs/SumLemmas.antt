@@ -1,6 +1,6 @@
 -- Sums of values in a row.
-use Rattle.std.proofs.Common.{◌≡◌, ℕ, zero, suc, ◌+◌, ◌*◌, ◌<◌, ◌≤◌, ℤ, pos, ◌+ℤ◌, refl, ap, arith}
-use Rattle.std.proofs.lemmas.Int.{ints}
+use Rattle.std.proofs.Common.{◌≡◌, ℕ, zero, suc, ◌+◌, ◌*◌, ◌<◌, ◌≤◌, ℤ, pos, ◌+ℤ◌, ◌<ℤ◌, ◌≤ℤ◌, refl, ap, arith}
+use Rattle.std.proofs.lemmas.Int.{ints, by_lt_z}
 use Rattle.ass_num.specs.Coverage.{sum_from}
 
 -- equal values have equal sums
@@ -26,3 +26,23 @@ pub sum_from-bound : (f : ℤ → ℕ) (i : ℤ) (n most : ℕ) → ((k : ℕ) �
 unfolding sum_from
 sum_from-bound f i zero most bound = omega arith
 sum_from-bound f i (suc n) most bound = omega (arith, sum_from-bound f i n most (λ k h. bound k (omega arith)), bound n (omega arith))
+
+pub sum_from-add : (f g h : ℤ → ℕ) (i : ℤ) (n : ℕ) → ((k : ℤ) → f k ≡ g k + h k) → sum_from f i n ≡ sum_from g i n + sum_from h i n
+unfolding sum_from
+sum_from-add f g h i zero e = refl
+sum_from-add f g h i (suc n) e = omega (arith, sum_from-add f g h i n e, e (i +ℤ pos n))
+
+-- a positive one makes the sum positive, and in a positive sum some one is
+pub sum_from-positive : (f : ℤ → ℕ) (i : ℤ) (n b : ℕ) → b < n → 0 < f (i +ℤ pos b) → 0 < sum_from f i n
+unfolding sum_from
+sum_from-positive f i zero b p h = absurd (omega arith)
+sum_from-positive f i (suc n) b p h = by_lt_z (pos b) (pos n)
+    (λ (less : pos b <ℤ pos n). omega (arith, sum_from-positive f i n b (omega (arith, ints)) h))
+    (λ (order : pos n ≤ℤ pos b). let same : b ≡ n = omega (arith, ints) in omega (arith, h, ap (λ z. f (i +ℤ pos z)) same))
+
+pub some_positive : (f : ℤ → ℕ) (i : ℤ) (n : ℕ) → 0 < sum_from f i n → (b : ℕ) × (b < n) × (0 < f (i +ℤ pos b))
+unfolding sum_from
+some_positive f i zero h = absurd (omega arith)
+some_positive f i (suc n) h = by_lt_z (pos 0) (pos (sum_from f i n))
+    (λ (some : pos 0 <ℤ pos (sum_from f i n)). let r = some_positive f i n (omega (arith, ints)) in (r.0, omega (arith, r.1), r.2))
+    (λ (none : pos (sum_from f i n) ≤ℤ pos 0). (n, omega arith, omega (arith, ints)))

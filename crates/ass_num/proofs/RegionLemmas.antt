@@ -1,35 +1,38 @@
--- Two regions in canonical form with the same members are one.
+-- Rows of runs by their parts; two regions in canonical form with the same members are one.
 use Rattle.std.proofs.Common.{◌≡◌, ℕ, zero, suc, Bool, true, false, ◌&&◌, ℤ, pos, negsuc, ◌+ℤ◌, ◌-ℤ◌, ◌≤ℤ◌, ◌<ℤ◌, refl, sym, ap, ◌∙◌, arith, int_lt, int_le, List, [], ◌∷◌, length, get_or}
 use Rattle.std.proofs.lemmas.Int.{ints, by_lt_z, clamps}
 use Rattle.std.specs.Int.{int_min}
 use Rattle.std.proofs.lemmas.Bool.{and_parts, false≢true}
 use Rattle.std.specs.Ordering.{int_eq}
-use Rattle.region_rows.proofs.OrderLemmas.{lt_true, lt_false, le_true, le_false, lt_is}
+use Rattle.ass_num.proofs.OrderLemmas.{lt_true, lt_false, le_true, le_false, lt_is, first_in}
+use Rattle.std.proofs.Math.Bool.{and-false}
 use Rattle.ass_num.specs.Regions.{in_runs, ascend, ascend_from, row_at, member, has_run, all_ascend, first_has_run, last_has_run, last_has_run_after, top_fits, is_canonical}
 use Rattle.ass_num.specs.declared.region.Run.{Run}
 
-no_and : (b : Bool) → (b && false) ≡ false
-no_and true = refl
-no_and false = refl
-
 -- ---- one row
-ascends_parts : (low : ℤ) (r : Run) (rs : List Run) → ascend_from low (r ∷ rs) ≡ true → (low <ℤ r.from) × (r.from <ℤ r.to) × (ascend_from r.to rs ≡ true)
+pub ascends_parts : (low : ℤ) (r : Run) (rs : List Run) → ascend_from low (r ∷ rs) ≡ true → (low <ℤ r.from) × (r.from <ℤ r.to) × (ascend_from r.to rs ≡ true)
 ascends_parts low r rs h =
     let p = and_parts (int_lt low r.from && int_lt r.from r.to) (ascend_from r.to rs) h in
     let q = and_parts (int_lt low r.from) (int_lt r.from r.to) p.0 in
     (lt_is low r.from q.0, lt_is r.from r.to q.1, p.1)
 
+pub first_ascends : (r : Run) (rs : List Run) → ascend (r ∷ rs) ≡ true → (r.from <ℤ r.to) × (ascend_from r.to rs ≡ true)
+first_ascends r rs h = let p = and_parts (int_lt r.from r.to) (ascend_from r.to rs) h in (lt_is r.from r.to p.0, p.1)
+
+pub rest_ascends : (r : Run) (rs : List Run) → ascend (r ∷ rs) ≡ true → ascend rs ≡ true
+rest_ascends r [] h = refl
+rest_ascends r (s ∷ rs) h =
+    let p = ascends_parts r.to s rs (first_ascends r (s ∷ rs) h).1 in
+    rw (lt_true s.from s.to p.1) p.2
+
 -- no sample up to the low end lies in a run
-below : (low i : ℤ) (rs : List Run) → ascend_from low rs ≡ true → i ≤ℤ low → in_runs rs i ≡ false
+pub below : (low i : ℤ) (rs : List Run) → ascend_from low rs ≡ true → i ≤ℤ low → in_runs rs i ≡ false
 below low i [] h l = refl
 below low i (r ∷ rs) h l =
     let p = ascends_parts low r rs h in
     let a = p.0 in
     let b = p.1 in
     rw (le_false r.from i (omega (arith, ints)), below r.to i rs p.2 (omega (arith, ints))) refl
-
-pub within : (r : Run) (rs : List Run) (i : ℤ) → r.from ≤ℤ i → i <ℤ r.to → in_runs (r ∷ rs) i ≡ true
-within r rs i a b = rw (le_true r.from i a, lt_true i r.to b) refl
 
 not_yet : (low : ℤ) (r : Run) (rs : List Run) (i : ℤ) → ascend_from low (r ∷ rs) ≡ true → i <ℤ r.from → in_runs (r ∷ rs) i ≡ false
 not_yet low r rs i h l =
@@ -50,13 +53,13 @@ not_earlier : (low : ℤ) (x : Run) (xs : List Run) (y : Run) (ys : List Run) �
 not_earlier low x xs y ys h k s l =
     let p = ascends_parts low x xs h in
     let a = p.1 in
-    false≢true (sym (not_yet low y ys x.from k l) ∙ sym (s x.from) ∙ within x xs x.from (omega (arith, ints)) a)
+    false≢true (sym (not_yet low y ys x.from k l) ∙ sym (s x.from) ∙ first_in x xs x.from (omega (arith, ints)) a)
 
 not_shorter : (low : ℤ) (x : Run) (xs : List Run) (y : Run) (ys : List Run) → ascend_from low (x ∷ xs) ≡ true → Same (x ∷ xs) (y ∷ ys) → x.from ≡ y.from → x.to <ℤ y.to → ⊥
 not_shorter low x xs y ys h s e l =
     let p = ascends_parts low x xs h in
     let a = p.1 in
-    false≢true (sym (at_end low x xs h) ∙ s x.to ∙ within y ys x.to (omega (arith, ints)) l)
+    false≢true (sym (at_end low x xs h) ∙ s x.to ∙ first_in y ys x.to (omega (arith, ints)) l)
 
 equal_from : (a b : ℤ) → (a <ℤ b → ⊥) → (b <ℤ a → ⊥) → a ≡ b
 equal_from a b h k = by_lt_z a b (λ (l : a <ℤ b). absurd (h l)) (λ (l : b ≤ℤ a). by_lt_z b a (λ (m : b <ℤ a). absurd (k m)) (λ (m : a ≤ℤ b). omega (arith, ints)))
@@ -68,13 +71,13 @@ tails : (low : ℤ) (x : Run) (xs ys : List Run) → ascend_from low (x ∷ xs) 
 tails low x xs ys h k s i =
     let p = ascends_parts low x xs h in
     by_lt_z x.to i
-    (λ (l : x.to <ℤ i). rw (lt_false i x.to (omega (arith, ints)), no_and (int_le x.from i)) at (s i))
+    (λ (l : x.to <ℤ i). rw (lt_false i x.to (omega (arith, ints)), and-false (int_le x.from i)) at (s i))
     (λ (l : i ≤ℤ x.to). below x.to i xs p.2 l ∙ sym (below x.to i ys k l))
 
 pub same_from : (low : ℤ) (xs ys : List Run) → ascend_from low xs ≡ true → ascend_from low ys ≡ true → Same xs ys → xs ≡ ys
 same_from low [] [] h k s = refl
-same_from low [] (y ∷ ys) h k s = let p = ascends_parts low y ys k in let a = p.1 in absurd (false≢true (s y.from ∙ within y ys y.from (omega (arith, ints)) a))
-same_from low (x ∷ xs) [] h k s = let p = ascends_parts low x xs h in let a = p.1 in absurd (false≢true (sym (s x.from) ∙ within x xs x.from (omega (arith, ints)) a))
+same_from low [] (y ∷ ys) h k s = let p = ascends_parts low y ys k in let a = p.1 in absurd (false≢true (s y.from ∙ first_in y ys y.from (omega (arith, ints)) a))
+same_from low (x ∷ xs) [] h k s = let p = ascends_parts low x xs h in let a = p.1 in absurd (false≢true (sym (s x.from) ∙ first_in x xs x.from (omega (arith, ints)) a))
 same_from low (x ∷ xs) (y ∷ ys) h k s =
     let e : x.from ≡ y.from = equal_from x.from y.from (not_earlier low x xs y ys h k s) (not_earlier low y ys x xs k h (λ i. sym (s i))) in
     let f : x.to ≡ y.to = equal_from x.to y.to (not_shorter low x xs y ys h s e) (not_shorter low y ys x xs k (λ i. sym (s i)) (sym e)) in
@@ -86,8 +89,8 @@ same_from low (x ∷ xs) (y ∷ ys) h k s =
 -- two rows lie above some number
 pub same_row : (xs ys : List Run) → ascend xs ≡ true → ascend ys ≡ true → Same xs ys → xs ≡ ys
 same_row [] [] h k s = refl
-same_row [] (y ∷ ys) h k s = let p = and_parts (int_lt y.from y.to) (ascend_from y.to ys) k in absurd (false≢true (s y.from ∙ within y ys y.from (omega (arith, ints)) (lt_is y.from y.to p.0)))
-same_row (x ∷ xs) [] h k s = let p = and_parts (int_lt x.from x.to) (ascend_from x.to xs) h in absurd (false≢true (sym (s x.from) ∙ within x xs x.from (omega (arith, ints)) (lt_is x.from x.to p.0)))
+same_row [] (y ∷ ys) h k s = let p = and_parts (int_lt y.from y.to) (ascend_from y.to ys) k in absurd (false≢true (s y.from ∙ first_in y ys y.from (omega (arith, ints)) (lt_is y.from y.to p.0)))
+same_row (x ∷ xs) [] h k s = let p = and_parts (int_lt x.from x.to) (ascend_from x.to xs) h in absurd (false≢true (sym (s x.from) ∙ first_in x xs x.from (omega (arith, ints)) (lt_is x.from x.to p.0)))
 same_row (x ∷ xs) (y ∷ ys) h k s =
     let low = int_min x.from y.from -ℤ pos 1 in
     same_from low (x ∷ xs) (y ∷ ys) (rw (lt_true low x.from (omega (arith, ints, clamps))) h) (rw (lt_true low y.from (omega (arith, ints, clamps))) k) s
@@ -95,7 +98,7 @@ same_row (x ∷ xs) (y ∷ ys) h k s =
 -- ---- the rows
 pub full_has : (r : List Run) → ascend r ≡ true → has_run r ≡ true → (i : ℤ) × (in_runs r i ≡ true)
 full_has [] h k = absurd (false≢true k)
-full_has (x ∷ xs) h k = let p = and_parts (int_lt x.from x.to) (ascend_from x.to xs) h in (x.from, within x xs x.from (omega (arith, ints)) (lt_is x.from x.to p.0))
+full_has (x ∷ xs) h k = let p = and_parts (int_lt x.from x.to) (ascend_from x.to xs) h in (x.from, first_in x xs x.from (omega (arith, ints)) (lt_is x.from x.to p.0))
 
 all_parts : (r : List Run) (rows : List (List Run)) → all_ascend (r ∷ rows) ≡ true → (ascend r ≡ true) × (all_ascend rows ≡ true)
 all_parts r rows h = and_parts (ascend r) (all_ascend rows) h
