@@ -1,7 +1,7 @@
 -- Sums of samples under tests that agree, and masks of the same samples.
-use Rattle.std.proofs.Common.{◌≡◌, ℕ, zero, suc, ◌<◌, Bool, if◌then◌else◌, true, ℤ, pos, ◌+ℤ◌, List, refl, sym, ap, ◌∙◌, arith}
-use Rattle.ass_num.specs.Coverage.{sum_from, first_sample, counted, samples_of, coverage_byte, box_of, InBox, IsCover, IsSum}
-use Rattle.ass_num.specs.Masks.{MaskValue, is_mask, value_at}
+use Rattle.std.proofs.Common.{◌≡◌, ℕ, Bool, if◌then◌else◌, true, ℤ, pos, ◌+ℤ◌, List, sym, ap, ◌∙◌, arith}
+use Rattle.ass_num.specs.Coverage.{sum_from, first_sample, counted, samples_of, coverage_byte, box_of, IsCover, IsSum}
+use Rattle.ass_num.specs.Masks.{MaskValue, is_mask}
 use Rattle.ass_num.proofs.SumLemmas.{sum_from-same}
 use Rattle.ass_num.proofs.MaskLemmas.{one_box, one_mask}
 

@@ -6,7 +6,7 @@ use Rattle.std.proofs.lemmas.List.{ext_get_or, nil_from_length}
 use Rattle.std.proofs.lemmas.Bool.{and_parts, false≢true}
 use Rattle.std.proofs.lemmas.Bool.Decides.{nat_tests}
 use Rattle.std.specs.Ordering.{int_eq}
-use Rattle.ass_num.specs.Coverage.{PixelBox, box_of, InBox, IsLeastBox}
+use Rattle.ass_num.specs.Coverage.{PixelBox, box_of, InBox}
 use Rattle.ass_num.specs.Limits.{IsMaskWithin}
 use Rattle.ass_num.specs.Masks.{MaskValue, is_mask, value_at, offset_value}
 

@@ -1,5 +1,5 @@
 -- The tests of order on whole numbers, and the facts that they decide.
-use Rattle.std.proofs.Common.{◌≡◌, Bool, true, false, ◌&&◌, ◌||◌, ℤ, ◌≤ℤ◌, ◌<ℤ◌, List, ◌∷◌, refl, arith, int_lt, int_le}
+use Rattle.std.proofs.Common.{◌≡◌, true, false, ℤ, ◌≤ℤ◌, ◌<ℤ◌, List, ◌∷◌, refl, arith, int_lt, int_le}
 use Rattle.std.proofs.lemmas.Int.{ints}
 use Rattle.ass_num.specs.Regions.{in_runs}
 use Rattle.ass_num.specs.declared.region.Run.{Run}

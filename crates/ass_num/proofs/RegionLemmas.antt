@@ -1,5 +1,5 @@
 -- Rows of runs by their parts; two regions in canonical form with the same members are one.
-use Rattle.std.proofs.Common.{◌≡◌, ℕ, zero, suc, Bool, true, false, ◌&&◌, ℤ, pos, negsuc, ◌+ℤ◌, ◌-ℤ◌, ◌≤ℤ◌, ◌<ℤ◌, refl, sym, ap, ◌∙◌, arith, int_lt, int_le, List, [], ◌∷◌, length, get_or}
+use Rattle.std.proofs.Common.{◌≡◌, ℕ, zero, suc, true, false, ◌&&◌, ℤ, pos, negsuc, ◌+ℤ◌, ◌-ℤ◌, ◌≤ℤ◌, ◌<ℤ◌, refl, sym, ap, ◌∙◌, arith, int_lt, int_le, List, [], ◌∷◌, length, get_or}
 use Rattle.std.proofs.lemmas.Int.{ints, by_lt_z, clamps}
 use Rattle.std.specs.Int.{int_min}
 use Rattle.std.proofs.lemmas.Bool.{and_parts, false≢true}

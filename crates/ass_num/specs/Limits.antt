@@ -1,5 +1,5 @@
 -- Public: the limits that several crates cite, and how far numbers, points and samples lie from 0. These are conditions of calls.
-use Rattle.std.specs.Prelude.{◌≡◌, ℕ, ℤ, pos, neg_ℤ, ◌+◌, ◌+ℤ◌, ◌≤◌, ◌≤ℤ◌, List, length, All}
+use Rattle.std.specs.Prelude.{ℕ, ℤ, pos, neg_ℤ, ◌+◌, ◌+ℤ◌, ◌≤◌, ◌≤ℤ◌, List, length, All}
 use Rattle.ass_num.specs.Masks.{MaskValue}
 use Rattle.ass_num.specs.declared.geometry.Point.{Point}
 use Rattle.ass_num.specs.declared.region.Run.{Run}

@@ -1,5 +1,5 @@
 -- Public: the samples of a row and the winding numbers of closed rings at them.
-use Rattle.std.specs.Prelude.{ℕ, ℤ, pos, ◌+ℤ◌, ◌-ℤ◌, ◌*ℤ◌, Bool, not, ◌&&◌, List, [], ◌∷◌, count_by, flat_map, int_lt, int_le}
+use Rattle.std.specs.Prelude.{ℤ, pos, ◌+ℤ◌, ◌-ℤ◌, ◌*ℤ◌, Bool, not, ◌&&◌, List, [], ◌∷◌, count_by, flat_map, int_lt, int_le}
 use Rattle.std.specs.Ordering.{int_eq}
 use Rattle.ass_num.specs.declared.geometry.Point.{Point}
 

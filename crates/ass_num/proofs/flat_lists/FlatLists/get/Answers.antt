@@ -1,4 +1,4 @@
-use Rattle.std.proofs.Common.{rules, arith, ◌∙◌, ◌≡◌, ◌≤◌, length, vec_len}
+use Rattle.std.proofs.Common.{rules, arith, ◌∙◌, ◌≡◌, length, vec_len}
 use Rattle.ass_num.proofs.PiecesLemmas.{place_within, piece_ends, piece_is}
 use Rattle.ass_num.proofs.flat_lists.FlatLists.get.Goals as goal
 

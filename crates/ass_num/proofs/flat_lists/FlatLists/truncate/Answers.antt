@@ -1,4 +1,4 @@
-use Rattle.std.proofs.Common.{rules, arith, ◌∙◌, ◌≡◌, sym, length, take, length-take}
+use Rattle.std.proofs.Common.{arith, ◌≡◌, sym, length, take, length-take}
 use Rattle.ass_num.specs.Pieces.{start}
 use Rattle.ass_num.proofs.PiecesLemmas.{count_within, start-above, take-pieces, IsCut-take}
 use Rattle.ass_num.proofs.flat_lists.FlatLists.truncate.Goals as goal
