@@ -1,4 +1,4 @@
--- The rows of a region while it grows.
+-- Public: the rows of a region while it grows.
 use Rattle.std.specs.Prelude.{◌≡◌, ℕ, ℤ, pos, ◌+ℤ◌, ◌<ℤ◌, ◌≤◌, Bool, true, List, [], length, take, slice_index_or}
 use Rattle.ass_num.specs.Regions.{in_runs, ascend, member, all_ascend, first_has_run, last_has_run}
 use Rattle.ass_num.specs.declared.region.Run.{Run}

@@ -1,4 +1,4 @@
--- Two rows of runs that are joined to one.
+-- Public: two rows of runs that are joined to one.
 use Rattle.std.specs.Prelude.{◌≡◌, ℕ, ℤ, ◌≤ℤ◌, ◌<◌, true, ◌||◌, ◌&&◌, int_le, int_lt, List, All, length, take, slice_index_or}
 use Rattle.ass_num.specs.Regions.{in_runs, ascend}
 use Rattle.ass_num.specs.declared.region.Run.{Run}

@@ -1,6 +1,5 @@
--- A region widened by an ellipse of samples.
+-- Public: a set of samples widened by an ellipse of samples.
 use Rattle.std.specs.Prelude.{ℕ, zero, suc, ◌+◌, ◌*◌, ℤ, pos, negsuc, ◌+ℤ◌, Bool, ◌&&◌, ◌||◌, nat_le, unsigned_abs}
-use Rattle.ass_num.specs.Regions.{RegionValue, member}
 
 -- some whole number whose size is at most n passes
 unfoldable pub some_within : ℕ → (ℤ → Bool) → Bool
@@ -16,7 +15,6 @@ in_ellipse rx ry a b =
     nat_le (unsigned_abs a) rx && nat_le (unsigned_abs b) ry
     && nat_le (square (unsigned_abs a) * square ry + square (unsigned_abs b) * square rx) (square rx * square ry)
 
--- some sample of the region lies within the ellipse around sample i of row j
-unfoldable pub in_widened : RegionValue → ℕ → ℕ → ℤ → ℤ → Bool
-in_widened region rx ry i j =
-    some_within ry (λ b. some_within rx (λ a. in_ellipse rx ry a b && member region.top region.rows (i +ℤ a) (j +ℤ b)))
+-- Some sample that the test passes lies within the ellipse around sample i of row j. A region's test is `member` of its top and its rows.
+unfoldable pub in_widened : (ℤ → ℤ → Bool) → ℕ → ℕ → ℤ → ℤ → Bool
+in_widened has rx ry i j = some_within ry (λ b. some_within rx (λ a. in_ellipse rx ry a b && has (i +ℤ a) (j +ℤ b)))

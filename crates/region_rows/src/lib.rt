@@ -2,9 +2,11 @@
 #![tactic(auto)]
 
 mod growth;
+mod laws;
 mod rows;
 mod runs;
 
 pub use growth::{Growth, RowRange};
+pub use laws::same_widened;
 pub use rows::{end, row};
 pub use runs::{add_run, join};

@@ -1,16 +1,16 @@
 //! The rows of a region.
 
-ghost use Rattle.std.specs.Prelude.{◌≡◌, pos, negsuc, ◌+ℤ◌, ◌-ℤ◌, ◌≤ℤ◌, true, length};
-ghost use Rattle.ass_num.specs.Limits.{IsRegionWithin};
+ghost use Rattle.std.specs.Prelude.{◌≡◌, pos, neg_ℤ, ◌+ℤ◌, ◌-ℤ◌, ◌≤ℤ◌, true, length};
+ghost use Rattle.ass_num.specs.Limits.{IsRegionWithin, IsWithin, max_sample};
 ghost use Rattle.ass_num.specs.Regions.{ascend, row_at};
+ghost use Rattle.region_rows.specs.Limits.{max_row};
 
 use ass_num::{Region, Run};
 
 /// The runs of row j.
 pub fn row(region: &Region, j: i32) -> &[Run]
-    requires top { negsuc 999999 ≤ℤ region.now.top }
-    requires low { negsuc 999999 ≤ℤ j }
-    requires high { j ≤ℤ pos 1000000 }
+    requires top { neg_ℤ (pos max_row) ≤ℤ region.now.top }
+    requires row { IsWithin max_row j }
     ensures runs { result.now ≡ row_at region.now.rows (j -ℤ region.now.top) }
     ensures ascends { ascend result.now ≡ true }
 {
@@ -27,7 +27,7 @@ pub fn row(region: &Region, j: i32) -> &[Run]
 
 /// The row after the last one.
 pub fn end(region: &Region) -> i32
-    requires { IsRegionWithin 131072 region.now.top region.now.rows }
+    requires { IsRegionWithin max_sample region.now.top region.now.rows }
     ensures { result ≡ region.now.top +ℤ pos (length region.now.rows) }
 {
     region.top() + region.rows().len() as i32

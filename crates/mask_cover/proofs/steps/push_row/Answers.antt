@@ -15,15 +15,15 @@ overflow_add-count c =
     let samples_after = c.requires.counts (c.loop-c.c + 1) in
     omega (arith, ints, next, now.0, now.1, samples_after.0, samples_after.1, c.loop-c.invariant.0)
 
-pub byte_of-requires-clause-low : goal.byte_of-requires-clause-low
-byte_of-requires-clause-low c =
+pub coverage_byte-requires-clause-low : goal.coverage_byte-requires-clause-low
+coverage_byte-requires-clause-low c =
     let next = sum_first-next c.args.steps.now c.loop-c.c in
     let now = c.requires.counts c.loop-c.c in
     let samples_after = c.requires.counts (c.loop-c.c + 1) in
     omega (arith, ints, next, now.0, now.1, samples_after.0, samples_after.1, c.loop-c.invariant.0)
 
-pub byte_of-requires-clause-high : goal.byte_of-requires-clause-high
-byte_of-requires-clause-high c =
+pub coverage_byte-requires-clause-high : goal.coverage_byte-requires-clause-high
+coverage_byte-requires-clause-high c =
     let next = sum_first-next c.args.steps.now c.loop-c.c in
     let now = c.requires.counts c.loop-c.c in
     let samples_after = c.requires.counts (c.loop-c.c + 1) in
@@ -34,8 +34,8 @@ loop-c-preserved c =
     let next = sum_first-next c.args.steps.now c.loop-c.c in
     let now = c.requires.counts c.loop-c.c in
     let samples_after = c.requires.counts (c.loop-c.c + 1) in
-    let pushed : c.push.new.self.items ≡ c.loop-c.bytes.items ++ c.byte_of.result ∷ [] = search rules in (
+    let pushed : c.push.new.self.items ≡ c.loop-c.bytes.items ++ c.coverage_byte.result ∷ [] = search rules in (
       omega (arith, ints, next, now.0, now.1, samples_after.0, samples_after.1, c.loop-c.invariant.0),
-      rw pushed (row_push c.args.steps.now c.loop-c.c c.byte_of.result c.args.bytes.now.items c.loop-c.bytes.items c.loop-c.invariant.1
-          (byte_same (to_z w16 (of_z w16 (to_z w16 c.loop-c.count-bits +ℤ to_z w16 (of_z w16 (get_or c.args.steps.now c.loop-c.c (pos 0)))))) c.byte_of.result (sum_first c.args.steps.now (c.loop-c.c + 1)) c.byte_of.ensures (omega (arith, ints, next, now.0, now.1, samples_after.0, samples_after.1, c.loop-c.invariant.0)))),
+      rw pushed (row_push c.args.steps.now c.loop-c.c c.coverage_byte.result c.args.bytes.now.items c.loop-c.bytes.items c.loop-c.invariant.1
+          (byte_same (to_z w16 (of_z w16 (to_z w16 c.loop-c.count-bits +ℤ to_z w16 (of_z w16 (get_or c.args.steps.now c.loop-c.c (pos 0)))))) c.coverage_byte.result (sum_first c.args.steps.now (c.loop-c.c + 1)) c.coverage_byte.ensures (omega (arith, ints, next, now.0, now.1, samples_after.0, samples_after.1, c.loop-c.invariant.0)))),
     )
