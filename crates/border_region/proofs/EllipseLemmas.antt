@@ -4,6 +4,7 @@ use Rattle.std.proofs.Math.Nat.{div-mul-le_self, mul-le-mul_right, le_of_mul-le-
 use Rattle.std.proofs.lemmas.Nat.{le-div}
 use Rattle.std.proofs.lemmas.Bool.{cases_lt}
 use Rattle.std.proofs.lemmas.List.{get_or_append_left, get_or_push, length_push}
+use Rattle.border_region.specs.Limits.{max_radius}
 use Rattle.region_rows.specs.Widened.{square}
 use Rattle.border_region.specs.Ellipse.{IsHalfWidth, AreHalfWidths, AreFalling}
 
@@ -64,7 +65,7 @@ width_falls rx ry d w v h k =
     let s : square d * square rx ≤ square (d + 1) * square rx = mul-le-mul_right (square rx) (square_le d (d + 1) (omega arith)) in
     (h v).1 (p.0, omega arith)
 
-pub falling : (rx ry : ℕ) (widths : List ℕ) → rx ≤ 1600 → ry ≤ 1600 → AreHalfWidths rx ry widths → AreFalling widths
+pub falling : (rx ry : ℕ) (widths : List ℕ) → rx ≤ max_radius → ry ≤ max_radius → AreHalfWidths rx ry widths → AreFalling widths
 falling rx ry widths a b w =
     let c = w.count in
     record {

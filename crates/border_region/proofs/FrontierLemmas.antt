@@ -1,9 +1,10 @@
 -- The rows of a region, seen from below or from above, that reach beyond the rows before them.
-use Rattle.std.proofs.Common.{◌≡◌, ℕ, ◌<◌, ◌≤◌, Bool, true, false, ℤ, pos, negsuc, ◌+ℤ◌, ◌-ℤ◌, ◌≤ℤ◌, ◌<ℤ◌, ◌⊎◌, inl, inr, ⊎_elim, refl, sym, ◌∙◌, arith, List, [], ◌∷◌, ◌++◌, All, length}
+use Rattle.std.proofs.Common.{◌≡◌, ℕ, ◌<◌, ◌≤◌, Bool, true, false, ℤ, pos, negsuc, ◌+ℤ◌, ◌-ℤ◌, ◌≤ℤ◌, ◌<ℤ◌, ◌⊎◌, inl, inr, ⊎_elim, refl, sym, ◌∙◌, arith, List, [], ◌∷◌, ◌++◌, All, length, neg_ℤ}
 use Rattle.std.proofs.lemmas.Int.{ints, by_lt_z}
 use Rattle.std.proofs.lemmas.Bool.{false≢true, cases_lt}
 use Rattle.std.proofs.lemmas.List.{get_or_append_left, get_or_push, get_or_past, length_push}
 use Rattle.std.proofs.lemmas.List.Elements.{All-get_or, All-nil}
+use Rattle.border_region.specs.Limits.{max_key}
 use Rattle.ass_num.specs.Limits.{IsRunWithin}
 use Rattle.ass_num.specs.Regions.{RegionValue, in_runs, row_at}
 use Rattle.ass_num.specs.declared.region.Run.{Run}
@@ -24,7 +25,7 @@ row_within limit rows (pos n) w =
 pub record HasFound (region : RegionValue) (upwards : Bool) (key : ℤ) (found : List ℤ) : Type 0 where
   pub ascends : AreAscending found
   pub below : (n : ℕ) → n < length found → key_at found n <ℤ key
-  pub near : (n : ℕ) → n < length found → (negsuc 199999 ≤ℤ key_at found n) × (key_at found n ≤ℤ pos 200000)
+  pub near : (n : ℕ) → n < length found → (neg_ℤ (pos max_key) ≤ℤ key_at found n) × (key_at found n ≤ℤ pos max_key)
   pub complete : (k i : ℤ) → k <ℤ key → is_seen region upwards k i ≡ true → (is_seen region upwards (k -ℤ pos 1) i ≡ true) ⊎ ((n : ℕ) × (n < length found) × (key_at found n ≡ k))
 
 pub found_none : (region : RegionValue) (upwards : Bool) (first : ℤ) → ((k i : ℤ) → k <ℤ first → is_seen region upwards k i ≡ false) → HasFound region upwards first []
@@ -44,7 +45,7 @@ found_same region upwards key found before row eb er covers old = record {
   complete = λ k i l s. by_lt_z k key
       (λ (m : k <ℤ key). old.complete k i m s)
       (λ (m : key ≤ℤ k). let e : k ≡ key = omega (arith, ints) in
-      inl (rw e (sym (eb i) ∙ covers i i (er i ∙ rw e at s) (record { left = omega (arith, ints); right = omega (arith, ints) }))));
+      inl (rw e (sym (eb i) ∙ covers i i (er i ∙ rw e at s) (omega (arith, ints), omega (arith, ints)))));
 }
 
 key_before : (found : List ℤ) (key : ℤ) (n : ℕ) → n < length found → key_at (found ++ key ∷ []) n ≡ key_at found n
@@ -54,7 +55,7 @@ key_last : (found : List ℤ) (key : ℤ) (n : ℕ) → length found ≡ n → k
 key_last found key n e = get_or_push found key (pos 0) n e
 
 -- it may, and its key is kept
-pub found_more : (region : RegionValue) (upwards : Bool) (key : ℤ) (found : List ℤ) → negsuc 199999 ≤ℤ key → key ≤ℤ pos 200000 → HasFound region upwards key found → HasFound region upwards (key +ℤ pos 1) (found ++ key ∷ [])
+pub found_more : (region : RegionValue) (upwards : Bool) (key : ℤ) (found : List ℤ) → neg_ℤ (pos max_key) ≤ℤ key → key ≤ℤ pos max_key → HasFound region upwards key found → HasFound region upwards (key +ℤ pos 1) (found ++ key ∷ [])
 found_more region upwards key found low high old =
     let more = length_push found key in
     record {

@@ -4,6 +4,7 @@ use Rattle.std.proofs.lemmas.Int.{ints}
 use Rattle.std.proofs.lemmas.Bool.{cases_lt}
 use Rattle.std.proofs.lemmas.List.{get_or_default}
 use Rattle.std.specs.List.Sorted.{IsPartitionedBy, IsPartitionPoint}
+use Rattle.ass_num.specs.Limits.{IsWithin}
 use Rattle.ass_num.specs.Regions.{RegionValue, in_runs, ascend}
 use Rattle.ass_num.specs.declared.region.Run.{Run}
 use Rattle.ass_num.proofs.OrderLemmas.{le_is, le_not, le_true}
@@ -11,15 +12,15 @@ use Rattle.border_region.specs.Ellipse.{AreFalling}
 use Rattle.border_region.specs.Frontier.{IsFrontier, is_seen}
 use Rattle.border_region.specs.Keys.{AreAscending, AreUpTo, key_at}
 use Rattle.border_region.specs.Sides.{IsReachedFrom, AddsSide, HoldsMiddle}
-use Rattle.border_region.specs.Widths.{IsWithinWidth, AddsWidened}
+use Rattle.border_region.specs.Widths.{AddsWidened}
 
-IsWithinWidth-wider : (w v : ℕ) (k i : ℤ) → w ≤ v → IsWithinWidth w k i → IsWithinWidth v k i
-IsWithinWidth-wider w v k i l h = let a = h.left in let b = h.right in record { left = omega (arith, ints); right = omega (arith, ints) }
+IsWithin-wider : (w v : ℕ) (k i : ℤ) → w ≤ v → IsWithin w (i -ℤ k) → IsWithin v (i -ℤ k)
+IsWithin-wider w v k i l h = let a = h.0 in let b = h.1 in (omega (arith, ints), omega (arith, ints))
 
 -- the keys before the n-th one are done
 pub record HasAdded (region : RegionValue) (upwards : Bool) (keys : List ℤ) (widths : List ℕ) (key : ℤ) (n : ℕ) (old new : List Run) : Type 0 where
   pub keeps : (i : ℤ) → in_runs old i ≡ true → in_runs new i ≡ true
-  pub covers : (m d : ℕ) (i k : ℤ) → 0 < d → m < n → key_at keys m ≡ key +ℤ pos d → is_seen region upwards (key +ℤ pos d) k ≡ true → IsWithinWidth (slice_index widths d) k i → in_runs new i ≡ true
+  pub covers : (m d : ℕ) (i k : ℤ) → 0 < d → m < n → key_at keys m ≡ key +ℤ pos d → is_seen region upwards (key +ℤ pos d) k ≡ true → IsWithin (slice_index widths d) (i -ℤ k) → in_runs new i ≡ true
   pub reached : (i : ℤ) → in_runs new i ≡ true → (in_runs old i ≡ true) ⊎ ((d : ℕ) × (k : ℤ) × IsReachedFrom region upwards widths key i d k)
   pub ascends : ascend new ≡ true
 
@@ -83,7 +84,7 @@ side_covers region upwards keys widths key count n first new all falls middle up
     (λ s. side_covers region upwards keys widths key count n first new all falls middle up over added d i k (record {
       within = omega arith;
       seen = rw e at s;
-      near = IsWithinWidth-wider (slice_index widths (suc d)) (slice_index widths d) k i (rw g at f) r.near;
+      near = IsWithin-wider (slice_index widths (suc d)) (slice_index widths d) k i (rw g at f) r.near;
     }))
     (λ q.
     let q1 = q.1 in

@@ -4,13 +4,14 @@ use Rattle.std.proofs.lemmas.Int.{ints, by_lt_z}
 use Rattle.std.proofs.lemmas.Bool.{and_parts, or_cases, or_left, or_right, and_from, false≢true}
 use Rattle.std.proofs.lemmas.List.{take_more, get_or_default}
 use Rattle.std.proofs.lemmas.List.Elements.{All-nil}
+use Rattle.ass_num.specs.Limits.{IsWithin}
 use Rattle.ass_num.specs.Regions.{in_runs, ascend}
 use Rattle.ass_num.specs.declared.region.Run.{Run}
 use Rattle.region_rows.specs.Joins.{AllBegin, IsJoinedTo}
 use Rattle.region_rows.proofs.JoinLemmas.{in_runs-push, run_at, next_at}
 use Rattle.region_rows.proofs.LimitLemmas.{run_covers}
 use Rattle.ass_num.proofs.OrderLemmas.{lt_is, le_is, lt_true, le_true}
-use Rattle.border_region.specs.Widths.{IsWithinWidth, IsRunCovered, Covers, IsWidenedRow, AddsWidened}
+use Rattle.border_region.specs.Widths.{IsRunCovered, Covers, IsWidenedRow, AddsWidened}
 
 -- ---- runs that hold a run
 pub covered_by : (rs : List Run) (n : ℕ) (d run : Run) → n < length rs → (get_or rs n d).from ≤ℤ run.from → run.to ≤ℤ (get_or rs n d).to → IsRunCovered run rs
@@ -40,8 +41,8 @@ covers_none w runs = λ k i m near. absurd (false≢true m)
 
 pub covers_more : (w : ℕ) (row : List Run) (n : ℕ) (d wide : Run) (runs : List Run) → n < length row → wide.from ≡ (get_or row n d).from -ℤ pos w → wide.to ≡ (get_or row n d).to +ℤ pos w → Covers w (take n row) runs → IsRunCovered wide runs → Covers w (take (n + 1) row) runs
 covers_more w row n d wide runs l f t old new = λ k i m near.
-    let nl = near.left in
-    let nr = near.right in
+    let nl = near.0 in
+    let nr = near.1 in
     ⊎_elim (λ e. old k i e near) (λ p. let p0 = p.0 in let p1 = p.1 in new i (omega (arith, ints)) (omega (arith, ints))) (front_cases row n d k l m)
 
 -- ---- and widened one after another
@@ -60,13 +61,13 @@ widened_none w row = record {
 }
 
 -- the sample of a run that is nearest to i
-nearest : (w : ℕ) (r : Run) (i : ℤ) → r.from <ℤ r.to → (r.from -ℤ pos w) ≤ℤ i → i <ℤ (r.to +ℤ pos w) → (k : ℤ) × ((r.from ≤ℤ k) × (k <ℤ r.to)) × IsWithinWidth w k i
+nearest : (w : ℕ) (r : Run) (i : ℤ) → r.from <ℤ r.to → (r.from -ℤ pos w) ≤ℤ i → i <ℤ (r.to +ℤ pos w) → (k : ℤ) × ((r.from ≤ℤ k) × (k <ℤ r.to)) × IsWithin w (i -ℤ k)
 nearest w r i s a b =
     by_lt_z i r.from
-    (λ (l : i <ℤ r.from). (r.from, (omega (arith, ints), s), record { left = a; right = omega (arith, ints) }))
+    (λ (l : i <ℤ r.from). (r.from, (omega (arith, ints), s), (omega (arith, ints), omega (arith, ints))))
     (λ (l : r.from ≤ℤ i). by_lt_z i r.to
-    (λ (m : i <ℤ r.to). (i, (l, m), record { left = omega (arith, ints); right = omega (arith, ints) }))
-    (λ (m : r.to ≤ℤ i). (r.to -ℤ pos 1, (omega (arith, ints), omega (arith, ints)), record { left = omega (arith, ints); right = omega (arith, ints) })))
+    (λ (m : i <ℤ r.to). (i, (l, m), (omega (arith, ints), omega (arith, ints))))
+    (λ (m : r.to ≤ℤ i). (r.to -ℤ pos 1, (omega (arith, ints), omega (arith, ints)), (omega (arith, ints), omega (arith, ints)))))
 
 pub widened_more : (w : ℕ) (row : List Run) (n : ℕ) (d wide : Run) (runs new : List Run) → ascend row ≡ true → n < length row → wide.from ≡ (get_or row n d).from -ℤ pos w → wide.to ≡ (get_or row n d).to +ℤ pos w → IsWidenedTo w row n runs → IsJoinedTo runs wide new → IsWidenedTo w row (n + 1) new
 widened_more w row n d wide runs new up l f t old step =
@@ -75,8 +76,8 @@ widened_more w row n d wide runs new up l f t old step =
     record {
       held = record {
         covers = λ k i m near.
-            let nl = near.left in
-            let nr = near.right in
+            let nl = near.0 in
+            let nr = near.1 in
             step.covers i ∙ ⊎_elim
             (λ e. or_left (in_runs runs i) (int_le wide.from i && int_lt i wide.to) (old.held.covers k i e near))
             (λ p. let p0 = p.0 in let p1 = p.1 in or_right (in_runs runs i) (int_le wide.from i && int_lt i wide.to) (and_from (int_le wide.from i) (int_lt i wide.to) (le_true wide.from i (omega (arith, ints))) (lt_true i wide.to (omega (arith, ints)))))

@@ -1,5 +1,6 @@
--- How far an ellipse reaches in each of its rows.
+-- Inner: how far an ellipse reaches in each of its rows.
 use Rattle.std.specs.Prelude.{◌≡◌, ℕ, ◌+◌, ◌*◌, ◌<◌, ◌≤◌, ◌↔◌, List, length, slice_index}
+use Rattle.border_region.specs.Limits.{max_radius}
 use Rattle.region_rows.specs.Widened.{square}
 
 -- so many rows from its middle, the ellipse reaches just up to w samples to each side
@@ -14,6 +15,6 @@ pub record AreHalfWidths (rx ry : ℕ) (widths : List ℕ) : Type 0 where
 -- half widths that don't grow, few and small enough to reckon with
 pub record AreFalling (widths : List ℕ) : Type 0 where
   pub some : 0 < length widths
-  pub few : length widths ≤ 1601
-  pub small : (d : ℕ) → d < length widths → slice_index widths d ≤ 1600
+  pub few : length widths ≤ max_radius + 1
+  pub small : (d : ℕ) → d < length widths → slice_index widths d ≤ max_radius
   pub falls : (d : ℕ) → d + 1 < length widths → slice_index widths (d + 1) ≤ slice_index widths d

@@ -1,4 +1,4 @@
--- Ascending keys.
+-- Inner: ascending keys.
 use Rattle.std.specs.Prelude.{ℕ, ℤ, pos, ◌≤ℤ◌, ◌<ℤ◌, ◌<◌, ◌≤◌, List, length, slice_index_or}
 
 abbrev pub key_at : List ℤ → ℕ → ℤ

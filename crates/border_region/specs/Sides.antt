@@ -1,15 +1,15 @@
--- What the rows on one side of a row, and on both, reach in it.
-use Rattle.std.specs.Prelude.{◌≡◌, ℕ, ℤ, pos, ◌+ℤ◌, ◌<◌, ◌⊎◌, Bool, true, List, length, slice_index}
+-- Inner: what the rows on one side of a row, and on both, reach in it.
+use Rattle.std.specs.Prelude.{◌≡◌, ℕ, ℤ, pos, ◌+ℤ◌, ◌-ℤ◌, ◌<◌, ◌⊎◌, Bool, true, List, length, slice_index}
+use Rattle.ass_num.specs.Limits.{IsWithin}
 use Rattle.ass_num.specs.Regions.{RegionValue, in_runs, ascend}
 use Rattle.ass_num.specs.declared.region.Run.{Run}
 use Rattle.border_region.specs.Frontier.{is_seen}
-use Rattle.border_region.specs.Widths.{IsWithinWidth}
 
 -- a sample of the region d rows on lies within the half width for d of sample i
 pub record IsReachedFrom (region : RegionValue) (upwards : Bool) (widths : List ℕ) (key i : ℤ) (d : ℕ) (k : ℤ) : Type 0 where
   pub within : d < length widths
   pub seen : is_seen region upwards (key +ℤ pos d) k ≡ true
-  pub near : IsWithinWidth (slice_index widths d) k i
+  pub near : IsWithin (slice_index widths d) (i -ℤ k)
 
 -- the runs have gained just what the rows from a key on reach in the row at the key
 pub record AddsSide (region : RegionValue) (upwards : Bool) (widths : List ℕ) (key : ℤ) (old new : List Run) : Type 0 where
@@ -20,4 +20,4 @@ pub record AddsSide (region : RegionValue) (upwards : Bool) (widths : List ℕ) 
 
 -- the runs hold what the row at the key itself reaches
 abbrev pub HoldsMiddle : RegionValue → Bool → List ℕ → ℤ → List Run → Type 0
-HoldsMiddle region upwards widths key runs = (i k : ℤ) → is_seen region upwards key k ≡ true → IsWithinWidth (slice_index widths 0) k i → in_runs runs i ≡ true
+HoldsMiddle region upwards widths key runs = (i k : ℤ) → is_seen region upwards key k ≡ true → IsWithin (slice_index widths 0) (i -ℤ k) → in_runs runs i ≡ true

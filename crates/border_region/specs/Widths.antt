@@ -1,12 +1,8 @@
--- A row whose samples reach so far to both sides.
+-- Inner: a row whose samples reach so far to both sides.
 use Rattle.std.specs.Prelude.{◌≡◌, ℕ, ℤ, pos, ◌+ℤ◌, ◌-ℤ◌, ◌≤ℤ◌, ◌<ℤ◌, ◌⊎◌, true, List}
+use Rattle.ass_num.specs.Limits.{IsWithin}
 use Rattle.ass_num.specs.Regions.{in_runs, ascend}
 use Rattle.ass_num.specs.declared.region.Run.{Run}
-
--- sample k lies within `width` of sample i
-pub record IsWithinWidth (width : ℕ) (k i : ℤ) : Type 0 where
-  pub left : (k -ℤ pos width) ≤ℤ i
-  pub right : i ≤ℤ (k +ℤ pos width)
 
 -- all samples of the run lie in the runs
 abbrev pub IsRunCovered : Run → List Run → Type 0
@@ -14,11 +10,11 @@ IsRunCovered run runs = (i : ℤ) → run.from ≤ℤ i → i <ℤ run.to → in
 
 -- all samples within `width` of one of the row lie in the runs
 abbrev pub Covers : ℕ → List Run → List Run → Type 0
-Covers width row runs = (k i : ℤ) → in_runs row k ≡ true → IsWithinWidth width k i → in_runs runs i ≡ true
+Covers width row runs = (k i : ℤ) → in_runs row k ≡ true → IsWithin width (i -ℤ k) → in_runs runs i ≡ true
 
 -- some sample of the row lies within `width` of sample i
 abbrev pub Reaches : ℕ → List Run → ℤ → Type 0
-Reaches width row i = (k : ℤ) × (in_runs row k ≡ true) × IsWithinWidth width k i
+Reaches width row i = (k : ℤ) × (in_runs row k ≡ true) × IsWithin width (i -ℤ k)
 
 -- the runs hold just the samples within `width` of one of the row
 pub record IsWidenedRow (width : ℕ) (row runs : List Run) : Type 0 where

@@ -1,7 +1,8 @@
 //! A region widened by an ellipse.
 
-ghost use Rattle.std.specs.Prelude.{◌≡◌, ℕ, ℤ, pos, negsuc, ◌+ℤ◌, ◌-ℤ◌, ◌≤ℤ◌, ◌≤◌, ◌+◌, true, length, IfOk, OnOk};
-ghost use Rattle.ass_num.specs.Limits.{IsRegionWithin};
+ghost use Rattle.std.specs.Prelude.{◌≡◌, ℕ, ℤ, pos, ◌+ℤ◌, ◌-ℤ◌, ◌≤ℤ◌, ◌≤◌, ◌+◌, true, length, IfOk, OnOk, neg_ℤ};
+ghost use Rattle.border_region.specs.Limits.{max_radius, max_key};
+ghost use Rattle.ass_num.specs.Limits.{IsRegionWithin, max_sample};
 ghost use Rattle.ass_num.specs.Regions.{is_canonical, member};
 ghost use Rattle.region_rows.specs.Widened.{in_widened};
 
@@ -27,9 +28,9 @@ impl Border {
 
     /// Finds row j, the next one, and adds it.
     fn add_row(&mut self, region: &Region, j: i32) -> Mem<()>
-        requires within { IsRegionWithin 131072 region.now.top region.now.rows }
-        requires low { negsuc 199999 ≤ℤ j }
-        requires high { j ≤ℤ pos 199999 }
+        requires within { IsRegionWithin max_sample region.now.top region.now.rows }
+        requires low { neg_ℤ (pos max_key) ≤ℤ j }
+        requires high { j ≤ℤ pos max_key }
         requires rows { HasWidened region.now self.old.ellipse.rx self.old.ellipse.ry j self.old }
         ensures { OnOk result (HasWidened region.now self.old.ellipse.rx self.old.ellipse.ry (j +ℤ pos 1) self.new) }
     {
@@ -46,10 +47,10 @@ impl Border {
 
     /// Adds rows from `first` up to `end`.
     fn add_rows(&mut self, region: &Region, first: i32, end: i32) -> Mem<()>
-        requires within { IsRegionWithin 131072 region.now.top region.now.rows }
-        requires low { negsuc 199999 ≤ℤ first }
+        requires within { IsRegionWithin max_sample region.now.top region.now.rows }
+        requires low { neg_ℤ (pos max_key) ≤ℤ first }
         requires ordered { first ≤ℤ end }
-        requires high { end ≤ℤ pos 199999 }
+        requires high { end ≤ℤ pos max_key }
         requires rows { HasWidened region.now self.old.ellipse.rx self.old.ellipse.ry first self.old }
         ensures { OnOk result (HasWidened region.now self.old.ellipse.rx self.old.ellipse.ry end self.new) }
     {
@@ -62,8 +63,8 @@ impl Border {
 
 /// The rows that may hold samples within `ry` rows of the region.
 fn rows_around(region: &Region, ry: u32) -> RowRange
-    requires within { IsRegionWithin 131072 region.now.top region.now.rows }
-    requires down { ry ≤ 1600 }
+    requires within { IsRegionWithin max_sample region.now.top region.now.rows }
+    requires down { ry ≤ max_radius }
     ensures first { result.first ≡ region.now.top -ℤ pos ry }
     ensures end { result.end ≡ (region.now.top +ℤ pos (length region.now.rows)) +ℤ pos ry }
 {
@@ -76,10 +77,10 @@ fn rows_around(region: &Region, ry: u32) -> RowRange
 /// The samples with one of the region within the ellipse around them, which reaches `rx` samples across and `ry` rows
 /// up and down. The samples of the region lie within 131,072 of 0, and neither radius is above 1,600.
 pub fn widened(alloc: Global, region: &Region, rx: u32, ry: u32) -> Mem<Region>
-    requires within { IsRegionWithin 131072 region.now.top region.now.rows }
-    requires across { rx ≤ 1600 }
-    requires down { ry ≤ 1600 }
-    ensures samples { IfOk result (λ r. (i j : ℤ) → member r.top r.rows i j ≡ in_widened region.now rx ry i j) }
+    requires within { IsRegionWithin max_sample region.now.top region.now.rows }
+    requires across { rx ≤ max_radius }
+    requires down { ry ≤ max_radius }
+    ensures samples { IfOk result (λ r. (i j : ℤ) → member r.top r.rows i j ≡ in_widened (member region.now.top region.now.rows) rx ry i j) }
     ensures canonical { IfOk result (λ r. is_canonical r.top r.rows ≡ true) }
     ensures within { IfOk result (λ r. (limit further : ℕ) → rx ≤ further → ry ≤ further → IsRegionWithin limit region.now.top region.now.rows → IsRegionWithin (limit + further) r.top r.rows) }
 {

@@ -1,6 +1,7 @@
 //! How far an ellipse of samples reaches in each of its rows.
 
 ghost use Rattle.std.specs.Prelude.{◌≡◌, ◌≤◌, IfOk};
+ghost use Rattle.border_region.specs.Limits.{max_radius};
 ghost use Rattle.border_region.specs.Ellipse.{AreFalling, AreHalfWidths, IsHalfWidth};
 
 use ass_num::Mem;
@@ -8,8 +9,8 @@ use std::alloc::Global;
 
 /// How many samples to each side the ellipse reaches, so many rows from its middle.
 fn half_width(rx: u32, ry: u32, distance: u32) -> u16
-    requires across { rx ≤ 1600 }
-    requires down { ry ≤ 1600 }
+    requires across { rx ≤ max_radius }
+    requires down { ry ≤ max_radius }
     requires within { distance ≤ ry }
     ensures { IsHalfWidth rx ry distance result }
 {
@@ -30,8 +31,8 @@ pub struct Ellipse {
 
 /// The ellipse with these radii.
 pub fn ellipse_of(alloc: Global, rx: u32, ry: u32) -> Mem<Ellipse>
-    requires across { rx ≤ 1600 }
-    requires down { ry ≤ 1600 }
+    requires across { rx ≤ max_radius }
+    requires down { ry ≤ max_radius }
     ensures rx { IfOk result (λ ellipse. ellipse.rx ≡ rx) }
     ensures ry { IfOk result (λ ellipse. ellipse.ry ≡ ry) }
     ensures widths { IfOk result (λ ellipse. AreHalfWidths rx ry ellipse.half_widths.items) }

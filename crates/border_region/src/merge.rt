@@ -1,8 +1,9 @@
 //! A row of a widened region, found by merging the rows that reach it.
 
-ghost use Rattle.std.specs.Prelude.{◌≡◌, pos, negsuc, ◌+ℤ◌, ◌-ℤ◌, ◌≤ℤ◌, ◌-◌, ◌<◌, ◌≤◌, true, false, length, All, OnOk};
-ghost use Rattle.ass_num.specs.Limits.{IsRegionWithin, IsRunWithin};
-ghost use Rattle.ass_num.specs.Regions.{ascend};
+ghost use Rattle.std.specs.Prelude.{◌≡◌, pos, ◌+ℤ◌, ◌-ℤ◌, ◌≤ℤ◌, ◌-◌, ◌<◌, ◌≤◌, true, false, length, All, OnOk, neg_ℤ, ◌+◌};
+ghost use Rattle.border_region.specs.Limits.{max_radius, max_key};
+ghost use Rattle.ass_num.specs.Limits.{IsRegionWithin, IsRunWithin, max_sample};
+ghost use Rattle.ass_num.specs.Regions.{ascend, member};
 ghost use Rattle.region_rows.specs.Growths.{IsRowHolding};
 ghost use Rattle.region_rows.specs.Widened.{in_widened};
 ghost use Rattle.border_region.specs.Ellipse.{AreFalling, AreHalfWidths};
@@ -29,9 +30,9 @@ fn count_up_to(keys: &[i32], key: i32) -> usize
 
 /// How many rows a greater key is further on.
 fn rows_between(key: i32, other: i32) -> usize
-    requires low { negsuc 199999 ≤ℤ key }
+    requires low { neg_ℤ (pos max_key) ≤ℤ key }
     requires ordered { key ≤ℤ other }
-    requires high { other ≤ℤ pos 200000 }
+    requires high { other ≤ℤ pos max_key }
     ensures { pos result ≡ other -ℤ key }
 {
     (other - key) as usize
@@ -39,10 +40,10 @@ fn rows_between(key: i32, other: i32) -> usize
 
 /// The last key from which the row at `key` can be reached.
 fn last_key(key: i32, widths: &[u16]) -> i32
-    requires low { negsuc 199999 ≤ℤ key }
-    requires high { key ≤ℤ pos 200000 }
+    requires low { neg_ℤ (pos max_key) ≤ℤ key }
+    requires high { key ≤ℤ pos max_key }
     requires some { 0 < length widths.now }
-    requires few { length widths.now ≤ 1601 }
+    requires few { length widths.now ≤ max_radius + 1 }
     ensures { result ≡ key +ℤ pos (length widths.now - 1) }
 {
     key + (widths.len() - 1) as i32
@@ -69,8 +70,8 @@ impl Merge {
     fn add(&mut self, row: &[Run], width: u16) -> Mem<()>
         requires ascends { ascend self.old.runs.items ≡ true }
         requires row_ascends { ascend row.now ≡ true }
-        requires within { All (IsRunWithin 131072) row.now }
-        requires small { width ≤ 1600 }
+        requires within { All (IsRunWithin max_sample) row.now }
+        requires small { width ≤ max_radius }
         ensures { OnOk result (AddsWidened width row.now self.old.runs.items self.new.runs.items) }
     {
         if covers_row(self.runs.as_slice(), row, width) {
@@ -91,9 +92,9 @@ impl Merge {
         widths: &[u16],
         key: i32,
     ) -> Mem<()>
-        requires within { IsRegionWithin 131072 region.now.top region.now.rows }
-        requires low { negsuc 199999 ≤ℤ key }
-        requires high { key ≤ℤ pos 200000 }
+        requires within { IsRegionWithin max_sample region.now.top region.now.rows }
+        requires low { neg_ℤ (pos max_key) ≤ℤ key }
+        requires high { key ≤ℤ pos max_key }
         requires keys { IsFrontier region.now upwards keys.now }
         requires widths { AreFalling widths.now }
         requires middle { HoldsMiddle region.now upwards widths.now key self.old.runs.items }
@@ -117,14 +118,14 @@ impl Merge {
         ellipse: &Ellipse,
         j: i32,
     ) -> Mem<()>
-        requires within { IsRegionWithin 131072 region.now.top region.now.rows }
-        requires low { negsuc 199999 ≤ℤ j }
-        requires high { j ≤ℤ pos 199999 }
+        requires within { IsRegionWithin max_sample region.now.top region.now.rows }
+        requires low { neg_ℤ (pos max_key) ≤ℤ j }
+        requires high { j ≤ℤ pos max_key }
         requires above { IsFrontier region.now true above.now }
         requires below { IsFrontier region.now false below.now }
         requires falling { AreFalling ellipse.now.half_widths.items }
         requires widths { AreHalfWidths ellipse.now.rx ellipse.now.ry ellipse.now.half_widths.items }
-        ensures { OnOk result (IsRowHolding (λ i. in_widened region.now ellipse.now.rx ellipse.now.ry i j) self.new.runs.items) }
+        ensures { OnOk result (IsRowHolding (λ i. in_widened (member region.now.top region.now.rows) ellipse.now.rx ellipse.now.ry i j) self.new.runs.items) }
     {
         let widths = ellipse.half_widths.as_slice();
         widen_row(seen_row(region, false, j), widths[0], &mut self.runs)?;

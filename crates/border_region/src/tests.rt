@@ -1,7 +1,7 @@
 //! Borders around one sample, with radii that differ and that are 0.
 
 ghost use Rattle.std.specs.Prelude.{IfOk};
-ghost use Rattle.ass_num.specs.Limits.{IsRegionWithin};
+ghost use Rattle.ass_num.specs.Limits.{IsRegionWithin, max_sample};
 
 use crate::widened;
 use ass_num::{FlatLists, Mem, Region, Run};
@@ -10,7 +10,7 @@ use std::test::Fail;
 
 /// The region of sample 5 of row -7.
 fn sample(alloc: Global) -> Mem<Region>
-    ensures { IfOk result (λ r. IsRegionWithin 131072 r.top r.rows) }
+    ensures { IfOk result (λ r. IsRegionWithin max_sample r.top r.rows) }
 {
     let mut rows = FlatLists::new(alloc);
     rows.push(&[Run { from: 5, to: 6 }])?;

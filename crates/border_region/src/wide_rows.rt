@@ -1,7 +1,8 @@
 //! Rows whose runs reach further to both sides.
 
 ghost use Rattle.std.specs.Prelude.{◌≡◌, ℕ, ℤ, pos, ◌+ℤ◌, ◌-ℤ◌, ◌≤◌, true, All, IsTrue, OnOk};
-ghost use Rattle.ass_num.specs.Limits.{IsRunWithin};
+ghost use Rattle.border_region.specs.Limits.{max_radius};
+ghost use Rattle.ass_num.specs.Limits.{IsRunWithin, max_sample};
 ghost use Rattle.ass_num.specs.Regions.{ascend};
 ghost use Rattle.border_region.specs.Widths.{Covers, IsRunCovered, IsWidenedRow};
 
@@ -10,8 +11,8 @@ use region_rows::add_run;
 
 /// A run that reaches so much further to both sides.
 fn wider(run: Run, width: u16) -> Run
-    requires within { IsRunWithin 131072 run }
-    requires small { width ≤ 1600 }
+    requires within { IsRunWithin max_sample run }
+    requires small { width ≤ max_radius }
     ensures from { result.from ≡ run.from -ℤ pos width }
     ensures to { result.to ≡ run.to +ℤ pos width }
 {
@@ -35,8 +36,8 @@ fn covers(runs: &[Run], run: Run) -> bool
 
 /// Whether each run of a row, widened, lies within one of the runs.
 pub fn covers_row(runs: &[Run], row: &[Run], width: u16) -> bool
-    requires within { All (IsRunWithin 131072) row.now }
-    requires small { width ≤ 1600 }
+    requires within { All (IsRunWithin max_sample) row.now }
+    requires small { width ≤ max_radius }
     ensures { IsTrue result → Covers width row.now runs.now }
 {
     for run in row {
@@ -50,8 +51,8 @@ pub fn covers_row(runs: &[Run], row: &[Run], width: u16) -> bool
 /// Finds the runs of a row's samples, widened to both sides.
 pub fn widen_row(row: &[Run], width: u16, wide: &mut Vec<Run>) -> Mem<()>
     requires ascends { ascend row.now ≡ true }
-    requires within { All (IsRunWithin 131072) row.now }
-    requires small { width ≤ 1600 }
+    requires within { All (IsRunWithin max_sample) row.now }
+    requires small { width ≤ max_radius }
     ensures { OnOk result (IsWidenedRow width row.now wide.new.items) }
 {
     wide.clear();

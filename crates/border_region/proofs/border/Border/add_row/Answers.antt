@@ -1,5 +1,6 @@
 use Rattle.std.proofs.Common.{refl, to_z-of_z}
 use Rattle.region_rows.specs.Growths.{IsRowHolding}
+use Rattle.ass_num.specs.Regions.{member}
 use Rattle.region_rows.specs.Widened.{in_widened}
 use Rattle.border_region.proofs.border.Border.add_row.Goals as goal
 
@@ -7,7 +8,7 @@ pub returns : goal.returns
 returns c =
     let border = c.args.self.now in
     let w = c.requires.rows in
-    let h : IsRowHolding (λ i. in_widened c.args.region.now border.ellipse.rx border.ellipse.ry i c.args.j) c.as_slice-3.result.now = rw c.as_slice-3.ensures.value (rw (to_z-of_z c.ranges.j) at c.in_ok-find_row.ensures) in
+    let h : IsRowHolding (λ i. in_widened (member c.args.region.now.top c.args.region.now.rows) border.ellipse.rx border.ellipse.ry i c.args.j) c.as_slice-3.result.now = rw c.as_slice-3.ensures.value (rw (to_z-of_z c.ranges.j) at c.in_ok-find_row.ensures) in
     record {
       across = refl;
       down = refl;
@@ -15,5 +16,5 @@ returns c =
       below = w.below;
       falling = w.falling;
       widths = w.widths;
-      grown = c.in_ok-add.ensures (in_widened c.args.region.now border.ellipse.rx border.ellipse.ry) c.args.j w.grown h;
+      grown = c.in_ok-add.ensures (in_widened (member c.args.region.now.top c.args.region.now.rows) border.ellipse.rx border.ellipse.ry) c.args.j w.grown h;
     }
