@@ -1,9 +1,10 @@
 //! The samples inside an outline.
 
-ghost use Rattle.std.specs.Prelude.{◌≡◌, ℕ, ℤ, ◌≤◌, pos, negsuc, ◌≤ℤ◌, ◌<ℤ◌, ◌+ℤ◌, ◌*ℤ◌, true, All, IfOk, OnOk};
-ghost use Rattle.ass_num.specs.Limits.{IsOutline, IsOutlinePoint, IsRegionWithin};
+ghost use Rattle.std.specs.Prelude.{◌≡◌, ℕ, ℤ, ◌≤◌, pos, ◌≤ℤ◌, ◌<ℤ◌, ◌+ℤ◌, ◌*ℤ◌, true, All, IfOk, OnOk, neg_ℤ};
+ghost use Rattle.ass_num.specs.Limits.{IsOutline, IsOutlinePoint, IsRegionWithin, max_coordinate};
 ghost use Rattle.ass_num.specs.Regions.{is_canonical, member};
 ghost use Rattle.ass_num.specs.Winding.{inside, place};
+ghost use Rattle.sample_region.specs.Limits.{max_inside, max_swept};
 ghost use Rattle.sample_region.specs.Crossings.{IsSweepable, is_inside};
 ghost use Rattle.sample_region.specs.Heights.{IsHeightBetween};
 
@@ -13,6 +14,9 @@ use crate::sweep::Sweep;
 use ass_num::{Mem, Outline, Point, Region};
 use region_rows::{Growth, RowRange};
 use std::alloc::Global;
+
+/// The farthest from 0 that a coordinate of an outline may be.
+const MAX_COORDINATE: i64 = 262_144;
 
 /// The least and the greatest height of points.
 #[derive(Clone, Copy)]
@@ -24,13 +28,13 @@ struct Heights {
 /// The heights, widened to those of a ring.
 fn widened(heights: Heights, ring: &[Point]) -> Heights
     requires near { All IsOutlinePoint ring.now }
-    requires low { negsuc 262143 ≤ℤ heights.low }
-    requires high { heights.high ≤ℤ pos 262144 }
+    requires low { neg_ℤ (pos max_coordinate) ≤ℤ heights.low }
+    requires high { heights.high ≤ℤ pos max_coordinate }
     ensures between { All (IsHeightBetween result.low result.high) ring.now }
     ensures lower { result.low ≤ℤ heights.low }
     ensures higher { heights.high ≤ℤ result.high }
-    ensures low { negsuc 262143 ≤ℤ result.low }
-    ensures high { result.high ≤ℤ pos 262144 }
+    ensures low { neg_ℤ (pos max_coordinate) ≤ℤ result.low }
+    ensures high { result.high ≤ℤ pos max_coordinate }
 {
     let mut around = heights;
     for p in ring {
@@ -46,12 +50,12 @@ fn widened(heights: Heights, ring: &[Point]) -> Heights
 fn find_heights(outline: &Outline) -> Heights
     requires { IsOutline outline.now.rings }
     ensures between { All (All (IsHeightBetween result.low result.high)) outline.now.rings }
-    ensures low { negsuc 262143 ≤ℤ result.low }
-    ensures high { result.high ≤ℤ pos 262144 }
+    ensures low { neg_ℤ (pos max_coordinate) ≤ℤ result.low }
+    ensures high { result.high ≤ℤ pos max_coordinate }
 {
     let mut heights = Heights {
-        low: 262144,
-        high: -262144,
+        low: MAX_COORDINATE,
+        high: -MAX_COORDINATE,
     };
     for k in 0..outline.rings.len() {
         heights = widened(heights, outline.rings.get(k));
@@ -61,8 +65,8 @@ fn find_heights(outline: &Outline) -> Heights
 
 /// The row whose four units hold the height.
 fn row_at(y: i64) -> i32
-    requires low { negsuc 262143 ≤ℤ y }
-    requires high { y ≤ℤ pos 262144 }
+    requires low { neg_ℤ (pos max_coordinate) ≤ℤ y }
+    requires high { y ≤ℤ pos max_coordinate }
     ensures begins { (pos 4 *ℤ result) ≤ℤ y }
     ensures ends { y <ℤ (pos 4 *ℤ result +ℤ pos 4) }
 {
@@ -78,13 +82,13 @@ fn height_of(j: i32) -> i64
 
 /// The rows that may hold samples inside points of these heights.
 fn rows_within(heights: Heights) -> RowRange
-    requires low { negsuc 262143 ≤ℤ heights.low }
-    requires high { heights.high ≤ℤ pos 262144 }
+    requires low { neg_ℤ (pos max_coordinate) ≤ℤ heights.low }
+    requires high { heights.high ≤ℤ pos max_coordinate }
     requires ordered { heights.low ≤ℤ heights.high }
     ensures above { (j : ℤ) → j <ℤ result.first → place j <ℤ heights.low }
     ensures below { (j : ℤ) → result.end ≤ℤ j → heights.high ≤ℤ place j }
-    ensures low { negsuc 99999 ≤ℤ result.first }
-    ensures high { result.end ≤ℤ pos 100000 }
+    ensures low { neg_ℤ (pos max_swept) ≤ℤ result.first }
+    ensures high { result.end ≤ℤ pos max_swept }
     ensures ordered { result.first ≤ℤ result.end }
 {
     RowRange {
@@ -107,8 +111,8 @@ impl Scan {
     /// Sweeps row j, the next one, and adds it.
     fn add_row(&mut self, edges: &[Edge], j: i32) -> Mem<()>
         requires edges { IsSweepable edges.now }
-        requires low { negsuc 99999 ≤ℤ j }
-        requires high { j ≤ℤ pos 100000 }
+        requires low { neg_ℤ (pos max_swept) ≤ℤ j }
+        requires high { j ≤ℤ pos max_swept }
         requires rows { HasScanned edges.now j self.old }
         ensures { OnOk result (HasScanned edges.now (j +ℤ pos 1) self.new) }
     {
@@ -121,9 +125,9 @@ impl Scan {
     /// Adds rows from `first` up to `end`.
     fn add_rows(&mut self, edges: &[Edge], first: i32, end: i32) -> Mem<()>
         requires edges { IsSweepable edges.now }
-        requires low { negsuc 99999 ≤ℤ first }
+        requires low { neg_ℤ (pos max_swept) ≤ℤ first }
         requires ordered { first ≤ℤ end }
-        requires high { end ≤ℤ pos 100000 }
+        requires high { end ≤ℤ pos max_swept }
         requires rows { HasScanned edges.now first self.old }
         ensures { OnOk result (HasScanned edges.now end self.new) }
     {
@@ -139,7 +143,7 @@ pub fn region_of(alloc: Global, outline: &Outline) -> Mem<Region>
     requires { IsOutline outline.now.rings }
     ensures samples { IfOk result (λ r. (i j : ℤ) → member r.top r.rows i j ≡ inside outline.now.rings i j) }
     ensures canonical { IfOk result (λ r. is_canonical r.top r.rows ≡ true) }
-    ensures within { IfOk result (λ r. (limit : ℕ) → 65536 ≤ limit → IsRegionWithin limit r.top r.rows) }
+    ensures within { IfOk result (λ r. (limit : ℕ) → max_inside ≤ limit → IsRegionWithin limit r.top r.rows) }
 {
     let heights = find_heights(outline);
     if heights.low > heights.high {

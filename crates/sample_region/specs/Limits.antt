@@ -1,0 +1,10 @@
+-- Public: how far the samples of an outline may lie, and the rows that are swept.
+use Rattle.std.specs.Prelude.{ℕ}
+
+-- the farthest from 0 that a sample inside an outline may be: four units of its points are a sample
+abbrev pub max_inside : ℕ
+max_inside = 65536
+
+-- the farthest from 0 that a row may lie that is swept
+abbrev pub max_swept : ℕ
+max_swept = 100000
