@@ -1,4 +1,4 @@
--- Where tags and their arguments begin and end.
+-- Public: where tags and their arguments begin and end.
 use Rattle.std.specs.Prelude.{ℕ, ◌+◌, ◌-◌, ◌&&◌, ◌==◌, if◌then◌else◌, List, [], ◌∷◌, take, Option, Some, None, unwrap_or}
 use Rattle.std.specs.Option.{option_map}
 use Rattle.blanks.specs.Blanks.{trimmed}

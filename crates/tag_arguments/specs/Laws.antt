@@ -1,18 +1,17 @@
--- The name that counts where a text begins with several.
+-- Public: the name that counts where a text begins with several.
 use Rattle.std.specs.Prelude.{◌≡◌, ℕ, ◌<◌, true, nat_eq, ◌⊎◌, List, [], ◌∷◌, ◌++◌, length, Some, None}
 use Rattle.std.specs.List.{starts_with}
-use Rattle.tag_arguments.specs.Names.{Names, names_on, longest_name}
+use Rattle.tag_arguments.specs.Names.{NameRow, tag_names, longest_name}
 use Rattle.tag_arguments.specs.declared.kinds.TagName.{TagName}
 
 -- Some row says that this spelling stands for this name.
-abbrev pub IsNameRow : Names → List ℕ → TagName → Type 0
+abbrev pub IsNameRow : List NameRow → List ℕ → TagName → Type 0
 IsNameRow [] spelling name = ⊥
 IsNameRow (row ∷ rows) spelling name = (row ≡ (spelling, name)) ⊎ IsNameRow rows spelling name
 
--- A text begins with a spelling of a name, on whatever letter it is listed.
+-- A text begins with a spelling of a name of the table.
 pub record BeginsWithName (text spelling : List ℕ) (name : TagName) : Type 0 where
-  pub letter : ℕ
-  pub listed : IsNameRow (names_on letter) spelling name
+  pub listed : IsNameRow tag_names spelling name
   pub begins : starts_with nat_eq text spelling ≡ true
 
 -- The name that is found begins the text, and each other one that does is shorter.

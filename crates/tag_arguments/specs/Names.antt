@@ -1,55 +1,64 @@
--- The names of tags (Aegisub, "ASS override tags").
-use Rattle.std.specs.Prelude.{ℕ, ◌==◌, nat_eq, codes, if◌then◌else◌, true, false, List, [], ◌∷◌, length, drop, slice_index, Option, Some, None}
+-- Public: the names of tags and what each stands for (Aegisub, "ASS override tags"), as docs/TAGS.md has them.
+use Rattle.std.specs.Prelude.{ℕ, nat_eq, nat_lt, codes, if◌then◌else◌, true, false, List, [], ◌∷◌, length, drop, Option, Some, None}
 use Rattle.std.specs.List.{starts_with}
+use Rattle.std.specs.Option.{option_map}
 use Rattle.tag_arguments.specs.declared.kinds.Num.TheVariants as num
 use Rattle.tag_arguments.specs.declared.kinds.Sung.TheVariants as sung
 use Rattle.tag_arguments.specs.declared.kinds.TagName.{TagName}
 use Rattle.tag_arguments.specs.declared.kinds.TagName.TheVariants as name
 use Rattle.blanks.specs.Blanks.{past_blanks}
 
--- names with what they stand for
-abbrev pub Names : Type 0
-Names = List (List ℕ × TagName)
+-- a spelling, and what it stands for
+abbrev pub NameRow : Type 0
+NameRow = List ℕ × TagName
 
--- The names that begin with a letter. A name stands behind those that it begins.
-abbrev pub names_on : ℕ → Names
-names_on c =
-    if c == 49 then (codes "1c", name.Colour 1) ∷ (codes "1a", name.Alpha 1) ∷ []
-    else (if c == 50 then (codes "2c", name.Colour 2) ∷ (codes "2a", name.Alpha 2) ∷ []
-    else (if c == 51 then (codes "3c", name.Colour 3) ∷ (codes "3a", name.Alpha 3) ∷ []
-    else (if c == 52 then (codes "4c", name.Colour 4) ∷ (codes "4a", name.Alpha 4) ∷ []
-    else (if c == 97 then (codes "alpha", name.Alpha 0) ∷ (codes "an", name.Align) ∷ (codes "a", name.OldAlign) ∷ []
-    else (if c == 98 then (codes "blur", name.Number num.Blur) ∷ (codes "bord", name.Number num.Border) ∷ (codes "be", name.Number num.Edges) ∷ (codes "b", name.Number num.Bold) ∷ []
-    else (if c == 99 then (codes "clip", name.Clip false) ∷ (codes "c", name.Colour 1) ∷ []
-    else (if c == 102 then
-    (codes "fscx", name.Number num.ScaleX) ∷ (codes "fscy", name.Number num.ScaleY) ∷ (codes "fade", name.Fade) ∷
-    (codes "fsc", name.Skipped) ∷ (codes "fsp", name.Number num.Spacing) ∷ (codes "frx", name.Skipped) ∷
-    (codes "fry", name.Skipped) ∷ (codes "frz", name.Number num.Angle) ∷ (codes "fax", name.Skipped) ∷
-    (codes "fay", name.Skipped) ∷ (codes "fad", name.Fade) ∷ (codes "fn", name.FontName) ∷
-    (codes "fs", name.Size) ∷ (codes "fr", name.Number num.Angle) ∷ (codes "fe", name.Skipped) ∷ []
-    else (if c == 105 then (codes "iclip", name.Clip true) ∷ (codes "i", name.Number num.Italic) ∷ []
-    else (if c == 107 then (codes "kf", name.Karaoke sung.Sweep) ∷ (codes "ko", name.Karaoke sung.Outline) ∷ (codes "kt", name.Skipped) ∷ (codes "k", name.Karaoke sung.Jump) ∷ []
-    else (if c == 75 then (codes "K", name.Karaoke sung.Sweep) ∷ []
-    else (if c == 109 then (codes "move", name.Move) ∷ []
-    else (if c == 111 then (codes "org", name.Org) ∷ []
-    else (if c == 112 then (codes "pos", name.Pos) ∷ (codes "pbo", name.Number num.Offset) ∷ (codes "p", name.Number num.Draw) ∷ []
-    else (if c == 113 then (codes "q", name.Wrap) ∷ []
-    else (if c == 114 then (codes "r", name.Reset) ∷ []
-    else (if c == 115 then (codes "shad", name.Number num.Shadow) ∷ (codes "s", name.Number num.Strikeout) ∷ []
-    else (if c == 116 then (codes "t", name.Transform) ∷ []
-    else (if c == 117 then (codes "u", name.Number num.Underline) ∷ []
-    else (if c == 120 then (codes "xbord", name.Number num.BorderX) ∷ (codes "xshad", name.Number num.ShadowX) ∷ []
-    else (if c == 121 then (codes "ybord", name.Number num.BorderY) ∷ (codes "yshad", name.Number num.ShadowY) ∷ []
-    else []))))))))))))))))))))
+-- The table of names.
+abbrev pub tag_names : List NameRow
+tag_names =
+    (codes "b", name.Number num.Bold) ∷ (codes "i", name.Number num.Italic) ∷
+    (codes "u", name.Number num.Underline) ∷ (codes "s", name.Number num.Strikeout) ∷
+    (codes "fs", name.Size) ∷
+    (codes "fscx", name.Number num.ScaleX) ∷ (codes "fscy", name.Number num.ScaleY) ∷ (codes "fsp", name.Number num.Spacing) ∷
+    (codes "frz", name.Number num.Angle) ∷ (codes "fr", name.Number num.Angle) ∷
+    (codes "bord", name.Number num.Border) ∷ (codes "xbord", name.Number num.BorderX) ∷ (codes "ybord", name.Number num.BorderY) ∷
+    (codes "shad", name.Number num.Shadow) ∷ (codes "xshad", name.Number num.ShadowX) ∷ (codes "yshad", name.Number num.ShadowY) ∷
+    (codes "be", name.Number num.Edges) ∷ (codes "blur", name.Number num.Blur) ∷
+    (codes "p", name.Number num.Draw) ∷ (codes "pbo", name.Number num.Offset) ∷
+    (codes "q", name.Wrap) ∷
+    (codes "c", name.Colour 1) ∷ (codes "1c", name.Colour 1) ∷ (codes "2c", name.Colour 2) ∷ (codes "3c", name.Colour 3) ∷ (codes "4c", name.Colour 4) ∷
+    (codes "alpha", name.Alpha 0) ∷ (codes "1a", name.Alpha 1) ∷ (codes "2a", name.Alpha 2) ∷ (codes "3a", name.Alpha 3) ∷ (codes "4a", name.Alpha 4) ∷
+    (codes "fn", name.FontName) ∷ (codes "r", name.Reset) ∷
+    (codes "an", name.Align) ∷ (codes "a", name.OldAlign) ∷
+    (codes "k", name.Karaoke sung.Jump) ∷ (codes "kf", name.Karaoke sung.Sweep) ∷ (codes "K", name.Karaoke sung.Sweep) ∷ (codes "ko", name.Karaoke sung.Outline) ∷
+    (codes "pos", name.Pos) ∷ (codes "org", name.Org) ∷ (codes "move", name.Move) ∷
+    (codes "fad", name.Fade) ∷ (codes "fade", name.Fade) ∷
+    (codes "clip", name.Clip false) ∷ (codes "iclip", name.Clip true) ∷
+    (codes "t", name.Transform) ∷
+    (codes "frx", name.Skipped) ∷ (codes "fry", name.Skipped) ∷ (codes "fax", name.Skipped) ∷ (codes "fay", name.Skipped) ∷
+    (codes "fe", name.Skipped) ∷ (codes "kt", name.Skipped) ∷ (codes "fsc", name.Skipped) ∷ []
 
--- the first of the names that a text begins with: what it stands for, and the text behind it
-abbrev pub name_in : Names → List ℕ → Option (TagName × List ℕ)
-name_in [] text = None
-name_in (row ∷ rows) text = if starts_with nat_eq text row.0 then Some (row.1, drop (length row.0) text) else name_in rows text
+-- of two rows the one with the longer spelling
+abbrev pub longer_row : NameRow → NameRow → NameRow
+longer_row row other = if nat_lt (length row.0) (length other.0) then other else row
 
--- the longest name that a text begins with
+-- the same where there may be no row
+abbrev pub longer_of : Option NameRow → Option NameRow → Option NameRow
+longer_of None other = other
+longer_of (Some row) None = Some row
+longer_of (Some row) (Some other) = Some (longer_row row other)
+
+-- of the rows whose spelling a text begins with, the one with the longest spelling
+abbrev pub longest_row : List NameRow → List ℕ → Option NameRow
+longest_row [] text = None
+longest_row (row ∷ rows) text = if starts_with nat_eq text row.0 then longer_of (Some row) (longest_row rows text) else longest_row rows text
+
+-- what a row stands for, and the text behind its spelling
+abbrev pub found_by : List ℕ → NameRow → TagName × List ℕ
+found_by text row = (row.1, drop (length row.0) text)
+
+-- the longest name that a text begins with: what it stands for, and the text behind it
 unfoldable pub longest_name : List ℕ → Option (TagName × List ℕ)
-longest_name text = name_in (names_on (slice_index text 0)) text
+longest_name text = option_map (found_by text) (longest_row tag_names text)
 
 -- The name that the text of a tag behind its `\` begins with; blanks may stand before it.
 abbrev pub tag_name : List ℕ → Option (TagName × List ℕ)

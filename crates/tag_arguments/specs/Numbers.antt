@@ -1,4 +1,4 @@
--- Arguments that are numbers.
+-- Public: arguments that are numbers, colours and alphas, and the pieces between commas.
 use Rattle.std.specs.Prelude.{◌≡◌, ◌≢◌, ℕ, ◌==◌, ◌≤◌, Bool, false, MatchBool, if◌then◌else◌, ℤ, List, [], ◌∷◌, length, Option, Some, None}
 use Rattle.std.specs.List.{slice_split}
 use Rattle.ass_num.specs.Fronts.{BeginsWith, HasNoFront}
@@ -51,17 +51,17 @@ left_pieces drops_blank (Some rest) = counted_pieces drops_blank rest
 -- Each piece, without blanks at its ends, begins with its number.
 abbrev pub AreNumbers : List (List ℕ) → List ℤ → Type 0
 AreNumbers [] [] = Unit {0}
-AreNumbers (piece ∷ comma_pieces) (value ∷ values) = BeginsWith IsMilli (trimmed piece) value × AreNumbers comma_pieces values
+AreNumbers (piece ∷ pieces) (value ∷ values) = BeginsWith IsMilli (trimmed piece) value × AreNumbers pieces values
 AreNumbers _ _ = ⊥
 
 -- the pieces are numbers, of which there are at most seven
 abbrev pub AreFewNumbers : List (List ℕ) → List ℤ → Type 0
-AreFewNumbers comma_pieces values = (length values ≤ 7) × AreNumbers comma_pieces values
+AreFewNumbers pieces values = (length values ≤ 7) × AreNumbers pieces values
 
 -- These are the numbers of the pieces; none are read where some piece isn't a number, or there are more than seven.
 abbrev pub ReadsNumbers : List (List ℕ) → Option (List ℤ) → Type 0
-ReadsNumbers comma_pieces (Some values) = AreFewNumbers comma_pieces values
-ReadsNumbers comma_pieces None = (values : List ℤ) → AreFewNumbers comma_pieces values → ⊥
+ReadsNumbers pieces (Some values) = AreFewNumbers pieces values
+ReadsNumbers pieces None = (values : List ℤ) → AreFewNumbers pieces values → ⊥
 
 -- the same of an argument in brackets; none are read without a bracket
 abbrev pub ReadsBracketed : Option (List ℕ) → Option (List ℤ) → Type 0

@@ -10,10 +10,7 @@ pub fn read_colour_argument(argument: &str) -> Option<Option<u32>>
     if argument.is_empty() {
         return Some(None);
     }
-    match ass_num::read_colour(argument.as_bytes()) {
-        Some(colour) => Some(Some(colour)),
-        None => None,
-    }
+    Some(Some(ass_num::read_colour(argument.as_bytes())?))
 }
 
 /// An argument that is empty, or begins with an alpha.
@@ -23,8 +20,5 @@ pub fn read_alpha_argument(argument: &str) -> Option<Option<u8>>
     if argument.is_empty() {
         return Some(None);
     }
-    match ass_num::read_alpha(argument.as_bytes()) {
-        Some(alpha) => Some(Some(alpha)),
-        None => None,
-    }
+    Some(Some(ass_num::read_alpha(argument.as_bytes())?))
 }

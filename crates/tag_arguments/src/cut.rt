@@ -67,8 +67,6 @@ pub fn tag_len(text: &str) -> usize
 pub fn bracketed(text: &str) -> Option<&str>
     ensures { option_copied result ≡ bracketed text.now }
 {
-    match after_bracket(text) {
-        Some(inside) => Some(&inside[..outer_len(inside.as_bytes(), b')')]),
-        None => None,
-    }
+    let inside = after_bracket(text)?;
+    Some(&inside[..outer_len(inside.as_bytes(), b')')])
 }

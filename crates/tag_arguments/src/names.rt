@@ -1,157 +1,108 @@
 //! The table of names.
 
-ghost use Rattle.std.specs.Prelude.{◌≡◌, ◌∷◌, [], map, slice_index};
+ghost use Rattle.std.specs.Prelude.{◌≡◌, ◌∷◌, [], Some, map};
 ghost use Rattle.std.specs.Option.{option_map};
-ghost use Rattle.tag_arguments.specs.Names.{name_in, names_on, longest_name, tag_name};
+ghost use Rattle.tag_arguments.specs.Names.{longer_of, longest_row, longest_name, tag_name};
 
 use crate::kinds::{Num, Sung, TagName};
 use blanks::text::past_blanks;
 
-/// The first of the names that the text begins with: what it stands for, and the text behind it.
-fn first_name<'a>(text: &'a str, rows: &[(&'static str, TagName)]) -> Option<(TagName, &'a str)>
-    ensures { option_map (λ found. (found.0, found.1.now)) result ≡ name_in (map (λ row. (row.0.now, row.1)) rows.now) text.now }
+/// A spelling, and what it stands for.
+type NameRow = (&'static str, TagName);
+
+/// Every name of a tag, in the order of docs/TAGS.md.
+const TAG_NAMES: [NameRow; 54] = [
+    ("b", TagName::Number(Num::Bold)),
+    ("i", TagName::Number(Num::Italic)),
+    ("u", TagName::Number(Num::Underline)),
+    ("s", TagName::Number(Num::Strikeout)),
+    ("fs", TagName::Size),
+    ("fscx", TagName::Number(Num::ScaleX)),
+    ("fscy", TagName::Number(Num::ScaleY)),
+    ("fsp", TagName::Number(Num::Spacing)),
+    ("frz", TagName::Number(Num::Angle)),
+    ("fr", TagName::Number(Num::Angle)),
+    ("bord", TagName::Number(Num::Border)),
+    ("xbord", TagName::Number(Num::BorderX)),
+    ("ybord", TagName::Number(Num::BorderY)),
+    ("shad", TagName::Number(Num::Shadow)),
+    ("xshad", TagName::Number(Num::ShadowX)),
+    ("yshad", TagName::Number(Num::ShadowY)),
+    ("be", TagName::Number(Num::Edges)),
+    ("blur", TagName::Number(Num::Blur)),
+    ("p", TagName::Number(Num::Draw)),
+    ("pbo", TagName::Number(Num::Offset)),
+    ("q", TagName::Wrap),
+    ("c", TagName::Colour(1)),
+    ("1c", TagName::Colour(1)),
+    ("2c", TagName::Colour(2)),
+    ("3c", TagName::Colour(3)),
+    ("4c", TagName::Colour(4)),
+    ("alpha", TagName::Alpha(0)),
+    ("1a", TagName::Alpha(1)),
+    ("2a", TagName::Alpha(2)),
+    ("3a", TagName::Alpha(3)),
+    ("4a", TagName::Alpha(4)),
+    ("fn", TagName::FontName),
+    ("r", TagName::Reset),
+    ("an", TagName::Align),
+    ("a", TagName::OldAlign),
+    ("k", TagName::Karaoke(Sung::Jump)),
+    ("kf", TagName::Karaoke(Sung::Sweep)),
+    ("K", TagName::Karaoke(Sung::Sweep)),
+    ("ko", TagName::Karaoke(Sung::Outline)),
+    ("pos", TagName::Pos),
+    ("org", TagName::Org),
+    ("move", TagName::Move),
+    ("fad", TagName::Fade),
+    ("fade", TagName::Fade),
+    ("clip", TagName::Clip(false)),
+    ("iclip", TagName::Clip(true)),
+    ("t", TagName::Transform),
+    ("frx", TagName::Skipped),
+    ("fry", TagName::Skipped),
+    ("fax", TagName::Skipped),
+    ("fay", TagName::Skipped),
+    ("fe", TagName::Skipped),
+    ("kt", TagName::Skipped),
+    ("fsc", TagName::Skipped),
+];
+
+/// Of two rows the one with the longer spelling; there may be no first one.
+fn longer_of(longest: Option<NameRow>, row: NameRow) -> NameRow
+    ensures { Some (result.0.now, result.1) ≡ longer_of (option_map (λ row. (row.0.now, row.1)) longest.entry) (Some (row.entry.0.now, row.entry.1)) }
 {
-    for (name, meaning) in rows {
-        if let Some(rest) = text.strip_prefix(*name) {
-            return Some((*meaning, rest));
+    match longest {
+        Some(other) => {
+            if other.0.len() < row.0.len() {
+                row
+            } else {
+                other
+            }
+        }
+        None => row,
+    }
+}
+
+/// Of the rows whose spelling the text begins with, the one with the longest spelling.
+fn longest_row(text: &str, rows: &[NameRow]) -> Option<NameRow>
+    ensures { option_map (λ row. (row.0.now, row.1)) result ≡ longest_row (map (λ row. (row.0.now, row.1)) rows.now) text.now }
+{
+    let mut longest = None;
+    for row in rows {
+        if text.starts_with(row.0) {
+            longest = Some(longer_of(longest, *row));
         }
     }
-    None
-}
-
-fn name_on_f(text: &str) -> Option<(TagName, &str)>
-    ensures { option_map (λ found. (found.0, found.1.now)) result ≡ name_in (names_on 102) text.now }
-{
-    first_name(
-        text,
-        &[
-            ("fscx", TagName::Number(Num::ScaleX)),
-            ("fscy", TagName::Number(Num::ScaleY)),
-            ("fade", TagName::Fade),
-            ("fsc", TagName::Skipped),
-            ("fsp", TagName::Number(Num::Spacing)),
-            ("frx", TagName::Skipped),
-            ("fry", TagName::Skipped),
-            ("frz", TagName::Number(Num::Angle)),
-            ("fax", TagName::Skipped),
-            ("fay", TagName::Skipped),
-            ("fad", TagName::Fade),
-            ("fn", TagName::FontName),
-            ("fs", TagName::Size),
-            ("fr", TagName::Number(Num::Angle)),
-            ("fe", TagName::Skipped),
-        ],
-    )
-}
-
-/// The first of the names on a letter that the text begins with.
-fn name_on(first: u8, text: &str) -> Option<(TagName, &str)>
-    ensures { option_map (λ found. (found.0, found.1.now)) result ≡ name_in (names_on first) text.now }
-{
-    match first {
-        b'1' => first_name(
-            text,
-            &[("1c", TagName::Colour(1)), ("1a", TagName::Alpha(1))],
-        ),
-        b'2' => first_name(
-            text,
-            &[("2c", TagName::Colour(2)), ("2a", TagName::Alpha(2))],
-        ),
-        b'3' => first_name(
-            text,
-            &[("3c", TagName::Colour(3)), ("3a", TagName::Alpha(3))],
-        ),
-        b'4' => first_name(
-            text,
-            &[("4c", TagName::Colour(4)), ("4a", TagName::Alpha(4))],
-        ),
-        b'a' => first_name(
-            text,
-            &[
-                ("alpha", TagName::Alpha(0)),
-                ("an", TagName::Align),
-                ("a", TagName::OldAlign),
-            ],
-        ),
-        b'b' => first_name(
-            text,
-            &[
-                ("blur", TagName::Number(Num::Blur)),
-                ("bord", TagName::Number(Num::Border)),
-                ("be", TagName::Number(Num::Edges)),
-                ("b", TagName::Number(Num::Bold)),
-            ],
-        ),
-        b'c' => first_name(
-            text,
-            &[("clip", TagName::Clip(false)), ("c", TagName::Colour(1))],
-        ),
-        b'f' => name_on_f(text),
-        b'i' => first_name(
-            text,
-            &[
-                ("iclip", TagName::Clip(true)),
-                ("i", TagName::Number(Num::Italic)),
-            ],
-        ),
-        b'k' => first_name(
-            text,
-            &[
-                ("kf", TagName::Karaoke(Sung::Sweep)),
-                ("ko", TagName::Karaoke(Sung::Outline)),
-                ("kt", TagName::Skipped),
-                ("k", TagName::Karaoke(Sung::Jump)),
-            ],
-        ),
-        b'K' => first_name(text, &[("K", TagName::Karaoke(Sung::Sweep))]),
-        b'm' => first_name(text, &[("move", TagName::Move)]),
-        b'o' => first_name(text, &[("org", TagName::Org)]),
-        b'p' => first_name(
-            text,
-            &[
-                ("pos", TagName::Pos),
-                ("pbo", TagName::Number(Num::Offset)),
-                ("p", TagName::Number(Num::Draw)),
-            ],
-        ),
-        b'q' => first_name(text, &[("q", TagName::Wrap)]),
-        b'r' => first_name(text, &[("r", TagName::Reset)]),
-        b's' => first_name(
-            text,
-            &[
-                ("shad", TagName::Number(Num::Shadow)),
-                ("s", TagName::Number(Num::Strikeout)),
-            ],
-        ),
-        b't' => first_name(text, &[("t", TagName::Transform)]),
-        b'u' => first_name(text, &[("u", TagName::Number(Num::Underline))]),
-        b'x' => first_name(
-            text,
-            &[
-                ("xbord", TagName::Number(Num::BorderX)),
-                ("xshad", TagName::Number(Num::ShadowX)),
-            ],
-        ),
-        b'y' => first_name(
-            text,
-            &[
-                ("ybord", TagName::Number(Num::BorderY)),
-                ("yshad", TagName::Number(Num::ShadowY)),
-            ],
-        ),
-        _ => None,
-    }
+    longest
 }
 
 /// The longest name that the text begins with: what it stands for, and the text behind it.
-#[tactic(auto, unfolding(crate::specs::Names::longest_name))]
 fn longest_name(text: &str) -> Option<(TagName, &str)>
     ensures { option_map (λ found. (found.0, found.1.now)) result ≡ longest_name text.now }
 {
-    match text.as_bytes().first() {
-        Some(first) => name_on(*first, text),
-        None => None,
-    }
+    let (spelling, name) = longest_row(text, &TAG_NAMES)?;
+    Some((name, text.strip_prefix(spelling)?))
 }
 
 /// What the text of a tag behind its `\` says first: blanks, and then a name. With what the name stands for comes the text behind it.

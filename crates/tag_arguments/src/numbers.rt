@@ -18,10 +18,8 @@ pub type Numbers = ArrayVec<Milli, 7>;
 pub fn read_front(argument: &str) -> Option<Milli>
     ensures { ReadsFront IsMilli argument.now result }
 {
-    match read_milli(argument.as_bytes()) {
-        Some((value, _len)) => Some(value),
-        None => None,
-    }
+    let (value, _len) = read_milli(argument.as_bytes())?;
+    Some(value)
 }
 
 /// An argument that is empty, or begins with a number.
@@ -31,10 +29,7 @@ pub fn read_number(argument: &str) -> Option<Option<Milli>>
     if argument.is_empty() {
         return Some(None);
     }
-    match read_front(argument) {
-        Some(value) => Some(Some(value)),
-        None => None,
-    }
+    Some(Some(read_front(argument)?))
 }
 
 /// Whether a sign stands at the front of an argument.
@@ -56,7 +51,7 @@ pub fn read_unsigned(argument: &str) -> Option<Option<Milli>>
 
 /// The first piece of a text, and what stands behind the comma after it.
 pub fn first_piece(text: &str) -> (&str, Option<&str>)
-    ensures comma_pieces { MatchOption result.1 (comma_pieces text.now ≡ result.0.now ∷ []) (λ rest. comma_pieces text.now ≡ result.0.now ∷ comma_pieces rest.now) }
+    ensures pieces { MatchOption result.1 (comma_pieces text.now ≡ result.0.now ∷ []) (λ rest. comma_pieces text.now ≡ result.0.now ∷ comma_pieces rest.now) }
     ensures whole { IfNone result.1 (result.0.now ≡ text.now) }
     ensures shorter { IfSome result.1 (λ rest. length rest.now < length text.now) }
 {
@@ -69,7 +64,7 @@ pub fn first_piece(text: &str) -> (&str, Option<&str>)
 /// A text without a comma as its only piece, unless that doesn't count.
 fn only_piece(text: &str, drops_blank: bool) -> Option<(&str, Option<&str>)>
     requires { comma_pieces text.now ≡ text.now ∷ [] }
-    ensures comma_pieces { MatchOption result
+    ensures pieces { MatchOption result
         (counted_pieces drops_blank text.now ≡ [])
         (λ next. counted_pieces drops_blank text.now ≡ next.0.now ∷ left_pieces drops_blank (option_copied next.1)) }
     ensures last { IfSome result (λ next. IsNone next.1) }
@@ -85,7 +80,7 @@ fn only_piece(text: &str, drops_blank: bool) -> Option<(&str, Option<&str>)>
 
 /// The first piece of a text that counts, and what stands behind the comma after it.
 fn next_piece(text: &str, drops_blank: bool) -> Option<(&str, Option<&str>)>
-    ensures comma_pieces { MatchOption result
+    ensures pieces { MatchOption result
         (counted_pieces drops_blank text.now ≡ [])
         (λ next. counted_pieces drops_blank text.now ≡ next.0.now ∷ left_pieces drops_blank (option_copied next.1)) }
     ensures shorter { IfSome result (λ next. IfSome next.1 (λ rest. length rest.now < length text.now)) }
@@ -123,8 +118,5 @@ pub fn number_list(text: &str, drops_blank: bool) -> Option<Numbers>
 pub fn bracketed_numbers(text: &str) -> Option<Numbers>
     ensures { ReadsBracketed (bracketed text.now) (option_map (λ numbers. numbers.items) result) }
 {
-    match bracketed(text) {
-        Some(inside) => number_list(inside, false),
-        None => None,
-    }
+    number_list(bracketed(text)?, false)
 }

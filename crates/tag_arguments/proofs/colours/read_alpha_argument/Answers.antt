@@ -1,6 +1,10 @@
-use Rattle.std.proofs.Common.{◌==◌, length, ap, ◌∙◌}
+use Rattle.std.proofs.Common.{ℕ, Option, ◌==◌, length, ap, sym, ◌∙◌, subst}
 use Rattle.std.proofs.lemmas.Bool.{false≢true}
+use Rattle.ass_num.specs.Numerals.{IsAlpha}
+use Rattle.tag_arguments.specs.Numbers.{ReadsOptional}
 use Rattle.tag_arguments.proofs.colours.read_alpha_argument.Goals as goal
 
-pub returns-in-None : goal.returns-in-None
-returns-in-None c = (λ e. false≢true (c.if-is_empty.ensures ∙ ap (λ z. length z == 0) e), rw c.as_bytes.ensures.value at c.in-None.ensures.none)
+pub returns-in_err-read_alpha : goal.returns-in_err-read_alpha
+returns-in_err-read_alpha c =
+    let P : Option (Option ℕ) → Type 0 = λ z. ReadsOptional IsAlpha c.args.argument.now z in
+    subst P (sym c.from_residual.ensures) (λ e. false≢true (c.if-is_empty.ensures ∙ ap (λ z. length z == 0) e), rw c.as_bytes.ensures.value at c.in_err-read_alpha.ensures.none)

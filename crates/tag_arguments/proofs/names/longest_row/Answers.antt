@@ -1,11 +1,13 @@
 use Rattle.std.proofs.Common.{sym, ◌∙◌, arith}
-use Rattle.tag_arguments.proofs.NameLemmas.{name_found, name_passed}
-use Rattle.tag_arguments.proofs.names.first_name.Goals as goal
+use Rattle.std.proofs.lemmas.Str.Pattern.{starts_text}
+use Rattle.tag_arguments.proofs.NameLemmas.{row_taken, row_passed}
+use Rattle.tag_arguments.proofs.names.longest_row.Goals.{then-starts_with, else-starts_with}
+use Rattle.tag_arguments.proofs.names.longest_row.Goals as goal
 
-pub returns-in-Some : goal.returns-in-Some
-returns-in-Some c =
-    let strips = c.in-Some.ensures.cases in
-    sym (name_found c.args.rows.now c.loop-name.name-index _ c.args.text.now (omega arith) strips.0 c.in-Some.rest.now strips.1.0 strips.1.1 strips.2) ∙ c.loop-name.invariant
-
-pub loop-name-preserved : goal.loop-name-preserved
-loop-name-preserved c = sym (name_passed c.args.rows.now c.loop-name.name-index _ c.args.text.now (omega arith) c.in_default.ensures.cases) ∙ c.loop-name.invariant
+pub loop-row-preserved : goal.loop-row-preserved
+loop-row-preserved c =
+    let starts = sym (starts_text c.starts_with.result _ c.args.text.now c.starts_with.ensures.cases) in
+    elim c.if-starts_with.branch [
+      | then-starts_with w ↦ row_taken c.args.rows.now c.loop-row.row-index _ c.args.text.now c.loop-row.longest c.if-starts_with.longest _ (omega arith) w.longer_of.result (starts ∙ w.if-starts_with.true) w.longest-is w.longer_of.ensures c.loop-row.invariant
+      | else-starts_with w ↦ row_passed c.args.rows.now c.loop-row.row-index _ c.args.text.now c.loop-row.longest c.if-starts_with.longest _ (omega arith) (starts ∙ w.if-starts_with.false) w.longest-is c.loop-row.invariant
+    ]

@@ -1,7 +1,10 @@
 use Rattle.std.proofs.Common.{◌≡◌, drop, map}
-use Rattle.tag_arguments.specs.Names.{name_in}
-use Rattle.tag_arguments.proofs.names.first_name.Given as goal
+use Rattle.std.specs.Option.{option_map}
+use Rattle.tag_arguments.specs.Names.{longer_of, longest_row}
+use Rattle.tag_arguments.proofs.names.longest_row.Given as goal
 
--- the names so far don't begin the text
-abbrev pub invariant-loop-name : goal.invariant-loop-name
-invariant-loop-name l = name_in (map (λ row. (row.0.now, row.1)) (drop l.name-index l.rows)) l.text ≡ name_in (map (λ row. (row.0.now, row.1)) l.rows) l.text
+-- the longest so far, or a longer one of those that come
+abbrev pub invariant-loop-row : goal.invariant-loop-row
+invariant-loop-row l =
+    longer_of (option_map (λ row. (row.0.now, row.1)) l.longest) (longest_row (map (λ row. (row.0.now, row.1)) (drop l.row-index l.rows)) l.text)
+    ≡ longest_row (map (λ row. (row.0.now, row.1)) l.rows) l.text

@@ -8,5 +8,5 @@ returns-in-Some-clause-pieces c =
 
 pub only_piece-requires : goal.only_piece-requires
 only_piece-requires c =
-    let comma_pieces = rw c.in-None.is at c.first_piece.ensures.pieces in
-    comma_pieces ∙ ap (λ z. z ∷ []) (rw c.in-None.is at c.first_piece.ensures.whole)
+    let pieces = rw c.in-None.is at c.first_piece.ensures.pieces in
+    pieces ∙ ap (λ z. z ∷ []) (rw c.in-None.is at c.first_piece.ensures.whole)
