@@ -1,5 +1,4 @@
 pub mod Paths
-pub mod Ranges
 pub mod Runs
 pub mod Sketches
 pub mod Tokens

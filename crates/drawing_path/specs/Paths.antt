@@ -1,4 +1,4 @@
--- The path of a drawing: each command in turn adds to the path so far.
+-- Public: the path of a drawing: each command in turn adds to the path so far.
 use Rattle.std.specs.Prelude.{◌≡◌, ℕ, ℤ, ◌-◌, if◌then◌else◌, Bool, true, false, Option, Some, List, [], ◌∷◌, ◌++◌, take, length, map, slice_get}
 use Rattle.std.specs.List.{list_any}
 use Rattle.std.specs.Option.{option_and_then}

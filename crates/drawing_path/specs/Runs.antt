@@ -1,4 +1,4 @@
--- The numbers behind a letter, up to the next letter of a command or the end.
+-- Inner: the numbers behind a letter, up to the next letter of a command or the end.
 use Rattle.std.specs.Prelude.{◌≡◌, ℕ, ℤ, ◌≤◌, Option, None, List, [], ◌∷◌, ◌++◌, length, drop, slice_get}
 use Rattle.std.specs.Option.{option_and_then, option_to_list}
 use Rattle.ass_num.specs.declared.geometry.Point.{Point}

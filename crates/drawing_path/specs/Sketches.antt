@@ -1,4 +1,4 @@
--- A path so far, and where it has the last spline of its last figure.
+-- Inner: a path so far, and where it has the last spline of its last figure.
 use Rattle.std.specs.Prelude.{◌≡◌, ℕ, Bool, false, Option, Some, None, List, ◌∷◌, ◌++◌, length}
 use Rattle.std.specs.List.{list_any}
 use Rattle.ass_num.specs.declared.geometry.Point.{Point}

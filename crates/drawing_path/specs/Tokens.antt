@@ -1,21 +1,24 @@
--- What a drawing says, byte by byte: letters of commands, numbers, and what means nothing.
-use Rattle.std.specs.Prelude.{◌≡◌, ℕ, ℤ, ◌==◌, if◌then◌else◌, Option, Some, None, List, [], ◌∷◌, drop}
+-- Public: what a drawing says, byte by byte: letters of commands, numbers, and what means nothing.
+use Rattle.std.specs.Prelude.{◌≡◌, ℕ, ℤ, ◌==◌, codes, if◌then◌else◌, Option, Some, None, List, [], ◌∷◌, drop}
+use Rattle.std.specs.List.{list_any}
 use Rattle.ass_num.specs.Fronts.{IsLongestFront, HasNoFront}
 use Rattle.ass_num.specs.Numerals.{IsMilli}
 use Rattle.drawing_path.specs.declared.command.Command.{Command}
 use Rattle.drawing_path.specs.declared.command.Command.TheVariants.{Begin, Lines, Cubics, NewSpline, Extend, Close}
 
--- The command that a letter chooses: `m` and `n`, `l`, `b`, `s`, `p`, `c`, in this case alone.
+-- the letters of each command, in lower case alone
+abbrev pub command_letters : List (List ℕ × Command)
+command_letters =
+    (codes "mn", Begin) ∷ (codes "l", Lines) ∷ (codes "b", Cubics) ∷ (codes "s", NewSpline) ∷ (codes "p", Extend) ∷ (codes "c", Close) ∷ []
+
+-- the command of the first row that has the letter
+abbrev pub command_in : List (List ℕ × Command) → ℕ → Option Command
+command_in [] letter = None
+command_in (row ∷ rows) letter = if list_any (λ c. c == letter) row.0 then Some row.1 else command_in rows letter
+
+-- the command that a letter chooses
 abbrev pub command_of : ℕ → Option Command
-command_of letter =
-    if letter == 109 then Some Begin
-    else if letter == 110 then Some Begin
-    else if letter == 108 then Some Lines
-    else if letter == 98 then Some Cubics
-    else if letter == 115 then Some NewSpline
-    else if letter == 112 then Some Extend
-    else if letter == 99 then Some Close
-    else None
+command_of letter = command_in command_letters letter
 
 pub data Token : Type 0 where
   Letter : Command → Token

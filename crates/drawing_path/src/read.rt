@@ -1,8 +1,8 @@
 //! The reading of a whole drawing.
 
 ghost use Rattle.std.specs.Prelude.{IfOk};
+ghost use Rattle.ass_num.specs.Paths.{IsPath};
 ghost use Rattle.drawing_path.specs.Paths.{IsPathOf};
-ghost use Rattle.drawing_path.specs.Ranges.{IsDrawablePath};
 
 use crate::points::{command_at, read_points};
 use crate::sketch::Sketch;
@@ -13,7 +13,7 @@ use std::alloc::Global;
 /// Every text has one: what isn't a command or a whole group of points behind one is skipped.
 pub fn read_path(alloc: Global, text: &str) -> Mem<Path>
     ensures path { IfOk result (λ path. IsPathOf text.now path.segs) }
-    ensures drawable { IfOk result (λ path. IsDrawablePath path.segs) }
+    ensures valid { IfOk result (λ path. IsPath path.segs) }
 {
     let text = text.as_bytes();
     let mut points = Vec::new(alloc);

@@ -4,7 +4,7 @@ use Rattle.ass_num.specs.declared.geometry.Seg.{Seg}
 use Rattle.drawing_path.specs.declared.command.Command.{Command}
 use Rattle.drawing_path.specs.Paths.{after_command, IsPathOf}
 use Rattle.drawing_path.specs.Runs.{IsPointRun, command_at}
-use Rattle.drawing_path.proofs.RangeLemmas.{drawing_drawable}
+use Rattle.drawing_path.proofs.RangeLemmas.{drawing_valid}
 use Rattle.drawing_path.proofs.ReadingLemmas.{IsDrawn, drawn_more, drawn_all, rest_of}
 use Rattle.drawing_path.proofs.read.read_path.Goals as goal
 
@@ -32,6 +32,6 @@ pub returns-clause-path : goal.returns-clause-path
 returns-clause-path c =
     path_read c.args.text.now c.as_bytes-text.result.now c.loop-command.at c.command_at.result c.loop-command.sketch.segs.items c.into_segs.result c.as_bytes-text.ensures.value c.command_at.ensures c.in_default.is c.loop-command.invariant.0 c.into_segs.ensures
 
-pub returns-clause-drawable : goal.returns-clause-drawable
-returns-clause-drawable c =
-    drawing_drawable c.args.text.now c.into_segs.result (path_read c.args.text.now c.as_bytes-text.result.now c.loop-command.at c.command_at.result c.loop-command.sketch.segs.items c.into_segs.result c.as_bytes-text.ensures.value c.command_at.ensures c.in_default.is c.loop-command.invariant.0 c.into_segs.ensures)
+pub returns-clause-valid : goal.returns-clause-valid
+returns-clause-valid c =
+    drawing_valid c.args.text.now c.into_segs.result (path_read c.args.text.now c.as_bytes-text.result.now c.loop-command.at c.command_at.result c.loop-command.sketch.segs.items c.into_segs.result c.as_bytes-text.ensures.value c.command_at.ensures c.in_default.is c.loop-command.invariant.0 c.into_segs.ensures)
