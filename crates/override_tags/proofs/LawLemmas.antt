@@ -3,8 +3,8 @@ use Rattle.std.proofs.Common.{ℕ, ◌+◌, ◌<◌, List, ◌∷◌, ◌++◌, 
 use Rattle.std.specs.Prelude.{encode_utf8}
 use Rattle.std.proofs.lemmas.Str.{length-encode, len_utf8_bounds}
 use Rattle.override_tags.specs.Fronts.{Part, Char, HardBreak, SoftBreak, HardSpace, Block, IsFront}
-use Rattle.override_tags.specs.Items.{ItemValue}
-use Rattle.override_tags.specs.Tags.{TagValue}
+use Rattle.override_tags.specs.declared.item.Item.{Item}
+use Rattle.override_tags.specs.declared.tag.Tag.{Tag}
 use Rattle.override_tags.specs.Readings as reads
 use Rattle.override_tags.specs.Readings.{AreItems, ArePartTags, tag_items, part_item}
 use Rattle.override_tags.specs.Laws.{Follow}
@@ -26,23 +26,23 @@ some_bytes text (Block body) rest front =
     omega arith
 
 -- tags take none
-one_tag : (from to place end : ℕ) (tag : Option TagValue) (items : List ItemValue) → Follow place items end → Follow place (tag_items from to tag ++ items) end
+one_tag : (from to place end : ℕ) (tag : Option Tag) (items : List Item) → Follow place items end → Follow place (tag_items from to tag ++ items) end
 one_tag from to place end None items follow = follow
 one_tag from to place end (Some tag) items follow = follow
 
-tags_follow : {from : ℕ} {text : List ℕ} {mine : List ItemValue} → reads.AreTags from text mine → (place end : ℕ) (items : List ItemValue) → Follow place items end → Follow place (mine ++ items) end
+tags_follow : {from : ℕ} {text : List ℕ} {mine : List Item} → reads.AreTags from text mine → (place end : ℕ) (items : List Item) → Follow place items end → Follow place (mine ++ items) end
 tags_follow (reads.none from) place end items follow = follow
 tags_follow (reads.more from text tag others read rest) place end items follow =
     rw append_assoc (one_tag from _ place end tag (others ++ items) (tags_follow rest place end items follow))
 
-part_tags_follow : (from : ℕ) (part : Part) (mine : List ItemValue) → ArePartTags from part mine → (place end : ℕ) (items : List ItemValue) → Follow place items end → Follow place (mine ++ items) end
-part_tags_follow from (Char c) mine none place end items follow = let P : List ItemValue → Type 0 = λ z. Follow place (z ++ items) end in subst P (sym none) follow
-part_tags_follow from HardBreak mine none place end items follow = let P : List ItemValue → Type 0 = λ z. Follow place (z ++ items) end in subst P (sym none) follow
-part_tags_follow from SoftBreak mine none place end items follow = let P : List ItemValue → Type 0 = λ z. Follow place (z ++ items) end in subst P (sym none) follow
-part_tags_follow from HardSpace mine none place end items follow = let P : List ItemValue → Type 0 = λ z. Follow place (z ++ items) end in subst P (sym none) follow
+part_tags_follow : (from : ℕ) (part : Part) (mine : List Item) → ArePartTags from part mine → (place end : ℕ) (items : List Item) → Follow place items end → Follow place (mine ++ items) end
+part_tags_follow from (Char c) mine none place end items follow = let P : List Item → Type 0 = λ z. Follow place (z ++ items) end in subst P (sym none) follow
+part_tags_follow from HardBreak mine none place end items follow = let P : List Item → Type 0 = λ z. Follow place (z ++ items) end in subst P (sym none) follow
+part_tags_follow from SoftBreak mine none place end items follow = let P : List Item → Type 0 = λ z. Follow place (z ++ items) end in subst P (sym none) follow
+part_tags_follow from HardSpace mine none place end items follow = let P : List Item → Type 0 = λ z. Follow place (z ++ items) end in subst P (sym none) follow
 part_tags_follow from (Block body) mine are place end items follow = tags_follow are place end items follow
 
-part_follows : (from to end : ℕ) (part : Part) (items : List ItemValue) → from < to → Follow to items end → Follow from (part_item from to part ∷ items) end
+part_follows : (from to end : ℕ) (part : Part) (items : List Item) → from < to → Follow to items end → Follow from (part_item from to part ∷ items) end
 part_follows from to end (Char c) items some follow = (refl, some, follow)
 part_follows from to end HardBreak items some follow = (refl, some, follow)
 part_follows from to end SoftBreak items some follow = (refl, some, follow)
@@ -50,7 +50,7 @@ part_follows from to end HardSpace items some follow = (refl, some, follow)
 part_follows from to end (Block body) items some follow = (refl, some, follow)
 
 -- and the parts follow one another
-pub items_follow : {from : ℕ} {text : List ℕ} {items : List ItemValue} → AreItems from text items → Follow from items (from + length text)
+pub items_follow : {from : ℕ} {text : List ℕ} {items : List Item} → AreItems from text items → Follow from items (from + length text)
 items_follow (reads.none from) = omega arith
 items_follow (reads.more from to text part rest mine items front place are others) =
     let some = some_bytes text part rest front in

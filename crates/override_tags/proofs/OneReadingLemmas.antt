@@ -18,13 +18,15 @@ use Rattle.tag_arguments.specs.declared.kinds.Num.TheVariants as num
 use Rattle.tag_arguments.specs.declared.kinds.TagName.{TagName}
 use Rattle.tag_arguments.specs.declared.kinds.TagName.TheVariants as name
 use Rattle.override_tags.specs.declared.tag.ClipTag.TheVariants.{Drawn}
-use Rattle.override_tags.specs.declared.tag.Tag.{Tag, Number, Colour, Alpha, Clip}
+use Rattle.override_tags.specs.declared.tag.Tag.{Tag}
+use Rattle.override_tags.specs.declared.tag.Tag.TheVariants.{Number, Colour, Alpha, Clip, Transform}
+use Rattle.override_tags.specs.declared.tag.GradualTag.{GradualTag}
 use Rattle.override_tags.specs.declared.transform.Course.{Course}
 use Rattle.override_tags.specs.Fronts.{Part, Char, HardBreak, SoftBreak, HardSpace, Block, IsFront, has_close, begins_other, shown_char}
-use Rattle.override_tags.specs.Items.{ItemValue}
+use Rattle.override_tags.specs.declared.item.Item.{Item}
 use Rattle.override_tags.specs.Singles.{wrap_tag, align_of, old_align_of, karaoke_of, numbered_of, rectangle_of, scale_of, ReadsDrawn, ReadsScaled, ReadsClipPieces, ReadsClip, ReadsNumbered, ReadsSingle}
 use Rattle.override_tags.specs.Tags as tags
-use Rattle.override_tags.specs.Tags.{TagValue, Gradual, plain_tag, before_tags, from_tags, course_of, kept, ReadsFound, ReadsKept, AreKept, ReadsCourse, ReadsTransform, ReadsNamed, ReadsAny, ReadsTag}
+use Rattle.override_tags.specs.Tags.{before_tags, from_tags, course_of, gradual_of, ReadsFound, ReadsKept, AreKept, ReadsCourse, ReadsTransform, ReadsNamed, ReadsAny, ReadsTag}
 use Rattle.override_tags.specs.Readings as reads
 use Rattle.override_tags.specs.Readings.{AreTags, AreBlockTags, ArePartTags, AreItems, tag_items, part_item, IsTextReading}
 use Rattle.override_tags.specs.Laws.{OneReading}
@@ -198,29 +200,29 @@ one_found : (found : Option (TagName × List ℕ)) (a b : Option Tag) → ReadsF
 one_found None a b first second = first ∙ sym second
 one_found (Some found) a b first second = one_single found.0 found.1 a b first second
 
-one_read_kept : (text : List ℕ) (a b : Option Tag) → ReadsKept text a → ReadsKept text b → a ≡ b
-one_read_kept text a b first second = first.2 ∙ ap (option_and_then kept) (one_found (tag_name text) first.0 second.0 first.1 second.1) ∙ sym second.2
+one_read_kept : (text : List ℕ) (a b : Option GradualTag) → ReadsKept text a → ReadsKept text b → a ≡ b
+one_read_kept text a b first second = first.2 ∙ ap (option_and_then gradual_of) (one_found (tag_name text) first.0 second.0 first.1 second.1) ∙ sym second.2
 
 -- what the kept tags of a text are made of
-abbrev KeptOf : List ℕ → List Tag → Type 0
+abbrev KeptOf : List ℕ → List GradualTag → Type 0
 KeptOf [] all = all ≡ []
-KeptOf (_ ∷ text) all = (tag : Option Tag) × (others : List Tag) × ReadsKept (take (tag_len text) text) tag × AreKept (drop (tag_len text) text) others × (all ≡ option_to_list tag ++ others)
+KeptOf (_ ∷ text) all = (tag : Option GradualTag) × (others : List GradualTag) × ReadsKept (take (tag_len text) text) tag × AreKept (drop (tag_len text) text) others × (all ≡ option_to_list tag ++ others)
 
-kept_of : {text : List ℕ} {all : List Tag} → AreKept text all → KeptOf text all
+kept_of : {text : List ℕ} {all : List GradualTag} → AreKept text all → KeptOf text all
 kept_of tags.none = refl
 kept_of (tags.more text tag others read rest) = (tag, others, read, rest, refl)
 
-one_kept : {text : List ℕ} {a : List Tag} → AreKept text a → (b : List Tag) → AreKept text b → a ≡ b
+one_kept : {text : List ℕ} {a : List GradualTag} → AreKept text a → (b : List GradualTag) → AreKept text b → a ≡ b
 one_kept tags.none b second = sym (kept_of second)
 one_kept (tags.more text tag others read rest) b second =
     let m = kept_of second in
     ap (λ z. option_to_list z ++ others) (one_read_kept _ tag m.0 read m.2) ∙ ap (λ z. option_to_list m.0 ++ z) (one_kept rest m.1 m.3) ∙ sym m.4
 
-one_course : (course : Option Course) (text : List ℕ) (a b : Option TagValue) → ReadsCourse course text a → ReadsCourse course text b → a ≡ b
+one_course : (course : Option Course) (text : List ℕ) (a b : Option Tag) → ReadsCourse course text a → ReadsCourse course text b → a ≡ b
 one_course None text a b first second = first ∙ sym second
-one_course (Some course) text a b first second = first.2 ∙ ap (λ z. Some (Gradual course.times course.quarters z)) (one_kept first.1 second.0 second.1) ∙ sym second.2
+one_course (Some course) text a b first second = first.2 ∙ ap (λ z. Some (Transform course.times course.quarters z)) (one_kept first.1 second.0 second.1) ∙ sym second.2
 
-one_transform : (inside : Option (List ℕ)) (a b : Option TagValue) → ReadsTransform inside a → ReadsTransform inside b → a ≡ b
+one_transform : (inside : Option (List ℕ)) (a b : Option Tag) → ReadsTransform inside a → ReadsTransform inside b → a ≡ b
 one_transform None a b first second = first ∙ sym second
 one_transform (Some inside) a b first second =
     let same : first.0 ≡ second.0 = one_read_numbers (counted_pieces true (before_tags inside)) first.0 second.0 first.1 second.1 in
@@ -229,35 +231,35 @@ one_transform (Some inside) a b first second =
 
 -- ---- tags of blocks
 
-one_named : (n : TagName) (rest : List ℕ) (a b : Option TagValue) → ReadsNamed n rest a → ReadsNamed n rest b → a ≡ b
+one_named : (n : TagName) (rest : List ℕ) (a b : Option Tag) → ReadsNamed n rest a → ReadsNamed n rest b → a ≡ b
 one_named name.Transform rest a b first second = one_transform (bracketed rest) a b first second
-one_named n rest a b first second = first.2 ∙ ap (option_map plain_tag) (one_single n rest first.0 second.0 first.1 second.1) ∙ sym second.2
+one_named n rest a b first second = one_single n rest a b first second
 
-one_any : (found : Option (TagName × List ℕ)) (a b : Option TagValue) → ReadsAny found a → ReadsAny found b → a ≡ b
+one_any : (found : Option (TagName × List ℕ)) (a b : Option Tag) → ReadsAny found a → ReadsAny found b → a ≡ b
 one_any None a b first second = first ∙ sym second
 one_any (Some found) a b first second = one_named found.0 found.1 a b first second
 
-one_tag : (text : List ℕ) (a b : Option TagValue) → ReadsTag text a → ReadsTag text b → a ≡ b
+one_tag : (text : List ℕ) (a b : Option Tag) → ReadsTag text a → ReadsTag text b → a ≡ b
 one_tag text a b first second = one_any (tag_name text) a b first second
 
 -- what the tags of a text are made of
-abbrev TagsOf : ℕ → List ℕ → List ItemValue → Type 0
+abbrev TagsOf : ℕ → List ℕ → List Item → Type 0
 TagsOf from [] all = all ≡ []
-TagsOf from (_ ∷ text) all = (tag : Option TagValue) × (others : List ItemValue) × ReadsTag (take (tag_len text) text) tag
+TagsOf from (_ ∷ text) all = (tag : Option Tag) × (others : List Item) × ReadsTag (take (tag_len text) text) tag
     × AreTags (from + (1 + tag_len text)) (drop (tag_len text) text) others × (all ≡ tag_items from (from + (1 + tag_len text)) tag ++ others)
 
-tags_of : {from : ℕ} {text : List ℕ} {all : List ItemValue} → AreTags from text all → TagsOf from text all
+tags_of : {from : ℕ} {text : List ℕ} {all : List Item} → AreTags from text all → TagsOf from text all
 tags_of (reads.none from) = refl
 tags_of (reads.more from text tag others read rest) = (tag, others, read, rest, refl)
 
-one_tags : {from : ℕ} {text : List ℕ} {a : List ItemValue} → AreTags from text a → (b : List ItemValue) → AreTags from text b → a ≡ b
+one_tags : {from : ℕ} {text : List ℕ} {a : List Item} → AreTags from text a → (b : List Item) → AreTags from text b → a ≡ b
 one_tags (reads.none from) b second = sym (tags_of second)
 one_tags (reads.more from text tag others read rest) b second =
     let m = tags_of second in
     let to = from + (1 + tag_len text) in
     ap (λ z. tag_items from to z ++ others) (one_tag _ tag m.0 read m.2) ∙ ap (λ z. tag_items from to m.0 ++ z) (one_tags rest m.1 m.3) ∙ sym m.4
 
-one_part_tags : (from : ℕ) (part : Part) (a b : List ItemValue) → ArePartTags from part a → ArePartTags from part b → a ≡ b
+one_part_tags : (from : ℕ) (part : Part) (a b : List Item) → ArePartTags from part a → ArePartTags from part b → a ≡ b
 one_part_tags from (Char c) a b first second = first ∙ sym second
 one_part_tags from HardBreak a b first second = first ∙ sym second
 one_part_tags from SoftBreak a b first second = first ∙ sym second
@@ -267,18 +269,18 @@ one_part_tags from (Block body) a b first second = one_tags first b second
 -- ---- items
 
 -- what the items of a text are made of
-abbrev ItemsOf : ℕ → List ℕ → List ItemValue → Type 0
-ItemsOf from text all = ((text ≡ []) × (all ≡ [])) ⊎ ((to : ℕ) × (part : Part) × (rest : List ℕ) × (mine : List ItemValue) × (others : List ItemValue)
+abbrev ItemsOf : ℕ → List ℕ → List Item → Type 0
+ItemsOf from text all = ((text ≡ []) × (all ≡ [])) ⊎ ((to : ℕ) × (part : Part) × (rest : List ℕ) × (mine : List Item) × (others : List Item)
     × IsFront text part rest × (to + length rest ≡ from + length text) × ArePartTags from part mine × AreItems to rest others × (all ≡ part_item from to part ∷ (mine ++ others)))
 
-items_of : {from : ℕ} {text : List ℕ} {all : List ItemValue} → AreItems from text all → ItemsOf from text all
+items_of : {from : ℕ} {text : List ℕ} {all : List Item} → AreItems from text all → ItemsOf from text all
 items_of (reads.none from) = inl (refl, refl)
 items_of (reads.more from to text part rest mine others front place are items) = inr (to, part, rest, mine, others, front, place, are, items, refl)
 
 not_empty : {R : Type 0} (text : List ℕ) (part : Part) (rest : List ℕ) → IsFront text part rest → text ≡ [] → R
 not_empty text part rest front e = let some = some_bytes text part rest front in let none = ap length e in absurd (omega arith)
 
-pub one_items : {from : ℕ} {text : List ℕ} {a : List ItemValue} → AreItems from text a → (b : List ItemValue) → AreItems from text b → a ≡ b
+pub one_items : {from : ℕ} {text : List ℕ} {a : List Item} → AreItems from text a → (b : List Item) → AreItems from text b → a ≡ b
 one_items (reads.none from) b second = elim (items_of second) [
   | inl none ↦ sym none.1
   | inr m ↦ not_empty [] m.1 m.2 m.5 refl

@@ -1,4 +1,4 @@
--- What stands at the front of a text.
+-- Public: what stands at the front of a text.
 use Rattle.std.specs.Prelude.{◌≡◌, ℕ, ◌==◌, ◌||◌, Bool, false, if◌then◌else◌, List, [], ◌∷◌, ◌++◌, length, encode_utf8}
 use Rattle.std.specs.List.{list_any}
 use Rattle.override_tags.specs.declared.scan.FrontKind.{FrontKind}

@@ -1,5 +1,4 @@
 pub mod Fronts
-pub mod Items
 pub mod Laws
 pub mod Readings
 pub mod Singles

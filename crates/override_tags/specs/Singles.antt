@@ -1,5 +1,5 @@
--- Tags that aren't transforms, by their names and the text behind these (Aegisub, "ASS override tags").
-use Rattle.std.specs.Prelude.{◌≡◌, ℕ, ◌||◌, Bool, if◌then◌else◌, ℤ, pos, List, [], ◌∷◌, Option, Some, None}
+-- Public: tags that aren't transforms, by their names and the text behind these (Aegisub, "ASS override tags").
+use Rattle.std.specs.Prelude.{◌≡◌, ℕ, ◌||◌, ◌&&◌, int_le, Bool, if◌then◌else◌, ℤ, pos, ◌+ℤ◌, ◌-ℤ◌, ◌*ℤ◌, option_and_then, List, [], ◌∷◌, Option, Some, None}
 use Rattle.std.specs.Int.{int_max}
 use Rattle.std.specs.Int.RustNames.{unsigned_abs}
 use Rattle.std.specs.Option.{option_map}
@@ -16,11 +16,16 @@ use Rattle.tag_arguments.specs.declared.kinds.Sung.{Sung}
 use Rattle.tag_arguments.specs.declared.kinds.TagName.{TagName}
 use Rattle.tag_arguments.specs.declared.kinds.TagName.TheVariants as name
 use Rattle.override_tags.specs.declared.tag.ClipTag.TheVariants.{Rect, Drawn}
-use Rattle.override_tags.specs.declared.tag.Tag.{Tag, Number, Colour, Alpha, FontName, Reset, Align, Pos, Move, Org, Fad, Fade, Clip, Karaoke}
+use Rattle.override_tags.specs.declared.tag.Tag.{Tag}
+use Rattle.override_tags.specs.declared.tag.Tag.TheVariants.{Number, Colour, Alpha, FontName, Reset, Align, Pos, Move, Org, Fad, Fade, Clip, Karaoke}
 
 -- thousandths as a whole number, rounded down
 abbrev pub whole : ℤ → ℤ
 whole value = floor_div value (pos 1000)
+
+-- the whole number that thousandths are, if they are one
+abbrev pub exact : ℤ → Option ℤ
+exact value = if int_eq (whole value *ℤ pos 1000) value then Some (whole value) else None
 
 -- 0, 1, 2 or 3
 abbrev pub is_wrap_style : ℤ → Bool
@@ -31,23 +36,25 @@ wrap_tag None = None
 wrap_tag (Some None) = Some (Number num.Wrap None)
 wrap_tag (Some (Some value)) = if is_wrap_style value then Some (Number num.Wrap (Some value)) else None
 
--- 1 to 9, as the keys of a numeric keypad lie
-abbrev pub align_of : Option ℤ → Option Tag
-align_of None = None
-align_of (Some value) =
-    if int_eq value (pos 1000) then Some (Align 1) else (if int_eq value (pos 2000) then Some (Align 2) else (if int_eq value (pos 3000) then Some (Align 3)
-    else (if int_eq value (pos 4000) then Some (Align 4) else (if int_eq value (pos 5000) then Some (Align 5) else (if int_eq value (pos 6000) then Some (Align 6)
-    else (if int_eq value (pos 7000) then Some (Align 7) else (if int_eq value (pos 8000) then Some (Align 8) else (if int_eq value (pos 9000) then Some (Align 9)
-    else None))))))))
+-- the key of a numeric keypad by its number, if that is 1 to 9
+abbrev pub key_tag : ℤ → Option Tag
+key_tag number = if int_le (pos 1) number && int_le number (pos 9) then Some (Align (unsigned_abs number)) else None
 
--- Old scripts have 1 to 3 at the bottom, 5 to 7 at the top and 9 to 11 in the middle.
+-- a whole number from 1 to 9, as the keys of a numeric keypad lie
+abbrev pub align_of : Option ℤ → Option Tag
+align_of value = option_and_then key_tag (option_and_then exact value)
+
+-- The key by the number that old scripts have: 1 to 3 at the bottom, 5 to 7 at the top and 9 to 11 in the middle. Other numbers have none.
+abbrev pub key_of_old : ℤ → ℤ
+key_of_old number =
+    if int_le (pos 1) number && int_le number (pos 3) then number
+    else if int_le (pos 5) number && int_le number (pos 7) then number +ℤ pos 2
+    else if int_le (pos 9) number && int_le number (pos 11) then number -ℤ pos 5
+    else pos 0
+
+-- a whole number that old scripts have for an alignment
 abbrev pub old_align_of : Option ℤ → Option Tag
-old_align_of None = None
-old_align_of (Some value) =
-    if int_eq value (pos 1000) then Some (Align 1) else (if int_eq value (pos 2000) then Some (Align 2) else (if int_eq value (pos 3000) then Some (Align 3)
-    else (if int_eq value (pos 5000) then Some (Align 7) else (if int_eq value (pos 6000) then Some (Align 8) else (if int_eq value (pos 7000) then Some (Align 9)
-    else (if int_eq value (pos 9000) then Some (Align 4) else (if int_eq value (pos 10000) then Some (Align 5) else (if int_eq value (pos 11000) then Some (Align 6)
-    else None))))))))
+old_align_of value = option_and_then (λ number. key_tag (key_of_old number)) (option_and_then exact value)
 
 -- the length of a syllable: hundredths of a second as milliseconds, rounded down and at least 0
 abbrev pub karaoke_of : Sung → Option ℤ → Option Tag

@@ -1,8 +1,8 @@
--- The tags of a block, and transforms.
+-- Public: the tags of a block, and transforms.
 use Rattle.std.specs.Prelude.{◌≡◌, ℕ, ◌+◌, ◌==◌, Bool, true, false, if◌then◌else◌, ℤ, pos, ◌+ℤ◌, ◌*ℤ◌, List, [], ◌∷◌, ◌++◌, length, take, drop, Option, Some, None, option_and_then}
 use Rattle.std.specs.Int.RustNames.{unsigned_abs}
 use Rattle.std.specs.List.{position_or_len}
-use Rattle.std.specs.Option.{option_map, option_to_list}
+use Rattle.std.specs.Option.{option_to_list}
 use Rattle.ass_num.specs.Floor.{floor_div, held}
 use Rattle.tag_arguments.specs.Cuts.{bracketed, tag_len}
 use Rattle.tag_arguments.specs.Names.{tag_name}
@@ -12,18 +12,12 @@ use Rattle.tag_arguments.specs.declared.kinds.Num.TheVariants as num
 use Rattle.tag_arguments.specs.declared.kinds.TagName.{TagName}
 use Rattle.tag_arguments.specs.declared.kinds.TagName.TheVariants as name
 use Rattle.override_tags.specs.declared.tag.ClipTag.TheVariants.{Rect}
-use Rattle.override_tags.specs.declared.tag.Tag.{Tag, Number, Colour, Alpha, Clip, Transform', items-the_row-Tag}
+use Rattle.override_tags.specs.declared.tag.GradualTag.{GradualTag}
+use Rattle.override_tags.specs.declared.tag.GradualTag.TheVariants as gradual
+use Rattle.override_tags.specs.declared.tag.Tag.{Tag}
+use Rattle.override_tags.specs.declared.tag.Tag.TheVariants.{Number, Colour, Alpha, Clip, Transform}
 use Rattle.override_tags.specs.declared.transform.Course.{Course}
 use Rattle.override_tags.specs.Singles.{whole, ReadsSingle}
-
--- A tag as contracts see it: a transform is its times, its speed in quarters, and the list of its tags.
-pub data TagValue : Type 0 where
-  Single : Tag → TagValue
-  Gradual : Option (ℤ × ℤ) → ℕ → List Tag → TagValue
-
-abbrev pub plain_tag : Tag → TagValue
-plain_tag (Transform' times quarters shape tags) = Gradual times quarters (items-the_row-Tag _ tags)
-plain_tag tag = Single tag
 
 -- what stands before the first `\`
 abbrev pub before_tags : List ℕ → List ℕ
@@ -77,16 +71,13 @@ is_gradual num.Edges = true
 is_gradual num.Blur = true
 is_gradual _ = false
 
--- a tag that a transform keeps
-abbrev pub is_kept : Tag → Bool
-is_kept (Number property _) = is_gradual property
-is_kept (Colour _ _) = true
-is_kept (Alpha _ _) = true
-is_kept (Clip (Rect _ _)) = true
-is_kept _ = false
-
-abbrev pub kept : Tag → Option Tag
-kept tag = if is_kept tag then Some tag else None
+-- a tag as a transform keeps it, if it does
+abbrev pub gradual_of : Tag → Option GradualTag
+gradual_of (Number property value) = if is_gradual property then Some (gradual.Number property value) else None
+gradual_of (Colour which value) = Some (gradual.Colour which value)
+gradual_of (Alpha which value) = Some (gradual.Alpha which value)
+gradual_of (Clip (Rect corners inverse)) = Some (gradual.Clip corners inverse)
+gradual_of _ = None
 
 -- the tag of a name that was found, if it isn't a transform
 abbrev pub ReadsFound : Option (TagName × List ℕ) → Option Tag → Type 0
@@ -94,33 +85,33 @@ ReadsFound None tag = tag ≡ None
 ReadsFound (Some found) tag = ReadsSingle found.0 found.1 tag
 
 -- The tag of a text behind a `\`, if a transform keeps it.
-abbrev pub ReadsKept : List ℕ → Option Tag → Type 0
-ReadsKept text tag = (single : Option Tag) × ReadsFound (tag_name text) single × (tag ≡ option_and_then kept single)
+abbrev pub ReadsKept : List ℕ → Option GradualTag → Type 0
+ReadsKept text tag = (single : Option Tag) × ReadsFound (tag_name text) single × (tag ≡ option_and_then gradual_of single)
 
 -- The tags that a transform keeps. Its text is empty or begins with a `\`, and each tag ends before the next `\` outside parentheses.
-pub data AreKept : List ℕ → List Tag → Type 0 where
+pub data AreKept : List ℕ → List GradualTag → Type 0 where
   none : AreKept [] []
-  more : (text : List ℕ) (tag : Option Tag) (tags : List Tag) → ReadsKept (take (tag_len text) text) tag → AreKept (drop (tag_len text) text) tags → AreKept (92 ∷ text) (option_to_list tag ++ tags)
+  more : (text : List ℕ) (tag : Option GradualTag) (tags : List GradualTag) → ReadsKept (take (tag_len text) text) tag → AreKept (drop (tag_len text) text) tags → AreKept (92 ∷ text) (option_to_list tag ++ tags)
 
 -- a transform of a course and the text of its tags, unless it has no course
-abbrev pub ReadsCourse : Option Course → List ℕ → Option TagValue → Type 0
+abbrev pub ReadsCourse : Option Course → List ℕ → Option Tag → Type 0
 ReadsCourse None tags tag = tag ≡ None
-ReadsCourse (Some course) tags tag = (all : List Tag) × AreKept tags all × (tag ≡ Some (Gradual course.times course.quarters all))
+ReadsCourse (Some course) tags tag = (all : List GradualTag) × AreKept tags all × (tag ≡ Some (Transform course.times course.quarters all))
 
 -- a transform by what stands in its brackets
-abbrev pub ReadsTransform : Option (List ℕ) → Option TagValue → Type 0
+abbrev pub ReadsTransform : Option (List ℕ) → Option Tag → Type 0
 ReadsTransform None tag = tag ≡ None
 ReadsTransform (Some inside) tag = (values : Option (List ℤ)) × ReadsNumbers (counted_pieces true (before_tags inside)) values × ReadsCourse (course_of values) (from_tags inside) tag
 
 -- a tag by its name and the text behind it
-abbrev pub ReadsNamed : TagName → List ℕ → Option TagValue → Type 0
+abbrev pub ReadsNamed : TagName → List ℕ → Option Tag → Type 0
 ReadsNamed name.Transform rest tag = ReadsTransform (bracketed rest) tag
-ReadsNamed other rest tag = (single : Option Tag) × ReadsSingle other rest single × (tag ≡ option_map plain_tag single)
+ReadsNamed other rest tag = ReadsSingle other rest tag
 
-abbrev pub ReadsAny : Option (TagName × List ℕ) → Option TagValue → Type 0
+abbrev pub ReadsAny : Option (TagName × List ℕ) → Option Tag → Type 0
 ReadsAny None tag = tag ≡ None
 ReadsAny (Some found) tag = ReadsNamed found.0 found.1 tag
 
 -- The tag of a text behind a `\`. There is none where it begins with no name, or no argument of its name follows.
-abbrev pub ReadsTag : List ℕ → Option TagValue → Type 0
+abbrev pub ReadsTag : List ℕ → Option Tag → Type 0
 ReadsTag text tag = ReadsAny (tag_name text) tag

@@ -1,6 +1,6 @@
 -- The ranges of states and of what an event shows at an instant. They are conditions of calls.
 use Rattle.std.specs.Prelude.{◌≡◌, ℕ, ◌<◌, ◌≤◌, ◌⊎◌, ℤ, pos, neg_ℤ, ◌≤ℤ◌, length, All, IfSome}
-use Rattle.drawing_path.specs.Ranges.{IsDrawablePath}
+use Rattle.ass_num.specs.Paths.{IsPath}
 use Rattle.override_tags.specs.declared.tag.ClipTag.{ClipTag}
 use Rattle.override_tags.specs.declared.tag.ClipTag.TheVariants.{Rect, Drawn}
 use Rattle.override_tags.specs.declared.view.EventView.{EventView}
@@ -44,7 +44,7 @@ pub record IsState (state : State) : Type 0 where
 
 -- a drawing that is shown, or a character or break
 abbrev pub IsShownKind : ShownKind → Type 0
-IsShownKind (shown.Drawing path) = IsDrawablePath path.segs
+IsShownKind (shown.Drawing path) = IsPath path.segs
 IsShownKind _ = Unit {0}
 
 -- what is shown in one of so many states
@@ -55,7 +55,7 @@ pub record IsShownItem (states : ℕ) (shown : Shown) : Type 0 where
 -- a clip by four held numbers, or by a drawing at a scale from 1 to 30
 abbrev pub IsClip : ClipTag → Type 0
 IsClip (Rect corners _) = (length corners ≡ 4) × All IsHeld corners
-IsClip (Drawn path scale _) = IsDrawablePath path.segs × (1 ≤ scale) × (scale ≤ 30)
+IsClip (Drawn path scale _) = IsPath path.segs × (1 ≤ scale) × (scale ≤ 30)
 
 -- a point in thousandths of script pixels
 abbrev pub IsHeldPoint : ℤ × ℤ → Type 0

@@ -1,10 +1,9 @@
 //! The tags of a block.
 
-ghost use Rattle.std.specs.Prelude.{◌≡◌, ◌+◌, ◌^◌, ◌<◌, ◌++◌, List, length, map, IfOk, OnOk};
-ghost use Rattle.std.specs.Option.{option_map};
-ghost use Rattle.override_tags.specs.Items.{ItemValue, plain_item};
+ghost use Rattle.std.specs.Prelude.{◌≡◌, ◌+◌, ◌^◌, ◌<◌, ◌++◌, List, length, IfOk, OnOk};
+ghost use Rattle.override_tags.specs.declared.item.Item.{Item};
 ghost use Rattle.override_tags.specs.Readings.{tag_items, AreTags, AreBlockTags};
-ghost use Rattle.override_tags.specs.Tags.{plain_tag, BeginsTag, ReadsNamed, ReadsTag};
+ghost use Rattle.override_tags.specs.Tags.{BeginsTag, ReadsNamed, ReadsTag};
 
 use crate::cut::{next_tag, split_at_tags};
 use crate::item::{Item, ItemKind};
@@ -17,7 +16,7 @@ use tag_arguments::{TagName, tag_name};
 
 /// The tag of a name and the text behind it.
 fn read_named(alloc: Global, name: TagName, rest: &str) -> Mem<Option<Tag>>
-    ensures { IfOk result (λ tag. ReadsNamed name rest.now (option_map plain_tag tag)) }
+    ensures { IfOk result (λ tag. ReadsNamed name rest.now tag) }
 {
     match name {
         TagName::Transform => transform_tag(alloc, rest),
@@ -27,7 +26,7 @@ fn read_named(alloc: Global, name: TagName, rest: &str) -> Mem<Option<Tag>>
 
 /// The tag of a text behind a `\`, if it is one.
 fn read_tag(alloc: Global, text: &str) -> Mem<Option<Tag>>
-    ensures { IfOk result (λ tag. ReadsTag text.now (option_map plain_tag tag)) }
+    ensures { IfOk result (λ tag. ReadsTag text.now tag) }
 {
     match tag_name(text) {
         Some((name, rest)) => read_named(alloc, name, rest),
@@ -37,7 +36,7 @@ fn read_tag(alloc: Global, text: &str) -> Mem<Option<Tag>>
 
 /// Adds the item of a tag, if there is one.
 fn push_tag(items: &mut Vec<Item>, from: usize, to: usize, tag: Option<Tag>) -> Mem<()>
-    ensures { OnOk result (map plain_item items.new.items ≡ map plain_item items.old.items ++ tag_items from to (option_map plain_tag tag)) }
+    ensures { OnOk result (items.new.items ≡ items.old.items ++ tag_items from to tag) }
 {
     match tag {
         Some(tag) => {
@@ -56,8 +55,8 @@ fn push_tag(items: &mut Vec<Item>, from: usize, to: usize, tag: Option<Tag>) -> 
 fn add_tags(alloc: Global, items: &mut Vec<Item>, from: usize, text: &str) -> Mem<()>
     requires begins { BeginsTag text.now }
     requires fits { from + length text.now < 2 ^ 64 }
-    ensures { OnOk result ((tags : List ItemValue) × AreTags from text.now tags
-        × (map plain_item items.new.items ≡ map plain_item items.old.items ++ tags)) }
+    ensures { OnOk result ((tags : List Item) × AreTags from text.now tags
+        × (items.new.items ≡ items.old.items ++ tags)) }
 {
     let mut from = from;
     let mut rest = text;
@@ -74,8 +73,8 @@ fn add_tags(alloc: Global, items: &mut Vec<Item>, from: usize, text: &str) -> Me
 /// Adds the tags of a block by what stands between its braces, which begins at a place.
 pub fn add_block_tags(alloc: Global, items: &mut Vec<Item>, from: usize, body: &str) -> Mem<()>
     requires { from + length body.now < 2 ^ 64 }
-    ensures { OnOk result ((tags : List ItemValue) × AreBlockTags from body.now tags
-        × (map plain_item items.new.items ≡ map plain_item items.old.items ++ tags)) }
+    ensures { OnOk result ((tags : List Item) × AreBlockTags from body.now tags
+        × (items.new.items ≡ items.old.items ++ tags)) }
 {
     let (before, tags) = split_at_tags(body);
     add_tags(alloc, items, from + before.len(), tags)

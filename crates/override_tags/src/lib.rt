@@ -20,6 +20,7 @@ pub mod view;
 pub use item::{Item, ItemKind};
 pub use laws::{one_reading, parts_cover};
 pub use read::read_text;
-pub use tag::{ClipTag, Tag};
+pub use single::whole;
+pub use tag::{ClipTag, GradualTag, Tag};
 pub use tag_arguments::{Num, Sung};
 pub use view::{EventView, Shown, ShownKind, State, Syllable};

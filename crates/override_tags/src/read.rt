@@ -1,7 +1,7 @@
 //! The one reading of a text.
 
-ghost use Rattle.std.specs.Prelude.{◌≡◌, ◌+◌, ◌<◌, ◌^◌, ◌∷◌, ◌++◌, List, map, IfOk, OnOk};
-ghost use Rattle.override_tags.specs.Items.{ItemValue, plain_item, plain_kind};
+ghost use Rattle.std.specs.Prelude.{◌≡◌, ◌+◌, ◌<◌, ◌^◌, ◌∷◌, ◌++◌, List, IfOk, OnOk};
+ghost use Rattle.override_tags.specs.declared.item.Item.{Item};
 ghost use Rattle.override_tags.specs.Fronts.{part_of, body_len};
 ghost use Rattle.override_tags.specs.Readings.{kind_of, part_item, ArePartTags, IsTextReading};
 
@@ -13,7 +13,7 @@ use std::alloc::Global;
 
 /// The kind of the item that a part of a text is.
 fn kind_of(kind: FrontKind<'_>) -> ItemKind
-    ensures { plain_kind result ≡ kind_of (part_of kind.entry) }
+    ensures { result ≡ kind_of (part_of kind.entry) }
 {
     match kind {
         FrontKind::Char(c) => ItemKind::Char(c),
@@ -33,8 +33,8 @@ fn add_part(
     kind: FrontKind<'_>,
 ) -> Mem<()>
     requires { from + 1 + body_len (part_of kind) < 2 ^ 64 }
-    ensures { OnOk result ((tags : List ItemValue) × ArePartTags from (part_of kind.entry) tags
-        × (map plain_item items.new.items ≡ map plain_item items.old.items ++ part_item from to (part_of kind.entry) ∷ tags)) }
+    ensures { OnOk result ((tags : List Item) × ArePartTags from (part_of kind.entry) tags
+        × (items.new.items ≡ items.old.items ++ part_item from to (part_of kind.entry) ∷ tags)) }
 {
     items.push(Item {
         from,
@@ -49,7 +49,7 @@ fn add_part(
 
 /// The items of a text, in order. A block is followed by its tags.
 pub fn read_text(alloc: Global, text: &str) -> Mem<Vec<Item>>
-    ensures { IfOk result (λ items. IsTextReading text.now (map plain_item items.items)) }
+    ensures { IfOk result (λ items. IsTextReading text.now items.items) }
 {
     let mut items = Vec::new(alloc);
     let mut rest = text;

@@ -2,8 +2,8 @@
 
 ghost use Rattle.std.specs.Prelude.{◌≡◌, ◌∷◌, [], IfOk};
 ghost use Rattle.std.specs.Option.{option_map};
-ghost use Rattle.override_tags.specs.declared.tag.Tag.{Number, Colour, Alpha, Move, Fade};
-ghost use Rattle.override_tags.specs.Singles.{whole, is_wrap_style, wrap_tag, align_of, old_align_of, karaoke_of, pos_of, org_of, move_of, fade_of, numbered_of, ReadsNumbered, ReadsSingle};
+ghost use Rattle.override_tags.specs.declared.tag.Tag.TheVariants.{Number, Colour, Alpha, Move, Fade};
+ghost use Rattle.override_tags.specs.Singles.{whole, exact, is_wrap_style, wrap_tag, key_tag, align_of, key_of_old, old_align_of, karaoke_of, pos_of, org_of, move_of, fade_of, numbered_of, ReadsNumbered, ReadsSingle};
 
 use crate::clip::clip_tag;
 use crate::tag::Tag;
@@ -21,13 +21,22 @@ pub fn whole(value: Milli) -> i64
     div_floor(i128::from(value), 1_000) as i64
 }
 
+/// The whole number that thousandths are, if they are one.
+fn exact(value: Milli) -> Option<i64>
+    ensures { result ≡ exact value }
+{
+    let number = whole(value);
+    if i128::from(number) * 1_000 == i128::from(value) {
+        Some(number)
+    } else {
+        None
+    }
+}
+
 fn number_tag(property: Num, value: Option<Option<Milli>>) -> Option<Tag>
     ensures { result ≡ option_map (Number property) value }
 {
-    match value {
-        Some(value) => Some(Tag::Number(property, value)),
-        None => None,
-    }
+    Some(Tag::Number(property, value?))
 }
 
 fn is_wrap_style(value: Milli) -> bool
@@ -55,67 +64,60 @@ fn wrap_tag(value: Option<Option<Milli>>) -> Option<Tag>
 fn colour_tag(which: u8, value: Option<Option<u32>>) -> Option<Tag>
     ensures { result ≡ option_map (Colour which) value }
 {
-    match value {
-        Some(value) => Some(Tag::Colour(which, value)),
-        None => None,
-    }
+    Some(Tag::Colour(which, value?))
 }
 
 fn alpha_tag(which: u8, value: Option<Option<u8>>) -> Option<Tag>
     ensures { result ≡ option_map (Alpha which) value }
 {
-    match value {
-        Some(value) => Some(Tag::Alpha(which, value)),
-        None => None,
+    Some(Tag::Alpha(which, value?))
+}
+
+/// The key of a numeric keypad by its number, if that is 1 to 9.
+fn key_tag(number: i64) -> Option<Tag>
+    ensures { result ≡ key_tag number }
+{
+    if 1 <= number && number <= 9 {
+        Some(Tag::Align(number as u8))
+    } else {
+        None
     }
 }
 
-/// 1 to 9, as the keys of a numeric keypad lie.
+/// A whole number from 1 to 9, as the keys of a numeric keypad lie.
 fn align_tag(value: Option<Milli>) -> Option<Tag>
     ensures { result ≡ align_of value }
 {
-    match value {
-        Some(1_000) => Some(Tag::Align(1)),
-        Some(2_000) => Some(Tag::Align(2)),
-        Some(3_000) => Some(Tag::Align(3)),
-        Some(4_000) => Some(Tag::Align(4)),
-        Some(5_000) => Some(Tag::Align(5)),
-        Some(6_000) => Some(Tag::Align(6)),
-        Some(7_000) => Some(Tag::Align(7)),
-        Some(8_000) => Some(Tag::Align(8)),
-        Some(9_000) => Some(Tag::Align(9)),
-        _ => None,
+    key_tag(exact(value?)?)
+}
+
+/// The key by the number that old scripts have: 1 to 3 at the bottom, 5 to 7 at the top and 9 to 11 in the middle; else 0.
+fn key_of_old(number: i64) -> i64
+    ensures { result ≡ key_of_old number }
+{
+    if 1 <= number && number <= 3 {
+        number
+    } else if 5 <= number && number <= 7 {
+        number + 2
+    } else if 9 <= number && number <= 11 {
+        number - 5
+    } else {
+        0
     }
 }
 
-/// Old scripts have 1 to 3 at the bottom, 5 to 7 at the top and 9 to 11 in the middle.
+/// A whole number that old scripts have for an alignment.
 fn old_align_tag(value: Option<Milli>) -> Option<Tag>
     ensures { result ≡ old_align_of value }
 {
-    match value {
-        Some(1_000) => Some(Tag::Align(1)),
-        Some(2_000) => Some(Tag::Align(2)),
-        Some(3_000) => Some(Tag::Align(3)),
-        Some(5_000) => Some(Tag::Align(7)),
-        Some(6_000) => Some(Tag::Align(8)),
-        Some(7_000) => Some(Tag::Align(9)),
-        Some(9_000) => Some(Tag::Align(4)),
-        Some(10_000) => Some(Tag::Align(5)),
-        Some(11_000) => Some(Tag::Align(6)),
-        _ => None,
-    }
+    key_tag(key_of_old(exact(value?)?))
 }
 
 fn karaoke_tag(kind: Sung, value: Option<Milli>) -> Option<Tag>
     ensures { result ≡ karaoke_of kind value }
 {
-    match value {
-        Some(value) => {
-            let length = div_floor(i128::from(value), 100) as i64;
-            Some(Tag::Karaoke(kind, length.max(0)))
-        }
-        None => None,
-    }
+    let length = div_floor(i128::from(value?), 100) as i64;
+    Some(Tag::Karaoke(kind, length.max(0)))
 }
 
 fn pos_tag(numbers: &[Milli]) -> Option<Tag>
@@ -195,10 +197,7 @@ fn numbered(name: TagName, numbers: &Numbers) -> Option<Tag>
 fn bracketed_tag(name: TagName, rest: &str) -> Option<Tag>
     ensures { ReadsNumbered name rest.now result }
 {
-    match bracketed_numbers(rest) {
-        Some(numbers) => numbered(name, &numbers),
-        None => None,
-    }
+    numbered(name, &bracketed_numbers(rest)?)
 }
 
 /// The tag of a name and the text behind it, if it isn't a transform. There is none where the text

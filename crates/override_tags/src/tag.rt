@@ -1,6 +1,6 @@
 //! Override tags with their arguments.
 
-use ass_num::{Milli, Path, Text};
+use ass_num::{Items, Milli, Path, Text};
 use tag_arguments::{Num, Sung};
 
 /// A clip (Aegisub tag reference, "Clip"). The last flag is true where it hides its inside, as `\iclip` does.
@@ -10,6 +10,19 @@ pub enum ClipTag {
     Rect([Milli; 4], bool),
     /// A drawing, and its scale from 1 to 30.
     Drawn(Path, u32, bool),
+}
+
+/// A tag that takes effect gradually, as a transform keeps it. An argument that is none was empty and restores what the style says.
+#[derive(Clone, Copy, Debug, PartialEq, Eq)]
+pub enum GradualTag {
+    /// A property and its number in thousandths, as it was read.
+    Number(Num, Option<Milli>),
+    /// A colour by its number from 1 to 4.
+    Colour(u8, Option<u32>),
+    /// An alpha by the number of its colour, or that of all four by 0.
+    Alpha(u8, Option<u8>),
+    /// A clip by four numbers, and whether it hides its inside.
+    Clip([Milli; 4], bool),
 }
 
 /// An override tag (Aegisub tag reference). An argument that is none was empty and restores what the style says.
@@ -38,5 +51,5 @@ pub enum Tag {
     /// The length of a syllable in milliseconds.
     Karaoke(Sung, i64),
     /// Two times in milliseconds or none, the speed in quarters, and the tags that take effect gradually.
-    Transform(Option<(i64, i64)>, u32, Vec<Tag>),
+    Transform(Option<(i64, i64)>, u32, Items<GradualTag>),
 }

@@ -214,31 +214,32 @@ const CLIPS: &str = r"\clip(1,2,3,4.5) => Clip(Rect([1000, 2000, 3000, 4500], fa
 ";
 
 /// Transforms, and which tags stay in them.
-const TRANSFORMS: &str = r"\t(\fs20) => Transform(None, 4, [Number(Size, Some(20000))])
-\t(1.5,\fs20) => Transform(None, 6, [Number(Size, Some(20000))])
-\t(-0.5,900.9,\fs20) => Transform(Some((-1, 900)), 4, [Number(Size, Some(20000))])
-\t(100,900,2,\fs20) => Transform(Some((100, 900)), 8, [Number(Size, Some(20000))])
-\t(0,500\fs20) => Transform(Some((0, 500)), 4, [Number(Size, Some(20000))])
-\t()\t(0.3)\t(0,500) => Transform(None, 4, []); Transform(None, 1, []); Transform(Some((0, 500)), 4, [])
-\t(-1)\t(0.375)\t(9) => Transform(None, 1, []); Transform(None, 2, []); Transform(None, 32, [])
+const TRANSFORMS: &str =
+    r"\t(\fs20) => Transform(None, 4, Items { items: [Number(Size, Some(20000))] })
+\t(1.5,\fs20) => Transform(None, 6, Items { items: [Number(Size, Some(20000))] })
+\t(-0.5,900.9,\fs20) => Transform(Some((-1, 900)), 4, Items { items: [Number(Size, Some(20000))] })
+\t(100,900,2,\fs20) => Transform(Some((100, 900)), 8, Items { items: [Number(Size, Some(20000))] })
+\t(0,500\fs20) => Transform(Some((0, 500)), 4, Items { items: [Number(Size, Some(20000))] })
+\t()\t(0.3)\t(0,500) => Transform(None, 4, Items { items: [] }); Transform(None, 1, Items { items: [] }); Transform(Some((0, 500)), 4, Items { items: [] })
+\t(-1)\t(0.375)\t(9) => Transform(None, 1, Items { items: [] }); Transform(None, 2, Items { items: [] }); Transform(None, 32, Items { items: [] })
 \t\t(x,\fs20)\t(,\fs20)\t(1,,\fs20)\t(1,2,,\fs20)\t(1,2,3,4,\fs20) => skipped
-\t( 100 , 900 , 2 , \fs 20 ) => Transform(Some((100, 900)), 8, [Number(Size, Some(20000))])
+\t( 100 , 900 , 2 , \fs 20 ) => Transform(Some((100, 900)), 8, Items { items: [Number(Size, Some(20000))] })
 \t (\fs20) => skipped
 \t1,\fs20) => Number(Size, Some(20000))
-\t(\fs20 => Transform(None, 4, [Number(Size, Some(20000))])
-\t(\fs1\fscx2\fscy3) => Transform(None, 4, [Number(Size, Some(1000)), Number(ScaleX, Some(2000)), Number(ScaleY, Some(3000))])
-\t(\fsp4\frz5\fr6) => Transform(None, 4, [Number(Spacing, Some(4000)), Number(Angle, Some(5000)), Number(Angle, Some(6000))])
-\t(\bord1\xbord2\ybord3) => Transform(None, 4, [Number(Border, Some(1000)), Number(BorderX, Some(2000)), Number(BorderY, Some(3000))])
-\t(\shad4\xshad5\yshad6) => Transform(None, 4, [Number(Shadow, Some(4000)), Number(ShadowX, Some(5000)), Number(ShadowY, Some(6000))])
-\t(\be7\blur8) => Transform(None, 4, [Number(Edges, Some(7000)), Number(Blur, Some(8000))])
-\t(\c1\1c2\2c3\3c4\4c) => Transform(None, 4, [Colour(1, Some(1)), Colour(1, Some(2)), Colour(2, Some(3)), Colour(3, Some(4)), Colour(4, None)])
-\t(\alpha1\1a2\2a3\3a4\4a) => Transform(None, 4, [Alpha(0, Some(1)), Alpha(1, Some(2)), Alpha(2, Some(3)), Alpha(3, Some(4)), Alpha(4, None)])
-\t(\clip(1,2,3,4)) => Transform(None, 4, [Clip(Rect([1000, 2000, 3000, 4000], false))])
-\t(\iclip(1,2,3,4)) => Transform(None, 4, [Clip(Rect([1000, 2000, 3000, 4000], true))])
-\t(\b1\i1\u1\s1\fnArial\rAlt\q1\an7\a6\p1\pbo1) => Transform(None, 4, [])
-\t(\k1\kf1\K1\ko1\pos(1,2)\org(1,2)\move(1,2,3,4)\fad(1,2)\fade(1,2)) => Transform(None, 4, [])
-\t(\clip(m 1 2)\iclip(2,m 1 2)\t(\fs20)) => Transform(None, 4, [])
-\t(\frx1\fry1\fax1\fay1\fe1\kt1\fsc1\fsx\foo) => Transform(None, 4, [])
+\t(\fs20 => Transform(None, 4, Items { items: [Number(Size, Some(20000))] })
+\t(\fs1\fscx2\fscy3) => Transform(None, 4, Items { items: [Number(Size, Some(1000)), Number(ScaleX, Some(2000)), Number(ScaleY, Some(3000))] })
+\t(\fsp4\frz5\fr6) => Transform(None, 4, Items { items: [Number(Spacing, Some(4000)), Number(Angle, Some(5000)), Number(Angle, Some(6000))] })
+\t(\bord1\xbord2\ybord3) => Transform(None, 4, Items { items: [Number(Border, Some(1000)), Number(BorderX, Some(2000)), Number(BorderY, Some(3000))] })
+\t(\shad4\xshad5\yshad6) => Transform(None, 4, Items { items: [Number(Shadow, Some(4000)), Number(ShadowX, Some(5000)), Number(ShadowY, Some(6000))] })
+\t(\be7\blur8) => Transform(None, 4, Items { items: [Number(Edges, Some(7000)), Number(Blur, Some(8000))] })
+\t(\c1\1c2\2c3\3c4\4c) => Transform(None, 4, Items { items: [Colour(1, Some(1)), Colour(1, Some(2)), Colour(2, Some(3)), Colour(3, Some(4)), Colour(4, None)] })
+\t(\alpha1\1a2\2a3\3a4\4a) => Transform(None, 4, Items { items: [Alpha(0, Some(1)), Alpha(1, Some(2)), Alpha(2, Some(3)), Alpha(3, Some(4)), Alpha(4, None)] })
+\t(\clip(1,2,3,4)) => Transform(None, 4, Items { items: [Clip([1000, 2000, 3000, 4000], false)] })
+\t(\iclip(1,2,3,4)) => Transform(None, 4, Items { items: [Clip([1000, 2000, 3000, 4000], true)] })
+\t(\b1\i1\u1\s1\fnArial\rAlt\q1\an7\a6\p1\pbo1) => Transform(None, 4, Items { items: [] })
+\t(\k1\kf1\K1\ko1\pos(1,2)\org(1,2)\move(1,2,3,4)\fad(1,2)\fade(1,2)) => Transform(None, 4, Items { items: [] })
+\t(\clip(m 1 2)\iclip(2,m 1 2)\t(\fs20)) => Transform(None, 4, Items { items: [] })
+\t(\frx1\fry1\fax1\fay1\fe1\kt1\fsc1\fsx\foo) => Transform(None, 4, Items { items: [] })
 ";
 
 /// Names that begin with other names, and texts that begin with no name.
@@ -282,8 +283,8 @@ x (\b1\u1 => Number(Bold, Some(1000)); Number(Underline, Some(1000))
 \fn(A\b1)\i1 => FontName(Text { text: "A\\b1)" }); Number(Italic, Some(1000))
 \rA(\b1)\i1 => Reset(Text { text: "A(\\b1)" }); Number(Italic, Some(1000))
 \pos(1,2\b1)\i1 => Pos(1000, 2000); Number(Italic, Some(1000))
-\t(\fs(20\bord1)\i1 => Transform(None, 4, [Number(Size, Some(20000))])
-\t(\fs20)\bord1)\i1 => Transform(None, 4, [Number(Size, Some(20000))]); Number(Border, Some(1000)); Number(Italic, Some(1000))
+\t(\fs(20\bord1)\i1 => Transform(None, 4, Items { items: [Number(Size, Some(20000))] })
+\t(\fs20)\bord1)\i1 => Transform(None, 4, Items { items: [Number(Size, Some(20000))] }); Number(Border, Some(1000)); Number(Italic, Some(1000))
 "#;
 
 /// Tabs are blanks too.

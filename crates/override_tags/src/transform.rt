@@ -3,12 +3,12 @@
 ghost use Rattle.std.specs.Prelude.{◌≡◌, pos, ◌+ℤ◌, ◌*ℤ◌, ◌++◌, IfOk, OnOk};
 ghost use Rattle.std.specs.Option.{option_map, option_to_list};
 ghost use Rattle.tag_arguments.specs.Cuts.{bracketed};
-ghost use Rattle.override_tags.specs.Tags.{quarters_of, course_of, is_gradual, is_kept, plain_tag, ReadsKept, AreKept, ReadsCourse, ReadsTransform, BeginsTag};
+ghost use Rattle.override_tags.specs.Tags.{quarters_of, course_of, is_gradual, gradual_of, ReadsKept, AreKept, ReadsCourse, ReadsTransform, BeginsTag};
 
 use crate::cut::{next_tag, split_at_tags};
 use crate::single::{read_single, whole};
-use crate::tag::{ClipTag, Tag};
-use ass_num::{Mem, Milli, div_floor, hold};
+use crate::tag::{ClipTag, GradualTag, Tag};
+use ass_num::{Items, Mem, Milli, div_floor, hold};
 use std::alloc::Global;
 use tag_arguments::{Num, Numbers, bracketed, number_list, tag_name};
 
@@ -62,10 +62,7 @@ fn course_by(numbers: &[Milli]) -> Option<Course>
 fn course_of(numbers: &Option<Numbers>) -> Option<Course>
     ensures { result ≡ course_of (option_map (λ n. n.items) numbers.now) }
 {
-    match numbers {
-        Some(numbers) => course_by(numbers.as_slice()),
-        None => None,
-    }
+    course_by(numbers.as_ref()?.as_slice())
 }
 
 /// Whether a property can change gradually.
@@ -79,55 +76,54 @@ fn is_gradual(property: Num) -> bool
     }
 }
 
-/// Whether a transform keeps the tag.
-fn is_kept(tag: &Tag) -> bool
-    ensures { result ≡ is_kept tag.now }
+/// A tag as a transform keeps it, if it does.
+fn gradual_of(tag: &Tag) -> Option<GradualTag>
+    ensures { result ≡ gradual_of tag.now }
 {
     match tag {
-        Tag::Number(property, _) => is_gradual(*property),
-        Tag::Colour(_, _) | Tag::Alpha(_, _) | Tag::Clip(ClipTag::Rect(_, _)) => true,
-        _ => false,
+        Tag::Number(property, value) => {
+            if is_gradual(*property) {
+                Some(GradualTag::Number(*property, *value))
+            } else {
+                None
+            }
+        }
+        Tag::Colour(which, value) => Some(GradualTag::Colour(*which, *value)),
+        Tag::Alpha(which, value) => Some(GradualTag::Alpha(*which, *value)),
+        Tag::Clip(ClipTag::Rect(corners, inverse)) => Some(GradualTag::Clip(*corners, *inverse)),
+        _ => None,
     }
 }
 
 /// The tag of a text behind a `\`, if a transform keeps it.
-fn read_kept(alloc: Global, text: &str) -> Mem<Option<Tag>>
+fn read_kept(alloc: Global, text: &str) -> Mem<Option<GradualTag>>
     ensures { IfOk result (λ tag. ReadsKept text.now tag) }
 {
     let Some((name, rest)) = tag_name(text) else {
         return Ok(None);
     };
     match read_single(alloc, name, rest)? {
-        Some(tag) => {
-            if is_kept(&tag) {
-                Ok(Some(tag))
-            } else {
-                Ok(None)
-            }
-        }
+        Some(tag) => Ok(gradual_of(&tag)),
         None => Ok(None),
     }
 }
 
 /// Adds a tag, if there is one.
-fn push_kept(tags: &mut Vec<Tag>, tag: Option<Tag>) -> Mem<()>
-    ensures { OnOk result (tags.new.items ≡ tags.old.items ++ option_to_list tag) }
+fn push_kept(tags: &mut Items<GradualTag>, tag: Option<GradualTag>) -> Mem<()>
+    ensures { OnOk result (tags.new ≡ tags.old ++ option_to_list tag) }
 {
     match tag {
-        Some(tag) => {
-            tags.push(tag)?;
-            Ok(())
-        }
+        Some(tag) => tags.push(tag),
         None => Ok(()),
     }
 }
 
 /// The tags that a transform keeps, of a text that is empty or begins with a `\`.
-fn kept_tags(alloc: Global, text: &str) -> Mem<Vec<Tag>>
+fn kept_tags(alloc: Global, text: &str) -> Mem<Items<GradualTag>>
     requires { BeginsTag text.now }
-    ensures { IfOk result (λ tags. AreKept text.now tags.items) }
+    ensures { IfOk result (λ tags. AreKept text.now tags) }
 {
-    let mut tags = Vec::new(alloc);
+    let mut tags = Items::new(alloc);
     let mut rest = text;
     while let Some((text, others)) = next_tag(rest) {
         let tag = read_kept(alloc, text)?;
@@ -140,7 +136,7 @@ fn kept_tags(alloc: Global, text: &str) -> Mem<Vec<Tag>>
 /// A transform of a course, and the text of its tags.
 fn course_tag(alloc: Global, course: Option<Course>, tags: &str) -> Mem<Option<Tag>>
     requires { BeginsTag tags.now }
-    ensures { IfOk result (λ tag. ReadsCourse course tags.now (option_map plain_tag tag)) }
+    ensures { IfOk result (λ tag. ReadsCourse course tags.now tag) }
 {
     match course {
         Some(course) => {
@@ -153,7 +149,7 @@ fn course_tag(alloc: Global, course: Option<Course>, tags: &str) -> Mem<Option<T
 
 /// A transform by the text behind its name.
 pub fn transform_tag(alloc: Global, rest: &str) -> Mem<Option<Tag>>
-    ensures { IfOk result (λ tag. ReadsTransform (bracketed rest.now) (option_map plain_tag tag)) }
+    ensures { IfOk result (λ tag. ReadsTransform (bracketed rest.now) tag) }
 {
     match bracketed(rest) {
         Some(inside) => {

@@ -1,16 +1,13 @@
-use Rattle.std.proofs.Common.{[], ◌+◌, ◌++◌, length, refl, sym, map, arith}
-use Rattle.std.specs.Option.{option_map}
+use Rattle.std.proofs.Common.{[], ◌+◌, ◌++◌, length, refl, sym, arith}
 use Rattle.std.proofs.lemmas.List.{append-nil}
-use Rattle.override_tags.specs.Items.{plain_item}
 use Rattle.override_tags.specs.Readings.{tag_items}
-use Rattle.override_tags.specs.Tags.{plain_tag}
 use Rattle.override_tags.proofs.BlockLemmas.{tags_more, tags_none, tags_whole, tags_joined, lists_joined}
 use Rattle.override_tags.proofs.block.add_tags.Goals as goal
 
 pub loop-text-init : goal.loop-text-init
 loop-text-init c = record {
   added = [];
-  whole = sym (append-nil (map plain_item c.args.items.now.items));
+  whole = sym (append-nil c.args.items.now.items);
   before = λ tail tags. tags;
   begins = c.requires.begins;
   utf8 = c.utf8.text;
@@ -22,11 +19,11 @@ loop-text-preserved c =
     let inv = c.loop-text.invariant in
     let next = c.in-Some.ensures.next in
     let to = c.loop-text.from + 1 + length c.in-Some.text.now in
-    let tag = option_map plain_tag c.in_ok-tag.tag in
+    let tag = c.in_ok-tag.tag in
     let mine = tag_items c.loop-text.from to tag in
     record {
       added = inv.added ++ mine;
-      whole = lists_joined (map plain_item c.args.items.now.items) (map plain_item c.loop-text.items.items) (map plain_item c.push_tag.new.items.items) inv.added mine inv.whole c.in_ok-push_tag.ensures;
+      whole = lists_joined c.args.items.now.items c.loop-text.items.items c.push_tag.new.items.items inv.added mine inv.whole c.in_ok-push_tag.ensures;
       before = λ tail tags. tags_joined c.args.from c.args.text.now inv.added mine tail
           (inv.before (mine ++ tail) (tags_more c.loop-text.from to c.loop-text.rest.now c.in-Some.text.now c.in-Some.others.now tag tail next refl c.in_ok-tag.ensures tags));
       begins = next.begins;
