@@ -183,19 +183,7 @@ tinted-start tint s = sym (tinted-none (below 0 tint) 0 (length s) s (omega arit
 pub tinted-end : (tint : ℕ → Tint) (c : ℕ) (s t : List ℕ) → length s ≡ 3 * c → t ≡ tinted (below c tint) 0 s → t ≡ tinted tint 0 s
 tinted-end tint c s t len was = was ∙ tinted-shift (below c tint) tint 0 0 c s (omega arith) (λ k l. inl (below-less c tint (0 + k) (omega arith)))
 
--- a pixel that is not covered
-pub below-skip : (tint : ℕ → Tint) (i : ℕ) (s t : List ℕ) → t ≡ tinted (below i tint) 0 s → (tint i).weight ≡ 0 → t ≡ tinted (below (i + 1) tint) 0 s
-below-skip tint i s t was none =
-    was ∙ tinted-shift (below i tint) (below (i + 1) tint) 0 0 (length s) s (omega arith)
-    (λ k l. let p : 0 + k ≡ k = omega arith in rw p (⊎_elim
-    (λ (less : k < i). inl (below-less i tint k less ∙ sym (below-less (i + 1) tint k (omega arith))))
-    (λ (past : i ≤ k). ⊎_elim
-    (λ (less : k < i + 1). let e : k ≡ i = omega arith in inr (weightless (below i tint k) (below-past i tint k past), rw (below-less (i + 1) tint k less) (rw e none)))
-    (λ (more : i + 1 ≤ k). inl (below-past i tint k past ∙ sym (below-past (i + 1) tint k more)))
-    (cases_lt k (i + 1)))
-    (cases_lt k i)))
-
--- a pixel that is covered
+-- one more pixel
 pub below-step : (tint : ℕ → Tint) (t : Tint) (i at len : ℕ) (first s p : List ℕ) → at ≡ 3 * i → len ≡ 3 * 1 → s ≡ tinted (below i tint) 0 first → 3 * (i + 1) ≤ length first
     → p ≡ tinted (λ _. t) 0 (take len (drop at s)) → t ≡ tint i → put_mid at len s p ≡ tinted (below (i + 1) tint) 0 first
 below-step tint t i at len first s p at_is len_is was fits is same =

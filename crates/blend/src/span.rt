@@ -1,4 +1,5 @@
-//! Blending a colour into neighbouring pixels of a row.
+//! Blending a colour into neighbouring pixels of a row. A pixel that isn't covered is blended too, with a weight of 0: without
+//! a test the compiler works on several pixels at once.
 
 ghost use Rattle.std.specs.Prelude.{◌≡◌, ◌≤◌, ◌+◌, ◌*◌, ◌-◌, ◌/◌, length, slice_index, if◌then◌else◌};
 ghost use Rattle.blend.specs.Blending.{by_255, blended, tint_of, tinted};
@@ -45,9 +46,7 @@ pub fn tint_span(pixels: &mut [u8], cover: &[u8], colour: Rgba)
     ensures { pixels.new ≡ tinted (λ k. tint_of colour (slice_index cover.now k)) 0 pixels.old }
 {
     for (i, m) in cover.iter().enumerate() {
-        if *m != 0 {
-            tint_pixel(&mut pixels[3 * i..3 * i + 3], colour, weight(*m, colour));
-        }
+        tint_pixel(&mut pixels[3 * i..3 * i + 3], colour, weight(*m, colour));
     }
 }
 
@@ -60,10 +59,8 @@ pub fn tint_span_under(pixels: &mut [u8], cover: &[u8], over: &[u8], inverse: bo
 {
     let hidden = if inverse { 255 } else { 0 };
     for (i, m) in cover.iter().enumerate() {
-        if *m != 0 {
-            let shown = over[i].abs_diff(hidden);
-            let left = by_255(u16::from(*m) * u16::from(shown));
-            tint_pixel(&mut pixels[3 * i..3 * i + 3], colour, weight(left, colour));
-        }
+        let shown = over[i].abs_diff(hidden);
+        let left = by_255(u16::from(*m) * u16::from(shown));
+        tint_pixel(&mut pixels[3 * i..3 * i + 3], colour, weight(left, colour));
     }
 }

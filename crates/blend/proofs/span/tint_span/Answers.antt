@@ -1,8 +1,7 @@
-use Rattle.std.proofs.Common.{ℕ, ◌∙◌, slice_index, arith}
+use Rattle.std.proofs.Common.{ℕ, slice_index, arith}
 use Rattle.blend.specs.Blending.{Tint, tint_of}
-use Rattle.blend.proofs.TintedLemmas.{tinted-start, tinted-end, below-skip, below-step, tint_of-weight, tint_of-none}
+use Rattle.blend.proofs.TintedLemmas.{tinted-start, tinted-end, below-step, tint_of-weight}
 use Rattle.blend.proofs.span.tint_span.Goals as goal
-use Rattle.blend.proofs.span.tint_span.Goals.{then-m-ne0, else-m-ne0}
 
 pub loop-i-init : goal.loop-i-init
 loop-i-init c = tinted-start (λ k. tint_of c.args.colour (slice_index c.args.cover.now k)) _
@@ -11,14 +10,9 @@ pub loop-i-preserved : goal.loop-i-preserved
 loop-i-preserved c =
     let i = c.loop-i.i in
     let tint : ℕ → Tint = λ k. tint_of c.args.colour (slice_index c.args.cover.now k) in
-    elim c.if-m-ne0.branch [
-      | then-m-ne0 w ↦
-          w.pixels-is ∙ below-step tint (record { colour = c.args.colour; weight = w.weight.result }) i _ _ c.args.pixels.now _ _
-          (omega arith) (omega arith) c.loop-i.invariant (omega arith) w.tint_pixel.ensures
-          (tint_of-weight c.args.colour _ _ w.weight.ensures)
-      | else-m-ne0 w ↦
-          w.pixels-is ∙ below-skip tint i _ _ c.loop-i.invariant (tint_of-none c.args.colour _ w.if-m-ne0.false)
-    ]
+    below-step tint (record { colour = c.args.colour; weight = c.weight.result }) i _ _ c.args.pixels.now _ _
+    (omega arith) (omega arith) c.loop-i.invariant (omega arith) c.tint_pixel.ensures
+    (tint_of-weight c.args.colour _ _ c.weight.ensures)
 
 pub returns : goal.returns
 returns c =
