@@ -3,6 +3,7 @@ pub mod ColourFronts
 pub mod CoverageLemmas
 pub mod DecimalFronts
 pub mod Floor
+pub mod LimitLemmas
 pub mod ListLemmas
 pub mod MaskLemmas
 pub mod NumberLaws

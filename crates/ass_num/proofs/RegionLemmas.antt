@@ -1,5 +1,5 @@
 -- Rows of runs by their parts; two regions in canonical form with the same members are one.
-use Rattle.std.proofs.Common.{◌≡◌, ℕ, zero, suc, true, false, ◌&&◌, ℤ, pos, negsuc, ◌+ℤ◌, ◌-ℤ◌, ◌≤ℤ◌, ◌<ℤ◌, refl, sym, ap, ◌∙◌, arith, int_lt, int_le, List, [], ◌∷◌, length, get_or}
+use Rattle.std.proofs.Common.{◌<◌, ◌≡◌, ℕ, zero, suc, true, false, ◌&&◌, ℤ, pos, negsuc, ◌+ℤ◌, ◌-ℤ◌, ◌≤ℤ◌, ◌<ℤ◌, refl, sym, ap, ◌∙◌, arith, int_lt, int_le, List, [], ◌∷◌, length, get_or}
 use Rattle.std.proofs.lemmas.Int.{ints, by_lt_z, clamps}
 use Rattle.std.specs.Int.{int_min}
 use Rattle.std.proofs.lemmas.Bool.{and_parts, false≢true}
@@ -24,6 +24,12 @@ rest_ascends r [] h = refl
 rest_ascends r (s ∷ rs) h =
     let p = ascends_parts r.to s rs (first_ascends r (s ∷ rs) h).1 in
     rw (lt_true s.from s.to p.1) p.2
+
+-- the run at a place has a sample
+pub run_at : (rs : List Run) (k : ℕ) (d : Run) → ascend rs ≡ true → k < length rs → (get_or rs k d).from <ℤ (get_or rs k d).to
+run_at [] k d a l = absurd (omega arith)
+run_at (r ∷ rs) zero d a l = (first_ascends r rs a).0
+run_at (r ∷ rs) (suc k) d a l = run_at rs k d (rest_ascends r rs a) (omega arith)
 
 -- no sample up to the low end lies in a run
 pub below : (low i : ℤ) (rs : List Run) → ascend_from low rs ≡ true → i ≤ℤ low → in_runs rs i ≡ false

@@ -8,7 +8,7 @@ use Rattle.ass_num.specs.Limits.{IsRegionWithin, IsWithin}
 use Rattle.ass_num.specs.declared.region.Run.{Run}
 use Rattle.region_rows.specs.Growths.{IsRowHolding}
 use Rattle.region_rows.specs.Widened.{in_widened}
-use Rattle.region_rows.proofs.LimitLemmas.{Near, member_near}
+use Rattle.ass_num.proofs.LimitLemmas.{member_near}
 use Rattle.region_rows.proofs.GrowthLemmas.{empty_members}
 use Rattle.region_rows.proofs.JoinLemmas.{member_above, member_below}
 use Rattle.region_rows.proofs.WidenedLemmas.{IsInEllipse, in_widened-found, in_widened-from}
@@ -104,12 +104,12 @@ middle_above region widths j row runs seen middle = λ i k s near. let e : neg_�
 pub unreached : (region : RegionValue) (rx ry : ℕ) (i j : ℤ) → ((k : ℤ) (b : ℤ) → unsigned_abs b ≤ ry → member region.top region.rows k (j +ℤ b) ≡ false) → in_widened (member region.top region.rows) rx ry i j ≡ false
 unreached region rx ry i j none = false_from_ne_true (in_widened (member region.top region.rows) rx ry i j) (λ m. let q = in_widened-found (member region.top region.rows) rx ry i j m in let w = q.2 in false≢true (sym (none (i +ℤ q.0) q.1 w.down) ∙ q.3))
 
-near_sum : (limit further : ℕ) (i a : ℤ) → unsigned_abs a ≤ further → Near limit (i +ℤ a) → Near (limit + further) i
+near_sum : (limit further : ℕ) (i a : ℤ) → unsigned_abs a ≤ further → IsWithin limit (i +ℤ a) → IsWithin (limit + further) i
 near_sum limit further i (pos n) h w = let x = w.0 in let y = w.1 in (omega (arith, ints), omega (arith, ints))
 near_sum limit further i (negsuc n) h w = let x = w.0 in let y = w.1 in (omega (arith, ints), omega (arith, ints))
 
 -- a widened region reaches no further than its radii
-pub widened_near : (region : RegionValue) (rx ry limit further : ℕ) (i j : ℤ) → rx ≤ further → ry ≤ further → IsRegionWithin limit region.top region.rows → in_widened (member region.top region.rows) rx ry i j ≡ true → Near (limit + further) i × Near (limit + further) j
+pub widened_near : (region : RegionValue) (rx ry limit further : ℕ) (i j : ℤ) → rx ≤ further → ry ≤ further → IsRegionWithin limit region.top region.rows → in_widened (member region.top region.rows) rx ry i j ≡ true → IsWithin (limit + further) i × IsWithin (limit + further) j
 widened_near region rx ry limit further i j h k within m =
     let q = in_widened-found (member region.top region.rows) rx ry i j m in
     let w = q.2 in

@@ -7,15 +7,13 @@ use Rattle.std.specs.List.Sorted.{IsPartitionedBy, IsPartitionPoint}
 use Rattle.ass_num.specs.Limits.{IsWithin}
 use Rattle.ass_num.specs.Regions.{RegionValue, in_runs, ascend}
 use Rattle.ass_num.specs.declared.region.Run.{Run}
+use Rattle.ass_num.proofs.LimitLemmas.{IsWithin-wider}
 use Rattle.ass_num.proofs.OrderLemmas.{le_is, le_not, le_true}
 use Rattle.border_region.specs.Ellipse.{AreFalling}
 use Rattle.border_region.specs.Frontier.{IsFrontier, is_seen}
 use Rattle.border_region.specs.Keys.{AreAscending, AreUpTo, key_at}
 use Rattle.border_region.specs.Sides.{IsReachedFrom, AddsSide, HoldsMiddle}
 use Rattle.border_region.specs.Widths.{AddsWidened}
-
-IsWithin-wider : (w v : ℕ) (k i : ℤ) → w ≤ v → IsWithin w (i -ℤ k) → IsWithin v (i -ℤ k)
-IsWithin-wider w v k i l h = let a = h.0 in let b = h.1 in (omega (arith, ints), omega (arith, ints))
 
 -- the keys before the n-th one are done
 pub record HasAdded (region : RegionValue) (upwards : Bool) (keys : List ℤ) (widths : List ℕ) (key : ℤ) (n : ℕ) (old new : List Run) : Type 0 where
@@ -84,7 +82,7 @@ side_covers region upwards keys widths key count n first new all falls middle up
     (λ s. side_covers region upwards keys widths key count n first new all falls middle up over added d i k (record {
       within = omega arith;
       seen = rw e at s;
-      near = IsWithin-wider (slice_index widths (suc d)) (slice_index widths d) k i (rw g at f) r.near;
+      near = IsWithin-wider (slice_index widths (suc d)) (slice_index widths d) (i -ℤ k) (rw g at f) r.near;
     }))
     (λ q.
     let q1 = q.1 in

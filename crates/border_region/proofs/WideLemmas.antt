@@ -8,8 +8,9 @@ use Rattle.ass_num.specs.Limits.{IsWithin}
 use Rattle.ass_num.specs.Regions.{in_runs, ascend}
 use Rattle.ass_num.specs.declared.region.Run.{Run}
 use Rattle.region_rows.specs.Joins.{AllBegin, IsJoinedTo}
-use Rattle.region_rows.proofs.JoinLemmas.{in_runs-push, run_at, next_at}
-use Rattle.region_rows.proofs.LimitLemmas.{run_covers}
+use Rattle.region_rows.proofs.JoinLemmas.{in_runs-push, next_at}
+use Rattle.ass_num.proofs.RegionLemmas.{run_at}
+use Rattle.ass_num.proofs.LimitLemmas.{run_covers}
 use Rattle.ass_num.proofs.OrderLemmas.{lt_is, le_is, lt_true, le_true}
 use Rattle.border_region.specs.Widths.{IsRunCovered, Covers, IsWidenedRow, AddsWidened}
 

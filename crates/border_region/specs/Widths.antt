@@ -1,5 +1,5 @@
 -- Inner: a row whose samples reach so far to both sides.
-use Rattle.std.specs.Prelude.{◌≡◌, ℕ, ℤ, pos, ◌+ℤ◌, ◌-ℤ◌, ◌≤ℤ◌, ◌<ℤ◌, ◌⊎◌, true, List}
+use Rattle.std.specs.Prelude.{◌≡◌, ℕ, ℤ, ◌-ℤ◌, ◌≤ℤ◌, ◌<ℤ◌, ◌⊎◌, true, List}
 use Rattle.ass_num.specs.Limits.{IsWithin}
 use Rattle.ass_num.specs.Regions.{in_runs, ascend}
 use Rattle.ass_num.specs.declared.region.Run.{Run}

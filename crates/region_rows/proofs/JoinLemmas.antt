@@ -124,9 +124,6 @@ run_from low (x ∷ xs) (suc k) d a l =
     let q0 = q.0 in
     (omega (arith, ints), q.1)
 
-pub run_at : (xs : List Run) (k : ℕ) (d : Run) → ascend xs ≡ true → k < length xs → (get_or xs k d).from <ℤ (get_or xs k d).to
-run_at xs k d a l = let p = above xs a in (run_from p.0 xs k d p.1 l).1
-
 next_from : (low : ℤ) (xs : List Run) (k : ℕ) (d : Run) → ascend_from low xs ≡ true → suc k < length xs → (get_or xs k d).from ≤ℤ (get_or xs (suc k) d).from
 next_from low [] k d a l = absurd (omega arith)
 next_from low (x ∷ xs) zero d a l =

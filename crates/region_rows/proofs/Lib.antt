@@ -1,4 +1,3 @@
 pub mod GrowthLemmas
 pub mod JoinLemmas
-pub mod LimitLemmas
 pub mod WidenedLemmas

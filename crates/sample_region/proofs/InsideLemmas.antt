@@ -4,10 +4,9 @@ use Rattle.std.proofs.lemmas.Int.{ints, by_lt_z}
 use Rattle.std.proofs.lemmas.Bool.{false≢true, eq-eqb}
 use Rattle.std.proofs.lemmas.List.Sums.{sum_by-cons}
 use Rattle.std.proofs.lemmas.List.Elements.{All-head, All-tail, All-map, All-filter, All-weaker, filter_passes}
-use Rattle.ass_num.specs.Limits.{IsOutlinePoint, IsOutline}
+use Rattle.ass_num.specs.Limits.{IsOutlinePoint, IsOutline, IsWithin}
 use Rattle.ass_num.specs.Winding.{place, spans, inside}
 use Rattle.ass_num.specs.declared.geometry.Point.{Point}
-use Rattle.region_rows.proofs.LimitLemmas.{Near}
 use Rattle.ass_num.proofs.OrderLemmas.{le_false}
 use Rattle.sample_region.specs.Crossings.{crossing_at, row_crossings, ups, downs_to, ups_to, is_odd, is_inside, IsSweepable}
 use Rattle.sample_region.specs.Edges.{IsEdge}
@@ -48,7 +47,7 @@ cuts_near y list near =
 even_odd : (n : ℕ) → not (eqb n n) ≡ false
 even_odd n = ap not (eq-eqb n n refl)
 
-pub columns_near : (list : List Edge) → IsSweepable list → (i j : ℤ) → is_inside list i j ≡ true → Near 65536 i
+pub columns_near : (list : List Edge) → IsSweepable list → (i j : ℤ) → is_inside list i j ≡ true → IsWithin 65536 i
 columns_near list w i j h =
     let cs = row_crossings (place j) list in
     let near = cuts_near (place j) list w.edges in
@@ -64,7 +63,7 @@ columns_near list w i j h =
     let e : is_odd i cs ≡ false = rw (downs_to-all i cs all, ups_to-all i cs all, w.even (place j)) (even_odd (ups cs)) in
     absurd (false≢true (sym e ∙ h))))
 
-pub rows_near : (rings : List (List Point)) → IsOutline rings → (i j : ℤ) → inside rings i j ≡ true → Near 65536 j
+pub rows_near : (rings : List (List Point)) → IsOutline rings → (i j : ℤ) → inside rings i j ≡ true → IsWithin 65536 j
 rows_near rings near i j h =
     let between : All (All (IsHeightBetween (negsuc 262143) (pos 262144))) rings =
     All-weaker (All IsOutlinePoint) (All (IsHeightBetween (negsuc 262143) (pos 262144))) (λ ring w. All-weaker IsOutlinePoint (IsHeightBetween (negsuc 262143) (pos 262144)) (λ p v. v.y) ring w) rings near in

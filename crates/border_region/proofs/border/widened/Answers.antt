@@ -2,7 +2,7 @@ use Rattle.std.proofs.Common.{rules, ◌+◌, ◌≡◌, ◌∙◌, refl, sym, a
 use Rattle.ass_num.specs.Regions.{RegionValue, member}
 use Rattle.region_rows.specs.Widened.{in_widened}
 use Rattle.region_rows.proofs.GrowthLemmas.{empty_members}
-use Rattle.region_rows.proofs.LimitLemmas.{within_from}
+use Rattle.ass_num.proofs.LimitLemmas.{within_from}
 use Rattle.border_region.proofs.RowLemmas.{above_all, below_all, widened_near, none_widened}
 use Rattle.border_region.proofs.border.widened.Goals as goal
 

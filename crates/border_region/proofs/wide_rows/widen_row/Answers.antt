@@ -1,7 +1,7 @@
 use Rattle.std.proofs.Common.{arith, pos}
 use Rattle.std.proofs.lemmas.Int.{ints}
 use Rattle.ass_num.specs.declared.region.Run.{Run}
-use Rattle.region_rows.proofs.JoinLemmas.{run_at}
+use Rattle.ass_num.proofs.RegionLemmas.{run_at}
 use Rattle.border_region.proofs.WideLemmas.{widened_more}
 use Rattle.border_region.proofs.wide_rows.widen_row.Goals as goal
 

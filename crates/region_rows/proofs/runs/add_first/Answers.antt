@@ -1,6 +1,7 @@
 use Rattle.std.proofs.Common.{rules, pos}
 use Rattle.ass_num.specs.declared.region.Run.{Run}
-use Rattle.region_rows.proofs.JoinLemmas.{joined_more, run_at}
+use Rattle.region_rows.proofs.JoinLemmas.{joined_more}
+use Rattle.ass_num.proofs.RegionLemmas.{run_at}
 use Rattle.region_rows.proofs.runs.add_first.Goals as goal
 
 abbrev none : Run

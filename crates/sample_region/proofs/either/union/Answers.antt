@@ -4,7 +4,7 @@ use Rattle.std.proofs.lemmas.Bool.{or_from, or_cases}
 use Rattle.ass_num.specs.Regions.{member}
 use Rattle.sample_region.specs.Unions.{in_either}
 use Rattle.region_rows.proofs.JoinLemmas.{member_above, member_below}
-use Rattle.region_rows.proofs.LimitLemmas.{within_from, member_near}
+use Rattle.ass_num.proofs.LimitLemmas.{within_from, member_near}
 use Rattle.sample_region.proofs.either.union.Goals as goal
 
 pub add_rows-requires-clause-rows : goal.add_rows-requires-clause-rows

@@ -4,7 +4,7 @@ use Rattle.ass_num.specs.Regions.{RegionValue, member}
 use Rattle.ass_num.specs.Winding.{place}
 use Rattle.sample_region.specs.Crossings.{is_inside}
 use Rattle.region_rows.proofs.GrowthLemmas.{empty_members}
-use Rattle.region_rows.proofs.LimitLemmas.{near_wider, within_from}
+use Rattle.ass_num.proofs.LimitLemmas.{IsWithin-wider, within_from}
 use Rattle.sample_region.proofs.InsideLemmas.{columns_near, rows_near}
 use Rattle.sample_region.proofs.OutsideLemmas.{outside, outside_all}
 use Rattle.ass_num.proofs.OrderLemmas.{lt_is}
@@ -44,4 +44,4 @@ returns-clause-within c = λ limit l.
     within_from limit c.finish.result.top c.finish.result.rows c.finish.ensures.canonical
     (λ i j m.
     let s = sym (returns-clause-samples c i j) ∙ m in
-    (near_wider limit i l (columns_near c.in_ok-edges.edges.items c.in_ok-edges.ensures.sweepable i j (c.in_ok-edges.ensures.insides i j ∙ s)), near_wider limit j l (rows_near c.args.outline.now.rings c.requires i j s)))
+    (IsWithin-wider 65536 limit i l (columns_near c.in_ok-edges.edges.items c.in_ok-edges.ensures.sweepable i j (c.in_ok-edges.ensures.insides i j ∙ s)), IsWithin-wider 65536 limit j l (rows_near c.args.outline.now.rings c.requires i j s)))

@@ -1,21 +1,17 @@
 -- How far from 0 the samples of a region lie.
-use Rattle.std.proofs.Common.{◌≡◌, ℕ, zero, suc, ◌<◌, ◌≤◌, true, ◌&&◌, ⊎_elim, ℤ, pos, negsuc, neg_ℤ, ◌+ℤ◌, ◌-ℤ◌, ◌≤ℤ◌, ◌<ℤ◌, sym, ap, ◌∙◌, arith, int_lt, int_le, List, [], ◌∷◌, All, length, get_or}
+use Rattle.std.proofs.Common.{◌≡◌, ℕ, zero, suc, ◌<◌, ◌≤◌, true, ◌&&◌, ⊎_elim, ℤ, pos, negsuc, ◌+ℤ◌, ◌-ℤ◌, ◌≤ℤ◌, ◌<ℤ◌, sym, ap, ◌∙◌, arith, int_lt, int_le, List, [], ◌∷◌, All, length, get_or}
 use Rattle.std.proofs.lemmas.Int.{ints}
 use Rattle.std.proofs.lemmas.Bool.{and_parts, or_cases, or_right, false≢true, cases_lt}
 use Rattle.std.proofs.lemmas.List.{get_or_past, get_or_default}
 use Rattle.std.proofs.lemmas.List.Elements.{All-head, All-tail, All-get_or, All-nil}
-use Rattle.ass_num.specs.Limits.{IsRunWithin, IsRegionWithin}
+use Rattle.ass_num.specs.Limits.{IsWithin, IsRunWithin, IsRegionWithin}
 use Rattle.ass_num.specs.Regions.{in_runs, row_at, member, is_canonical}
 use Rattle.ass_num.specs.declared.region.Run.{Run}
-use Rattle.region_rows.proofs.JoinLemmas.{run_at}
 use Rattle.ass_num.proofs.OrderLemmas.{first_in, lt_is, le_is}
-use Rattle.ass_num.proofs.RegionLemmas.{zero_test, row_ascends, region_parts, full_has, last_full}
+use Rattle.ass_num.proofs.RegionLemmas.{run_at, zero_test, row_ascends, region_parts, full_has, last_full}
 
-abbrev pub Near : ℕ → ℤ → Type 0
-Near limit i = (neg_ℤ (pos limit) ≤ℤ i) × (i ≤ℤ pos limit)
-
-pub near_wider : (limit : ℕ) (i : ℤ) → 65536 ≤ limit → Near 65536 i → Near limit i
-near_wider limit i l h = let a = h.0 in let b = h.1 in (omega (arith, ints), omega (arith, ints))
+pub IsWithin-wider : (limit more : ℕ) (i : ℤ) → limit ≤ more → IsWithin limit i → IsWithin more i
+IsWithin-wider limit more i l h = let a = h.0 in let b = h.1 in (omega (arith, ints), omega (arith, ints))
 
 -- ---- from the samples to the region
 pub run_covers : (rs : List Run) (n : ℕ) (d : Run) (i : ℤ) → n < length rs → (get_or rs n d).from ≤ℤ i → i <ℤ (get_or rs n d).to → in_runs rs i ≡ true
@@ -26,7 +22,7 @@ run_covers (r ∷ rs) (suc n) d i l a b = or_right (int_le r.from i && int_lt i 
 row_member : (top : ℤ) (rows : List (List Run)) (k : ℕ) (i : ℤ) → in_runs (get_or rows k []) i ≡ true → member top rows i (top +ℤ pos k) ≡ true
 row_member top rows k i h = let e : (top +ℤ pos k) -ℤ top ≡ pos k = omega (arith, ints) in ap (λ z. in_runs (row_at rows z) i) e ∙ h
 
-runs_within : (limit : ℕ) (top : ℤ) (rows : List (List Run)) → is_canonical top rows ≡ true → ((i j : ℤ) → member top rows i j ≡ true → Near limit i × Near limit j) → All (All (IsRunWithin limit)) rows
+runs_within : (limit : ℕ) (top : ℤ) (rows : List (List Run)) → is_canonical top rows ≡ true → ((i j : ℤ) → member top rows i j ≡ true → IsWithin limit i × IsWithin limit j) → All (All (IsRunWithin limit)) rows
 runs_within limit top rows h near k d l n e m =
     let same = get_or_default rows k d [] l in
     let m' : n < length (get_or rows k []) = rw same at m in
@@ -36,7 +32,7 @@ runs_within limit top rows h near k d l n e m =
     let b = (near (r.to -ℤ pos 1) (top +ℤ pos k) (row_member top rows k (r.to -ℤ pos 1) (run_covers (get_or rows k []) n e (r.to -ℤ pos 1) m' (omega (arith, ints)) (omega (arith, ints))))).0.1 in
     rw same (record { left = a; right = omega (arith, ints) })
 
-pub within_from : (limit : ℕ) (top : ℤ) (rows : List (List Run)) → is_canonical top rows ≡ true → ((i j : ℤ) → member top rows i j ≡ true → Near limit i × Near limit j) → IsRegionWithin limit top rows
+pub within_from : (limit : ℕ) (top : ℤ) (rows : List (List Run)) → is_canonical top rows ≡ true → ((i j : ℤ) → member top rows i j ≡ true → IsWithin limit i × IsWithin limit j) → IsRegionWithin limit top rows
 within_from limit top [] h near =
     let p = region_parts top [] h in
     let z : top ≡ pos 0 = zero_test top p.3 in
@@ -50,7 +46,7 @@ within_from limit top (r ∷ rows) h near =
     record { above = omega (arith, ints); below = omega (arith, ints); runs = runs_within limit top (r ∷ rows) h near }
 
 -- ---- and back
-runs_near : (limit : ℕ) (rs : List Run) (i : ℤ) → All (IsRunWithin limit) rs → in_runs rs i ≡ true → Near limit i
+runs_near : (limit : ℕ) (rs : List Run) (i : ℤ) → All (IsRunWithin limit) rs → in_runs rs i ≡ true → IsWithin limit i
 runs_near limit [] i w h = absurd (false≢true h)
 runs_near limit (r ∷ rs) i w h =
     ⊎_elim
@@ -65,7 +61,7 @@ runs_near limit (r ∷ rs) i w h =
     (λ e. runs_near limit rs i (All-tail (IsRunWithin limit) r rs w) e)
     (or_cases (int_le r.from i && int_lt i r.to) (in_runs rs i) h)
 
-row_near : (limit : ℕ) (rows : List (List Run)) (i z : ℤ) → All (All (IsRunWithin limit)) rows → in_runs (row_at rows z) i ≡ true → Near limit i × (pos 0 ≤ℤ z) × (z <ℤ pos (length rows))
+row_near : (limit : ℕ) (rows : List (List Run)) (i z : ℤ) → All (All (IsRunWithin limit)) rows → in_runs (row_at rows z) i ≡ true → IsWithin limit i × (pos 0 ≤ℤ z) × (z <ℤ pos (length rows))
 row_near limit rows i (negsuc n) w h = absurd (false≢true h)
 row_near limit rows i (pos k) w h =
     ⊎_elim
@@ -73,7 +69,7 @@ row_near limit rows i (pos k) w h =
     (λ (l : length rows ≤ k). absurd (false≢true (ap (λ r. in_runs r i) (sym (get_or_past rows k [] l)) ∙ h)))
     (cases_lt k (length rows))
 
-pub member_near : (limit : ℕ) (top : ℤ) (rows : List (List Run)) (i j : ℤ) → IsRegionWithin limit top rows → member top rows i j ≡ true → Near limit i × Near limit j
+pub member_near : (limit : ℕ) (top : ℤ) (rows : List (List Run)) (i j : ℤ) → IsRegionWithin limit top rows → member top rows i j ≡ true → IsWithin limit i × IsWithin limit j
 member_near limit top rows i j w h =
     let p = row_near limit rows i (j -ℤ top) w.runs h in
     let a = w.above in
