@@ -1,7 +1,11 @@
--- The sine and the cosine of an angle in thousandths of a degree, in ten-thousandths.
+-- Public: the sine and the cosine of an angle in thousandths of a degree, in ten-thousandths.
 use Rattle.std.specs.Prelude.{ℕ, ◌+◌, ◌-◌, ◌*◌, ◌/◌, ◌%◌, nat_le, if◌then◌else◌, List, [], ◌∷◌, slice_index, ℤ, pos, neg_ℤ, ◌+ℤ◌}
 use Rattle.std.specs.Int.{int_rem_euclid}
 use Rattle.std.specs.Int.RustNames.{unsigned_abs}
+
+-- the largest sine: 1 in ten-thousandths
+abbrev pub max_sine : ℕ
+max_sine = 10000
 
 -- the sines of 0 to 90 whole degrees
 unfoldable pub sines : List ℕ

@@ -1,7 +1,8 @@
 //! The sine and the cosine by a table of whole degrees.
 
 ghost use Rattle.std.specs.Prelude.{◌≡◌, ◌≤◌, ◌<◌, pos, neg_ℤ, ◌≤ℤ◌};
-ghost use Rattle.ass_num.specs.Sine.{quarter_sine, turn_sine, sine_of, cosine_of};
+ghost use Rattle.ass_num.specs.Limits.{IsWithin};
+ghost use Rattle.ass_num.specs.Sine.{max_sine, quarter_sine, turn_sine, sine_of, cosine_of};
 
 use crate::Milli;
 
@@ -19,7 +20,7 @@ const SINES: [u16; 91] = [
 fn first_quarter(m: u32) -> i64
     requires { m ≤ 90000 }
     ensures value { result ≡ pos (quarter_sine m) }
-    ensures most { result ≤ℤ pos 10000 }
+    ensures most { result ≤ℤ pos max_sine }
 {
     let degree = (m / 1_000).min(89);
     let below = u32::from(SINES[degree as usize]);
@@ -31,8 +32,7 @@ fn first_quarter(m: u32) -> i64
 fn one_turn(m: u32) -> i64
     requires { m < 360000 }
     ensures value { result ≡ turn_sine m }
-    ensures least { neg_ℤ (pos 10000) ≤ℤ result }
-    ensures most { result ≤ℤ pos 10000 }
+    ensures within { IsWithin max_sine result }
 {
     match m {
         0..=90_000 => first_quarter(m),
@@ -45,8 +45,7 @@ fn one_turn(m: u32) -> i64
 /// The sine of an angle in thousandths of a degree, in ten-thousandths.
 pub fn sine(m: Milli) -> i64
     ensures value { result ≡ sine_of m }
-    ensures least { neg_ℤ (pos 10000) ≤ℤ result }
-    ensures most { result ≤ℤ pos 10000 }
+    ensures within { IsWithin max_sine result }
 {
     one_turn(m.rem_euclid(360_000) as u32)
 }
@@ -54,8 +53,7 @@ pub fn sine(m: Milli) -> i64
 /// The cosine of an angle in thousandths of a degree, in ten-thousandths.
 pub fn cosine(m: Milli) -> i64
     ensures value { result ≡ cosine_of m }
-    ensures least { neg_ℤ (pos 10000) ≤ℤ result }
-    ensures most { result ≤ℤ pos 10000 }
+    ensures within { IsWithin max_sine result }
 {
     sine(m.rem_euclid(360_000) + 90_000)
 }

@@ -1,14 +1,18 @@
 -- The points of a drawing in the order of its segments.
-use Rattle.std.proofs.Common.{◌≡◌, ℕ, suc, ◌+◌, ◌-◌, ◌<◌, ◌≤◌, List, [], ◌∷◌, ◌++◌, length, get_or, take, drop, map, flat_map, refl, sym, ap, ◌∙◌, append_assoc, arith}
+use Rattle.std.proofs.Common.{◌≡◌, true, ℕ, suc, ◌+◌, ◌-◌, ◌<◌, ◌≤◌, List, [], ◌∷◌, ◌++◌, All, length, get_or, take, drop, map, flat_map, refl, sym, ap, ◌∙◌, append_assoc, arith}
 use Rattle.std.specs.List.{range_with_len}
+use Rattle.std.proofs.lemmas.Int.{ints, clamps}
 use Rattle.std.proofs.lemmas.List.{at_drop_more, at_drop_all, take_rest}
+use Rattle.std.proofs.lemmas.List.Elements.{All-head, All-tail}
 use Rattle.std.proofs.lemmas.List.FromFn.{map-range_with_len_more}
 use Rattle.ass_num.specs.declared.geometry.Point.{Point}
 use Rattle.ass_num.specs.declared.geometry.Matrix.{Matrix}
 use Rattle.ass_num.specs.declared.geometry.Seg.{Seg}
 use Rattle.ass_num.specs.declared.geometry.Seg.TheVariants.{Move, Line, Cubic, Spline}
+use Rattle.ass_num.specs.Limits.{IsPointWithin, IsHeldPoint}
+use Rattle.ass_num.specs.Paths.{begins_figure, IsSegment}
 use Rattle.outline_points.specs.Curves.{piece_points}
-use Rattle.outline_points.specs.Drawings.{scaled_point, spline_points, last_point, end_point, segment_points, figure_points, figures, walk_points, larger_point, largest_from, drawing_extent, BeginsFigure, origin}
+use Rattle.outline_points.specs.Drawings.{scaled_point, spline_points, last_point, end_point, segment_points, figure_points, figures, walk_points, larger_point, largest_from, drawing_extent, origin}
 
 -- the last of some points
 pub last_is : (v d : Point) (xs : List Point) → 0 < length xs → last_point v xs ≡ get_or xs (length xs - 1) d
@@ -17,6 +21,22 @@ last_is v d (x ∷ []) some = refl
 last_is v d (x ∷ y ∷ rest) some =
     let e : length (x ∷ y ∷ rest) - 1 ≡ suc (length (y ∷ rest) - 1) = omega arith in
     last_is x d (y ∷ rest) (omega arith) ∙ sym (ap (λ k. get_or (x ∷ y ∷ rest) k d) e)
+
+-- The points of a cubic curve, and of a spline.
+pub cubic_held : (b c d : Point) → IsSegment (Cubic b c d) → IsHeldPoint b × IsHeldPoint c × IsHeldPoint d
+cubic_held b c d h =
+    let t = All-tail IsHeldPoint b (c ∷ d ∷ []) h in
+    (All-head IsHeldPoint b (c ∷ d ∷ []) h, All-head IsHeldPoint c (d ∷ []) t, All-head IsHeldPoint d [] (All-tail IsHeldPoint c (d ∷ []) t))
+
+last_held : (v : Point) (ps : List Point) → IsHeldPoint v → All IsHeldPoint ps → IsHeldPoint (last_point v ps)
+last_held v [] h k = h
+last_held v (p ∷ ps) h k = last_held p ps (All-head IsHeldPoint p ps k) (All-tail IsHeldPoint p ps k)
+
+pub end_held : (v : Point) (seg : Seg) → IsHeldPoint v → IsSegment seg → IsHeldPoint (end_point v seg)
+end_held v (Move p) h k = All-head IsHeldPoint p [] k
+end_held v (Line p) h k = All-head IsHeldPoint p [] k
+end_held v (Cubic b c d) h k = (cubic_held b c d k).2
+end_held v (Spline controls closed) h k = last_held v controls h k
 
 -- The points up to the next figure and those of the figures are all points.
 pub figures_walk : (m : Matrix) (a : Point) (segs : List Seg) → figure_points m a segs ++ flat_map (λ (ring : List Point). ring) (figures m a segs) ≡ walk_points m a segs
@@ -30,13 +50,21 @@ pub largest_from-append : (p : Point) (xs ys : List Point) → largest_from p (x
 largest_from-append p [] ys = refl
 largest_from-append p (x ∷ xs) ys = largest_from-append (larger_point p x) xs ys
 
+-- The largest coordinates of points within a limit are within it.
+larger_within : (m : ℕ) (p q : Point) → IsPointWithin m p → IsPointWithin m q → IsPointWithin m (larger_point p q)
+larger_within m p q h k = record { x = (omega (arith, ints, clamps), omega (arith, ints, clamps)); y = (omega (arith, ints, clamps), omega (arith, ints, clamps)) }
+
+pub largest_within : (m : ℕ) (p : Point) (qs : List Point) → IsPointWithin m p → All (IsPointWithin m) qs → IsPointWithin m (largest_from p qs)
+largest_within m p [] h k = h
+largest_within m p (q ∷ qs) h k = largest_within m (larger_point p q) qs (larger_within m p q h (All-head (IsPointWithin m) q qs k)) (All-tail (IsPointWithin m) q qs k)
+
 -- A path that begins with a figure is measured from its first point on.
-pub extent_is : (m : Matrix) (seg : Seg) (segs rest : List Seg) → segs ≡ seg ∷ rest → BeginsFigure segs
+pub extent_is : (m : Matrix) (seg : Seg) (segs rest : List Seg) → segs ≡ seg ∷ rest → begins_figure segs ≡ true
     → largest_from (scaled_point m (end_point origin seg)) (walk_points m (end_point origin seg) rest) ≡ drawing_extent m segs
 extent_is m (Move p) segs rest is begins = ap (largest_from (scaled_point m p)) (sym (figures_walk m p rest)) ∙ ap (drawing_extent m) (sym is)
-extent_is m (Line p) segs rest is begins = absurd (rw is at begins)
-extent_is m (Cubic b c d) segs rest is begins = absurd (rw is at begins)
-extent_is m (Spline controls closed) segs rest is begins = absurd (rw is at begins)
+extent_is m (Line p) segs rest is begins = absurd (cc (is, begins))
+extent_is m (Cubic b c d) segs rest is begins = absurd (cc (is, begins))
+extent_is m (Spline controls closed) segs rest is begins = absurd (cc (is, begins))
 
 pub first_and_rest : {X : Type 0} (xs : List X) (d : X) → 0 < length xs → xs ≡ get_or xs 0 d ∷ drop 1 xs
 first_and_rest [] d some = absurd (omega arith)
@@ -90,7 +118,7 @@ extent_more m v w p q segs i seg points within seg_is w_is points_are q_is =
     ∙ ap (λ s. largest_from p (segment_points m v s ++ walk_points m (end_point v s) (drop (i + 1) segs))) seg_is
     ∙ sym (at_drop_more (λ ss. largest_from p (walk_points m v ss)) segs i seg within)
 
-pub extent_whole : (m : Matrix) (segs list : List Seg) (seg : Seg) (v p : Point) → list ≡ segs → 0 < length list → seg ≡ get_or list 0 seg → BeginsFigure segs
+pub extent_whole : (m : Matrix) (segs list : List Seg) (seg : Seg) (v p : Point) → list ≡ segs → 0 < length list → seg ≡ get_or list 0 seg → begins_figure segs ≡ true
     → v ≡ end_point origin seg → p ≡ scaled_point m v → largest_from p (walk_points m v (take (length list - 1) (drop 1 list))) ≡ drawing_extent m segs
 extent_whole m segs list seg v p same some seg_is begins v_is p_is =
     ap (λ q. largest_from q (walk_points m v (take (length list - 1) (drop 1 list)))) p_is

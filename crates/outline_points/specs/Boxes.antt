@@ -1,4 +1,4 @@
--- The ring of a box.
+-- Public: the ring of a box.
 use Rattle.std.specs.Prelude.{ℤ, pos, List, [], ◌∷◌, map}
 use Rattle.ass_num.specs.declared.geometry.Point.{Point}
 use Rattle.outline_points.specs.Placing.{outline_point}

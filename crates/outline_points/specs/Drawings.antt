@@ -1,17 +1,22 @@
--- The rings of a drawing. The points of its path are in thousandths.
-use Rattle.std.specs.Prelude.{ℤ, pos, ◌*ℤ◌, List, [], ◌∷◌, ◌++◌, map, flat_map, All}
+-- Public: the rings of a drawing. The points of its path are in thousandths.
+use Rattle.std.specs.Prelude.{ℕ, ◌*◌, ℤ, pos, ◌*ℤ◌, List, [], ◌∷◌, ◌++◌, map, flat_map}
 use Rattle.std.specs.Int.{int_max}
 use Rattle.ass_num.specs.Floor.{floor_div}
+use Rattle.ass_num.specs.Limits.{one_16}
 use Rattle.ass_num.specs.declared.geometry.Point.{Point}
 use Rattle.ass_num.specs.declared.geometry.Matrix.{Matrix}
 use Rattle.ass_num.specs.declared.geometry.Seg.{Seg}
 use Rattle.ass_num.specs.declared.geometry.Seg.TheVariants.{Move, Line, Cubic, Spline}
-use Rattle.outline_points.specs.Placing.{IsPointWithin, outline_point, shifted_point}
+use Rattle.outline_points.specs.Placing.{outline_point, shifted_point}
 use Rattle.outline_points.specs.Curves.{cubic_points, piece_points}
+
+-- 1 in products of a coordinate of a path and a scale: thousandths with 16 fraction bits
+abbrev pub path_unit : ℕ
+path_unit = 1000 * one_16
 
 -- a point of the path, scaled
 abbrev pub scaled_point : Matrix → Point → Point
-scaled_point m p = record { x = floor_div (p.x *ℤ m.ux) (pos 65536000); y = floor_div (p.y *ℤ m.uy) (pos 65536000) }
+scaled_point m p = record { x = floor_div (p.x *ℤ m.ux) (pos path_unit); y = floor_div (p.y *ℤ m.uy) (pos path_unit) }
 
 -- the points of a spline: a piece for each four control points in a row
 abbrev pub spline_points : List Point → List Point
@@ -80,25 +85,3 @@ largest_point (p ∷ rest) = largest_from p rest
 -- the largest x and y of a drawing, before it is shifted and turned
 abbrev pub drawing_extent : Matrix → List Seg → Point
 drawing_extent m segs = largest_point (flat_map (λ ring. ring) (drawing_rings m segs))
-
--- ---- the paths that are taken
-
--- within 1,000,000,000 thousandths
-abbrev pub IsPathPoint : Point → Type 0
-IsPathPoint p = IsPointWithin 1000000000 p
-
-abbrev pub IsSegment : Seg → Type 0
-IsSegment (Move p) = IsPathPoint p
-IsSegment (Line p) = IsPathPoint p
-IsSegment (Cubic b c d) = IsPathPoint b × IsPathPoint c × IsPathPoint d
-IsSegment (Spline controls _) = All IsPathPoint controls
-
--- a path has no segments, or begins with a figure
-abbrev pub BeginsFigure : List Seg → Type 0
-BeginsFigure [] = Unit {0}
-BeginsFigure (Move _ ∷ _) = Unit {0}
-BeginsFigure _ = ⊥
-
-pub record IsPath (segs : List Seg) : Type 0 where
-  pub begins : BeginsFigure segs
-  pub segments : All IsSegment segs

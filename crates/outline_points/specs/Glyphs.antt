@@ -1,7 +1,9 @@
--- The quads of a glyph. They are told of plain numbers, in pixels of the bitmap; b grows downwards from the baseline.
-use Rattle.std.specs.Prelude.{ℕ, ◌+◌, ◌-◌, ◌*◌, ◌/◌, ◌%◌, ◌^◌, ◌==◌, Bool, if◌then◌else◌, ℤ, pos, neg_ℤ, ◌+ℤ◌, ◌-ℤ◌, ◌*ℤ◌, List, [], ◌∷◌, ◌++◌, flat_map, slice_index}
+-- Public: the quads of a glyph. They are told of plain numbers, in pixels of the bitmap; b grows downwards from the baseline.
+use Rattle.std.specs.Prelude.{ℕ, Bool, if◌then◌else◌, ℤ, pos, neg_ℤ, ◌+ℤ◌, ◌-ℤ◌, ◌*ℤ◌, List, [], ◌∷◌, ◌++◌, flat_map}
 use Rattle.std.specs.List.{range_with_len}
+use Rattle.ass_num.specs.Bitmaps.{pixel_is_set}
 use Rattle.ass_num.specs.Floor.{floor_div}
+use Rattle.ass_num.specs.Limits.{one_16}
 use Rattle.ass_num.specs.declared.geometry.Point.{Point}
 use Rattle.ass_num.specs.declared.geometry.Matrix.{Matrix}
 use Rattle.outline_points.specs.Placing.{outline_point}
@@ -21,8 +23,8 @@ slant italic y = if italic then floor_div (neg_ℤ y) (pos 4) else pos 0
 -- (a, b) scaled and slanted
 abbrev pub scaled_pixel : Matrix → ℤ → ℤ → Point
 scaled_pixel m a b =
-    let y = floor_div (b *ℤ m.uy) (pos 65536) in
-    record { x = floor_div (a *ℤ m.ux) (pos 65536) +ℤ slant m.italic y; y = y }
+    let y = floor_div (b *ℤ m.uy) (pos one_16) in
+    record { x = floor_div (a *ℤ m.ux) (pos one_16) +ℤ slant m.italic y; y = y }
 
 -- and turned and held
 abbrev pub glyph_point : Matrix → ℤ → ℤ → Point
@@ -36,17 +38,13 @@ quad m left top right bottom = glyph_point m left top ∷ glyph_point m right to
 abbrev pub pixel_quad : Matrix → ℤ → ℤ → List Point
 pixel_quad m a b = quad m a b (a +ℤ pos 1) (b +ℤ pos 1)
 
--- Whether the pixel in column i and row j is set: rows from the top, each of whole bytes, the highest bit leftmost.
-abbrev pub is_set : Bitmap → ℕ → ℕ → Bool
-is_set bitmap i j = (slice_index bitmap.bits (j * ((bitmap.w + 7) / 8) + i / 8) / 2 ^ (7 - i % 8)) % 2 == 1
-
 -- a set pixel, and where the glyph is bold once more one pixel to the right
 abbrev pub set_quads : Matrix → Bool → ℤ → ℤ → List (List Point)
 set_quads m bold a b = pixel_quad m a b ∷ (if bold then pixel_quad m (a +ℤ pos 1) b ∷ [] else [])
 
 abbrev pub pixel_quads : Matrix → Bool → Bitmap → ℕ → ℕ → List (List Point)
 pixel_quads m bold bitmap j i =
-    if is_set bitmap i j
+    if pixel_is_set bitmap.w bitmap.bits i j
     then set_quads m bold (bitmap.x +ℤ pos i) (neg_ℤ ((bitmap.y +ℤ pos bitmap.h) -ℤ pos j))
     else []
 

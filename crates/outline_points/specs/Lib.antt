@@ -2,4 +2,5 @@ pub mod Boxes
 pub mod Curves
 pub mod Drawings
 pub mod Glyphs
+pub mod Limits
 pub mod Placing

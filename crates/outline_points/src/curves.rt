@@ -1,11 +1,19 @@
 //! The points of curves, a curve having 16 steps.
 
-ghost use Rattle.std.specs.Prelude.{◌≡◌, ◌≤◌, ◌*◌, ◌^◌, ◌+ℤ◌};
-ghost use Rattle.outline_points.specs.Placing.{IsWithin, IsPointWithin};
-ghost use Rattle.outline_points.specs.Curves.{AreAtMost, weighted, cubic_weights, spline_weights, cubic_at, spline_at, cubic_point, spline_point};
+ghost use Rattle.std.specs.Prelude.{◌≡◌, ◌≤◌, ◌*◌, pos, ◌+ℤ◌};
+ghost use Rattle.ass_num.specs.Floor.{floor_div};
+ghost use Rattle.ass_num.specs.Limits.{IsWithin, IsPointWithin};
+ghost use Rattle.outline_points.specs.Limits.{max_scaled, max_length};
+ghost use Rattle.outline_points.specs.Curves.{AreAtMost, max_weight, weighted, weighted_point, cubic_unit, spline_unit, cubic_weights, spline_weights, cubic_point, spline_point};
 
 use crate::products::{product, quotient};
 use ass_num::Point;
+
+/// What the weights of a cubic curve sum to.
+const CUBIC_UNIT: u32 = 4_096;
+
+/// What the weights of a uniform cubic spline sum to.
+const SPLINE_UNIT: u32 = 24_576;
 
 /// The weights of four control points at a step of a curve.
 #[derive(Clone, Copy)]
@@ -22,7 +30,7 @@ fn three(a: u16, b: u16, c: u16) -> u16
     requires b { b ≤ 16 }
     requires c { c ≤ 16 }
     ensures value { result ≡ a * b * c }
-    ensures most { result ≤ 4096 }
+    ensures most { result ≤ cubic_unit }
 {
     let two = a * b;
     two * c
@@ -32,7 +40,7 @@ fn three(a: u16, b: u16, c: u16) -> u16
 fn cubic_weights(u: u16) -> Weights
     requires { u ≤ 16 }
     ensures value { result ≡ cubic_weights u }
-    ensures most { AreAtMost 16384 result }
+    ensures most { AreAtMost max_weight result }
 {
     let z = 16 - u;
     Weights {
@@ -47,7 +55,7 @@ fn cubic_weights(u: u16) -> Weights
 fn spline_weights(u: u16) -> Weights
     requires { u ≤ 16 }
     ensures value { result ≡ spline_weights u }
-    ensures most { AreAtMost 16384 result }
+    ensures most { AreAtMost max_weight result }
 {
     let z = 16 - u;
     let cube = 3 * three(u, u, u);
@@ -64,13 +72,13 @@ fn spline_weights(u: u16) -> Weights
 
 /// Four numbers by their weights.
 fn weighted(w: Weights, a: i64, b: i64, c: i64, d: i64) -> i128
-    requires weights { AreAtMost 16384 w }
-    requires a { IsWithin (2 ^ 54) a }
-    requires b { IsWithin (2 ^ 54) b }
-    requires c { IsWithin (2 ^ 54) c }
-    requires d { IsWithin (2 ^ 54) d }
+    requires weights { AreAtMost max_weight w }
+    requires a { IsWithin max_scaled a }
+    requires b { IsWithin max_scaled b }
+    requires c { IsWithin max_scaled c }
+    requires d { IsWithin max_scaled d }
     ensures value { result ≡ weighted w a b c d }
-    ensures within { IsWithin (2 ^ 70) result }
+    ensures within { IsWithin (4 * (max_scaled * max_weight)) result }
 {
     let a = product(a, i64::from(w.a));
     let b = product(b, i64::from(w.b));
@@ -80,70 +88,69 @@ fn weighted(w: Weights, a: i64, b: i64, c: i64, d: i64) -> i128
 }
 
 fn sum_of_four(a: i128, b: i128, c: i128, d: i128) -> i128
-    requires a { IsWithin (2 ^ 68) a }
-    requires b { IsWithin (2 ^ 68) b }
-    requires c { IsWithin (2 ^ 68) c }
-    requires d { IsWithin (2 ^ 68) d }
+    requires a { IsWithin (max_scaled * max_weight) a }
+    requires b { IsWithin (max_scaled * max_weight) b }
+    requires c { IsWithin (max_scaled * max_weight) c }
+    requires d { IsWithin (max_scaled * max_weight) d }
     ensures value { result ≡ a +ℤ b +ℤ c +ℤ d }
-    ensures within { IsWithin (2 ^ 70) result }
+    ensures within { IsWithin (4 * (max_scaled * max_weight)) result }
 {
     a + b + c + d
 }
 
-/// A coordinate of a cubic curve.
-fn cubic_at(u: u16, a: i64, b: i64, c: i64, d: i64) -> i64
-    requires step { u ≤ 16 }
-    requires a { IsWithin (2 ^ 54) a }
-    requires b { IsWithin (2 ^ 54) b }
-    requires c { IsWithin (2 ^ 54) c }
-    requires d { IsWithin (2 ^ 54) d }
-    ensures value { result ≡ cubic_at u a b c d }
-    ensures within { IsWithin (2 ^ 60) result }
+/// A coordinate of a curve whose weights at the step sum to `unit`.
+fn weighted_mean(w: Weights, unit: u32, a: i64, b: i64, c: i64, d: i64) -> i64
+    requires weights { AreAtMost max_weight w }
+    requires unit { cubic_unit ≤ unit }
+    requires a { IsWithin max_scaled a }
+    requires b { IsWithin max_scaled b }
+    requires c { IsWithin max_scaled c }
+    requires d { IsWithin max_scaled d }
+    ensures value { result ≡ floor_div (weighted w a b c d) (pos unit) }
+    ensures within { IsWithin max_length result }
 {
-    quotient(weighted(cubic_weights(u), a, b, c, d), 4_096)
+    quotient(weighted(w, a, b, c, d), unit)
 }
 
-/// A coordinate of a uniform cubic spline.
-fn spline_at(u: u16, a: i64, b: i64, c: i64, d: i64) -> i64
-    requires step { u ≤ 16 }
-    requires a { IsWithin (2 ^ 54) a }
-    requires b { IsWithin (2 ^ 54) b }
-    requires c { IsWithin (2 ^ 54) c }
-    requires d { IsWithin (2 ^ 54) d }
-    ensures value { result ≡ spline_at u a b c d }
-    ensures within { IsWithin (2 ^ 60) result }
+/// The point of a curve whose weights at the step sum to `unit`.
+fn weighted_point(w: Weights, unit: u32, a: Point, b: Point, c: Point, d: Point) -> Point
+    requires weights { AreAtMost max_weight w }
+    requires unit { cubic_unit ≤ unit }
+    requires a { IsPointWithin max_scaled a }
+    requires b { IsPointWithin max_scaled b }
+    requires c { IsPointWithin max_scaled c }
+    requires d { IsPointWithin max_scaled d }
+    ensures value { result ≡ weighted_point w unit a b c d }
+    ensures within { IsPointWithin max_length result }
 {
-    quotient(weighted(spline_weights(u), a, b, c, d), 24_576)
+    Point {
+        x: weighted_mean(w, unit, a.x, b.x, c.x, d.x),
+        y: weighted_mean(w, unit, a.y, b.y, c.y, d.y),
+    }
 }
 
 /// The point at step u of the cubic curve from a to d with the control points b and c (Aegisub tag reference, "b").
 pub fn cubic_point(a: Point, b: Point, c: Point, d: Point, u: u16) -> Point
     requires step { u ≤ 16 }
-    requires a { IsPointWithin (2 ^ 54) a }
-    requires b { IsPointWithin (2 ^ 54) b }
-    requires c { IsPointWithin (2 ^ 54) c }
-    requires d { IsPointWithin (2 ^ 54) d }
+    requires a { IsPointWithin max_scaled a }
+    requires b { IsPointWithin max_scaled b }
+    requires c { IsPointWithin max_scaled c }
+    requires d { IsPointWithin max_scaled d }
     ensures value { result ≡ cubic_point a b c d u }
-    ensures within { IsPointWithin (2 ^ 60) result }
+    ensures within { IsPointWithin max_length result }
 {
-    Point {
-        x: cubic_at(u, a.x, b.x, c.x, d.x),
-        y: cubic_at(u, a.y, b.y, c.y, d.y),
-    }
+    weighted_point(cubic_weights(u), CUBIC_UNIT, a, b, c, d)
 }
 
 /// The point at step u of the uniform cubic spline between its control points b and c (Aegisub tag reference, "s").
 pub fn spline_point(a: Point, b: Point, c: Point, d: Point, u: u16) -> Point
     requires step { u ≤ 16 }
-    requires a { IsPointWithin (2 ^ 54) a }
-    requires b { IsPointWithin (2 ^ 54) b }
-    requires c { IsPointWithin (2 ^ 54) c }
-    requires d { IsPointWithin (2 ^ 54) d }
+    requires a { IsPointWithin max_scaled a }
+    requires b { IsPointWithin max_scaled b }
+    requires c { IsPointWithin max_scaled c }
+    requires d { IsPointWithin max_scaled d }
     ensures value { result ≡ spline_point a b c d u }
-    ensures within { IsPointWithin (2 ^ 60) result }
+    ensures within { IsPointWithin max_length result }
 {
-    Point {
-        x: spline_at(u, a.x, b.x, c.x, d.x),
-        y: spline_at(u, a.y, b.y, c.y, d.y),
-    }
+    weighted_point(spline_weights(u), SPLINE_UNIT, a, b, c, d)
 }

@@ -1,32 +1,38 @@
 //! The points of drawings.
 
-ghost use Rattle.std.specs.Prelude.{◌≡◌, ◌≤◌, ◌+◌, ◌^◌, ◌++◌, ◌∷◌, [], length, map, All, OnOk, IfOk, drop};
-ghost use Rattle.outline_points.specs.Placing.{IsPointWithin, IsMatrix};
+ghost use Rattle.std.specs.Prelude.{◌≡◌, ◌≤◌, ◌++◌, ◌∷◌, [], length, map, All, OnOk, IfOk, drop};
+ghost use Rattle.ass_num.specs.Limits.{IsPointWithin, IsHeldPoint};
+ghost use Rattle.ass_num.specs.Paths.{IsSegment, IsPath};
+ghost use Rattle.outline_points.specs.Limits.{max_scaled, max_length};
+ghost use Rattle.outline_points.specs.Placing.{IsMatrix};
 ghost use Rattle.outline_points.specs.Curves.{cubic_points, piece_points};
-ghost use Rattle.outline_points.specs.Drawings.{IsPathPoint, IsSegment, IsPath, scaled_point, spline_points, last_point, end_point, segment_points, walk_points, drawing_extent, larger_point, largest_from};
+ghost use Rattle.outline_points.specs.Drawings.{scaled_point, spline_points, last_point, end_point, segment_points, walk_points, drawing_extent, larger_point, largest_from};
 
 use crate::curves::{cubic_point, spline_point};
 use crate::products::scaled;
 use ass_num::{Matrix, Mem, Path, Point, Seg};
 use std::alloc::Global;
 
+/// 1 in products of a coordinate of a path and a scale: thousandths with 16 fraction bits.
+const PATH_UNIT: u32 = 65_536_000;
+
 /// A point of a path, from thousandths of a script unit to 1/64 pixel.
 pub fn scaled_point(m: &Matrix, p: Point) -> Point
     requires matrix { IsMatrix m.now }
-    requires point { IsPathPoint p }
+    requires point { IsHeldPoint p }
     ensures value { result ≡ scaled_point m.now p }
-    ensures within { IsPointWithin (2 ^ 54) result }
+    ensures within { IsPointWithin max_scaled result }
 {
     Point {
-        x: scaled(p.x, m.ux, 65_536_000),
-        y: scaled(p.y, m.uy, 65_536_000),
+        x: scaled(p.x, m.ux, PATH_UNIT),
+        y: scaled(p.y, m.uy, PATH_UNIT),
     }
 }
 
 /// Where the segment behind this one begins, where this one begins at `vertex`.
 pub fn end_point(vertex: Point, seg: &Seg) -> Point
     ensures value { result ≡ end_point vertex seg.now }
-    ensures within { IsPathPoint vertex → IsSegment seg.now → IsPathPoint result }
+    ensures within { IsHeldPoint vertex → IsSegment seg.now → IsHeldPoint result }
 {
     match seg {
         Seg::Move(p) => *p,
@@ -39,7 +45,7 @@ pub fn end_point(vertex: Point, seg: &Seg) -> Point
 /// The last of the points, or else `vertex`.
 fn last_point(vertex: Point, points: &[Point]) -> Point
     ensures value { result ≡ last_point vertex points.now }
-    ensures within { IsPathPoint vertex → All IsPathPoint points.now → IsPathPoint result }
+    ensures within { IsHeldPoint vertex → All IsHeldPoint points.now → IsHeldPoint result }
 {
     if points.is_empty() {
         return vertex;
@@ -49,12 +55,12 @@ fn last_point(vertex: Point, points: &[Point]) -> Point
 
 /// Adds a cubic curve without its first point.
 fn add_cubic(a: Point, b: Point, c: Point, d: Point, points: &mut Vec<Point>) -> Mem<()>
-    requires a { IsPointWithin (2 ^ 54) a }
-    requires b { IsPointWithin (2 ^ 54) b }
-    requires c { IsPointWithin (2 ^ 54) c }
-    requires d { IsPointWithin (2 ^ 54) d }
+    requires a { IsPointWithin max_scaled a }
+    requires b { IsPointWithin max_scaled b }
+    requires c { IsPointWithin max_scaled c }
+    requires d { IsPointWithin max_scaled d }
     ensures added { OnOk result (points.new.items ≡ points.old.items ++ cubic_points a b c d) }
-    ensures within { OnOk result (All (IsPointWithin (2 ^ 60)) points.old.items → All (IsPointWithin (2 ^ 60)) points.new.items) }
+    ensures within { OnOk result (All (IsPointWithin max_length) points.old.items → All (IsPointWithin max_length) points.new.items) }
 {
     for u in 1..17 {
         points.push(cubic_point(a, b, c, d, u))?;
@@ -64,12 +70,12 @@ fn add_cubic(a: Point, b: Point, c: Point, d: Point, points: &mut Vec<Point>) ->
 
 /// Adds a piece of a spline.
 fn add_piece(a: Point, b: Point, c: Point, d: Point, points: &mut Vec<Point>) -> Mem<()>
-    requires a { IsPointWithin (2 ^ 54) a }
-    requires b { IsPointWithin (2 ^ 54) b }
-    requires c { IsPointWithin (2 ^ 54) c }
-    requires d { IsPointWithin (2 ^ 54) d }
+    requires a { IsPointWithin max_scaled a }
+    requires b { IsPointWithin max_scaled b }
+    requires c { IsPointWithin max_scaled c }
+    requires d { IsPointWithin max_scaled d }
     ensures added { OnOk result (points.new.items ≡ points.old.items ++ piece_points a b c d) }
-    ensures within { OnOk result (All (IsPointWithin (2 ^ 60)) points.old.items → All (IsPointWithin (2 ^ 60)) points.new.items) }
+    ensures within { OnOk result (All (IsPointWithin max_length) points.old.items → All (IsPointWithin max_length) points.new.items) }
 {
     for u in 0..17 {
         points.push(spline_point(a, b, c, d, u))?;
@@ -80,9 +86,9 @@ fn add_piece(a: Point, b: Point, c: Point, d: Point, points: &mut Vec<Point>) ->
 /// Adds the points of a spline.
 fn add_spline(m: &Matrix, controls: &[Point], points: &mut Vec<Point>) -> Mem<()>
     requires matrix { IsMatrix m.now }
-    requires controls { All IsPathPoint controls.now }
+    requires controls { All IsHeldPoint controls.now }
     ensures added { OnOk result (points.new.items ≡ points.old.items ++ spline_points (map (scaled_point m.now) controls.now)) }
-    ensures within { OnOk result (All (IsPointWithin (2 ^ 60)) points.old.items → All (IsPointWithin (2 ^ 60)) points.new.items) }
+    ensures within { OnOk result (All (IsPointWithin max_length) points.old.items → All (IsPointWithin max_length) points.new.items) }
 {
     if controls.len() < 3 {
         return Ok(());
@@ -103,12 +109,12 @@ fn add_pieces(
     points: &mut Vec<Point>,
 ) -> Mem<()>
     requires matrix { IsMatrix m.now }
-    requires a { IsPointWithin (2 ^ 54) a }
-    requires b { IsPointWithin (2 ^ 54) b }
-    requires c { IsPointWithin (2 ^ 54) c }
-    requires rest { All IsPathPoint rest.now }
+    requires a { IsPointWithin max_scaled a }
+    requires b { IsPointWithin max_scaled b }
+    requires c { IsPointWithin max_scaled c }
+    requires rest { All IsHeldPoint rest.now }
     ensures added { OnOk result (points.new.items ≡ points.old.items ++ spline_points (a ∷ b ∷ c ∷ map (scaled_point m.now) rest.now)) }
-    ensures within { OnOk result (All (IsPointWithin (2 ^ 60)) points.old.items → All (IsPointWithin (2 ^ 60)) points.new.items) }
+    ensures within { OnOk result (All (IsPointWithin max_length) points.old.items → All (IsPointWithin max_length) points.new.items) }
 {
     let (mut a, mut b, mut c) = (a, b, c);
     for control in rest {
@@ -124,10 +130,10 @@ fn add_pieces(
 /// Adds the points of a segment that begins at `vertex` (Aegisub tag reference, "Drawing tags").
 fn push_segment(m: &Matrix, vertex: Point, seg: &Seg, points: &mut Vec<Point>) -> Mem<()>
     requires matrix { IsMatrix m.now }
-    requires vertex { IsPathPoint vertex }
+    requires vertex { IsHeldPoint vertex }
     requires segment { IsSegment seg.now }
     ensures added { OnOk result (points.new.items ≡ points.old.items ++ segment_points m.now vertex seg.now) }
-    ensures within { OnOk result (All (IsPointWithin (2 ^ 60)) points.old.items → All (IsPointWithin (2 ^ 60)) points.new.items) }
+    ensures within { OnOk result (All (IsPointWithin max_length) points.old.items → All (IsPointWithin max_length) points.new.items) }
 {
     match seg {
         Seg::Move(p) => Ok(points.push(scaled_point(m, *p))?),
@@ -146,10 +152,10 @@ fn push_segment(m: &Matrix, vertex: Point, seg: &Seg, points: &mut Vec<Point>) -
 /// Puts the points of a segment that begins at `vertex` behind `points` (Aegisub tag reference, "Drawing tags").
 pub fn add_segment(m: &Matrix, vertex: Point, seg: &Seg, points: Vec<Point>) -> Mem<Vec<Point>>
     requires matrix { IsMatrix m.now }
-    requires vertex { IsPathPoint vertex }
+    requires vertex { IsHeldPoint vertex }
     requires segment { IsSegment seg.now }
     ensures added { IfOk result (λ all. all.items ≡ points.items ++ segment_points m.now vertex seg.now) }
-    ensures within { IfOk result (λ all. All (IsPointWithin (2 ^ 60)) points.items → All (IsPointWithin (2 ^ 60)) all.items) }
+    ensures within { IfOk result (λ all. All (IsPointWithin max_length) points.items → All (IsPointWithin max_length) all.items) }
 {
     let mut points = points;
     push_segment(m, vertex, seg, &mut points)?;
@@ -168,7 +174,8 @@ fn larger_point(p: Point, q: Point) -> Point
 
 /// The largest x and y of `largest` and the points.
 fn largest_from(largest: Point, points: &[Point]) -> Point
-    ensures { result ≡ largest_from largest points.now }
+    ensures value { result ≡ largest_from largest points.now }
+    ensures within { IsPointWithin max_length largest → All (IsPointWithin max_length) points.now → IsPointWithin max_length result }
 {
     let mut largest = largest;
     for p in points {
@@ -181,7 +188,8 @@ fn largest_from(largest: Point, points: &[Point]) -> Point
 pub fn drawing_extent(alloc: Global, path: &Path, m: &Matrix) -> Mem<Point>
     requires matrix { IsMatrix m.now }
     requires path { IsPath path.now.segs }
-    ensures { IfOk result (λ p. p ≡ drawing_extent m.now path.now.segs) }
+    ensures value { IfOk result (λ p. p ≡ drawing_extent m.now path.now.segs) }
+    ensures within { IfOk result (IsPointWithin max_length) }
 {
     let segs = path.segs.as_slice();
     if segs.is_empty() {
@@ -194,9 +202,11 @@ pub fn drawing_extent(alloc: Global, path: &Path, m: &Matrix) -> Mem<Point>
 /// The largest x and y of `largest` and the points of segments from `vertex`.
 fn extent_from(alloc: Global, m: &Matrix, vertex: Point, largest: Point, segs: &[Seg]) -> Mem<Point>
     requires matrix { IsMatrix m.now }
-    requires vertex { IsPathPoint vertex }
+    requires vertex { IsHeldPoint vertex }
     requires segments { All IsSegment segs.now }
-    ensures { IfOk result (λ p. p ≡ largest_from largest (walk_points m.now vertex segs.now)) }
+    requires largest { IsPointWithin max_length largest }
+    ensures value { IfOk result (λ p. p ≡ largest_from largest (walk_points m.now vertex segs.now)) }
+    ensures within { IfOk result (IsPointWithin max_length) }
 {
     let mut vertex = vertex;
     let mut largest = largest;

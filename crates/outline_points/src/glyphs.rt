@@ -1,19 +1,24 @@
 //! The quads of glyphs.
 
-ghost use Rattle.std.specs.Prelude.{◌≡◌, ℕ, ◌+◌, ◌*◌, ◌/◌, ◌<◌, ◌^◌, ◌∷◌, [], length, All};
-ghost use Rattle.ass_num.specs.Limits.{IsOutlinePoint};
-ghost use Rattle.outline_points.specs.Placing.{IsWithin, IsPointWithin, IsMatrix};
-ghost use Rattle.outline_points.specs.Glyphs.{slant, scaled_pixel, glyph_point, quad, is_set};
+ghost use Rattle.std.specs.Prelude.{◌≡◌, ◌+◌, ◌*◌, ◌/◌, ◌<◌, ◌∷◌, [], length, All};
+ghost use Rattle.ass_num.specs.Bitmaps.{pixel_is_set};
+ghost use Rattle.ass_num.specs.Limits.{IsWithin, IsPointWithin, IsOutlinePoint};
+ghost use Rattle.outline_points.specs.Limits.{max_pixel, max_scaled, max_unturned};
+ghost use Rattle.outline_points.specs.Placing.{IsMatrix};
+ghost use Rattle.outline_points.specs.Glyphs.{slant, scaled_pixel, glyph_point, quad};
 
 use crate::placing::Turn;
 use crate::products::scaled;
 use ass_num::{Matrix, Point};
 
+/// 1 in numbers with 16 fraction bits.
+const ONE_16: u32 = 65_536;
+
 /// How far italic moves a point at this height to the right.
 fn slant(italic: bool, y: i64) -> i64
-    requires { IsWithin (2 ^ 54) y }
+    requires { IsWithin max_scaled y }
     ensures value { result ≡ slant italic y }
-    ensures within { IsWithin (2 ^ 54) result }
+    ensures within { IsWithin max_scaled result }
 {
     if italic {
         return (-y).div_euclid(4);
@@ -24,13 +29,13 @@ fn slant(italic: bool, y: i64) -> i64
 /// A point of the bitmap's plane, scaled and slanted.
 fn scaled_pixel(m: &Matrix, a: i64, b: i64) -> Point
     requires matrix { IsMatrix m.now }
-    requires a { IsWithin 8192 a }
-    requires b { IsWithin 8192 b }
+    requires a { IsWithin max_pixel a }
+    requires b { IsWithin max_pixel b }
     ensures value { result ≡ scaled_pixel m.now a b }
-    ensures within { IsPointWithin (2 ^ 61) result }
+    ensures within { IsPointWithin max_unturned result }
 {
-    let x = scaled(a, m.ux, 65_536);
-    let y = scaled(b, m.uy, 65_536);
+    let x = scaled(a, m.ux, ONE_16);
+    let y = scaled(b, m.uy, ONE_16);
     Point {
         x: x + slant(m.italic, y),
         y,
@@ -41,8 +46,8 @@ fn scaled_pixel(m: &Matrix, a: i64, b: i64) -> Point
 pub fn glyph_point(m: &Matrix, turn: &Turn, a: i64, b: i64) -> Point
     requires matrix { IsMatrix m.now }
     requires turn { turn.now.angle ≡ m.now.turn }
-    requires a { IsWithin 8192 a }
-    requires b { IsWithin 8192 b }
+    requires a { IsWithin max_pixel a }
+    requires b { IsWithin max_pixel b }
     ensures value { result ≡ glyph_point m.now a b }
     ensures within { IsOutlinePoint result }
 {
@@ -53,10 +58,10 @@ pub fn glyph_point(m: &Matrix, turn: &Turn, a: i64, b: i64) -> Point
 pub fn quad(m: &Matrix, turn: &Turn, left: i64, top: i64, right: i64, bottom: i64) -> [Point; 4]
     requires matrix { IsMatrix m.now }
     requires turn { turn.now.angle ≡ m.now.turn }
-    requires left { IsWithin 8192 left }
-    requires top { IsWithin 8192 top }
-    requires right { IsWithin 8192 right }
-    requires bottom { IsWithin 8192 bottom }
+    requires left { IsWithin max_pixel left }
+    requires top { IsWithin max_pixel top }
+    requires right { IsWithin max_pixel right }
+    requires bottom { IsWithin max_pixel bottom }
     ensures value { result ≡ quad m.now left top right bottom }
     ensures within { All IsOutlinePoint result }
 {
@@ -72,7 +77,7 @@ pub fn quad(m: &Matrix, turn: &Turn, left: i64, top: i64, right: i64, bottom: i6
 pub fn pixel_is_set(bits: &[u8], w: u32, i: u32, j: u32) -> bool
     requires column { i < w }
     requires row { (j + 1) * ((w + 7) / 8) < length bits.now + 1 }
-    ensures { (h : ℕ) (x y : _) → result ≡ is_set (record { w = w; h = h; x = x; y = y; bits = bits.now }) i j }
+    ensures { result ≡ pixel_is_set w bits.now i j }
 {
     let row = j as usize * (w as usize).div_ceil(8);
     let byte = bits[row + i as usize / 8];

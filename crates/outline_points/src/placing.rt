@@ -1,15 +1,16 @@
 //! Turning and holding.
 
-ghost use Rattle.std.specs.Prelude.{◌≡◌, ◌^◌};
-ghost use Rattle.ass_num.specs.Sine.{sine_of, cosine_of};
-ghost use Rattle.ass_num.specs.Limits.{IsOutlinePoint};
-ghost use Rattle.outline_points.specs.Placing.{IsWithin, IsPointWithin, turned_by, turned_point, outline_point, held_point};
+ghost use Rattle.std.specs.Prelude.{◌≡◌, ℕ, ◌*◌};
+ghost use Rattle.ass_num.specs.Sine.{max_sine, sine_of, cosine_of};
+ghost use Rattle.ass_num.specs.Limits.{IsWithin, IsPointWithin, IsOutlinePoint};
+ghost use Rattle.outline_points.specs.Limits.{max_unturned};
+ghost use Rattle.outline_points.specs.Placing.{turned_by, turned_point, outline_point, held_point};
 
 use crate::products::{product, quotient};
 use ass_num::{Milli, Point, cosine, hold, sine};
 
 /// How far from 0 the points of an outline lie.
-const FARTHEST: i64 = 262_144;
+const MAX_COORDINATE: i64 = 262_144;
 
 /// A turn about 0, counterclockwise, with its sine and cosine in ten-thousandths.
 #[derive(Clone, Copy)]
@@ -20,8 +21,8 @@ pub struct Turn {
     pub cosine: i64,
     ghost is_sine: { sine ≡ sine_of angle },
     ghost is_cosine: { cosine ≡ cosine_of angle },
-    ghost sine_within: { IsWithin 10000 sine },
-    ghost cosine_within: { IsWithin 10000 cosine },
+    ghost sine_within: { IsWithin max_sine sine },
+    ghost cosine_within: { IsWithin max_sine cosine },
 }
 
 impl Turn {
@@ -36,17 +37,18 @@ impl Turn {
         }
     }
 
-    /// The point turned about 0.
+    /// The point turned about 0. It goes at most twice as far from 0 in a coordinate.
     pub fn point(&self, p: Point) -> Point
-        requires { IsPointWithin (2 ^ 61) p }
-        ensures { result ≡ turned_point self.now.angle p }
+        requires { IsPointWithin max_unturned p }
+        ensures value { result ≡ turned_point self.now.angle p }
+        ensures within { (m : ℕ) → IsPointWithin m p → IsPointWithin (2 * m) result }
     {
         turned_by(self.sine, self.cosine, p)
     }
 
-    /// The point turned about 0, and each coordinate held within 262,144.
+    /// The point turned about 0, and each coordinate held where outlines may lie.
     pub fn outline_point(&self, p: Point) -> Point
-        requires { IsPointWithin (2 ^ 61) p }
+        requires { IsPointWithin max_unturned p }
         ensures value { result ≡ outline_point self.now.angle p }
         ensures within { IsOutlinePoint result }
     {
@@ -56,10 +58,11 @@ impl Turn {
 
 /// A point turned by an angle of this sine and cosine.
 fn turned_by(sine: i64, cosine: i64, p: Point) -> Point
-    requires sine { IsWithin 10000 sine }
-    requires cosine { IsWithin 10000 cosine }
-    requires point { IsPointWithin (2 ^ 61) p }
-    ensures { result ≡ turned_by sine cosine p }
+    requires sine { IsWithin max_sine sine }
+    requires cosine { IsWithin max_sine cosine }
+    requires point { IsPointWithin max_unturned p }
+    ensures value { result ≡ turned_by sine cosine p }
+    ensures within { (m : ℕ) → IsPointWithin m p → IsPointWithin (2 * m) result }
 {
     let x_cosine = product(p.x, cosine);
     let y_sine = product(p.y, sine);
@@ -71,21 +74,23 @@ fn turned_by(sine: i64, cosine: i64, p: Point) -> Point
     }
 }
 
-/// Each coordinate held within 262,144.
+/// Each coordinate held where outlines may lie.
 fn held_point(p: Point) -> Point
     ensures value { result ≡ held_point p }
     ensures within { IsOutlinePoint result }
 {
     Point {
-        x: hold(i128::from(p.x), -FARTHEST, FARTHEST),
-        y: hold(i128::from(p.y), -FARTHEST, FARTHEST),
+        x: hold(i128::from(p.x), -MAX_COORDINATE, MAX_COORDINATE),
+        y: hold(i128::from(p.y), -MAX_COORDINATE, MAX_COORDINATE),
     }
 }
 
-/// A point turned about 0, counterclockwise, by an angle in thousandths of a degree.
+/// A point turned about 0, counterclockwise, by an angle in thousandths of a degree. No coordinate goes farther from 0 than twice
+/// the farther one of the point.
 pub fn turned(p: &Point, turn: Milli) -> Point
-    requires { IsPointWithin (2 ^ 61) p.now }
-    ensures { result ≡ turned_point turn p.now }
+    requires { IsPointWithin max_unturned p.now }
+    ensures value { result ≡ turned_point turn p.now }
+    ensures within { (m : ℕ) → IsPointWithin m p.now → IsPointWithin (2 * m) result }
 {
     Turn::new(turn).point(*p)
 }

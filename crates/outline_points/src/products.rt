@@ -1,8 +1,10 @@
 //! Products that don't overflow, and scaling.
 
-ghost use Rattle.std.specs.Prelude.{◌≡◌, ℕ, ◌<◌, ◌*◌, ◌^◌, pos, ◌*ℤ◌, ◌≤◌};
+ghost use Rattle.std.specs.Prelude.{◌≡◌, ℕ, ◌<◌, ◌*◌, pos, ◌*ℤ◌, ◌≤◌};
 ghost use Rattle.ass_num.specs.Floor.{floor_div};
-ghost use Rattle.outline_points.specs.Placing.{IsWithin, IsScale};
+ghost use Rattle.ass_num.specs.Limits.{max_held, one_16, IsWithin};
+ghost use Rattle.outline_points.specs.Limits.{max_scaled, max_unturned};
+ghost use Rattle.outline_points.specs.Placing.{IsScale};
 
 use ass_num::div_floor;
 
@@ -23,7 +25,7 @@ pub fn product(a: i64, b: i64) -> i128
 /// A quotient rounded down, where it fits.
 pub fn quotient(a: i128, unit: u32) -> i64
     requires unit { 0 < unit }
-    requires within { IsWithin (2 ^ 62 * unit) a }
+    requires within { IsWithin (2 * max_unturned * unit) a }
     ensures value { result ≡ floor_div a (pos unit) }
     ensures within { (m : ℕ) → IsWithin (m * unit) a → IsWithin m result }
 {
@@ -32,11 +34,11 @@ pub fn quotient(a: i128, unit: u32) -> i64
 
 /// A number times a scale, in a unit of it.
 pub fn scaled(a: i64, u: i64, unit: u32) -> i64
-    requires number { IsWithin 1000000000 a }
+    requires number { IsWithin max_held a }
     requires scale { IsScale u }
-    requires unit { 65536 ≤ unit }
+    requires unit { one_16 ≤ unit }
     ensures value { result ≡ floor_div (a *ℤ u) (pos unit) }
-    ensures within { IsWithin (2 ^ 54) result }
+    ensures within { IsWithin max_scaled result }
 {
     quotient(product(a, u), unit)
 }

@@ -25,4 +25,4 @@ returns-clause-value c =
     rw (to_z-of_z c.ranges.a, to_z-of_z c.ranges.b, to_z-of_z f, to_z-of_z c.ranges.c, to_z-of_z g, to_z-of_z c.ranges.d, to_z-of_z h) refl
 
 pub returns-clause-within : goal.returns-clause-within
-returns-clause-within c = rw (returns-clause-value c) (record { least = omega (arith, ints); most = omega (arith, ints) })
+returns-clause-within c = rw (returns-clause-value c) ((omega (arith, ints), omega (arith, ints)))

@@ -1,6 +1,9 @@
-use Rattle.std.proofs.Common.{◌+ℤ◌, ◌-ℤ◌, refl, FitsSigned, to_z-of_z, rules, arith, w64}
+use Rattle.std.proofs.Common.{◌+ℤ◌, ◌-ℤ◌, refl, ◌≡◌, ◌+◌, ◌*◌, ℕ, ℤ, pos, FitsSigned, to_z-of_z, rules, arith, w64}
 use Rattle.std.proofs.lemmas.Int.{ints}
-use Rattle.outline_points.proofs.Bounds.{turned_product}
+use Rattle.ass_num.specs.Floor.{floor_div}
+use Rattle.ass_num.specs.Limits.{IsWithin}
+use Rattle.ass_num.specs.Sine.{max_sine}
+use Rattle.outline_points.proofs.Bounds.{turned_product, within_product, within_quotient, within_more, within_sum}
 use Rattle.outline_points.proofs.placing.turned_by.Goals as goal
 use mir.Syntax.{w128}
 
@@ -20,16 +23,16 @@ pub quotient-requires-clause-within : goal.quotient-requires-clause-within
 quotient-requires-clause-within c =
     let p = (turned_product _ _ _ c.product-x_cosine.ensures.value c.requires.point.x c.requires.cosine).1 in
     let q = (turned_product _ _ _ c.product-y_sine.ensures.value c.requires.point.y c.requires.sine).1 in
-    record { least = omega (arith, ints); most = omega (arith, ints) }
+    (omega (arith, ints), omega (arith, ints))
 
 pub quotient-requires-2-clause-within : goal.quotient-requires-2-clause-within
 quotient-requires-2-clause-within c =
     let p = (turned_product _ _ _ c.product-y_cosine.ensures.value c.requires.point.y c.requires.cosine).1 in
     let q = (turned_product _ _ _ c.product-x_sine.ensures.value c.requires.point.x c.requires.sine).1 in
-    record { least = omega (arith, ints); most = omega (arith, ints) }
+    (omega (arith, ints), omega (arith, ints))
 
-pub returns : goal.returns
-returns c =
+pub returns-clause-value : goal.returns-clause-value
+returns-clause-value c =
     let p = turned_product _ _ _ c.product-x_cosine.ensures.value c.requires.point.x c.requires.cosine in
     let q = turned_product _ _ _ c.product-y_sine.ensures.value c.requires.point.y c.requires.sine in
     let r = turned_product _ _ _ c.product-y_cosine.ensures.value c.requires.point.y c.requires.cosine in
@@ -46,3 +49,18 @@ returns c =
     let x = simp to_z-of_z at c.quotient.ensures.value in
     let y = simp to_z-of_z at c.quotient-2.ensures.value in
     rw (to_z-of_z fx, to_z-of_z fy, x, y, p.0, q.0, r.0, s.0) refl
+
+-- a quotient of a sum of two products by sines
+mean_within : (m : ℕ) (a q : ℤ) → q ≡ floor_div a (pos max_sine) → IsWithin (m * max_sine + m * max_sine) a → IsWithin (2 * m) q
+mean_within m a q is h = rw is (within_quotient (2 * m) max_sine a (omega arith) (within_more (m * max_sine + m * max_sine) (2 * m * max_sine) a (omega arith) h))
+
+pub returns-clause-within : goal.returns-clause-within
+returns-clause-within c m near =
+    let xc = within_product m max_sine c.args.p.x c.args.cosine near.x c.requires.cosine in
+    let ys = within_product m max_sine c.args.p.y c.args.sine near.y c.requires.sine in
+    let yc = within_product m max_sine c.args.p.y c.args.cosine near.y c.requires.cosine in
+    let xs = within_product m max_sine c.args.p.x c.args.sine near.x c.requires.sine in
+    rw (returns-clause-value c) (record {
+      x = mean_within m _ _ refl (within_sum (m * max_sine) (m * max_sine) _ _ xc ys).0;
+      y = mean_within m _ _ refl (within_sum (m * max_sine) (m * max_sine) _ _ yc xs).1;
+    })

@@ -1,7 +1,8 @@
-use Rattle.std.proofs.Common.{◌≡◌, ◌^◌, pos, FitsSigned, to_z-of_z, rules, arith, w64}
+use Rattle.std.proofs.Common.{◌≡◌, ◌*◌, pos, FitsSigned, to_z-of_z, rules, arith, w64}
 use Rattle.std.proofs.lemmas.Int.{ints}
 use Rattle.ass_num.specs.Floor.{floor_div}
-use Rattle.outline_points.specs.Placing.{IsWithin}
+use Rattle.ass_num.specs.Limits.{IsWithin}
+use Rattle.outline_points.specs.Limits.{max_unturned}
 use Rattle.outline_points.proofs.Bounds.{within_quotient, fits_from_within}
 use Rattle.outline_points.proofs.products.quotient.Goals as goal
 use mir.Syntax.{w128}
@@ -12,8 +13,8 @@ is c =
     let fu : FitsSigned w128 c.from.result = search rules in
     rw (to_z-of_z c.ranges.a, to_z-of_z fu, u) at c.div_floor.ensures.value
 
-small : (c : goal.After-div_floor) → IsWithin (2 ^ 62) c.div_floor.result
-small c = rw (is c) (within_quotient (2 ^ 62) c.args.unit c.args.a c.requires.unit c.requires.within)
+small : (c : goal.After-div_floor) → IsWithin (2 * max_unturned) c.div_floor.result
+small c = rw (is c) (within_quotient (2 * max_unturned) c.args.unit c.args.a c.requires.unit c.requires.within)
 
 pub overflow_cast-result : goal.overflow_cast-result
 overflow_cast-result c =
