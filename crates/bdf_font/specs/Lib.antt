@@ -3,6 +3,7 @@ pub mod Whole
 pub mod Words
 pub mod Keywords
 pub mod Fonts
+pub mod GlyphRings
 pub mod Places
 pub mod Ranges
 pub mod Grammar

@@ -58,7 +58,7 @@ fn box_depth(bounding_box: Option<BoundingBox>) -> i32
 
 /// A height that is given, or else another; below 0 it is 0.
 fn height(given: Option<i16>, other: i32) -> i32
-    ensures { result ≡ from_zero (unwrap_or line_value other) }
+    ensures { result ≡ from_zero (unwrap_or given other) }
 {
     let height = match given {
         Some(height) => i32::from(height),

@@ -1,4 +1,4 @@
--- Edges that cancel their opposites.
+-- Public: edges that cancel their opposites.
 use Rattle.std.specs.Prelude.{◌≡◌, ℕ, ◌-◌, Bool, ◌&&◌, List, count_by}
 use Rattle.std.specs.Ordering.{int_eq}
 use Rattle.ass_num.specs.Winding.{edges_of}

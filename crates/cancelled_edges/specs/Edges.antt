@@ -1,4 +1,4 @@
--- Lists of edges, and what is left of them.
+-- Inner: lists of edges, and what is left of them.
 use Rattle.std.specs.Prelude.{◌≡◌, ℕ, ◌+◌, ◌-◌, ◌<◌, ◌≤◌, ◌⊎◌, ◌++◌, Bool, ◌&&◌, ◌||◌, ℤ, int_lt, cond, List, [], ◌∷◌, length, sum_by, slice_index_or}
 use Rattle.std.specs.Ordering.{int_eq}
 use Rattle.ass_num.specs.declared.geometry.Point.{Point}

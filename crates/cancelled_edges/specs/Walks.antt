@@ -1,4 +1,4 @@
--- Walks along edges: from each edge to the next one, until all are taken.
+-- Inner: walks along edges: from each edge to the next one, until all are taken.
 use Rattle.std.specs.Prelude.{◌≡◌, ℕ, ◌+◌, ◌<◌, ◌≤◌, Bool, true, false, cond, List, [], ◌∷◌, length, slice_index_or}
 use Rattle.ass_num.specs.Winding.{line}
 use Rattle.ass_num.specs.declared.geometry.Point.{Point}

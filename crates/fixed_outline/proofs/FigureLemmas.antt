@@ -1,48 +1,50 @@
 -- The rings of a path, segment by segment.
-use Rattle.std.proofs.Common.{◌≡◌, ℕ, ◌+◌, ◌<◌, ◌≤◌, ◌^◌, List, [], ◌∷◌, ◌++◌, length, get_or, set, take, drop, map, refl, sym, ap, subst, ◌∙◌, append_assoc, ℤ, arith}
+use Rattle.std.proofs.Common.{◌≡◌, true, ℕ, ◌+◌, ◌<◌, ◌≤◌, List, [], ◌∷◌, ◌++◌, length, get_or, set, take, drop, map, refl, sym, ap, subst, ◌∙◌, append_assoc, ℤ, arith}
+use Rattle.std.proofs.lemmas.Bool.{false≢true}
 use Rattle.std.proofs.lemmas.List.{append-nil, drop_more, drop_all, map-append, map_more, length-map, length-take-le, set_at, get_or_at, take_all}
 use Rattle.std.specs.List.{All}
 use Rattle.std.proofs.lemmas.List.Elements.{All-same, All-nil}
-use Rattle.ass_num.specs.Limits.{IsOutline}
+use Rattle.ass_num.specs.Limits.{IsHeldPoint, IsOutline, IsPointWithin}
+use Rattle.ass_num.specs.Paths.{begins_figure}
 use Rattle.ass_num.specs.declared.geometry.Point.{Point}
 use Rattle.ass_num.specs.declared.geometry.Matrix.{Matrix}
 use Rattle.ass_num.specs.declared.geometry.Seg.{Seg}
 use Rattle.ass_num.specs.declared.geometry.Seg.TheVariants.{Move, Line, Cubic, Spline}
-use Rattle.outline_points.specs.Placing.{IsPointWithin}
-use Rattle.outline_points.specs.Drawings.{end_point, last_point, segment_points, figure_points, figures, path_rings, IsPathPoint, BeginsFigure}
+use Rattle.outline_points.specs.Limits.{max_length}
+use Rattle.outline_points.specs.Drawings.{end_point, last_point, segment_points, figure_points, figures, path_rings}
 use Rattle.fixed_outline.specs.Figures.{placed_point, finished_rings, closed_rings, open_ring, rings_behind, IsWalked}
 
 -- One more segment.
-behind_more : (m : Matrix) (a : Point) (seg : Seg) (ring : List Point) (rest : List Seg) → (ring ≡ [] → BeginsFigure (seg ∷ rest))
+behind_more : (m : Matrix) (a : Point) (seg : Seg) (ring : List Point) (rest : List Seg) → (ring ≡ [] → begins_figure (seg ∷ rest) ≡ true)
     → closed_rings seg ring ++ rings_behind m (open_ring seg ring ++ segment_points m a seg) (end_point a seg) rest ≡ rings_behind m ring a (seg ∷ rest)
 behind_more m a (Move p) [] rest begins = refl
 behind_more m a (Move p) (q ∷ ring) rest begins = ap (λ r. r ∷ figures m a (Move p ∷ rest)) (sym (append-nil (q ∷ ring)))
-behind_more m a (Line p) [] rest begins = absurd (begins refl)
+behind_more m a (Line p) [] rest begins = absurd (false≢true (begins refl))
 behind_more m a (Line p) (q ∷ ring) rest begins = ap (λ r. r ∷ figures m p rest) (append_assoc (q ∷ ring) (segment_points m a (Line p)) (figure_points m p rest))
-behind_more m a (Cubic b c d) [] rest begins = absurd (begins refl)
+behind_more m a (Cubic b c d) [] rest begins = absurd (false≢true (begins refl))
 behind_more m a (Cubic b c d) (q ∷ ring) rest begins = ap (λ r. r ∷ figures m d rest) (append_assoc (q ∷ ring) (segment_points m a (Cubic b c d)) (figure_points m d rest))
-behind_more m a (Spline controls closed) [] rest begins = absurd (begins refl)
+behind_more m a (Spline controls closed) [] rest begins = absurd (false≢true (begins refl))
 behind_more m a (Spline controls closed) (q ∷ ring) rest begins = ap (λ r. r ∷ figures m (last_point a controls) rest) (append_assoc (q ∷ ring) (segment_points m a (Spline controls closed)) (figure_points m (last_point a controls) rest))
 
 -- There is a point behind it.
-goes_on_with : (m : Matrix) (a : Point) (seg : Seg) (ring : List Point) (rest behind : List Seg) → (ring ≡ [] → BeginsFigure (seg ∷ rest)) → open_ring seg ring ++ segment_points m a seg ≡ [] → BeginsFigure behind
+goes_on_with : (m : Matrix) (a : Point) (seg : Seg) (ring : List Point) (rest behind : List Seg) → (ring ≡ [] → begins_figure (seg ∷ rest) ≡ true) → open_ring seg ring ++ segment_points m a seg ≡ [] → begins_figure behind ≡ true
 goes_on_with m a (Move p) ring rest behind begins none = cc
-goes_on_with m a (Line p) [] rest behind begins none = absurd (begins refl)
+goes_on_with m a (Line p) [] rest behind begins none = absurd (false≢true (begins refl))
 goes_on_with m a (Line p) (q ∷ ring) rest behind begins none = cc
-goes_on_with m a (Cubic b c d) [] rest behind begins none = absurd (begins refl)
+goes_on_with m a (Cubic b c d) [] rest behind begins none = absurd (false≢true (begins refl))
 goes_on_with m a (Cubic b c d) (q ∷ ring) rest behind begins none = cc
-goes_on_with m a (Spline controls closed) [] rest behind begins none = absurd (begins refl)
+goes_on_with m a (Spline controls closed) [] rest behind begins none = absurd (false≢true (begins refl))
 goes_on_with m a (Spline controls closed) (q ∷ ring) rest behind begins none = cc
 
 pub walked_more : (m : Matrix) (shift : ℤ) (segs : List Seg) (rings new_rings : List (List Point)) (ring old new_ring : List Point) (a b : Point) (i : ℕ) (seg : Seg)
     → i < length segs → seg ≡ get_or segs i seg → IsWalked m shift segs rings ring a (drop i segs)
     → new_rings ≡ rings ++ map (map (placed_point m.turn shift)) (closed_rings seg ring) → old ≡ open_ring seg ring → new_ring ≡ old ++ segment_points m a seg → b ≡ end_point a seg
-    → All (IsPointWithin (2 ^ 60)) new_ring → IsPathPoint b → IsOutline new_rings → IsWalked m shift segs new_rings new_ring b (drop (i + 1) segs)
+    → All (IsPointWithin max_length) new_ring → IsHeldPoint b → IsOutline new_rings → IsWalked m shift segs new_rings new_ring b (drop (i + 1) segs)
 walked_more m shift segs rings new_rings ring old new_ring a b i seg within seg_is was rings_are old_is ring_is b_is points vertex outline =
     let place = map (placed_point m.turn shift) in
     let rest = drop (i + 1) segs in
     let split : drop i segs ≡ seg ∷ rest = drop_more segs i seg within ∙ ap (λ s. s ∷ rest) (sym seg_is) in
-    let begins : ring ≡ [] → BeginsFigure (seg ∷ rest) = λ none. subst BeginsFigure split (was.begins none) in
+    let begins : ring ≡ [] → begins_figure (seg ∷ rest) ≡ true = λ none. subst (λ ss. begins_figure ss ≡ true) split (was.begins none) in
     let ring_whole : new_ring ≡ open_ring seg ring ++ segment_points m a seg = ring_is ∙ ap (λ r. r ++ segment_points m a seg) old_is in
     record {
       whole =

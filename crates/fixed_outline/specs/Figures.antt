@@ -1,12 +1,14 @@
--- The rings that a walk over the segments of a drawing has still to add.
-use Rattle.std.specs.Prelude.{◌≡◌, ◌^◌, ℤ, List, [], ◌∷◌, ◌++◌, map, All}
-use Rattle.ass_num.specs.Limits.{IsOutline}
+-- Inner: the rings that a walk over the segments of a drawing has still to add.
+use Rattle.std.specs.Prelude.{◌≡◌, true, ℤ, List, [], ◌∷◌, ◌++◌, map, All}
+use Rattle.ass_num.specs.Limits.{IsHeldPoint, IsOutline, IsPointWithin}
+use Rattle.ass_num.specs.Paths.{begins_figure}
 use Rattle.ass_num.specs.declared.geometry.Point.{Point}
 use Rattle.ass_num.specs.declared.geometry.Matrix.{Matrix}
 use Rattle.ass_num.specs.declared.geometry.Seg.{Seg}
 use Rattle.ass_num.specs.declared.geometry.Seg.TheVariants.{Move}
-use Rattle.outline_points.specs.Placing.{outline_point, shifted_point, IsPointWithin}
-use Rattle.outline_points.specs.Drawings.{figure_points, figures, path_rings, IsPathPoint, BeginsFigure}
+use Rattle.outline_points.specs.Limits.{max_length}
+use Rattle.outline_points.specs.Placing.{outline_point, shifted_point}
+use Rattle.outline_points.specs.Drawings.{figure_points, figures, path_rings}
 
 -- a point shifted down, turned and held
 abbrev pub placed_point : ℤ → ℤ → Point → Point
@@ -34,7 +36,7 @@ rings_behind m (p ∷ ring) a segs = ((p ∷ ring) ++ figure_points m a segs) �
 -- Where the walk over a path stands: all rings come out, and points lie where they may.
 pub record IsWalked (m : Matrix) (shift : ℤ) (segs : List Seg) (rings : List (List Point)) (ring : List Point) (a : Point) (rest : List Seg) : Type 0 where
   pub whole : rings ++ map (map (placed_point m.turn shift)) (rings_behind m ring a rest) ≡ path_rings m shift segs
-  pub begins : ring ≡ [] → BeginsFigure rest
-  pub points : All (IsPointWithin (2 ^ 60)) ring
-  pub vertex : IsPathPoint a
+  pub begins : ring ≡ [] → begins_figure rest ≡ true
+  pub points : All (IsPointWithin max_length) ring
+  pub vertex : IsHeldPoint a
   pub within : IsOutline rings

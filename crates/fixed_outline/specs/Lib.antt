@@ -1,2 +1,2 @@
 pub mod Figures
-pub mod GlyphOutlines
+pub mod Limits

@@ -1,9 +1,11 @@
 //! Outlines of drawings.
 
-ghost use Rattle.std.specs.Prelude.{◌≡◌, ◌∷◌, [], ◌++◌, ◌^◌, map, All, IfOk, OnOk};
-ghost use Rattle.ass_num.specs.Limits.{IsOutline, IsOutlinePoint};
-ghost use Rattle.outline_points.specs.Placing.{IsWithin, IsPointWithin, IsMatrix};
-ghost use Rattle.outline_points.specs.Drawings.{IsPath, path_rings};
+ghost use Rattle.std.specs.Prelude.{◌≡◌, ◌∷◌, [], ◌++◌, map, All, IfOk, OnOk};
+ghost use Rattle.ass_num.specs.Limits.{IsWithin, IsPointWithin, IsOutline, IsOutlinePoint};
+ghost use Rattle.ass_num.specs.Paths.{IsPath};
+ghost use Rattle.outline_points.specs.Limits.{max_length};
+ghost use Rattle.outline_points.specs.Placing.{IsMatrix};
+ghost use Rattle.outline_points.specs.Drawings.{path_rings};
 ghost use Rattle.fixed_outline.specs.Figures.{placed_point, finished_rings, closed_rings, open_ring};
 
 use ass_num::{Fix, FlatLists, Matrix, Mem, Outline, Path, Point, Seg};
@@ -12,8 +14,8 @@ use std::alloc::Global;
 
 /// A point shifted down, turned and held.
 fn placed(p: Point, turn: &Turn, shift: Fix) -> Point
-    requires point { IsPointWithin (2 ^ 60) p }
-    requires shift { IsWithin (2 ^ 60) shift }
+    requires point { IsPointWithin max_length p }
+    requires shift { IsWithin max_length shift }
     ensures value { result ≡ placed_point turn.now.angle shift p }
     ensures within { IsOutlinePoint result }
 {
@@ -25,8 +27,8 @@ fn placed(p: Point, turn: &Turn, shift: Fix) -> Point
 
 /// Shifts the points down, turns and holds them.
 fn place(points: &mut [Point], turn: &Turn, shift: Fix)
-    requires points { All (IsPointWithin (2 ^ 60)) points.old }
-    requires shift { IsWithin (2 ^ 60) shift }
+    requires points { All (IsPointWithin max_length) points.old }
+    requires shift { IsWithin max_length shift }
     ensures value { points.new ≡ map (placed_point turn.now.angle shift) points.old }
     ensures within { All IsOutlinePoint points.new }
 {
@@ -37,8 +39,8 @@ fn place(points: &mut [Point], turn: &Turn, shift: Fix)
 
 /// Puts the points of a figure at the end of the rings, placed; there is no ring before the first figure.
 fn finish(ring: &mut Vec<Point>, turn: &Turn, shift: Fix, rings: &mut FlatLists<Point>) -> Mem<()>
-    requires points { All (IsPointWithin (2 ^ 60)) ring.old.items }
-    requires shift { IsWithin (2 ^ 60) shift }
+    requires points { All (IsPointWithin max_length) ring.old.items }
+    requires shift { IsWithin max_length shift }
     ensures added { OnOk result (rings.new ≡ rings.old ++ map (map (placed_point turn.now.angle shift)) (finished_rings ring.old.items)) }
     ensures within { OnOk result (IsOutline rings.old → IsOutline rings.new) }
     ensures ring { OnOk result (ring.new.items ≡ []) }
@@ -60,8 +62,8 @@ fn begin_segment(
     shift: Fix,
     rings: &mut FlatLists<Point>,
 ) -> Mem<()>
-    requires points { All (IsPointWithin (2 ^ 60)) ring.old.items }
-    requires shift { IsWithin (2 ^ 60) shift }
+    requires points { All (IsPointWithin max_length) ring.old.items }
+    requires shift { IsWithin max_length shift }
     ensures added { OnOk result (rings.new ≡ rings.old ++ map (map (placed_point turn.now.angle shift)) (closed_rings seg.now ring.old.items)) }
     ensures within { OnOk result (IsOutline rings.old → IsOutline rings.new) }
     ensures ring { OnOk result (ring.new.items ≡ open_ring seg.now ring.old.items) }
@@ -78,7 +80,7 @@ fn begin_segment(
 fn rings_of_segments(alloc: Global, segs: &[Seg], m: &Matrix, shift: Fix) -> Mem<FlatLists<Point>>
     requires path { IsPath segs.now }
     requires matrix { IsMatrix m.now }
-    requires shift { IsWithin (2 ^ 60) shift }
+    requires shift { IsWithin max_length shift }
     ensures value { IfOk result (λ rings. rings ≡ path_rings m.now shift segs.now) }
     ensures within { IfOk result IsOutline }
 {
@@ -100,7 +102,7 @@ fn rings_of_segments(alloc: Global, segs: &[Seg], m: &Matrix, shift: Fix) -> Mem
 pub fn outline_of_path(alloc: Global, path: &Path, m: &Matrix, shift: Fix) -> Mem<Outline>
     requires path { IsPath path.now.segs }
     requires matrix { IsMatrix m.now }
-    requires shift { IsWithin (2 ^ 60) shift }
+    requires shift { IsWithin max_length shift }
     ensures value { IfOk result (λ o. o.rings ≡ path_rings m.now shift path.now.segs) }
     ensures within { IfOk result (λ o. IsOutline o.rings) }
 {

@@ -1,11 +1,14 @@
 //! Outlines of glyphs.
 
 ghost use Rattle.std.specs.Prelude.{◌≡◌, ◌<◌, ◌∷◌, [], ◌++◌, length, pos, neg_ℤ, ◌+ℤ◌, ◌-ℤ◌, ◌≤ℤ◌, slice_get, Some, IfOk, OnOk, if◌then◌else◌};
-ghost use Rattle.ass_num.specs.Limits.{IsOutline};
+ghost use Rattle.ass_num.specs.Bitmaps.{pixel_is_set};
+ghost use Rattle.ass_num.specs.Limits.{IsOutline, IsWithin};
+ghost use Rattle.bdf_font.specs.GlyphRings.{rings_of_glyph, bitmap_of};
 ghost use Rattle.bdf_font.specs.Ranges.{IsFont, IsGlyph};
-ghost use Rattle.outline_points.specs.Placing.{IsMatrix, IsWithin};
-ghost use Rattle.outline_points.specs.Glyphs.{quad, is_set, row_quads, bitmap_quads, bar_quad, strikeout_top, pixel_quads, set_quads};
-ghost use Rattle.fixed_outline.specs.GlyphOutlines.{rings_of_glyph, bitmap_of};
+ghost use Rattle.outline_points.specs.Limits.{max_pixel};
+ghost use Rattle.outline_points.specs.Placing.{IsMatrix};
+ghost use Rattle.outline_points.specs.Glyphs.{quad, row_quads, bitmap_quads, bar_quad, strikeout_top, pixel_quads, set_quads};
+ghost use Rattle.fixed_outline.specs.Limits.{max_corner};
 
 use ass_num::{FlatLists, Matrix, Mem, Outline, Point};
 use bdf_font::{Font, FontGlyph};
@@ -24,8 +27,8 @@ struct Style {
 
 /// The quads of a set pixel whose upper left corner is (a, b).
 fn add_pixel(style: &Style, a: i64, b: i64, rings: &mut FlatLists<Point>) -> Mem<()>
-    requires a { IsWithin 8000 a }
-    requires b { IsWithin 8000 b }
+    requires a { IsWithin max_corner a }
+    requires b { IsWithin max_corner b }
     ensures added { OnOk result (rings.new ≡ rings.old ++ set_quads style.now.matrix style.now.bold a b) }
     ensures within { OnOk result (IsOutline rings.old → IsOutline rings.new) }
 {
@@ -47,10 +50,10 @@ fn add_quad(
     bottom: i64,
     rings: &mut FlatLists<Point>,
 ) -> Mem<()>
-    requires left { IsWithin 8192 left }
-    requires top { IsWithin 8192 top }
-    requires right { IsWithin 8192 right }
-    requires bottom { IsWithin 8192 bottom }
+    requires left { IsWithin max_pixel left }
+    requires top { IsWithin max_pixel top }
+    requires right { IsWithin max_pixel right }
+    requires bottom { IsWithin max_pixel bottom }
     ensures added { OnOk result (rings.new ≡ rings.old ++ quad style.now.matrix left top right bottom ∷ []) }
     ensures within { OnOk result (IsOutline rings.old → IsOutline rings.new) }
 {
@@ -63,7 +66,7 @@ fn column_left(glyph: &FontGlyph, i: u32) -> i64
     requires glyph { IsGlyph glyph.now }
     requires column { i < glyph.now.w }
     ensures value { result ≡ glyph.now.x +ℤ pos i }
-    ensures within { IsWithin 8000 result }
+    ensures within { IsWithin max_corner result }
 {
     i64::from(glyph.x) + i64::from(i)
 }
@@ -73,7 +76,7 @@ fn row_top(glyph: &FontGlyph, j: u32) -> i64
     requires glyph { IsGlyph glyph.now }
     requires row { j < glyph.now.h }
     ensures value { result ≡ neg_ℤ ((glyph.now.y +ℤ pos glyph.now.h) -ℤ pos j) }
-    ensures within { IsWithin 8000 result }
+    ensures within { IsWithin max_corner result }
 {
     -(i64::from(glyph.y) + i64::from(glyph.h) - i64::from(j))
 }
@@ -83,7 +86,7 @@ fn is_set(glyph: &FontGlyph, i: u32, j: u32) -> bool
     requires glyph { IsGlyph glyph.now }
     requires column { i < glyph.now.w }
     requires row { j < glyph.now.h }
-    ensures { result ≡ is_set (bitmap_of glyph.now) i j }
+    ensures { result ≡ pixel_is_set glyph.now.w glyph.now.bits i j }
 {
     pixel_is_set(glyph.bits.as_slice(), glyph.w, i, j)
 }
@@ -142,8 +145,8 @@ fn add_bar(
     top: i64,
     rings: &mut FlatLists<Point>,
 ) -> Mem<()>
-    requires advance { IsWithin 8000 advance }
-    requires top { IsWithin 8000 top }
+    requires advance { IsWithin max_corner advance }
+    requires top { IsWithin max_corner top }
     ensures added { OnOk result (rings.new ≡ rings.old ++ (if wanted then bar_quad style.now.matrix advance top ∷ [] else [])) }
     ensures within { OnOk result (IsOutline rings.old → IsOutline rings.new) }
 {
@@ -157,9 +160,9 @@ fn add_bar(
 /// The upper edge of the strikeout.
 fn strikeout_top(ascent: i32) -> i64
     requires least { pos 0 ≤ℤ ascent }
-    requires most { ascent ≤ℤ pos 5120 }
+    requires most { ascent ≤ℤ pos max_corner }
     ensures value { result ≡ strikeout_top ascent }
-    ensures within { IsWithin 8000 result }
+    ensures within { IsWithin max_corner result }
 {
     -i64::from(ascent).div_euclid(2) - 1
 }
@@ -175,7 +178,7 @@ fn rings_of_glyph(
 ) -> Mem<FlatLists<Point>>
     requires glyph { IsGlyph glyph.now }
     requires least { pos 0 ≤ℤ ascent }
-    requires most { ascent ≤ℤ pos 5120 }
+    requires most { ascent ≤ℤ pos max_corner }
     ensures value { IfOk result (λ rings. rings ≡ rings_of_glyph style.now.matrix style.now.bold underline strikeout ascent glyph.now) }
     ensures within { IfOk result IsOutline }
 {

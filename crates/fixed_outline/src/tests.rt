@@ -1,7 +1,7 @@
 //! Outlines of a font of one dot, of a triangle and of a box, the edges that are left of the dot, and turns by quarters and by -30.5 degrees.
 
 ghost use Rattle.std.specs.Prelude.{IfOk};
-ghost use Rattle.outline_points.specs.Drawings.{IsPath};
+ghost use Rattle.ass_num.specs.Paths.{IsPath};
 
 use crate::{Matrix, box_outline, cancelled, outline_of_path, quads_of, turned};
 use ass_num::{FlatLists, Items, Mem, Outline, Path, Point, Seg};

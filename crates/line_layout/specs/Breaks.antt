@@ -1,4 +1,4 @@
--- Where a paragraph is broken into lines. Widths are in 1/64 pixel, and `widths` has that of each item; the break places are items too.
+-- Public: where a paragraph is broken into lines. Widths are in 1/64 pixel, and `widths` has that of each item; the break places are items too.
 -- A set of break places is the ascending list of its members.
 -- (Advanced SubStation Alpha, "WrapStyle"; Aegisub tag reference, "\q".)
 use Rattle.std.specs.Prelude.{◌≡◌, ℕ, ℤ, pos, ◌+◌, ◌<◌, ◌≤◌, ◌+ℤ◌, ◌-ℤ◌, ◌<ℤ◌, ◌≤ℤ◌, ◌⊎◌, Bool, true, false, List, [], ◌∷◌, length, take, fold, slice_index}

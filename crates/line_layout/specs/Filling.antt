@@ -1,4 +1,4 @@
--- What the functions inside say of each other: where lines may begin, and which limit on their width makes the widest one least.
+-- Inner: what the functions inside say of each other: where lines may begin, and which limit on their width makes the widest one least.
 use Rattle.std.specs.Prelude.{◌≡◌, ℕ, ℤ, pos, ◌+◌, ◌-◌, ◌≤◌, ◌-ℤ◌, ◌≤ℤ◌, ◌⊎◌, ◌==◌, Bool, List, length, slice_index, slice_index_or, if◌then◌else◌}
 use Rattle.line_layout.specs.Breaks.{pen, width, AreFrom, AllFit, IsTaken}
 

@@ -1,4 +1,4 @@
--- The keys' `==`, and what their `hash` feeds a hasher.
+-- Public: the keys' `==`, and what their `hash` feeds a hasher.
 use Rattle.std.specs.Prelude.{Bool}
 use Rattle.std.specs.Hash.{HashWrites}
 use Rattle.mask_keys.specs.declared.outline_key.OutlineKey.{OutlineKey}

@@ -1,9 +1,11 @@
--- Which keys are valid. `glyphs` has the number of glyphs of each font, in the order of the fonts. These are conditions of calls.
-use Rattle.std.specs.Prelude.{◌≡◌, ℕ, ℤ, pos, ◌^◌, ◌<◌, ◌≤◌, ◌≤ℤ◌, ◌<ℤ◌, false, List, length, slice_index, All}
+-- Inner: which keys are valid. `glyphs` has the number of glyphs of each font, in the order of the fonts. These are conditions of calls.
+use Rattle.std.specs.Prelude.{ℕ, ℤ, ◌<◌, ◌≤◌, List, length, slice_index, All}
+use Rattle.ass_num.specs.Limits.{IsWithin}
+use Rattle.ass_num.specs.Paths.{IsPath}
 use Rattle.ass_num.specs.declared.geometry.Matrix.{Matrix}
 use Rattle.ass_num.specs.declared.geometry.Path.{Path}
-use Rattle.outline_points.specs.Placing.{IsWithin, IsMatrix}
-use Rattle.outline_points.specs.Drawings.{IsPath}
+use Rattle.outline_points.specs.Limits.{max_length}
+use Rattle.outline_points.specs.Placing.{IsMatrix}
 use Rattle.mask_keys.specs.declared.outline_key.OutlineKey.{OutlineKey}
 use Rattle.mask_keys.specs.declared.outline_key.OutlineKey.TheVariants.{Glyph, Drawing, Box}
 use Rattle.mask_keys.specs.declared.mask_key.MaskKey.{MaskKey}
@@ -13,24 +15,41 @@ use Rattle.mask_keys.specs.declared.plans.Clip.{Clip}
 use Rattle.mask_keys.specs.declared.plans.Clip.TheVariants.{Drawn}
 use Rattle.mask_keys.specs.declared.plans.Draw.{Draw}
 
+-- the largest radius of a border, in samples
+abbrev pub max_border : ℕ
+max_border = 1600
+
+-- how many samples a pixel has in a row
+abbrev pub samples_across : ℕ
+samples_across = 16
+
+-- the most passes of softening
+abbrev pub max_passes : ℕ
+max_passes = 127
+
+-- the largest radius of a blur, in pixels
+abbrev pub max_blur : ℕ
+max_blur = 100
+
+-- the farthest that a mask is moved within a composite, in pixels
+abbrev pub max_offset : ℕ
+max_offset = 20480
+
 -- there is such a glyph
 pub record IsValidGlyph (glyphs : List ℕ) (font glyph : ℕ) (m : Matrix) : Type 0 where
   pub in_fonts : font < length glyphs
   pub in_font : glyph < slice_index glyphs font
   pub matrix : IsMatrix m
 
--- equal drawings have one key: the matrix isn't italic, and it turns by less than a whole turn
+-- the path is valid; the matrix may slant, and turn by any angle
 pub record IsValidDrawing (path : Path) (m : Matrix) (shift : ℤ) : Type 0 where
   pub segments : IsPath path.segs
   pub matrix : IsMatrix m
-  pub shifted : IsWithin (2 ^ 60) shift
-  pub upright : m.italic ≡ false
-  pub least_turn : pos 0 ≤ℤ m.turn
-  pub most_turn : m.turn <ℤ pos 360000
+  pub shifted : IsWithin max_length shift
 
 pub record IsValidBox (w h : ℤ) : Type 0 where
-  pub width : IsWithin (2 ^ 60) w
-  pub height : IsWithin (2 ^ 60) h
+  pub width : IsWithin max_length w
+  pub height : IsWithin max_length h
 
 abbrev pub IsValidOutline : List ℕ → OutlineKey → Type 0
 IsValidOutline glyphs (Glyph font glyph m _ _ _) = IsValidGlyph glyphs font glyph m
@@ -39,17 +58,17 @@ IsValidOutline glyphs (Box w h _) = IsValidBox w h
 
 pub record IsValidMask (glyphs : List ℕ) (key : MaskKey) : Type 0 where
   pub outline : IsValidOutline glyphs key.outline
-  pub rx : key.rx ≤ 1600
-  pub ry : key.ry ≤ 1600
-  pub px : key.px < 16
-  pub py : key.py < 16
-  pub edges : key.edges ≤ 127
-  pub blur : key.blur ≤ 100
+  pub rx : key.rx ≤ max_border
+  pub ry : key.ry ≤ max_border
+  pub px : key.px < samples_across
+  pub py : key.py < samples_across
+  pub edges : key.edges ≤ max_passes
+  pub blur : key.blur ≤ max_blur
 
 pub record IsValidPart (glyphs : List ℕ) (part : Part) : Type 0 where
   pub mask : IsValidMask glyphs part.mask
-  pub dx : IsWithin 20480 part.dx
-  pub dy : IsWithin 20480 part.dy
+  pub dx : IsWithin max_offset part.dx
+  pub dy : IsWithin max_offset part.dy
 
 pub record IsValidComposite (glyphs : List ℕ) (key : CompositeKey) : Type 0 where
   pub parts : All (IsValidPart glyphs) key.parts

@@ -14,7 +14,7 @@ pub enum OutlineKey {
         underline: bool,
         strikeout: bool,
     },
-    /// A drawing under a matrix that isn't italic and whose turn is from 0 up to 360,000; its points are shifted down by `shift`, in 1/64 pixel.
+    /// A drawing under a matrix; its points are shifted down by `shift`, in 1/64 pixel.
     Drawing {
         path: Path,
         m: Matrix,

@@ -1,4 +1,4 @@
--- Boxes on the screen, and the least shifts that keep them apart. Lengths are in 1/64 pixel, and y grows downwards.
+-- Public: boxes on the screen, and the least shifts that keep them apart. Lengths are in 1/64 pixel, and y grows downwards.
 -- (Advanced SubStation Alpha, "Layer": within a layer, events don't overlap each other.)
 use Rattle.std.specs.Prelude.{◌≡◌, ℕ, ℤ, pos, ◌+◌, ◌<◌, ◌^◌, ◌+ℤ◌, ◌-ℤ◌, neg_ℤ, ◌<ℤ◌, ◌≤ℤ◌, int_lt, Bool, true, false, List, [], ◌∷◌, length, take, map, slice_index_or}
 use Rattle.std.specs.List.{All, filter}

@@ -1,6 +1,7 @@
-use Rattle.std.proofs.Common.{◌^◌, sym, subst, to_z-of_z, FitsSigned, rules, w64}
-use Rattle.outline_points.specs.Placing.{IsPointWithin}
-use Rattle.outline_points.specs.Drawings.{IsSegment}
+use Rattle.std.proofs.Common.{sym, subst, to_z-of_z, FitsSigned, rules, w64}
+use Rattle.ass_num.specs.Limits.{IsPointWithin}
+use Rattle.outline_points.specs.Limits.{max_length}
+use Rattle.ass_num.specs.Paths.{IsSegment}
 use Rattle.fixed_outline.proofs.FigureLemmas.{walked_more, walked_all, open_within}
 use Rattle.fixed_outline.proofs.drawings.rings_of_segments.Goals as goal
 
@@ -12,8 +13,8 @@ loop-seg-preserved c =
     rw (to_z-of_z c.ranges.shift)
     (walked_more c.args.m.now c.args.shift c.args.segs.now c.loop-seg.rings c.begin_segment.new.rings c.loop-seg.ring.items c.begin_segment.new.ring.items c.in_ok-ring.ring.items
     c.loop-seg.vertex c.end_point-vertex.result c.loop-seg.seg-index c.seg-item.result c.loop-seg-test.true c.seg-item.is was added c.in_ok-begin_segment.ensures.ring c.in_ok-ring.ensures.added c.end_point-vertex.ensures.value
-    (c.in_ok-ring.ensures.within (open_within (IsPointWithin (2 ^ 60)) c.seg-item.result c.loop-seg.ring.items c.begin_segment.new.ring.items c.in_ok-begin_segment.ensures.ring was.points))
-    (c.end_point-vertex.ensures.within was.vertex (subst IsSegment (sym c.seg-item.is) (c.requires.path.segments c.loop-seg.seg-index c.seg-item.result c.loop-seg-test.true)))
+    (c.in_ok-ring.ensures.within (open_within (IsPointWithin max_length) c.seg-item.result c.loop-seg.ring.items c.begin_segment.new.ring.items c.in_ok-begin_segment.ensures.ring was.points))
+    (c.end_point-vertex.ensures.within was.vertex (subst IsSegment (sym c.seg-item.is) (c.requires.path.held c.loop-seg.seg-index c.seg-item.result c.loop-seg-test.true)))
     (c.in_ok-begin_segment.ensures.within was.within))
 
 pub returns-clause-value : goal.returns-clause-value

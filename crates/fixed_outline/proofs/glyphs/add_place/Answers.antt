@@ -1,5 +1,5 @@
 use Rattle.std.proofs.Common.{FitsSigned, to_z-of_z, rules, w64}
-use Rattle.fixed_outline.specs.GlyphOutlines.{bitmap_of}
+use Rattle.bdf_font.specs.GlyphRings.{bitmap_of}
 use Rattle.fixed_outline.proofs.QuadLemmas.{place_set}
 use Rattle.fixed_outline.proofs.glyphs.add_place.Goals as goal
 

@@ -2,7 +2,7 @@ use Rattle.std.proofs.Common.{◌≡◌, ◌++◌, flat_map}
 use Rattle.std.specs.List.{range_with_len}
 use Rattle.ass_num.specs.Limits.{IsOutline}
 use Rattle.outline_points.specs.Glyphs.{pixel_quads}
-use Rattle.fixed_outline.specs.GlyphOutlines.{bitmap_of}
+use Rattle.bdf_font.specs.GlyphRings.{bitmap_of}
 use Rattle.fixed_outline.proofs.glyphs.add_row.Given as goal
 
 abbrev pub invariant-loop-i : goal.invariant-loop-i

@@ -1,6 +1,6 @@
 use Rattle.std.proofs.Common.{◌≡◌, arith}
 use Rattle.outline_points.specs.Glyphs.{row_quads}
-use Rattle.fixed_outline.specs.GlyphOutlines.{bitmap_of}
+use Rattle.bdf_font.specs.GlyphRings.{bitmap_of}
 use Rattle.fixed_outline.proofs.QuadLemmas.{flat_more}
 use Rattle.fixed_outline.proofs.glyphs.add_rows.Goals as goal
 

@@ -1,5 +1,5 @@
 use Rattle.std.proofs.Common.{◌≡◌, ◌∙◌, get_or, ap, FitsSigned, to_z-of_z, rules, w32}
-use Rattle.fixed_outline.specs.GlyphOutlines.{rings_of_glyph}
+use Rattle.bdf_font.specs.GlyphRings.{rings_of_glyph}
 use Rattle.fixed_outline.proofs.QuadLemmas.{got}
 use Rattle.fixed_outline.proofs.glyphs.quads_of.Goals as goal
 

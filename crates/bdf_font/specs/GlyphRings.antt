@@ -1,4 +1,4 @@
--- The outline of a font's glyph.
+-- Public: the rings of a font's glyph.
 use Rattle.std.specs.Prelude.{Bool, ℤ, List}
 use Rattle.ass_num.specs.declared.geometry.Point.{Point}
 use Rattle.ass_num.specs.declared.geometry.Matrix.{Matrix}
