@@ -1,15 +1,15 @@
 -- Lemmas on areas and rectangles.
-use Rattle.std.proofs.Common.{◌≡◌, ℕ, ◌+◌, ◌*◌, ◌<◌, ◌≤◌, ℤ, pos, negsuc, ◌-◌, ◌+ℤ◌, ◌-ℤ◌, ◌≤ℤ◌, ◌<ℤ◌, Bool, true, false, not, List, ◌&&◌, ◌||◌, ◌==◌, nat_le, nat_lt, int_le, int_lt, length, get_or, take, drop, slice_index, refl, sym, ap, ◌∙◌, ⊎_elim, arith}
+use Rattle.std.proofs.Common.{◌≡◌, ℕ, ◌+◌, ◌*◌, ◌<◌, ◌≤◌, ℤ, pos, negsuc, ◌-◌, ◌+ℤ◌, ◌-ℤ◌, ◌≤ℤ◌, ◌<ℤ◌, ◌⊎◌, Bool, true, false, not, List, ◌&&◌, nat_le, nat_lt, int_le, int_lt, length, get_or, take, drop, slice_index, refl, sym, ap, ◌∙◌, inl, inr, ⊎_elim, arith}
 use Rattle.std.proofs.lemmas.Int.{ints}
 use Rattle.std.proofs.lemmas.Nat.{mul-add-lt}
 use Rattle.std.proofs.lemmas.List.{get_or-take, get_or-drop}
-use Rattle.std.specs.Ordering.{int_eq}
-use Rattle.std.proofs.lemmas.Bool.{cases_lt}
+use Rattle.std.proofs.lemmas.Bool.{cases_lt, true≢false}
 use Rattle.std.proofs.lemmas.Bool.Decides.{nat_tests}
-use Rattle.ass_num.specs.Masks.{MaskValue, is_mask, offset_value}
+use Rattle.ass_num.specs.Masks.{MaskValue, is_mask}
 use Rattle.blend.specs.declared.area.Area.{Area}
 use Rattle.blend.specs.declared.area.Band.{Band}
 use Rattle.ass_num.specs.Coverage.{moved_value}
+use Rattle.ass_num.proofs.MaskLemmas.{mask_length, offset_inside, value_beside, value_over}
 use Rattle.blend.specs.Blending.{in_rect}
 use Rattle.blend.specs.Areas.{in_area, in_moved_box, IsPart, IsAreaCovered, IsMeeting}
 
@@ -103,18 +103,6 @@ between-rect x1 y1 x2 y2 i j e =
       bottom = lt_z-true j y2 (and-second (int_le y1 j) (int_lt j y2) rows);
     }
 
--- the bytes of a mask fill its box
-pub mask-length : (m : MaskValue) → is_mask m ≡ true → length m.bytes ≡ m.w * m.h
-mask-length m e =
-    let first : (length m.bytes == m.w * m.h) ≡ true =
-    and-first (length m.bytes == m.w * m.h) (not (length m.bytes == 0) || (int_eq m.x (pos 0) && (int_eq m.y (pos 0) && ((m.w == 0) && (m.h == 0))))) e in
-    grind (arith, nat_tests)
-
--- a value in the box
-pub moved_value-inside : (m : MaskValue) (x y : ℤ) (i j p q : ℕ) → pos i -ℤ x -ℤ m.x ≡ pos p → pos j -ℤ y -ℤ m.y ≡ pos q → p < m.w → q < m.h
-    → moved_value (m, x, y) (pos i) (pos j) ≡ get_or m.bytes (q * m.w + p) 0
-moved_value-inside m x y i j p q column row in_w in_h = rw (column, row, lt-yes p m.w in_w, lt-yes q m.h in_h) refl
-
 -- where a piece of a row begins in a mask's bytes, and that it lies in them
 pub record IsPlace (m : MaskValue) (count p q : ℕ) : Type 0 where
   pub row : q < m.h
@@ -129,7 +117,7 @@ place m x y left right j p q canonical some first last column row =
     let in_h : q < m.h = omega (arith, ints) in
     let in_w : p + (right - left) ≤ m.w = omega (arith, ints) in
     let inside : q * m.w + (p + (right - left) - 1) < m.w * m.h = mul-add-lt q m.w (p + (right - left) - 1) m.h in_h (omega arith) in
-    record { row = in_h; columns = in_w; bytes = omega (arith, mask-length m canonical) }
+    record { row = in_h; columns = in_w; bytes = omega (arith, mask_length m canonical) }
 
 -- the values of a piece of a row
 pub values-inside : (m : MaskValue) (x y : ℤ) (left j p q count k : ℕ) (s : List ℕ) → IsPlace m count p q → pos left -ℤ x -ℤ m.x ≡ pos p → pos j -ℤ y -ℤ m.y ≡ pos q
@@ -137,7 +125,7 @@ pub values-inside : (m : MaskValue) (x y : ℤ) (left j p q count k : ℕ) (s : 
 values-inside m x y left j p q count k s inside column row is less =
     let at : pos (left + k) -ℤ x -ℤ m.x ≡ pos (p + k) = omega (arith, ints) in
     let value : moved_value (m, x, y) (pos (left + k)) (pos j) ≡ get_or m.bytes (q * m.w + (p + k)) 0 =
-    moved_value-inside m x y (left + k) j (p + k) q at row (omega (arith, inside.columns)) inside.row in
+    offset_inside m _ _ (p + k) q at row (omega (arith, inside.columns)) inside.row in
     let index : q * m.w + p + k ≡ q * m.w + (p + k) = omega arith in
     ap (λ (t : List ℕ). get_or t k 0) is
     ∙ (get_or-take count (drop (q * m.w + p) m.bytes) k 0 less ∙ (get_or-drop (q * m.w + p) m.bytes k 0 ∙ (ap (λ i. get_or m.bytes i 0) index ∙ sym value)))
@@ -206,32 +194,34 @@ meeting-is r band p part both = record {
   whole = λ i j a b c. both i j ∙ ap (λ (t : Bool). t && in_moved_box p i j) (in_area-yes (whole_band band) i j (omega arith) a b c);
 }
 
-in_rect-yes : (x1 y1 x2 y2 i j : ℤ) → x1 ≤ℤ i → i <ℤ x2 → y1 ≤ℤ j → j <ℤ y2 → in_rect x1 y1 x2 y2 i j ≡ true
-in_rect-yes x1 y1 x2 y2 i j p q r s =
-    let a : int_le x1 i ≡ true = grind (arith, ints) in
-    let b : int_lt i x2 ≡ true = grind (arith, ints) in
-    let c : int_le y1 j ≡ true = grind (arith, ints) in
-    let d : int_lt j y2 ≡ true = grind (arith, ints) in
-    rw (a, b, c, d) refl
+le_z-false : (a b : ℤ) → int_le a b ≡ false → b <ℤ a
+le_z-false a b e = grind (arith, ints)
 
--- a value at a place that isn't in the box
-offset_value-outside : (m : MaskValue) (a b : ℤ) → ((p q : ℕ) → a ≡ pos p → b ≡ pos q → p < m.w → q < m.h → ⊥) → offset_value m a b ≡ 0
-offset_value-outside m (pos p) (pos q) out =
-    ⊎_elim
-    (λ (l : p < m.w). ⊎_elim (λ (h : q < m.h). absurd (out p q refl refl l h)) (λ (h : m.h ≤ q). rw (lt-no q m.h h, and-false (nat_lt p m.w)) refl) (cases_lt q m.h))
-    (λ (l : m.w ≤ p). rw (lt-no p m.w l) refl)
-    (cases_lt p m.w)
-offset_value-outside m (pos p) (negsuc q) out = refl
-offset_value-outside m (negsuc p) (pos q) out = refl
-offset_value-outside m (negsuc p) (negsuc q) out = refl
+lt_z-false : (a b : ℤ) → int_lt a b ≡ false → b ≤ℤ a
+lt_z-false a b e = grind (arith, ints)
+
+-- what lies outside a rectangle lies beside it, or over or under it
+outside : (x1 y1 x2 y2 i j : ℤ) → in_rect x1 y1 x2 y2 i j ≡ false → ((i <ℤ x1) ⊎ (x2 ≤ℤ i)) ⊎ ((j <ℤ y1) ⊎ (y2 ≤ℤ j))
+outside x1 y1 x2 y2 i j out = go (int_le x1 i) (int_lt i x2) (int_le y1 j) (int_lt j y2) refl refl refl refl out
+  where
+    go : (l r t b : Bool) → int_le x1 i ≡ l → int_lt i x2 ≡ r → int_le y1 j ≡ t → int_lt j y2 ≡ b → ((l && r) && (t && b)) ≡ false
+        → ((i <ℤ x1) ⊎ (x2 ≤ℤ i)) ⊎ ((j <ℤ y1) ⊎ (y2 ≤ℤ j))
+    go false r t b el er et eb f = inl (inl (le_z-false x1 i el))
+    go true false t b el er et eb f = inl (inr (lt_z-false i x2 er))
+    go true true false b el er et eb f = inr (inl (le_z-false y1 j et))
+    go true true true false el er et eb f = inr (inr (lt_z-false j y2 eb))
+    go true true true true el er et eb f = absurd (true≢false f)
 
 pub moved_value-outside : (p : MaskValue × ℤ × ℤ) (i j : ℕ) → in_moved_box p i j ≡ false → moved_value p (pos i) (pos j) ≡ 0
-moved_value-outside p i j e =
-    offset_value-outside p.0 (pos i -ℤ p.1 -ℤ p.0.x) (pos j -ℤ p.2 -ℤ p.0.y) (λ a b column row l h.
-    let yes : in_moved_box p i j ≡ true =
-    in_rect-yes (p.0.x +ℤ p.1) (p.0.y +ℤ p.2) (p.0.x +ℤ p.1 +ℤ pos p.0.w) (p.0.y +ℤ p.2 +ℤ pos p.0.h) (pos i) (pos j)
-    (omega (arith, ints)) (omega (arith, ints)) (omega (arith, ints)) (omega (arith, ints)) in
-    cc)
+moved_value-outside p i j out =
+    let x : ℤ = pos i -ℤ p.1 in
+    let y : ℤ = pos j -ℤ p.2 in
+    elim (outside (p.0.x +ℤ p.1) (p.0.y +ℤ p.2) (p.0.x +ℤ p.1 +ℤ pos p.0.w) (p.0.y +ℤ p.2 +ℤ pos p.0.h) (pos i) (pos j) out) [
+      | inl (inl h) ↦ value_beside p.0 x y (inl (let g : x <ℤ p.0.x = omega (arith, ints, h) in g))
+      | inl (inr h) ↦ value_beside p.0 x y (inr (let g : (p.0.x +ℤ pos p.0.w) ≤ℤ x = omega (arith, ints, h) in g))
+      | inr (inl h) ↦ value_over p.0 x y (inl (let g : y <ℤ p.0.y = omega (arith, ints, h) in g))
+      | inr (inr h) ↦ value_over p.0 x y (inr (let g : (p.0.y +ℤ pos p.0.h) ≤ℤ y = omega (arith, ints, h) in g))
+    ]
 
 -- the test of a rectangle, whose bounds are known
 pub rect-both : (area part : Area) (i j : ℕ) (x1 y1 x2 y2 p1 q1 p2 q2 : ℤ) → p1 ≡ x1 → q1 ≡ y1 → p2 ≡ x2 → q2 ≡ y2
