@@ -1,6 +1,7 @@
 -- What a fetch answers, by what is told of the name.
 use Rattle.std.specs.Prelude.{◌≡◌, ◌⊎◌, ℕ, ◌<◌, ◌≤◌, List, [], length, Option, Some, None, IsSomeAnd, nat_le, if◌then◌else◌}
-use Rattle.ass_num.specs.Causes.{Rose, IfTold, file_limit}
+use Rattle.ass_num.specs.Causes.{Rose, IfTold}
+use Rattle.ass_num.specs.Limits.{max_file_bytes}
 use Rattle.ass_io.specs.declared.shelf.Fetch.{Fetch}
 use Rattle.ass_io.specs.declared.shelf.Fetch.TheVariants.{Got, Missing, Failed, TooLarge, OutOfMemory}
 
@@ -22,11 +23,11 @@ IsMissing held = held ≡ None
 
 -- The name holds more bytes than a file may have.
 abbrev pub IsTooLarge : Held → Type 0
-IsTooLarge held = IsSomeAnd held (λ bytes. file_limit < length bytes)
+IsTooLarge held = IsSomeAnd held (λ bytes. max_file_bytes < length bytes)
 
 -- What each answer says of the name, where that is told, and which bytes were read.
 abbrev pub IsFetched : Told → Fetch → List ℕ → Type 0
-IsFetched told Got bytes = IfTold told (Holds bytes) × (length bytes ≤ file_limit)
+IsFetched told Got bytes = IfTold told (Holds bytes) × (length bytes ≤ max_file_bytes)
 IsFetched told Missing bytes = IfTold told IsMissing × (bytes ≡ [])
 IsFetched told TooLarge bytes = IfTold told IsTooLarge × (bytes ≡ [])
 IsFetched told Failed bytes = bytes ≡ []
@@ -41,7 +42,7 @@ MayComeInstead _ = ⊥
 -- the answer that what a name holds asks for
 abbrev pub fetch_answer : Held → Fetch
 fetch_answer None = Missing
-fetch_answer (Some bytes) = if nat_le (length bytes) file_limit then Got else TooLarge
+fetch_answer (Some bytes) = if nat_le (length bytes) max_file_bytes then Got else TooLarge
 
 -- Where it is told what the name holds, the answer is the one for that, or came instead.
 abbrev pub IsFetchDecided : Told → Fetch → Type 0

@@ -17,4 +17,5 @@ pub mod Runs
 pub mod SignFronts
 pub mod SineTable
 pub mod SumLemmas
+pub mod WholeLaws
 pub mod Wholes

@@ -1,4 +1,4 @@
--- Values that stand at the front of a text, whatever follows them.
+-- Public: values that stand at the front of a text, whatever follows them.
 use Rattle.std.specs.Prelude.{◌≡◌, ℕ, ◌≤◌, List, length, take}
 
 -- The longest front of the text that spells a value has `len` bytes and spells this one.

@@ -25,6 +25,10 @@ max_frame_side = 4096
 abbrev pub max_held : ℕ
 max_held = 1000000000
 
+-- the farthest from 0 that a whole number of a script may be: it has 31 bits under its sign
+abbrev pub max_whole : ℕ
+max_whole = 2147483647
+
 -- the farthest from 0 that a coordinate of an outline may be, in 1/64 pixel
 abbrev pub max_coordinate : ℕ
 max_coordinate = 262144

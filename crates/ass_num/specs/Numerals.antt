@@ -1,13 +1,15 @@
--- Numbers, colours and times as scripts write them, byte by byte.
+-- Public: numbers, colours and times as scripts write them, byte by byte.
 use Rattle.std.specs.Prelude.{◌≡◌, ℕ, min, ◌+◌, ◌*◌, ◌/◌, ◌%◌, ◌^◌, ◌<◌, ◌≤◌, Bool, true, false, ◌==◌, ◌&&◌, ◌||◌, if◌then◌else◌, List, [], ◌∷◌, ◌++◌, length, codes, ◌⊎◌, ℤ, pos, neg_ℤ}
 use Rattle.std.specs.Char.{digit_value, is_digit}
 use Rattle.std.specs.Int.{int_rem_euclid}
 use Rattle.std.specs.List.{AllPass}
+use Rattle.ass_num.specs.Bytes.{tab, space, ampersand, plus, minus, upper_h, lower_h}
 use Rattle.ass_num.specs.Floor.{held}
+use Rattle.ass_num.specs.Limits.{max_held, max_whole}
 
 -- a space or a tab
 abbrev pub is_blank : ℕ → Bool
-is_blank c = (c == 32) || (c == 9)
+is_blank c = (c == space) || (c == tab)
 
 -- `0` to `9`
 abbrev pub is_decimal : ℕ → Bool
@@ -19,7 +21,7 @@ is_hexadecimal c = is_digit c 16
 
 -- What may stand before the digits of a colour: `&`, `H`, `h` and blanks.
 abbrev pub is_mark : ℕ → Bool
-is_mark c = (c == 38) || ((c == 72) || ((c == 104) || is_blank c))
+is_mark c = (c == ampersand) || ((c == upper_h) || ((c == lower_h) || is_blank c))
 
 -- the number that digits say in a base: the sum of the digits, each times its power of the base
 abbrev pub number_of : ℕ → List ℕ → ℕ
@@ -28,7 +30,7 @@ number_of base (digit ∷ digits) = digit_value digit * base ^ length digits + n
 
 -- `+` or `-`
 abbrev pub is_sign : ℕ → Bool
-is_sign c = (c == 43) || (c == 45)
+is_sign c = (c == plus) || (c == minus)
 
 -- how many bytes a sign takes at the front of a text
 abbrev pub sign_len : List ℕ → ℕ
@@ -42,7 +44,7 @@ IsSign sign = (sign ≡ []) ⊎ ((sign ≡ codes "+") ⊎ (sign ≡ codes "-"))
 -- a number under its sign
 abbrev pub signed : List ℕ → ℕ → ℤ
 signed [] n = pos n
-signed (sign ∷ _) n = if sign == 45 then neg_ℤ (pos n) else pos n
+signed (sign ∷ _) n = if sign == minus then neg_ℤ (pos n) else pos n
 
 -- A number with a point or without, in thousandths cut toward zero. Of digits it has at least one.
 pub record IsDecimal (bytes : List ℕ) (thousandths : ℕ) : Type 0 where
@@ -58,7 +60,7 @@ pub record IsDecimal (bytes : List ℕ) (thousandths : ℕ) : Type 0 where
 
 -- a number, held at a million
 abbrev pub IsHeldDecimal : List ℕ → ℕ → Type 0
-IsHeldDecimal bytes thousandths = (n : ℕ) × IsDecimal bytes n × (thousandths ≡ min n 1000000000)
+IsHeldDecimal bytes thousandths = (n : ℕ) × IsDecimal bytes n × (thousandths ≡ min n max_held)
 
 -- A sign or none and a number, held within a million on both sides, in thousandths.
 pub record IsMilli (bytes : List ℕ) (milli : ℤ) : Type 0 where
@@ -68,7 +70,7 @@ pub record IsMilli (bytes : List ℕ) (milli : ℤ) : Type 0 where
   pub spelled : bytes ≡ sign ++ decimal
   pub sign_or_none : IsSign sign
   pub number : IsDecimal decimal thousandths
-  pub value : milli ≡ held (neg_ℤ (pos 1000000000)) (pos 1000000000) (signed sign thousandths)
+  pub value : milli ≡ held (neg_ℤ (pos max_held)) (pos max_held) (signed sign thousandths)
 
 -- Blanks, a sign or none, digits and blanks: a whole number of 31 bits under its sign.
 pub record IsWholeNumber (bytes : List ℕ) (whole : ℤ) : Type 0 where
@@ -82,7 +84,7 @@ pub record IsWholeNumber (bytes : List ℕ) (whole : ℤ) : Type 0 where
   pub all_digits : AllPass is_decimal digits
   pub some_digit : 0 < length digits
   pub blanks_after : AllPass is_blank after
-  pub small : number_of 10 digits ≤ 2147483647
+  pub small : number_of 10 digits ≤ max_whole
   pub value : whole ≡ signed sign (number_of 10 digits)
 
 -- Marks and hexadecimal digits: their low `width` bits.
@@ -115,7 +117,7 @@ pub record IsWrapped (bytes : List ℕ) (low : ℕ) : Type 0 where
 
 -- whether a text begins with `&H` or `&h`
 abbrev pub is_hex_start : List ℕ → Bool
-is_hex_start (first ∷ (second ∷ _)) = (first == 38) && ((second == 72) || (second == 104))
+is_hex_start (first ∷ (second ∷ _)) = (first == ampersand) && ((second == upper_h) || (second == lower_h))
 is_hex_start _ = false
 
 -- The colour of a style: behind blanks either a colour that begins with `&H` or `&h`, or a decimal number.

@@ -1,10 +1,12 @@
 //! Colours and alphas as scripts write them.
 
 ghost use Rattle.std.specs.Prelude.{◌≡◌, ℕ, IfSome, IfNone};
+ghost use Rattle.ass_num.specs.Colours.{colour_of};
 ghost use Rattle.ass_num.specs.Fronts.{IsLongestFront, BeginsWith, HasNoFront};
 ghost use Rattle.ass_num.specs.Numerals.{IsColour, IsAlpha, IsWrapped, IsStyleColour, is_hex_start};
 
-use crate::digits::{blanks, low_digits, marks, sign};
+use crate::Rgba;
+use crate::digits::{blanks_before, low_digits, marks, sign};
 
 /// The longest front that is a colour, with its length.
 fn colour_front(text: &[u8]) -> Option<(u32, usize)>
@@ -17,6 +19,18 @@ fn colour_front(text: &[u8]) -> Option<(u32, usize)>
         None
     } else {
         Some((number, before + digits))
+    }
+}
+
+/// The colour of a number: alpha, blue, green and red from the highest byte down.
+pub fn colour_of(number: u32) -> Rgba
+    ensures { result ≡ colour_of number }
+{
+    Rgba {
+        r: (number % 256) as u8,
+        g: (number / 256 % 256) as u8,
+        b: (number / 65_536 % 256) as u8,
+        a: (number / 16_777_216 % 256) as u8,
     }
 }
 
@@ -41,7 +55,7 @@ fn wrapped_front(text: &[u8]) -> Option<(u32, usize)>
     Some((low, len + digits))
 }
 
-/// The colour at the front of a text: any of `&`, `H`, `h` and blanks, then hexadecimal digits.
+/// The colour at the front of a text: any of `&`, `H`, `h` and blanks_before, then hexadecimal digits.
 /// The bytes from the top are alpha, blue, green and red; of longer numbers the low 32 bits count.
 pub fn read_colour(text: &[u8]) -> Option<u32>
     ensures some { IfSome result (BeginsWith IsColour text.now) }
@@ -66,7 +80,7 @@ pub fn read_style_colour(text: &[u8]) -> Option<u32>
     ensures some { IfSome result (BeginsWith IsStyleColour text.now) }
     ensures none { IfNone result (HasNoFront IsStyleColour text.now) }
 {
-    let code = &text[blanks(text)..];
+    let code = &text[blanks_before(text)..];
     let (colour, _len) = if is_hex_start(code) {
         colour_front(code)?
     } else {

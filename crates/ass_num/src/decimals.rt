@@ -1,24 +1,26 @@
 //! Decimal numbers: thousandths at the front of a text, and whole numbers.
 
-ghost use Rattle.std.specs.Prelude.{ℤ, ◌≤◌, IfSome, IfNone};
+ghost use Rattle.std.specs.Prelude.{◌≡◌, ◌≤◌, IfSome, IfNone};
 ghost use Rattle.ass_num.specs.Fronts.{IsLongestFront, HasNoFront};
-ghost use Rattle.ass_num.specs.Numerals.{IsHeldDecimal, IsMilli, IsWholeNumber};
+ghost use Rattle.ass_num.specs.Limits.{IsWithin, max_whole};
+ghost use Rattle.ass_num.specs.Numerals.{IsHeldDecimal, IsMilli};
+ghost use Rattle.ass_num.specs.Wholes.{whole_of};
 
 use crate::Milli;
-use crate::digits::{blanks, decimal_digits, fraction_digits, sign};
+use crate::digits::{blanks_before, decimal_digits, fraction_digits, sign};
 
 /// The greatest value that is read, in thousandths.
-const MOST: u64 = 1_000_000_000;
+const MAX_HELD: u64 = 1_000_000_000;
 
 /// The greatest whole number that is read.
-const MOST_WHOLE: u64 = 2_147_483_647;
+const MAX_WHOLE: u64 = 2_147_483_647;
 
-/// The longest front that is a number without a sign: its thousandths, or `MOST` if that is less,
+/// The longest front that is a number without a sign: its thousandths, or `MAX_HELD` if that is less,
 /// and its length.
 fn read_decimal(text: &[u8]) -> Option<(u64, usize)>
     ensures some { IfSome result (λ read. IsLongestFront IsHeldDecimal text.now read.0 read.1) }
     ensures none { IfNone result (HasNoFront IsHeldDecimal text.now) }
-    ensures held { IfSome result (λ read. read.0 ≤ MOST) }
+    ensures held { IfSome result (λ read. read.0 ≤ MAX_HELD) }
 {
     let (whole, digits) = decimal_digits(text);
     if digits < text.len() && text[digits] == b'.' {
@@ -26,11 +28,11 @@ fn read_decimal(text: &[u8]) -> Option<(u64, usize)>
         if digits + more == 0 {
             return None;
         }
-        Some(((whole * 1_000 + fraction).min(MOST), digits + 1 + more))
+        Some(((whole * 1_000 + fraction).min(MAX_HELD), digits + 1 + more))
     } else if digits == 0 {
         None
     } else {
-        Some(((whole * 1_000).min(MOST), digits))
+        Some(((whole * 1_000).min(MAX_HELD), digits))
     }
 }
 
@@ -46,17 +48,17 @@ pub fn read_milli(text: &[u8]) -> Option<(Milli, usize)>
     Some((if minus { -value } else { value }, len + digits))
 }
 
-/// A whole number within 2,147,483,647 on both sides that is all of a text but blanks.
+/// The whole number that a text is between blanks, within 2,147,483,647 on both sides.
 pub fn read_whole(text: &[u8]) -> Option<i32>
-    ensures some { IfSome result (IsWholeNumber text.now) }
-    ensures none { IfNone result ((whole : ℤ) → IsWholeNumber text.now whole → ⊥) }
+    ensures value { result ≡ whole_of text.now }
+    ensures range { IfSome result (IsWithin max_whole) }
 {
-    let before = blanks(text);
+    let before = blanks_before(text);
     let (minus, len) = sign(&text[before..]);
     let start = before + len;
     let (number, digits) = decimal_digits(&text[start..]);
     let end = start + digits;
-    if digits == 0 || number > MOST_WHOLE || end + blanks(&text[end..]) < text.len() {
+    if digits == 0 || number > MAX_WHOLE || end + blanks_before(&text[end..]) < text.len() {
         return None;
     }
     let whole = number as i32;

@@ -8,14 +8,15 @@ ghost use Rattle.ass_num.specs.Numerals.{is_blank, is_decimal, is_mark, number_o
 /// At this value a number of decimal digits stays as further digits are read.
 pub const MANY: u64 = 1 << 32;
 
-fn is_blank(byte: u8) -> bool
+/// Whether a byte is a space or a tab.
+pub fn is_blank(byte: u8) -> bool
     ensures { result ≡ is_blank byte }
 {
     byte == b' ' || byte == b'\t'
 }
 
 /// How many blanks stand at the front.
-pub fn blanks(text: &[u8]) -> usize
+pub fn blanks_before(text: &[u8]) -> usize
     ensures count { result ≡ prefix_len is_blank text.now }
     ensures within { result ≤ length text.now }
 {

@@ -3,7 +3,7 @@
 ghost use Rattle.std.specs.Prelude.{◌≡◌, ℕ, ℤ, false, ◌+◌, ◌<◌, ◌≤◌, length, IfSome, IfNone};
 ghost use Rattle.ass_num.specs.Numerals.{is_decimal, IsTimeField, IsTime};
 
-use crate::digits::{blanks, decimal_digits};
+use crate::digits::{blanks_before, decimal_digits};
 
 /// One to six digits and the byte behind them: their number, and the length of all.
 fn time_field(text: &[u8], mark: u8) -> Option<(u64, usize)>
@@ -26,7 +26,7 @@ pub fn read_time(text: &[u8]) -> Option<i64>
     ensures some { IfSome result (IsTime text.now) }
     ensures none { IfNone result ((time : ℤ) → IsTime text.now time → ⊥) }
 {
-    let start = blanks(text);
+    let start = blanks_before(text);
     let (hours, len) = time_field(&text[start..], b':')?;
     let start = start + len;
     let (minutes, len) = time_field(&text[start..], b':')?;
@@ -35,7 +35,7 @@ pub fn read_time(text: &[u8]) -> Option<i64>
     let start = start + len;
     let (hundredths, digits) = decimal_digits(&text[start..]);
     let end = start + digits;
-    if digits == 0 || digits > 6 || end + blanks(&text[end..]) < text.len() {
+    if digits == 0 || digits > 6 || end + blanks_before(&text[end..]) < text.len() {
         return None;
     }
     let seconds = (hours * 60 + minutes) * 60 + seconds;

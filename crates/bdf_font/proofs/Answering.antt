@@ -3,6 +3,7 @@ use Rattle.std.proofs.Common.{◌≡◌, ℕ, ◌+◌, ◌-◌, ◌<◌, ◌==�
 use Rattle.std.proofs.lemmas.List.Concat.{flat_map-append}
 use Rattle.std.proofs.lemmas.Bool.{leb-true, leb-false}
 use Rattle.std.proofs.lemmas.Bool.Decides.{nat_tests}
+use Rattle.bdf_font.specs.Limits.{max_glyphs}
 use Rattle.bdf_font.specs.Words.{after_word}
 use Rattle.bdf_font.specs.Fonts.{FontValue}
 use Rattle.bdf_font.specs.declared.cause.FontCause.{FontCause}
@@ -44,7 +45,7 @@ pub record Fills (front : Front) (line : List ℕ) : Type 0 where
   pub blocks : List Block
   pub is : front ≡ Begun before start blocks Outside
   pub begins : says line ≡ keyword.StartChar
-  pub full : length (glyphs_of blocks) ≡ 131072
+  pub full : length (glyphs_of blocks) ≡ max_glyphs
 
 abbrev pub Stepped : Front → List ℕ → Outcome Reading → Type 0
 Stepped front line (Next next) = Goes front line next
@@ -105,7 +106,7 @@ single_longer before start blocks line is single read =
       state = ap (λ ls. outside_at (header_of ls) (glyphs_of blocks)) (sym same_lines) ∙ ap (λ gs. outside_at (header_of (font_lines (blocks ++ block ∷ []) Outside)) gs) (sym same_glyphs);
     }
 
-glyph_longer : (before : List (List ℕ)) (start : List ℕ) (blocks : List Block) (line : List ℕ) → IsBegun before start blocks Outside → says line ≡ keyword.StartChar → length (glyphs_of blocks) < 131072 →
+glyph_longer : (before : List (List ℕ)) (start : List ℕ) (blocks : List Block) (line : List ℕ) → IsBegun before start blocks Outside → says line ≡ keyword.StartChar → length (glyphs_of blocks) < max_glyphs →
     Goes (Begun before start blocks Outside) line (glyph_at (header_of (font_lines blocks Outside)) (glyphs_of blocks) (draft_of []))
 glyph_longer before start blocks line is begins few = record {
   longer = Begun before start blocks (InGlyph line []);
@@ -114,15 +115,15 @@ glyph_longer before start blocks line is begins few = record {
   state = refl;
 }
 
-glyph_ways : (before : List (List ℕ)) (start : List ℕ) (blocks : List Block) (line : List ℕ) → IsBegun before start blocks Outside → says line ≡ keyword.StartChar → (full : Bool) → nat_le 131072 (length (glyphs_of blocks)) ≡ full →
+glyph_ways : (before : List (List ℕ)) (start : List ℕ) (blocks : List Block) (line : List ℕ) → IsBegun before start blocks Outside → says line ≡ keyword.StartChar → (full : Bool) → nat_le max_glyphs (length (glyphs_of blocks)) ≡ full →
     Stepped (Begun before start blocks Outside) line (reading_after line (state_of (Begun before start blocks Outside)))
 glyph_ways before start blocks line is begins true e =
-    let full : length (glyphs_of blocks) ≡ 131072 = omega (arith, is.room, leb-true 131072 (length (glyphs_of blocks)) e) in
+    let full : length (glyphs_of blocks) ≡ max_glyphs = omega (arith, is.room, leb-true max_glyphs (length (glyphs_of blocks)) e) in
     stepped_to (Begun before start blocks Outside) line (reading_after line (state_of (Begun before start blocks Outside))) Full
     (full_stops (says line) (after_word line) (header_of (font_lines blocks Outside)) (glyphs_of blocks) begins full)
     (record { before = before; start = start; blocks = blocks; is = refl; begins = begins; full = full })
 glyph_ways before start blocks line is begins false e =
-    let few : length (glyphs_of blocks) < 131072 = leb-false 131072 (length (glyphs_of blocks)) e in
+    let few : length (glyphs_of blocks) < max_glyphs = leb-false max_glyphs (length (glyphs_of blocks)) e in
     stepped_to (Begun before start blocks Outside) line (reading_after line (state_of (Begun before start blocks Outside))) (Next (glyph_at (header_of (font_lines blocks Outside)) (glyphs_of blocks) (draft_of [])))
     (glyph_next (says line) (after_word line) (header_of (font_lines blocks Outside)) (glyphs_of blocks) begins few)
     (glyph_longer before start blocks line is begins few)
@@ -130,7 +131,7 @@ glyph_ways before start blocks line is begins false e =
 outside_ways : (before : List (List ℕ)) (start : List ℕ) (blocks : List Block) (line : List ℕ) → IsBegun before start blocks Outside →
     (says line ≡ keyword.StartChar) ⊎ ((says line ≡ keyword.EndFont) ⊎ (((is_single (says line) ≡ true) × (is_read (open_after false (font_lines blocks Outside)) (says line) (after_word line) ≡ true)) ⊎ ((cause : FontCause) × (single_fault (open_after false (font_lines blocks Outside)) (says line) (after_word line) ≡ Some cause)))) →
     Stepped (Begun before start blocks Outside) line (reading_after line (state_of (Begun before start blocks Outside)))
-outside_ways before start blocks line is (inl e) = glyph_ways before start blocks line is e (nat_le 131072 (length (glyphs_of blocks))) refl
+outside_ways before start blocks line is (inl e) = glyph_ways before start blocks line is e (nat_le max_glyphs (length (glyphs_of blocks))) refl
 outside_ways before start blocks line is (inr (inl e)) =
     let here = state_of (Begun before start blocks Outside) in
     stepped_to (Begun before start blocks Outside) line (reading_after line here) (End here) (ap (λ k. font_step k (after_word line) here) e)

@@ -1,5 +1,6 @@
 -- Which line the walk refuses, and what the lines around it change.
 use Rattle.std.proofs.Common.{◌≡◌, ℕ, ◌+◌, ◌≤◌, List, [], ◌∷◌, ◌++◌, length, Ok, Err, Result, refl, ap, sym, ◌∙◌, arith}
+use Rattle.bdf_font.specs.Limits.{max_glyphs}
 use Rattle.bdf_font.specs.declared.cause.FontCause.{FontCause}
 use Rattle.bdf_font.specs.declared.cause.FontCause.TheVariants.{NoEnd}
 use Rattle.bdf_font.specs.declared.cause.FontRefusal.{FontRefusal}
@@ -37,7 +38,7 @@ at_least (line ∷ lines) start reading n c h = cases (λ next h. at_least lines
     cases again (Next next) e = omega (arith, again next (sym (read_at start line lines reading (Next next) e) ∙ h))
     cases again (End last) e = absurd (no_font (font_made last.header last.glyphs) n c (sym (read_at start line lines reading (End last) e) ∙ h))
     cases again (Fault d) e = omega (arith, same_line start n d c (sym (read_at start line lines reading (Fault d) e) ∙ h))
-    cases again Full e = absurd (not_full 131072 n c (sym (read_at start line lines reading Full e) ∙ h))
+    cases again Full e = absurd (not_full max_glyphs n c (sym (read_at start line lines reading Full e) ∙ h))
 
 pub before_fault : (front rest : List (List ℕ)) (start : ℕ) (reading : Reading) (n : ℕ) (c : FontCause) → lines_read start (front ++ rest) reading ≡ bad n c → n ≡ start + length front → lines_read start front reading ≡ bad n NoEnd
 before_fault [] rest start reading n c h at = read_none start reading ∙ ap (λ k. bad k NoEnd) (omega arith)
@@ -49,7 +50,7 @@ before_fault (line ∷ front) rest start reading n c h at = cases (λ next h. be
         ∙ again next (sym (read_at start line (front ++ rest) reading (Next next) e) ∙ h)
     cases again (End last) e = absurd (no_font (font_made last.header last.glyphs) n c (sym (read_at start line (front ++ rest) reading (End last) e) ∙ h))
     cases again (Fault d) e = absurd (omega (arith, same_line start n d c (sym (read_at start line (front ++ rest) reading (Fault d) e) ∙ h)))
-    cases again Full e = absurd (not_full 131072 n c (sym (read_at start line (front ++ rest) reading Full e) ∙ h))
+    cases again Full e = absurd (not_full max_glyphs n c (sym (read_at start line (front ++ rest) reading Full e) ∙ h))
 
 pub stays_refused : (front : List (List ℕ)) (line : List ℕ) (rest more : List (List ℕ)) (start : ℕ) (reading : Reading) (n : ℕ) (c : FontCause) →
     lines_read start (front ++ line ∷ rest) reading ≡ bad n c → n ≡ start + length front → lines_read start (front ++ line ∷ more) reading ≡ bad n c
@@ -59,7 +60,7 @@ stays_refused [] line rest more start reading n c h at = cases (reading_after li
     cases (Next next) e = absurd (omega (arith, at_least rest (start + 1) next n c (sym (read_at start line rest reading (Next next) e) ∙ h)))
     cases (End last) e = absurd (no_font (font_made last.header last.glyphs) n c (sym (read_at start line rest reading (End last) e) ∙ h))
     cases (Fault d) e = read_at start line more reading (Fault d) e ∙ (sym (read_at start line rest reading (Fault d) e) ∙ h)
-    cases Full e = absurd (not_full 131072 n c (sym (read_at start line rest reading Full e) ∙ h))
+    cases Full e = absurd (not_full max_glyphs n c (sym (read_at start line rest reading Full e) ∙ h))
 stays_refused (first ∷ front) line rest more start reading n c h at = cases (λ next h. stays_refused front line rest more (start + 1) next n c h (omega arith)) (reading_after first reading) refl
   where
     cases : ((next : Reading) → lines_read (start + 1) (front ++ line ∷ rest) next ≡ bad n c → lines_read (start + 1) (front ++ line ∷ more) next ≡ bad n c) → (outcome : Outcome Reading) → reading_after first reading ≡ outcome → lines_read start (first ∷ (front ++ line ∷ more)) reading ≡ bad n c
@@ -68,4 +69,4 @@ stays_refused (first ∷ front) line rest more start reading n c h at = cases (�
         ∙ again next (sym (read_at start first (front ++ line ∷ rest) reading (Next next) e) ∙ h)
     cases again (End last) e = absurd (no_font (font_made last.header last.glyphs) n c (sym (read_at start first (front ++ line ∷ rest) reading (End last) e) ∙ h))
     cases again (Fault d) e = absurd (omega (arith, same_line start n d c (sym (read_at start first (front ++ line ∷ rest) reading (Fault d) e) ∙ h)))
-    cases again Full e = absurd (not_full 131072 n c (sym (read_at start first (front ++ line ∷ rest) reading Full e) ∙ h))
+    cases again Full e = absurd (not_full max_glyphs n c (sym (read_at start first (front ++ line ∷ rest) reading Full e) ∙ h))

@@ -1,6 +1,7 @@
 -- The reader comes through the front of a text to what was read behind it.
 use Rattle.std.proofs.Common.{◌≡◌, ℕ, ◌+◌, ◌-◌, ◌<◌, ◌≤◌, List, [], ◌∷◌, ◌++◌, length, flat_map, Bool, false, Some, refl, ap, ◌∙◌, subst, arith, append-nil, append_assoc, length-append}
 use Rattle.std.specs.List.{AllByRecursion}
+use Rattle.bdf_font.specs.Limits.{max_glyphs}
 use Rattle.bdf_font.specs.Words.{after_word}
 use Rattle.bdf_font.specs.declared.cause.FontCause.{FontCause}
 use Rattle.bdf_font.specs.declared.glyphs.FontGlyph.{FontGlyph}
@@ -81,7 +82,7 @@ reach_rows (x ∷ xs) h glyphs d cell rows all room =
     reach_to (x ∷ xs) (bitmap_at h glyphs d cell (cell.h - length rows) rows) there (bitmap_at h glyphs d cell (cell.h - length (rows ++ x ∷ xs)) (rows ++ x ∷ xs)) same
     (reach_more x xs (bitmap_at h glyphs d cell (cell.h - length rows) rows) (bitmap_at h glyphs d cell (cell.h - length (rows ++ x ∷ [])) (rows ++ x ∷ [])) there (row_step x h glyphs d cell rows (omega arith) all.0) rest)
 
-reach_begun : (start : List ℕ) (head lines : List (List ℕ)) (glyphs : List FontGlyph) → IsOpen (InGlyph start head) → AllRead (open_after false lines) head → length glyphs < 131072 →
+reach_begun : (start : List ℕ) (head lines : List (List ℕ)) (glyphs : List FontGlyph) → IsOpen (InGlyph start head) → AllRead (open_after false lines) head → length glyphs < max_glyphs →
     Reaches (start ∷ head) (outside_at (header_of lines) glyphs) (glyph_at (header_of (lines ++ head)) glyphs (draft_of head))
 reach_begun start head lines glyphs is numbers room =
     reach_more start head (outside_at (header_of lines) glyphs) (glyph_at (header_of lines) glyphs (draft_of [])) (glyph_at (header_of (lines ++ head)) glyphs (draft_of head))
@@ -89,7 +90,7 @@ reach_begun start head lines glyphs is numbers room =
     (reach_head head lines [] glyphs is.1 numbers)
 
 -- what is begun, behind these lines and glyphs
-reach_part : (part : Open) (lines : List (List ℕ)) (glyphs : List FontGlyph) → IsOpen part → AllRead (open_after false lines) (head_of part) → length glyphs + begun_in part ≤ 131072 →
+reach_part : (part : Open) (lines : List (List ℕ)) (glyphs : List FontGlyph) → IsOpen part → AllRead (open_after false lines) (head_of part) → length glyphs + begun_in part ≤ max_glyphs →
     Reaches (open_lines part) (outside_at (header_of lines) glyphs) (state_in (lines ++ head_of part) glyphs part)
 reach_part Outside lines glyphs is numbers room =
     let here = outside_at (header_of lines) glyphs in
@@ -103,7 +104,7 @@ reach_part (InBitmap start head bitmap rows) lines glyphs is numbers room =
     (bitmap_step bitmap (lines ++ head) head glyphs is.2 is.3 ∙ ap (λ n. Next (bitmap_at (header_of (lines ++ head)) glyphs (draft_of head) (cell_of head) n [])) (omega arith))
     (reach_rows rows (header_of (lines ++ head)) glyphs (draft_of head) (cell_of head) [] is.4 (omega (arith, is.5))))
 
-reach_block : (block : Block) (lines : List (List ℕ)) (glyphs : List FontGlyph) → IsBlock block → AllRead (open_after false lines) (font_lines_in block) → length glyphs + length (glyphs_in block) ≤ 131072 →
+reach_block : (block : Block) (lines : List (List ℕ)) (glyphs : List FontGlyph) → IsBlock block → AllRead (open_after false lines) (font_lines_in block) → length glyphs + length (glyphs_in block) ≤ max_glyphs →
     Reaches (lines_in block) (outside_at (header_of lines) glyphs) (outside_at (header_of (lines ++ font_lines_in block)) (glyphs ++ glyphs_in block))
 reach_block (Single line) lines glyphs is numbers room =
     let there = outside_at (header_of (lines ++ line ∷ [])) glyphs in
@@ -117,7 +118,7 @@ reach_block (Glyph g) lines glyphs is numbers room =
     (reach_one g.end middle (outside_at (header_of (lines ++ g.head)) (glyphs ++ glyphs_in (Glyph g)))
     (end_next g.end (header_of (lines ++ g.head)) glyphs g.head ((cell_of g.head).h - length g.rows) g.rows (omega (arith, is.high)) is.end))
 
-reach_blocks : (blocks : List Block) (lines : List (List ℕ)) (glyphs : List FontGlyph) → AllByRecursion IsBlock blocks → AllRead (open_after false lines) (flat_map font_lines_in blocks) → length glyphs + length (glyphs_of blocks) ≤ 131072 →
+reach_blocks : (blocks : List Block) (lines : List (List ℕ)) (glyphs : List FontGlyph) → AllByRecursion IsBlock blocks → AllRead (open_after false lines) (flat_map font_lines_in blocks) → length glyphs + length (glyphs_of blocks) ≤ max_glyphs →
     Reaches (flat_map lines_in blocks) (outside_at (header_of lines) glyphs) (outside_at (header_of (lines ++ flat_map font_lines_in blocks)) (glyphs ++ glyphs_of blocks))
 reach_blocks [] lines glyphs all numbers room =
     let here = outside_at (header_of lines) glyphs in

@@ -3,7 +3,7 @@ use Rattle.std.proofs.Common.{◌≡◌, ℕ, List, [], ◌∷◌, ◌++◌, Boo
 use Rattle.std.specs.Option.{option_or}
 use Rattle.std.specs.List.{AllByRecursion}
 use Rattle.bdf_font.specs.Words.{first_word, after_word, offset_of, bounding_box_of}
-use Rattle.bdf_font.specs.Whole.{whole_of}
+use Rattle.ass_num.specs.Wholes.{whole_of}
 use Rattle.bdf_font.specs.declared.header.Header.{Header}
 use Rattle.bdf_font.specs.declared.reading.Draft.{Draft}
 use Rattle.bdf_font.specs.declared.cause.FontCause.TheVariants.{BadNumber}

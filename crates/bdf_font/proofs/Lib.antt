@@ -7,4 +7,3 @@ pub mod PlaceLemmas
 pub mod ReadLemmas
 pub mod States
 pub mod Walk
-pub mod WholeLemmas

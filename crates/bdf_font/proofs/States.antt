@@ -9,6 +9,7 @@ use Rattle.hex.specs.Hex.{is_hex_digit, decode_sized}
 use Rattle.hex.specs.declared.error.FromHexError.{FromHexError}
 use Rattle.hex.proofs.HexLemmas.{IsOk-decode_sized}
 use Rattle.blanks.specs.Blanks.{trimmed}
+use Rattle.bdf_font.specs.Limits.{max_glyphs}
 use Rattle.bdf_font.specs.Words.{first_word, after_word}
 use Rattle.bdf_font.specs.Keywords.{keyword_of}
 use Rattle.bdf_font.specs.declared.cause.FontCause.{FontCause}
@@ -96,15 +97,15 @@ single_next (keyword.Glyph kind) rest h glyphs s r = absurd cc
 single_next (keyword.Header kind) rest h glyphs s r = ap (outcome_map (λ header. outside_at header glyphs)) (header_read kind rest h r)
 single_next keyword.Unknown rest h glyphs s r = refl
 
-pub glyph_next : (kind : Keyword) (rest : List ℕ) (h : Header) (glyphs : List FontGlyph) → kind ≡ keyword.StartChar → length glyphs < 131072 → font_step kind rest (outside_at h glyphs) ≡ Next (glyph_at h glyphs no_glyph)
+pub glyph_next : (kind : Keyword) (rest : List ℕ) (h : Header) (glyphs : List FontGlyph) → kind ≡ keyword.StartChar → length glyphs < max_glyphs → font_step kind rest (outside_at h glyphs) ≡ Next (glyph_at h glyphs no_glyph)
 glyph_next kind rest h glyphs e few =
     ap (λ k. font_step k rest (outside_at h glyphs)) e
-    ∙ ap (λ b. cond b Full (Next (glyph_at h glyphs no_glyph))) (lt-leb 131072 (length glyphs) few)
+    ∙ ap (λ b. cond b Full (Next (glyph_at h glyphs no_glyph))) (lt-leb max_glyphs (length glyphs) few)
 
-pub full_stops : (kind : Keyword) (rest : List ℕ) (h : Header) (glyphs : List FontGlyph) → kind ≡ keyword.StartChar → length glyphs ≡ 131072 → font_step kind rest (outside_at h glyphs) ≡ Full
+pub full_stops : (kind : Keyword) (rest : List ℕ) (h : Header) (glyphs : List FontGlyph) → kind ≡ keyword.StartChar → length glyphs ≡ max_glyphs → font_step kind rest (outside_at h glyphs) ≡ Full
 full_stops kind rest h glyphs e full =
     ap (λ k. font_step k rest (outside_at h glyphs)) e
-    ∙ ap (λ n. cond (leb 131072 n) Full (Next (glyph_at h glyphs no_glyph))) full
+    ∙ ap (λ n. cond (leb max_glyphs n) Full (Next (glyph_at h glyphs no_glyph))) full
 
 pub font_stops : (kind : Keyword) (rest : List ℕ) (h : Header) (glyphs : List FontGlyph) (cause : FontCause) → single_fault h.properties kind rest ≡ Some cause → font_step kind rest (outside_at h glyphs) ≡ Fault cause
 font_stops keyword.StartFont rest h glyphs cause f = absurd cc

@@ -1,5 +1,6 @@
 -- The reader's walk over the lines as a whole: one step a line.
 use Rattle.std.proofs.Common.{◌≡◌, ℕ, ◌+◌, List, [], ◌∷◌, Ok, Err, Result, refl, ap, ◌∙◌}
+use Rattle.bdf_font.specs.Limits.{max_glyphs}
 use Rattle.bdf_font.specs.declared.cause.FontCause.TheVariants.{NoEnd}
 use Rattle.bdf_font.specs.declared.cause.FontRefusal.{FontRefusal}
 use Rattle.bdf_font.specs.declared.cause.FontRefusal.TheVariants.{BadFont, TooLarge}
@@ -16,7 +17,7 @@ lines_read n (line ∷ lines) reading =
       | Next next ↦ lines_read (n + 1) lines next
       | End last ↦ Ok (font_made last.header last.glyphs)
       | Fault cause ↦ Err (BadFont n cause)
-      | Full ↦ Err (TooLarge 131072)
+      | Full ↦ Err (TooLarge max_glyphs)
     ]
 
 -- what follows from a line's outcome
@@ -24,13 +25,13 @@ abbrev pub after_line : ℕ → List (List ℕ) → Outcome Reading → Result F
 after_line n lines (Next next) = lines_read (n + 1) lines next
 after_line n lines (End last) = Ok (font_made last.header last.glyphs)
 after_line n lines (Fault cause) = Err (BadFont n cause)
-after_line n lines Full = Err (TooLarge 131072)
+after_line n lines Full = Err (TooLarge max_glyphs)
 
 pub read_line : (n : ℕ) (line : List ℕ) (lines : List (List ℕ)) (reading : Reading) → lines_read n (line ∷ lines) reading ≡ after_line n lines (reading_after line reading)
 unfolding lines_read
 read_line n line lines reading = cases (reading_after line reading)
   where
-    cases : (outcome : Outcome Reading) → elim outcome [ Next next ↦ lines_read (n + 1) lines next | End last ↦ Ok (font_made last.header last.glyphs) | Fault cause ↦ Err (BadFont n cause) | Full ↦ Err (TooLarge 131072) ] ≡ after_line n lines outcome
+    cases : (outcome : Outcome Reading) → elim outcome [ Next next ↦ lines_read (n + 1) lines next | End last ↦ Ok (font_made last.header last.glyphs) | Fault cause ↦ Err (BadFont n cause) | Full ↦ Err (TooLarge max_glyphs) ] ≡ after_line n lines outcome
     cases (Next next) = refl
     cases (End last) = refl
     cases (Fault cause) = refl

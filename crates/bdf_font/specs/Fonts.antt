@@ -4,6 +4,7 @@ use Rattle.std.specs.Option.{option_or}
 use Rattle.std.specs.Ordering.{int_eq}
 use Rattle.std.specs.Str.{bytes_eq}
 use Rattle.std.specs.Char.{to_ascii_lowercase}
+use Rattle.ass_num.specs.Names.{same_name}
 use Rattle.bdf_font.specs.declared.glyphs.FontGlyph.{FontGlyph}
 
 -- A font as contracts see it.
@@ -30,10 +31,6 @@ place_of_default default_char glyphs = option_and_then (place_of glyphs) default
 -- the glyph of a character: the first with its code, or else the first with the default code
 abbrev pub glyph_of : FontValue → ℕ → Option ℕ
 glyph_of font c = option_or (place_of font.glyphs (pos c)) (place_of_default font.default_char font.glyphs)
-
--- two names are one without regard to ASCII case
-abbrev pub same_name : List ℕ → List ℕ → Bool
-same_name a b = bytes_eq (map to_ascii_lowercase a) (map to_ascii_lowercase b)
 
 -- the place of the first font of this name, where the first of the fonts has the place n; 0 where there is none
 abbrev pub named_from : ℕ → List ℕ → List FontValue → ℕ

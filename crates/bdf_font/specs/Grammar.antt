@@ -5,8 +5,9 @@ use Rattle.std.specs.Option.{option_or}
 use Rattle.hex.specs.Hex.{is_hex_digit, decode_sized}
 use Rattle.hex.specs.declared.error.FromHexError.{FromHexError}
 use Rattle.blanks.specs.Blanks.{trimmed}
+use Rattle.bdf_font.specs.Limits.{max_glyphs}
 use Rattle.bdf_font.specs.Words.{first_word, after_word, offset_of, bounding_box_of, family_name_of}
-use Rattle.bdf_font.specs.Whole.{whole_of}
+use Rattle.ass_num.specs.Wholes.{whole_of}
 use Rattle.bdf_font.specs.Keywords.{keyword_of}
 use Rattle.bdf_font.specs.Fonts.{FontValue}
 use Rattle.bdf_font.specs.declared.cause.FontCause.{FontCause}
@@ -295,7 +296,7 @@ pub record IsBegun (before : List (List ℕ)) (start : List ℕ) (blocks : List 
   pub whole : AllByRecursion IsBlock blocks
   pub begun : IsOpen part
   pub numbers : AllRead false (font_lines blocks part)
-  pub room : length (glyphs_of blocks) + begun_in part ≤ 131072
+  pub room : length (glyphs_of blocks) + begun_in part ≤ max_glyphs
 
 abbrev pub IsSoundFront : Front → Type 0
 IsSoundFront (Unbegun before) = ArePassed before
@@ -379,12 +380,12 @@ pub record HasTooMany (lines : List (List ℕ)) : Type 0 where
   pub after : List (List ℕ)
   pub spelled : lines ≡ front_lines (Begun before start blocks Outside) ++ line ∷ after
   pub sound : IsBegun before start blocks Outside
-  pub full : length (glyphs_of blocks) ≡ 131072
+  pub full : length (glyphs_of blocks) ≡ max_glyphs
   pub begins : says line ≡ keyword.StartChar
 
 -- the font that lines spell, the first line that leaves the format and how, or a glyph too many
 abbrev pub IsFontAnswer : List (List ℕ) → Result FontValue FontRefusal → Type 0
 IsFontAnswer lines (Ok font) = IsFontText lines font
 IsFontAnswer lines (Err (BadFont n cause)) = LeavesAt lines n cause ⊎ ((cause ≡ NoEnd) × LacksEnd lines n)
-IsFontAnswer lines (Err (TooLarge most)) = (most ≡ 131072) × HasTooMany lines
+IsFontAnswer lines (Err (TooLarge most)) = (most ≡ max_glyphs) × HasTooMany lines
 IsFontAnswer lines (Err refusal.OutOfMemory) = ⊥

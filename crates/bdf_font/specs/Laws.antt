@@ -1,6 +1,5 @@
 -- What holds of every text, in the words of its lines.
 use Rattle.std.specs.Prelude.{◌≡◌, ℕ, ◌+◌, ◌↔◌, true, false, List, ◌∷◌, ◌++◌, length, Some, Result, Ok, Err, ℤ}
-use Rattle.ass_num.specs.Numerals.{IsWholeNumber}
 use Rattle.bdf_font.specs.declared.cause.FontCause.{FontCause}
 use Rattle.bdf_font.specs.declared.cause.FontCause.TheVariants.{NoEnd}
 use Rattle.bdf_font.specs.declared.cause.FontRefusal.{FontRefusal}
@@ -11,7 +10,6 @@ use Rattle.bdf_font.specs.declared.keyword.GlyphKeyword.{GlyphKeyword}
 use Rattle.bdf_font.specs.declared.keyword.HeaderKeyword.TheVariants as in_header
 use Rattle.bdf_font.specs.declared.keyword.PropertyKeyword.{PropertyKeyword}
 use Rattle.bdf_font.specs.Words.{after_word}
-use Rattle.bdf_font.specs.Whole.{whole_of}
 use Rattle.bdf_font.specs.Fonts.{FontValue}
 use Rattle.bdf_font.specs.Grammar.{IsFontAnswer, says, is_read, open_after, glyph_in, font_said}
 
@@ -52,7 +50,3 @@ LaterPropertyCounts = (kind : PropertyKeyword) (front : List (List ℕ)) (earlie
     says earlier ≡ keyword.Header (in_header.Property kind) → says later ≡ keyword.Header (in_header.Property kind) →
     open_after false (front ++ earlier ∷ mid) ≡ true → is_read true (keyword.Header (in_header.Property kind)) (after_word later) ≡ true →
     font_said (front ++ earlier ∷ mid ++ later ∷ back) glyphs ≡ font_said (front ++ mid ++ later ∷ back) glyphs
-
--- The numbers are the whole numbers of scripts.
-abbrev pub NumbersAreWhole : Type 0
-NumbersAreWhole = (text : List ℕ) (n : ℤ) → (whole_of text ≡ Some n) ↔ IsWholeNumber text n

@@ -1,5 +1,5 @@
 pub mod Lines
-pub mod Whole
+pub mod Limits
 pub mod Words
 pub mod Keywords
 pub mod Fonts

@@ -1,5 +1,7 @@
 -- The ranges of what a font holds.
 use Rattle.std.specs.Prelude.{◌≡◌, ℕ, ◌+◌, ◌*◌, ◌/◌, ◌<◌, ◌≤◌, length, All, IfSome, Result, Ok, Err, ℤ, pos, neg_ℤ, ◌≤ℤ◌}
+use Rattle.ass_num.specs.Limits.{IsWithin}
+use Rattle.bdf_font.specs.Limits.{max_ascent, max_bitmap_side, max_glyphs, max_offset}
 use Rattle.bdf_font.specs.declared.cause.Stop.{Stop}
 use Rattle.bdf_font.specs.declared.cause.Stop.TheVariants as stop
 use Rattle.bdf_font.specs.declared.glyphs.FontGlyph.{FontGlyph}
@@ -13,30 +15,30 @@ use Rattle.bdf_font.specs.Fonts.{FontValue}
 
 -- within 4,096 on both sides
 abbrev pub IsOffset : ℤ → Type 0
-IsOffset z = (neg_ℤ (pos 4096) ≤ℤ z) × (z ≤ℤ pos 4096)
+IsOffset z = IsWithin max_offset z
 
 pub record IsBox (cell : BoundingBox) : Type 0 where
-  pub w : cell.w ≤ 1024
-  pub h : cell.h ≤ 1024
+  pub w : cell.w ≤ max_bitmap_side
+  pub h : cell.h ≤ max_bitmap_side
   pub x : IsOffset cell.x
   pub y : IsOffset cell.y
 
 -- A glyph that a font may have: its bitmap has a row of whole bytes for each line of pixels.
 pub record IsGlyph (glyph : FontGlyph) : Type 0 where
   pub advance : IsOffset glyph.advance
-  pub w : glyph.w ≤ 1024
-  pub h : glyph.h ≤ 1024
+  pub w : glyph.w ≤ max_bitmap_side
+  pub h : glyph.h ≤ max_bitmap_side
   pub x : IsOffset glyph.x
   pub y : IsOffset glyph.y
   pub rows : length glyph.bits ≡ glyph.h * ((glyph.w + 7) / 8)
 
 pub record IsFont (font : FontValue) : Type 0 where
   pub ascent : pos 0 ≤ℤ font.ascent
-  pub ascent_most : font.ascent ≤ℤ pos 5120
+  pub ascent_most : font.ascent ≤ℤ pos max_ascent
   pub descent : pos 0 ≤ℤ font.descent
-  pub descent_most : font.descent ≤ℤ pos 4096
+  pub descent_most : font.descent ≤ℤ pos max_offset
   pub glyphs : All IsGlyph font.glyphs
-  pub few : length font.glyphs ≤ 131072
+  pub few : length font.glyphs ≤ max_glyphs
 
 -- ---- while a font is read
 
@@ -51,10 +53,10 @@ pub record IsDraft (draft : Draft) : Type 0 where
 
 -- so many glyphs and bytes of a bitmap there may be at a place
 abbrev pub IsReadingPlace : Place → ℕ → ℕ → Type 0
-IsReadingPlace place.Start glyphs bytes = glyphs ≤ 131072
-IsReadingPlace place.Font glyphs bytes = glyphs ≤ 131072
-IsReadingPlace place.Glyph glyphs bytes = glyphs < 131072
-IsReadingPlace (place.Bitmap cell left) glyphs bytes = (glyphs < 131072) × IsBox cell × (bytes + left * ((cell.w + 7) / 8) ≡ cell.h * ((cell.w + 7) / 8))
+IsReadingPlace place.Start glyphs bytes = glyphs ≤ max_glyphs
+IsReadingPlace place.Font glyphs bytes = glyphs ≤ max_glyphs
+IsReadingPlace place.Glyph glyphs bytes = glyphs < max_glyphs
+IsReadingPlace (place.Bitmap cell left) glyphs bytes = (glyphs < max_glyphs) × IsBox cell × (bytes + left * ((cell.w + 7) / 8) ≡ cell.h * ((cell.w + 7) / 8))
 
 pub record IsFontReading (reading : Reading) : Type 0 where
   pub header : IsFontHeader reading.header

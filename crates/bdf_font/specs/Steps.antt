@@ -3,8 +3,9 @@ use Rattle.std.specs.Prelude.{◌≡◌, ℕ, ◌+◌, ◌-◌, ◌/◌, ◌==�
 use Rattle.hex.specs.Hex.{decode_sized}
 use Rattle.hex.specs.declared.error.FromHexError.{FromHexError}
 use Rattle.blanks.specs.Blanks.{trimmed}
+use Rattle.bdf_font.specs.Limits.{max_glyphs}
 use Rattle.bdf_font.specs.Words.{first_word, after_word, offset_of, bounding_box_of, family_name_of}
-use Rattle.bdf_font.specs.Whole.{whole_of}
+use Rattle.ass_num.specs.Wholes.{whole_of}
 use Rattle.bdf_font.specs.Keywords.{keyword_of}
 use Rattle.bdf_font.specs.Fonts.{FontValue}
 use Rattle.bdf_font.specs.Grammar.{from_zero, box_top, box_depth}
@@ -93,7 +94,7 @@ first_line _ reading = Fault NoStart
 abbrev pub font_step : Keyword → List ℕ → Reading → Outcome Reading
 font_step keyword.StartFont rest reading = Next reading
 font_step keyword.EndFont rest reading = End reading
-font_step keyword.StartChar rest reading = if nat_le 131072 (length reading.glyphs) then Full else Next (record reading { place = place.Glyph })
+font_step keyword.StartChar rest reading = if nat_le max_glyphs (length reading.glyphs) then Full else Next (record reading { place = place.Glyph })
 font_step (keyword.Glyph _) rest reading = Fault Misplaced
 font_step (keyword.Header keyword) rest reading = outcome_map (λ header. record reading { header = header }) (header_step keyword rest reading.header)
 font_step keyword.Unknown rest reading = Next reading
@@ -154,5 +155,5 @@ font_made header glyphs = record {
 abbrev pub Answered : ℕ → Stop → Reading → Result FontValue FontRefusal → Type 0
 Answered n stop.End reading result = (result ≡ Ok (font_made reading.header reading.glyphs)) ⊎ (result ≡ Err refusal.OutOfMemory)
 Answered n (stop.Fault cause) reading result = result ≡ Err (BadFont n cause)
-Answered n stop.Full reading result = result ≡ Err (TooLarge 131072)
+Answered n stop.Full reading result = result ≡ Err (TooLarge max_glyphs)
 Answered n stop.OutOfMemory reading result = result ≡ Err refusal.OutOfMemory

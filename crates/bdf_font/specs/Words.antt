@@ -1,9 +1,11 @@
 -- Words, numbers and names in a line.
 use Rattle.std.specs.Prelude.{ℕ, Bool, ◌&&◌, ◌==◌, nat_lt, nat_le, int_le, if◌then◌else◌, List, length, take, drop, slice_index, Option, Some, None, option_and_then, ℤ, pos, negsuc, neg_ℤ}
 use Rattle.std.specs.List.{position_or_len, before_first}
+use Rattle.ass_num.specs.Bytes.{quote}
 use Rattle.ass_num.specs.Numerals.{is_blank}
 use Rattle.blanks.specs.Blanks.{past_blanks, before_blanks}
-use Rattle.bdf_font.specs.Whole.{whole_of}
+use Rattle.ass_num.specs.Wholes.{whole_of}
+use Rattle.bdf_font.specs.Limits.{max_bitmap_side, max_offset}
 use Rattle.bdf_font.specs.declared.glyphs.BoundingBox.{BoundingBox}
 
 -- the first word, which ends at a blank or with the text; it is empty where there is none
@@ -15,7 +17,7 @@ unfoldable pub after_word : List ℕ → List ℕ
 after_word text = drop (position_or_len is_blank (past_blanks text)) (past_blanks text)
 
 abbrev pub bitmap_side_in : ℤ → Option ℕ
-bitmap_side_in (pos n) = if nat_le n 1024 then Some n else None
+bitmap_side_in (pos n) = if nat_le n max_bitmap_side then Some n else None
 bitmap_side_in (negsuc n) = None
 
 -- a whole number from 0 to 1,024
@@ -23,7 +25,7 @@ unfoldable pub bitmap_side_of : List ℕ → Option ℕ
 bitmap_side_of word = option_and_then bitmap_side_in (whole_of word)
 
 abbrev pub offset_in : ℤ → Option ℤ
-offset_in n = if int_le (neg_ℤ (pos 4096)) n && int_le n (pos 4096) then Some n else None
+offset_in n = if int_le (neg_ℤ (pos max_offset)) n && int_le n (pos max_offset) then Some n else None
 
 -- a whole number within 4,096 on both sides
 unfoldable pub offset_of : List ℕ → Option ℤ
@@ -40,7 +42,7 @@ bounding_box_of text =
     (offset_of (first_word after_x))) (offset_of (first_word after_h))) (bitmap_side_of (first_word after_w))) (bitmap_side_of (first_word text))
 
 abbrev pub is_quote : ℕ → Bool
-is_quote c = c == 34
+is_quote c = c == quote
 
 -- the text up to the next quote, or else all of it but the blanks at its end
 abbrev pub quoted : List ℕ → List ℕ

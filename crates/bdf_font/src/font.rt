@@ -2,7 +2,9 @@
 
 ghost use Rattle.std.specs.Prelude.{◌≡◌, ◌≤◌, length, IfOk};
 ghost use Rattle.std.specs.Option.{option_or};
-ghost use Rattle.bdf_font.specs.Fonts.{glyph_of, same_name, font_named};
+ghost use Rattle.ass_num.specs.Names.{same_name};
+ghost use Rattle.bdf_font.specs.Fonts.{glyph_of, font_named};
+ghost use Rattle.bdf_font.specs.Limits.{max_glyphs, max_fonts};
 ghost use Rattle.bdf_font.specs.Places.{IsInCodeOrder, IsIndex, entries_from, first_at};
 
 use crate::glyphs::FontGlyph;
@@ -39,7 +41,7 @@ impl Model for Font {
 
 /// The code and the place of each glyph.
 fn entries_of(alloc: Global, glyphs: &[FontGlyph]) -> Mem<Vec<(i64, u32)>>
-    requires { length glyphs.now ≤ 131072 }
+    requires { length glyphs.now ≤ max_glyphs }
     ensures { IfOk result (λ entries. entries.items ≡ entries_from 0 glyphs.now) }
 {
     let mut entries = Vec::with_capacity(alloc, glyphs.len())?;
@@ -51,7 +53,7 @@ fn entries_of(alloc: Global, glyphs: &[FontGlyph]) -> Mem<Vec<(i64, u32)>>
 
 /// The same in the order of the codes; equal codes stay in the order of their places.
 fn places_of(alloc: Global, glyphs: &[FontGlyph]) -> Mem<Vec<(i64, u32)>>
-    requires { length glyphs.now ≤ 131072 }
+    requires { length glyphs.now ≤ max_glyphs }
     ensures { IfOk result (λ places. IsIndex places.items glyphs.now) }
 {
     let mut places = entries_of(alloc, glyphs)?;
@@ -81,7 +83,7 @@ impl Font {
         default_char: Option<i64>,
         glyphs: Items<FontGlyph>,
     ) -> Mem<Font>
-        requires { length glyphs ≤ 131072 }
+        requires { length glyphs ≤ max_glyphs }
         ensures { IfOk result (λ font. font ≡ record { name = name; ascent = ascent; descent = descent; default_char = default_char; glyphs = glyphs }) }
     {
         let places = places_of(alloc, glyphs.as_slice())?;
@@ -167,7 +169,7 @@ fn is_named(font: &Font, name: &str) -> bool
 
 /// The place of the first font of this name, without regard to ASCII case, or else 0.
 pub fn find_font(set: &FontSet, name: &str) -> u32
-    requires { length set.now.fonts ≤ 64 }
+    requires { length set.now.fonts ≤ max_fonts }
     ensures { result ≡ font_named name.now set.now.fonts }
 {
     for (place, font) in set.fonts.as_slice().iter().enumerate() {

@@ -1,6 +1,7 @@
 //! What the lines of a font say of the font itself.
 
 ghost use Rattle.std.specs.Prelude.{◌≡◌, ◌≤◌, length, All, IfOk, IfSome, unwrap_or};
+ghost use Rattle.bdf_font.specs.Limits.{max_glyphs};
 ghost use Rattle.bdf_font.specs.Ranges.{IsBox, IsOffset, IsGlyph, IsFontHeader, IsFont};
 ghost use Rattle.bdf_font.specs.Grammar.{box_top, box_depth, from_zero};
 ghost use Rattle.bdf_font.specs.Rows.{Gives};
@@ -11,9 +12,8 @@ use crate::font::Font;
 use crate::glyphs::{BoundingBox, FontGlyph};
 use crate::keyword::{HeaderKeyword, PropertyKeyword};
 use crate::numbers::{bounding_box, family_name, offset};
-use crate::whole::whole;
 use crate::words::first_word;
-use ass_num::{Items, Mem};
+use ass_num::{Items, Mem, read_whole};
 use blanks::trimmed;
 use std::alloc::Global;
 
@@ -145,7 +145,7 @@ impl Header {
                 Ok(())
             }
             PropertyKeyword::DefaultChar => {
-                let Some(code) = whole(first_word(rest).0) else {
+                let Some(code) = read_whole(first_word(rest).0) else {
                     return Err(Stop::Fault(FontCause::BadNumber));
                 };
                 self.default_char = Some(i64::from(code));
@@ -160,7 +160,7 @@ impl Header {
 
     /// The font with these glyphs.
     pub fn made(self, alloc: Global, glyphs: Items<FontGlyph>) -> Mem<Font>
-        requires few { length glyphs ≤ 131072 }
+        requires few { length glyphs ≤ max_glyphs }
         requires glyphs { All IsGlyph glyphs }
         requires sound { IsFontHeader self }
         ensures made { IfOk result (λ font. font ≡ font_made self glyphs) }

@@ -1,6 +1,6 @@
 //! What holds of every text: the theorems above the definition of `read_font`.
 
-ghost use Rattle.bdf_font.specs.Laws.{OneAnswer, EndsTheFont, IsFirstFault, StaysRefused, LaterFontLineCounts, LaterPropertyCounts, LaterGlyphLineCounts, NumbersAreWhole};
+ghost use Rattle.bdf_font.specs.Laws.{OneAnswer, EndsTheFont, IsFirstFault, StaysRefused, LaterFontLineCounts, LaterPropertyCounts, LaterGlyphLineCounts};
 
 /// Each text is exactly one of three: a font, refused at one line for one cause, or of too many glyphs; and what follows the font isn't read.
 pub fn one_answer()
@@ -20,9 +20,4 @@ pub fn last_line_counts()
     ensures font { LaterFontLineCounts }
     ensures property { LaterPropertyCounts }
     ensures glyph { LaterGlyphLineCounts }
-{}
-
-/// Numbers are read as the whole numbers of scripts are.
-pub fn numbers_are_whole()
-    ensures { NumbersAreWhole }
 {}

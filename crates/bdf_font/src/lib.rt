@@ -13,11 +13,10 @@ mod read;
 mod reading;
 #[cfg(test)]
 mod tests;
-mod whole;
 mod words;
 
 pub use cause::{FontCause, FontRefusal};
 pub use font::{Font, FontSet, find_font, glyph};
 pub use glyphs::FontGlyph;
-pub use laws::{first_fault, last_line_counts, numbers_are_whole, one_answer};
+pub use laws::{first_fault, last_line_counts, one_answer};
 pub use read::read_font;

@@ -1,22 +1,29 @@
 //! The numbers and names of a line.
 
 ghost use Rattle.std.specs.Prelude.{◌≡◌, ◌≤◌, IfSome};
+ghost use Rattle.bdf_font.specs.Limits.{max_bitmap_side};
 ghost use Rattle.bdf_font.specs.Ranges.{IsOffset, IsBox};
 ghost use Rattle.bdf_font.specs.Words.{bitmap_side_of, offset_of, bounding_box_of, family_name_of, quoted};
 
 use crate::glyphs::BoundingBox;
-use crate::whole::whole;
 use crate::words::first_word;
+use ass_num::read_whole;
 use blanks::{before_blanks, past_blanks};
+
+/// The most columns and the most rows of a bitmap.
+const MAX_BITMAP_SIDE: i32 = 1_024;
+
+/// The farthest from 0 that an advance or an offset may be.
+const MAX_OFFSET: i32 = 4_096;
 
 /// A whole number from 0 to 1,024.
 #[tactic(auto, unfolding(crate::specs::Words::bitmap_side_of))]
 fn side(word: &[u8]) -> Option<u16>
     ensures value { result ≡ bitmap_side_of word.now }
-    ensures small { IfSome result (λ side. side ≤ 1024) }
+    ensures small { IfSome result (λ side. side ≤ max_bitmap_side) }
 {
-    let number = whole(word)?;
-    if 0 <= number && number <= 1_024 {
+    let number = read_whole(word)?;
+    if 0 <= number && number <= MAX_BITMAP_SIDE {
         return Some(number as u16);
     }
     None
@@ -28,8 +35,8 @@ pub fn offset(word: &[u8]) -> Option<i16>
     ensures value { result ≡ offset_of word.now }
     ensures small { IfSome result IsOffset }
 {
-    let number = whole(word)?;
-    if -4_096 <= number && number <= 4_096 {
+    let number = read_whole(word)?;
+    if -MAX_OFFSET <= number && number <= MAX_OFFSET {
         return Some(number as i16);
     }
     None

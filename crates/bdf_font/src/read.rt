@@ -9,7 +9,7 @@ ghost use Rattle.bdf_font.specs.Steps.{Answered};
 
 use crate::cause::{FontCause, FontRefusal, Stop};
 use crate::font::Font;
-use crate::reading::{MOST_GLYPHS, Reading};
+use crate::reading::{MAX_GLYPHS, Reading};
 use bstr::ByteSlice;
 use std::alloc::Global;
 
@@ -46,7 +46,7 @@ fn answer(alloc: Global, reading: Reading, number: usize, stop: Stop) -> Result<
             Err(_) => Err(FontRefusal::OutOfMemory),
         },
         Stop::Fault(cause) => Err(FontRefusal::BadFont(number, cause)),
-        Stop::Full => Err(FontRefusal::TooLarge(MOST_GLYPHS)),
+        Stop::Full => Err(FontRefusal::TooLarge(MAX_GLYPHS)),
         Stop::OutOfMemory => Err(FontRefusal::OutOfMemory),
     }
 }

@@ -1,6 +1,7 @@
 //! The walk over the lines of a font.
 
 ghost use Rattle.std.specs.Prelude.{◌≡◌, ◌+◌, ◌*◌, ◌/◌, ◌<◌, ◌≤◌, length};
+ghost use Rattle.bdf_font.specs.Limits.{max_glyphs};
 ghost use Rattle.bdf_font.specs.Ranges.{IsBox, IsGlyph, IsDraft, IsReadingPlace, IsFontReading, Keeps};
 ghost use Rattle.bdf_font.specs.Rows.{Gives};
 ghost use Rattle.bdf_font.specs.Steps.{no_font_lines, no_glyph, first_line, font_step, glyph_line, draft_line, bitmap_line, row_line, reading_after, made_glyph};
@@ -11,15 +12,14 @@ use crate::glyphs::{BoundingBox, FontGlyph};
 use crate::header::Header;
 use crate::keyword::{GlyphKeyword, HeaderKeyword, Keyword, keyword_of};
 use crate::numbers::{bounding_box, offset};
-use crate::whole::whole;
 use crate::words::first_word;
-use ass_num::Items;
+use ass_num::{Items, read_whole};
 use blanks::trimmed;
 use std::alloc::Global;
 use std::mem;
 
 /// The most glyphs that a font has.
-pub const MOST_GLYPHS: usize = 131_072;
+pub const MAX_GLYPHS: usize = 131_072;
 
 /// Where a line stands.
 #[derive(Clone, Copy, Debug, PartialEq, Eq)]
@@ -87,7 +87,7 @@ impl Draft {
     {
         match keyword {
             GlyphKeyword::Encoding => {
-                let Some(code) = whole(first_word(rest).0) else {
+                let Some(code) = read_whole(first_word(rest).0) else {
                     return Err(Stop::Fault(FontCause::BadNumber));
                 };
                 self.code = i64::from(code);
@@ -181,7 +181,7 @@ impl Reading {
             Keyword::StartFont => Ok(()),
             Keyword::EndFont => Err(Stop::End),
             Keyword::StartChar => {
-                if self.glyphs.len() >= MOST_GLYPHS {
+                if self.glyphs.len() >= MAX_GLYPHS {
                     return Err(Stop::Full);
                 }
                 self.place = Place::Glyph;
@@ -198,7 +198,7 @@ impl Reading {
 
     fn glyph_line(&mut self, alloc: Global, keyword: Keyword, rest: &[u8]) -> Result<(), Stop>
         requires sound { IsFontReading self.old }
-        requires open { length self.old.glyphs < 131072 }
+        requires open { length self.old.glyphs < max_glyphs }
         ensures read { Gives result self.new (glyph_line keyword rest.now self.old) }
         ensures sound { Keeps result (IsFontReading self.new) }
     {

@@ -1,29 +1,11 @@
 //! Bytes without blanks at their ends.
 
-ghost use Rattle.std.specs.Prelude.{◌≡◌, ◌+◌, ◌<◌, ◌≤◌, length, slice_index, true};
-ghost use Rattle.std.specs.List.{prefix_len, suffix_len};
+ghost use Rattle.std.specs.Prelude.{◌≡◌, ◌+◌, ◌<◌, length, slice_index, true};
+ghost use Rattle.std.specs.List.{suffix_len};
 ghost use Rattle.ass_num.specs.Numerals.{is_blank};
 ghost use Rattle.blanks.specs.Blanks.{past_blanks, before_blanks, trimmed};
 
-/// Whether a byte is a space or a tab.
-pub fn is_blank(byte: u8) -> bool
-    ensures { result ≡ is_blank byte }
-{
-    byte == b' ' || byte == b'\t'
-}
-
-/// How many blanks stand at the front.
-pub fn blanks_before(text: &[u8]) -> usize
-    ensures count { result ≡ prefix_len is_blank text.now }
-    ensures within { result ≤ length text.now }
-{
-    for (i, byte) in text.iter().enumerate() {
-        if !is_blank(*byte) {
-            return i;
-        }
-    }
-    text.len()
-}
+use ass_num::{blanks_before, is_blank};
 
 /// Where the blanks at the end begin.
 pub fn blanks_from(text: &[u8]) -> usize

@@ -4,4 +4,4 @@
 mod bytes;
 pub mod text;
 
-pub use bytes::{before_blanks, is_blank, past_blanks, trimmed};
+pub use bytes::{before_blanks, past_blanks, trimmed};

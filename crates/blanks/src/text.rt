@@ -3,7 +3,8 @@
 ghost use Rattle.std.specs.Prelude.{◌≡◌};
 ghost use Rattle.blanks.specs.Blanks.{past_blanks, before_blanks, trimmed};
 
-use crate::bytes::{blanks_before, blanks_from};
+use crate::bytes::blanks_from;
+use ass_num::blanks_before;
 
 /// The text from its first byte on that is no blank.
 #[tactic(auto, unfolding(crate::specs::Blanks::past_blanks))]

@@ -1,6 +1,7 @@
 -- What reading one file answers.
 use Rattle.std.specs.Prelude.{◌≡◌, ◌⊎◌, ℕ, ◌<◌, ◌≤◌, List, length, Some, None, Result, Ok, Err}
-use Rattle.ass_num.specs.Causes.{Rose, IfTold, file_limit}
+use Rattle.ass_num.specs.Causes.{Rose, IfTold}
+use Rattle.ass_num.specs.Limits.{max_file_bytes}
 use Rattle.ass_io.specs.Fetched.{Held, Told}
 use Rattle.ass_script.specs.Scripts.{ScriptValue, script_of}
 use Rattle.bdf_font.specs.Fonts.{FontValue}
@@ -20,7 +21,7 @@ Asks Value = Held → Result Value Status → Type 0
 abbrev pub AsksOf : {Value : Type 0} → (List ℕ → Result Value Status → Type 0) → List ℕ → Asks Value
 AsksOf asks name None answer = answer ≡ Err (NoSuchFile name)
 AsksOf asks name (Some bytes) answer =
-    ((length bytes ≤ file_limit) × asks bytes answer) ⊎ ((file_limit < length bytes) × (answer ≡ Err (TooLarge Bytes file_limit)))
+    ((length bytes ≤ max_file_bytes) × asks bytes answer) ⊎ ((max_file_bytes < length bytes) × (answer ≡ Err (TooLarge Bytes max_file_bytes)))
 
 abbrev pub AsksBytes : List ℕ → Asks (List ℕ)
 AsksBytes = AsksOf (λ bytes answer. answer ≡ Ok bytes)

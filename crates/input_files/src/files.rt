@@ -1,7 +1,7 @@
 //! Files, scripts and fonts by their names.
 
 ghost use Rattle.std.specs.Prelude.{◌≡◌, ◌≤◌, IfOk, length};
-ghost use Rattle.ass_num.specs.Causes.{file_limit};
+ghost use Rattle.ass_num.specs.Limits.{max_file_bytes};
 ghost use Rattle.ass_script.specs.Ranges.{IsScript};
 ghost use Rattle.bdf_font.specs.Ranges.{IsFont};
 ghost use Rattle.input_files.specs.Files.{AsksBytes, AsksFont, AsksScript, IsAnswered, IsAnswerReadCounted};
@@ -19,7 +19,7 @@ fn fetch_file<S: Shelf>(alloc: Global, shelf: &mut S, name: &Text) -> Result<Ite
     ensures kept { S.told shelf.new ≡ S.told shelf.old }
     ensures read { IsAnswered (AsksBytes name.now) (S.told shelf.old name.now) name.now result }
     ensures counted { IsAnswerReadCounted result (S.faults shelf.old) (S.faults shelf.new) }
-    ensures short { IfOk result (λ bytes. length bytes ≤ file_limit) }
+    ensures short { IfOk result (λ bytes. length bytes ≤ max_file_bytes) }
 {
     // The name is copied first, so that it is at hand whatever the shelf answers.
     let name = Text::copy(alloc, name.as_str())?;

@@ -8,20 +8,20 @@ pub returns-in_err-colour_front-clause-none : goal.returns-in_err-colour_front-c
 returns-in_err-colour_front-clause-none c =
     let start = sym (simp take_rest at c.is_hex_start.ensures) ∙ c.if-is_hex_start.true in
     rw c.from_residual.ensures
-    (style_hex_none c.args.text.now _ c.blanks.ensures.count start (simp take_rest at c.in_err-colour_front.ensures.none))
+    (style_hex_none c.args.text.now _ c.blanks_before.ensures.count start (simp take_rest at c.in_err-colour_front.ensures.none))
 
 pub returns-in_err-colour-clause-none : goal.returns-in_err-colour-clause-none
 returns-in_err-colour-clause-none c =
     let start = sym (simp take_rest at c.is_hex_start.ensures) ∙ c.if-is_hex_start.false in
     rw c.from_residual-in_err-colour.ensures
-    (style_decimal_none c.args.text.now _ c.blanks.ensures.count start (simp take_rest at c.in_err-colour.ensures.none))
+    (style_decimal_none c.args.text.now _ c.blanks_before.ensures.count start (simp take_rest at c.in_err-colour.ensures.none))
 
 pub returns-in_ok-colour_front-clause-some : goal.returns-in_ok-colour_front-clause-some
 returns-in_ok-colour_front-clause-some c =
     let start = sym (simp take_rest at c.is_hex_start.ensures) ∙ c.if-is_hex_start.true in
-    style_hex_front c.args.text.now _ c.blanks.ensures.count start _ _ (simp take_rest at c.in_ok-colour_front.ensures.some)
+    style_hex_front c.args.text.now _ c.blanks_before.ensures.count start _ _ (simp take_rest at c.in_ok-colour_front.ensures.some)
 
 pub returns-in_ok-colour-clause-some : goal.returns-in_ok-colour-clause-some
 returns-in_ok-colour-clause-some c =
     let start = sym (simp take_rest at c.is_hex_start.ensures) ∙ c.if-is_hex_start.false in
-    style_decimal_front c.args.text.now _ c.blanks.ensures.count start _ _ (simp take_rest at c.in_ok-colour.ensures.some)
+    style_decimal_front c.args.text.now _ c.blanks_before.ensures.count start _ _ (simp take_rest at c.in_ok-colour.ensures.some)

@@ -1,18 +1,20 @@
 -- The whole number that a text is: the definition that computes, and the shape of the text.
-use Rattle.std.proofs.Common.{◌≡◌, ℕ, ◌<◌, ◌≤◌, Bool, true, false, ltb, leb, List, ◌++◌, length, take, drop, Option, Some, None, ℤ, refl, sym, ap, ◌∙◌, arith}
-use Rattle.std.specs.Prelude.{IfSome, IfNone}
+use Rattle.std.proofs.Common.{◌≡◌, ℕ, ◌<◌, ◌≤◌, Bool, true, false, cond, ltb, leb, eqb, List, [], ◌∷◌, ◌++◌, length, take, drop, Option, Some, None, ℤ, pos, neg_ℤ, refl, sym, ap, ◌∙◌, subst, arith}
 use Rattle.std.proofs.lemmas.List.{take-append-drop}
 use Rattle.std.proofs.lemmas.List.Sums.{AllPass-from_list_all, list_all-from_AllPass}
 use Rattle.std.proofs.lemmas.Bool.Decides.{nat_tests}
+use Rattle.std.proofs.lemmas.Int.{ints}
 use Rattle.std.proofs.Math.Seq.{drop-append_seam, take-append_seam}
 use Rattle.std.specs.List.{AllPass, prefix_len, list_all}
+use Rattle.ass_num.specs.Bytes.{minus}
+use Rattle.ass_num.specs.Limits.{IsWithin, max_whole}
 use Rattle.ass_num.specs.Numerals.{is_blank, is_decimal, sign_len, number_of, IsSign, signed, IsWholeNumber}
 use Rattle.ass_num.proofs.Runs.{prefix_len-append, AllPass-take, IsSign-take}
 use Rattle.ass_num.proofs.SignFronts.{unsigned_all, sign_before}
 use Rattle.ass_num.proofs.Wholes.{no_blank_signed, no_digit_blanks}
-use Rattle.bdf_font.specs.Whole.{whole_under, whole_behind, whole_at, whole_of}
+use Rattle.ass_num.specs.Wholes.{whole_under, whole_behind, whole_at, whole_of, WholesAreRead}
 
-under_is : (sign digits rest : List ℕ) → 0 < length digits → number_of 10 digits ≤ 2147483647 → list_all is_blank rest ≡ true → whole_under sign digits rest ≡ Some (signed sign (number_of 10 digits))
+under_is : (sign digits rest : List ℕ) → 0 < length digits → number_of 10 digits ≤ max_whole → list_all is_blank rest ≡ true → whole_under sign digits rest ≡ Some (signed sign (number_of 10 digits))
 under_is sign digits rest some small blanks = grind (arith, nat_tests)
 
 behind_is : (sign digits after : List ℕ) → AllPass is_decimal digits → AllPass is_blank after → whole_behind sign (digits ++ after) ≡ whole_under sign digits after
@@ -46,14 +48,14 @@ whole_from_shape t z m =
 
 record Under (sign digits rest : List ℕ) (z : ℤ) : Type 0 where
   some : 0 < length digits
-  small : number_of 10 digits ≤ 2147483647
+  small : number_of 10 digits ≤ max_whole
   blanks : list_all is_blank rest ≡ true
   value : z ≡ signed sign (number_of 10 digits)
 
 under_shape : (sign digits rest : List ℕ) (z : ℤ) → whole_under sign digits rest ≡ Some z → Under sign digits rest z
 under_shape sign digits rest z e = cases _ _ _ refl refl refl
   where
-    cases : (a b c : Bool) → ltb 0 (length digits) ≡ a → leb (number_of 10 digits) 2147483647 ≡ b → list_all is_blank rest ≡ c → Under sign digits rest z
+    cases : (a b c : Bool) → ltb 0 (length digits) ≡ a → leb (number_of 10 digits) max_whole ≡ b → list_all is_blank rest ≡ c → Under sign digits rest z
     cases true true true ea eb ec = record { some = grind (arith, nat_tests); small = grind (arith, nat_tests); blanks = ec; value = grind (arith, nat_tests) }
     cases false b c ea eb ec = absurd (grind (arith, nat_tests))
     cases true false c ea eb ec = absurd (grind (arith, nat_tests))
@@ -83,11 +85,27 @@ shape_from_whole t z e =
       value = m.value;
     }
 
--- what a reader says that answers exactly where the shape holds
-pub whole_read : (t : List ℕ) (r : Option ℤ) → IfSome r (IsWholeNumber t) → IfNone r ((z : ℤ) → IsWholeNumber t z → ⊥) → r ≡ whole_of t
-whole_read t (Some z) some none = sym (whole_from_shape t z some)
-whole_read t None some none = sym (cases (whole_of t) refl)
+-- a text that is no whole number has none
+pub no_whole : (t : List ℕ) → ((z : ℤ) → IsWholeNumber t z → ⊥) → None ≡ whole_of t
+no_whole t none = sym (cases (whole_of t) refl)
   where
     cases : (o : Option ℤ) → whole_of t ≡ o → o ≡ None
     cases None e = refl
     cases (Some z) e = absurd (none z (shape_from_whole t z e))
+
+signed_within : (limit : ℕ) (sign : List ℕ) (n : ℕ) → n ≤ limit → IsWithin limit (signed sign n)
+signed_within limit [] n small = omega (arith, ints)
+signed_within limit (c ∷ cs) n small = under (eqb c minus)
+  where
+    under : (b : Bool) → IsWithin limit (cond b (neg_ℤ (pos n)) (pos n))
+    under true = omega (arith, ints)
+    under false = omega (arith, ints)
+
+-- the number of a text lies within the range of whole numbers
+pub whole_within : (t : List ℕ) (z : ℤ) → whole_of t ≡ Some z → IsWithin max_whole z
+whole_within t z e =
+    let m = shape_from_whole t z e in
+    subst (λ (v : ℤ). IsWithin max_whole v) (sym m.value) (signed_within max_whole m.sign (number_of 10 m.digits) m.small)
+
+pub wholes_read : WholesAreRead
+wholes_read t z = (shape_from_whole t z, whole_from_shape t z)
