@@ -8,6 +8,7 @@ use Rattle.std.specs.List.{All, join_with_byte}
 use Rattle.std.proofs.lemmas.Str.{IsUtf8-from_is_utf8, is_utf8-from_IsUtf8, IsUtf8-nil}
 use Rattle.std.proofs.lemmas.Int.{ints}
 use Rattle.std.proofs.lemmas.List.Elements.{All-nil}
+use Rattle.ass_num.specs.Limits.{IsWithin, max_whole}
 use Rattle.ass_script.specs.declared.script.EventField.{EventField}
 use Rattle.ass_script.specs.declared.script.EventField.TheVariants as field
 use Rattle.ass_events.specs.declared.event.Chunk.{Chunk}
@@ -21,8 +22,8 @@ use Rattle.ass_events.specs.Numbers.{order_of, whole_or_zero, instant_of}
 use Rattle.ass_events.specs.Fields.{FieldValues, no_fields, Column, columns_from, columns_of, column_put, field_put, examined, HaveUtf8}
 use Rattle.ass_events.specs.Plain.{plain, Reads}
 use Rattle.ass_events.specs.Events.{IsChunkAnswer, chunk_format, is_time, event_at, timed, with_time, event_of, chunked, line_made, line_event}
-use Rattle.ass_events.specs.Ranges.{IsNumber, IsName}
-use Rattle.ass_events.proofs.NumberLemmas.{IsInstant, number_small, order_small, instant_small}
+use Rattle.ass_events.specs.Ranges.{IsName}
+use Rattle.ass_events.proofs.NumberLemmas.{IsLineTime, number_small, order_small, instant_small}
 use Rattle.ass_events.proofs.PieceLemmas.{EachUtf8, EachPlain, pieces_plain, pieces_utf8, joined_utf8}
 use Rattle.blanks.proofs.TrimmedLemmas.{trimmed-trimmed, trimmed_utf8, All-trimmed}
 
@@ -49,13 +50,13 @@ examined_keeps P Q keeps (column ∷ columns) fields last each kept e =
 -- ---- numbers and times are in their ranges
 
 pub record AreInRange (fields : FieldValues) : Type 0 where
-  pub order : fields.order ≤ 2147483647
-  pub layer : IsNumber fields.layer
-  pub start : IsInstant fields.start
-  pub last : IsInstant fields.end
-  pub margin_l : IsNumber fields.margin_l
-  pub margin_r : IsNumber fields.margin_r
-  pub margin_v : IsNumber fields.margin_v
+  pub order : fields.order ≤ max_whole
+  pub layer : IsWithin max_whole fields.layer
+  pub start : IsLineTime fields.start
+  pub last : IsLineTime fields.end
+  pub margin_l : IsWithin max_whole fields.margin_l
+  pub margin_r : IsWithin max_whole fields.margin_r
+  pub margin_v : IsWithin max_whole fields.margin_v
 
 -- what a value that was read was put into
 record Put {N : Type 0} (o : Option N) (make : N → FieldValues) (more : FieldValues) : Type 0 where
@@ -202,7 +203,7 @@ zero_in_range = record {
   margin_v = zero_number;
 }
   where
-    zero_number : IsNumber (pos 0)
+    zero_number : IsWithin max_whole (pos 0)
     zero_number = (omega (arith, ints), omega (arith, ints))
 
 nothing_is_name : IsName []

@@ -12,6 +12,7 @@ use Rattle.std.proofs.lemmas.Int.{ints}
 use Rattle.std.proofs.lemmas.Str.{IsUtf8-from_is_utf8, IsUtf8-from_ascii}
 use Rattle.std.proofs.lemmas.List.Elements.{All-get_or}
 use Rattle.std.proofs.lemmas.List.Splits.{slice_split_at, length-slice_split, join_with_byte-slice_split}
+use Rattle.ass_num.specs.Limits.{IsWithin, max_whole}
 use Rattle.ass_script.specs.declared.script.EventField.{EventField}
 use Rattle.ass_script.specs.declared.script.EventField.TheVariants as field
 use Rattle.ass_events.specs.declared.event.Event.{Event}
@@ -26,8 +27,8 @@ use Rattle.ass_events.specs.Cuts.{pieces_of}
 use Rattle.ass_events.specs.Numbers.{order_of, whole_or_zero}
 use Rattle.ass_events.specs.Fields.{FieldValues, no_fields, columns_from, columns_of, field_put, examined}
 use Rattle.ass_events.specs.Events.{chunk_format, is_time, event_at, timed, with_time, event_of, chunk_bytes, duration_between, line_made, line_event, event_of_line}
-use Rattle.ass_events.specs.Ranges.{IsNumber, IsEvent}
-use Rattle.ass_events.proofs.NumberLemmas.{IsInstant, order-decimal, number-signed_decimal, decimal_no_comma, signed_no_comma}
+use Rattle.ass_events.specs.Ranges.{IsEvent}
+use Rattle.ass_events.proofs.NumberLemmas.{IsLineTime, order-decimal, number-signed_decimal, decimal_no_comma, signed_no_comma}
 use Rattle.ass_events.proofs.PieceLemmas.{joined_utf8}
 use Rattle.ass_events.proofs.FieldLemmas.{examined_some}
 use Rattle.ass_events.proofs.EventLemmas.{AreInRange, AreTexts, chunk_said, fields_in_range, fields_are_texts, chunk_texts, chunk_timed, timed_ok}
@@ -72,10 +73,10 @@ chunk_gives_event bytes start duration event e = cases (is_utf8 bytes) refl e
 -- ---- the events of lines
 
 -- the time between two instants is one that may be
-between_is_time : (start last : ℤ) → IsInstant start → IsInstant last → is_time (duration_between start last) ≡ true
+between_is_time : (start last : ℤ) → IsLineTime start → IsLineTime last → is_time (duration_between start last) ≡ true
 between_is_time start last s l = grind (arith, ints, s.least, s.most, l.least, l.most)
 
-instant_is_time : (t : ℤ) → IsInstant t → is_time t ≡ true
+instant_is_time : (t : ℤ) → IsLineTime t → is_time t ≡ true
 instant_is_time t i = grind (arith, ints, i.least, i.most)
 
 -- the last field of the format is Text
@@ -95,7 +96,7 @@ text_ends (f ∷ (g ∷ gs)) e =
     let rest = text_ends (g ∷ gs) (ap (λ n. option_map_or is_text (slice_get (g ∷ gs) n) false) there ∙ sym (ap (λ n. option_map_or is_text (slice_get (f ∷ (g ∷ gs)) n) false) here) ∙ e) in
     (f ∷ rest.0, ap (λ z. f ∷ z) rest.1)
 
-line_is_event : (format : List EventField) (i : ℕ) (line : List ℕ) (event : Event) → EndsInText format → i ≤ 2147483647 → IsUtf8 line → line_event format i line ≡ Ok event → IsEvent event
+line_is_event : (format : List EventField) (i : ℕ) (line : List ℕ) (event : Event) → EndsInText format → i ≤ max_whole → IsUtf8 line → line_event format i line ≡ Ok event → IsEvent event
 unfolding line_event
 line_is_event format i line event ends small utf8 e = cases (examined (columns_of format line) no_fields) refl e
   where
@@ -232,13 +233,13 @@ module _ (event : Event) (is : IsEvent event) where
       ∙ read_on len _ field.Effect field.Text _ event.effect _ g h (put_effect event.effect g is.effect.bare)
       ∙ read_text len _ event.text h
 
-  decimal_utf8 : (n : ℕ) → n ≤ 2147483647 → IsUtf8 (decimal n)
+  decimal_utf8 : (n : ℕ) → n ≤ max_whole → IsUtf8 (decimal n)
   decimal_utf8 n small = IsUtf8-from_ascii (decimal n) (IsAscii-decimal n (omega arith))
 
-  signed_utf8 : (z : ℤ) → IsNumber z → IsUtf8 (signed_decimal z)
+  signed_utf8 : (z : ℤ) → IsWithin max_whole z → IsUtf8 (signed_decimal z)
   signed_utf8 z small = IsUtf8-from_ascii (signed_decimal z) (IsAscii-signed z (mag_small z small))
     where
-      mag_small : (z : ℤ) → IsNumber z → mag z < 2 ^ 63
+      mag_small : (z : ℤ) → IsWithin max_whole z → mag z < 2 ^ 63
       mag_small (pos n) small = omega (arith, ints, small.1)
       mag_small (negsuc n) small = omega (arith, ints, small.0)
 

@@ -1,6 +1,8 @@
 -- Events, and the chunks that give them.
 use Rattle.std.specs.Prelude.{◌≡◌, ℕ, ℤ, pos, ◌-ℤ◌, int_le, slice_index_or, Bool, not, ◌&&◌, if◌then◌else◌, List, [], ◌∷◌, length, Result, Ok, Err}
 use Rattle.std.specs.List.{join_with_byte}
+use Rattle.ass_num.specs.Bytes.{comma}
+use Rattle.ass_num.specs.Limits.{max_instant}
 use Rattle.ass_script.specs.Scripts.{ScriptValue}
 use Rattle.std.specs.Int.{int_max}
 use Rattle.std.specs.Fmt.{decimal, signed_decimal}
@@ -26,7 +28,7 @@ chunk_format = field.ReadOrder ∷ field.Layer ∷ field.Style ∷ field.Name �
 
 -- an instant or a duration that may be: 0 to 4,000,000,000,000 milliseconds
 abbrev pub is_time : ℤ → Bool
-is_time t = int_le (pos 0) t && int_le t (pos 4000000000000)
+is_time t = int_le (pos 0) t && int_le t (pos max_instant)
 
 -- the event of these fields, at its time
 abbrev pub event_at : ℤ → ℤ → FieldValues → Event
@@ -63,7 +65,7 @@ event_of bytes start duration =
 
 -- the bytes of an event's chunk, `ReadOrder,Layer,Style,Name,MarginL,MarginR,MarginV,Effect,Text`
 abbrev pub chunk_bytes : Event → List ℕ
-chunk_bytes event = join_with_byte 44 (
+chunk_bytes event = join_with_byte comma (
     decimal event.order ∷ signed_decimal event.layer ∷ event.style ∷ event.name ∷ signed_decimal event.margin_l
     ∷ signed_decimal event.margin_r ∷ signed_decimal event.margin_v ∷ event.effect ∷ event.text ∷ [])
 

@@ -3,6 +3,7 @@ use Rattle.std.specs.Prelude.{ℕ, ◌+◌, ℤ, pos, List, [], ◌∷◌, lengt
 use Rattle.std.specs.Option.{option_map_or}
 use Rattle.std.specs.Str.{IsUtf8}
 use Rattle.std.specs.List.{join_with_byte}
+use Rattle.ass_num.specs.Bytes.{comma}
 use Rattle.ass_script.specs.declared.script.EventField.{EventField}
 use Rattle.ass_script.specs.declared.script.EventField.TheVariants as field
 use Rattle.ass_events.specs.declared.event.ChunkRefusal.{ChunkRefusal}
@@ -52,7 +53,7 @@ pub record Column : Type 0 where
 unfoldable pub columns_from : ℕ → ℕ → List EventField → List (List ℕ) → List Column
 columns_from len place [] pieces = []
 columns_from len place (f ∷ format) [] = record { field = f; place = len; piece = None } ∷ columns_from len place format []
-columns_from len place (f ∷ []) (p ∷ pieces) = record { field = f; place = place; piece = Some (join_with_byte 44 (p ∷ pieces)) } ∷ []
+columns_from len place (f ∷ []) (p ∷ pieces) = record { field = f; place = place; piece = Some (join_with_byte comma (p ∷ pieces)) } ∷ []
 columns_from len place (f ∷ (g ∷ format)) (p ∷ pieces) = record { field = f; place = place; piece = Some p } ∷ columns_from len (place + length p + 1) (g ∷ format) pieces
 
 -- the columns of a line, one for each field of its format

@@ -1,15 +1,15 @@
 -- The numbers and times of a line.
 use Rattle.std.specs.Prelude.{ℕ, ◌+◌, ◌*◌, ◌&&◌, ◌==◌, nat_lt, nat_le, if◌then◌else◌, List, length, take, drop, slice_index, Option, Some, None, option_and_then, ℤ, pos, negsuc}
 use Rattle.std.specs.List.{prefix_len, list_all}
-use Rattle.ass_num.specs.Numerals as numerals
-use Rattle.ass_num.specs.Numerals.{is_blank, is_decimal}
-use Rattle.ass_script.specs.Numbers.{whole_of}
+use Rattle.ass_num.specs.Bytes.{colon, point}
+use Rattle.ass_num.specs.Numerals.{is_blank, is_decimal, number_of}
+use Rattle.ass_num.specs.Wholes.{whole_of}
 
 -- `digits` digits before the byte `mark`, one to six: their number, and what follows the mark
 abbrev pub part_cut : ℕ → List ℕ → ℕ → Option (ℕ × List ℕ)
 part_cut mark text digits =
     if nat_lt 0 digits && (nat_le digits 6 && (nat_lt digits (length text) && (slice_index text digits == mark)))
-    then Some (numerals.whole_or_zero 10 (take digits text), drop (digits + 1) text) else None
+    then Some (number_of 10 (take digits text), drop (digits + 1) text) else None
 
 -- all the digits at the front, before that byte
 abbrev pub part_before : ℕ → List ℕ → Option (ℕ × List ℕ)
@@ -18,7 +18,7 @@ part_before mark text = part_cut mark text (prefix_len is_decimal text)
 -- `digits` digits, one to six, and then blanks alone
 abbrev pub last_cut : List ℕ → ℕ → Option ℕ
 last_cut text digits =
-    if nat_lt 0 digits && (nat_le digits 6 && list_all is_blank (drop digits text)) then Some (numerals.whole_or_zero 10 (take digits text)) else None
+    if nat_lt 0 digits && (nat_le digits 6 && list_all is_blank (drop digits text)) then Some (number_of 10 (take digits text)) else None
 
 -- all the digits at the front
 abbrev pub last_part : List ℕ → Option ℕ
@@ -32,7 +32,7 @@ abbrev pub time_at : List ℕ → Option ℤ
 time_at text =
     option_and_then (λ hours. option_and_then (λ minutes. option_and_then (λ seconds. option_and_then (λ hundredths.
     Some (time_made hours.0 minutes.0 seconds.0 hundredths))
-    (last_part seconds.1)) (part_before 46 minutes.1)) (part_before 58 hours.1)) (part_before 58 text)
+    (last_part seconds.1)) (part_before point minutes.1)) (part_before colon hours.1)) (part_before colon text)
 
 -- the time in milliseconds that a text is, between blanks
 unfoldable pub time_of : List ℕ → Option ℤ

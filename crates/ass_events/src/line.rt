@@ -1,6 +1,7 @@
 //! Chunks of Dialogue lines.
 
 ghost use Rattle.std.specs.Prelude.{◌≡◌, ◌<◌, ◌≤◌, ◌≤ℤ◌, pos, length};
+ghost use Rattle.ass_num.specs.Limits.{max_whole};
 ghost use Rattle.ass_events.specs.Events.{IsChunkAnswer, chunk_of, chunked, line_event, duration_between};
 
 use crate::event::{Chunk, ChunkRefusal};
@@ -14,7 +15,7 @@ use std::alloc::Global;
 /// It is shown from Start to End, or for no time where End comes first.
 pub fn chunk_of_line(alloc: Global, script: &Script, i: usize) -> Result<Chunk, ChunkRefusal>
     requires within { i < length script.now.lines }
-    requires order { i ≤ 2147483647 }
+    requires order { i ≤ max_whole }
     ensures { IsChunkAnswer result (chunk_of script.now i) }
 {
     line_chunk(alloc, script.format(), script.line(i), i as u32)

@@ -1,17 +1,10 @@
 //! The numbers and times of a line.
 
 ghost use Rattle.std.specs.Prelude.{◌≡◌};
-ghost use Rattle.ass_script.specs.Numbers.{whole_of};
 ghost use Rattle.ass_events.specs.Numbers.{time_of, order_of, whole_or_zero, instant_of};
 
 use crate::words::is_empty;
 use ass_num::{read_time, read_whole};
-
-fn whole(text: &[u8]) -> Option<i32>
-    ensures { result ≡ whole_of text.now }
-{
-    read_whole(text)
-}
 
 fn time(text: &[u8]) -> Option<i64>
     ensures { result ≡ time_of text.now }
@@ -24,7 +17,7 @@ fn time(text: &[u8]) -> Option<i64>
 pub fn order(text: &[u8]) -> Option<u32>
     ensures { result ≡ order_of text.now }
 {
-    let order = whole(text)?;
+    let order = read_whole(text)?;
     if order < 0 {
         return None;
     }
@@ -39,7 +32,7 @@ pub fn number(text: &[u8]) -> Option<i32>
     if is_empty(text) {
         return Some(0);
     }
-    whole(text)
+    read_whole(text)
 }
 
 /// A time in milliseconds, 0 where the text is empty.

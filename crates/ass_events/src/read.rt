@@ -25,12 +25,12 @@ const CHUNK_FIELDS: [EventField; 9] = [
 ];
 
 /// The greatest instant and the greatest duration, in milliseconds.
-const LAST_INSTANT: i64 = 4_000_000_000_000;
+const MAX_INSTANT: i64 = 4_000_000_000_000;
 
 fn is_time(milliseconds: i64) -> bool
     ensures { result ≡ is_time milliseconds }
 {
-    0 <= milliseconds && milliseconds <= LAST_INSTANT
+    0 <= milliseconds && milliseconds <= MAX_INSTANT
 }
 
 /// The event that a chunk gives (`ass_process_chunk` in libass `ass.h`).

@@ -5,7 +5,7 @@ ghost use Rattle.std.specs.List.{position_or_len, list_all};
 ghost use Rattle.ass_num.specs.Numerals.{is_blank};
 ghost use Rattle.ass_script.specs.Words.{is_comma};
 
-use blanks::is_blank;
+use ass_num::is_blank;
 
 /// Whether a text has blanks alone.
 pub fn is_empty(text: &[u8]) -> bool

@@ -1,21 +1,19 @@
 -- The numbers as functions of the texts are what the readers give.
-use Rattle.std.proofs.Common.{◌≡◌, ℕ, ◌+◌, ◌*◌, ◌/◌, ◌%◌, ◌^◌, ◌<◌, ◌≤◌, min, Bool, true, false, cond, ltb, eqb, ◌&&◌, ◌||◌, inl, inr, List, [], ◌∷◌, length, get_or, take, drop, Option, Some, None, ℤ, pos, negsuc, neg_ℤ, refl, sym, ap, subst, arith}
+use Rattle.std.proofs.Common.{◌≡◌, ℕ, ◌+◌, ◌*◌, ◌/◌, ◌%◌, ◌^◌, ◌<◌, min, Bool, true, false, cond, ltb, eqb, ◌&&◌, List, length, get_or, take, drop, Option, Some, None, ℤ, pos, negsuc, refl, ap, subst, arith}
 use Rattle.std.specs.Prelude.{IfSome, IfNone, MatchOption, ◌↔◌}
 use Rattle.std.specs.List.{prefix_len}
 use Rattle.std.specs.Option.{option_map}
 use Rattle.std.specs.Int.{int_rem_euclid}
 use Rattle.std.specs.Int.RustNames.{unsigned_abs}
 use Rattle.std.proofs.lemmas.Bool.Decides.{nat_tests}
-use Rattle.std.proofs.lemmas.Int.{ints}
-use Rattle.ass_script.specs.Ranges.{IsMargin}
+use Rattle.ass_num.specs.Limits.{max_held}
 use Rattle.ass_num.specs.Fronts.{IsLongestFront, BeginsWith, HasNoFront, SpellsOne}
-use Rattle.ass_num.specs.Numerals.{is_blank, is_decimal, is_hexadecimal, is_mark, sign_len, number_of, signed, is_hex_start, IsWholeNumber, IsHeldDecimal, IsMilli, IsStyleColour}
-use Rattle.ass_num.proofs.Wholes.{whole_none, whole_some}
+use Rattle.ass_num.specs.Numerals.{is_blank, is_decimal, is_hexadecimal, is_mark, sign_len, number_of, signed, is_hex_start, IsHeldDecimal, IsMilli, IsStyleColour}
 use Rattle.ass_num.proofs.DecimalFronts.{point_front, point_none, plain_front, plain_none}
 use Rattle.ass_num.proofs.SignFronts.{milli_front, milli_none}
 use Rattle.ass_num.proofs.ColourFronts.{marked_none, marked_front, wrapped_none, wrapped_front, style_hex_none, style_decimal_none, style_hex_front, style_decimal_front}
-use Rattle.ass_num.proofs.OneReading.{one_front, one_milli, one_whole, one_style_colour}
-use Rattle.ass_script.specs.Numbers.{whole_in, whole_of, plain_decimal, pointed_decimal, decimal_from, milli_of, hex_colour_in, decimal_colour_in, colour_in, style_colour_of}
+use Rattle.ass_num.proofs.OneReading.{one_front, one_milli, one_style_colour}
+use Rattle.ass_script.specs.Numbers.{plain_decimal, pointed_decimal, decimal_from, milli_of, hex_colour_in, decimal_colour_in, colour_in, style_colour_of}
 
 -- What an answer says: a value that has the fact, or that no value has it.
 abbrev Tells : {V : Type 0} → (V → Type 0) → Option V → Type 0
@@ -32,49 +30,13 @@ tells : {V : Type 0} (P : V → Type 0) (r : Option V) → IfSome r P → IfNone
 tells P None some none = none
 tells P (Some v) some none = some
 
--- ---- whole numbers
-
-whole_told : (t : List ℕ) (b s d e : ℕ) → b ≡ prefix_len is_blank t → s ≡ sign_len (drop b t) → d ≡ prefix_len is_decimal (drop (b + s) t) → e ≡ prefix_len is_blank (drop (b + s + d) t) → Tells (IsWholeNumber t) (whole_in t b s d e)
-whole_told t b s d e blanks sign digits after = cases _ _ _ refl refl refl
-  where
-    n : ℕ
-    n = number_of 10 (take d (drop (b + s) t))
-
-    cases : (x y z : Bool) → eqb d 0 ≡ x → ltb 2147483647 n ≡ y → ltb (b + s + d + e) (length t) ≡ z → Tells (IsWholeNumber t) (cond (x || (y || z)) None (Some (signed (take s (drop b t)) n)))
-    cases true y z ex ey ez = whole_none t b s d e (min n 4294967296) blanks sign digits refl after (inl (grind (arith, nat_tests)))
-    cases false true z ex ey ez = whole_none t b s d e (min n 4294967296) blanks sign digits refl after (inr (inl (grind (arith, nat_tests))))
-    cases false false true ex ey ez = whole_none t b s d e (min n 4294967296) blanks sign digits refl after (inr (inr (grind (arith, nat_tests))))
-    cases false false false ex ey ez =
-        let small : n ≤ 2147483647 = grind (arith, nat_tests) in
-        let held : min n 4294967296 ≡ n = omega arith in
-        whole_some t b s d e (min n 4294967296) blanks sign digits refl after (grind (arith, nat_tests)) (omega arith) (grind (arith, nat_tests)) _ (ap (signed (take s (drop b t))) (sym held))
-
-whole_is : (t : List ℕ) → Tells (IsWholeNumber t) (whole_of t)
-unfolding whole_of
-whole_is t = whole_told t _ _ _ _ refl refl refl refl
-
-pub whole_read : (t : List ℕ) (r : Option ℤ) → IfSome r (IsWholeNumber t) → IfNone r ((z : ℤ) → IsWholeNumber t z → ⊥) → r ≡ whole_of t
-whole_read t r some none = same_answer (IsWholeNumber t) (one_whole t) r (whole_of t) (tells (IsWholeNumber t) r some none) (whole_is t)
-
-signed_range : (sign : List ℕ) (n : ℕ) → n ≤ 2147483647 → IsMargin (signed sign n)
-signed_range [] n small = omega (arith, ints)
-signed_range (c ∷ cs) n small = under (eqb c 45)
-  where
-    under : (b : Bool) → IsMargin (cond b (neg_ℤ (pos n)) (pos n))
-    under true = omega (arith, ints)
-    under false = omega (arith, ints)
-
-pub whole_range : (t : List ℕ) (r : Option ℤ) → IfSome r (IsWholeNumber t) → IfSome r IsMargin
-whole_range t None some = some
-whole_range t (Some z) m = subst (λ (v : ℤ). IsMargin v) (sym m.value) (signed_range m.sign (number_of 10 m.digits) m.small)
-
 -- ---- thousandths
 
 -- holding the digits first changes nothing
-held_plain : (n : ℕ) → min (min n 4294967296 * 1000) 1000000000 ≡ min (n * 1000) 1000000000
+held_plain : (n : ℕ) → min (min n 4294967296 * 1000) max_held ≡ min (n * 1000) max_held
 held_plain n = omega arith
 
-held_pointed : (n f : ℕ) → min (min n 4294967296 * 1000 + f) 1000000000 ≡ min (n * 1000 + f) 1000000000
+held_pointed : (n f : ℕ) → min (min n 4294967296 * 1000 + f) max_held ≡ min (n * 1000 + f) max_held
 held_pointed n f = omega arith
 
 -- The same of what stands at the front of a text.
@@ -97,7 +59,7 @@ plain_told t w count no_point = cases _ refl
     n : ℕ
     n = number_of 10 (take w t)
 
-    cases : (x : Bool) → eqb w 0 ≡ x → TellsFront IsHeldDecimal t (cond x None (Some (min (n * 1000) 1000000000)))
+    cases : (x : Bool) → eqb w 0 ≡ x → TellsFront IsHeldDecimal t (cond x None (Some (min (n * 1000) max_held)))
     cases true e = plain_none t w count no_point (grind (arith, nat_tests))
     cases false e = (w, subst (λ (v : ℕ). IsLongestFront IsHeldDecimal t v w) (held_plain n) (plain_front t (min n 4294967296) w refl count no_point (grind (arith, nat_tests))))
 
@@ -110,7 +72,7 @@ pointed_told t w f count inside at more = cases _ refl
     m : ℕ
     m = number_of 10 (take f (drop (w + 1) t)) * 1000 / 10 ^ f
 
-    cases : (x : Bool) → eqb (w + f) 0 ≡ x → TellsFront IsHeldDecimal t (cond x None (Some (min (n * 1000 + m) 1000000000)))
+    cases : (x : Bool) → eqb (w + f) 0 ≡ x → TellsFront IsHeldDecimal t (cond x None (Some (min (n * 1000 + m) max_held)))
     cases true e = point_none t w f count more (grind (arith, nat_tests))
     cases false e = (w + 1 + f, subst (λ (v : ℕ). IsLongestFront IsHeldDecimal t v (w + 1 + f)) (held_pointed n m) (point_front t (min n 4294967296) w m f refl count inside at refl more (grind (arith, nat_tests))))
 
@@ -191,9 +153,6 @@ style_colour_read t r some none = same_front IsStyleColour one_style_colour t r 
 both : {V : Type 0} (P : V → Type 0) → ((v w : V) → P v → P w → v ≡ w) → (o : Option V) → Tells P o → (v : V) → (o ≡ Some v) ↔ P v
 both P one None none v = ((λ e. absurd (cc)), (λ p. absurd (none v p)))
 both P one (Some w) has v = ((λ e. let same : w ≡ v = cc in subst P same has), (λ p. ap Some (one w v has p)))
-
-pub whole_both : (t : List ℕ) (v : ℤ) → (whole_of t ≡ Some v) ↔ IsWholeNumber t v
-whole_both t v = both (IsWholeNumber t) (one_whole t) (whole_of t) (whole_is t) v
 
 pub milli_both : (t : List ℕ) (v : ℤ) → (milli_of t ≡ Some v) ↔ BeginsWith IsMilli t v
 milli_both t v = both (BeginsWith IsMilli t) (one_begins IsMilli one_milli t) (milli_of t) (tells_front IsMilli t (milli_of t) (milli_is t)) v

@@ -4,6 +4,7 @@ use Rattle.std.specs.Option.{option_or, option_map_or}
 use Rattle.std.specs.Str.{IsUtf8}
 use Rattle.std.specs.Str.Lossy.{utf8_valid_len}
 use Rattle.std.proofs.lemmas.Str.{utf8_valid_len-IsUtf8}
+use Rattle.ass_script.specs.Limits.{max_lines, max_styles}
 use Rattle.ass_script.specs.Lines.{Line}
 use Rattle.ass_script.specs.Scripts.{ScriptValue, IsScriptAnswer, has, is_events_heading, is_dialogue, is_style, values_of, styles_behind, limit_at, limit_behind, picked_script, script_of_lines, script_of, lines_of}
 use Rattle.ass_script.specs.declared.refusal.ScriptRefusal.{ScriptRefusal}
@@ -19,9 +20,9 @@ IsLimit (Some refusal.NoEvents) = ⊥
 IsLimit (Some refusal.OutOfMemory) = ⊥
 
 limit_here : (before : List Line) (line : Line) → IsLimit (limit_at before line)
-limit_here before line = cases (is_dialogue line.key && leb 1000000 (length (values_of is_dialogue before))) (is_style line.key && leb 10000 (length (styles_behind [] before)))
+limit_here before line = cases (is_dialogue line.key && leb max_lines (length (values_of is_dialogue before))) (is_style line.key && leb max_styles (length (styles_behind [] before)))
   where
-    cases : (a b : Bool) → IsLimit (cond a (Some (refusal.TooManyLines 1000000)) (cond b (Some (refusal.TooManyStyles 10000)) None))
+    cases : (a b : Bool) → IsLimit (cond a (Some (refusal.TooManyLines max_lines)) (cond b (Some (refusal.TooManyStyles max_styles)) None))
     cases true b = tt
     cases false true = tt
     cases false false = tt

@@ -4,6 +4,7 @@ use Rattle.std.specs.Prelude.{is_some, option_and_then}
 use Rattle.std.specs.List.{list_any, before_first, after_first}
 use Rattle.std.specs.Option.{option_or, option_map, option_map_or}
 use Rattle.std.proofs.lemmas.List.{append-nil}
+use Rattle.ass_script.specs.Limits.{max_lines, max_styles}
 use Rattle.ass_script.specs.Fields.{style_fields_of, usual_style_fields, event_fields_of, ends_in_text}
 use Rattle.ass_script.specs.Styles.{style_of}
 use Rattle.blanks.specs.Blanks.{trimmed}
@@ -185,10 +186,10 @@ picked_step (key.StyleFormat V4Plus) value s before = let k = key.StyleFormat V4
 picked_step (key.StyleFormat V4) value s before = let k = key.StyleFormat V4 in
     reading_path s (same_headings before k value refl refl refl) (same_header before k value refl refl refl refl) (same_fields before k value V4Plus refl) (new_fields before k value V4 refl)
     (same_styles before k value refl) (formats_no before _ refl) (values_no before _ is_dialogue refl)
-picked_step (key.Style version) value s before = cases (leb 10000 (length (styles_behind [] before)))
+picked_step (key.Style version) value s before = cases (leb max_styles (length (styles_behind [] before)))
   where
-    cases : (b : Bool) → HoldsBy (cond b (Some (refusal.TooManyStyles 10000)) None) s (before ++ record { key = key.Style version; value = value } ∷ [])
-        (cond b (record (picked s before) { refusal = Some (refusal.TooManyStyles 10000) }) (record (picked s before) { styles = styles_behind [] before ++ style_of version (fields_of version (picked s before)) value ∷ [] }))
+    cases : (b : Bool) → HoldsBy (cond b (Some (refusal.TooManyStyles max_styles)) None) s (before ++ record { key = key.Style version; value = value } ∷ [])
+        (cond b (record (picked s before) { refusal = Some (refusal.TooManyStyles max_styles) }) (record (picked s before) { styles = styles_behind [] before ++ style_of version (fields_of version (picked s before)) value ∷ [] }))
     cases true = (refl, has_no before (record { key = key.Style version; value = value }) is_events_heading refl, refl)
     cases false = let k = key.Style version in
         reading_path s (same_headings before k value refl refl refl) (same_header before k value refl refl refl refl) (same_fields before k value V4Plus refl) (same_fields before k value V4 refl)
@@ -203,10 +204,10 @@ picked_step key.EventFormat value s before = cases (ends_in_text (event_fields_o
     cases false format = let k = key.EventFormat in
         reading_path s (same_headings before k value refl refl refl) (same_header before k value refl refl refl refl) (same_fields before k value V4Plus refl) (same_fields before k value V4 refl)
         (same_styles before k value refl) format (values_no before _ is_dialogue refl)
-picked_step key.Dialogue value s before = cases (leb 1000000 (length (values_of is_dialogue before)))
+picked_step key.Dialogue value s before = cases (leb max_lines (length (values_of is_dialogue before)))
   where
-    cases : (b : Bool) → HoldsBy (cond b (Some (refusal.TooManyLines 1000000)) None) s (before ++ record { key = key.Dialogue; value = value } ∷ [])
-        (cond b (record (picked s before) { refusal = Some (refusal.TooManyLines 1000000) }) (record (picked s before) { lines = values_of is_dialogue before ++ value ∷ [] }))
+    cases : (b : Bool) → HoldsBy (cond b (Some (refusal.TooManyLines max_lines)) None) s (before ++ record { key = key.Dialogue; value = value } ∷ [])
+        (cond b (record (picked s before) { refusal = Some (refusal.TooManyLines max_lines) }) (record (picked s before) { lines = values_of is_dialogue before ++ value ∷ [] }))
     cases true = (refl, has_no before (record { key = key.Dialogue; value = value }) is_events_heading refl, refl)
     cases false = let k = key.Dialogue in
         reading_path s (same_headings before k value refl refl refl) (same_header before k value refl refl refl refl) (same_fields before k value V4Plus refl) (same_fields before k value V4 refl)

@@ -3,7 +3,8 @@ use Rattle.std.specs.Prelude.{ℕ, ◌-◌, ◌==◌, Bool, false, if◌then◌e
 use Rattle.std.specs.Option.{option_map_or}
 use Rattle.std.specs.List.{slice_split, list_any}
 use Rattle.blanks.specs.Blanks.{trimmed}
-use Rattle.ass_script.specs.Words.{same_word, is_comma}
+use Rattle.ass_num.specs.Names.{same_name}
+use Rattle.ass_script.specs.Words.{is_comma}
 use Rattle.ass_script.specs.declared.lines.Version.{Version}
 use Rattle.ass_script.specs.declared.lines.Version.TheVariants.{V4, V4Plus}
 use Rattle.ass_script.specs.declared.style_field.StyleField.{StyleField}
@@ -58,37 +59,37 @@ version_field V4 field = field
 
 unfoldable pub flag_or_margin_named : List ℕ → StyleField
 flag_or_margin_named name =
-    if same_word name (codes "Bold") then style.Bold
-    else if same_word name (codes "Italic") then style.Italic
-    else if same_word name (codes "Underline") then style.Underline
-    else if same_word name (codes "StrikeOut") then style.Strikeout
-    else if same_word name (codes "MarginL") then style.MarginL
-    else if same_word name (codes "MarginR") then style.MarginR
-    else if same_word name (codes "MarginV") then style.MarginV
+    if same_name name (codes "Bold") then style.Bold
+    else if same_name name (codes "Italic") then style.Italic
+    else if same_name name (codes "Underline") then style.Underline
+    else if same_name name (codes "StrikeOut") then style.Strikeout
+    else if same_name name (codes "MarginL") then style.MarginL
+    else if same_name name (codes "MarginR") then style.MarginR
+    else if same_name name (codes "MarginV") then style.MarginV
     else style.Other
 
 unfoldable pub shape_named : List ℕ → StyleField
 shape_named name =
-    if same_word name (codes "ScaleX") then style.ScaleX
-    else if same_word name (codes "ScaleY") then style.ScaleY
-    else if same_word name (codes "Spacing") then style.Spacing
-    else if same_word name (codes "Angle") then style.Angle
-    else if same_word name (codes "BorderStyle") then style.BorderStyle
-    else if same_word name (codes "Outline") then style.Outline
-    else if same_word name (codes "Shadow") then style.Shadow
-    else if same_word name (codes "Alignment") then style.Alignment
+    if same_name name (codes "ScaleX") then style.ScaleX
+    else if same_name name (codes "ScaleY") then style.ScaleY
+    else if same_name name (codes "Spacing") then style.Spacing
+    else if same_name name (codes "Angle") then style.Angle
+    else if same_name name (codes "BorderStyle") then style.BorderStyle
+    else if same_name name (codes "Outline") then style.Outline
+    else if same_name name (codes "Shadow") then style.Shadow
+    else if same_name name (codes "Alignment") then style.Alignment
     else flag_or_margin_named name
 
 -- the field of a name, without regard to ASCII case
 unfoldable pub style_field_named : List ℕ → StyleField
 style_field_named name =
-    if same_word name (codes "Name") then style.Name
-    else if same_word name (codes "Fontname") then style.Font
-    else if same_word name (codes "Fontsize") then style.Size
-    else if same_word name (codes "PrimaryColour") then style.PrimaryColour
-    else if same_word name (codes "SecondaryColour") then style.SecondaryColour
-    else if same_word name (codes "OutlineColour") then style.OutlineColour
-    else if same_word name (codes "BackColour") then style.BackColour
+    if same_name name (codes "Name") then style.Name
+    else if same_name name (codes "Fontname") then style.Font
+    else if same_name name (codes "Fontsize") then style.Size
+    else if same_name name (codes "PrimaryColour") then style.PrimaryColour
+    else if same_name name (codes "SecondaryColour") then style.SecondaryColour
+    else if same_name name (codes "OutlineColour") then style.OutlineColour
+    else if same_name name (codes "BackColour") then style.BackColour
     else shape_named name
 
 -- the fields that a Format line of styles names
@@ -126,21 +127,21 @@ event_field_number event.Other = 13
 
 unfoldable pub event_margin_named : List ℕ → EventField
 event_margin_named name =
-    if same_word name (codes "MarginL") then event.MarginL
-    else if same_word name (codes "MarginR") then event.MarginR
-    else if same_word name (codes "MarginV") then event.MarginV
+    if same_name name (codes "MarginL") then event.MarginL
+    else if same_name name (codes "MarginR") then event.MarginR
+    else if same_name name (codes "MarginV") then event.MarginV
     else event.Other
 
 -- the field of a name, without regard to ASCII case
 unfoldable pub event_field_named : List ℕ → EventField
 event_field_named name =
-    if same_word name (codes "Layer") then event.Layer
-    else if same_word name (codes "Start") then event.Start
-    else if same_word name (codes "End") then event.End
-    else if same_word name (codes "Style") then event.Style
-    else if same_word name (codes "Name") then event.Name
-    else if same_word name (codes "Effect") then event.Effect
-    else if same_word name (codes "Text") then event.Text
+    if same_name name (codes "Layer") then event.Layer
+    else if same_name name (codes "Start") then event.Start
+    else if same_name name (codes "End") then event.End
+    else if same_name name (codes "Style") then event.Style
+    else if same_name name (codes "Name") then event.Name
+    else if same_name name (codes "Effect") then event.Effect
+    else if same_name name (codes "Text") then event.Text
     else event_margin_named name
 
 -- the fields that a Format line of events names

@@ -1,11 +1,8 @@
 -- What holds of all texts.
 use Rattle.std.specs.Prelude.{◌≡◌, ℕ, ◌↔◌, List, Some, ℤ}
 use Rattle.ass_num.specs.Fronts.{BeginsWith}
-use Rattle.ass_num.specs.Numerals.{IsWholeNumber, IsMilli, IsStyleColour}
-use Rattle.ass_script.specs.Numbers.{whole_of, milli_of, style_colour_of}
-
-abbrev pub WholesAreRead : Type 0
-WholesAreRead = (text : List ℕ) (n : ℤ) → (whole_of text ≡ Some n) ↔ IsWholeNumber text n
+use Rattle.ass_num.specs.Numerals.{IsMilli, IsStyleColour}
+use Rattle.ass_script.specs.Numbers.{milli_of, style_colour_of}
 
 abbrev pub MillisAreRead : Type 0
 MillisAreRead = (text : List ℕ) (n : ℤ) → (milli_of text ≡ Some n) ↔ BeginsWith IsMilli text n

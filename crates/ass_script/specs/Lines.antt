@@ -2,7 +2,9 @@
 use Rattle.std.specs.Prelude.{ℕ, ◌-◌, ◌==◌, ◌&&◌, Bool, if◌then◌else◌, List, [], ◌∷◌, length, slice_index, codes}
 use Rattle.std.specs.List.{list_any, before_first, after_first}
 use Rattle.blanks.specs.Blanks.{trimmed}
-use Rattle.ass_script.specs.Words.{same_word, is_colon}
+use Rattle.ass_num.specs.Bytes.{open_bracket, close_bracket, semicolon}
+use Rattle.ass_num.specs.Names.{same_name}
+use Rattle.ass_script.specs.Words.{is_colon}
 use Rattle.ass_script.specs.declared.lines.Version.{Version}
 use Rattle.ass_script.specs.declared.lines.Version.TheVariants.{V4, V4Plus}
 use Rattle.ass_script.specs.declared.lines.Section.{Section}
@@ -17,7 +19,7 @@ pub record Line : Type 0 where
 
 -- the text begins with `[` and ends with `]`
 abbrev pub is_bracketed : List ℕ → Bool
-is_bracketed text = (slice_index text 0 == 91) && (slice_index text (length text - 1) == 93)
+is_bracketed text = (slice_index text 0 == open_bracket) && (slice_index text (length text - 1) == close_bracket)
 
 -- a heading, blanks at the ends aside
 unfoldable pub is_heading : List ℕ → Bool
@@ -26,30 +28,30 @@ is_heading text = is_bracketed (trimmed text)
 -- the section that a heading begins, without regard to ASCII case
 unfoldable pub section_named : List ℕ → Section
 section_named heading =
-    if same_word heading (codes "[Script Info]") then section.Info
-    else if same_word heading (codes "[V4+ Styles]") then section.Styles V4Plus
-    else if same_word heading (codes "[V4 Styles]") then section.Styles V4
-    else if same_word heading (codes "[Events]") then section.Events
+    if same_name heading (codes "[Script Info]") then section.Info
+    else if same_name heading (codes "[V4+ Styles]") then section.Styles V4Plus
+    else if same_name heading (codes "[V4 Styles]") then section.Styles V4
+    else if same_name heading (codes "[Events]") then section.Events
     else section.Other
 
 unfoldable pub info_key_named : List ℕ → Key
 info_key_named word =
-    if same_word word (codes "PlayResX") then key.ResX
-    else if same_word word (codes "PlayResY") then key.ResY
-    else if same_word word (codes "WrapStyle") then key.Wrap
-    else if same_word word (codes "ScaledBorderAndShadow") then key.Scaled
+    if same_name word (codes "PlayResX") then key.ResX
+    else if same_name word (codes "PlayResY") then key.ResY
+    else if same_name word (codes "WrapStyle") then key.Wrap
+    else if same_name word (codes "ScaledBorderAndShadow") then key.Scaled
     else key.Other
 
 unfoldable pub style_key_named : Version → List ℕ → Key
 style_key_named version word =
-    if same_word word (codes "Style") then key.Style version
-    else if same_word word (codes "Format") then key.StyleFormat version
+    if same_name word (codes "Style") then key.Style version
+    else if same_name word (codes "Format") then key.StyleFormat version
     else key.Other
 
 unfoldable pub event_key_named : List ℕ → Key
 event_key_named word =
-    if same_word word (codes "Dialogue") then key.Dialogue
-    else if same_word word (codes "Format") then key.EventFormat
+    if same_name word (codes "Dialogue") then key.Dialogue
+    else if same_name word (codes "Format") then key.EventFormat
     else key.Other
 
 -- the key of a word in a section, without regard to ASCII case
@@ -61,7 +63,7 @@ key_named section.Other word = key.Other
 
 -- a line that begins with `;`
 abbrev pub is_comment : List ℕ → Bool
-is_comment text = slice_index text 0 == 59
+is_comment text = slice_index text 0 == semicolon
 
 -- a comment and a line without a colon say nothing; every other line is cut at its first colon
 unfoldable pub keyed_line : Section → List ℕ → Line

@@ -6,8 +6,10 @@ use Rattle.std.specs.Str.{bytes_eq}
 use Rattle.std.specs.Str.Lines.{lines}
 use Rattle.std.specs.Str.Lossy.{utf8_valid_len}
 use Rattle.blanks.specs.Blanks.{trimmed}
-use Rattle.ass_script.specs.Words.{same_word, past_mark, bare_name}
-use Rattle.ass_script.specs.Numbers.{whole_of}
+use Rattle.ass_script.specs.Limits.{max_canvas_side, max_lines, max_styles}
+use Rattle.ass_num.specs.Names.{same_name}
+use Rattle.ass_script.specs.Words.{past_mark, bare_name}
+use Rattle.ass_num.specs.Wholes.{whole_of}
 use Rattle.ass_script.specs.Fields.{style_fields_of, usual_style_fields, event_fields_of, usual_event_fields, ends_in_text}
 use Rattle.ass_script.specs.Styles.{style_of}
 use Rattle.ass_script.specs.Lines.{Line, lines_in_sections}
@@ -100,7 +102,7 @@ last_value kind all = last_of (values_of kind all)
 -- ---- the header
 
 abbrev pub canvas_side_in : ℤ → Option ℕ
-canvas_side_in (pos n) = if nat_le 1 n && nat_le n 16384 then Some n else None
+canvas_side_in (pos n) = if nat_le 1 n && nat_le n max_canvas_side then Some n else None
 canvas_side_in (negsuc n) = None
 
 -- a whole number from 1 to 16,384
@@ -117,12 +119,12 @@ wrap_style_of value = option_map_or wrap_in (whole_of value) 0
 
 -- `yes` without regard to ASCII case, or a whole number above 0
 unfoldable pub scaled_of : List ℕ → Bool
-scaled_of value = same_word (trimmed value) (codes "yes") || option_map_or (λ n. int_lt (pos 0) n) (whole_of value) false
+scaled_of value = same_name (trimmed value) (codes "yes") || option_map_or (λ n. int_lt (pos 0) n) (whole_of value) false
 
 -- the width where the width and the height that the script says may be missing
 abbrev pub width_of : Option ℕ → Option ℕ → ℕ
 width_of (Some x) y = x
-width_of None (Some y) = if y == 1024 then 1280 else min (y * 4 / 3) 16384
+width_of None (Some y) = if y == 1024 then 1280 else min (y * 4 / 3) max_canvas_side
 width_of None None = 384
 
 abbrev pub canvas_height : Option ℕ → Option ℕ → ℕ
@@ -175,8 +177,8 @@ event_fields_in all = option_map_or (λ fields. fields) (last_of (event_formats 
 -- why a line is one too many behind others: a million Dialogue lines, or ten thousand styles, stand before it
 abbrev pub limit_at : List Line → Line → Option ScriptRefusal
 limit_at before line =
-    if is_dialogue line.key && nat_le 1000000 (length (values_of is_dialogue before)) then Some (refusal.TooManyLines 1000000)
-    else if is_style line.key && nat_le 10000 (length (styles_behind [] before)) then Some (refusal.TooManyStyles 10000)
+    if is_dialogue line.key && nat_le max_lines (length (values_of is_dialogue before)) then Some (refusal.TooManyLines max_lines)
+    else if is_style line.key && nat_le max_styles (length (styles_behind [] before)) then Some (refusal.TooManyStyles max_styles)
     else None
 
 -- the first line too many of some lines behind others

@@ -4,19 +4,17 @@ use Rattle.std.specs.List.{slice_split}
 use Rattle.std.specs.Option.{option_map_or}
 use Rattle.std.specs.Int.{int_max}
 use Rattle.std.specs.Ordering.{int_eq}
+use Rattle.ass_num.specs.Colours.{colour_of}
 use Rattle.ass_num.specs.declared.colour.Rgba.{Rgba}
 use Rattle.blanks.specs.Blanks.{trimmed}
 use Rattle.ass_script.specs.Words.{is_comma}
-use Rattle.ass_script.specs.Numbers.{whole_of, milli_of, style_colour_of}
+use Rattle.ass_num.specs.Wholes.{whole_of}
+use Rattle.ass_script.specs.Numbers.{milli_of, style_colour_of}
 use Rattle.ass_script.specs.declared.lines.Version.{Version}
 use Rattle.ass_script.specs.declared.lines.Version.TheVariants.{V4, V4Plus}
 use Rattle.ass_script.specs.declared.style_field.StyleField.{StyleField}
 use Rattle.ass_script.specs.declared.style_field.StyleField.TheVariants as field
 use Rattle.ass_script.specs.declared.style.Style.{Style}
-
--- the colour of a number: alpha, blue, green and red from the highest byte down
-abbrev pub colour_of : ℕ → Rgba
-colour_of n = record { r = n % 256; g = n / 256 % 256; b = n / 65536 % 256; a = n / 16777216 % 256 }
 
 -- the built-in style: size 18, scales of 100 per cent, an outline and a shadow of 2, margins of 20
 abbrev pub built_in_style : Style

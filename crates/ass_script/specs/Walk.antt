@@ -1,6 +1,7 @@
 -- What one line does to what was read of the lines before it. Private functions cite this; what a script is stands in Scripts.
 use Rattle.std.specs.Prelude.{ℕ, nat_le, true, false, ◌&&◌, not, if◌then◌else◌, List, [], ◌∷◌, ◌++◌, length, Some, None, is_some, Result, Ok, Err}
 use Rattle.std.specs.Option.{option_map_or}
+use Rattle.ass_script.specs.Limits.{max_lines, max_styles}
 use Rattle.ass_script.specs.Fields.{style_fields_of, usual_style_fields, event_fields_of, usual_event_fields, ends_in_text}
 use Rattle.ass_script.specs.Styles.{style_of}
 use Rattle.ass_script.specs.Lines.{line_in}
@@ -63,7 +64,7 @@ format_step V4Plus value r = record r { fields = Some (style_fields_of V4Plus va
 
 abbrev pub style_step : Version → List ℕ → Reading → Reading
 style_step version value r =
-    if nat_le 10000 (length r.styles) then record r { refusal = Some (refusal.TooManyStyles 10000) }
+    if nat_le max_styles (length r.styles) then record r { refusal = Some (refusal.TooManyStyles max_styles) }
     else record r { styles = r.styles ++ style_of version (fields_of version r) value ∷ [] }
 
 abbrev pub event_format_step : List ℕ → Reading → Reading
@@ -71,7 +72,7 @@ event_format_step value r = if ends_in_text (event_fields_of value) then record 
 
 abbrev pub dialogue_step : List ℕ → Reading → Reading
 dialogue_step value r =
-    if nat_le 1000000 (length r.lines) then record r { refusal = Some (refusal.TooManyLines 1000000) }
+    if nat_le max_lines (length r.lines) then record r { refusal = Some (refusal.TooManyLines max_lines) }
     else record r { lines = r.lines ++ value ∷ [] }
 
 -- a line that is no heading

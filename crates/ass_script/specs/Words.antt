@@ -1,21 +1,16 @@
 -- Words in a line.
-use Rattle.std.specs.Prelude.{ℕ, ◌==◌, ◌||◌, Bool, List, drop, map, if◌then◌else◌, ◌∷◌, []}
+use Rattle.std.specs.Prelude.{ℕ, ◌==◌, ◌||◌, Bool, List, drop, if◌then◌else◌, ◌∷◌, []}
 use Rattle.std.specs.List.{prefix_len, starts_with}
 use Rattle.std.specs.Bool.{nat_eq}
-use Rattle.std.specs.Str.{bytes_eq}
-use Rattle.std.specs.Char.{to_ascii_lowercase}
+use Rattle.ass_num.specs.Bytes.{colon, comma, star}
 use Rattle.ass_num.specs.Numerals.{is_blank}
 use Rattle.blanks.specs.Blanks.{before_blanks}
 
--- two words are one without regard to ASCII case
-abbrev pub same_word : List ℕ → List ℕ → Bool
-same_word a b = bytes_eq (map to_ascii_lowercase a) (map to_ascii_lowercase b)
-
 abbrev pub is_colon : ℕ → Bool
-is_colon c = c == 58
+is_colon c = c == colon
 
 abbrev pub is_comma : ℕ → Bool
-is_comma c = c == 44
+is_comma c = c == comma
 
 -- the text behind a byte order mark
 unfoldable pub past_mark : List ℕ → List ℕ
@@ -23,7 +18,7 @@ past_mark text = if starts_with nat_eq text (239 ∷ 187 ∷ 191 ∷ []) then dr
 
 -- what may stand before a style's name where it is looked for: `*` and blanks
 abbrev pub is_star_or_blank : ℕ → Bool
-is_star_or_blank c = (c == 42) || is_blank c
+is_star_or_blank c = (c == star) || is_blank c
 
 -- the name that is looked for: the stars and blanks before it and the blanks behind it are dropped
 unfoldable pub bare_name : List ℕ → List ℕ

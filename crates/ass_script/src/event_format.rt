@@ -7,7 +7,7 @@ ghost use Rattle.ass_script.specs.Fields.{event_margin_named, event_field_named,
 use crate::fields::last_ones;
 use crate::lines::Version;
 use crate::script::EventField;
-use crate::words::same_word;
+use crate::words::same_name;
 use ass_num::{Items, Mem};
 use blanks::text::trimmed;
 use std::alloc::Global;
@@ -43,13 +43,13 @@ const OLD_USUAL: [EventField; 10] = [
 fn event_margin_named(name: &str) -> EventField
     ensures { result ≡ event_margin_named name.now }
 {
-    if same_word(name, "MarginL") {
+    if same_name(name, "MarginL") {
         return EventField::MarginL;
     }
-    if same_word(name, "MarginR") {
+    if same_name(name, "MarginR") {
         return EventField::MarginR;
     }
-    if same_word(name, "MarginV") {
+    if same_name(name, "MarginV") {
         return EventField::MarginV;
     }
     EventField::Other
@@ -59,25 +59,25 @@ fn event_margin_named(name: &str) -> EventField
 fn event_field_named(name: &str) -> EventField
     ensures { result ≡ event_field_named name.now }
 {
-    if same_word(name, "Layer") {
+    if same_name(name, "Layer") {
         return EventField::Layer;
     }
-    if same_word(name, "Start") {
+    if same_name(name, "Start") {
         return EventField::Start;
     }
-    if same_word(name, "End") {
+    if same_name(name, "End") {
         return EventField::End;
     }
-    if same_word(name, "Style") {
+    if same_name(name, "Style") {
         return EventField::Style;
     }
-    if same_word(name, "Name") {
+    if same_name(name, "Name") {
         return EventField::Name;
     }
-    if same_word(name, "Effect") {
+    if same_name(name, "Effect") {
         return EventField::Effect;
     }
-    if same_word(name, "Text") {
+    if same_name(name, "Text") {
         return EventField::Text;
     }
     event_margin_named(name)

@@ -1,24 +1,19 @@
 //! The lines of the header.
 
 ghost use Rattle.std.specs.Prelude.{◌≡◌, ◌≤◌, IfSome, Some};
-ghost use Rattle.ass_script.specs.Numbers.{whole_of};
-ghost use Rattle.ass_script.specs.Ranges.{IsScriptHeader, IsMargin, IsCanvasSide, IsHeaderLines};
+ghost use Rattle.ass_num.specs.Wholes.{whole_of};
+ghost use Rattle.ass_script.specs.Ranges.{IsScriptHeader, IsCanvasSide, IsHeaderLines};
 ghost use Rattle.ass_script.specs.Scripts.{canvas_side_of, wrap_style_of, scaled_of, width_of, canvas_height};
 ghost use Rattle.ass_script.specs.Walk.{no_header_lines, header_lines_after, made_header};
 
 use crate::lines::Key;
 use crate::script::Header;
-use crate::words::same_word;
+use crate::words::same_name;
 use ass_num::read_whole;
 use blanks::text::trimmed;
 
-/// The whole number that a text is.
-pub fn whole(text: &str) -> Option<i32>
-    ensures value { result ≡ whole_of text.now }
-    ensures range { IfSome result IsMargin }
-{
-    read_whole(text.as_bytes())
-}
+/// The widest and the highest canvas.
+const MAX_SIDE: u32 = 16_384;
 
 /// A whole number from 1 to 16,384.
 #[tactic(auto, unfolding(crate::specs::Scripts::canvas_side_of))]
@@ -26,8 +21,8 @@ fn side(value: &str) -> Option<u32>
     ensures value { result ≡ canvas_side_of value.now }
     ensures range { IfSome result IsCanvasSide }
 {
-    let number = whole(value)?;
-    if 1 <= number && number <= 16_384 {
+    let number = read_whole(value.as_bytes())?;
+    if 1 <= number && number <= MAX_SIDE as i32 {
         return Some(number as u32);
     }
     None
@@ -39,7 +34,7 @@ fn wrap(value: &str) -> u8
     ensures value { result ≡ wrap_style_of value.now }
     ensures range { result ≤ 3 }
 {
-    match whole(value) {
+    match read_whole(value.as_bytes()) {
         Some(number) if 0 <= number && number <= 3 => number as u8,
         _ => 0,
     }
@@ -50,10 +45,10 @@ fn wrap(value: &str) -> u8
 fn scaled(value: &str) -> bool
     ensures { result ≡ scaled_of value.now }
 {
-    if same_word(trimmed(value), "yes") {
+    if same_name(trimmed(value), "yes") {
         return true;
     }
-    match whole(value) {
+    match read_whole(value.as_bytes()) {
         Some(number) => 0 < number,
         None => false,
     }
@@ -106,7 +101,7 @@ impl HeaderLines {
         match (self.res_x, self.res_y) {
             (Some(width), _) => width,
             (None, Some(1_024)) => 1_280,
-            (None, Some(height)) => (height * 4 / 3).min(16_384),
+            (None, Some(height)) => (height * 4 / 3).min(MAX_SIDE),
             (None, None) => 384,
         }
     }

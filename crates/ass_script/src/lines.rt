@@ -3,7 +3,7 @@
 ghost use Rattle.std.specs.Prelude.{◌≡◌};
 ghost use Rattle.ass_script.specs.Lines.{is_bracketed, is_heading, is_comment, section_named, info_key_named, style_key_named, event_key_named, key_named, keyed_line, line_in};
 
-use crate::words::same_word;
+use crate::words::same_name;
 use blanks::text::trimmed;
 
 /// The version of a section of styles.
@@ -51,16 +51,16 @@ fn is_bracketed(text: &str) -> bool
 fn section_named(heading: &str) -> Section
     ensures { result ≡ section_named heading.now }
 {
-    if same_word(heading, "[Script Info]") {
+    if same_name(heading, "[Script Info]") {
         return Section::Info;
     }
-    if same_word(heading, "[V4+ Styles]") {
+    if same_name(heading, "[V4+ Styles]") {
         return Section::Styles(Version::V4Plus);
     }
-    if same_word(heading, "[V4 Styles]") {
+    if same_name(heading, "[V4 Styles]") {
         return Section::Styles(Version::V4);
     }
-    if same_word(heading, "[Events]") {
+    if same_name(heading, "[Events]") {
         return Section::Events;
     }
     Section::Other
@@ -70,16 +70,16 @@ fn section_named(heading: &str) -> Section
 fn info_key_named(word: &str) -> Key
     ensures { result ≡ info_key_named word.now }
 {
-    if same_word(word, "PlayResX") {
+    if same_name(word, "PlayResX") {
         return Key::ResX;
     }
-    if same_word(word, "PlayResY") {
+    if same_name(word, "PlayResY") {
         return Key::ResY;
     }
-    if same_word(word, "WrapStyle") {
+    if same_name(word, "WrapStyle") {
         return Key::Wrap;
     }
-    if same_word(word, "ScaledBorderAndShadow") {
+    if same_name(word, "ScaledBorderAndShadow") {
         return Key::Scaled;
     }
     Key::Other
@@ -89,10 +89,10 @@ fn info_key_named(word: &str) -> Key
 fn style_key_named(version: Version, word: &str) -> Key
     ensures { result ≡ style_key_named version word.now }
 {
-    if same_word(word, "Style") {
+    if same_name(word, "Style") {
         return Key::Style(version);
     }
-    if same_word(word, "Format") {
+    if same_name(word, "Format") {
         return Key::StyleFormat(version);
     }
     Key::Other
@@ -102,10 +102,10 @@ fn style_key_named(version: Version, word: &str) -> Key
 fn event_key_named(word: &str) -> Key
     ensures { result ≡ event_key_named word.now }
 {
-    if same_word(word, "Dialogue") {
+    if same_name(word, "Dialogue") {
         return Key::Dialogue;
     }
-    if same_word(word, "Format") {
+    if same_name(word, "Format") {
         return Key::EventFormat;
     }
     Key::Other

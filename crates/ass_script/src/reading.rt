@@ -19,10 +19,10 @@ use ass_num::{FlatLists, Items, Mem};
 use std::alloc::Global;
 
 /// The most Dialogue lines that a script has.
-pub const MOST_LINES: usize = 1_000_000;
+pub const MAX_LINES: usize = 1_000_000;
 
 /// The most styles that a script has.
-pub const MOST_STYLES: usize = 10_000;
+pub const MAX_STYLES: usize = 10_000;
 
 /// Which headings came so far.
 #[derive(Clone, Copy)]
@@ -132,8 +132,8 @@ impl Reading {
         ensures read { OnOk result (self.new ≡ style_step version value.now self.old) }
         ensures sound { OnOk result (IsScriptReading self.new) }
     {
-        if MOST_STYLES <= self.styles.len() {
-            self.refusal = Some(ScriptRefusal::TooManyStyles(MOST_STYLES));
+        if MAX_STYLES <= self.styles.len() {
+            self.refusal = Some(ScriptRefusal::TooManyStyles(MAX_STYLES));
             return Ok(());
         }
         let style = style_line(alloc, version, self.style_fields(version), value)?;
@@ -160,8 +160,8 @@ impl Reading {
         ensures read { OnOk result (self.new ≡ dialogue_step value.now self.old) }
         ensures sound { OnOk result (IsScriptReading self.new) }
     {
-        if MOST_LINES <= self.lines.len() {
-            self.refusal = Some(ScriptRefusal::TooManyLines(MOST_LINES));
+        if MAX_LINES <= self.lines.len() {
+            self.refusal = Some(ScriptRefusal::TooManyLines(MAX_LINES));
             return Ok(());
         }
         self.lines.push(value.as_bytes())?;

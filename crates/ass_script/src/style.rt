@@ -2,9 +2,9 @@
 
 ghost use Rattle.std.specs.Prelude.{◌≡◌, IfOk};
 ghost use Rattle.ass_script.specs.Ranges.{IsStyle};
-ghost use Rattle.ass_script.specs.Styles.{built_in_style, colour_of};
+ghost use Rattle.ass_script.specs.Styles.{built_in_style};
 
-use ass_num::{Mem, Milli, Rgba, Text};
+use ass_num::{Mem, Milli, Rgba, Text, colour_of};
 use std::alloc::Global;
 
 /// A style (ASS specification, "Style lines, [v4+ Styles] section"). Sizes, widths and distances are in thousandths
@@ -42,18 +42,6 @@ pub struct Style {
     pub margin_l: i32,
     pub margin_r: i32,
     pub margin_v: i32,
-}
-
-/// The colour of a number: alpha, blue, green and red from the highest byte down.
-pub fn colour_of(number: u32) -> Rgba
-    ensures { result ≡ colour_of number }
-{
-    Rgba {
-        r: (number % 256) as u8,
-        g: (number / 256 % 256) as u8,
-        b: (number / 65_536 % 256) as u8,
-        a: (number / 16_777_216 % 256) as u8,
-    }
 }
 
 /// The style that counts where a script has none of a name and none named `Default`.

@@ -4,7 +4,7 @@ ghost use Rattle.std.specs.Prelude.{◌≡◌};
 ghost use Rattle.ass_script.specs.Fields.{version_field, flag_or_margin_named, shape_named, style_field_named};
 
 use crate::lines::Version;
-use crate::words::same_word;
+use crate::words::same_name;
 
 /// A field of a Style line (ASS specification, "Style lines, [v4+ Styles] section").
 #[derive(Clone, Copy)]
@@ -41,25 +41,25 @@ pub enum StyleField {
 fn flag_or_margin_named(name: &str) -> StyleField
     ensures { result ≡ flag_or_margin_named name.now }
 {
-    if same_word(name, "Bold") {
+    if same_name(name, "Bold") {
         return StyleField::Bold;
     }
-    if same_word(name, "Italic") {
+    if same_name(name, "Italic") {
         return StyleField::Italic;
     }
-    if same_word(name, "Underline") {
+    if same_name(name, "Underline") {
         return StyleField::Underline;
     }
-    if same_word(name, "StrikeOut") {
+    if same_name(name, "StrikeOut") {
         return StyleField::Strikeout;
     }
-    if same_word(name, "MarginL") {
+    if same_name(name, "MarginL") {
         return StyleField::MarginL;
     }
-    if same_word(name, "MarginR") {
+    if same_name(name, "MarginR") {
         return StyleField::MarginR;
     }
-    if same_word(name, "MarginV") {
+    if same_name(name, "MarginV") {
         return StyleField::MarginV;
     }
     StyleField::Other
@@ -69,28 +69,28 @@ fn flag_or_margin_named(name: &str) -> StyleField
 fn shape_named(name: &str) -> StyleField
     ensures { result ≡ shape_named name.now }
 {
-    if same_word(name, "ScaleX") {
+    if same_name(name, "ScaleX") {
         return StyleField::ScaleX;
     }
-    if same_word(name, "ScaleY") {
+    if same_name(name, "ScaleY") {
         return StyleField::ScaleY;
     }
-    if same_word(name, "Spacing") {
+    if same_name(name, "Spacing") {
         return StyleField::Spacing;
     }
-    if same_word(name, "Angle") {
+    if same_name(name, "Angle") {
         return StyleField::Angle;
     }
-    if same_word(name, "BorderStyle") {
+    if same_name(name, "BorderStyle") {
         return StyleField::BorderStyle;
     }
-    if same_word(name, "Outline") {
+    if same_name(name, "Outline") {
         return StyleField::Outline;
     }
-    if same_word(name, "Shadow") {
+    if same_name(name, "Shadow") {
         return StyleField::Shadow;
     }
-    if same_word(name, "Alignment") {
+    if same_name(name, "Alignment") {
         return StyleField::Alignment;
     }
     flag_or_margin_named(name)
@@ -100,25 +100,25 @@ fn shape_named(name: &str) -> StyleField
 fn style_field_named(name: &str) -> StyleField
     ensures { result ≡ style_field_named name.now }
 {
-    if same_word(name, "Name") {
+    if same_name(name, "Name") {
         return StyleField::Name;
     }
-    if same_word(name, "Fontname") {
+    if same_name(name, "Fontname") {
         return StyleField::Font;
     }
-    if same_word(name, "Fontsize") {
+    if same_name(name, "Fontsize") {
         return StyleField::Size;
     }
-    if same_word(name, "PrimaryColour") {
+    if same_name(name, "PrimaryColour") {
         return StyleField::PrimaryColour;
     }
-    if same_word(name, "SecondaryColour") {
+    if same_name(name, "SecondaryColour") {
         return StyleField::SecondaryColour;
     }
-    if same_word(name, "OutlineColour") {
+    if same_name(name, "OutlineColour") {
         return StyleField::OutlineColour;
     }
-    if same_word(name, "BackColour") {
+    if same_name(name, "BackColour") {
         return StyleField::BackColour;
     }
     shape_named(name)

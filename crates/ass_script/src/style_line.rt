@@ -1,15 +1,15 @@
 //! Style lines.
 
 ghost use Rattle.std.specs.Prelude.{◌≡◌, ◌≤◌, ◌⊎◌, OnOk, OnErr, IfOk, IfSome, length};
+ghost use Rattle.ass_num.specs.Limits.{IsWithin, IsHeldNumber, IsHeldLength, max_whole};
 ghost use Rattle.ass_script.specs.Numbers.{milli_of, style_colour_of};
-ghost use Rattle.ass_script.specs.Ranges.{IsHeldNumber, IsLength, IsMargin, IsStyle};
+ghost use Rattle.ass_script.specs.Ranges.{IsStyle};
 ghost use Rattle.ass_script.specs.Styles.{bare_style, milli_or, size_or, margin_or, flag_or, border_style_or, alignment_or, old_alignment_or, colours_with, with_field, style_of};
 
-use crate::header_lines::whole;
 use crate::lines::Version;
-use crate::style::{Style, built_in_style, colour_of};
+use crate::style::{Style, built_in_style};
 use crate::style_field::StyleField;
-use ass_num::{Mem, Milli, Rgba, Text, read_milli, read_style_colour};
+use ass_num::{Mem, Milli, Rgba, Text, colour_of, read_milli, read_style_colour, read_whole};
 use blanks::text::trimmed;
 use std::alloc::Global;
 
@@ -41,9 +41,9 @@ fn put_milli(place: &mut Milli, text: &str)
 
 /// Below 0 becomes 0.
 fn put_size(place: &mut Milli, text: &str)
-    requires { IsLength place.old }
+    requires { IsHeldLength place.old }
     ensures value { place.new ≡ size_or place.old text.now }
-    ensures range { IsLength place.new }
+    ensures range { IsHeldLength place.new }
 {
     if let Some(number) = milli(text) {
         *place = number.max(0);
@@ -51,11 +51,11 @@ fn put_size(place: &mut Milli, text: &str)
 }
 
 fn put_margin(place: &mut i32, text: &str)
-    requires { IsMargin place.old }
+    requires { IsWithin max_whole place.old }
     ensures value { place.new ≡ margin_or place.old text.now }
-    ensures range { IsMargin place.new }
+    ensures range { IsWithin max_whole place.new }
 {
-    if let Some(number) = whole(text) {
+    if let Some(number) = read_whole(text.as_bytes()) {
         *place = number;
     }
 }
@@ -64,7 +64,7 @@ fn put_margin(place: &mut i32, text: &str)
 fn put_flag(place: &mut bool, text: &str)
     ensures { place.new ≡ flag_or place.old text.now }
 {
-    if let Some(number) = whole(text) {
+    if let Some(number) = read_whole(text.as_bytes()) {
         *place = number != 0;
     }
 }

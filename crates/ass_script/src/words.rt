@@ -2,9 +2,10 @@
 
 ghost use Rattle.std.specs.Prelude.{◌≡◌, ◌≤◌, length};
 ghost use Rattle.std.specs.List.{prefix_len};
-ghost use Rattle.ass_script.specs.Words.{same_word, past_mark, is_star_or_blank, bare_name};
+ghost use Rattle.ass_num.specs.Names.{same_name};
+ghost use Rattle.ass_script.specs.Words.{past_mark, is_star_or_blank, bare_name};
 
-use blanks::is_blank;
+use ass_num::is_blank;
 use blanks::text::before_blanks;
 
 /// How many stars and blanks stand at the front.
@@ -28,9 +29,9 @@ pub fn bare_name(text: &str) -> &str
     before_blanks(&text[stars_and_blanks(text.as_bytes())..])
 }
 
-/// Whether two words are one without regard to ASCII case.
-pub fn same_word(a: &str, b: &str) -> bool
-    ensures { result ≡ same_word a.now b.now }
+/// Whether two names are one without regard to ASCII case.
+pub fn same_name(a: &str, b: &str) -> bool
+    ensures { result ≡ same_name a.now b.now }
 {
     a.eq_ignore_ascii_case(b)
 }

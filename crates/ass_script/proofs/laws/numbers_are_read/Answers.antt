@@ -1,8 +1,5 @@
-use Rattle.ass_script.proofs.NumberReads.{whole_both, milli_both, style_colour_both}
+use Rattle.ass_script.proofs.NumberReads.{milli_both, style_colour_both}
 use Rattle.ass_script.proofs.laws.numbers_are_read.Goals as goal
-
-pub returns-clause-wholes : goal.returns-clause-wholes
-returns-clause-wholes c = whole_both
 
 pub returns-clause-millis : goal.returns-clause-millis
 returns-clause-millis c = milli_both
