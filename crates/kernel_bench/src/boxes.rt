@@ -33,7 +33,7 @@ fn stands_of(alloc: Global, count: u32, shown: u8) -> Mem<Vec<Stand>> {
 }
 
 fn is_near(b: &Box2) -> bool
-    ensures { IsTrue result → IsBoxWithin (pos (2 ^ 20)) b.now }
+    ensures { IsTrue result → IsBoxWithin (2 ^ 20) b.now }
 {
     if b.left < -1_000_000 || b.left > 1_000_000 {
         return false;

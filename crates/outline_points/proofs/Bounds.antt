@@ -4,6 +4,7 @@ use Rattle.std.proofs.lemmas.Int.{ints}
 use Rattle.std.proofs.lemmas.Nat.{mul-le}
 use Rattle.ass_num.specs.Floor.{floor_div}
 use Rattle.ass_num.proofs.Floor.{floor_div_within}
+use Rattle.ass_num.proofs.LimitLemmas.{IsWithin-wider}
 use Rattle.ass_num.specs.Limits.{IsWithin, max_held, one_16}
 use Rattle.ass_num.specs.Sine.{max_sine}
 use Rattle.outline_points.specs.Curves.{max_weight}
@@ -33,10 +34,6 @@ within_quotient (suc m) n z positive h =
     let r = floor_div_within (negsuc m) (pos (suc m)) z n positive (omega (arith, ints)) (omega (arith, ints)) in
     (r.0, r.1)
 
--- What lies within less lies within more.
-pub within_more : (m n : ℕ) (z : ℤ) → m ≤ n → IsWithin m z → IsWithin n z
-within_more m n z order h = (omega (arith, ints), omega (arith, ints))
-
 pub scale_within : (u : ℤ) → IsScale u → IsWithin max_scale u
 scale_within u h = (omega (arith, ints), h.most)
 
@@ -47,7 +44,7 @@ max_scaled_number = 16777216000000000
 -- a number of a path times a scale
 pub scaled_within : (a u : ℤ) (n : ℕ) → IsWithin max_held a → IsScale u → one_16 ≤ n → IsWithin (max_scaled_number * n) (a *ℤ u)
 scaled_within a u n number scale unit =
-    within_more (max_held * max_scale) (max_scaled_number * n) (a *ℤ u) (omega arith) (within_product max_held max_scale a u number (scale_within u scale))
+    IsWithin-wider (max_held * max_scale) (max_scaled_number * n) (a *ℤ u) (omega arith) (within_product max_held max_scale a u number (scale_within u scale))
 
 -- Numbers in i64 and in i128.
 pub fits_from_within : (z : ℤ) → IsWithin (2 * max_unturned) z → FitsSigned w64 z

@@ -1,7 +1,8 @@
 -- Public: boxes on the screen, and the least shifts that keep them apart. Lengths are in 1/64 pixel, and y grows downwards.
 -- (Advanced SubStation Alpha, "Layer": within a layer, events don't overlap each other.)
-use Rattle.std.specs.Prelude.{◌≡◌, ℕ, ℤ, pos, ◌+◌, ◌<◌, ◌^◌, ◌+ℤ◌, ◌-ℤ◌, neg_ℤ, ◌<ℤ◌, ◌≤ℤ◌, int_lt, Bool, true, false, List, [], ◌∷◌, length, take, map, slice_index_or}
+use Rattle.std.specs.Prelude.{◌≡◌, ℕ, ℤ, pos, ◌+◌, ◌*◌, ◌<◌, ◌^◌, ◌+ℤ◌, ◌-ℤ◌, ◌<ℤ◌, ◌≤ℤ◌, int_lt, Bool, true, false, List, [], ◌∷◌, length, take, map, slice_index_or}
 use Rattle.std.specs.List.{All, filter}
+use Rattle.ass_num.specs.Limits.{IsWithin}
 use Rattle.placement.specs.declared.boxes.Box2.{Box2}
 use Rattle.placement.specs.declared.boxes.Stand.{Stand}
 
@@ -61,26 +62,52 @@ pub record AreLeastShifts (stands : List Stand) (shifts : List ℤ) : Type 0 whe
 abbrev pub AreInOrder : List Stand → Type 0
 AreInOrder stands = (k : ℕ) (s : Stand) → k + 1 < length stands → (slice_index_or stands k s).start ≤ℤ (slice_index_or stands (k + 1) s).start
 
--- The number lies within `limit` of 0.
-abbrev pub IsNear : ℤ → ℤ → Type 0
-IsNear limit x = (neg_ℤ limit ≤ℤ x) × (x ≤ℤ limit)
+-- ---- limits
+
+-- the most stands of a list
+abbrev pub max_stands : ℕ
+max_stands = 1000000
+
+-- the farthest from 0 that the box of a stand may lie
+abbrev pub max_place : ℕ
+max_place = 2 ^ 50
+
+-- the highest that it may be
+abbrev pub max_height : ℕ
+max_height = 2 ^ 40
+
+-- the farthest from 0 that it is moved
+abbrev pub max_moved : ℕ
+max_moved = max_place + max_stands * max_height
+
+-- the farthest from 0 that any box may lie that is moved or kept clear of
+abbrev pub max_box : ℕ
+max_box = 2 ^ 61
 
 -- All four sides lie within `limit` of 0.
-pub record IsBoxWithin (limit : ℤ) (b : Box2) : Type 0 where
-  pub left : IsNear limit b.left
-  pub top : IsNear limit b.top
-  pub right : IsNear limit b.right
-  pub bottom : IsNear limit b.bottom
+pub record IsBoxWithin (limit : ℕ) (b : Box2) : Type 0 where
+  pub left : IsWithin limit b.left
+  pub top : IsWithin limit b.top
+  pub right : IsWithin limit b.right
+  pub bottom : IsWithin limit b.bottom
 
--- The stand's box lies within 2^50 of 0, and is at most 2^40 high.
+-- The box isn't higher than `height`.
+abbrev pub IsLow : ℕ → Box2 → Type 0
+IsLow height b = b.bottom ≤ℤ (b.top +ℤ pos height)
+
+-- The stand's box lies where it may, and isn't too high.
 pub record IsPlaceableStand (s : Stand) : Type 0 where
-  pub within : IsBoxWithin (pos (2 ^ 50)) s.place
-  pub height : s.place.bottom ≤ℤ (s.place.top +ℤ pos (2 ^ 40))
+  pub within : IsBoxWithin max_place s.place
+  pub height : IsLow max_height s.place
 
--- a shift that a box within 2^61 of 0 may need
-pub record IsShift (shift : ℤ) : Type 0 where
+-- The stand's box lies within `limit` of 0.
+abbrev pub IsStandWithin : ℕ → Stand → Type 0
+IsStandWithin limit s = IsBoxWithin limit s.place
+
+-- a shift from 0 up to `limit`
+pub record IsShift (limit : ℕ) (shift : ℤ) : Type 0 where
   pub from_zero : pos 0 ≤ℤ shift
-  pub bounded : shift ≤ℤ pos (2 ^ 62)
+  pub bounded : shift ≤ℤ pos limit
 
 -- the shift at which the moved box comes to touch the other one, on the other one's far side
 abbrev pub passing : Bool → Box2 → Box2 → ℤ

@@ -2,11 +2,13 @@
 #![tactic(auto)]
 
 mod boxes;
+mod laws;
 mod list;
 mod shift;
 #[cfg(test)]
 mod tests;
 
 pub use boxes::{Box2, Stand};
+pub use laws::one_list_of_shifts;
 pub use list::replay;
 pub use shift::least_shift;

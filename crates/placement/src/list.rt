@@ -1,9 +1,9 @@
 //! The least shifts of a whole list, by replaying it.
 
-ghost use Rattle.std.specs.Prelude.{◌≡◌, ◌^◌, ◌≤◌, ℤ, pos, length, IfOk, OnOk};
+ghost use Rattle.std.specs.Prelude.{◌≡◌, ◌≤◌, ◌+◌, ◌*◌, length, IfOk, OnOk};
 ghost use Rattle.std.specs.List.{All, filter};
 ghost use Rattle.std.specs.List.Sorted.{IsPermutation};
-ghost use Rattle.placement.specs.Placement.{AreInOrder, AreLeastShifts, IsPlaceableStand, IsShift, IsBoxWithin, ends_after, moved_stand, boxes_of};
+ghost use Rattle.placement.specs.Placement.{AreInOrder, AreLeastShifts, IsPlaceableStand, IsShift, IsBoxWithin, IsStandWithin, ends_after, moved_stand, placed_stands, boxes_of, max_stands, max_place, max_moved, max_box};
 
 use crate::boxes::{Box2, Stand};
 use crate::shift::{least_shift, moved};
@@ -13,10 +13,12 @@ use std::alloc::Global;
 /// The shift of each stand of the list: the least by which its box meets no moved box of an earlier stand that ends after it starts.
 /// Only the stands that are still shown are kept, so a list in which few stand at once costs no more than its length.
 pub fn replay(alloc: Global, list: &[Stand]) -> Mem<Vec<Fix>>
-    requires few { length list.now ≤ 1000000 }
+    requires few { length list.now ≤ max_stands }
     requires placeable { All IsPlaceableStand list.now }
     requires in_order { AreInOrder list.now }
-    ensures { IfOk result (λ shifts. AreLeastShifts list.now shifts.items) }
+    ensures least { IfOk result (λ shifts. AreLeastShifts list.now shifts.items) }
+    ensures within { IfOk result (λ shifts. All (IsShift (max_place + max_moved)) shifts.items) }
+    ensures moved { IfOk result (λ shifts. All (IsStandWithin max_moved) (placed_stands list.now shifts.items)) }
 {
     let mut shifts = Vec::with_capacity(alloc, list.len())?;
     let mut shown: Vec<Stand> = Vec::new(alloc);
@@ -42,8 +44,8 @@ fn drop_ended(shown: &mut Vec<Stand>, next: &Stand)
 
 /// The stand, with its box moved.
 fn moved_stand(stand: &Stand, shift: Fix) -> Stand
-    requires within { IsBoxWithin (pos (2 ^ 61)) stand.now.place }
-    requires shift { IsShift shift }
+    requires within { IsBoxWithin max_box stand.now.place }
+    requires shift { IsShift (2 * max_box) shift }
     ensures { result ≡ moved_stand shift stand.now }
 {
     Stand {

@@ -1,7 +1,7 @@
 //! What no clause says: that calls succeed with ample memory, with examples worked by the rule.
 
-ghost use Rattle.std.specs.Prelude.{◌^◌, pos, IsTrue};
-ghost use Rattle.placement.specs.Placement.{AreInOrder, IsPlaceableStand, IsBoxWithin};
+ghost use Rattle.std.specs.Prelude.{◌^◌, IsTrue};
+ghost use Rattle.placement.specs.Placement.{AreInOrder, IsPlaceableStand, IsBoxWithin, max_box};
 
 use crate::{Box2, Stand, least_shift, replay};
 use ass_num::{Fix, Mem};
@@ -27,7 +27,7 @@ fn stand_of(start: i64, end: i64, place: Box2, down: bool) -> Stand {
 }
 
 fn is_small(b: &Box2) -> bool
-    ensures { IsTrue result → IsBoxWithin (pos (2 ^ 20)) b.now }
+    ensures { IsTrue result → IsBoxWithin (2 ^ 20) b.now }
 {
     if b.left < -1_000_000 || b.left > 1_000_000 {
         return false;
@@ -45,7 +45,7 @@ fn is_small(b: &Box2) -> bool
 }
 
 fn is_near(b: &Box2) -> bool
-    ensures { IsTrue result → IsBoxWithin (pos (2 ^ 61)) b.now }
+    ensures { IsTrue result → IsBoxWithin max_box b.now }
 {
     is_small(b)
 }

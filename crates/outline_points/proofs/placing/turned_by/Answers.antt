@@ -3,7 +3,8 @@ use Rattle.std.proofs.lemmas.Int.{ints}
 use Rattle.ass_num.specs.Floor.{floor_div}
 use Rattle.ass_num.specs.Limits.{IsWithin}
 use Rattle.ass_num.specs.Sine.{max_sine}
-use Rattle.outline_points.proofs.Bounds.{turned_product, within_product, within_quotient, within_more, within_sum}
+use Rattle.ass_num.proofs.LimitLemmas.{IsWithin-wider}
+use Rattle.outline_points.proofs.Bounds.{turned_product, within_product, within_quotient, within_sum}
 use Rattle.outline_points.proofs.placing.turned_by.Goals as goal
 use mir.Syntax.{w128}
 
@@ -52,7 +53,7 @@ returns-clause-value c =
 
 -- a quotient of a sum of two products by sines
 mean_within : (m : ℕ) (a q : ℤ) → q ≡ floor_div a (pos max_sine) → IsWithin (m * max_sine + m * max_sine) a → IsWithin (2 * m) q
-mean_within m a q is h = rw is (within_quotient (2 * m) max_sine a (omega arith) (within_more (m * max_sine + m * max_sine) (2 * m * max_sine) a (omega arith) h))
+mean_within m a q is h = rw is (within_quotient (2 * m) max_sine a (omega arith) (IsWithin-wider (m * max_sine + m * max_sine) (2 * m * max_sine) a (omega arith) h))
 
 pub returns-clause-within : goal.returns-clause-within
 returns-clause-within c m near =

@@ -1,7 +1,8 @@
 use Rattle.std.proofs.Common.{◌≡◌, ◌*ℤ◌, ◌*◌, ◌∙◌, refl, FitsSigned, to_z-of_z, rules, arith, w64}
 use Rattle.ass_num.specs.Limits.{IsWithin}
 use Rattle.outline_points.specs.Limits.{max_scaled, max_unturned}
-use Rattle.outline_points.proofs.Bounds.{max_scaled_number, within_more, scaled_within}
+use Rattle.ass_num.proofs.LimitLemmas.{IsWithin-wider}
+use Rattle.outline_points.proofs.Bounds.{max_scaled_number, scaled_within}
 use Rattle.outline_points.proofs.products.scaled.Goals as goal
 use mir.Syntax.{w128}
 
@@ -14,7 +15,7 @@ product_within c = rw (is c) (scaled_within c.args.a c.args.u c.args.unit c.requ
 pub quotient-requires-clause-within : goal.quotient-requires-clause-within
 quotient-requires-clause-within c =
     let fp : FitsSigned w128 c.product.result = search rules in
-    rw (to_z-of_z fp) (within_more (max_scaled_number * c.args.unit) (2 * max_unturned * c.args.unit) c.product.result (omega arith) (product_within c))
+    rw (to_z-of_z fp) (IsWithin-wider (max_scaled_number * c.args.unit) (2 * max_unturned * c.args.unit) c.product.result (omega arith) (product_within c))
 
 pub returns-clause-value : goal.returns-clause-value
 returns-clause-value c =
@@ -26,4 +27,4 @@ pub returns-clause-within : goal.returns-clause-within
 returns-clause-within c =
     let fp : FitsSigned w128 c.product.result = search rules in
     let fq : FitsSigned w64 c.quotient.result = search rules in
-    rw (to_z-of_z fq) (within_more max_scaled_number max_scaled c.quotient.result (omega arith) (c.quotient.ensures.within max_scaled_number (rw (to_z-of_z fp) (product_within c.before))))
+    rw (to_z-of_z fq) (IsWithin-wider max_scaled_number max_scaled c.quotient.result (omega arith) (c.quotient.ensures.within max_scaled_number (rw (to_z-of_z fp) (product_within c.before))))

@@ -1,6 +1,6 @@
 use Rattle.std.proofs.Common.{◌≡◌, ap, ◌∙◌, rules, arith, SFits, to_z, of_z, w64, ◌<ℤ◌}
 use Rattle.std.proofs.lemmas.Int.{ints, to_z-of_z}
-use Rattle.placement.proofs.ShiftLemmas.{left-falls}
+use Rattle.placement.proofs.ShiftLemmas.{left-falls, least-IsShift, least-IsWithin}
 use Rattle.placement.proofs.shift.least_shift.Goals as goal
 
 pub loop-shift-smaller : goal.loop-shift-smaller
@@ -14,3 +14,12 @@ loop-shift-smaller c =
     let n : next ≡ t → ⊥ = λ e. c.if-next-shift.false (ap (of_z w64) e ∙ k) in
     let l : to_z w64 c.loop-shift.shift-bits <ℤ next = omega (arith, ints, o, n) in
     rw (to_z-of_z w64 next s) (left-falls (to_z w64 c.loop-shift.shift-bits) next l f)
+
+pub returns-then-next-shift-clause-least : goal.returns-then-next-shift-clause-least
+returns-then-next-shift-clause-least c = search rules
+
+pub returns-then-next-shift-clause-within : goal.returns-then-next-shift-clause-within
+returns-then-next-shift-clause-within c limit w ws = least-IsShift c.args.b.now c.args.others.now c.args.down limit _ w ws (returns-then-next-shift-clause-least c)
+
+pub returns-then-next-shift-clause-moved : goal.returns-then-next-shift-clause-moved
+returns-then-next-shift-clause-moved c limit height w ws low = least-IsWithin c.args.b.now c.args.others.now c.args.down limit height _ w ws low (returns-then-next-shift-clause-least c)
