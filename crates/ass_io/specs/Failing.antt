@@ -1,4 +1,4 @@
--- The shelf and the sink that fail at chosen calls.
+-- Public: the shelf and the sink that fail at chosen calls.
 use Rattle.std.specs.Prelude.{ℕ, List}
 use Rattle.ass_io.specs.declared.failing_shelf.FailingShelf.{FailingShelf}
 use Rattle.ass_io.specs.declared.failing_sink.FailingSink.{FailingSink}

@@ -1,4 +1,4 @@
--- What a fetch answers, by what is told of the name.
+-- Public: what a fetch answers, by what is told of the name.
 use Rattle.std.specs.Prelude.{◌≡◌, ◌⊎◌, ℕ, ◌<◌, ◌≤◌, List, [], length, Option, Some, None, IsSomeAnd, nat_le, if◌then◌else◌}
 use Rattle.ass_num.specs.Causes.{Rose, IfTold}
 use Rattle.ass_num.specs.Limits.{max_file_bytes}

@@ -1,4 +1,4 @@
--- What reading an open file answers, and the shelf of real files.
+-- Public: the shelf of real files, and what reading an open file answers.
 use Rattle.std.specs.Prelude.{◌≡◌, ℕ, ◌<◌, ◌≤◌, List, [], length, Option}
 use Rattle.ass_num.specs.Causes.{IfTold}
 use Rattle.ass_num.specs.Limits.{max_file_bytes}

@@ -1,4 +1,4 @@
--- What a shelf in memory holds.
+-- Public: what a shelf in memory holds.
 use Rattle.std.specs.Prelude.{◌≡◌, ℕ, List, Option, Some, if◌then◌else◌}
 use Rattle.std.specs.Option.{option_map}
 use Rattle.std.specs.BTreeMap.{get_by_text}

@@ -1,4 +1,4 @@
--- What a sink in memory holds.
+-- Public: what a sink in memory holds.
 use Rattle.std.specs.Prelude.{ℕ, List}
 use Rattle.ass_io.specs.declared.memory_sink.MemorySink.{MemorySink}
 

@@ -1,4 +1,4 @@
--- The sink over a standard stream.
+-- Public: the sink over a standard stream.
 use Rattle.ass_io.specs.declared.std_sink.StdSink.{StdSink}
 
 -- the stream

@@ -4,15 +4,15 @@ ghost use Rattle.std.specs.Prelude.{◌≡◌, [], None};
 ghost use Rattle.ass_io.specs.Files.{IsFileRead};
 
 use crate::count::count_one;
-use crate::shelf::{FILE_LIMIT, Fetch, Shelf};
+use crate::shelf::{Fetch, MAX_FILE_BYTES, Shelf};
 use std::alloc::Global;
 use std::io::Read;
 use std::rt::Files;
 use std::{fs, io};
 
 /// A shelf of real files, by their paths. It tells no contents. A name that the system does not
-/// find is `Missing`; a folder, a path through a file, and whatever else can't be opened or read is
-/// `Failed`.
+/// find is `Missing`; a folder, a path through a file, and whatever else can't be opened or read, but
+/// for want of memory, is `Failed`.
 #[derive(Drop)]
 pub struct FileShelf<R: Files + Drop> {
     rt: R,
@@ -38,8 +38,11 @@ impl<R: Files + Drop> Shelf for FileShelf<R> {
     fn fetch(&mut self, _alloc: Global, name: &str, into: &mut Vec<u8>) -> Fetch {
         let fetched = match fs::open(&self.rt, name) {
             Ok(file) => read_file(file, into),
-            Err(refused) if refused.kind() == io::ErrorKind::NotFound => Fetch::Missing,
-            Err(_) => Fetch::Failed,
+            Err(refused) => match refused.kind() {
+                io::ErrorKind::NotFound => Fetch::Missing,
+                io::ErrorKind::OutOfMemory => Fetch::OutOfMemory,
+                _ => Fetch::Failed,
+            },
         };
         if fetched == Fetch::Failed {
             count_one(&mut self.faults);
@@ -48,14 +51,14 @@ impl<R: Files + Drop> Shelf for FileShelf<R> {
     }
 }
 
-/// Reads an open file to its end, into an empty vector. `TooLarge` comes once more than `FILE_LIMIT`
+/// Reads an open file to its end, into an empty vector. `TooLarge` comes once more than `MAX_FILE_BYTES`
 /// bytes were read; after any answer but `Got` the vector is empty again.
 pub fn read_file<F: Read + Drop>(file: F, into: &mut Vec<u8>) -> Fetch
     requires { into.old.items ≡ [] }
     ensures { IsFileRead (F.remaining file) result into.new.items }
 {
-    let fetched = match file.take(FILE_LIMIT as u64 + 1).read_to_end(into) {
-        Ok(_) if into.len() <= FILE_LIMIT => return Fetch::Got,
+    let fetched = match file.take(MAX_FILE_BYTES as u64 + 1).read_to_end(into) {
+        Ok(_) if into.len() <= MAX_FILE_BYTES => return Fetch::Got,
         Ok(_) => Fetch::TooLarge,
         Err(refused) if refused.kind() == io::ErrorKind::OutOfMemory => Fetch::OutOfMemory,
         Err(_) => Fetch::Failed,

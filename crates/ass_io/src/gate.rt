@@ -33,7 +33,7 @@ impl Gate for OpenGate {
     fn at(&self, _place: Place) {}
 }
 
-/// What a call is lent that starts threads and waits for them.
-pub trait Rt: Threads + Wait {}
+/// What a call is lent that starts threads, shares it with them and waits for them.
+pub trait Rt: Threads + Wait + Sync {}
 
-impl<T: Threads + Wait> Rt for T {}
+impl<T: Threads + Wait + Sync> Rt for T {}

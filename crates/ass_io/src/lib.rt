@@ -21,6 +21,6 @@ pub use file_shelf::FileShelf;
 pub use gate::{Gate, Kind, OpenGate, Place, Rt};
 pub use memory_shelf::MemoryShelf;
 pub use memory_sink::MemorySink;
-pub use shelf::{FILE_LIMIT, Fetch, Shelf};
+pub use shelf::{Fetch, MAX_FILE_BYTES, Shelf};
 pub use sink::{Put, Sink};
 pub use std_sink::StdSink;

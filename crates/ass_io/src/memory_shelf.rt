@@ -2,7 +2,7 @@
 
 ghost use Rattle.std.specs.Prelude.{◌≡◌, ℕ, List, OnOk, OnErr, Some, None};
 
-use crate::shelf::{FILE_LIMIT, Fetch, Shelf};
+use crate::shelf::{Fetch, MAX_FILE_BYTES, Shelf};
 use ass_num::Mem;
 use std::alloc::Global;
 use std::collections::BTreeMap;
@@ -49,7 +49,7 @@ impl Shelf for MemoryShelf {
     fn fetch(&mut self, _alloc: Global, name: &str, into: &mut Vec<u8>) -> Fetch {
         match self.files.get(name) {
             None => Fetch::Missing,
-            Some(bytes) if bytes.len() > FILE_LIMIT => Fetch::TooLarge,
+            Some(bytes) if bytes.len() > MAX_FILE_BYTES => Fetch::TooLarge,
             Some(bytes) => match into.extend_from_slice(bytes.as_slice()) {
                 Ok(()) => Fetch::Got,
                 Err(_) => Fetch::OutOfMemory,

@@ -6,7 +6,7 @@ ghost use Rattle.ass_io.specs.Fetched.{Told, IsFetchDecided, IsFetchCounted, IsF
 use std::alloc::Global;
 
 /// The most bytes that a file may have.
-pub const FILE_LIMIT: usize = 67_108_864;
+pub const MAX_FILE_BYTES: usize = 67_108_864;
 
 /// How a fetch ended.
 #[derive(Clone, Copy, Debug, PartialEq, Eq)]
@@ -17,7 +17,7 @@ pub enum Fetch {
     Missing,
     /// The name, or the device behind it, couldn't be read.
     Failed,
-    /// The name holds more than `FILE_LIMIT` bytes.
+    /// The name holds more than `MAX_FILE_BYTES` bytes.
     TooLarge,
     /// Memory was wanting.
     OutOfMemory,

@@ -1,5 +1,5 @@
 -- Which refusals a text in UTF-8 has.
-use Rattle.std.proofs.Common.{◌≡◌, ℕ, Bool, true, false, cond, ◌&&◌, leb, List, [], ◌∷◌, ◌++◌, length, Option, Some, None, Result, Ok, Err, sym, ap, ◌∙◌, subst, eq-eqb}
+use Rattle.std.proofs.Common.{◌≡◌, ℕ, Bool, true, false, cond, ◌&&◌, leb, eqb, List, [], ◌∷◌, ◌++◌, length, Option, Some, None, Result, Ok, Err, sym, ap, ◌∙◌, subst, eq-eqb}
 use Rattle.std.specs.Option.{option_or, option_map_or}
 use Rattle.std.specs.Str.{IsUtf8}
 use Rattle.std.specs.Str.Lossy.{utf8_valid_len}
@@ -57,3 +57,19 @@ pub never_not_utf8 : (bytes : List ℕ) (result : Result ScriptValue ScriptRefus
 never_not_utf8 bytes result n utf8 answer e =
     let said : script_of bytes ≡ Err (refusal.NotUtf8 n) = subst (λ (r : Result ScriptValue ScriptRefusal). IsScriptAnswer r (script_of bytes)) e answer in
     lines_are_utf8 (lines_of bytes) n (sym (script_of_utf8 bytes utf8) ∙ said)
+
+-- no text wants memory
+pub never_wants_memory : (bytes : List ℕ) → script_of bytes ≡ Err refusal.OutOfMemory → ⊥
+never_wants_memory bytes = whole (eqb (utf8_valid_len bytes) (length bytes))
+  where
+    cases : (b : Bool) (o : Option ScriptRefusal) → IsLimit o → cond b (option_map_or Err o (Ok (picked_script (lines_of bytes)))) (Err refusal.NoEvents) ≡ Err refusal.OutOfMemory → ⊥
+    cases false o limit e = cc
+    cases true None limit e = cc
+    cases true (Some (refusal.TooManyLines m)) limit e = cc
+    cases true (Some (refusal.TooManyStyles m)) limit e = cc
+    cases true (Some (refusal.NotUtf8 m)) limit e = limit
+    cases true (Some refusal.NoEvents) limit e = limit
+    cases true (Some refusal.OutOfMemory) limit e = limit
+    whole : (b : Bool) → cond b (script_of_lines (lines_of bytes)) (Err (refusal.NotUtf8 (utf8_valid_len bytes))) ≡ Err refusal.OutOfMemory → ⊥
+    whole true e = cases (has is_events_heading (lines_of bytes)) (limit_behind [] (lines_of bytes)) (limit_is [] (lines_of bytes)) e
+    whole false e = cc

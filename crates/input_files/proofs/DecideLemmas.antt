@@ -11,20 +11,24 @@ use Rattle.run_status.specs.declared.status.Status.{Status}
 use Rattle.run_status.specs.declared.status.Status.TheVariants as status
 use Rattle.input_files.specs.declared.inputs.Inputs.{Inputs}
 use Rattle.input_files.specs.Causes.{font_status, with_status}
-use Rattle.input_files.specs.Files.{Asks, AsksFont, AsksOf, AsksScript, FontAsked, IsAnswered}
+use Rattle.input_files.specs.Files.{Asks, AsksFont, AsksOf, AsksScript, FontAsked, IsAnswered, IsAskedFor}
 use Rattle.input_files.specs.Inputs.{AreFilesRead, AreFontsRead, IsFontRead, IsScriptRead}
 use Rattle.input_files.specs.Laws.{AreTold, FilesDecide, IsCause, IsReadDecided}
 
+-- What is told to be held asks for the answer.
+asked_by : {Value : Type 0} (asks : Asks Value) (held : Held) (answer : Result Value Status) → IsAskedFor asks (Some held) answer → asks held answer
+asked_by asks held answer h = subst (λ known. asks known answer) (sym h.1) h.2
+
 -- What is held asks for an answer that is decided.
 asked : {Value : Type 0} (asks : Asks Value) (held : Held) (name : List ℕ) (answer : Result Value Status) → IsReadDecided answer → IsAnswered asks (Some held) name answer → asks held answer
-asked asks held name (Ok value) decided h = h
+asked asks held name (Ok value) decided h = asked_by asks held _ h
 asked asks held name (Err status.Done) decided h = absurd h
-asked asks held name (Err (status.NoSuchFile other)) decided h = h
+asked asks held name (Err (status.NoSuchFile other)) decided h = asked_by asks held _ h
 asked asks held name (Err (status.ReadFault other)) decided h = absurd decided
-asked asks held name (Err (status.BadScript cause)) decided h = h
-asked asks held name (Err (status.BadFont index line cause)) decided h = h
+asked asks held name (Err (status.BadScript cause)) decided h = asked_by asks held _ h
+asked asks held name (Err (status.BadFont index line cause)) decided h = asked_by asks held _ h
 asked asks held name (Err (status.WriteFault which)) decided h = absurd h
-asked asks held name (Err (status.TooLarge what limit)) decided h = h
+asked asks held name (Err (status.TooLarge what limit)) decided h = asked_by asks held _ h
 asked asks held name (Err status.OutOfMemory) decided h = absurd decided
 asked asks held name (Err status.NotBuilt) decided h = absurd h
 
@@ -79,7 +83,7 @@ no_font = record { name = []; ascent = pos 0; descent = pos 0; default_char = No
 abbrev inputs : ScriptValue → List FontValue → Inputs
 inputs script fonts = record { script = script; fonts = fonts }
 
-abbrev AreNamesTold : (List ℕ → Told) → List (List ℕ) → Type 0
+abbrev pub AreNamesTold : (List ℕ → Told) → List (List ℕ) → Type 0
 AreNamesTold told names = (index : ℕ) (none : List ℕ) → index < length names → told (slice_index_or names index none) ≢ None
 
 -- Two decided answers about fonts are the same.

@@ -1,4 +1,4 @@
--- The statuses of what can't be read.
+-- Public: the statuses of what can't be read.
 use Rattle.std.specs.Prelude.{ℕ, Result, Ok, Err}
 use Rattle.ass_script.specs.declared.refusal.ScriptRefusal.{ScriptRefusal}
 use Rattle.ass_script.specs.declared.refusal.ScriptRefusal.TheVariants as script

@@ -1,4 +1,4 @@
--- What reading one file answers.
+-- Public: what reading one file answers.
 use Rattle.std.specs.Prelude.{◌≡◌, ◌⊎◌, ℕ, ◌<◌, ◌≤◌, List, length, Some, None, Result, Ok, Err}
 use Rattle.ass_num.specs.Causes.{Rose, IfTold}
 use Rattle.ass_num.specs.Limits.{max_file_bytes}
@@ -36,14 +36,18 @@ FontAsked index bytes answer = (font : Result FontValue FontRefusal) × IsFontAn
 abbrev pub AsksFont : ℕ → List ℕ → Asks FontValue
 AsksFont index = AsksOf (FontAsked index)
 
--- What reading a file answers: a fault of this name, want of memory, or what the name holds asks for, where that is told. Nothing is done or written, and nothing is unbuilt.
+-- What the name holds asks for the answer. Where it is told what that is, that asks for it.
+abbrev pub IsAskedFor : {Value : Type 0} → Asks Value → Told → Result Value Status → Type 0
+IsAskedFor asks told answer = (held : Held) × IfTold told (λ known. known ≡ held) × asks held answer
+
+-- What reading a file answers: a fault of this name, want of memory, or what the name holds asks for. Nothing is done or written, and nothing is unbuilt.
 abbrev pub IsAnswered : {Value : Type 0} → Asks Value → Told → List ℕ → Result Value Status → Type 0
 IsAnswered asks told name (Err (ReadFault other)) = other ≡ name
 IsAnswered asks told name (Err OutOfMemory) = Unit {0}
 IsAnswered asks told name (Err Done) = ⊥
 IsAnswered asks told name (Err (WriteFault _)) = ⊥
 IsAnswered asks told name (Err NotBuilt) = ⊥
-IsAnswered asks told name answer = IfTold told (λ held. asks held answer)
+IsAnswered asks told name answer = IsAskedFor asks told answer
 
 -- The shelf's count rose where a file couldn't be read, and is as it was after any other answer.
 abbrev pub IsAnswerReadCounted : {Value : Type 0} → Result Value Status → ℕ → ℕ → Type 0

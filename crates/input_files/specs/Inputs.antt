@@ -1,4 +1,4 @@
--- What reading a script and fonts answers.
+-- Public: what reading a script and fonts answers.
 use Rattle.std.specs.Prelude.{◌≡◌, ◌⊎◌, ℕ, ◌<◌, ◌≤◌, List, length, slice_index_or, Result, Ok, Err}
 use Rattle.ass_io.specs.Fetched.{Told}
 use Rattle.ass_script.specs.Scripts.{ScriptValue}
@@ -8,6 +8,10 @@ use Rattle.run_status.specs.declared.status.Status.TheVariants.{TooLarge}
 use Rattle.run_status.specs.declared.status.What.TheVariants.{Fonts}
 use Rattle.input_files.specs.declared.inputs.Inputs.{Inputs}
 use Rattle.input_files.specs.Files.{AsksFont, AsksScript, IsAnswered}
+
+-- the most fonts of a job
+abbrev pub max_fonts : ℕ
+max_fonts = 64
 
 -- What reading the script answers.
 abbrev pub IsScriptRead : (List ℕ → Told) → List ℕ → Result ScriptValue Status → Type 0
@@ -36,4 +40,4 @@ AreFilesRead told script fonts (Err status) =
 -- What reading the inputs of a job answers.
 abbrev pub AreRead : (List ℕ → Told) → List ℕ → List (List ℕ) → Result Inputs Status → Type 0
 AreRead told script fonts answer =
-    ((length fonts ≤ 64) × AreFilesRead told script fonts answer) ⊎ ((64 < length fonts) × (answer ≡ Err (TooLarge Fonts 64)))
+    ((length fonts ≤ max_fonts) × AreFilesRead told script fonts answer) ⊎ ((max_fonts < length fonts) × (answer ≡ Err (TooLarge Fonts max_fonts)))

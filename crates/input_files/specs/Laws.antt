@@ -1,4 +1,4 @@
--- What the files decide.
+-- Public: what the files decide.
 use Rattle.std.specs.Prelude.{◌≡◌, ◌≢◌, ℕ, ◌<◌, List, length, slice_index_or, None, Result, Ok, Err}
 use Rattle.ass_io.specs.Fetched.{Told}
 use Rattle.run_status.specs.declared.status.Status.{Status}
@@ -21,7 +21,13 @@ abbrev pub IsReadDecided : {Value : Type 0} → Result Value Status → Type 0
 IsReadDecided (Ok _) = Unit {0}
 IsReadDecided (Err status) = IsCause status
 
--- Where it is told what the names hold, two answers that are neither faults nor want of memory are the same.
+-- Where it is told what the names hold, there is an answer that is neither a fault nor want of memory.
+abbrev pub FilesHaveAnAnswer : Type 0
+FilesHaveAnAnswer =
+    (told : List ℕ → Told) (script : List ℕ) (fonts : List (List ℕ)) → AreTold told script fonts →
+    (answer : Result Inputs Status) × IsReadDecided answer × AreRead told script fonts answer
+
+-- Two answers that are neither faults nor want of memory are the same there.
 abbrev pub FilesDecide : Type 0
 FilesDecide =
     (told : List ℕ → Told) (script : List ℕ) (fonts : List (List ℕ)) (one other : Result Inputs Status) →

@@ -7,7 +7,7 @@ ghost use Rattle.bdf_font.specs.Ranges.{IsFont};
 ghost use Rattle.input_files.specs.Files.{AsksBytes, AsksFont, AsksScript, IsAnswered, IsAnswerReadCounted};
 
 use crate::causes::{font_status, script_status};
-use ass_io::{FILE_LIMIT, Fetch, Shelf};
+use ass_io::{Fetch, MAX_FILE_BYTES, Shelf};
 use ass_num::{Items, Text};
 use ass_script::{Script, read_script};
 use bdf_font::{Font, read_font};
@@ -28,7 +28,7 @@ fn fetch_file<S: Shelf>(alloc: Global, shelf: &mut S, name: &Text) -> Result<Ite
         Fetch::Got => Ok(Items::from_vec(bytes)),
         Fetch::Missing => Err(Status::NoSuchFile(name)),
         Fetch::Failed => Err(Status::ReadFault(name)),
-        Fetch::TooLarge => Err(Status::TooLarge(What::Bytes, FILE_LIMIT)),
+        Fetch::TooLarge => Err(Status::TooLarge(What::Bytes, MAX_FILE_BYTES)),
         Fetch::OutOfMemory => Err(Status::OutOfMemory),
     }
 }

@@ -15,7 +15,7 @@ use run_status::{Status, What};
 use std::alloc::Global;
 
 /// The most fonts of a job.
-pub const MOST_FONTS: usize = 64;
+pub const MAX_FONTS: usize = 64;
 
 /// A script, and fonts in the order of their names.
 #[derive(Debug, Drop)]
@@ -53,10 +53,7 @@ fn fetch_fonts<S: Shelf>(
 {
     let mut fonts = Items::new(alloc);
     for index in 0..names.len() {
-        let font = match fetch_font_at(alloc, shelf, names, index) {
-            Ok(font) => font,
-            Err(status) => return Err(status),
-        };
+        let font = fetch_font_at(alloc, shelf, names, index)?;
         fonts.push(font)?;
     }
     Ok(fonts)
@@ -75,14 +72,9 @@ fn fetch_files<S: Shelf>(
     ensures script { IfOk result (λ inputs. IsScript inputs.script) }
     ensures fonts { IfOk result (λ inputs. All IsFont inputs.fonts) }
 {
-    let script = match fetch_script(alloc, shelf, script) {
-        Ok(script) => script,
-        Err(status) => return Err(status),
-    };
-    match fetch_fonts(alloc, shelf, fonts) {
-        Ok(fonts) => Ok(Inputs { script, fonts }),
-        Err(status) => Err(status),
-    }
+    let script = fetch_script(alloc, shelf, script)?;
+    let fonts = fetch_fonts(alloc, shelf, fonts)?;
+    Ok(Inputs { script, fonts })
 }
 
 /// Reads the script of this name, and then the fonts of these names, in order. The first that can't be read decides the
@@ -99,8 +91,8 @@ pub fn read_inputs<S: Shelf>(
     ensures script { IfOk result (λ inputs. IsScript inputs.script) }
     ensures fonts { IfOk result (λ inputs. All IsFont inputs.fonts) }
 {
-    if fonts.len() > MOST_FONTS {
-        return Err(Status::TooLarge(What::Fonts, MOST_FONTS));
+    if fonts.len() > MAX_FONTS {
+        return Err(Status::TooLarge(What::Fonts, MAX_FONTS));
     }
     fetch_files(alloc, shelf, script, fonts)
 }

@@ -1,12 +1,13 @@
 //! What the files decide.
 
-ghost use Rattle.input_files.specs.Laws.{FilesDecide};
+ghost use Rattle.input_files.specs.Laws.{FilesDecide, FilesHaveAnAnswer};
 
 use bdf_font::one_answer;
 
-/// Where a shelf tells what all the names hold, there is one answer, but for faults and want of memory.
+/// Where a shelf tells what all the names hold, there is exactly one answer, but for faults and want of memory.
 pub fn files_decide()
-    ensures { FilesDecide }
+    ensures some { FilesHaveAnAnswer }
+    ensures one { FilesDecide }
 {
     one_answer();
 }

@@ -6,5 +6,5 @@ mod files;
 mod inputs;
 mod laws;
 
-pub use inputs::{Inputs, MOST_FONTS, read_inputs};
+pub use inputs::{Inputs, MAX_FONTS, read_inputs};
 pub use laws::files_decide;

@@ -6,6 +6,7 @@ use Rattle.std.specs.Fmt.{decimal}
 use Rattle.std.proofs.lemmas.Str.Parse.{IsNumeralModel, numerals_by_fold, not_in_digits}
 use Rattle.std.proofs.Common.{Bor, MatchOption}
 use Rattle.std.proofs.lemmas.Str.Pattern.{IsSplitOnceResult, split_after}
+use Rattle.ass_num.specs.Limits.{max_frame_side}
 use Rattle.play_words.specs.Words.{size_text}
 use Rattle.std.proofs.lemmas.Fmt.{parse-decimal, digits_decimal, decimal_injective}
 
@@ -45,7 +46,7 @@ same_parts s (x ∷ xs) (x' ∷ xs') ys ys' h h' e =
     (cc, both.1)
 
 -- a size's text has one width and one height
-pub same_size : (w h w' h' : ℕ) → w ≤ 4096 → h ≤ 4096 → w' ≤ 4096 → h' ≤ 4096 → size_text w h ≡ size_text w' h' → (w ≡ w') × (h ≡ h')
+pub same_size : (w h w' h' : ℕ) → w ≤ max_frame_side → h ≤ max_frame_side → w' ≤ max_frame_side → h' ≤ max_frame_side → size_text w h ≡ size_text w' h' → (w ≡ w') × (h ≡ h')
 same_size w h w' h' a b a' b' e =
     let parts = same_parts 120 (decimal w) (decimal w') (decimal h) (decimal h') (no_x_in_decimal w (omega arith)) (no_x_in_decimal w' (omega arith)) e in
     (decimal_injective w w' (omega arith) (omega arith) parts.0, decimal_injective h h' (omega arith) (omega arith) parts.1)

@@ -1,8 +1,9 @@
--- The words of a run (docs/PROGRAM.md).
+-- Public: the words of a run (docs/PROGRAM.md).
 use Rattle.std.specs.Prelude.{◌≡◌, ℕ, ◌<◌, ◌≤◌, ◌==◌, Bool, true, false, not, List, [], ◌∷◌, ◌++◌, codes, decimal, length, map, string_bytes}
 use Rattle.std.specs.List.{list_all}
 use Rattle.std.specs.declared.string.String.{String}
 use Rattle.std.specs.Global.{Global}
+use Rattle.ass_num.specs.Limits.{IsInstant, max_frame_side}
 use Rattle.ass_num.specs.declared.size.Size.{Size}
 use Rattle.play_words.specs.declared.job.Job.{Job}
 use Rattle.play_words.specs.declared.job.Task.{Task}
@@ -23,7 +24,7 @@ size_text width height = decimal width ++ 120 ∷ decimal height
 
 -- The number of columns or rows of a picture.
 abbrev pub IsFrameSide : ℕ → Type 0
-IsFrameSide side = (1 ≤ side) × (side ≤ 4096)
+IsFrameSide side = (1 ≤ side) × (side ≤ max_frame_side)
 
 -- the words before the names of the files; a number is in decimal digits, without a leading zero
 abbrev pub task_words : Task → List (List ℕ)
@@ -33,7 +34,7 @@ task_words (Frame at size) = codes "frame" ∷ codes "--at" ∷ decimal at ∷ c
 -- The numbers of a task are within their limits.
 abbrev pub IsTask : Task → Type 0
 IsTask Check = Unit {0}
-IsTask (Frame at size) = (at ≤ 4000000000000) × IsFrameSide size.w × IsFrameSide size.h
+IsTask (Frame at size) = IsInstant at × IsFrameSide size.w × IsFrameSide size.h
 
 -- A check takes one font or more, a picture takes one.
 abbrev pub IsFontCount : Task → ℕ → Type 0

@@ -2,11 +2,11 @@
 
 use ass_num::{Items, Size, Text};
 
-/// The latest instant, in milliseconds.
+/// The last instant, in milliseconds.
 pub const MAX_INSTANT: u64 = 4_000_000_000_000;
 
-/// The greatest width and the greatest height, in pixels.
-pub const MAX_SIDE: u64 = 4096;
+/// The most columns and the most rows of a frame.
+pub const MAX_FRAME_SIDE: u64 = 4096;
 
 /// What is to be done with a script and fonts.
 #[derive(Clone, Debug, Drop)]

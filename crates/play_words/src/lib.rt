@@ -8,5 +8,5 @@ mod names;
 mod numbers;
 mod words;
 
-pub use job::{Job, MAX_INSTANT, MAX_SIDE, Task};
+pub use job::{Job, MAX_FRAME_SIDE, MAX_INSTANT, Task};
 pub use words::{one_job, read_words};

@@ -3,7 +3,7 @@
 ghost use Rattle.std.specs.Prelude.{◌≡◌, ◌≤◌, ℕ, IfOk, IfSome, IfNone, decimal};
 ghost use Rattle.play_words.specs.Words.{IsFrameSide, size_text};
 
-use crate::job::MAX_SIDE;
+use crate::job::MAX_FRAME_SIDE;
 use ass_num::{Mem, Size};
 use std::alloc::Global;
 
@@ -37,10 +37,10 @@ pub fn read_size(alloc: Global, text: &str) -> Mem<Option<Size>>
     let Some((width, height)) = text.split_once('x') else {
         return Ok(None);
     };
-    let Some(w) = read_number(alloc, width, 1, MAX_SIDE)? else {
+    let Some(w) = read_number(alloc, width, 1, MAX_FRAME_SIDE)? else {
         return Ok(None);
     };
-    let Some(h) = read_number(alloc, height, 1, MAX_SIDE)? else {
+    let Some(h) = read_number(alloc, height, 1, MAX_FRAME_SIDE)? else {
         return Ok(None);
     };
     Ok(Some(Size {

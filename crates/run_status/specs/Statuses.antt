@@ -1,4 +1,4 @@
--- The line and the exit status of each status (docs/PROGRAM.md).
+-- Public: the line and the exit status of each status (docs/PROGRAM.md).
 use Rattle.std.specs.Prelude.{ℕ, List, [], ◌++◌, codes, decimal}
 use Rattle.bdf_font.specs.declared.cause.FontCause.{FontCause}
 use Rattle.bdf_font.specs.declared.cause.FontCause.TheVariants.{NoStart, BadNumber, BadRow, Misplaced, NoEnd}
