@@ -9,7 +9,7 @@ returns-clause-run g c = λ job spells.
 pub returns-clause-decided : goal.returns-clause-decided
 returns-clause-decided g c = λ job spells stays shows reports.
     let run = run_after _ job _ _ c.do_words-outcome.result c.finish.result (c.do_words-outcome.ensures.run job spells) c.finish.ensures.answer c.finish.ensures.report in
-    decides c.files_decide.ensures _ job _ _ _ _ c.finish.result run
+    decides c.files_decide.ensures.one _ job _ _ _ _ c.finish.result run
     (read_after c.do_words-outcome.result c.finish.result _ _ c.finish.ensures.answer c.do_words-outcome.ensures.read)
     (written_after c.do_words-outcome.result c.finish.result _ _ c.finish.ensures.answer c.do_words-outcome.ensures.write)
     stays shows reports
