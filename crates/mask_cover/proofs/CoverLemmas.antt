@@ -8,14 +8,14 @@ use Rattle.std.specs.List.{All}
 use Rattle.ass_num.specs.Coverage.{sum_from, first_sample, counted, samples_of, coverage_byte, box_of, PixelBox, InBox, IsCover}
 use Rattle.ass_num.specs.Floor.{floor_div}
 use Rattle.ass_num.specs.Masks.{MaskValue, value_at, is_mask}
-use Rattle.ass_num.specs.Regions.{RegionValue, in_runs, row_at, member, ascend, all_ascend, has_run, first_has_run, last_has_run, last_has_run_after, is_canonical}
+use Rattle.ass_num.specs.Regions.{RegionValue, in_runs, row_at, member, ascend, all_ascend, has_run, first_has_run, last_has_run, is_canonical}
 use Rattle.ass_num.specs.declared.region.Run.{Run}
 use Rattle.ass_num.proofs.Floor.{floor_div-below, floor_div-above}
 use Rattle.ass_num.proofs.MaskLemmas.{cell_below, value_inside, value_beside, value_over}
 use Rattle.std.proofs.Math.Bool.{or-true}
 use Rattle.std.proofs.lemmas.List.{get_or_default}
 use Rattle.ass_num.proofs.OrderLemmas.{first_in}
-use Rattle.ass_num.proofs.RegionLemmas.{first_ascends, rest_ascends, row_ascends, last_full, full_has, row_none}
+use Rattle.ass_num.proofs.RegionLemmas.{first_ascends, rest_ascends, row_ascends, last_full}
 use Rattle.ass_num.proofs.SumLemmas.{sum_from-same, sum_from-positive, some_positive}
 use Rattle.mask_cover.proofs.SampleLemmas.{bit}
 use Rattle.mask_cover.proofs.SpanLemmas.{span_row}
@@ -194,7 +194,7 @@ is_cover region px py m left above s e f bytes = record {
         let c : j.0 < m.h = omega (arith, ints, j.1) in
         value_inside m x y i.0 j.0 i.1 j.1 a c ∙ bytes i.0 j.0 a c ∙ ap coverage_byte (sym (rw (sym i.1, sym j.1) at (cell_is region px py m.x m.y left above i.0 j.0 e f)))
 
-abbrev no_pixels : MaskValue
+abbrev pub no_pixels : MaskValue
 no_pixels = record { x = pos 0; y = pos 0; w = 0; h = 0; bytes = [] }
 
 nowhere : (region : RegionValue) (px py : ℕ) → region.rows ≡ [] → (x y : ℤ) → 0 < samples_of (member region.top region.rows) px py x y → ⊥
@@ -247,6 +247,14 @@ some_pixels phase i j x count order f g = let h = in_order phase i j x _ order f
 
 pub span_order : (rows : List (List Run)) (n : ℕ) (span : Run) → IsSpanOfRows rows n span → span.from ≤ℤ (span.to -ℤ pos 1)
 span_order rows n span s = let a = s.first in let h = s.inside a.0 span.from a.1 a.2 in omega (arith, ints, h.1)
+
+pub spans_full : (region : RegionValue) (px py : ℕ) (b : PixelBox) → Spans region px py b → (0 < b.w) × (0 < b.h)
+spans_full region px py b s =
+    let some = s.some in
+    let order : region.top ≤ℤ ((region.top +ℤ pos (length region.rows)) -ℤ pos 1) = omega (arith, ints) in (
+      some_pixels px s.span.from (s.span.to -ℤ pos 1) b.x b.w (span_order region.rows (length region.rows) s.span s.is_span) s.left s.right,
+      some_pixels py region.top ((region.top +ℤ pos (length region.rows)) -ℤ pos 1) b.y b.h order s.top s.bottom,
+    )
 
 pub mask_ok : (x y : ℤ) (w h : ℕ) (bytes : List ℕ) → length bytes ≡ w * h → 0 < w → 0 < h → is_mask (record { x = x; y = y; w = w; h = h; bytes = bytes }) ≡ true
 mask_ok x y w h bytes e a b =

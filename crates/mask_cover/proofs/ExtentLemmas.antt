@@ -1,17 +1,20 @@
 -- The least box of several moved masks.
-use Rattle.std.proofs.Common.{◌≡◌, ℕ, zero, suc, ◌+◌, ◌*◌, ◌^◌, ◌<◌, ◌≤◌, ◌==◌, true, false, ◌⊎◌, inl, inr, ℤ, pos, ◌+ℤ◌, ◌-ℤ◌, ◌<ℤ◌, ◌≤ℤ◌, List, [], ◌∷◌, length, get_or, refl, sym, ap, subst, ◌∙◌, arith, eqb-true, w32, w64, to_z, of_z}
+use Rattle.std.proofs.Common.{◌≡◌, ℕ, zero, suc, ◌*◌, ◌^◌, ◌<◌, ◌==◌, Bool, true, false, ◌⊎◌, inl, inr, ℤ, pos, ◌+ℤ◌, ◌-ℤ◌, ◌<ℤ◌, ◌≤ℤ◌, List, [], ◌∷◌, ◌++◌, length, length-append, refl, sym, ap, subst, ◌∙◌, arith, w32, to_z, of_z}
 use Rattle.std.proofs.lemmas.Int.{ints, by_lt_z, clamps}
 use Rattle.std.specs.Int.{int_min, int_max}
-use Rattle.std.specs.Int.RustNames.{FitsSigned}
 use Rattle.std.specs.List.{Any}
-use Rattle.ass_num.specs.Coverage.{PixelBox, box_of, InBox, IsLeastBox, IsMovedPixel}
-use Rattle.std.proofs.lemmas.Bool.{and_parts, false≢true}
-use Rattle.std.specs.Ordering.{int_eq}
+use Rattle.ass_num.specs.Coverage.{PixelBox, box_of, InBox, IsMovedPixel}
 use Rattle.ass_num.specs.Masks.{MaskValue, is_mask}
 use Rattle.mask_cover.proofs.CoverLemmas.{mask_ok}
-use Rattle.ass_num.proofs.MaskLemmas.{mask_length}
+use Rattle.ass_num.proofs.MaskLemmas.{corner_in, far_corner_in, some_pixels}
 use Rattle.mask_cover.specs.Extents.{IsStretchNear, IsExtent, JoinsStretch}
-use Rattle.mask_cover.specs.Sums.{IsWithinOf, IsJoin}
+use Rattle.mask_cover.specs.Sums.{IsBoxOf, IsJoin}
+use Rattle.ass_num.specs.Limits.{IsWithin, max_mask_corner, max_mask_shift}
+use Rattle.std.proofs.lemmas.List.{get_or_append_left, get_or_push}
+
+zero_or : (n : ℕ) → (n ≡ 0) ⊎ (0 < n)
+zero_or zero = inl (omega arith)
+zero_or (suc n) = inr (omega arith)
 
 -- a stretch alone
 pub joined_alone : (a : ℤ) (a_len : ℕ) (b : ℤ) (b_len : ℕ) → IsStretchNear b b_len → 0 < b_len → a_len ≡ 0 → JoinsStretch a a_len b b_len b b_len
@@ -49,12 +52,12 @@ extent_joined a b c d x y al bl cl dl w h across down =
     record { across = across.near; down = down.near; full = λ _. down.some; x = λ none. absurd (omega arith); y = λ none. absurd (omega arith); h = λ none. absurd (omega arith) }
 
 -- the corner of a moved mask, as it is computed
-pub moved_corner : (x from by : ℤ) → x ≡ from → IsWithinOf 65536 from → IsWithinOf 32768 by → to_z w32 (of_z w32 (to_z w32 (of_z w32 x) +ℤ to_z w32 (of_z w32 by))) ≡ from +ℤ by
+pub moved_corner : (x from by : ℤ) → x ≡ from → IsWithin max_mask_corner from → IsWithin max_mask_shift by → to_z w32 (of_z w32 (to_z w32 (of_z w32 x) +ℤ to_z w32 (of_z w32 by))) ≡ from +ℤ by
 moved_corner x from by is first second =
-    let fl = first.low in let fh = first.high in let sl = second.low in let sh = second.high in omega (arith, ints)
+    let fl = first.0 in let fh = first.1 in let sl = second.0 in let sh = second.1 in omega (arith, ints)
 
 -- the first and the last pixel of a moved mask
-corner : (m : MaskValue) (dx dy : ℤ) → 0 < m.w → 0 < m.h → InBox (box_of m) ((m.x +ℤ dx) -ℤ dx) ((m.y +ℤ dy) -ℤ dy)
+pub corner : (m : MaskValue) (dx dy : ℤ) → 0 < m.w → 0 < m.h → InBox (box_of m) ((m.x +ℤ dx) -ℤ dx) ((m.y +ℤ dy) -ℤ dy)
 corner m dx dy v g = record { left = omega (arith, ints); right = omega (arith, ints); top = omega (arith, ints); bottom = omega (arith, ints) }
 
 far_corner : (m : MaskValue) (dx dy : ℤ) → 0 < m.w → 0 < m.h → InBox (box_of m) ((((m.x +ℤ dx) +ℤ pos m.w) -ℤ pos 1) -ℤ dx) ((((m.y +ℤ dy) +ℤ pos m.h) -ℤ pos 1) -ℤ dy)
@@ -82,33 +85,23 @@ join_is old p new extent wide high across down =
           record {
             left = elim across.begins [
               | inl same ↦ omega (arith, ints)
-              | inr old_one ↦ let o = (keeps old.x old.y (own_corner old old_one.0 (extent.full old_one.0))).left in let e = old_one.1 in omega (arith, ints)
+              | inr old_one ↦ let o = (keeps old.x old.y (corner_in old old_one.0 (extent.full old_one.0))).left in let e = old_one.1 in omega (arith, ints)
             ];
             right = elim across.ends [
               | inl same ↦ omega (arith, ints)
-              | inr old_one ↦ let o = (keeps _ _ (own_far_corner old old_one.0 (extent.full old_one.0))).right in let e = old_one.1 in omega (arith, ints)
+              | inr old_one ↦ let o = (keeps _ _ (far_corner_in old old_one.0 (extent.full old_one.0))).right in let e = old_one.1 in omega (arith, ints)
             ];
             top = elim down.begins [
               | inl same ↦ omega (arith, ints)
-              | inr old_one ↦ let o = (keeps old.x old.y (own_corner old (some_width old extent old_one.0) old_one.0)).top in let e = old_one.1 in omega (arith, ints)
+              | inr old_one ↦ let o = (keeps old.x old.y (corner_in old (some_width old extent old_one.0) old_one.0)).top in let e = old_one.1 in omega (arith, ints)
             ];
             bottom = elim down.ends [
               | inl same ↦ omega (arith, ints)
-              | inr old_one ↦ let o = (keeps _ _ (own_far_corner old (some_width old extent old_one.0) old_one.0)).bottom in let e = old_one.1 in omega (arith, ints)
+              | inr old_one ↦ let o = (keeps _ _ (far_corner_in old (some_width old extent old_one.0) old_one.0)).bottom in let e = old_one.1 in omega (arith, ints)
             ];
           };
     }
   where
-    own_corner : (b : PixelBox) → 0 < b.w → 0 < b.h → InBox b b.x b.y
-    own_corner b v g = record { left = omega (arith, ints); right = omega (arith, ints); top = omega (arith, ints); bottom = omega (arith, ints) }
-
-    own_far_corner : (b : PixelBox) → 0 < b.w → 0 < b.h → InBox b ((b.x +ℤ pos b.w) -ℤ pos 1) ((b.y +ℤ pos b.h) -ℤ pos 1)
-    own_far_corner b v g = record { left = omega (arith, ints); right = omega (arith, ints); top = omega (arith, ints); bottom = omega (arith, ints) }
-
-    zero_or : (n : ℕ) → (n ≡ 0) ⊎ (0 < n)
-    zero_or zero = inl (omega arith)
-    zero_or (suc n) = inr (omega arith)
-
     some_width : (b : PixelBox) → IsExtent b → 0 < b.h → 0 < b.w
     some_width b e g = elim (zero_or b.w) [ inl none ↦ let n = e.h none in absurd (omega arith) | inr some ↦ some ]
 
@@ -126,6 +119,14 @@ has_moved b p wide high has =
     let fl = first.left in let ft = first.top in let lr = last.right in let lb = last.bottom in
     record { left = omega (arith, ints); right = omega (arith, ints); top = omega (arith, ints); bottom = omega (arith, ints) }
 
+-- the same of a sum as its struct has it, whose value is seen, and of a mask whose bytes were looked at
+pub placed : (m : MaskValue) (dx dy : ℤ) (old seen : MaskValue) (bytes : List ℕ) (test : Bool) → old ≡ seen → is_mask m ≡ true → bytes ≡ m.bytes → test ≡ (length bytes == 0) → test ≡ false
+    → ((i j : ℤ) → IsMovedPixel (m, dx, dy) i j → InBox (box_of seen) i j) → HasMoved (box_of old) (m, dx, dy)
+placed m dx dy old seen bytes test view is same tested some has =
+    let P : MaskValue → Type 0 = λ z. (i j : ℤ) → IsMovedPixel (m, dx, dy) i j → InBox (box_of z) i j in
+    let sides = some_pixels m is (ap (λ z. length z == 0) (sym same) ∙ sym tested ∙ some) in
+    has_moved (box_of old) (m, dx, dy) sides.w sides.h (subst P (sym view) has)
+
 -- a mask without pixels
 pub join_none : (old : PixelBox) (p : MaskValue × ℤ × ℤ) → p.0.w ≡ 0 → IsJoin old p old
 join_none old p none = record {
@@ -134,80 +135,44 @@ join_none old p none = record {
   least = λ other keeps has i j b. keeps i j b;
 }
 
--- The least box that has the boxes of the first n moved masks.
-pub record IsBoxOfFirst (parts : List (MaskValue × ℤ × ℤ)) (n : ℕ) (b : PixelBox) : Type 0 where
-  pub has : (k : ℕ) (p : MaskValue × ℤ × ℤ) → k < n → k < length parts → get_or parts k p ≡ p → (x y : ℤ) → IsMovedPixel p x y → InBox b x y
-  pub least : (other : PixelBox) → ((k : ℕ) (p : MaskValue × ℤ × ℤ) → k < n → k < length parts → get_or parts k p ≡ p → (x y : ℤ) → IsMovedPixel p x y → InBox other x y) → (x y : ℤ) → InBox b x y → InBox other x y
+-- ---- the boxes of masks that are added one by one
 
-pub first_none : (parts : List (MaskValue × ℤ × ℤ)) → IsBoxOfFirst parts 0 (record { x = pos 0; y = pos 0; w = 0; h = 0 })
-first_none parts = record {
-  has = λ k p lt. absurd (omega arith);
+any_left : (P : MaskValue × ℤ × ℤ → Type 0) (xs : List (MaskValue × ℤ × ℤ)) (y : MaskValue × ℤ × ℤ) → Any P xs → Any P (xs ++ y ∷ [])
+any_left P xs y some = let less = some.2 in (some.0, some.1, omega (arith, length-append xs (y ∷ [])), get_or_append_left xs (y ∷ []) some.1 some.0 less ∙ some.3, some.4)
+
+any_last : (P : MaskValue × ℤ × ℤ → Type 0) (xs : List (MaskValue × ℤ × ℤ)) (y : MaskValue × ℤ × ℤ) → P y → Any P (xs ++ y ∷ [])
+any_last P xs y passes = (length xs, y, omega (arith, length-append xs (y ∷ [])), get_or_push xs y y (length xs) refl, passes)
+
+any_cases : (P : MaskValue × ℤ × ℤ → Type 0) (xs : List (MaskValue × ℤ × ℤ)) (y : MaskValue × ℤ × ℤ) → Any P (xs ++ y ∷ []) → Any P xs ⊎ P y
+any_cases P xs y some = by_lt_z (pos some.0) (pos (length xs))
+    (λ (l : pos some.0 <ℤ pos (length xs)). let less : some.0 < length xs = omega (arith, ints) in inl (some.0, some.1, less, sym (get_or_append_left xs (y ∷ []) some.1 some.0 less) ∙ some.3, some.4))
+    (λ (l : pos (length xs) ≤ℤ pos some.0).
+    let bound = some.2 in
+    let last : length xs ≡ some.0 = omega (arith, ints, length-append xs (y ∷ [])) in
+    inr (subst P (sym some.3 ∙ get_or_push xs y some.1 some.0 last) some.4))
+
+pub box_none : IsBoxOf [] (record { x = pos 0; y = pos 0; w = 0; h = 0 })
+box_none = record {
+  has = λ x y some. let less = some.2 in absurd (omega arith);
   least = λ other covers x y b. let l = b.left in let r = b.right in absurd (omega (arith, ints));
 }
 
-same_item : {X : Type 0} (xs : List X) (k : ℕ) (d e : X) → k < length xs → get_or xs k d ≡ get_or xs k e
-same_item [] k d e p = absurd (omega arith)
-same_item (x ∷ xs) zero d e p = refl
-same_item (x ∷ xs) (suc k) d e p = same_item xs k d e (omega arith)
-
-pub first_more : (parts : List (MaskValue × ℤ × ℤ)) (n : ℕ) (item : MaskValue × ℤ × ℤ) (old new : PixelBox) → n < length parts → item ≡ get_or parts n item → IsJoin old item new → IsBoxOfFirst parts n old → IsBoxOfFirst parts (n + 1) new
-first_more parts n item old new there is join first = record {
-  has = λ k p lt here same x y pixel. elim (before_or k n lt) [
-    | inl earlier ↦ join.keeps x y (first.has k p earlier here same x y pixel)
-    | inr now ↦ join.has x y (let P : MaskValue × ℤ × ℤ → Type 0 = λ z. IsMovedPixel z x y in subst P (sym same ∙ this k p now here) pixel)
+pub box_more : (parts : List (MaskValue × ℤ × ℤ)) (p : MaskValue × ℤ × ℤ) (old new : PixelBox) → IsJoin old p new → IsBoxOf parts old → IsBoxOf (parts ++ p ∷ []) new
+box_more parts p old new join is = record {
+  has = λ x y some. elim (any_cases (λ q. IsMovedPixel q x y) parts p some) [
+    | inl earlier ↦ join.keeps x y (is.has x y earlier)
+    | inr now ↦ join.has x y now
   ];
-  least = λ other covers. join.least other (first.least other (λ k p lt here same. covers k p (omega arith) here same)) (covers n item (omega arith) there (sym is));
-}
-  where
-    before_or : (k m : ℕ) → k < m + 1 → (k < m) ⊎ (k ≡ m)
-    before_or k zero lt = inr (omega arith)
-    before_or zero (suc m) lt = inl (omega arith)
-    before_or (suc k) (suc m) lt = elim (before_or k m (omega arith)) [ inl l ↦ inl (omega arith) | inr e ↦ inr (omega arith) ]
-
-    this : (k : ℕ) (p : MaskValue × ℤ × ℤ) → k ≡ n → k < length parts → get_or parts k p ≡ item
-    this k p now here = same_item parts k p item here ∙ ap (λ z. get_or parts z item) now ∙ sym is
-
-pub first_all : (parts : List (MaskValue × ℤ × ℤ)) (n : ℕ) (b : PixelBox) → length parts ≤ n → IsBoxOfFirst parts n b → IsLeastBox (λ x y. Any (λ p. IsMovedPixel p x y) parts) b
-first_all parts n b all first = record {
-  has = λ x y some. first.has some.0 some.1 (let lt = some.2 in omega arith) some.2 some.3 x y some.4;
-  least = λ other covers. first.least other (λ k p lt here same x y pixel. covers x y (k, p, here, same, pixel));
+  least = λ other covers. join.least other (is.least other (λ x y some. covers x y (any_left (λ q. IsMovedPixel q x y) parts p some))) (λ x y now. covers x y (any_last (λ q. IsMovedPixel q x y) parts p now));
 }
 
 pub joined_short : (a b : ℤ) (a_len b_len : ℕ) → IsStretchNear a a_len → IsStretchNear b b_len → int_max (a +ℤ pos a_len) (b +ℤ pos b_len) ≤ℤ (int_min a b +ℤ pos (2 ^ 31))
 joined_short a b a_len b_len first second =
     let fl = first.low in let fh = first.high in let sl = second.low in let sh = second.high in omega (arith, ints, clamps)
 
--- ---- masks with and without pixels
-
-zero_or_more : (n : ℕ) → (n ≡ 0) ⊎ (0 < n)
-zero_or_more zero = inl (omega arith)
-zero_or_more (suc n) = inr (omega arith)
-
-pub empty_mask : (m : MaskValue) → is_mask m ≡ true → (length m.bytes == 0) ≡ true → m.w ≡ 0
-empty_mask m is none =
-    let rest = (and_parts (length m.bytes == m.w * m.h) _ is).1 in
-    let corner = rw none at rest in
-    let y = (and_parts (int_eq m.x (pos 0)) _ corner).1 in
-    let sides = (and_parts (int_eq m.y (pos 0)) _ y).1 in
-    eqb-true m.w 0 (and_parts (m.w == 0) _ sides).0
-
-pub full_mask : (m : MaskValue) → is_mask m ≡ true → (length m.bytes == 0) ≡ false → (0 < m.w) × (0 < m.h)
-full_mask m is some =
-    let count : length m.bytes ≡ m.w * m.h = mask_length m is in (
-      elim (zero_or_more m.w) [ inl none ↦ let e : length m.bytes ≡ 0 = count ∙ ap (λ z. z * m.h) none ∙ omega arith in absurd (not_zero (length m.bytes) e some) | inr more ↦ more ],
-      elim (zero_or_more m.h) [ inl none ↦ let e : length m.bytes ≡ 0 = count ∙ ap (λ z. m.w * z) none ∙ omega arith in absurd (not_zero (length m.bytes) e some) | inr more ↦ more ],
-    )
-  where
-    not_zero : (n : ℕ) → n ≡ 0 → (n == 0) ≡ false → ⊥
-    not_zero n e no_zero = false≢true (sym no_zero ∙ ap (λ z. z == 0) e)
-
--- the place from which a column is counted, as it is computed
-pub start_is : (u v x d : ℤ) → u ≡ to_z w32 (of_z w32 x) → v ≡ to_z w32 (of_z w32 d) → FitsSigned w32 x → FitsSigned w32 d → to_z w64 (of_z w64 (to_z w64 (of_z w64 u) -ℤ to_z w64 (of_z w64 v))) ≡ x -ℤ d
-start_is u v x d first second fits also = omega (arith, ints)
-
 -- the bytes of a sum that begins
 pub sum_mask : (b : PixelBox) (bytes : List ℕ) → IsExtent b → length bytes ≡ b.w * b.h → is_mask (record { x = b.x; y = b.y; w = b.w; h = b.h; bytes = bytes }) ≡ true
-sum_mask b bytes is count = elim (zero_or_more b.w) [
+sum_mask b bytes is count = elim (zero_or b.w) [
   | inl none ↦ no_pixels b.x b.y b.w b.h bytes (is.x none) (is.y none) none (is.h none) count
   | inr some ↦ mask_ok b.x b.y b.w b.h bytes count some (is.full some)
 ]

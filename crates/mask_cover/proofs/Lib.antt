@@ -1,5 +1,6 @@
 pub mod CoverLemmas
 pub mod ExtentLemmas
+pub mod ReachLemmas
 pub mod RowLemmas
 pub mod RowSums
 pub mod SampleLemmas

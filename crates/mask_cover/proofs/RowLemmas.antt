@@ -1,13 +1,12 @@
 -- A row counted run by run, and a pixel row counted row by row.
 use Rattle.std.proofs.Common.{◌≡◌, ℕ, zero, suc, ◌+◌, ◌-◌, ◌*◌, ◌<◌, ◌≤◌, true, ℤ, pos, negsuc, ◌+ℤ◌, ◌-ℤ◌, ◌<ℤ◌, ◌≤ℤ◌, refl, sym, ap, ◌∙◌, arith, List, [], ◌∷◌, ◌++◌, length, length-append, unsigned_abs, get_or, drop, drop-cons}
 use Rattle.std.proofs.lemmas.Int.{ints, by_lt_z}
-use Rattle.std.proofs.lemmas.Bool.{and_parts}
 use Rattle.std.proofs.lemmas.List.{get_or_append_left, get_or_push, get_or_past}
 use Rattle.ass_num.specs.Coverage.{sum_from, coverage_byte}
-use Rattle.ass_num.specs.Regions.{ascend, all_ascend, row_at}
+use Rattle.ass_num.specs.Regions.{ascend, row_at}
 use Rattle.ass_num.specs.declared.region.Run.{Run}
 use Rattle.ass_num.proofs.MaskLemmas.{cell_below}
-use Rattle.ass_num.proofs.RegionLemmas.{first_ascends, rest_ascends, row_ascends}
+use Rattle.ass_num.proofs.RegionLemmas.{first_ascends, rest_ascends}
 use Rattle.ass_num.proofs.SumLemmas.{sum_from-bound}
 use Rattle.mask_cover.proofs.SampleLemmas.{row_count-cons, row_count-none, row_count-le}
 use Rattle.mask_cover.proofs.StepLemmas.{sum_first-none}

@@ -1,17 +1,16 @@
 -- The bytes of a mask, added row by row.
-use Rattle.std.proofs.Common.{◌≡◌, ℕ, zero, suc, min, ◌+◌, ◌-◌, ◌*◌, ◌<◌, ◌≤◌, ◌⊎◌, inl, inr, true, false, nat_lt, ℤ, pos, negsuc, ◌+ℤ◌, ◌-ℤ◌, ◌<ℤ◌, ◌≤ℤ◌, List, [], ◌∷◌, length, take, drop, get_or, refl, sym, ap, ◌∙◌, subst, arith, replicate, length-take, length-drop, sum_by}
+use Rattle.std.proofs.Common.{◌≡◌, ℕ, zero, suc, min, ◌+◌, ◌-◌, ◌*◌, ◌<◌, ◌≤◌, ◌⊎◌, inl, inr, true, false, nat_lt, ℤ, pos, ◌+ℤ◌, ◌-ℤ◌, ◌<ℤ◌, ◌≤ℤ◌, List, [], ◌∷◌, ◌++◌, length, take, drop, get_or, refl, sym, ap, ◌∙◌, subst, arith, replicate, length-take, length-drop, sum_by}
 use Rattle.std.proofs.Math.Nat.{mul-le-mul_left}
 use Rattle.std.proofs.lemmas.Int.{ints, by_lt_z}
 use Rattle.std.proofs.lemmas.Bool.Decides.{nat_tests}
-use Rattle.std.proofs.lemmas.List.{get_or-take, get_or-drop, take_more, take_all}
-use Rattle.std.proofs.lemmas.List.Sums.{sum_by-append}
-use Rattle.std.specs.List.{Any}
-use Rattle.ass_num.specs.Coverage.{PixelBox, box_of, IsLeastBox, moved_value, IsMovedPixel, IsSum}
+use Rattle.std.proofs.lemmas.List.{get_or-take, get_or-drop}
+use Rattle.std.proofs.lemmas.List.Sums.{sum_by_push}
+use Rattle.ass_num.specs.Coverage.{box_of, moved_value, IsSum}
 use Rattle.ass_num.specs.Masks.{MaskValue, is_mask, value_at, offset_value}
 use Rattle.mask_cover.proofs.CoverLemmas.{distance}
 use Rattle.ass_num.proofs.MaskLemmas.{cell_below, mask_length, offset_inside, offset_left, offset_above, value_inside, value_beside, value_over, value_most}
 use Rattle.mask_cover.specs.Rows.{AddsRow, AddsCells, cell_added}
-use Rattle.mask_cover.specs.Sums.{AddsMask}
+use Rattle.mask_cover.specs.Sums.{AddsMask, IsBoxOf, HasSum}
 
 split : (a b : ℕ) → (a < b) ⊎ (b ≤ a)
 split a zero = inr (omega arith)
@@ -165,31 +164,14 @@ zeros (suc n) (suc k) = zeros n k
 
 -- ---- several masks
 
--- the sum of the values of the first masks at a pixel
-pub first_sum : List (MaskValue × ℤ × ℤ) → ℕ → ℤ → ℤ → ℕ
-first_sum parts n x y = sum_by (λ p. moved_value p x y) (take n parts)
-
-pub sum_none : (parts : List (MaskValue × ℤ × ℤ)) (m : MaskValue) → ((x y : ℤ) → value_at m x y ≡ 0) → (x y : ℤ) → value_at m x y ≡ min 255 (first_sum parts 0 x y)
-unfolding first_sum
-sum_none parts m zero_there x y = zero_there x y
-
-pub sum_more : (parts : List (MaskValue × ℤ × ℤ)) (n : ℕ) (item : MaskValue × ℤ × ℤ) (old new : MaskValue) → n < length parts → item ≡ get_or parts n item → AddsMask item old new
-    → ((x y : ℤ) → value_at old x y ≡ min 255 (first_sum parts n x y)) → (x y : ℤ) → value_at new x y ≡ min 255 (first_sum parts (n + 1) x y)
-unfolding first_sum
-sum_more parts n item old new there is adds before x y =
-    let f : MaskValue × ℤ × ℤ → ℕ = λ p. moved_value p x y in
-    let more : sum_by f (take (n + 1) parts) ≡ sum_by f (take n parts) + sum_by f (get_or parts n item ∷ []) = ap (sum_by f) (take_more parts n item there) ∙ sum_by-append f (take n parts) (get_or parts n item ∷ []) in
-    let one : sum_by f (item ∷ []) ≡ moved_value item x y = omega arith in
-    let last : sum_by f (get_or parts n item ∷ []) ≡ moved_value item x y = ap (λ z. sum_by f (z ∷ [])) (sym is) ∙ one in
+-- what one more adds
+pub sum_more : (parts : List (MaskValue × ℤ × ℤ)) (p : MaskValue × ℤ × ℤ) (old new : MaskValue) → AddsMask p old new → HasSum parts old → HasSum (parts ++ p ∷ []) new
+sum_more parts p old new adds before x y =
+    let f : MaskValue × ℤ × ℤ → ℕ = λ q. moved_value q x y in
+    let more : sum_by f (parts ++ p ∷ []) ≡ sum_by f parts + f p = sum_by_push f parts p in
     let value = adds.value x y in
     let old_value = before x y in
-    omega (arith, value, old_value, more, last)
+    omega (arith, value, old_value, more)
 
-pub sum_all : (parts : List (MaskValue × ℤ × ℤ)) (n : ℕ) (m : MaskValue) (b : PixelBox) → length parts ≤ n → ((x y : ℤ) → value_at m x y ≡ min 255 (first_sum parts n x y)) → box_of m ≡ b → IsLeastBox (λ x y. Any (λ p. IsMovedPixel p x y) parts) b → IsSum parts m
-unfolding first_sum
-sum_all parts n m b all value same least =
-    let P : PixelBox → Type 0 = λ z. IsLeastBox (λ x y. Any (λ p. IsMovedPixel p x y) parts) z in
-    record {
-      value = λ x y. value x y ∙ ap (λ z. min 255 (sum_by (λ p. moved_value p x y) z)) (take_all n parts all);
-      box = subst P (sym same) least;
-    }
+pub sum_whole : (parts : List (MaskValue × ℤ × ℤ)) (old new : MaskValue) → new ≡ old → IsBoxOf parts (box_of old) → HasSum parts old → IsSum parts new
+sum_whole parts old new same box sum = let P : MaskValue → Type 0 = λ z. IsSum parts z in subst P (sym same) (record { value = sum; box = box })

@@ -1,14 +1,13 @@
 -- Sums over numbers in a row, and the samples of a row of runs.
-use Rattle.std.proofs.Common.{◌≡◌, ℕ, zero, suc, ◌+◌, ◌-◌, ◌*◌, ◌<◌, ◌≤◌, Bool, true, false, ◌&&◌, ◌||◌, if◌then◌else◌, ℤ, pos, ◌+ℤ◌, ◌<ℤ◌, ◌≤ℤ◌, refl, ap, arith, int_lt, int_le, min, List, [], ◌∷◌}
+use Rattle.std.proofs.Common.{◌≡◌, ℕ, zero, suc, ◌+◌, ◌-◌, ◌*◌, ◌≤◌, Bool, true, false, ◌&&◌, ◌||◌, if◌then◌else◌, ℤ, pos, ◌+ℤ◌, ◌<ℤ◌, ◌≤ℤ◌, refl, arith, int_lt, int_le, min, List, [], ◌∷◌}
 use Rattle.std.proofs.lemmas.Int.{ints, by_lt_z}
-use Rattle.std.proofs.lemmas.Bool.{and_parts}
-use Rattle.ass_num.specs.Regions.{in_runs, ascend, ascend_from}
+use Rattle.ass_num.specs.Regions.{in_runs, ascend}
 use Rattle.ass_num.specs.Coverage.{sum_from}
 use Rattle.ass_num.specs.declared.region.Run.{Run}
 use Rattle.std.proofs.Math.Bool.{and-false}
 use Rattle.ass_num.proofs.RegionLemmas.{first_ascends, below}
 use Rattle.ass_num.proofs.SumLemmas.{sum_from-add, sum_from-zero, sum_from-bound}
-use Rattle.ass_num.proofs.OrderLemmas.{lt_true, lt_false, le_true, le_false, lt_is}
+use Rattle.ass_num.proofs.OrderLemmas.{lt_true, lt_false, le_true, le_false}
 use Rattle.mask_cover.specs.Steps.{samples_after, row_count}
 
 -- ---- one run

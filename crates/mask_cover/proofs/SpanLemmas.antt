@@ -7,7 +7,7 @@ use Rattle.ass_num.specs.Regions.{in_runs, ascend, has_run}
 use Rattle.ass_num.specs.declared.region.Run.{Run}
 use Rattle.std.proofs.Math.Bool.{or-true}
 use Rattle.ass_num.proofs.RegionLemmas.{ascends_parts, first_ascends, rest_ascends, below}
-use Rattle.ass_num.proofs.OrderLemmas.{first_in, lt_true, lt_false, le_true, lt_is, le_is}
+use Rattle.ass_num.proofs.OrderLemmas.{first_in, lt_false, lt_is, le_is}
 use Rattle.mask_cover.specs.Columns.{IsSpan, IsSpanOfRows}
 
 -- what stands where a list has no run

@@ -1,4 +1,4 @@
--- The columns that rows of runs span, and the pixels of samples.
+-- Inner: the columns that rows of runs span, and the pixels of samples.
 use Rattle.std.specs.Prelude.{◌≡◌, ℕ, ℤ, pos, ◌<◌, ◌+ℤ◌, ◌-ℤ◌, ◌*ℤ◌, ◌<ℤ◌, ◌≤ℤ◌, true, List, [], slice_index_or}
 use Rattle.ass_num.specs.Regions.{in_runs}
 use Rattle.ass_num.specs.declared.region.Run.{Run}

@@ -1,11 +1,12 @@
--- Boxes that moved masks can reach, and stretches along an axis.
-use Rattle.std.specs.Prelude.{◌≡◌, ℕ, ℤ, pos, neg_ℤ, ◌<◌, ◌+ℤ◌, ◌≤ℤ◌, ◌⊎◌}
+-- Inner: boxes that moved masks can reach, and stretches along an axis.
+use Rattle.std.specs.Prelude.{◌≡◌, ℕ, ℤ, pos, neg_ℤ, ◌+◌, ◌<◌, ◌+ℤ◌, ◌≤ℤ◌, ◌⊎◌}
 use Rattle.ass_num.specs.Coverage.{PixelBox}
+use Rattle.ass_num.specs.Limits.{max_mask_corner, max_mask_side, max_mask_shift}
 
--- A stretch that masks with a corner within 65,536 of 0 and sides of at most 65,536 can reach when they are moved by at most 32,768.
+-- A stretch that masks can reach which may be added.
 pub record IsStretchNear (from : ℤ) (len : ℕ) : Type 0 where
-  pub low : neg_ℤ (pos 98304) ≤ℤ from
-  pub high : (from +ℤ pos len) ≤ℤ pos 163840
+  pub low : neg_ℤ (pos (max_mask_corner + max_mask_shift)) ≤ℤ from
+  pub high : (from +ℤ pos len) ≤ℤ pos (max_mask_corner + max_mask_shift + max_mask_side)
 
 -- A box of pixels that such masks can reach, or the one without pixels.
 pub record IsExtent (b : PixelBox) : Type 0 where

@@ -1,4 +1,4 @@
--- Bytes that are added to rows of bytes, up to 255.
+-- Inner: bytes that are added to rows of bytes, up to 255.
 use Rattle.std.specs.Prelude.{◌≡◌, ℕ, pos, ◌+◌, ◌*◌, ◌<◌, ◌≤◌, ◌-ℤ◌, min, nat_lt, if◌then◌else◌, List, length, slice_index}
 use Rattle.ass_num.specs.Masks.{MaskValue, offset_value}
 

@@ -1,4 +1,4 @@
--- Counts of samples as sums of steps.
+-- Inner: counts of samples as sums of steps.
 use Rattle.std.specs.Prelude.{◌≡◌, ℕ, zero, suc, ℤ, pos, neg_ℤ, ◌+◌, ◌-◌, ◌*◌, ◌<◌, ◌+ℤ◌, ◌-ℤ◌, ◌<ℤ◌, ◌≤ℤ◌, min, if◌then◌else◌, List, All, length, slice_index, slice_index_or, unsigned_abs}
 use Rattle.ass_num.specs.Regions.{in_runs, row_at}
 use Rattle.ass_num.specs.Coverage.{sum_from, coverage_byte}

@@ -1,21 +1,26 @@
--- Sums of masks: the box that grows by one mask, and the sum that grows by one.
-use Rattle.std.specs.Prelude.{◌≡◌, ℕ, ℤ, pos, neg_ℤ, ◌+◌, ◌≤◌, ◌≤ℤ◌, min}
+-- Public: sums of masks, the boxes and the sums of the masks that were added so far, and how far moved masks may reach.
+use Rattle.std.specs.Prelude.{◌≡◌, ℕ, ℤ, ◌+◌, List, Any, sum_by, min}
+use Rattle.ass_num.specs.Limits.{IsWithin, IsMaskWithin, max_mask_corner, max_mask_side, max_mask_shift}
 use Rattle.ass_num.specs.Masks.{MaskValue, value_at}
-use Rattle.ass_num.specs.Coverage.{PixelBox, box_of, InBox, moved_value, IsMovedPixel}
+use Rattle.ass_num.specs.Coverage.{PixelBox, box_of, InBox, IsLeastBox, moved_value, IsMovedPixel}
 
--- the number lies within `limit` of 0
-pub record IsWithinOf (limit : ℕ) (n : ℤ) : Type 0 where
-  pub low : neg_ℤ (pos limit) ≤ℤ n
-  pub high : n ≤ℤ pos limit
+-- A mask so near to 0 and so small, that is moved by no more than `shift`.
+pub record IsMovedWithin (corner side shift : ℕ) (p : MaskValue × ℤ × ℤ) : Type 0 where
+  pub mask : IsMaskWithin corner side p.0
+  pub dx : IsWithin shift p.1
+  pub dy : IsWithin shift p.2
 
--- A mask with its corner within 65,536 of 0 and sides of at most 65,536, to be moved by at most 32,768.
-pub record IsPlaceableMask (p : MaskValue × ℤ × ℤ) : Type 0 where
-  pub x : IsWithinOf 65536 p.0.x
-  pub y : IsWithinOf 65536 p.0.y
-  pub w : p.0.w ≤ 65536
-  pub h : p.0.h ≤ 65536
-  pub dx : IsWithinOf 32768 p.1
-  pub dy : IsWithinOf 32768 p.2
+-- a mask that may be added
+abbrev pub IsPlaceableMask : MaskValue × ℤ × ℤ → Type 0
+IsPlaceableMask p = IsMovedWithin max_mask_corner max_mask_side max_mask_shift p
+
+-- The least box that has the boxes of the moved masks.
+abbrev pub IsBoxOf : List (MaskValue × ℤ × ℤ) → PixelBox → Type 0
+IsBoxOf parts b = IsLeastBox (λ x y. Any (λ p. IsMovedPixel p x y) parts) b
+
+-- At each pixel the mask has the sum of the moved masks, at most 255.
+abbrev pub HasSum : List (MaskValue × ℤ × ℤ) → MaskValue → Type 0
+HasSum parts m = (x y : ℤ) → value_at m x y ≡ min 255 (sum_by (λ p. moved_value p x y) parts)
 
 -- The least box that has a box and the box of a moved mask.
 pub record IsJoin (old : PixelBox) (p : MaskValue × ℤ × ℤ) (new : PixelBox) : Type 0 where

@@ -1,8 +1,9 @@
 //! The least box that has the boxes of several masks.
 
-ghost use Rattle.std.specs.Prelude.{◌≡◌, pos, ◌<◌, ◌^◌, ◌+ℤ◌, ◌≤ℤ◌};
+ghost use Rattle.std.specs.Prelude.{◌≡◌, ℤ, pos, ◌<◌, ◌^◌, ◌+ℤ◌, ◌≤ℤ◌, List, [], ◌∷◌, ◌++◌};
 ghost use Rattle.mask_cover.specs.Extents.{IsStretchNear, IsExtent, JoinsStretch};
-ghost use Rattle.mask_cover.specs.Sums.{IsPlaceableMask, IsJoin};
+ghost use Rattle.ass_num.specs.Masks.{MaskValue};
+ghost use Rattle.mask_cover.specs.Sums.{IsPlaceableMask, IsBoxOf};
 
 use ass_num::Mask;
 use std::marker::Model;
@@ -28,9 +29,10 @@ impl Model for Extent {
 }
 
 impl Extent {
-    /// The box without pixels.
+    /// The box without pixels, which is that of no masks.
     pub fn empty() -> Extent
-        ensures { result ≡ record { x = pos 0; y = pos 0; w = 0; h = 0 } }
+        ensures none { result ≡ record { x = pos 0; y = pos 0; w = 0; h = 0 } }
+        ensures parts { IsBoxOf [] result }
     {
         Extent {
             x: 0,
@@ -40,10 +42,11 @@ impl Extent {
         }
     }
 
-    /// The least box that has this one, and the box of the mask that is moved right by `dx` and down by `dy`.
+    /// The least box that has this one, and the box of the mask that is moved right by `dx` and down by `dy`:
+    /// from the box of some masks that of these and one more.
     pub fn with(self, mask: &Mask, dx: i32, dy: i32) -> Extent
         requires { IsPlaceableMask (mask.now, dx, dy) }
-        ensures { IsJoin self (mask.now, dx, dy) result }
+        ensures { (parts : List (MaskValue × ℤ × ℤ)) → IsBoxOf parts self → IsBoxOf (parts ++ (mask.now, dx, dy) ∷ []) result }
     {
         if mask.bytes().is_empty() {
             return self;

@@ -1,7 +1,9 @@
 //! The mask of a region.
 
-ghost use Rattle.std.specs.Prelude.{◌≡◌, ℕ, pos, ◌+◌, ◌*◌, ◌<◌, ◌≤◌, ◌^◌, neg_ℤ, ◌+ℤ◌, ◌-ℤ◌, ◌*ℤ◌, ◌<ℤ◌, ◌≤ℤ◌, true, length, IfOk, All, slice_index};
+ghost use Rattle.std.specs.Prelude.{◌≡◌, ℕ, pos, ◌+◌, ◌*◌, ◌/◌, ◌<◌, ◌≤◌, ◌^◌, neg_ℤ, ◌+ℤ◌, ◌-ℤ◌, ◌*ℤ◌, ◌<ℤ◌, ◌≤ℤ◌, true, length, IfOk, All, slice_index};
 ghost use Rattle.ass_num.specs.Coverage.{IsCover};
+ghost use Rattle.ass_num.specs.Limits.{IsMaskWithin, IsRegionWithin};
+ghost use Rattle.ass_num.specs.Masks.{is_mask};
 ghost use Rattle.ass_num.specs.Regions.{all_ascend, member};
 ghost use Rattle.mask_cover.specs.Steps.{IsInside, HasCells, HasMoreCells};
 
@@ -64,7 +66,9 @@ pub fn cover(alloc: Global, region: &Region, px: u8, py: u8) -> Mem<Mask>
     requires px { px < 16 }
     requires py { py < 16 }
     requires rows { (region.now.top +ℤ pos (length region.now.rows)) ≤ℤ pos (2 ^ 31) }
-    ensures { IfOk result (IsCover (member region.now.top region.now.rows) px py) }
+    ensures mask { IfOk result (IsCover (member region.now.top region.now.rows) px py) }
+    ensures canonical { IfOk result (λ m. is_mask m ≡ true) }
+    ensures within { IfOk result (λ m. (limit : ℕ) → IsRegionWithin limit region.now.top region.now.rows → IsMaskWithin (limit / 16 + 1) (2 * (limit / 16) + 3) m) }
 {
     let rows = region.rows();
     if rows.len() == 0 {

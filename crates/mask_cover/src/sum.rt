@@ -1,12 +1,12 @@
 //! Sums of masks.
 
-ghost use Rattle.std.specs.Prelude.{◌≡◌, ℤ, ◌+◌, ◌*◌, ◌≤◌, length, All, Any, IfOk};
-ghost use Rattle.ass_num.specs.Masks.{value_at};
-ghost use Rattle.ass_num.specs.Coverage.{box_of, InBox, IsLeastBox, IsMovedPixel, IsSum};
+ghost use Rattle.std.specs.Prelude.{◌≡◌, ℕ, ℤ, pos, ◌+◌, ◌*◌, ◌≤◌, ◌+ℤ◌, ◌≤ℤ◌, true, List, [], ◌∷◌, ◌++◌, length, All, IfOk};
+ghost use Rattle.ass_num.specs.Limits.{IsMaskWithin};
+ghost use Rattle.ass_num.specs.Masks.{MaskValue, is_mask};
+ghost use Rattle.ass_num.specs.Coverage.{box_of, InBox, IsMovedPixel, IsSum};
 ghost use Rattle.mask_cover.specs.Rows.{AddsRow, AddsCells};
-ghost use Rattle.mask_cover.specs.Sums.{IsPlaceableMask, AddsMask};
+ghost use Rattle.mask_cover.specs.Sums.{IsPlaceableMask, IsMovedWithin, IsBoxOf, HasSum};
 
-use crate::axis::place_of;
 use crate::extent::Extent;
 use ass_num::{Mask, Mem};
 use std::alloc::Global;
@@ -38,7 +38,7 @@ impl MaskSum {
     /// The sum of no masks in a box.
     pub fn new(alloc: Global, extent: &Extent) -> Mem<MaskSum>
         ensures place { IfOk result (λ sum. box_of sum ≡ extent.now) }
-        ensures empty { IfOk result (λ sum. (x y : ℤ) → value_at sum x y ≡ 0) }
+        ensures empty { IfOk result (λ sum. HasSum [] sum) }
     {
         let (w, h) = (extent.w(), extent.h());
         Ok(MaskSum {
@@ -53,24 +53,36 @@ impl MaskSum {
     /// Adds a mask that is moved right by `dx` and down by `dy`; its moved box must lie in the sum's. Takes no memory.
     pub fn add(&mut self, mask: &Mask, dx: i32, dy: i32)
         requires { (i j : ℤ) → IsMovedPixel (mask.now, dx, dy) i j → InBox (box_of self.old) i j }
-        ensures { AddsMask (mask.now, dx, dy) self.old self.new }
+        ensures place { box_of self.new ≡ box_of self.old }
+        ensures sum { (parts : List (MaskValue × ℤ × ℤ)) → HasSum parts self.old → HasSum (parts ++ (mask.now, dx, dy) ∷ []) self.new }
     {
         let (left, top, width) = (self.x, self.y, self.w as usize);
         let sums = self.bytes.as_mut_slice();
         if mask.bytes().is_empty() {
             return;
         }
-        let column = place_of(mask.x(), i64::from(left) - i64::from(dx));
-        let row = place_of(mask.y(), i64::from(top) - i64::from(dy));
+        let column = place_in(mask.x(), dx, left);
+        let row = place_in(mask.y(), dy, top);
         add_rows(sums, width, column, row, mask);
     }
 
-    /// The mask of the sum.
+    /// The mask of the sum. Where the box is that of the masks which were added, it is the sum of them.
     pub fn into_mask(self) -> Mask
-        ensures { result ≡ self }
+        ensures same { result ≡ self }
+        ensures canonical { is_mask result ≡ true }
+        ensures sum { (parts : List (MaskValue × ℤ × ℤ)) → IsBoxOf parts (box_of self) → HasSum parts self → IsSum parts result }
+        ensures within { (parts : List (MaskValue × ℤ × ℤ)) → IsBoxOf parts (box_of self) → (corner side shift : ℕ) → All (IsMovedWithin corner side shift) parts → IsMaskWithin (corner + shift) (2 * (corner + shift) + side) result }
     {
         Mask::new(self.x, self.y, self.w, self.h, self.bytes)
     }
+}
+
+/// How far a corner that is moved lies behind the first column or row.
+fn place_in(corner: i32, by: i32, first: i32) -> usize
+    requires { first ≤ℤ (corner +ℤ by) }
+    ensures { (corner +ℤ by) ≡ first +ℤ pos result }
+{
+    (i64::from(corner) + i64::from(by) - i64::from(first)) as usize
 }
 
 /// Adds the bytes of a mask to rows of `width` bytes, from a column and a row on.
@@ -100,7 +112,9 @@ fn add_row(sums: &mut [u8], from: usize, bytes: &[u8])
 /// The box is the least one that has the moved boxes; masks without pixels are passed over.
 pub fn sum_of(alloc: Global, parts: &[(Mask, i32, i32)]) -> Mem<Mask>
     requires { All IsPlaceableMask parts.now }
-    ensures { IfOk result (IsSum parts.now) }
+    ensures sum { IfOk result (IsSum parts.now) }
+    ensures canonical { IfOk result (λ m. is_mask m ≡ true) }
+    ensures within { IfOk result (λ m. (corner side shift : ℕ) → All (IsMovedWithin corner side shift) parts.now → IsMaskWithin (corner + shift) (2 * (corner + shift) + side) m) }
 {
     let mut sum = MaskSum::new(alloc, &extent_of(parts))?;
     for (mask, dx, dy) in parts {
@@ -112,7 +126,7 @@ pub fn sum_of(alloc: Global, parts: &[(Mask, i32, i32)]) -> Mem<Mask>
 /// The least box that has the boxes of the moved masks.
 fn extent_of(parts: &[(Mask, i32, i32)]) -> Extent
     requires { All IsPlaceableMask parts.now }
-    ensures { IsLeastBox (λ x y. Any (λ p. IsMovedPixel p x y) parts.now) result }
+    ensures { IsBoxOf parts.now result }
 {
     let mut extent = Extent::empty();
     for (mask, dx, dy) in parts {

@@ -1,7 +1,8 @@
 //! Rows worked by hand.
 
 ghost use Rattle.std.specs.Prelude.{IfOk};
-ghost use Rattle.mask_cover.specs.Sums.{IsWithinOf, IsPlaceableMask};
+ghost use Rattle.ass_num.specs.Limits.{IsWithin, max_mask_shift};
+ghost use Rattle.mask_cover.specs.Sums.{IsPlaceableMask};
 
 use crate::{at, cover, sum_of};
 use ass_num::{FlatLists, Mask, Mem, Region, Run, is_canonical, is_mask};
@@ -92,8 +93,8 @@ fn regions_cover_pixels(rt: HostRuntime) -> Result<(), Fail> {
 
 /// A mask of one pixel, and by how much it is moved.
 fn pixel(alloc: Global, value: u8, dx: i32, dy: i32) -> Mem<(Mask, i32, i32)>
-    requires dx { IsWithinOf 32768 dx }
-    requires dy { IsWithinOf 32768 dy }
+    requires dx { IsWithin max_mask_shift dx }
+    requires dy { IsWithin max_mask_shift dy }
     ensures { IfOk result IsPlaceableMask }
 {
     let bytes = vec![in alloc; value]?;

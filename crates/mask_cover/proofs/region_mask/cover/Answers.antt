@@ -1,18 +1,20 @@
-use Rattle.std.proofs.Common.{◌≡◌, ◌<◌, true, length, pos, ◌+ℤ◌, ◌-ℤ◌, ◌≤ℤ◌, w32, w64, to_z, of_z, ap, sym, ◌∙◌, arith, rules}
+use Rattle.std.proofs.Common.{refl, ◌≡◌, ◌<◌, true, length, pos, ◌+ℤ◌, ◌-ℤ◌, ◌≤ℤ◌, w32, w64, to_z, of_z, ap, sym, ◌∙◌, arith, rules}
 use Rattle.std.proofs.lemmas.Int.{ints, to_z-of_z}
 use Rattle.std.proofs.lemmas.Bool.{and_parts}
 use Rattle.std.specs.Int.RustNames.{FitsSigned}
-use Rattle.ass_num.specs.Coverage.{first_sample}
-use Rattle.ass_num.specs.Masks.{MaskValue}
+use Rattle.ass_num.specs.Coverage.{first_sample, box_of}
+use Rattle.ass_num.specs.Masks.{MaskValue, is_mask}
 use Rattle.ass_num.specs.Regions.{all_ascend}
-use Rattle.mask_cover.proofs.CoverLemmas.{Spans, is_cover, empty_cover, spans_inside, falls_same, some_pixels, span_order, mask_ok, last_row, cells_for}
+use Rattle.mask_cover.proofs.CoverLemmas.{Spans, spans_full, no_pixels, is_cover, empty_cover, spans_inside, falls_same, some_pixels, span_order, mask_ok, last_row, cells_for}
+use Rattle.mask_cover.proofs.ReachLemmas.{cover_within}
 use Rattle.mask_cover.proofs.SpanLemmas.{no_items}
 use Rattle.mask_cover.proofs.region_mask.cover.Goals as goal
 
 pub returns-then-len-eq0 : goal.returns-then-len-eq0
 returns-then-len-eq0 c =
     let none : length c.rows-rows.result.now ≡ 0 = sym c.len.ensures ∙ c.if-len-eq0.true in
-    rw c.empty.ensures (empty_cover c.args.region.now c.args.px c.args.py (sym c.rows-rows.ensures.rows ∙ no_items c.rows-rows.result.now none))
+    let cover = empty_cover c.args.region.now c.args.px c.args.py (sym c.rows-rows.ensures.rows ∙ no_items c.rows-rows.result.now none) in
+    rw c.empty.ensures (record { mask = cover; canonical = refl; within = cover_within c.args.region.now.top c.args.region.now.rows c.args.px c.args.py no_pixels c.requires.px c.requires.py refl cover })
 
 pub overflow_add-from : goal.overflow_add-from
 overflow_add-from c =
@@ -100,5 +102,8 @@ returns c =
       bottom = falls_same c.args.py _ ((region.top +ℤ pos (length region.rows)) -ℤ pos 1) _ (last_row c.args.region.now.top c.from-2.result (length c.args.region.now.rows) c.len-2.result (rw c.top-top.ensures at top) from len c.requires.rows) c.axis_of-down.ensures.last;
     } in
     let above : pos c.place_of-above.result ≡ region.top -ℤ first_sample c.args.py down.first = omega (arith, ints, c.place_of-above.ensures, c.axis_of-down.ensures.start, c.top-top.ensures) in
-    rw is (is_cover region c.args.px c.args.py m across.start c.place_of-above.result spans c.axis_of-across.ensures.start above
-    (cells_for _ region.rows _ across.start c.place_of-above.result across.count down.count c.in_ok-bytes.bytes.items c.rows-rows.ensures.rows (omega (arith, ints)) c.in_ok-bytes.ensures).cells)
+    let cells = cells_for _ region.rows _ across.start c.place_of-above.result across.count down.count c.in_ok-bytes.bytes.items c.rows-rows.ensures.rows (omega (arith, ints)) c.in_ok-bytes.ensures in
+    let cover = is_cover region c.args.px c.args.py m across.start c.place_of-above.result spans c.axis_of-across.ensures.start above cells.cells in
+    let full = spans_full region c.args.px c.args.py (box_of m) spans in
+    let ok : is_mask m ≡ true = mask_ok m.x m.y m.w m.h m.bytes cells.count full.0 full.1 in
+    rw is (record { mask = cover; canonical = ok; within = cover_within region.top region.rows c.args.px c.args.py m c.requires.px c.requires.py ok cover })

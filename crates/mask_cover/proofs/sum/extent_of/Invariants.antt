@@ -1,5 +1,6 @@
-use Rattle.mask_cover.proofs.ExtentLemmas.{IsBoxOfFirst}
+use Rattle.std.proofs.Common.{take}
+use Rattle.mask_cover.specs.Sums.{IsBoxOf}
 use Rattle.mask_cover.proofs.sum.extent_of.Given as goal
 
 abbrev pub invariant-loop-mask : goal.invariant-loop-mask
-invariant-loop-mask l = IsBoxOfFirst l.parts l.mask-index l.extent
+invariant-loop-mask l = IsBoxOf (take l.mask-index l.parts) l.extent
