@@ -2,7 +2,7 @@
 
 ghost use Rattle.std.specs.Prelude.{◌<◌, ◌≤◌, ◌+◌, ◌≤ℤ◌, ℕ, pos, IsTrue, length, slice_index};
 ghost use Rattle.std.specs.List.{All};
-ghost use Rattle.line_layout.specs.Breaks.{IsParagraph};
+ghost use Rattle.line_layout.specs.Breaks.{IsItemWidth, IsParagraph};
 
 use crate::laps::Laps;
 use crate::stop::Stop;
@@ -35,7 +35,7 @@ fn paragraph_of(alloc: Global, words: u32) -> Mem<Paragraph> {
 }
 
 fn are_narrow(widths: &[Fix]) -> bool
-    ensures { IsTrue result → All (λ w. (pos 0 ≤ℤ w) × (w ≤ℤ pos 1048576)) widths.now }
+    ensures { IsTrue result → All IsItemWidth widths.now }
 {
     for width in widths {
         if *width < 0 || *width > 1_048_576 {

@@ -1,10 +1,10 @@
 -- There always is a best set: the two ways of filling lines and the search for the limit, for numbers of any size.
-use Rattle.std.proofs.Common.{◌≡◌, ℕ, zero, suc, ℤ, pos, ◌+◌, ◌-◌, ◌<◌, ◌≤◌, ◌+ℤ◌, ◌-ℤ◌, ◌<ℤ◌, ◌≤ℤ◌, Bool, true, false, List, [], ◌∷◌, ◌++◌, length, get_or, reverse, inl, inr, refl, sym, ap, ◌∙◌, arith}
+use Rattle.std.proofs.Common.{◌≡◌, ℕ, zero, suc, ℤ, pos, ◌+◌, ◌-◌, ◌<◌, ◌≤◌, ◌+ℤ◌, ◌-ℤ◌, ◌<ℤ◌, ◌≤ℤ◌, Bool, true, false, List, [], ◌∷◌, ◌++◌, length, get_or, reverse, inl, inr, refl, ap, arith}
 use Rattle.std.specs.Int.{int_max, int_min}
 use Rattle.std.specs.Int.RustNames.{unsigned_abs}
 use Rattle.std.proofs.lemmas.Bool.{cases_lt}
-use Rattle.std.proofs.lemmas.Int.{ints, clamps, by_lt_z}
-use Rattle.line_layout.specs.Breaks.{IsParagraph, pen, width, AreFilled, IsBest}
+use Rattle.std.proofs.lemmas.Int.{ints, by_lt_z}
+use Rattle.line_layout.specs.Breaks.{IsParagraph, pen, AreFilled, IsBest}
 use Rattle.line_layout.specs.Filling.{line_start, line_end, word_width, IsWidestWord, IsOutermost, IsLeastLimit}
 use Rattle.line_layout.proofs.TableLemmas.{Words, Words-more, Words-all}
 use Rattle.line_layout.proofs.FillLemmas.{Filling, Filling-none, Filling-more, Filling-all, LineTo, filled-IsOutermost}

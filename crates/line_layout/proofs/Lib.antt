@@ -4,6 +4,7 @@ pub mod ExistLemmas
 pub mod FillLemmas
 pub mod LimitLemmas
 pub mod LineLemmas
+pub mod OneLemmas
 pub mod PenLemmas
 pub mod PlaceLemmas
 pub mod TableLemmas

@@ -4,7 +4,7 @@ use Rattle.std.proofs.lemmas.Bool.{cases_lt}
 use Rattle.std.proofs.lemmas.Int.{ints}
 use Rattle.std.proofs.lemmas.List.{take_all}
 use Rattle.std.proofs.lemmas.List.Sums.{fold_more}
-use Rattle.line_layout.specs.Breaks.{IsParagraph, pen}
+use Rattle.line_layout.specs.Breaks.{max_width, IsParagraph, pen}
 
 pub pen-more : (ws : List ℤ) (k : ℕ) → k < length ws → pen ws (k + 1) ≡ pen ws k +ℤ get_or ws k (pos 0)
 pen-more ws k l = fold_more ◌+ℤ◌ (pos 0) ws k (pos 0) l
@@ -42,7 +42,7 @@ pen-le ws s a b g l =
 pub pen-above : (ws : List ℤ) (s : List ℕ) (k : ℕ) → IsParagraph ws s → pos 0 ≤ℤ pen ws k
 pen-above ws s k g = pen-le ws s 0 k g (omega arith)
 
-pen-below : (ws : List ℤ) (s : List ℕ) (k : ℕ) → IsParagraph ws s → k ≤ length ws → pen ws k ≤ℤ pos (k * 1048576)
+pen-below : (ws : List ℤ) (s : List ℕ) (k : ℕ) → IsParagraph ws s → k ≤ length ws → pen ws k ≤ℤ pos (k * max_width)
 pen-below ws s zero g l = omega (arith, ints)
 pen-below ws s (suc k) g l =
     let i : suc k ≡ k + 1 = omega arith in

@@ -165,8 +165,21 @@ wide-test : (w limit : ℤ) → le_z w limit ≡ false → limit <ℤ w
 wide-test w limit h = grind (arith, ints)
 
 -- what the test says that compares a line's width with the limit
-pub narrow-read : (p b limit w : ℤ) → SFits w64 p → SFits w64 b → SFits w64 (p -ℤ b) → SFits w64 limit → (p -ℤ b) ≡ w → le_z (to_z w64 (of_z w64 (to_z w64 (of_z w64 p) -ℤ to_z w64 (of_z w64 b)))) (to_z w64 (of_z w64 limit)) ≡ true → w ≤ℤ limit
-narrow-read p b limit w fp fb fd fl e h = narrow-test w limit (rw (to_z-of_z w64 p fp, to_z-of_z w64 b fb, to_z-of_z w64 (p -ℤ b) fd, to_z-of_z w64 limit fl, e) at h)
+-- What the code reads of a line off the table: the difference fits, and the test of it tells the line's width.
+pub record IsRead (p b limit w : ℤ) : Type 0 where
+  pub fits : SFits w64 (to_z w64 (of_z w64 p) -ℤ to_z w64 (of_z w64 b))
+  pub narrow : le_z (to_z w64 (of_z w64 (to_z w64 (of_z w64 p) -ℤ to_z w64 (of_z w64 b)))) (to_z w64 (of_z w64 limit)) ≡ true → w ≤ℤ limit
+  pub wide : le_z (to_z w64 (of_z w64 (to_z w64 (of_z w64 p) -ℤ to_z w64 (of_z w64 b)))) (to_z w64 (of_z w64 limit)) ≡ false → limit <ℤ w
 
-pub wide-read : (p b limit w : ℤ) → SFits w64 p → SFits w64 b → SFits w64 (p -ℤ b) → SFits w64 limit → (p -ℤ b) ≡ w → le_z (to_z w64 (of_z w64 (to_z w64 (of_z w64 p) -ℤ to_z w64 (of_z w64 b)))) (to_z w64 (of_z w64 limit)) ≡ false → limit <ℤ w
-wide-read p b limit w fp fb fd fl e h = wide-test w limit (rw (to_z-of_z w64 p fp, to_z-of_z w64 b fb, to_z-of_z w64 (p -ℤ b) fd, to_z-of_z w64 limit fl, e) at h)
+pub line_read : (ws : List ℤ) (s : List ℕ) (pens : List ℤ) (begin limit : ℤ) (first end : ℕ) → IsParagraph ws s → ArePens ws s pens → end ≤ length s → first ≤ length s → begin ≡ pen ws (line_start s first) → SFits w64 begin → SFits w64 limit
+    → IsRead (get_or pens end (pos 0)) begin limit (width ws (line_start s first) (line_end ws s end))
+line_read ws s pens begin limit first end g t l m e fb fl =
+    let p = get_or pens end (pos 0) in
+    let fp = pen-fits ws s pens end g t l in
+    let fd = line-bounds ws s pens begin first end g t l m e in
+    let is = line-is ws s pens begin first end t l e in
+    record {
+      fits = rw (to_z-of_z w64 p fp, to_z-of_z w64 begin fb) fd;
+      narrow = λ h. narrow-test _ limit (rw (to_z-of_z w64 p fp, to_z-of_z w64 begin fb, to_z-of_z w64 (p -ℤ begin) fd, to_z-of_z w64 limit fl, is) at h);
+      wide = λ h. wide-test _ limit (rw (to_z-of_z w64 p fp, to_z-of_z w64 begin fb, to_z-of_z w64 (p -ℤ begin) fd, to_z-of_z w64 limit fl, is) at h);
+    }

@@ -4,11 +4,20 @@
 use Rattle.std.specs.Prelude.{◌≡◌, ℕ, ℤ, pos, ◌+◌, ◌<◌, ◌≤◌, ◌+ℤ◌, ◌-ℤ◌, ◌<ℤ◌, ◌≤ℤ◌, ◌⊎◌, Bool, true, false, List, [], ◌∷◌, length, take, fold, slice_index}
 use Rattle.std.specs.Int.{int_max}
 use Rattle.std.specs.List.{All}
+use Rattle.ass_num.specs.Limits.{max_text_bytes}
 
--- A paragraph: at most 134,217,728 items with widths from 0 to 1,048,576, and its break places in ascending order.
+-- the widest that an item may be
+abbrev pub max_width : ℕ
+max_width = 1048576
+
+-- the width of an item
+abbrev pub IsItemWidth : ℤ → Type 0
+IsItemWidth w = (pos 0 ≤ℤ w) × (w ≤ℤ pos max_width)
+
+-- A paragraph: so many items as a text may have, none too wide, and its break places in ascending order.
 pub record IsParagraph (widths : List ℤ) (spaces : List ℕ) : Type 0 where
-  pub short : length widths ≤ 134217728
-  pub narrow : All (λ w. (pos 0 ≤ℤ w) × (w ≤ℤ pos 1048576)) widths
+  pub short : length widths ≤ max_text_bytes
+  pub narrow : All IsItemWidth widths
   pub within : (k : ℕ) → k < length spaces → slice_index spaces k < length widths
   pub ascending : (k : ℕ) → k + 1 < length spaces → slice_index spaces k < slice_index spaces (k + 1)
 

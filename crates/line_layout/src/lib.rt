@@ -9,4 +9,4 @@ mod pens;
 mod tests;
 
 pub use breaks::choose_breaks;
-pub use laws::a_best_set_exists;
+pub use laws::{a_best_set_exists, one_best_set};

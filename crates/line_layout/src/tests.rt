@@ -1,8 +1,8 @@
 //! What no clause says: that the call succeeds with ample memory, with examples worked by the rule.
 
-ghost use Rattle.std.specs.Prelude.{◌<◌, ◌≤◌, ◌+◌, ◌≤ℤ◌, ℕ, pos, IsTrue, length, slice_index};
+ghost use Rattle.std.specs.Prelude.{◌<◌, ◌≤◌, ◌+◌, ℕ, IsTrue, length, slice_index};
 ghost use Rattle.std.specs.List.{All};
-ghost use Rattle.line_layout.specs.Breaks.{IsParagraph};
+ghost use Rattle.line_layout.specs.Breaks.{IsItemWidth, IsParagraph};
 
 use crate::choose_breaks;
 use ass_num::{Fix, Mem};
@@ -10,7 +10,7 @@ use std::alloc::Global;
 use std::test::Fail;
 
 fn are_narrow(widths: &[Fix]) -> bool
-    ensures { IsTrue result → All (λ w. (pos 0 ≤ℤ w) × (w ≤ℤ pos 1048576)) widths.now }
+    ensures { IsTrue result → All IsItemWidth widths.now }
 {
     for width in widths {
         if *width < 0 || *width > 1_048_576 {
