@@ -12,8 +12,8 @@ use Rattle.atomic_table.proofs.Lists.{at_set, set_else, at_longer}
 use Rattle.turn_cell.specs.declared.seat_view.SeatView.{SeatView}
 use Rattle.turn_cell.specs.declared.seat_view.Stage.{Stage}
 use Rattle.turn_cell.specs.declared.seat_view.Stage.TheVariants.{Idle, Splitting}
-use Rattle.turn_cell.specs.History.{History, IsPrefix, IsDistinct, IsBelow, entries_of, numbers_of, longer_of, shorter_of}
-use Rattle.turn_cell.specs.SeatView.{drawn_number, spent_view, after_draw, after_join, at_rest, new_view}
+use Rattle.turn_cell.specs.History.{History, IsPrefix, IsDistinct, IsBelow, entries_of, numbers_of, longer_of}
+use Rattle.turn_cell.specs.SeatView.{shorter_of, drawn_number, spent_view, after_draw, after_join, at_rest, new_view}
 use Rattle.turn_cell.specs.Rule.{Owners, IsJoined, IsLive, Fits, IsOneHistory}
 use Rattle.turn_cell.specs.Plays.{DrawTells}
 use Rattle.turn_cell.proofs.Histories.{IsPrefix_same, IsPrefix_within, IsDistinct_push, entries_of_below, entries_of_between, longer_cases, get_elem_push}
@@ -72,6 +72,7 @@ module _ {B E T : Type 0} (stands : T → B → History E → Type 0) (tag : T) 
                   first = λ _. record {
                     next = ap (λ (z : ℕ). z + 1) next_drawn;
                     distinct = first.distinct;
+                    known = first.known;
                     joined = All-weaker (IsJoined r.history r.owner drawn) (IsJoined r.history r.owner (drawn + 1))
                         (λ pair h. let lt : pair.0 < drawn = h.below in record { entries = h.entries; below = omega arith; ownerless = h.ownerless }) v.past first.joined;
                   };
@@ -121,6 +122,7 @@ module _ {B E T : Type 0} (stands : T → B → History E → Type 0) (tag : T) 
               first = λ _. record {
                 next = first.next;
                 distinct = first.distinct;
+                known = first.known;
                 joined = λ i d h. let joined : IsJoined r.history r.owner drawn (slice_index_or v.past i d) = first.joined i d h in let newest : (slice_index_or v.past i d).0 < n = splitting.newest i d h in
                     record { entries = joined.entries; below = joined.below; ownerless = with_owner_else r.owner (slice_index_or v.past i d).0 n (some new) (λ y. omega arith) ∙ joined.ownerless };
               };
@@ -150,10 +152,11 @@ module _ {B E T : Type 0} (stands : T → B → History E → Type 0) (tag : T) 
       let owned : r.owner 0 ≡ some id = subst (λ (z : ℕ). r.owner z ≡ some id) zeroth live.owned in
       let keeps : (i j : ℕ) → j ≢ other → r.owner i ≡ some j → owner' i ≡ some j = λ i j ne o. with_owner_else r.owner i n none (λ e. ne (some-injective j other (sym o ∙ (ap r.owner e ∙ live'.owned)))) ∙ o in
       let first = live.first zeroth in
-      let long : IsPrefix (longer_of v.seen w.seen) r.history × IsPrefix v.seen (longer_of v.seen w.seen) × IsPrefix (shorter_of v.seen w.seen) (longer_of v.seen w.seen) =
-      longer_cases (λ a b. IsPrefix a r.history × IsPrefix v.seen a × IsPrefix b a) v.seen w.seen
-      (λ h. (live.begins, IsPrefix_same v.seen, IsPrefix_within w.seen v.seen r.history live'.begins live.begins h))
-      (λ h. let b = IsPrefix_within v.seen w.seen r.history live.begins live'.begins h in (live'.begins, b, b)) in
+      let longer : History E = longer_of v.seen w.seen in
+      let long : IsPrefix longer r.history × IsPrefix v.seen longer × IsPrefix (shorter_of v.seen w.seen) longer × IsPrefix w.seen longer =
+      longer_cases (λ a b. IsPrefix a r.history × IsPrefix v.seen a × IsPrefix b a × IsPrefix w.seen a) v.seen w.seen
+      (λ h. let b = IsPrefix_within w.seen v.seen r.history live'.begins live.begins h in (live.begins, IsPrefix_same v.seen, b, b))
+      (λ h. let b = IsPrefix_within v.seen w.seen r.history live.begins live'.begins h in (live'.begins, b, b, IsPrefix_same w.seen)) in
       let mine : entries_of v.number (longer_of v.seen w.seen) ≡ entries_of v.number v.seen = entries_of_between v.number v.seen (longer_of v.seen w.seen) r.history long.1 long.0 live.own in
       record {
         history = r.history;
@@ -183,6 +186,11 @@ module _ {B E T : Type 0} (stands : T → B → History E → Type 0) (tag : T) 
                   next = first.next;
                   distinct = subst IsDistinct (sym (map-append (λ (q : ℕ × List E). q.0) v.past ((n, entries_of n w.seen) ∷ []))) (IsDistinct_push (numbers_of v.past) n first.distinct
                       (All-map (λ (i : ℕ). i ≢ n) (λ (q : ℕ × List E). q.0) v.past (All-weaker (IsJoined r.history r.owner drawn) (λ (pair : ℕ × List E). pair.0 ≢ n) (λ pair h. owned_apart r.owner pair.0 n other h.ownerless live'.owned) v.past first.joined)));
+                  known = All-push (λ (pair : ℕ × List E). entries_of pair.0 longer ≡ pair.1) v.past (n, entries_of n w.seen)
+                      (All-weaker (λ (pair : ℕ × List E). (entries_of pair.0 v.seen ≡ pair.1) × (entries_of pair.0 r.history ≡ pair.1)) (λ (pair : ℕ × List E). entries_of pair.0 longer ≡ pair.1)
+                      (λ pair h. entries_of_between pair.0 v.seen longer r.history long.1 long.0 (h.1 ∙ sym h.0) ∙ h.0) v.past
+                      (λ i d h. (first.known i d h, (first.joined i d h).entries)))
+                      (entries_of_between n w.seen longer r.history long.3 long.0 live'.own);
                   joined = All-push (IsJoined r.history owner' drawn) v.past (n, entries_of n w.seen)
                       (All-weaker (IsJoined r.history r.owner drawn) (IsJoined r.history owner' drawn) (λ pair h. record { entries = h.entries; below = h.below; ownerless = with_owner_none r.owner pair.0 n h.ownerless }) v.past first.joined)
                       record { entries = live'.own; below = owned_below r.owner drawn n other r.fresh live'.owned; ownerless = with_owner_here r.owner n none };

@@ -207,7 +207,7 @@ impl<B: Book> TurnCell<B> {
         ensures pass { result ≡ joined_pass pass other }
         ensures begins { IsPrefix pass.seen result.seen × IsPrefix other.seen result.seen }
         ensures mine { mine result ≡ mine pass }
-        ensures below { IsBelow result.next result.seen }
+        ensures itself { Extends result result.seen }
     {
         let Pass {
             number,
