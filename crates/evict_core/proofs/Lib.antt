@@ -1,12 +1,14 @@
 pub mod AskLemmas
+pub mod CountLemmas
 pub mod EvictLemmas
 pub mod FillLaws
 pub mod HistoryLemmas
 pub mod InsertLemmas
+pub mod LegalLemmas
+pub mod PinAllLemmas
 pub mod PinLaws
 pub mod PinLemmas
 pub mod PlacesLemmas
-pub mod PlainLemmas
 pub mod RecencyLemmas
 pub mod Searching
 pub mod StateLemmas

@@ -66,7 +66,7 @@ module _ {K V : Type 0} (eq : K → K → Bool) (laws : IsEquivalence eq) where
     | false ↦ λ t. omega arith
   ]) refl)
 
-  pins-hit_all : (ks : List K) (s : State K V) (q : K) → IsSound eq s → HitsEach eq s ks → pins_in (status_of eq (hit_all eq s ks) q) ≡ pins_in (status_of eq s q) + times_named eq q ks
+  pub pins-hit_all : (ks : List K) (s : State K V) (q : K) → IsSound eq s → HitsEach eq s ks → pins_in (status_of eq (hit_all eq s ks) q) ≡ pins_in (status_of eq s q) + times_named eq q ks
   pins-hit_all [] s q sound each = omega arith
   pins-hit_all (k ∷ ks) s q sound each = omega (arith, pins-hit_all ks (hit eq s k) q (sound-hit eq laws s k sound) each.1, pins-hit s k q sound.apart each.0)
 
@@ -112,25 +112,25 @@ module _ {K V : Type 0} (eq : K → K → Bool) (laws : IsEquivalence eq) where
       ]) refl)
 
   -- the pins of a key after an enabled step
-  pub pins-after : (s : State K V) (pins_held : K → ℕ) (m : ℕ) (step : Step K V) → IsSound eq s → IsEnabled eq s pins_held m step → ((k : K) → pins_held k ≤ pins_in (status_of eq s k)) → (q : K)
+  pub pins-after : (s : State K V) (held : K → ℕ) (m : ℕ) (step : Step K V) → IsSound eq s → IsEnabled eq s held m step → ((k : K) → held k ≤ pins_in (status_of eq s k)) → (q : K)
       → pins_in (status_of eq (state_after eq s m step) q) + gives eq q step ≡ pins_in (status_of eq s q) + takes eq q step
-  pins-after s pins_held m (Ask k Hit) sound enabled some q = omega (arith, pins-hit s k q sound.apart enabled)
-  pins-after s pins_held m (Ask k Claim) sound enabled some q = omega (arith, pins-claim s m k q sound.apart (claim-has-room eq laws s k enabled).0)
-  pins-after s pins_held m (Ask k Crowded) sound enabled some q = refl
-  pins-after s pins_held m (PinAll ks) sound enabled some q = omega (arith, pins-hit_all ks s q sound enabled)
-  pins-after s pins_held m (Fill k cost value) sound enabled some q = rw (lookup-to_front eq laws k (λ _. Ready 1 cost value) q s.entries sound.apart)
+  pins-after s held m (Ask k Hit) sound enabled some q = omega (arith, pins-hit s k q sound.apart enabled)
+  pins-after s held m (Ask k Claim) sound enabled some q = omega (arith, pins-claim s m k q sound.apart (claim-has-room eq laws s k enabled).0)
+  pins-after s held m (Ask k Crowded) sound enabled some q = refl
+  pins-after s held m (PinAll ks) sound enabled some q = omega (arith, pins-hit_all ks s q sound enabled)
+  pins-after s held m (Fill k cost value) sound enabled some q = rw (lookup-to_front eq laws k (λ _. Ready 1 cost value) q s.entries sound.apart)
       ((elim (eq q k) as (λ b. eq q k ≡ b → pins_in (cond b (option_map (λ _. Ready 1 cost value) (status_of eq s q)) (status_of eq s q)) + 0 ≡ pins_in (status_of eq s q) + one_if b) [
         | true ↦ λ t. let made : maker_in (status_of eq s q) ≡ Some m = ap maker_in (lookup-congr eq laws q k t s.entries) ∙ enabled in
             rw (map-constant (status_of eq s q) (Ready 1 cost value) m made) (omega (arith, flying-pins (status_of eq s q) m made))
         | false ↦ λ t. refl
       ]) refl)
-  pins-after s pins_held m (Fail k) sound enabled some q = rw (lookup-remove eq laws k q s.entries sound.apart)
+  pins-after s held m (Fail k) sound enabled some q = rw (lookup-remove eq laws k q s.entries sound.apart)
       ((elim (eq q k) as (λ b. eq q k ≡ b → pins_in (cond b None (status_of eq s q)) + 0 ≡ pins_in (status_of eq s q) + 0) [
         | true ↦ λ t. omega (arith, flying-pins (status_of eq s q) m (ap maker_in (lookup-congr eq laws q k t s.entries) ∙ enabled))
         | false ↦ λ t. refl
       ]) refl)
-  pins-after s pins_held m (Unpin k) sound enabled some q = pins-unpin s k q sound.apart (omega (arith, some k, enabled))
-  pins-after s pins_held m (Limits entries budget) sound enabled some q = ap (λ (n : ℕ). n + 0) (pins-trim (record s { limit = entries; budget = budget }) q sound.apart)
+  pins-after s held m (Unpin k) sound enabled some q = pins-unpin s k q sound.apart (omega (arith, some k, enabled))
+  pins-after s held m (Limits entries budget) sound enabled some q = ap (λ (n : ℕ). n + 0) (pins-trim (record s { limit = entries; budget = budget }) q sound.apart)
 
   maker-hit : (s : State K V) (k q : K) → Apart eq s.entries → maker_in (status_of eq (hit eq s k) q) ≡ maker_in (status_of eq s q)
   maker-hit s k q apart = rw (lookup-to_front eq laws k one_pin_more q s.entries apart) (elim (eq q k) as (λ b. maker_in (cond b (option_map one_pin_more (status_of eq s q)) (status_of eq s q)) ≡ maker_in (status_of eq s q)) [
@@ -155,26 +155,26 @@ module _ {K V : Type 0} (eq : K → K → Bool) (laws : IsEquivalence eq) where
   ends o m n made = rw made (elim (m == n) as (λ b. false ≡ cond b false b) [ true ↦ refl | false ↦ refl ])
 
   -- n makes a key after an enabled step exactly where its claim is then open
-  pub makes-after : (s : State K V) (pins_held : K → ℕ) (m : ℕ) (step : Step K V) → IsSound eq s → IsEnabled eq s pins_held m step → (q : K) (n : ℕ)
+  pub makes-after : (s : State K V) (held : K → ℕ) (m : ℕ) (step : Step K V) → IsSound eq s → IsEnabled eq s held m step → (q : K) (n : ℕ)
       → makes n (maker_in (status_of eq (state_after eq s m step) q)) ≡ cond (m == n) (is_open_after eq step q (makes n (maker_in (status_of eq s q)))) (makes n (maker_in (status_of eq s q)))
-  makes-after s pins_held m (Ask k Hit) sound enabled q n = ap (makes n) (maker-hit s k q sound.apart) ∙ sym (cond-same (m == n) _)
-  makes-after s pins_held m (Ask k Claim) sound enabled q n = rw (maker-claim s m k q sound.apart) ((elim (eq q k) as (λ b. eq q k ≡ b → makes n (cond b (Some m) (maker_in (status_of eq s q))) ≡ cond (m == n) (b || makes n (maker_in (status_of eq s q))) (makes n (maker_in (status_of eq s q)))) [
+  makes-after s held m (Ask k Hit) sound enabled q n = ap (makes n) (maker-hit s k q sound.apart) ∙ sym (cond-same (m == n) _)
+  makes-after s held m (Ask k Claim) sound enabled q n = rw (maker-claim s m k q sound.apart) ((elim (eq q k) as (λ b. eq q k ≡ b → makes n (cond b (Some m) (maker_in (status_of eq s q))) ≡ cond (m == n) (b || makes n (maker_in (status_of eq s q))) (makes n (maker_in (status_of eq s q)))) [
     | true ↦ λ t. let none : status_of eq s q ≡ None = lookup-congr eq laws q k t s.entries ∙ (claim-has-room eq laws s k enabled).0 in
         rw none (elim (m == n) as (λ b. b ≡ cond b true false) [ true ↦ refl | false ↦ refl ])
     | false ↦ λ t. sym (cond-same (m == n) _)
   ]) refl)
-  makes-after s pins_held m (Ask k Crowded) sound enabled q n = sym (cond-same (m == n) _)
-  makes-after s pins_held m (PinAll ks) sound enabled q n = ap (makes n) (maker-hit_all ks s q sound) ∙ sym (cond-same (m == n) _)
-  makes-after s pins_held m (Fill k cost value) sound enabled q n = rw (lookup-to_front eq laws k (λ _. Ready 1 cost value) q s.entries sound.apart)
+  makes-after s held m (Ask k Crowded) sound enabled q n = sym (cond-same (m == n) _)
+  makes-after s held m (PinAll ks) sound enabled q n = ap (makes n) (maker-hit_all ks s q sound) ∙ sym (cond-same (m == n) _)
+  makes-after s held m (Fill k cost value) sound enabled q n = rw (lookup-to_front eq laws k (λ _. Ready 1 cost value) q s.entries sound.apart)
       ((elim (eq q k) as (λ b. eq q k ≡ b → makes n (maker_in (cond b (option_map (λ _. Ready 1 cost value) (status_of eq s q)) (status_of eq s q))) ≡ cond (m == n) (not b && makes n (maker_in (status_of eq s q))) (makes n (maker_in (status_of eq s q)))) [
         | true ↦ λ t. let made : maker_in (status_of eq s q) ≡ Some m = ap maker_in (lookup-congr eq laws q k t s.entries) ∙ enabled in
             rw (map-constant (status_of eq s q) (Ready 1 cost value) m made) (ends (status_of eq s q) m n made)
         | false ↦ λ t. sym (cond-same (m == n) _)
       ]) refl)
-  makes-after s pins_held m (Fail k) sound enabled q n = rw (lookup-remove eq laws k q s.entries sound.apart)
+  makes-after s held m (Fail k) sound enabled q n = rw (lookup-remove eq laws k q s.entries sound.apart)
       ((elim (eq q k) as (λ b. eq q k ≡ b → makes n (maker_in (cond b None (status_of eq s q))) ≡ cond (m == n) (not b && makes n (maker_in (status_of eq s q))) (makes n (maker_in (status_of eq s q)))) [
         | true ↦ λ t. ends (status_of eq s q) m n (ap maker_in (lookup-congr eq laws q k t s.entries) ∙ enabled)
         | false ↦ λ t. sym (cond-same (m == n) _)
       ]) refl)
-  makes-after s pins_held m (Unpin k) sound enabled q n = ap (makes n) (maker-unpin s k q sound.apart) ∙ sym (cond-same (m == n) _)
-  makes-after s pins_held m (Limits entries budget) sound enabled q n = ap (makes n) (maker-trim (record s { limit = entries; budget = budget }) q sound.apart) ∙ sym (cond-same (m == n) _)
+  makes-after s held m (Unpin k) sound enabled q n = ap (makes n) (maker-unpin s k q sound.apart) ∙ sym (cond-same (m == n) _)
+  makes-after s held m (Limits entries budget) sound enabled q n = ap (makes n) (maker-trim (record s { limit = entries; budget = budget }) q sound.apart) ∙ sym (cond-same (m == n) _)

@@ -5,7 +5,7 @@ use Rattle.std.specs.Map.{lookup_entry, remove_entry}
 use Rattle.std.specs.Option.{option_map_or}
 use Rattle.std.proofs.lemmas.Bool.{or_parts, or_cases, and_parts, not-true, leb-true, ltb-true, or_from}
 use Rattle.evict_core.specs.Recency.{Apart, without_last, to_front, change}
-use Rattle.evict_core.specs.Machine.{Status, Flying, Ready, State, Hit, Claim, Crowded, Step, Ask, PinAll, Fill, Fail, Unpin, Limits, is_idle, idle_cost, one_pin_more, one_pin_less, has_idle, unpinned, evict, trim, status_of, ask_answer, answer_at, hit, hit_all, room_for_one, put_first, state_after, IsEnabled}
+use Rattle.evict_core.specs.Machine.{max_pins, Status, Flying, Ready, State, Hit, Claim, Crowded, Step, Ask, PinAll, Fill, Fail, Unpin, Limits, is_idle, idle_cost, one_pin_more, one_pin_less, has_idle, unpinned, evict, trim, status_of, ask_answer, answer_at, hit, hit_all, room_for_one, put_first, state_after, IsEnabled}
 use Rattle.evict_core.proofs.RecencyLemmas.{Apart-remove, Apart-change, Apart-to_front, Apart-without_last, length-without_last, lookup-without_last}
 use Rattle.evict_core.proofs.TrimLemmas.{kept-by-trim, is_within-trim}
 
@@ -127,7 +127,7 @@ module _ {K V : Type 0} (eq : K → K → Bool) (laws : IsEquivalence eq) where
         ]) claims,
       )
       by (Some (Flying n)) is claims = cc
-      by (Some (Ready pins cost value)) is claims = absurd ((elim (nat_lt pins 4294967295) as (λ b. Some (cond b Hit Crowded) ≡ Some Claim → ⊥) [
+      by (Some (Ready pins cost value)) is claims = absurd ((elim (nat_lt pins max_pins) as (λ b. Some (cond b Hit Crowded) ≡ Some Claim → ⊥) [
         | true ↦ λ h. cc
         | false ↦ λ h. cc
       ]) claims)
@@ -148,16 +148,16 @@ module _ {K V : Type 0} (eq : K → K → Bool) (laws : IsEquivalence eq) where
         }
       ]) refl room.1
 
-  pub sound-after : (s : State K V) (pins_held : K → ℕ) (m : ℕ) (step : Step K V) → IsSound eq s → IsEnabled eq s pins_held m step → IsSound eq (state_after eq s m step)
-  sound-after s pins_held m (Ask k Hit) sound enabled = sound-hit s k sound
-  sound-after s pins_held m (Ask k Claim) sound enabled = sound-claim s m k sound enabled
-  sound-after s pins_held m (Ask k Crowded) sound enabled = record { apart = sound.apart; in_budget = sound.in_budget; in_limit = sound.in_limit }
-  sound-after s pins_held m (PinAll ks) sound enabled = sound-hit_all ks s sound
-  sound-after s pins_held m (Fill k cost value) sound enabled = sound-to_front s k (λ _. Ready 1 cost value) (λ _. refl) sound (state_after eq s m (Fill k cost value)) refl refl refl
-  sound-after s pins_held m (Fail k) sound enabled = record {
+  pub sound-after : (s : State K V) (held : K → ℕ) (m : ℕ) (step : Step K V) → IsSound eq s → IsEnabled eq s held m step → IsSound eq (state_after eq s m step)
+  sound-after s held m (Ask k Hit) sound enabled = sound-hit s k sound
+  sound-after s held m (Ask k Claim) sound enabled = sound-claim s m k sound enabled
+  sound-after s held m (Ask k Crowded) sound enabled = record { apart = sound.apart; in_budget = sound.in_budget; in_limit = sound.in_limit }
+  sound-after s held m (PinAll ks) sound enabled = sound-hit_all ks s sound
+  sound-after s held m (Fill k cost value) sound enabled = sound-to_front s k (λ _. Ready 1 cost value) (λ _. refl) sound (state_after eq s m (Fill k cost value)) refl refl refl
+  sound-after s held m (Fail k) sound enabled = record {
     apart = Apart-remove eq laws k s.entries sound.apart;
     in_budget = omega (arith, unpinned-remove (eq k) s.entries, sound.in_budget);
     in_limit = λ over. idle-remove (eq k) s.entries (sound.in_limit (omega (arith, over, length-remove (eq k) s.entries)));
   }
-  sound-after s pins_held m (Unpin k) sound enabled = sound-trim (record s { entries = change (eq k) one_pin_less s.entries }) (Apart-change eq laws k one_pin_less s.entries sound.apart)
-  sound-after s pins_held m (Limits entries budget) sound enabled = sound-trim (record s { limit = entries; budget = budget }) sound.apart
+  sound-after s held m (Unpin k) sound enabled = sound-trim (record s { entries = change (eq k) one_pin_less s.entries }) (Apart-change eq laws k one_pin_less s.entries sound.apart)
+  sound-after s held m (Limits entries budget) sound enabled = sound-trim (record s { limit = entries; budget = budget }) sound.apart

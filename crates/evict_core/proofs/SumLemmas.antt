@@ -4,7 +4,7 @@ use Rattle.std.specs.Cmp.{IsEquivalence}
 use Rattle.std.specs.Map.{lookup, lookup_entry, remove_entry}
 use Rattle.std.specs.Option.{option_map_or}
 use Rattle.std.proofs.lemmas.Bool.{eqb-true, or_parts, lt-ltb, le-ltb}
-use Rattle.evict_core.specs.Machine.{Status, Flying, Ready, is_idle, has_idle, idle_cost, held_cost, unpinned, pinned, pins_in, maker_in, one_pin_more, one_pin_less}
+use Rattle.evict_core.specs.Machine.{max_entries, max_cost, Status, Flying, Ready, is_idle, has_idle, idle_cost, held_cost, unpinned, pinned, pins_in, maker_in, one_pin_more, one_pin_less}
 use Rattle.evict_core.specs.Recency.{total, some_passes, without_last, to_front, change}
 use Rattle.evict_core.specs.Sums.{idle_one, excess, AreSums, IsIdleAt, IsBusyAt}
 use Rattle.evict_core.proofs.RecencyLemmas.{length-without_last, lookup-change}
@@ -110,16 +110,16 @@ module _ {V : Type 0} where
   abbrev pub price : Status V → ℕ
   price st = idle_cost st + held_cost st
 
-  price-bound : (st : Status V) → idle_cost st + held_cost st ≤ 4294967296 + excess st
+  price-bound : (st : Status V) → idle_cost st + held_cost st ≤ max_cost + excess st
   price-bound (Flying n) = omega arith
-  price-bound (Ready pins cost value) = elim (pins == 0) as (λ b. cond b cost 0 + cond b 0 cost ≤ 4294967296 + (cost - 4294967296)) [ true ↦ omega arith | false ↦ omega arith ]
+  price-bound (Ready pins cost value) = elim (pins == 0) as (λ b. cond b cost 0 + cond b 0 cost ≤ max_cost + (cost - max_cost)) [ true ↦ omega arith | false ↦ omega arith ]
 
   idle-one-bound : (st : Status V) → idle_one st ≤ 1
   idle-one-bound st = elim (is_idle st) as (λ b. cond b 1 0 ≤ 1) [ true ↦ omega arith | false ↦ omega arith ]
 
   -- an entry that may be evicted, before and after one more pin
   pub record IdleFacts (st : Status V) : Type 0 where
-    pub pins_held : held_cost st ≡ 0
+    pub held : held_cost st ≡ 0
     pub one : idle_one st ≡ 1
     pub then_held : held_cost (one_pin_more st) ≡ idle_cost st
     pub then_idle : idle_cost (one_pin_more st) ≡ 0
@@ -129,7 +129,7 @@ module _ {V : Type 0} where
   pub idle-facts : (st : Status V) → is_idle st ≡ true → IdleFacts st
   idle-facts (Flying n) idle = absurd (true≢false (sym idle))
   idle-facts (Ready pins cost value) idle = let none = eqb-true pins 0 idle in record {
-    pins_held = rw idle;
+    held = rw idle;
     one = rw idle;
     then_held = rw none;
     then_idle = rw none;
@@ -165,7 +165,7 @@ module _ {V : Type 0} where
   held-again (Ready pins cost value) some = ap (λ (n : ℕ). Ready n cost value) (omega arith)
 
 module _ {K V : Type 0} where
-  prices-bound : (es : List (K × Status V)) → unpinned es + pinned es ≤ 4294967296 * length es + total excess es
+  prices-bound : (es : List (K × Status V)) → unpinned es + pinned es ≤ max_cost * length es + total excess es
   prices-bound [] = omega arith
   prices-bound (e ∷ es) = omega (arith, prices-bound es, price-bound e.1)
 
@@ -174,7 +174,7 @@ module _ {K V : Type 0} where
   ones-bound (e ∷ es) = omega (arith, ones-bound es, idle-one-bound e.1)
 
   -- the sums fit
-  pub sums-fit : (es : List (K × Status V)) (u p i : ℕ) → AreSums es u p i → (u + p ≤ 281479271677952) × (i ≤ 65537)
+  pub sums-fit : (es : List (K × Status V)) (u p i : ℕ) → AreSums es u p i → (u + p ≤ 281479271677952) × (i ≤ max_entries + 1)
   sums-fit es u p i sums = (omega (arith, prices-bound es, sums.unpinned_is, sums.pinned_is, sums.cheap, sums.few), omega (arith, ones-bound es, sums.idle_is, sums.few))
 
   -- one entry's status went from o to o'
@@ -231,15 +231,15 @@ module _ {K V : Type 0} where
           by (Some st) h some idle =
               let f = idle-facts (one_pin_less st) idle.0 in
               let again = held-again st some in
-              let pins_held : held_cost st ≡ cost = ap held_cost (sym again) ∙ (f.then_held ∙ sym idle.1) in
+              let held : held_cost st ≡ cost = ap held_cost (sym again) ∙ (f.then_held ∙ sym idle.1) in
               let none : idle_cost st ≡ 0 = ap idle_cost (sym again) ∙ f.then_idle in
               let zero-one : idle_one st ≡ 0 = ap idle_one (sym again) ∙ f.then_one in
               let same : excess st ≡ excess (one_pin_less st) = ap excess (sym again) ∙ f.same in
-              let enough : cost ≤ p = let t = rw h at (total-found held_cost (eq k) es) in omega (arith, t, pins_held, sums.pinned_is) in (
+              let enough : cost ≤ p = let t = rw h at (total-found held_cost (eq k) es) in omega (arith, t, held, sums.pinned_is) in (
                 enough,
                 sums-moved es (change (eq k) one_pin_less es) u p i (u + cost) (p - cost) (i + 1) (Some st) (Some (one_pin_less st)) sums
                     (λ w. rw h at (total-change w (eq k) one_pin_less es)) (omega (arith, length-change (eq k) one_pin_less es))
-                    (omega (arith, none, idle.1)) (omega (arith, pins_held, f.held, enough)) (omega (arith, zero-one, f.one)) (omega (arith, same)),
+                    (omega (arith, none, idle.1)) (omega (arith, held, f.held, enough)) (omega (arith, zero-one, f.one)) (omega (arith, same)),
               )
 
       pub drop-busy : IsBusyAt (lookup (eq k) (change (eq k) one_pin_less es)) → AreSums (change (eq k) one_pin_less es) u p i
@@ -250,16 +250,16 @@ module _ {K V : Type 0} where
           by (Some st) h some busy =
               let f = busy-facts (one_pin_less st) busy in
               let again = held-again st some in
-              let pins_held : held_cost st ≡ held_cost (one_pin_less st) = ap held_cost (sym again) ∙ f.then_held in
+              let held : held_cost st ≡ held_cost (one_pin_less st) = ap held_cost (sym again) ∙ f.then_held in
               let none : idle_cost st ≡ 0 = ap idle_cost (sym again) ∙ f.then_idle in
               let zero-one : idle_one st ≡ 0 = ap idle_one (sym again) ∙ f.then_one in
               let same : excess st ≡ excess (one_pin_less st) = ap excess (sym again) ∙ f.same in
               sums-moved es (change (eq k) one_pin_less es) u p i u p i (Some st) (Some (one_pin_less st)) sums
               (λ w. rw h at (total-change w (eq k) one_pin_less es)) (omega (arith, length-change (eq k) one_pin_less es))
-              (omega (arith, none, f.idle)) (omega (arith, pins_held)) (omega (arith, zero-one, f.one)) (omega (arith, same))
+              (omega (arith, none, f.idle)) (omega (arith, held)) (omega (arith, zero-one, f.one)) (omega (arith, same))
 
     -- what a key weighs that is being made
-    pub fill-sums : (cost : ℕ) (value : V) → (m : ℕ) → maker_in (lookup (eq k) es) ≡ Some m → cost ≤ 4294967296 → AreSums (to_front (eq k) (λ _. Ready 1 cost value) es) u (p + cost) i
+    pub fill-sums : (cost : ℕ) (value : V) → (m : ℕ) → maker_in (lookup (eq k) es) ≡ Some m → cost ≤ max_cost → AreSums (to_front (eq k) (λ _. Ready 1 cost value) es) u (p + cost) i
     fill-sums cost value m made cheap = by (lookup (eq k) es) refl made
       where
         by : (o : Option (Status V)) → lookup (eq k) es ≡ o → maker_in o ≡ Some m → AreSums (to_front (eq k) (λ _. Ready 1 cost value) es) u (p + cost) i

@@ -1,10 +1,10 @@
--- What the calls of `Entries` answer, by the machine.
+-- Public: what the calls of `Entries` answer, by the machine.
 use Rattle.std.specs.Prelude.{◌≡◌, Bool, ℕ, length, Option, Some, None}
 use Rattle.std.specs.Arc.{arc_value}
 use Rattle.evict_core.specs.Machine.{Status, Flying, Ready, State, Step, maker_in, status_of, ask_answer, state_after, unpinned, pinned}
 use Rattle.evict_core.specs.Machine as machine
 use Rattle.evict_core.specs.declared.ask.Ask.{Ask}
-use Rattle.evict_core.specs.declared.ask.Ask.TheVariants.{Hit, Claim, Crowded, OutOfMemory}
+use Rattle.evict_core.specs.declared.ask.Ask.TheVariants.{Hit, Claimable, Crowded, OutOfMemory}
 use Rattle.evict_core.specs.declared.ask.Ask.TheVariants as answered
 use Rattle.evict_core.specs.declared.counts.Totals.{Totals}
 
@@ -35,10 +35,11 @@ module _ {K V : Type 0} where
   }
 
 module _ {K V : Type 0} (eq : K → K → Bool) (old : State K V) (key : K) (number : ℕ) where
-  -- the step that the machine answers the ask with was made; a key that is being made and want of memory change nothing
+  -- The step that the machine answers the ask with was made, but for a claim, which is a call of its own.
+  -- A key that may be claimed, one that is being made and want of memory change nothing
   abbrev pub IsAskAnswer : Ask V → State K V → Type 0
   IsAskAnswer (Hit value) new = (ask_answer eq old key ≡ Some machine.Hit) × (ready_value (status_of eq old key) ≡ Some (arc_value value)) × (new ≡ state_after eq old number (machine.Ask key machine.Hit))
-  IsAskAnswer Claim new = (ask_answer eq old key ≡ Some machine.Claim) × (new ≡ state_after eq old number (machine.Ask key machine.Claim))
+  IsAskAnswer Claimable new = (ask_answer eq old key ≡ Some machine.Claim) × (new ≡ old)
   IsAskAnswer Crowded new = (ask_answer eq old key ≡ Some machine.Crowded) × (new ≡ state_after eq old number (machine.Ask key machine.Crowded))
   IsAskAnswer (answered.Flying maker) new = (maker_in (status_of eq old key) ≡ Some maker) × (new ≡ old)
   IsAskAnswer OutOfMemory new = new ≡ old

@@ -1,5 +1,6 @@
--- Histories of a cache: lists of a number and the step that it made, the oldest first.
+-- Public: histories of a cache, and what is read off them. A history is a list of numbers and the steps that they made, the oldest first.
 use Rattle.std.specs.Prelude.{◌≡◌, ℕ, zero, suc, ◌+◌, ◌-◌, ◌<◌, Bool, true, false, not, ◌&&◌, ◌||◌, ◌==◌, if◌then◌else◌, is_some, List, [], ◌∷◌, ◌++◌}
+use Rattle.turn_cell.specs.History.{History, entries_of}
 use Rattle.evict_core.specs.declared.counts.Counts.{Counts}
 use Rattle.evict_core.specs.Machine.{State, Hit, Claim, Crowded, Step, Ask, PinAll, Fill, Fail, Unpin, Limits, status_of, state_after, IsEnabled}
 
@@ -19,21 +20,7 @@ abbrev pub times_named : {K : Type 0} → (K → K → Bool) → K → List K �
 times_named eq k [] = 0
 times_named eq k (x ∷ xs) = one_if (eq k x) + times_named eq k xs
 
--- each key passes
-abbrev pub all_pass : {K : Type 0} → (K → Bool) → List K → Bool
-all_pass may [] = true
-all_pass may (k ∷ ks) = may k && all_pass may ks
-
 module _ {K V : Type 0} where
-  -- each key that the step names passes
-  abbrev pub names : (K → Bool) → Step K V → Bool
-  names may (Ask key answer) = may key
-  names may (PinAll keys) = all_pass may keys
-  names may (Fill key cost value) = may key
-  names may (Fail key) = may key
-  names may (Unpin key) = may key
-  names may (Limits entries budget) = true
-
   abbrev pub is_fail : Step K V → Bool
   is_fail (Fail key) = true
   is_fail (Ask key answer) = false
@@ -42,18 +29,13 @@ module _ {K V : Type 0} where
   is_fail (Unpin key) = false
   is_fail (Limits entries budget) = false
 
-  -- the numbers of the history's entries are below n
-  abbrev pub NumbersBelow : ℕ → List (ℕ × Step K V) → Type 0
-  NumbersBelow n [] = Unit {0}
-  NumbersBelow n (e ∷ h) = (e.0 < n) × NumbersBelow n h
-
 module _ {K V : Type 0} (eq : K → K → Bool) where
-  abbrev pub replay_from : State K V → List (ℕ × Step K V) → State K V
+  abbrev pub replay_from : State K V → History (Step K V) → State K V
   replay_from s [] = s
   replay_from s (e ∷ h) = replay_from (state_after eq s e.0 e.1) h
 
   -- the state after a history that began with these limits
-  abbrev pub replay : ℕ → ℕ → List (ℕ × Step K V) → State K V
+  abbrev pub replay : ℕ → ℕ → History (Step K V) → State K V
   replay limit budget h = replay_from (opening limit budget) h
 
   -- how many pins of k the step takes
@@ -76,25 +58,25 @@ module _ {K V : Type 0} (eq : K → K → Bool) where
   gives k (Fail key) = 0
   gives k (Limits entries budget) = 0
 
-  -- the pins of k that m took in the history, and those that it gave back
-  abbrev pub pins_taken : List (ℕ × Step K V) → ℕ → K → ℕ
-  pins_taken [] m k = 0
-  pins_taken (e ∷ h) m k = (if e.0 == m then takes k e.1 else 0) + pins_taken h m k
+  -- the pins of k that these steps take together, and those that they give back
+  abbrev pub pins_taken : List (Step K V) → K → ℕ
+  pins_taken [] k = 0
+  pins_taken (step ∷ steps) k = takes k step + pins_taken steps k
 
-  abbrev pub pins_given : List (ℕ × Step K V) → ℕ → K → ℕ
-  pins_given [] m k = 0
-  pins_given (e ∷ h) m k = (if e.0 == m then gives k e.1 else 0) + pins_given h m k
+  abbrev pub pins_given : List (Step K V) → K → ℕ
+  pins_given [] k = 0
+  pins_given (step ∷ steps) k = gives k step + pins_given steps k
 
-  -- the pins of k that m holds after the history
-  abbrev pub pins_held : List (ℕ × Step K V) → ℕ → K → ℕ
-  pins_held h m k = pins_taken h m k - pins_given h m k
+  -- the pins of k that m holds after the history: what its own steps took, less what they gave back
+  abbrev pub pins_held : History (Step K V) → ℕ → K → ℕ
+  pins_held h m k = pins_taken (entries_of m h) k - pins_given (entries_of m h) k
 
   -- the pins of k that the numbers below n hold
-  abbrev pub held_below : List (ℕ × Step K V) → ℕ → K → ℕ
+  abbrev pub held_below : History (Step K V) → ℕ → K → ℕ
   held_below h zero k = 0
   held_below h (suc n) k = held_below h n k + pins_held h n k
 
-  -- whether a claim of k is open after a step of its number, where `was` says whether one was before
+  -- whether a claim of k is open after a step, where `was` says whether one was before
   abbrev pub is_open_after : Step K V → K → Bool → Bool
   is_open_after (Ask key Claim) k was = eq k key || was
   is_open_after (Fill key cost value) k was = not (eq k key) && was
@@ -105,22 +87,23 @@ module _ {K V : Type 0} (eq : K → K → Bool) where
   is_open_after (Unpin key) k was = was
   is_open_after (Limits entries budget) k was = was
 
-  abbrev pub is_open_from : Bool → List (ℕ × Step K V) → ℕ → K → Bool
-  is_open_from was [] m k = was
-  is_open_from was (e ∷ h) m k = is_open_from (if e.0 == m then is_open_after e.1 k was else was) h m k
+  -- the same, after these steps
+  abbrev pub is_open_in : Bool → List (Step K V) → K → Bool
+  is_open_in was [] k = was
+  is_open_in was (step ∷ steps) k = is_open_in (is_open_after step k was) steps k
 
   -- m's last claim of k has no later fill or fail of k by m
-  abbrev pub is_pending : List (ℕ × Step K V) → ℕ → K → Bool
-  is_pending h m k = is_open_from false h m k
+  abbrev pub is_pending : History (Step K V) → ℕ → K → Bool
+  is_pending h m k = is_open_in false (entries_of m h) k
 
-  -- after h, the entry's number may make its step, which names keys that may stand in the history
-  pub record MayFollow (may : K → Bool) (limit budget : ℕ) (h : List (ℕ × Step K V)) (e : ℕ × Step K V) : Type 0 where
-    pub enabled : IsEnabled eq (replay limit budget h) (pins_held h e.0) e.0 e.1
-    pub named : names may e.1 ≡ true
+  -- after h, the entry's number may make its step
+  abbrev pub MayFollow : ℕ → ℕ → History (Step K V) → ℕ × Step K V → Type 0
+  MayFollow limit budget h e = IsEnabled eq (replay limit budget h) (pins_held h e.0) e.0 e.1
 
-  -- each step is enabled in its turn, and each ask says what the machine answers there
-  abbrev pub IsLegal : (K → Bool) → ℕ → ℕ → List (ℕ × Step K V) → Type 0
-  IsLegal may limit budget h = (front back : List (ℕ × Step K V)) (e : ℕ × Step K V) → h ≡ front ++ e ∷ back → MayFollow may limit budget front e
+  -- Each step is enabled in its turn, and each ask says what the machine answers there.
+  -- A cache says of the steps themselves what it wants beside this, as the cost and the value of each fill
+  abbrev pub IsLegal : ℕ → ℕ → History (Step K V) → Type 0
+  IsLegal limit budget h = (front back : History (Step K V)) (e : ℕ × Step K V) → h ≡ front ++ e ∷ back → MayFollow limit budget front e
 
   -- the step takes the entry of k away, and isn't a fail
   abbrev pub is_evicted : State K V → ℕ × Step K V → K → Bool

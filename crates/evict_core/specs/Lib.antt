@@ -1,5 +1,6 @@
 pub mod Asked
 pub mod Codes
+pub mod Counting
 pub mod History
 pub mod Laws
 pub mod Machine

@@ -1,4 +1,4 @@
--- The cache machine: what a cache with a limit of entries and a budget does at each step. It is this project's own.
+-- Public: the cache machine, what a cache with a limit of entries and a budget does at each step. It is this project's own.
 -- `eq` says which keys are the same, and a ready entry also has the value that it was filled with.
 use Rattle.std.specs.Prelude.{◌≡◌, ℕ, zero, suc, ◌+◌, ◌-◌, ◌≤◌, min, Bool, false, not, ◌&&◌, ◌||◌, ◌==◌, nat_lt, nat_le, if◌then◌else◌, List, [], ◌∷◌, length, Option, Some, None}
 use Rattle.std.specs.Map.{lookup, remove_entry}
@@ -32,14 +32,20 @@ pub data Step (K V : Type 0) : Type 0 where
   Limits : (entries : ℕ) → (budget : ℕ) → Step K V
 
 -- the most pins that an entry has
-abbrev pub full_pins : ℕ
-full_pins = 4294967295
+abbrev pub max_pins : ℕ
+max_pins = 4294967295
 
-abbrev pub largest_limit : ℕ
-largest_limit = 65536
+-- the largest limit of entries
+abbrev pub max_entries : ℕ
+max_entries = 65536
 
-abbrev pub largest_budget : ℕ
-largest_budget = 1099511627776
+-- the largest budget
+abbrev pub max_budget : ℕ
+max_budget = 1099511627776
+
+-- the most that an entry costs
+abbrev pub max_cost : ℕ
+max_cost = 4294967296
 
 -- the last value of a count, at which it stands
 abbrev pub last_count : ℕ
@@ -122,7 +128,7 @@ module _ {K V : Type 0} where
   abbrev pub answer_at : State K V → Option (Status V) → Option Answer
   answer_at s None = Some (if nat_lt (length s.entries) s.limit || has_idle s.entries then Claim else Crowded)
   answer_at s (Some (Flying number)) = None
-  answer_at s (Some (Ready pins cost value)) = Some (if nat_lt pins full_pins then Hit else Crowded)
+  answer_at s (Some (Ready pins cost value)) = Some (if nat_lt pins max_pins then Hit else Crowded)
 
   -- one goes first where the list isn't shorter than the limit
   abbrev pub room_for_one : State K V → State K V
@@ -163,9 +169,9 @@ module _ {K V : Type 0} (eq : K → K → Bool) where
 
   -- m may make the step; `held` says how often m holds a key
   abbrev pub IsEnabled : State K V → (K → ℕ) → ℕ → Step K V → Type 0
-  IsEnabled s pins_held m (Ask k answer) = ask_answer s k ≡ Some answer
-  IsEnabled s pins_held m (PinAll ks) = HitsEach s ks
-  IsEnabled s pins_held m (Fill k cost value) = maker_in (status_of s k) ≡ Some m
-  IsEnabled s pins_held m (Fail k) = maker_in (status_of s k) ≡ Some m
-  IsEnabled s pins_held m (Unpin k) = 1 ≤ pins_held k
-  IsEnabled s pins_held m (Limits entries budget) = (1 ≤ entries) × (entries ≤ largest_limit) × (budget ≤ largest_budget)
+  IsEnabled s held m (Ask k answer) = ask_answer s k ≡ Some answer
+  IsEnabled s held m (PinAll ks) = HitsEach s ks
+  IsEnabled s held m (Fill k cost value) = maker_in (status_of s k) ≡ Some m
+  IsEnabled s held m (Fail k) = maker_in (status_of s k) ≡ Some m
+  IsEnabled s held m (Unpin k) = 1 ≤ held k
+  IsEnabled s held m (Limits entries budget) = (1 ≤ entries) × (entries ≤ max_entries) × (budget ≤ max_budget)

@@ -1,4 +1,4 @@
--- How the entries stand in a map from keys to numbers and a list of numbers with their places.
+-- Inner: how the entries stand in a map from keys to numbers and a list of numbers with their places.
 use Rattle.std.specs.Prelude.{◌≡◌, ℕ, ◌<◌, Bool, true, false, List, [], ◌∷◌, ◌++◌, slice_get, nat_eq, Option, Some, None}
 use Rattle.std.specs.Map.{lookup, keys_of}
 use Rattle.std.specs.List.{IsDistinct}

@@ -1,4 +1,4 @@
--- Lists of keys and items, the most recently used first.
+-- Public: lists of keys and items, the most recently used first.
 use Rattle.std.specs.Prelude.{◌≡◌, ℕ, ◌+◌, None, Bool, false, ◌||◌, if◌then◌else◌, List, [], ◌∷◌}
 use Rattle.std.specs.Map.{lookup, lookup_entry, remove_entry}
 use Rattle.std.specs.Option.{option_map_or}

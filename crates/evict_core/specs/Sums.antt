@@ -1,15 +1,7 @@
--- The running sums of a list of entries.
-use Rattle.std.specs.Prelude.{◌≡◌, true, false, ℕ, ◌-◌, ◌≤◌, if◌then◌else◌, List, length, Option, Some, None}
-use Rattle.evict_core.specs.Machine.{Status, Flying, Ready, is_idle, idle_cost, unpinned, pinned}
+-- Inner: the running sums of a list of entries.
+use Rattle.std.specs.Prelude.{◌≡◌, true, false, ℕ, ◌+◌, ◌-◌, ◌≤◌, if◌then◌else◌, List, length, Option, Some, None}
+use Rattle.evict_core.specs.Machine.{Status, Flying, Ready, max_entries, max_cost, is_idle, idle_cost, unpinned, pinned}
 use Rattle.evict_core.specs.Recency.{total}
-
--- the most that an entry costs
-abbrev pub largest_cost : ℕ
-largest_cost = 4294967296
-
--- the most entries: one more than the largest limit
-abbrev pub most_entries : ℕ
-most_entries = 65537
 
 module _ {V : Type 0} where
   abbrev pub idle_one : Status V → ℕ
@@ -18,7 +10,7 @@ module _ {V : Type 0} where
   -- what it costs above the most
   abbrev pub excess : Status V → ℕ
   excess (Flying number) = 0
-  excess (Ready pins cost value) = cost - largest_cost
+  excess (Ready pins cost value) = cost - max_cost
 
   -- what a look-up gives may be evicted, and costs so much
   abbrev pub IsIdleAt : Option (Status V) → ℕ → Type 0
@@ -35,4 +27,4 @@ pub record AreSums {K V : Type 0} (es : List (K × Status V)) (idle_sum held_sum
   pub pinned_is : held_sum ≡ pinned es
   pub idle_is : idle_count ≡ total idle_one es
   pub cheap : total excess es ≡ 0
-  pub few : length es ≤ most_entries
+  pub few : length es ≤ max_entries + 1

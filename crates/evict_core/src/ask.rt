@@ -2,12 +2,12 @@
 
 use std::sync::Arc;
 
-/// The answer to an ask: the value, which has one pin more; the leave to make it; the number that makes it; that there is no room
-/// for a key or a pin more; or that memory was wanting.
+/// The answer to an ask: the value, which has one pin more; that the key may be claimed; the number that makes it; that
+/// there is no room for a key or a pin more; or that memory was wanting.
 #[derive(Drop)]
 pub enum Ask<V> {
     Hit(Arc<V>),
-    Claim,
+    Claimable,
     Flying(u32),
     Crowded,
     OutOfMemory,

@@ -1,7 +1,7 @@
 //! The entries of a cache.
-ghost use Rattle.std.specs.Prelude.{◌≡◌, ℕ, ◌+◌, ◌<◌, ◌≤◌, true, false, ◌||◌, Some, None, length, nat_lt, IfOk, IsSome, option_map};
+ghost use Rattle.std.specs.Prelude.{◌≡◌, ℕ, ◌+◌, ◌<◌, ◌≤◌, true, false, ◌||◌, Some, None, length, nat_lt, IfOk, OnOk, OnErr, IsSome, option_map};
 ghost use Rattle.std.specs.Arc.{arc_value};
-ghost use Rattle.evict_core.specs.Machine.{Hit, Claim, Crowded, Ask as ask_step, Fill, Fail, Unpin, Limits, Flying, one_pin_less, has_idle, status_of, pins_in, maker_in, is_within, evict, trim, ask_answer, state_after, hit};
+ghost use Rattle.evict_core.specs.Machine.{Hit, Claim, Crowded, Ask as ask_step, Fill, Fail, Unpin, Limits, Flying, max_entries, max_budget, max_cost, one_pin_less, has_idle, status_of, pins_in, maker_in, is_within, evict, trim, ask_answer, state_after, hit};
 ghost use Rattle.evict_core.specs.History.{opening};
 ghost use Rattle.evict_core.specs.Recency.{change};
 ghost use Rattle.evict_core.specs.Asked.{IsAskAnswer, ready_pins, ready_value, totals_of};
@@ -28,7 +28,7 @@ pub struct Entries<K: Eq + Hash, V> {
 
 impl<K: Eq + Hash, V> Model for Entries<K, V> {
     ghost use Rattle.std.specs.Prelude.{◌≤◌, length};
-    ghost use Rattle.evict_core.specs.Machine.{State};
+    ghost use Rattle.evict_core.specs.Machine.{State, max_entries};
     ghost use Rattle.evict_core.specs.Codes.{state_code};
 
     ghost Value = { State K V };
@@ -37,15 +37,15 @@ impl<K: Eq + Hash, V> Model for Entries<K, V> {
 
     ghost view = { λ e. record { entries = e.list; limit = e.limit; budget = e.budget; counts = e.counts } };
 
-    ghost invariant = { λ e. (length e.list ≤ 65536) × (e.limit ≤ 65536) };
+    ghost invariant = { λ e. (length e.list ≤ max_entries) × (e.limit ≤ max_entries) };
 }
 
 impl<K: Eq + Hash, V> Entries<K, V> {
     /// No entries, with a limit from 1 to 65,536 and a budget of at most 2^40.
     pub fn open(alloc: Global, entries: u32, budget: u64) -> Mem<Entries<K, V>>
         requires least { 1 ≤ entries }
-        requires most { entries ≤ 65536 }
-        requires budget { budget ≤ 1099511627776 }
+        requires most { entries ≤ max_entries }
+        requires budget { budget ≤ max_budget }
         ensures { IfOk result (λ e. e ≡ opening entries budget) }
     {
         let list = Ledger::new(alloc)?;
@@ -64,28 +64,51 @@ impl<K: Eq + Hash, V> Entries<K, V> {
         })
     }
 
-    /// Asks for the key under a number. A hit is the most recent entry from then on, and has one pin more. A claim is the leave to
-    /// make the value, which the number then does. Want of memory changes nothing here, but the key is gone.
-    pub fn ask(&mut self, key: K, number: u32) -> Ask<V>
-    where
-        K: Drop,
-        V: Drop,
-        ensures { IsAskAnswer K.eq self.old key number result self.new }
+    /// Asks for the key. A hit is the most recent entry from then on, and has one pin more. A key that may be claimed,
+    /// one that is being made and want of memory change nothing.
+    pub fn ask(&mut self, key: &K) -> Ask<V>
+        ensures { (m : ℕ) → IsAskAnswer K.eq self.old key.now m result self.new }
     {
-        match self.list.get(&key) {
+        match self.list.get(key) {
             Some(Stored::Making(maker)) => Ask::Flying(*maker),
             Some(Stored::Made(pins, _, value)) => {
                 if *pins < u32::MAX {
                     let Ok(value) = Arc::try_clone(value) else {
                         return Ask::OutOfMemory;
                     };
-                    self.pin(&key);
+                    self.pin(key);
                     return Ask::Hit(value);
                 }
                 self.refuse();
                 Ask::Crowded
             }
-            None => self.claim(key, number),
+            None => self.ask_absent(key),
+        }
+    }
+
+    /// Takes the leave to make the value of a key, which the number then does. Want of memory changes nothing here, but
+    /// the key is gone.
+    pub fn claim(&mut self, key: K, number: u32) -> Mem<()>
+    where
+        K: Drop,
+        V: Drop,
+        requires { ask_answer K.eq self.old key ≡ Some Claim }
+        ensures ok { OnOk result (self.new ≡ state_after K.eq self.old number (ask_step key Claim)) }
+        ensures err { OnErr result (self.new ≡ self.old) }
+    {
+        if self.list.len() < self.limit as usize {
+            return self.claim_free(key, number);
+        }
+        self.claim_full(key, number)
+    }
+
+    /// The number that makes the key.
+    pub fn maker_of(&self, key: &K) -> Option<u32>
+        ensures { result ≡ maker_in (status_of K.eq self.now key.now) }
+    {
+        match self.list.get(key) {
+            Some(Stored::Making(maker)) => Some(*maker),
+            _ => None,
         }
     }
 
@@ -94,7 +117,7 @@ impl<K: Eq + Hash, V> Entries<K, V> {
     where
         V: Drop,
         requires flying { IsSome (maker_in (status_of K.eq self.old key.now)) }
-        requires cost { cost ≤ 4294967296 }
+        requires cost { cost ≤ max_cost }
         ensures { (m : ℕ) → self.new ≡ state_after K.eq self.old m (Fill key.now cost (arc_value value)) }
     {
         self.list.fill(key, cost, value);
@@ -131,8 +154,8 @@ impl<K: Eq + Hash, V> Entries<K, V> {
         K: Drop,
         V: Drop,
         requires least { 1 ≤ entries }
-        requires most { entries ≤ 65536 }
-        requires budget { budget ≤ 1099511627776 }
+        requires most { entries ≤ max_entries }
+        requires budget { budget ≤ max_budget }
         ensures { (m : ℕ) → self.new ≡ state_after K.eq self.old m (Limits entries budget) }
     {
         self.limit = entries;
@@ -188,55 +211,53 @@ impl<K: Eq + Hash, V> Entries<K, V> {
     }
 
     // An ask of a key that isn't there.
-    fn claim(&mut self, key: K, number: u32) -> Ask<V>
-    where
-        K: Drop,
-        V: Drop,
-        requires { status_of K.eq self.old key ≡ None }
-        ensures { IsAskAnswer K.eq self.old key number result self.new }
+    fn ask_absent(&mut self, key: &K) -> Ask<V>
+        requires { status_of K.eq self.old key.now ≡ None }
+        ensures { (m : ℕ) → IsAskAnswer K.eq self.old key.now m result self.new }
     {
-        if self.list.len() < self.limit as usize {
-            return self.claim_free(key, number);
+        if self.has_room() {
+            return Ask::Claimable;
         }
-        if !self.list.has_idle() {
-            self.refuse();
-            return Ask::Crowded;
-        }
-        self.claim_full(key, number)
+        self.refuse();
+        Ask::Crowded
     }
 
-    fn claim_free(&mut self, key: K, number: u32) -> Ask<V>
+    fn has_room(&self) -> bool
+        ensures { result ≡ (nat_lt (length self.now.entries) self.now.limit || has_idle self.now.entries) }
+    {
+        self.list.len() < self.limit as usize || self.list.has_idle()
+    }
+
+    fn claim_free(&mut self, key: K, number: u32) -> Mem<()>
     where
         K: Drop,
         V: Drop,
         requires absent { status_of K.eq self.old key ≡ None }
         requires room { length self.old.entries < self.old.limit }
-        ensures { IsAskAnswer K.eq self.old key number result self.new }
+        ensures ok { OnOk result (self.new ≡ state_after K.eq self.old number (ask_step key Claim)) }
+        ensures err { OnErr result (self.new ≡ self.old) }
     {
-        let Ok(_) = self.list.insert(key, number) else {
-            return Ask::OutOfMemory;
-        };
+        self.list.insert(key, number)?;
         self.counts.claims = raise(self.counts.claims);
-        Ask::Claim
+        Ok(())
     }
 
     // The memory is taken before anything is evicted: the new entry, which is being made, isn't what goes.
-    fn claim_full(&mut self, key: K, number: u32) -> Ask<V>
+    fn claim_full(&mut self, key: K, number: u32) -> Mem<()>
     where
         K: Drop,
         V: Drop,
         requires absent { status_of K.eq self.old key ≡ None }
         requires full { self.old.limit ≤ length self.old.entries }
         requires idle { has_idle self.old.entries ≡ true }
-        ensures { IsAskAnswer K.eq self.old key number result self.new }
+        ensures ok { OnOk result (self.new ≡ state_after K.eq self.old number (ask_step key Claim)) }
+        ensures err { OnErr result (self.new ≡ self.old) }
     {
-        let Ok(_) = self.list.insert(key, number) else {
-            return Ask::OutOfMemory;
-        };
+        self.list.insert(key, number)?;
         self.list.evict();
         self.counts.evictions = raise(self.counts.evictions);
         self.counts.claims = raise(self.counts.claims);
-        Ask::Claim
+        Ok(())
     }
 
     fn refuse(&mut self)

@@ -3,7 +3,7 @@ ghost use Rattle.std.specs.Prelude.{◌≡◌, ◌+◌, ◌<◌, ◌≤◌, true
 ghost use Rattle.std.specs.Map.{lookup, remove_entry};
 ghost use Rattle.std.specs.Arc.{arc_value};
 ghost use Rattle.evict_core.specs.Recency.{to_front, change, without_last};
-ghost use Rattle.evict_core.specs.Machine.{Flying, Ready, is_idle, has_idle, unpinned, pinned, pins_in, maker_in, one_pin_more, one_pin_less};
+ghost use Rattle.evict_core.specs.Machine.{Flying, Ready, max_pins, max_entries, max_cost, is_idle, has_idle, unpinned, pinned, pins_in, maker_in, one_pin_more, one_pin_less};
 ghost use Rattle.evict_core.specs.Places.{stored_status};
 
 use crate::recency::Recency;
@@ -89,7 +89,7 @@ impl<K: Eq + Hash, V> Ledger<K, V> {
 
     /// One pin more on the key, which becomes the most recent.
     pub fn add_pin(&mut self, key: &K)
-        requires { pins_in (lookup (K.eq key.now) self.old) < 4294967295 }
+        requires { pins_in (lookup (K.eq key.now) self.old) < max_pins }
         ensures { self.new ≡ to_front (K.eq key.now) one_pin_more self.old }
     {
         match self.entries.idle_cost(key) {
@@ -121,7 +121,7 @@ impl<K: Eq + Hash, V> Ledger<K, V> {
     where
         V: Drop,
         requires flying { IsSome (maker_in (lookup (K.eq key.now) self.old)) }
-        requires cost { cost ≤ 4294967296 }
+        requires cost { cost ≤ max_cost }
         ensures { self.new ≡ to_front (K.eq key.now) (λ _. Ready 1 cost (arc_value value)) self.old }
     {
         self.pinned += cost;
@@ -134,7 +134,7 @@ impl<K: Eq + Hash, V> Ledger<K, V> {
         K: Drop,
         V: Drop,
         requires absent { lookup (K.eq key) self.old ≡ None }
-        requires room { length self.old < 65537 }
+        requires room { length self.old < max_entries + 1 }
         ensures ok { OnOk result (self.new ≡ (key, Flying maker) ∷ self.old) }
         ensures err { OnErr result (self.new ≡ self.old) }
     {

@@ -14,4 +14,4 @@ mod tests;
 pub use ask::Ask;
 pub use counts::{Counts, Totals};
 pub use entries::Entries;
-pub use laws::{budget, limit, pins, single_fill, trims};
+pub use laws::{budget, counted, filled, legal, limit, pin_all, pins, single_fill, trims};

@@ -4,7 +4,7 @@ ghost use Rattle.std.specs.Prelude.{◌≡◌, ℕ, ◌+◌, ◌<◌, ◌≤◌,
 ghost use Rattle.std.specs.Map.{lookup, remove_entry};
 ghost use Rattle.std.specs.Arc.{arc_value};
 ghost use Rattle.evict_core.specs.Recency.{to_front, change, some_passes, without_last};
-ghost use Rattle.evict_core.specs.Machine.{Flying, Ready, is_idle, has_idle, unpinned, pins_in, one_pin_more, one_pin_less};
+ghost use Rattle.evict_core.specs.Machine.{Flying, Ready, max_pins, is_idle, has_idle, unpinned, pins_in, one_pin_more, one_pin_less};
 ghost use Rattle.evict_core.specs.Sums.{IsIdleAt, IsBusyAt};
 ghost use Rattle.evict_core.specs.Places.{stored_status, entries_in, is_idle_place, IsTied, IsOldestIdle};
 
@@ -90,7 +90,7 @@ impl<K: Eq + Hash, V> Recency<K, V> {
 
     /// One pin more on the key, which becomes the most recent.
     pub fn add_pin(&mut self, key: &K)
-        requires { pins_in (lookup (K.eq key.now) self.old) < 4294967295 }
+        requires { pins_in (lookup (K.eq key.now) self.old) < max_pins }
         ensures { self.new ≡ to_front (K.eq key.now) one_pin_more self.old }
     {
         if let Some(number) = self.keys.get(key) {
@@ -205,7 +205,7 @@ fn take_out<K: Eq + Hash + Drop, V>(
     order: &mut LruCache<u64, Place<V>>,
     number: u64,
 ) -> Option<Stored<V>>
-    ensures pins_taken { result ≡ option_map (λ p. p.stored) (lookup (nat_eq number) order.old.entries) }
+    ensures taken { result ≡ option_map (λ p. p.stored) (lookup (nat_eq number) order.old.entries) }
     ensures shown { (next : ℕ) → IsTied K.eq keys.old.entries order.old.entries order.old.cap next
         → entries_in keys.new.entries order.new.entries ≡ entries_in keys.old.entries (remove_entry (nat_eq number) order.old.entries) }
     ensures tied { (next : ℕ) → IsTied K.eq keys.old.entries order.old.entries order.old.cap next

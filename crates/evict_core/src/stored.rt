@@ -1,7 +1,7 @@
 //! What is kept of a key.
 ghost use Rattle.std.specs.Prelude.{◌≡◌, ◌<◌, Some, is_some, IfSome};
 ghost use Rattle.std.specs.Arc.{arc_value};
-ghost use Rattle.evict_core.specs.Machine.{Ready, is_idle, idle_cost, pins_in, one_pin_more, one_pin_less};
+ghost use Rattle.evict_core.specs.Machine.{Ready, max_pins, is_idle, idle_cost, pins_in, one_pin_more, one_pin_less};
 ghost use Rattle.evict_core.specs.Places.{stored_status};
 
 use std::sync::Arc;
@@ -28,7 +28,7 @@ impl<V> Stored<V> {
 
     /// One pin more on a value.
     pub fn add_pin(&mut self)
-        requires { pins_in (Some (stored_status self.old)) < 4294967295 }
+        requires { pins_in (Some (stored_status self.old)) < max_pins }
         ensures { stored_status self.new ≡ one_pin_more (stored_status self.old) }
     {
         match self {

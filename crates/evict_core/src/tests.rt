@@ -1,16 +1,13 @@
-//! The worked rows of calls, and random steps beside a plain list.
-ghost use Rattle.std.specs.Prelude.{◌≡◌, ◌<◌, ◌≤◌};
+//! The worked rows of calls.
+ghost use Rattle.std.specs.Prelude.{◌≤◌};
+ghost use Rattle.evict_core.specs.Machine.{max_cost};
 
-mod plain;
-
-use crate::{Ask, Entries, Totals};
-use plain::Plain;
+use crate::{Ask, Entries};
 use std::alloc::Global;
-use std::process::Abort;
 use std::sync::Arc;
 use std::test::Fail;
 
-/// A call. A fill or a fail first asks, and is made where the key is being made.
+/// A call. An ask claims what it may. A fill or a fail is made where the key is being made.
 #[derive(Clone, Copy, Debug)]
 pub enum Call {
     Ask(u32),
@@ -35,34 +32,44 @@ pub enum Reply {
 fn reply_of(answer: Ask<u32>) -> Reply {
     match answer {
         Ask::Hit(value) => Reply::Hit(*value),
-        Ask::Claim => Reply::Claim,
+        Ask::Claimable => Reply::Claim,
         Ask::Flying(number) => Reply::Flying(number),
         Ask::Crowded => Reply::Crowded,
         Ask::OutOfMemory => Reply::OutOfMemory,
     }
 }
 
+fn ask(entries: &mut Entries<u32, u32>, key: u32) -> Result<Reply, Fail> {
+    match entries.ask(&key) {
+        Ask::Claimable => {
+            entries.claim(key, 7)?;
+            Ok(Reply::Claim)
+        }
+        answer => Ok(reply_of(answer)),
+    }
+}
+
 // The value of a key is its number and ten thousand more.
 fn fill(alloc: Global, entries: &mut Entries<u32, u32>, key: u32, cost: u64) -> Result<Reply, Fail>
-    requires { cost ≤ 4294967296 }
+    requires { cost ≤ max_cost }
 {
     let value = Arc::new(alloc, key.wrapping_add(10_000))?;
-    Ok(match entries.ask(key, 7) {
-        Ask::Flying(_) => {
+    Ok(match entries.maker_of(&key) {
+        Some(_) => {
             entries.fill(&key, value, cost);
             Reply::Done
         }
-        answer => reply_of(answer),
+        None => Reply::Refused,
     })
 }
 
 fn fail(entries: &mut Entries<u32, u32>, key: u32) -> Reply {
-    match entries.ask(key, 7) {
-        Ask::Flying(_) => {
+    match entries.maker_of(&key) {
+        Some(_) => {
             entries.fail(&key);
             Reply::Done
         }
-        answer => reply_of(answer),
+        None => Reply::Refused,
     }
 }
 
@@ -94,7 +101,7 @@ fn unpin(entries: &mut Entries<u32, u32>, key: u32) -> Reply {
 
 fn make(alloc: Global, entries: &mut Entries<u32, u32>, call: Call) -> Result<Reply, Fail> {
     Ok(match call {
-        Call::Ask(key) => reply_of(entries.ask(key, 7)),
+        Call::Ask(key) => ask(entries, key)?,
         Call::Fill(key, cost) => fill(alloc, entries, key, cost.min(1 << 32))?,
         Call::Fail(key) => fail(entries, key),
         Call::Pin(key) => pin(entries, key),
@@ -164,66 +171,22 @@ const ROWS: [(Call, Reply, u32, u64); 45] = [
     (Call::Ask(A), Reply::Crowded, 1, 0),
 ];
 
-// A number from 0 on and below the bound.
-fn draw(seed: &mut u64, bound: u64) -> u64
-    requires { 0 < bound }
-    ensures { result < bound }
-{
-    *seed = seed
-        .wrapping_mul(6_364_136_223_846_793_005)
-        .wrapping_add(1_442_695_040_888_963_407);
-    (*seed >> 33) % bound
-}
-
-fn draw_call(seed: &mut u64) -> Call {
-    let key = (draw(seed, 9) & 0xff) as u32;
-    match draw(seed, 16) {
-        0..5 => Call::Ask(key),
-        5..9 => Call::Fill(key, draw(seed, 100)),
-        9 => Call::Fail(key),
-        10 => Call::Pin(key),
-        11..15 => Call::Unpin(key),
-        _ => Call::Limits((draw(seed, 7) & 0xff) as u32, draw(seed, 300)),
-    }
-}
-
-// Makes a call on both, and compares what they say then.
-fn compare(
-    rt: &impl Abort,
-    alloc: Global,
-    entries: &mut Entries<u32, u32>,
-    plain: &mut Plain,
-    call: Call,
-) -> Result<Reply, Fail> {
-    let reply = make(alloc, entries, call)?;
-    assert_eq!(rt; plain.make(alloc, call)?, reply, "{call:?}");
-    assert_eq!(rt;
-        plain.totals(),
-        Some(entries.totals()),
-        "totals after {call:?}"
-    );
-    Ok(reply)
-}
-
 #[test]
-fn rows_and_random_steps(rt: HostRuntime) -> Result<(), Fail> {
+fn rows_of_calls(rt: HostRuntime) -> Result<(), Fail> {
     let alloc = rt.alloc();
     let mut entries: Entries<u32, u32> = Entries::open(alloc, 2, 100)?;
-    let mut plain = Plain::open(alloc, 2, 100);
     for (i, (call, want, count, unpinned)) in ROWS.iter().enumerate() {
-        let reply = compare(&rt, alloc, &mut entries, &mut plain, *call)?;
-        assert_eq!(rt; reply, *want, "row {i}");
+        assert_eq!(rt; make(alloc, &mut entries, *call)?, *want, "row {i}");
         let totals = entries.totals();
-        assert_eq!(rt; totals.entries, *count, "entries in row {i}");
-        assert_eq!(rt; totals.unpinned, *unpinned, "unpinned in row {i}");
+        assert_eq!(rt;
+            (totals.entries, totals.unpinned),
+            (*count, *unpinned),
+            "row {i}"
+        );
     }
     assert_eq!(rt; entries.totals().evictions, 6);
     assert_eq!(rt; entries.pins_of(&C), Some(1));
     let value = entries.value_of(&C)?.ok_or("no value")?;
     assert_eq!(rt; *value, 10_003);
-    let mut seed = 1;
-    for _ in 0..4000 {
-        compare(&rt, alloc, &mut entries, &mut plain, draw_call(&mut seed))?;
-    }
     Ok(())
 }

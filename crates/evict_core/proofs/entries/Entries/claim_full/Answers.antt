@@ -6,6 +6,6 @@ use Rattle.evict_core.proofs.entries.Entries.claim_full.Goals as goal
 
 pub invariant_of-self-2 : goal.invariant_of-self-2
 invariant_of-self-2 g c =
-    let put = c.in-Ok.ensures.ok in
+    let put = c.in_ok-insert.ensures.ok in
     let idle = ap has_idle put ∙ or_left (has_idle c.self.inside.list) _ (ap (λ s. has_idle s.entries) c.self.view_is ∙ c.requires.idle) in
     (omega (arith, ap length c.evict.ensures, ap length put, length-without_last is_idle c.insert.new.self idle, c.self.invariant.0), c.self.invariant.1)

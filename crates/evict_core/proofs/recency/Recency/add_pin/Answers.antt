@@ -1,6 +1,6 @@
 use Rattle.std.proofs.Common.{◌<◌, sym, ap, ◌∙◌, subst, option_map, refl}
 use Rattle.std.specs.Map.{lookup}
-use Rattle.evict_core.specs.Machine.{pins_in, one_pin_more}
+use Rattle.evict_core.specs.Machine.{max_pins, pins_in, one_pin_more}
 use Rattle.evict_core.specs.Places.{stored_status}
 use Rattle.evict_core.specs.Recency.{to_front}
 use Rattle.evict_core.proofs.TieLemmas.{lookup-found}
@@ -12,7 +12,7 @@ add_pin-requires g c =
     let found = lookup-found (λ p. p.index) (λ p. stored_status p.stored) g.K.PartialEq.eq g.met.K.Eq.laws _ _ _ c.self.invariant.0 c.args.key.now c.in-Some.number.now (sym c.in-Some.ensures.value) in
     let here = found ∙ ap (option_map (λ p. stored_status p.stored)) (sym c.in-Some-get_mut.ensures.value) in
     let is = ap (lookup (g.K.PartialEq.eq c.args.key.now)) (sym c.self.view_is) ∙ here in
-    subst (λ o. pins_in o < 4294967295) is c.requires
+    subst (λ o. pins_in o < max_pins) is c.requires
 
 pub invariant_of-self : goal.invariant_of-self
 invariant_of-self g c =
