@@ -1,13 +1,11 @@
 -- What each step does to the counts.
-use Rattle.std.proofs.Common.{◌≡◌, ℕ, suc, ◌+◌, ◌-◌, ◌≤◌, min, Bool, true, false, cond, nat_le, nat_lt, List, [], ◌∷◌, ◌++◌, length, Option, Some, None, option_map, refl, sym, ap, ◌∙◌, subst, true≢false, arith}
+use Rattle.std.proofs.Common.{◌≡◌, ℕ, ◌+◌, ◌-◌, min, Bool, true, false, cond, nat_lt, List, [], ◌∷◌, ◌++◌, length, Option, Some, None, option_map, refl, sym, ap, ◌∙◌, subst, true≢false, arith}
 use Rattle.std.specs.Cmp.{IsEquivalence}
 use Rattle.std.specs.Map.{lookup}
-use Rattle.std.specs.List.{sum_by}
 use Rattle.std.proofs.lemmas.List.Sums.{sum_by_push}
-use Rattle.std.proofs.lemmas.Bool.{or_parts, or_right}
 use Rattle.turn_cell.specs.History.{History}
-use Rattle.evict_core.specs.Recency.{total, some_passes, without_last, change, to_front}
-use Rattle.evict_core.specs.Machine.{Status, Flying, Ready, State, Hit, Claim, Crowded, Step, Ask, PinAll, Fill, Fail, Unpin, Limits, last_count, raised, is_idle, has_idle, one_pin_more, one_pin_less, maker_in, evict, trim, is_within, status_of, ask_answer, hit, hit_all, room_for_one, put_first, state_after, IsEnabled}
+use Rattle.evict_core.specs.Recency.{without_last, change, to_front}
+use Rattle.evict_core.specs.Machine.{Status, Flying, Ready, State, Hit, Claim, Crowded, Step, Ask, PinAll, Fill, Fail, Unpin, Limits, last_count, raised, is_idle, has_idle, one_pin_more, one_pin_less, maker_in, evict, trim, status_of, hit, hit_all, room_for_one, put_first, state_after, IsEnabled}
 use Rattle.evict_core.specs.History.{opening, replay, pins_held, IsLegal}
 use Rattle.evict_core.specs.Counting.{flying_one, ready_one, flying, ready, hits_in, claims_in, fills_in, fails_in, crowded_in, tally, CountsSay}
 use Rattle.evict_core.proofs.SumLemmas.{weight_in, total-change, total-remove, total-to_front, total-without_last}

@@ -1,10 +1,9 @@
 -- Which histories are legal, and where the values of ready entries come from.
 use Rattle.std.proofs.Common.{◌≡◌, ℕ, Bool, true, false, cond, List, [], ◌∷◌, ◌++◌, ◌⊎◌, inl, inr, ⊎_elim, Option, Some, None, option_map, length, nat_lt, refl, sym, ap, ◌∙◌, subst, append_assoc}
 use Rattle.std.specs.Cmp.{IsEquivalence}
-use Rattle.std.specs.Map.{lookup}
 use Rattle.turn_cell.specs.History.{History}
 use Rattle.evict_core.specs.Recency.{Apart, change}
-use Rattle.evict_core.specs.Machine.{Status, Flying, Ready, State, Hit, Claim, Crowded, Step, Ask, PinAll, Fill, Fail, Unpin, Limits, is_idle, one_pin_more, one_pin_less, evict, trim, status_of, hit, hit_all, room_for_one, put_first, state_after, IsEnabled}
+use Rattle.evict_core.specs.Machine.{Status, Flying, Ready, State, Hit, Claim, Crowded, Step, Ask, PinAll, Fill, Fail, Unpin, Limits, is_idle, one_pin_more, one_pin_less, evict, trim, status_of, hit, hit_all, room_for_one, put_first, state_after}
 use Rattle.evict_core.specs.History.{opening, replay, pins_held, MayFollow, IsLegal}
 use Rattle.evict_core.specs.Laws.{IsFilled, NoneIsLegal, MoreIsLegal, ReadyWasFilled}
 use Rattle.evict_core.proofs.RecencyLemmas.{lookup-to_front, lookup-change, lookup-remove, lookup-without_last, Apart-without_last, Apart-change}

@@ -1,4 +1,4 @@
--- Inner: how the states of the machine are told apart as data.
+-- Public: how the states of the machine are told apart as data.
 use Rattle.std.specs.Prelude.{◌≡◌, ℕ, ◌⊎◌, List, refl}
 use Rattle.std.proofs.Common.{inl, inr}
 use Rattle.std.specs.Coded.{Coded, code_by, coded_ℕ, coded_list, coded×, coded⊎}

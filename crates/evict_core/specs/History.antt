@@ -1,5 +1,5 @@
 -- Public: histories of a cache, and what is read off them. A history is a list of numbers and the steps that they made, the oldest first.
-use Rattle.std.specs.Prelude.{◌≡◌, ℕ, zero, suc, ◌+◌, ◌-◌, ◌<◌, Bool, true, false, not, ◌&&◌, ◌||◌, ◌==◌, if◌then◌else◌, is_some, List, [], ◌∷◌, ◌++◌}
+use Rattle.std.specs.Prelude.{◌≡◌, ℕ, zero, suc, ◌+◌, ◌-◌, Bool, true, false, not, ◌&&◌, ◌||◌, if◌then◌else◌, is_some, List, [], ◌∷◌, ◌++◌}
 use Rattle.turn_cell.specs.History.{History, entries_of}
 use Rattle.evict_core.specs.declared.counts.Counts.{Counts}
 use Rattle.evict_core.specs.Machine.{State, Hit, Claim, Crowded, Step, Ask, PinAll, Fill, Fail, Unpin, Limits, status_of, state_after, IsEnabled}

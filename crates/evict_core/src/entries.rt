@@ -67,7 +67,7 @@ impl<K: Eq + Hash, V> Entries<K, V> {
     /// Asks for the key. A hit is the most recent entry from then on, and has one pin more. A key that may be claimed,
     /// one that is being made and want of memory change nothing.
     pub fn ask(&mut self, key: &K) -> Ask<V>
-        ensures { (m : ℕ) → IsAskAnswer K.eq self.old key.now m result self.new }
+        ensures { IsAskAnswer K.eq self.old key.now result self.new }
     {
         match self.list.get(key) {
             Some(Stored::Making(maker)) => Ask::Flying(*maker),
@@ -213,7 +213,7 @@ impl<K: Eq + Hash, V> Entries<K, V> {
     // An ask of a key that isn't there.
     fn ask_absent(&mut self, key: &K) -> Ask<V>
         requires { status_of K.eq self.old key.now ≡ None }
-        ensures { (m : ℕ) → IsAskAnswer K.eq self.old key.now m result self.new }
+        ensures { IsAskAnswer K.eq self.old key.now result self.new }
     {
         if self.has_room() {
             return Ask::Claimable;

@@ -13,9 +13,9 @@ pin-requires g c =
 pub returns-then-pins-lt4294967295 : goal.returns-then-pins-lt4294967295
 returns-then-pins-lt4294967295 g c =
     let is = ap (λ s. lookup (g.K.PartialEq.eq c.args.key.now) s.entries) (sym c.self.view_is) ∙ (sym c.in-Some-Made.ensures ∙ ap (λ x. Some (stored_status x)) c.in-Some-Made.field-0-is) in
-    λ m. (hit-ready g.K.PartialEq.eq c.args.self.now c.args.key.now _ _ _ is c.if-pins-lt4294967295.true, ap ready_value is ∙ ap Some (sym c.in-Ok.ensures), c.pin.ensures m)
+    (hit-ready g.K.PartialEq.eq c.args.self.now c.args.key.now _ _ _ is c.if-pins-lt4294967295.true, ap ready_value is ∙ ap Some (sym c.in-Ok.ensures), c.pin.ensures)
 
 pub returns-else-pins-lt4294967295 : goal.returns-else-pins-lt4294967295
 returns-else-pins-lt4294967295 g c =
     let is = ap (λ s. lookup (g.K.PartialEq.eq c.args.key.now) s.entries) (sym c.self.view_is) ∙ (sym c.in-Some-Made.ensures ∙ ap (λ x. Some (stored_status x)) c.in-Some-Made.field-0-is) in
-    λ m. (crowded-ready g.K.PartialEq.eq c.args.self.now c.args.key.now _ _ _ is c.if-pins-lt4294967295.false, c.refuse.ensures c.args.key.now m)
+    (crowded-ready g.K.PartialEq.eq c.args.self.now c.args.key.now _ _ _ is c.if-pins-lt4294967295.false, c.refuse.ensures c.args.key.now)
