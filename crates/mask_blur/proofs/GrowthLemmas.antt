@@ -5,7 +5,8 @@ use Rattle.std.proofs.lemmas.Bool.Decides.{nat_tests}
 use Rattle.std.proofs.lemmas.Int.{ints, by_lt_z}
 use Rattle.std.proofs.lemmas.Nat.{mul-lt}
 use Rattle.std.specs.Ordering.{int_eq}
-use Rattle.ass_num.specs.Coverage.{box_of}
+use Rattle.ass_num.specs.Coverage.{PixelBox, box_of}
+use Rattle.ass_num.specs.Limits.{IsMaskWithin}
 use Rattle.ass_num.specs.Masks.{MaskValue, is_mask, value_at}
 use Rattle.mask_blur.specs.Growth.{grown_box}
 use Rattle.mask_blur.specs.Shown.{Shows}
@@ -101,3 +102,23 @@ grown_value g k m x y w h bytes a b c d shows = shown_value g (record { x = x; y
 pub copy_has : {A E : Type 0} (r : Result A E) (m : A) (P : A → Type 0) → IfOk r (λ copy. copy ≡ m) → P m → IfOk r P
 copy_has (Ok copy) m P same has = subst P (sym same) has
 copy_has (Err e) m P same has = tt
+
+-- ---- how far grown masks reach
+pub grown_within : (k : ℕ) (m result : MaskValue) → box_of result ≡ grown_box k m → (corner side : ℕ) → IsMaskWithin corner side m → IsMaskWithin (corner + k) (side + 2 * k) result
+grown_within k m result same corner side within = by_test (eqb (length m.bytes) 0) same
+  where
+    by_test : (b : Bool) → box_of result ≡ cond b (box_of m) (record { x = m.x -ℤ pos k; y = m.y -ℤ pos k; w = m.w + 2 * k; h = m.h + 2 * k }) → IsMaskWithin (corner + k) (side + 2 * k) result
+    by_test true e =
+        let x : result.x ≡ m.x = ap (λ (z : PixelBox). z.x) e in
+        let y : result.y ≡ m.y = ap (λ (z : PixelBox). z.y) e in
+        let w : result.w ≡ m.w = ap (λ (z : PixelBox). z.w) e in
+        let h : result.h ≡ m.h = ap (λ (z : PixelBox). z.h) e in
+        let a = within.x in let b = within.y in let c = within.w in let d = within.h in
+        record { x = (omega (arith, ints, a.0), omega (arith, ints, a.1)); y = (omega (arith, ints, b.0), omega (arith, ints, b.1)); w = omega arith; h = omega arith }
+    by_test false e =
+        let x : result.x ≡ m.x -ℤ pos k = ap (λ (z : PixelBox). z.x) e in
+        let y : result.y ≡ m.y -ℤ pos k = ap (λ (z : PixelBox). z.y) e in
+        let w : result.w ≡ m.w + 2 * k = ap (λ (z : PixelBox). z.w) e in
+        let h : result.h ≡ m.h + 2 * k = ap (λ (z : PixelBox). z.h) e in
+        let a = within.x in let b = within.y in let c = within.w in let d = within.h in
+        record { x = (omega (arith, ints, a.0), omega (arith, ints, a.1)); y = (omega (arith, ints, b.0), omega (arith, ints, b.1)); w = omega arith; h = omega arith }

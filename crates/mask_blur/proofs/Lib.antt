@@ -7,4 +7,5 @@ pub mod ColumnLemmas
 pub mod MaskLemmas
 pub mod SoftenedLemmas
 pub mod GrowthLemmas
+pub mod AlikeLemmas
 pub mod BlurLemmas

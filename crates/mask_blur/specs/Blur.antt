@@ -1,4 +1,4 @@
--- The box blur: every value of a picture becomes the mean of those around it, three times along its row and three times along its column.
+-- Public: the box blur: every value of a picture becomes the mean of those around it, three times along its row and three times along its column.
 use Rattle.std.specs.Prelude.{◌≡◌, ℕ, ℤ, pos, ◌+◌, ◌*◌, ◌/◌, ◌-ℤ◌}
 use Rattle.ass_num.specs.Coverage.{sum_from, box_of}
 use Rattle.ass_num.specs.Masks.{MaskValue, value_at}

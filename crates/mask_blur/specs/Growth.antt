@@ -1,4 +1,4 @@
--- How the box of a mask grows.
+-- Public: how the box of a mask grows.
 use Rattle.std.specs.Prelude.{ℕ, pos, ◌+◌, ◌*◌, ◌-ℤ◌, ◌==◌, length, if◌then◌else◌}
 use Rattle.ass_num.specs.Coverage.{PixelBox, box_of}
 use Rattle.ass_num.specs.Masks.{MaskValue}

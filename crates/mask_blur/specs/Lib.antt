@@ -1,5 +1,6 @@
 pub mod Blur
 pub mod Growth
+pub mod Limits
 pub mod Lines
 pub mod Shown
 pub mod Softening

@@ -1,4 +1,4 @@
--- Values along a line.
+-- Inner: values along a line.
 use Rattle.std.specs.Prelude.{◌≡◌, ℕ, ℤ, pos, negsuc, ◌+◌, ◌<◌, ◌≤◌, ◌+ℤ◌, ◌<ℤ◌, ◌≤ℤ◌, List, length, slice_index}
 
 -- the numbers of a list, from place 0 on, and 0 elsewhere

@@ -1,4 +1,4 @@
--- Pictures that the bytes of a box show.
+-- Inner: pictures that the bytes of a box show.
 use Rattle.std.specs.Prelude.{◌≡◌, ℕ, ℤ, pos, ◌+◌, ◌*◌, ◌<◌, ◌+ℤ◌, List, slice_index}
 use Rattle.mask_blur.specs.Lines.{IsZeroBeside}
 

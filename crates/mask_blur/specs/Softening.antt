@@ -1,4 +1,4 @@
--- Softening: every value of a picture becomes a weighted mean of its neighbourhood, so many times.
+-- Public: softening: every value of a picture becomes a weighted mean of its neighbourhood, so many times.
 use Rattle.std.specs.Prelude.{◌≡◌, ℕ, zero, suc, ℤ, pos, ◌+◌, ◌*◌, ◌/◌, ◌+ℤ◌, ◌-ℤ◌}
 use Rattle.ass_num.specs.Coverage.{box_of}
 use Rattle.ass_num.specs.Masks.{MaskValue, value_at}

@@ -1,6 +1,9 @@
 //! The box blur.
 
-ghost use Rattle.std.specs.Prelude.{◌≡◌, ℕ, ℤ, pos, neg_ℤ, ◌≤◌, ◌<◌, ◌+◌, ◌*◌, ◌^◌, ◌-ℤ◌, ◌≤ℤ◌, length, IfOk};
+ghost use Rattle.std.specs.Prelude.{◌≡◌, ℕ, ℤ, pos, neg_ℤ, ◌≤◌, ◌<◌, ◌+◌, ◌*◌, ◌^◌, ◌-ℤ◌, ◌≤ℤ◌, true, length, IfOk};
+ghost use Rattle.ass_num.specs.Limits.{IsMaskWithin};
+ghost use Rattle.ass_num.specs.Masks.{is_mask};
+ghost use Rattle.mask_blur.specs.Limits.{max_blur};
 ghost use Rattle.mask_blur.specs.Shown.{Shows};
 ghost use Rattle.mask_blur.specs.Blur.{blurred, IsBlurred};
 
@@ -36,12 +39,14 @@ fn blurred_bytes(alloc: Global, bytes: &[u8], w: usize, h: usize, means: &Means)
 /// The mask, blurred with the radius `r`: three times along its rows and then three times along its columns every pixel becomes the mean of itself
 /// and of the `r` pixels on both sides. The box is wider by `3 * r` pixels on each side; it must lie in the range of 32 bits.
 pub fn box_blur(alloc: Global, mask: &Mask, r: u32) -> Mem<Mask>
-    requires radius { r ≤ 100 }
+    requires radius { r ≤ max_blur }
     requires left { neg_ℤ (pos (2 ^ 31)) ≤ℤ (mask.now.x -ℤ pos (3 * r)) }
     requires top { neg_ℤ (pos (2 ^ 31)) ≤ℤ (mask.now.y -ℤ pos (3 * r)) }
     requires width { mask.now.w + 6 * r < 2 ^ 32 }
     requires height { mask.now.h + 6 * r < 2 ^ 32 }
-    ensures { IfOk result (IsBlurred r mask.now) }
+    ensures blurred { IfOk result (IsBlurred r mask.now) }
+    ensures canonical { IfOk result (λ m. is_mask m ≡ true) }
+    ensures within { IfOk result (λ m. (corner side : ℕ) → IsMaskWithin corner side mask.now → IsMaskWithin (corner + 3 * r) (side + 2 * (3 * r)) m) }
 {
     if mask.w() == 0 || r == 0 {
         return copy_of(alloc, mask);

@@ -4,6 +4,7 @@
 mod blur;
 mod columns;
 mod copies;
+mod laws;
 mod lines;
 mod means;
 mod rows;
@@ -13,4 +14,5 @@ mod tests;
 mod weights;
 
 pub use blur::box_blur;
+pub use laws::{one_result, same_pictures};
 pub use softening::soften;

@@ -2,6 +2,7 @@
 
 ghost use Rattle.std.specs.Prelude.{◌≡◌, ◌≤◌, ◌+◌, ◌*◌, ◌/◌, ◌^◌};
 ghost use Rattle.mask_blur.specs.Blur.{mean};
+ghost use Rattle.mask_blur.specs.Limits.{max_blur};
 
 /// Rounded means of 2 * radius + 1 bytes.
 #[derive(Clone, Copy)]
@@ -9,13 +10,13 @@ pub struct Means {
     radius: u32,
     /// 2^24 over the number of bytes, rounded up.
     factor: u32,
-    ghost small: { radius ≤ 100 },
+    ghost small: { radius ≤ max_blur },
     ghost exact: { factor ≡ (2 ^ 24 + 2 * radius) / (2 * radius + 1) },
 }
 
 impl Means {
     pub fn new(radius: u32) -> Means
-        requires { radius ≤ 100 }
+        requires { radius ≤ max_blur }
         ensures { result.radius ≡ radius }
     {
         Means {
@@ -26,7 +27,7 @@ impl Means {
 
     pub fn radius(&self) -> usize
         ensures value { result ≡ self.now.radius }
-        ensures small { result ≤ 100 }
+        ensures small { result ≤ max_blur }
     {
         self.radius as usize
     }

@@ -1,6 +1,8 @@
 //! Softening.
 
-ghost use Rattle.std.specs.Prelude.{◌≡◌, ℕ, ℤ, pos, neg_ℤ, ◌≤◌, ◌<◌, ◌+◌, ◌*◌, ◌^◌, ◌-ℤ◌, ◌≤ℤ◌, length, slice_index, IfOk};
+ghost use Rattle.std.specs.Prelude.{◌≡◌, ℕ, ℤ, pos, neg_ℤ, ◌≤◌, ◌<◌, ◌+◌, ◌*◌, ◌^◌, ◌-ℤ◌, ◌≤ℤ◌, true, length, slice_index, IfOk};
+ghost use Rattle.ass_num.specs.Limits.{IsMaskWithin};
+ghost use Rattle.ass_num.specs.Masks.{is_mask};
 ghost use Rattle.mask_blur.specs.Shown.{Shows};
 ghost use Rattle.mask_blur.specs.Softening.{softer, softened, IsSoftened};
 
@@ -98,7 +100,9 @@ pub fn soften(alloc: Global, mask: &Mask, n: u32) -> Mem<Mask>
     requires top { neg_ℤ (pos (2 ^ 31)) ≤ℤ (mask.now.y -ℤ pos n) }
     requires width { mask.now.w + 2 * n < 2 ^ 32 }
     requires height { mask.now.h + 2 * n < 2 ^ 32 }
-    ensures { IfOk result (IsSoftened n mask.now) }
+    ensures softened { IfOk result (IsSoftened n mask.now) }
+    ensures canonical { IfOk result (λ m. is_mask m ≡ true) }
+    ensures within { IfOk result (λ m. (corner side : ℕ) → IsMaskWithin corner side mask.now → IsMaskWithin (corner + n) (side + 2 * n) m) }
 {
     if mask.w() == 0 || n == 0 {
         return copy_of(alloc, mask);
