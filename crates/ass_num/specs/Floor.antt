@@ -1,4 +1,4 @@
--- Division and holding, as all formulas of whole numbers use them.
+-- Public: division and holding, as all formulas of whole numbers use them.
 use Rattle.std.specs.Prelude.{ℤ}
 use Rattle.std.specs.Int.{int_div_euclid, int_max, int_min}
 
