@@ -7,7 +7,8 @@ use Rattle.turn_cell.specs.History.{History}
 use Rattle.evict_core.specs.Recency.{without_last, change, to_front}
 use Rattle.evict_core.specs.Machine.{Status, Flying, Ready, State, Hit, Claim, Crowded, Step, Ask, PinAll, Fill, Fail, Unpin, Limits, last_count, raised, is_idle, has_idle, one_pin_more, one_pin_less, maker_in, evict, trim, status_of, hit, hit_all, room_for_one, put_first, state_after, IsEnabled}
 use Rattle.evict_core.specs.History.{opening, replay, pins_held, IsLegal}
-use Rattle.evict_core.specs.Counting.{flying_one, ready_one, flying, ready, hits_in, claims_in, fills_in, fails_in, crowded_in, tally, CountsSay}
+use Rattle.evict_core.specs.declared.counts.Counts.{Counts}
+use Rattle.evict_core.specs.Counting.{flying_one, ready_one, flying, ready, counts_of, tally, CountsSay}
 use Rattle.evict_core.proofs.SumLemmas.{weight_in, total-change, total-remove, total-to_front, total-without_last}
 use Rattle.evict_core.proofs.TrimLemmas.{kept-by-trim, some-idle}
 use Rattle.evict_core.proofs.StateLemmas.{claim-has-room}
@@ -214,7 +215,7 @@ module _ {K V : Type 0} (eq : K → K → Bool) where
 
   module _ (laws : IsEquivalence eq) where
     counts-after : (s : State K V) (held : K → ℕ) (m : ℕ) (step : Step K V) (a b c d e : ℕ) → IsEnabled eq s held m step → CountsSay s a b c d e
-        → CountsSay (state_after eq s m step) (a + hits_in step) (b + claims_in step) (c + fills_in step) (d + fails_in step) (e + crowded_in step)
+        → CountsSay (state_after eq s m step) (a + (counts_of step).hits) (b + (counts_of step).claims) (c + (counts_of step).fills) (d + (counts_of step).fails) (e + (counts_of step).crowded)
     counts-after s held m (Ask k Hit) a b c d e enabled say = same-counts _ _ _ _ _ _ _ _ _ _ _ (omega arith) (omega arith) (omega arith) (omega arith) (omega arith) (counts-hit s k a b c d e say)
     counts-after s held m (Ask k Claim) a b c d e enabled say = same-counts _ _ _ _ _ _ _ _ _ _ _ (omega arith) (omega arith) (omega arith) (omega arith) (omega arith) (counts-claim s k m a b c d e (λ full. let room = (claim-has-room eq laws s k enabled).1 in rw full at room) say)
     counts-after s held m (Ask k Crowded) a b c d e enabled say = same-counts _ _ _ _ _ _ _ _ _ _ _ (omega arith) (omega arith) (omega arith) (omega arith) (omega arith) (counts-crowded s a b c d e say)
@@ -224,14 +225,14 @@ module _ {K V : Type 0} (eq : K → K → Bool) where
     counts-after s held m (Unpin k) a b c d e enabled say = same-counts _ _ _ _ _ _ _ _ _ _ _ (omega arith) (omega arith) (omega arith) (omega arith) (omega arith) (counts-unpin s k a b c d e say)
     counts-after s held m (Limits entries budget) a b c d e enabled say = same-counts _ _ _ _ _ _ _ _ _ _ _ (omega arith) (omega arith) (omega arith) (omega arith) (omega arith) (counts-trim (record s { limit = entries; budget = budget }) a b c d e (counts-limits s entries budget a b c d e say))
 
-    tally-more : (count : Step K V → ℕ) (h : History (Step K V)) (x : ℕ × Step K V) → tally count (h ++ x ∷ []) ≡ tally count h + count x.1
-    tally-more count h x = sum_by_push (λ (p : ℕ × Step K V). count p.1) h x
+    tally-more : (pick : Counts → ℕ) (h : History (Step K V)) (x : ℕ × Step K V) → tally pick (h ++ x ∷ []) ≡ tally pick h + pick (counts_of x.1)
+    tally-more pick h x = sum_by_push (λ (p : ℕ × Step K V). pick (counts_of p.1)) h x
 
     abbrev Says : ℕ → ℕ → History (Step K V) → Type 0
-    Says limit budget h = CountsSay (replay eq limit budget h) (tally hits_in h) (tally claims_in h) (tally fills_in h) (tally fails_in h) (tally crowded_in h)
+    Says limit budget h = CountsSay (replay eq limit budget h) (tally (λ c. c.hits) h) (tally (λ c. c.claims) h) (tally (λ c. c.fills) h) (tally (λ c. c.fails) h) (tally (λ c. c.crowded) h)
 
     pub counts-say : (limit budget : ℕ) (h : History (Step K V)) → IsLegal eq limit budget h → Says limit budget h
     counts-say limit budget = by-steps eq limit budget (Says limit budget)
         record { hits_are = refl; claims_are = refl; fills_are = refl; fails_are = refl; crowded_are = refl; claimed = refl; kept = omega arith; evictions_are = refl }
-        (λ h x follows here. rw (replay-append eq h (x ∷ []) (opening limit budget), tally-more hits_in h x, tally-more claims_in h x, tally-more fills_in h x, tally-more fails_in h x, tally-more crowded_in h x)
-        (counts-after (replay eq limit budget h) (pins_held eq h x.0) x.0 x.1 (tally hits_in h) (tally claims_in h) (tally fills_in h) (tally fails_in h) (tally crowded_in h) follows here))
+        (λ h x follows here. rw (replay-append eq h (x ∷ []) (opening limit budget), tally-more (λ c. c.hits) h x, tally-more (λ c. c.claims) h x, tally-more (λ c. c.fills) h x, tally-more (λ c. c.fails) h x, tally-more (λ c. c.crowded) h x)
+        (counts-after (replay eq limit budget h) (pins_held eq h x.0) x.0 x.1 (tally (λ c. c.hits) h) (tally (λ c. c.claims) h) (tally (λ c. c.fills) h) (tally (λ c. c.fails) h) (tally (λ c. c.crowded) h) follows here))

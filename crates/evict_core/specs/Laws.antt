@@ -4,7 +4,7 @@ use Rattle.turn_cell.specs.History.{History, IsBelow, entries_of}
 use Rattle.evict_core.specs.Machine.{State, Ready, Hit, Claim, Step, Ask, Fill, max_pins, maker_in, pins_in, unpinned, has_idle, status_of, ask_answer, hit, hit_all, HitsEach, is_within, evict_all, trim}
 use Rattle.evict_core.specs.History.{replay, replay_from, times_named, pins_taken, pins_given, pins_held, held_below, is_pending, MayFollow, IsLegal, is_evicted, is_fail_of}
 use Rattle.evict_core.specs.Asked.{ready_pins}
-use Rattle.evict_core.specs.Counting.{hits_in, claims_in, fills_in, fails_in, crowded_in, tally, CountsSay}
+use Rattle.evict_core.specs.Counting.{tally, CountsSay}
 
 module _ {K V : Type 0} (eq : K → K → Bool) where
   -- within `between`, which follows the state s, some entry is a fail of k, or evicts it
@@ -126,7 +126,7 @@ module _ {K : Type 0} (V : Type 0) (eq : K → K → Bool) where
   -- the counts are those of the steps
   abbrev pub CountsAreOfSteps : Type 0
   CountsAreOfSteps = (limit budget : ℕ) (h : History (Step K V)) → IsLegal eq limit budget h
-      → CountsSay (replay eq limit budget h) (tally hits_in h) (tally claims_in h) (tally fills_in h) (tally fails_in h) (tally crowded_in h)
+      → CountsSay (replay eq limit budget h) (tally (λ c. c.hits) h) (tally (λ c. c.claims) h) (tally (λ c. c.fills) h) (tally (λ c. c.fails) h) (tally (λ c. c.crowded) h)
 
 -- what `trim` does, said of the number of its evictions: after so many the state is within its limits or has nothing more to evict, and after fewer it isn't
 module _ {K V : Type 0} where

@@ -8,7 +8,7 @@ use std::sync::Arc;
 use std::test::Fail;
 
 /// A call. An ask claims what it may. A fill or a fail is made where the key is being made.
-#[derive(Clone, Copy, Debug)]
+#[derive(Clone, Copy)]
 pub enum Call {
     Ask(u32),
     Fill(u32, u64),
