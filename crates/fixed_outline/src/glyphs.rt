@@ -1,14 +1,15 @@
 //! Outlines of glyphs.
 
-ghost use Rattle.std.specs.Prelude.{◌≡◌, ◌<◌, ◌∷◌, [], ◌++◌, length, pos, neg_ℤ, ◌+ℤ◌, ◌-ℤ◌, ◌≤ℤ◌, slice_get, Some, IfOk, OnOk, if◌then◌else◌};
+ghost use Rattle.std.specs.Prelude.{◌≡◌, ◌<◌, ◌≤◌, ◌+◌, ◌*◌, ◌∷◌, [], ◌++◌, length, pos, neg_ℤ, ◌+ℤ◌, ◌-ℤ◌, ◌≤ℤ◌, slice_get, Some, IfOk, OnOk, if◌then◌else◌};
 ghost use Rattle.ass_num.specs.Bitmaps.{pixel_is_set};
 ghost use Rattle.ass_num.specs.Limits.{IsOutline, IsWithin};
+ghost use Rattle.bdf_font.specs.Limits.{max_ascent};
 ghost use Rattle.bdf_font.specs.GlyphRings.{rings_of_glyph, bitmap_of};
 ghost use Rattle.bdf_font.specs.Ranges.{IsFont, IsGlyph};
 ghost use Rattle.outline_points.specs.Limits.{max_pixel};
 ghost use Rattle.outline_points.specs.Placing.{IsMatrix};
 ghost use Rattle.outline_points.specs.Glyphs.{quad, row_quads, bitmap_quads, bar_quad, strikeout_top, pixel_quads, set_quads};
-ghost use Rattle.fixed_outline.specs.Limits.{max_corner};
+ghost use Rattle.fixed_outline.specs.Limits.{max_corner, max_bitmap_bytes};
 
 use ass_num::{FlatLists, Matrix, Mem, Outline, Point};
 use bdf_font::{Font, FontGlyph};
@@ -160,11 +161,35 @@ fn add_bar(
 /// The upper edge of the strikeout.
 fn strikeout_top(ascent: i32) -> i64
     requires least { pos 0 ≤ℤ ascent }
-    requires most { ascent ≤ℤ pos max_corner }
+    requires most { ascent ≤ℤ pos max_ascent }
     ensures value { result ≡ strikeout_top ascent }
     ensures within { IsWithin max_corner result }
 {
     -i64::from(ascent).div_euclid(2) - 1
+}
+
+/// The sum of the bits that are set in each byte.
+fn set_bits(bits: &[u8]) -> usize
+    requires { length bits.now ≤ max_bitmap_bytes }
+    ensures { result ≤ 255 * length bits.now }
+{
+    let mut count = 0;
+    for byte in bits {
+        count += byte.count_ones() as usize;
+    }
+    count
+}
+
+/// How many rings there is room for: those of all set bits of the bitmap, and two bars.
+fn room_of(style: &Style, glyph: &FontGlyph) -> usize
+    requires { IsGlyph glyph.now }
+    ensures { result ≤ 510 * max_bitmap_bytes + 2 }
+{
+    let pixels = set_bits(glyph.bits.as_slice());
+    if style.bold {
+        return 2 * pixels + 2;
+    }
+    pixels + 2
 }
 
 /// The rings of a glyph.
@@ -178,11 +203,12 @@ fn rings_of_glyph(
 ) -> Mem<FlatLists<Point>>
     requires glyph { IsGlyph glyph.now }
     requires least { pos 0 ≤ℤ ascent }
-    requires most { ascent ≤ℤ pos max_corner }
+    requires most { ascent ≤ℤ pos max_ascent }
     ensures value { IfOk result (λ rings. rings ≡ rings_of_glyph style.now.matrix style.now.bold underline strikeout ascent glyph.now) }
     ensures within { IfOk result IsOutline }
 {
-    let mut rings = FlatLists::new(alloc);
+    let room = room_of(style, glyph);
+    let mut rings = FlatLists::with_capacity(alloc, room, 4 * room)?;
     let advance = i64::from(glyph.advance);
     add_rows(style, glyph, &mut rings)?;
     add_bar(style, underline, advance, 1, &mut rings)?;

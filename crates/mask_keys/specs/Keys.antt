@@ -32,8 +32,8 @@ abbrev pub max_blur : ℕ
 max_blur = 100
 
 -- the farthest that a mask is moved within a composite, in pixels
-abbrev pub max_offset : ℕ
-max_offset = 20480
+abbrev pub max_part_offset : ℕ
+max_part_offset = 20480
 
 -- there is such a glyph
 pub record IsValidGlyph (glyphs : List ℕ) (font glyph : ℕ) (m : Matrix) : Type 0 where
@@ -67,8 +67,8 @@ pub record IsValidMask (glyphs : List ℕ) (key : MaskKey) : Type 0 where
 
 pub record IsValidPart (glyphs : List ℕ) (part : Part) : Type 0 where
   pub mask : IsValidMask glyphs part.mask
-  pub dx : IsWithin max_offset part.dx
-  pub dy : IsWithin max_offset part.dy
+  pub dx : IsWithin max_part_offset part.dx
+  pub dy : IsWithin max_part_offset part.dy
 
 pub record IsValidComposite (glyphs : List ℕ) (key : CompositeKey) : Type 0 where
   pub parts : All (IsValidPart glyphs) key.parts
