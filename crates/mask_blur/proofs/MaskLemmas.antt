@@ -1,8 +1,7 @@
 -- Masks show their values.
-use Rattle.std.proofs.Common.{◌≡◌, ℕ, ◌+◌, ◌*◌, ◌<◌, ◌≤◌, ◌⊎◌, inl, inr, ℤ, pos, negsuc, ◌+ℤ◌, ◌-ℤ◌, ◌<ℤ◌, ◌≤ℤ◌, get_or, refl, sym, arith}
+use Rattle.std.proofs.Common.{inl, inr, pos, ◌+ℤ◌, ◌-ℤ◌, sym, arith}
 use Rattle.std.proofs.lemmas.Int.{ints}
-use Rattle.std.proofs.lemmas.Bool.Decides.{nat_tests}
-use Rattle.ass_num.specs.Masks.{MaskValue, value_at, offset_value}
+use Rattle.ass_num.specs.Masks.{MaskValue, value_at}
 use Rattle.ass_num.proofs.MaskLemmas.{offset_inside, offset_left, offset_above}
 use Rattle.mask_blur.specs.Shown.{Shows}
 

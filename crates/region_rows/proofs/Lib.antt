@@ -1,3 +1,4 @@
 pub mod GrowthLemmas
 pub mod JoinLemmas
+pub mod RowLoops
 pub mod WidenedLemmas

@@ -53,7 +53,7 @@ impl Growth {
         Ok(())
     }
 
-    /// The region of the rows, without the empty rows at the end.
+    /// The region of the rows, without the empty rows at the end. It keeps no more memory than it needs.
     pub fn finish(self) -> Region
         requires { IsWholeGrowth self }
         ensures samples { (wanted : ℤ → ℤ → Bool) (last : ℤ) → IsGrown wanted last self → ((i j : ℤ) → last ≤ℤ j → wanted i j ≡ false) → (i j : ℤ) → member result.top result.rows i j ≡ wanted i j }
@@ -65,6 +65,7 @@ impl Growth {
             mut rows,
         } = self;
         rows.truncate(filled);
+        rows.shrink_to_fit();
         if filled == 0 {
             return Region::new(0, rows);
         }

@@ -9,6 +9,7 @@ use Rattle.std.proofs.lemmas.Int.{clamps}
 use Rattle.std.specs.Int.{int_min, int_max}
 use Rattle.sample_region.specs.declared.row.Walk.{Walk}
 use Rattle.std.proofs.lemmas.Bool.{eq-eqb, ne_eqb}
+use Rattle.std.proofs.Math.Bool.{or-true}
 use Rattle.ass_num.proofs.OrderLemmas.{lt_true, lt_false, le_true, le_false}
 use Rattle.region_rows.proofs.JoinLemmas.{or_false, in_runs-push}
 use Rattle.ass_num.specs.Regions.{in_runs, ascend_from, ascend}
@@ -109,10 +110,6 @@ meet z p q = p ∙ sym q
 or_cut : (a p : Bool) → (a || (p && true)) ≡ (a || p)
 or_cut a p = ap (λ q. a || q) (and_true p)
 
-or_true : (b : Bool) → (b || true) ≡ true
-or_true true = refl
-or_true false = refl
-
 -- one more crossing makes a balance uneven
 tipped : (b : Bool) (d u d' u' : ℕ) → d' ≡ d + cond b 1 0 → u' ≡ u + cond (not b) 1 0 → d ≡ u → d' ≡ u' → ⊥
 tipped true d u d' u' e f h k = omega arith
@@ -174,7 +171,7 @@ module _ (low : ℤ) (done : List Crossing) (d u : ℕ) (from : ℤ) (runs : Lis
         ups_is = sym ups_all;
         covers = λ i. by_lt_z i c.at
             (λ (l : i <ℤ c.at). meet (in_runs runs i) (rw (le_false c.at i l) (or_and_false (in_runs runs i) (not (eqb d' u')))) (kept_outer e i l))
-            (λ (l : c.at ≤ℤ i). meet true (rw (le_true c.at i l, ne_eqb d' u' ne) (or_true (in_runs runs i))) (counted_odd ne i l));
+            (λ (l : c.at ≤ℤ i). meet true (rw (le_true c.at i l, ne_eqb d' u' ne) (or-true (in_runs runs i))) (counted_odd ne i l));
         outer = λ k. absurd (ne k);
         inner = λ _. (row, λ high h. (parts high h).1);
       }
@@ -192,7 +189,7 @@ module _ (low : ℤ) (done : List Crossing) (d u : ℕ) (from : ℤ) (runs : Lis
             (λ (l : i <ℤ c.at). meet (in_runs runs i)
             (rw (ne_eqb d' u' ne, er, in_runs-push rs r i, et, lt_true i c.at l) (sym (or_cut (in_runs rs i) (int_le r.from i))))
             (kept_outer e i l))
-            (λ (l : c.at ≤ℤ i). meet true (rw (le_true r.from i (omega (arith, ints)), ne_eqb d' u' ne) (or_true (in_runs rs i))) (counted_odd ne i l));
+            (λ (l : c.at ≤ℤ i). meet true (rw (le_true r.from i (omega (arith, ints)), ne_eqb d' u' ne) (or-true (in_runs rs i))) (counted_odd ne i l));
         outer = λ k. absurd (ne k);
         inner = λ _. (p.0, λ high h. let q = (parts high h).1 in omega (arith, ints));
       }
@@ -245,7 +242,7 @@ module _ (low : ℤ) (done : List Crossing) (d u : ℕ) (from : ℤ) (runs : Lis
         ups_is = sym ups_all;
         covers = λ i. by_lt_z i c.at
             (λ (l : i <ℤ c.at). meet (in_runs runs i || int_le from i) (rw (ne_eqb d' u' ne') refl) (kept_inner ne i l))
-            (λ (l : c.at ≤ℤ i). meet true (rw (le_true from i (omega (arith, ints)), ne_eqb d' u' ne') (or_true (in_runs runs i))) (counted_odd ne' i l));
+            (λ (l : c.at ≤ℤ i). meet true (rw (le_true from i (omega (arith, ints)), ne_eqb d' u' ne') (or-true (in_runs runs i))) (counted_odd ne' i l));
         outer = λ k. absurd (ne' k);
         inner = λ _. (i0.0, λ high h. i0.1 high (parts high h).0);
       }

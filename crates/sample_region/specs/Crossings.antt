@@ -1,4 +1,4 @@
--- Where edges cross a row of samples, and how many crossings lie before and after a sample.
+-- Inner: where edges cross a row of samples, and how many crossings lie before and after a sample.
 use Rattle.std.specs.Prelude.{ℕ, ℤ, pos, ◌+ℤ◌, ◌-ℤ◌, ◌*ℤ◌, Bool, not, ◌&&◌, nat_eq, List, map, filter, count_by, int_lt, int_le, ◌≡◌, All}
 use Rattle.std.specs.Int.{int_div_euclid}
 use Rattle.ass_num.specs.Winding.{place, spans}

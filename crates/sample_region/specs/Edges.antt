@@ -1,4 +1,4 @@
--- The edges of an outline as the sweep takes them, and how far it has come.
+-- Inner: the edges of an outline as the sweep takes them, and how far it has come.
 use Rattle.std.specs.Prelude.{◌≡◌, ℕ, ℤ, ◌≤ℤ◌, ◌<ℤ◌, ◌≤◌, ◌<◌, true, false, int_lt, List, [], ◌∷◌, cond, length, take, filter, All, slice_index_or}
 use Rattle.ass_num.specs.Limits.{IsOutlinePoint}
 use Rattle.ass_num.specs.declared.geometry.Point.{Point}

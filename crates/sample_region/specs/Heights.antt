@@ -1,4 +1,4 @@
--- Points between two heights.
+-- Inner: points between two heights.
 use Rattle.std.specs.Prelude.{ℤ, ◌≤ℤ◌}
 use Rattle.ass_num.specs.declared.geometry.Point.{Point}
 

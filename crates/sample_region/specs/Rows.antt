@@ -1,4 +1,4 @@
--- A walk along the crossings of a row, which finds its runs.
+-- Inner: a walk along the crossings of a row, which finds its runs.
 use Rattle.std.specs.Prelude.{◌≡◌, ℕ, ℤ, pos, ◌-ℤ◌, ◌≤ℤ◌, ◌<ℤ◌, true, not, ◌&&◌, ◌||◌, nat_eq, int_le, List, [], ◌∷◌, ◌++◌, ◌⊎◌, All}
 use Rattle.ass_num.specs.Regions.{in_runs, ascend}
 use Rattle.ass_num.specs.declared.region.Run.{Run}

@@ -1,4 +1,4 @@
--- A scan over the rows: those before row j are there, and the sweep is ready for it.
+-- Inner: a scan over the rows: those before row j are there, and the sweep is ready for it.
 use Rattle.std.specs.Prelude.{ℤ, List}
 use Rattle.ass_num.specs.Winding.{place}
 use Rattle.sample_region.specs.Crossings.{is_inside}

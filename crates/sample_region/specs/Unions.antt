@@ -1,4 +1,4 @@
--- The samples of two regions together.
+-- Inner: the samples of two regions together.
 use Rattle.std.specs.Prelude.{ℤ, Bool, ◌||◌}
 use Rattle.ass_num.specs.Regions.{RegionValue, member}
 

@@ -1,4 +1,4 @@
--- A walk along the crossings of a row, step by step.
+-- Inner: a walk along the crossings of a row, step by step.
 use Rattle.std.specs.Prelude.{ℤ, ◌≤ℤ◌, ◌<ℤ◌, List, [], ◌∷◌, ◌++◌, All}
 use Rattle.sample_region.specs.Rows.{Walked}
 use Rattle.sample_region.specs.declared.sweep.Crossing.{Crossing}

@@ -59,7 +59,7 @@ fn add_ring(ring: &[Point], list: &mut Vec<Edge>) -> Mem<()>
 fn list_edges(alloc: Global, outline: &Outline) -> Mem<Vec<Edge>>
     ensures { IfOk result (λ list. list.items ≡ flat_map down_from (edges_of outline.now.rings)) }
 {
-    let mut list = Vec::new(alloc);
+    let mut list = Vec::with_capacity(alloc, outline.rings.all_items().len())?;
     for k in 0..outline.rings.len() {
         add_ring(outline.rings.get(k), &mut list)?;
     }

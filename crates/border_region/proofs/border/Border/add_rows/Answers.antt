@@ -1,6 +1,6 @@
-use Rattle.std.proofs.Common.{arith, refl, ◌≡◌, pos, ◌+ℤ◌, to_z, w32, to_z-of_z, FitsSigned, ◌≤ℤ◌, ◌<ℤ◌}
-use Rattle.std.proofs.lemmas.Int.{ints}
-use Rattle.ass_num.proofs.OrderLemmas.{lt_is, lt_not}
+use Rattle.std.proofs.Common.{refl, to_z, w32}
+use Rattle.region_rows.proofs.RowLoops.{next_row, last_row}
+use Rattle.border_region.specs.Borders.{HasWidened}
 use Rattle.border_region.proofs.border.Border.add_rows.Goals as goal
 
 pub add_row-requires-clause-rows : goal.add_row-requires-clause-rows
@@ -18,21 +18,8 @@ add_row-requires-clause-rows c =
 
 pub loop-j-preserved : goal.loop-j-preserved
 loop-j-preserved c =
-    let i = c.loop-j.invariant.low in
-    let k = c.loop-j.invariant.high in
-    let t : to_z w32 c.loop-j.j-bits <ℤ c.args.end = lt_is (to_z w32 c.loop-j.j-bits) c.args.end (rw (to_z-of_z c.ranges.end) at c.loop-j-test.true) in
-    let f : FitsSigned w32 (to_z w32 c.loop-j.j-bits +ℤ pos 1) = omega (arith, ints) in
     let w = c.loop-j.invariant.rows in
-    record {
-      low = rw (to_z-of_z f) (omega (arith, ints));
-      high = rw (to_z-of_z f) (omega (arith, ints));
-      rows = rw (to_z-of_z f) (rw (w.across, w.down) at c.in_ok-add_row.ensures);
-    }
+    next_row (λ j. HasWidened c.args.region.now c.args.self.now.ellipse.rx c.args.self.now.ellipse.ry j c.loop-j.self) (λ j. HasWidened c.args.region.now c.args.self.now.ellipse.rx c.args.self.now.ellipse.ry j c.add_row.new.self) c.args.first c.args.end (to_z w32 c.loop-j.j-bits) c.ranges.first c.ranges.end c.loop-j.invariant c.loop-j-test.true (rw (w.across, w.down) at c.in_ok-add_row.ensures)
 
 pub returns : goal.returns
-returns c =
-    let i = c.loop-j.invariant.rows in
-    let k = c.loop-j.invariant.high in
-    let t : c.args.end ≤ℤ to_z w32 c.loop-j.j-bits = lt_not (to_z w32 c.loop-j.j-bits) c.args.end (rw (to_z-of_z c.ranges.end) at c.loop-j-test.false) in
-    let e : to_z w32 c.loop-j.j-bits ≡ c.args.end = omega (arith, ints) in
-    rw e at i
+returns c = last_row (λ j. HasWidened c.args.region.now c.args.self.now.ellipse.rx c.args.self.now.ellipse.ry j c.loop-j.self) _ c.args.end (to_z w32 c.loop-j.j-bits) c.ranges.end c.loop-j.invariant c.loop-j-test.false

@@ -13,21 +13,21 @@ returns-then-outside c = λ low done w above all.
     let fa : FitsSigned w32 c.args.c.at = search rules in
     let fr : FitsSigned w32 c.reopened-self.result = search rules in
     let h = rw (to_z-of_z fa) at c.reopened-self.ensures in
-    rw (to_z-of_z fr) (reopens low done c.args.self.now.downs c.args.self.now.ups c.args.self.now.from c.args.self.now.runs.items c.args.c (c.args.self.now.downs + c.from.result) (c.args.self.now.ups + c.from-2.result) w above all (bit c.args.c.down c.args.self.now.downs c.from.result c.from.ensures) (bit (not c.args.c.down) c.args.self.now.ups c.from-2.result c.from-2.ensures) c.if-outside.true c.reopened-self.result c.reopened-self.new.runs.items h)
+    rw (to_z-of_z fr) (reopens _ _ _ _ _ _ c.args.c _ _ w above all (bit c.args.c.down _ _ c.from.ensures) (bit (not c.args.c.down) _ _ c.from-2.ensures) c.if-outside.true c.reopened-self.result c.reopened-self.new.runs.items h)
 
 pub returns-then-self : goal.returns-then-self
-returns-then-self c = λ low done w above all. stayed low done c.args.self.now.downs c.args.self.now.ups c.args.self.now.from c.args.self.now.runs.items c.args.c (c.args.self.now.downs + c.from.result) (c.args.self.now.ups + c.from-2.result) w above all (bit c.args.c.down c.args.self.now.downs c.from.result c.from.ensures) (bit (not c.args.c.down) c.args.self.now.ups c.from-2.result c.from-2.ensures) c.if-outside.false c.if-self.true
+returns-then-self c = λ low done w above all. stayed _ _ _ _ _ _ c.args.c _ _ w above all (bit c.args.c.down _ _ c.from.ensures) (bit (not c.args.c.down) _ _ c.from-2.ensures) c.if-outside.false c.if-self.true
 
 pub returns-then-self-c : goal.returns-then-self-c
 returns-then-self-c c = λ low done w above all.
     let fa : FitsSigned w32 c.args.c.at = search rules in
     let ff : FitsSigned w32 c.args.self.now.from = search rules in
     let g = rw (to_z-of_z fa, to_z-of_z ff) at c.if-self-c.true in
-    rw c.in_ok-push.ensures.items (closed low done c.args.self.now.downs c.args.self.now.ups c.args.self.now.from c.args.self.now.runs.items c.args.c (c.args.self.now.downs + c.from.result) (c.args.self.now.ups + c.from-2.result) w above all (bit c.args.c.down c.args.self.now.downs c.from.result c.from.ensures) (bit (not c.args.c.down) c.args.self.now.ups c.from-2.result c.from-2.ensures) c.if-outside.false c.if-self.false (lt_is c.args.self.now.from c.args.c.at g) c.args.self.now.from _ (to_z-of_z ff) (to_z-of_z fa))
+    rw c.in_ok-push.ensures.items (closed _ _ _ _ _ _ c.args.c _ _ w above all (bit c.args.c.down _ _ c.from.ensures) (bit (not c.args.c.down) _ _ c.from-2.ensures) c.if-outside.false c.if-self.false (lt_is c.args.self.now.from c.args.c.at g) c.args.self.now.from _ (to_z-of_z ff) (to_z-of_z fa))
 
 pub returns : goal.returns
 returns c = λ low done w above all.
     let fa : FitsSigned w32 c.args.c.at = search rules in
     let ff : FitsSigned w32 c.args.self.now.from = search rules in
     let g = rw (to_z-of_z fa, to_z-of_z ff) at c.if-self-c.false in
-    closed_empty low done c.args.self.now.downs c.args.self.now.ups c.args.self.now.from c.args.self.now.runs.items c.args.c (c.args.self.now.downs + c.from.result) (c.args.self.now.ups + c.from-2.result) w above all (bit c.args.c.down c.args.self.now.downs c.from.result c.from.ensures) (bit (not c.args.c.down) c.args.self.now.ups c.from-2.result c.from-2.ensures) c.if-outside.false c.if-self.false (lt_not c.args.self.now.from c.args.c.at g) c.args.self.now.from
+    closed_empty _ _ _ _ _ _ c.args.c _ _ w above all (bit c.args.c.down _ _ c.from.ensures) (bit (not c.args.c.down) _ _ c.from-2.ensures) c.if-outside.false c.if-self.false (lt_not c.args.self.now.from c.args.c.at g) c.args.self.now.from
