@@ -20,7 +20,7 @@ use Rattle.ass_num.specs.Paths.{begins_figure, IsSegment, IsPath}
 
 -- ---- numbers and points
 
-milli_held : (bytes : List ℕ) (value : ℤ) → IsMilli bytes value → IsHeldNumber value
+pub milli_held : (bytes : List ℕ) (value : ℤ) → IsMilli bytes value → IsHeldNumber value
 milli_held bytes value m =
     let both = held_within (neg_ℤ (pos max_held)) (pos max_held) (signed m.sign m.thousandths) (omega (arith, ints)) in
     let P : ℤ → Type 0 = λ z. IsHeldNumber z in

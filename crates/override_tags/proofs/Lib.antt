@@ -4,5 +4,7 @@ pub mod FrontLemmas
 pub mod LawLemmas
 pub mod NumberShapes
 pub mod OneReadingLemmas
+pub mod PlaceLemmas
+pub mod RangeLemmas
 pub mod ReadLemmas
 pub mod TransformLemmas

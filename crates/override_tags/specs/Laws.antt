@@ -1,5 +1,6 @@
--- Public: how the items of a text cover it, and that no other items are its reading.
-use Rattle.std.specs.Prelude.{◌≡◌, ℕ, ◌<◌, Bool, true, false, MatchBool, List, [], ◌∷◌, length}
+-- Public: how the items of a text cover it, where its tags lie, and that no other items are its reading.
+use Rattle.std.specs.Prelude.{◌≡◌, ℕ, ◌+◌, ◌<◌, ◌≤◌, Bool, true, false, if◌then◌else◌, MatchBool, List, [], ◌∷◌, length}
+use Rattle.std.specs.Str.{IsCharBoundary}
 use Rattle.override_tags.specs.declared.item.Item.{Item}
 use Rattle.override_tags.specs.declared.item.ItemKind.{ItemKind}
 use Rattle.override_tags.specs.declared.item.ItemKind.TheVariants as item
@@ -21,3 +22,22 @@ PartsCover = (text : List ℕ) (items : List Item) → IsTextReading text items 
 -- No text has two readings.
 abbrev pub OneReading : Type 0
 OneReading = (text : List ℕ) (a b : List Item) → IsTextReading text a → IsTextReading text b → a ≡ b
+
+abbrev pub is_block : ItemKind → Bool
+is_block item.Block = true
+is_block _ = false
+
+-- The tags among the items lie between the two places, one behind the other, until a part comes; those behind a block lie between its braces, and no other part has tags.
+abbrev pub AreInside : ℕ → ℕ → List Item → Type 0
+AreInside first last [] = Unit {0}
+AreInside first last (i ∷ items) =
+    MatchBool (is_tag i.kind) ((first ≤ i.from) × (i.from < i.to) × (i.to < last) × AreInside i.to last items)
+    (AreInside (i.from + 1) (if is_block i.kind then i.to else i.from) items)
+
+-- Tags lie in their block.
+abbrev pub TagsInside : Type 0
+TagsInside = (text : List ℕ) (items : List Item) → IsTextReading text items → AreInside 0 0 items
+
+-- A text can be cut where the item begins and where it ends.
+abbrev pub IsAtCharacters : List ℕ → Item → Type 0
+IsAtCharacters text i = IsCharBoundary text i.from × IsCharBoundary text i.to

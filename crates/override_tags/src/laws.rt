@@ -1,6 +1,6 @@
 //! Laws of readings.
 
-ghost use Rattle.override_tags.specs.Laws.{OneReading, PartsCover};
+ghost use Rattle.override_tags.specs.Laws.{OneReading, PartsCover, TagsInside};
 
 /// The characters, breaks, hard spaces and blocks of a text follow one another and cover it.
 pub fn parts_cover()
@@ -10,4 +10,9 @@ pub fn parts_cover()
 /// A text has no two readings, so what `read_text` gives is the only reading that its contract allows.
 pub fn one_reading()
     ensures { OneReading }
+{}
+
+/// The tags behind a block lie between its braces, one behind the other.
+pub fn tags_inside()
+    ensures { TagsInside }
 {}

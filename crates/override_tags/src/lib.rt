@@ -18,7 +18,7 @@ mod transform;
 pub mod view;
 
 pub use item::{Item, ItemKind};
-pub use laws::{one_reading, parts_cover};
+pub use laws::{one_reading, parts_cover, tags_inside};
 pub use read::read_text;
 pub use single::whole;
 pub use tag::{ClipTag, GradualTag, Tag};

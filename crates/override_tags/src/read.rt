@@ -1,7 +1,9 @@
 //! The one reading of a text.
 
-ghost use Rattle.std.specs.Prelude.{◌≡◌, ◌+◌, ◌<◌, ◌^◌, ◌∷◌, ◌++◌, List, IfOk, OnOk};
+ghost use Rattle.std.specs.Prelude.{◌≡◌, ◌+◌, ◌<◌, ◌^◌, ◌∷◌, ◌++◌, List, All, IfOk, OnOk};
 ghost use Rattle.override_tags.specs.declared.item.Item.{Item};
+ghost use Rattle.override_tags.specs.Laws.{IsAtCharacters};
+ghost use Rattle.override_tags.specs.Ranges.{IsHeldItem};
 ghost use Rattle.override_tags.specs.Fronts.{part_of, body_len};
 ghost use Rattle.override_tags.specs.Readings.{kind_of, part_item, ArePartTags, IsTextReading};
 
@@ -47,9 +49,11 @@ fn add_part(
     }
 }
 
-/// The items of a text, in order. A block is followed by its tags.
+/// The items of a text, in order. A block is followed by its tags. The text can be cut where items begin and end.
 pub fn read_text(alloc: Global, text: &str) -> Mem<Vec<Item>>
-    ensures { IfOk result (λ items. IsTextReading text.now items.items) }
+    ensures reading { IfOk result (λ items. IsTextReading text.now items.items) }
+    ensures held { IfOk result (λ items. All IsHeldItem items.items) }
+    ensures cuts { IfOk result (λ items. All (IsAtCharacters text.now) items.items) }
 {
     let mut items = Vec::new(alloc);
     let mut rest = text;

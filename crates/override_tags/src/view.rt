@@ -1,7 +1,7 @@
 //! What an event shows at an instant: its states and what is shown in them.
 
 use crate::tag::ClipTag;
-use ass_num::{Milli, Path, Rgba, Text};
+use ass_num::{Items, Milli, Path, Rgba, Text};
 use tag_arguments::Sung;
 
 /// A syllable: how it is sung, between which milliseconds of the event, and its place among the syllables.
@@ -14,9 +14,10 @@ pub struct Syllable {
 }
 
 /// The properties of a character. Lengths and per cents are in thousandths.
-#[derive(Clone, Debug, PartialEq, Eq, Hash, Drop)]
+#[derive(Clone, Copy, Debug, PartialEq, Eq, Hash)]
 pub struct State {
-    pub font: Text,
+    /// The number of its font's name among those of the view.
+    pub font: u32,
     pub size: Milli,
     /// Primary, secondary, outline and back colour.
     pub colours: [Rgba; 4],
@@ -66,8 +67,10 @@ pub struct Shown {
 /// What an event shows at an instant. The last state is the one after the whole text.
 #[derive(Debug, Drop)]
 pub struct EventView {
-    pub states: Vec<State>,
-    pub items: Vec<Shown>,
+    /// The names of the fonts, each once.
+    pub names: Items<Text>,
+    pub states: Items<State>,
+    pub items: Items<Shown>,
     /// The alignment from 1 to 9 by the numeric keypad.
     pub align: u8,
     /// The wrap style from 0 to 3.

@@ -24,7 +24,7 @@ table_differs : all_differ tag_names ≡ true
 table_differs = refl
 
 -- what each row passes
-all_rows : (test : NameRow → Bool) (rows : List NameRow) (spelling : List ℕ) (n : TagName) → list_all test rows ≡ true → IsNameRow rows spelling n → test (spelling, n) ≡ true
+pub all_rows : (test : NameRow → Bool) (rows : List NameRow) (spelling : List ℕ) (n : TagName) → list_all test rows ≡ true → IsNameRow rows spelling n → test (spelling, n) ≡ true
 all_rows test [] spelling n all row = absurd row
 all_rows test (r ∷ rows) spelling n all row = elim row [
   | inl e ↦ let P : NameRow → Type 0 = λ z. test z ≡ true in subst P e (and_parts _ _ all).0

@@ -1,6 +1,8 @@
-use Rattle.std.proofs.Common.{◌≡◌, ◌+◌, ◌-◌, ◌<◌, [], ◌∷◌, ◌++◌, length, arith}
+use Rattle.std.proofs.Common.{◌≡◌, ◌+◌, ◌-◌, ◌<◌, [], ◌∷◌, ◌++◌, length, refl, arith}
 use Rattle.override_tags.specs.Fronts.{part_of}
-use Rattle.override_tags.specs.Readings.{more, part_item}
+use Rattle.override_tags.specs.Readings.{more, part_item, IsTextReading}
+use Rattle.override_tags.proofs.PlaceLemmas.{items_cut}
+use Rattle.override_tags.proofs.RangeLemmas.{items_held}
 use Rattle.override_tags.proofs.ReadLemmas.{items_joined, items_none, items_whole}
 use Rattle.override_tags.proofs.read.read_text.Goals as goal
 
@@ -23,7 +25,16 @@ loop-found-preserved c =
       utf8 = c.in-Some.ensures.text;
     }
 
-pub returns : goal.returns
-returns c =
+whole : (c : goal.In_default) → IsTextReading c.args.text.now c.loop-found.items.items
+whole c =
     items_whole c.args.text.now c.loop-found.items.items
     (c.loop-found.invariant.before [] (items_none c.loop-found.from c.loop-found.rest.now c.in_default.ensures.none))
+
+pub returns-clause-reading : goal.returns-clause-reading
+returns-clause-reading c = whole c
+
+pub returns-clause-held : goal.returns-clause-held
+returns-clause-held c = items_held (whole c)
+
+pub returns-clause-cuts : goal.returns-clause-cuts
+returns-clause-cuts c = items_cut (whole c) c.args.text.now (omega arith) refl c.utf8.text
