@@ -1,5 +1,6 @@
 -- Public: the one reading of a text: its items in order.
 use Rattle.std.specs.Prelude.{◌≡◌, ℕ, ◌+◌, List, [], ◌∷◌, ◌++◌, length, take, drop, Option, Some, None}
+use Rattle.ass_num.specs.Bytes.{backslash}
 use Rattle.tag_arguments.specs.Cuts.{tag_len}
 use Rattle.override_tags.specs.Fronts.{Part, Char, HardBreak, SoftBreak, HardSpace, Block, IsFront}
 use Rattle.override_tags.specs.declared.item.Item.{Item}
@@ -19,7 +20,7 @@ pub data AreTags : ℕ → List ℕ → List Item → Type 0 where
   more : (from : ℕ) (text : List ℕ) (tag : Option Tag) (items : List Item)
       → ReadsTag (take (tag_len text) text) tag
       → AreTags (from + (1 + tag_len text)) (drop (tag_len text) text) items
-      → AreTags from (92 ∷ text) (tag_items from (from + (1 + tag_len text)) tag ++ items)
+      → AreTags from (backslash ∷ text) (tag_items from (from + (1 + tag_len text)) tag ++ items)
 
 -- The tags of a block by what stands between its braces; what stands before the first `\` is passed over.
 abbrev pub AreBlockTags : ℕ → List ℕ → List Item → Type 0

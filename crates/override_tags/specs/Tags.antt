@@ -4,6 +4,7 @@ use Rattle.std.specs.Int.RustNames.{unsigned_abs}
 use Rattle.std.specs.List.{position_or_len}
 use Rattle.std.specs.Option.{option_to_list}
 use Rattle.ass_num.specs.Floor.{floor_div, held}
+use Rattle.ass_num.specs.Bytes.{backslash}
 use Rattle.tag_arguments.specs.Cuts.{bracketed, tag_len}
 use Rattle.tag_arguments.specs.Names.{tag_name}
 use Rattle.tag_arguments.specs.Numbers.{ReadsNumbers, counted_pieces}
@@ -17,25 +18,26 @@ use Rattle.override_tags.specs.declared.tag.GradualTag.TheVariants as gradual
 use Rattle.override_tags.specs.declared.tag.Tag.{Tag}
 use Rattle.override_tags.specs.declared.tag.Tag.TheVariants.{Number, Colour, Alpha, Clip, Transform}
 use Rattle.override_tags.specs.declared.transform.Course.{Course}
+use Rattle.override_tags.specs.Limits.{max_quarters}
 use Rattle.override_tags.specs.Singles.{whole, ReadsSingle}
 
 -- what stands before the first `\`
 abbrev pub before_tags : List ℕ → List ℕ
-before_tags text = take (position_or_len (λ c. c == 92) text) text
+before_tags text = take (position_or_len (λ c. c == backslash) text) text
 
 -- and the text from it on
 abbrev pub from_tags : List ℕ → List ℕ
-from_tags text = drop (position_or_len (λ c. c == 92) text) text
+from_tags text = drop (position_or_len (λ c. c == backslash) text) text
 
 -- A text that is empty or begins with a `\`.
 abbrev pub BeginsTag : List ℕ → Type 0
 BeginsTag [] = Unit {0}
-BeginsTag (c ∷ _) = c ≡ 92
+BeginsTag (c ∷ _) = c ≡ backslash
 
 -- The text of the tag at the front of a text, and what stands behind the tag.
 pub record IsNextTag (text tag rest : List ℕ) : Type 0 where
   pub behind : List ℕ
-  pub spelled : text ≡ 92 ∷ behind
+  pub spelled : text ≡ backslash ∷ behind
   pub tag_is : tag ≡ take (tag_len behind) behind
   pub rest_is : rest ≡ drop (tag_len behind) behind
   pub len : length tag ≡ tag_len behind
@@ -44,7 +46,7 @@ pub record IsNextTag (text tag rest : List ℕ) : Type 0 where
 
 -- an accel in quarters, to the nearest, held within 1 and 32
 abbrev pub quarters_of : ℤ → ℕ
-quarters_of accel = unsigned_abs (held (pos 1) (pos 32) (floor_div ((accel *ℤ pos 4) +ℤ pos 500) (pos 1000)))
+quarters_of accel = unsigned_abs (held (pos 1) (pos max_quarters) (floor_div ((accel *ℤ pos 4) +ℤ pos 500) (pos 1000)))
 
 -- Nothing, an accel, two times, or two times and an accel. Without an accel the speed is 4 quarters.
 abbrev pub course_of : Option (List ℤ) → Option Course
@@ -91,7 +93,7 @@ ReadsKept text tag = (single : Option Tag) × ReadsFound (tag_name text) single 
 -- The tags that a transform keeps. Its text is empty or begins with a `\`, and each tag ends before the next `\` outside parentheses.
 pub data AreKept : List ℕ → List GradualTag → Type 0 where
   none : AreKept [] []
-  more : (text : List ℕ) (tag : Option GradualTag) (tags : List GradualTag) → ReadsKept (take (tag_len text) text) tag → AreKept (drop (tag_len text) text) tags → AreKept (92 ∷ text) (option_to_list tag ++ tags)
+  more : (text : List ℕ) (tag : Option GradualTag) (tags : List GradualTag) → ReadsKept (take (tag_len text) text) tag → AreKept (drop (tag_len text) text) tags → AreKept (backslash ∷ text) (option_to_list tag ++ tags)
 
 -- a transform of a course and the text of its tags, unless it has no course
 abbrev pub ReadsCourse : Option Course → List ℕ → Option Tag → Type 0

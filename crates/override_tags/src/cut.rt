@@ -3,15 +3,16 @@
 ghost use Rattle.std.specs.Prelude.{◌≡◌, ◌==◌, ◌+◌, ◌<◌, ◌≤◌, [], length, slice_index, IfNone, IfSome};
 ghost use Rattle.std.specs.List.{position_or_len};
 ghost use Rattle.std.specs.Str.{IsUtf8};
+ghost use Rattle.ass_num.specs.Bytes.{backslash};
 ghost use Rattle.override_tags.specs.Tags.{before_tags, from_tags, BeginsTag, IsNextTag};
 
 use tag_arguments::tag_len;
 
 /// How many bytes stand before the first `\`, or before the end.
 fn len_before_tags(text: &[u8]) -> usize
-    ensures len { result ≡ position_or_len (λ c. c == 92) text.now }
+    ensures len { result ≡ position_or_len (λ c. c == backslash) text.now }
     ensures within { result ≤ length text.now }
-    ensures stops { result < length text.now → slice_index text.now result ≡ 92 }
+    ensures stops { result < length text.now → slice_index text.now result ≡ backslash }
 {
     for (i, byte) in text.iter().enumerate() {
         if *byte == b'\\' {

@@ -2,6 +2,7 @@
 
 ghost use Rattle.std.specs.Prelude.{◌≡◌, ◌∷◌, ◌<◌, ◌≤◌, [], false, length, IfNone, IfSome};
 ghost use Rattle.std.specs.Str.{IsUtf8};
+ghost use Rattle.ass_num.specs.Bytes.{backslash, open_brace};
 ghost use Rattle.override_tags.specs.Fronts.{part_of, begins_escape, has_close, shown_char, IsFront};
 
 /// What stands at the front of a text.
@@ -26,7 +27,7 @@ pub struct Front<'a> {
 /// What the text behind a `\` makes of it, if that is a break or a hard space.
 fn escape(text: &str) -> Option<(FrontKind<'_>, &str)>
     ensures none { IfNone result (begins_escape text.now ≡ false) }
-    ensures some { IfSome result (λ found. IsFront (92 ∷ text.now) (part_of found.0) found.1.now) }
+    ensures some { IfSome result (λ found. IsFront (backslash ∷ text.now) (part_of found.0) found.1.now) }
     ensures shorter { IfSome result (λ found. length found.1.now < length text.now) }
     ensures closes { IfSome result (λ found. has_close text.now ≡ false → has_close found.1.now ≡ false) }
 {
@@ -42,7 +43,7 @@ fn escape(text: &str) -> Option<(FrontKind<'_>, &str)>
 /// What the text behind a `{` makes of it: a block if a `}` stands there, or else a character.
 fn brace(text: &str, may_close: bool) -> Front<'_>
     requires { may_close ≡ false → has_close text.now ≡ false }
-    ensures front { IsFront (123 ∷ text.now) (part_of result.kind) result.rest.now }
+    ensures front { IsFront (open_brace ∷ text.now) (part_of result.kind) result.rest.now }
     ensures shorter { length result.rest.now ≤ length text.now }
     ensures closes { result.may_close ≡ false → has_close result.rest.now ≡ false }
 {
@@ -70,7 +71,7 @@ fn brace(text: &str, may_close: bool) -> Front<'_>
 /// What the text behind a `\` makes of it: a break, a hard space, or else a character.
 fn backslash(text: &str, may_close: bool) -> Front<'_>
     requires { may_close ≡ false → has_close text.now ≡ false }
-    ensures front { IsFront (92 ∷ text.now) (part_of result.kind) result.rest.now }
+    ensures front { IsFront (backslash ∷ text.now) (part_of result.kind) result.rest.now }
     ensures shorter { length result.rest.now ≤ length text.now }
     ensures closes { result.may_close ≡ false → has_close result.rest.now ≡ false }
 {

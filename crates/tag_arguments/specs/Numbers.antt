@@ -1,6 +1,7 @@
 -- Public: arguments that are numbers, colours and alphas, and the pieces between commas.
 use Rattle.std.specs.Prelude.{◌≡◌, ◌≢◌, ℕ, ◌==◌, ◌≤◌, Bool, false, MatchBool, if◌then◌else◌, ℤ, List, [], ◌∷◌, length, Option, Some, None}
 use Rattle.std.specs.List.{slice_split}
+use Rattle.ass_num.specs.Bytes.{comma}
 use Rattle.ass_num.specs.Fronts.{BeginsWith, HasNoFront}
 use Rattle.ass_num.specs.Numerals.{IsMilli, is_sign}
 use Rattle.blanks.specs.Blanks.{trimmed}
@@ -27,7 +28,7 @@ ReadsFront Spells argument (Some value) = BeginsWith Spells argument value
 
 -- the text between commas
 abbrev pub comma_pieces : List ℕ → List (List ℕ)
-comma_pieces text = slice_split (λ c. c == 44) text
+comma_pieces text = slice_split (λ c. c == comma) text
 
 -- a last piece, unless it is blank
 abbrev pub unless_blank : List ℕ → List (List ℕ)

@@ -3,6 +3,7 @@
 ghost use Rattle.std.specs.Prelude.{◌≡◌, ◌+◌, ◌^◌, ◌<◌, ◌≤◌, length, slice_index, true};
 ghost use Rattle.std.specs.Str.{IsCharBoundary};
 ghost use Rattle.std.specs.Option.{option_copied};
+ghost use Rattle.ass_num.specs.Bytes.{backslash};
 ghost use Rattle.tag_arguments.specs.Cuts.{after_bracket, plain_argument, depth_after, outer_len, tag_len, bracketed};
 
 use blanks::text::trimmed;
@@ -58,7 +59,7 @@ fn outer_len(text: &[u8], stop: u8) -> usize
 pub fn tag_len(text: &str) -> usize
     ensures len { result ≡ tag_len text.now }
     ensures boundary { IsCharBoundary text.now result }
-    ensures stops { result < length text.now → slice_index text.now result ≡ 92 }
+    ensures stops { result < length text.now → slice_index text.now result ≡ backslash }
 {
     outer_len(text.as_bytes(), b'\\')
 }
