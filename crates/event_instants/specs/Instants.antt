@@ -1,9 +1,10 @@
--- What the movement, the fade and the transforms of an event come to at an instant (docs/INSTANTS.md).
+-- Public: what the movement, the fade and the transforms of an event come to at an instant (docs/INSTANTS.md).
 -- Times are in milliseconds from the event's start, points in thousandths. A weight is in 65,536ths, an alpha from 0 (opaque) to 255.
-use Rattle.std.specs.Prelude.{ℕ, ◌+◌, ◌-◌, ◌*◌, ◌/◌, ℤ, pos, ◌+ℤ◌, ◌-ℤ◌, ◌*ℤ◌, ◌≤ℤ◌, ◌&&◌, int_lt, int_le, List, slice_index_or, if◌then◌else◌}
+use Rattle.std.specs.Prelude.{ℕ, ◌+◌, ◌-◌, ◌*◌, ◌/◌, ℤ, pos, ◌+ℤ◌, ◌-ℤ◌, ◌*ℤ◌, ◌≤ℤ◌, ◌&&◌, int_lt, int_le, List, Option, None, Some, slice_index_or, if◌then◌else◌}
 use Rattle.std.specs.Int.{int_max, int_min}
 use Rattle.std.specs.Int.RustNames.{unsigned_abs}
 use Rattle.ass_num.specs.Floor.{floor_div, held}
+use Rattle.ass_num.specs.Limits.{one_16}
 use Rattle.ass_num.specs.Powers.{power_of}
 
 -- the number that has gone `part` of the `whole` way from `old` to `new`, rounded down
@@ -20,7 +21,7 @@ at_time old new begin end elapsed = between old new (elapsed -ℤ begin) (end -�
 
 -- what of the time from `begin` to `end` has passed, in 65,536ths
 abbrev pub share : ℤ → ℤ → ℤ → ℕ
-share begin end elapsed = unsigned_abs (at_time (pos 0) (pos 65536) begin end elapsed)
+share begin end elapsed = unsigned_abs (at_time (pos 0) (pos one_16) begin end elapsed)
 
 -- ---- transforms (\t)
 
@@ -28,12 +29,17 @@ share begin end elapsed = unsigned_abs (at_time (pos 0) (pos 65536) begin end el
 abbrev pub weight_at : ℤ → ℤ → ℕ → ℤ → ℕ
 weight_at t1 t2 quarters elapsed =
     if int_lt elapsed t1 then 0 else
-    (if int_le t2 elapsed then 65536 else
+    (if int_le t2 elapsed then one_16 else
     power_of (share t1 t2 elapsed) quarters)
+
+-- The weight of a transform in an event of a duration. Without times it goes from the event's start to its end.
+abbrev pub transform_weight : Option (ℤ × ℤ) → ℤ → ℕ → ℤ → ℕ
+transform_weight None duration quarters elapsed = weight_at (pos 0) duration quarters elapsed
+transform_weight (Some times) duration quarters elapsed = weight_at times.0 times.1 quarters elapsed
 
 -- a number that a transform of this weight moves from `old` towards `new`
 abbrev pub moved : ℤ → ℤ → ℕ → ℤ
-moved old new weight = between old new (pos weight) (pos 65536)
+moved old new weight = between old new (pos weight) (pos one_16)
 
 -- ---- movements (\move)
 
@@ -48,7 +54,7 @@ in_order times = if int_lt times.1 times.0 then (times.1, times.0) else times
 abbrev pub move_weight : ℤ × ℤ → ℤ → ℕ
 move_weight times elapsed =
     if int_le elapsed times.0 then 0 else
-    (if int_le times.1 elapsed then 65536 else
+    (if int_le times.1 elapsed then one_16 else
     share times.0 times.1 elapsed)
 
 -- the number at place k of a list
@@ -80,6 +86,10 @@ fade_by a1 a2 a3 t1 t2 t3 t4 elapsed =
 abbrev pub fade_at : List ℤ → ℤ → ℤ
 fade_at f elapsed =
     fade_by (held_alpha (nth f 0)) (held_alpha (nth f 1)) (held_alpha (nth f 2)) (nth f 3) (nth f 4) (nth f 5) (nth f 6) elapsed
+
+-- the fade in and out of an event of a duration
+abbrev pub fad_at : ℤ → ℤ → ℤ → ℤ → ℤ
+fad_at fade_in fade_out duration elapsed = fade_by (pos 255) (pos 0) (pos 255) (pos 0) fade_in (duration -ℤ fade_out) duration elapsed
 
 -- an alpha under a fade: what is left of its opacity, in 255ths, rounded
 abbrev pub faded : ℕ → ℕ → ℕ

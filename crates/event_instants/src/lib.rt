@@ -10,6 +10,6 @@ mod tests;
 mod weights;
 
 pub use between::moved;
-pub use fades::{fade_at, faded};
+pub use fades::{fad_at, fade_at, faded};
 pub use movement::move_at;
-pub use weights::weight_at;
+pub use weights::{transform_weight, weight_at};

@@ -1,6 +1,7 @@
 //! Where a movement puts its event.
 
 ghost use Rattle.std.specs.Prelude.{◌≡◌, ◌≤◌};
+ghost use Rattle.ass_num.specs.Limits.{one_16};
 ghost use Rattle.event_instants.specs.Instants.{IsBetween, nth};
 ghost use Rattle.event_instants.specs.Instants as rule;
 
@@ -33,7 +34,7 @@ fn in_order(times: (i64, i64)) -> (i64, i64)
 /// The weight of a movement, in 65,536ths: 0 up to its first time, and 65,536 from the second one on.
 fn move_weight(times: (i64, i64), elapsed: i64) -> u32
     ensures value { result ≡ rule.move_weight times elapsed }
-    ensures unit { result ≤ 65536 }
+    ensures unit { result ≤ one_16 }
 {
     if elapsed <= times.0 {
         0

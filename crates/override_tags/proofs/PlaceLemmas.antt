@@ -1,5 +1,5 @@
 -- Where tags lie, and that a text can be cut where its items begin and end.
-use Rattle.std.proofs.Common.{◌≡◌, ℕ, suc, ◌+◌, ◌-◌, ◌<◌, ◌≤◌, ◌==◌, ◌&&◌, cond, Bool, true, false, List, [], ◌∷◌, ◌++◌, length, take, drop, get_or, drop-cons, refl, sym, ap, ◌∙◌, subst, arith, append_assoc, length-append, length-drop, Option, None, Some, All}
+use Rattle.std.proofs.Common.{◌≡◌, ℕ, suc, ◌+◌, ◌<◌, ◌≤◌, ◌==◌, ◌&&◌, cond, Bool, true, false, List, [], ◌∷◌, ◌++◌, length, take, drop, get_or, drop-cons, refl, sym, ap, ◌∙◌, subst, arith, append_assoc, length-append, length-drop, Option, None, Some, All}
 use Rattle.std.specs.Prelude.{encode_utf8}
 use Rattle.std.specs.List.{position_or_len}
 use Rattle.std.specs.Str.{IsUtf8, IsCharBoundary}
@@ -11,7 +11,6 @@ use Rattle.tag_arguments.specs.Cuts.{tag_len, outer_len, depth_after}
 use Rattle.override_tags.specs.declared.item.Item.{Item}
 use Rattle.override_tags.specs.declared.tag.Tag.{Tag}
 use Rattle.override_tags.specs.Fronts.{Part, Char, HardBreak, SoftBreak, HardSpace, Block, IsFront}
-use Rattle.override_tags.specs.Tags.{before_tags, from_tags}
 use Rattle.override_tags.specs.Readings as reads
 use Rattle.override_tags.specs.Readings.{AreTags, ArePartTags, AreItems, tag_items, part_item, IsTextReading}
 use Rattle.override_tags.specs.Laws.{AreInside, TagsInside, IsAtCharacters}

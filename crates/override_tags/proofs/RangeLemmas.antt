@@ -1,5 +1,5 @@
 -- What a text says lies in its range: numbers, tags by their names, transforms, items.
-use Rattle.std.proofs.Common.{◌≡◌, ℕ, ◌+◌, ◌≤◌, map, negsuc, Bool, true, false, cond, ◌&&◌, List, [], ◌∷◌, ◌++◌, length, take, drop, ℤ, pos, ◌+ℤ◌, ◌*ℤ◌, ◌≤ℤ◌, refl, sym, ap, ◌∙◌, subst, arith, Option, None, Some, All}
+use Rattle.std.proofs.Common.{◌≡◌, ℕ, ◌≤◌, map, negsuc, Bool, true, false, cond, ◌&&◌, List, [], ◌∷◌, ◌++◌, take, ℤ, pos, ◌+ℤ◌, ◌*ℤ◌, ◌≤ℤ◌, refl, sym, subst, arith, Option, None, Some, All}
 use Rattle.std.specs.Prelude.{MatchBool, IfSome, option_and_then, nat_le, int_le}
 use Rattle.std.specs.List.{list_all}
 use Rattle.std.specs.Int.{int_max}
@@ -10,13 +10,13 @@ use Rattle.std.proofs.lemmas.Int.{ints, clamps}
 use Rattle.std.proofs.lemmas.List.Elements.{All-nil, All-cons, All-head, All-tail, All-append}
 use Rattle.ass_num.specs.Floor.{floor_div, held}
 use Rattle.ass_num.specs.Limits.{IsHeldNumber}
-use Rattle.ass_num.specs.Numerals.{IsMilli, IsColour, IsAlpha}
+use Rattle.ass_num.specs.Numerals.{IsMilli}
 use Rattle.ass_num.proofs.Floor.{floor_div_within, held_within}
 use Rattle.blanks.specs.Blanks.{trimmed}
 use Rattle.drawing_path.proofs.RangeLemmas.{milli_held, drawing_valid}
 use Rattle.tag_arguments.specs.Cuts.{bracketed}
 use Rattle.tag_arguments.specs.Names.{tag_names, tag_name}
-use Rattle.tag_arguments.specs.Numbers.{ReadsOptional, ReadsFront, AreNumbers, ReadsNumbers, ReadsBracketed, comma_pieces, begins_signed, counted_pieces}
+use Rattle.tag_arguments.specs.Numbers.{ReadsOptional, ReadsFront, AreNumbers, ReadsNumbers, ReadsBracketed, comma_pieces, counted_pieces}
 use Rattle.tag_arguments.specs.declared.kinds.Num.{Num}
 use Rattle.tag_arguments.specs.declared.kinds.Num.TheVariants as num
 use Rattle.tag_arguments.specs.declared.kinds.Sung.{Sung}
@@ -32,11 +32,11 @@ use Rattle.override_tags.specs.declared.tag.Tag.{Tag}
 use Rattle.override_tags.specs.declared.tag.Tag.TheVariants.{Number, Colour, Alpha, FontName, Reset, Align, Pos, Move, Org, Fad, Fade, Clip, Karaoke, Transform}
 use Rattle.override_tags.specs.declared.transform.Course.{Course}
 use Rattle.override_tags.specs.Fronts.{Part, Char, HardBreak, SoftBreak, HardSpace, Block}
-use Rattle.override_tags.specs.Limits.{max_tag_time, max_syllable, max_quarters, max_scale}
-use Rattle.override_tags.specs.Ranges.{IsTagTime, AreCorners, IsClip, IsGradualTag, IsSetNumber, IsHeldTag, IsHeldItem}
+use Rattle.override_tags.specs.Limits.{max_syllable, max_quarters, max_scale}
+use Rattle.override_tags.specs.Ranges.{IsTagTime, AreCorners, IsGradualTag, IsSetNumber, IsHeldTag, IsHeldItem}
 use Rattle.override_tags.specs.Readings as reads
 use Rattle.override_tags.specs.Readings.{AreTags, ArePartTags, AreItems, tag_items, part_item, IsTextReading}
-use Rattle.override_tags.specs.Singles.{whole, exact, is_wrap_style, wrap_tag, key_tag, align_of, key_of_old, old_align_of, karaoke_of, pos_of, org_of, move_of, fade_of, numbered_of, rectangle_of, scale_of, ReadsDrawn, ReadsScaled, ReadsClipPieces, ReadsClip, ReadsNumbered, ReadsSingle}
+use Rattle.override_tags.specs.Singles.{whole, exact, is_wrap_style, wrap_tag, key_tag, key_of_old, karaoke_of, pos_of, org_of, move_of, fade_of, numbered_of, rectangle_of, scale_of, ReadsDrawn, ReadsScaled, ReadsClipPieces, ReadsClip, ReadsNumbered, ReadsSingle}
 use Rattle.override_tags.specs.Tags as tags
 use Rattle.override_tags.specs.Tags.{before_tags, from_tags, quarters_of, course_of, is_gradual, gradual_of, ReadsFound, ReadsKept, AreKept, ReadsCourse, ReadsTransform, ReadsNamed, ReadsAny, ReadsTag}
 

@@ -1,5 +1,5 @@
 -- Public: the ranges of what the tags of a text say. `read_text` gives no others.
-use Rattle.std.specs.Prelude.{◌≡◌, ℕ, ◌≤◌, true, ℤ, pos, ◌≤ℤ◌, List, length, All, IfSome}
+use Rattle.std.specs.Prelude.{◌≡◌, ◌≤◌, true, ℤ, pos, ◌≤ℤ◌, List, length, All, IfSome}
 use Rattle.ass_num.specs.Limits.{IsWithin, IsHeldNumber}
 use Rattle.ass_num.specs.Paths.{IsPath}
 use Rattle.tag_arguments.specs.declared.kinds.Num.{Num}

@@ -3,31 +3,24 @@ use Rattle.std.proofs.lemmas.Int.{ints, clamps}
 use Rattle.event_instants.specs.Instants.{IsBetween}
 use Rattle.event_instants.specs.Instants as rule
 use Rattle.event_instants.proofs.OnTheWay.{product_within}
-use Rattle.event_instants.proofs.between.at_time.Goals as goal
+use Rattle.event_instants.proofs.between.on_the_way.Goals as goal
 use mir.Syntax.{w128}
 
 weight_is : (r : ℤ) (n : ℕ) → r ≡ pos n → n ≤ 65536 → to_z w64 (of_z w64 r) ≡ pos n
 weight_is r n e order = let f : FitsSigned w64 (pos n) = omega (arith, ints) in rw (e, to_z-of_z f) refl
 
-time_is : (r a b : ℤ) → FitsSigned w64 a → FitsSigned w64 b → r ≡ to_z w64 (of_z w64 a) -ℤ to_z w64 (of_z w64 b) → to_z w128 (of_z w128 r) ≡ a -ℤ b
-time_is r a b first second e =
-    let k : r ≡ a -ℤ b = rw (to_z-of_z first, to_z-of_z second) at e in
-    let f : FitsSigned w128 (a -ℤ b) = omega (arith, ints) in
-    rw (k, to_z-of_z f) refl
-
-product : (c : goal.After-from-2) → (neg_ℤ (pos (65536 * 2 ^ 64)) ≤ℤ ((pos c.args.new -ℤ pos c.args.old) *ℤ (c.args.elapsed -ℤ c.args.begin))) × (((pos c.args.new -ℤ pos c.args.old) *ℤ (c.args.elapsed -ℤ c.args.begin)) ≤ℤ pos (65536 * 2 ^ 64))
+product : (c : goal.After-from-2) → (neg_ℤ (pos (65536 * 2 ^ 66)) ≤ℤ ((pos c.args.new -ℤ pos c.args.old) *ℤ c.args.part)) × (((pos c.args.new -ℤ pos c.args.old) *ℤ c.args.part) ≤ℤ pos (65536 * 2 ^ 66))
 product c =
-    let e = c.ranges.elapsed in let b = c.ranges.begin in
-    product_within 65536 (2 ^ 64) (pos c.args.new -ℤ pos c.args.old) (c.args.elapsed -ℤ c.args.begin)
+    product_within 65536 (2 ^ 66) (pos c.args.new -ℤ pos c.args.old) c.args.part
     (omega (arith, ints, c.requires.old, c.requires.new)) (omega (arith, ints, c.requires.old, c.requires.new))
-    (omega (arith, ints, c.requires.begun)) (omega (arith, ints, e, b))
+    c.requires.begun c.requires.short
 
-product_is : (c : goal.After-from-2) → (to_z w64 (of_z w64 c.from-2.result) -ℤ to_z w64 (of_z w64 c.from.result)) *ℤ to_z w128 (of_z w128 c.difference-part.result) ≡ (pos c.args.new -ℤ pos c.args.old) *ℤ (c.args.elapsed -ℤ c.args.begin)
+product_is : (c : goal.After-from-2) → (to_z w64 (of_z w64 c.from-2.result) -ℤ to_z w64 (of_z w64 c.from.result)) *ℤ to_z w128 (of_z w128 c.args.part) ≡ (pos c.args.new -ℤ pos c.args.old) *ℤ c.args.part
 product_is c =
     rw (
       weight_is c.from-2.result c.args.new c.from-2.ensures c.requires.new,
       weight_is c.from.result c.args.old c.from.ensures c.requires.old,
-      time_is c.difference-part.result c.args.elapsed c.args.begin c.ranges.elapsed c.ranges.begin c.difference-part.ensures.value,
+      to_z-of_z c.ranges.part,
     )
     refl
 
@@ -37,13 +30,13 @@ between-requires-clause-above c = rw (product_is c) (let t = (product c).0 in om
 pub between-requires-clause-below : goal.between-requires-clause-below
 between-requires-clause-below c = rw (product_is c) (let t = (product c).1 in omega (arith, ints, t))
 
-value : (c : goal.After-between) → c.between.result ≡ rule.at_time (pos c.args.old) (pos c.args.new) c.args.begin c.args.end c.args.elapsed
+value : (c : goal.After-between) → c.between.result ≡ rule.between (pos c.args.old) (pos c.args.new) c.args.part c.args.whole
 value c =
     rw (
       weight_is c.from-2.result c.args.new c.from-2.ensures c.requires.new,
       weight_is c.from.result c.args.old c.from.ensures c.requires.old,
-      time_is c.difference-part.result c.args.elapsed c.args.begin c.ranges.elapsed c.ranges.begin c.difference-part.ensures.value,
-      time_is c.difference-whole.result c.args.end c.args.begin c.ranges.end c.ranges.begin c.difference-whole.ensures.value,
+      to_z-of_z c.ranges.part,
+      to_z-of_z c.ranges.whole,
     ) at c.between.ensures.value
 
 within : (c : goal.After-between) → IsBetween (pos c.args.old) (pos c.args.new) c.between.result
