@@ -32,7 +32,7 @@ use Rattle.override_tags.specs.declared.tag.Tag.{Tag}
 use Rattle.override_tags.specs.declared.tag.Tag.TheVariants.{Number, Colour, Alpha, FontName, Reset, Align, Pos, Move, Org, Fad, Fade, Clip, Karaoke, Transform}
 use Rattle.override_tags.specs.declared.transform.Course.{Course}
 use Rattle.override_tags.specs.Fronts.{Part, Char, HardBreak, SoftBreak, HardSpace, Block}
-use Rattle.override_tags.specs.Limits.{max_syllable, max_quarters, max_scale}
+use Rattle.override_tags.specs.Limits.{max_syllable, max_quarters, max_tag_scale}
 use Rattle.override_tags.specs.Ranges.{IsTagTime, AreCorners, IsGradualTag, IsSetNumber, IsHeldTag, IsHeldItem}
 use Rattle.override_tags.specs.Readings as reads
 use Rattle.override_tags.specs.Readings.{AreTags, ArePartTags, AreItems, tag_items, part_item, IsTextReading}
@@ -207,7 +207,7 @@ rectangle_held inverse (Some (a ∷ (b ∷ (c ∷ [])))) is = tt
 rectangle_held inverse (Some (a ∷ (b ∷ (c ∷ (d ∷ []))))) is = four_held a b c d [] is
 rectangle_held inverse (Some (a ∷ (b ∷ (c ∷ (d ∷ (e ∷ more)))))) is = tt
 
-drawn_held : (inverse : Bool) (drawing : List ℕ) (scale : ℕ) (tag : Option Tag) → 1 ≤ scale → scale ≤ max_scale → ReadsDrawn inverse drawing scale tag → HeldTagIf tag
+drawn_held : (inverse : Bool) (drawing : List ℕ) (scale : ℕ) (tag : Option Tag) → 1 ≤ scale → scale ≤ max_tag_scale → ReadsDrawn inverse drawing scale tag → HeldTagIf tag
 drawn_held inverse drawing scale tag low high read = held_as tag _ read.2 (drawing_valid (trimmed drawing) read.0.segs read.1, low, high)
 
 scaled_held : (inverse : Bool) (drawing : List ℕ) (scale : Option ℤ) (tag : Option Tag) → ReadsScaled inverse drawing scale tag → HeldTagIf tag

@@ -14,5 +14,5 @@ abbrev pub max_quarters : ℕ
 max_quarters = 32
 
 -- the highest scale or level of a drawing
-abbrev pub max_scale : ℕ
-max_scale = 30
+abbrev pub max_tag_scale : ℕ
+max_tag_scale = 30

@@ -13,7 +13,7 @@ use Rattle.override_tags.specs.declared.tag.GradualTag.{GradualTag}
 use Rattle.override_tags.specs.declared.tag.GradualTag.TheVariants as gradual
 use Rattle.override_tags.specs.declared.tag.Tag.{Tag}
 use Rattle.override_tags.specs.declared.tag.Tag.TheVariants.{Number, Colour, Alpha, FontName, Reset, Align, Pos, Move, Org, Fad, Fade, Clip, Karaoke, Transform}
-use Rattle.override_tags.specs.Limits.{max_tag_time, max_syllable, max_quarters, max_scale}
+use Rattle.override_tags.specs.Limits.{max_tag_time, max_syllable, max_quarters, max_tag_scale}
 use Rattle.override_tags.specs.Singles.{is_wrap_style}
 use Rattle.override_tags.specs.Tags.{is_gradual}
 
@@ -28,7 +28,7 @@ AreCorners corners = (length corners ≡ 4) × All IsHeldNumber corners
 -- a clip by four held numbers, or by a drawing at a scale
 abbrev pub IsClip : ClipTag → Type 0
 IsClip (Rect corners _) = AreCorners corners
-IsClip (Drawn path scale _) = IsPath path.segs × (1 ≤ scale) × (scale ≤ max_scale)
+IsClip (Drawn path scale _) = IsPath path.segs × (1 ≤ scale) × (scale ≤ max_tag_scale)
 
 -- a tag of a transform: it has a property that can change gradually
 abbrev pub IsGradualTag : GradualTag → Type 0

@@ -15,7 +15,7 @@ use Rattle.tag_arguments.specs.declared.kinds.Num.TheVariants as num
 use Rattle.tag_arguments.specs.declared.kinds.Sung.{Sung}
 use Rattle.tag_arguments.specs.declared.kinds.TagName.{TagName}
 use Rattle.tag_arguments.specs.declared.kinds.TagName.TheVariants as name
-use Rattle.override_tags.specs.Limits.{max_scale}
+use Rattle.override_tags.specs.Limits.{max_tag_scale}
 use Rattle.override_tags.specs.declared.tag.ClipTag.TheVariants.{Rect, Drawn}
 use Rattle.override_tags.specs.declared.tag.Tag.{Tag}
 use Rattle.override_tags.specs.declared.tag.Tag.TheVariants.{Number, Colour, Alpha, FontName, Reset, Align, Pos, Move, Org, Fad, Fade, Clip, Karaoke}
@@ -99,7 +99,7 @@ rectangle_of _ _ = None
 
 -- the scale of a drawing: a whole number, held within 1 and 30
 abbrev pub scale_of : ℤ → ℕ
-scale_of value = unsigned_abs (held (pos 1) (pos max_scale) (whole value))
+scale_of value = unsigned_abs (held (pos 1) (pos max_tag_scale) (whole value))
 
 -- a clip by a drawing
 abbrev pub ReadsDrawn : Bool → List ℕ → ℕ → Option Tag → Type 0

@@ -2,7 +2,7 @@
 use Rattle.std.specs.Prelude.{◌≡◌, ℕ, ◌<◌, ◌≤◌, ◌⊎◌, ℤ, pos, ◌≤ℤ◌, length, All, IfSome}
 use Rattle.ass_num.specs.Limits.{max_text_bytes, IsHeldNumber, IsHeldLength}
 use Rattle.ass_num.specs.Paths.{IsPath}
-use Rattle.override_tags.specs.Limits.{max_scale}
+use Rattle.override_tags.specs.Limits.{max_tag_scale}
 use Rattle.override_tags.specs.Ranges.{IsClip}
 use Rattle.override_tags.specs.declared.view.EventView.{EventView}
 use Rattle.override_tags.specs.declared.view.Shown.{Shown}
@@ -32,7 +32,7 @@ pub record IsState (names : ℕ) (state : State) : Type 0 where
   pub shadow_y : IsHeldNumber state.shadow_y
   pub edges : IsHeldLength state.edges
   pub blur : IsHeldLength state.blur
-  pub draw : state.draw ≤ max_scale
+  pub draw : state.draw ≤ max_tag_scale
   pub offset : IsHeldNumber state.offset
   pub sung : IfSome state.sung IsSyllable
 

@@ -7,7 +7,7 @@ use Rattle.std.proofs.lemmas.List.{append-nil}
 use Rattle.std.proofs.Math.Seq.{take-append_seam}
 use Rattle.std.proofs.lemmas.Option.{some_pair_parts}
 use Rattle.tag_arguments.specs.declared.kinds.TagName.{TagName}
-use Rattle.tag_arguments.specs.Names.{NameRow, tag_names, longer_row, longer_of, longest_row, found_by, longest_name}
+use Rattle.tag_arguments.specs.Names.{NameRow, tag_names, longer_row, longer_found, longest_row, found_by, longest_name}
 use Rattle.tag_arguments.specs.Laws.{IsNameRow, BeginsWithName, LongestCounts, NoneIsNone}
 use Rattle.tag_arguments.proofs.NameLemmas.{begins, split, longer_yes, longer_no, longest_begins}
 
@@ -67,7 +67,7 @@ none_begins (r ∷ rows) text other n none listed starts = elim (cases_Bool (sta
   ]
 ]
   where
-    some_is : (a : NameRow) (o : Option NameRow) → longer_of (Some a) o ≡ None → ⊥
+    some_is : (a : NameRow) (o : Option NameRow) → longer_found (Some a) o ≡ None → ⊥
     some_is a None e = absurd (cc)
     some_is a (Some o) e = absurd (cc)
 
@@ -77,7 +77,7 @@ record IsLongest (rows : List NameRow) (text : List ℕ) (row : NameRow) : Type 
   longest : (other : List ℕ) (n : TagName) → IsNameRow rows other n → starts_with nat_eq text other ≡ true → length other ≤ length row.0
 
 of_two : (r : NameRow) (rows : List NameRow) (text : List ℕ) (o : Option NameRow) (row : NameRow) → longest_row rows text ≡ o → ((z : NameRow) → o ≡ Some z → IsLongest rows text z)
-    → longer_of (Some r) o ≡ Some row → IsLongest (r ∷ rows) text row
+    → longer_found (Some r) o ≡ Some row → IsLongest (r ∷ rows) text row
 of_two r rows text None row none others e =
     let same : r ≡ row = cc in
     let P : NameRow → Type 0 = λ z. IsLongest (r ∷ rows) text z in

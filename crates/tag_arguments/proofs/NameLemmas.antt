@@ -6,7 +6,7 @@ use Rattle.std.proofs.lemmas.Bool.{cases_Bool, cases_lt, cond-true, cond-false, 
 use Rattle.std.proofs.lemmas.Bool.Decides.{Decides-eqb}
 use Rattle.std.proofs.lemmas.Slice.Eq.{starts_is}
 use Rattle.tag_arguments.specs.declared.kinds.TagName.{TagName}
-use Rattle.tag_arguments.specs.Names.{NameRow, tag_names, longer_row, longer_of, longest_row, found_by, longest_name}
+use Rattle.tag_arguments.specs.Names.{NameRow, tag_names, longer_row, longer_found, longest_row, found_by, longest_name}
 
 pub begins : (text name rest : List ℕ) → text ≡ name ++ rest → starts_with nat_eq text name ≡ true
 begins text name rest e = (starts_is Decides-eqb text name (starts_with nat_eq text name) refl).1 rest e
@@ -37,7 +37,7 @@ longer_rows a b c = elim (cases_lt (length a.0) (length b.0)) [
   ]
 ]
 
-longer_joined : (longest : Option NameRow) (row : NameRow) (others : Option NameRow) → longer_of longest (longer_of (Some row) others) ≡ longer_of (longer_of longest (Some row)) others
+longer_joined : (longest : Option NameRow) (row : NameRow) (others : Option NameRow) → longer_found longest (longer_found (Some row) others) ≡ longer_found (longer_found longest (Some row)) others
 longer_joined None row others = refl
 longer_joined (Some a) row None = refl
 longer_joined (Some a) row (Some c) = ap Some (longer_rows a row c)
@@ -49,26 +49,26 @@ row_of row = (row.0.now, row.1)
 module _ (rows : List (Bor (List ℕ) × TagName)) (i : ℕ) (d : Bor (List ℕ) × TagName) (text : List ℕ) (longest new : Option (Bor (List ℕ) × TagName)) (whole : Option NameRow) (within : i < length rows) where
   -- the rows from a place on
   longest_from : longest_row (map row_of (drop i rows)) text
-      ≡ cond (starts_with nat_eq text (get_or rows i d).0.now) (longer_of (Some (row_of (get_or rows i d))) (longest_row (map row_of (drop (i + 1) rows)) text)) (longest_row (map row_of (drop (i + 1) rows)) text)
+      ≡ cond (starts_with nat_eq text (get_or rows i d).0.now) (longer_found (Some (row_of (get_or rows i d))) (longest_row (map row_of (drop (i + 1) rows)) text)) (longest_row (map row_of (drop (i + 1) rows)) text)
   longest_from = rw (add-one, drop-cons rows i d)
 
   -- the row there begins the text
   pub row_taken : (longer : Bor (List ℕ) × TagName) → starts_with nat_eq text (get_or rows i d).0.now ≡ true → new ≡ Some longer
-      → Some (row_of longer) ≡ longer_of (option_map row_of longest) (Some (row_of (get_or rows i d)))
-      → longer_of (option_map row_of longest) (longest_row (map row_of (drop i rows)) text) ≡ whole
-      → longer_of (option_map row_of new) (longest_row (map row_of (drop (i + 1) rows)) text) ≡ whole
+      → Some (row_of longer) ≡ longer_found (option_map row_of longest) (Some (row_of (get_or rows i d)))
+      → longer_found (option_map row_of longest) (longest_row (map row_of (drop i rows)) text) ≡ whole
+      → longer_found (option_map row_of new) (longest_row (map row_of (drop (i + 1) rows)) text) ≡ whole
   row_taken longer does is e before =
       let others = longest_row (map row_of (drop (i + 1) rows)) text in
-      ap (λ z. longer_of (option_map row_of z) others) is ∙ ap (λ z. longer_of z others) e ∙ sym (longer_joined (option_map row_of longest) (row_of (get_or rows i d)) others)
-      ∙ ap (longer_of (option_map row_of longest)) (sym (longest_from ∙ cond-true _ _ _ does)) ∙ before
+      ap (λ z. longer_found (option_map row_of z) others) is ∙ ap (λ z. longer_found z others) e ∙ sym (longer_joined (option_map row_of longest) (row_of (get_or rows i d)) others)
+      ∙ ap (longer_found (option_map row_of longest)) (sym (longest_from ∙ cond-true _ _ _ does)) ∙ before
 
   -- or it doesn't
   pub row_passed : starts_with nat_eq text (get_or rows i d).0.now ≡ false → new ≡ longest
-      → longer_of (option_map row_of longest) (longest_row (map row_of (drop i rows)) text) ≡ whole
-      → longer_of (option_map row_of new) (longest_row (map row_of (drop (i + 1) rows)) text) ≡ whole
+      → longer_found (option_map row_of longest) (longest_row (map row_of (drop i rows)) text) ≡ whole
+      → longer_found (option_map row_of new) (longest_row (map row_of (drop (i + 1) rows)) text) ≡ whole
   row_passed lacks is before =
       let others = longest_row (map row_of (drop (i + 1) rows)) text in
-      ap (λ z. longer_of (option_map row_of z) others) is ∙ ap (longer_of (option_map row_of longest)) (sym (longest_from ∙ cond-false _ _ _ lacks)) ∙ before
+      ap (λ z. longer_found (option_map row_of z) others) is ∙ ap (longer_found (option_map row_of longest)) (sym (longest_from ∙ cond-false _ _ _ lacks)) ∙ before
 
 -- The longest row begins the text.
 pub longest_begins : (rows : List NameRow) (text : List ℕ) (row : NameRow) → longest_row rows text ≡ Some row → starts_with nat_eq text row.0 ≡ true
@@ -78,7 +78,7 @@ longest_begins (r ∷ rows) text row is = elim (cases_Bool (starts_with nat_eq t
   | inr lacks ↦ longest_begins rows text row (sym (cond-false _ _ _ lacks) ∙ is)
 ]
   where
-    of_two : (a b : NameRow) (o : Option NameRow) → starts_with nat_eq text a.0 ≡ true → ((z : NameRow) → o ≡ Some z → starts_with nat_eq text z.0 ≡ true) → longer_of (Some a) o ≡ Some b → starts_with nat_eq text b.0 ≡ true
+    of_two : (a b : NameRow) (o : Option NameRow) → starts_with nat_eq text a.0 ≡ true → ((z : NameRow) → o ≡ Some z → starts_with nat_eq text z.0 ≡ true) → longer_found (Some a) o ≡ Some b → starts_with nat_eq text b.0 ≡ true
     of_two a b None first others e = let same : a ≡ b = cc in ap (λ z. starts_with nat_eq text z.0) (sym same) ∙ first
     of_two a b (Some o) first others e = let same : longer_row a o ≡ b = cc in ap (λ z. starts_with nat_eq text z.0) (sym same) ∙ (elim (cases_lt (length a.0) (length o.0)) [
       | inl below ↦ ap (λ z. starts_with nat_eq text z.0) (longer_yes a o below) ∙ others o refl

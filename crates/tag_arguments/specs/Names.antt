@@ -42,15 +42,15 @@ abbrev pub longer_row : NameRow → NameRow → NameRow
 longer_row row other = if nat_lt (length row.0) (length other.0) then other else row
 
 -- the same where there may be no row
-abbrev pub longer_of : Option NameRow → Option NameRow → Option NameRow
-longer_of None other = other
-longer_of (Some row) None = Some row
-longer_of (Some row) (Some other) = Some (longer_row row other)
+abbrev pub longer_found : Option NameRow → Option NameRow → Option NameRow
+longer_found None other = other
+longer_found (Some row) None = Some row
+longer_found (Some row) (Some other) = Some (longer_row row other)
 
 -- of the rows whose spelling a text begins with, the one with the longest spelling
 abbrev pub longest_row : List NameRow → List ℕ → Option NameRow
 longest_row [] text = None
-longest_row (row ∷ rows) text = if starts_with nat_eq text row.0 then longer_of (Some row) (longest_row rows text) else longest_row rows text
+longest_row (row ∷ rows) text = if starts_with nat_eq text row.0 then longer_found (Some row) (longest_row rows text) else longest_row rows text
 
 -- what a row stands for, and the text behind its spelling
 abbrev pub found_by : List ℕ → NameRow → TagName × List ℕ

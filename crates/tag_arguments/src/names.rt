@@ -2,7 +2,7 @@
 
 ghost use Rattle.std.specs.Prelude.{◌≡◌, ◌∷◌, [], Some, map};
 ghost use Rattle.std.specs.Option.{option_map};
-ghost use Rattle.tag_arguments.specs.Names.{longer_of, longest_row, longest_name, tag_name};
+ghost use Rattle.tag_arguments.specs.Names.{longer_found, longest_row, longest_name, tag_name};
 
 use crate::kinds::{Num, Sung, TagName};
 use blanks::text::past_blanks;
@@ -69,8 +69,8 @@ const TAG_NAMES: [NameRow; 54] = [
 ];
 
 /// Of two rows the one with the longer spelling; there may be no first one.
-fn longer_of(longest: Option<NameRow>, row: NameRow) -> NameRow
-    ensures { Some (result.0.now, result.1) ≡ longer_of (option_map (λ row. (row.0.now, row.1)) longest.entry) (Some (row.entry.0.now, row.entry.1)) }
+fn longer_found(longest: Option<NameRow>, row: NameRow) -> NameRow
+    ensures { Some (result.0.now, result.1) ≡ longer_found (option_map (λ row. (row.0.now, row.1)) longest.entry) (Some (row.entry.0.now, row.entry.1)) }
 {
     match longest {
         Some(other) => {
@@ -91,7 +91,7 @@ fn longest_row(text: &str, rows: &[NameRow]) -> Option<NameRow>
     let mut longest = None;
     for row in rows {
         if text.starts_with(row.0) {
-            longest = Some(longer_of(longest, *row));
+            longest = Some(longer_found(longest, *row));
         }
     }
     longest
