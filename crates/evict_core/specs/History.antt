@@ -67,9 +67,13 @@ module _ {K V : Type 0} (eq : K → K → Bool) where
   pins_given [] k = 0
   pins_given (step ∷ steps) k = gives k step + pins_given steps k
 
-  -- the pins of k that m holds after the history: what its own steps took, less what they gave back
+  -- those that are left: what the steps took, less what they gave back
+  abbrev pub pins_left : List (Step K V) → K → ℕ
+  pins_left steps k = pins_taken steps k - pins_given steps k
+
+  -- the pins of k that m holds after the history
   abbrev pub pins_held : History (Step K V) → ℕ → K → ℕ
-  pins_held h m k = pins_taken (entries_of m h) k - pins_given (entries_of m h) k
+  pins_held h m k = pins_left (entries_of m h) k
 
   -- the pins of k that the numbers below n hold
   abbrev pub held_below : History (Step K V) → ℕ → K → ℕ
@@ -92,9 +96,13 @@ module _ {K V : Type 0} (eq : K → K → Bool) where
   is_open_in was [] k = was
   is_open_in was (step ∷ steps) k = is_open_in (is_open_after step k was) steps k
 
-  -- m's last claim of k has no later fill or fail of k by m
+  -- the last claim of k in these steps has no later fill or fail of k
+  abbrev pub has_open : List (Step K V) → K → Bool
+  has_open steps k = is_open_in false steps k
+
+  -- so it is with the steps that m made
   abbrev pub is_pending : History (Step K V) → ℕ → K → Bool
-  is_pending h m k = is_open_in false (entries_of m h) k
+  is_pending h m k = has_open (entries_of m h) k
 
   -- after h, the entry's number may make its step
   abbrev pub MayFollow : ℕ → ℕ → History (Step K V) → ℕ × Step K V → Type 0
