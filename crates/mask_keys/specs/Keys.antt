@@ -28,8 +28,8 @@ abbrev pub max_passes : ℕ
 max_passes = 127
 
 -- the largest radius of a blur, in pixels
-abbrev pub max_blur : ℕ
-max_blur = 100
+abbrev pub max_blur_radius : ℕ
+max_blur_radius = 100
 
 -- the farthest that a mask is moved within a composite, in pixels
 abbrev pub max_part_offset : ℕ
@@ -63,7 +63,7 @@ pub record IsValidMask (glyphs : List ℕ) (key : MaskKey) : Type 0 where
   pub px : key.px < samples_across
   pub py : key.py < samples_across
   pub edges : key.edges ≤ max_passes
-  pub blur : key.blur ≤ max_blur
+  pub blur : key.blur ≤ max_blur_radius
 
 pub record IsValidPart (glyphs : List ℕ) (part : Part) : Type 0 where
   pub mask : IsValidMask glyphs part.mask
