@@ -1,4 +1,4 @@
--- Inner: a list of lists that is kept flat: the items one after another, cut at ascending ends.
+-- Public: a list of lists that is kept flat: the items one after another, cut at ascending ends.
 use Rattle.std.specs.Prelude.{◌≡◌, ℕ, ◌-◌, ◌≤◌, zero, suc, List, [], ◌∷◌, take, drop, slice_index}
 
 -- the lists between the ends, where the first begins at `from`

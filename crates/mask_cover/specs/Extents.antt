@@ -1,4 +1,4 @@
--- Inner: boxes that moved masks can reach, and stretches along an axis.
+-- Public: boxes that moved masks can reach, and stretches along an axis.
 use Rattle.std.specs.Prelude.{◌≡◌, ℕ, ℤ, pos, neg_ℤ, ◌+◌, ◌<◌, ◌+ℤ◌, ◌≤ℤ◌, ◌⊎◌}
 use Rattle.ass_num.specs.Coverage.{PixelBox}
 use Rattle.ass_num.specs.Limits.{max_mask_corner, max_mask_side, max_mask_shift}

@@ -1,5 +1,6 @@
 -- Inner: counts of samples as sums of steps.
-use Rattle.std.specs.Prelude.{◌≡◌, ℕ, zero, suc, ℤ, pos, neg_ℤ, ◌+◌, ◌-◌, ◌*◌, ◌<◌, ◌+ℤ◌, ◌-ℤ◌, ◌<ℤ◌, ◌≤ℤ◌, min, if◌then◌else◌, List, All, length, slice_index, slice_index_or, unsigned_abs}
+use Rattle.std.specs.Prelude.{◌≡◌, ℕ, zero, suc, ℤ, pos, ◌+◌, ◌-◌, ◌*◌, ◌<◌, ◌+ℤ◌, ◌-ℤ◌, ◌<ℤ◌, ◌≤ℤ◌, min, if◌then◌else◌, List, All, length, slice_index, slice_index_or, unsigned_abs}
+use Rattle.ass_num.specs.Limits.{IsWithin}
 use Rattle.ass_num.specs.Regions.{in_runs, row_at}
 use Rattle.ass_num.specs.Coverage.{sum_from, coverage_byte}
 use Rattle.ass_num.specs.declared.region.Run.{Run}
@@ -15,7 +16,7 @@ samples_after t c = min 16 ((16 * c + 16) - t)
 
 -- Each step lies within so much of 0.
 abbrev pub AreStepsWithin : ℕ → List ℤ → Type 0
-AreStepsWithin limit steps = (k : ℕ) → (neg_ℤ (pos limit) ≤ℤ slice_index_or steps k (pos 0)) × (slice_index_or steps k (pos 0) ≤ℤ pos limit)
+AreStepsWithin limit steps = (k : ℕ) → IsWithin limit (slice_index_or steps k (pos 0))
 
 -- Each sum of first steps lies from 0 to so much.
 abbrev pub CountsWithin : ℕ → List ℤ → Type 0
