@@ -1,8 +1,8 @@
 -- Lemmas on boxes whose bounds are held within a frame.
 use Rattle.std.proofs.Common.{◌≡◌, ℕ, ℤ, pos, negsuc, ◌+◌, ◌<◌, ◌≤◌, Bool, true, false, not, ◌&&◌, ◌||◌, nat_lt, int_le, int_lt, max, refl, sym, ap, ◌∙◌, arith}
 use Rattle.std.proofs.lemmas.Bool.Decides.{nat_tests}
-use Rattle.plain_picture.specs.declared.fill.PixelBox.{PixelBox}
-use Rattle.plain_picture.specs.Squares.{in_pixel_box, in_row, in_box_above}
+use Rattle.plain_picture.specs.declared.fill.PixelRange.{PixelRange}
+use Rattle.plain_picture.specs.Squares.{in_pixel_range, in_row, in_box_above}
 
 int_le-not : (x : ℤ) (i : ℕ) → int_le x (pos i) ≡ not (int_lt (pos i) x)
 int_le-not (pos a) i = grind (arith, nat_tests)
@@ -28,18 +28,18 @@ row-tests : (left right top bottom row x y : ℕ) → top ≤ row → row < bott
     ≡ (not (nat_lt x left) && nat_lt x right && (not (nat_lt y top) && nat_lt y bottom) && nat_lt y row || in_row row left (max right left) x y)
 row-tests left right top bottom row x y above below = grind (arith, nat_tests)
 
-pub box-begin : (b : PixelBox) (top h : ℕ) → ((i : ℕ) → i < h → nat_lt i top ≡ int_lt (pos i) b.top)
+pub box-begin : (b : PixelRange) (top h : ℕ) → ((i : ℕ) → i < h → nat_lt i top ≡ int_lt (pos i) b.top)
     → (x y : ℕ) → y < h → in_box_above b top x y ≡ false
 box-begin b top h is x y l = rw (int_le-not b.top y, ← is y l) (flags (int_le b.left (pos x) && int_lt (pos x) b.right) (nat_lt y top) (int_lt (pos y) b.bottom))
 
-pub box-end : (b : PixelBox) (bottom row h : ℕ) → bottom ≤ row → ((i : ℕ) → i < h → nat_lt i bottom ≡ int_lt (pos i) b.bottom)
-    → (x y : ℕ) → y < h → in_box_above b row x y ≡ in_pixel_box b x y
+pub box-end : (b : PixelRange) (bottom row h : ℕ) → bottom ≤ row → ((i : ℕ) → i < h → nat_lt i bottom ≡ int_lt (pos i) b.bottom)
+    → (x y : ℕ) → y < h → in_box_above b row x y ≡ in_pixel_range b x y
 box-end b bottom row h le is x y l =
     ap (λ (t : Bool). (int_le b.left (pos x) && int_lt (pos x) b.right) && (int_le b.top (pos y) && t) && nat_lt y row) (sym (is y l))
     ∙ (below-both (int_le b.left (pos x) && int_lt (pos x) b.right) (int_le b.top (pos y)) y bottom row le
     ∙ ap (λ (t : Bool). (int_le b.left (pos x) && int_lt (pos x) b.right) && (int_le b.top (pos y) && t)) (is y l))
 
-pub box-row : (b : PixelBox) (left right far top bottom row w h : ℕ) → far ≡ max right left
+pub box-row : (b : PixelRange) (left right far top bottom row w h : ℕ) → far ≡ max right left
     → ((i : ℕ) → i < w → nat_lt i left ≡ int_lt (pos i) b.left) → ((i : ℕ) → i < w → nat_lt i right ≡ int_lt (pos i) b.right)
     → ((i : ℕ) → i < h → nat_lt i top ≡ int_lt (pos i) b.top) → ((i : ℕ) → i < h → nat_lt i bottom ≡ int_lt (pos i) b.bottom)
     → top ≤ row → row < bottom

@@ -7,9 +7,9 @@ use Rattle.std.specs.Ordering.{int_eq}
 use Rattle.ass_num.specs.Floor.{floor_div}
 use Rattle.ass_num.proofs.Floor.{le-floor_div, floor_div-lt, floor_div_is, product-add}
 use Rattle.bdf_font.specs.declared.glyphs.FontGlyph.{FontGlyph}
-use Rattle.plain_picture.specs.declared.fill.PixelBox.{PixelBox}
+use Rattle.plain_picture.specs.declared.fill.PixelRange.{PixelRange}
 use Rattle.plain_picture.specs.Pictures.{is_set}
-use Rattle.plain_picture.specs.Squares.{IsGap, IsSetRun, in_pixel_box, in_columns, is_set_above, is_set_before, squares}
+use Rattle.plain_picture.specs.Squares.{IsGap, IsSetRun, in_pixel_range, in_columns, is_set_above, is_set_before, squares}
 
 le-yes : (a b : ℤ) → a ≤ℤ b → int_le a b ≡ true
 le-yes a b p = grind (arith, ints)
@@ -71,10 +71,10 @@ of-row z top bottom y above row some top_is bottom_is =
     (λ past. rw (le-yes top y since, lt-no y bottom past) (sym (eq-no (q -ℤ above) row
     (λ e. let more : (above +ℤ row +ℤ pos 1) ≤ℤ q = le-floor_div (above +ℤ row +ℤ pos 1) y z some (omega (arith, ints)) in omega (arith, ints))))))
 
-pub columns-box : (b : PixelBox) (z : ℕ) (ascent : ℤ) (g : FontGlyph) (pen : ℤ) (row from to : ℕ) → 0 < z
+pub columns-box : (b : PixelRange) (z : ℕ) (ascent : ℤ) (g : FontGlyph) (pen : ℤ) (row from to : ℕ) → 0 < z
     → b.left ≡ pen +ℤ ((g.x +ℤ pos from) *ℤ pos z) → b.right ≡ pen +ℤ ((g.x +ℤ pos to) *ℤ pos z)
     → b.top ≡ pos 0 +ℤ (((ascent -ℤ g.y -ℤ pos g.h) +ℤ pos row) *ℤ pos z) → b.bottom ≡ pos 0 +ℤ (((ascent -ℤ g.y -ℤ pos g.h) +ℤ pos (row + 1)) *ℤ pos z)
-    → (x y : ℕ) → in_pixel_box b x y ≡ squares z ascent g pen (in_columns row from to) x y
+    → (x y : ℕ) → in_pixel_range b x y ≡ squares z ascent g pen (in_columns row from to) x y
 columns-box b z ascent g pen row from to some left right top bottom x y =
     let last : b.bottom ≡ pos 0 +ℤ (((ascent -ℤ g.y -ℤ pos g.h) +ℤ pos row +ℤ pos 1) *ℤ pos z) =
     bottom ∙ ap (λ (n : ℤ). pos 0 +ℤ (n *ℤ pos z)) (omega (arith, ints)) in

@@ -1,7 +1,11 @@
--- How lines of a small font are drawn.
-use Rattle.std.specs.Prelude.{ℤ, pos, negsuc, ◌<◌, ◌≤◌, ◌≤ℤ◌, ◌<ℤ◌}
+-- Inner: how lines of a small font are drawn.
+use Rattle.std.specs.Prelude.{ℕ, ℤ, pos, negsuc, ◌<◌, ◌≤◌, ◌≤ℤ◌, ◌<ℤ◌}
 use Rattle.bdf_font.specs.declared.glyphs.FontGlyph.{FontGlyph}
 use Rattle.plain_picture.specs.declared.glyph.Pencil.{Pencil}
+
+-- a pen here or further right draws nothing on any frame
+abbrev pub past_frames : ℕ
+past_frames = 8192
 
 -- Squares are 1 to 16 pixels wide, and the ascent is that of a small font.
 pub record IsPencil (pencil : Pencil) : Type 0 where

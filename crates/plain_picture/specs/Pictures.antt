@@ -1,19 +1,16 @@
--- The picture of one line of text whose glyphs are drawn as squares: neither turned nor bordered, and not softened
+-- Public: the picture of one line of text whose glyphs are drawn as squares: neither turned nor bordered, and not softened
 -- (docs/PLAIN_PICTURE.md).
-use Rattle.std.specs.Prelude.{ℕ, zero, suc, ℤ, pos, negsuc, ◌+◌, ◌-◌, ◌*◌, ◌/◌, ◌%◌, ◌^◌, ◌+ℤ◌, ◌-ℤ◌, ◌*ℤ◌, Bool, false, ◌&&◌, ◌||◌, ◌==◌, nat_le, nat_lt, int_le, List, [], ◌∷◌, map, Option, Some, None, option_and_then, slice_index, slice_get, if◌then◌else◌}
+use Rattle.std.specs.Prelude.{ℕ, zero, suc, ℤ, pos, negsuc, ◌*◌, ◌/◌, ◌%◌, ◌+ℤ◌, ◌-ℤ◌, ◌*ℤ◌, Bool, false, ◌&&◌, ◌||◌, nat_le, nat_lt, int_le, List, [], ◌∷◌, map, Option, Some, None, option_and_then, slice_get, if◌then◌else◌}
 use Rattle.std.specs.List.{list_all, range_with_len}
+use Rattle.ass_num.specs.Bitmaps.{pixel_is_set}
 use Rattle.ass_num.specs.Floor.{floor_div}
 use Rattle.ass_num.specs.declared.colour.Rgba.{Rgba}
 use Rattle.bdf_font.specs.declared.glyphs.FontGlyph.{FontGlyph}
 use Rattle.bdf_font.specs.Fonts.{FontValue, glyph_of}
 
--- bit k of a byte, where bit 0 is the highest
-abbrev pub bit : ℕ → ℕ → Bool
-bit byte k = (byte / (2 ^ (7 - k))) % 2 == 1
-
 -- whether column i of row j of a glyph's bitmap is set; the row at the top has the number 0
 abbrev pub is_set : FontGlyph → ℤ → ℤ → Bool
-is_set g (pos i) (pos j) = (nat_lt i g.w && nat_lt j g.h) && bit (slice_index g.bits (j * ((g.w + 7) / 8) + i / 8)) (i % 8)
+is_set g (pos i) (pos j) = (nat_lt i g.w && nat_lt j g.h) && pixel_is_set g.w g.bits i j
 is_set g _ _ = false
 
 -- the column of a glyph's bitmap whose square has column x of the picture, where squares are `zoom` pixels wide and the

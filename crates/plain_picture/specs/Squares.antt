@@ -1,10 +1,10 @@
--- How a picture grows, box by box.
+-- Inner: how a picture grows, box by box.
 use Rattle.std.specs.Prelude.{◌≡◌, ℕ, ℤ, pos, ◌/◌, ◌%◌, ◌<◌, ◌≤◌, ◌+ℤ◌, ◌*ℤ◌, Bool, true, false, ◌&&◌, ◌==◌, nat_le, nat_lt, int_le, int_lt, List, [], ◌∷◌, length, slice_index, if◌then◌else◌}
 use Rattle.std.specs.Ordering.{int_eq}
 use Rattle.ass_num.specs.declared.colour.Rgba.{Rgba}
 use Rattle.bdf_font.specs.declared.glyphs.FontGlyph.{FontGlyph}
 use Rattle.bdf_font.specs.Fonts.{FontValue}
-use Rattle.plain_picture.specs.declared.fill.PixelBox.{PixelBox}
+use Rattle.plain_picture.specs.declared.fill.PixelRange.{PixelRange}
 use Rattle.plain_picture.specs.Pictures.{advance_of, channel, column_of, glyph_for, row_of, is_set}
 
 -- The pixels of a part have the colour, and the others are as before.
@@ -18,12 +18,12 @@ abbrev pub in_row : ℕ → ℕ → ℕ → ℕ → ℕ → Bool
 in_row row left right x y = (nat_le left x && nat_lt x right) && (y == row)
 
 -- whether pixel (x, y) lies in a box
-abbrev pub in_pixel_box : PixelBox → ℕ → ℕ → Bool
-in_pixel_box b x y = (int_le b.left (pos x) && int_lt (pos x) b.right) && (int_le b.top (pos y) && int_lt (pos y) b.bottom)
+abbrev pub in_pixel_range : PixelRange → ℕ → ℕ → Bool
+in_pixel_range b x y = (int_le b.left (pos x) && int_lt (pos x) b.right) && (int_le b.top (pos y) && int_lt (pos y) b.bottom)
 
 -- whether pixel (x, y) lies in a box and above a row
-abbrev pub in_box_above : PixelBox → ℕ → ℕ → ℕ → Bool
-in_box_above b row x y = in_pixel_box b x y && nat_lt y row
+abbrev pub in_box_above : PixelRange → ℕ → ℕ → ℕ → Bool
+in_box_above b row x y = in_pixel_range b x y && nat_lt y row
 
 -- The columns of a row of a glyph are set from one on up to another, which isn't.
 pub record IsSetRun (g : FontGlyph) (row from to : ℕ) : Type 0 where

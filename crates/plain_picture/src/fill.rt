@@ -1,14 +1,15 @@
 //! Boxes of one colour.
 
 ghost use Rattle.std.specs.Prelude.{◌≡◌, ℕ, ◌*◌, ◌%◌, ◌<◌, ◌≤◌, ◌+◌, pos, ◌&&◌, int_lt, nat_lt, length, slice_index};
+ghost use Rattle.ass_num.specs.Limits.{IsFrameSize};
 ghost use Rattle.plain_picture.specs.Pictures.{channel};
-ghost use Rattle.plain_picture.specs.Squares.{AddsColour, in_pixel_box, in_row};
+ghost use Rattle.plain_picture.specs.Squares.{AddsColour, in_pixel_range, in_row};
 
 use ass_num::{Rgba, Size};
 
-/// A box of pixels, to which its right and its lower bound don't belong.
+/// The pixels from one column and one row up to others, which don't belong to it.
 #[derive(Clone, Copy)]
-pub struct PixelBox {
+pub struct PixelRange {
     pub left: i64,
     pub top: i64,
     pub right: i64,
@@ -28,24 +29,17 @@ fn fill_pixels(pixels: &mut [u8], colour: Rgba)
 }
 
 // A bound held within a side of the frame.
-fn held(bound: i64, side: u32) -> usize
+fn within_side(bound: i64, side: u32) -> usize
     ensures most { result ≤ side }
     ensures same { (i : ℕ) → i < side → nat_lt i result ≡ int_lt (pos i) bound }
 {
-    if bound <= 0 {
-        0
-    } else if bound >= i64::from(side) {
-        side as usize
-    } else {
-        bound as usize
-    }
+    bound.clamp(0, i64::from(side)) as usize
 }
 
 // Gives the colour to some columns of a row.
 fn fill_row(pixels: &mut [u8], size: &Size, row: usize, left: usize, right: usize, colour: Rgba)
     requires bytes { length pixels.old ≡ 3 * (size.now.w * size.now.h) }
-    requires wide { size.now.w ≤ 4096 }
-    requires high { size.now.h ≤ 4096 }
+    requires size { IsFrameSize size.now }
     requires row { row < size.now.h }
     requires order { left ≤ right }
     requires right { right ≤ size.now.w }
@@ -56,17 +50,16 @@ fn fill_row(pixels: &mut [u8], size: &Size, row: usize, left: usize, right: usiz
     fill_pixels(part, colour);
 }
 
-/// Gives the colour to the pixels of a frame that lie in a box.
-pub fn fill_box(pixels: &mut [u8], size: &Size, area: &PixelBox, colour: Rgba)
+/// Gives the colour to the pixels of a frame that lie in a range.
+pub fn fill_box(pixels: &mut [u8], size: &Size, area: &PixelRange, colour: Rgba)
     requires bytes { length pixels.old ≡ 3 * (size.now.w * size.now.h) }
-    requires wide { size.now.w ≤ 4096 }
-    requires high { size.now.h ≤ 4096 }
-    ensures { AddsColour (in_pixel_box area.now) colour size.now.w pixels.old pixels.new }
+    requires size { IsFrameSize size.now }
+    ensures { AddsColour (in_pixel_range area.now) colour size.now.w pixels.old pixels.new }
 {
-    let left = held(area.left, size.w);
-    let right = held(area.right, size.w).max(left);
-    let top = held(area.top, size.h);
-    let bottom = held(area.bottom, size.h);
+    let left = within_side(area.left, size.w);
+    let right = within_side(area.right, size.w).max(left);
+    let top = within_side(area.top, size.h);
+    let bottom = within_side(area.bottom, size.h);
     for row in top..bottom {
         fill_row(pixels, size, row, left, right, colour);
     }

@@ -1,11 +1,12 @@
 //! Glyphs of a small font, drawn as squares.
 
 ghost use Rattle.std.specs.Prelude.{◌≡◌, ℕ, ℤ, pos, negsuc, ◌+ℤ◌, ◌-ℤ◌, ◌*ℤ◌, ◌+◌, ◌*◌, ◌<◌, ◌≤◌, ◌≤ℤ◌, true, length};
+ghost use Rattle.ass_num.specs.Limits.{IsFrameSize};
 ghost use Rattle.plain_picture.specs.Pictures.{glyph_covers, is_set};
-ghost use Rattle.plain_picture.specs.Squares.{AddsColour, IsGap, IsSetRun, in_pixel_box, in_columns, is_set_before, squares};
-ghost use Rattle.plain_picture.specs.Pencils.{IsCount, IsPencil, IsSmall};
+ghost use Rattle.plain_picture.specs.Squares.{AddsColour, IsGap, IsSetRun, in_pixel_range, in_columns, is_set_before, squares};
+ghost use Rattle.plain_picture.specs.Pencils.{IsCount, IsPencil, IsSmall, past_frames};
 
-use crate::fill::{PixelBox, fill_box};
+use crate::fill::{PixelRange, fill_box};
 use ass_num::{Rgba, Size};
 use bdf_font::FontGlyph;
 
@@ -65,7 +66,7 @@ fn run_end(glyph: &FontGlyph, row: u32, from: u32) -> u32
 
 // A column or row so many squares from another.
 fn moved(start: u64, squares: i64, zoom: u32) -> i64
-    requires start { start ≤ 1000000000000 }
+    requires start { start ≤ past_frames }
     requires squares { IsCount squares }
     requires zoom { zoom ≤ 16 }
     ensures { result ≡ pos start +ℤ (squares *ℤ pos zoom) }
@@ -103,19 +104,19 @@ fn columns_box(
     row: u32,
     from: u32,
     to: u32,
-) -> PixelBox
+) -> PixelRange
     requires small { IsSmall glyph.now }
     requires pencil { IsPencil pencil }
-    requires pen { pen ≤ 1000000000000 }
+    requires pen { pen ≤ past_frames }
     requires row { row ≤ 64 }
     requires from { from ≤ 64 }
     requires to { to ≤ 64 }
-    ensures { (x y : ℕ) → in_pixel_box result x y ≡ squares pencil.zoom (pos pencil.ascent) glyph.now (pos pen) (in_columns row from to) x y }
+    ensures { (x y : ℕ) → in_pixel_range result x y ≡ squares pencil.zoom (pos pencil.ascent) glyph.now (pos pen) (in_columns row from to) x y }
 {
     let left = squares_before(glyph, from);
     let right = squares_before(glyph, to);
     let above = squares_above(glyph, pencil.ascent, row);
-    PixelBox {
+    PixelRange {
         left: moved(pen, left, pencil.zoom),
         top: moved(0, above, pencil.zoom),
         right: moved(pen, right, pencil.zoom),
@@ -126,11 +127,10 @@ fn columns_box(
 // Draws a row of the bitmap.
 fn draw_row(pixels: &mut [u8], size: &Size, glyph: &FontGlyph, pencil: Pencil, pen: u64, row: u32)
     requires bytes { length pixels.old ≡ 3 * (size.now.w * size.now.h) }
-    requires wide { size.now.w ≤ 4096 }
-    requires high { size.now.h ≤ 4096 }
+    requires size { IsFrameSize size.now }
     requires small { IsSmall glyph.now }
     requires pencil { IsPencil pencil }
-    requires pen { pen ≤ 1000000000000 }
+    requires pen { pen ≤ past_frames }
     requires row { row ≤ 64 }
     ensures { AddsColour (squares pencil.zoom (pos pencil.ascent) glyph.now (pos pen) (is_set_before glyph.now row glyph.now.w)) pencil.colour size.now.w pixels.old pixels.new }
 {
@@ -147,11 +147,10 @@ fn draw_row(pixels: &mut [u8], size: &Size, glyph: &FontGlyph, pencil: Pencil, p
 /// Draws a glyph whose pen stands at a column.
 pub fn draw_glyph(pixels: &mut [u8], size: &Size, glyph: &FontGlyph, pencil: Pencil, pen: u64)
     requires bytes { length pixels.old ≡ 3 * (size.now.w * size.now.h) }
-    requires wide { size.now.w ≤ 4096 }
-    requires high { size.now.h ≤ 4096 }
+    requires size { IsFrameSize size.now }
     requires small { IsSmall glyph.now }
     requires pencil { IsPencil pencil }
-    requires pen { pen ≤ 1000000000000 }
+    requires pen { pen ≤ past_frames }
     ensures { AddsColour (glyph_covers pencil.zoom (pos pencil.ascent) glyph.now (pos pen)) pencil.colour size.now.w pixels.old pixels.new }
 {
     for row in 0..glyph.h {

@@ -2,7 +2,8 @@
 
 ghost use Rattle.std.specs.Prelude.{◌≡◌, ℕ, pos, ◌+ℤ◌, ◌*ℤ◌, ◌+◌, ◌*◌, ◌<◌, ◌≤◌, true, length, replicate, IfOk, MatchOption};
 ghost use Rattle.std.specs.Str.{chars};
-ghost use Rattle.plain_picture.specs.Pencils.{IsPencil, IsSmall};
+ghost use Rattle.ass_num.specs.Limits.{IsFrameSize};
+ghost use Rattle.plain_picture.specs.Pencils.{IsPencil, IsSmall, past_frames};
 ghost use Rattle.plain_picture.specs.Pictures.{advance_of, covers, glyph_for, line_covers, picture, small_font};
 ghost use Rattle.plain_picture.specs.Squares.{AddsColour};
 
@@ -35,8 +36,7 @@ fn advance(glyph: &FontGlyph) -> u64
 
 // A black picture.
 fn black(alloc: Global, size: &Size) -> Mem<Vec<u8>>
-    requires wide { size.now.w ≤ 4096 }
-    requires high { size.now.h ≤ 4096 }
+    requires size { IsFrameSize size.now }
     ensures { IfOk result (λ pixels. pixels.items ≡ replicate (3 * (size.now.w * size.now.h)) 0) }
 {
     let count = 3 * (size.w as usize * size.h as usize);
@@ -46,11 +46,10 @@ fn black(alloc: Global, size: &Size) -> Mem<Vec<u8>>
 // Draws a character, and moves the pen by its advance.
 fn draw_char(pixels: &mut [u8], size: &Size, font: &Font, pencil: Pencil, pen: u64, c: char) -> u64
     requires bytes { length pixels.old ≡ 3 * (size.now.w * size.now.h) }
-    requires wide { size.now.w ≤ 4096 }
-    requires high { size.now.h ≤ 4096 }
+    requires size { IsFrameSize size.now }
     requires small { small_font font.now ≡ true }
     requires pencil { IsPencil pencil }
-    requires pen { pen ≤ 8192 }
+    requires pen { pen ≤ past_frames }
     ensures added { AddsColour (covers pencil.zoom (pos pencil.ascent) (glyph_for font.now c) (pos pen)) pencil.colour size.now.w pixels.old pixels.new }
     ensures pen { pos result ≡ pos pen +ℤ (pos pencil.zoom *ℤ advance_of (glyph_for font.now c)) }
     ensures few { result ≤ pen + 1024 }
@@ -67,8 +66,7 @@ fn draw_char(pixels: &mut [u8], size: &Size, font: &Font, pencil: Pencil, pen: u
 // Draws the characters of a line, the first of them with its pen at column 0.
 fn draw_line(pixels: &mut [u8], size: &Size, font: &Font, pencil: Pencil, text: &str)
     requires bytes { length pixels.old ≡ 3 * (size.now.w * size.now.h) }
-    requires wide { size.now.w ≤ 4096 }
-    requires high { size.now.h ≤ 4096 }
+    requires size { IsFrameSize size.now }
     requires small { small_font font.now ≡ true }
     requires pencil { IsPencil pencil }
     requires ascent { pos pencil.ascent ≡ font.now.ascent }
@@ -94,8 +92,7 @@ pub fn line_pixels(
     colour: Rgba,
     size: &Size,
 ) -> Mem<Vec<u8>>
-    requires wide { size.now.w ≤ 4096 }
-    requires high { size.now.h ≤ 4096 }
+    requires size { IsFrameSize size.now }
     requires small { small_font font.now ≡ true }
     requires some { 0 < zoom }
     requires few { zoom ≤ 16 }

@@ -8,8 +8,8 @@ pub loop-row-init : goal.loop-row-init
 loop-row-init c =
     let top : FitsSigned w64 c.args.area.now.top = search rules in
     adds-none c.args.size.now.w c.args.size.now.h c.args.pixels.now c.requires.bytes
-    (λ x y p q. box-begin c.args.area.now c.held-top.result c.args.size.now.h
-    (held_is _ _ _ _ (to_z-of_z w64 c.args.area.now.top top) c.held-top.ensures.same) x y q)
+    (λ x y p q. box-begin c.args.area.now c.within_side-top.result c.args.size.now.h
+    (held_is _ _ _ _ (to_z-of_z w64 c.args.area.now.top top) c.within_side-top.ensures.same) x y q)
 
 pub loop-row-preserved : goal.loop-row-preserved
 loop-row-preserved c =
@@ -18,20 +18,20 @@ loop-row-preserved c =
     let top : FitsSigned w64 c.args.area.now.top = search rules in
     let bottom : FitsSigned w64 c.args.area.now.bottom = search rules in
     adds-both c.args.size.now.w c.args.size.now.h c.args.pixels.now c.loop-row.pixels c.fill_row.new.pixels c.requires.bytes
-    (λ x y p q. box-row c.args.area.now c.held-left.result c.held.result c.max-right.result c.held-top.result c.held-bottom.result c.loop-row.row
+    (λ x y p q. box-row c.args.area.now c.within_side-left.result c.within_side.result c.max-right.result c.within_side-top.result c.within_side-bottom.result c.loop-row.row
     c.args.size.now.w c.args.size.now.h c.max-right.ensures
-    (held_is _ _ _ _ (to_z-of_z w64 c.args.area.now.left left) c.held-left.ensures.same)
-    (held_is _ _ _ _ (to_z-of_z w64 c.args.area.now.right right) c.held.ensures.same)
-    (held_is _ _ _ _ (to_z-of_z w64 c.args.area.now.top top) c.held-top.ensures.same)
-    (held_is _ _ _ _ (to_z-of_z w64 c.args.area.now.bottom bottom) c.held-bottom.ensures.same)
+    (held_is _ _ _ _ (to_z-of_z w64 c.args.area.now.left left) c.within_side-left.ensures.same)
+    (held_is _ _ _ _ (to_z-of_z w64 c.args.area.now.right right) c.within_side.ensures.same)
+    (held_is _ _ _ _ (to_z-of_z w64 c.args.area.now.top top) c.within_side-top.ensures.same)
+    (held_is _ _ _ _ (to_z-of_z w64 c.args.area.now.bottom bottom) c.within_side-bottom.ensures.same)
     (omega arith) (omega arith) x y p q)
     c.loop-row.invariant c.fill_row.ensures
 
 pub returns : goal.returns
 returns c =
     let bottom : FitsSigned w64 c.args.area.now.bottom = search rules in
-    let last : c.held-bottom.result ≤ c.loop-row.row = omega arith in
+    let last : c.within_side-bottom.result ≤ c.loop-row.row = omega arith in
     adds-same c.args.size.now.w c.args.size.now.h c.args.pixels.now c.loop-row.pixels c.requires.bytes
-    (λ x y p q. box-end c.args.area.now c.held-bottom.result c.loop-row.row c.args.size.now.h last
-    (held_is _ _ _ _ (to_z-of_z w64 c.args.area.now.bottom bottom) c.held-bottom.ensures.same) x y q)
+    (λ x y p q. box-end c.args.area.now c.within_side-bottom.result c.loop-row.row c.args.size.now.h last
+    (held_is _ _ _ _ (to_z-of_z w64 c.args.area.now.bottom bottom) c.within_side-bottom.ensures.same) x y q)
     c.loop-row.invariant

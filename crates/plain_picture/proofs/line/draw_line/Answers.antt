@@ -44,5 +44,5 @@ returns-then-pen-ge-PAST_FRAMES c =
     let so_far = YieldsList-so_far (YieldsList-from_chars c.args.text.now c.utf8.text cc) c.loop-c.yielded _ c.loop-c.yielded_by in
     adds-same c.args.size.now.w c.args.size.now.h c.args.pixels.now c.loop-c.pixels c.requires.bytes
     (λ x y p q. sym (line-cut c.args.font.now c.args.pencil.zoom (chars c.args.text.now) c.loop-c.yielded x y c.requires.small
-    c.requires.pencil.some c.requires.pencil.few (sym (map-id c.loop-c.yielded) ∙ so_far) (rw (← c.loop-c.invariant.pen) far) (omega (arith, p, c.requires.wide))))
+    c.requires.pencil.some c.requires.pencil.few (sym (map-id c.loop-c.yielded) ∙ so_far) (rw (← c.loop-c.invariant.pen) far) (omega (arith, p, c.requires.size.wide))))
     c.loop-c.invariant.added
