@@ -80,18 +80,11 @@ def crates_of():
 
 
 def marks(score, reach):
-    reached = reach.closure(root for crate in reach.crates for root in reach.roots(crate))
-    public = spec_marks.files_of(reached)
-    for name, crate in reach.crates.items():
-        for path, spec in crate.specs.items():
-            word = "Public" if (name, path) in public else "Inner"
-            right = spec_marks.marked(spec.first, word) or f"-- {word}: ..\n{spec.first}"
-            where = os.path.relpath(spec.file, TOP)
-            if writes("marks") and spec.first != right:
-                text = read(where)
-                write(where, right + text[len(spec.first):])
-                spec.first = right
-            score.check(spec.first == right, where, f"the first line isn't marked {word}")
+    files, _, _ = spec_marks.right_lines(reach)
+    for _, _, spec, lines in files:
+        if writes("marks") and spec.first not in lines:
+            spec_marks.mark(spec, lines[0])
+        score.check(spec.first in lines, os.path.relpath(spec.file, TOP), f"its first line should be: {lines[0]}")
 
 
 def trusted(reach):

@@ -4,10 +4,11 @@
 usage: python3 tools/spec_marks.py [--write] [--why] [CRATE..]
 
 A file is public where a definition in it is reached from the contract of a public call of some crate, or from what
-contracts see of a public type (its view, its invariant, the ghost items of its traits), directly or through other
-definitions. Any other file is inner: it has words of private functions and of proofs alone. The first line of a
-public file begins with `-- Public: `, that of an inner one with `-- Inner: `; --write puts the right word there and
-keeps the text. --why shows by what each public file is reached.
+contracts see of a public type (its values, its invariant, the ghost items of its traits), directly or through other
+definitions. Any other file is inner: it has words of private functions and of proofs alone. What only the view of a type
+reaches, which says what its private fields mean, may be called either. The first line of a public file begins with
+`-- Public: `, that of an inner one with `-- Inner: `; --write puts the right word there and keeps the text. --why shows
+by what each public file is reached.
 
 Its limits: it reads texts, not meanings. A call counts as public where lib.rt exports it by `pub use` or `pub mod`.
 A name in a clause stands for what the file's `use` lines or the file itself say of it, even where a bound variable
@@ -392,7 +393,7 @@ class Reach:
             if item.kind == "fn" and item.name == name:
                 yield from self.contract(crate, module, item)
 
-    def roots(self, crate_name):
+    def roots(self, crate_name, views=True):
         """What the public calls and types of a crate name: pairs of who names it and what is named."""
         crate = self.crates[crate_name]
         exported = crate.exports()
@@ -410,6 +411,8 @@ class Reach:
                 if of not in shown and trait not in shown:
                     continue
                 for inner in item.items:
+                    if not views and re.match(r"view\b", inner.head):
+                        continue
                     if (inner.kind == "fn" and (inner.public or trait)) or (
                             inner.kind == "ghost" and not inner.head.startswith("use ")):
                         for node in self.contract(crate, module, inner):
@@ -448,6 +451,20 @@ def files_of(reached):
     return found
 
 
+def right_lines(reach):
+    """The first lines that each file may have: pairs of a file and its lines, the one to be written first."""
+    every = reach.closure(root for crate in reach.crates for root in reach.roots(crate))
+    called = reach.closure(root for crate in reach.crates for root in reach.roots(crate, views=False))
+    public, seen = files_of(every), files_of(called)
+    found = []
+    for name, crate in reach.crates.items():
+        for path, spec in sorted(crate.specs.items()):
+            words = ["Public"] if (name, path) in seen else ["Public", "Inner"] if (name, path) in public else ["Inner"]
+            lines = [marked(spec.first, word) or f"-- {word}: ..\n{spec.first}" for word in words]
+            found.append((name, path, spec, lines))
+    return found, every, public
+
+
 def chain(reached, node):
     steps = []
     while isinstance(node, tuple):
@@ -470,35 +487,34 @@ def marked(line, word):
 def main():
     words = sys.argv[1:]
     chosen = [w for w in words if not w.startswith("-")]
-    reach = Reach()
-    reached = reach.closure(root for crate in reach.crates for root in reach.roots(crate))
-    public = files_of(reached)
+    files, reached, public = right_lines(Reach())
     passed = failed = 0
-    for name, crate in reach.crates.items():
+    for name, path, spec, lines in files:
         if chosen and name not in chosen:
             continue
-        for path, spec in sorted(crate.specs.items()):
-            word = "Public" if (name, path) in public else "Inner"
-            right = marked(spec.first, word)
-            if right is None:
-                right = f"-- {word}: ..\n{spec.first}"
-            where = os.path.relpath(spec.file, TOP)
-            if spec.first == right:
-                passed += 1
-            elif "--write" in words:
-                with open(spec.file, encoding="utf-8") as f:
-                    rest = f.read()[len(spec.first):]
-                with open(spec.file, "w", encoding="utf-8") as f:
-                    f.write(right + rest)
-                print(f"{where}: {right}")
-                passed += 1
-            else:
-                print(f"{where}: is {word.lower()}: {spec.first}")
-                failed += 1
-            if "--why" in words and word == "Public":
-                print(f"  {chain(reached, public[(name, path)])}")
+        where = os.path.relpath(spec.file, TOP)
+        if spec.first in lines:
+            passed += 1
+        elif "--write" in words:
+            mark(spec, lines[0])
+            print(f"{where}: {lines[0]}")
+            passed += 1
+        else:
+            print(f"{where}: its first line should be: {lines[0]}")
+            failed += 1
+        if "--why" in words and (name, path) in public:
+            print(f"  {chain(reached, public[(name, path)])}")
     print(f"{passed} passed, {failed} failed")
     return failed > 0
+
+
+def mark(spec, line):
+    """Writes a first line."""
+    with open(spec.file, encoding="utf-8") as f:
+        rest = f.read()[len(spec.first):]
+    with open(spec.file, "w", encoding="utf-8") as f:
+        f.write(line + rest)
+    spec.first = line
 
 
 if __name__ == "__main__":
