@@ -6,9 +6,9 @@ usage: python3 tools/spec_marks.py [--write] [--why] [CRATE..]
 A file is public where a definition in it is reached from the contract of a public call of some crate, or from what
 contracts see of a public type (its values, its invariant, the ghost items of its traits), directly or through other
 definitions. Any other file is inner: it has words of private functions and of proofs alone. What only the view of a type
-reaches, which says what its private fields mean, may be called either. The first line of a public file begins with
-`-- Public: `, that of an inner one with `-- Inner: `; --write puts the right word there and keeps the text. --why shows
-by what each public file is reached.
+reaches, which says what its private fields mean, may be called either, and so may what nothing cites so far. The first
+line of a public file begins with `-- Public: `, that of an inner one with `-- Inner: `; --write puts the right word there
+and keeps the text. --why shows by what each public file is reached.
 
 Its limits: it reads texts, not meanings. A call counts as public where lib.rt exports it by `pub use` or `pub mod`.
 A name in a clause stands for what the file's `use` lines or the file itself say of it, even where a bound variable
@@ -368,7 +368,7 @@ class Reach:
         for text in texts:
             yield from self.words(text, names, modules, {}, crate.name, "")
 
-    def of_type(self, crate_name, name):
+    def of_type(self, crate_name, name, views=True):
         """What contracts see of a type: the ghost items of its impls."""
         crate = self.crates[crate_name]
         for module, items in crate.files.items():
@@ -376,7 +376,8 @@ class Reach:
                 if item.kind == "impl" and not item.test and target_of(item.head)[0] == name:
                     for inner in item.items:
                         if inner.kind == "ghost" and not inner.head.startswith("use "):
-                            yield from self.contract(crate, module, inner)
+                            if views or not re.match(r"view\b", inner.head):
+                                yield from self.contract(crate, module, inner)
 
     def of_trait(self, crate_name, name):
         crate = self.crates[crate_name]
@@ -418,7 +419,7 @@ class Reach:
                         for node in self.contract(crate, module, inner):
                             yield f"{crate_name}::{of}::{inner.name or 'view'}", node
 
-    def closure(self, roots):
+    def closure(self, roots, views=True):
         """All nodes that are reached, each with the one that it was reached from."""
         reached, todo = {}, []
         for who, node in roots:
@@ -429,7 +430,7 @@ class Reach:
             node = todo.pop()
             kind, crate, path, name = node
             if kind == "type":
-                nexts = self.of_type(crate, name)
+                nexts = self.of_type(crate, name, views)
             else:
                 spec = self.crates[crate].specs[path]
                 texts = [d.text for d in spec.definitions] if kind == "file" else [spec.by_name[name].text]
@@ -451,15 +452,28 @@ def files_of(reached):
     return found
 
 
+def all_texts():
+    """What all files of code, specs and proofs say."""
+    texts = []
+    for at, folders, files in os.walk(os.path.join(TOP, "crates")):
+        folders[:] = [f for f in folders if f != "out"]
+        for file in files:
+            if file.endswith((".rt", ".antt")):
+                with open(os.path.join(at, file), encoding="utf-8") as f:
+                    texts.append(f.read())
+    return "\n".join(texts)
+
+
 def right_lines(reach):
     """The first lines that each file may have: pairs of a file and its lines, the one to be written first."""
     every = reach.closure(root for crate in reach.crates for root in reach.roots(crate))
-    called = reach.closure(root for crate in reach.crates for root in reach.roots(crate, views=False))
-    public, seen = files_of(every), files_of(called)
+    called = reach.closure((root for crate in reach.crates for root in reach.roots(crate, False)), False)
+    public, seen, cited = files_of(every), files_of(called), all_texts()
     found = []
     for name, crate in reach.crates.items():
         for path, spec in sorted(crate.specs.items()):
-            words = ["Public"] if (name, path) in seen else ["Public", "Inner"] if (name, path) in public else ["Inner"]
+            either = (name, path) in public or f"Rattle.{name}.specs.{path}." not in cited
+            words = ["Public"] if (name, path) in seen else ["Public", "Inner"] if either else ["Inner"]
             lines = [marked(spec.first, word) or f"-- {word}: ..\n{spec.first}" for word in words]
             found.append((name, path, spec, lines))
     return found, every, public
