@@ -5,10 +5,10 @@ usage: python3 tools/spec_marks.py [--write] [--why] [CRATE..]
 
 A file is public where a definition in it is reached from the contract of a public call of some crate, or from what
 contracts see of a public type (its values, its invariant, the ghost items of its traits), directly or through other
-definitions. Any other file is inner: it has words of private functions and of proofs alone. What only the view of a type
-reaches, which says what its private fields mean, may be called either, and so may what nothing cites so far. The first
-line of a public file begins with `-- Public: `, that of an inner one with `-- Inner: `; --write puts the right word there
-and keeps the text. --why shows by what each public file is reached.
+definitions. Any other file is inner: it has words of private functions and of proofs alone. What only the view of a
+type reaches, which says what its private fields mean, may be called either, and so may what nothing cites so far. The
+first line of a public file begins with `-- Public: `, that of an inner one with `-- Inner: `; --write puts the right
+word there and keeps the text. --why shows by what each public file is reached.
 
 Its limits: it reads texts, not meanings. A call counts as public where lib.rt exports it by `pub use` or `pub mod`.
 A name in a clause stands for what the file's `use` lines or the file itself say of it, even where a bound variable

@@ -1,4 +1,4 @@
--- Texts without the blanks at their ends.
+-- Public: texts without the blanks at their ends.
 use Rattle.std.specs.Prelude.{ℕ, ◌-◌, List, length, take, drop}
 use Rattle.std.specs.List.{prefix_len, suffix_len}
 use Rattle.ass_num.specs.Numerals.{is_blank}
