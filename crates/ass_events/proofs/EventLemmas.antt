@@ -21,7 +21,7 @@ use Rattle.ass_events.specs.Cuts.{pieces_of}
 use Rattle.ass_events.specs.Numbers.{order_of, whole_or_zero, instant_of}
 use Rattle.ass_events.specs.Fields.{FieldValues, no_fields, Column, columns_from, columns_of, column_put, field_put, examined, HaveUtf8}
 use Rattle.ass_events.specs.Plain.{plain, Reads}
-use Rattle.ass_events.specs.Events.{IsChunkAnswer, chunk_format, is_time, event_at, timed, with_time, event_of, chunked, line_made, line_event}
+use Rattle.ass_events.specs.Events.{IsChunkAnswer, chunk_format, is_time, event_at, timed, with_time, event_of, fault_of, chunked, line_made, line_event}
 use Rattle.ass_events.specs.Ranges.{IsName}
 use Rattle.ass_events.proofs.NumberLemmas.{IsLineTime, number_small, order_small, instant_small}
 use Rattle.ass_events.proofs.PieceLemmas.{EachUtf8, EachPlain, pieces_plain, pieces_utf8, joined_utf8}
@@ -269,6 +269,22 @@ pub chunk_have_utf8 : (bytes : List ℕ) (fields : FieldValues) → IsUtf8 bytes
 chunk_have_utf8 bytes fields utf8 said =
     let t = chunk_texts bytes fields utf8 said in
     record { style = t.style.utf8; name = t.name.utf8; effect = t.effect.utf8; text = t.text }
+
+-- ---- the event of a line
+
+pub event_refused : (format : List EventField) (i : ℕ) (line : List ℕ) (refusal : ChunkRefusal) → Reads (Err refusal) (examined (columns_of format line) no_fields) → IsChunkAnswer {Value = Event} (Err refusal) (line_event format i line)
+unfolding line_event
+event_refused format i line (Malformed f place) said = ap (line_made i) said
+event_refused format i line OutOfMemory said = tt
+
+pub fault_read : (format : List EventField) (i : ℕ) (line : List ℕ) (refusal : ChunkRefusal) → Reads (Err refusal) (examined (columns_of format line) no_fields) → fault_of (Err refusal) ≡ fault_of (line_event format i line)
+unfolding line_event
+fault_read format i line (Malformed f place) said = sym (ap (λ z. fault_of (line_made i z)) said)
+fault_read format i line OutOfMemory said = absurd said
+
+pub no_fault : (format : List EventField) (i : ℕ) (line : List ℕ) (fields : FieldValues) → examined (columns_of format line) no_fields ≡ Ok fields → None ≡ fault_of (line_event format i line)
+unfolding line_event
+no_fault format i line fields said = sym (ap (λ z. fault_of (line_made i z)) said)
 
 -- ---- the chunk of a line
 

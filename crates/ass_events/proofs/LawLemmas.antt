@@ -1,6 +1,6 @@
 -- Events are written and read back.
 use Rattle.std.proofs.Common.{◌≡◌, ℕ, suc, ◌-◌, ◌+◌, ◌<◌, ◌≤◌, ◌^◌, Bool, true, false, not, cond, List, [], ◌∷◌, ◌++◌, length, get_or, Some, Result, Ok, Err, ℤ, pos, negsuc, refl, sym, ap, ◌∙◌, subst, arith}
-use Rattle.std.specs.Prelude.{option_and_then, slice_get}
+use Rattle.std.specs.Prelude.{option_and_then, slice_get, IfOk}
 use Rattle.std.specs.Option.{option_map_or}
 use Rattle.std.specs.Fmt.{decimal, signed_decimal}
 use Rattle.std.specs.Str.{IsUtf8, is_utf8}
@@ -25,8 +25,8 @@ use Rattle.ass_script.specs.Scripts.{ScriptValue}
 use Rattle.ass_script.specs.Ranges.{IsScript}
 use Rattle.ass_events.specs.Cuts.{pieces_of}
 use Rattle.ass_events.specs.Numbers.{order_of, whole_or_zero}
-use Rattle.ass_events.specs.Fields.{FieldValues, no_fields, columns_from, columns_of, field_put, examined}
-use Rattle.ass_events.specs.Events.{chunk_format, is_time, event_at, timed, with_time, event_of, chunk_bytes, duration_between, line_made, line_event, event_of_line}
+use Rattle.ass_events.specs.Fields.{FieldValues, no_fields, columns_from, columns_of, field_put, examined, HaveUtf8}
+use Rattle.ass_events.specs.Events.{IsChunkAnswer, chunk_format, is_time, event_at, timed, with_time, event_of, chunk_bytes, duration_between, line_made, line_event, event_of_line}
 use Rattle.ass_events.specs.Ranges.{IsEvent}
 use Rattle.ass_events.proofs.NumberLemmas.{IsLineTime, order-decimal, number-signed_decimal, decimal_no_comma, signed_no_comma}
 use Rattle.ass_events.proofs.PieceLemmas.{joined_utf8}
@@ -113,9 +113,22 @@ line_is_event format i line event ends small utf8 e = cases (examined (columns_o
         (record { style = t.style; name = t.name; effect = t.effect; text = t.text })
         (instant_is_time fields.start r.start) (between_is_time fields.start fields.end r.start r.last))
 
+-- the texts of a line in UTF-8 are
+pub line_have_utf8 : (format : List EventField) (line : List ℕ) (fields : FieldValues) → ends_in_text format ≡ true → IsUtf8 line → examined (columns_of format line) no_fields ≡ Ok fields → HaveUtf8 fields
+line_have_utf8 format line fields text utf8 e =
+    let ends = text_ends format text in
+    let P : List EventField → Type 0 = λ z. examined (columns_of z line) no_fields ≡ Ok fields in
+    let t = fields_are_texts ends.0 line fields utf8 (subst P ends.1 e) in
+    record { style = t.style.utf8; name = t.name.utf8; effect = t.effect.utf8; text = t.text }
+
 pub line_gives_event : (script : ScriptValue) (i : ℕ) (event : Event) → IsScript script → i < length script.lines → event_of_line script i ≡ Ok event → IsEvent event
 line_gives_event script i event is inside e =
     line_is_event script.format i (get_or script.lines i []) event (text_ends script.format is.format) (omega (arith, is.few_lines)) (All-get_or IsUtf8 script.lines i [] inside is.lines) e
+
+-- a call that gives the event of such a line gives one within the ranges of events
+pub answer_is_event : (script : ScriptValue) (i : ℕ) (r : Result Event ChunkRefusal) → IsScript script → i < length script.lines → IsChunkAnswer r (event_of_line script i) → IfOk r IsEvent
+answer_is_event script i (Ok event) is inside answer = line_gives_event script i event is inside answer
+answer_is_event script i (Err refusal) is inside answer = tt
 
 -- ---- written and read back
 

@@ -1,5 +1,5 @@
 -- Events, and the chunks that give them.
-use Rattle.std.specs.Prelude.{◌≡◌, ℕ, ℤ, pos, ◌-ℤ◌, int_le, slice_index_or, Bool, not, ◌&&◌, if◌then◌else◌, List, [], ◌∷◌, length, Result, Ok, Err}
+use Rattle.std.specs.Prelude.{◌≡◌, ℕ, ℤ, pos, ◌-ℤ◌, int_le, slice_index_or, Bool, not, ◌&&◌, if◌then◌else◌, List, [], ◌∷◌, length, Option, Some, None, Result, Ok, Err}
 use Rattle.std.specs.List.{join_with_byte}
 use Rattle.ass_num.specs.Bytes.{comma}
 use Rattle.ass_num.specs.Limits.{max_instant}
@@ -93,6 +93,16 @@ line_event format i line = line_made i (examined (columns_of format line) no_fie
 -- the event of the Dialogue line at `i` of a script
 abbrev pub event_of_line : ScriptValue → ℕ → Result Event ChunkRefusal
 event_of_line script i = line_event script.format i (slice_index_or script.lines i [])
+
+-- the first field that refuses and its place, where there is no event
+abbrev pub fault_of : Result Event ChunkRefusal → Option (EventField × ℕ)
+fault_of (Ok event) = None
+fault_of (Err (Malformed f place)) = Some (f, place)
+fault_of (Err OutOfMemory) = None
+
+-- the first field of the Dialogue line at `i` of a script that can't be read or is missing, and its place
+abbrev pub line_fault : ScriptValue → ℕ → Option (EventField × ℕ)
+line_fault script i = fault_of (event_of_line script i)
 
 abbrev pub chunked : Result Event ChunkRefusal → Result Chunk ChunkRefusal
 chunked (Ok event) = Ok (chunk_made event)

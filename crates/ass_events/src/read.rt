@@ -55,16 +55,22 @@ pub fn read_chunk(
     if !is_time(duration) {
         return Err(ChunkRefusal::Malformed(EventField::Duration, bytes.len()));
     }
-    Ok(event(alloc, &fields, start, duration)?)
+    Ok(event(alloc, fields.order, &fields, start, duration)?)
 }
 
-/// The event of these fields, whose texts are copied.
-fn event(alloc: Global, fields: &Fields, start: i64, duration: i64) -> Mem<Event>
+/// The event of these fields with this ReadOrder, whose texts are copied.
+pub fn event(
+    alloc: Global,
+    order: u32,
+    fields: &Fields,
+    start: i64,
+    duration: i64,
+) -> Mem<Event>
     requires { HaveUtf8 (plain fields.now) }
-    ensures { IfOk result (λ event. event ≡ event_at start duration (plain fields.now)) }
+    ensures { IfOk result (λ event. event ≡ event_at start duration (record (plain fields.now) { order = order })) }
 {
     Ok(Event {
-        order: fields.order,
+        order,
         layer: fields.layer,
         style: text(alloc, fields.style)?,
         name: text(alloc, fields.name)?,

@@ -1,5 +1,6 @@
 -- What is picked from a list where one more stands at its end.
-use Rattle.std.proofs.Common.{◌≡◌, ℕ, suc, ◌+◌, Bool, true, false, cond, not, ◌||◌, List, [], ◌∷◌, ◌++◌, length, Some, None, refl, ap, ◌∙◌, arith, zero-add}
+use Rattle.std.proofs.Common.{◌≡◌, ℕ, suc, ◌+◌, Bool, true, false, cond, not, ◌||◌, List, [], ◌∷◌, ◌++◌, length, ◌<◌, Option, Some, None, refl, ap, ◌∙◌, subst, arith, zero-add}
+use Rattle.std.specs.Prelude.{IfSome}
 use Rattle.std.specs.List.{position_or_len, list_any}
 use Rattle.std.specs.Option.{option_or}
 use Rattle.std.specs.Str.{bytes_eq}
@@ -38,3 +39,22 @@ named_more n name (x ∷ xs) style = ap (λ o. option_or o (cond (bytes_eq x.nam
 
 pub last_named_more : (name : List ℕ) (styles : List Style) (style : Style) → last_named name (styles ++ style ∷ []) ≡ cond (bytes_eq style.name name) (Some (length styles)) (last_named name styles)
 last_named_more name styles style = named_more 0 name styles style ∙ ap (λ (k : ℕ). cond (bytes_eq style.name name) (Some k) (last_named name styles)) (zero-add (length styles))
+
+-- the last style of a name stands among the styles
+named_within : (n : ℕ) (name : List ℕ) (styles : List Style) → IfSome (last_named_from n name styles) (λ k. k < n + length styles)
+named_within n name [] = tt
+named_within n name (x ∷ xs) = either (last_named_from (n + 1) name xs) (bytes_eq x.name name) (named_within (n + 1) name xs)
+  where
+    either : (o : Option ℕ) (b : Bool) → IfSome o (λ k. k < (n + 1) + length xs) → IfSome (option_or o (cond b (Some n) None)) (λ k. k < n + suc (length xs))
+    either (Some k) b inside = omega arith
+    either None true inside = omega arith
+    either None false inside = tt
+
+pub last_within : (name : List ℕ) (styles : List Style) → IfSome (last_named name styles) (λ k. k < length styles)
+last_within name styles =
+    let P : ℕ → Type 0 = λ m. IfSome (last_named name styles) (λ k. k < m) in
+    subst P (zero-add (length styles)) (named_within 0 name styles)
+
+pub or_within : (m : ℕ) (o p : Option ℕ) → IfSome o (λ k. k < m) → IfSome p (λ k. k < m) → IfSome (option_or o p) (λ k. k < m)
+or_within m (Some k) p first second = first
+or_within m None p first second = second

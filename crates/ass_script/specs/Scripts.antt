@@ -1,5 +1,5 @@
 -- The script that a text spells: what is picked from the list of all its lines.
-use Rattle.std.specs.Prelude.{◌≡◌, ℕ, ◌+◌, ◌*◌, ◌/◌, min, max, ◌==◌, ◌&&◌, ◌||◌, nat_le, not, Bool, true, false, if◌then◌else◌, List, [], ◌∷◌, ◌++◌, length, map, filter, codes, Option, Some, None, option_and_then, Result, Ok, Err, ℤ, pos, negsuc, int_lt}
+use Rattle.std.specs.Prelude.{◌≡◌, ℕ, ◌+◌, ◌*◌, ◌/◌, min, max, ◌==◌, ◌&&◌, ◌||◌, nat_le, not, Bool, true, false, if◌then◌else◌, List, [], ◌∷◌, ◌++◌, length, map, filter, codes, Option, Some, None, option_and_then, unwrap_or, slice_get, Result, Ok, Err, ℤ, pos, negsuc, int_lt}
 use Rattle.std.specs.List.{list_any}
 use Rattle.std.specs.Option.{option_or, option_map_or}
 use Rattle.std.specs.Str.{bytes_eq}
@@ -11,7 +11,7 @@ use Rattle.ass_num.specs.Names.{same_name}
 use Rattle.ass_script.specs.Words.{past_mark, bare_name}
 use Rattle.ass_num.specs.Wholes.{whole_of}
 use Rattle.ass_script.specs.Fields.{style_fields_of, usual_style_fields, event_fields_of, usual_event_fields, ends_in_text}
-use Rattle.ass_script.specs.Styles.{style_of}
+use Rattle.ass_script.specs.Styles.{built_in_style, style_of}
 use Rattle.ass_script.specs.Lines.{Line, lines_in_sections}
 use Rattle.ass_script.specs.declared.lines.Version.{Version}
 use Rattle.ass_script.specs.declared.lines.Version.TheVariants.{V4, V4Plus}
@@ -221,5 +221,9 @@ abbrev pub last_named : List ℕ → List Style → Option ℕ
 last_named name styles = last_named_from 0 name styles
 
 -- The place of the style that a name means: the last one of that name, or else the last one named `Default`; where there is none, the built-in style counts.
-abbrev pub style_named : List ℕ → List Style → Option ℕ
-style_named name styles = option_or (last_named (bare_name name) styles) (last_named (codes "Default") styles)
+abbrev pub style_place : List ℕ → List Style → Option ℕ
+style_place name styles = option_or (last_named (bare_name name) styles) (last_named (codes "Default") styles)
+
+-- the style that a name means
+abbrev pub style_for : List ℕ → ScriptValue → Style
+style_for name script = unwrap_or (option_and_then (slice_get script.styles) (style_place name script.styles)) built_in_style

@@ -1,10 +1,11 @@
 //! Scripts as values.
 
-ghost use Rattle.std.specs.Prelude.{◌≡◌, ◌<◌, ◌≤◌, List, ℕ, length, slice_index_or, [], IfOk};
+ghost use Rattle.std.specs.Prelude.{◌≡◌, ◌<◌, ◌≤◌, List, ℕ, length, slice_index_or, [], All, IfOk, IfSome};
 ghost use Rattle.std.specs.BTreeMap.{get_by_text};
-ghost use Rattle.ass_script.specs.Scripts.{last_named, style_named};
+ghost use Rattle.ass_script.specs.Ranges.{IsStyle};
+ghost use Rattle.ass_script.specs.Scripts.{last_named, style_for, style_place};
 
-use crate::style::Style;
+use crate::style::{Style, built_in_style};
 use crate::words::bare_name;
 use ass_num::{FlatLists, Items, Mem};
 use std::alloc::Global;
@@ -46,7 +47,7 @@ pub enum EventField {
 }
 
 /// A script: its header, its styles in the order of the text, the fields of its event lines, and what stands behind
-/// `Dialogue:` in each of them.
+/// `Dialogue:` in each of them. It holds the built-in style too.
 #[derive(Debug, Drop)]
 pub struct Script {
     header: Header,
@@ -54,18 +55,21 @@ pub struct Script {
     format: Items<EventField>,
     lines: FlatLists<u8>,
     places: BTreeMap<String, usize>,
+    built_in: Style,
 }
 
 impl Model for Script {
     ghost use Rattle.std.specs.Prelude.{◌≡◌, List, ℕ};
     ghost use Rattle.std.specs.BTreeMap.{get_by_text};
+    ghost use Rattle.ass_script.specs.Ranges.{IsStyle};
     ghost use Rattle.ass_script.specs.Scripts.{ScriptValue, last_named};
+    ghost use Rattle.ass_script.specs.Styles.{built_in_style};
 
     ghost Value = { ScriptValue };
 
     ghost view = { λ s. record { header = s.header; styles = s.styles; format = s.format; lines = s.lines } };
 
-    ghost invariant = { λ s. (name : List ℕ) → get_by_text s.places name ≡ last_named name s.styles };
+    ghost invariant = { λ s. ((name : List ℕ) → get_by_text s.places name ≡ last_named name s.styles) × (s.built_in ≡ built_in_style) × IsStyle s.built_in };
 }
 
 /// The place of the last style of each name.
@@ -92,12 +96,14 @@ impl Script {
         ensures { IfOk result (λ script. script ≡ record { header = header; styles = styles; format = format; lines = lines }) }
     {
         let places = places_of(alloc, styles.as_slice())?;
+        let built_in = built_in_style(alloc)?;
         Ok(Script {
             header,
             styles,
             format,
             lines,
             places,
+            built_in,
         })
     }
 
@@ -136,6 +142,17 @@ impl Script {
     {
         self.lines.get(i)
     }
+
+    /// The style that a name means: the one that `find_style` finds, or else the built-in style.
+    pub fn style_named(&self, name: &str) -> &Style
+        ensures style { result.now ≡ style_for name.now self.now }
+        ensures range { All IsStyle self.now.styles → IsStyle result.now }
+    {
+        match find_style(self, name) {
+            Some(place) => &self.styles()[place],
+            None => &self.built_in,
+        }
+    }
 }
 
 /// The place of the last style of a name.
@@ -148,7 +165,8 @@ fn place_of(script: &Script, name: &str) -> Option<usize>
 /// The place of the style that a name means: the last one of that name, without stars and blanks before it and blanks
 /// behind it, or else the last one named `Default`. `None` stands for the built-in style.
 pub fn find_style(script: &Script, name: &str) -> Option<usize>
-    ensures { result ≡ style_named name.now script.now.styles }
+    ensures place { result ≡ style_place name.now script.now.styles }
+    ensures within { IfSome result (λ place. place < length script.now.styles) }
 {
     place_of(script, bare_name(name)).or(place_of(script, "Default"))
 }

@@ -1,6 +1,7 @@
 -- The places of glyphs by their codes: sorted, and found by halving.
-use Rattle.std.proofs.Common.{◌≡◌, ℕ, ◌+◌, ◌<◌, ◌≤◌, ◌⊎◌, inl, inr, le_refl, ltb, List, [], ◌∷◌, length, get_or, Bool, true, false, cond, not, ◌&&◌, filter, Option, Some, None, refl, ap, sym, ◌∙◌, arith, ℤ, ◌≤ℤ◌, ◌<ℤ◌}
-use Rattle.std.specs.Prelude.{int_lt}
+use Rattle.std.proofs.Common.{◌≡◌, ℕ, suc, ◌+◌, ◌<◌, ◌≤◌, ◌⊎◌, inl, inr, le_refl, ltb, List, [], ◌∷◌, length, get_or, Bool, true, false, cond, not, ◌&&◌, filter, Option, Some, None, refl, ap, sym, ◌∙◌, arith, subst, zero-add, ℤ, pos, negsuc, ◌≤ℤ◌, ◌<ℤ◌}
+use Rattle.std.specs.Prelude.{int_lt, IfSome}
+use Rattle.std.specs.Option.{option_or}
 use Rattle.std.specs.List.Sorted.{IsPartitionPoint, IsPartitionedBy, IsStableByKey, ties}
 use Rattle.std.specs.Ordering.{int_cmp, int_eq, is_lt, is_eq}
 use Rattle.std.specs.declared.cmp.Ordering.TheVariants.{Less, Equal, Greater}
@@ -10,7 +11,7 @@ use Rattle.std.proofs.lemmas.Cmp.{int_cmp_total}
 use Rattle.std.proofs.lemmas.List.Sorted.{sorted_far, ranks_by}
 use Rattle.std.proofs.lemmas.List.Recursion.{found_at, found_nowhere}
 use Rattle.bdf_font.specs.declared.glyphs.FontGlyph.{FontGlyph}
-use Rattle.bdf_font.specs.Fonts.{place_from}
+use Rattle.bdf_font.specs.Fonts.{FontValue, place_from, place_of_default, glyph_of}
 use Rattle.bdf_font.specs.Places.{entries_from, first_at, IsInCodeOrder, IsIndex}
 
 first_at-entries : (n : ℕ) (code : ℤ) (glyphs : List FontGlyph) → first_at code (entries_from n glyphs) ≡ place_from n code glyphs
@@ -132,3 +133,35 @@ first_at-nowhere entries code at d order point other =
     sides k room (inr more) =
         let above = is_above code (get_or entries at d).0 (other (omega arith)) in
         eq_above (get_or entries k d).0 code (above_too (get_or entries at d).0 (get_or entries k d).0 code (rises entries order at k d more room) above)
+
+-- ---- the places that are found lie among the glyphs
+
+from_within : (n : ℕ) (code : ℤ) (glyphs : List FontGlyph) → IfSome (place_from n code glyphs) (λ k. k < n + length glyphs)
+from_within n code [] = tt
+from_within n code (g ∷ glyphs) = either (int_eq g.code code) (place_from (n + 1) code glyphs) (from_within (n + 1) code glyphs)
+  where
+    either : (b : Bool) (o : Option ℕ) → IfSome o (λ k. k < (n + 1) + length glyphs) → IfSome (cond b (Some n) o) (λ k. k < n + suc (length glyphs))
+    either true o inside = omega arith
+    either false (Some k) inside = omega arith
+    either false None inside = tt
+
+first_within : (code : ℤ) (glyphs : List FontGlyph) → IfSome (place_from 0 code glyphs) (λ k. k < length glyphs)
+first_within code glyphs =
+    let P : ℕ → Type 0 = λ m. IfSome (place_from 0 code glyphs) (λ k. k < m) in
+    subst P (zero-add (length glyphs)) (from_within 0 code glyphs)
+
+default_within : (code : Option ℤ) (glyphs : List FontGlyph) → IfSome (place_of_default code glyphs) (λ k. k < length glyphs)
+default_within None glyphs = tt
+default_within (Some code) glyphs = unless (int_eq code (negsuc 0)) (place_from 0 code glyphs) (first_within code glyphs)
+  where
+    unless : (b : Bool) (o : Option ℕ) → IfSome o (λ k. k < length glyphs) → IfSome (cond b None o) (λ k. k < length glyphs)
+    unless true o inside = tt
+    unless false o inside = inside
+
+pub glyph_within : (font : FontValue) (c : ℕ) → IfSome (glyph_of font c) (λ k. k < length font.glyphs)
+glyph_within font c = cases (int_eq (pos c) (negsuc 0)) (place_from 0 (pos c) font.glyphs) (place_of_default font.default_char font.glyphs) (first_within (pos c) font.glyphs) (default_within font.default_char font.glyphs)
+  where
+    cases : (b : Bool) (o p : Option ℕ) → IfSome o (λ k. k < length font.glyphs) → IfSome p (λ k. k < length font.glyphs) → IfSome (option_or (cond b None o) p) (λ k. k < length font.glyphs)
+    cases true o p first second = second
+    cases false (Some k) p first second = first
+    cases false None p first second = second

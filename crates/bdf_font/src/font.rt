@@ -1,6 +1,6 @@
 //! Fonts, and what is found in them.
 
-ghost use Rattle.std.specs.Prelude.{◌≡◌, ◌≤◌, length, IfOk};
+ghost use Rattle.std.specs.Prelude.{◌≡◌, ◌<◌, ◌≤◌, length, IfOk, IfSome};
 ghost use Rattle.std.specs.Option.{option_or};
 ghost use Rattle.ass_num.specs.Names.{same_name};
 ghost use Rattle.bdf_font.specs.Fonts.{glyph_of, font_named};
@@ -149,7 +149,8 @@ fn place_or(places: &[(i64, u32)], code: i64, default_place: Option<u32>) -> Opt
 
 /// The place of a character's glyph: of the first with its code, or else of the first with the default code.
 pub fn glyph(font: &Font, c: char) -> Option<u32>
-    ensures { result ≡ glyph_of font.now c }
+    ensures place { result ≡ glyph_of font.now c }
+    ensures within { IfSome result (λ place. place < length font.now.glyphs) }
 {
     let code = i64::from(u32::from(c));
     place_or(font.places.as_slice(), code, font.default_place)
@@ -170,7 +171,8 @@ fn is_named(font: &Font, name: &str) -> bool
 /// The place of the first font of this name, without regard to ASCII case, or else 0.
 pub fn find_font(set: &FontSet, name: &str) -> u32
     requires { length set.now.fonts ≤ max_fonts }
-    ensures { result ≡ font_named name.now set.now.fonts }
+    ensures place { result ≡ font_named name.now set.now.fonts }
+    ensures within { 0 < length set.now.fonts → result < length set.now.fonts }
 {
     for (place, font) in set.fonts.as_slice().iter().enumerate() {
         if is_named(font, name) {

@@ -1,13 +1,10 @@
 -- The report of a check (docs/PROGRAM.md).
-use Rattle.std.specs.Prelude.{ℕ, ◌+◌, List, [], ◌∷◌, ◌++◌, codes, decimal, flat_map, length, Result, Err}
+use Rattle.std.specs.Prelude.{ℕ, ◌+◌, List, [], ◌∷◌, ◌++◌, codes, decimal, flat_map, length, Option, Some, None}
 use Rattle.std.specs.List.{range_with_len}
 use Rattle.ass_script.specs.Scripts.{ScriptValue}
 use Rattle.ass_script.specs.declared.script.EventField.{EventField}
 use Rattle.ass_script.specs.declared.script.EventField.TheVariants as field
-use Rattle.ass_events.specs.Events.{chunk_of}
-use Rattle.ass_events.specs.declared.event.Chunk.{Chunk}
-use Rattle.ass_events.specs.declared.event.ChunkRefusal.{ChunkRefusal}
-use Rattle.ass_events.specs.declared.event.ChunkRefusal.TheVariants.{Malformed}
+use Rattle.ass_events.specs.Events.{line_fault}
 use Rattle.bdf_font.specs.Fonts.{FontValue}
 
 -- the name of a field of event lines
@@ -34,13 +31,13 @@ head_lines script =
     ++ codes "\nstyles " ++ decimal (length script.styles) ++ codes "\nlines " ++ decimal (length script.lines) ++ codes "\n"
 
 -- the line on the Dialogue line at `i`, if its fields can't all be read
-abbrev pub malformed_line : ℕ → Result Chunk ChunkRefusal → List ℕ
-malformed_line i (Err (Malformed f place)) = codes "malformed " ++ decimal i ++ codes " " ++ field_name f ++ codes " " ++ decimal place ++ codes "\n"
-malformed_line i _ = []
+abbrev pub malformed_line : ℕ → Option (EventField × ℕ) → List ℕ
+malformed_line i (Some (f, place)) = codes "malformed " ++ decimal i ++ codes " " ++ field_name f ++ codes " " ++ decimal place ++ codes "\n"
+malformed_line i None = []
 
 -- the lines on all malformed Dialogue lines, in order
 abbrev pub malformed_lines : ScriptValue → List ℕ
-malformed_lines script = flat_map (λ i. malformed_line i (chunk_of script i)) (range_with_len 0 (length script.lines))
+malformed_lines script = flat_map (λ i. malformed_line i (line_fault script i)) (range_with_len 0 (length script.lines))
 
 -- the line on the font at `i`
 abbrev pub font_report : ℕ → FontValue → List ℕ

@@ -1,14 +1,12 @@
 //! The report of a check.
 
-ghost use Rattle.std.specs.Prelude.{◌≡◌, ◌++◌, ◌<◌, length, Err, IfOk, OnOk, string_bytes};
-ghost use Rattle.ass_script.specs.Ranges.{IsScript};
-ghost use Rattle.ass_events.specs.Events.{chunk_of};
-ghost use Rattle.ass_events.specs.declared.event.ChunkRefusal.TheVariants.{Malformed};
+ghost use Rattle.std.specs.Prelude.{◌≡◌, ◌++◌, ◌<◌, length, IfOk, Some, OnOk, string_bytes};
+ghost use Rattle.ass_events.specs.Events.{line_fault};
 ghost use Rattle.check_report.specs.Reports.{check_text, font_report, font_reports, head_lines, malformed_line, malformed_lines};
 
 use crate::fields::field_name;
-use ass_events::{ChunkRefusal, chunk_of_line};
-use ass_num::{Mem, OutOfMemory};
+use ass_events::line_fault;
+use ass_num::Mem;
 use ass_script::{EventField, Script};
 use bdf_font::Font;
 use std::alloc::Global;
@@ -26,7 +24,7 @@ fn head_lines(alloc: Global, script: &Script) -> Mem<String>
 
 /// The line on a Dialogue line whose field can't be read.
 fn malformed_line(alloc: Global, i: usize, field: EventField, place: usize) -> Mem<String>
-    ensures { IfOk result (λ text. string_bytes text ≡ malformed_line i (Err (Malformed field place))) }
+    ensures { IfOk result (λ text. string_bytes text ≡ malformed_line i (Some (field, place))) }
 {
     let name = field_name(field);
     Ok(format!(in alloc; "malformed {i} {name} {place}\n")?)
@@ -34,24 +32,18 @@ fn malformed_line(alloc: Global, i: usize, field: EventField, place: usize) -> M
 
 /// Adds the line on a Dialogue line, if that one is malformed.
 fn add_malformed(alloc: Global, script: &Script, i: usize, report: &mut String) -> Mem<()>
-    requires script { IsScript script.now }
-    requires within { i < length script.now.lines }
-    ensures { OnOk result (string_bytes report.new ≡ string_bytes report.old ++ malformed_line i (chunk_of script.now i)) }
+    requires { i < length script.now.lines }
+    ensures { OnOk result (string_bytes report.new ≡ string_bytes report.old ++ malformed_line i (line_fault script.now i)) }
 {
-    match chunk_of_line(alloc, script, i) {
-        Ok(_) => Ok(()),
-        Err(ChunkRefusal::Malformed(field, place)) => {
-            let line = malformed_line(alloc, i, field, place)?;
-            report.push_str(line.as_str())?;
-            Ok(())
-        }
-        Err(ChunkRefusal::OutOfMemory) => Err(OutOfMemory),
+    if let Some((field, place)) = line_fault(script, i) {
+        let line = malformed_line(alloc, i, field, place)?;
+        report.push_str(line.as_str())?;
     }
+    Ok(())
 }
 
 /// Adds the lines on all malformed Dialogue lines.
 fn add_all_malformed(alloc: Global, script: &Script, report: &mut String) -> Mem<()>
-    requires { IsScript script.now }
     ensures { OnOk result (string_bytes report.new ≡ string_bytes report.old ++ malformed_lines script.now) }
 {
     for i in 0..script.line_count() {
@@ -85,7 +77,6 @@ fn add_fonts(alloc: Global, fonts: &[Font], report: &mut String) -> Mem<()>
 /// the byte at which it does, and a line `font I glyphs N` for each font.
 #[tactic(auto, unfolding(crate::specs::Reports::check_text))]
 pub fn check_report(alloc: Global, script: &Script, fonts: &[Font]) -> Mem<String>
-    requires { IsScript script.now }
     ensures { IfOk result (λ text. string_bytes text ≡ check_text script.now fonts.now) }
 {
     let mut report = head_lines(alloc, script)?;

@@ -2,7 +2,7 @@
 use Rattle.std.proofs.Common.{◌≡◌, ℕ, ℤ, pos, negsuc, ◌*◌, ◌/◌, ◌%◌, ◌<◌, ◌≤◌, Bool, true, false, ◌&&◌, ◌==◌, nat_le, length, Option, Some, None, Result, Ok, Err, IfOk, IfSome, if◌then◌else◌, refl, sym, ap, ◌∙◌, subst, arith}
 use Rattle.std.proofs.lemmas.Bool.Decides.{nat_tests}
 use Rattle.std.specs.Option.{option_map}
-use Rattle.ass_script.specs.Scripts.{ScriptValue}
+use Rattle.ass_script.specs.Scripts.{ScriptValue, style_for}
 use Rattle.ass_script.specs.Ranges.{IsScript}
 use Rattle.ass_script.specs.declared.style.Style.{Style}
 use Rattle.ass_events.specs.declared.event.Event.{Event}
@@ -14,7 +14,7 @@ use Rattle.bdf_font.specs.Fonts.{FontValue}
 use Rattle.plain_picture.specs.Pictures.{small_font}
 use Rattle.plain_form.specs.declared.line.PlainLine.{PlainLine}
 use Rattle.plain_form.specs.Drawables.{IsPlainDrawable, event_found}
-use Rattle.plain_form.specs.Forms.{font_height, is_for, plain_line_at, plain_line_in, line_of_event, plain_line_of, style_for, zoom_from, zoom_of}
+use Rattle.plain_form.specs.Forms.{font_height, is_for, plain_line_at, plain_line_in, line_of_event, plain_line_of, zoom_from, zoom_of}
 
 and-first : (a b : Bool) → (a && b) ≡ true → a ≡ true
 and-first true b e = refl
@@ -63,7 +63,7 @@ in-drawable s e font line event is =
 
 of-event : (script : ScriptValue) (font : FontValue) (r : Result Event ChunkRefusal) (line : PlainLine) → ((e : Event) → r ≡ Ok e → IsEvent e)
     → line_of_event script font r ≡ Some line → IsPlainDrawable font line
-of-event script font (Ok e) line event is = in-drawable (style_for script e) e font line (event e refl) is
+of-event script font (Ok e) line event is = in-drawable (style_for e.style script) e font line (event e refl) is
 of-event script font (Err refusal) line event is = cc
 
 -- What a script of the plain form shows can be drawn.
@@ -85,8 +85,8 @@ of-none script font (Ok e) none = cc
 of-none script font (Err refusal) none = refl
 
 of-some : (script : ScriptValue) (font : FontValue) (r : Result Event ChunkRefusal) (e : Event) → Some e ≡ event_found r
-    → line_of_event script font r ≡ plain_line_in (style_for script e) e font
-of-some script font (Ok d) e some = ap (λ (x : Event). plain_line_in (style_for script x) x font) (sym (same-some e d some))
+    → line_of_event script font r ≡ plain_line_in (style_for e.style script) e font
+of-some script font (Ok d) e some = ap (λ (x : Event). plain_line_in (style_for x.style script) x font) (sym (same-some e d some))
 of-some script font (Err refusal) e some = cc
 
 -- A call that gives what a script of the plain form shows gives what can be drawn.
@@ -104,6 +104,6 @@ without-event script font w h none =
 
 -- A script whose line gives an event shows what that shows.
 pub with-event : (script : ScriptValue) (font : FontValue) (w h : ℕ) (e : Event) → is_for script w h ≡ true → Some e ≡ event_found (event_of_line script 0)
-    → plain_line_of script font w h ≡ plain_line_in (style_for script e) e font
+    → plain_line_of script font w h ≡ plain_line_in (style_for e.style script) e font
 unfolding plain_line_of
 with-event script font w h e for some = rw for (of-some script font (event_of_line script 0) e some)

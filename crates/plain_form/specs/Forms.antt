@@ -6,7 +6,7 @@ use Rattle.std.specs.Option.{option_map, option_map_or}
 use Rattle.std.specs.Ordering.{int_eq}
 use Rattle.std.specs.Str.{chars}
 use Rattle.ass_num.specs.declared.colour.Rgba.{Rgba}
-use Rattle.ass_script.specs.Scripts.{ScriptValue, style_named}
+use Rattle.ass_script.specs.Scripts.{ScriptValue, style_for}
 use Rattle.ass_script.specs.declared.style.Style.{Style}
 use Rattle.ass_script.specs.Styles.{built_in_style}
 use Rattle.ass_events.specs.declared.event.Event.{Event}
@@ -48,10 +48,6 @@ abbrev pub zoom_of : ℤ → ℕ → Option ℕ
 zoom_of (pos size) height = zoom_from size (1000 * height)
 zoom_of (negsuc size) height = None
 
--- the style that an event's name for it means
-abbrev pub style_for : ScriptValue → Event → Style
-style_for script e = option_map_or (λ s. s) (option_map_or (slice_get script.styles) (style_named e.style script.styles) None) built_in_style
-
 -- the line of an event in a style
 abbrev pub plain_line_at : ℕ → Style → Event → PlainLine
 plain_line_at zoom s e = record { zoom = zoom; colour = primary_of s; text = e.text; start = e.start; duration = e.duration }
@@ -64,7 +60,7 @@ plain_line_in s e font =
     else None
 
 abbrev pub line_of_event : ScriptValue → FontValue → Result Event ChunkRefusal → Option PlainLine
-line_of_event script font (Ok e) = plain_line_in (style_for script e) e font
+line_of_event script font (Ok e) = plain_line_in (style_for e.style script) e font
 line_of_event script font (Err refusal) = None
 
 -- a script of one line, without wrapping, for a frame of this size

@@ -4,16 +4,15 @@ ghost use Rattle.std.specs.Prelude.{◌≡◌, ◌<◌, ◌&&◌, length, IfOk, 
 ghost use Rattle.std.specs.List.{list_all};
 ghost use Rattle.plain_picture.specs.Pictures.{small_font};
 ghost use Rattle.ass_script.specs.Ranges.{IsScript};
+ghost use Rattle.ass_script.specs.Scripts.{style_for};
 ghost use Rattle.ass_events.specs.Events.{event_of_line};
-ghost use Rattle.plain_form.specs.Forms.{is_at_corner, is_for, is_plain_byte, is_plain_style, plain_line_at, plain_line_in, plain_line_of, style_for};
+ghost use Rattle.plain_form.specs.Forms.{is_at_corner, is_for, is_plain_byte, is_plain_style, plain_line_at, plain_line_in, plain_line_of};
 ghost use Rattle.plain_form.specs.Drawables.{IsPlainDrawable, event_found};
 
 use crate::style::{is_at_corner, is_plain_style, is_plain_text, primary_of, zoom_of};
-use ass_events::{
-    ChunkRefusal, Event, chunk_of_line, lines_give_events, read_chunk, written_is_read_back,
-};
+use ass_events::{ChunkRefusal, Event, event_of_line};
 use ass_num::{Mem, OutOfMemory, Rgba, Size, Text};
-use ass_script::{Script, Style, find_style};
+use ass_script::{Script, Style};
 use bdf_font::Font;
 use plain_picture::is_small;
 use std::alloc::Global;
@@ -42,14 +41,7 @@ fn first_event(alloc: Global, script: &Script) -> Mem<Option<Event>>
     requires some { 0 < length script.now.lines }
     ensures { IfOk result (λ event. event ≡ event_found (event_of_line script.now 0)) }
 {
-    lines_give_events();
-    written_is_read_back();
-    let chunk = match chunk_of_line(alloc, script, 0) {
-        Ok(chunk) => chunk,
-        Err(ChunkRefusal::Malformed(_, _)) => return Ok(None),
-        Err(ChunkRefusal::OutOfMemory) => return Err(OutOfMemory),
-    };
-    match read_chunk(alloc, chunk.bytes.as_slice(), chunk.start, chunk.duration) {
+    match event_of_line(alloc, script, 0) {
         Ok(event) => Ok(Some(event)),
         Err(ChunkRefusal::Malformed(_, _)) => Ok(None),
         Err(ChunkRefusal::OutOfMemory) => Err(OutOfMemory),
@@ -97,15 +89,10 @@ fn plain_line_in(alloc: Global, style: &Style, event: &Event, font: &Font) -> Me
 
 // What an event of a script shows in a font.
 fn line_of(alloc: Global, script: &Script, event: &Event, font: &Font) -> Mem<Option<PlainLine>>
-    ensures { IfOk result (λ line. line ≡ plain_line_in (style_for script.now event.now) event.now font.now) }
+    ensures { IfOk result (λ line. line ≡ plain_line_in (style_for event.now.style script.now) event.now font.now) }
 {
-    match find_style(script, event.style.as_str()) {
-        Some(place) => match script.styles().get(place) {
-            Some(style) => plain_line_in(alloc, style, event, font),
-            None => Ok(None),
-        },
-        None => Ok(None),
-    }
+    let style = script.style_named(event.style.as_str());
+    plain_line_in(alloc, style, event, font)
 }
 
 /// What a script of the plain form shows with a font on a frame of this size; of another script, `None`.
