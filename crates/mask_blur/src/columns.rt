@@ -12,9 +12,8 @@ fn slide(to: &mut [u8], sums: &mut [u16], entering: &[u8], leaving: &[u8], means
     requires sums { length sums.old ≡ length to.old }
     requires entering { length entering.now ≡ length to.old }
     requires leaving { length leaving.now ≡ length to.old }
-    requires low { (k : ℕ) → k < length to.old → slice_index leaving.now k ≤ slice_index sums.old k + slice_index entering.now k }
-    requires high { (k : ℕ) → k < length to.old
-        → slice_index sums.old k + slice_index entering.now k ≤ 255 * (2 * means.now.radius + 1) + slice_index leaving.now k }
+    requires window { (k : ℕ) → k < length to.old → (slice_index leaving.now k ≤ slice_index sums.old k + slice_index entering.now k)
+        × (slice_index sums.old k + slice_index entering.now k ≤ 255 * (2 * means.now.radius + 1) + slice_index leaving.now k) }
     ensures sums { (k : ℕ) → k < length to.old
         → slice_index sums.new k + slice_index leaving.now k ≡ slice_index sums.old k + slice_index entering.now k }
     ensures means { (k : ℕ) → k < length to.old → slice_index to.new k ≡ mean means.now.radius (slice_index sums.new k) }

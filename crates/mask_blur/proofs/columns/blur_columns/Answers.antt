@@ -27,8 +27,8 @@ slice_bounds-slide-end c =
     let fits : k * w + w ≤ length c.loop-k.to = omega (arith, c.requires.room, rows) in
     search rules
 
-pub slide-requires-clause-low : goal.slide-requires-clause-low
-slide-requires-clause-low c = λ i h.
+pub slide-requires-clause-window : goal.slide-requires-clause-window
+slide-requires-clause-window c = λ i h.
     let r = c.args.means.now.radius in
     let w = length c.args.zeros.now in
     let k = c.loop-k.k in
@@ -41,27 +41,8 @@ slide-requires-clause-low c = λ i h.
     let shows : Shows (value_at m) (pos 0) (pos 0) w c.args.h c.args.from.now = mask_shows m in
     let column : i < w = omega (arith, part) in
     let last = leaves.ensures.row (value_at m) (pos 0) (pos 0) shows i column ∙ ap (λ n. value_at m (pos 0 +ℤ pos i) ((pos 0 +ℤ pos k) -ℤ pos (2 * n + 1))) c.radius-r.ensures.value in
-    let both = column_bounds m i k (2 * r + 1) (get_or c.loop-k.sums i 0) (get_or enters.result.now i 0) (get_or leaves.result.now i 0) (λ j. (c.type_inv.from j).fits)
-    ((c.loop-k.invariant (value_at m) (pos 0) (pos 0) shows).0 i column) (enters.ensures.row (value_at m) (pos 0) (pos 0) shows i column) last in
-    both.0
-
-pub slide-requires-clause-high : goal.slide-requires-clause-high
-slide-requires-clause-high c = λ i h.
-    let r = c.args.means.now.radius in
-    let w = length c.args.zeros.now in
-    let k = c.loop-k.k in
-    let enters = c.row_or_zeros-entering in
-    let leaves = c.row_or_zeros-leaving in
-    let rows : (k + 1) * w ≤ (c.args.h + 2 * r) * w = mul-le (k + 1) w (c.args.h + 2 * r) w (omega (arith, c.radius-r.ensures.value)) (omega arith) in
-    let fits : k * w + w ≤ length c.loop-k.to = omega (arith, c.requires.room, rows) in
-    let part = length_part (k * w) (k * w + w) c.loop-k.to fits in
-    let m : MaskValue = record { x = pos 0; y = pos 0; w = w; h = c.args.h; bytes = c.args.from.now } in
-    let shows : Shows (value_at m) (pos 0) (pos 0) w c.args.h c.args.from.now = mask_shows m in
-    let column : i < w = omega (arith, part) in
-    let last = leaves.ensures.row (value_at m) (pos 0) (pos 0) shows i column ∙ ap (λ n. value_at m (pos 0 +ℤ pos i) ((pos 0 +ℤ pos k) -ℤ pos (2 * n + 1))) c.radius-r.ensures.value in
-    let both = column_bounds m i k (2 * r + 1) (get_or c.loop-k.sums i 0) (get_or enters.result.now i 0) (get_or leaves.result.now i 0) (λ j. (c.type_inv.from j).fits)
-    ((c.loop-k.invariant (value_at m) (pos 0) (pos 0) shows).0 i column) (enters.ensures.row (value_at m) (pos 0) (pos 0) shows i column) last in
-    both.1
+    column_bounds m i k (2 * r + 1) (get_or c.loop-k.sums i 0) (get_or enters.result.now i 0) (get_or leaves.result.now i 0) (λ j. (c.type_inv.from j).fits)
+    ((c.loop-k.invariant (value_at m) (pos 0) (pos 0) shows).0 i column) (enters.ensures.row (value_at m) (pos 0) (pos 0) shows i column) last
 
 pub loop-k-preserved : goal.loop-k-preserved
 loop-k-preserved c = λ f x y shows.
