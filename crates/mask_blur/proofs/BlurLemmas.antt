@@ -1,11 +1,10 @@
 -- Blurred masks.
-use Rattle.std.proofs.Common.{◌≡◌, ℕ, ◌+◌, ◌*◌, ℤ, pos, ◌+ℤ◌, ◌-ℤ◌, true, List, ap, sym, ◌∙◌, arith}
+use Rattle.std.proofs.Common.{◌≡◌, ℕ, ◌*◌, ℤ, pos, ◌+ℤ◌, ◌-ℤ◌, true, ap, sym, ◌∙◌, arith}
 use Rattle.std.proofs.lemmas.Int.{ints}
 use Rattle.ass_num.specs.Coverage.{sum_from}
 use Rattle.ass_num.specs.Masks.{MaskValue, is_mask, value_at}
 use Rattle.mask_blur.specs.Blur.{smoothed, along_rows, along_columns, blurred, IsBlurred}
-use Rattle.mask_blur.specs.Shown.{Shows}
-use Rattle.mask_blur.proofs.GrowthLemmas.{value_none, mask_none, mask_some, box_kept, box_same, box_grown, grown_value}
+use Rattle.mask_blur.proofs.GrowthLemmas.{value_none, mask_none, box_kept, box_same}
 use Rattle.mask_blur.proofs.LineLemmas.{smoothed_zero}
 
 blurred_zero : (r : ℕ) (f : ℤ → ℤ → ℕ) → ((x y : ℤ) → f x y ≡ 0) → (x y : ℤ) → blurred r f x y ≡ 0
@@ -41,13 +40,3 @@ none_blurred r m canonical narrow = record {
 -- and so does any with the radius 0
 pub same_blurred : (r : ℕ) (m : MaskValue) → r ≡ 0 → IsBlurred r m m
 same_blurred r m none = rw none (record { value = λ x y. sym (blurred_alone (value_at m) x y); box = box_same m })
-
--- the mask of the blurred bytes
-pub is_blurred : (r : ℕ) (m : MaskValue) (x y : ℤ) (w h : ℕ) (bytes : List ℕ) → is_mask m ≡ true → (m.w ≡ 0 → ⊥)
-    → x ≡ m.x -ℤ pos (3 * r) → y ≡ m.y -ℤ pos (3 * r) → w ≡ m.w + 2 * (3 * r) → h ≡ m.h + 2 * (3 * r)
-    → Shows (blurred r (value_at m)) (m.x -ℤ pos (3 * r)) (m.y -ℤ pos (3 * r)) (m.w + 2 * (3 * r)) (m.h + 2 * (3 * r)) bytes
-    → IsBlurred r m (record { x = x; y = y; w = w; h = h; bytes = bytes })
-is_blurred r m x y w h bytes canonical wide a b c d shows = record {
-  value = grown_value (blurred r (value_at m)) (3 * r) m x y w h bytes a b c d shows;
-  box = box_grown (3 * r) m x y w h bytes (mask_some m canonical wide) a b c d;
-}

@@ -4,7 +4,7 @@ use Rattle.std.proofs.lemmas.Int.{ints}
 use Rattle.ass_num.specs.Masks.{MaskValue, is_mask, value_at}
 use Rattle.mask_blur.specs.Shown.{Shows}
 use Rattle.mask_blur.specs.Softening.{softer, softened, IsSoftened}
-use Rattle.mask_blur.proofs.GrowthLemmas.{value_none, mask_none, mask_some, box_kept, box_same, box_grown, grown_value}
+use Rattle.mask_blur.proofs.GrowthLemmas.{value_none, mask_none, box_kept, box_same}
 use Rattle.mask_blur.proofs.ShownLemmas.{shows_at}
 
 -- no pass
@@ -70,13 +70,3 @@ none_softened n m canonical narrow = record {
 pub same_softened : (n : ℕ) (m : MaskValue) → n ≡ 0 → IsSoftened n m m
 unfolding softened
 same_softened n m none = rw none (record { value = λ x y. refl; box = box_same m })
-
--- the mask of the softened bytes
-pub is_softened : (n : ℕ) (m : MaskValue) (x y : ℤ) (w h : ℕ) (bytes : List ℕ) → is_mask m ≡ true → (m.w ≡ 0 → ⊥)
-    → x ≡ m.x -ℤ pos n → y ≡ m.y -ℤ pos n → w ≡ m.w + 2 * n → h ≡ m.h + 2 * n
-    → Shows (softened n (value_at m)) (m.x -ℤ pos n) (m.y -ℤ pos n) (m.w + 2 * n) (m.h + 2 * n) bytes
-    → IsSoftened n m (record { x = x; y = y; w = w; h = h; bytes = bytes })
-is_softened n m x y w h bytes canonical wide a b c d shows = record {
-  value = grown_value (softened n (value_at m)) n m x y w h bytes a b c d shows;
-  box = box_grown n m x y w h bytes (mask_some m canonical wide) a b c d;
-}

@@ -8,7 +8,7 @@ ghost use Rattle.mask_blur.specs.Shown.{Shows};
 ghost use Rattle.mask_blur.specs.Blur.{blurred, IsBlurred};
 
 use crate::columns::blur_columns_thrice;
-use crate::copies::copy_of;
+use crate::copies::{copy_of, grown};
 use crate::lines::blur_rows;
 use crate::means::Means;
 use ass_num::{Mask, Mem};
@@ -58,12 +58,5 @@ pub fn box_blur(alloc: Global, mask: &Mask, r: u32) -> Mem<Mask>
         mask.h() as usize,
         &Means::new(r),
     )?;
-    let reach = 3 * r;
-    Ok(Mask::new(
-        mask.x() - reach as i32,
-        mask.y() - reach as i32,
-        mask.w() + 2 * reach,
-        mask.h() + 2 * reach,
-        bytes,
-    ))
+    Ok(grown(mask, 3 * r, bytes))
 }

@@ -6,7 +6,7 @@ ghost use Rattle.ass_num.specs.Masks.{is_mask};
 ghost use Rattle.mask_blur.specs.Shown.{Shows};
 ghost use Rattle.mask_blur.specs.Softening.{softer, softened, IsSoftened};
 
-use crate::copies::copy_of;
+use crate::copies::{copy_of, grown};
 use crate::rows::row_or_zeros;
 use crate::weights::soften_row;
 use ass_num::{Mask, Mem};
@@ -114,11 +114,5 @@ pub fn soften(alloc: Global, mask: &Mask, n: u32) -> Mem<Mask>
         mask.h() as usize,
         n as usize,
     )?;
-    Ok(Mask::new(
-        mask.x() - n as i32,
-        mask.y() - n as i32,
-        mask.w() + 2 * n,
-        mask.h() + 2 * n,
-        bytes,
-    ))
+    Ok(grown(mask, n, bytes))
 }
