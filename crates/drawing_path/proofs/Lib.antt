@@ -1,3 +1,4 @@
+pub mod ExistsLemmas
 pub mod LawLemmas
 pub mod RangeLemmas
 pub mod ReadingLemmas
