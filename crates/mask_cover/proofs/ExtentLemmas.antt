@@ -1,5 +1,6 @@
 -- The least box of several moved masks.
-use Rattle.std.proofs.Common.{◌≡◌, ℕ, zero, suc, ◌*◌, ◌^◌, ◌<◌, ◌==◌, Bool, true, false, ◌⊎◌, inl, inr, ℤ, pos, ◌+ℤ◌, ◌-ℤ◌, ◌<ℤ◌, ◌≤ℤ◌, List, [], ◌∷◌, ◌++◌, length, length-append, refl, sym, ap, subst, ◌∙◌, arith, w32, to_z, of_z}
+use Rattle.std.proofs.Common.{◌≡◌, ℕ, ◌*◌, ◌^◌, ◌<◌, ◌==◌, Bool, true, false, ◌⊎◌, inl, inr, ℤ, pos, ◌+ℤ◌, ◌-ℤ◌, ◌<ℤ◌, ◌≤ℤ◌, List, [], ◌∷◌, ◌++◌, length, length-append, refl, sym, ap, subst, ◌∙◌, arith, w32, to_z, of_z}
+use Rattle.std.proofs.lemmas.Bool.{cases_lt}
 use Rattle.std.proofs.lemmas.Int.{ints, by_lt_z, clamps}
 use Rattle.std.specs.Int.{int_min, int_max}
 use Rattle.std.specs.List.{Any}
@@ -11,10 +12,6 @@ use Rattle.mask_cover.specs.Extents.{IsStretchNear, IsExtent, JoinsStretch}
 use Rattle.mask_cover.specs.Sums.{IsBoxOf, IsJoin}
 use Rattle.ass_num.specs.Limits.{IsWithin, max_mask_corner, max_mask_shift}
 use Rattle.std.proofs.lemmas.List.{get_or_append_left, get_or_push}
-
-zero_or : (n : ℕ) → (n ≡ 0) ⊎ (0 < n)
-zero_or zero = inl (omega arith)
-zero_or (suc n) = inr (omega arith)
 
 -- a stretch alone
 pub joined_alone : (a : ℤ) (a_len : ℕ) (b : ℤ) (b_len : ℕ) → IsStretchNear b b_len → 0 < b_len → a_len ≡ 0 → JoinsStretch a a_len b b_len b b_len
@@ -103,7 +100,7 @@ join_is old p new extent wide high across down =
     }
   where
     some_width : (b : PixelBox) → IsExtent b → 0 < b.h → 0 < b.w
-    some_width b e g = elim (zero_or b.w) [ inl none ↦ let n = e.h none in absurd (omega arith) | inr some ↦ some ]
+    some_width b e g = elim (cases_lt 0 b.w) [ inl some ↦ some | inr few ↦ let n = e.h (omega arith) in absurd (omega arith) ]
 
 -- The box has the moved mask's, side by side.
 pub record HasMoved (b : PixelBox) (p : MaskValue × ℤ × ℤ) : Type 0 where
@@ -172,9 +169,9 @@ joined_short a b a_len b_len first second =
 
 -- the bytes of a sum that begins
 pub sum_mask : (b : PixelBox) (bytes : List ℕ) → IsExtent b → length bytes ≡ b.w * b.h → is_mask (record { x = b.x; y = b.y; w = b.w; h = b.h; bytes = bytes }) ≡ true
-sum_mask b bytes is count = elim (zero_or b.w) [
-  | inl none ↦ no_pixels b.x b.y b.w b.h bytes (is.x none) (is.y none) none (is.h none) count
-  | inr some ↦ mask_ok b.x b.y b.w b.h bytes count some (is.full some)
+sum_mask b bytes is count = elim (cases_lt 0 b.w) [
+  | inl some ↦ mask_ok b.x b.y b.w b.h bytes count some (is.full some)
+  | inr few ↦ let none : b.w ≡ 0 = omega arith in no_pixels b.x b.y b.w b.h bytes (is.x none) (is.y none) none (is.h none) count
 ]
   where
     no_pixels : (x y : ℤ) (w h : ℕ) (bytes : List ℕ) → x ≡ pos 0 → y ≡ pos 0 → w ≡ 0 → h ≡ 0 → length bytes ≡ w * h → is_mask (record { x = x; y = y; w = w; h = h; bytes = bytes }) ≡ true
