@@ -1,4 +1,4 @@
--- A line and its parts.
+-- Public: a line and its parts.
 use Rattle.std.specs.Prelude.{ℕ, List}
 use Rattle.std.specs.List.{slice_split}
 use Rattle.ass_script.specs.Words.{is_comma}

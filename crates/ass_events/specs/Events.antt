@@ -1,4 +1,4 @@
--- Events, and the chunks that give them.
+-- Public: events, and the chunks that give them.
 use Rattle.std.specs.Prelude.{◌≡◌, ℕ, ℤ, pos, ◌-ℤ◌, int_le, slice_index_or, Bool, not, ◌&&◌, if◌then◌else◌, List, [], ◌∷◌, length, Option, Some, None, Result, Ok, Err}
 use Rattle.std.specs.List.{join_with_byte}
 use Rattle.ass_num.specs.Bytes.{comma}

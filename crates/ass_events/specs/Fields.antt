@@ -1,4 +1,4 @@
--- The fields of a line: what each says, and the first that can't be read.
+-- Public: the fields of a line: what each says, and the first that can't be read.
 use Rattle.std.specs.Prelude.{ℕ, ◌+◌, ℤ, pos, List, [], ◌∷◌, length, Option, Some, None, option_and_then, Result, Ok, Err}
 use Rattle.std.specs.Option.{option_map_or}
 use Rattle.std.specs.Str.{IsUtf8}

@@ -1,4 +1,4 @@
--- What holds of all chunks and lines.
+-- Public: what holds of all chunks and lines.
 use Rattle.std.specs.Prelude.{◌≡◌, ℕ, ◌<◌, ◌↔◌, ℤ, List, length, Some, Ok}
 use Rattle.ass_num.specs.Numerals.{IsTime}
 use Rattle.ass_script.specs.Scripts.{ScriptValue}

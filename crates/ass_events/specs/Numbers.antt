@@ -1,4 +1,4 @@
--- The numbers and times of a line.
+-- Public: the numbers and times of a line.
 use Rattle.std.specs.Prelude.{ℕ, ◌+◌, ◌*◌, ◌&&◌, ◌==◌, nat_lt, nat_le, if◌then◌else◌, List, length, take, drop, slice_index, Option, Some, None, option_and_then, ℤ, pos, negsuc}
 use Rattle.std.specs.List.{prefix_len, list_all}
 use Rattle.ass_num.specs.Bytes.{colon, point}

@@ -1,4 +1,4 @@
--- The fields that a call of the crate handles, as plain values.
+-- Inner: the fields that a call of the crate handles, as plain values.
 use Rattle.std.specs.Prelude.{◌≡◌, Result, Ok, Err}
 use Rattle.ass_events.specs.declared.event.ChunkRefusal.{ChunkRefusal}
 use Rattle.ass_events.specs.declared.event.ChunkRefusal.TheVariants.{Malformed, OutOfMemory}

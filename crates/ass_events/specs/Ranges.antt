@@ -1,4 +1,4 @@
--- The events that chunks give.
+-- Public: the events that chunks give.
 use Rattle.std.specs.Prelude.{◌≡◌, ℕ, ◌≤◌, true, false, ℤ, pos, neg_ℤ, ◌≤ℤ◌, List, All}
 use Rattle.std.specs.Str.{IsUtf8}
 use Rattle.ass_num.specs.Limits.{IsWithin, max_whole}

@@ -1,4 +1,4 @@
--- What holds of all texts.
+-- Public: what holds of all texts.
 use Rattle.std.specs.Prelude.{◌≡◌, ℕ, ◌↔◌, List, Some, ℤ}
 use Rattle.ass_num.specs.Fronts.{BeginsWith}
 use Rattle.ass_num.specs.Numerals.{IsMilli, IsStyleColour}

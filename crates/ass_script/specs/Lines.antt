@@ -1,4 +1,4 @@
--- The lines of a script: the section that each stands in, and its key and value.
+-- Public: the lines of a script: the section that each stands in, and its key and value.
 use Rattle.std.specs.Prelude.{ℕ, ◌-◌, ◌==◌, ◌&&◌, Bool, if◌then◌else◌, List, [], ◌∷◌, length, slice_index, codes}
 use Rattle.std.specs.List.{list_any, before_first, after_first}
 use Rattle.blanks.specs.Blanks.{trimmed}

@@ -1,4 +1,4 @@
--- The numbers that texts say, as functions of the texts.
+-- Public: the numbers that texts say, as functions of the texts.
 use Rattle.std.specs.Prelude.{ℕ, ◌+◌, ◌*◌, ◌/◌, ◌%◌, ◌^◌, min, ◌==◌, nat_lt, ◌&&◌, if◌then◌else◌, List, length, take, drop, slice_index, Option, Some, None, ℤ, pos}
 use Rattle.std.specs.List.{prefix_len}
 use Rattle.std.specs.Option.{option_map}

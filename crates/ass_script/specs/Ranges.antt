@@ -1,4 +1,4 @@
--- The ranges of what a script holds.
+-- Public: the ranges of what a script holds.
 use Rattle.std.specs.Prelude.{◌≡◌, ℕ, ◌≤◌, ◌⊎◌, true, length, All, IfSome}
 use Rattle.std.specs.Str.{IsUtf8}
 use Rattle.ass_num.specs.Limits.{IsWithin, IsHeldNumber, IsHeldLength, max_whole}

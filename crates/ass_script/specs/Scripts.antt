@@ -1,4 +1,4 @@
--- The script that a text spells: what is picked from the list of all its lines.
+-- Public: the script that a text spells: what is picked from the list of all its lines.
 use Rattle.std.specs.Prelude.{◌≡◌, ℕ, ◌+◌, ◌*◌, ◌/◌, min, max, ◌==◌, ◌&&◌, ◌||◌, nat_le, not, Bool, true, false, if◌then◌else◌, List, [], ◌∷◌, ◌++◌, length, map, filter, codes, Option, Some, None, option_and_then, unwrap_or, slice_get, Result, Ok, Err, ℤ, pos, negsuc, int_lt}
 use Rattle.std.specs.List.{list_any}
 use Rattle.std.specs.Option.{option_or, option_map_or}

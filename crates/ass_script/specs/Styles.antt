@@ -1,4 +1,4 @@
--- Styles: the built-in one, and those that Style lines spell.
+-- Public: styles: the built-in one, and those that Style lines spell.
 use Rattle.std.specs.Prelude.{ℕ, ◌/◌, ◌%◌, ◌+◌, ◌-◌, ◌==◌, ◌&&◌, nat_le, Bool, false, not, if◌then◌else◌, List, [], ◌∷◌, slice_set, codes, ℤ, pos, negsuc}
 use Rattle.std.specs.List.{slice_split}
 use Rattle.std.specs.Option.{option_map_or}

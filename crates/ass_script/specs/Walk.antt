@@ -1,4 +1,4 @@
--- What one line does to what was read of the lines before it. Private functions cite this; what a script is stands in Scripts.
+-- Inner: what one line does to what was read of the lines before it. Private functions cite this; what a script is stands in Scripts.
 use Rattle.std.specs.Prelude.{ℕ, nat_le, true, false, ◌&&◌, not, if◌then◌else◌, List, [], ◌∷◌, ◌++◌, length, Some, None, is_some, Result, Ok, Err}
 use Rattle.std.specs.Option.{option_map_or}
 use Rattle.ass_script.specs.Limits.{max_lines, max_styles}

@@ -1,4 +1,4 @@
--- Words in a line.
+-- Public: words in a line.
 use Rattle.std.specs.Prelude.{ℕ, ◌==◌, ◌||◌, Bool, List, drop, if◌then◌else◌, ◌∷◌, []}
 use Rattle.std.specs.List.{prefix_len, starts_with}
 use Rattle.std.specs.Bool.{nat_eq}

@@ -1,4 +1,4 @@
--- Fonts, and what is found in them.
+-- Public: fonts, and what is found in them.
 use Rattle.std.specs.Prelude.{ℕ, ◌+◌, if◌then◌else◌, List, [], ◌∷◌, Option, Some, None, option_and_then, ℤ, pos, negsuc}
 use Rattle.std.specs.Option.{option_or}
 use Rattle.std.specs.Ordering.{int_eq}

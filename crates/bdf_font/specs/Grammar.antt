@@ -1,4 +1,4 @@
--- The format on the whole list of a text's lines: the blocks that a font is made of, which of several like lines counts, and where a text first leaves the format.
+-- Public: the format on the whole list of a text's lines: the blocks that a font is made of, which of several like lines counts, and where a text first leaves the format.
 use Rattle.std.specs.Prelude.{◌≡◌, ℕ, ◌+◌, ◌*◌, ◌/◌, ◌≤◌, ◌⊎◌, ◌==◌, ◌&&◌, not, ◌||◌, Bool, true, false, if◌then◌else◌, List, [], ◌∷◌, ◌++◌, length, flat_map, Option, Some, None, is_some, IsSome, unwrap_or, Result, Ok, Err, ℤ, pos, negsuc, neg_ℤ, ◌+ℤ◌}
 use Rattle.std.specs.List.{AllByRecursion, list_all}
 use Rattle.std.specs.Option.{option_or}

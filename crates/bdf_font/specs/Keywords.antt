@@ -1,4 +1,4 @@
--- The keywords of the format, in exact case.
+-- Public: the keywords of the format, in exact case.
 use Rattle.std.specs.Prelude.{ℕ, List, codes, if◌then◌else◌}
 use Rattle.std.specs.Str.{bytes_eq}
 use Rattle.bdf_font.specs.declared.keyword.Keyword.{Keyword}

@@ -1,4 +1,4 @@
--- What holds of every text, in the words of its lines.
+-- Public: what holds of every text, in the words of its lines.
 use Rattle.std.specs.Prelude.{◌≡◌, ℕ, ◌+◌, true, false, List, ◌∷◌, ◌++◌, length, Result, Ok, Err}
 use Rattle.bdf_font.specs.declared.cause.FontCause.{FontCause}
 use Rattle.bdf_font.specs.declared.cause.FontCause.TheVariants.{NoEnd}

@@ -1,4 +1,4 @@
--- The lines of a text.
+-- Public: the lines of a text.
 use Rattle.std.specs.Prelude.{ℕ, List, map}
 use Rattle.bstr.specs.Text.{lines_of, without_terminator}
 

@@ -1,4 +1,4 @@
--- The ranges of what a font holds.
+-- Public: the ranges of what a font holds.
 use Rattle.std.specs.Prelude.{◌≡◌, ℕ, ◌+◌, ◌*◌, ◌/◌, ◌<◌, ◌≤◌, length, All, IfSome, Result, Ok, Err, ℤ, pos, ◌≤ℤ◌}
 use Rattle.ass_num.specs.Limits.{IsWithin}
 use Rattle.bdf_font.specs.Limits.{max_ascent, max_bitmap_side, max_glyphs, max_offset}

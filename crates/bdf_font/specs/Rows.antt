@@ -1,4 +1,4 @@
--- What a step of the reader leads to, and the rows of a bitmap.
+-- Inner: what a step of the reader leads to, and the rows of a bitmap.
 use Rattle.std.specs.Prelude.{◌≡◌, ℕ, List, ◌++◌, Result, Ok, Err}
 use Rattle.hex.specs.declared.error.FromHexError.{FromHexError}
 use Rattle.bdf_font.specs.declared.cause.FontCause.{FontCause}

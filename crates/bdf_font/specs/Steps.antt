@@ -1,4 +1,4 @@
--- What one line does to what the reader has read: the words of its own functions. What a text says as a whole is in Grammar.
+-- Inner: what one line does to what the reader has read: the words of its own functions. What a text says as a whole is in Grammar.
 use Rattle.std.specs.Prelude.{◌≡◌, ℕ, ◌+◌, ◌-◌, ◌/◌, ◌==◌, ◌⊎◌, nat_le, true, false, if◌then◌else◌, List, [], ◌∷◌, ◌++◌, length, Option, Some, None, unwrap_or, Result, Ok, Err, ℤ, pos, negsuc}
 use Rattle.hex.specs.Hex.{decode_sized}
 use Rattle.hex.specs.declared.error.FromHexError.{FromHexError}

@@ -1,4 +1,4 @@
--- Words, numbers and names in a line.
+-- Public: words, numbers and names in a line.
 use Rattle.std.specs.Prelude.{ℕ, Bool, ◌&&◌, ◌==◌, nat_lt, nat_le, int_le, if◌then◌else◌, List, length, take, drop, slice_index, Option, Some, None, option_and_then, ℤ, pos, negsuc, neg_ℤ}
 use Rattle.std.specs.List.{position_or_len, before_first}
 use Rattle.ass_num.specs.Bytes.{quote}
