@@ -1,5 +1,5 @@
 -- Public: the events that chunks give.
-use Rattle.std.specs.Prelude.{◌≡◌, ℕ, ◌≤◌, true, false, ℤ, pos, neg_ℤ, ◌≤ℤ◌, List, All}
+use Rattle.std.specs.Prelude.{◌≡◌, ℕ, ◌+◌, ◌≤◌, true, false, List, length, All}
 use Rattle.std.specs.Str.{IsUtf8}
 use Rattle.ass_num.specs.Limits.{IsWithin, max_whole}
 use Rattle.ass_events.specs.declared.event.Event.{Event}
@@ -26,3 +26,7 @@ pub record IsEvent (event : Event) : Type 0 where
   pub text : IsUtf8 event.text
   pub start : is_time event.start ≡ true
   pub duration : is_time event.duration ≡ true
+
+-- how many bytes the texts of an event have together
+abbrev pub text_bytes : Event → ℕ
+text_bytes event = length event.style + length event.name + length event.effect + length event.text

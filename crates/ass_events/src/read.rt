@@ -59,13 +59,7 @@ pub fn read_chunk(
 }
 
 /// The event of these fields with this ReadOrder, whose texts are copied.
-pub fn event(
-    alloc: Global,
-    order: u32,
-    fields: &Fields,
-    start: i64,
-    duration: i64,
-) -> Mem<Event>
+pub fn event(alloc: Global, order: u32, fields: &Fields, start: i64, duration: i64) -> Mem<Event>
     requires { HaveUtf8 (plain fields.now) }
     ensures { IfOk result (λ event. event ≡ event_at start duration (record (plain fields.now) { order = order })) }
 {

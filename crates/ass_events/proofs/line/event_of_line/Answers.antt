@@ -1,4 +1,4 @@
-use Rattle.std.proofs.Common.{List, ℕ, [], sym, subst, rules}
+use Rattle.std.proofs.Common.{[], sym, subst, rules}
 use Rattle.std.specs.Str.{IsUtf8}
 use Rattle.std.proofs.lemmas.List.Elements.{All-get_or}
 use Rattle.ass_events.proofs.LawLemmas.{answer_is_event}
