@@ -70,6 +70,7 @@ never_wants_memory bytes = whole (eqb (utf8_valid_len bytes) (length bytes))
     cases true (Some (refusal.NotUtf8 m)) limit e = limit
     cases true (Some refusal.NoEvents) limit e = limit
     cases true (Some refusal.OutOfMemory) limit e = limit
+
     whole : (b : Bool) → cond b (script_of_lines (lines_of bytes)) (Err (refusal.NotUtf8 (utf8_valid_len bytes))) ≡ Err refusal.OutOfMemory → ⊥
     whole true e = cases (has is_events_heading (lines_of bytes)) (limit_behind [] (lines_of bytes)) (limit_is [] (lines_of bytes)) e
     whole false e = cc
