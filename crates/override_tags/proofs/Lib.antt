@@ -1,5 +1,6 @@
 pub mod BlockLemmas
 pub mod CutLemmas
+pub mod ExistsLemmas
 pub mod FrontLemmas
 pub mod LawLemmas
 pub mod NumberShapes

@@ -15,11 +15,11 @@ use Rattle.override_tags.specs.Readings as reads
 use Rattle.override_tags.specs.Readings.{AreTags, ArePartTags, AreItems, tag_items, part_item, IsTextReading}
 use Rattle.override_tags.specs.Laws.{AreInside, TagsInside, IsAtCharacters}
 
-drop_one : (n c : ℕ) (text : List ℕ) → drop (1 + n) (c ∷ text) ≡ drop n text
+pub drop_one : (n c : ℕ) (text : List ℕ) → drop (1 + n) (c ∷ text) ≡ drop n text
 drop_one n c text = let next : 1 + n ≡ suc n = omega arith in ap (λ z. drop z (c ∷ text)) next
 
 -- the text of a tag lies in that of the block
-outer_within : (stop depth : ℕ) (text : List ℕ) → outer_len stop depth text ≤ length text
+pub outer_within : (stop depth : ℕ) (text : List ℕ) → outer_len stop depth text ≤ length text
 outer_within stop depth [] = omega arith
 outer_within stop depth (c ∷ text) = by_stop ((c == stop) && (depth == 0)) (outer_within stop (depth_after c depth) text)
   where
@@ -120,7 +120,7 @@ behind_ascii text bytes rest c e ascii utf8 =
     subst Q (ap (drop (k + 1)) e ∙ drop-append-add bytes (c ∷ rest) 1) (IsUtf8-drop text (k + 1) utf8 (IsCharBoundary-after_ascii text k utf8 at.0 (subst P (sym at.1) ascii)))
 
 -- What stands at the front, byte by byte, and that the text behind it is one.
-front_bytes : (text : List ℕ) (part : Part) (rest : List ℕ) → IsFront text part rest → IsUtf8 text → (bytes : List ℕ) × (text ≡ bytes ++ rest) × IsUtf8 rest
+pub front_bytes : (text : List ℕ) (part : Part) (rest : List ℕ) → IsFront text part rest → IsUtf8 text → (bytes : List ℕ) × (text ≡ bytes ++ rest) × IsUtf8 rest
 front_bytes text (Char c) rest front utf8 = (encode_utf8 front.1.0, front.1.1, IsUtf8-past_char text rest front.1.0 utf8 front.1.1)
 front_bytes text HardBreak rest front utf8 = (92 ∷ (78 ∷ []), front, behind_ascii text (92 ∷ []) rest 78 front (omega arith) utf8)
 front_bytes text SoftBreak rest front utf8 = (92 ∷ (110 ∷ []), front, behind_ascii text (92 ∷ []) rest 110 front (omega arith) utf8)

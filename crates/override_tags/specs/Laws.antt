@@ -1,6 +1,6 @@
 -- Public: how the items of a text cover it, where its tags lie, and that no other items are its reading.
 use Rattle.std.specs.Prelude.{◌≡◌, ℕ, ◌+◌, ◌<◌, ◌≤◌, Bool, true, false, if◌then◌else◌, MatchBool, List, [], ◌∷◌, length}
-use Rattle.std.specs.Str.{IsCharBoundary}
+use Rattle.std.specs.Str.{IsUtf8, IsCharBoundary}
 use Rattle.override_tags.specs.declared.item.Item.{Item}
 use Rattle.override_tags.specs.declared.item.ItemKind.{ItemKind}
 use Rattle.override_tags.specs.declared.item.ItemKind.TheVariants as item
@@ -19,7 +19,11 @@ Follow from (i ∷ items) end = MatchBool (is_tag i.kind) (Follow from items end
 abbrev pub PartsCover : Type 0
 PartsCover = (text : List ℕ) (items : List Item) → IsTextReading text items → Follow 0 items (length text)
 
--- No text has two readings.
+-- A text in UTF-8 has a reading,
+abbrev pub HasReading : Type 0
+HasReading = (text : List ℕ) → IsUtf8 text → (items : List Item) × IsTextReading text items
+
+-- and no text has two.
 abbrev pub OneReading : Type 0
 OneReading = (text : List ℕ) (a b : List Item) → IsTextReading text a → IsTextReading text b → a ≡ b
 

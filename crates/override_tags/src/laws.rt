@@ -1,15 +1,16 @@
 //! Laws of readings.
 
-ghost use Rattle.override_tags.specs.Laws.{OneReading, PartsCover, TagsInside};
+ghost use Rattle.override_tags.specs.Laws.{HasReading, OneReading, PartsCover, TagsInside};
 
 /// The characters, breaks, hard spaces and blocks of a text follow one another and cover it.
 pub fn parts_cover()
     ensures { PartsCover }
 {}
 
-/// A text has no two readings, so what `read_text` gives is the only reading that its contract allows.
+/// A text has a reading and no two, so what `read_text` gives is the only reading that its contract allows.
 pub fn one_reading()
-    ensures { OneReading }
+    ensures some { HasReading }
+    ensures one { OneReading }
 {}
 
 /// The tags behind a block lie between its braces, one behind the other.
