@@ -1,5 +1,7 @@
 #!/usr/bin/env bash
 # Measures the kernels at the sizes of RESULTS.md, on the machine at hand. The program is proved and built first where that is needed.
+# It times each turn by the clock on the wall. Below stands what the whole run took on the processor and on that clock: where the
+# second is much more than the first, the run had to wait, and its times are too long.
 set -eu
 
 top=$(dirname -- "$(dirname -- "$(readlink -f -- "${BASH_SOURCE[0]}")")")
@@ -14,9 +16,11 @@ is_fresh() {
     done
 }
 
+TIMEFORMAT='  the whole run: %U s and %S s on the processor, for itself and for the system; %R s on the wall'
+
 measure() {
     printf '\n%s %s\n' "$1" "$2"
-    "$program" "$@" | sed 's/^/  /'
+    { time "$program" "$@" | sed 's/^/  /'; } 2>&1
 }
 
 if ! is_fresh; then
