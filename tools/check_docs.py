@@ -33,7 +33,7 @@ import spec_marks  # noqa: E402
 
 TOP = spec_marks.TOP
 WORDS = sys.argv[1:]
-OF_STD = {"for_each_mut", "from_utf8_unchecked"}
+OTHERS = {"for_each_mut", "from_utf8_unchecked", "TertiaryColour"}  # names of std and of scripts
 WIDTH = 120
 ALSO = "also refused"
 
@@ -317,7 +317,7 @@ def words(score):
                 continue
             for part in re.split(r"::|\.", span.rstrip("()")):
                 if "_" in part.strip("_") or re.search(r"[a-z][A-Z]", part):
-                    score.check(part in known or part in OF_STD, page, f"nothing is called `{span}`")
+                    score.check(part in known or part in OTHERS, page, f"nothing is called `{span}`")
 
 
 def crate_tables(score, crates):
