@@ -1,7 +1,5 @@
 -- The rings of boxes and glyphs, one after another.
-use Rattle.std.proofs.Common.{◌≡◌, ℕ, zero, suc, ◌+◌, Bool, true, false, if◌then◌else◌, ◌+ℤ◌, ◌-ℤ◌, neg_ℤ, slice_get, get_or, Some, List, [], ◌∷◌, ◌++◌, flat_map, refl, sym, ap, ◌∙◌, append_assoc, ℤ, pos, arith}
-use Rattle.std.proofs.lemmas.List.{append-nil}
-use Rattle.std.specs.List.{range_with_len}
+use Rattle.std.proofs.Common.{◌≡◌, ℕ, zero, suc, Bool, true, false, if◌then◌else◌, ◌+ℤ◌, ◌-ℤ◌, neg_ℤ, slice_get, get_or, Some, List, [], ◌∷◌, ◌++◌, refl, sym, ap, ◌∙◌, append_assoc, ℤ, pos}
 use Rattle.ass_num.specs.declared.geometry.Point.{Point}
 use Rattle.ass_num.specs.declared.geometry.Matrix.{Matrix}
 use Rattle.ass_num.specs.Bitmaps.{pixel_is_set}
@@ -14,21 +12,6 @@ use Rattle.bdf_font.specs.GlyphRings.{bitmap_of, rings_of_glyph}
 pub box_same : (w h turn angle : ℤ) (a b c d : Point) → angle ≡ turn → a ≡ outline_point angle (record { x = pos 0; y = pos 0 }) → b ≡ outline_point angle (record { x = w; y = pos 0 })
     → c ≡ outline_point angle (record { x = w; y = h }) → d ≡ outline_point angle (record { x = pos 0; y = h }) → a ∷ b ∷ c ∷ d ∷ [] ≡ box_ring w h turn
 box_same w h turn angle a b c d same p q r s = rw (p, q, r, s, same) refl
-
--- One more number of a range.
-flat_suc : {X : Type 0} (f : ℕ → List X) (a n : ℕ) → flat_map f (range_with_len a (suc n)) ≡ flat_map f (range_with_len a n) ++ f (a + n)
-flat_suc f a zero = let e : a ≡ a + 0 = omega arith in append-nil (f a) ∙ ap f e
-flat_suc f a (suc n) =
-    let e : a + 1 + n ≡ a + suc n = omega arith in
-    ap (λ xs. f a ++ xs) (flat_suc f (a + 1) n ∙ ap (λ k. flat_map f (range_with_len (a + 1) n) ++ f k) e)
-    ∙ sym (append_assoc (f a) (flat_map f (range_with_len (a + 1) n)) (f (a + suc n)))
-
-pub flat_more : {X : Type 0} (f : ℕ → List X) (old now new : List X) (n : ℕ) → now ≡ old ++ flat_map f (range_with_len 0 n) → new ≡ now ++ f n → new ≡ old ++ flat_map f (range_with_len 0 (n + 1))
-flat_more f old now new n was is =
-    let e : suc n ≡ n + 1 = omega arith in
-    let z : 0 + n ≡ n = omega arith in
-    is ∙ ap (λ xs. xs ++ f n) was ∙ append_assoc old (flat_map f (range_with_len 0 n)) (f n)
-    ∙ ap (λ xs. old ++ xs) (ap (λ k. flat_map f (range_with_len 0 n) ++ f k) (sym z) ∙ sym (flat_suc f 0 n) ∙ ap (λ k. flat_map f (range_with_len 0 k)) e)
 
 -- A set pixel of a bold glyph, and of another.
 pub pixel_bold : (m : Matrix) (bold : Bool) (a b : ℤ) (rings first second : List (List Point)) → bold ≡ true → first ≡ rings ++ pixel_quad m a b ∷ [] → second ≡ first ++ pixel_quad m (a +ℤ pos 1) b ∷ [] → second ≡ rings ++ set_quads m bold a b

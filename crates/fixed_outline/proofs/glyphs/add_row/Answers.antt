@@ -1,7 +1,7 @@
 use Rattle.std.proofs.Common.{◌≡◌, arith}
 use Rattle.outline_points.specs.Glyphs.{pixel_quads}
 use Rattle.bdf_font.specs.GlyphRings.{bitmap_of}
-use Rattle.fixed_outline.proofs.QuadLemmas.{flat_more}
+use Rattle.ass_num.proofs.ListLemmas.{flat_more}
 use Rattle.fixed_outline.proofs.glyphs.add_row.Goals as goal
 
 pub loop-i-preserved : goal.loop-i-preserved

@@ -1,7 +1,7 @@
 use Rattle.std.proofs.Common.{◌≡◌, arith}
 use Rattle.outline_points.specs.Glyphs.{row_quads}
 use Rattle.bdf_font.specs.GlyphRings.{bitmap_of}
-use Rattle.fixed_outline.proofs.QuadLemmas.{flat_more}
+use Rattle.ass_num.proofs.ListLemmas.{flat_more}
 use Rattle.fixed_outline.proofs.glyphs.add_rows.Goals as goal
 
 pub loop-j-preserved : goal.loop-j-preserved
