@@ -5,7 +5,7 @@ use ass_num::Items;
 use std::alloc::Global;
 use std::test::Fail;
 
-/// What is told of a text, a bar, and the text, whose lines end at slashes. The last text is as converters write fonts.
+/// What is told of a text, a bar, and the text, whose lines end at slashes.
 const TEXTS: &str = "NoEnd 1|
 NoEnd 2|/
 NoEnd 2|STARTFONT 2.1
@@ -18,8 +18,45 @@ Misplaced 3|STARTFONT/STARTCHAR a/BITMAP
 Misplaced 3|STARTFONT/STARTCHAR a/ENDFONT
 BadRow 5|STARTFONT/STARTCHAR a/BBX 1 1 0 0/BITMAP/8/ENDCHAR
 BadRow 6|STARTFONT/STARTCHAR a/BBX 1 1 0 0/BITMAP/80/80
-[82, 101, 97, 108, 32] 5 0 Some(65) 9 2 -1 -2 [255, 128, 160, 0] Some(0) Some(0)|COMMENT made/STARTFONT 2.1\r/COMMENT ENDFONT/FONT -misc-Real \r/SIZE 8 75 75/FONTBOUNDINGBOX 9 7 -1 -2/FONT_ASCENT 99/STARTPROPERTIES 4/FAMILY_NAME \"Real \"\"One\"\"\"/FONT_DESCENT -3/DEFAULT_CHAR 64/DEFAULT_CHAR 65\r/ENDPROPERTIES//CHARS 77/STARTCHAR A/ENCODING 64/ENCODING 65 1/SWIDTH 500 0/BBX 9 2 -1 -2/BITMAP/ ff80\t\r/A000/ENDCHAR/STARTCHAR b/ENCODING -1/BBX 0 1 0 0/BITMAP/ /ENDCHAR/ENDFONT/ENDFONT
 ";
+
+/// As converters write fonts, with some carriage returns.
+const REAL: &str = "COMMENT made
+STARTFONT 2.1\r
+COMMENT ENDFONT
+FONT -misc-Real \r
+SIZE 8 75 75
+FONTBOUNDINGBOX 9 7 -1 -2
+FONT_ASCENT 99
+STARTPROPERTIES 4
+FAMILY_NAME \"Real \"\"One\"\"\"
+FONT_DESCENT -3
+DEFAULT_CHAR 64
+DEFAULT_CHAR 65\r
+ENDPROPERTIES
+
+CHARS 77
+STARTCHAR A
+ENCODING 64
+ENCODING 65 1
+SWIDTH 500 0
+BBX 9 2 -1 -2
+BITMAP
+ ff80\t\r
+A000
+ENDCHAR
+STARTCHAR b
+ENCODING -1
+BBX 0 1 0 0
+BITMAP
+ 
+ENDCHAR
+ENDFONT
+ENDFONT
+";
+
+/// What is told of it: name, ascent, descent and default code, the first glyph, and the glyphs of `A` and `B`.
+const REAL_TOLD: &str = "Real | 5 0 Some(65) 9 2 -1 -2 [255, 128, 160, 0] Some(0) Some(0)";
 
 fn read(alloc: Global, text: &str) -> Result<Font, FontRefusal> {
     if text.len() > 10_000 {
@@ -29,14 +66,15 @@ fn read(alloc: Global, text: &str) -> Result<Font, FontRefusal> {
 }
 
 fn font_told(alloc: Global, font: &Font) -> Result<String, Fail> {
-    let (name, default) = (font.name(), font.default_char());
+    let name = str::from_utf8(font.name()).unwrap_or("?");
+    let default = font.default_char();
     let (ascent, descent) = (font.ascent(), font.descent());
     match font.glyphs().first() {
         Some(g) => {
             let (w, h, x, y, bits) = (g.w, g.h, g.x, g.y, g.bits.as_slice());
             let (there, missing) = (glyph(font, 'A'), glyph(font, 'B'));
             Ok(format!(in alloc;
-                "{name:?} {ascent} {descent} {default:?} {w} {h} {x} {y} {bits:?} {there:?} {missing:?}"
+                "{name}| {ascent} {descent} {default:?} {w} {h} {x} {y} {bits:?} {there:?} {missing:?}"
             )?)
         }
         None => Ok(String::new(alloc)),
@@ -61,6 +99,8 @@ fn texts_are_read_as_told(rt: HostRuntime) -> Result<(), Fail> {
             assert_eq!(rt; told.as_str(), wanted);
         }
     }
+    let told = told(alloc, REAL)?;
+    assert_eq!(rt; told.as_str(), REAL_TOLD);
     let mut fonts = Items::new(alloc);
     fonts.push(read(alloc, "STARTFONT\nFONT a\nENDFONT")?)?;
     fonts.push(read(alloc, "STARTFONT\nFONT b c\nENDFONT")?)?;

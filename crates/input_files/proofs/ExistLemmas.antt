@@ -17,10 +17,11 @@ use Rattle.bdf_font.specs.declared.cause.FontRefusal.TheVariants as font
 use Rattle.run_status.specs.declared.status.Status.{Status}
 use Rattle.run_status.specs.declared.status.Status.TheVariants as status
 use Rattle.run_status.specs.declared.status.What.TheVariants.{Bytes}
+use Rattle.bdf_font.specs.Limits.{max_fonts}
 use Rattle.input_files.specs.declared.inputs.Inputs.{Inputs}
 use Rattle.input_files.specs.Causes.{font_status, script_status, with_status}
 use Rattle.input_files.specs.Files.{Asks, AsksFont, AsksOf, AsksScript, FontAsked, IsAnswered, IsAskedFor}
-use Rattle.input_files.specs.Inputs.{AreFirstFonts, AreFontsRead, AreRead, IsFontRead, IsScriptRead, max_fonts}
+use Rattle.input_files.specs.Inputs.{AreFirstFonts, AreFontsRead, AreRead, IsFontRead, IsScriptRead}
 use Rattle.input_files.specs.Laws.{FilesHaveAnAnswer, IsCause, IsReadDecided}
 use Rattle.input_files.proofs.DecideLemmas.{AreNamesTold}
 use Rattle.input_files.proofs.FontLemmas.{first_more}

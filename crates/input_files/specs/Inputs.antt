@@ -3,15 +3,12 @@ use Rattle.std.specs.Prelude.{◌≡◌, ◌⊎◌, ℕ, ◌<◌, ◌≤◌, Lis
 use Rattle.ass_io.specs.Fetched.{Told}
 use Rattle.ass_script.specs.Scripts.{ScriptValue}
 use Rattle.bdf_font.specs.Fonts.{FontValue}
+use Rattle.bdf_font.specs.Limits.{max_fonts}
 use Rattle.run_status.specs.declared.status.Status.{Status}
 use Rattle.run_status.specs.declared.status.Status.TheVariants.{TooLarge}
 use Rattle.run_status.specs.declared.status.What.TheVariants.{Fonts}
 use Rattle.input_files.specs.declared.inputs.Inputs.{Inputs}
 use Rattle.input_files.specs.Files.{AsksFont, AsksScript, IsAnswered}
-
--- the most fonts of a job
-abbrev pub max_fonts : ℕ
-max_fonts = 64
 
 -- What reading the script answers.
 abbrev pub IsScriptRead : (List ℕ → Told) → List ℕ → Result ScriptValue Status → Type 0
