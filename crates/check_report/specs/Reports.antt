@@ -1,4 +1,4 @@
--- The report of a check (docs/PROGRAM.md).
+-- Public: the report of a check (docs/PROGRAM.md).
 use Rattle.std.specs.Prelude.{ℕ, ◌+◌, List, [], ◌∷◌, ◌++◌, codes, decimal, flat_map, length, Option, Some, None}
 use Rattle.std.specs.List.{range_with_len}
 use Rattle.ass_script.specs.Scripts.{ScriptValue}

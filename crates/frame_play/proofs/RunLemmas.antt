@@ -16,9 +16,9 @@ use Rattle.run_status.specs.declared.status.Status.{Status}
 use Rattle.run_status.specs.declared.status.Status.TheVariants as status
 use Rattle.run_status.specs.declared.status.What.TheVariants.{Fonts}
 use Rattle.run_status.specs.declared.status.Which.TheVariants.{Frames, Report}
-use Rattle.frame_play.specs.Outcomes.{IsEnded, IsOrFault, IsOrMemory, IsOwn, IsStatusReadCounted, IsReported, IsImageShown, IsShownOnce, IsWriteCounted, out_of_memory, outcome_status, text_in}
-use Rattle.frame_play.specs.Outputs.{output_asked, sink_of, status_asked}
-use Rattle.frame_play.specs.Runs.{Decides, IsJobRun, IsWorked, Sunk, sunk}
+use Rattle.frame_play.specs.Outcomes.{IsEnded, IsOrFault, IsOrMemory, SuitsTask, IsStatusReadCounted, IsReported, IsImageShown, IsFramesPutCount, IsWriteCounted, out_of_memory, status_if_put, text_to_report}
+use Rattle.frame_play.specs.Outputs.{image_in, output_asked, sink_of, status_asked, status_of_image, task_status}
+use Rattle.frame_play.specs.Runs.{Decides, IsJobRun, IsWorked, SinkChange, sink_change}
 use Rattle.frame_play.specs.declared.outcome.Outcome.{Outcome}
 use Rattle.frame_play.specs.declared.outcome.Outcome.TheVariants.{Ended, Found}
 
@@ -100,7 +100,7 @@ read_kind told script fonts answer (inl (few, inr (read, first, (before, within,
     answered_kind (AsksFont (length before) name) (told name) name answer (h [])
 read_kind told script fonts answer (inr (many, e)) = let same : answer ≡ status.TooLarge Fonts 64 = cc in subst IsRefusal (sym same) tt
 
-own_refusal : (task : Task) (answer : Status) → IsRefusal answer → IsOwn task (Ended answer)
+own_refusal : (task : Task) (answer : Status) → IsRefusal answer → SuitsTask task (Ended answer)
 own_refusal task status.Done h = absurd h
 own_refusal Check (status.NoSuchFile other) h = tt
 own_refusal Check (status.ReadFault other) h = tt
@@ -119,7 +119,7 @@ own_refusal task status.NotBuilt h = absurd h
 
 -- A job whose files are refused.
 pub refused_worked : (told : List ℕ → Told) (job : Job) (answer : Status) (held : Option (List ℕ)) (faults : ℕ) →
-    AreRead told job.script job.fonts (Err answer) → IsWorked told job (sunk held held faults faults) (Ended answer)
+    AreRead told job.script job.fonts (Err answer) → IsWorked told job (sink_change held held faults faults) (Ended answer)
 refused_worked told job answer held faults read = record {
   reading = Err answer;
   read = read;
@@ -130,7 +130,7 @@ refused_worked told job answer held faults read = record {
 }
 
 -- A job for which memory was wanting before its files were read.
-pub memory_worked : (told : List ℕ → Told) (job : Job) (held : Option (List ℕ)) (faults : ℕ) → IsWorked told job (sunk held held faults faults) out_of_memory
+pub memory_worked : (told : List ℕ → Told) (job : Job) (held : Option (List ℕ)) (faults : ℕ) → IsWorked told job (sink_change held held faults faults) out_of_memory
 memory_worked told job held faults = elim (cases_lt 64 (length job.fonts)) [
   | inl many ↦ record {
     reading = Err (status.TooLarge Fonts 64);
@@ -164,8 +164,8 @@ ended (status.TooLarge what limit) answer h = h
 ended status.OutOfMemory answer h = h
 ended status.NotBuilt answer h = h
 
-answered_after : (task : Task) (wanted : Status) (outcome : Outcome) (answer : Status) → IsOwn task outcome →
-    IsOrFault task wanted (outcome_status outcome) → IsEnded outcome answer → IsOrFault task wanted answer
+answered_after : (task : Task) (wanted : Status) (outcome : Outcome) (answer : Status) → SuitsTask task outcome →
+    IsOrFault task wanted (status_if_put outcome) → IsEnded outcome answer → IsOrFault task wanted answer
 answered_after task wanted (Ended before) answer own asked h = elim (ended before answer h) [
   | inl same ↦ subst (IsOrFault task wanted) (sym same) asked
   | inr memory ↦ inl (inr memory)
@@ -177,8 +177,8 @@ answered_after Check wanted (Found text) answer own (inl (inl done)) (inr fault)
 answered_after Check wanted (Found text) answer own (inl (inr memory)) (inr fault) = absurd cc
 answered_after Check wanted (Found text) answer own (inr (done, other)) (inr fault) = absurd cc
 
-shown_after : (task : Task) (reading : Result Inputs Status) (outcome : Outcome) (answer : Status) (old new : Option (List ℕ)) → IsOwn task outcome →
-    IsEnded outcome answer → IsImageShown (outcome_status outcome) old new (output_asked task reading).frames → IsImageShown answer old new (output_asked task reading).frames
+shown_after : (task : Task) (reading : Result Inputs Status) (outcome : Outcome) (answer : Status) (old new : Option (List ℕ)) → SuitsTask task outcome →
+    IsEnded outcome answer → IsImageShown (status_if_put outcome) old new (output_asked task reading).frames → IsImageShown answer old new (output_asked task reading).frames
 shown_after task reading (Ended before) answer old new own e h = elim (ended before answer e) [
   | inl same ↦ subst (λ s. IsImageShown s old new (output_asked task reading).frames) (sym same) h
   | inr memory ↦ subst (λ s. IsImageShown s old new (output_asked task reading).frames) (sym memory) (shown_front before old new _ h)
@@ -204,24 +204,24 @@ reported_same (status.TooLarge what limit) old new before now text other d f h =
 reported_same status.OutOfMemory old new before now text other d f h = h
 reported_same status.NotBuilt old new before now text other d f h = h
 
-done_before : (task : Task) (outcome : Outcome) (answer : Status) → IsOwn task outcome → IsEnded outcome answer → answer ≡ status.Done → outcome_status outcome ≡ status.Done
+done_before : (task : Task) (outcome : Outcome) (answer : Status) → SuitsTask task outcome → IsEnded outcome answer → answer ≡ status.Done → status_if_put outcome ≡ status.Done
 done_before task (Ended before) answer own e done = elim (ended before answer e) [
   | inl same ↦ sym same ∙ done
   | inr memory ↦ absurd cc
 ]
 done_before task (Found text) answer own e done = refl
 
-found_before : (task : Task) (outcome : Outcome) (answer : Status) → IsOwn task outcome → IsEnded outcome answer → answer ≡ status.WriteFault Report → outcome_status outcome ≡ status.Done
+found_before : (task : Task) (outcome : Outcome) (answer : Status) → SuitsTask task outcome → IsEnded outcome answer → answer ≡ status.WriteFault Report → status_if_put outcome ≡ status.Done
 found_before task (Ended before) answer own e fault = elim (ended before answer e) [
-  | inl same ↦ let equal : before ≡ status.WriteFault Report = cc in absurd (subst (λ s. IsOwn task (Ended s)) equal own)
+  | inl same ↦ let equal : before ≡ status.WriteFault Report = cc in absurd (subst (λ s. SuitsTask task (Ended s)) equal own)
   | inr memory ↦ absurd cc
 ]
 found_before task (Found text) answer own e fault = refl
 
 -- A job and what is reported of it are a run.
-pub run_after : (told : List ℕ → Told) (job : Job) (frames report : Sunk) (outcome : Outcome) (answer : Status) →
+pub run_after : (told : List ℕ → Told) (job : Job) (frames report : SinkChange) (outcome : Outcome) (answer : Status) →
     IsWorked told job frames outcome → IsEnded outcome answer →
-    IsReported answer report.held_before report.held_now report.faults_before report.faults_now (text_in outcome) →
+    IsReported answer report.held_before report.held_now report.faults_before report.faults_now (text_to_report outcome) →
     IsJobRun told job frames report answer
 run_after told job frames report outcome answer worked ended reported = record {
   reading = worked.reading;
@@ -246,7 +246,7 @@ read_rises (status.TooLarge what limit) before now h = omega (arith, h)
 read_rises status.OutOfMemory before now h = h
 read_rises status.NotBuilt before now h = omega (arith, h)
 
-pub read_after : (outcome : Outcome) (answer : Status) (before now : ℕ) → IsEnded outcome answer → IsStatusReadCounted (outcome_status outcome) before now → IsStatusReadCounted answer before now
+pub read_after : (outcome : Outcome) (answer : Status) (before now : ℕ) → IsEnded outcome answer → IsStatusReadCounted (status_if_put outcome) before now → IsStatusReadCounted answer before now
 read_after (Ended s) answer before now e h = elim (ended s answer e) [
   | inl same ↦ subst (λ s. IsStatusReadCounted s before now) (sym same) h
   | inr memory ↦ subst (λ s. IsStatusReadCounted s before now) (sym memory) (read_rises s before now h)
@@ -254,6 +254,20 @@ read_after (Ended s) answer before now e h = elim (ended s answer e) [
 read_after (Found text) answer before now (inl (inl done)) h = subst (λ s. IsStatusReadCounted s before now) (sym done) h
 read_after (Found text) answer before now (inl (inr memory)) h = subst (λ s. IsStatusReadCounted s before now) (sym memory) (omega (arith, h))
 read_after (Found text) answer before now (inr fault) h = subst (λ s. IsStatusReadCounted s before now) (sym fault) h
+
+image_unread : (image : Option (List ℕ)) (before now : ℕ) → now ≡ before → IsStatusReadCounted (status_of_image image) before now
+image_unread None before now same = same
+image_unread (Some bytes) before now same = same
+
+task_unread : (task : Task) (inputs : Inputs) (before now : ℕ) → now ≡ before → IsStatusReadCounted (task_status task inputs) before now
+task_unread Check inputs before now same = same
+task_unread (Frame at size) inputs before now same = image_unread (image_in at size inputs.script inputs.fonts) before now same
+
+-- No task fails at a file.
+pub read_same : (task : Task) (inputs : Inputs) (answer : Status) (before now : ℕ) → now ≡ before → IsOrFault task (task_status task inputs) answer → IsStatusReadCounted answer before now
+read_same task inputs answer before now same (inl (inl wanted)) = subst (λ s. IsStatusReadCounted s before now) (sym wanted) (task_unread task inputs before now same)
+read_same task inputs answer before now same (inl (inr memory)) = subst (λ s. IsStatusReadCounted s before now) (sym memory) (omega (arith, same))
+read_same task inputs answer before now same (inr (done, fault)) = subst (λ s. IsStatusReadCounted s before now) (sym fault) same
 
 written_rises : (answer : Status) (before now : ℕ) → IsWriteCounted answer before now → before ≤ now
 written_rises status.Done before now h = omega (arith, h)
@@ -267,7 +281,7 @@ written_rises (status.TooLarge what limit) before now h = omega (arith, h)
 written_rises status.OutOfMemory before now h = h
 written_rises status.NotBuilt before now h = omega (arith, h)
 
-pub written_after : (outcome : Outcome) (answer : Status) (before now : ℕ) → IsEnded outcome answer → IsWriteCounted (outcome_status outcome) before now → IsWriteCounted answer before now
+pub written_after : (outcome : Outcome) (answer : Status) (before now : ℕ) → IsEnded outcome answer → IsWriteCounted (status_if_put outcome) before now → IsWriteCounted answer before now
 written_after (Ended s) answer before now e h = elim (ended s answer e) [
   | inl same ↦ subst (λ s. IsWriteCounted s before now) (sym same) h
   | inr memory ↦ subst (λ s. IsWriteCounted s before now) (sym memory) (written_rises s before now h)
@@ -278,7 +292,7 @@ written_after (Found text) answer before now (inr fault) h = subst (λ s. IsWrit
 
 -- ---- refusals leave the frames sink
 
-once_of : (task : Task) (answer : Status) (n : ℕ) → IsRefusal answer → IsShownOnce task answer n n
+once_of : (task : Task) (answer : Status) (n : ℕ) → IsRefusal answer → IsFramesPutCount task answer n n
 once_of task status.Done n h = absurd h
 once_of task (status.NoSuchFile name) n h = refl
 once_of task (status.ReadFault name) n h = refl
@@ -301,7 +315,7 @@ written_of (status.TooLarge what limit) n h = refl
 written_of status.OutOfMemory n h = omega arith
 written_of status.NotBuilt n h = absurd h
 
-pub refused_once : (told : List ℕ → Told) (job : Job) (answer : Status) (n : ℕ) → AreRead told job.script job.fonts (Err answer) → IsShownOnce job.task answer n n
+pub refused_once : (told : List ℕ → Told) (job : Job) (answer : Status) (n : ℕ) → AreRead told job.script job.fonts (Err answer) → IsFramesPutCount job.task answer n n
 refused_once told job answer n read = once_of job.task answer n (read_kind told job.script job.fonts answer read)
 
 pub refused_written : (told : List ℕ → Told) (job : Job) (answer : Status) (n : ℕ) → AreRead told job.script job.fonts (Err answer) → IsWriteCounted answer n n
@@ -325,7 +339,7 @@ fault_or_decided (Err status.OutOfMemory) = inr (inr refl)
 fault_or_decided (Err status.NotBuilt) = inl tt
 
 -- The task's sink fails only where its count rises.
-sink_rose : (task : Task) (answer : Status) (frames report : Sunk) (text : List ℕ) → answer ≡ status.WriteFault (sink_of task) →
+sink_rose : (task : Task) (answer : Status) (frames report : SinkChange) (text : List ℕ) → answer ≡ status.WriteFault (sink_of task) →
     IsWriteCounted answer frames.faults_before frames.faults_now →
     IsReported answer report.held_before report.held_now report.faults_before report.faults_now text →
     Rose frames.faults_before frames.faults_now ⊎ Rose report.faults_before report.faults_now
@@ -348,7 +362,7 @@ wanting task answer (inl (inr memory)) = memory
 wanting task answer (inr (done, fault)) = absurd cc
 
 -- Files that are told decide a run without a fault.
-pub decides : FilesDecide → (told : List ℕ → Told) (job : Job) (frames report : Sunk) (before now : ℕ) (answer : Status) →
+pub decides : FilesDecide → (told : List ℕ → Told) (job : Job) (frames report : SinkChange) (before now : ℕ) (answer : Status) →
     IsJobRun told job frames report answer → IsStatusReadCounted answer before now → IsWriteCounted answer frames.faults_before frames.faults_now →
     (Rose before now → ⊥) → (Rose frames.faults_before frames.faults_now → ⊥) → (Rose report.faults_before report.faults_now → ⊥) → Decides told job answer
 decides law told job frames report before now answer run counted written stays shows reports = λ reading known read decided.

@@ -1,4 +1,4 @@
--- What each status says of the counts of faults and of what the sinks got.
+-- Public: what each status says of the counts of faults and of what the sinks got.
 use Rattle.std.specs.Prelude.{◌≡◌, ◌⊎◌, ℕ, ◌+◌, ◌≤◌, List, [], Option, string_bytes}
 use Rattle.std.specs.Io.KnownBytes.{Appends, Keeps}
 use Rattle.ass_num.specs.Causes.{Rose}
@@ -42,25 +42,25 @@ IsImageShown OutOfMemory old new image = AppendsFront old new image
 IsImageShown _ old new image = Keeps old new
 
 -- How often the frames sink was asked by a task that was done whole: once for an image, and not at all by a check.
-abbrev pub IsImagePut : Task → ℕ → ℕ → Type 0
-IsImagePut Check before now = now ≡ before
-IsImagePut (Frame at size) before now = IsOneMore before now
+abbrev pub IsImagePutCount : Task → ℕ → ℕ → Type 0
+IsImagePutCount Check before now = now ≡ before
+IsImagePutCount (Frame at size) before now = IsOneMore before now
 
 -- How often it was asked by a task for which memory was wanting.
-abbrev pub MayBePut : Task → ℕ → ℕ → Type 0
-MayBePut Check before now = now ≡ before
-MayBePut (Frame at size) before now = (before ≤ now) × (now ≤ before + 1)
+abbrev pub IsUnfinishedPutCount : Task → ℕ → ℕ → Type 0
+IsUnfinishedPutCount Check before now = now ≡ before
+IsUnfinishedPutCount (Frame at size) before now = (before ≤ now) × (now ≤ before + 1)
 
 -- How often it was asked at each status: not at all at a refusal.
-abbrev pub IsShownOnce : Task → Status → ℕ → ℕ → Type 0
-IsShownOnce task Done before now = IsImagePut task before now
-IsShownOnce task (WriteFault Frames) before now = IsOneMore before now
-IsShownOnce task OutOfMemory before now = MayBePut task before now
-IsShownOnce task _ before now = now ≡ before
+abbrev pub IsFramesPutCount : Task → Status → ℕ → ℕ → Type 0
+IsFramesPutCount task Done before now = IsImagePutCount task before now
+IsFramesPutCount task (WriteFault Frames) before now = IsOneMore before now
+IsFramesPutCount task OutOfMemory before now = IsUnfinishedPutCount task before now
+IsFramesPutCount task _ before now = now ≡ before
 
 -- The report got the line of the status, or a front of it where its count rose.
-abbrev pub IsLinePut : Status → Option (List ℕ) → Option (List ℕ) → ℕ → ℕ → Type 0
-IsLinePut status old new before now =
+abbrev pub IsLineReported : Status → Option (List ℕ) → Option (List ℕ) → ℕ → ℕ → Type 0
+IsLineReported status old new before now =
     (Appends old new (status_line status) × (now ≡ before)) ⊎ (AppendsFront old new (status_line status) × Rose before now)
 
 -- What the report got: of a job that was done whole what was to be reported, of a fault of the report a front of that, and of any other status its line. At want of memory a front of its line may be all.
@@ -68,18 +68,18 @@ abbrev pub IsReported : Status → Option (List ℕ) → Option (List ℕ) → �
 IsReported Done old new before now text = Appends old new text × (now ≡ before)
 IsReported (WriteFault Report) old new before now text = AppendsFront old new text × Rose before now × (before ≤ now)
 IsReported OutOfMemory old new before now text = AppendsFront old new (status_line OutOfMemory) × (before ≤ now)
-IsReported status old new before now text = IsLinePut status old new before now
+IsReported status old new before now text = IsLineReported status old new before now
 
 -- How often the report was asked by a task that was done whole: once for a check's report, and not at all by a picture.
-abbrev pub IsTextPut : Task → ℕ → ℕ → Type 0
-IsTextPut Check before now = IsOneMore before now
-IsTextPut (Frame at size) before now = now ≡ before
+abbrev pub IsTextPutCount : Task → ℕ → ℕ → Type 0
+IsTextPutCount Check before now = IsOneMore before now
+IsTextPutCount (Frame at size) before now = now ≡ before
 
 -- How often it was asked at each status: once for its line. Where that put wanted memory, the line of that is put too.
-abbrev pub IsReportedOnce : Task → Status → ℕ → ℕ → Type 0
-IsReportedOnce task Done before now = IsTextPut task before now
-IsReportedOnce task OutOfMemory before now = Rose before now × (before ≤ now) × (now ≤ before + 2)
-IsReportedOnce task _ before now = IsOneMore before now
+abbrev pub IsReportPutCount : Task → Status → ℕ → ℕ → Type 0
+IsReportPutCount task Done before now = IsTextPutCount task before now
+IsReportPutCount task OutOfMemory before now = Rose before now × (before ≤ now) × (now ≤ before + 2)
+IsReportPutCount task _ before now = IsOneMore before now
 
 abbrev pub not_built : Outcome
 not_built = Ended NotBuilt
@@ -88,14 +88,14 @@ abbrev pub out_of_memory : Outcome
 out_of_memory = Ended OutOfMemory
 
 -- the status of an outcome, where what is to be reported is put whole
-abbrev pub outcome_status : Outcome → Status
-outcome_status (Ended status) = status
-outcome_status (Found text) = Done
+abbrev pub status_if_put : Outcome → Status
+status_if_put (Ended status) = status
+status_if_put (Found text) = Done
 
 -- what is to be reported of a job that was done whole
-abbrev pub text_in : Outcome → List ℕ
-text_in (Ended status) = []
-text_in (Found text) = string_bytes text
+abbrev pub text_to_report : Outcome → List ℕ
+text_to_report (Ended status) = []
+text_to_report (Found text) = string_bytes text
 
 -- The report hasn't failed before anything was reported.
 abbrev pub IsReportable : Outcome → Type 0
@@ -103,12 +103,12 @@ IsReportable (Ended (WriteFault Report)) = ⊥
 IsReportable _ = Unit {0}
 
 -- A check alone has found something to report where it was done whole, and no task has failed at another's sink.
-abbrev pub IsOwn : Task → Outcome → Type 0
-IsOwn task (Ended (WriteFault Report)) = ⊥
-IsOwn Check (Ended (WriteFault Frames)) = ⊥
-IsOwn Check (Ended Done) = ⊥
-IsOwn (Frame at size) (Found text) = ⊥
-IsOwn _ _ = Unit {0}
+abbrev pub SuitsTask : Task → Outcome → Type 0
+SuitsTask task (Ended (WriteFault Report)) = ⊥
+SuitsTask Check (Ended (WriteFault Frames)) = ⊥
+SuitsTask Check (Ended Done) = ⊥
+SuitsTask (Frame at size) (Found text) = ⊥
+SuitsTask _ _ = Unit {0}
 
 -- How a run ends after an outcome: as it says, or by a fault of the report or want of memory.
 abbrev pub IsEnded : Outcome → Status → Type 0
@@ -117,7 +117,7 @@ IsEnded (Ended status) answer = IsOrMemory status answer
 IsEnded (Found text) answer = IsOrMemory Done answer ⊎ (answer ≡ WriteFault Report)
 
 -- How often the report was asked at the end of a run after an outcome.
-abbrev pub IsReportPut : Outcome → Status → ℕ → ℕ → Type 0
-IsReportPut (Ended Done) answer before now = now ≡ before
-IsReportPut outcome OutOfMemory before now = Rose before now × (before ≤ now) × (now ≤ before + 2)
-IsReportPut outcome answer before now = IsOneMore before now
+abbrev pub IsFinishPutCount : Outcome → Status → ℕ → ℕ → Type 0
+IsFinishPutCount (Ended Done) answer before now = now ≡ before
+IsFinishPutCount outcome OutOfMemory before now = Rose before now × (before ≤ now) × (now ≤ before + 2)
+IsFinishPutCount outcome answer before now = IsOneMore before now

@@ -1,4 +1,4 @@
--- What a job puts to the two sinks.
+-- Public: what a job puts to the two sinks.
 use Rattle.std.specs.Prelude.{ℕ, pos, List, [], ◌∷◌, Option, Some, None, Result, Ok, Err}
 use Rattle.std.specs.Option.{option_map, option_map_or}
 use Rattle.ass_num.specs.declared.size.Size.{Size}

@@ -1,4 +1,4 @@
--- A whole run of a job.
+-- Public: a whole run of a job.
 use Rattle.std.specs.Prelude.{◌≡◌, ℕ, List, Option, Result}
 use Rattle.ass_io.specs.Fetched.{Told}
 use Rattle.input_files.specs.Inputs.{AreRead}
@@ -7,31 +7,31 @@ use Rattle.input_files.specs.declared.inputs.Inputs.{Inputs}
 use Rattle.play_words.specs.declared.job.Job.{Job}
 use Rattle.run_status.specs.declared.status.Status.{Status}
 use Rattle.run_status.specs.declared.status.Status.TheVariants.{Done}
-use Rattle.frame_play.specs.Outcomes.{IsOrFault, IsOrMemory, IsOwn, IsReported, IsImageShown, outcome_status, text_in}
+use Rattle.frame_play.specs.Outcomes.{IsOrFault, IsOrMemory, SuitsTask, IsReported, IsImageShown, status_if_put, text_to_report}
 use Rattle.frame_play.specs.Outputs.{output_asked, status_asked}
 use Rattle.frame_play.specs.declared.outcome.Outcome.{Outcome}
 
 -- What a sink held and what it holds, where it tells that, and its counts of faults.
-pub record Sunk : Type 0 where
+pub record SinkChange : Type 0 where
   pub held_before : Option (List ℕ)
   pub held_now : Option (List ℕ)
   pub faults_before : ℕ
   pub faults_now : ℕ
 
-abbrev pub sunk : Option (List ℕ) → Option (List ℕ) → ℕ → ℕ → Sunk
-sunk held_before held_now faults_before faults_now = record { held_before = held_before; held_now = held_now; faults_before = faults_before; faults_now = faults_now }
+abbrev pub sink_change : Option (List ℕ) → Option (List ℕ) → ℕ → ℕ → SinkChange
+sink_change held_before held_now faults_before faults_now = record { held_before = held_before; held_now = held_now; faults_before = faults_before; faults_now = faults_now }
 
 -- A job before anything is reported. Its files are read with one answer, as far as it is told what they hold; that answer asks for the status, for the image, and for what is to be reported.
-pub record IsWorked (told : List ℕ → Told) (job : Job) (frames : Sunk) (outcome : Outcome) : Type 0 where
+pub record IsWorked (told : List ℕ → Told) (job : Job) (frames : SinkChange) (outcome : Outcome) : Type 0 where
   pub reading : Result Inputs Status
   pub read : AreRead told job.script job.fonts reading
-  pub answered : IsOrFault job.task (status_asked job.task reading) (outcome_status outcome)
-  pub shown : IsImageShown (outcome_status outcome) frames.held_before frames.held_now (output_asked job.task reading).frames
-  pub text : outcome_status outcome ≡ Done → text_in outcome ≡ (output_asked job.task reading).report
-  pub own : IsOwn job.task outcome
+  pub answered : IsOrFault job.task (status_asked job.task reading) (status_if_put outcome)
+  pub shown : IsImageShown (status_if_put outcome) frames.held_before frames.held_now (output_asked job.task reading).frames
+  pub text : status_if_put outcome ≡ Done → text_to_report outcome ≡ (output_asked job.task reading).report
+  pub own : SuitsTask job.task outcome
 
 -- A run of a job. Its files are read with one answer, as far as it is told what they hold; that answer asks for the status, and for what the sinks get.
-pub record IsJobRun (told : List ℕ → Told) (job : Job) (frames report : Sunk) (status : Status) : Type 0 where
+pub record IsJobRun (told : List ℕ → Told) (job : Job) (frames report : SinkChange) (status : Status) : Type 0 where
   pub reading : Result Inputs Status
   pub read : AreRead told job.script job.fonts reading
   pub answered : IsOrFault job.task (status_asked job.task reading) status

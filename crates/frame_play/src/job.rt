@@ -2,9 +2,9 @@
 
 ghost use Rattle.std.specs.Prelude.{◌≡◌, ◌≢◌, Ok, string_bytes};
 ghost use Rattle.ass_script.specs.Ranges.{IsScript};
-ghost use Rattle.frame_play.specs.Outcomes.{IsOrFault, IsOwn, IsStatusReadCounted, IsImageShown, IsShownOnce, IsWriteCounted, outcome_status, text_in};
+ghost use Rattle.frame_play.specs.Outcomes.{IsOrFault, SuitsTask, IsStatusReadCounted, IsImageShown, IsFramesPutCount, IsWriteCounted, status_if_put, text_to_report};
 ghost use Rattle.frame_play.specs.Outputs.{output_of, task_status};
-ghost use Rattle.frame_play.specs.Runs.{IsWorked, sunk};
+ghost use Rattle.frame_play.specs.Runs.{IsWorked, sink_change};
 ghost use Rattle.play_words.specs.Words.{IsTask};
 ghost use Rattle.run_status.specs.declared.status.Status.TheVariants.{Done as done_status};
 
@@ -21,10 +21,10 @@ use std::alloc::Global;
 /// What a check is to report.
 fn check(alloc: Global, inputs: &Inputs) -> Outcome
     requires { IsScript inputs.now.script }
-    ensures answered { IsOrFault Task.Check (task_status Task.Check inputs.now) (outcome_status result) }
-    ensures text { outcome_status result ≡ done_status → text_in result ≡ (output_of Task.Check inputs.now).report }
-    ensures own { IsOwn Task.Check result }
-    ensures memory { outcome_status result ≢ done_status → result ≡ Outcome.Ended Status.OutOfMemory }
+    ensures answered { IsOrFault Task.Check (task_status Task.Check inputs.now) (status_if_put result) }
+    ensures text { status_if_put result ≡ done_status → text_to_report result ≡ (output_of Task.Check inputs.now).report }
+    ensures own { SuitsTask Task.Check result }
+    ensures memory { status_if_put result ≢ done_status → result ≡ Outcome.Ended Status.OutOfMemory }
 {
     match check_report(alloc, &inputs.script, inputs.fonts.as_slice()) {
         Ok(text) => Outcome::Found(text),
@@ -36,12 +36,12 @@ fn check(alloc: Global, inputs: &Inputs) -> Outcome
 fn do_task<F: Sink>(alloc: Global, task: &Task, inputs: &Inputs, frames: &mut F) -> Outcome
     requires task { IsTask task.now }
     requires script { IsScript inputs.now.script }
-    ensures answered { IsOrFault task.now (task_status task.now inputs.now) (outcome_status result) }
-    ensures shown { IsImageShown (outcome_status result) (F.held frames.old) (F.held frames.new) (output_of task.now inputs.now).frames }
-    ensures once { IsShownOnce task.now (outcome_status result) (F.puts frames.old) (F.puts frames.new) }
-    ensures counted { IsWriteCounted (outcome_status result) (F.faults frames.old) (F.faults frames.new) }
-    ensures text { outcome_status result ≡ done_status → text_in result ≡ (output_of task.now inputs.now).report }
-    ensures own { IsOwn task.now result }
+    ensures answered { IsOrFault task.now (task_status task.now inputs.now) (status_if_put result) }
+    ensures shown { IsImageShown (status_if_put result) (F.held frames.old) (F.held frames.new) (output_of task.now inputs.now).frames }
+    ensures once { IsFramesPutCount task.now (status_if_put result) (F.puts frames.old) (F.puts frames.new) }
+    ensures counted { IsWriteCounted (status_if_put result) (F.faults frames.old) (F.faults frames.new) }
+    ensures text { status_if_put result ≡ done_status → text_to_report result ≡ (output_of task.now inputs.now).report }
+    ensures own { SuitsTask task.now result }
 {
     match task {
         Task::Check => check(alloc, inputs),
@@ -59,10 +59,10 @@ fn do_task<F: Sink>(alloc: Global, task: &Task, inputs: &Inputs, frames: &mut F)
 /// Does a job. Nothing goes to the frames sink before all files were read.
 pub fn do_job<S: Shelf, F: Sink>(alloc: Global, job: &Job, shelf: &mut S, frames: &mut F) -> Outcome
     requires { IsTask job.now.task }
-    ensures run { IsWorked (S.told shelf.old) job.now (sunk (F.held frames.old) (F.held frames.new) (F.faults frames.old) (F.faults frames.new)) result }
-    ensures read { IsStatusReadCounted (outcome_status result) (S.faults shelf.old) (S.faults shelf.new) }
-    ensures once { IsShownOnce job.now.task (outcome_status result) (F.puts frames.old) (F.puts frames.new) }
-    ensures write { IsWriteCounted (outcome_status result) (F.faults frames.old) (F.faults frames.new) }
+    ensures run { IsWorked (S.told shelf.old) job.now (sink_change (F.held frames.old) (F.held frames.new) (F.faults frames.old) (F.faults frames.new)) result }
+    ensures read { IsStatusReadCounted (status_if_put result) (S.faults shelf.old) (S.faults shelf.new) }
+    ensures once { IsFramesPutCount job.now.task (status_if_put result) (F.puts frames.old) (F.puts frames.new) }
+    ensures write { IsWriteCounted (status_if_put result) (F.faults frames.old) (F.faults frames.new) }
 {
     match read_inputs(alloc, shelf, &job.script, job.fonts.as_slice()) {
         Ok(inputs) => do_task(alloc, &job.task, &inputs, frames),

@@ -10,4 +10,5 @@ mod report;
 mod tests;
 
 pub use play::{calm, top};
+pub use report::give_up;
 pub use run_status::{BadScript, Status, What, Which};

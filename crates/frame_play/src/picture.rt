@@ -2,8 +2,9 @@
 
 ghost use Rattle.std.specs.Prelude.{◌≡◌, ◌≤◌, ◌≢◌, ℕ, [], IfOk};
 ghost use Rattle.std.specs.Option.{option_map, option_map_or};
+ghost use Rattle.ass_num.specs.Limits.{IsFrameSize, IsInstant};
 ghost use Rattle.ass_script.specs.Ranges.{IsScript};
-ghost use Rattle.frame_play.specs.Outcomes.{IsOrFault, IsImageShown, IsShownOnce, IsWriteCounted};
+ghost use Rattle.frame_play.specs.Outcomes.{IsOrFault, IsImageShown, IsFramesPutCount, IsWriteCounted};
 ghost use Rattle.frame_play.specs.Outputs.{image_in, image_of, status_of_image};
 ghost use Rattle.play_words.specs.declared.job.Task.TheVariants.{Frame};
 
@@ -25,9 +26,8 @@ fn image_of(
     font: &Font,
 ) -> Mem<Option<Vec<u8>>>
     requires script { IsScript script.now }
-    requires at { at ≤ 4000000000000 }
-    requires wide { size.now.w ≤ 4096 }
-    requires high { size.now.h ≤ 4096 }
+    requires at { IsInstant at }
+    requires size { IsFrameSize size.now }
     ensures { IfOk result (λ image. option_map (λ bytes. bytes.items) image ≡ image_of at size.now script.now font.now) }
 {
     match plain_line(alloc, script, font, size)? {
@@ -49,9 +49,8 @@ fn image_in(
     fonts: &[Font],
 ) -> Mem<Option<Vec<u8>>>
     requires script { IsScript script.now }
-    requires at { at ≤ 4000000000000 }
-    requires wide { size.now.w ≤ 4096 }
-    requires high { size.now.h ≤ 4096 }
+    requires at { IsInstant at }
+    requires size { IsFrameSize size.now }
     ensures { IfOk result (λ image. option_map (λ bytes. bytes.items) image ≡ image_in at size.now script.now fonts.now) }
 {
     match fonts.first() {
@@ -64,7 +63,7 @@ fn image_in(
 fn put_image<F: Sink>(image: &[u8], frames: &mut F) -> Status
     ensures answered { (at : ℕ) (size : Size) → IsOrFault (Frame at size) Status.Done result }
     ensures shown { IsImageShown result (F.held frames.old) (F.held frames.new) image.now }
-    ensures once { (at : ℕ) (size : Size) → IsShownOnce (Frame at size) result (F.puts frames.old) (F.puts frames.new) }
+    ensures once { (at : ℕ) (size : Size) → IsFramesPutCount (Frame at size) result (F.puts frames.old) (F.puts frames.new) }
     ensures counted { IsWriteCounted result (F.faults frames.old) (F.faults frames.new) }
     ensures own { result ≢ Status.WriteFault Which.Report }
 {
@@ -85,12 +84,11 @@ pub fn draw<F: Sink>(
     frames: &mut F,
 ) -> Status
     requires script { IsScript script.now }
-    requires at { at ≤ 4000000000000 }
-    requires wide { size.now.w ≤ 4096 }
-    requires high { size.now.h ≤ 4096 }
+    requires at { IsInstant at }
+    requires size { IsFrameSize size.now }
     ensures answered { IsOrFault (Frame at size.now) (status_of_image (image_in at size.now script.now fonts.now)) result }
     ensures shown { IsImageShown result (F.held frames.old) (F.held frames.new) (option_map_or (λ image. image) (image_in at size.now script.now fonts.now) []) }
-    ensures once { IsShownOnce (Frame at size.now) result (F.puts frames.old) (F.puts frames.new) }
+    ensures once { IsFramesPutCount (Frame at size.now) result (F.puts frames.old) (F.puts frames.new) }
     ensures counted { IsWriteCounted result (F.faults frames.old) (F.faults frames.new) }
     ensures own { result ≢ Status.WriteFault Which.Report }
 {

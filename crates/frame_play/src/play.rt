@@ -2,9 +2,9 @@
 
 ghost use Rattle.std.specs.Prelude.{◌≡◌, ◌⊎◌, [], IsSomeAnd};
 ghost use Rattle.ass_num.specs.Causes.{Rose};
-ghost use Rattle.frame_play.specs.Outcomes.{IsOrMemory, IsStatusReadCounted, IsReportPut, IsReportable, IsReported, IsReportedOnce};
-ghost use Rattle.frame_play.specs.Outcomes.{IsShownOnce, IsWriteCounted, not_built, out_of_memory, outcome_status};
-ghost use Rattle.frame_play.specs.Runs.{Decides, IsJobRun, IsWorked, sunk};
+ghost use Rattle.frame_play.specs.Outcomes.{IsOrMemory, IsStatusReadCounted, IsFinishPutCount, IsReportable, IsReported, IsReportPutCount};
+ghost use Rattle.frame_play.specs.Outcomes.{IsFramesPutCount, IsWriteCounted, not_built, out_of_memory, status_if_put};
+ghost use Rattle.frame_play.specs.Runs.{Decides, IsJobRun, IsWorked, sink_change};
 ghost use Rattle.play_words.specs.Words.{Spells, SpellsNone, texts};
 
 use crate::job::do_job;
@@ -34,12 +34,12 @@ pub fn top<S: Shelf, F: Sink, R: Sink, G: Gate + Sync>(
     ensures other_frames { SpellsNone (texts words.now) → frames.new ≡ frames.old }
     ensures other_report { SpellsNone (texts words.now) → IsReported result (R.held report.old) (R.held report.new)
         (R.faults report.old) (R.faults report.new) [] }
-    ensures other_once { SpellsNone (texts words.now) → IsReportPut not_built result (R.puts report.old) (R.puts report.new) }
+    ensures other_once { SpellsNone (texts words.now) → IsFinishPutCount not_built result (R.puts report.old) (R.puts report.new) }
 
     // The files are read in order, and what they hold asks for the answer and for what both sinks get.
     ensures run { (job : Job) → Spells (texts words.now) job → IsJobRun (S.told shelf.old) job
-        (sunk (F.held frames.old) (F.held frames.new) (F.faults frames.old) (F.faults frames.new))
-        (sunk (R.held report.old) (R.held report.new) (R.faults report.old) (R.faults report.new)) result }
+        (sink_change (F.held frames.old) (F.held frames.new) (F.faults frames.old) (F.faults frames.new))
+        (sink_change (R.held report.old) (R.held report.new) (R.faults report.old) (R.faults report.new)) result }
 
     // Where all files are told and no count of faults rose, they decide the answer.
     ensures decided { (job : Job) → Spells (texts words.now) job
@@ -54,9 +54,9 @@ pub fn top<S: Shelf, F: Sink, R: Sink, G: Gate + Sync>(
 
     // Each sink gets what it gets by one put.
     ensures shown_once { (job : Job) → Spells (texts words.now) job
-        → IsShownOnce job.task result (F.puts frames.old) (F.puts frames.new) }
+        → IsFramesPutCount job.task result (F.puts frames.old) (F.puts frames.new) }
     ensures reported_once { (job : Job) → Spells (texts words.now) job
-        → IsReportedOnce job.task result (R.puts report.old) (R.puts report.new) }
+        → IsReportPutCount job.task result (R.puts report.old) (R.puts report.new) }
 {
     match calm(alloc, words, shelf, frames, report) {
         Some(status) => status,
@@ -78,12 +78,12 @@ pub fn calm<S: Shelf, F: Sink, R: Sink>(
     ensures other_frames { SpellsNone (texts words.now) → frames.new ≡ frames.old }
     ensures other_report { SpellsNone (texts words.now) → IsSomeAnd result (λ status. IsReported status (R.held report.old) (R.held report.new)
         (R.faults report.old) (R.faults report.new) []) }
-    ensures other_once { SpellsNone (texts words.now) → IsSomeAnd result (λ status. IsReportPut not_built status (R.puts report.old) (R.puts report.new)) }
+    ensures other_once { SpellsNone (texts words.now) → IsSomeAnd result (λ status. IsFinishPutCount not_built status (R.puts report.old) (R.puts report.new)) }
 
     // The files are read in order, and what they hold asks for the answer and for what both sinks get.
     ensures run { (job : Job) → Spells (texts words.now) job → IsSomeAnd result (IsJobRun (S.told shelf.old) job
-        (sunk (F.held frames.old) (F.held frames.new) (F.faults frames.old) (F.faults frames.new))
-        (sunk (R.held report.old) (R.held report.new) (R.faults report.old) (R.faults report.new))) }
+        (sink_change (F.held frames.old) (F.held frames.new) (F.faults frames.old) (F.faults frames.new))
+        (sink_change (R.held report.old) (R.held report.new) (R.faults report.old) (R.faults report.new))) }
 
     // Where all files are told and no count of faults rose, they decide the answer.
     ensures decided { (job : Job) → Spells (texts words.now) job
@@ -98,9 +98,9 @@ pub fn calm<S: Shelf, F: Sink, R: Sink>(
 
     // Each sink gets what it gets by one put.
     ensures shown_once { (job : Job) → Spells (texts words.now) job
-        → IsSomeAnd result (λ status. IsShownOnce job.task status (F.puts frames.old) (F.puts frames.new)) }
+        → IsSomeAnd result (λ status. IsFramesPutCount job.task status (F.puts frames.old) (F.puts frames.new)) }
     ensures reported_once { (job : Job) → Spells (texts words.now) job
-        → IsSomeAnd result (λ status. IsReportedOnce job.task status (R.puts report.old) (R.puts report.new)) }
+        → IsSomeAnd result (λ status. IsReportPutCount job.task status (R.puts report.old) (R.puts report.new)) }
 {
     files_decide();
     let outcome = do_words(alloc, words, shelf, frames);
@@ -118,11 +118,11 @@ fn do_words<S: Shelf, F: Sink>(
     ensures other_shelf { SpellsNone (texts words.now) → shelf.new ≡ shelf.old }
     ensures other_frames { SpellsNone (texts words.now) → frames.new ≡ frames.old }
     ensures run { (job : Job) → Spells (texts words.now) job → IsWorked (S.told shelf.old) job
-        (sunk (F.held frames.old) (F.held frames.new) (F.faults frames.old) (F.faults frames.new)) result }
-    ensures read { IsStatusReadCounted (outcome_status result) (S.faults shelf.old) (S.faults shelf.new) }
+        (sink_change (F.held frames.old) (F.held frames.new) (F.faults frames.old) (F.faults frames.new)) result }
+    ensures read { IsStatusReadCounted (status_if_put result) (S.faults shelf.old) (S.faults shelf.new) }
     ensures once { (job : Job) → Spells (texts words.now) job
-        → IsShownOnce job.task (outcome_status result) (F.puts frames.old) (F.puts frames.new) }
-    ensures write { IsWriteCounted (outcome_status result) (F.faults frames.old) (F.faults frames.new) }
+        → IsFramesPutCount job.task (status_if_put result) (F.puts frames.old) (F.puts frames.new) }
+    ensures write { IsWriteCounted (status_if_put result) (F.faults frames.old) (F.faults frames.new) }
     ensures reportable { IsReportable result }
 {
     one_job();

@@ -3,7 +3,7 @@
 ghost use Rattle.std.specs.Prelude.{◌≡◌, ◌≤◌};
 ghost use Rattle.ass_io.specs.Counts.{IsOneMore};
 ghost use Rattle.ass_io.specs.Written.{AppendsFront};
-ghost use Rattle.frame_play.specs.Outcomes.{IsEnded, IsReportable, IsReported, IsReportPut, text_in};
+ghost use Rattle.frame_play.specs.Outcomes.{IsEnded, IsReportable, IsReported, IsFinishPutCount, text_to_report};
 ghost use Rattle.run_status.specs.Statuses.{status_line};
 
 use crate::outcome::Outcome;
@@ -19,8 +19,8 @@ pub fn finish<R: Sink>(alloc: Global, outcome: Outcome, report: &mut R) -> Statu
     requires { IsReportable outcome }
     ensures answer { IsEnded outcome result }
     ensures report { IsReported result (R.held report.old) (R.held report.new)
-        (R.faults report.old) (R.faults report.new) (text_in outcome) }
-    ensures once { IsReportPut outcome result (R.puts report.old) (R.puts report.new) }
+        (R.faults report.old) (R.faults report.new) (text_to_report outcome) }
+    ensures once { IsFinishPutCount outcome result (R.puts report.old) (R.puts report.new) }
 {
     match outcome {
         Outcome::Found(text) => match report.put(text.as_bytes()) {
@@ -40,8 +40,8 @@ pub fn finish<R: Sink>(alloc: Global, outcome: Outcome, report: &mut R) -> Statu
     }
 }
 
-/// Puts the line of a want of memory, or a front of it.
-fn give_up<R: Sink>(report: &mut R) -> Status
+/// Puts the line of a want of memory, or a front of it. It takes no memory.
+pub fn give_up<R: Sink>(report: &mut R) -> Status
     ensures answer { result ≡ Status.OutOfMemory }
     ensures report { AppendsFront (R.held report.old) (R.held report.new) (status_line Status.OutOfMemory) }
     ensures counted { R.faults report.old ≤ R.faults report.new }

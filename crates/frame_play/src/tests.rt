@@ -8,16 +8,44 @@ use std::process::Abort;
 use std::test::Fail;
 
 /// What stands before the size of the script's style.
-const HEAD: &str =
-    "[Script Info]\nScriptType: v4.00+\nPlayResX: 4\nPlayResY: 3\nWrapStyle: 2\n[V4+ Styles]\nStyle: Default,dot,";
+const HEAD: &str = "[Script Info]
+ScriptType: v4.00+
+PlayResX: 4
+PlayResY: 3
+WrapStyle: 2
+[V4+ Styles]
+Style: Default,dot,";
 
 /// What stands between the size and the start of the script's line.
 const STYLE: &str =
-    ",&H00FFFFFF,&H000000FF,&H00000000,&H00000000,0,0,0,0,100,100,0,0,1,0,0,7,0,0,0,1\n[Events]\nDialogue: 0,";
+    ",&H00FFFFFF,&H000000FF,&H00000000,&H00000000,0,0,0,0,100,100,0,0,1,0,0,7,0,0,0,1
+[Events]
+Dialogue: 0,";
 
 /// A font up to its last bitmap.
-const FONT: &str =
-    "STARTFONT 2.1\nFONT dot\nSIZE 1 75 75\nFONTBOUNDINGBOX 1 1 0 0\nSTARTPROPERTIES 2\nFONT_ASCENT 1\nFONT_DESCENT 0\nENDPROPERTIES\nCHARS 2\nSTARTCHAR space\nENCODING 32\nSWIDTH 1000 0\nDWIDTH 1 0\nBBX 0 0 0 0\nBITMAP\nENDCHAR\nSTARTCHAR x\nENCODING 120\nSWIDTH 1000 0\nDWIDTH 1 0\nBBX 1 1 0 0\nBITMAP\n";
+const FONT: &str = "STARTFONT 2.1
+FONT dot
+SIZE 1 75 75
+FONTBOUNDINGBOX 1 1 0 0
+STARTPROPERTIES 2
+FONT_ASCENT 1
+FONT_DESCENT 0
+ENDPROPERTIES
+CHARS 2
+STARTCHAR space
+ENCODING 32
+SWIDTH 1000 0
+DWIDTH 1 0
+BBX 0 0 0 0
+BITMAP
+ENDCHAR
+STARTCHAR x
+ENCODING 120
+SWIDTH 1000 0
+DWIDTH 1 0
+BBX 1 1 0 0
+BITMAP
+";
 
 /// Scripts by their names: the size, the start and the text of each.
 const SCRIPTS: [(&str, &str, &str, &str); 5] = [
@@ -27,18 +55,6 @@ const SCRIPTS: [(&str, &str, &str, &str); 5] = [
     ("bold.ass", "1", "0:00:00.00", "{\\b1}x"),
     ("bad.ass", "1", "0:00:xx.00", "x"),
 ];
-
-/// A run: the words; the fetch, the put of an image and the put of a report that fail; the exit status; the first bytes
-/// of the image, with how many bytes of it there are; the report.
-#[derive(Clone, Copy)]
-struct Row(
-    &'static str,
-    [u64; 3],
-    u8,
-    &'static [u8],
-    usize,
-    &'static str,
-);
 
 const SHOWN: &[u8] = b"P6\n# t=0 n=1\n4 3\n255\n\xff\xff\xff\0";
 
@@ -51,168 +67,93 @@ const LATER: &[u8] = b"P6\n# t=10000 n=1\n4 3\n255\n\0\0\0\0";
 
 const FIRST: &str = "frame --at 0 --size 4x3 row.ass dot.bdf";
 
-const CHECKED: &str = "play 4 3\nstyles 1\nlines 1\nfont 0 glyphs 2\n";
+const LAST: &str = "frame --at 10000 --size 4x3 row.ass dot.bdf";
 
-const PICTURES: [Row; 18] = [
-    Row(FIRST, [0; 3], 0, SHOWN, 57, ""),
-    Row(
-        "frame --at 10000 --size 4x3 row.ass dot.bdf",
-        [0; 3],
-        0,
-        LATER,
-        61,
-        "",
-    ),
-    Row(
-        "frame --at 0 --size 4x3 two.ass dot.bdf",
-        [0; 3],
-        0,
-        TWO,
-        57,
-        "",
-    ),
-    Row(
-        "frame --at 0 --size 4x3 big.ass dot.bdf",
-        [0; 3],
-        0,
-        BIG,
-        57,
-        "",
-    ),
-    Row(
-        "frame --at 0 --size 4x3 bold.ass dot.bdf",
-        [0; 3],
-        10,
-        b"",
-        0,
-        "not built\n",
-    ),
-    Row(
-        "frame --at 0 --size 3x4 row.ass dot.bdf",
-        [0; 3],
-        10,
-        b"",
-        0,
-        "not built\n",
-    ),
-    Row(
-        "frame --at 0 --size 3x4 bold.ass no.bdf",
-        [0; 3],
-        3,
-        b"",
-        0,
-        "no such file: no.bdf\n",
-    ),
-    Row(
-        "frame --at 0 --size 4x3 no.ass no.bdf",
-        [0; 3],
-        3,
-        b"",
-        0,
-        "no such file: no.ass\n",
-    ),
-    Row(
-        "frame --at 0 --size 4x3 dot.bdf no.bdf",
-        [0; 3],
-        5,
-        b"",
-        0,
-        "bad script: no [Events] section\n",
-    ),
-    Row(
-        "frame --at 0 --size 4x3 row.ass row.ass",
-        [0; 3],
-        6,
-        b"",
-        0,
-        "bad font 0 line 10: no end\n",
-    ),
-    Row(
-        "frame --size 4x3 --at 0 row.ass dot.bdf",
-        [0; 3],
-        10,
-        b"",
-        0,
-        "not built\n",
-    ),
-    Row(
-        "frame --at 00 --size 4x3 row.ass dot.bdf",
-        [0; 3],
-        10,
-        b"",
-        0,
-        "not built\n",
-    ),
-    Row(FIRST, [1, 0, 0], 4, b"", 0, "read fault: row.ass\n"),
-    Row(FIRST, [2, 0, 0], 4, b"", 0, "read fault: dot.bdf\n"),
-    Row(FIRST, [3, 0, 0], 0, SHOWN, 57, ""),
-    Row(FIRST, [0, 1, 0], 7, SHOWN, 28, "write fault: frames\n"),
-    Row(FIRST, [0, 2, 0], 0, SHOWN, 57, ""),
-    Row("", [0, 0, 1], 10, b"", 0, "not b"),
+/// Words, and the first bytes of the image, behind which all are 0, with how many bytes of it there are.
+const PICTURES: [(&str, &[u8], usize); 4] = [
+    (FIRST, SHOWN, 57),
+    (LAST, LATER, 61),
+    ("frame --at 0 --size 4x3 two.ass dot.bdf", TWO, 57),
+    ("frame --at 0 --size 4x3 big.ass dot.bdf", BIG, 57),
 ];
 
-const CHECKS: [Row; 12] = [
-    Row("check row.ass dot.bdf", [0; 3], 0, b"", 0, CHECKED),
-    Row(
-        "check bad.ass dot.bdf",
-        [0; 3],
-        0,
-        b"",
-        0,
-        "play 4 3\nstyles 1\nlines 1\nmalformed 0 Start 3\nfont 0 glyphs 2\n",
-    ),
-    Row(
-        "check row.ass dot.bdf dot.bdf",
-        [0; 3],
-        0,
-        b"",
-        0,
-        "play 4 3\nstyles 1\nlines 1\nfont 0 glyphs 2\nfont 1 glyphs 2\n",
-    ),
-    Row("check row.ass", [0; 3], 10, b"", 0, "not built\n"),
-    Row("check row.ass -dot.bdf", [0; 3], 10, b"", 0, "not built\n"),
-    Row(
-        "check utf8.ass no.bdf",
-        [0; 3],
-        5,
-        b"",
-        0,
-        "bad script: not UTF-8 at byte 9\n",
-    ),
-    Row(
-        "check none.ass no.bdf",
-        [0; 3],
-        5,
-        b"",
-        0,
-        "bad script: no [Events] section\n",
-    ),
-    Row(
-        "check row.ass dot.bdf row.bdf no.bdf",
-        [0; 3],
-        6,
-        b"",
-        0,
-        "bad font 1 line 23: bad row\n",
-    ),
-    Row(
-        "check row.ass dot.bdf no.bdf",
-        [0; 3],
+const CHECK: &str = "check row.ass dot.bdf";
+
+const CHECKED: &str = "play 4 3\nstyles 1\nlines 1\nfont 0 glyphs 2\n";
+
+const MALFORMED: &str = "play 4 3\nstyles 1\nlines 1\nmalformed 0 Start 3\nfont 0 glyphs 2\n";
+
+const TWICE: &str = "play 4 3\nstyles 1\nlines 1\nfont 0 glyphs 2\nfont 1 glyphs 2\n";
+
+/// Words, the exit status and the report, where no image comes.
+const REPORTS: [(&str, u8, &str); 17] = [
+    (CHECK, 0, CHECKED),
+    ("check bad.ass dot.bdf", 0, MALFORMED),
+    ("check row.ass dot.bdf dot.bdf", 0, TWICE),
+    (
+        "frame --at 0 --size 3x4 bold.ass no.bdf",
         3,
-        b"",
-        0,
         "no such file: no.bdf\n",
     ),
-    Row("check row.ass dot.bdf", [0, 1, 0], 0, b"", 0, CHECKED),
-    Row(
-        "check row.ass dot.bdf",
-        [0, 0, 1],
-        7,
-        b"",
-        0,
-        "play 4 3\nstyles 1\nlin",
+    (
+        "frame --at 0 --size 4x3 no.ass no.bdf",
+        3,
+        "no such file: no.ass\n",
     ),
-    Row("check row.ass dot.bdf", [2, 0, 1], 4, b"", 0, "read fault"),
+    ("check row.ass dot.bdf no.bdf", 3, "no such file: no.bdf\n"),
+    (
+        "check utf8.ass no.bdf",
+        5,
+        "bad script: not UTF-8 at byte 9\n",
+    ),
+    (
+        "check none.ass no.bdf",
+        5,
+        "bad script: no [Events] section\n",
+    ),
+    (
+        "frame --at 0 --size 4x3 dot.bdf no.bdf",
+        5,
+        "bad script: no [Events] section\n",
+    ),
+    (
+        "frame --at 0 --size 4x3 row.ass row.ass",
+        6,
+        "bad font 0 line 10: no end\n",
+    ),
+    (
+        "check row.ass dot.bdf row.bdf no.bdf",
+        6,
+        "bad font 1 line 23: bad row\n",
+    ),
+    (
+        "frame --at 0 --size 4x3 bold.ass dot.bdf",
+        10,
+        "not built\n",
+    ),
+    ("frame --at 0 --size 3x4 row.ass dot.bdf", 10, "not built\n"),
+    ("frame --size 4x3 --at 0 row.ass dot.bdf", 10, "not built\n"),
+    (
+        "frame --at 00 --size 4x3 row.ass dot.bdf",
+        10,
+        "not built\n",
+    ),
+    ("check row.ass", 10, "not built\n"),
+    ("check row.ass -dot.bdf", 10, "not built\n"),
+];
+
+/// Words; the fetch, the put of an image and the put of a report that fail; the exit status; how many bytes of the
+/// first image there are; the report.
+const FAULTS: [(&str, [u64; 3], u8, usize, &str); 9] = [
+    (FIRST, [1, 0, 0], 4, 0, "read fault: row.ass\n"),
+    (FIRST, [2, 0, 0], 4, 0, "read fault: dot.bdf\n"),
+    (FIRST, [3, 0, 0], 0, 57, ""),
+    (FIRST, [0, 1, 0], 7, 28, "write fault: frames\n"),
+    (FIRST, [0, 2, 0], 0, 57, ""),
+    ("", [0, 0, 1], 10, 0, "not b"),
+    (CHECK, [0, 1, 0], 0, 0, CHECKED),
+    (CHECK, [0, 0, 1], 7, 0, "play 4 3\nstyles 1\nlin"),
+    (CHECK, [2, 0, 1], 4, 0, "read fault"),
 ];
 
 fn shelf_of(alloc: Global) -> Result<MemoryShelf, Fail> {
@@ -240,8 +181,25 @@ fn words_of(alloc: Global, line: &str) -> Result<Vec<String>, AllocError> {
     Ok(words)
 }
 
-fn runs(rt: &(impl Abort + Rt), alloc: Global, row: Row) -> Result<(), Fail> {
-    let Row(line, [fetch, image, told], exit, head, count, report) = row;
+/// What is wanted of a run: its exit status; the first bytes of its image, behind which all are 0; how many bytes of it
+/// there are; and its report.
+#[derive(Clone, Copy)]
+struct Wanted<'a> {
+    exit: u8,
+    head: &'a [u8],
+    count: usize,
+    report: &'a str,
+}
+
+/// Runs the words, where the calls with these numbers fail: a fetch, a put of an image, and a put of a report.
+fn runs(
+    rt: &(impl Abort + Rt),
+    alloc: Global,
+    line: &str,
+    fails: [u64; 3],
+    wanted: Wanted,
+) -> Result<(), Fail> {
+    let [fetch, image, told] = fails;
     let mut shelf = FailingShelf::new(shelf_of(alloc)?, vec![in alloc; fetch]?);
     let mut frames = FailingSink::new(MemorySink::new(alloc), vec![in alloc; image]?);
     let mut lines = FailingSink::new(MemorySink::new(alloc), vec![in alloc; told]?);
@@ -255,18 +213,18 @@ fn runs(rt: &(impl Abort + Rt), alloc: Global, row: Row) -> Result<(), Fail> {
         &mut lines,
         &OpenGate,
     );
-    assert_eq!(rt; status.exit_status(), exit, "{line}");
-    assert!(rt; frames.bytes().starts_with(head), "{line}");
+    assert_eq!(rt; status.exit_status(), wanted.exit, "{line}");
+    assert!(rt; frames.bytes().starts_with(wanted.head), "{line}");
     assert!(rt;
         frames
             .bytes()
             .iter()
-            .skip(head.len())
+            .skip(wanted.head.len())
             .all(|byte| *byte == 0),
         "{line}"
     );
-    assert_eq!(rt; frames.bytes().len(), count, "{line}");
-    assert_eq!(rt; lines.bytes(), report.as_bytes(), "{line}");
+    assert_eq!(rt; frames.bytes().len(), wanted.count, "{line}");
+    assert_eq!(rt; lines.bytes(), wanted.report.as_bytes(), "{line}");
     Ok(())
 }
 
@@ -274,11 +232,39 @@ fn runs(rt: &(impl Abort + Rt), alloc: Global, row: Row) -> Result<(), Fail> {
 fn runs_end_as_they_should(rt: HostRuntime) -> Result<(), Fail> {
     let alloc = rt.alloc();
     one_job();
-    for row in PICTURES {
-        runs(&rt, alloc, row)?;
+    for (line, head, count) in PICTURES {
+        let wanted = Wanted {
+            exit: 0,
+            head,
+            count,
+            report: "",
+        };
+        runs(&rt, alloc, line, [0; 3], wanted)?;
     }
-    for row in CHECKS {
-        runs(&rt, alloc, row)?;
+    for (line, exit, report) in REPORTS {
+        let wanted = Wanted {
+            exit,
+            head: b"",
+            count: 0,
+            report,
+        };
+        runs(&rt, alloc, line, [0; 3], wanted)?;
+    }
+    Ok(())
+}
+
+#[test]
+fn faults_end_as_they_should(rt: HostRuntime) -> Result<(), Fail> {
+    let alloc = rt.alloc();
+    for (line, fails, exit, count, report) in FAULTS {
+        let head = if count == 0 { b"".as_slice() } else { SHOWN };
+        let wanted = Wanted {
+            exit,
+            head,
+            count,
+            report,
+        };
+        runs(&rt, alloc, line, fails, wanted)?;
     }
     Ok(())
 }

@@ -1,4 +1,4 @@
--- What is known of lines that are drawn.
+-- Public: what is known of lines that are drawn.
 use Rattle.std.specs.Prelude.{◌≡◌, ◌<◌, ◌≤◌, true, Option, Some, None, Result, Ok, Err}
 use Rattle.bdf_font.specs.Fonts.{FontValue}
 use Rattle.ass_events.specs.Events.{is_time}

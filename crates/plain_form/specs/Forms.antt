@@ -1,4 +1,4 @@
--- The plain form of scripts and its picture (docs/PLAIN_PICTURE.md).
+-- Public: the plain form of scripts and its picture (docs/PLAIN_PICTURE.md).
 use Rattle.std.specs.Prelude.{ℕ, ℤ, pos, negsuc, ◌*◌, ◌/◌, ◌%◌, ◌+ℤ◌, Bool, not, ◌&&◌, ◌==◌, nat_le, int_le, int_lt, List, [], length, Option, Some, None, Result, Ok, Err, slice_get, slice_index_or, unsigned_abs, if◌then◌else◌}
 use Rattle.std.specs.Int.{int_max}
 use Rattle.std.specs.List.{list_all}

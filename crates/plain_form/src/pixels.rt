@@ -2,6 +2,7 @@
 
 ghost use Rattle.std.specs.Prelude.{◌≡◌, ◌≤◌, true, IfOk};
 ghost use Rattle.std.specs.Str.{chars};
+ghost use Rattle.ass_num.specs.Limits.{IsFrameSize};
 ghost use Rattle.plain_form.specs.Drawables.{IsPlainDrawable};
 ghost use Rattle.plain_form.specs.Forms.{is_shown, pixels_of, shown_chars};
 ghost use Rattle.ass_events.specs.Events.{is_time};
@@ -44,8 +45,7 @@ pub fn shown_pixels(
     size: &Size,
 ) -> Mem<Vec<u8>>
     requires drawable { IsPlainDrawable font.now line.now }
-    requires wide { size.now.w ≤ 4096 }
-    requires high { size.now.h ≤ 4096 }
+    requires size { IsFrameSize size.now }
     ensures { IfOk result (λ pixels. pixels.items ≡ pixels_of line.now font.now at size.now.w size.now.h) }
 {
     line_pixels(

@@ -2,7 +2,7 @@
 #![tactic(auto)]
 
 use ass_io::{FileShelf, OpenGate, StdSink};
-use frame_play::{Status, top};
+use frame_play::{give_up, top};
 use std::process::ExitCode;
 use std::{env, io};
 
@@ -16,17 +16,17 @@ fn words_of(rt: &HostRuntime) -> io::Result<Vec<String>> {
 }
 
 fn main(rt: HostRuntime) -> ExitCode {
+    let mut report = StdSink::new(rt.stderr());
     let words = match words_of(&rt) {
         Ok(words) => words,
         Err(refused) if refused.kind() == io::ErrorKind::OutOfMemory => {
-            return ExitCode::from(Status::OutOfMemory.exit_status());
+            return ExitCode::from(give_up(&mut report).exit_status());
         }
         // Words that are no text spell no job.
         Err(_) => Vec::new(rt.alloc()),
     };
     let mut shelf = FileShelf::new(rt);
     let mut frames = StdSink::new(rt.stdout());
-    let mut report = StdSink::new(rt.stderr());
     let status = top(
         &rt,
         rt.alloc(),

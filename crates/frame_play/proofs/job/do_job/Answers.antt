@@ -1,6 +1,7 @@
 use Rattle.std.proofs.Common.{Err, Ok, subst}
 use Rattle.input_files.specs.Inputs.{AreRead}
-use Rattle.frame_play.proofs.RunLemmas.{refused_once, refused_worked, refused_written}
+use Rattle.frame_play.specs.Outcomes.{status_if_put}
+use Rattle.frame_play.proofs.RunLemmas.{read_same, refused_once, refused_worked, refused_written}
 use Rattle.frame_play.proofs.job.do_job.Goals as goal
 
 pub returns-in-Err-clause-run : goal.returns-in-Err-clause-run
@@ -32,3 +33,7 @@ returns-in-Ok-clause-run g c =
       text = c.do_task.ensures.text;
       own = c.do_task.ensures.own;
     }
+
+pub returns-in-Ok-clause-read : goal.returns-in-Ok-clause-read
+returns-in-Ok-clause-read g c =
+    read_same c.args.job.now.task c.in-Ok.inputs (status_if_put c.do_task.result) _ _ c.in-Ok.ensures.counted c.do_task.ensures.answered
