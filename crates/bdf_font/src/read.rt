@@ -1,6 +1,7 @@
 //! Fonts from their texts.
 
 ghost use Rattle.std.specs.Prelude.{◌≡◌, ◌≢◌, ◌⊎◌, ◌≤◌, length, IfOk, Result, Err};
+ghost use Rattle.ass_num.specs.Limits.{max_file_bytes};
 ghost use Rattle.bdf_font.specs.Ranges.{IsFont, IsFontReading, Keeps};
 ghost use Rattle.bdf_font.specs.Fonts.{FontValue};
 ghost use Rattle.bdf_font.specs.Grammar.{IsFontAnswer};
@@ -16,7 +17,7 @@ use std::alloc::Global;
 /// The font that a text in BDF spells. `BadFont` names the first line, from 1, at which the text leaves the format,
 /// and how; `TooLarge` comes where one glyph more than 131,072 begins.
 pub fn read_font(alloc: Global, bytes: &[u8]) -> Result<Font, FontRefusal>
-    requires { length bytes.now ≤ 67108864 }
+    requires { length bytes.now ≤ max_file_bytes }
     // What is answered is the answer of the format, unless memory ran out.
     ensures answer { result ≢ Err FontRefusal.OutOfMemory → IsFontAnswer (text_lines bytes.now) result }
     ensures only { (answer : Result FontValue FontRefusal) → IsFontAnswer (text_lines bytes.now) answer → (result ≡ answer) ⊎ (result ≡ Err FontRefusal.OutOfMemory) }
