@@ -1,4 +1,5 @@
-use Rattle.std.proofs.Common.{ℕ, ℤ, pos, ◌<◌, ◌≤ℤ◌, slice_index_or}
+use Rattle.std.proofs.Common.{ℕ, ℤ, ◌<◌, slice_index_or}
+use Rattle.line_layout.specs.Breaks.{IsItemWidth}
 use Rattle.line_layout.proofs.tests.are_narrow.Given as goal
 
 abbrev pub invariant-loop-width : goal.invariant-loop-width
