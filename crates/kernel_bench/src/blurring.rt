@@ -10,7 +10,7 @@ use std::alloc::Global;
 use std::time::Instant;
 
 /// A square mask at the origin, whose bytes grow by `step` from one to the next, without what is above 255.
-fn square(alloc: Global, side: u16, step: u8) -> Result<Mask, Stop>
+pub fn square(alloc: Global, side: u16, step: u8) -> Result<Mask, Stop>
     ensures x { IfOk result (λ mask. mask.x ≡ pos 0) }
     ensures y { IfOk result (λ mask. mask.y ≡ pos 0) }
     ensures w { IfOk result (λ mask. mask.w ≡ side) }

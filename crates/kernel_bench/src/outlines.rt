@@ -1,0 +1,106 @@
+//! Outlines of a font's glyph and of a drawing.
+
+ghost use Rattle.std.specs.Prelude.{IfOk};
+ghost use Rattle.ass_num.specs.Paths.{IsPath};
+
+use crate::laps::Laps;
+use crate::reading::{font_of, repeated};
+use crate::stop::Stop;
+use ass_num::{Matrix, Path};
+use bdf_font::Font;
+use drawing_path::read_path;
+use fixed_outline::{outline_of_path, quads_of};
+use std::alloc::Global;
+use std::time::Instant;
+
+/// A bitmap's pixel, and a script's unit, is a pixel; and the same under a turn.
+fn matrix(turn: i64) -> Matrix {
+    Matrix {
+        ux: 4_194_304,
+        uy: 4_194_304,
+        italic: false,
+        turn,
+    }
+}
+
+/// A font of one glyph, whose bitmap has so many rows of 48 pixels, each of them set.
+fn font(alloc: Global, rows: u8) -> Result<Font, Stop> {
+    let head = format!(in alloc;
+        "STARTFONT 2.1\nFONT solid\nFONTBOUNDINGBOX 48 {rows} 0 0\nSTARTPROPERTIES 1\nFONT_ASCENT {rows}\nENDPROPERTIES\nSTARTCHAR x\nENCODING 120\nDWIDTH 48 0\nBBX 48 {rows} 0 0\nBITMAP\n"
+    )?;
+    let mut text = repeated(alloc, head.as_str(), "FFFFFFFFFFFF\n", u32::from(rows))?;
+    text.push_str("ENDCHAR\nENDFONT\n")?;
+    font_of(alloc, text.as_bytes())
+}
+
+/// A path of so many curves.
+fn path(alloc: Global, curves: u32) -> Result<Path, Stop>
+    ensures { IfOk result (λ path. IsPath path.segs) }
+{
+    let text = repeated(alloc, "m 0 0", " b 10 0 20 10 20 20", curves)?;
+    Ok(read_path(alloc, text.as_str())?)
+}
+
+fn measure_turn(
+    rt: &HostRuntime,
+    name: &str,
+    font: &Font,
+    turn: i64,
+    turns: u32,
+) -> Result<(), Stop> {
+    let matrix = matrix(turn);
+    let mut laps = Laps::new();
+    let mut quads = 0;
+    for _ in 0..turns {
+        let began = Instant::now(rt)?;
+        let outline = quads_of(rt.alloc(), font, 0, &matrix, false, false, false)?;
+        laps.add(began.elapsed(rt)?);
+        quads = outline.rings.len();
+    }
+    println!(rt; "quads, {name}: {quads} quads, {laps}")?;
+    Ok(())
+}
+
+/// Times the outline of a glyph of so many rows of 48 set pixels, upright and turned by 30.5 degrees.
+pub fn measure_glyph(rt: &HostRuntime, rows: u32, turns: u32) -> Result<(), Stop> {
+    if rows > 255 {
+        return Err(Stop::SizeOutOfRange);
+    }
+    let font = font(rt.alloc(), rows as u8)?;
+    if font.glyphs().is_empty() {
+        return Err(Stop::SizeOutOfRange);
+    }
+    measure_turn(rt, "upright", &font, 0, turns)?;
+    measure_turn(rt, "turned", &font, 30_500, turns)
+}
+
+/// Times the outline of a drawing of so many curves.
+pub fn measure_drawing(rt: &HostRuntime, curves: u32, turns: u32) -> Result<(), Stop> {
+    let path = path(rt.alloc(), curves)?;
+    let matrix = matrix(30_500);
+    let mut laps = Laps::new();
+    let mut points = 0;
+    for _ in 0..turns {
+        let began = Instant::now(rt)?;
+        let outline = outline_of_path(rt.alloc(), &path, &matrix, 0)?;
+        laps.add(began.elapsed(rt)?);
+        points = outline.rings.all_items().len();
+    }
+    println!(rt; "drawing of {curves} curves: {points} points, {laps}")?;
+    Ok(())
+}
+
+/// Prints how many quads a glyph of 2 rows has, and how many points a drawing of 3 curves.
+pub fn show(rt: &HostRuntime) -> Result<(), Stop> {
+    let alloc = rt.alloc();
+    let font = font(alloc, 2)?;
+    if font.glyphs().is_empty() {
+        return Err(Stop::SizeOutOfRange);
+    }
+    let glyph = quads_of(alloc, &font, 0, &matrix(0), false, false, false)?;
+    let drawing = outline_of_path(alloc, &path(alloc, 3)?, &matrix(0), 0)?;
+    let quads = glyph.rings.len();
+    let points = drawing.rings.all_items().len();
+    println!(rt; "outlines: {quads} quads, {points} points")?;
+    Ok(())
+}
