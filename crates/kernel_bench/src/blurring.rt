@@ -1,6 +1,7 @@
 //! Softening and blurring a square mask.
 
 ghost use Rattle.std.specs.Prelude.{◌≡◌, ◌≤◌, pos, IfOk};
+ghost use Rattle.mask_blur.specs.Limits.{max_blur};
 
 use crate::laps::Laps;
 use crate::stop::Stop;
@@ -49,7 +50,7 @@ fn measure_passes(rt: &HostRuntime, side: u16, n: u8, turns: u32) -> Result<(), 
 }
 
 fn measure_radius(rt: &HostRuntime, side: u16, r: u8, turns: u32) -> Result<(), Stop>
-    requires { r ≤ 100 }
+    requires { r ≤ max_blur }
 {
     let mask = square(rt.alloc(), side, 37)?;
     let mut laps = Laps::new();

@@ -1,6 +1,6 @@
 //! Masks of the glyphs whose regions are measured, and sums of masks.
 
-ghost use Rattle.std.specs.Prelude.{IfOk};
+ghost use Rattle.std.specs.Prelude.{IfOk, ◌<◌, ◌≤◌};
 ghost use Rattle.std.specs.List.{All};
 ghost use Rattle.mask_cover.specs.Sums.{IsPlaceableMask};
 
@@ -31,24 +31,40 @@ pub fn measure_cover(rt: &HostRuntime, pixels: u32, turns: u32) -> Result<(), St
     Ok(())
 }
 
-/// Ten squares with sides of so many pixels, each moved right by half of one from that before it.
+/// The longest side of a square.
+const MAX_SIDE: u16 = 1_080;
+
+/// How many squares a sum has.
+const COUNT: u8 = 10;
+
+/// Square k of a row, in which each is moved right by half of its side from that before it.
+fn part(alloc: Global, side: u16, k: u8) -> Result<(Mask, i32, i32), Stop>
+    requires side { side ≤ MAX_SIDE }
+    requires place { k < COUNT }
+    ensures { IfOk result IsPlaceableMask }
+{
+    Ok((
+        square(alloc, side, 1)?,
+        i32::from(k) * i32::from(side / 2),
+        0,
+    ))
+}
+
+/// A row of squares with sides of so many pixels.
 fn squares(alloc: Global, side: u16) -> Result<Vec<(Mask, i32, i32)>, Stop>
+    requires { side ≤ MAX_SIDE }
     ensures { IfOk result (λ parts. All IsPlaceableMask parts.items) }
 {
     let mut parts = Vec::new(alloc);
-    for k in 0..10u8 {
-        parts.push((
-            square(alloc, side, 1)?,
-            i32::from(k) * i32::from(side / 2),
-            0,
-        ))?;
+    for k in 0..COUNT {
+        parts.push(part(alloc, side, k)?)?;
     }
     Ok(parts)
 }
 
 /// Times the sum of ten squares with sides of so many pixels, of which each covers half of the next.
 pub fn measure_sum(rt: &HostRuntime, side: u32, turns: u32) -> Result<(), Stop> {
-    if side > 1_080 {
+    if side > u32::from(MAX_SIDE) {
         return Err(Stop::SizeOutOfRange);
     }
     let parts = squares(rt.alloc(), side as u16)?;

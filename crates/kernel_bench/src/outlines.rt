@@ -1,7 +1,9 @@
 //! Outlines of a font's glyph and of a drawing.
 
-ghost use Rattle.std.specs.Prelude.{IfOk};
+ghost use Rattle.std.specs.Prelude.{◌<◌, length, IfOk};
 ghost use Rattle.ass_num.specs.Paths.{IsPath};
+ghost use Rattle.bdf_font.specs.Ranges.{IsFont};
+ghost use Rattle.outline_points.specs.Placing.{IsMatrix};
 
 use crate::laps::Laps;
 use crate::reading::{font_of, repeated};
@@ -14,7 +16,9 @@ use std::alloc::Global;
 use std::time::Instant;
 
 /// A bitmap's pixel, and a script's unit, is a pixel; and the same under a turn.
-fn matrix(turn: i64) -> Matrix {
+fn matrix(turn: i64) -> Matrix
+    ensures { IsMatrix result }
+{
     Matrix {
         ux: 4_194_304,
         uy: 4_194_304,
@@ -24,7 +28,9 @@ fn matrix(turn: i64) -> Matrix {
 }
 
 /// A font of one glyph, whose bitmap has so many rows of 48 pixels, each of them set.
-fn font(alloc: Global, rows: u8) -> Result<Font, Stop> {
+fn font(alloc: Global, rows: u8) -> Result<Font, Stop>
+    ensures { IfOk result IsFont }
+{
     let head = format!(in alloc;
         "STARTFONT 2.1\nFONT solid\nFONTBOUNDINGBOX 48 {rows} 0 0\nSTARTPROPERTIES 1\nFONT_ASCENT {rows}\nENDPROPERTIES\nSTARTCHAR x\nENCODING 120\nDWIDTH 48 0\nBBX 48 {rows} 0 0\nBITMAP\n"
     )?;
@@ -45,15 +51,18 @@ fn measure_turn(
     rt: &HostRuntime,
     name: &str,
     font: &Font,
-    turn: i64,
+    matrix: &Matrix,
     turns: u32,
-) -> Result<(), Stop> {
-    let matrix = matrix(turn);
+) -> Result<(), Stop>
+    requires font { IsFont font.now }
+    requires glyph { 0 < length font.now.glyphs }
+    requires matrix { IsMatrix matrix.now }
+{
     let mut laps = Laps::new();
     let mut quads = 0;
     for _ in 0..turns {
         let began = Instant::now(rt)?;
-        let outline = quads_of(rt.alloc(), font, 0, &matrix, false, false, false)?;
+        let outline = quads_of(rt.alloc(), font, 0, matrix, false, false, false)?;
         laps.add(began.elapsed(rt)?);
         quads = outline.rings.len();
     }
@@ -70,24 +79,30 @@ pub fn measure_glyph(rt: &HostRuntime, rows: u32, turns: u32) -> Result<(), Stop
     if font.glyphs().is_empty() {
         return Err(Stop::SizeOutOfRange);
     }
-    measure_turn(rt, "upright", &font, 0, turns)?;
-    measure_turn(rt, "turned", &font, 30_500, turns)
+    measure_turn(rt, "upright", &font, &matrix(0), turns)?;
+    measure_turn(rt, "turned", &font, &matrix(30_500), turns)
+}
+
+fn measure_path(rt: &HostRuntime, path: &Path, matrix: &Matrix, turns: u32) -> Result<(), Stop>
+    requires path { IsPath path.now.segs }
+    requires matrix { IsMatrix matrix.now }
+{
+    let mut laps = Laps::new();
+    let mut points = 0;
+    for _ in 0..turns {
+        let began = Instant::now(rt)?;
+        let outline = outline_of_path(rt.alloc(), path, matrix, 0)?;
+        laps.add(began.elapsed(rt)?);
+        points = outline.rings.all_items().len();
+    }
+    println!(rt; "drawing: {points} points, {laps}")?;
+    Ok(())
 }
 
 /// Times the outline of a drawing of so many curves.
 pub fn measure_drawing(rt: &HostRuntime, curves: u32, turns: u32) -> Result<(), Stop> {
     let path = path(rt.alloc(), curves)?;
-    let matrix = matrix(30_500);
-    let mut laps = Laps::new();
-    let mut points = 0;
-    for _ in 0..turns {
-        let began = Instant::now(rt)?;
-        let outline = outline_of_path(rt.alloc(), &path, &matrix, 0)?;
-        laps.add(began.elapsed(rt)?);
-        points = outline.rings.all_items().len();
-    }
-    println!(rt; "drawing of {curves} curves: {points} points, {laps}")?;
-    Ok(())
+    measure_path(rt, &path, &matrix(30_500), turns)
 }
 
 /// Prints how many quads a glyph of 2 rows has, and how many points a drawing of 3 curves.
