@@ -11,7 +11,8 @@ program=$top/crates/kernel_bench/out/kernel_bench
 is_fresh() {
     local crate
     [ -x "$program" ] || return 1
-    for crate in ass_num blanks region_rows sample_region cancelled_edges border_region mask_blur placement line_layout blend bdf_font ass_script tag_arguments drawing_path override_tags kernel_bench; do
+    for crate in ass_num blanks region_rows sample_region outline_points cancelled_edges fixed_outline border_region mask_cover mask_blur \
+        placement line_layout blend bdf_font ass_script tag_arguments drawing_path override_tags kernel_bench; do
         [ -z "$(find "$top/crates/$crate/src" -newer "$program" -print -quit)" ] || return 1
     done
 }
@@ -32,12 +33,17 @@ date -u +%Y-%m-%d
 printf '%s processors: %s\n' "$(nproc)" "$(sed -n 's/^model name.*: //p' /proc/cpuinfo | head -n 1)"
 printf 'load before: %s\n' "$(cut -d ' ' -f 1-3 /proc/loadavg)"
 
+measure quads 42 200
+measure drawing 2000 200
 measure region 48 200
 measure region 200 100
 measure cancel 2000 200
 measure cancel 100000 5
 measure border 48 100
 measure border 200 20
+measure cover 48 500
+measure cover 200 100
+measure sum 200 500
 measure blur 200 300
 measure shift 10000 50
 measure shift 100000 10

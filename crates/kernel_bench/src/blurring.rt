@@ -1,6 +1,7 @@
 //! Softening and blurring a square mask.
 
 ghost use Rattle.std.specs.Prelude.{◌≡◌, ◌≤◌, pos, IfOk};
+ghost use Rattle.mask_blur.specs.Limits.{max_blur};
 
 use crate::laps::Laps;
 use crate::stop::Stop;
@@ -10,7 +11,7 @@ use std::alloc::Global;
 use std::time::Instant;
 
 /// A square mask at the origin, whose bytes grow by `step` from one to the next, without what is above 255.
-fn square(alloc: Global, side: u16, step: u8) -> Result<Mask, Stop>
+pub fn square(alloc: Global, side: u16, step: u8) -> Result<Mask, Stop>
     ensures x { IfOk result (λ mask. mask.x ≡ pos 0) }
     ensures y { IfOk result (λ mask. mask.y ≡ pos 0) }
     ensures w { IfOk result (λ mask. mask.w ≡ side) }
@@ -49,7 +50,7 @@ fn measure_passes(rt: &HostRuntime, side: u16, n: u8, turns: u32) -> Result<(), 
 }
 
 fn measure_radius(rt: &HostRuntime, side: u16, r: u8, turns: u32) -> Result<(), Stop>
-    requires { r ≤ 100 }
+    requires { r ≤ max_blur }
 {
     let mask = square(rt.alloc(), side, 37)?;
     let mut laps = Laps::new();

@@ -1,9 +1,10 @@
 //! Borders of the glyphs whose regions are measured.
 
-ghost use Rattle.std.specs.Prelude.{IfOk, ◌≤◌};
-ghost use Rattle.ass_num.specs.Limits.{IsRegionWithin};
+ghost use Rattle.std.specs.Prelude.{IfOk, ◌≤◌, ◌*◌};
+ghost use Rattle.ass_num.specs.Limits.{IsRegionWithin, max_sample};
+ghost use Rattle.border_region.specs.Limits.{max_radius};
 
-use crate::glyph::glyph;
+use crate::glyph::{glyph, leanings};
 use crate::laps::Laps;
 use crate::stop::Stop;
 use ass_num::{Mem, Region};
@@ -12,8 +13,9 @@ use sample_region::region_of;
 use std::alloc::Global;
 use std::time::Instant;
 
-fn region(alloc: Global, side: i64, lean: i64) -> Mem<Region>
-    ensures { IfOk result (λ r. IsRegionWithin 131072 r.top r.rows) }
+/// The region of a glyph.
+pub fn region(alloc: Global, side: i64, lean: i64) -> Mem<Region>
+    ensures { IfOk result (λ r. IsRegionWithin max_sample r.top r.rows) }
 {
     let region = region_of(alloc, &glyph(alloc, side, lean)?)?;
     Ok(region)
@@ -27,8 +29,8 @@ fn measure_border(
     pixels: u32,
     turns: u32,
 ) -> Result<(), Stop>
-    requires within { IsRegionWithin 131072 region.now.top region.now.rows }
-    requires pixels { pixels ≤ 100 }
+    requires within { IsRegionWithin max_sample region.now.top region.now.rows }
+    requires pixels { 16 * pixels ≤ max_radius }
 {
     let radius = 16 * pixels;
     let mut laps = Laps::new();
@@ -43,23 +45,14 @@ fn measure_border(
     Ok(())
 }
 
-fn measure_glyph(
-    rt: &HostRuntime,
-    name: &str,
-    side: i64,
-    lean: i64,
-    turns: u32,
-) -> Result<(), Stop> {
-    let region = region(rt.alloc(), side, lean)?;
-    measure_border(rt, name, &region, 2, turns)?;
-    measure_border(rt, name, &region, 20, turns)
-}
-
-/// Times borders of 2 and of 20 pixels around a glyph that is so many pixels high, and around the same glyph turned a little.
+/// Times borders of 2 and of 20 pixels around a glyph that is so many pixels high.
 pub fn measure(rt: &HostRuntime, pixels: u32, turns: u32) -> Result<(), Stop> {
-    let side = i64::from(pixels) * 4;
-    measure_glyph(rt, "upright", side, 0, turns)?;
-    measure_glyph(rt, "turned", side - side / 80, side * 3 / 20, turns)
+    for (name, side, lean) in leanings(pixels) {
+        let region = region(rt.alloc(), side, lean)?;
+        measure_border(rt, name, &region, 2, turns)?;
+        measure_border(rt, name, &region, 20, turns)?;
+    }
+    Ok(())
 }
 
 /// Prints how many rows and runs the border of a glyph of 8 pixels has, upright and turned.

@@ -2,7 +2,7 @@
 
 ghost use Rattle.std.specs.Prelude.{◌^◌, ◌≤◌, length, pos, IsTrue};
 ghost use Rattle.std.specs.List.{All};
-ghost use Rattle.placement.specs.Placement.{AreInOrder, IsPlaceableStand, IsBoxWithin};
+ghost use Rattle.placement.specs.Placement.{AreInOrder, IsPlaceableStand, IsBoxWithin, max_stands};
 
 use crate::laps::Laps;
 use crate::stop::Stop;
@@ -69,7 +69,7 @@ fn are_in_order(list: &[Stand]) -> bool
 
 /// Whether the list is one that `replay` takes.
 fn are_replayable(list: &[Stand]) -> bool
-    ensures few { IsTrue result → length list.now ≤ 1000000 }
+    ensures few { IsTrue result → length list.now ≤ max_stands }
     ensures placeable { IsTrue result → All IsPlaceableStand list.now }
     ensures in_order { IsTrue result → AreInOrder list.now }
 {

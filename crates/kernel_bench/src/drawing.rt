@@ -35,14 +35,13 @@ fn screen(alloc: Global) -> Result<Canvas, Stop> {
     Ok(Canvas::new(alloc, &Size { w: 1_920, h: 1_080 })?)
 }
 
-/// Times a square of one value; each of its pixels touches so many bytes.
+/// Times a square of one value. A pixel touches a byte of the mask, and reads and writes three of the canvas.
 fn measure_square(
     rt: &HostRuntime,
     name: &str,
     side: u16,
     value: u8,
     alpha: u8,
-    touched: u8,
     turns: u32,
 ) -> Result<(), Stop> {
     let mut canvas = screen(rt.alloc())?;
@@ -55,7 +54,7 @@ fn measure_square(
         laps.add(began.elapsed(rt)?);
     }
     let first = canvas.pixels().first().copied().unwrap_or(0);
-    let rate = laps.rate(u64::from(side) * u64::from(side) * u64::from(touched));
+    let rate = laps.rate(u64::from(side) * u64::from(side) * 7);
     println!(rt; "draw, {name}: first byte {first}, {laps}, {rate} MB/s touched")?;
     Ok(())
 }
@@ -92,9 +91,9 @@ pub fn measure(rt: &HostRuntime, side: u32, turns: u32) -> Result<(), Stop> {
         return Err(Stop::SizeOutOfRange);
     }
     let side = side as u16;
-    measure_square(rt, "opaque", side, 255, 0, 7, turns)?;
-    measure_square(rt, "half transparent", side, 255, 127, 7, turns)?;
-    measure_square(rt, "zero bytes", side, 0, 0, 1, turns)?;
+    measure_square(rt, "opaque", side, 255, 0, turns)?;
+    measure_square(rt, "half transparent", side, 255, 127, turns)?;
+    measure_square(rt, "zero bytes", side, 0, 0, turns)?;
     measure_copy(rt, side, turns)
 }
 

@@ -90,22 +90,23 @@ pub fn measure_region(
     Ok(())
 }
 
-fn measure_glyph(
-    rt: &HostRuntime,
-    name: &str,
-    side: i64,
-    lean: i64,
-    turns: u32,
-) -> Result<(), Stop> {
-    let outline = glyph(rt.alloc(), side, lean)?;
-    measure_region(rt, name, &outline, turns)
+/// A glyph that is so many pixels high, and the same glyph turned a little: what they are called, and the side and the lean of
+/// their dots.
+pub fn leanings(pixels: u32) -> [(&'static str, i64, i64); 2] {
+    let side = i64::from(pixels) * 4;
+    [
+        ("upright", side, 0),
+        ("turned", side - side / 80, side * 3 / 20),
+    ]
 }
 
-/// Times the region of a glyph that is so many pixels high, and of the same glyph turned a little.
+/// Times the regions of a glyph that is so many pixels high.
 pub fn measure(rt: &HostRuntime, pixels: u32, turns: u32) -> Result<(), Stop> {
-    let side = i64::from(pixels) * 4;
-    measure_glyph(rt, "upright", side, 0, turns)?;
-    measure_glyph(rt, "turned", side - side / 80, side * 3 / 20, turns)
+    for (name, side, lean) in leanings(pixels) {
+        let outline = glyph(rt.alloc(), side, lean)?;
+        measure_region(rt, name, &outline, turns)?;
+    }
+    Ok(())
 }
 
 /// Prints how many rows and runs a glyph of 8 pixels has, upright and turned.

@@ -9,6 +9,8 @@ mod cancelling;
 mod drawing;
 mod glyph;
 mod laps;
+mod masks;
+mod outlines;
 mod paragraph;
 mod reading;
 mod stop;
@@ -33,9 +35,11 @@ fn number_of(word: &String) -> Result<u32, Stop> {
 }
 
 fn show_all(rt: &HostRuntime) -> Result<(), Stop> {
+    outlines::show(rt)?;
     glyph::show(rt)?;
     cancelling::show(rt)?;
     border::show(rt)?;
+    masks::show(rt)?;
     blurring::show(rt)?;
     boxes::show(rt)?;
     paragraph::show(rt)?;
@@ -45,9 +49,13 @@ fn show_all(rt: &HostRuntime) -> Result<(), Stop> {
 
 fn measure(rt: &HostRuntime, kernel: &str, size: u32, turns: u32) -> Result<(), Stop> {
     match kernel {
+        "quads" => outlines::measure_glyph(rt, size, turns),
+        "drawing" => outlines::measure_drawing(rt, size, turns),
         "region" => glyph::measure(rt, size, turns),
         "cancel" => cancelling::measure(rt, size, turns),
         "border" => border::measure(rt, size, turns),
+        "cover" => masks::measure_cover(rt, size, turns),
+        "sum" => masks::measure_sum(rt, size, turns),
         "blur" => blurring::measure(rt, size, turns),
         "shift" => boxes::measure(rt, size, turns),
         "breaks" => paragraph::measure(rt, size, turns),

@@ -1,6 +1,7 @@
 //! Reading fonts, scripts and texts, each beside a walk over its lines or bytes.
 
-ghost use Rattle.std.specs.Prelude.{◌≤◌, length};
+ghost use Rattle.std.specs.Prelude.{IfOk};
+ghost use Rattle.bdf_font.specs.Ranges.{IsFont};
 
 use crate::laps::Laps;
 use crate::stop::Stop;
@@ -15,7 +16,7 @@ use std::time::Instant;
 const MAX_BYTES: usize = 67_108_864;
 
 /// A text that repeats a piece.
-fn repeated(alloc: Global, head: &str, piece: &str, count: u32) -> Result<String, Stop> {
+pub fn repeated(alloc: Global, head: &str, piece: &str, count: u32) -> Result<String, Stop> {
     let mut text = String::from_str(alloc, head)?;
     for _ in 0..count {
         text.push_str(piece)?;
@@ -64,9 +65,13 @@ fn measure_walk(rt: &HostRuntime, bytes: &[u8], turns: u32) -> Result<(), Stop> 
     Ok(())
 }
 
-fn font_of(alloc: Global, bytes: &[u8]) -> Result<Font, Stop>
-    requires { length bytes.now ≤ MAX_BYTES }
+/// The font of a text.
+pub fn font_of(alloc: Global, bytes: &[u8]) -> Result<Font, Stop>
+    ensures { IfOk result IsFont }
 {
+    if bytes.len() > MAX_BYTES {
+        return Err(Stop::SizeOutOfRange);
+    }
     match read_font(alloc, bytes) {
         Ok(font) => Ok(font),
         Err(_) => Err(Stop::SizeOutOfRange),
@@ -84,9 +89,6 @@ fn script_of(alloc: Global, bytes: &[u8]) -> Result<Script, Stop> {
 pub fn measure_font(rt: &HostRuntime, glyphs: u32, turns: u32) -> Result<(), Stop> {
     let text = font_text(rt.alloc(), glyphs)?;
     let bytes = text.as_bytes();
-    if bytes.len() > MAX_BYTES {
-        return Err(Stop::SizeOutOfRange);
-    }
     measure_walk(rt, bytes, turns)?;
     let mut laps = Laps::new();
     let mut count = 0;
@@ -162,9 +164,6 @@ pub fn show(rt: &HostRuntime) -> Result<(), Stop> {
     let alloc = rt.alloc();
     let font = font_text(alloc, 2)?;
     let bytes = font.as_bytes();
-    if bytes.len() > MAX_BYTES {
-        return Err(Stop::SizeOutOfRange);
-    }
     let glyphs = font_of(alloc, bytes)?.glyphs().len();
     let script = repeated(alloc, "[Events]\n", "Dialogue: x\n", 3)?;
     let lines = script_of(alloc, script.as_bytes())?.line_count();

@@ -1,0 +1,92 @@
+//! Masks of the glyphs whose regions are measured, and sums of masks.
+
+ghost use Rattle.std.specs.Prelude.{IfOk, ◌<◌, ◌≤◌};
+ghost use Rattle.std.specs.List.{All};
+ghost use Rattle.mask_cover.specs.Sums.{IsPlaceableMask};
+
+use crate::blurring::square;
+use crate::border::region;
+use crate::glyph::leanings;
+use crate::laps::Laps;
+use crate::stop::Stop;
+use ass_num::Mask;
+use mask_cover::{cover, sum_of};
+use std::alloc::Global;
+use std::time::Instant;
+
+/// Times the mask of a glyph that is so many pixels high.
+pub fn measure_cover(rt: &HostRuntime, pixels: u32, turns: u32) -> Result<(), Stop> {
+    for (name, side, lean) in leanings(pixels) {
+        let region = region(rt.alloc(), side, lean)?;
+        let mut laps = Laps::new();
+        let mut count = 0;
+        for _ in 0..turns {
+            let began = Instant::now(rt)?;
+            let mask = cover(rt.alloc(), &region, 3, 5)?;
+            laps.add(began.elapsed(rt)?);
+            count = mask.bytes().len();
+        }
+        println!(rt; "cover, {name}: {count} pixels, {laps}")?;
+    }
+    Ok(())
+}
+
+/// The longest side of a square.
+const MAX_SIDE: u16 = 1_080;
+
+/// How many squares a sum has.
+const COUNT: u8 = 10;
+
+/// Square k of a row, in which each is moved right by half of its side from that before it.
+fn part(alloc: Global, side: u16, k: u8) -> Result<(Mask, i32, i32), Stop>
+    requires side { side ≤ MAX_SIDE }
+    requires place { k < COUNT }
+    ensures { IfOk result IsPlaceableMask }
+{
+    Ok((
+        square(alloc, side, 1)?,
+        i32::from(k) * i32::from(side / 2),
+        0,
+    ))
+}
+
+/// A row of squares with sides of so many pixels.
+fn squares(alloc: Global, side: u16) -> Result<Vec<(Mask, i32, i32)>, Stop>
+    requires { side ≤ MAX_SIDE }
+    ensures { IfOk result (λ parts. All IsPlaceableMask parts.items) }
+{
+    let mut parts = Vec::new(alloc);
+    for k in 0..COUNT {
+        parts.push(part(alloc, side, k)?)?;
+    }
+    Ok(parts)
+}
+
+/// Times the sum of ten squares with sides of so many pixels, of which each covers half of the next.
+pub fn measure_sum(rt: &HostRuntime, side: u32, turns: u32) -> Result<(), Stop> {
+    if side > u32::from(MAX_SIDE) {
+        return Err(Stop::SizeOutOfRange);
+    }
+    let parts = squares(rt.alloc(), side as u16)?;
+    let mut laps = Laps::new();
+    let mut count = 0;
+    for _ in 0..turns {
+        let began = Instant::now(rt)?;
+        let sum = sum_of(rt.alloc(), parts.as_slice())?;
+        laps.add(began.elapsed(rt)?);
+        count = sum.bytes().len();
+    }
+    println!(rt; "sum of ten squares: {count} pixels, {laps}")?;
+    Ok(())
+}
+
+/// Prints the box of a glyph's mask, and that of a sum of squares.
+pub fn show(rt: &HostRuntime) -> Result<(), Stop> {
+    let alloc = rt.alloc();
+    let mask = cover(alloc, &region(alloc, 32, 5)?, 3, 5)?;
+    let sum = sum_of(alloc, squares(alloc, 4)?.as_slice())?;
+    let (w, h) = (mask.w(), mask.h());
+    let (sum_w, sum_h) = (sum.w(), sum.h());
+    println!(rt; "masks: {w} by {h}, a sum of {sum_w} by {sum_h}")?;
+    Ok(())
+}

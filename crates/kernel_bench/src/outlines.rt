@@ -1,0 +1,121 @@
+//! Outlines of a font's glyph and of a drawing.
+
+ghost use Rattle.std.specs.Prelude.{◌<◌, length, IfOk};
+ghost use Rattle.ass_num.specs.Paths.{IsPath};
+ghost use Rattle.bdf_font.specs.Ranges.{IsFont};
+ghost use Rattle.outline_points.specs.Placing.{IsMatrix};
+
+use crate::laps::Laps;
+use crate::reading::{font_of, repeated};
+use crate::stop::Stop;
+use ass_num::{Matrix, Path};
+use bdf_font::Font;
+use drawing_path::read_path;
+use fixed_outline::{outline_of_path, quads_of};
+use std::alloc::Global;
+use std::time::Instant;
+
+/// A bitmap's pixel, and a script's unit, is a pixel; and the same under a turn.
+fn matrix(turn: i64) -> Matrix
+    ensures { IsMatrix result }
+{
+    Matrix {
+        ux: 4_194_304,
+        uy: 4_194_304,
+        italic: false,
+        turn,
+    }
+}
+
+/// A font of one glyph, whose bitmap has so many rows of 48 pixels, each of them set.
+fn font(alloc: Global, rows: u8) -> Result<Font, Stop>
+    ensures { IfOk result IsFont }
+{
+    let head = format!(in alloc;
+        "STARTFONT 2.1\nFONT solid\nFONTBOUNDINGBOX 48 {rows} 0 0\nSTARTPROPERTIES 1\nFONT_ASCENT {rows}\nENDPROPERTIES\nSTARTCHAR x\nENCODING 120\nDWIDTH 48 0\nBBX 48 {rows} 0 0\nBITMAP\n"
+    )?;
+    let mut text = repeated(alloc, head.as_str(), "FFFFFFFFFFFF\n", u32::from(rows))?;
+    text.push_str("ENDCHAR\nENDFONT\n")?;
+    font_of(alloc, text.as_bytes())
+}
+
+/// A path of so many curves.
+fn path(alloc: Global, curves: u32) -> Result<Path, Stop>
+    ensures { IfOk result (λ path. IsPath path.segs) }
+{
+    let text = repeated(alloc, "m 0 0", " b 10 0 20 10 20 20", curves)?;
+    Ok(read_path(alloc, text.as_str())?)
+}
+
+fn measure_turn(
+    rt: &HostRuntime,
+    name: &str,
+    font: &Font,
+    matrix: &Matrix,
+    turns: u32,
+) -> Result<(), Stop>
+    requires font { IsFont font.now }
+    requires glyph { 0 < length font.now.glyphs }
+    requires matrix { IsMatrix matrix.now }
+{
+    let mut laps = Laps::new();
+    let mut quads = 0;
+    for _ in 0..turns {
+        let began = Instant::now(rt)?;
+        let outline = quads_of(rt.alloc(), font, 0, matrix, false, false, false)?;
+        laps.add(began.elapsed(rt)?);
+        quads = outline.rings.len();
+    }
+    println!(rt; "quads, {name}: {quads} quads, {laps}")?;
+    Ok(())
+}
+
+/// Times the outline of a glyph of so many rows of 48 set pixels, upright and turned by 30.5 degrees.
+pub fn measure_glyph(rt: &HostRuntime, rows: u32, turns: u32) -> Result<(), Stop> {
+    if rows > 255 {
+        return Err(Stop::SizeOutOfRange);
+    }
+    let font = font(rt.alloc(), rows as u8)?;
+    if font.glyphs().is_empty() {
+        return Err(Stop::SizeOutOfRange);
+    }
+    measure_turn(rt, "upright", &font, &matrix(0), turns)?;
+    measure_turn(rt, "turned", &font, &matrix(30_500), turns)
+}
+
+fn measure_path(rt: &HostRuntime, path: &Path, matrix: &Matrix, turns: u32) -> Result<(), Stop>
+    requires path { IsPath path.now.segs }
+    requires matrix { IsMatrix matrix.now }
+{
+    let mut laps = Laps::new();
+    let mut points = 0;
+    for _ in 0..turns {
+        let began = Instant::now(rt)?;
+        let outline = outline_of_path(rt.alloc(), path, matrix, 0)?;
+        laps.add(began.elapsed(rt)?);
+        points = outline.rings.all_items().len();
+    }
+    println!(rt; "drawing: {points} points, {laps}")?;
+    Ok(())
+}
+
+/// Times the outline of a drawing of so many curves.
+pub fn measure_drawing(rt: &HostRuntime, curves: u32, turns: u32) -> Result<(), Stop> {
+    let path = path(rt.alloc(), curves)?;
+    measure_path(rt, &path, &matrix(30_500), turns)
+}
+
+/// Prints how many quads a glyph of 2 rows has, and how many points a drawing of 3 curves.
+pub fn show(rt: &HostRuntime) -> Result<(), Stop> {
+    let alloc = rt.alloc();
+    let font = font(alloc, 2)?;
+    if font.glyphs().is_empty() {
+        return Err(Stop::SizeOutOfRange);
+    }
+    let glyph = quads_of(alloc, &font, 0, &matrix(0), false, false, false)?;
+    let drawing = outline_of_path(alloc, &path(alloc, 3)?, &matrix(0), 0)?;
+    let quads = glyph.rings.len();
+    let points = drawing.rings.all_items().len();
+    println!(rt; "outlines: {quads} quads, {points} points")?;
+    Ok(())
+}
