@@ -5,3 +5,5 @@ pub mod Plain
 pub mod Events
 pub mod Ranges
 pub mod Laws
+pub mod Histories
+pub mod NearEvents

@@ -1,0 +1,10 @@
+pub mod Pairs
+pub mod Orders
+pub mod Nears
+pub mod Sorts
+pub mod Indexes
+pub mod Bounds
+pub mod Places
+pub mod Soundness
+pub mod Histories
+pub mod Turns

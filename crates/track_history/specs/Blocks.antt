@@ -1,0 +1,30 @@
+-- Public: blocks of spans, and what they have together.
+use Rattle.std.specs.Prelude.{◌≡◌, ◌≢◌, ◌<◌, ◌≤ℤ◌, List, ◌∷◌, ◌++◌, length, All}
+use Rattle.std.specs.List.{flat_map}
+use Rattle.ass_events.specs.Histories.{Pairwise}
+use Rattle.track_history.specs.declared.spans.LiveSpan.{LiveSpan}
+use Rattle.track_history.specs.declared.blocks.Block.{Block}
+use Rattle.track_history.specs.Spans.{StandsBefore}
+
+-- a block has a span, and none begins before `first` or ends after `last`
+pub record IsBlock (block : Block) : Type 0 where
+  pub some : 0 < length block.spans.items
+  pub first : All (λ s. block.first ≤ℤ s.start) block.spans.items
+  pub last : All (λ s. s.end ≤ℤ block.last) block.spans.items
+
+-- all spans, in the order of the blocks
+abbrev pub spans_of : List Block → List LiveSpan
+spans_of blocks = flat_map (λ block. block.spans.items) blocks
+
+-- the blocks are filled, and all spans are in order and have different ReadOrders
+pub record IsIndex (all : List Block) : Type 0 where
+  pub blocks : All IsBlock all
+  pub sorted : Pairwise StandsBefore (spans_of all)
+  pub orders : Pairwise (λ a b. a.order ≢ b.order) (spans_of all)
+
+-- the span was put in somewhere
+pub record IsInserted (old : List LiveSpan) (span : LiveSpan) (new : List LiveSpan) : Type 0 where
+  pub front : List LiveSpan
+  pub back : List LiveSpan
+  pub was : old ≡ front ++ back
+  pub is : new ≡ front ++ span ∷ back

@@ -1,0 +1,33 @@
+-- Inner: what a walk over spans finds.
+use Rattle.std.specs.Prelude.{Bool, ◌&&◌, if◌then◌else◌, ℤ, pos, int_le, int_lt, List, [], ◌∷◌, ◌++◌}
+use Rattle.std.specs.Ordering.{int_eq}
+use Rattle.track_history.specs.declared.spans.LiveSpan.{LiveSpan}
+use Rattle.track_history.specs.declared.walks.Walk.{Walk}
+
+-- what was found so far, and the layer and the start of the span found last
+pub record WalkValue : Type 0 where
+  pub found : List LiveSpan
+  pub layer : ℤ
+  pub least : ℤ
+
+abbrev pub walk_of : Walk → WalkValue
+walk_of walk = record { found = walk.found.items; layer = walk.layer; least = walk.least }
+
+-- before the last span
+abbrev pub first_walk : ℤ → WalkValue
+first_walk t = record { found = []; layer = pos 0; least = t }
+
+-- what a span of this layer has to outlast: the start of the one found last there, or t where there is none
+abbrev pub bound_of : ℤ → WalkValue → ℤ → ℤ
+bound_of t walk layer = if int_eq layer walk.layer then walk.least else t
+
+abbrev pub takes : ℤ → WalkValue → LiveSpan → Bool
+takes t walk span = int_le span.start t && int_lt (bound_of t walk span.layer) span.end
+
+abbrev pub stepped : ℤ → WalkValue → LiveSpan → WalkValue
+stepped t walk span = if takes t walk span then record { found = walk.found ++ span ∷ []; layer = span.layer; least = span.start } else walk
+
+-- after all these spans, the last one first
+abbrev pub walked : ℤ → WalkValue → List LiveSpan → WalkValue
+walked t walk [] = walk
+walked t walk (span ∷ spans) = stepped t (walked t walk spans) span

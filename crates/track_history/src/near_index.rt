@@ -1,0 +1,158 @@
+//! The spans of all live events, so that what matters at an instant is found without a walk over all of them.
+
+ghost use Rattle.std.specs.Prelude.{◌≡◌, ◌≢◌, ◌+◌, ◌<◌, ◌≤◌, [], ◌∷◌, ◌++◌, All, IfOk, OnOk, OnErr, length, take, drop, slice_index_or};
+ghost use Rattle.std.specs.List.Sorted.{IsPermutation};
+ghost use Rattle.ass_events.specs.NearEvents.{AreNear};
+ghost use Rattle.track_history.specs.Spans.{StandsBefore, AreInTime, span_at};
+ghost use Rattle.track_history.specs.Blocks.{IsIndex, IsInserted, spans_of};
+ghost use Rattle.track_history.specs.Walks.{first_walk, walk_of, walked};
+
+use crate::blocks::Block;
+use crate::spans::LiveSpan;
+use crate::walks::Walk;
+use ass_num::Mem;
+use std::alloc::Global;
+
+/// Spans by layer, then start, then ReadOrder, in blocks of some hundred.
+#[derive(Drop)]
+pub struct NearIndex {
+    pub blocks: Vec<Block>,
+}
+
+impl NearIndex {
+    pub fn new(alloc: Global) -> NearIndex
+        ensures { result.blocks.items ≡ [] }
+    {
+        NearIndex {
+            blocks: Vec::new(alloc),
+        }
+    }
+
+    /// Drops all spans.
+    pub fn clear(&mut self)
+        ensures { self.new.blocks.items ≡ [] }
+    {
+        self.blocks.clear();
+    }
+
+    /// Puts in a span whose ReadOrder no other has. Where memory is wanting, the spans stay as they are.
+    pub fn insert(&mut self, alloc: Global, span: LiveSpan) -> Mem<()>
+        requires index { IsIndex self.old.blocks.items }
+        requires new { All (λ s. s.order ≢ span.order) (spans_of self.old.blocks.items) }
+        ensures index { IsIndex self.new.blocks.items }
+        ensures ok { OnOk result (IsInserted (spans_of self.old.blocks.items) span (spans_of self.new.blocks.items)) }
+        ensures err { OnErr result (spans_of self.new.blocks.items ≡ spans_of self.old.blocks.items) }
+    {
+        if self.blocks.is_empty() {
+            let block = Block::of_one(alloc, span)?;
+            self.blocks.push(block)?;
+            return Ok(());
+        }
+        let at = self.block_of(&span);
+        if !self.blocks[at].is_full() {
+            return self.insert_into(at, span);
+        }
+        self.split(alloc, at)?;
+        let at = self.block_of(&span);
+        self.insert_into(at, span)
+    }
+
+    /// The block in which the span has its place.
+    fn block_of(&self, span: &LiveSpan) -> usize
+        requires index { IsIndex self.now.blocks.items }
+        requires some { 0 < length self.now.blocks.items }
+        requires new { All (λ s. s.order ≢ span.now.order) (spans_of self.now.blocks.items) }
+        ensures within { result < length self.now.blocks.items }
+        ensures before { All (λ s. StandsBefore s span.now) (spans_of (take result self.now.blocks.items)) }
+        ensures behind { All (λ s. StandsBefore span.now s) (spans_of (drop (result + 1) self.now.blocks.items)) }
+    {
+        let mut low = 0;
+        let mut high = self.blocks.len();
+        'search: while high - low > 1 {
+            let middle = low + (high - low) / 2;
+            if self.blocks[middle].spans[0].is_before(span) {
+                low = middle;
+            } else {
+                high = middle;
+            }
+        }
+        low
+    }
+
+    /// Splits a block in two. The last one keeps all but one of its spans, since most events come in order.
+    fn split(&mut self, alloc: Global, at: usize) -> Mem<()>
+        requires index { IsIndex self.old.blocks.items }
+        requires within { at < length self.old.blocks.items }
+        ensures index { IsIndex self.new.blocks.items }
+        ensures spans { spans_of self.new.blocks.items ≡ spans_of self.old.blocks.items }
+        ensures some { 0 < length self.new.blocks.items }
+    {
+        let count = self.blocks[at].spans.len();
+        let cut = if at + 1 == self.blocks.len() {
+            count - 1
+        } else {
+            count / 2
+        };
+        if cut == 0 {
+            return Ok(());
+        }
+        let tail = self.blocks[at].tail(alloc, cut)?;
+        self.blocks.insert(at + 1, tail)?;
+        self.blocks[at].cut(cut);
+        Ok(())
+    }
+
+    /// Puts the span into the block in which it has its place.
+    fn insert_into(&mut self, at: usize, span: LiveSpan) -> Mem<()>
+        requires index { IsIndex self.old.blocks.items }
+        requires new { All (λ s. s.order ≢ span.order) (spans_of self.old.blocks.items) }
+        requires within { at < length self.old.blocks.items }
+        requires before { All (λ s. StandsBefore s span) (spans_of (take at self.old.blocks.items)) }
+        requires behind { All (λ s. StandsBefore span s) (spans_of (drop (at + 1) self.old.blocks.items)) }
+        ensures index { IsIndex self.new.blocks.items }
+        ensures ok { OnOk result (IsInserted (spans_of self.old.blocks.items) span (spans_of self.new.blocks.items)) }
+        ensures err { OnErr result (spans_of self.new.blocks.items ≡ spans_of self.old.blocks.items) }
+    {
+        let count = self.blocks[at].count_before(&span);
+        self.blocks[at].insert(count, span)
+    }
+
+    /// Finds what matters at an instant: a walk over the blocks that may have some of it, the last one first.
+    fn walk(&self, alloc: Global, t: i64) -> Mem<Walk>
+        requires { IsIndex self.now.blocks.items }
+        ensures { IfOk result (λ walk. walk_of walk ≡ walked t (first_walk t) (spans_of self.now.blocks.items)) }
+    {
+        let mut walk = Walk::new(alloc, t);
+        let mut rest = self.blocks.len();
+        'down: while rest > 0 {
+            rest -= 1;
+            let block = &self.blocks[rest];
+            if block.first <= t && walk.least < block.last {
+                block.walk(t, &mut walk)?;
+            }
+        }
+        Ok(walk)
+    }
+
+    /// The spans that matter at an instant, by start and then ReadOrder.
+    pub fn near(&self, alloc: Global, t: i64) -> Mem<Vec<LiveSpan>>
+        requires { IsIndex self.now.blocks.items }
+        ensures { IfOk result (λ near. AreNear span_at (spans_of self.now.blocks.items) t near.items) }
+    {
+        let Walk {
+            mut found,
+            layer: _,
+            least: _,
+        } = self.walk(alloc, t)?;
+        sort_in_time(&mut found);
+        Ok(found)
+    }
+}
+
+/// Brings spans in order of start and then ReadOrder.
+fn sort_in_time(spans: &mut Vec<LiveSpan>)
+    ensures permutation { IsPermutation spans.old.items spans.new.items }
+    ensures sorted { AreInTime spans.new.items }
+{
+    spans.sort_unstable_by_key(|span| (span.start, span.order));
+}

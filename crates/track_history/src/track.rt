@@ -1,0 +1,249 @@
+//! A track, and the calls on it.
+
+ghost use Rattle.std.specs.Prelude.{◌≡◌, ◌<◌, List, [], None, IfOk, IfErr, OnOk};
+ghost use Rattle.turn_cell.specs.History.{IsPrefix, IsBelow};
+ghost use Rattle.turn_cell.specs.Passes.{IsOf, Extends, first_pass, split_pass, new_pass, joined_pass, mine};
+ghost use Rattle.ass_events.specs.Histories.{Entry, live};
+ghost use Rattle.ass_events.specs.Ranges.{IsEvent};
+ghost use Rattle.track_history.specs.Answers.{IsSceneOf, read_orders};
+ghost use Rattle.track_history.specs.Calls.{IsFed, IsEventFed, IsFlushed, IsTriedLook, IsTurn, StandsFor, history_of};
+ghost use Rattle.track_history.specs.Tellings.{IsSound, Tells};
+
+use crate::answers::{Feed, Flushed, LookRefusal, TrackEntry};
+use crate::live_events::LiveEvents;
+use crate::scene::Scene;
+use ass_events::{ChunkRefusal, Event, read_chunk};
+use ass_num::{Items, Mem, OutOfMemory};
+use std::alloc::Global;
+use std::marker::Model;
+use std::sync::{Arc, Wait};
+use turn_cell::{Book, Pass, Turn, TurnCell};
+
+impl Book for LiveEvents {
+    ghost use Rattle.track_history.specs.Calls.{StandsFor};
+
+    type Entry = TrackEntry;
+
+    type Tag = ();
+
+    ghost stands = { λ _ live list. StandsFor live list };
+}
+
+/// The right to call a track, and what its owner has seen of the history. It must be spent: each call that takes one gives one back,
+/// but for [`Track::close`] and the second pass of a join.
+pub struct TrackPass {
+    pass: Pass<LiveEvents>,
+}
+
+impl Model for TrackPass {
+    ghost use Rattle.track_history.specs.Calls.{TrackView};
+
+    ghost Value = { TrackView };
+
+    ghost view = { λ p. p.pass };
+}
+
+/// The accepted events of a track, in one history. Threads share it by `&`.
+///
+/// A pass must come from the track that it is used on. What says `rt` may wait for the turn; nothing else waits.
+pub struct Track {
+    cell: TurnCell<LiveEvents>,
+}
+
+impl Model for Track {
+    ghost use Rattle.turn_cell.specs.Passes.{CellView};
+
+    ghost Value = { CellView (Unit {0}) };
+
+    ghost view = { λ track. track.cell };
+}
+
+impl Track {
+    /// A track without events, and its first pass.
+    pub fn open(alloc: Global) -> Mem<(Track, TrackPass)>
+        ensures { IfOk result (λ r. r.1 ≡ first_pass r.0) }
+    {
+        match TurnCell::open(alloc, (), LiveEvents::new(alloc)) {
+            Ok((cell, pass)) => Ok((Track { cell }, TrackPass { pass })),
+            Err(_) => Err(OutOfMemory),
+        }
+    }
+
+    /// Offers the event of a chunk, with its time in milliseconds beside it (`ass_process_chunk` in libass `ass.h`). Only `Accepted`
+    /// changes the history. A malformed chunk takes no turn.
+    pub fn feed<R: Wait>(
+        &self,
+        rt: &R,
+        alloc: Global,
+        pass: TrackPass,
+        chunk: &[u8],
+        start: i64,
+        duration: i64,
+    ) -> (TrackPass, Feed)
+        requires { IsOf self.now pass }
+        ensures { IsFed chunk.now start duration pass result.0 result.1 }
+    {
+        match read_chunk(alloc, chunk, start, duration) {
+            Ok(event) => self.feed_event(rt, alloc, pass, event),
+            Err(ChunkRefusal::Malformed(field, place)) => (pass, Feed::Malformed(field, place)),
+            Err(ChunkRefusal::OutOfMemory) => (pass, Feed::OutOfMemory),
+        }
+    }
+
+    /// Offers an event at a turn.
+    fn feed_event<R: Wait>(
+        &self,
+        rt: &R,
+        alloc: Global,
+        pass: TrackPass,
+        event: Event,
+    ) -> (TrackPass, Feed)
+        requires cell { IsOf self.now pass }
+        requires event { IsEvent event }
+        ensures { IsEventFed event pass result.0 result.1 }
+    {
+        let Ok(event) = Arc::new(alloc, event) else {
+            return (pass, Feed::OutOfMemory);
+        };
+        let TrackPass { pass } = pass;
+        let mut turn = self.cell.take(rt, pass);
+        let answer = turn.value_mut().feed(alloc, &event);
+        let pass = self.cell.give(turn, answer.entry(&event));
+        (TrackPass { pass }, answer)
+    }
+
+    /// Drops all live events: the flush is an entry of the history. It takes no memory.
+    pub fn flush<R: Wait>(&self, rt: &R, pass: TrackPass) -> (TrackPass, Flushed)
+        requires { IsOf self.now pass }
+        ensures { IsFlushed pass result.0 result.1 }
+    {
+        let TrackPass { pass } = pass;
+        let mut turn = self.cell.take(rt, pass);
+        let answer = turn.value_mut().flush();
+        let pass = self.cell.give(turn, answer.entry());
+        (TrackPass { pass }, answer)
+    }
+
+    /// What the history shows at an instant, in milliseconds.
+    pub fn look<R: Wait>(
+        &self,
+        rt: &R,
+        alloc: Global,
+        pass: TrackPass,
+        t: i64,
+    ) -> (TrackPass, Mem<Scene>)
+        requires { IsOf self.now pass }
+        ensures turn { IsTurn pass result.0 None }
+        ensures scene { IfOk result.1 (IsSceneOf (history_of result.0.seen) t) }
+    {
+        let TrackPass { pass } = pass;
+        let turn = self.cell.take(rt, pass);
+        self.scene_of(alloc, turn, t)
+    }
+
+    /// Looks without waiting: where another pass has the turn, the answer is the word that says so.
+    pub fn try_look(
+        &self,
+        alloc: Global,
+        pass: TrackPass,
+        t: i64,
+    ) -> (TrackPass, Result<Scene, LookRefusal>)
+        requires { IsOf self.now pass }
+        ensures { IsTriedLook pass t result.0 result.1 }
+    {
+        let TrackPass { pass } = pass;
+        match self.cell.try_take(pass) {
+            Ok(turn) => {
+                let (pass, scene) = self.scene_of(alloc, turn, t);
+                (pass, scene.map_err(|_| LookRefusal::OutOfMemory))
+            }
+            Err((word, pass)) => (TrackPass { pass }, Err(LookRefusal::TurnOut(word))),
+        }
+    }
+
+    /// Gives the turn back, and answers what its history shows.
+    fn scene_of(&self, alloc: Global, turn: Turn<LiveEvents>, t: i64) -> (TrackPass, Mem<Scene>)
+        requires cell { IsOf self.now turn.pass }
+        requires value { StandsFor turn.value turn.list }
+        ensures pass { result.0 ≡ record turn.pass { seen = turn.list } }
+        ensures scene { IfOk result.1 (IsSceneOf (history_of turn.list) t) }
+    {
+        let scene = scene(alloc, turn.value(), t);
+        let pass = self.cell.give(turn, None);
+        (TrackPass { pass }, scene)
+    }
+
+    /// The ReadOrders of the live events, in the order in which they were accepted.
+    pub fn orders<R: Wait>(
+        &self,
+        rt: &R,
+        alloc: Global,
+        pass: TrackPass,
+    ) -> (TrackPass, Mem<Items<u32>>)
+        requires { IsOf self.now pass }
+        ensures turn { IsTurn pass result.0 None }
+        ensures orders { IfOk result.1 (λ orders. orders ≡ read_orders (live (history_of result.0.seen))) }
+    {
+        let TrackPass { pass } = pass;
+        let turn = self.cell.take(rt, pass);
+        let orders = turn.value().orders(alloc);
+        let pass = self.cell.give(turn, None);
+        (TrackPass { pass }, orders)
+    }
+
+    /// Splits a new pass off the first one. The first pass comes back where 4,294,967,295 numbers were made.
+    pub fn split(&self, pass: TrackPass) -> Result<(TrackPass, TrackPass), TrackPass>
+        requires cell { IsOf self.now pass }
+        requires first { pass.number ≡ 0 }
+        ensures passes { IfOk result (λ r. (r.0 ≡ split_pass pass) × (r.1 ≡ new_pass pass)) }
+        ensures room { OnOk result (pass.next < u32.MAX) }
+        ensures refused { IfErr result (λ p. (pass.next ≡ u32.MAX) × (p ≡ pass)) }
+        ensures empty { IfOk result (λ r. mine r.1 ≡ []) }
+        ensures below { IfOk result (λ r. IsBelow r.1.number r.1.seen × IsBelow r.0.next r.0.seen) }
+    {
+        let TrackPass { pass } = pass;
+        match self.cell.split(pass) {
+            Ok((first, new)) => Ok((TrackPass { pass: first }, TrackPass { pass: new })),
+            Err(pass) => Err(TrackPass { pass }),
+        }
+    }
+
+    /// Spends the other pass. The first one keeps its number, what it gave, and the longer of what both had seen.
+    pub fn join(&self, pass: TrackPass, other: TrackPass) -> TrackPass
+        requires cells { IsOf self.now pass × IsOf self.now other }
+        requires first { pass.number ≡ 0 }
+        ensures pass { result ≡ joined_pass pass other }
+        ensures begins { IsPrefix pass.seen result.seen × IsPrefix other.seen result.seen }
+        ensures mine { mine result ≡ mine pass }
+        ensures itself { Extends result result.seen }
+    {
+        let TrackPass { pass } = pass;
+        let TrackPass { pass: other } = other;
+        TrackPass {
+            pass: self.cell.join(pass, other),
+        }
+    }
+
+    /// Frees the track, unless a pass that was never joined has the turn.
+    pub fn close(self, pass: TrackPass)
+        requires cell { IsOf self pass }
+        requires first { pass.number ≡ 0 }
+    {
+        let TrackPass { pass } = pass;
+        let Track { cell } = self;
+        let _live = cell.close(pass);
+    }
+}
+
+/// What the live events show at an instant.
+fn scene(alloc: Global, live: &LiveEvents, t: i64) -> Mem<Scene>
+    requires { IsSound live.now }
+    ensures { (history : List Entry) → Tells live.now history → IfOk result (IsSceneOf history t) }
+{
+    let events = live.near(alloc, t)?;
+    Ok(Scene {
+        n: live.entries(),
+        t,
+        events,
+    })
+}

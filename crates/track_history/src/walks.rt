@@ -1,0 +1,45 @@
+//! Walks from the last span to the first, which find what matters at an instant.
+
+ghost use Rattle.std.specs.Prelude.{◌≡◌, [], OnOk};
+ghost use Rattle.track_history.specs.Walks.{first_walk, stepped, walk_of};
+
+use crate::spans::LiveSpan;
+use ass_num::Mem;
+use std::alloc::Global;
+
+/// What a walk found so far, the last span first. Where a span was found, its layer and its start.
+#[derive(Drop)]
+pub struct Walk {
+    pub found: Vec<LiveSpan>,
+    pub layer: i32,
+    pub least: i64,
+}
+
+impl Walk {
+    pub fn new(alloc: Global, t: i64) -> Walk
+        ensures { walk_of result ≡ first_walk t }
+    {
+        Walk {
+            found: Vec::new(alloc),
+            layer: 0,
+            least: t,
+        }
+    }
+
+    /// Goes on to the span, which matters where it is shown at t, or ends after the start of the one found last of its layer.
+    pub fn step(&mut self, t: i64, span: &LiveSpan) -> Mem<()>
+        ensures { OnOk result (walk_of self.new ≡ stepped t (walk_of self.old) span.now) }
+    {
+        let least = if span.layer == self.layer {
+            self.least
+        } else {
+            t
+        };
+        if span.start <= t && least < span.end {
+            self.found.push(*span)?;
+            self.layer = span.layer;
+            self.least = span.start;
+        }
+        Ok(())
+    }
+}
