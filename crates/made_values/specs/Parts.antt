@@ -1,0 +1,9 @@
+-- Public: parts with their masks at hand.
+use Rattle.std.specs.Prelude.{ℤ, List, [], ◌∷◌}
+use Rattle.ass_num.specs.Masks.{MaskValue}
+use Rattle.mask_keys.specs.declared.composite_key.Part.{Part}
+
+-- the masks of the parts in the same order, each with its part's offset
+abbrev pub placed_masks : List Part → List MaskValue → List (MaskValue × ℤ × ℤ)
+placed_masks (p ∷ parts) (m ∷ masks) = (m, p.dx, p.dy) ∷ placed_masks parts masks
+placed_masks _ _ = []

@@ -1,0 +1,40 @@
+-- Public: sets of fonts, and the rings of a key's outline.
+use Rattle.std.specs.Prelude.{ℕ, ◌≤◌, ℤ, Bool, List, [], ◌∷◌, length, map, All, Option, Some, None, option_and_then, slice_get, unwrap_or}
+use Rattle.ass_num.specs.declared.geometry.Matrix.{Matrix}
+use Rattle.ass_num.specs.declared.geometry.Point.{Point}
+use Rattle.bdf_font.specs.Fonts.{FontValue}
+use Rattle.bdf_font.specs.GlyphRings.{rings_of_glyph}
+use Rattle.bdf_font.specs.Limits.{max_fonts}
+use Rattle.bdf_font.specs.Ranges.{IsFont}
+use Rattle.bdf_font.specs.declared.glyphs.FontGlyph.{FontGlyph}
+use Rattle.mask_keys.specs.declared.outline_key.OutlineKey.{OutlineKey}
+use Rattle.mask_keys.specs.declared.outline_key.OutlineKey.TheVariants.{Glyph, Drawing, Box}
+use Rattle.outline_points.specs.Boxes.{box_ring}
+use Rattle.outline_points.specs.Drawings.{path_rings}
+
+-- Fonts that keys may name.
+pub record IsFontSet (fonts : List FontValue) : Type 0 where
+  pub few : length fonts ≤ max_fonts
+  pub fonts : All IsFont fonts
+
+-- the number of glyphs of each font
+abbrev pub glyph_counts : List FontValue → List ℕ
+glyph_counts fonts = map (λ font. length font.glyphs) fonts
+
+-- the rings of a font's glyph, where there is one
+abbrev pub font_glyph_rings : Matrix → Bool → Bool → Bool → FontValue → ℕ → List (List Point)
+font_glyph_rings m bold underline strikeout font glyph = rings_at (slice_get font.glyphs glyph)
+  where
+    rings_at : Option FontGlyph → List (List Point)
+    rings_at None = []
+    rings_at (Some g) = rings_of_glyph m bold underline strikeout font.ascent g
+
+-- The rings of a key's outline; none where the fonts lack the glyph.
+abbrev pub rings_of : List FontValue → OutlineKey → List (List Point)
+rings_of fonts (Glyph font glyph m bold underline strikeout) = rings_in (slice_get fonts font)
+  where
+    rings_in : Option FontValue → List (List Point)
+    rings_in None = []
+    rings_in (Some f) = font_glyph_rings m bold underline strikeout f glyph
+rings_of fonts (Drawing path m shift) = path_rings m shift path.segs
+rings_of fonts (Box w h turn) = box_ring w h turn ∷ []
