@@ -43,6 +43,7 @@ fn sum_of_parts(alloc: Global, parts: &[Part], masks: &[Arc<Mask>]) -> Mem<Mask>
 
 /// The composed mask of one part that isn't moved: the part's own, which is shared and not copied.
 fn shared_mask(mask: &Arc<Mask>) -> Mem<Arc<Mask>>
+    requires { IsMaskWithin max_mask_corner max_mask_side (arc_value mask.now) }
     ensures { IfOk result (λ m. arc_value m ≡ summed_mask ((arc_value mask.now, pos 0, pos 0) ∷ [])) }
 {
     // The bytes tell that the mask has its one form, and that no value is above 255.

@@ -46,7 +46,8 @@ fn blurred(alloc: Global, mask: Mask, radius: u8) -> Mem<Mask>
     requires canonical { is_mask mask ≡ true }
     requires within { IsMaskWithin max_mask_corner max_mask_side mask }
     requires radius { radius ≤ max_blur_radius }
-    ensures { IfOk result (λ m. m ≡ blurred_mask radius mask) }
+    ensures value { IfOk result (λ m. m ≡ blurred_mask radius mask) }
+    ensures within { IfOk result (λ m. (corner side : ℕ) → IsMaskWithin corner side mask → IsMaskWithin (corner + 3 * radius) (side + 6 * radius) m) }
 {
     if radius == 0 {
         return Ok(mask);
@@ -59,7 +60,8 @@ fn blurred(alloc: Global, mask: Mask, radius: u8) -> Mem<Mask>
 pub fn mask_of_region(alloc: Global, region: &Region, key: &MaskKey) -> Mem<Mask>
     requires region { IsRegionWithin max_sample region.now.top region.now.rows }
     requires key { HasMaskRanges key.now }
-    ensures { IfOk result (λ m. m ≡ mask_of_region key.now region.now) }
+    ensures value { IfOk result (λ m. m ≡ mask_of_region key.now region.now) }
+    ensures within { IfOk result (IsMaskWithin max_mask_corner max_mask_side) }
 {
     let mask = covered(alloc, region, key.px, key.py)?;
     let soft = softened(alloc, mask, key.edges)?;
@@ -70,7 +72,8 @@ pub fn mask_of_region(alloc: Global, region: &Region, key: &MaskKey) -> Mem<Mask
 pub fn made_mask(alloc: Global, region: &Region, key: &MaskKey) -> Mem<Mask>
     requires region { IsRegionWithin max_inside region.now.top region.now.rows }
     requires key { HasMaskRanges key.now }
-    ensures { IfOk result (λ m. m ≡ mask_of_region key.now (widened_region key.now.rx key.now.ry region.now)) }
+    ensures value { IfOk result (λ m. m ≡ mask_of_region key.now (widened_region key.now.rx key.now.ry region.now)) }
+    ensures within { IfOk result (IsMaskWithin max_mask_corner max_mask_side) }
 {
     if key.rx == 0 && key.ry == 0 {
         return unwidened_mask(alloc, region, key);
@@ -83,7 +86,8 @@ pub fn made_mask(alloc: Global, region: &Region, key: &MaskKey) -> Mem<Mask>
 fn unwidened_mask(alloc: Global, region: &Region, key: &MaskKey) -> Mem<Mask>
     requires region { IsRegionWithin max_inside region.now.top region.now.rows }
     requires key { HasMaskRanges key.now }
-    ensures { IfOk result (λ m. m ≡ mask_of_region key.now (widened_region 0 0 region.now)) }
+    ensures value { IfOk result (λ m. m ≡ mask_of_region key.now (widened_region 0 0 region.now)) }
+    ensures within { IfOk result (IsMaskWithin max_mask_corner max_mask_side) }
 {
     // The rows tell that the region has its one form, in which widening by nothing leaves it.
     let _rows = region.rows();

@@ -1,10 +1,11 @@
 //! The regions of outlines.
 
 ghost use Rattle.std.specs.Prelude.{◌≡◌, ℕ, ℤ, ◌<◌, List, length, slice_index, IfOk};
-ghost use Rattle.ass_num.specs.Limits.{IsOutline};
+ghost use Rattle.ass_num.specs.Limits.{IsOutline, IsRegionWithin};
 ghost use Rattle.ass_num.specs.Winding.{winding};
 ghost use Rattle.mask_keys.specs.Keys.{IsValidOutline};
 ghost use Rattle.mask_model.specs.Outlines.{IsFontSet, glyph_counts, rings_of};
+ghost use Rattle.mask_model.specs.Regions.{max_inside};
 ghost use Rattle.mask_model.specs.Values.{outline_value};
 
 use ass_num::{Mem, Outline, Region};
@@ -67,7 +68,8 @@ fn simpler(alloc: Global, outline: Outline, coarse: bool) -> Mem<Outline>
 pub fn made_outline(alloc: Global, fonts: &FontSet, key: &OutlineKey) -> Mem<Region>
     requires fonts { IsFontSet fonts.now.fonts }
     requires key { IsValidOutline (glyph_counts fonts.now.fonts) key.now }
-    ensures { IfOk result (λ r. r ≡ outline_value fonts.now.fonts key.now) }
+    ensures value { IfOk result (λ r. r ≡ outline_value fonts.now.fonts key.now) }
+    ensures within { IfOk result (λ r. IsRegionWithin max_inside r.top r.rows) }
 {
     let outline = outline_of(alloc, fonts, key)?;
     let simple = simpler(alloc, outline, is_coarse(key))?;

@@ -27,6 +27,7 @@ pub fn mask_key_copy(alloc: Global, mask: &MaskKey) -> Mem<MaskKey>
 }
 
 /// A copy of an outline's key.
+#[tactic(auto, using(crate::proofs::Copied::outline_same))]
 pub fn outline_key_copy(alloc: Global, outline: &OutlineKey) -> Mem<OutlineKey>
     ensures { IfOk result (λ copy. copy ≡ outline.now) }
 {
@@ -34,6 +35,7 @@ pub fn outline_key_copy(alloc: Global, outline: &OutlineKey) -> Mem<OutlineKey>
 }
 
 /// A copy of a region's key.
+#[tactic(auto, using(crate::proofs::Copied::region_same))]
 pub fn region_key_copy(alloc: Global, region: &RegionKey) -> Mem<RegionKey>
     ensures { IfOk result (λ copy. copy ≡ region.now) }
 {

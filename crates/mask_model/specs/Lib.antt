@@ -1,6 +1,7 @@
 pub mod Boxes
 pub mod Costs
 pub mod Masks
+pub mod Meanings
 pub mod Numbers
 pub mod Outlines
 pub mod Pictures

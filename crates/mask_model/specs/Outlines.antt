@@ -1,5 +1,5 @@
 -- Public: sets of fonts, and the rings of a key's outline.
-use Rattle.std.specs.Prelude.{ℕ, ◌≤◌, ℤ, Bool, List, [], ◌∷◌, length, map, All, Option, Some, None, option_and_then, slice_get, unwrap_or}
+use Rattle.std.specs.Prelude.{ℕ, ◌≤◌, ℤ, Bool, List, [], ◌∷◌, length, map, All, Option, Some, None, slice_get}
 use Rattle.ass_num.specs.declared.geometry.Matrix.{Matrix}
 use Rattle.ass_num.specs.declared.geometry.Point.{Point}
 use Rattle.bdf_font.specs.Fonts.{FontValue}
@@ -21,20 +21,19 @@ pub record IsFontSet (fonts : List FontValue) : Type 0 where
 abbrev pub glyph_counts : List FontValue → List ℕ
 glyph_counts fonts = map (λ font. length font.glyphs) fonts
 
--- the rings of a font's glyph, where there is one
-abbrev pub font_glyph_rings : Matrix → Bool → Bool → Bool → FontValue → ℕ → List (List Point)
-font_glyph_rings m bold underline strikeout font glyph = rings_at (slice_get font.glyphs glyph)
-  where
-    rings_at : Option FontGlyph → List (List Point)
-    rings_at None = []
-    rings_at (Some g) = rings_of_glyph m bold underline strikeout font.ascent g
+-- the rings of a glyph of a font with this ascent, if there is one
+abbrev pub found_glyph_rings : Matrix → Bool → Bool → Bool → ℤ → Option FontGlyph → List (List Point)
+found_glyph_rings m bold underline strikeout ascent None = []
+found_glyph_rings m bold underline strikeout ascent (Some glyph) = rings_of_glyph m bold underline strikeout ascent glyph
+
+-- the rings of a font's glyph, if there is such a font
+abbrev pub found_font_rings : Matrix → Bool → Bool → Bool → ℕ → Option FontValue → List (List Point)
+found_font_rings m bold underline strikeout glyph None = []
+found_font_rings m bold underline strikeout glyph (Some font) =
+    found_glyph_rings m bold underline strikeout font.ascent (slice_get font.glyphs glyph)
 
 -- The rings of a key's outline; none where the fonts lack the glyph.
 abbrev pub rings_of : List FontValue → OutlineKey → List (List Point)
-rings_of fonts (Glyph font glyph m bold underline strikeout) = rings_in (slice_get fonts font)
-  where
-    rings_in : Option FontValue → List (List Point)
-    rings_in None = []
-    rings_in (Some f) = font_glyph_rings m bold underline strikeout f glyph
+rings_of fonts (Glyph font glyph m bold underline strikeout) = found_font_rings m bold underline strikeout glyph (slice_get fonts font)
 rings_of fonts (Drawing path m shift) = path_rings m shift path.segs
 rings_of fonts (Box w h turn) = box_ring w h turn ∷ []
