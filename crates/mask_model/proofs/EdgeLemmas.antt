@@ -77,7 +77,7 @@ outside P rings h i j each = equal_counts (downs (place i) (place j) (edges_of r
 -- ---- edges that don't pass, or pass wholly
 
 -- an edge spans no height that all points are above or below
-none_spans : (x y : ℤ) (a b : Point) → spans a b y ≡ false → cond (counts a b x y) 1 0 ≡ 0
+none_spans : (x y : ℤ) (a b : Point) → spans a b y ≡ false → ◌≡◌ {A = ℕ} (cond (counts a b x y) 1 0) 0
 none_spans x y a b e = rw (and_left (spans a b y) (int_lt ((x -ℤ a.x) *ℤ (b.y -ℤ a.y)) ((b.x -ℤ a.x) *ℤ (y -ℤ a.y))) e) refl
 
 above_balances : (x y : ℤ) → (P : Point → Type 0) → ((p : Point) → P p → y <ℤ p.y) → Balances x y P
@@ -160,9 +160,9 @@ right_counts x y a b la lb = first_test (spans a b y) (int_lt ((x -ℤ a.x) *ℤ
 -- what an edge spans the one way and the other, by its ends
 spans_balance : (s t u v : Bool) → s ≡ not v → t ≡ not u → cond (u && s) 1 0 + cond v 1 0 ≡ cond (v && t) 1 0 + cond u 1 0
 spans_balance s t true true e f = rw (e, f) refl
-spans_balance s t true false e f = rw (e, f) refl
-spans_balance s t false true e f = rw (e, f) refl
-spans_balance s t false false e f = rw (e, f) refl
+spans_balance s t true false e f = rw e refl
+spans_balance s t false true e f = rw f refl
+spans_balance s t false false e f = refl
 
 lt_by_le : (y z : ℤ) → int_lt y z ≡ not (int_le z y)
 lt_by_le y z = by_lt_z y z (λ (l : y <ℤ z). rw (lt_true y z l, le_false z y l) refl) (λ (l : z ≤ℤ y). rw (lt_false y z l, le_true z y l) refl)
@@ -181,7 +181,7 @@ left_outside P rings h i j far =
     let none = no_counts (place i) (place j) P far rings h in
     equal_counts (downs (place i) (place j) (edges_of rings)) (ups (place i) (place j) (edges_of rings)) (none.0 ∙ sym none.1)
   where
-    edge_zero : (x y : ℤ) (P : Point → Type 0) → ((p : Point) → P p → p.x ≤ℤ x) → (a b : Point) → P a → P b → cond (counts a b x y) 1 0 ≡ 0
+    edge_zero : (x y : ℤ) (P : Point → Type 0) → ((p : Point) → P p → p.x ≤ℤ x) → (a b : Point) → P a → P b → ◌≡◌ {A = ℕ} (cond (counts a b x y) 1 0) 0
     edge_zero x y P far a b pa pb = rw (left_counts x y a b (far a pa) (far b pb)) refl
 
     line_zero : (x y : ℤ) (P : Point → Type 0) → ((p : Point) → P p → p.x ≤ℤ x) → (p : Point) (rest : List Point) (last : Point) → P p → All P rest → P last → (downs x y (line p rest last) ≡ 0) × (ups x y (line p rest last) ≡ 0)

@@ -15,7 +15,7 @@ use Rattle.outline_points.specs.Drawings.{path_rings}
 -- Fonts that keys may name.
 pub record IsFontSet (fonts : List FontValue) : Type 0 where
   pub few : length fonts ≤ max_fonts
-  pub fonts : All IsFont fonts
+  pub whole : All IsFont fonts
 
 -- the number of glyphs of each font
 abbrev pub glyph_counts : List FontValue → List ℕ

@@ -2,8 +2,7 @@
 use Rattle.std.specs.Prelude.{ℕ, List, map, fold}
 use Rattle.ass_num.specs.declared.size.Size.{Size}
 use Rattle.bdf_font.specs.Fonts.{FontValue}
-use Rattle.blend.specs.Blending.{Image, StencilValue}
-use Rattle.blend.specs.Blending.StencilValue as stencil
+use Rattle.blend.specs.Blending.{Image, StencilValue, Free, Rect, Drawn}
 use Rattle.blend.specs.Canvases.{CanvasValue, black, drawn}
 use Rattle.mask_keys.specs.declared.plans.Clip.{Clip}
 use Rattle.mask_keys.specs.declared.plans.Clip.TheVariants as clip
@@ -12,9 +11,9 @@ use Rattle.mask_model.specs.Values.{composite_value}
 
 -- a clip with the mask of its key
 abbrev pub stencil_of : List FontValue → Clip → StencilValue
-stencil_of fonts clip.Free = stencil.Free
-stencil_of fonts (clip.Rect x1 y1 x2 y2 inverse) = stencil.Rect x1 y1 x2 y2 inverse
-stencil_of fonts (clip.Drawn key x y inverse) = stencil.Drawn (composite_value fonts key) x y inverse
+stencil_of fonts clip.Free = Free
+stencil_of fonts (clip.Rect x1 y1 x2 y2 inverse) = Rect x1 y1 x2 y2 inverse
+stencil_of fonts (clip.Drawn key x y inverse) = Drawn (composite_value fonts key) x y inverse
 
 -- a draw with the masks of its keys
 abbrev pub image_of : List FontValue → Draw → Image
