@@ -1,7 +1,8 @@
 -- Parts with their masks, and the sum of a single one.
-use Rattle.std.proofs.Common.{◌≡◌, ℕ, zero, suc, ◌+◌, ◌<◌, ◌≤◌, true, ℤ, pos, ◌-ℤ◌, List, [], ◌∷◌, All, Any, length, map, min, sum_by, get_or, refl, sym, ap, ◌∙◌, subst, arith}
+use Rattle.std.proofs.Common.{◌≡◌, ℕ, zero, suc, ◌+◌, ◌<◌, ◌≤◌, true, ℤ, pos, ◌-ℤ◌, List, [], ◌∷◌, ◌++◌, All, Any, length, map, take, min, sum_by, get_or, refl, sym, ap, ◌∙◌, subst, arith}
 use Rattle.std.proofs.lemmas.Int.{ints}
-use Rattle.std.proofs.lemmas.List.Elements.{All-get_or}
+use Rattle.std.proofs.lemmas.List.{take_more, take_all}
+use Rattle.std.proofs.lemmas.List.Sums.{sum_by-cons}
 use Rattle.ass_num.specs.Coverage.{PixelBox, box_of, InBox, IsSum, IsMovedPixel, moved_value}
 use Rattle.ass_num.specs.Limits.{IsMaskWithin, max_mask_corner, max_mask_side}
 use Rattle.ass_num.specs.Masks.{MaskValue, is_mask, value_at}
@@ -11,18 +12,6 @@ use Rattle.mask_keys.specs.declared.composite_key.Part.{Part}
 use Rattle.mask_model.specs.Masks.{summed_mask}
 use Rattle.mask_model.proofs.ValueLemmas.{summed_is}
 use Rattle.made_values.specs.Parts.{placed_masks}
-
-pub placed-length : (parts : List Part) (masks : List MaskValue) → length masks ≡ length parts → length (placed_masks parts masks) ≡ length parts
-placed-length [] [] e = refl
-placed-length [] (m ∷ masks) e = refl
-placed-length (p ∷ parts) [] e = absurd (omega arith)
-placed-length (p ∷ parts) (m ∷ masks) e = let r = placed-length parts masks (omega arith) in omega arith
-
-pub placed-get : (parts : List Part) (masks : List MaskValue) (k : ℕ) (p : Part) (m : MaskValue) (d : MaskValue × ℤ × ℤ) → length masks ≡ length parts → k < length parts → get_or (placed_masks parts masks) k d ≡ (get_or masks k m, (get_or parts k p).dx, (get_or parts k p).dy)
-placed-get [] masks k p m d e l = absurd (omega arith)
-placed-get (q ∷ parts) [] k p m d e l = absurd (omega arith)
-placed-get (q ∷ parts) (n ∷ masks) zero p m d e l = refl
-placed-get (q ∷ parts) (n ∷ masks) (suc k) p m d e l = placed-get parts masks k p m d (omega arith) (omega arith)
 
 -- ---- a single mask that isn't moved
 
@@ -47,14 +36,15 @@ pixel_alone m i j h =
     let Y : ℤ → Type 0 = λ z. InBox (box_of m) i z in
     (0, (m, pos 0, pos 0), omega arith, refl, subst X (sym (unmoved i)) (subst Y (sym (unmoved j)) h))
 
-alone_value : (v : ℕ) → v ≤ 255 → v ≡ min 255 (v + 0)
+alone_value : (v : ℕ) → v ≤ 255 → v ≡ min 255 v
 alone_value v l = grind arith
 
 alone_sum : (m : MaskValue) → ((k : ℕ) → get_or m.bytes k 0 ≤ 255) → IsSum (alone m) m
 alone_sum m bytes = record {
   value = λ x y.
     alone_value (value_at m x y) (value_most m x y 255 bytes)
-    ∙ ap (λ z. min 255 (value_at m z y + 0)) (sym (unmoved x)) ∙ ap (λ z. min 255 (value_at m (x -ℤ pos 0) z + 0)) (sym (unmoved y));
+    ∙ ap (λ z. min 255 (value_at m z y)) (sym (unmoved x)) ∙ ap (λ z. min 255 (value_at m (x -ℤ pos 0) z)) (sym (unmoved y))
+    ∙ ap (min 255) (sym (sum_by-cons (λ (p : MaskValue × ℤ × ℤ). moved_value p x y) (m, pos 0, pos 0) [] ∙ omega arith));
   box = record {
     has = λ i j h. alone_pixel m i j h;
     least = λ other held i j h. held i j (pixel_alone m i j h);
@@ -63,3 +53,40 @@ alone_sum m bytes = record {
 
 pub alone_is : (m : MaskValue) → is_mask m ≡ true → IsMaskWithin max_mask_corner max_mask_side m → ((k : ℕ) → get_or m.bytes k 0 ≤ 255) → m ≡ summed_mask (alone m)
 alone_is m is within bytes = summed_is (alone m) max_mask_corner max_mask_side m is (alone_sum m bytes) within (omega arith)
+
+-- ---- the item of a part and its mask
+
+item_same : (m n : MaskValue) (p q : Part) → m ≡ n → p ≡ q → ◌≡◌ {A = MaskValue × ℤ × ℤ} (n, q.dx, q.dy) (m, p.dx, p.dy)
+item_same m n p q e f = rw (e, f) refl
+
+pub placed_at : {A : Type 0} (value : A → MaskValue) (parts : List Part) (masks : List A) (k : ℕ) (p : Part) (a : A) (m : MaskValue) (d : MaskValue × ℤ × ℤ) → length masks ≡ length parts → k < length parts
+    → p ≡ get_or parts k p → a ≡ get_or masks k a → m ≡ value a → get_or (placed_masks parts (map value masks)) k d ≡ (m, p.dx, p.dy)
+placed_at value [] masks k p a m d e l f g h = absurd (omega arith)
+placed_at value (q ∷ parts) [] k p a m d e l f g h = absurd (omega arith)
+placed_at value (q ∷ parts) (b ∷ masks) zero p a m d e l f g h = item_same m (value b) p q (h ∙ ap value g) f
+placed_at value (q ∷ parts) (b ∷ masks) (suc k) p a m d e l f g h = placed_at value parts masks k p a m d (omega arith) (omega arith) f g h
+
+pub placed_count : {A : Type 0} (value : A → MaskValue) (parts : List Part) (masks : List A) → length masks ≡ length parts → length (placed_masks parts (map value masks)) ≡ length parts
+placed_count value [] [] e = refl
+placed_count value [] (b ∷ masks) e = refl
+placed_count value (q ∷ parts) [] e = absurd (omega arith)
+placed_count value (q ∷ parts) (b ∷ masks) e = let r = placed_count value parts masks (omega arith) in omega arith
+
+pub placed_more : {A : Type 0} (value : A → MaskValue) (parts : List Part) (masks : List A) (k : ℕ) (p : Part) (a : A) (m : MaskValue) → length masks ≡ length parts → k < length parts
+    → p ≡ get_or parts k p → a ≡ get_or masks k a → m ≡ value a
+    → take (k + 1) (placed_masks parts (map value masks)) ≡ take k (placed_masks parts (map value masks)) ++ (m, p.dx, p.dy) ∷ []
+placed_more value parts masks k p a m e l f g h =
+    let all : List (MaskValue × ℤ × ℤ) = placed_masks parts (map value masks) in
+    let item : MaskValue × ℤ × ℤ = (m, p.dx, p.dy) in
+    let count = placed_count value parts masks e in
+    take_more all k item (omega arith) ∙ ap (λ z. take k all ++ z ∷ []) (placed_at value parts masks k p a m item e l f g h)
+
+pub placed_holds : {A : Type 0} (P : MaskValue × ℤ × ℤ → Type 0) (value : A → MaskValue) (parts : List Part) (masks : List A) (k : ℕ) (p : Part) (a : A) (m : MaskValue) → length masks ≡ length parts → k < length parts
+    → p ≡ get_or parts k p → a ≡ get_or masks k a → m ≡ value a → All P (placed_masks parts (map value masks)) → P (m, p.dx, p.dy)
+placed_holds P value parts masks k p a m e l f g h all =
+    let item : MaskValue × ℤ × ℤ = (m, p.dx, p.dy) in
+    let count = placed_count value parts masks e in
+    subst P (placed_at value parts masks k p a m item e l f g h) (all k item (omega arith))
+
+pub placed_whole : {A : Type 0} (value : A → MaskValue) (parts : List Part) (masks : List A) (k : ℕ) → length masks ≡ length parts → length parts ≤ k → take k (placed_masks parts (map value masks)) ≡ placed_masks parts (map value masks)
+placed_whole value parts masks k e l = let count = placed_count value parts masks e in take_all k (placed_masks parts (map value masks)) (omega arith)

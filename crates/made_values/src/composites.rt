@@ -1,11 +1,11 @@
 //! Sums of masks.
 
-ghost use Rattle.std.specs.Prelude.{◌≡◌, ◌+◌, ◌*◌, true, pos, [], ◌∷◌, length, map, All, IfOk};
+ghost use Rattle.std.specs.Prelude.{◌≡◌, ℤ, pos, List, [], ◌∷◌, ◌++◌, length, map, All, IfOk};
 ghost use Rattle.std.specs.Arc.{arc_value};
-ghost use Rattle.ass_num.specs.Coverage.{IsSum};
-ghost use Rattle.ass_num.specs.Limits.{IsMaskWithin, max_mask_corner, max_mask_side, max_mask_shift};
-ghost use Rattle.ass_num.specs.Masks.{is_mask};
-ghost use Rattle.mask_cover.specs.Sums.{IsBoxOf, IsPlaceableMask};
+ghost use Rattle.ass_num.specs.Coverage.{InBox, IsMovedPixel, box_of};
+ghost use Rattle.ass_num.specs.Limits.{IsMaskWithin, max_mask_corner, max_mask_side};
+ghost use Rattle.ass_num.specs.Masks.{MaskValue};
+ghost use Rattle.mask_cover.specs.Sums.{HasSum, IsBoxOf, IsPlaceableMask};
 ghost use Rattle.mask_model.specs.Masks.{summed_mask};
 ghost use Rattle.made_values.specs.Parts.{placed_masks};
 
@@ -15,6 +15,14 @@ use mask_keys::Part;
 use std::alloc::Global;
 use std::sync::Arc;
 
+/// The least box that has this one, and that of a part's mask.
+fn with_part(extent: Extent, mask: &Mask, part: &Part) -> Extent
+    requires { IsPlaceableMask (mask.now, part.now.dx, part.now.dy) }
+    ensures { (placed : List (MaskValue × ℤ × ℤ)) → IsBoxOf placed extent → IsBoxOf (placed ++ (mask.now, part.now.dx, part.now.dy) ∷ []) result }
+{
+    extent.with(mask, part.dx, part.dy)
+}
+
 /// The least box that has the boxes of the parts' masks.
 fn extent_of(parts: &[Part], masks: &[Arc<Mask>]) -> Extent
     requires count { length masks.now ≡ length parts.now }
@@ -23,9 +31,18 @@ fn extent_of(parts: &[Part], masks: &[Arc<Mask>]) -> Extent
 {
     let mut extent = Extent::empty();
     for k in 0..parts.len() {
-        extent = extent.with(&masks[k], parts[k].dx, parts[k].dy);
+        extent = with_part(extent, &masks[k], &parts[k]);
     }
     extent
+}
+
+/// Adds a part's mask, whose moved box must lie in the sum's.
+fn add_part(sum: &mut MaskSum, mask: &Mask, part: &Part)
+    requires { (i j : ℤ) → IsMovedPixel (mask.now, part.now.dx, part.now.dy) i j → InBox (box_of sum.old) i j }
+    ensures place { box_of sum.new ≡ box_of sum.old }
+    ensures sum { (placed : List (MaskValue × ℤ × ℤ)) → HasSum placed sum.old → HasSum (placed ++ (mask.now, part.now.dx, part.now.dy) ∷ []) sum.new }
+{
+    sum.add(mask, part.dx, part.dy);
 }
 
 /// The sum of the parts' masks, each moved by its part's offset, at most 255 at each pixel.
@@ -36,7 +53,7 @@ fn sum_of_parts(alloc: Global, parts: &[Part], masks: &[Arc<Mask>]) -> Mem<Mask>
 {
     let mut sum = MaskSum::new(alloc, &extent_of(parts, masks))?;
     for k in 0..parts.len() {
-        sum.add(&masks[k], parts[k].dx, parts[k].dy);
+        add_part(&mut sum, &masks[k], &parts[k]);
     }
     Ok(sum.into_mask())
 }

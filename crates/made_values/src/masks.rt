@@ -5,7 +5,8 @@ ghost use Rattle.ass_num.specs.Limits.{IsMaskWithin, IsRegionWithin, max_sample,
 ghost use Rattle.ass_num.specs.Masks.{is_mask};
 ghost use Rattle.mask_keys.specs.Keys.{HasMaskRanges, max_blur_radius, max_passes, samples_across};
 ghost use Rattle.mask_model.specs.Masks.{blurred_mask, covered_mask, softened_mask};
-ghost use Rattle.mask_model.specs.Regions.{max_inside, widened_region};
+ghost use Rattle.mask_model.specs.Regions.{widened_region};
+ghost use Rattle.sample_region.specs.Limits.{max_inside};
 ghost use Rattle.mask_model.specs.Values.{mask_of_region};
 
 use crate::regions::made_border;

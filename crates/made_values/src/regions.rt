@@ -3,7 +3,8 @@
 ghost use Rattle.std.specs.Prelude.{◌≡◌, ◌≤◌, true, IfOk};
 ghost use Rattle.ass_num.specs.Limits.{IsRegionWithin, max_sample};
 ghost use Rattle.mask_keys.specs.Keys.{max_border};
-ghost use Rattle.mask_model.specs.Regions.{max_inside, widened_region};
+ghost use Rattle.mask_model.specs.Regions.{widened_region};
+ghost use Rattle.sample_region.specs.Limits.{max_inside};
 
 use ass_num::{Mem, Region};
 use border_region::widened;

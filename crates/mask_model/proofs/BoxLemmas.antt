@@ -1,10 +1,10 @@
 -- The least box of the pixels that pass a test.
-use Rattle.std.proofs.Common.{◌≡◌, ℕ, zero, suc, ◌+◌, ◌*◌, ◌<◌, ◌≤◌, Bool, true, false, ◌||◌, ◌⊎◌, inl, inr, ⊎_elim, ℤ, pos, neg_ℤ, ◌+ℤ◌, ◌-ℤ◌, ◌≤ℤ◌, ◌<ℤ◌, refl, sym, ap, ◌∙◌, subst, arith, unsigned_abs}
+use Rattle.std.proofs.Common.{◌≡◌, ℕ, zero, suc, ◌+◌, ◌*◌, ◌<◌, Bool, true, false, ◌⊎◌, inl, inr, ⊎_elim, ℤ, pos, neg_ℤ, ◌+ℤ◌, ◌-ℤ◌, ◌≤ℤ◌, ◌<ℤ◌, refl, sym, ap, ◌∙◌, arith, unsigned_abs}
 use Rattle.std.proofs.lemmas.Int.{ints, by_lt_z}
 use Rattle.std.proofs.lemmas.Bool.{or_left, or_right, or_cases, false≢true}
 use Rattle.ass_num.specs.Coverage.{PixelBox, InBox}
 use Rattle.ass_num.proofs.MaskLemmas.{corner_in, far_corner_in}
-use Rattle.mask_model.specs.Boxes.{some_from, first_from, last_end_from, no_box, box_between, box_from, box_within}
+use Rattle.mask_model.specs.Boxes.{some_from, first_from, last_end_from, no_box, box_from, box_within}
 
 -- ---- some number of a stretch passes
 

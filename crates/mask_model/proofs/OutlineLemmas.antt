@@ -1,24 +1,22 @@
 -- The rings of a key are those of an outline: their points are held.
-use Rattle.std.proofs.Common.{◌≡◌, ℕ, zero, suc, ◌≤◌, Bool, true, false, cond, ℤ, pos, neg_ℤ, ◌+ℤ◌, ◌-ℤ◌, ◌≤ℤ◌, ◌<ℤ◌, List, [], ◌∷◌, ◌++◌, All, map, flat_map, Option, Some, None, arith, int_lt}
+use Rattle.std.proofs.Common.{ℕ, Bool, true, false, ℤ, pos, neg_ℤ, ◌+ℤ◌, ◌-ℤ◌, List, [], ◌∷◌, ◌++◌, All, map, flat_map, Option, Some, None, arith}
 use Rattle.std.specs.Prelude.{if◌then◌else◌, slice_get}
-use Rattle.std.specs.Int.{int_max, int_min}
 use Rattle.std.specs.List.{range_with_len}
 use Rattle.std.proofs.lemmas.Int.{ints}
 use Rattle.std.proofs.lemmas.List.Elements.{All-nil, All-cons, All-append, All-map}
 use Rattle.ass_num.specs.Bitmaps.{pixel_is_set}
-use Rattle.ass_num.specs.Floor.{held}
 use Rattle.ass_num.specs.Limits.{IsWithin, IsOutline, IsOutlinePoint, max_coordinate}
 use Rattle.ass_num.specs.declared.geometry.Point.{Point}
 use Rattle.ass_num.specs.declared.geometry.Matrix.{Matrix}
 use Rattle.bdf_font.specs.Fonts.{FontValue}
-use Rattle.bdf_font.specs.GlyphRings.{bitmap_of, rings_of_glyph}
+use Rattle.bdf_font.specs.GlyphRings.{bitmap_of}
 use Rattle.bdf_font.specs.declared.glyphs.FontGlyph.{FontGlyph}
 use Rattle.mask_keys.specs.declared.outline_key.OutlineKey.{OutlineKey}
 use Rattle.mask_keys.specs.declared.outline_key.OutlineKey.TheVariants.{Glyph, Drawing, Box}
 use Rattle.outline_points.specs.Boxes.{box_corners, box_ring}
-use Rattle.outline_points.specs.Drawings.{drawing_rings, path_rings}
+use Rattle.outline_points.specs.Drawings.{drawing_rings}
 use Rattle.outline_points.specs.Glyphs.{Bitmap, quad, pixel_quad, set_quads, pixel_quads, row_quads, bitmap_quads, bar_quad, strikeout_top, glyph_rings, scaled_pixel, glyph_point}
-use Rattle.outline_points.specs.Placing.{held_coordinate, held_point, outline_point, shifted_point, turned_point}
+use Rattle.outline_points.specs.Placing.{held_coordinate, outline_point, shifted_point, turned_point}
 use Rattle.mask_model.specs.Outlines.{rings_of, found_glyph_rings, found_font_rings}
 
 coordinate_within : (z : ℤ) → IsWithin max_coordinate (held_coordinate z)

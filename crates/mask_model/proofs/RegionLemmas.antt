@@ -1,5 +1,5 @@
 -- The region of the samples that pass a test.
-use Rattle.std.proofs.Common.{◌≡◌, ℕ, zero, suc, ◌+◌, ◌*◌, ◌<◌, ◌≤◌, Bool, true, false, ℤ, pos, negsuc, neg_ℤ, ◌+ℤ◌, ◌-ℤ◌, ◌≤ℤ◌, ◌<ℤ◌, refl, sym, ap, ◌∙◌, arith, List, [], ◌∷◌, get_or, Result, Ok, Err, IfOk}
+use Rattle.std.proofs.Common.{◌≡◌, ℕ, zero, suc, ◌+◌, ◌*◌, ◌<◌, ◌≤◌, Bool, true, false, ℤ, pos, negsuc, neg_ℤ, ◌+ℤ◌, ◌-ℤ◌, ◌≤ℤ◌, ◌<ℤ◌, refl, sym, ap, ◌∙◌, arith, List, [], get_or, Result, Ok, Err, IfOk}
 use Rattle.std.proofs.lemmas.Int.{ints, by_lt_z}
 use Rattle.std.proofs.lemmas.Bool.{and_from, false≢true}
 use Rattle.ass_num.specs.Limits.{IsWithin, IsRegionWithin}
@@ -7,7 +7,7 @@ use Rattle.ass_num.specs.Regions.{RegionValue, in_runs, row_at, member, ascend, 
 use Rattle.ass_num.specs.declared.region.Run.{Run}
 use Rattle.ass_num.proofs.LimitLemmas.{member_near, within_from}
 use Rattle.ass_num.proofs.RegionLemmas.{one_region, row_above}
-use Rattle.mask_model.specs.Regions.{runs_from, rows_from, trimmed, region_within}
+use Rattle.mask_model.specs.Regions.{runs_from, rows_from, region_within}
 use Rattle.mask_model.proofs.RunLemmas.{ascend_from_any, runs_from-ascends, runs_from-has, runs_from-before, runs_from-behind}
 use Rattle.mask_model.proofs.TrimLemmas.{trimmed-canonical, trimmed-member}
 

@@ -1,5 +1,5 @@
 -- The samples of a key's region.
-use Rattle.std.proofs.Common.{◌≡◌, ℕ, ◌+◌, ◌≤◌, Bool, true, false, ℤ, pos, neg_ℤ, ◌+ℤ◌, ◌≤ℤ◌, negsuc, unsigned_abs, List, refl, sym, ap, ◌∙◌, arith}
+use Rattle.std.proofs.Common.{◌≡◌, ℕ, ◌≤◌, Bool, true, false, ℤ, pos, ◌+ℤ◌, negsuc, unsigned_abs, List, refl, sym, ◌∙◌, arith}
 use Rattle.std.proofs.lemmas.Int.{ints}
 use Rattle.ass_num.specs.Limits.{IsWithin, IsOutline, max_sample}
 use Rattle.ass_num.specs.Regions.{RegionValue, member}
@@ -8,7 +8,8 @@ use Rattle.ass_num.specs.declared.geometry.Point.{Point}
 use Rattle.mask_keys.specs.Keys.{max_border}
 use Rattle.region_rows.specs.Widened.{in_widened}
 use Rattle.region_rows.proofs.WidenedLemmas.{in_widened-along, in_widened-found}
-use Rattle.mask_model.specs.Regions.{region_within, outline_region, widened_region, max_inside}
+use Rattle.mask_model.specs.Regions.{region_within, outline_region, widened_region}
+use Rattle.sample_region.specs.Limits.{max_inside}
 use Rattle.mask_model.proofs.EdgeLemmas.{inside_near}
 use Rattle.mask_model.proofs.RegionLemmas.{region_within-has, region_within-near}
 

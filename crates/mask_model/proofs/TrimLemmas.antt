@@ -1,8 +1,8 @@
 -- Rows without the empty ones at both ends.
-use Rattle.std.proofs.Common.{◌≡◌, ℕ, zero, suc, Bool, true, false, ◌&&◌, ℤ, pos, negsuc, ◌+ℤ◌, ◌-ℤ◌, ◌≤ℤ◌, ◌<ℤ◌, refl, sym, ap, ◌∙◌, arith, List, [], ◌∷◌, get_or}
+use Rattle.std.proofs.Common.{◌≡◌, ℕ, zero, suc, true, ◌&&◌, ℤ, pos, negsuc, ◌+ℤ◌, ◌-ℤ◌, refl, sym, ap, ◌∙◌, arith, List, [], ◌∷◌, get_or}
 use Rattle.std.proofs.lemmas.Int.{ints}
 use Rattle.std.proofs.lemmas.Bool.{and_parts, and_from}
-use Rattle.ass_num.specs.Regions.{RegionValue, in_runs, row_at, member, ascend, all_ascend, has_run, first_has_run, last_has_run, last_has_run_after, top_fits, is_canonical}
+use Rattle.ass_num.specs.Regions.{in_runs, row_at, member, ascend, all_ascend, first_has_run, last_has_run, top_fits, is_canonical}
 use Rattle.ass_num.specs.declared.region.Run.{Run}
 use Rattle.ass_num.proofs.RegionLemmas.{row_above, row_none}
 use Rattle.mask_model.specs.Regions.{with_row, without_end, trimmed}

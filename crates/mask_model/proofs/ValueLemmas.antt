@@ -1,5 +1,5 @@
 -- Masks by their relations are the masks of the functions.
-use Rattle.std.proofs.Common.{◌≡◌, ℕ, ◌+◌, ◌*◌, ◌/◌, ◌<◌, ◌≤◌, Bool, true, false, ◌&&◌, ℤ, pos, neg_ℤ, ◌+ℤ◌, ◌-ℤ◌, ◌≤ℤ◌, ◌<ℤ◌, List, Any, min, sum_by, ltb, int_le, int_lt, refl, sym, ap, ◌∙◌, arith, subst}
+use Rattle.std.proofs.Common.{◌≡◌, ℕ, ◌+◌, ◌<◌, ◌≤◌, Bool, true, ◌&&◌, ℤ, pos, ◌+ℤ◌, ◌-ℤ◌, List, Any, min, sum_by, ltb, int_le, int_lt, ap, ◌∙◌, arith}
 use Rattle.std.specs.List.{list_any}
 use Rattle.std.proofs.lemmas.Int.{ints}
 use Rattle.std.proofs.lemmas.Bool.{and_parts, and_from, ltb-true, lt-ltb}
@@ -10,7 +10,6 @@ use Rattle.ass_num.specs.Masks.{MaskValue, is_mask, value_at}
 use Rattle.ass_num.specs.Regions.{RegionValue, member}
 use Rattle.ass_num.proofs.OrderLemmas.{lt_true, le_true, lt_is, le_is}
 use Rattle.mask_blur.specs.Blur.{blurred, IsBlurred}
-use Rattle.mask_blur.specs.Growth.{grown_box}
 use Rattle.mask_blur.specs.Softening.{softened, IsSoftened}
 use Rattle.mask_model.specs.Boxes.{box_within, mask_in}
 use Rattle.mask_model.specs.Masks.{covered_mask, softened_mask, blurred_mask, summed_mask, is_in_box, is_in_moved, max_covered, max_summed}

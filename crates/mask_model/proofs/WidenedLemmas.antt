@@ -1,11 +1,12 @@
 -- A region that is widened by nothing stays.
-use Rattle.std.proofs.Common.{◌≡◌, ℕ, ◌≤◌, Bool, true, ℤ, pos, ◌+ℤ◌, refl, sym, ap, ◌∙◌, arith}
+use Rattle.std.proofs.Common.{◌≡◌, ℕ, ◌≤◌, Bool, true, ℤ, pos, ◌+ℤ◌, sym, ap, ◌∙◌, arith}
 use Rattle.std.proofs.lemmas.Int.{ints}
 use Rattle.ass_num.specs.Limits.{IsRegionWithin, max_sample}
 use Rattle.ass_num.specs.Regions.{RegionValue, is_canonical, member}
 use Rattle.ass_num.proofs.LimitLemmas.{IsWithin-wider, member_near, within_from}
 use Rattle.region_rows.specs.Widened.{some_within, in_widened}
-use Rattle.mask_model.specs.Regions.{max_inside, widened_region}
+use Rattle.mask_model.specs.Regions.{widened_region}
+use Rattle.sample_region.specs.Limits.{max_inside}
 use Rattle.mask_model.proofs.RegionLemmas.{region_is}
 
 in_widened-zero : (has : ℤ → ℤ → Bool) (i j : ℤ) → in_widened has 0 0 i j ≡ has i j

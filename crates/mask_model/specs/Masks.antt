@@ -1,5 +1,5 @@
 -- Public: the mask of a set of samples under a phase, softened and blurred masks, and sums of masks, as functions.
-use Rattle.std.specs.Prelude.{ℕ, ◌+◌, ◌*◌, ℤ, pos, ◌+ℤ◌, ◌-ℤ◌, Bool, ◌&&◌, nat_lt, int_le, int_lt, List, sum_by, min}
+use Rattle.std.specs.Prelude.{ℕ, ◌*◌, ℤ, pos, ◌+ℤ◌, ◌-ℤ◌, Bool, ◌&&◌, nat_lt, int_le, int_lt, List, sum_by, min}
 use Rattle.std.specs.List.{list_any}
 use Rattle.ass_num.specs.Coverage.{PixelBox, box_of, samples_of, coverage_byte, moved_value}
 use Rattle.ass_num.specs.Masks.{MaskValue, value_at}

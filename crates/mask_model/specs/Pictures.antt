@@ -1,5 +1,5 @@
 -- Public: the picture of a list of draws: from black, one image after the other, each with the masks of its keys.
-use Rattle.std.specs.Prelude.{ℕ, List, map, fold}
+use Rattle.std.specs.Prelude.{List, fold}
 use Rattle.ass_num.specs.declared.size.Size.{Size}
 use Rattle.bdf_font.specs.Fonts.{FontValue}
 use Rattle.blend.specs.Blending.{Image, StencilValue, Free, Rect, Drawn}

@@ -7,6 +7,7 @@ use Rattle.ass_num.specs.Winding.{inside}
 use Rattle.ass_num.specs.declared.geometry.Point.{Point}
 use Rattle.ass_num.specs.declared.region.Run.{Run}
 use Rattle.region_rows.specs.Widened.{in_widened}
+use Rattle.sample_region.specs.Limits.{max_inside}
 
 -- sample i and the runs behind it; it begins the first of them where they touch
 abbrev pub with_sample : ℤ → List Run → List Run
@@ -48,10 +49,6 @@ trimmed top ((r ∷ runs) ∷ rows) = record { top = top; rows = without_end ((r
 unfoldable pub region_within : ℕ → (ℤ → ℤ → Bool) → RegionValue
 region_within limit has =
     trimmed (neg_ℤ (pos limit)) (rows_from has (neg_ℤ (pos limit)) (2 * limit + 1) (neg_ℤ (pos limit)) (2 * limit + 1))
-
--- the farthest from 0 that a sample inside an outline lies: four units of its points are a sample
-abbrev pub max_inside : ℕ
-max_inside = 65536
 
 -- the region of an outline: the samples inside its rings
 abbrev pub outline_region : List (List Point) → RegionValue

@@ -10,7 +10,7 @@ ghost use Rattle.mask_keys.specs.Keys.{IsValidRegion};
 ghost use Rattle.mask_model.specs.Costs.{region_cost, mask_cost};
 ghost use Rattle.mask_model.specs.Meanings.{HasItsSamples};
 ghost use Rattle.mask_model.specs.Outlines.{glyph_counts};
-ghost use Rattle.mask_model.specs.Regions.{max_inside};
+ghost use Rattle.sample_region.specs.Limits.{max_inside};
 ghost use Rattle.mask_model.specs.Values.{composite_value, mask_value, outline_value, region_value};
 
 use mask_keys::{CompositeKey, MaskKey, OutlineKey, RegionKey};

@@ -3,7 +3,7 @@ use Rattle.ass_num.specs.Regions.{member}
 use Rattle.ass_num.specs.Winding.{inside}
 use Rattle.region_rows.specs.Widened.{in_widened}
 use Rattle.mask_model.specs.Outlines.{rings_of}
-use Rattle.mask_model.specs.Regions.{max_inside}
+use Rattle.sample_region.specs.Limits.{max_inside}
 use Rattle.mask_model.specs.Values.{outline_value}
 use Rattle.mask_model.proofs.RegionLemmas.{region_within-canonical, region_within-limit}
 use Rattle.mask_model.proofs.laws.regions_have_one_form.Goals as goal
