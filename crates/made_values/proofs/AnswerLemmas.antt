@@ -1,5 +1,5 @@
 -- What calls answer is the value of a function, or want of memory.
-use Rattle.std.proofs.Common.{◌≡◌, ℕ, ◌+◌, ◌*◌, ◌/◌, ◌≤◌, true, not, ℤ, pos, List, sym, ap, ◌∙◌, subst, arith, Result, Ok, Err, IfOk}
+use Rattle.std.proofs.Common.{◌≡◌, ℕ, ◌+◌, ◌*◌, ◌/◌, ◌≤◌, true, not, ℤ, pos, List, ap, ◌∙◌, subst, arith, Result, Ok, Err, IfOk}
 use Rattle.std.specs.Ordering.{int_eq}
 use Rattle.ass_num.specs.Coverage.{IsCover}
 use Rattle.ass_num.specs.Limits.{IsMaskWithin, IsRegionWithin, max_sample, max_mask_corner, max_mask_side}

@@ -1,17 +1,15 @@
 -- Parts with their masks, and the sum of a single one.
-use Rattle.std.proofs.Common.{◌≡◌, ℕ, zero, suc, ◌+◌, ◌<◌, ◌≤◌, true, ℤ, pos, ◌-ℤ◌, List, [], ◌∷◌, ◌++◌, All, Any, length, map, take, min, sum_by, get_or, refl, sym, ap, ◌∙◌, subst, arith}
+use Rattle.std.proofs.Common.{◌≡◌, ℕ, zero, suc, ◌+◌, ◌<◌, ◌≤◌, true, ℤ, pos, ◌-ℤ◌, List, [], ◌∷◌, ◌++◌, All, Any, length, map, take, min, get_or, refl, sym, ap, ◌∙◌, subst, arith}
 use Rattle.std.proofs.lemmas.Int.{ints}
 use Rattle.std.proofs.lemmas.List.{take_more, take_all}
 use Rattle.std.proofs.lemmas.List.Sums.{sum_by-cons}
-use Rattle.ass_num.specs.Coverage.{PixelBox, box_of, InBox, IsSum, IsMovedPixel, moved_value}
+use Rattle.ass_num.specs.Coverage.{box_of, InBox, IsSum, IsMovedPixel, moved_value}
 use Rattle.ass_num.specs.Limits.{IsMaskWithin, max_mask_corner, max_mask_side}
 use Rattle.ass_num.specs.Masks.{MaskValue, is_mask, value_at}
-use Rattle.ass_num.proofs.MaskLemmas.{value_most}
-use Rattle.mask_cover.specs.Sums.{IsPlaceableMask}
 use Rattle.mask_keys.specs.declared.composite_key.Part.{Part}
 use Rattle.mask_model.specs.Masks.{summed_mask}
 use Rattle.mask_model.proofs.ValueLemmas.{summed_is}
-use Rattle.made_values.specs.Parts.{placed_masks}
+use Rattle.made_values.specs.Parts.{HasByteValues, placed_masks}
 
 -- ---- a single mask that isn't moved
 
@@ -39,19 +37,19 @@ pixel_alone m i j h =
 alone_value : (v : ℕ) → v ≤ 255 → v ≡ min 255 v
 alone_value v l = grind arith
 
-alone_sum : (m : MaskValue) → ((k : ℕ) → get_or m.bytes k 0 ≤ 255) → IsSum (alone m) m
+alone_sum : (m : MaskValue) → HasByteValues m → IsSum (alone m) m
 alone_sum m bytes = record {
   value = λ x y.
-    alone_value (value_at m x y) (value_most m x y 255 bytes)
-    ∙ ap (λ z. min 255 (value_at m z y)) (sym (unmoved x)) ∙ ap (λ z. min 255 (value_at m (x -ℤ pos 0) z)) (sym (unmoved y))
-    ∙ ap (min 255) (sym (sum_by-cons (λ (p : MaskValue × ℤ × ℤ). moved_value p x y) (m, pos 0, pos 0) [] ∙ omega arith));
+      alone_value (value_at m x y) (bytes x y)
+      ∙ ap (λ z. min 255 (value_at m z y)) (sym (unmoved x)) ∙ ap (λ z. min 255 (value_at m (x -ℤ pos 0) z)) (sym (unmoved y))
+      ∙ ap (min 255) (sym (sum_by-cons (λ (p : MaskValue × ℤ × ℤ). moved_value p x y) (m, pos 0, pos 0) [] ∙ omega arith));
   box = record {
     has = λ i j h. alone_pixel m i j h;
     least = λ other held i j h. held i j (pixel_alone m i j h);
   };
 }
 
-pub alone_is : (m : MaskValue) → is_mask m ≡ true → IsMaskWithin max_mask_corner max_mask_side m → ((k : ℕ) → get_or m.bytes k 0 ≤ 255) → m ≡ summed_mask (alone m)
+pub alone_is : (m : MaskValue) → is_mask m ≡ true → IsMaskWithin max_mask_corner max_mask_side m → HasByteValues m → m ≡ summed_mask (alone m)
 alone_is m is within bytes = summed_is (alone m) max_mask_corner max_mask_side m is (alone_sum m bytes) within (omega arith)
 
 -- ---- the item of a part and its mask
@@ -90,3 +88,23 @@ placed_holds P value parts masks k p a m e l f g h all =
 
 pub placed_whole : {A : Type 0} (value : A → MaskValue) (parts : List Part) (masks : List A) (k : ℕ) → length masks ≡ length parts → length parts ≤ k → take k (placed_masks parts (map value masks)) ≡ placed_masks parts (map value masks)
 placed_whole value parts masks k e l = let count = placed_count value parts masks e in take_all k (placed_masks parts (map value masks)) (omega arith)
+
+-- ---- a single part that isn't moved
+
+alone_same : (m n : MaskValue) (x y : ℤ) → m ≡ n → x ≡ pos 0 → y ≡ pos 0 → ◌≡◌ {A = List (MaskValue × ℤ × ℤ)} ((m, x, y) ∷ []) (alone n)
+alone_same m n x y e f g = rw (e, f, g) refl
+
+pub placed_alone : {A : Type 0} (value : A → MaskValue) (parts : List Part) (masks : List A) (p : Part) (a : A) → length parts ≡ 1 → length masks ≡ length parts
+    → p ≡ get_or parts 0 p → a ≡ get_or masks 0 a → p.dx ≡ pos 0 → p.dy ≡ pos 0 → placed_masks parts (map value masks) ≡ alone (value a)
+placed_alone value [] masks p a one e f g x y = absurd (omega arith)
+placed_alone value (q ∷ r ∷ parts) masks p a one e f g x y = absurd (omega arith)
+placed_alone value (q ∷ []) [] p a one e f g x y = absurd (omega arith)
+placed_alone value (q ∷ []) (b ∷ masks) p a one e f g x y =
+    let X : Part → ℤ = λ z. z.dx in
+    let Y : Part → ℤ = λ z. z.dy in
+    alone_same (value b) (value a) q.dx q.dy (ap value (sym g)) (sym (ap X f) ∙ x) (sym (ap Y f) ∙ y)
+
+-- what holds of the first mask of a list
+pub first_mask : {A : Type 0} (P : MaskValue → Type 0) (value : A → MaskValue) (masks : List A) (a : A) → 0 < length masks → a ≡ get_or masks 0 a → All P (map value masks) → P (value a)
+first_mask P value [] a l f all = absurd (omega arith)
+first_mask P value (b ∷ masks) a l f all = subst P (ap value (sym f)) (all 0 (value b) (omega arith))

@@ -7,7 +7,7 @@ ghost use Rattle.ass_num.specs.Limits.{IsMaskWithin, max_mask_corner, max_mask_s
 ghost use Rattle.ass_num.specs.Masks.{MaskValue};
 ghost use Rattle.mask_cover.specs.Sums.{HasSum, IsBoxOf, IsPlaceableMask};
 ghost use Rattle.mask_model.specs.Masks.{summed_mask};
-ghost use Rattle.made_values.specs.Parts.{placed_masks};
+ghost use Rattle.made_values.specs.Parts.{HasByteValues, placed_masks};
 
 use ass_num::{Mask, Mem};
 use mask_cover::{Extent, MaskSum};
@@ -60,19 +60,22 @@ fn sum_of_parts(alloc: Global, parts: &[Part], masks: &[Arc<Mask>]) -> Mem<Mask>
 
 /// The composed mask of one part that isn't moved: the part's own, which is shared and not copied.
 fn shared_mask(mask: &Arc<Mask>) -> Mem<Arc<Mask>>
-    requires { IsMaskWithin max_mask_corner max_mask_side (arc_value mask.now) }
+    requires near { IsMaskWithin max_mask_corner max_mask_side (arc_value mask.now) }
+    requires values { HasByteValues (arc_value mask.now) }
     ensures { IfOk result (λ m. arc_value m ≡ summed_mask ((arc_value mask.now, pos 0, pos 0) ∷ [])) }
 {
-    // The bytes tell that the mask has its one form, and that no value is above 255.
+    // The bytes tell that the mask has its one form.
     let _bytes = mask.bytes();
     Ok(Arc::try_clone(mask)?)
 }
 
 /// The composed mask of parts, from their masks in the same order. The mask of one part that isn't moved is shared and
-/// not copied.
+/// not copied. The masks lie within 65,536 of 0 with at most as many pixels along a side, as those of keys do, and are
+/// moved by no more than 32,768.
 pub fn made_composite(alloc: Global, parts: &[Part], masks: &[Arc<Mask>]) -> Mem<Arc<Mask>>
     requires count { length masks.now ≡ length parts.now }
     requires masks { All IsPlaceableMask (placed_masks parts.now (map arc_value masks.now)) }
+    requires values { All HasByteValues (map arc_value masks.now) }
     ensures { IfOk result (λ m. arc_value m ≡ summed_mask (placed_masks parts.now (map arc_value masks.now))) }
 {
     if let [part] = parts {

@@ -48,7 +48,10 @@ fn masks_of_boxes(rt: HostRuntime) -> Result<(), Fail> {
     let alloc = rt.alloc();
     let bordered = mask_of_box(alloc, 64, 64, 16, 0, 0)?;
     assert!(rt; has_box(&bordered, -1, -1, 3, 3));
-    assert_eq!(rt; bordered.bytes(), [182, 255, 182, 255, 255, 255, 182, 255, 182].as_slice());
+    assert_eq!(rt;
+        bordered.bytes(),
+        [182, 255, 182, 255, 255, 255, 182, 255, 182].as_slice()
+    );
     let soft = mask_of_box(alloc, 64, 64, 0, 1, 0)?;
     assert!(rt; has_box(&soft, -1, -1, 3, 3));
     assert_eq!(rt; middle(&soft), Some(64));

@@ -2,6 +2,7 @@ pub mod BoxLemmas
 pub mod EdgeLemmas
 pub mod MaskLemmas
 pub mod OutlineLemmas
+pub mod ReachLemmas
 pub mod RegionLemmas
 pub mod RunLemmas
 pub mod SampleLemmas

@@ -1,12 +1,12 @@
 //! Laws of values. The functions do nothing: their contracts are the laws.
 
-ghost use Rattle.std.specs.Prelude.{◌≡◌, ◌<◌, ◌^◌, true, List};
-ghost use Rattle.ass_num.specs.Limits.{IsRegionWithin, max_sample};
-ghost use Rattle.ass_num.specs.Masks.{MaskValue};
+ghost use Rattle.std.specs.Prelude.{◌≡◌, ℤ, ◌<◌, ◌≤◌, ◌^◌, true, List};
+ghost use Rattle.ass_num.specs.Limits.{IsMaskWithin, IsRegionWithin, max_mask_corner, max_mask_side, max_sample};
+ghost use Rattle.ass_num.specs.Masks.{MaskValue, value_at};
 ghost use Rattle.ass_num.specs.Regions.{RegionValue, is_canonical};
 ghost use Rattle.bdf_font.specs.Fonts.{FontValue};
 ghost use Rattle.mask_keys.specs.Equality.{equal_outlines, equal_regions, equal_masks, equal_composites};
-ghost use Rattle.mask_keys.specs.Keys.{IsValidRegion};
+ghost use Rattle.mask_keys.specs.Keys.{HasMaskRanges, IsValidRegion};
 ghost use Rattle.mask_model.specs.Costs.{region_cost, mask_cost};
 ghost use Rattle.mask_model.specs.Meanings.{HasItsSamples};
 ghost use Rattle.mask_model.specs.Outlines.{glyph_counts};
@@ -40,4 +40,10 @@ pub fn regions_have_one_form()
 /// The region of a valid key has just the samples that lie in reach of one inside the key's outline.
 pub fn regions_have_their_samples()
     ensures { (fonts : List FontValue) (key : RegionKey) → IsValidRegion (glyph_counts fonts) key → HasItsSamples fonts key (region_value fonts key) }
+{}
+
+/// The mask of a key lies near enough to 0 and is small enough to be added to others, and has no value above 255.
+pub fn masks_can_be_added()
+    ensures near { (fonts : List FontValue) (key : MaskKey) → HasMaskRanges key → IsMaskWithin max_mask_corner max_mask_side (mask_value fonts key) }
+    ensures bytes { (fonts : List FontValue) (key : MaskKey) (x y : ℤ) → value_at (mask_value fonts key) x y ≤ 255 }
 {}
