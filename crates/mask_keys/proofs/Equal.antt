@@ -14,14 +14,16 @@ use Rattle.ass_num.specs.contracts.geometry.MatrixPartialEq.TheImpl as matrix
 use Rattle.ass_num.specs.contracts.geometry.SegPartialEq.TheImpl as seg
 use Rattle.mask_keys.specs.declared.outline_key.OutlineKey.{OutlineKey}
 use Rattle.mask_keys.specs.declared.outline_key.OutlineKey.TheVariants.{Glyph, Drawing, Box}
+use Rattle.mask_keys.specs.declared.region_key.RegionKey.{RegionKey}
 use Rattle.mask_keys.specs.declared.mask_key.MaskKey.{MaskKey}
 use Rattle.mask_keys.specs.declared.composite_key.Part.{Part}
 use Rattle.mask_keys.specs.declared.composite_key.CompositeKey.{CompositeKey}
 use Rattle.mask_keys.specs.contracts.composite_key.PartPartialEq.TheImpl as part
 use Rattle.mask_keys.specs.contracts.outline_key.OutlineKeyEq.TheImpl.Laws as outline_laws
+use Rattle.mask_keys.specs.contracts.region_key.RegionKeyEq.TheImpl.Laws as region_laws
 use Rattle.mask_keys.specs.contracts.mask_key.MaskKeyEq.TheImpl.Laws as mask_laws
 use Rattle.mask_keys.specs.contracts.composite_key.CompositeKeyEq.TheImpl.Laws as composite_laws
-use Rattle.mask_keys.specs.Equality.{equal_outlines, equal_masks, equal_composites}
+use Rattle.mask_keys.specs.Equality.{equal_outlines, equal_regions, equal_masks, equal_composites}
 
 pub both : (r s : Bool) → (r && s) ≡ true → (r ≡ true) × (s ≡ true)
 both r s e = grind arith
@@ -75,6 +77,11 @@ outline_same (Drawing p m s) (Drawing q n t) e =
 outline_same (Box w h t) (Box w2 h2 t2) e = grind (arith, signed_Decides w w2, signed_Decides h h2, signed_Decides t t2)
 outline_same a b e = grind arith
 
+pub region_same : (a b : RegionKey) → equal_regions a b ≡ true → a ≡ b
+region_same a b e =
+    let parts = both (equal_outlines a.outline b.outline) _ e in
+    grind (arith, outline_same a.outline b.outline parts.0, parts.1, unsigned_Decides a.rx b.rx, unsigned_Decides a.ry b.ry)
+
 pub mask_same : (a b : MaskKey) → equal_masks a b ≡ true → a ≡ b
 mask_same a b e =
     let parts = both (equal_outlines a.outline b.outline) _ e in
@@ -103,6 +110,9 @@ decided E laws same a b = (same a b, λ e. subst (λ z. E a z ≡ true) e (laws.
 
 pub outlines_decided : (a b : OutlineKey) → Decides (equal_outlines a b) (a ≡ b)
 outlines_decided = decided equal_outlines outline_laws.laws-law outline_same
+
+pub regions_decided : (a b : RegionKey) → Decides (equal_regions a b) (a ≡ b)
+regions_decided = decided equal_regions region_laws.laws-law region_same
 
 pub masks_decided : (a b : MaskKey) → Decides (equal_masks a b) (a ≡ b)
 masks_decided = decided equal_masks mask_laws.laws-law mask_same

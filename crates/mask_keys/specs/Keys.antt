@@ -1,4 +1,4 @@
--- Inner: which keys are valid. `glyphs` has the number of glyphs of each font, in the order of the fonts. These are conditions of calls.
+-- Public: which keys are valid. `glyphs` has the number of glyphs of each font, in the order of the fonts. These are conditions of calls.
 use Rattle.std.specs.Prelude.{ℕ, ℤ, ◌<◌, ◌≤◌, List, length, slice_index, All}
 use Rattle.ass_num.specs.Limits.{IsWithin}
 use Rattle.ass_num.specs.Paths.{IsPath}
@@ -9,6 +9,7 @@ use Rattle.outline_points.specs.Placing.{IsMatrix}
 use Rattle.mask_keys.specs.declared.outline_key.OutlineKey.{OutlineKey}
 use Rattle.mask_keys.specs.declared.outline_key.OutlineKey.TheVariants.{Glyph, Drawing, Box}
 use Rattle.mask_keys.specs.declared.mask_key.MaskKey.{MaskKey}
+use Rattle.mask_keys.specs.declared.region_key.RegionKey.{RegionKey}
 use Rattle.mask_keys.specs.declared.composite_key.Part.{Part}
 use Rattle.mask_keys.specs.declared.composite_key.CompositeKey.{CompositeKey}
 use Rattle.mask_keys.specs.declared.plans.Clip.{Clip}
@@ -56,14 +57,27 @@ IsValidOutline glyphs (Glyph font glyph m _ _ _) = IsValidGlyph glyphs font glyp
 IsValidOutline glyphs (Drawing path m shift) = IsValidDrawing path m shift
 IsValidOutline glyphs (Box w h _) = IsValidBox w h
 
-pub record IsValidMask (glyphs : List ℕ) (key : MaskKey) : Type 0 where
+-- the region that a mask is made of: its outline, widened by its radii
+abbrev pub region_key : MaskKey → RegionKey
+region_key key = record { outline = key.outline; rx = key.rx; ry = key.ry }
+
+pub record IsValidRegion (glyphs : List ℕ) (key : RegionKey) : Type 0 where
   pub outline : IsValidOutline glyphs key.outline
+  pub rx : key.rx ≤ max_border
+  pub ry : key.ry ≤ max_border
+
+-- the numbers of a mask's key
+pub record HasMaskRanges (key : MaskKey) : Type 0 where
   pub rx : key.rx ≤ max_border
   pub ry : key.ry ≤ max_border
   pub px : key.px < samples_across
   pub py : key.py < samples_across
   pub edges : key.edges ≤ max_passes
   pub blur : key.blur ≤ max_blur_radius
+
+pub record IsValidMask (glyphs : List ℕ) (key : MaskKey) : Type 0 where
+  pub outline : IsValidOutline glyphs key.outline
+  pub ranges : HasMaskRanges key
 
 pub record IsValidPart (glyphs : List ℕ) (part : Part) : Type 0 where
   pub mask : IsValidMask glyphs part.mask

@@ -1,5 +1,6 @@
 //! The key of an outline.
 
+use crate::shared::Shared;
 use ass_num::{Fix, Matrix, Milli, Path};
 
 /// All that an outline, and the region of its samples, depends on besides the fonts.
@@ -14,9 +15,9 @@ pub enum OutlineKey {
         underline: bool,
         strikeout: bool,
     },
-    /// A drawing under a matrix; its points are shifted down by `shift`, in 1/64 pixel.
+    /// A drawing under a matrix; its points are shifted down by `shift`, in 1/64 pixel. Keys of one drawing share its path.
     Drawing {
-        path: Path,
+        path: Shared<Path>,
         m: Matrix,
         shift: Fix,
     },

@@ -1,6 +1,7 @@
 //! What is drawn of a picture, in order.
 
 use crate::composite_key::CompositeKey;
+use crate::shared::Shared;
 use ass_num::{Items, Rgba};
 
 /// Where a draw may show. All numbers are pixels of the frame.
@@ -16,9 +17,9 @@ pub enum Clip {
         y2: i32,
         inverse: bool,
     },
-    /// By the mask of the key, whose 0 stands at `x` and `y`; `inverse`: by what it leaves.
+    /// By the mask of the key, whose 0 stands at `x` and `y`; `inverse`: by what it leaves. The draws of an event share the key.
     Drawn {
-        key: CompositeKey,
+        key: Shared<CompositeKey>,
         x: i32,
         y: i32,
         inverse: bool,

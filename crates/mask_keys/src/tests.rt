@@ -1,8 +1,8 @@
 //! That calls succeed with ample memory, and that equality and hashing serve.
 
 use crate::{
-    Clip, CompositeKey, Draw, MaskKey, OutlineKey, Part, Plan, key_copy, mask_key_copy,
-    outline_key_copy,
+    Clip, CompositeKey, Draw, MaskKey, OutlineKey, Part, Plan, Shared, key_copy, mask_key_copy,
+    outline_key_copy, region_key_copy, region_key_of,
 };
 use ass_num::{Items, Matrix, Mem, Path, Point, Rgba, Seg};
 use std::alloc::Global;
@@ -23,7 +23,7 @@ fn drawing(alloc: Global) -> Mem<OutlineKey> {
     segs.push(Seg::Move(Point { x: 0, y: 0 }))?;
     segs.push(Seg::Spline(controls, true))?;
     Ok(OutlineKey::Drawing {
-        path: Path { segs },
+        path: Shared::new(alloc, Path { segs })?,
         m: MATRIX,
         shift: -64,
     })
@@ -94,6 +94,10 @@ fn copies_are_equal_and_hash_alike(rt: HostRuntime) -> Result<(), Fail> {
     let outline_copy = outline_key_copy(alloc, &masks.outline)?;
     assert!(rt; outline_copy == masks.outline);
     assert_eq!(rt; hash_of(&outline_copy), hash_of(&masks.outline));
+    let region = region_key_of(alloc, &masks)?;
+    let region_copy = region_key_copy(alloc, &region)?;
+    assert!(rt; region_copy == region);
+    assert_eq!(rt; hash_of(&region_copy), hash_of(&region));
     Ok(())
 }
 
@@ -109,7 +113,7 @@ fn plans_compare_by_their_draws(rt: HostRuntime) -> Result<(), Fail> {
         right: Rgba::default(),
         edge: 0,
         clip: Clip::Drawn {
-            key: composite(alloc)?,
+            key: Shared::new(alloc, composite(alloc)?)?,
             x: 0,
             y: 0,
             inverse: true,

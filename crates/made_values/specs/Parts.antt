@@ -1,0 +1,13 @@
+-- Public: parts with their masks at hand.
+use Rattle.std.specs.Prelude.{ℤ, ◌≤◌, List, [], ◌∷◌}
+use Rattle.ass_num.specs.Masks.{MaskValue, value_at}
+use Rattle.mask_keys.specs.declared.composite_key.Part.{Part}
+
+-- the masks of the parts in the same order, each with its part's offset
+abbrev pub placed_masks : List Part → List MaskValue → List (MaskValue × ℤ × ℤ)
+placed_masks (p ∷ parts) (m ∷ masks) = (m, p.dx, p.dy) ∷ placed_masks parts masks
+placed_masks _ _ = []
+
+-- no value of the mask is above 255
+abbrev pub HasByteValues : MaskValue → Type 0
+HasByteValues m = (x y : ℤ) → value_at m x y ≤ 255

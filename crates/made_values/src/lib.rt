@@ -1,0 +1,16 @@
+//! Makes the values of keys: regions, masks and composed masks.
+#![tactic(auto)]
+
+mod composites;
+mod costs;
+mod masks;
+mod outlines;
+mod regions;
+#[cfg(test)]
+mod tests;
+
+pub use composites::made_composite;
+pub use costs::{mask_cost, region_cost};
+pub use masks::{made_mask, mask_of_region};
+pub use outlines::made_outline;
+pub use regions::made_border;

@@ -1,0 +1,11 @@
+pub mod BoxLemmas
+pub mod EdgeLemmas
+pub mod MaskLemmas
+pub mod OutlineLemmas
+pub mod ReachLemmas
+pub mod RegionLemmas
+pub mod RunLemmas
+pub mod SampleLemmas
+pub mod TrimLemmas
+pub mod ValueLemmas
+pub mod WidenedLemmas
