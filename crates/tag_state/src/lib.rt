@@ -1,0 +1,14 @@
+//! What each character of an event looks like at an instant.
+#![tactic(auto)]
+
+mod choices;
+mod colours;
+mod fonts;
+mod numbers;
+mod state;
+mod syllables;
+mod view;
+mod walk;
+
+pub use override_tags::{EventView, Shown, ShownKind, State, Syllable};
+pub use view::states_at;
