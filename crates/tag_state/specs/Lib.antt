@@ -5,3 +5,5 @@ pub mod States
 pub mod Choices
 pub mod Looks
 pub mod Views
+pub mod Steps
+pub mod Walks

@@ -1,6 +1,5 @@
 -- Public: what an event shows at an instant (docs/STATES.md).
 use Rattle.std.specs.Prelude.{◌≡◌, ℕ, ◌-◌, ℤ, pos, ◌-ℤ◌, List, [], ◌∷◌, Option, Some, length, slice_get, unwrap_or, IfSome}
-use Rattle.std.specs.List.{IsDistinct}
 use Rattle.ass_script.specs.Scripts.{ScriptValue, style_for}
 use Rattle.ass_events.specs.declared.event.Event.{Event}
 use Rattle.override_tags.specs.Readings.{IsTextReading}
@@ -12,6 +11,10 @@ use Rattle.tag_state.specs.Choices.{first_of, align_said, point_said, origin_sai
 use Rattle.tag_state.specs.Looks.{Look, AreLooks}
 use Rattle.tag_state.specs.Setters.{Effect, past_all}
 use Rattle.tag_state.specs.States.{IsStateAt}
+
+-- no name stands twice
+abbrev pub AreOnce : List (List ℕ) → Type 0
+AreOnce names = (i j : ℕ) (name : List ℕ) → slice_get names i ≡ Some name → slice_get names j ≡ Some name → i ≡ j
 
 -- the state of this number stands behind these effects
 abbrev pub HasState : ScriptValue → List ℕ → List (List ℕ) → List State → List Effect → ℕ → Type 0

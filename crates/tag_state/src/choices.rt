@@ -1,13 +1,24 @@
 //! What the tags of a text say of the whole event.
 
-use crate::walk::Moment;
+ghost use Rattle.std.specs.Prelude.{◌≡◌, ◌≤◌, ℤ, pos, true, [], ◌++◌, List, map, reverse, unwrap_or, All, IfSome};
+ghost use Rattle.std.specs.Int.RustNames.{unsigned_abs};
+ghost use Rattle.std.specs.Option.{option_map};
+ghost use Rattle.ass_num.specs.Limits.{one_16};
+ghost use Rattle.override_tags.specs.Ranges.{IsHeldItem};
+ghost use Rattle.override_tags.specs.Singles.{is_wrap_style, whole as rule_whole};
+ghost use Rattle.tag_state.specs.Setters.{Effect, Gradual, past_all};
+ghost use Rattle.tag_state.specs.Steps.{wrap_said};
+ghost use Rattle.tag_state.specs.Choices as rule;
+
 use ass_num::Milli;
 use ass_script::Header;
 use event_instants::{fad_at, fade_at, move_at, moved, transform_weight};
 use override_tags::{ClipTag, GradualTag, Item, ItemKind, Num, Tag, whole};
 
 /// The alignment that an item says.
-fn align_said(kind: &ItemKind) -> Option<u8> {
+fn align_said(kind: &ItemKind) -> Option<u8>
+    ensures { result ≡ rule.first_in rule.align_said kind.now }
+{
     match kind {
         ItemKind::Tag(Tag::Align(key)) => Some(*key),
         _ => None,
@@ -15,7 +26,9 @@ fn align_said(kind: &ItemKind) -> Option<u8> {
 }
 
 /// The first alignment, or else the style's.
-pub(crate) fn align_of(items: &[Item], styled: u8) -> u8 {
+pub(crate) fn align_of(items: &[Item], styled: u8) -> u8
+    ensures { result ≡ unwrap_or (rule.first_of rule.align_said items.now) styled }
+{
     for item in items {
         if let Some(key) = align_said(&item.kind) {
             return key;
@@ -25,20 +38,24 @@ pub(crate) fn align_of(items: &[Item], styled: u8) -> u8 {
 }
 
 /// The point that an item says.
-fn point_said(kind: &ItemKind, at: Moment) -> Option<(Milli, Milli)> {
+fn point_said(kind: &ItemKind, duration: i64, elapsed: i64) -> Option<(Milli, Milli)>
+    ensures { result ≡ rule.first_in (rule.point_said duration elapsed) kind.now }
+{
     match kind {
         ItemKind::Tag(Tag::Pos(x, y)) => Some((*x, *y)),
         ItemKind::Tag(Tag::Move(path, t1, t2)) => {
-            Some(move_at(path, *t1, *t2, at.duration, at.elapsed))
+            Some(move_at(path, *t1, *t2, duration, elapsed))
         }
         _ => None,
     }
 }
 
 /// The point of the first position or movement.
-pub(crate) fn point_of(items: &[Item], at: Moment) -> Option<(Milli, Milli)> {
+pub(crate) fn point_of(items: &[Item], duration: i64, elapsed: i64) -> Option<(Milli, Milli)>
+    ensures { result ≡ rule.first_of (rule.point_said duration elapsed) items.now }
+{
     for item in items {
-        let said = point_said(&item.kind, at);
+        let said = point_said(&item.kind, duration, elapsed);
         if said.is_some() {
             return said;
         }
@@ -47,7 +64,9 @@ pub(crate) fn point_of(items: &[Item], at: Moment) -> Option<(Milli, Milli)> {
 }
 
 /// The origin that an item says.
-fn origin_said(kind: &ItemKind) -> Option<(Milli, Milli)> {
+fn origin_said(kind: &ItemKind) -> Option<(Milli, Milli)>
+    ensures { result ≡ rule.first_in rule.origin_said kind.now }
+{
     match kind {
         ItemKind::Tag(Tag::Org(x, y)) => Some((*x, *y)),
         _ => None,
@@ -55,7 +74,9 @@ fn origin_said(kind: &ItemKind) -> Option<(Milli, Milli)> {
 }
 
 /// The first origin of turning.
-pub(crate) fn origin_of(items: &[Item]) -> Option<(Milli, Milli)> {
+pub(crate) fn origin_of(items: &[Item]) -> Option<(Milli, Milli)>
+    ensures { result ≡ rule.first_of rule.origin_said items.now }
+{
     for item in items {
         let said = origin_said(&item.kind);
         if said.is_some() {
@@ -66,39 +87,69 @@ pub(crate) fn origin_of(items: &[Item]) -> Option<(Milli, Milli)> {
 }
 
 /// The fade that an item says.
-fn fade_said(kind: &ItemKind, at: Moment) -> Option<u8> {
+fn fade_said(kind: &ItemKind, duration: i64, elapsed: i64) -> Option<u8>
+    ensures { option_map (λ fade. pos fade) result ≡ rule.first_in (rule.fade_said duration elapsed) kind.now }
+{
     match kind {
         ItemKind::Tag(Tag::Fad(fade_in, fade_out)) => {
-            Some(fad_at(*fade_in, *fade_out, at.duration, at.elapsed))
+            Some(fad_at(*fade_in, *fade_out, duration, elapsed))
         }
-        ItemKind::Tag(Tag::Fade(numbers)) => Some(fade_at(numbers, at.elapsed)),
+        ItemKind::Tag(Tag::Fade(numbers)) => Some(fade_at(numbers, elapsed)),
         _ => None,
     }
 }
 
 /// The first fade, or 0.
-pub(crate) fn fade_of(items: &[Item], at: Moment) -> u8 {
+pub(crate) fn fade_of(items: &[Item], duration: i64, elapsed: i64) -> u8
+    ensures { pos result ≡ unwrap_or (rule.first_of (rule.fade_said duration elapsed) items.now) (pos 0) }
+{
     for item in items {
-        if let Some(fade) = fade_said(&item.kind, at) {
+        if let Some(fade) = fade_said(&item.kind, duration, elapsed) {
             return fade;
         }
     }
     0
 }
 
+/// The wrap style that an item sets, or restores where it has none.
+fn wrap_said(kind: &ItemKind) -> Option<Option<Milli>>
+    ensures { result ≡ wrap_said kind.now }
+{
+    match kind {
+        ItemKind::Tag(Tag::Number(Num::Wrap, value)) => Some(*value),
+        _ => None,
+    }
+}
+
+/// A wrap style that is set, or else the script's.
+fn wrap_by(value: Option<Milli>, scripted: u8) -> u8
+    requires { IfSome value (λ v. is_wrap_style v ≡ true) }
+    ensures { result ≡ unwrap_or (option_map (λ v. unsigned_abs (rule_whole v)) value) scripted }
+{
+    match value {
+        Some(value) => whole(value) as u8,
+        None => scripted,
+    }
+}
+
 /// The last wrap style, where the script has another.
-pub(crate) fn wrap_of(items: &[Item], scripted: u8) -> u8 {
+pub(crate) fn wrap_of(items: &[Item], scripted: u8) -> u8
+    requires { All IsHeldItem items.now }
+    ensures { (duration elapsed : ℤ) → result ≡ rule.wrap_at scripted (past_all duration elapsed [] items.now) }
+{
     let mut wrap = scripted;
     for item in items {
-        if let ItemKind::Tag(Tag::Number(Num::Wrap, value)) = &item.kind {
-            wrap = value.map_or(scripted, |value| whole(value) as u8);
+        if let Some(value) = wrap_said(&item.kind) {
+            wrap = wrap_by(value, scripted);
         }
     }
     wrap
 }
 
 /// The rectangle from which a clip moves: the one in force, or else the whole canvas.
-fn corners_from(header: &Header, clip: &Option<ClipTag>) -> [Milli; 4] {
+fn corners_from(header: &Header, clip: &Option<ClipTag>) -> [Milli; 4]
+    ensures { result ≡ rule.corners_from header.now clip.now }
+{
     match clip {
         Some(ClipTag::Rect(corners, _)) => *corners,
         _ => [
@@ -111,7 +162,10 @@ fn corners_from(header: &Header, clip: &Option<ClipTag>) -> [Milli; 4] {
 }
 
 /// A rectangle that a weight moves.
-fn corners_moved(old: &[Milli; 4], new: &[Milli; 4], weight: u32) -> [Milli; 4] {
+fn corners_moved(old: &[Milli; 4], new: &[Milli; 4], weight: u32) -> [Milli; 4]
+    requires { weight ≤ one_16 }
+    ensures { result ≡ rule.corners_moved old.now new.now weight }
+{
     [
         moved(old[0], new[0], weight),
         moved(old[1], new[1], weight),
@@ -126,7 +180,10 @@ fn transformed(
     clip: Option<ClipTag>,
     tags: &[GradualTag],
     weight: u32,
-) -> Option<ClipTag> {
+) -> Option<ClipTag>
+    requires { weight ≤ one_16 }
+    ensures { (before : List Effect) → clip ≡ rule.clip_at header.now before → result ≡ rule.clip_at header.now (reverse (map (Gradual weight) tags.now) ++ before) }
+{
     let mut clip = clip;
     for tag in tags {
         if let GradualTag::Clip(corners, inverse) = tag {
@@ -138,13 +195,21 @@ fn transformed(
 }
 
 /// The clip behind the last item.
-pub(crate) fn clip_of(header: &Header, items: Vec<Item>, at: Moment) -> Option<ClipTag> {
+pub(crate) fn clip_of(
+    header: &Header,
+    items: Vec<Item>,
+    duration: i64,
+    elapsed: i64,
+) -> Option<ClipTag>
+    requires { All IsHeldItem items.items }
+    ensures { result ≡ rule.clip_at header.now (past_all duration elapsed [] items.items) }
+{
     let mut clip = None;
     for item in items {
         match item.kind {
             ItemKind::Tag(Tag::Clip(new)) => clip = Some(new),
             ItemKind::Tag(Tag::Transform(times, quarters, tags)) => {
-                let weight = transform_weight(times, at.duration, quarters, at.elapsed);
+                let weight = transform_weight(times, duration, quarters, elapsed);
                 clip = transformed(header, clip, tags.as_slice(), weight);
             }
             _ => {}

@@ -1,5 +1,9 @@
 //! The names of fonts, each once.
 
+ghost use Rattle.std.specs.Prelude.{◌≡◌, ◌+◌, ◌^◌, ◌<◌, [], length, Some, slice_get, IfOk, OnOk};
+ghost use Rattle.ass_script.specs.Scripts.{ScriptValue, style_for};
+ghost use Rattle.tag_state.specs.Walks.{AreFonts, Grow, font_of_style};
+
 use ass_num::{Items, Mem, Text};
 use ass_script::{Script, Style, find_style};
 use std::alloc::Global;
@@ -16,7 +20,10 @@ pub(crate) struct Fonts {
 
 impl Fonts {
     /// No names.
-    pub(crate) fn new(alloc: Global) -> Fonts {
+    pub(crate) fn new(alloc: Global) -> Fonts
+        ensures fonts { (script : ScriptValue) → AreFonts script result }
+        ensures none { result.names ≡ [] }
+    {
         Fonts {
             names: Items::new(alloc),
             numbers: BTreeMap::new(alloc),
@@ -25,7 +32,12 @@ impl Fonts {
     }
 
     /// The number of a name, which is added where it isn't there.
-    pub(crate) fn number_of(&mut self, alloc: Global, name: &str) -> Mem<u32> {
+    pub(crate) fn number_of(&mut self, alloc: Global, name: &str) -> Mem<u32>
+        requires room { length self.old.names + 1 < 2 ^ 32 }
+        ensures fonts { (script : ScriptValue) → AreFonts script self.old → OnOk result (AreFonts script self.new) }
+        ensures grown { OnOk result (Grow self.old.names self.new.names) }
+        ensures number { (script : ScriptValue) → AreFonts script self.old → IfOk result (λ number. slice_get self.new.names number ≡ Some name.now) }
+    {
         if let Some(number) = self.numbers.get(name) {
             return Ok(*number);
         }
@@ -37,7 +49,12 @@ impl Fonts {
     }
 
     /// The number of the font of the style at a place. Its name is looked up once.
-    fn number_at(&mut self, alloc: Global, place: usize, style: &Style) -> Mem<u32> {
+    fn number_at(&mut self, alloc: Global, place: usize, style: &Style) -> Mem<u32>
+        requires room { length self.old.names + 1 < 2 ^ 32 }
+        ensures fonts { (script : ScriptValue) → slice_get script.styles place ≡ Some style.now → AreFonts script self.old → OnOk result (AreFonts script self.new) }
+        ensures grown { OnOk result (Grow self.old.names self.new.names) }
+        ensures number { (script : ScriptValue) → slice_get script.styles place ≡ Some style.now → AreFonts script self.old → IfOk result (λ number. slice_get self.new.names number ≡ Some style.now.font) }
+    {
         if let Some(number) = self.styles.get(&place) {
             return Ok(*number);
         }
@@ -52,7 +69,13 @@ impl Fonts {
         alloc: Global,
         script: &'a Script,
         name: &str,
-    ) -> Mem<(&'a Style, u32)> {
+    ) -> Mem<(&'a Style, u32)>
+        requires room { length self.old.names + 1 < 2 ^ 32 }
+        ensures fonts { AreFonts script.now self.old → OnOk result (AreFonts script.now self.new) }
+        ensures grown { OnOk result (Grow self.old.names self.new.names) }
+        ensures style { IfOk result (λ found. found.0.now ≡ style_for name.now script.now) }
+        ensures number { AreFonts script.now self.old → IfOk result (λ found. slice_get self.new.names found.1 ≡ Some (style_for name.now script.now).font) }
+    {
         match find_style(script, name) {
             Some(place) => {
                 let style = &script.styles()[place];

@@ -5,6 +5,8 @@ mod choices;
 mod colours;
 mod fonts;
 mod numbers;
+mod pen;
+mod sheet;
 mod state;
 mod syllables;
 mod view;

@@ -1,10 +1,15 @@
 //! The state of a style.
 
+ghost use Rattle.std.specs.Prelude.{◌≡◌};
+ghost use Rattle.tag_state.specs.Steps.{styled_state, restyled_state};
+
 use ass_script::Style;
 use override_tags::State;
 
 /// The state of a style whose font has this number, before any tag.
-pub(crate) fn styled(style: &Style, font: u32) -> State {
+pub(crate) fn styled(style: &Style, font: u32) -> State
+    ensures { result ≡ styled_state style.now font }
+{
     State {
         font,
         size: style.size,
@@ -31,7 +36,9 @@ pub(crate) fn styled(style: &Style, font: u32) -> State {
 }
 
 /// The state behind a reset to a style. The level and the shift of drawings and the syllable stay.
-pub(crate) fn restyled(state: &State, style: &Style, font: u32) -> State {
+pub(crate) fn restyled(state: &State, style: &Style, font: u32) -> State
+    ensures { result ≡ restyled_state state.now style.now font }
+{
     State {
         draw: state.draw,
         offset: state.offset,
