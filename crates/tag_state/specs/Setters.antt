@@ -1,5 +1,5 @@
 -- Public: how the tags before a character decide a property of it (docs/STATES.md).
-use Rattle.std.specs.Prelude.{◌≡◌, ℕ, ℤ, Bool, true, false, not, if◌then◌else◌, List, [], ◌∷◌, ◌++◌, map, reverse, take_while, Option, Some, None, unwrap_or}
+use Rattle.std.specs.Prelude.{ℕ, ℤ, Bool, true, false, if◌then◌else◌, List, [], ◌∷◌, ◌++◌, map, reverse, Option, Some, None, unwrap_or}
 use Rattle.std.specs.List.{filter_map}
 use Rattle.ass_script.specs.Scripts.{ScriptValue, style_for}
 use Rattle.ass_script.specs.declared.style.Style.{Style}
@@ -54,7 +54,8 @@ is_reset _ = false
 
 -- the effects that stand behind the last `\r`
 abbrev pub since_reset : List Effect → List Effect
-since_reset before = take_while (λ effect. not (is_reset effect)) before
+since_reset [] = []
+since_reset (effect ∷ earlier) = if is_reset effect then [] else effect ∷ since_reset earlier
 
 -- ---- the style in force
 

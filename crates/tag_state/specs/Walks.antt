@@ -36,9 +36,9 @@ pub record AreFonts (script : ScriptValue) (fonts : Fonts) : Type 0 where
   pub found : (name : List ℕ) (number : ℕ) → slice_get fonts.names number ≡ Some name → get_by_text fonts.numbers name ≡ Some number
   pub styles : (place number : ℕ) → get nat_cmp fonts.styles place ≡ Some number → slice_get fonts.names number ≡ font_of_style script.styles place
 
--- All names stay where they are, and at most one comes.
-pub record Grow (old new : List (List ℕ)) : Type 0 where
-  pub kept : (place : ℕ) (name : List ℕ) → slice_get old place ≡ Some name → slice_get new place ≡ Some name
+-- All stay where they are, and at most one comes.
+pub record Grow {X : Type 0} (old new : List X) : Type 0 where
+  pub kept : (place : ℕ) (x : X) → slice_get old place ≡ Some x → slice_get new place ≡ Some x
   pub few : length new ≤ length old + 1
 
 -- a style with the number of its font
@@ -61,11 +61,6 @@ pub record IsPen (script : ScriptValue) (own : List ℕ) (before : List Effect) 
 pub record IsLast (states : List State) (state : State) (number : ℕ) : Type 0 where
   pub place : number + 1 ≡ length states
   pub there : slice_get states number ≡ Some state
-
--- All states stay where they are, and at most one comes.
-pub record StatesGrow (old new : List State) : Type 0 where
-  pub kept : (place : ℕ) (state : State) → slice_get old place ≡ Some state → slice_get new place ≡ Some state
-  pub few : length new ≤ length old + 1
 
 -- What was shown of the items before a place: at most one for each item, and what the rest shows is shown behind it.
 pub record IsSheet (script : ScriptValue) (event : Event) (elapsed : ℤ) (items : List Item) (place : ℕ) (pen : Pen) (sheet : Sheet) : Type 0 where

@@ -4,9 +4,9 @@ ghost use Rattle.std.specs.Prelude.{◌≡◌, ◌≤◌, ℤ, pos, true, [], �
 ghost use Rattle.std.specs.Int.RustNames.{unsigned_abs};
 ghost use Rattle.std.specs.Option.{option_map};
 ghost use Rattle.ass_num.specs.Limits.{one_16};
-ghost use Rattle.override_tags.specs.Ranges.{IsHeldItem};
+ghost use Rattle.override_tags.specs.Ranges.{IsHeldItem, IsHeldTag};
 ghost use Rattle.override_tags.specs.Singles.{is_wrap_style, whole as rule_whole};
-ghost use Rattle.tag_state.specs.Setters.{Effect, Gradual, past_all};
+ghost use Rattle.tag_state.specs.Setters.{Effect, Gradual, effects_of_tag, past_all};
 ghost use Rattle.tag_state.specs.Steps.{wrap_said};
 ghost use Rattle.tag_state.specs.Choices as rule;
 
@@ -186,12 +186,36 @@ fn transformed(
 {
     let mut clip = clip;
     for tag in tags {
-        if let GradualTag::Clip(corners, inverse) = tag {
-            let from = corners_from(header, &clip);
-            clip = Some(ClipTag::Rect(corners_moved(&from, corners, weight), *inverse));
+        match tag {
+            GradualTag::Clip(corners, inverse) => {
+                let from = corners_from(header, &clip);
+                clip = Some(ClipTag::Rect(corners_moved(&from, corners, weight), *inverse));
+            }
+            GradualTag::Number(_, _) | GradualTag::Colour(_, _) | GradualTag::Alpha(_, _) => {}
         }
     }
     clip
+}
+
+/// The clip behind a tag.
+fn clip_behind(
+    header: &Header,
+    clip: Option<ClipTag>,
+    tag: Tag,
+    duration: i64,
+    elapsed: i64,
+) -> Option<ClipTag>
+    requires { IsHeldTag tag }
+    ensures { (before : List Effect) → clip ≡ rule.clip_at header.now before → result ≡ rule.clip_at header.now (reverse (effects_of_tag duration elapsed tag) ++ before) }
+{
+    match tag {
+        Tag::Clip(new) => Some(new),
+        Tag::Transform(times, quarters, tags) => {
+            let weight = transform_weight(times, duration, quarters, elapsed);
+            transformed(header, clip, tags.as_slice(), weight)
+        }
+        _other => clip,
+    }
 }
 
 /// The clip behind the last item.
@@ -207,12 +231,8 @@ pub(crate) fn clip_of(
     let mut clip = None;
     for item in items {
         match item.kind {
-            ItemKind::Tag(Tag::Clip(new)) => clip = Some(new),
-            ItemKind::Tag(Tag::Transform(times, quarters, tags)) => {
-                let weight = transform_weight(times, duration, quarters, elapsed);
-                clip = transformed(header, clip, tags.as_slice(), weight);
-            }
-            _ => {}
+            ItemKind::Tag(tag) => clip = clip_behind(header, clip, tag, duration, elapsed),
+            _other => {}
         }
     }
     clip

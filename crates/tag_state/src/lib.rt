@@ -8,6 +8,7 @@ mod numbers;
 mod pen;
 mod sheet;
 mod state;
+mod steps;
 mod syllables;
 mod view;
 mod walk;

@@ -1,25 +1,22 @@
 //! The state behind the tags that were read so far.
 
-ghost use Rattle.std.specs.Prelude.{◌≡◌, ℕ, ◌+◌, ◌^◌, ◌<◌, ◌≤◌, [], ◌∷◌, ◌++◌, List, length, map, reverse, All, IfSome, IfOk, OnOk};
-ghost use Rattle.ass_num.specs.Limits.{one_16};
+ghost use Rattle.std.specs.Prelude.{◌≡◌, ℕ, ◌+◌, ◌^◌, ◌<◌, [], ◌∷◌, ◌++◌, List, length, reverse, IfSome, IfOk, OnOk};
 ghost use Rattle.ass_script.specs.Scripts.{ScriptValue};
-ghost use Rattle.override_tags.specs.Ranges.{IsHeldTag, IsGradualTag};
+ghost use Rattle.override_tags.specs.Ranges.{IsHeldTag};
 ghost use Rattle.override_tags.specs.declared.tag.Tag.TheVariants.{FontName, Reset};
-ghost use Rattle.tag_state.specs.Setters.{Effect, Plain, Gradual, effects_of_tag, style_in_force};
-ghost use Rattle.tag_state.specs.States.{IsStateAt};
-ghost use Rattle.tag_state.specs.Steps.{HasRoom, IsStepped};
+ghost use Rattle.tag_state.specs.Setters.{Effect, Plain, effects_of_tag};
+ghost use Rattle.tag_state.specs.Steps.{HasRoom};
 ghost use Rattle.tag_state.specs.Walks.{IsPen};
 
-use crate::colours::{set_alpha, set_colour};
 use crate::fonts::Fonts;
-use crate::numbers::{set_gradual, set_number};
 use crate::state::{restyled, styled};
+use crate::steps::{set_by, transform};
 use crate::syllables::next_syllable;
 use ass_events::Event;
 use ass_num::Mem;
 use ass_script::{Script, Style};
 use event_instants::transform_weight;
-use override_tags::{GradualTag, State, Tag};
+use override_tags::{State, Tag};
 use std::alloc::Global;
 
 /// A style, and the number of its font.
@@ -59,11 +56,11 @@ impl<'a> Pen<'a> {
         requires room { length self.old.fonts.names + 1 < 2 ^ 32 }
         ensures { (script : ScriptValue) (own : List ℕ) (before : List Effect) (tags : ℕ) → IsPen script own before tags self.old → OnOk result (IsPen script own (Plain (FontName name.now) ∷ before) (tags + 1) self.new) }
     {
-        self.state.font = if name.is_empty() {
-            self.face.font
-        } else {
-            self.fonts.number_of(alloc, name)?
-        };
+        if name.is_empty() {
+            self.state.font = self.face.font;
+            return Ok(());
+        }
+        self.state.font = self.fonts.number_of(alloc, name)?;
         Ok(())
     }
 
@@ -72,13 +69,14 @@ impl<'a> Pen<'a> {
         requires room { length self.old.fonts.names + 1 < 2 ^ 32 }
         ensures { (own : List ℕ) (before : List Effect) (tags : ℕ) → IsPen script.now own before tags self.old → OnOk result (IsPen script.now own (Plain (Reset name.now) ∷ before) (tags + 1) self.new) }
     {
-        self.face = if name.is_empty() {
-            self.own
-        } else {
-            let (style, font) = self.fonts.style_named(alloc, script, name)?;
-            Face { style, font }
-        };
-        self.state = restyled(&self.state, self.face.style, self.face.font);
+        if name.is_empty() {
+            self.face = self.own;
+            self.state = restyled(&self.state, self.own.style, self.own.font);
+            return Ok(());
+        }
+        let (style, font) = self.fonts.style_named(alloc, script, name)?;
+        self.face = Face { style, font };
+        self.state = restyled(&self.state, style, font);
         Ok(())
     }
 
@@ -98,13 +96,6 @@ impl<'a> Pen<'a> {
     {
         let style = self.face.style;
         match tag {
-            Tag::Number(property, value) => {
-                set_number(&mut self.state, style, *property, *value);
-            }
-            Tag::Colour(which, value) => {
-                set_colour(&mut self.state, style, *which, *value, None);
-            }
-            Tag::Alpha(which, value) => set_alpha(&mut self.state, style, *which, *value, None),
             Tag::FontName(name) => return self.set_font(alloc, name.as_str()),
             Tag::Reset(name) => return self.reset(alloc, script, name.as_str()),
             Tag::Karaoke(kind, len) => {
@@ -112,37 +103,10 @@ impl<'a> Pen<'a> {
             }
             Tag::Transform(times, quarters, tags) => {
                 let weight = transform_weight(*times, event.duration, *quarters, elapsed);
-                move_all(&mut self.state, style, tags.as_slice(), weight);
+                transform(&mut self.state, style, tags.as_slice(), weight);
             }
-            _ => {}
+            _ => set_by(&mut self.state, style, tag),
         }
         Ok(())
-    }
-}
-
-/// What a tag of a transform of a weight does.
-fn move_by(state: &mut State, style: &Style, tag: GradualTag, weight: u32)
-    requires held { IsGradualTag tag }
-    requires unit { weight ≤ one_16 }
-    ensures { IsStepped style.now (Gradual weight tag) state.old state.new }
-{
-    match tag {
-        GradualTag::Number(property, value) => {
-            set_gradual(state, style, property, value, Some(weight));
-        }
-        GradualTag::Colour(which, value) => set_colour(state, style, which, value, Some(weight)),
-        GradualTag::Alpha(which, value) => set_alpha(state, style, which, value, Some(weight)),
-        GradualTag::Clip(_, _) => {}
-    }
-}
-
-/// What a transform of a weight does.
-fn move_all(state: &mut State, style: &Style, tags: &[GradualTag], weight: u32)
-    requires held { All IsGradualTag tags.now }
-    requires unit { weight ≤ one_16 }
-    ensures { (script : ScriptValue) (own : List ℕ) (names : List (List ℕ)) (before : List Effect) → style.now ≡ style_in_force script own before → IsStateAt script own names before state.old → IsStateAt script own names (reverse (map (Gradual weight) tags.now) ++ before) state.new }
-{
-    for tag in tags {
-        move_by(state, style, *tag, weight);
     }
 }

@@ -1,7 +1,7 @@
 //! What was shown so far, and in which states.
 
 ghost use Rattle.std.specs.Prelude.{◌≡◌, ℕ, ◌+◌, ◌^◌, ◌<◌, [], ◌∷◌, ◌++◌, length, Some, None, IfOk, OnOk, IfSome};
-ghost use Rattle.tag_state.specs.Walks.{IsLast, StatesGrow};
+ghost use Rattle.tag_state.specs.Walks.{IsLast, Grow};
 
 use ass_num::{Items, Mem};
 use override_tags::{Shown, ShownKind, State};
@@ -42,7 +42,7 @@ impl Sheet {
         requires current { IfSome self.old.current (IsLast self.old.states state.now) }
         ensures number { IfOk result (λ number. IsLast self.new.states state.now number) }
         ensures current { IfOk result (λ number. self.new.current ≡ Some number) }
-        ensures grown { OnOk result (StatesGrow self.old.states self.new.states) }
+        ensures grown { OnOk result (Grow self.old.states self.new.states) }
         ensures items { self.new.items ≡ self.old.items }
     {
         if let Some(number) = self.current {
@@ -66,7 +66,7 @@ impl Sheet {
         requires current { IfSome self.old.current (IsLast self.old.states state.now) }
         ensures shown { OnOk result ((number : ℕ) × (self.new.items ≡ self.old.items ++ record { kind = kind; state = number } ∷ []) × IsLast self.new.states state.now number) }
         ensures current { OnOk result (IfSome self.new.current (IsLast self.new.states state.now)) }
-        ensures grown { OnOk result (StatesGrow self.old.states self.new.states) }
+        ensures grown { OnOk result (Grow self.old.states self.new.states) }
     {
         let state = self.number_of(state)?;
         self.items.push(Shown { kind, state })

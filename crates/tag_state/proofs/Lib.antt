@@ -1,0 +1,5 @@
+pub mod SetterLemmas
+pub mod StepLemmas
+pub mod PenLemmas
+pub mod ChoiceLemmas
+pub mod WalkLemmas
