@@ -1,5 +1,4 @@
 pub mod SetterLemmas
 pub mod StepLemmas
-pub mod PenLemmas
+pub mod StateLemmas
 pub mod ChoiceLemmas
-pub mod WalkLemmas

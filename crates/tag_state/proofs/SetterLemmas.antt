@@ -9,7 +9,8 @@ use Rattle.override_tags.specs.declared.view.State.{State}
 use Rattle.override_tags.specs.declared.view.Syllable.{Syllable}
 use Rattle.tag_state.specs.Setters.{Effect, Plain, Gradual, Setter, Sets, Moves, Property, is_reset, since_reset, restyled, style_in_force, by_setters, setters_in, value_at}
 use Rattle.tag_state.specs.Properties.{Measure, Size, ScaleX, ScaleY, Spacing, Angle, BorderX, BorderY, ShadowX, ShadowY, Edges, Blur, Offset, Bold, Italic, Underline, Strikeout, number, number_of, Switch, switch, switch_of, Channel, byte, byte_in, colour_at, font, font_setter, level}
-use Rattle.tag_state.specs.Syllables.{sung_by, sung_at, sung_len, syllable_count}
+use Rattle.tag_state.specs.Syllables.{sung_at}
+use Rattle.tag_state.specs.Laws.{IsOrdinary}
 use Rattle.tag_state.specs.States.{IsStateAt}
 use Rattle.tag_state.specs.Steps.{after_setter, after, IsStepped}
 
@@ -86,14 +87,6 @@ state_core script own names effect earlier old mid number_of_font syllable at st
     switches Italic = switch_step Italic
     switches Underline = switch_step Underline
     switches Strikeout = switch_step Strikeout
-
--- an effect that is no reset, no font and no syllable
-pub record IsOrdinary (effect : Effect) : Type 0 where
-  pub no_reset : is_reset effect ≡ false
-  pub no_font : font_setter effect ≡ None
-  pub no_syllable : (earlier : List Effect) (sung : Option Syllable) → sung_by earlier sung effect ≡ sung
-  pub no_len : sung_len effect ≡ pos 0
-  pub no_count : syllable_count effect ≡ 0
 
 -- the font behind an effect that sets none
 pub font_stays : (script : ScriptValue) (own : List ℕ) (effect : Effect) (earlier : List Effect) → is_reset effect ≡ false → font_setter effect ≡ None

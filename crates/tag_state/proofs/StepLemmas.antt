@@ -190,10 +190,10 @@ colour_written c style value weight written place colours within = by (place == 
 pub colour_steps : (style : Style) (which written : ℕ) (value : Option ℕ) (weight : Option ℕ) (old new : State) → which ≡ written + 1 → written < length old.colours
     → new ≡ record old { colours = set old.colours written (colour_after style written value weight (colour_at old.colours written)) }
     → IsStepped style (colour_effect weight which value) old new
-colour_steps style which written value weight old new number within e =
+colour_steps style which written value weight old new named within e =
     let P : State → Type 0 = λ z. IsStepped style (colour_effect weight (written + 1) value) old z in
     let Q : ℕ → Type 0 = λ z. IsStepped style (colour_effect weight z value) old new in
-    subst Q (sym number) (subst P (sym e) (record {
+    subst Q (sym named) (subst P (sym e) (record {
       font = refl;
       numbers = same;
       switches = kept;

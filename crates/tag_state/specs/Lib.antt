@@ -3,7 +3,5 @@ pub mod Properties
 pub mod Syllables
 pub mod States
 pub mod Choices
-pub mod Looks
-pub mod Views
 pub mod Steps
-pub mod Walks
+pub mod Laws

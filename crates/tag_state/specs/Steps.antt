@@ -3,9 +3,13 @@ use Rattle.std.specs.Prelude.{◌≡◌, ℕ, ◌+◌, ◌^◌, ◌<◌, ℤ, po
 use Rattle.std.specs.Option.{option_map}
 use Rattle.ass_num.specs.Colours.{colour_of}
 use Rattle.ass_num.specs.declared.colour.Rgba.{Rgba}
+use Rattle.ass_script.specs.declared.script.Header.{Header}
 use Rattle.ass_script.specs.declared.style.Style.{Style}
 use Rattle.override_tags.specs.declared.item.ItemKind.{ItemKind}
 use Rattle.override_tags.specs.declared.item.ItemKind.TheVariants as item
+use Rattle.override_tags.specs.declared.tag.ClipTag.{ClipTag}
+use Rattle.override_tags.specs.declared.tag.ClipTag.TheVariants.{Rect}
+use Rattle.override_tags.specs.declared.tag.GradualTag.{GradualTag}
 use Rattle.override_tags.specs.declared.tag.GradualTag.TheVariants as gradual
 use Rattle.override_tags.specs.declared.tag.Tag.TheVariants as tag
 use Rattle.event_instants.specs.Instants.{moved}
@@ -14,6 +18,7 @@ use Rattle.override_tags.specs.declared.view.Syllable.{Syllable}
 use Rattle.tag_arguments.specs.declared.kinds.Num.{Num}
 use Rattle.tag_arguments.specs.declared.kinds.Num.TheVariants as num
 use Rattle.tag_arguments.specs.declared.kinds.Sung.{Sung}
+use Rattle.tag_state.specs.Choices.{corners_from, corners_moved}
 use Rattle.tag_state.specs.Setters.{Effect, Plain, Gradual, Setter, Sets, Moves, Property}
 use Rattle.tag_state.specs.Properties.{Measure, Size, ScaleX, ScaleY, Spacing, Angle, BorderX, BorderY, ShadowX, ShadowY, Edges, Blur, Offset, number, number_of, sets_measure, given_number, styled_number, sets_switch, is_on, styled_switch, level_of, has_alpha, moved_byte, Switch, Bold, Italic, Underline, Strikeout, switch, switch_of, Channel, byte, byte_in, colour_at, level}
 
@@ -168,3 +173,8 @@ restyled_state state style font = record (styled_state style font) { draw = stat
 abbrev pub wrap_said : ItemKind → Option (Option ℤ)
 wrap_said (item.Tag (tag.Number num.Wrap value)) = Some value
 wrap_said _ = None
+
+-- what a tag of a transform of a weight makes of the clip
+abbrev pub clip_step : Header → ℕ → GradualTag → Option ClipTag → Option ClipTag
+clip_step header weight (gradual.Clip corners inverse) old = Some (Rect (corners_moved (corners_from header old) corners weight) inverse)
+clip_step header weight _ old = old

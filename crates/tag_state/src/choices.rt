@@ -7,7 +7,7 @@ ghost use Rattle.ass_num.specs.Limits.{one_16};
 ghost use Rattle.override_tags.specs.Ranges.{IsHeldItem, IsHeldTag};
 ghost use Rattle.override_tags.specs.Singles.{is_wrap_style, whole as rule_whole};
 ghost use Rattle.tag_state.specs.Setters.{Effect, Gradual, effects_of_tag, past_all};
-ghost use Rattle.tag_state.specs.Steps.{wrap_said};
+ghost use Rattle.tag_state.specs.Steps.{wrap_said, clip_step};
 ghost use Rattle.tag_state.specs.Choices as rule;
 
 use ass_num::Milli;
@@ -26,7 +26,7 @@ fn align_said(kind: &ItemKind) -> Option<u8>
 }
 
 /// The first alignment, or else the style's.
-pub(crate) fn align_of(items: &[Item], styled: u8) -> u8
+pub fn align_of(items: &[Item], styled: u8) -> u8
     ensures { result ≡ unwrap_or (rule.first_of rule.align_said items.now) styled }
 {
     for item in items {
@@ -51,7 +51,7 @@ fn point_said(kind: &ItemKind, duration: i64, elapsed: i64) -> Option<(Milli, Mi
 }
 
 /// The point of the first position or movement.
-pub(crate) fn point_of(items: &[Item], duration: i64, elapsed: i64) -> Option<(Milli, Milli)>
+pub fn point_of(items: &[Item], duration: i64, elapsed: i64) -> Option<(Milli, Milli)>
     ensures { result ≡ rule.first_of (rule.point_said duration elapsed) items.now }
 {
     for item in items {
@@ -74,7 +74,7 @@ fn origin_said(kind: &ItemKind) -> Option<(Milli, Milli)>
 }
 
 /// The first origin of turning.
-pub(crate) fn origin_of(items: &[Item]) -> Option<(Milli, Milli)>
+pub fn origin_of(items: &[Item]) -> Option<(Milli, Milli)>
     ensures { result ≡ rule.first_of rule.origin_said items.now }
 {
     for item in items {
@@ -100,7 +100,7 @@ fn fade_said(kind: &ItemKind, duration: i64, elapsed: i64) -> Option<u8>
 }
 
 /// The first fade, or 0.
-pub(crate) fn fade_of(items: &[Item], duration: i64, elapsed: i64) -> u8
+pub fn fade_of(items: &[Item], duration: i64, elapsed: i64) -> u8
     ensures { pos result ≡ unwrap_or (rule.first_of (rule.fade_said duration elapsed) items.now) (pos 0) }
 {
     for item in items {
@@ -133,7 +133,7 @@ fn wrap_by(value: Option<Milli>, scripted: u8) -> u8
 }
 
 /// The last wrap style, where the script has another.
-pub(crate) fn wrap_of(items: &[Item], scripted: u8) -> u8
+pub fn wrap_of(items: &[Item], scripted: u8) -> u8
     requires { All IsHeldItem items.now }
     ensures { (duration elapsed : ℤ) → result ≡ rule.wrap_at scripted (past_all duration elapsed [] items.now) }
 {
@@ -174,6 +174,25 @@ fn corners_moved(old: &[Milli; 4], new: &[Milli; 4], weight: u32) -> [Milli; 4]
     ]
 }
 
+/// The clip behind a tag of a transform of a weight.
+fn moved_clip(
+    header: &Header,
+    clip: Option<ClipTag>,
+    tag: GradualTag,
+    weight: u32,
+) -> Option<ClipTag>
+    requires { weight ≤ one_16 }
+    ensures { result ≡ clip_step header.now weight tag clip }
+{
+    match tag {
+        GradualTag::Clip(corners, inverse) => {
+            let from = corners_from(header, &clip);
+            Some(ClipTag::Rect(corners_moved(&from, &corners, weight), inverse))
+        }
+        _ => clip,
+    }
+}
+
 /// The clip behind a transform of a weight.
 fn transformed(
     header: &Header,
@@ -186,13 +205,7 @@ fn transformed(
 {
     let mut clip = clip;
     for tag in tags {
-        match tag {
-            GradualTag::Clip(corners, inverse) => {
-                let from = corners_from(header, &clip);
-                clip = Some(ClipTag::Rect(corners_moved(&from, corners, weight), *inverse));
-            }
-            GradualTag::Number(_, _) | GradualTag::Colour(_, _) | GradualTag::Alpha(_, _) => {}
-        }
+        clip = moved_clip(header, clip, *tag, weight);
     }
     clip
 }
@@ -219,7 +232,7 @@ fn clip_behind(
 }
 
 /// The clip behind the last item.
-pub(crate) fn clip_of(
+pub fn clip_of(
     header: &Header,
     items: Vec<Item>,
     duration: i64,

@@ -1,6 +1,6 @@
 //! Tags that set colours and alphas.
 
-ghost use Rattle.std.specs.Prelude.{◌≡◌, ◌-◌, ◌<◌, ◌≤◌, [], ◌∷◌, slice_set, IfSome};
+ghost use Rattle.std.specs.Prelude.{◌≡◌, ◌-◌, ◌<◌, ◌≤◌, [], ◌∷◌, length, slice_set, IfSome};
 ghost use Rattle.ass_num.specs.Limits.{one_16};
 ghost use Rattle.tag_state.specs.Properties.{colour_at, moved_byte};
 ghost use Rattle.tag_state.specs.Steps as rule;
@@ -45,7 +45,8 @@ pub(crate) fn set_colour(
     requires some { 1 ≤ which }
     requires four { which ≤ 4 }
     requires unit { IfSome weight (λ w. w ≤ one_16) }
-    ensures { state.new ≡ record state.old { colours = slice_set state.old.colours (which - 1) (rule.colour_after style.now (which - 1) value weight (colour_at state.old.colours (which - 1))) } }
+    ensures four { length state.old.colours ≡ 4 }
+    ensures written { state.new ≡ record state.old { colours = slice_set state.old.colours (which - 1) (rule.colour_after style.now (which - 1) value weight (colour_at state.old.colours (which - 1))) } }
 {
     let place = usize::from(which - 1);
     let new = match value {

@@ -7,7 +7,7 @@ use ass_script::Style;
 use override_tags::State;
 
 /// The state of a style whose font has this number, before any tag.
-pub(crate) fn styled(style: &Style, font: u32) -> State
+pub fn styled(style: &Style, font: u32) -> State
     ensures { result ≡ styled_state style.now font }
 {
     State {
@@ -36,7 +36,7 @@ pub(crate) fn styled(style: &Style, font: u32) -> State
 }
 
 /// The state behind a reset to a style. The level and the shift of drawings and the syllable stay.
-pub(crate) fn restyled(state: &State, style: &Style, font: u32) -> State
+pub fn restyled(state: &State, style: &Style, font: u32) -> State
     ensures { result ≡ restyled_state state.now style.now font }
 {
     State {

@@ -7,7 +7,7 @@ ghost use Rattle.tag_state.specs.Steps.{HasRoom, syllable_behind};
 use override_tags::{Sung, Syllable};
 
 /// A syllable of a length behind another one.
-pub(crate) fn next_syllable(before: Option<Syllable>, kind: Sung, len: i64) -> Syllable
+pub fn next_syllable(before: Option<Syllable>, kind: Sung, len: i64) -> Syllable
     requires room { IfSome before HasRoom }
     requires some { pos 0 ≤ℤ len }
     requires short { len ≤ℤ pos max_syllable }

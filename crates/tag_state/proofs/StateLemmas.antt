@@ -1,25 +1,28 @@
--- The pen behind each kind of tag.
-use Rattle.std.proofs.Common.{◌≡◌, ◌≢◌, ℕ, suc, ◌+◌, ◌*◌, ◌<◌, ◌≤◌, ℤ, pos, ◌+ℤ◌, ◌≤ℤ◌, Bool, true, false, cond, List, [], ◌∷◌, ◌++◌, length, map, reverse, refl, sym, ap, ◌∙◌, subst, Option, None, Some, arith, append_assoc}
-use Rattle.std.specs.Prelude.{slice_get, IfSome}
+-- The state behind each kind of tag.
+use Rattle.std.proofs.Common.{◌≡◌, ◌≢◌, ℕ, suc, ◌+◌, ◌*◌, ◌<◌, ◌≤◌, ℤ, pos, ◌+ℤ◌, ◌≤ℤ◌, Bool, true, false, cond, List, [], ◌∷◌, ◌++◌, length, map, reverse, take, get_or, refl, sym, ap, ◌∙◌, subst, Option, None, Some, arith, append_assoc}
+use Rattle.std.specs.Prelude.{slice_get, IfSome, unwrap_or}
 use Rattle.std.proofs.lemmas.Int.{ints}
+use Rattle.std.proofs.lemmas.List.{reverse-append, map_more, take_all}
 use Rattle.ass_script.specs.Scripts.{ScriptValue, style_for}
 use Rattle.ass_script.specs.declared.style.Style.{Style}
 use Rattle.event_instants.specs.Instants.{moved}
 use Rattle.override_tags.specs.Limits.{max_syllable}
 use Rattle.override_tags.specs.declared.tag.GradualTag.{GradualTag}
+use Rattle.override_tags.specs.declared.tag.Tag.{Tag}
 use Rattle.override_tags.specs.declared.tag.Tag.TheVariants.{Reset, FontName, Karaoke}
+use Rattle.override_tags.specs.declared.tag.Tag.TheVariants as tags
+use Rattle.tag_arguments.specs.declared.kinds.Num.{Num}
 use Rattle.override_tags.specs.declared.view.State.{State}
 use Rattle.override_tags.specs.declared.view.Syllable.{Syllable}
 use Rattle.tag_arguments.specs.declared.kinds.Sung.{Sung}
 use Rattle.tag_state.specs.Setters.{Effect, Plain, Gradual, restyled, reset_name, style_in_force, value_at, replaced}
 use Rattle.tag_state.specs.Properties.{Measure, Size, ScaleX, ScaleY, Spacing, Angle, BorderX, BorderY, ShadowX, ShadowY, Edges, Blur, Offset, number, number_of, Switch, Bold, Italic, Underline, Strikeout, switch, switch_of, font, font_named, number_setter, switch_setter, alpha_setter, colour_setter, level_setter, styled_number, styled_switch, Channel, Red, Green, Blue, Opacity, byte, byte_in, colour_at, moved_byte}
 use Rattle.tag_state.specs.Syllables.{sung_by, sung_at, sung_len, sung_until, syllable_count, syllables_in}
+use Rattle.tag_state.specs.Laws.{IsOrdinary}
 use Rattle.tag_state.specs.States.{IsStateAt}
 use Rattle.tag_state.specs.Steps.{after_setter, after, IsStepped, HasRoom, styled_state, restyled_state, syllable_behind}
-use Rattle.tag_state.specs.Walks.{Grow, IsFace, IsPen, AreFonts}
-use Rattle.tag_state.specs.declared.pen.Face.{Face}
-use Rattle.tag_state.specs.declared.pen.Pen.{Pen}
-use Rattle.tag_state.proofs.SetterLemmas.{IsOrdinary, font_stays, state_core, state_step, style_stays, value_step}
+use Rattle.tag_state.proofs.ChoiceLemmas.{map-reverse}
+use Rattle.tag_state.proofs.SetterLemmas.{font_stays, state_core, state_step, style_stays, value_step}
 
 -- ---- states
 
@@ -130,69 +133,68 @@ syllable_is (Some last) len count kind longer song =
 pub syllable_at : (before : List Effect) (kind : Sung) (len : ℤ) → Some (syllable_behind (sung_at before) kind len) ≡ sung_at (Plain (Karaoke kind len) ∷ before)
 syllable_at before kind len = ap Some (syllable_is (sung_at before) (sung_until before) (syllables_in before) kind len (song_is before))
 
--- ---- names
-
-pub state_grows : (script : ScriptValue) (own : List ℕ) (names more : List (List ℕ)) (before : List Effect) (state : State) → Grow names more → IsStateAt script own names before state → IsStateAt script own more before state
-state_grows script own names more before state grow at = record at { font = grow.kept _ _ at.font }
-
-pub face_grows : (names more : List (List ℕ)) (style : Style) (face : Face) → Grow names more → IsFace names style face → IsFace more style face
-face_grows names more style face grow is = record { style = is.style; font = grow.kept _ _ is.font }
-
--- ---- the pen
-
--- Effects leave the style in force, and add no syllable.
-pub record KeepsSong (script : ScriptValue) (own : List ℕ) (before behind : List Effect) : Type 0 where
-  pub style : style_in_force script own behind ≡ style_in_force script own before
-  pub count : syllables_in behind ≡ syllables_in before
-  pub len : sung_until behind ≡ sung_until before
-
-pub ordinary_keeps : (script : ScriptValue) (own : List ℕ) (effect : Effect) (before : List Effect) → IsOrdinary effect → KeepsSong script own before (effect ∷ before)
-ordinary_keeps script own effect before ordinary = record {
-  style = style_stays script own effect (style_in_force script own before) ordinary.no_reset;
-  count = omega (arith, ordinary.no_count);
-  len = omega (arith, ints, ordinary.no_len);
-}
-
--- the effects of a transform
-pub gradual_keeps : (script : ScriptValue) (own : List ℕ) (weight : ℕ) (tags : List GradualTag) (before : List Effect) → KeepsSong script own before (map (Gradual weight) tags ++ before)
-gradual_keeps script own weight [] before = record { style = refl; count = refl; len = refl }
-gradual_keeps script own weight (tag ∷ tags) before =
-    let rest = gradual_keeps script own weight tags before in
-    record { style = rest.style; count = omega (arith, rest.count); len = omega (arith, ints, rest.len) }
-
--- the pen in another state
-pub pen_moves : (script : ScriptValue) (own : List ℕ) (before behind : List Effect) (tags : ℕ) (pen : Pen) (state : State)
-    → IsPen script own before tags pen → KeepsSong script own before behind → IsStateAt script own pen.fonts.names behind state → IsPen script own behind (tags + 1) (record pen { state = state })
-pen_moves script own before behind tags pen state is keeps at = record {
-  fonts = is.fonts;
-  few = omega (arith, is.few);
-  own = is.own;
-  face = (let P : Style → Type 0 = λ z. IsFace pen.fonts.names z pen.face in subst P (sym keeps.style) is.face);
-  state = at;
-  syllables = omega (arith, is.syllables, keeps.count);
-  begun = (let P : ℤ → Type 0 = λ z. pos 0 ≤ℤ z in subst P (sym keeps.len) is.begun);
-  sung = (let P : ℤ → Type 0 = λ z. z ≤ℤ pos ((tags + 1) * max_syllable) in subst P (sym keeps.len) (omega (arith, ints, is.sung)));
-}
-
--- behind a syllable
-pub pen_sings : (script : ScriptValue) (own : List ℕ) (before : List Effect) (tags : ℕ) (pen : Pen) (kind : Sung) (len : ℤ)
-    → pos 0 ≤ℤ len → len ≤ℤ pos max_syllable → IsPen script own before tags pen
-    → IsPen script own (Plain (Karaoke kind len) ∷ before) (tags + 1) (record pen { state = record pen.state { sung = Some (syllable_behind pen.state.sung kind len) } })
-pen_sings script own before tags pen kind len some short is = record {
-  fonts = is.fonts;
-  few = omega (arith, is.few);
-  own = is.own;
-  face = is.face;
-  state = state_core script own pen.fonts.names (Plain (Karaoke kind len)) before pen.state pen.state pen.state.font (Some (syllable_behind pen.state.sung kind len)) is.state
-      (sets_nothing (Plain (Karaoke kind len)) (style_in_force script own before) pen.state (λ m. refl) (λ s. refl) (λ place. refl) (λ c place. refl) refl) refl
-      (is.state.font ∙ ap Some (sym (font_stays script own (Plain (Karaoke kind len)) before refl refl)))
-      (ap (λ sung. Some (syllable_behind sung kind len)) is.state.sung ∙ syllable_at before kind len);
-  syllables = omega (arith, is.syllables);
-  begun = omega (arith, ints, is.begun, some);
-  sung = omega (arith, ints, is.sung, short);
-}
-
 -- ---- ordinary effects
 
 pub gradual_ordinary : (weight : ℕ) (tag : GradualTag) → IsOrdinary (Gradual weight tag)
 gradual_ordinary weight tag = record { no_reset = refl; no_font = refl; no_syllable = λ earlier sung. refl; no_len = refl; no_count = refl }
+
+-- a tag that is no number, colour or alpha sets nothing
+pub idle_steps : (tag : Tag) (style : Style) (state : State) → ((property : Num) (value : Option ℤ) → tag ≡ tags.Number property value → ⊥) → ((which : ℕ) (value : Option ℕ) → tag ≡ tags.Colour which value → ⊥)
+    → ((which : ℕ) (value : Option ℕ) → tag ≡ tags.Alpha which value → ⊥) → IsStepped style (Plain tag) state state
+idle_steps (tags.Number property value) style state no_number no_colour no_alpha = absurd (no_number property value refl)
+idle_steps (tags.Colour which value) style state no_number no_colour no_alpha = absurd (no_colour which value refl)
+idle_steps (tags.Alpha which value) style state no_number no_colour no_alpha = absurd (no_alpha which value refl)
+idle_steps tag style state no_number no_colour no_alpha = sets_nothing (Plain tag) style state (λ m. refl) (λ s. refl) (λ place. refl) (λ c place. refl) refl
+
+-- ---- transforms
+
+-- a transform leaves the style in force
+gradual_style : (script : ScriptValue) (own : List ℕ) (weight : ℕ) (tags : List GradualTag) (before : List Effect) → style_in_force script own (map (Gradual weight) tags ++ before) ≡ style_in_force script own before
+gradual_style script own weight [] before = refl
+gradual_style script own weight (tag ∷ tags) before = gradual_style script own weight tags before
+
+transform_style : (script : ScriptValue) (own : List ℕ) (weight : ℕ) (tags : List GradualTag) (before : List Effect) → style_in_force script own (reverse (map (Gradual weight) tags) ++ before) ≡ style_in_force script own before
+transform_style script own weight tags before =
+    ap (λ z. style_in_force script own (z ++ before)) (sym (map-reverse (Gradual weight) tags)) ∙ gradual_style script own weight (reverse tags) before
+
+-- one more tag of a transform
+pub transform_more : (script : ScriptValue) (own : List ℕ) (names : List (List ℕ)) (style : Style) (weight : ℕ) (tags : List GradualTag) (place : ℕ) (d : GradualTag) (before : List Effect) (old new : State)
+    → place < length tags → style ≡ style_in_force script own before
+    → IsStateAt script own names (reverse (map (Gradual weight) (take place tags)) ++ before) old → IsStepped style (Gradual weight (get_or tags place d)) old new
+    → IsStateAt script own names (reverse (map (Gradual weight) (take (place + 1) tags)) ++ before) new
+transform_more script own names style weight tags place d before old new within style_is at step =
+    let tag = get_or tags place d in
+    let so_far = take place tags in
+    let P : List Effect → Type 0 = λ z. IsStateAt script own names (z ++ before) new in
+    let Q : Style → Type 0 = λ z. IsStepped z (Gradual weight tag) old new in
+    let more : reverse (map (Gradual weight) (take (place + 1) tags)) ≡ Gradual weight tag ∷ reverse (map (Gradual weight) so_far) =
+        ap reverse (map_more (Gradual weight) tags place d within) ∙ reverse-append (map (Gradual weight) so_far) (Gradual weight tag ∷ []) in
+    subst P (sym more)
+    (state_step script own names (Gradual weight tag) (reverse (map (Gradual weight) so_far) ++ before) old new at
+    (subst Q (style_is ∙ sym (transform_style script own weight so_far before)) step) (gradual_ordinary weight tag))
+
+pub transform_all : (script : ScriptValue) (own : List ℕ) (names : List (List ℕ)) (weight : ℕ) (tags : List GradualTag) (place : ℕ) (before : List Effect) (state : State) → length tags ≤ place
+    → IsStateAt script own names (reverse (map (Gradual weight) (take place tags)) ++ before) state → IsStateAt script own names (reverse (map (Gradual weight) tags) ++ before) state
+transform_all script own names weight tags place before state past at =
+    let P : List GradualTag → Type 0 = λ z. IsStateAt script own names (reverse (map (Gradual weight) z) ++ before) state in
+    subst P (take_all place tags past) at
+
+-- ---- fonts and syllables
+
+-- the state behind a font
+pub font_state : (script : ScriptValue) (own : List ℕ) (names : List (List ℕ)) (name : List ℕ) (earlier : List Effect) (old : State) (number_of_font : ℕ)
+    → IsStateAt script own names earlier old → slice_get names number_of_font ≡ Some (unwrap_or (font_named name) (style_in_force script own earlier).font)
+    → IsStateAt script own names (Plain (FontName name) ∷ earlier) (record old { font = number_of_font })
+font_state script own names name earlier old number_of_font at named =
+    state_core script own names (Plain (FontName name)) earlier old old number_of_font old.sung at
+    (sets_nothing (Plain (FontName name)) (style_in_force script own earlier) old (λ m. refl) (λ s. refl) (λ place. refl) (λ c place. refl) refl) refl
+    (named ∙ ap Some (sym (value_step font script own (Plain (FontName name)) earlier refl))) at.sung
+
+-- the state behind the tag of a syllable
+pub sung_state : (script : ScriptValue) (own : List ℕ) (names : List (List ℕ)) (kind : Sung) (len : ℤ) (earlier : List Effect) (old : State)
+    → IsStateAt script own names earlier old → IsStateAt script own names (Plain (Karaoke kind len) ∷ earlier) (record old { sung = Some (syllable_behind old.sung kind len) })
+sung_state script own names kind len earlier old at =
+    state_core script own names (Plain (Karaoke kind len)) earlier old old old.font (Some (syllable_behind old.sung kind len)) at
+    (sets_nothing (Plain (Karaoke kind len)) (style_in_force script own earlier) old (λ m. refl) (λ s. refl) (λ place. refl) (λ c place. refl) refl) refl
+    (at.font ∙ ap Some (sym (font_stays script own (Plain (Karaoke kind len)) earlier refl refl)))
+    (ap (λ sung. Some (syllable_behind sung kind len)) at.sung ∙ syllable_at earlier kind len)
