@@ -150,7 +150,7 @@ clip_more header weight tags place d before old next within so_far step =
     let tag = get_or tags place d in
     let shown = take place tags in
     let more : reverse (map (Gradual weight) (take (place + 1) tags)) ≡ Gradual weight tag ∷ reverse (map (Gradual weight) shown) =
-        ap reverse (map_more (Gradual weight) tags place d within) ∙ reverse-append (map (Gradual weight) shown) (Gradual weight tag ∷ []) in
+    ap reverse (map_more (Gradual weight) tags place d within) ∙ reverse-append (map (Gradual weight) shown) (Gradual weight tag ∷ []) in
     step
     ∙ (ap (clip_step header weight tag) so_far
     ∙ (sym (clip_gradual header weight tag (reverse (map (Gradual weight) shown) ++ before))

@@ -63,10 +63,13 @@ state_core script own names effect earlier old mid number_of_font syllable at st
   where
     style : Style
     style = style_in_force script own earlier
+
     new : State
     new = record mid { font = number_of_font; sung = syllable }
+
     number_step : (m : Measure) → number_of m mid ≡ value_at (number m) script own (effect ∷ earlier)
     number_step m = step.numbers m ∙ (ap (after (number m) style effect) (at.numbers m) ∙ sym (value_step (number m) script own effect earlier kept))
+
     numbers : (m : Measure) → number_of m new ≡ value_at (number m) script own (effect ∷ earlier)
     numbers Size = number_step Size
     numbers ScaleX = number_step ScaleX
@@ -80,8 +83,10 @@ state_core script own names effect earlier old mid number_of_font syllable at st
     numbers Edges = number_step Edges
     numbers Blur = number_step Blur
     numbers Offset = number_step Offset
+
     switch_step : (s : Switch) → switch_of s mid ≡ value_at (switch s) script own (effect ∷ earlier)
     switch_step s = step.switches s ∙ (ap (after (switch s) style effect) (at.switches s) ∙ sym (value_step (switch s) script own effect earlier kept))
+
     switches : (s : Switch) → switch_of s new ≡ value_at (switch s) script own (effect ∷ earlier)
     switches Bold = switch_step Bold
     switches Italic = switch_step Italic

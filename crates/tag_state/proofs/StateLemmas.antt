@@ -33,6 +33,7 @@ first_state script own names number_of_font named = record { font = named; numbe
   where
     first : State
     first = styled_state (style_for own script) number_of_font
+
     numbers : (m : Measure) → number_of m first ≡ value_at (number m) script own []
     numbers Size = refl
     numbers ScaleX = refl
@@ -46,6 +47,7 @@ first_state script own names number_of_font named = record { font = named; numbe
     numbers Edges = refl
     numbers Blur = refl
     numbers Offset = refl
+
     switches : (s : Switch) → switch_of s first ≡ value_at (switch s) script own []
     switches Bold = refl
     switches Italic = refl
@@ -61,6 +63,7 @@ reset_state script own names name earlier old number_of_font at named =
   where
     new : State
     new = restyled_state old (style_for (reset_name own name) script) number_of_font
+
     numbers : (m : Measure) → number_of m new ≡ value_at (number m) script own (Plain (Reset name) ∷ earlier)
     numbers Size = refl
     numbers ScaleX = refl
@@ -74,6 +77,7 @@ reset_state script own names name earlier old number_of_font at named =
     numbers Edges = refl
     numbers Blur = refl
     numbers Offset = at.numbers Offset
+
     switches : (s : Switch) → switch_of s new ≡ value_at (switch s) script own (Plain (Reset name) ∷ earlier)
     switches Bold = refl
     switches Italic = refl
@@ -168,7 +172,7 @@ transform_more script own names style weight tags place d before old new within 
     let P : List Effect → Type 0 = λ z. IsStateAt script own names (z ++ before) new in
     let Q : Style → Type 0 = λ z. IsStepped z (Gradual weight tag) old new in
     let more : reverse (map (Gradual weight) (take (place + 1) tags)) ≡ Gradual weight tag ∷ reverse (map (Gradual weight) so_far) =
-        ap reverse (map_more (Gradual weight) tags place d within) ∙ reverse-append (map (Gradual weight) so_far) (Gradual weight tag ∷ []) in
+    ap reverse (map_more (Gradual weight) tags place d within) ∙ reverse-append (map (Gradual weight) so_far) (Gradual weight tag ∷ []) in
     subst P (sym more)
     (state_step script own names (Gradual weight tag) (reverse (map (Gradual weight) so_far) ++ before) old new at
     (subst Q (style_is ∙ sym (transform_style script own weight so_far before)) step) (gradual_ordinary weight tag))

@@ -174,8 +174,10 @@ colour_written c style value weight written place colours within = by (place == 
   where
     black : Rgba
     black = record { r = 0; g = 0; b = 0; a = 0 }
+
     new : Rgba
     new = colour_after style written value weight (colour_at colours written)
+
     by : (b : Bool) → (place == written) ≡ b → byte_in c (colour_at (set colours written new) place) ≡ after (byte c place) style (colour_effect weight (written + 1) value) (byte_in c (colour_at colours place))
     by true same =
         let here : place ≡ written = grind (arith, same) in
@@ -205,6 +207,7 @@ colour_steps style which written value weight old new named within e =
   where
     after_write : State
     after_write = record old { colours = set old.colours written (colour_after style written value weight (colour_at old.colours written)) }
+
     same : (m : Measure) → number_of m after_write ≡ after (number m) style (colour_effect weight (written + 1) value) (number_of m old)
     same Size = colour_numbers_stay Size style weight (written + 1) value old.size
     same ScaleX = colour_numbers_stay ScaleX style weight (written + 1) value old.scale_x
@@ -218,6 +221,7 @@ colour_steps style which written value weight old new named within e =
     same Edges = colour_numbers_stay Edges style weight (written + 1) value old.edges
     same Blur = colour_numbers_stay Blur style weight (written + 1) value old.blur
     same Offset = colour_numbers_stay Offset style weight (written + 1) value old.offset
+
     kept : (s : Switch) → switch_of s after_write ≡ after (switch s) style (colour_effect weight (written + 1) value) (switch_of s old)
     kept Bold = colour_switches_stay Bold style weight (written + 1) value old.bold
     kept Italic = colour_switches_stay Italic style weight (written + 1) value old.italic
@@ -242,7 +246,6 @@ alpha_level_stays style (Some weight) which value old = refl
 hue_stays : (c : Channel) (styled : Rgba) (weight : Option ℕ) (which place : ℕ) (value : Option ℕ) (old : ℕ) → old ≡ after_setter moved_byte (byte_in c styled) old (colour_setter c place (alpha_effect weight which value))
 hue_stays c styled None which place value old = refl
 hue_stays c styled (Some weight) which place value old = refl
-
 
 alpha_byte : (c : Channel) (style : Style) (weight : Option ℕ) (which place : ℕ) (value : Option ℕ) (old : Rgba)
     → byte_in c (alpha_after style place which value weight old) ≡ after (byte c place) style (alpha_effect weight which value) (byte_in c old)
@@ -303,6 +306,7 @@ alpha_steps style which value weight old new e =
   where
     behind : State
     behind = record old { colours = alphas_after style which value weight old.colours }
+
     same : (m : Measure) → number_of m behind ≡ after (number m) style (alpha_effect weight which value) (number_of m old)
     same Size = alpha_numbers_stay Size style weight which value old.size
     same ScaleX = alpha_numbers_stay ScaleX style weight which value old.scale_x
@@ -316,6 +320,7 @@ alpha_steps style which value weight old new e =
     same Edges = alpha_numbers_stay Edges style weight which value old.edges
     same Blur = alpha_numbers_stay Blur style weight which value old.blur
     same Offset = alpha_numbers_stay Offset style weight which value old.offset
+
     kept : (s : Switch) → switch_of s behind ≡ after (switch s) style (alpha_effect weight which value) (switch_of s old)
     kept Bold = alpha_switches_stay Bold style weight which value old.bold
     kept Italic = alpha_switches_stay Italic style weight which value old.italic

@@ -1,4 +1,4 @@
--- Inner: what one effect does to a state, property by property.
+-- Public: what one effect does to a state, property by property.
 use Rattle.std.specs.Prelude.{◌≡◌, ℕ, ◌+◌, ◌^◌, ◌<◌, ℤ, pos, ◌+ℤ◌, ◌≤ℤ◌, Bool, if◌then◌else◌, Option, Some, None, unwrap_or}
 use Rattle.std.specs.Option.{option_map}
 use Rattle.ass_num.specs.Colours.{colour_of}

@@ -232,12 +232,7 @@ fn clip_behind(
 }
 
 /// The clip behind the last item.
-pub fn clip_of(
-    header: &Header,
-    items: Vec<Item>,
-    duration: i64,
-    elapsed: i64,
-) -> Option<ClipTag>
+pub fn clip_of(header: &Header, items: Vec<Item>, duration: i64, elapsed: i64) -> Option<ClipTag>
     requires { All IsHeldItem items.items }
     ensures { result ≡ rule.clip_at header.now (past_all duration elapsed [] items.items) }
 {

@@ -9,9 +9,9 @@ use Rattle.tag_state.proofs.choices.fade_of.Goals as goal
 pub returns-in-Some : goal.returns-in-Some
 returns-in-Some c =
     let before : filter_map (λ i. first_in (fade_said c.args.duration c.args.elapsed) i.kind) (take c.loop-item.item-index c.args.items.now) ≡ [] =
-        rw (to_z-of_z c.ranges.duration, to_z-of_z c.ranges.elapsed) at c.loop-item.invariant in
+    rw (to_z-of_z c.ranges.duration, to_z-of_z c.ranges.elapsed) at c.loop-item.invariant in
     let here : option_map (λ fade. pos fade) c.fade_said.result ≡ first_in (fade_said c.args.duration c.args.elapsed) c.item-item.result.kind =
-        rw (to_z-of_z c.ranges.duration, to_z-of_z c.ranges.elapsed) at c.fade_said.ensures in
+    rw (to_z-of_z c.ranges.duration, to_z-of_z c.ranges.elapsed) at c.fade_said.ensures in
     sym (ap (λ o. unwrap_or o (pos 0))
     (first_at (fade_said c.args.duration c.args.elapsed) c.args.items.now c.loop-item.item-index c.item-item.result (pos c.in-Some.fade) c.loop-item-test.true c.item-item.is before
     (sym here ∙ ap (option_map (λ fade. pos fade)) c.in-Some.is)))
@@ -24,5 +24,5 @@ loop-item-preserved c =
 pub returns : goal.returns
 returns c =
     let before : filter_map (λ i. first_in (fade_said c.args.duration c.args.elapsed) i.kind) (take c.loop-item.item-index c.args.items.now) ≡ [] =
-        rw (to_z-of_z c.ranges.duration, to_z-of_z c.ranges.elapsed) at c.loop-item.invariant in
+    rw (to_z-of_z c.ranges.duration, to_z-of_z c.ranges.elapsed) at c.loop-item.invariant in
     sym (ap (λ o. unwrap_or o (pos 0)) (none_in_all (fade_said c.args.duration c.args.elapsed) c.args.items.now c.loop-item.item-index c.loop-item-test.false before))

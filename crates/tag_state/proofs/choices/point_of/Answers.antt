@@ -7,9 +7,9 @@ use Rattle.tag_state.proofs.choices.point_of.Goals as goal
 pub returns-then-is_some : goal.returns-then-is_some
 returns-then-is_some c =
     let before : filter_map (λ i. first_in (point_said c.args.duration c.args.elapsed) i.kind) (take c.loop-item.item-index c.args.items.now) ≡ [] =
-        rw (to_z-of_z c.ranges.duration, to_z-of_z c.ranges.elapsed) at c.loop-item.invariant in
+    rw (to_z-of_z c.ranges.duration, to_z-of_z c.ranges.elapsed) at c.loop-item.invariant in
     let here : c.point_said-said.result ≡ first_in (point_said c.args.duration c.args.elapsed) c.item-item.result.kind =
-        rw (to_z-of_z c.ranges.duration, to_z-of_z c.ranges.elapsed) at c.point_said-said.ensures in
+    rw (to_z-of_z c.ranges.duration, to_z-of_z c.ranges.elapsed) at c.point_said-said.ensures in
     sym (found_at (point_said c.args.duration c.args.elapsed) c.args.items.now c.loop-item.item-index c.item-item.result c.point_said-said.result c.loop-item-test.true c.item-item.is before (sym here)
     (sym c.is_some.ensures ∙ c.if-is_some.true))
 
@@ -21,5 +21,5 @@ loop-item-preserved c =
 pub returns : goal.returns
 returns c =
     let before : filter_map (λ i. first_in (point_said c.args.duration c.args.elapsed) i.kind) (take c.loop-item.item-index c.args.items.now) ≡ [] =
-        rw (to_z-of_z c.ranges.duration, to_z-of_z c.ranges.elapsed) at c.loop-item.invariant in
+    rw (to_z-of_z c.ranges.duration, to_z-of_z c.ranges.elapsed) at c.loop-item.invariant in
     sym (none_in_all (point_said c.args.duration c.args.elapsed) c.args.items.now c.loop-item.item-index c.loop-item-test.false before)

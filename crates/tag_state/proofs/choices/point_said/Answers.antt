@@ -7,5 +7,5 @@ returns-in-Tag-Move c =
     let first : FitsSigned w64 c.in-Tag-Move.t1 = search rules in
     let last : FitsSigned w64 c.in-Tag-Move.t2 = search rules in
     let at : c.move_at.result ≡ move_at c.in-Tag-Move.path c.in-Tag-Move.t1 c.in-Tag-Move.t2 c.args.duration c.args.elapsed =
-        rw (to_z-of_z first, to_z-of_z last, to_z-of_z c.ranges.duration, to_z-of_z c.ranges.elapsed) at c.move_at.ensures.value in
+    rw (to_z-of_z first, to_z-of_z last, to_z-of_z c.ranges.duration, to_z-of_z c.ranges.elapsed) at c.move_at.ensures.value in
     rw at (search rules)

@@ -10,8 +10,8 @@ pub loop-item-preserved : goal.loop-item-preserved
 loop-item-preserved c = λ duration elapsed.
     wrap_more c.args.scripted duration elapsed c.args.items.now c.loop-item.item-index c.item-item.result c.loop-item.wrap c.match-wrap_said.wrap c.loop-item-test.true c.item-item.is (c.loop-item.invariant duration elapsed)
     (elim c.match-wrap_said.branch [
-      in-Some w ↦ w.wrap-is ∙ (w.wrap_by-wrap.ensures ∙ ap (λ o. wrap_step o c.args.scripted c.loop-item.wrap) (sym (sym c.wrap_said.ensures ∙ w.in-Some.is)))
-    | in_default w ↦ w.wrap-is ∙ ap (λ o. wrap_step o c.args.scripted c.loop-item.wrap) (sym (sym c.wrap_said.ensures ∙ w.in_default.is))
+      | in-Some w ↦ w.wrap-is ∙ (w.wrap_by-wrap.ensures ∙ ap (λ o. wrap_step o c.args.scripted c.loop-item.wrap) (sym (sym c.wrap_said.ensures ∙ w.in-Some.is)))
+      | in_default w ↦ w.wrap-is ∙ ap (λ o. wrap_step o c.args.scripted c.loop-item.wrap) (sym (sym c.wrap_said.ensures ∙ w.in_default.is))
     ])
 
 pub returns : goal.returns
