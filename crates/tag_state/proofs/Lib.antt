@@ -1,0 +1,4 @@
+pub mod SetterLemmas
+pub mod StepLemmas
+pub mod StateLemmas
+pub mod ChoiceLemmas

@@ -1,0 +1,7 @@
+pub mod Setters
+pub mod Properties
+pub mod Syllables
+pub mod States
+pub mod Choices
+pub mod Steps
+pub mod Laws

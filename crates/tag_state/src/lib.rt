@@ -1,0 +1,17 @@
+//! What tags make of the properties of characters and of the whole event, at an instant.
+#![tactic(auto)]
+
+mod choices;
+mod colours;
+mod laws;
+mod numbers;
+mod state;
+mod steps;
+mod syllables;
+
+pub use choices::{align_of, clip_of, fade_of, origin_of, point_of, wrap_of};
+pub use laws::looks_back;
+pub use override_tags::{EventView, Shown, ShownKind, State, Syllable};
+pub use state::{restyled, styled};
+pub use steps::{move_by, set_by, transform};
+pub use syllables::next_syllable;
