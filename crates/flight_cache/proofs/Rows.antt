@@ -1,0 +1,116 @@
+-- What calls make of a pass: pins and claims, calls in a row, and passes that are whole.
+use Rattle.std.proofs.Common.{ℕ, ◌<◌, ◌==◌, Bool, true, false, cond, List, [], ◌++◌, refl, sym, ap, ◌∙◌, subst, arith}
+use Rattle.std.specs.Cmp.{IsEquivalence}
+use Rattle.turn_cell.specs.Passes.{Follows, first_pass}
+use Rattle.turn_cell.proofs.Passes.{Follows_same, Follows_trans, IsOf-Follows, TakesTurn_itself, whole_first, whole_follows, whole_rejoined, whole_list}
+use Rattle.flight_cache.specs.Meaning.{Meaning}
+use Rattle.flight_cache.specs.Calls.{ShardPassView}
+use Rattle.flight_cache.specs.Shards.{Shards, CachePassView, at, with_at}
+use Rattle.flight_cache.specs.declared.kept.Entry.{Entry}
+use Rattle.flight_cache.specs.Laws.{HitHolds, FillHolds, UnpinGives, PinAllHolds, ClaimOpens, IsLater, CallIsLater, LaterIsLater, StaysOfCache, FirstIsWhole, StaysWhole, JoinedIsWhole, WholeKnowsAll, GivesFollow, EachIsLater, GivesItself}
+use Rattle.flight_cache.proofs.Asking.{gives-follows}
+
+module _ {K V T : Type 0} (eq : K → K → Bool) (laws : IsEquivalence eq) (meaning : Meaning K V T) where
+  pub hit_holds : HitHolds eq meaning
+  hit_holds shard pass after key g = let p = rw (laws.refl key) at (g.pins key) in omega arith
+
+  pub fill_holds : FillHolds eq meaning
+  fill_holds shard pass after key cost value g = ((let p = rw (laws.refl key) at (g.pins key) in omega arith), rw (laws.refl key) at (g.claims key))
+
+  pub unpin_gives : UnpinGives eq meaning
+  unpin_gives shard pass after key g = let p = rw (laws.refl key) at (g.pins key) in omega arith
+
+  pub pin_all_holds : PinAllHolds eq meaning
+  pin_all_holds shard pass after keys g key = let p = g.pins key in omega arith
+
+  pub claim_opens : ClaimOpens eq meaning
+  claim_opens shard pass after key g = rw (laws.refl key) at (g.claims key)
+
+module _ {K V T : Type 0} (eq : K → K → Bool) (meaning : Meaning K V T) where
+  pub gives_follow : GivesFollow eq meaning
+  gives_follow shard pass after steps g = (_, gives-follows eq meaning shard pass after steps g)
+
+  pub each_is_later : EachIsLater eq meaning
+  each_is_later shards pass after steps g = record {
+    first = gives_follow shards.first pass.first after.first (steps 0) g.first;
+    second = gives_follow shards.second pass.second after.second (steps 1) g.second;
+    third = gives_follow shards.third pass.third after.third (steps 2) g.third;
+    fourth = gives_follow shards.fourth pass.fourth after.fourth (steps 3) g.fourth;
+  }
+
+  pub gives_itself : GivesItself eq meaning
+  gives_itself shard pass after steps zeroth some g =
+      TakesTurn_itself g.waited after g.entry (g.waits.number ∙ zeroth) (subst (λ (n : ℕ). 0 < n) (sym g.waits.next) some) g.takes
+
+module _ {K T : Type 0} where
+  same-later : (p : ShardPassView K T) → (entries : List (Entry K)) × Follows p p entries
+  same-later p = ([], Follows_same p)
+
+  later-with : (pass : CachePassView K T) (n : ℕ) (own : ShardPassView K T) (entries : List (Entry K)) → Follows (at pass n) own entries → IsLater pass (with_at pass n own)
+  later-with pass n own entries f =
+      (elim (n == 0) as (λ b. Follows (cond b pass.first (cond (n == 1) pass.second (cond (n == 2) pass.third pass.fourth))) own entries
+      → IsLater pass (cond b (record pass { first = own }) (cond (n == 1) (record pass { second = own }) (cond (n == 2) (record pass { third = own }) (record pass { fourth = own }))))) [
+        | true ↦ λ f. record { first = (entries, f); second = same-later pass.second; third = same-later pass.third; fourth = same-later pass.fourth }
+        | false ↦ elim (n == 1) as (λ b. Follows (cond b pass.second (cond (n == 2) pass.third pass.fourth)) own entries
+            → IsLater pass (cond b (record pass { second = own }) (cond (n == 2) (record pass { third = own }) (record pass { fourth = own })))) [
+              | true ↦ λ f. record { first = same-later pass.first; second = (entries, f); third = same-later pass.third; fourth = same-later pass.fourth }
+              | false ↦ elim (n == 2) as (λ b. Follows (cond b pass.third pass.fourth) own entries → IsLater pass (cond b (record pass { third = own }) (record pass { fourth = own }))) [
+                | true ↦ λ f. record { first = same-later pass.first; second = same-later pass.second; third = (entries, f); fourth = same-later pass.fourth }
+                | false ↦ λ f. record { first = same-later pass.first; second = same-later pass.second; third = same-later pass.third; fourth = (entries, f) }
+              ]
+            ]
+      ]) f
+
+  pub call_is_later : CallIsLater K T
+  call_is_later pass after n entries f is = subst (λ (z : CachePassView K T). IsLater pass z) (sym is) (later-with pass n (at after n) entries f)
+
+  both-later : (p q r : ShardPassView K T) → ((xs : List (Entry K)) × Follows p q xs) → ((ys : List (Entry K)) × Follows q r ys) → (zs : List (Entry K)) × Follows p r zs
+  both-later p q r f g = (f.0 ++ g.0, Follows_trans p q r f.0 g.0 f.1 g.1)
+
+  pub later_is_later : LaterIsLater K T
+  later_is_later p q r f g = record {
+    first = both-later p.first q.first r.first f.first g.first;
+    second = both-later p.second q.second r.second f.second g.second;
+    third = both-later p.third q.third r.third f.third g.third;
+    fourth = both-later p.fourth q.fourth r.fourth f.fourth g.fourth;
+  }
+
+  pub stays_of_cache : StaysOfCache K T
+  stays_of_cache cache pass after of later = record {
+    first = IsOf-Follows cache.shards.first pass.first after.first later.first.0 of.first later.first.1;
+    second = IsOf-Follows cache.shards.second pass.second after.second later.second.0 of.second later.second.1;
+    third = IsOf-Follows cache.shards.third pass.third after.third later.third.0 of.third later.third.1;
+    fourth = IsOf-Follows cache.shards.fourth pass.fourth after.fourth later.fourth.0 of.fourth later.fourth.1;
+  }
+
+  pub first_is_whole : FirstIsWhole K T
+  first_is_whole shards = record {
+    first = whole_first {E = Entry K} shards.first (first_pass shards.first) refl;
+    second = whole_first {E = Entry K} shards.second (first_pass shards.second) refl;
+    third = whole_first {E = Entry K} shards.third (first_pass shards.third) refl;
+    fourth = whole_first {E = Entry K} shards.fourth (first_pass shards.fourth) refl;
+  }
+
+  pub stays_whole : StaysWhole K T
+  stays_whole pass after whole later = record {
+    first = whole_follows pass.first after.first later.first.0 whole.first later.first.1;
+    second = whole_follows pass.second after.second later.second.0 whole.second later.second.1;
+    third = whole_follows pass.third after.third later.third.0 whole.third later.third.1;
+    fourth = whole_follows pass.fourth after.fourth later.fourth.0 whole.fourth later.fourth.1;
+  }
+
+  pub joined_is_whole : JoinedIsWhole K T
+  joined_is_whole p a b whole f g = record {
+    first = whole_rejoined p.first a.first b.first f.first.0 g.first.0 whole.first f.first.1 g.first.1;
+    second = whole_rejoined p.second a.second b.second f.second.0 g.second.0 whole.second f.second.1 g.second.1;
+    third = whole_rejoined p.third a.third b.third f.third.0 g.third.0 whole.third f.third.1 g.third.1;
+    fourth = whole_rejoined p.fourth a.fourth b.fourth f.fourth.0 g.fourth.0 whole.fourth f.fourth.1 g.fourth.1;
+  }
+
+  pub whole_knows_all : WholeKnowsAll K T
+  whole_knows_all p whole zeroth ex = record {
+    first = whole_list p.first p.first.seen (ap (λ (s : Shards ℕ). s.first) zeroth) whole.first ex.first;
+    second = whole_list p.second p.second.seen (ap (λ (s : Shards ℕ). s.second) zeroth) whole.second ex.second;
+    third = whole_list p.third p.third.seen (ap (λ (s : Shards ℕ). s.third) zeroth) whole.third ex.third;
+    fourth = whole_list p.fourth p.fourth.seen (ap (λ (s : Shards ℕ). s.fourth) zeroth) whole.fourth ex.fourth;
+  }

@@ -1,0 +1,11 @@
+use Rattle.flight_cache.proofs.Rows.{hit_holds, claim_opens, fill_holds, unpin_gives, pin_all_holds}
+use Rattle.flight_cache.proofs.laws.calls.Goals as goal
+
+pub returns : goal.returns
+returns g c = record {
+  hit = hit_holds g.M.Key.PartialEq.eq g.met.M.Key.Eq.laws g.M.Made.meaning;
+  claim = claim_opens g.M.Key.PartialEq.eq g.met.M.Key.Eq.laws g.M.Made.meaning;
+  fill = fill_holds g.M.Key.PartialEq.eq g.met.M.Key.Eq.laws g.M.Made.meaning;
+  unpin = unpin_gives g.M.Key.PartialEq.eq g.met.M.Key.Eq.laws g.M.Made.meaning;
+  pin_all = pin_all_holds g.M.Key.PartialEq.eq g.met.M.Key.Eq.laws g.M.Made.meaning;
+}

@@ -1,0 +1,155 @@
+-- Public: what holds of every history that a shard can have, of entries that stand for one, and what calls make of a pass.
+use Rattle.std.specs.Prelude.{◌≡◌, ℕ, ◌+◌, ◌<◌, ◌≤◌, Bool, true, false, ◌⊎◌, ◌↔◌, List, [], ◌∷◌, ◌++◌, length, map, Some, All, Contains}
+use Rattle.turn_cell.specs.History.{History, IsBelow, entries_of, numbers_of}
+use Rattle.turn_cell.specs.Passes.{Follows, Extends, IsWholePass, first_pass, split_pass, new_pass, joined_pass}
+use Rattle.evict_core.specs.Machine.{Hit, Claim, Ask, PinAll, Fill, Unpin, Step, unpinned, has_idle, maker_in, pins_in, status_of}
+use Rattle.evict_core.specs.History.{replay, pins_left, held_below, has_open, times_named, is_evicted}
+use Rattle.evict_core.specs.Laws.{IsLostWithin, IsEvictedWithin}
+use Rattle.flight_cache.specs.Meaning.{Meaning}
+use Rattle.flight_cache.specs.Histories.{step_of, steps_in, IsLegalUnder, left_by, AreMade, Stands}
+use Rattle.flight_cache.specs.Calls.{ShardView, ShardPassView, Gives, own_steps}
+use Rattle.flight_cache.specs.Shards.{Shards, CacheView, CachePassView, IsCacheOf, EachGives, EachExtends, at, with_at, each, both}
+use Rattle.flight_cache.specs.declared.kept.Opening.{Opening}
+use Rattle.flight_cache.specs.declared.kept.Kept.{Kept}
+use Rattle.flight_cache.specs.declared.kept.Entry.{Entry}
+
+module _ {K V T : Type 0} (M : Type 0) (eq : K → K → Bool) (meaning : Meaning K V T) where
+  -- the entries that no pin holds cost at most the budget
+  abbrev pub StaysInBudget : Type 0
+  StaysInBudget = (opening : Opening T) (kept : Kept M K V T) (history : History (Entry K)) → Stands eq meaning opening kept history
+      → unpinned kept.entries.entries ≤ kept.entries.budget
+
+  -- where the list is longer than its limit, no entry may be evicted
+  abbrev pub StaysInLimit : Type 0
+  StaysInLimit = (opening : Opening T) (kept : Kept M K V T) (history : History (Entry K)) → Stands eq meaning opening kept history
+      → kept.entries.limit < length kept.entries.entries → has_idle kept.entries.entries ≡ false
+
+module _ {K V T : Type 0} (eq : K → K → Bool) (meaning : Meaning K V T) where
+  -- between two claims of a key stands its fail or an eviction of it
+  abbrev pub ClaimsOnce : Type 0
+  ClaimsOnce = (opening : Opening T) (history : History (Entry K)) → IsLegalUnder eq meaning opening history
+      → (before between later : History (Step K V)) (m n : ℕ) (key : K)
+      → steps_in meaning opening history ≡ before ++ (m, Ask key Claim) ∷ (between ++ (n, Ask key Claim) ∷ later)
+      → IsLostWithin eq (replay eq opening.entries opening.budget (before ++ (m, Ask key Claim) ∷ [])) between key
+
+  -- between two fills of a key stands an eviction of it
+  abbrev pub FillsOnce : Type 0
+  FillsOnce = (opening : Opening T) (history : History (Entry K)) → IsLegalUnder eq meaning opening history
+      → (before between later : History (Step K V)) (m n : ℕ) (key : K) (c d : ℕ) (v w : V)
+      → steps_in meaning opening history ≡ before ++ (m, Fill key c v) ∷ (between ++ (n, Fill key d w) ∷ later)
+      → IsEvictedWithin eq (replay eq opening.entries opening.budget (before ++ (m, Fill key c v) ∷ [])) between key
+
+  -- each ready value is that of its key
+  abbrev pub ReadyAreMade : Type 0
+  ReadyAreMade = (opening : Opening T) (history : History (Entry K)) → IsLegalUnder eq meaning opening history → AreMade eq meaning opening (left_by eq meaning opening history)
+
+  -- a number makes a key exactly where its own claim is open
+  abbrev pub FliesWhereOpen : Type 0
+  FliesWhereOpen = (opening : Opening T) (history : History (Entry K)) → IsLegalUnder eq meaning opening history
+      → (m : ℕ) (key : K) → (maker_in (status_of eq (left_by eq meaning opening history) key) ≡ Some m) ↔ (has_open eq (map (step_of meaning opening) (entries_of m history)) key ≡ true)
+
+  -- the pins of a key are those that all numbers hold
+  abbrev pub PinsAreHeld : Type 0
+  PinsAreHeld = (opening : Opening T) (history : History (Entry K)) → IsLegalUnder eq meaning opening history
+      → (n : ℕ) → IsBelow n history → (key : K) → pins_in (status_of eq (left_by eq meaning opening history) key) ≡ held_below eq (steps_in meaning opening history) n key
+
+  -- no entry evicts a key that a number holds
+  abbrev pub HeldIsKept : Type 0
+  HeldIsKept = (opening : Opening T) (history : History (Entry K)) (e : ℕ × Entry K) → IsLegalUnder eq meaning opening (history ++ e ∷ [])
+      → (key : K) → is_evicted eq (left_by eq meaning opening history) (e.0, step_of meaning opening e.1) key ≡ true
+      → (m : ℕ) → pins_left eq (map (step_of meaning opening) (entries_of m (history ++ e ∷ []))) key ≡ 0
+
+  -- the entries of the history that no pin holds cost at most the budget
+  abbrev pub HistoryInBudget : Type 0
+  HistoryInBudget = (opening : Opening T) (history : History (Entry K)) → IsLegalUnder eq meaning opening history
+      → unpinned (left_by eq meaning opening history).entries ≤ (left_by eq meaning opening history).budget
+
+  abbrev pub HistoryInLimit : Type 0
+  HistoryInLimit = (opening : Opening T) (history : History (Entry K)) → IsLegalUnder eq meaning opening history
+      → (left_by eq meaning opening history).limit < length (left_by eq meaning opening history).entries → has_idle (left_by eq meaning opening history).entries ≡ false
+
+module _ {K V T : Type 0} (eq : K → K → Bool) (meaning : Meaning K V T) where
+  -- a hit and a fill are a pin more of the key, a fill closes its claim, an unpin is a pin less, and a pin-all a pin more for each place
+  abbrev pub HitHolds : Type 0
+  HitHolds = (shard : ShardView T) (pass after : ShardPassView K T) (key : K) → Gives eq meaning shard pass after (Ask key Hit ∷ [])
+      → pins_left eq (own_steps meaning shard.tag after) key ≡ pins_left eq (own_steps meaning shard.tag pass) key + 1
+
+  abbrev pub FillHolds : Type 0
+  FillHolds = (shard : ShardView T) (pass after : ShardPassView K T) (key : K) (cost : ℕ) (value : V) → Gives eq meaning shard pass after (Fill key cost value ∷ [])
+      → (pins_left eq (own_steps meaning shard.tag after) key ≡ pins_left eq (own_steps meaning shard.tag pass) key + 1) × (has_open eq (own_steps meaning shard.tag after) key ≡ false)
+
+  abbrev pub UnpinGives : Type 0
+  UnpinGives = (shard : ShardView T) (pass after : ShardPassView K T) (key : K) → Gives eq meaning shard pass after (Unpin key ∷ [])
+      → pins_left eq (own_steps meaning shard.tag after) key + 1 ≡ pins_left eq (own_steps meaning shard.tag pass) key
+
+  abbrev pub PinAllHolds : Type 0
+  PinAllHolds = (shard : ShardView T) (pass after : ShardPassView K T) (keys : List K) → Gives eq meaning shard pass after (PinAll keys ∷ [])
+      → (key : K) → pins_left eq (own_steps meaning shard.tag after) key ≡ pins_left eq (own_steps meaning shard.tag pass) key + times_named eq key keys
+
+  -- after a claim the key is open
+  abbrev pub ClaimOpens : Type 0
+  ClaimOpens = (shard : ShardView T) (pass after : ShardPassView K T) (key : K) → Gives eq meaning shard pass after (Ask key Claim ∷ [])
+      → has_open eq (own_steps meaning shard.tag after) key ≡ true
+
+module _ {K T : Type 0} where
+  -- each shard's pass after calls that neither split nor join
+  pub record IsLater (pass after : CachePassView K T) : Type 0 where
+    pub first : (entries : List (Entry K)) × Follows pass.first after.first entries
+    pub second : (entries : List (Entry K)) × Follows pass.second after.second entries
+    pub third : (entries : List (Entry K)) × Follows pass.third after.third entries
+    pub fourth : (entries : List (Entry K)) × Follows pass.fourth after.fourth entries
+
+  -- each pass that was split off is joined again, in each shard
+  pub record IsWhole (pass : CachePassView K T) : Type 0 where
+    pub first : IsWholePass pass.first
+    pub second : IsWholePass pass.second
+    pub third : IsWholePass pass.third
+    pub fourth : IsWholePass pass.fourth
+
+  -- what a shard's pass has seen was given by the number 0 or by one of a joined pass
+  abbrev pub IsOfFamily : ShardPassView K T → Type 0
+  IsOfFamily pass = All (λ e. (e.0 ≡ 0) ⊎ Contains (numbers_of pass.past) e.0) pass.seen
+
+  pub record EachOfFamily (pass : CachePassView K T) : Type 0 where
+    pub first : IsOfFamily pass.first
+    pub second : IsOfFamily pass.second
+    pub third : IsOfFamily pass.third
+    pub fourth : IsOfFamily pass.fourth
+
+module _ (K T : Type 0) where
+  -- a call on one shard, and calls in a row
+  abbrev pub CallIsLater : Type 0
+  CallIsLater = (pass after : CachePassView K T) (n : ℕ) (entries : List (Entry K)) → Follows (at pass n) (at after n) entries → after ≡ with_at pass n (at after n) → IsLater pass after
+
+  abbrev pub LaterIsLater : Type 0
+  LaterIsLater = (p q r : CachePassView K T) → IsLater p q → IsLater q r → IsLater p r
+
+  -- a pass stays one of its cache
+  abbrev pub StaysOfCache : Type 0
+  StaysOfCache = (cache : CacheView T) (pass after : CachePassView K T) → IsCacheOf cache pass → IsLater pass after → IsCacheOf cache after
+
+  -- the first pass is whole, and is so after calls, and again once a pass that was split off is joined
+  abbrev pub FirstIsWhole : Type 0
+  FirstIsWhole = (shards : Shards (ShardView T)) → IsWhole {K = K} (each first_pass shards)
+
+  abbrev pub StaysWhole : Type 0
+  StaysWhole = (pass after : CachePassView K T) → IsWhole pass → IsLater pass after → IsWhole after
+
+  abbrev pub JoinedIsWhole : Type 0
+  JoinedIsWhole = (pass one other : CachePassView K T) → IsWhole pass → IsLater (each split_pass pass) one → IsLater (each new_pass pass) other → IsWhole (both joined_pass one other)
+
+  -- a whole pass knows that every entry that it has seen is of its own family
+  abbrev pub WholeKnowsAll : Type 0
+  WholeKnowsAll = (pass : CachePassView K T) → IsWhole pass → (each (λ p. p.number) pass ≡ record { first = 0; second = 0; third = 0; fourth = 0 }) → EachExtends pass → EachOfFamily pass
+
+module _ {K V T : Type 0} (eq : K → K → Bool) (meaning : Meaning K V T) where
+  -- what a call that gives steps is for `IsLater`
+  abbrev pub GivesFollow : Type 0
+  GivesFollow = (shard : ShardView T) (pass after : ShardPassView K T) (steps : List (Step K V)) → Gives eq meaning shard pass after steps → (entries : List (Entry K)) × Follows pass after entries
+
+  abbrev pub EachIsLater : Type 0
+  EachIsLater = (shards : Shards (ShardView T)) (pass after : CachePassView K T) (steps : ℕ → List (Step K V)) → EachGives eq meaning shards pass after steps → IsLater pass after
+
+  -- what the first pass has seen extends it after a turn
+  abbrev pub GivesItself : Type 0
+  GivesItself = (shard : ShardView T) (pass after : ShardPassView K T) (steps : List (Step K V)) → pass.number ≡ 0 → 0 < pass.next → Gives eq meaning shard pass after steps → Extends after after.seen

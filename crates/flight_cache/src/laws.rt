@@ -1,0 +1,66 @@
+//! The laws of shards and of what calls make of a pass. The functions do nothing: their contracts are the laws.
+ghost use Rattle.flight_cache.specs.Laws.{StaysInBudget, StaysInLimit, HistoryInBudget, HistoryInLimit, ClaimsOnce, FillsOnce, ReadyAreMade, FliesWhereOpen, PinsAreHeld, HeldIsKept, HitHolds, FillHolds, UnpinGives, PinAllHolds, ClaimOpens, GivesFollow, EachIsLater, GivesItself, CallIsLater, LaterIsLater, StaysOfCache, FirstIsWhole, StaysWhole, JoinedIsWhole, WholeKnowsAll};
+
+use crate::made::Made;
+
+/// The single-fill law of every history that a shard can have: a key is claimed again only after its fail or its
+/// eviction, and filled again only after its eviction.
+pub fn single_fill<M: Made>()
+    ensures claims { ClaimsOnce M.Key.eq M.meaning }
+    ensures fills { FillsOnce M.Key.eq M.meaning }
+{}
+
+/// The value law: each ready value is that of its key.
+pub fn values<M: Made>()
+    ensures { ReadyAreMade M.Key.eq M.meaning }
+{}
+
+/// The budget law: the entries that no pin holds cost at most the shard's budget, whenever the turn is home and after
+/// every history.
+pub fn budget<M: Made>()
+    ensures home { StaysInBudget M M.Key.eq M.meaning }
+    ensures history { HistoryInBudget M.Key.eq M.meaning }
+{}
+
+/// The limit law: a list that is longer than the shard's limit has no entry to evict.
+pub fn limit<M: Made>()
+    ensures home { StaysInLimit M M.Key.eq M.meaning }
+    ensures history { HistoryInLimit M.Key.eq M.meaning }
+{}
+
+/// The pin law: who makes a key has its claim open, the pins of a key are those that all numbers hold, and what is held
+/// isn't evicted.
+pub fn pins<M: Made>()
+    ensures making { FliesWhereOpen M.Key.eq M.meaning }
+    ensures counted { PinsAreHeld M.Key.eq M.meaning }
+    ensures kept { HeldIsKept M.Key.eq M.meaning }
+{}
+
+/// What a call makes of the pins and of the open claims of its pass.
+pub fn calls<M: Made>()
+    ensures hit { HitHolds M.Key.eq M.meaning }
+    ensures claim { ClaimOpens M.Key.eq M.meaning }
+    ensures fill { FillHolds M.Key.eq M.meaning }
+    ensures unpin { UnpinGives M.Key.eq M.meaning }
+    ensures pin_all { PinAllHolds M.Key.eq M.meaning }
+{}
+
+/// Calls in a row: what they leave is a later pass, which stays one of its cache.
+pub fn calls_in_a_row<M: Made>()
+    ensures gives { GivesFollow M.Key.eq M.meaning }
+    ensures each { EachIsLater M.Key.eq M.meaning }
+    ensures one { CallIsLater M.Key M.Tag }
+    ensures two { LaterIsLater M.Key M.Tag }
+    ensures cache { StaysOfCache M.Key M.Tag }
+{}
+
+/// The first pass is whole as long as each pass that was split off it is joined again, and a whole pass knows that every
+/// entry which it has seen was given by itself or by one of those. What it has seen extends it after a join and after
+/// a turn.
+pub fn whole_passes<M: Made>()
+    ensures first { FirstIsWhole M.Key M.Tag }
+    ensures later { StaysWhole M.Key M.Tag }
+    ensures joined { JoinedIsWhole M.Key M.Tag }
+    ensures itself { GivesItself M.Key.eq M.meaning }
+    ensures family { WholeKnowsAll M.Key M.Tag }
+{}

@@ -1,0 +1,19 @@
+//! A cache that threads share: one of them makes a value, and the others wait for it.
+//!
+//! Each key is in one of four shards, each behind a turn of its own. What threads do to a shard is one history, which
+//! is legal for the cache machine of `evict_core`. docs/SINGLE_FLIGHT.md explains the words.
+#![tactic(auto)]
+
+mod cache;
+mod kept;
+pub mod laws;
+mod made;
+mod pass;
+mod pins;
+mod shard;
+
+pub use cache::Cache;
+pub use kept::{Entry, Opening};
+pub use made::{Made, ShardSum};
+pub use pass::CachePass;
+pub use pins::{Asked, Pin, Ticket};

@@ -1,0 +1,348 @@
+//! One shard of a cache.
+ghost use Rattle.std.specs.Prelude.{◌≡◌, ◌+◌, ◌<◌, ◌≤◌, ◌∷◌, [], true, IfOk, IfErr, OnOk};
+ghost use Rattle.std.specs.Arc.{arc_value};
+ghost use Rattle.turn_cell.specs.History.{with_entry};
+ghost use Rattle.turn_cell.specs.Passes.{IsOf, IsTurnAfterTries, Extends, first_pass, split_pass, new_pass, joined_pass};
+ghost use Rattle.evict_core.specs.Machine.{Fill, Fail, Unpin, Limits, max_entries, max_budget, max_cost};
+ghost use Rattle.evict_core.specs.History.{has_open, pins_left};
+ghost use Rattle.evict_core.specs.Asked.{totals_of};
+ghost use Rattle.flight_cache.specs.Histories.{value_under, is_in, left_by, IsLegalUnder, Stands};
+ghost use Rattle.flight_cache.specs.Calls.{Gives, own_steps};
+ghost use Rattle.flight_cache.specs.Answers.{IsAsked};
+
+use crate::kept::{Entry, Kept, Opening};
+use crate::made::Made;
+use crate::pins::{Asked, Pin, Ticket};
+use ass_num::{Mem, OutOfMemory};
+use crossbeam_utils::Backoff;
+use evict_core::{Ask, Entries, Totals};
+use std::alloc::Global;
+use std::marker::Model;
+use std::snapshot::Snapshot;
+use std::sync::{Arc, Wait};
+use turn_cell::{Pass, Turn, TurnCell};
+
+/// The right to take the turn of a shard. All that it has seen is legal.
+pub struct ShardPass<M: Made> {
+    pub(crate) pass: Pass<Kept<M>>,
+}
+
+impl<M: Made> Model for ShardPass<M> {
+    ghost use Rattle.flight_cache.specs.Calls.{ShardPassView, HasLegal};
+
+    ghost Value = { ShardPassView M.Key M.Tag };
+
+    ghost view = { λ p. p.pass };
+
+    ghost invariant = { λ p. HasLegal M.Key.eq M.meaning p.pass.tag p.pass.seen };
+}
+
+/// The entries of a shard's keys, behind a turn.
+pub struct Shard<M: Made> {
+    pub(crate) cell: TurnCell<Kept<M>>,
+    pub(crate) number: u32,
+}
+
+impl<M: Made> Model for Shard<M> {
+    ghost use Rattle.std.specs.Prelude.{◌≡◌};
+    ghost use Rattle.flight_cache.specs.Calls.{ShardView};
+
+    ghost Value = { ShardView M.Tag };
+
+    ghost view = { λ s. s.cell };
+
+    ghost invariant = { λ s. s.cell.tag.shard ≡ s.number };
+}
+
+impl<M: Made> Shard<M> {
+    /// No entries, and the first pass.
+    pub fn open(
+        alloc: Global,
+        tag: &M::Tag,
+        number: u32,
+        entries: u32,
+        budget: u64,
+    ) -> Mem<(Shard<M>, ShardPass<M>)>
+        requires least { 1 ≤ entries }
+        requires most { entries ≤ max_entries }
+        requires budget { budget ≤ max_budget }
+        ensures tag { IfOk result (λ r. r.0.tag.tag.value ≡ tag.now) }
+        ensures number { IfOk result (λ r. r.0.tag.shard ≡ number) }
+        ensures limits { IfOk result (λ r. (r.0.tag.entries ≡ entries) × (r.0.tag.budget ≡ budget)) }
+        ensures pass { IfOk result (λ r. r.1 ≡ first_pass r.0) }
+    {
+        let kept = Kept {
+            entries: Entries::open(alloc, entries, budget)?,
+        };
+        let opening = Opening {
+            tag: Snapshot::of(tag),
+            shard: number,
+            entries,
+            budget,
+        };
+        match TurnCell::open(alloc, opening, kept) {
+            Ok((cell, pass)) => Ok((Shard { cell, number }, ShardPass { pass })),
+            Err(_) => Err(OutOfMemory),
+        }
+    }
+
+    /// Asks for the key, and waits while its value is being made.
+    pub fn ask<R: Wait>(
+        &self,
+        rt: &R,
+        alloc: Global,
+        pass: ShardPass<M>,
+        key: &M::Key,
+    ) -> (ShardPass<M>, Asked<M>)
+        requires cell { IsOf self.now pass }
+        requires shard { is_in M.meaning self.now.tag key.now ≡ true }
+        ensures { IsAsked M.Key.eq M.meaning self.now pass key.now result.0 result.1 }
+    {
+        let Ok(copy) = M::copy(alloc, key) else {
+            return (pass, Asked::OutOfMemory);
+        };
+        let backoff = Backoff::new();
+        let mut waiting = pass;
+        let mut own = copy;
+        for _ in rt.forever() {
+            let (pass, answer) = self.ask_once(rt, alloc, waiting, own);
+            match answer {
+                Ok(asked) => return (pass, asked),
+                Err(key) => {
+                    waiting = pass;
+                    own = key;
+                }
+            }
+            backoff.snooze();
+        }
+        unreachable!()
+    }
+
+    // One ask. The key comes back where its value is being made.
+    fn ask_once<R: Wait>(
+        &self,
+        rt: &R,
+        alloc: Global,
+        pass: ShardPass<M>,
+        key: M::Key,
+    ) -> (ShardPass<M>, Result<Asked<M>, M::Key>)
+        requires cell { IsOf self.now pass }
+        requires shard { is_in M.meaning self.now.tag key ≡ true }
+        ensures asked { IfOk result.1 (IsAsked M.Key.eq M.meaning self.now pass key result.0) }
+        ensures flying { IfErr result.1 (λ k. (k ≡ key) × Gives M.Key.eq M.meaning self.now pass result.0 []) }
+    {
+        let mut turn = self.take(rt, pass);
+        let shard = self.number;
+        match turn.value_mut().entries.ask(&key) {
+            Ask::Hit(value) => {
+                let pass = self.give(turn, Some(Entry::Hit(Snapshot::of(&key))));
+                (pass, Ok(Asked::Hit(Pin { key, shard, value })))
+            }
+            Ask::Claimable => {
+                let Ok(copy) = M::copy(alloc, &key) else {
+                    let pass = self.give(turn, None);
+                    return (pass, Ok(Asked::OutOfMemory));
+                };
+                let number = turn.number();
+                let claimed = turn.value_mut().entries.claim(copy, number);
+                if claimed.is_err() {
+                    let pass = self.give(turn, None);
+                    return (pass, Ok(Asked::OutOfMemory));
+                }
+                let pass = self.give(turn, Some(Entry::Claim(Snapshot::of(&key))));
+                (pass, Ok(Asked::Claim(Ticket { key, shard })))
+            }
+            Ask::Crowded => {
+                let pass = self.give(turn, Some(Entry::Crowded(Snapshot::of(&key))));
+                (pass, Ok(Asked::Crowded))
+            }
+            Ask::Flying(_) => {
+                let pass = self.give(turn, None);
+                (pass, Err(key))
+            }
+            Ask::OutOfMemory => {
+                let pass = self.give(turn, None);
+                (pass, Ok(Asked::OutOfMemory))
+            }
+        }
+    }
+
+    /// The value of the ticket's key is made: one `Arc` of it is kept, and the other goes into a pin.
+    pub fn fill<R: Wait>(
+        &self,
+        rt: &R,
+        pass: ShardPass<M>,
+        ticket: Ticket<M>,
+        kept: Arc<M::Value>,
+        pinned: Arc<M::Value>,
+    ) -> (ShardPass<M>, Pin<M>)
+        requires cell { IsOf self.now pass }
+        requires shard { is_in M.meaning self.now.tag ticket.key ≡ true }
+        requires open { has_open M.Key.eq (own_steps M.meaning self.now.tag pass) ticket.key ≡ true }
+        requires kept { arc_value kept ≡ value_under M.meaning self.now.tag ticket.key }
+        requires pinned { arc_value pinned ≡ value_under M.meaning self.now.tag ticket.key }
+        requires cost { M.meaning.cost (arc_value kept) ≤ max_cost }
+        ensures pass { Gives M.Key.eq M.meaning self.now pass result.0 (Fill ticket.key (M.meaning.cost (arc_value kept)) (arc_value kept) ∷ []) }
+        ensures pin { (result.1.key ≡ ticket.key) × (result.1.value ≡ arc_value pinned) }
+    {
+        let Ticket { key, shard } = ticket;
+        let cost = M::cost(&kept);
+        let mut turn = self.take(rt, pass);
+        turn.value_mut().entries.fill(&key, kept, cost);
+        let pass = self.give(turn, Some(Entry::Fill(Snapshot::of(&key))));
+        (
+            pass,
+            Pin {
+                key,
+                shard,
+                value: pinned,
+            },
+        )
+    }
+
+    /// The value of the ticket's key isn't made.
+    pub fn fail<R: Wait>(&self, rt: &R, pass: ShardPass<M>, ticket: Ticket<M>) -> ShardPass<M>
+        requires cell { IsOf self.now pass }
+        requires shard { is_in M.meaning self.now.tag ticket.key ≡ true }
+        requires open { has_open M.Key.eq (own_steps M.meaning self.now.tag pass) ticket.key ≡ true }
+        ensures { Gives M.Key.eq M.meaning self.now pass result (Fail ticket.key ∷ []) }
+    {
+        let Ticket { key, shard: _ } = ticket;
+        let mut turn = self.take(rt, pass);
+        turn.value_mut().entries.fail(&key);
+        self.give(turn, Some(Entry::Fail(Snapshot::of(&key))))
+    }
+
+    /// Gives a pin back.
+    pub fn unpin<R: Wait>(&self, rt: &R, pass: ShardPass<M>, pin: Pin<M>) -> ShardPass<M>
+        requires cell { IsOf self.now pass }
+        requires shard { is_in M.meaning self.now.tag pin.key ≡ true }
+        requires held { 1 ≤ pins_left M.Key.eq (own_steps M.meaning self.now.tag pass) pin.key }
+        ensures { Gives M.Key.eq M.meaning self.now pass result (Unpin pin.key ∷ []) }
+    {
+        let Pin {
+            key,
+            shard: _,
+            value: _,
+        } = pin;
+        let mut turn = self.take(rt, pass);
+        turn.value_mut().entries.unpin(&key);
+        self.give(turn, Some(Entry::Unpin(Snapshot::of(&key))))
+    }
+
+    /// New limits.
+    pub fn set_limits<R: Wait>(
+        &self,
+        rt: &R,
+        pass: ShardPass<M>,
+        entries: u32,
+        budget: u64,
+    ) -> ShardPass<M>
+        requires cell { IsOf self.now pass }
+        requires least { 1 ≤ entries }
+        requires most { entries ≤ max_entries }
+        requires budget { budget ≤ max_budget }
+        ensures { Gives M.Key.eq M.meaning self.now pass result (Limits entries budget ∷ []) }
+    {
+        let mut turn = self.take(rt, pass);
+        turn.value_mut().entries.set_limits(entries, budget);
+        self.give(turn, Some(Entry::Limits(entries, budget)))
+    }
+
+    /// The counts and sums, as the history that the pass has seen leaves them.
+    pub fn totals<R: Wait>(&self, rt: &R, pass: ShardPass<M>) -> (ShardPass<M>, Totals)
+        requires { IsOf self.now pass }
+        ensures pass { Gives M.Key.eq M.meaning self.now pass result.0 [] }
+        ensures totals { result.1 ≡ totals_of (left_by M.Key.eq M.meaning self.now.tag result.0.seen) }
+        ensures budget { result.1.unpinned ≤ result.1.budget }
+    {
+        let turn = self.take(rt, pass);
+        let totals = turn.value().entries.totals();
+        (self.give(turn, None), totals)
+    }
+
+    /// A new pass. The first one comes back alone where no number is left.
+    pub fn split(&self, pass: ShardPass<M>) -> Result<(ShardPass<M>, ShardPass<M>), ShardPass<M>>
+        requires cell { IsOf self.now pass }
+        requires first { pass.number ≡ 0 }
+        ensures passes { IfOk result (λ r. (r.0 ≡ split_pass pass) × (r.1 ≡ new_pass pass)) }
+        ensures room { OnOk result (pass.next < u32.MAX) }
+        ensures refused { IfErr result (λ p. (pass.next ≡ u32.MAX) × (p ≡ pass)) }
+        ensures empty { IfOk result (λ r. own_steps M.meaning self.now.tag r.1 ≡ []) }
+    {
+        let ShardPass { pass } = pass;
+        match self.cell.split(pass) {
+            Ok((first, new)) => Ok((ShardPass { pass: first }, ShardPass { pass: new })),
+            Err(pass) => Err(ShardPass { pass }),
+        }
+    }
+
+    // A new pass, where a number is left.
+    pub(crate) fn split_with_room(&self, pass: ShardPass<M>) -> (ShardPass<M>, ShardPass<M>)
+        requires cell { IsOf self.now pass }
+        requires first { pass.number ≡ 0 }
+        requires room { pass.next < u32.MAX }
+        ensures passes { (result.0 ≡ split_pass pass) × (result.1 ≡ new_pass pass) }
+        ensures empty { own_steps M.meaning self.now.tag result.1 ≡ [] }
+    {
+        match self.split(pass) {
+            Ok(two) => two,
+            Err(_back) => unreachable!(),
+        }
+    }
+
+    /// Spends the other pass.
+    pub fn join(&self, pass: ShardPass<M>, other: ShardPass<M>) -> ShardPass<M>
+        requires cells { IsOf self.now pass × IsOf self.now other }
+        requires first { pass.number ≡ 0 }
+        ensures pass { result ≡ joined_pass pass other }
+        ensures own { own_steps M.meaning self.now.tag result ≡ own_steps M.meaning self.now.tag pass }
+        ensures itself { Extends result result.seen }
+    {
+        let ShardPass { pass } = pass;
+        let ShardPass { pass: other } = other;
+        ShardPass {
+            pass: self.cell.join(pass, other),
+        }
+    }
+
+    /// Spends the last pass.
+    pub fn close(self, pass: ShardPass<M>)
+        requires cell { IsOf self pass }
+        requires first { pass.number ≡ 0 }
+    {
+        let Shard { cell, number: _ } = self;
+        let ShardPass { pass } = pass;
+        cell.close(pass);
+    }
+
+    /// What the pass has seen is legal.
+    pub fn legal(&self, pass: &ShardPass<M>)
+        requires { IsOf self.now pass.now }
+        ensures { IsLegalUnder M.Key.eq M.meaning self.now.tag pass.now.seen }
+    {
+        let _ = &pass.pass;
+    }
+
+    // The turn of the shard.
+    fn take<R: Wait>(&self, rt: &R, pass: ShardPass<M>) -> Turn<Kept<M>>
+        requires { IsOf self.now pass }
+        ensures turn { IsTurnAfterTries (Stands M.Key.eq M.meaning) self.now.tag pass result }
+        ensures legal { IsLegalUnder M.Key.eq M.meaning self.now.tag pass.seen }
+    {
+        let ShardPass { pass } = pass;
+        self.cell.take(rt, pass)
+    }
+
+    // The turn comes home, with this entry.
+    pub(crate) fn give(&self, turn: Turn<Kept<M>>, entry: Option<Entry<M::Key>>) -> ShardPass<M>
+        requires cell { IsOf self.now turn.pass }
+        requires value { Stands M.Key.eq M.meaning self.now.tag turn.value (with_entry turn.list turn.pass.number entry) }
+        ensures pass { result ≡ record turn.pass { seen = with_entry turn.list turn.pass.number entry } }
+        ensures legal { IsLegalUnder M.Key.eq M.meaning self.now.tag result.seen }
+    {
+        ShardPass {
+            pass: self.cell.give(turn, entry),
+        }
+    }
+}
