@@ -2,7 +2,6 @@
 
 use crate::top;
 use ass_io::{FailingShelf, FailingSink, MemoryShelf, MemorySink, OpenGate, Rt};
-use play_words::one_job;
 use std::alloc::{AllocError, Global};
 use std::process::Abort;
 use std::test::Fail;
@@ -231,7 +230,7 @@ fn runs(
 #[test]
 fn runs_end_as_they_should(rt: HostRuntime) -> Result<(), Fail> {
     let alloc = rt.alloc();
-    one_job();
+
     for (line, head, count) in PICTURES {
         let wanted = Wanted {
             exit: 0,

@@ -1,1 +1,7 @@
+pub mod Limits
+pub mod Arguments
+pub mod Commands
+pub mod Grammar
+pub mod Values
+pub mod Asked
 pub mod Words

@@ -1,20 +1,20 @@
-//! A job, up to what is to be reported of it.
+//! A task, up to what is to be reported of it.
 
 ghost use Rattle.std.specs.Prelude.{◌≡◌, ◌≢◌, Ok, string_bytes};
 ghost use Rattle.ass_script.specs.Ranges.{IsScript};
 ghost use Rattle.frame_play.specs.Outcomes.{IsOrFault, SuitsTask, IsStatusReadCounted, IsImageShown, IsFramesPutCount, IsWriteCounted, status_if_put, text_to_report};
 ghost use Rattle.frame_play.specs.Outputs.{output_of, task_status};
 ghost use Rattle.frame_play.specs.Runs.{IsWorked, sink_change};
-ghost use Rattle.play_words.specs.Words.{IsTask};
+ghost use Rattle.frame_play.specs.Works.{IsTask};
 ghost use Rattle.run_status.specs.declared.status.Status.TheVariants.{Done as done_status};
 
 use crate::outcome::Outcome;
 use crate::picture::draw;
+use crate::work::{Task, Work};
 use ass_io::{Shelf, Sink};
 use ass_num::OutOfMemory;
 use check_report::check_report;
 use input_files::{Inputs, read_inputs};
-use play_words::{Job, Task};
 use run_status::Status;
 use std::alloc::Global;
 
@@ -56,16 +56,21 @@ fn do_task<F: Sink>(alloc: Global, task: &Task, inputs: &Inputs, frames: &mut F)
     }
 }
 
-/// Does a job. Nothing goes to the frames sink before all files were read.
-pub fn do_job<S: Shelf, F: Sink>(alloc: Global, job: &Job, shelf: &mut S, frames: &mut F) -> Outcome
-    requires { IsTask job.now.task }
-    ensures run { IsWorked (S.told shelf.old) job.now (sink_change (F.held frames.old) (F.held frames.new) (F.faults frames.old) (F.faults frames.new)) result }
+/// Does the work of a job. Nothing goes to the frames sink before all files were read.
+pub fn do_work<S: Shelf, F: Sink>(
+    alloc: Global,
+    work: &Work,
+    shelf: &mut S,
+    frames: &mut F,
+) -> Outcome
+    requires { IsTask work.now.task }
+    ensures run { IsWorked (S.told shelf.old) work.now (sink_change (F.held frames.old) (F.held frames.new) (F.faults frames.old) (F.faults frames.new)) result }
     ensures read { IsStatusReadCounted (status_if_put result) (S.faults shelf.old) (S.faults shelf.new) }
-    ensures once { IsFramesPutCount job.now.task (status_if_put result) (F.puts frames.old) (F.puts frames.new) }
+    ensures once { IsFramesPutCount work.now.task (status_if_put result) (F.puts frames.old) (F.puts frames.new) }
     ensures write { IsWriteCounted (status_if_put result) (F.faults frames.old) (F.faults frames.new) }
 {
-    match read_inputs(alloc, shelf, &job.script, job.fonts.as_slice()) {
-        Ok(inputs) => do_task(alloc, &job.task, &inputs, frames),
+    match read_inputs(alloc, shelf, &work.script, work.fonts.as_slice()) {
+        Ok(inputs) => do_task(alloc, &work.task, &inputs, frames),
         Err(status) => Outcome::Ended(status),
     }
 }

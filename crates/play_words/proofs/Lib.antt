@@ -1,3 +1,0 @@
-pub mod NumberLemmas
-pub mod WordsLemmas
-pub mod CheckLemmas
