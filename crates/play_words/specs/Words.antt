@@ -1,5 +1,5 @@
 -- Public: the job that the words of a run ask for, or why they are refused (docs/PROGRAM.md).
-use Rattle.std.specs.Prelude.{◌≡◌, ℕ, List, map, Option, Some, None, Result, Ok, Err, find, if◌then◌else◌, string_bytes}
+use Rattle.std.specs.Prelude.{◌≡◌, ◌↔◌, ℕ, false, List, map, Option, Some, None, Result, Ok, Err, find, if◌then◌else◌, string_bytes}
 use Rattle.std.specs.Global.{Global}
 use Rattle.std.specs.Str.{bytes_eq}
 use Rattle.std.specs.declared.string.String.{String}
@@ -41,3 +41,7 @@ abbrev pub IsReading : Result Job WordsFault → Result Job WordsRefusal → Typ
 IsReading reading (Ok job) = reading ≡ Ok job
 IsReading reading (Err (BadWords fault)) = reading ≡ Err fault
 IsReading reading (Err OutOfMemory) = Unit {0}
+
+-- Words are refused as `Usage` exactly where `clap` refuses them.
+abbrev pub UsageIsOfGrammar : Type 0
+UsageIsOfGrammar = (words : List (List ℕ)) → (job_of words ≡ Err Usage) ↔ (is_taken words ≡ false)

@@ -16,12 +16,10 @@ fn argument<'a>(alloc: Global, argument: Argument) -> Arg<'a>
 {
     let name = argument.name();
     let taken = Arg::new(alloc, name).required(argument.is_required());
-    if argument == Argument::Fonts {
-        taken.num_args(1..)
-    } else if argument.is_positional() {
-        taken
-    } else {
-        taken.long(name)
+    match argument {
+        Argument::Fonts => taken.num_args(1..),
+        _ if argument.is_positional() => taken,
+        _ => taken.long(name),
     }
 }
 

@@ -6,8 +6,10 @@ mod asked;
 mod command;
 mod grammar;
 mod job;
+#[cfg(test)]
+mod tests;
 mod values;
 mod words;
 
 pub use job::{Job, Mode, PlayJob, WordsFault, WordsRefusal};
-pub use words::read_words;
+pub use words::{read_words, usage_is_of_grammar};

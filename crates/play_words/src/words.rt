@@ -1,10 +1,10 @@
 //! The words of a run.
 
-ghost use Rattle.std.specs.Prelude.{◌≡◌, map};
-ghost use Rattle.std.specs.Option.{option_map};
+ghost use Rattle.std.specs.Prelude.{◌≡◌, IfOk, map};
 ghost use Rattle.clap.specs.Words.{found_of, rows_of, subcommand_rows_of};
 ghost use Rattle.play_words.specs.Asked.{command_reading};
-ghost use Rattle.play_words.specs.Words.{IsReading, job_in, job_of, texts};
+ghost use Rattle.play_words.specs.Jobs.{IsJob};
+ghost use Rattle.play_words.specs.Words.{IsReading, UsageIsOfGrammar, job_in, job_of, texts};
 
 use crate::asked::{first_bad, job_for};
 use crate::command::{Command, command_named};
@@ -42,11 +42,19 @@ fn read_matches(alloc: Global, matches: &ArgMatches) -> Result<Job, WordsRefusal
 
 /// The job that the words ask for.
 pub fn read_words(alloc: Global, words: &[String]) -> Result<Job, WordsRefusal>
-    ensures { IsReading (job_of (texts words.now)) result }
+    ensures read { IsReading (job_of (texts words.now)) result }
+    ensures within { IfOk result IsJob }
 {
     match whole(alloc)?.try_get_matches_from(words) {
         Ok(matches) => read_matches(alloc, &matches),
-        Err(error) if error.kind() == ErrorKind::OutOfMemory => Err(WordsRefusal::OutOfMemory),
-        Err(_) => Err(WordsRefusal::BadWords(WordsFault::Usage)),
+        Err(error) => match error.kind() {
+            ErrorKind::OutOfMemory => Err(WordsRefusal::OutOfMemory),
+            _ => Err(WordsRefusal::BadWords(WordsFault::Usage)),
+        },
     }
 }
+
+/// Words are refused as `Usage` exactly where `clap` refuses them: no job and no value is refused so.
+pub fn usage_is_of_grammar()
+    ensures { UsageIsOfGrammar }
+{}

@@ -1,0 +1,4 @@
+pub mod ValueLemmas
+pub mod GrammarLemmas
+pub mod AskedLemmas
+pub mod WordsLemmas
