@@ -59,7 +59,7 @@ pub frame_size : (text : List ℕ) → IfSome (size_in text) IsFrame
 frame_size text = cases (list_any is_x text)
   where
     cases : (b : Bool) → IfSome (cond b (sides_in (before_first is_x text) (after_first is_x text)) None) IsFrame
-    cases true = sides (number_within 1 max_frame_side (before_first is_x text)) (number_within 1 max_frame_side (after_first is_x text)) (within 1 max_frame_side _) (within 1 max_frame_side _)
+    cases true = sides (number_within 1 max_frame_side (before_first is_x text)) (number_within 1 max_frame_side (after_first is_x text)) (within 1 max_frame_side (before_first is_x text)) (within 1 max_frame_side (after_first is_x text))
     cases false = tt
 
 frame_at : (rows : List Row) → IsFrame (size_at rows)

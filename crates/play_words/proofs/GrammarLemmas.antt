@@ -1,7 +1,10 @@
 -- The grammar as it is built, argument by argument and command by command.
-use Rattle.std.proofs.Common.{◌≡◌, Bool, true, false, List, [], fold, Option, None, refl}
+use Rattle.std.proofs.Common.{◌≡◌, ℕ, ◌+◌, ◌<◌, true, List, [], length, take, fold, None, refl, sym, ap₂, ◌∙◌}
+use Rattle.std.specs.List.{slice_index_or}
+use Rattle.std.proofs.lemmas.List.Sums.{fold_more}
 use Rattle.clap.specs.Faults.{is_simple_and_free}
-use Rattle.clap.specs.Simple.{App, is_simple, new_app, with_rule, with_subcommand}
+use Rattle.clap.specs.Simple.{App, Shape, is_simple, new_app, with_rule, with_subcommand}
+use Rattle.clap.specs.Walk.{Rule}
 use Rattle.clap.proofs.OnLiterals.{clap_on_literals}
 use Rattle.play_words.specs.Commands.{arguments_of, command_name, commands}
 use Rattle.play_words.specs.Grammar.{argument_rule, command_shape, range_of, words_app}
@@ -26,6 +29,16 @@ with_command app command = with_subcommand app (command_shape command)
 -- no command so far
 abbrev pub bare : App
 bare = record { top = record words_app.top { is_leaf = true }; subs = [] }
+
+-- one more argument of a list
+pub argument_more : (items : List Argument) (i : ℕ) (d : Argument) (start old new : App) (rule : Rule) → i < length items → rule ≡ argument_rule (slice_index_or items i d) →
+    old ≡ fold with_argument start (take i items) → new ≡ with_rule old rule → new ≡ fold with_argument start (take (i + 1) items)
+argument_more items i d start old new rule lt is so_far more = more ∙ ap₂ with_rule so_far is ∙ sym (fold_more with_argument start items i d lt)
+
+-- one more command of a list
+pub command_more : (items : List Command) (i : ℕ) (d : Command) (start old new : App) (shape : Shape) → i < length items → shape ≡ command_shape (slice_index_or items i d) →
+    old ≡ fold with_command start (take i items) → new ≡ with_subcommand old shape → new ≡ fold with_command start (take (i + 1) items)
+command_more items i d start old new shape lt is so_far more = more ∙ ap₂ with_subcommand so_far is ∙ sym (fold_more with_command start items i d lt)
 
 -- a command with all its arguments
 pub built_command : (command : Command) → (fold with_argument (new_app (command_name command)) (arguments_of command)).top ≡ command_shape command

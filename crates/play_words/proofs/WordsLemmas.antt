@@ -1,12 +1,12 @@
 -- From the matches that `clap` gives to the reading of the words.
-use Rattle.std.proofs.Common.{◌≡◌, ◌≢◌, ◌↔◌, ℕ, ◌∙◌, Bool, true, false, cond, ◌&&◌, List, [], ◌∷◌, Option, Some, None, is_some, Result, Ok, Err, ap, refl, sym, inl, inr, subst}
+use Rattle.std.proofs.Common.{◌≡◌, ◌≢◌, ◌↔◌, ℕ, ◌∙◌, Bool, true, false, cond, ◌&&◌, List, [], ◌∷◌, Option, Some, None, is_some, Result, Ok, Err, ap, refl, sym, inl, inr, subst, arith, ne_eqb, eqb-true}
 use Rattle.std.specs.Prelude.{IfSome, Box, find, option_and_then, option_map}
 use Rattle.std.specs.Box.{box_value}
 use Rattle.std.specs.List.{list_all}
-use Rattle.clap.specs.Faults.{check_fault, entered_fault, built_fault, defaults_fault, fault_of, settle_fault, walk_fault}
+use Rattle.clap.specs.Faults.{check_fault, entered_fault, built_fault, defaults_fault, fault_of, is_simple_and_free, settle_fault, walk_fault}
 use Rattle.clap.specs.Kinds.{HasKind, Kinds, or_else}
 use Rattle.clap.specs.Matches.{found_of, subcommand_name_of}
-use Rattle.clap.specs.Simple.{App, Shape, argument_words, built, entered, label_of, names_of, rows_at, subcommand_of, subcommand_rows, subcommand_rows_of}
+use Rattle.clap.specs.Simple.{App, HasMatchesOf, Shape, is_simple, argument_words, built, entered, label_of, names_of, rows_at, subcommand_of, subcommand_rows, subcommand_rows_of}
 use Rattle.clap.specs.Values.{kind_of}
 use Rattle.clap.specs.Walk.{Row, answers_to, finished, is_empty, nothing_held, rows_of, settled, stop_after, walk, walk_from}
 use Rattle.clap.specs.declared.error.Error.{Error}
@@ -22,13 +22,14 @@ use Rattle.play_words.specs.declared.command.Command.{Command}
 use Rattle.play_words.specs.declared.job.Job.{Job}
 use Rattle.play_words.specs.declared.job.WordsFault.{WordsFault}
 use Rattle.play_words.specs.declared.job.WordsFault.TheVariants.{Usage}
+use Rattle.play_words.proofs.GrammarLemmas.{simple, simple_and_free}
 use Rattle.play_words.proofs.ValueLemmas.{both}
 
 -- Kinds of an error that isn't want of memory are some.
 pub some_kind : (kinds : Kinds) (e : Error) → (kind_of e ≡ kind.OutOfMemory → ⊥) → HasKind kinds e → is_empty kinds ≡ false
 some_kind kinds e other (inl memory) = absurd (other memory)
 some_kind [] e other (inr among) = absurd among
-some_kind (k ∷ ks) e other (inr among) = refl
+some_kind (k ∷ ks) e other (inr among) = ne_eqb _ _ (λ none. omega (arith, none))
 
 module _ {Z : Type 0} where
   named : (box : Option (Box SubCommand Z)) (name : List ℕ) (rows : List Row) →
@@ -113,7 +114,7 @@ taken_enters words e =
 
 none_is_empty : (kinds : Kinds) → is_empty kinds ≡ true → kinds ≡ []
 none_is_empty [] e = refl
-none_is_empty (k ∷ ks) e = cc
+none_is_empty (k ∷ ks) e = absurd (omega (arith, eqb-true _ _ e))
 
 pub usage : UsageIsOfGrammar
 usage words = cases (is_taken words) refl
@@ -121,3 +122,21 @@ usage words = cases (is_taken words) refl
     cases : (b : Bool) → is_taken words ≡ b → (cond b (job_in (subcommand_of words_app words)) (Err Usage) ≡ Err Usage) ↔ (b ≡ false)
     cases true taken = (λ e. absurd (entered_known (stop_after (built words_app).top.rules (names_of (built words_app)) (argument_words words_app words)) (taken_enters words (none_is_empty _ taken)) e), λ e. cc)
     cases false taken = (λ e. refl, λ e. refl)
+
+-- ---- what is read
+
+-- what was found is that of the words
+pub read_ok : (app : App) (words : List (List ℕ)) (m : ArgMatches) → app ≡ words_app → (is_simple_and_free app ≡ true → fault_of app words ≡ []) → HasMatchesOf app words m →
+    job_of words ≡ job_in (subcommand_rows_of m)
+read_ok app words m same faultless matches =
+    let none : fault_of words_app words ≡ [] = subst (λ a. fault_of a words ≡ []) same (faultless (ap is_simple_and_free same ∙ simple_and_free)) in
+    let taken : is_taken words ≡ true = ap is_empty none in
+    let sub : subcommand_rows_of m ≡ subcommand_of words_app words = (matches (ap is_simple same ∙ simple)).1 ∙ ap (λ a. subcommand_of a words) same in
+    ap (λ b. cond b (job_in (subcommand_of words_app words)) (Err Usage)) taken ∙ ap job_in (sym sub)
+
+-- words that are refused aren't of the grammar
+pub read_err : (app : App) (words : List (List ℕ)) (e : Error) → app ≡ words_app → (is_simple_and_free app ≡ true → HasKind (fault_of app words) e) → (kind_of e ≡ kind.OutOfMemory → ⊥) →
+    job_of words ≡ Err Usage
+read_err app words e same fails other =
+    let fault : HasKind (fault_of words_app words) e = subst (λ a. HasKind (fault_of a words) e) same (fails (ap is_simple_and_free same ∙ simple_and_free)) in
+    ap (λ b. cond b (job_in (subcommand_of words_app words)) (Err Usage)) (some_kind (fault_of words_app words) e other fault)

@@ -77,7 +77,7 @@ pub enum Argument {
 
 impl Argument {
     /// Its name: an option's without the two dashes.
-    pub fn name(self) -> &'static str
+    pub fn name<'a>(self) -> &'a str
         ensures { result.now ≡ argument_name self }
     {
         match self {

@@ -1,8 +1,8 @@
 //! What a command is asked for, by what was found for its arguments.
 
-ghost use Rattle.std.specs.Prelude.{◌≡◌, ◌≤◌, ◌^◌, ◌<◌, IfOk, pos, option_map};
-ghost use Rattle.clap.specs.Words.{found_of, rows_of};
-ghost use Rattle.play_words.specs.Arguments.{most_of};
+ghost use Rattle.std.specs.Prelude.{◌≡◌, ◌≤◌, ◌^◌, ◌<◌, IfOk, map, pos, option_map};
+ghost use Rattle.clap.specs.Words.{all_of, found_of, rows_of};
+ghost use Rattle.play_words.specs.Arguments.{argument_name, most_of};
 ghost use Rattle.play_words.specs.Asked.{fits, first_bad, fonts_at, job_for, mode_at, number_at, play_of, script_at, size_at, text_at};
 
 use crate::argument::{Argument, Kind};
@@ -119,17 +119,32 @@ fn script_at(alloc: Global, found: &ArgMatches) -> Mem<Text>
     }
 }
 
+/// A copy of texts.
+fn copied(alloc: Global, texts: &[&str]) -> Mem<Items<Text>>
+    ensures { IfOk result (λ copy. copy ≡ map (λ text. text.now) texts.now) }
+{
+    let mut copy = Items::new(alloc);
+    for text in texts {
+        copy.push(Text::copy(alloc, text)?)?;
+    }
+    Ok(copy)
+}
+
+/// The words that were found for the fonts.
+fn fonts_found<'f, 'a>(found: &'f ArgMatches<'a>) -> Option<&'f [&'a str]>
+    ensures { option_map (λ texts. map (λ text. text.now) texts.now) result ≡ all_of (argument_name Argument.Fonts) (rows_of (found_of found.now)) }
+{
+    found.get_raw(Argument::Fonts.name())
+}
+
 /// The names of the fonts, in order.
 fn fonts_at(alloc: Global, found: &ArgMatches) -> Mem<Items<Text>>
     ensures { IfOk result (λ names. names ≡ fonts_at (rows_of (found_of found.now))) }
 {
-    let mut names = Items::new(alloc);
-    if let Some(texts) = found.get_raw(Argument::Fonts.name()) {
-        for text in texts {
-            names.push(Text::copy(alloc, text)?)?;
-        }
+    match fonts_found(found) {
+        Some(texts) => copied(alloc, texts),
+        None => Ok(Items::new(alloc)),
     }
-    Ok(names)
 }
 
 /// What a `play` is asked for.

@@ -17,8 +17,7 @@ pub enum Command {
     Write,
 }
 
-/// All commands.
-pub static COMMANDS: [Command; 6] = [
+static COMMANDS: [Command; 6] = [
     Command::Check,
     Command::Frame,
     Command::Play,
@@ -71,7 +70,7 @@ static WRITE: [Argument; 3] = [Argument::Later, Argument::Earlier, Argument::Scr
 
 impl Command {
     /// The word that names it.
-    pub fn name(self) -> &'static str
+    pub fn name<'a>(self) -> &'a str
         ensures { result.now ≡ command_name self }
     {
         match self {
@@ -99,13 +98,20 @@ impl Command {
     }
 }
 
+/// All commands.
+pub fn commands() -> &'static [Command]
+    ensures { result.now ≡ commands }
+{
+    COMMANDS.as_slice()
+}
+
 /// The command that a word names.
 pub fn command_named(name: &str) -> Option<Command>
     ensures { result ≡ find (λ command. bytes_eq (command_name command) name.now) commands }
 {
-    for command in COMMANDS {
+    for command in commands() {
         if command.name() == name {
-            return Some(command);
+            return Some(*command);
         }
     }
     None

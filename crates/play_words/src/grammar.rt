@@ -1,11 +1,12 @@
 //! The grammar of the words, as `clap` takes it.
 
 ghost use Rattle.std.specs.Prelude.{◌≡◌, [], IfOk, false};
-ghost use Rattle.clap.specs.Words.{app_of, fields_of, rule_of};
+ghost use Rattle.clap.specs.Words.{app_of, rule_of};
+ghost use Rattle.clap.specs.declared.builder.command.Command.TheViews.{out-Command};
 ghost use Rattle.play_words.specs.Grammar.{argument_rule, command_shape, words_app};
 
 use crate::argument::Argument;
-use crate::command::{COMMANDS, Command};
+use crate::command::{Command, commands};
 use clap::Arg;
 use std::alloc::{AllocError, Global};
 
@@ -14,7 +15,7 @@ fn argument<'a>(alloc: Global, argument: Argument) -> Arg<'a>
     ensures rule { rule_of result ≡ argument_rule argument }
     ensures local { result.global ≡ false }
 {
-    let name = argument.name();
+    let name: &'a str = argument.name();
     let taken = Arg::new(alloc, name).required(argument.is_required());
     match argument {
         Argument::Fonts => taken.num_args(1..),
@@ -26,7 +27,7 @@ fn argument<'a>(alloc: Global, argument: Argument) -> Arg<'a>
 /// A command with its arguments.
 fn subcommand<'a>(alloc: Global, command: Command) -> Result<clap::Command<'a>, AllocError>
     ensures shape { IfOk result (λ c. (app_of c).top ≡ command_shape command) }
-    ensures local { IfOk result (λ c. (fields_of c).has_globals ≡ false) }
+    ensures local { IfOk result (λ c. (out-Command c).has_globals ≡ false) }
 {
     let mut built = clap::Command::new(alloc, command.name());
     for taken in command.arguments() {
@@ -45,8 +46,8 @@ pub fn whole<'a>(alloc: Global) -> Result<clap::Command<'a>, AllocError>
         .disable_help_flag(true)
         .disable_help_subcommand(true)
         .disable_version_flag(true);
-    for command in COMMANDS {
-        built = built.subcommand(subcommand(alloc, command)?)?;
+    for command in commands() {
+        built = built.subcommand(subcommand(alloc, *command)?)?;
     }
     Ok(built)
 }

@@ -1,6 +1,8 @@
 //! What the texts of values say.
 
 ghost use Rattle.std.specs.Prelude.{◌≡◌, ◌<◌, ◌^◌, IfSome};
+ghost use Rattle.std.specs.Char.{is_ascii_digit};
+ghost use Rattle.std.specs.List.{list_all};
 ghost use Rattle.play_words.specs.Values.{is_number, is_of_kind, mode_in, number_in, number_within, size_in};
 
 use crate::argument::{Kind, MAX_FRAME_SIDE};
@@ -10,13 +12,18 @@ use ass_num::Size;
 /// The most digits of a number.
 const MAX_DIGITS: usize = 13;
 
+/// Whether all bytes are decimal digits.
+fn are_digits(text: &str) -> bool
+    ensures { result ≡ list_all is_ascii_digit text.now }
+{
+    text.as_bytes().iter().all(|byte| byte.is_ascii_digit())
+}
+
 /// Whether a text is from one to thirteen decimal digits.
 fn is_number(text: &str) -> bool
     ensures { result ≡ is_number text.now }
 {
-    !text.is_empty()
-        && text.len() <= MAX_DIGITS
-        && text.as_bytes().iter().all(|byte| byte.is_ascii_digit())
+    0 < text.len() && text.len() <= MAX_DIGITS && are_digits(text)
 }
 
 /// The number that a text is.

@@ -7,5 +7,5 @@ use Rattle.play_words.specs.Commands.{arguments_of}
 use Rattle.play_words.proofs.asked.first_bad.Given as goal
 
 abbrev pub invariant-loop-argument : goal.invariant-loop-argument
-invariant-loop-argument l = (l.argument-items ≡ arguments_of l.command)
-    × (find (λ argument. not (fits (rows_of (found_of l.found)) argument)) (drop l.argument-index l.argument-items) ≡ find (λ argument. not (fits (rows_of (found_of l.found)) argument)) l.argument-items)
+invariant-loop-argument l = (l.argument-items ≡ arguments_of l.fn.command)
+    × (find (λ argument. not (fits (rows_of (found_of l.fn.found)) argument)) (drop l.argument-index l.argument-items) ≡ find (λ argument. not (fits (rows_of (found_of l.fn.found)) argument)) l.argument-items)

@@ -6,6 +6,6 @@ use Rattle.play_words.proofs.GrammarLemmas.{with_argument}
 use Rattle.play_words.proofs.grammar.subcommand.Given as goal
 
 abbrev pub invariant-loop-taken : goal.invariant-loop-taken
-invariant-loop-taken l = (l.taken-items ≡ arguments_of l.command)
-    × (app_of l.built ≡ fold with_argument (new_app (command_name l.command)) (take l.taken-index l.taken-items))
+invariant-loop-taken l = (l.taken-items ≡ arguments_of l.fn.command)
+    × (app_of l.built ≡ fold with_argument (new_app (command_name l.fn.command)) (take l.taken-index l.taken-items))
     × ((out-Command l.built).has_globals ≡ false)
