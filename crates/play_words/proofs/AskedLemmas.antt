@@ -1,10 +1,9 @@
 -- The numbers of jobs are within their limits.
-use Rattle.std.proofs.Common.{◌≡◌, ◌≢◌, ℕ, ◌≤◌, ◌&&◌, Bool, true, false, cond, List, Option, Some, None, Result, Ok, Err, IfOk, nat_le, refl, subst, arith, leb-true}
+use Rattle.std.proofs.Common.{◌≡◌, ℕ, ◌≤◌, ◌&&◌, Bool, true, false, cond, List, Option, Some, None, Result, Ok, Err, IfOk, nat_le, refl, subst, arith, leb-true}
 use Rattle.std.specs.Prelude.{IfSome, option_and_then, option_map, pos, unwrap_or}
 use Rattle.std.specs.List.{after_first, before_first, list_any}
 use Rattle.std.proofs.lemmas.Int.{ints}
 use Rattle.ass_num.specs.Limits.{max_frame_side, max_instant}
-use Rattle.ass_num.specs.declared.size.Size.{Size}
 use Rattle.clap.specs.Walk.{Row}
 use Rattle.clap.specs.Simple.{subcommand_of}
 use Rattle.play_words.specs.Limits.{max_ahead, max_bands, max_batch, max_budget, max_events, max_seed, max_times, max_workers, usual_batch, usual_budget}

@@ -1,9 +1,9 @@
 -- From the matches that `clap` gives to the reading of the words.
-use Rattle.std.proofs.Common.{◌≡◌, ◌≢◌, ◌↔◌, ℕ, ◌∙◌, Bool, true, false, cond, ◌&&◌, List, [], ◌∷◌, Option, Some, None, is_some, Result, Ok, Err, ap, refl, sym, inl, inr, subst, arith, ne_eqb, eqb-true}
-use Rattle.std.specs.Prelude.{IfSome, Box, find, option_and_then, option_map}
+use Rattle.std.proofs.Common.{◌≡◌, ◌↔◌, ℕ, ◌∙◌, Bool, true, false, cond, List, [], ◌∷◌, Option, Some, None, is_some, Result, Err, ap, refl, sym, inl, inr, subst, arith, ne_eqb, eqb-true}
+use Rattle.std.specs.Prelude.{IfSome, Box, find, option_map}
 use Rattle.std.specs.Box.{box_value}
 use Rattle.std.specs.List.{list_all}
-use Rattle.clap.specs.Faults.{check_fault, entered_fault, built_fault, defaults_fault, fault_of, is_simple_and_free, settle_fault, walk_fault}
+use Rattle.clap.specs.Faults.{check_fault, entered_fault, defaults_fault, fault_of, is_simple_and_free, settle_fault, walk_fault}
 use Rattle.clap.specs.Kinds.{HasKind, Kinds, or_else}
 use Rattle.clap.specs.Matches.{found_of, subcommand_name_of}
 use Rattle.clap.specs.Simple.{App, HasMatchesOf, Shape, is_simple, argument_words, built, entered, label_of, names_of, rows_at, subcommand_of, subcommand_rows, subcommand_rows_of}

@@ -1,4 +1,4 @@
-use Rattle.std.proofs.Common.{◌≡◌, ◌∙◌, fold, length, ◌≤◌, ◌<◌, ap, arith, rules}
+use Rattle.std.proofs.Common.{◌∙◌, fold, length, ◌≤◌, ◌<◌, ap, arith, rules}
 use Rattle.std.proofs.lemmas.List.{take_all}
 use Rattle.clap.specs.Simple.{App, app_of, new_app}
 use Rattle.clap.specs.Walk.{rule_of}
@@ -12,11 +12,10 @@ loop-taken-preserved c =
     let inv = c.loop-taken.invariant in
     let items = c.arguments-taken-items.result.now in
     let start = new_app (command_name c.args.command) in
-    let within : c.loop-taken.taken-index < length items = omega arith in
-    (
+    let within : c.loop-taken.taken-index < length items = omega arith in (
       inv.0,
       argument_more items c.loop-taken.taken-index At start (app_of c.loop-taken.built) (app_of c.in_ok-built.built) (rule_of c.argument.result) within c.argument.ensures.rule
-      inv.1 (c.in_ok-built.ensures.shape c.argument.ensures.local),
+          inv.1 (c.in_ok-built.ensures.shape c.argument.ensures.local),
       search rules,
     )
 
