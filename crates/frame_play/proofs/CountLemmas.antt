@@ -1,7 +1,7 @@
 -- How often the sinks were asked, from an outcome to the end of a run.
 use Rattle.std.proofs.Common.{◌≡◌, inl, inr, ℕ, sym, subst, arith}
-use Rattle.play_words.specs.declared.job.Task.{Task}
-use Rattle.play_words.specs.declared.job.Task.TheVariants.{Check, Frame}
+use Rattle.frame_play.specs.declared.work.Task.{Task}
+use Rattle.frame_play.specs.declared.work.Task.TheVariants.{Check, Frame}
 use Rattle.run_status.specs.declared.status.Status.{Status}
 use Rattle.run_status.specs.declared.status.Status.TheVariants as status
 use Rattle.run_status.specs.declared.status.Which.TheVariants.{Frames, Report}
@@ -30,6 +30,7 @@ shown_may task (status.WriteFault Report) before now own h = same_may task befor
 shown_may task (status.TooLarge what limit) before now own h = same_may task before now h
 shown_may task status.OutOfMemory before now own h = h
 shown_may task status.NotBuilt before now own h = same_may task before now h
+shown_may task (status.BadWords why) before now own h = same_may task before now h
 
 -- The frames sink isn't asked again at the end.
 pub shown_once_after : (task : Task) (outcome : Outcome) (answer : Status) (before now : ℕ) → SuitsTask task outcome → IsEnded outcome answer →
@@ -64,6 +65,7 @@ ended_put task (status.WriteFault which) answer before now own e h = put_by task
 ended_put task (status.TooLarge what limit) answer before now own e h = put_by task (status.TooLarge what limit) answer before now (λ p. p) (λ p. p) e h
 ended_put task status.OutOfMemory answer before now own e h = put_by task status.OutOfMemory answer before now (λ p. p) (λ p. p) e h
 ended_put task status.NotBuilt answer before now own e h = put_by task status.NotBuilt answer before now (λ p. p) (λ p. p) e h
+ended_put task (status.BadWords why) answer before now own e h = put_by task (status.BadWords why) answer before now (λ p. p) (λ p. p) e h
 
 -- What is reported is put once.
 pub reported_once_after : (task : Task) (outcome : Outcome) (answer : Status) (before now : ℕ) → SuitsTask task outcome → IsEnded outcome answer →

@@ -9,9 +9,9 @@ use Rattle.input_files.specs.Files.{Asks, AsksFont, AsksScript, IsAnswered}
 use Rattle.input_files.specs.Inputs.{AreRead}
 use Rattle.input_files.specs.Laws.{FilesDecide, IsReadDecided}
 use Rattle.input_files.specs.declared.inputs.Inputs.{Inputs}
-use Rattle.play_words.specs.declared.job.Job.{Job}
-use Rattle.play_words.specs.declared.job.Task.{Task}
-use Rattle.play_words.specs.declared.job.Task.TheVariants.{Check, Frame}
+use Rattle.frame_play.specs.declared.work.Work.{Work}
+use Rattle.frame_play.specs.declared.work.Task.{Task}
+use Rattle.frame_play.specs.declared.work.Task.TheVariants.{Check, Frame}
 use Rattle.run_status.specs.declared.status.Status.{Status}
 use Rattle.run_status.specs.declared.status.Status.TheVariants as status
 use Rattle.run_status.specs.declared.status.What.TheVariants.{Fonts}
@@ -60,6 +60,7 @@ shown_none (status.WriteFault Report) held = keeps held
 shown_none (status.TooLarge what limit) held = keeps held
 shown_none status.OutOfMemory held = front_by_all held held [] (appends_none held)
 shown_none status.NotBuilt held = keeps held
+shown_none (status.BadWords why) held = keeps held
 
 shown_front : (answer : Status) (old new : Option (List ℕ)) (image : List ℕ) → IsImageShown answer old new image → AppendsFront old new image
 shown_front status.Done old new image h = front_by_all old new image h
@@ -72,6 +73,7 @@ shown_front (status.WriteFault Report) old new image h = front_by_none old new i
 shown_front (status.TooLarge what limit) old new image h = front_by_none old new image h
 shown_front status.OutOfMemory old new image h = h
 shown_front status.NotBuilt old new image h = front_by_none old new image h
+shown_front (status.BadWords why) old new image h = front_by_none old new image h
 
 -- ---- refusals by the files
 
@@ -80,6 +82,7 @@ abbrev IsRefusal : Status → Type 0
 IsRefusal status.Done = ⊥
 IsRefusal (status.WriteFault which) = ⊥
 IsRefusal status.NotBuilt = ⊥
+IsRefusal (status.BadWords why) = ⊥
 IsRefusal _ = Unit {0}
 
 answered_kind : {Value : Type 0} (asks : Asks Value) (told : Told) (name : List ℕ) (answer : Status) → IsAnswered asks told name (Err answer) → IsRefusal answer
@@ -92,6 +95,7 @@ answered_kind asks told name (status.WriteFault which) h = h
 answered_kind asks told name (status.TooLarge what limit) h = tt
 answered_kind asks told name status.OutOfMemory h = tt
 answered_kind asks told name status.NotBuilt h = h
+answered_kind asks told name (status.BadWords why) h = h
 
 read_kind : (told : List ℕ → Told) (script : List ℕ) (fonts : List (List ℕ)) (answer : Status) → AreRead told script fonts (Err answer) → IsRefusal answer
 read_kind told script fonts answer (inl (few, inl h)) = answered_kind (AsksScript script) (told script) script answer h
@@ -116,29 +120,30 @@ own_refusal (Frame at size) (status.TooLarge what limit) h = tt
 own_refusal (Frame at size) status.OutOfMemory h = tt
 own_refusal task (status.WriteFault which) h = absurd h
 own_refusal task status.NotBuilt h = absurd h
+own_refusal task (status.BadWords why) h = absurd h
 
 -- A job whose files are refused.
-pub refused_worked : (told : List ℕ → Told) (job : Job) (answer : Status) (held : Option (List ℕ)) (faults : ℕ) →
-    AreRead told job.script job.fonts (Err answer) → IsWorked told job (sink_change held held faults faults) (Ended answer)
-refused_worked told job answer held faults read = record {
+pub refused_worked : (told : List ℕ → Told) (work : Work) (answer : Status) (held : Option (List ℕ)) (faults : ℕ) →
+    AreRead told work.script work.fonts (Err answer) → IsWorked told work (sink_change held held faults faults) (Ended answer)
+refused_worked told work answer held faults read = record {
   reading = Err answer;
   read = read;
   answered = inl (inl refl);
   shown = shown_none answer held;
   text = λ done. refl;
-  own = own_refusal job.task answer (read_kind told job.script job.fonts answer read);
+  own = own_refusal work.task answer (read_kind told work.script work.fonts answer read);
 }
 
 -- A job for which memory was wanting before its files were read.
-pub memory_worked : (told : List ℕ → Told) (job : Job) (held : Option (List ℕ)) (faults : ℕ) → IsWorked told job (sink_change held held faults faults) out_of_memory
-memory_worked told job held faults = elim (cases_lt 64 (length job.fonts)) [
+pub memory_worked : (told : List ℕ → Told) (work : Work) (held : Option (List ℕ)) (faults : ℕ) → IsWorked told work (sink_change held held faults faults) out_of_memory
+memory_worked told work held faults = elim (cases_lt 64 (length work.fonts)) [
   | inl many ↦ record {
     reading = Err (status.TooLarge Fonts 64);
     read = inr (many, refl);
     answered = inl (inr refl);
     shown = shown_none status.OutOfMemory held;
     text = λ done. refl;
-    own = own_refusal job.task status.OutOfMemory tt;
+    own = own_refusal work.task status.OutOfMemory tt;
   }
   | inr few ↦ record {
     reading = Err status.OutOfMemory;
@@ -146,7 +151,7 @@ memory_worked told job held faults = elim (cases_lt 64 (length job.fonts)) [
     answered = inl (inl refl);
     shown = shown_none status.OutOfMemory held;
     text = λ done. refl;
-    own = own_refusal job.task status.OutOfMemory tt;
+    own = own_refusal work.task status.OutOfMemory tt;
   }
 ]
 
@@ -163,6 +168,7 @@ ended (status.WriteFault which) answer h = h
 ended (status.TooLarge what limit) answer h = h
 ended status.OutOfMemory answer h = h
 ended status.NotBuilt answer h = h
+ended (status.BadWords why) answer h = h
 
 answered_after : (task : Task) (wanted : Status) (outcome : Outcome) (answer : Status) → SuitsTask task outcome →
     IsOrFault task wanted (status_if_put outcome) → IsEnded outcome answer → IsOrFault task wanted answer
@@ -203,6 +209,7 @@ reported_same (status.WriteFault Report) old new before now text other d f h = s
 reported_same (status.TooLarge what limit) old new before now text other d f h = h
 reported_same status.OutOfMemory old new before now text other d f h = h
 reported_same status.NotBuilt old new before now text other d f h = h
+reported_same (status.BadWords why) old new before now text other d f h = h
 
 done_before : (task : Task) (outcome : Outcome) (answer : Status) → SuitsTask task outcome → IsEnded outcome answer → answer ≡ status.Done → status_if_put outcome ≡ status.Done
 done_before task (Ended before) answer own e done = elim (ended before answer e) [
@@ -219,18 +226,18 @@ found_before task (Ended before) answer own e fault = elim (ended before answer 
 found_before task (Found text) answer own e fault = refl
 
 -- A job and what is reported of it are a run.
-pub run_after : (told : List ℕ → Told) (job : Job) (frames report : SinkChange) (outcome : Outcome) (answer : Status) →
-    IsWorked told job frames outcome → IsEnded outcome answer →
+pub run_after : (told : List ℕ → Told) (work : Work) (frames report : SinkChange) (outcome : Outcome) (answer : Status) →
+    IsWorked told work frames outcome → IsEnded outcome answer →
     IsReported answer report.held_before report.held_now report.faults_before report.faults_now (text_to_report outcome) →
-    IsJobRun told job frames report answer
-run_after told job frames report outcome answer worked ended reported = record {
+    IsJobRun told work frames report answer
+run_after told work frames report outcome answer worked ended reported = record {
   reading = worked.reading;
   read = worked.read;
-  answered = answered_after job.task _ outcome answer worked.own worked.answered ended;
-  shown = shown_after job.task worked.reading outcome answer _ _ worked.own ended worked.shown;
+  answered = answered_after work.task _ outcome answer worked.own worked.answered ended;
+  shown = shown_after work.task worked.reading outcome answer _ _ worked.own ended worked.shown;
   reported = reported_same answer _ _ _ _ _ _
-      (λ done. worked.text (done_before job.task outcome answer worked.own ended done))
-      (λ fault. worked.text (found_before job.task outcome answer worked.own ended fault)) reported;
+      (λ done. worked.text (done_before work.task outcome answer worked.own ended done))
+      (λ fault. worked.text (found_before work.task outcome answer worked.own ended fault)) reported;
 }
 
 -- ---- the counts
@@ -245,6 +252,7 @@ read_rises (status.WriteFault which) before now h = omega (arith, h)
 read_rises (status.TooLarge what limit) before now h = omega (arith, h)
 read_rises status.OutOfMemory before now h = h
 read_rises status.NotBuilt before now h = omega (arith, h)
+read_rises (status.BadWords why) before now h = omega (arith, h)
 
 pub read_after : (outcome : Outcome) (answer : Status) (before now : ℕ) → IsEnded outcome answer → IsStatusReadCounted (status_if_put outcome) before now → IsStatusReadCounted answer before now
 read_after (Ended s) answer before now e h = elim (ended s answer e) [
@@ -280,6 +288,7 @@ written_rises (status.WriteFault Report) before now h = omega (arith, h)
 written_rises (status.TooLarge what limit) before now h = omega (arith, h)
 written_rises status.OutOfMemory before now h = h
 written_rises status.NotBuilt before now h = omega (arith, h)
+written_rises (status.BadWords why) before now h = omega (arith, h)
 
 pub written_after : (outcome : Outcome) (answer : Status) (before now : ℕ) → IsEnded outcome answer → IsWriteCounted (status_if_put outcome) before now → IsWriteCounted answer before now
 written_after (Ended s) answer before now e h = elim (ended s answer e) [
@@ -303,6 +312,7 @@ once_of task (status.TooLarge what limit) n h = refl
 once_of Check status.OutOfMemory n h = refl
 once_of (Frame at size) status.OutOfMemory n h = (omega arith, omega arith)
 once_of task status.NotBuilt n h = absurd h
+once_of task (status.BadWords why) n h = absurd h
 
 written_of : (answer : Status) (n : ℕ) → IsRefusal answer → IsWriteCounted answer n n
 written_of status.Done n h = absurd h
@@ -314,12 +324,13 @@ written_of (status.WriteFault which) n h = absurd h
 written_of (status.TooLarge what limit) n h = refl
 written_of status.OutOfMemory n h = omega arith
 written_of status.NotBuilt n h = absurd h
+written_of (status.BadWords why) n h = absurd h
 
-pub refused_once : (told : List ℕ → Told) (job : Job) (answer : Status) (n : ℕ) → AreRead told job.script job.fonts (Err answer) → IsFramesPutCount job.task answer n n
-refused_once told job answer n read = once_of job.task answer n (read_kind told job.script job.fonts answer read)
+pub refused_once : (told : List ℕ → Told) (work : Work) (answer : Status) (n : ℕ) → AreRead told work.script work.fonts (Err answer) → IsFramesPutCount work.task answer n n
+refused_once told work answer n read = once_of work.task answer n (read_kind told work.script work.fonts answer read)
 
-pub refused_written : (told : List ℕ → Told) (job : Job) (answer : Status) (n : ℕ) → AreRead told job.script job.fonts (Err answer) → IsWriteCounted answer n n
-refused_written told job answer n read = written_of answer n (read_kind told job.script job.fonts answer read)
+pub refused_written : (told : List ℕ → Told) (work : Work) (answer : Status) (n : ℕ) → AreRead told work.script work.fonts (Err answer) → IsWriteCounted answer n n
+refused_written told work answer n read = written_of answer n (read_kind told work.script work.fonts answer read)
 
 -- ---- what the files decide
 
@@ -337,6 +348,7 @@ fault_or_decided (Err (status.WriteFault which)) = inl tt
 fault_or_decided (Err (status.TooLarge what limit)) = inl tt
 fault_or_decided (Err status.OutOfMemory) = inr (inr refl)
 fault_or_decided (Err status.NotBuilt) = inl tt
+fault_or_decided (Err (status.BadWords why)) = inl tt
 
 -- The task's sink fails only where its count rises.
 sink_rose : (task : Task) (answer : Status) (frames report : SinkChange) (text : List ℕ) → answer ≡ status.WriteFault (sink_of task) →
@@ -362,15 +374,15 @@ wanting task answer (inl (inr memory)) = memory
 wanting task answer (inr (done, fault)) = absurd cc
 
 -- Files that are told decide a run without a fault.
-pub decides : FilesDecide → (told : List ℕ → Told) (job : Job) (frames report : SinkChange) (before now : ℕ) (answer : Status) →
-    IsJobRun told job frames report answer → IsStatusReadCounted answer before now → IsWriteCounted answer frames.faults_before frames.faults_now →
-    (Rose before now → ⊥) → (Rose frames.faults_before frames.faults_now → ⊥) → (Rose report.faults_before report.faults_now → ⊥) → Decides told job answer
-decides law told job frames report before now answer run counted written stays shows reports = λ reading known read decided.
+pub decides : FilesDecide → (told : List ℕ → Told) (work : Work) (frames report : SinkChange) (before now : ℕ) (answer : Status) →
+    IsJobRun told work frames report answer → IsStatusReadCounted answer before now → IsWriteCounted answer frames.faults_before frames.faults_now →
+    (Rose before now → ⊥) → (Rose frames.faults_before frames.faults_now → ⊥) → (Rose report.faults_before report.faults_now → ⊥) → Decides told work answer
+decides law told work frames report before now answer run counted written stays shows reports = λ reading known read decided.
     elim (fault_or_decided run.reading) [
       | inl found ↦
-          let same = law told job.script job.fonts run.reading reading known found decided run.read read in
-          let fails : answer ≡ status.WriteFault (sink_of job.task) → ⊥ = λ fault. elim (sink_rose job.task answer frames report _ fault written run.reported) [ inl rose ↦ shows rose | inr rose ↦ reports rose ] in
-          unfailed job.task (status_asked job.task reading) answer fails (subst (λ r. IsOrFault job.task (status_asked job.task r) answer) same run.answered)
-      | inr (inl (name, fault)) ↦ inr (unread job.task name answer before now stays counted (subst (λ r. IsOrFault job.task (status_asked job.task r) answer) fault run.answered))
-      | inr (inr memory) ↦ inr (wanting job.task answer (subst (λ r. IsOrFault job.task (status_asked job.task r) answer) memory run.answered))
+          let same = law told work.script work.fonts run.reading reading known found decided run.read read in
+          let fails : answer ≡ status.WriteFault (sink_of work.task) → ⊥ = λ fault. elim (sink_rose work.task answer frames report _ fault written run.reported) [ inl rose ↦ shows rose | inr rose ↦ reports rose ] in
+          unfailed work.task (status_asked work.task reading) answer fails (subst (λ r. IsOrFault work.task (status_asked work.task r) answer) same run.answered)
+      | inr (inl (name, fault)) ↦ inr (unread work.task name answer before now stays counted (subst (λ r. IsOrFault work.task (status_asked work.task r) answer) fault run.answered))
+      | inr (inr memory) ↦ inr (wanting work.task answer (subst (λ r. IsOrFault work.task (status_asked work.task r) answer) memory run.answered))
     ]

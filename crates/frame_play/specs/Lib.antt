@@ -1,3 +1,4 @@
+pub mod Works
 pub mod Outcomes
 pub mod Outputs
 pub mod Runs

@@ -4,8 +4,8 @@ use Rattle.std.specs.Io.KnownBytes.{Appends, Keeps}
 use Rattle.ass_num.specs.Causes.{Rose}
 use Rattle.ass_io.specs.Counts.{IsOneMore}
 use Rattle.ass_io.specs.Written.{AppendsFront}
-use Rattle.play_words.specs.declared.job.Task.{Task}
-use Rattle.play_words.specs.declared.job.Task.TheVariants.{Check, Frame}
+use Rattle.frame_play.specs.declared.work.Task.{Task}
+use Rattle.frame_play.specs.declared.work.Task.TheVariants.{Check, Frame}
 use Rattle.run_status.specs.Statuses.{status_line}
 use Rattle.run_status.specs.declared.status.Status.{Status}
 use Rattle.run_status.specs.declared.status.Status.TheVariants.{Done, NotBuilt, ReadFault, WriteFault, OutOfMemory}
@@ -80,9 +80,6 @@ abbrev pub IsReportPutCount : Task → Status → ℕ → ℕ → Type 0
 IsReportPutCount task Done before now = IsTextPutCount task before now
 IsReportPutCount task OutOfMemory before now = Rose before now × (before ≤ now) × (now ≤ before + 2)
 IsReportPutCount task _ before now = IsOneMore before now
-
-abbrev pub not_built : Outcome
-not_built = Ended NotBuilt
 
 abbrev pub out_of_memory : Outcome
 out_of_memory = Ended OutOfMemory

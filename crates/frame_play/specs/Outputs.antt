@@ -7,8 +7,8 @@ use Rattle.bdf_font.specs.Fonts.{FontValue}
 use Rattle.check_report.specs.Reports.{check_text}
 use Rattle.input_files.specs.declared.inputs.Inputs.{Inputs}
 use Rattle.plain_form.specs.Forms.{pixels_of, plain_line_of}
-use Rattle.play_words.specs.declared.job.Task.{Task}
-use Rattle.play_words.specs.declared.job.Task.TheVariants.{Check, Frame}
+use Rattle.frame_play.specs.declared.work.Task.{Task}
+use Rattle.frame_play.specs.declared.work.Task.TheVariants.{Check, Frame}
 use Rattle.ppm_text.specs.Images.{image_bytes}
 use Rattle.run_status.specs.declared.status.Status.{Status}
 use Rattle.run_status.specs.declared.status.Status.TheVariants.{Done, NotBuilt}
@@ -25,10 +25,10 @@ abbrev pub image_of : ℕ → Size → ScriptValue → FontValue → Option (Lis
 image_of at size script font =
     option_map (λ line. image_bytes size.w size.h (pixels_of line font (pos at) size.w size.h) (pos at) 1) (plain_line_of script font size.w size.h)
 
--- the image with the first font
+-- the image with a font alone; with more it isn't built so far
 abbrev pub image_in : ℕ → Size → ScriptValue → List FontValue → Option (List ℕ)
-image_in at size script [] = None
-image_in at size script (font ∷ fonts) = image_of at size script font
+image_in at size script (font ∷ []) = image_of at size script font
+image_in at size script _ = None
 
 abbrev pub status_of_image : Option (List ℕ) → Status
 status_of_image None = NotBuilt

@@ -4,7 +4,7 @@ use Rattle.ass_io.specs.Fetched.{Told}
 use Rattle.input_files.specs.Inputs.{AreRead}
 use Rattle.input_files.specs.Laws.{AreTold, IsReadDecided}
 use Rattle.input_files.specs.declared.inputs.Inputs.{Inputs}
-use Rattle.play_words.specs.declared.job.Job.{Job}
+use Rattle.frame_play.specs.declared.work.Work.{Work}
 use Rattle.run_status.specs.declared.status.Status.{Status}
 use Rattle.run_status.specs.declared.status.Status.TheVariants.{Done}
 use Rattle.frame_play.specs.Outcomes.{IsOrFault, IsOrMemory, SuitsTask, IsReported, IsImageShown, status_if_put, text_to_report}
@@ -22,24 +22,24 @@ abbrev pub sink_change : Option (List ℕ) → Option (List ℕ) → ℕ → ℕ
 sink_change held_before held_now faults_before faults_now = record { held_before = held_before; held_now = held_now; faults_before = faults_before; faults_now = faults_now }
 
 -- A job before anything is reported. Its files are read with one answer, as far as it is told what they hold; that answer asks for the status, for the image, and for what is to be reported.
-pub record IsWorked (told : List ℕ → Told) (job : Job) (frames : SinkChange) (outcome : Outcome) : Type 0 where
+pub record IsWorked (told : List ℕ → Told) (work : Work) (frames : SinkChange) (outcome : Outcome) : Type 0 where
   pub reading : Result Inputs Status
-  pub read : AreRead told job.script job.fonts reading
-  pub answered : IsOrFault job.task (status_asked job.task reading) (status_if_put outcome)
-  pub shown : IsImageShown (status_if_put outcome) frames.held_before frames.held_now (output_asked job.task reading).frames
-  pub text : status_if_put outcome ≡ Done → text_to_report outcome ≡ (output_asked job.task reading).report
-  pub own : SuitsTask job.task outcome
+  pub read : AreRead told work.script work.fonts reading
+  pub answered : IsOrFault work.task (status_asked work.task reading) (status_if_put outcome)
+  pub shown : IsImageShown (status_if_put outcome) frames.held_before frames.held_now (output_asked work.task reading).frames
+  pub text : status_if_put outcome ≡ Done → text_to_report outcome ≡ (output_asked work.task reading).report
+  pub own : SuitsTask work.task outcome
 
 -- A run of a job. Its files are read with one answer, as far as it is told what they hold; that answer asks for the status, and for what the sinks get.
-pub record IsJobRun (told : List ℕ → Told) (job : Job) (frames report : SinkChange) (status : Status) : Type 0 where
+pub record IsJobRun (told : List ℕ → Told) (work : Work) (frames report : SinkChange) (status : Status) : Type 0 where
   pub reading : Result Inputs Status
-  pub read : AreRead told job.script job.fonts reading
-  pub answered : IsOrFault job.task (status_asked job.task reading) status
-  pub shown : IsImageShown status frames.held_before frames.held_now (output_asked job.task reading).frames
-  pub reported : IsReported status report.held_before report.held_now report.faults_before report.faults_now (output_asked job.task reading).report
+  pub read : AreRead told work.script work.fonts reading
+  pub answered : IsOrFault work.task (status_asked work.task reading) status
+  pub shown : IsImageShown status frames.held_before frames.held_now (output_asked work.task reading).frames
+  pub reported : IsReported status report.held_before report.held_now report.faults_before report.faults_now (output_asked work.task reading).report
 
 -- Files that are all told of decide a run where no fault came: the answer that their reading asks for, or want of memory.
-abbrev pub Decides : (List ℕ → Told) → Job → Status → Type 0
-Decides told job status =
-    (reading : Result Inputs Status) → AreTold told job.script job.fonts → AreRead told job.script job.fonts reading → IsReadDecided reading →
-    IsOrMemory (status_asked job.task reading) status
+abbrev pub Decides : (List ℕ → Told) → Work → Status → Type 0
+Decides told work status =
+    (reading : Result Inputs Status) → AreTold told work.script work.fonts → AreRead told work.script work.fonts reading → IsReadDecided reading →
+    IsOrMemory (status_asked work.task reading) status

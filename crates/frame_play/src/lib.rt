@@ -1,13 +1,14 @@
 //! From the words to what both sinks get: the calls that the program makes.
 #![tactic(auto)]
 
-mod job;
 mod outcome;
 mod picture;
 mod play;
 mod report;
+mod task;
 #[cfg(test)]
 mod tests;
+mod work;
 
 pub use play::{calm, top};
 pub use report::give_up;

@@ -6,7 +6,7 @@ ghost use Rattle.ass_num.specs.Limits.{IsFrameSize, IsInstant};
 ghost use Rattle.ass_script.specs.Ranges.{IsScript};
 ghost use Rattle.frame_play.specs.Outcomes.{IsOrFault, IsImageShown, IsFramesPutCount, IsWriteCounted};
 ghost use Rattle.frame_play.specs.Outputs.{image_in, image_of, status_of_image};
-ghost use Rattle.play_words.specs.declared.job.Task.TheVariants.{Frame};
+ghost use Rattle.frame_play.specs.declared.work.Task.TheVariants.{Frame};
 
 use ass_io::{Put, Sink};
 use ass_num::{Mem, OutOfMemory, Size};
@@ -40,7 +40,7 @@ fn image_of(
     }
 }
 
-/// The image with the first font.
+/// The image with a font alone.
 fn image_in(
     alloc: Global,
     at: u64,
@@ -53,9 +53,9 @@ fn image_in(
     requires size { IsFrameSize size.now }
     ensures { IfOk result (λ image. option_map (λ bytes. bytes.items) image ≡ image_in at size.now script.now fonts.now) }
 {
-    match fonts.first() {
-        Some(font) => image_of(alloc, at, size, script, font),
-        None => Ok(None),
+    match fonts {
+        [font] => image_of(alloc, at, size, script, font),
+        _ => Ok(None),
     }
 }
 

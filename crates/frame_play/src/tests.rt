@@ -2,7 +2,6 @@
 
 use crate::top;
 use ass_io::{FailingShelf, FailingSink, MemoryShelf, MemorySink, OpenGate, Rt};
-use play_words::one_job;
 use std::alloc::{AllocError, Global};
 use std::process::Abort;
 use std::test::Fail;
@@ -70,8 +69,13 @@ const FIRST: &str = "frame --at 0 --size 4x3 row.ass dot.bdf";
 const LAST: &str = "frame --at 10000 --size 4x3 row.ass dot.bdf";
 
 /// Words, and the first bytes of the image, behind which all are 0, with how many bytes of it there are.
-const PICTURES: [(&str, &[u8], usize); 4] = [
+const PICTURES: [(&str, &[u8], usize); 5] = [
     (FIRST, SHOWN, 57),
+    (
+        "frame row.ass --budget 0 --size=04x3 dot.bdf --at 00",
+        SHOWN,
+        57,
+    ),
     (LAST, LATER, 61),
     ("frame --at 0 --size 4x3 two.ass dot.bdf", TWO, 57),
     ("frame --at 0 --size 4x3 big.ass dot.bdf", BIG, 57),
@@ -86,7 +90,7 @@ const MALFORMED: &str = "play 4 3\nstyles 1\nlines 1\nmalformed 0 Start 3\nfont 
 const TWICE: &str = "play 4 3\nstyles 1\nlines 1\nfont 0 glyphs 2\nfont 1 glyphs 2\n";
 
 /// Words, the exit status and the report, where no image comes.
-const REPORTS: [(&str, u8, &str); 17] = [
+const REPORTS: [(&str, u8, &str); 19] = [
     (CHECK, 0, CHECKED),
     ("check bad.ass dot.bdf", 0, MALFORMED),
     ("check row.ass dot.bdf dot.bdf", 0, TWICE),
@@ -132,14 +136,20 @@ const REPORTS: [(&str, u8, &str); 17] = [
         "not built\n",
     ),
     ("frame --at 0 --size 3x4 row.ass dot.bdf", 10, "not built\n"),
-    ("frame --size 4x3 --at 0 row.ass dot.bdf", 10, "not built\n"),
     (
-        "frame --at 00 --size 4x3 row.ass dot.bdf",
+        "frame --at 0 --size 4x3 row.ass dot.bdf dot.bdf",
         10,
         "not built\n",
     ),
-    ("check row.ass", 10, "not built\n"),
-    ("check row.ass -dot.bdf", 10, "not built\n"),
+    ("selftest 7 1", 10, "not built\n"),
+    ("selftest 7 0", 2, "bad words: EVENTS\n"),
+    ("check row.ass", 2, "bad words: usage\n"),
+    ("check row.ass -dot.bdf", 2, "bad words: usage\n"),
+    (
+        "frame --at x --size 0x3 no.ass no.bdf",
+        2,
+        "bad words: --at\n",
+    ),
 ];
 
 /// Words; the fetch, the put of an image and the put of a report that fail; the exit status; how many bytes of the
@@ -150,7 +160,7 @@ const FAULTS: [(&str, [u64; 3], u8, usize, &str); 9] = [
     (FIRST, [3, 0, 0], 0, 57, ""),
     (FIRST, [0, 1, 0], 7, 28, "write fault: frames\n"),
     (FIRST, [0, 2, 0], 0, 57, ""),
-    ("", [0, 0, 1], 10, 0, "not b"),
+    ("", [0, 0, 1], 2, 0, "bad word"),
     (CHECK, [0, 1, 0], 0, 0, CHECKED),
     (CHECK, [0, 0, 1], 7, 0, "play 4 3\nstyles 1\nlin"),
     (CHECK, [2, 0, 1], 4, 0, "read fault"),
@@ -231,7 +241,7 @@ fn runs(
 #[test]
 fn runs_end_as_they_should(rt: HostRuntime) -> Result<(), Fail> {
     let alloc = rt.alloc();
-    one_job();
+
     for (line, head, count) in PICTURES {
         let wanted = Wanted {
             exit: 0,

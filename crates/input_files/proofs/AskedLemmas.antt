@@ -58,3 +58,4 @@ refused asks name told (status.WriteFault which) h = h
 refused asks name told (status.TooLarge what limit) h = kept asks name told _ h
 refused asks name told status.OutOfMemory h = h
 refused asks name told status.NotBuilt h = h
+refused asks name told (status.BadWords why) h = h

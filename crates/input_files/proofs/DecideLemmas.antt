@@ -31,6 +31,7 @@ asked asks held name (Err (status.WriteFault which)) decided h = absurd h
 asked asks held name (Err (status.TooLarge what limit)) decided h = asked_by asks held _ h
 asked asks held name (Err status.OutOfMemory) decided h = absurd decided
 asked asks held name (Err status.NotBuilt) decided h = absurd h
+asked asks held name (Err (status.BadWords why)) decided h = absurd h
 
 -- One answer is asked for at most.
 abbrev AsksOne : {Value : Type 0} → Asks Value → Type 0

@@ -22,7 +22,7 @@ fn main(rt: HostRuntime) -> ExitCode {
         Err(refused) if refused.kind() == io::ErrorKind::OutOfMemory => {
             return ExitCode::from(give_up(&mut report).exit_status());
         }
-        // Words that are no text spell no job.
+        // Words that are no text are of no grammar, as no words are.
         Err(_) => Vec::new(rt.alloc()),
     };
     let mut shelf = FileShelf::new(rt);

@@ -1,3 +1,4 @@
-pub mod NumberLemmas
+pub mod ValueLemmas
+pub mod GrammarLemmas
+pub mod AskedLemmas
 pub mod WordsLemmas
-pub mod CheckLemmas

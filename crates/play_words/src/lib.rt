@@ -1,12 +1,15 @@
-//! The words of a run, and the job that they spell.
+//! The words of a run, and the job that they ask for.
 #![tactic(auto)]
 
-mod check;
-mod frame;
+mod argument;
+mod asked;
+mod command;
+mod grammar;
 mod job;
-mod names;
-mod numbers;
+#[cfg(test)]
+mod tests;
+mod values;
 mod words;
 
-pub use job::{Job, MAX_FRAME_SIDE, MAX_INSTANT, Task};
-pub use words::{one_job, read_words};
+pub use job::{Job, Mode, PlayJob, WordsFault, WordsRefusal};
+pub use words::{read_words, usage_is_of_grammar};

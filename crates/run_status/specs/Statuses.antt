@@ -2,6 +2,8 @@
 use Rattle.std.specs.Prelude.{ℕ, List, [], ◌++◌, codes, decimal}
 use Rattle.bdf_font.specs.declared.cause.FontCause.{FontCause}
 use Rattle.bdf_font.specs.declared.cause.FontCause.TheVariants.{NoStart, BadNumber, BadRow, Misplaced, NoEnd}
+use Rattle.play_words.specs.declared.job.WordsFault.{WordsFault}
+use Rattle.play_words.specs.declared.job.WordsFault.TheVariants.{Usage, Value}
 use Rattle.run_status.specs.declared.status.BadScript.{BadScript}
 use Rattle.run_status.specs.declared.status.BadScript.TheVariants.{NotUtf8, NoEvents}
 use Rattle.run_status.specs.declared.status.Status.{Status}
@@ -29,6 +31,10 @@ abbrev pub sink_text : Which → List ℕ
 sink_text Frames = codes "frames"
 sink_text Report = codes "report"
 
+abbrev pub words_line : WordsFault → List ℕ
+words_line Usage = codes "bad words: usage\n"
+words_line (Value name) = codes "bad words: " ++ name ++ codes "\n"
+
 abbrev pub script_line : BadScript → List ℕ
 script_line (NotUtf8 n) = codes "bad script: not UTF-8 at byte " ++ decimal n ++ codes "\n"
 script_line NoEvents = codes "bad script: no [Events] section\n"
@@ -42,6 +48,7 @@ limit_line what limit = codes "too large: " ++ what ++ codes " passes " ++ decim
 -- what the report says of a status; of a job that was done whole it says nothing
 abbrev pub status_line : Status → List ℕ
 status_line status.Done = []
+status_line (status.BadWords fault) = words_line fault
 status_line (status.NoSuchFile name) = codes "no such file: " ++ name ++ codes "\n"
 status_line (status.ReadFault name) = codes "read fault: " ++ name ++ codes "\n"
 status_line (status.BadScript cause) = script_line cause
@@ -54,6 +61,7 @@ status_line status.NotBuilt = codes "not built\n"
 -- the exit status of the program
 abbrev pub exit_status_of : Status → ℕ
 exit_status_of status.Done = 0
+exit_status_of (status.BadWords _) = 2
 exit_status_of (status.NoSuchFile _) = 3
 exit_status_of (status.ReadFault _) = 4
 exit_status_of (status.BadScript _) = 5

@@ -1,11 +1,12 @@
 //! How a run of the program ended.
 
 ghost use Rattle.std.specs.Prelude.{◌≡◌, IfOk, string_bytes};
-ghost use Rattle.run_status.specs.Statuses.{cause_text, bad_font_line, limit_line, what_text};
+ghost use Rattle.run_status.specs.Statuses.{cause_text, bad_font_line, limit_line, what_text, words_line};
 ghost use Rattle.run_status.specs.declared.status.Status.TheVariants.{OutOfMemory as memory_status};
 
 use ass_num::{Mem, OutOfMemory, Text};
 use bdf_font::FontCause;
+use play_words::WordsFault;
 use std::alloc::Global;
 
 /// Which of the two sinks.
@@ -46,6 +47,8 @@ pub enum BadScript {
 pub enum Status {
     /// The job was done whole: exit status 0.
     Done,
+    /// The words ask for no job: exit status 2.
+    BadWords(WordsFault),
     /// Nothing has this name: exit status 3.
     NoSuchFile(Text),
     /// The file couldn't be read: exit status 4.
@@ -113,6 +116,19 @@ fn limit_line(alloc: Global, what: &str, limit: usize) -> Mem<String>
     Ok(format!(in alloc; "too large: {what} passes {limit}\n")?)
 }
 
+/// The line of the report on words that ask for no job.
+fn words_line(alloc: Global, fault: &WordsFault) -> Mem<String>
+    ensures { IfOk result (λ line. string_bytes line ≡ words_line fault.now) }
+{
+    match fault {
+        WordsFault::Usage => Ok(String::from_str(alloc, "bad words: usage\n")?),
+        WordsFault::Value(name) => {
+            let name = name.as_str();
+            Ok(format!(in alloc; "bad words: {name}\n")?)
+        }
+    }
+}
+
 impl Which {
     ghost use Rattle.std.specs.Prelude.{◌≡◌};
     ghost use Rattle.run_status.specs.Statuses.{sink_text};
@@ -155,6 +171,7 @@ impl Status {
     {
         match self {
             Status::Done => 0,
+            Status::BadWords(_) => 2,
             Status::NoSuchFile(_) => 3,
             Status::ReadFault(_) => 4,
             Status::BadScript(_) => 5,
@@ -172,6 +189,7 @@ impl Status {
     {
         match self {
             Status::Done => Ok(String::new(alloc)),
+            Status::BadWords(fault) => words_line(alloc, fault),
             Status::NoSuchFile(name) => {
                 let name = name.as_str();
                 Ok(format!(in alloc; "no such file: {name}\n")?)

@@ -1,7 +1,7 @@
 use Rattle.std.proofs.Common.{subst}
 use Rattle.frame_play.specs.Outcomes.{IsOrFault}
 use Rattle.frame_play.specs.Outputs.{status_of_image}
-use Rattle.play_words.specs.declared.job.Task.TheVariants.{Frame}
+use Rattle.frame_play.specs.declared.work.Task.TheVariants.{Frame}
 use Rattle.frame_play.proofs.picture.draw.Goals as goal
 
 pub returns-in-Ok-Some-clause-answered : goal.returns-in-Ok-Some-clause-answered

@@ -3,23 +3,23 @@ use Rattle.frame_play.proofs.RunLemmas.{decides, read_after, run_after, written_
 use Rattle.frame_play.proofs.play.calm.Goals as goal
 
 pub returns-clause-run : goal.returns-clause-run
-returns-clause-run g c = λ job spells.
-    run_after _ job _ _ c.do_words-outcome.result c.finish.result (c.do_words-outcome.ensures.run job spells) c.finish.ensures.answer c.finish.ensures.report
+returns-clause-run g c = λ work asked.
+    run_after _ work _ _ c.do_words-outcome.result c.finish.result (c.do_words-outcome.ensures.run work asked) c.finish.ensures.answer c.finish.ensures.report
 
 pub returns-clause-decided : goal.returns-clause-decided
-returns-clause-decided g c = λ job spells stays shows reports.
-    let run = run_after _ job _ _ c.do_words-outcome.result c.finish.result (c.do_words-outcome.ensures.run job spells) c.finish.ensures.answer c.finish.ensures.report in
-    decides c.files_decide.ensures.one _ job _ _ _ _ c.finish.result run
+returns-clause-decided g c = λ work asked stays shows reports.
+    let run = run_after _ work _ _ c.do_words-outcome.result c.finish.result (c.do_words-outcome.ensures.run work asked) c.finish.ensures.answer c.finish.ensures.report in
+    decides c.files_decide.ensures.one _ work _ _ _ _ c.finish.result run
     (read_after c.do_words-outcome.result c.finish.result _ _ c.finish.ensures.answer c.do_words-outcome.ensures.read)
     (written_after c.do_words-outcome.result c.finish.result _ _ c.finish.ensures.answer c.do_words-outcome.ensures.write)
     stays shows reports
 
 pub returns-clause-shown_once : goal.returns-clause-shown_once
-returns-clause-shown_once g c = λ job spells.
-    let worked = c.do_words-outcome.ensures.run job spells in
-    shown_once_after job.task c.do_words-outcome.result c.finish.result _ _ worked.own c.finish.ensures.answer (c.do_words-outcome.ensures.once job spells)
+returns-clause-shown_once g c = λ work asked.
+    let worked = c.do_words-outcome.ensures.run work asked in
+    shown_once_after work.task c.do_words-outcome.result c.finish.result _ _ worked.own c.finish.ensures.answer (c.do_words-outcome.ensures.once work asked)
 
 pub returns-clause-reported_once : goal.returns-clause-reported_once
-returns-clause-reported_once g c = λ job spells.
-    let worked = c.do_words-outcome.ensures.run job spells in
-    reported_once_after job.task c.do_words-outcome.result c.finish.result _ _ worked.own c.finish.ensures.answer c.finish.ensures.once
+returns-clause-reported_once g c = λ work asked.
+    let worked = c.do_words-outcome.ensures.run work asked in
+    reported_once_after work.task c.do_words-outcome.result c.finish.result _ _ worked.own c.finish.ensures.answer c.finish.ensures.once

@@ -1,10 +1,23 @@
+use Rattle.std.proofs.Common.{◌≡◌, ◌∙◌, inl, inr, Err, Ok, Result, subst, sym}
+use Rattle.run_status.specs.declared.status.Status.{Status}
+use Rattle.run_status.specs.declared.status.Status.TheVariants.{OutOfMemory}
+use Rattle.play_words.specs.Words.{texts}
+use Rattle.frame_play.specs.Runs.{IsWorked, sink_change}
+use Rattle.frame_play.specs.Works.{IsWorkRead, work_asked}
+use Rattle.frame_play.specs.declared.outcome.Outcome.TheVariants.{Ended}
+use Rattle.frame_play.specs.declared.work.Work.{Work}
 use Rattle.frame_play.proofs.RunLemmas.{memory_worked}
 use Rattle.frame_play.proofs.play.do_words.Goals as goal
 
-pub returns-in-Ok-Some-clause-run : goal.returns-in-Ok-Some-clause-run
-returns-in-Ok-Some-clause-run g c = λ job spells.
-    let same = c.one_job.ensures _ job c.in-Ok-Some.job spells (rw c.in-Ok-Some.field-0-is at c.in-Ok-Some.ensures.some) in
-    rw same c.do_job.ensures.run
+-- Where words ask for work, want of memory alone comes in its place.
+memory_alone : (asked : Result Work Status) (why : Status) (work : Work) → IsWorkRead asked (Err why) → asked ≡ Ok work → why ≡ OutOfMemory
+memory_alone asked why work (inl same) e = let equal : Err why ≡ Ok work = same ∙ e in absurd cc
+memory_alone asked why work (inr memory) e = cc
 
 pub returns-in-Err-clause-run : goal.returns-in-Err-clause-run
-returns-in-Err-clause-run g c = λ job spells. memory_worked _ job _ _
+returns-in-Err-clause-run g c = λ work asked.
+    let told = g.S.Shelf.told c.args.shelf.now in
+    let frames = c.args.frames.now in
+    let change = sink_change (g.F.Sink.held frames) (g.F.Sink.held frames) (g.F.Sink.faults frames) (g.F.Sink.faults frames) in
+    subst (λ why. IsWorked told work change (Ended why)) (sym (memory_alone (work_asked (texts c.args.words.now)) c.in-Err.status work c.in-Err.ensures.asked asked))
+    (memory_worked told work (g.F.Sink.held frames) (g.F.Sink.faults frames))

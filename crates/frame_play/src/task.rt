@@ -1,0 +1,76 @@
+//! A task, up to what is to be reported of it.
+
+ghost use Rattle.std.specs.Prelude.{◌≡◌, ◌≢◌, Ok, string_bytes};
+ghost use Rattle.ass_script.specs.Ranges.{IsScript};
+ghost use Rattle.frame_play.specs.Outcomes.{IsOrFault, SuitsTask, IsStatusReadCounted, IsImageShown, IsFramesPutCount, IsWriteCounted, status_if_put, text_to_report};
+ghost use Rattle.frame_play.specs.Outputs.{output_of, task_status};
+ghost use Rattle.frame_play.specs.Runs.{IsWorked, sink_change};
+ghost use Rattle.frame_play.specs.Works.{IsTask};
+ghost use Rattle.run_status.specs.declared.status.Status.TheVariants.{Done as done_status};
+
+use crate::outcome::Outcome;
+use crate::picture::draw;
+use crate::work::{Task, Work};
+use ass_io::{Shelf, Sink};
+use ass_num::OutOfMemory;
+use check_report::check_report;
+use input_files::{Inputs, read_inputs};
+use run_status::Status;
+use std::alloc::Global;
+
+/// What a check is to report.
+fn check(alloc: Global, inputs: &Inputs) -> Outcome
+    requires { IsScript inputs.now.script }
+    ensures answered { IsOrFault Task.Check (task_status Task.Check inputs.now) (status_if_put result) }
+    ensures text { status_if_put result ≡ done_status → text_to_report result ≡ (output_of Task.Check inputs.now).report }
+    ensures own { SuitsTask Task.Check result }
+    ensures memory { status_if_put result ≢ done_status → result ≡ Outcome.Ended Status.OutOfMemory }
+{
+    match check_report(alloc, &inputs.script, inputs.fonts.as_slice()) {
+        Ok(text) => Outcome::Found(text),
+        Err(OutOfMemory) => Outcome::Ended(Status::OutOfMemory),
+    }
+}
+
+/// Does a task with its inputs.
+fn do_task<F: Sink>(alloc: Global, task: &Task, inputs: &Inputs, frames: &mut F) -> Outcome
+    requires task { IsTask task.now }
+    requires script { IsScript inputs.now.script }
+    ensures answered { IsOrFault task.now (task_status task.now inputs.now) (status_if_put result) }
+    ensures shown { IsImageShown (status_if_put result) (F.held frames.old) (F.held frames.new) (output_of task.now inputs.now).frames }
+    ensures once { IsFramesPutCount task.now (status_if_put result) (F.puts frames.old) (F.puts frames.new) }
+    ensures counted { IsWriteCounted (status_if_put result) (F.faults frames.old) (F.faults frames.new) }
+    ensures text { status_if_put result ≡ done_status → text_to_report result ≡ (output_of task.now inputs.now).report }
+    ensures own { SuitsTask task.now result }
+{
+    match task {
+        Task::Check => check(alloc, inputs),
+        Task::Frame(at, size) => Outcome::Ended(draw(
+            alloc,
+            *at,
+            size,
+            &inputs.script,
+            inputs.fonts.as_slice(),
+            frames,
+        )),
+    }
+}
+
+/// Does the work of a job. Nothing goes to the frames sink before all files were read.
+pub fn do_work<S: Shelf, F: Sink>(
+    alloc: Global,
+    work: &Work,
+    shelf: &mut S,
+    frames: &mut F,
+) -> Outcome
+    requires { IsTask work.now.task }
+    ensures run { IsWorked (S.told shelf.old) work.now (sink_change (F.held frames.old) (F.held frames.new) (F.faults frames.old) (F.faults frames.new)) result }
+    ensures read { IsStatusReadCounted (status_if_put result) (S.faults shelf.old) (S.faults shelf.new) }
+    ensures once { IsFramesPutCount work.now.task (status_if_put result) (F.puts frames.old) (F.puts frames.new) }
+    ensures write { IsWriteCounted (status_if_put result) (F.faults frames.old) (F.faults frames.new) }
+{
+    match read_inputs(alloc, shelf, &work.script, work.fonts.as_slice()) {
+        Ok(inputs) => do_task(alloc, &work.task, &inputs, frames),
+        Err(status) => Outcome::Ended(status),
+    }
+}
