@@ -60,10 +60,14 @@ abbrev pub lacks_border : ℤ → Option Syllable → Bool
 lacks_border elapsed None = false
 lacks_border elapsed (Some syllable) = is_outlined syllable.kind && int_lt elapsed syllable.begin
 
--- the column of the frame to which a sweep has come that goes from `left` to `right`, which are in 1/64 pixel
+-- where a sweep has come to that goes from `left` to `right`, in 1/64 pixel
+abbrev pub swept_to : ℤ → ℤ → Syllable → ℤ → ℤ
+swept_to left right syllable elapsed = between left right (elapsed -ℤ syllable.begin) (syllable.end -ℤ syllable.begin)
+
+-- the column of the frame there
 abbrev pub sweep_edge : ℤ → ℤ → Syllable → ℤ → ℤ
 sweep_edge left right syllable elapsed =
-    held (neg_ℤ (pos max_bound)) (pos max_bound) (floor_div (between left right (elapsed -ℤ syllable.begin) (syllable.end -ℤ syllable.begin)) (pos (sample * samples_across)))
+    held (neg_ℤ (pos max_bound)) (pos max_bound) (floor_div (swept_to left right syllable elapsed) (pos (sample * samples_across)))
 
 -- primary up to there, and secondary from there on
 abbrev pub swept_paint : ℕ → ℤ → State → ℤ → ℤ → Syllable → Paint

@@ -60,9 +60,9 @@ passes edges = unsigned_abs (held (pos 0) (pos max_passes) (floor_div edges (pos
 abbrev pub blur_radius : Bool → ℤ → ℕ → ℕ → ℕ
 blur_radius scaled blur side res =
     unsigned_abs (held (pos 0) (pos max_blur_radius) (
-      if scaled
-      then floor_div ((blur *ℤ pos (2 * side)) +ℤ pos (one_milli * res)) (pos (2 * one_milli * res))
-      else floor_div ((blur *ℤ pos 2) +ℤ pos one_milli) (pos (2 * one_milli))))
+    if scaled
+    then floor_div ((blur *ℤ pos (2 * side)) +ℤ pos (one_milli * res)) (pos (2 * (one_milli * res)))
+    else floor_div ((blur *ℤ pos 2) +ℤ pos one_milli) (pos (2 * one_milli))))
 
 -- how the masks of a state are softened
 abbrev pub softness_of : Header → State → Size → Softness

@@ -1,19 +1,19 @@
 //! The colours of draws.
 
-ghost use Rattle.std.specs.Prelude.{◌≡◌, ◌≤◌, ◌<◌, IsTrue, ◌↔◌, true, pos, ◌≤ℤ◌, IfSome, IsSome};
+ghost use Rattle.std.specs.Prelude.{◌≡◌, ◌≤◌, ◌<◌, IsTrue, ◌*◌, pos, ◌≤ℤ◌, ◌<ℤ◌};
+ghost use Rattle.ass_num.specs.Floor.{floor_div};
 ghost use Rattle.ass_num.specs.Limits.{IsWithin};
 ghost use Rattle.override_tags.specs.Views.{IsState, IsSyllable};
 ghost use Rattle.outline_points.specs.Limits.{max_length};
-ghost use Rattle.draw_numbers.specs.Limits.{max_bound};
+ghost use Rattle.mask_keys.specs.Keys.{samples_across};
+ghost use Rattle.draw_numbers.specs.Limits.{max_bound, sample};
 ghost use Rattle.draw_numbers.specs.Colours as rule;
 
-use crate::products::on_the_way;
-use ass_num::{Fix, Rgba, hold};
+use crate::clips::held_bound;
+use crate::products::{length_between, on_the_way};
+use ass_num::{Fix, Rgba};
 use event_instants::faded;
 use override_tags::{State, Sung, Syllable};
-
-/// The farthest from 0 that the edge of a sweep lies, in pixels.
-const MAX_BOUND: i64 = 262_144;
 
 /// The colours of a draw: `left` left of the column `edge` of the frame, and `right` from it on.
 #[derive(Clone, Copy, Debug, PartialEq, Eq)]
@@ -84,7 +84,9 @@ fn is_awaited(elapsed: i64, sung: Option<Syllable>) -> bool
 
 /// Whether a syllable is swept (Aegisub tag reference, "\kf").
 pub fn is_swept(elapsed: i64, syllable: &Syllable) -> bool
-    ensures { result ≡ rule.is_swept elapsed syllable.now }
+    ensures value { result ≡ rule.is_swept elapsed syllable.now }
+    ensures begun { IsTrue result → syllable.now.begin ≤ℤ elapsed }
+    ensures not_ended { IsTrue result → elapsed <ℤ syllable.now.end }
 {
     match syllable.kind {
         Sung::Sweep => syllable.begin <= elapsed && elapsed < syllable.end,
@@ -105,25 +107,51 @@ pub fn lacks_border(elapsed: i64, sung: Option<Syllable>) -> bool
     }
 }
 
-/// The column of the frame to which a sweep has come that goes from `left` to `right`.
+/// Where a sweep has come to that goes from `left` to `right`.
+fn swept_to(left: Fix, right: Fix, syllable: &Syllable, elapsed: i64) -> Fix
+    requires left { IsWithin max_length left }
+    requires right { IsWithin max_length right }
+    requires begun { syllable.now.begin ≤ℤ elapsed }
+    requires not_ended { elapsed <ℤ syllable.now.end }
+    ensures { result ≡ rule.swept_to left right syllable.now elapsed }
+{
+    let gone = length_between(syllable.begin, elapsed);
+    let length = length_between(syllable.begin, syllable.end);
+    on_the_way(left, right, gone, length)
+}
+
+/// The column of the frame in which a place lies.
+fn column_of(place: Fix) -> i64
+    ensures { result ≡ floor_div place (pos (sample * samples_across)) }
+{
+    place.div_euclid(64)
+}
+
+/// The column of the frame to which a sweep has come.
 fn sweep_edge(left: Fix, right: Fix, syllable: &Syllable, elapsed: i64) -> i32
     requires left { IsWithin max_length left }
     requires right { IsWithin max_length right }
-    requires swept { rule.is_swept elapsed syllable.now ≡ true }
+    requires begun { syllable.now.begin ≤ℤ elapsed }
+    requires not_ended { elapsed <ℤ syllable.now.end }
     ensures value { result ≡ rule.sweep_edge left right syllable.now elapsed }
     ensures within { IsWithin max_bound result }
 {
-    let gone = i128::from(elapsed) - i128::from(syllable.begin);
-    let length = i128::from(syllable.end) - i128::from(syllable.begin);
-    let come = on_the_way(left, right, gone, length);
-    hold(i128::from(come.div_euclid(64)), -MAX_BOUND, MAX_BOUND) as i32
+    held_bound(column_of(swept_to(left, right, syllable, elapsed)))
 }
 
 /// What a swept syllable is filled with.
-fn swept_paint(fade: u8, elapsed: i64, state: &State, left: Fix, right: Fix, syllable: &Syllable) -> Paint
+fn swept_paint(
+    fade: u8,
+    elapsed: i64,
+    state: &State,
+    left: Fix,
+    right: Fix,
+    syllable: &Syllable,
+) -> Paint
     requires left { IsWithin max_length left }
     requires right { IsWithin max_length right }
-    requires swept { rule.is_swept elapsed syllable.now ≡ true }
+    requires begun { syllable.now.begin ≤ℤ elapsed }
+    requires not_ended { elapsed <ℤ syllable.now.end }
     ensures { result ≡ rule.swept_paint fade elapsed state.now left right syllable.now }
 {
     Paint {

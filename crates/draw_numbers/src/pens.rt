@@ -1,10 +1,12 @@
 //! Pens in samples, and where masks stand.
 
-ghost use Rattle.std.specs.Prelude.{◌≡◌, ◌≤◌, ◌<◌, pos, true};
+ghost use Rattle.std.specs.Prelude.{◌≡◌, ◌≤◌, ◌<◌, ◌*◌, pos, ◌+ℤ◌, ◌-ℤ◌};
+ghost use Rattle.ass_num.specs.Floor.{floor_div};
 ghost use Rattle.ass_num.specs.Limits.{IsPointWithin, IsWithin};
 ghost use Rattle.mask_keys.specs.Keys.{samples_across};
 ghost use Rattle.outline_points.specs.Limits.{max_length, max_unturned};
-ghost use Rattle.draw_numbers.specs.Limits.{max_offset, max_pen};
+ghost use Rattle.outline_points.specs.Placing.{turned_point};
+ghost use Rattle.draw_numbers.specs.Limits.{max_offset, max_pen, sample};
 ghost use Rattle.draw_numbers.specs.Pens as rule;
 
 use crate::widths::Offsets;
@@ -26,29 +28,83 @@ pub struct Spot {
     pub py: u8,
 }
 
+/// How far a coordinate lies from another.
+fn gap(a: Fix, b: Fix) -> Fix
+    requires a { IsWithin max_length a }
+    requires b { IsWithin max_length b }
+    ensures value { result ≡ a -ℤ b }
+    ensures within { IsWithin max_unturned result }
+{
+    a - b
+}
+
+/// How far a point lies from another.
+fn minus(p: Point, q: Point) -> Point
+    requires p { IsPointWithin max_length p }
+    requires q { IsPointWithin max_length q }
+    ensures value { result ≡ rule.minus p q }
+    ensures within { IsPointWithin max_unturned result }
+{
+    Point {
+        x: gap(p.x, q.x),
+        y: gap(p.y, q.y),
+    }
+}
+
+/// A coordinate moved by a turned one.
+fn sum(a: Fix, b: Fix) -> Fix
+    requires a { IsWithin max_length a }
+    requires b { IsWithin (2 * max_unturned) b }
+    ensures { result ≡ a +ℤ b }
+{
+    a + b
+}
+
+/// A point moved by a turned one.
+fn plus(p: Point, q: Point) -> Point
+    requires p { IsPointWithin max_length p }
+    requires q { IsPointWithin (2 * max_unturned) q }
+    ensures { result ≡ rule.plus p q }
+{
+    Point {
+        x: sum(p.x, q.x),
+        y: sum(p.y, q.y),
+    }
+}
+
+/// A point turned about 0.
+fn turned(turn: &Turn, p: Point) -> Point
+    requires { IsPointWithin max_unturned p }
+    ensures value { result ≡ turned_point turn.now.angle p }
+    ensures within { IsPointWithin (2 * max_unturned) result }
+{
+    turn.point(p)
+}
+
 /// A point turned about an origin.
 fn turned_about(origin: Point, turn: &Turn, p: Point) -> Point
     requires origin { IsPointWithin max_length origin }
     requires point { IsPointWithin max_length p }
     ensures { result ≡ rule.turned_about origin turn.now.angle p }
 {
-    let turned = turn.point(Point {
-        x: p.x - origin.x,
-        y: p.y - origin.y,
-    });
-    Point {
-        x: origin.x + turned.x,
-        y: origin.y + turned.y,
-    }
+    plus(origin, turned(turn, minus(p, origin)))
 }
 
-/// A coordinate in samples, moved by an offset, and held where pens may lie.
+/// A coordinate in samples, moved by an offset.
+fn moved(units: Fix, offset: i64) -> i64
+    requires { IsWithin max_offset offset }
+    ensures { result ≡ floor_div units (pos sample) +ℤ offset }
+{
+    units.div_euclid(4) + offset
+}
+
+/// The same, held where pens may lie.
 fn held_pen(units: Fix, offset: i64) -> i64
     requires { IsWithin max_offset offset }
     ensures value { result ≡ rule.held_pen units offset }
     ensures within { IsWithin max_pen result }
 {
-    hold(i128::from(units.div_euclid(4)) + i128::from(offset), -MAX_PEN, MAX_PEN)
+    hold(i128::from(moved(units, offset)), -MAX_PEN, MAX_PEN)
 }
 
 /// The pen of a mask, in samples.

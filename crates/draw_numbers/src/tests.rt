@@ -1,23 +1,15 @@
 //! Numbers worked by the rules.
 
 use crate::{
-    NO_OFFSETS, back_colour, clip_bound, fill_paint, is_near_frame, lacks_border,
-    offsets_of, outline_colour, plain_paint, radii_of, softness_of, spot_at,
+    NO_OFFSETS, back_colour, fill_paint, is_near_frame, lacks_border, offsets_of, outline_colour,
+    plain_paint, spot_at,
 };
 use ass_num::{Point, Rgba, Size};
-use ass_script::Header;
 use outline_points::Turn;
 use override_tags::{State, Sung, Syllable};
 use std::test::Fail;
 
 const SIZE: Size = Size { w: 1_920, h: 540 };
-
-const HEADER: Header = Header {
-    res_x: 640,
-    res_y: 360,
-    wrap: 0,
-    scaled: true,
-};
 
 fn grey(shade: u8) -> Rgba {
     Rgba {
@@ -60,24 +52,14 @@ fn state() -> State {
 }
 
 #[test]
-fn widths(rt: HostRuntime) -> Result<(), Fail> {
-    let state = state();
-    let radii = radii_of(&HEADER, &state, &SIZE);
-    assert_eq!(rt; (radii.x, radii.y), (72, 1_600));
-    let offsets = offsets_of(&HEADER, &state, &SIZE);
-    assert_eq!(rt; (offsets.x, offsets.y), (-1, 48));
-    let softness = softness_of(&HEADER, &state, &SIZE);
-    assert_eq!(rt; (softness.edges, softness.blur), (127, 2));
-    assert_eq!(rt; clip_bound(-1, 1_920, 640), -1);
-    Ok(())
-}
-
-#[test]
 fn colours(rt: HostRuntime) -> Result<(), Fail> {
     let state = state();
     assert_eq!(rt; fill_paint(0, 99, &state, 0, 640), plain_paint(grey(2)));
     let swept = fill_paint(0, 150, &state, -64, 192);
-    assert_eq!(rt; (swept.left, swept.right, swept.edge), (grey(1), grey(2), 0));
+    assert_eq!(rt;
+        (swept.left, swept.right, swept.edge),
+        (grey(1), grey(2), 0)
+    );
     assert_eq!(rt; fill_paint(0, 300, &state, 0, 640), plain_paint(grey(1)));
     assert_eq!(rt; outline_colour(255, &state).a, 255);
     assert_eq!(rt; back_colour(0, &state), grey(4));
@@ -88,7 +70,12 @@ fn colours(rt: HostRuntime) -> Result<(), Fail> {
 #[test]
 fn pens(rt: HostRuntime) -> Result<(), Fail> {
     let origin = Point { x: 64, y: 64 };
-    let spot = spot_at(origin, &Turn::new(90_000), Point { x: 127, y: 64 }, NO_OFFSETS);
+    let spot = spot_at(
+        origin,
+        &Turn::new(90_000),
+        Point { x: 127, y: 64 },
+        NO_OFFSETS,
+    );
     assert_eq!(rt; (spot.x, spot.y, spot.px, spot.py), (1, 0, 0, 0));
     assert!(rt; is_near_frame(&SIZE, &spot));
     Ok(())

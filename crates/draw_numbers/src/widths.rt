@@ -7,8 +7,8 @@ ghost use Rattle.mask_keys.specs.Keys.{max_border, max_passes, max_blur_radius};
 ghost use Rattle.draw_numbers.specs.Limits.{max_offset};
 ghost use Rattle.draw_numbers.specs.Widths as rule;
 
-use crate::products::scaled;
-use ass_num::{Milli, Size, div_floor, hold};
+use crate::products::{rounded, scaled};
+use ass_num::{Milli, Size, hold};
 use ass_script::Header;
 use override_tags::State;
 
@@ -109,21 +109,19 @@ fn passes(edges: Milli) -> u8
 }
 
 /// The radius of a blur in pixels, rounded.
-fn blur_radius(scaled: bool, blur: Milli, side: u32, res: u32) -> u8
+fn blur_radius(is_scaled: bool, blur: Milli, side: u32, res: u32) -> u8
     requires blur { IsHeldLength blur }
     requires side { side ≤ max_frame_side }
     requires res { IsCanvasSide res }
-    ensures value { result ≡ rule.blur_radius scaled blur side res }
+    ensures value { result ≡ rule.blur_radius is_scaled blur side res }
     ensures within { result ≤ max_blur_radius }
 {
-    let blur = i128::from(blur);
-    let pixels = if scaled {
-        let whole = 1_000 * i128::from(res);
-        div_floor(blur * (2 * i128::from(side)) + whole, 2 * whole)
+    let pixels = if is_scaled {
+        rounded(blur, 2 * side, 1_000 * res)
     } else {
-        div_floor(blur * 2 + 1_000, 2_000)
+        rounded(blur, 2, 1_000)
     };
-    hold(pixels, 0, 100) as u8
+    hold(i128::from(pixels), 0, 100) as u8
 }
 
 /// How the masks of a state are softened (Aegisub tag reference, "\be", "\blur").
