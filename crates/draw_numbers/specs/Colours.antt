@@ -1,6 +1,6 @@
 -- Public: the colours of draws: what a fade leaves of them, and which of them a syllable has at an instant.
 -- (Aegisub tag reference, "\fad", "\k", "\kf", "\ko".)
-use Rattle.std.specs.Prelude.{ℕ, ◌*◌, ◌&&◌, Bool, true, false, if◌then◌else◌, List, slice_index_or, Option, Some, None, ℤ, pos, neg_ℤ, ◌+ℤ◌, ◌-ℤ◌, ◌*ℤ◌, int_le, int_lt}
+use Rattle.std.specs.Prelude.{ℕ, ◌*◌, ◌&&◌, Bool, true, false, if◌then◌else◌, slice_index_or, Option, Some, None, ℤ, pos, neg_ℤ, ◌-ℤ◌, int_le, int_lt}
 use Rattle.ass_num.specs.Floor.{floor_div, held}
 use Rattle.ass_num.specs.declared.colour.Rgba.{Rgba}
 use Rattle.event_instants.specs.Instants.{between, faded}
@@ -8,7 +8,7 @@ use Rattle.mask_keys.specs.Keys.{samples_across}
 use Rattle.override_tags.specs.declared.view.State.{State}
 use Rattle.override_tags.specs.declared.view.Syllable.{Syllable}
 use Rattle.tag_arguments.specs.declared.kinds.Sung.{Sung}
-use Rattle.tag_arguments.specs.declared.kinds.Sung.TheVariants.{Jump, Sweep, Outline}
+use Rattle.tag_arguments.specs.declared.kinds.Sung.TheVariants.{Sweep, Outline}
 use Rattle.draw_numbers.specs.declared.colours.Paint.{Paint}
 use Rattle.draw_numbers.specs.Limits.{max_bound, sample}
 

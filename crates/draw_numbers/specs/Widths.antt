@@ -1,6 +1,6 @@
 -- Public: how wide borders are, how far shadows lie, and how much masks are softened and blurred.
 -- (Aegisub tag reference, "\bord", "\shad", "\be", "\blur"; Advanced SubStation Alpha, "ScaledBorderAndShadow".)
-use Rattle.std.specs.Prelude.{ℕ, ◌+◌, ◌*◌, ◌==◌, ◌&&◌, Bool, if◌then◌else◌, ℤ, pos, ◌+ℤ◌, ◌*ℤ◌, unsigned_abs}
+use Rattle.std.specs.Prelude.{ℕ, ◌*◌, ◌==◌, ◌&&◌, Bool, if◌then◌else◌, ℤ, pos, ◌+ℤ◌, ◌*ℤ◌, unsigned_abs}
 use Rattle.std.specs.Ordering.{int_eq}
 use Rattle.ass_num.specs.Floor.{floor_div, held}
 use Rattle.ass_num.specs.declared.size.Size.{Size}
