@@ -1,0 +1,5 @@
+pub mod Limits
+pub mod Widths
+pub mod Colours
+pub mod Pens
+pub mod Clips
