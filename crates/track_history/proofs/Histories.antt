@@ -83,8 +83,8 @@ tells_accepted kept later history e tells absent room events entries flushes =
       entries = omega (arith, entries, tells.entries, length_push history (Chunk e));
       flushes = omega (arith, flushes, tells.flushes, no_flush);
       legal = IsHistory_push history (Chunk e) legal (omega (arith, no_flush, most))
-        (subst HaveOwnOrders (sym now) (Pairwise-push (λ (a b : Event). a.order ≢ b.order) (live history) e (legal.orders history [] (append-nil history)) others))
-        (subst (λ (es : List Event). length es ≤ max_live) (sym now) (omega (arith, length_push (live history) e, short)));
+          (subst HaveOwnOrders (sym now) (Pairwise-push (λ (a b : Event). a.order ≢ b.order) (live history) e (legal.orders history [] (append-nil history)) others))
+          (subst (λ (es : List Event). length es ≤ max_live) (sym now) (omega (arith, length_push (live history) e, short)));
     }
 
 pub tells_flushed : (kept later : LiveEvents) (history : List Entry) → Tells kept history → kept.flushes < max_flushes → events_of later ≡ [] → later.entries ≡ kept.entries + 1 → later.flushes ≡ kept.flushes + 1

@@ -50,7 +50,7 @@ earlier_is_lt : (a b : LiveSpan) → IsEarlier (span_at a) (span_at b) → is_lt
 earlier_is_lt a b p =
     ⊎_elim (λ x. before_by_start (int_lt a.start b.start) (int_lt b.start a.start) (nat_cmp a.order b.order) (grind (arith, ints)))
     (λ x. before_by_order (int_lt a.start b.start) (int_lt b.start a.start) (nat_lt a.order b.order) (a.order == b.order)
-        (let e = x.0 in grind (arith, ints)) (let e = x.0 in grind (arith, ints)) (let l = x.1 in grind (arith, nat_tests))) p
+    (let e = x.0 in grind (arith, ints)) (let e = x.0 in grind (arith, ints)) (let l = x.1 in grind (arith, nat_tests))) p
 
 pairwise_at : {X : Type 0} (R : X → X → Type 0) (xs : List X) → ((i j : ℕ) (d : X) → i < j → j < length xs → R (get_or xs i d) (get_or xs j d)) → Pairwise R xs
 pairwise_at R [] h = tt
@@ -97,8 +97,8 @@ found_differ t (x ∷ xs) h =
     let w = all_walked t xs in
     step_cases (λ v. Pairwise Differ v.found) t w x
     (λ e. Pairwise-push Differ w.found x (found_differ t xs h.1)
-        (λ k d lt same. let a = get_or w.found k d in
-            All-contains (λ b. x.order ≢ b.order) xs a h.0 (found_there t xs a (Contains-get_or w.found k d lt)).0 (sym same)))
+    (λ k d lt same. let a = get_or w.found k d in
+    All-contains (λ b. x.order ≢ b.order) xs a h.0 (found_there t xs a (Contains-get_or w.found k d lt)).0 (sym same)))
     (λ e. found_differ t xs h.1)
 
 -- in order of time and different: strictly in order
@@ -114,6 +114,7 @@ near_sorted t blocks w sorted index is moved timed =
     let moves : IsPermutation (all_walked t xs).found sorted = subst (λ (v : WalkValue). IsPermutation v.found sorted) is moved in record {
       members = λ s. (
         (λ c. near_found t xs xs index.sorted (λ y h. h) s (Contains-permutation sorted (all_walked t xs).found s (IsPermutation-sym (all_walked t xs).found sorted moves) c)),
-        (λ near. Contains-permutation (all_walked t xs).found sorted s moves (found_near t xs index.sorted s near)));
+        (λ near. Contains-permutation (all_walked t xs).found sorted s moves (found_near t xs index.sorted s near)),
+      );
       sorted = strictly sorted timed (differ_moved (all_walked t xs).found sorted moves (found_differ t xs index.orders));
     }
