@@ -1,11 +1,10 @@
 -- Blocks of spans, and searches in them.
-use Rattle.std.proofs.Common.{◌≡◌, ◌≢◌, ℕ, zero, suc, ◌<◌, ◌≤◌, ◌+◌, ◌-◌, ℤ, ◌<ℤ◌, ◌≤ℤ◌, List, [], ◌∷◌, ◌++◌, length, get_or, take, drop, set, refl, sym, ap, subst, ◌∙◌, arith, ◌⊎◌, ⊎_elim, inl, inr, append_assoc, length-append, Result, Ok, Err}
+use Rattle.std.proofs.Common.{◌≡◌, ◌≢◌, ℕ, suc, ◌<◌, ◌≤◌, ◌+◌, List, [], ◌∷◌, ◌++◌, length, get_or, take, drop, set, refl, sym, ap, subst, ◌∙◌, arith, append_assoc, length-append, Result, Ok, Err}
 use Rattle.std.specs.Result.{OnOk, OnErr}
-use Rattle.std.specs.List.{All, Contains, insert}
-use Rattle.std.proofs.lemmas.Int.{ints}
-use Rattle.std.proofs.lemmas.List.{take-append-drop, drop_more, take_more, drop_all, set_split, set-append_left, set_at, length-take-le, append-nil}
+use Rattle.std.specs.List.{All, insert}
+use Rattle.std.proofs.lemmas.List.{take-append-drop, drop_more, take_more, drop_all, set_split, set-append_left, set_at, length-take-le}
 use Rattle.std.proofs.lemmas.List.Concat.{flat_map-append}
-use Rattle.std.proofs.lemmas.List.Elements.{All-nil, All-cons, All-head, All-tail, All-append, All-contains, All-take, All-drop, All-get_or, All-weaker, All-set}
+use Rattle.std.proofs.lemmas.List.Elements.{All-nil, All-cons, All-head, All-append, All-take, All-drop, All-get_or, All-set}
 use Rattle.ass_events.specs.Histories.{Pairwise}
 use Rattle.track_history.specs.declared.spans.LiveSpan.{LiveSpan}
 use Rattle.track_history.specs.declared.blocks.Block.{Block}

@@ -1,5 +1,5 @@
 -- What holds of all calls, and of what is near.
-use Rattle.std.proofs.Common.{◌≡◌, ℕ, ℤ, List, [], ◌∷◌, ◌++◌, map, refl, sym, ap, subst, ◌∙◌, ◌⊎◌, ⊎_elim, inl, inr, Option, Some, None, Result, Ok, Err}
+use Rattle.std.proofs.Common.{◌≡◌, ℕ, ℤ, List, [], ◌∷◌, map, refl, sym, ap, subst, ◌∙◌, ⊎_elim, Option, Some, None, Result, Ok, Err}
 use Rattle.std.specs.Option.{option_map, option_to_list}
 use Rattle.std.specs.List.{All, Contains}
 use Rattle.std.proofs.lemmas.List.Elements.{All-contains}
@@ -14,7 +14,7 @@ use Rattle.ass_events.specs.NearEvents.{AreNear, IsEarlier, Span, span_of}
 use Rattle.track_history.specs.declared.answers.TrackEntry.{TrackEntry}
 use Rattle.track_history.specs.declared.answers.Feed.{Feed}
 use Rattle.track_history.specs.Answers.{entry_of}
-use Rattle.track_history.specs.Calls.{IsEventFed, IsFed, IsFedBy, IsTurn, TrackView}
+use Rattle.track_history.specs.Calls.{IsFed, IsFedBy, IsTurn, TrackView}
 use Rattle.track_history.proofs.Pairs.{Contains-nil, Contains-head, Contains-tail, Contains-cons_cases}
 use Rattle.track_history.proofs.Orders.{not_both_earlier}
 

@@ -1,13 +1,12 @@
 -- A walk from the last span to the first finds just what matters.
-use Rattle.std.proofs.Common.{◌≡◌, ◌≢◌, ℕ, ◌<◌, ◌+◌, ℤ, ◌<ℤ◌, ◌≤ℤ◌, Bool, true, false, cond, List, [], ◌∷◌, ◌++◌, length, get_or, refl, sym, ap, subst, ◌∙◌, arith, ◌⊎◌, ⊎_elim, inl, inr}
-use Rattle.std.specs.Prelude.{int_lt, int_le}
+use Rattle.std.proofs.Common.{◌≡◌, ℤ, ◌<ℤ◌, ◌≤ℤ◌, Bool, true, false, cond, List, [], ◌∷◌, ◌++◌, refl, sym, ap, subst, ◌∙◌, arith, ◌⊎◌, ⊎_elim, inl, inr}
 use Rattle.std.specs.Ordering.{int_eq}
 use Rattle.std.specs.List.{All, Contains}
 use Rattle.std.proofs.lemmas.Int.{ints}
 use Rattle.std.proofs.lemmas.Bool.{cases_Bool}
 use Rattle.std.proofs.lemmas.List.Elements.{All-head, All-tail, All-contains, Contains-append_left, Contains-push, Contains-push_cases}
 use Rattle.ass_events.specs.Histories.{Pairwise}
-use Rattle.ass_events.specs.NearEvents.{Span, IsShownAt, IsEarlier, ComesBefore, IsNear, Shown, Chained}
+use Rattle.ass_events.specs.NearEvents.{IsShownAt, IsEarlier, ComesBefore, IsNear, Shown, Chained}
 use Rattle.track_history.specs.declared.spans.LiveSpan.{LiveSpan}
 use Rattle.track_history.specs.Spans.{StandsBefore, span_at}
 use Rattle.track_history.specs.Walks.{WalkValue, first_walk, bound_of, takes, stepped, walked}

@@ -1,11 +1,11 @@
 -- What was found, in order of time.
-use Rattle.std.proofs.Common.{Ordering, Less, Equal, Greater, ◌≡◌, ◌≢◌, ℕ, zero, suc, ◌+◌, ◌<◌, ◌≤◌, ℤ, ◌<ℤ◌, ◌≤ℤ◌, Bool, true, false, cond, List, [], ◌∷◌, ◌++◌, length, get_or, refl, sym, ap, subst, ◌∙◌, arith, ◌⊎◌, ⊎_elim, inl, inr, IsPermutation, IsSortedByKey}
+use Rattle.std.proofs.Common.{Ordering, Less, Equal, Greater, ◌≡◌, ◌≢◌, ℕ, zero, suc, ◌<◌, ℤ, Bool, true, false, cond, List, [], ◌∷◌, length, get_or, sym, ap, subst, ◌∙◌, arith, ⊎_elim, IsPermutation, IsSortedByKey}
 use Rattle.std.specs.Prelude.{int_lt, nat_lt, ◌==◌}
-use Rattle.std.specs.List.{All, Contains, IsDistinct}
+use Rattle.std.specs.List.{IsDistinct}
 use Rattle.std.specs.Cmp.{IsTotalOrder}
 use Rattle.std.specs.Ordering.{int_cmp, nat_cmp, is_lt, ordering_then}
 use Rattle.std.specs.Fn.{ComputesKey, Called}
-use Rattle.std.proofs.lemmas.Bool.{cases_Bool, false≢true}
+use Rattle.std.proofs.lemmas.Bool.{false≢true}
 use Rattle.std.proofs.lemmas.Bool.Decides.{nat_tests}
 use Rattle.std.proofs.lemmas.Cmp.{int_cmp_total, nat_cmp_total, on_total, then_total}
 use Rattle.std.proofs.lemmas.Int.{ints}
@@ -15,13 +15,13 @@ use Rattle.std.proofs.lemmas.Map.Keys.{IsDistinct-IsPermutation}
 use denote.Param.Members.{Mut}
 use denote.Ref.{Bor}
 use Rattle.ass_events.specs.Histories.{Pairwise}
-use Rattle.ass_events.specs.NearEvents.{IsEarlier, IsNear, AreNear}
+use Rattle.ass_events.specs.NearEvents.{IsEarlier, AreNear}
 use Rattle.track_history.specs.declared.spans.LiveSpan.{LiveSpan}
-use Rattle.track_history.specs.Spans.{StandsBefore, span_at, AreInTime}
+use Rattle.track_history.specs.Spans.{span_at, AreInTime}
 use Rattle.track_history.specs.Blocks.{IsIndex, spans_of}
 use Rattle.track_history.specs.declared.blocks.Block.{Block}
-use Rattle.track_history.specs.Walks.{WalkValue, first_walk, takes, stepped, walked}
-use Rattle.track_history.proofs.Pairs.{Pairwise-push, Contains-nil}
+use Rattle.track_history.specs.Walks.{WalkValue, first_walk, walked}
+use Rattle.track_history.proofs.Pairs.{Pairwise-push}
 use Rattle.track_history.proofs.Orders.{earlier_cases}
 use Rattle.track_history.proofs.Nears.{all_walked, found_there, step_cases, near_found, found_near}
 
