@@ -1,5 +1,5 @@
 -- Bounds of blocks, and walks in steps.
-use Rattle.std.proofs.Common.{◌≡◌, ℕ, zero, suc, ◌<◌, ◌≤◌, ◌+◌, ◌-◌, ℤ, ◌<ℤ◌, ◌≤ℤ◌, List, [], ◌∷◌, ◌++◌, length, get_or, take, drop, refl, sym, ap, subst, ◌∙◌, arith, ◌⊎◌, ⊎_elim, inl, inr}
+use Rattle.std.proofs.Common.{◌≡◌, ℕ, ◌<◌, ◌≤◌, ◌+◌, ◌-◌, ℤ, ◌<ℤ◌, ◌≤ℤ◌, List, [], ◌∷◌, ◌++◌, length, get_or, take, drop, sym, ap, subst, ◌∙◌, arith}
 use Rattle.std.specs.List.{All, insert}
 use Rattle.std.proofs.lemmas.Int.{ints}
 use Rattle.std.proofs.lemmas.List.Edits.{length-insert}
@@ -87,7 +87,7 @@ block_walked t blocks rest now next b h some is step =
     let within = h.within in
     let back : (rest - 1) + 1 ≡ rest = omega (arith, some) in
     let cut : spans_of (drop (rest - 1) blocks) ≡ b.spans.items ++ spans_of (drop rest blocks) =
-        spans_from blocks (rest - 1) b (omega (arith, some, within)) ∙ (ap (λ (z : Block). z.spans.items ++ spans_of (drop ((rest - 1) + 1) blocks)) (sym is) ∙ ap (λ n. b.spans.items ++ spans_of (drop n blocks)) back) in
+    spans_from blocks (rest - 1) b (omega (arith, some, within)) ∙ (ap (λ (z : Block). z.spans.items ++ spans_of (drop ((rest - 1) + 1) blocks)) (sym is) ∙ ap (λ n. b.spans.items ++ spans_of (drop n blocks)) back) in
     record {
       within = omega (arith, within);
       is = step ∙ (ap (λ v. walked t v b.spans.items) h.is ∙ (sym (walked-append t (first_walk t) b.spans.items (spans_of (drop rest blocks))) ∙ sym (ap (walked t (first_walk t)) cut)));

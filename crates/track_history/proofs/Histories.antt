@@ -1,15 +1,13 @@
 -- What one more entry makes of a history, and of what is kept of it.
-use Rattle.std.proofs.Common.{◌≡◌, ◌≢◌, ℕ, ◌+◌, ◌-◌, ◌<◌, ◌≤◌, Bool, true, false, cond, List, [], ◌∷◌, ◌++◌, length, map, get_or, refl, sym, ap, subst, ◌∙◌, arith, ◌⊎◌, ⊎_elim, inl, inr, Option, Some, None}
+use Rattle.std.proofs.Common.{◌≡◌, ◌≢◌, ℕ, ◌+◌, ◌-◌, ◌<◌, ◌≤◌, Bool, true, false, cond, List, [], ◌∷◌, ◌++◌, length, refl, sym, ap, subst, ◌∙◌, arith, ◌⊎◌, ⊎_elim, inl, inr, Option, Some, None}
 use Rattle.std.specs.Prelude.{nat_le, ◌==◌, is_some, ◌||◌}
-use Rattle.std.specs.List.{All, list_any, position_from}
+use Rattle.std.specs.List.{All, position_from}
 use Rattle.std.proofs.lemmas.Bool.{cases_Bool}
 use Rattle.std.proofs.lemmas.Bool.Decides.{nat_tests}
 use Rattle.std.proofs.lemmas.List.{length_push, append-nil}
 use Rattle.ass_events.specs.declared.event.Event.{Event}
 use Rattle.ass_events.specs.Histories.{Entry, Chunk, Flush, HaveOwnOrders, IsHistory, max_live, max_flushes, live, live_after, flushes_of, has_order, after, flushed}
-use Rattle.track_history.specs.declared.answers.Feed.{Feed}
 use Rattle.track_history.specs.declared.answers.Feed.TheVariants.{Accepted, Repeated, Full}
-use Rattle.track_history.specs.declared.answers.Flushed.{Flushed}
 use Rattle.track_history.specs.declared.answers.Flushed.TheVariants.{Done, TooMany}
 use Rattle.track_history.specs.declared.live_events.LiveEvents.{LiveEvents}
 use Rattle.track_history.specs.Answers.{answer_at, extended, fed_entry, feed_answer, flush_answer, flushed_entry, position_of}
@@ -83,8 +81,8 @@ tells_accepted kept later history e tells absent room events entries flushes =
       entries = omega (arith, entries, tells.entries, length_push history (Chunk e));
       flushes = omega (arith, flushes, tells.flushes, no_flush);
       legal = IsHistory_push history (Chunk e) legal (omega (arith, no_flush, most))
-        (subst HaveOwnOrders (sym now) (Pairwise-push (λ (a b : Event). a.order ≢ b.order) (live history) e (legal.orders history [] (append-nil history)) others))
-        (subst (λ (es : List Event). length es ≤ max_live) (sym now) (omega (arith, length_push (live history) e, short)));
+          (subst HaveOwnOrders (sym now) (Pairwise-push (λ (a b : Event). a.order ≢ b.order) (live history) e (legal.orders history [] (append-nil history)) others))
+          (subst (λ (es : List Event). length es ≤ max_live) (sym now) (omega (arith, length_push (live history) e, short)));
     }
 
 pub tells_flushed : (kept later : LiveEvents) (history : List Entry) → Tells kept history → kept.flushes < max_flushes → events_of later ≡ [] → later.entries ≡ kept.entries + 1 → later.flushes ≡ kept.flushes + 1

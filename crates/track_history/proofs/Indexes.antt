@@ -1,11 +1,10 @@
 -- Blocks of spans, and searches in them.
-use Rattle.std.proofs.Common.{◌≡◌, ◌≢◌, ℕ, zero, suc, ◌<◌, ◌≤◌, ◌+◌, ◌-◌, ℤ, ◌<ℤ◌, ◌≤ℤ◌, List, [], ◌∷◌, ◌++◌, length, get_or, take, drop, set, refl, sym, ap, subst, ◌∙◌, arith, ◌⊎◌, ⊎_elim, inl, inr, append_assoc, length-append, Result, Ok, Err}
+use Rattle.std.proofs.Common.{◌≡◌, ◌≢◌, ℕ, suc, ◌<◌, ◌≤◌, ◌+◌, List, [], ◌∷◌, ◌++◌, length, get_or, take, drop, set, refl, sym, ap, subst, ◌∙◌, arith, append_assoc, length-append, Result, Ok, Err}
 use Rattle.std.specs.Result.{OnOk, OnErr}
-use Rattle.std.specs.List.{All, Contains, insert}
-use Rattle.std.proofs.lemmas.Int.{ints}
-use Rattle.std.proofs.lemmas.List.{take-append-drop, drop_more, take_more, drop_all, set_split, set-append_left, set_at, length-take-le, append-nil}
+use Rattle.std.specs.List.{All, insert}
+use Rattle.std.proofs.lemmas.List.{take-append-drop, drop_more, take_more, drop_all, set_split, set-append_left, set_at, length-take-le}
 use Rattle.std.proofs.lemmas.List.Concat.{flat_map-append}
-use Rattle.std.proofs.lemmas.List.Elements.{All-nil, All-cons, All-head, All-tail, All-append, All-contains, All-take, All-drop, All-get_or, All-weaker, All-set}
+use Rattle.std.proofs.lemmas.List.Elements.{All-nil, All-cons, All-head, All-append, All-take, All-drop, All-get_or, All-set}
 use Rattle.ass_events.specs.Histories.{Pairwise}
 use Rattle.track_history.specs.declared.spans.LiveSpan.{LiveSpan}
 use Rattle.track_history.specs.declared.blocks.Block.{Block}
@@ -135,18 +134,20 @@ inserted blocks i b new count x lt is index other block items before behind befo
     let p = spans_of (take i blocks) in let s = spans_of (drop (i + 1) blocks) in
     let t = take count b.spans.items in let r = drop count b.spans.items in
     let was : spans_of blocks ≡ (p ++ t) ++ (r ++ s) =
-        spans_at blocks i b lt ∙ (ap (λ (z : Block). p ++ (z.spans.items ++ s)) (sym is) ∙ (ap (λ z. p ++ (z ++ s)) (sym (take-append-drop count b.spans.items)) ∙ mid_was p t r s)) in
+    spans_at blocks i b lt ∙ (ap (λ (z : Block). p ++ (z.spans.items ++ s)) (sym is) ∙ (ap (λ z. p ++ (z ++ s)) (sym (take-append-drop count b.spans.items)) ∙ mid_was p t r s)) in
     let now : spans_of (set blocks i new) ≡ (p ++ t) ++ x ∷ (r ++ s) =
-        spans_set blocks i new lt ∙ (ap (λ z. p ++ (z ++ s)) items ∙ mid_was p t (x ∷ r) s) in
-    let others = subst (All (λ (a : LiveSpan). a.order ≢ x.order)) was other in
-    (record {
-      blocks = All-set IsBlock blocks i new block index.blocks;
-      sorted = subst (Pairwise StandsBefore) (sym now) (Pairwise-insert StandsBefore (p ++ t) x (r ++ s) (subst (Pairwise StandsBefore) was index.sorted)
-        (All-append (λ a. StandsBefore a x) p t before before_in) (All-append (λ a. StandsBefore x a) r s behind_in behind));
-      orders = subst (Pairwise (λ (a b : LiveSpan). a.order ≢ b.order)) (sym now) (Pairwise-insert (λ (a b : LiveSpan). a.order ≢ b.order) (p ++ t) x (r ++ s)
-        (subst (Pairwise (λ (a b : LiveSpan). a.order ≢ b.order)) was index.orders) (All-left (λ (a : LiveSpan). a.order ≢ x.order) (p ++ t) (r ++ s) others)
-        (order_other x (r ++ s) (All-right (λ (a : LiveSpan). a.order ≢ x.order) (p ++ t) (r ++ s) others)));
-    }, record { front = p ++ t; back = r ++ s; was = was; is = now })
+    spans_set blocks i new lt ∙ (ap (λ z. p ++ (z ++ s)) items ∙ mid_was p t (x ∷ r) s) in
+    let others = subst (All (λ (a : LiveSpan). a.order ≢ x.order)) was other in (
+      record {
+        blocks = All-set IsBlock blocks i new block index.blocks;
+        sorted = subst (Pairwise StandsBefore) (sym now) (Pairwise-insert StandsBefore (p ++ t) x (r ++ s) (subst (Pairwise StandsBefore) was index.sorted)
+            (All-append (λ a. StandsBefore a x) p t before before_in) (All-append (λ a. StandsBefore x a) r s behind_in behind));
+        orders = subst (Pairwise (λ (a b : LiveSpan). a.order ≢ b.order)) (sym now) (Pairwise-insert (λ (a b : LiveSpan). a.order ≢ b.order) (p ++ t) x (r ++ s)
+            (subst (Pairwise (λ (a b : LiveSpan). a.order ≢ b.order)) was index.orders) (All-left (λ (a : LiveSpan). a.order ≢ x.order) (p ++ t) (r ++ s) others)
+            (order_other x (r ++ s) (All-right (λ (a : LiveSpan). a.order ≢ x.order) (p ++ t) (r ++ s) others)));
+      },
+      record { front = p ++ t; back = r ++ s; was = was; is = now },
+    )
 
 -- the same, where memory may have been wanting
 pub inserted_or_not : {T E : Type 0} (r : Result T E) (blocks : List Block) (i : ℕ) (b new : Block) (count : ℕ) (x : LiveSpan) → i < length blocks → b ≡ get_or blocks i b → IsIndex blocks
@@ -157,12 +158,15 @@ inserted_or_not (Ok v) blocks i b new count x lt is index other block ok err bef
     let put = inserted blocks i b new count x lt is index other block ok before behind before_in behind_in in (put.0, put.1, tt)
 inserted_or_not (Err e) blocks i b new count x lt is index other block ok err before behind before_in behind_in =
     let same : spans_of (set blocks i new) ≡ spans_of blocks =
-        spans_set blocks i new lt ∙ (ap (λ z. spans_of (take i blocks) ++ (z ++ spans_of (drop (i + 1) blocks))) (err ∙ ap (λ (z : Block). z.spans.items) is) ∙ sym (spans_at blocks i b lt)) in
-    (record {
-      blocks = All-set IsBlock blocks i new block index.blocks;
-      sorted = subst (Pairwise StandsBefore) (sym same) index.sorted;
-      orders = subst (Pairwise (λ (a b : LiveSpan). a.order ≢ b.order)) (sym same) index.orders;
-    }, tt, same)
+    spans_set blocks i new lt ∙ (ap (λ z. spans_of (take i blocks) ++ (z ++ spans_of (drop (i + 1) blocks))) (err ∙ ap (λ (z : Block). z.spans.items) is) ∙ sym (spans_at blocks i b lt)) in (
+      record {
+        blocks = All-set IsBlock blocks i new block index.blocks;
+        sorted = subst (Pairwise StandsBefore) (sym same) index.sorted;
+        orders = subst (Pairwise (λ (a b : LiveSpan). a.order ≢ b.order)) (sym same) index.orders;
+      },
+      tt,
+      same,
+    )
 
 -- a block's own spans
 pub block_sorted : (blocks : List Block) (i : ℕ) (b : Block) → i < length blocks → b ≡ get_or blocks i b → IsIndex blocks → Pairwise StandsBefore b.spans.items
@@ -187,29 +191,33 @@ split blocks i b tail new cut lt is index block_tail block_new tail_is new_is =
     let more : take (i + 1) blocks ≡ p ++ b ∷ [] = take_more blocks i b lt ∙ ap (λ z. p ++ z ∷ []) (sym is) in
     let short : i < length (p ++ b ∷ []) = omega (arith, length-append p (b ∷ []), count) in
     let now : set (insert blocks (i + 1) tail) i new ≡ (p ++ new ∷ []) ++ tail ∷ r =
-        ap (λ z. set (z ++ tail ∷ r) i new) more ∙ (set-append_left (p ++ b ∷ []) (tail ∷ r) i new short ∙ ap (λ z. z ++ tail ∷ r) (set_at p b [] new i count)) in
+    ap (λ z. set (z ++ tail ∷ r) i new) more ∙ (set-append_left (p ++ b ∷ []) (tail ∷ r) i new short ∙ ap (λ z. z ++ tail ∷ r) (set_at p b [] new i count)) in
     let spans : spans_of (set (insert blocks (i + 1) tail) i new) ≡ spans_of blocks =
-        ap spans_of (now ∙ append_assoc p (new ∷ []) (tail ∷ r)) ∙ (spans_of-append p (new ∷ tail ∷ r)
-        ∙ (ap (λ z. spans_of p ++ z) (ap (λ z. new.spans.items ++ (z ++ spans_of r)) tail_is ∙ (ap (λ z. z ++ (drop cut b.spans.items ++ spans_of r)) new_is
-            ∙ (sym (append_assoc (take cut b.spans.items) (drop cut b.spans.items) (spans_of r)) ∙ ap (λ z. z ++ spans_of r) (take-append-drop cut b.spans.items))))
-        ∙ (ap (λ (z : Block). spans_of p ++ (z.spans.items ++ spans_of r)) is ∙ sym (spans_at blocks i b lt)))) in
+    ap spans_of (now ∙ append_assoc p (new ∷ []) (tail ∷ r)) ∙ (spans_of-append p (new ∷ tail ∷ r)
+    ∙ (ap (λ z. spans_of p ++ z) (ap (λ z. new.spans.items ++ (z ++ spans_of r)) tail_is ∙ (ap (λ z. z ++ (drop cut b.spans.items ++ spans_of r)) new_is
+    ∙ (sym (append_assoc (take cut b.spans.items) (drop cut b.spans.items) (spans_of r)) ∙ ap (λ z. z ++ spans_of r) (take-append-drop cut b.spans.items))))
+    ∙ (ap (λ (z : Block). spans_of p ++ (z.spans.items ++ spans_of r)) is ∙ sym (spans_at blocks i b lt)))) in
     let all : All IsBlock ((p ++ new ∷ []) ++ tail ∷ r) = All-append IsBlock (p ++ new ∷ []) (tail ∷ r)
-        (All-append IsBlock p (new ∷ []) (All-take IsBlock i blocks index.blocks) (All-cons IsBlock new [] block_new (All-nil IsBlock)))
-        (All-cons IsBlock tail r block_tail (All-drop IsBlock (i + 1) blocks index.blocks)) in
-    (record {
-      blocks = subst (All IsBlock) (sym now) all;
-      sorted = subst (Pairwise StandsBefore) (sym spans) index.sorted;
-      orders = subst (Pairwise (λ (a b : LiveSpan). a.order ≢ b.order)) (sym spans) index.orders;
-    }, spans)
+    (All-append IsBlock p (new ∷ []) (All-take IsBlock i blocks index.blocks) (All-cons IsBlock new [] block_new (All-nil IsBlock)))
+    (All-cons IsBlock tail r block_tail (All-drop IsBlock (i + 1) blocks index.blocks)) in (
+      record {
+        blocks = subst (All IsBlock) (sym now) all;
+        sorted = subst (Pairwise StandsBefore) (sym spans) index.sorted;
+        orders = subst (Pairwise (λ (a b : LiveSpan). a.order ≢ b.order)) (sym spans) index.orders;
+      },
+      spans,
+    )
 
 pub no_index : (blocks : List Block) → blocks ≡ [] → IsIndex blocks
 no_index blocks e = subst IsIndex (sym e) record { blocks = All-nil IsBlock; sorted = tt; orders = tt }
 
 pub one_block : (b : Block) (x : LiveSpan) → IsBlock b → b.spans.items ≡ x ∷ [] → IsIndex (b ∷ []) × IsInserted [] x (spans_of (b ∷ []))
 one_block b x block items =
-    let spans : spans_of (b ∷ []) ≡ x ∷ [] = ap (λ z. z ++ []) items in
-    (record {
-      blocks = All-cons IsBlock b [] block (All-nil IsBlock);
-      sorted = subst (Pairwise StandsBefore) (sym spans) (All-nil (StandsBefore x), tt);
-      orders = subst (Pairwise (λ (a b : LiveSpan). a.order ≢ b.order)) (sym spans) (All-nil (λ (a : LiveSpan). x.order ≢ a.order), tt);
-    }, record { front = []; back = []; was = refl; is = spans })
+    let spans : spans_of (b ∷ []) ≡ x ∷ [] = ap (λ z. z ++ []) items in (
+      record {
+        blocks = All-cons IsBlock b [] block (All-nil IsBlock);
+        sorted = subst (Pairwise StandsBefore) (sym spans) (All-nil (StandsBefore x), tt);
+        orders = subst (Pairwise (λ (a b : LiveSpan). a.order ≢ b.order)) (sym spans) (All-nil (λ (a : LiveSpan). x.order ≢ a.order), tt);
+      },
+      record { front = []; back = []; was = refl; is = spans },
+    )

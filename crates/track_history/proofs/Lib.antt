@@ -8,3 +8,4 @@ pub mod Places
 pub mod Soundness
 pub mod Histories
 pub mod Turns
+pub mod LawLemmas

@@ -1,13 +1,12 @@
 -- A walk from the last span to the first finds just what matters.
-use Rattle.std.proofs.Common.{◌≡◌, ◌≢◌, ℕ, ◌<◌, ◌+◌, ℤ, ◌<ℤ◌, ◌≤ℤ◌, Bool, true, false, cond, List, [], ◌∷◌, ◌++◌, length, get_or, refl, sym, ap, subst, ◌∙◌, arith, ◌⊎◌, ⊎_elim, inl, inr}
-use Rattle.std.specs.Prelude.{int_lt, int_le}
+use Rattle.std.proofs.Common.{◌≡◌, ℤ, ◌<ℤ◌, ◌≤ℤ◌, Bool, true, false, cond, List, [], ◌∷◌, ◌++◌, refl, sym, ap, subst, ◌∙◌, arith, ◌⊎◌, ⊎_elim, inl, inr}
 use Rattle.std.specs.Ordering.{int_eq}
 use Rattle.std.specs.List.{All, Contains}
 use Rattle.std.proofs.lemmas.Int.{ints}
 use Rattle.std.proofs.lemmas.Bool.{cases_Bool}
 use Rattle.std.proofs.lemmas.List.Elements.{All-head, All-tail, All-contains, Contains-append_left, Contains-push, Contains-push_cases}
 use Rattle.ass_events.specs.Histories.{Pairwise}
-use Rattle.ass_events.specs.NearEvents.{Span, IsShownAt, IsEarlier, ComesBefore, IsNear, Shown, Chained}
+use Rattle.ass_events.specs.NearEvents.{IsShownAt, IsEarlier, ComesBefore, IsNear, Shown, Chained}
 use Rattle.track_history.specs.declared.spans.LiveSpan.{LiveSpan}
 use Rattle.track_history.specs.Spans.{StandsBefore, span_at}
 use Rattle.track_history.specs.Walks.{WalkValue, first_walk, bound_of, takes, stepped, walked}
@@ -95,10 +94,10 @@ near_taken t all xs x there before near e =
     let shown : bound_of t w x.layer ≡ t → NearIn all t x = λ is. Shown there (start, omega (arith, ints, is, above)) in
     ⊎_elim
     (λ same. ⊎_elim (λ is. shown (same.1 ∙ is))
-        (λ g. let found = g.1 in let in_layer : x.layer ≡ (g.0).layer = same.0 ∙ sym g.2 in
-            let earlier = before_in_layer x g.0 in_layer (All-contains (StandsBefore x) xs g.0 before (found_there t xs g.0 found).0) in
-            Chained (near g.0 found) there (in_layer, earlier) (omega (arith, ints, same.1, g.3, above)))
-        (noted_bound t xs))
+    (λ g. let found = g.1 in let in_layer : x.layer ≡ (g.0).layer = same.0 ∙ sym g.2 in
+    let earlier = before_in_layer x g.0 in_layer (All-contains (StandsBefore x) xs g.0 before (found_there t xs g.0 found).0) in
+    Chained (near g.0 found) there (in_layer, earlier) (omega (arith, ints, same.1, g.3, above)))
+    (noted_bound t xs))
     shown (bound_cases t w x.layer)
 
 pub near_found : (t : ℤ) (all xs : List LiveSpan) → Pairwise StandsBefore xs → ((s : LiveSpan) → Contains xs s → Contains all s)
@@ -125,8 +124,8 @@ found_shown t [] s there shown = absurd (Contains-nil s there)
 found_shown t (x ∷ xs) s there shown =
     ⊎_elim
     (λ is. let low = bound_low t xs s.layer in let over = shown.1 in
-        let take : takes t (all_walked t xs) s ≡ true = takes_it t (all_walked t xs) s shown.0 (omega (arith, ints, low, over)) in
-        subst (λ y. Contains (all_walked t (x ∷ xs)).found y) is (taken_now t xs x (subst (λ y. takes t (all_walked t xs) y ≡ true) (sym is) take)))
+    let take : takes t (all_walked t xs) s ≡ true = takes_it t (all_walked t xs) s shown.0 (omega (arith, ints, low, over)) in
+    subst (λ y. Contains (all_walked t (x ∷ xs)).found y) is (taken_now t xs x (subst (λ y. takes t (all_walked t xs) y ≡ true) (sym is) take)))
     (λ later. found_grows t (all_walked t xs) x s (found_shown t xs s later shown))
     (Contains-cons_cases x xs s there)
 
@@ -139,8 +138,13 @@ last_before t [] sorted e = λ h. absurd (Contains-nil e h)
 last_before t (x ∷ xs) sorted e =
     let w = all_walked t xs in
     step_cases (λ v. Contains v.found e → LastBefore v e) t w x
-    (λ taken h. (x, Contains-push w.found x, refl, refl,
-        ⊎_elim (λ before. inr (All-contains (StandsBefore x) xs e sorted.0 (found_there t xs e before).0)) (λ is. inl is) (Contains-push_cases w.found x e h)))
+    (λ taken h. (
+      x,
+      Contains-push w.found x,
+      refl,
+      refl,
+      ⊎_elim (λ before. inr (All-contains (StandsBefore x) xs e sorted.0 (found_there t xs e before).0)) (λ is. inl is) (Contains-push_cases w.found x e h),
+    ))
     (λ left h. last_before t xs sorted.1 e h)
 
 -- in the layer of e, the bound isn't above e's start, where x stands before all
@@ -164,23 +168,23 @@ found_chained t (x ∷ xs) sorted e f h there before over =
     let w = all_walked t xs in
     let there_e = found_there t (x ∷ xs) e h in
     let first : (x ≡ f) → Contains w.found e → Contains (all_walked t (x ∷ xs)).found f = λ is later.
-        let layer : x.layer ≡ e.layer = ap (λ (s : LiveSpan). s.layer) is ∙ before.0 in
-        let start = earlier_start (span_at f) (span_at e) before.1 in
-        let low = bound_chained t xs x e sorted.1 sorted.0 layer later in
-        let begins = ap (λ (s : LiveSpan). s.start) is in
-        let ends = ap (λ (s : LiveSpan). s.end) is in
-        let last = there_e.1 in
-        subst (λ y. Contains (all_walked t (x ∷ xs)).found y) is
-        (taken_now t xs x (takes_it t w x (omega (arith, ints, start, last, begins)) (omega (arith, ints, low, over, ends)))) in
+    let layer : x.layer ≡ e.layer = ap (λ (s : LiveSpan). s.layer) is ∙ before.0 in
+    let start = earlier_start (span_at f) (span_at e) before.1 in
+    let low = bound_chained t xs x e sorted.1 sorted.0 layer later in
+    let begins = ap (λ (s : LiveSpan). s.start) is in
+    let ends = ap (λ (s : LiveSpan). s.end) is in
+    let last = there_e.1 in
+    subst (λ y. Contains (all_walked t (x ∷ xs)).found y) is
+    (taken_now t xs x (takes_it t w x (omega (arith, ints, start, last, begins)) (omega (arith, ints, low, over, ends)))) in
     let step : Contains w.found e → Contains (all_walked t (x ∷ xs)).found f = λ later.
-        ⊎_elim (λ is. first is later) (λ c. found_grows t w x f (found_chained t xs sorted.1 e f later c before over)) (Contains-cons_cases x xs f there) in
+    ⊎_elim (λ is. first is later) (λ c. found_grows t w x f (found_chained t xs sorted.1 e f later c before over)) (Contains-cons_cases x xs f there) in
     -- e isn't the first span, since f comes before it
     let not_first : x ≡ e → Contains xs f → ⊥ = λ is c.
-        not_both_earlier (span_at f) (span_at e) before.1
-        (before_in_layer e f (sym before.0) (subst (λ y. StandsBefore y f) is (All-contains (StandsBefore x) xs f sorted.0 c))) in
+    not_both_earlier (span_at f) (span_at e) before.1
+    (before_in_layer e f (sym before.0) (subst (λ y. StandsBefore y f) is (All-contains (StandsBefore x) xs f sorted.0 c))) in
     let itself : x ≡ e → Contains (all_walked t (x ∷ xs)).found f = λ is.
-        ⊎_elim (λ same. absurd (let b = before.1 in let f_is_e : f ≡ e = sym same ∙ is in not_both_earlier (span_at f) (span_at e) b (subst (λ y. IsEarlier (span_at e) (span_at y)) (sym f_is_e) (subst (λ y. IsEarlier (span_at y) (span_at e)) f_is_e b))))
-        (λ c. absurd (not_first is c)) (Contains-cons_cases x xs f there) in
+    ⊎_elim (λ same. absurd (let b = before.1 in let f_is_e : f ≡ e = sym same ∙ is in not_both_earlier (span_at f) (span_at e) b (subst (λ y. IsEarlier (span_at e) (span_at y)) (sym f_is_e) (subst (λ y. IsEarlier (span_at y) (span_at e)) f_is_e b))))
+    (λ c. absurd (not_first is c)) (Contains-cons_cases x xs f there) in
     step_cases (λ v. Contains v.found e → Contains (all_walked t (x ∷ xs)).found f) t w x
     (λ taken found. ⊎_elim step itself (Contains-push_cases w.found x e found))
     (λ left found. step found) h
@@ -196,7 +200,7 @@ walked_ended t last w (x ∷ xs) low ended all =
     let rest = walked_ended t last w xs low ended (All-tail (λ s. s.end ≤ℤ last) x xs all) in
     let own = All-head (λ s. s.end ≤ℤ last) x xs all in
     let left : takes t w x ≡ false = ⊎_elim (λ e. let over = taken_end t w x e in
-            absurd (⊎_elim (λ same. omega (arith, ints, same.1, over, own, ended)) (λ is. omega (arith, ints, is, over, own, ended, low)) (bound_cases t w x.layer))) (λ e. e) (cases_Bool (takes t w x)) in
+    absurd (⊎_elim (λ same. omega (arith, ints, same.1, over, own, ended)) (λ is. omega (arith, ints, is, over, own, ended, low)) (bound_cases t w x.layer))) (λ e. e) (cases_Bool (takes t w x)) in
     ap (λ v. stepped t v x) rest ∙ step_left t w x left
 
 pub walked_late : (t first : ℤ) (w : WalkValue) (xs : List LiveSpan) → t <ℤ first → All (λ s. first ≤ℤ s.start) xs → walked t w xs ≡ w

@@ -1,5 +1,5 @@
 -- Live events, their places and their spans.
-use Rattle.std.proofs.Common.{◌≡◌, ◌≢◌, ℕ, ◌+◌, ◌-◌, ◌<◌, ◌≤◌, ℤ, ◌<ℤ◌, Bool, true, false, cond, List, [], ◌∷◌, ◌++◌, length, map, get_or, take, refl, sym, ap, subst, ◌∙◌, arith, ◌⊎◌, ⊎_elim, inl, inr, Option, Some, None}
+use Rattle.std.proofs.Common.{◌≡◌, ◌≢◌, ℕ, ◌+◌, ◌<◌, ◌≤◌, ℤ, ◌<ℤ◌, Bool, true, false, cond, List, [], ◌∷◌, ◌++◌, length, map, get_or, take, refl, sym, ap, subst, ◌∙◌, arith, ◌⊎◌, ⊎_elim, Option, Some, None}
 use Rattle.std.specs.Prelude.{◌==◌, slice_get, ◌↔◌}
 use Rattle.std.specs.List.{All, Contains, position_from}
 use Rattle.std.proofs.lemmas.Bool.{cases_Bool}
@@ -31,8 +31,8 @@ module _ {X : Type 0} (t : X → Bool) where
   position_new i (y ∷ ys) x pass none =
       ⊎_elim (λ e. let some : position_from t i (y ∷ ys) ≡ Some i = ap (λ b. cond b (Some i) (position_from t (i + 1) ys)) e in absurd (let fail : Some i ≡ None = sym some ∙ none in some_none i fail))
       (λ e. let rest : position_from t (i + 1) ys ≡ None = sym (ap (λ b. cond b (Some i) (position_from t (i + 1) ys)) e) ∙ none in
-          let same : (i + 1) + length ys ≡ i + length (y ∷ ys) = omega arith in
-          ap (λ b. cond b (Some i) (position_from t (i + 1) (ys ++ x ∷ []))) e ∙ (position_new (i + 1) ys x pass rest ∙ ap Some same))
+      let same : (i + 1) + length ys ≡ i + length (y ∷ ys) = omega arith in
+      ap (λ b. cond b (Some i) (position_from t (i + 1) (ys ++ x ∷ []))) e ∙ (position_new (i + 1) ys x pass rest ∙ ap Some same))
       (cases_Bool (t y))
 
   position_none : (i : ℕ) (xs : List X) → position_from t i xs ≡ None → All (λ x. t x ≡ false) xs
@@ -88,34 +88,40 @@ spans_pushed events e old new x have put is s = (there, back)
   where
     known : Contains old s → IsSpanOf (events ++ e ∷ []) s
     known c = let own = (have s).0 c in record { event = own.event; stands = slice_get-left events e s.place (slice_get_within events s.place own.event own.stands) ∙ own.stands; span = own.span }
+
     in_old : Contains (put.front ++ put.back) s → Contains old s
     in_old c = subst (λ z. Contains z s) (sym put.was) c
+
     there : Contains new s → IsSpanOf (events ++ e ∷ []) s
     there c =
         ⊎_elim (λ a. known (in_old (Contains-append_left put.front put.back s a)))
         (λ b. ⊎_elim
-            (λ same. subst (IsSpanOf (events ++ e ∷ [])) (sym is ∙ same) record { event = e; stands = slice_get-last events e; span = refl })
-            (λ later. known (in_old (Contains-append_right put.front put.back s later))) (Contains-cons_cases x put.back s b))
+        (λ same. subst (IsSpanOf (events ++ e ∷ [])) (sym is ∙ same) record { event = e; stands = slice_get-last events e; span = refl })
+        (λ later. known (in_old (Contains-append_right put.front put.back s later))) (Contains-cons_cases x put.back s b))
         (Contains-append_cases put.front (x ∷ put.back) s (subst (λ z. Contains z s) put.is c))
+
     kept : Contains old s → Contains new s
     kept c = subst (λ z. Contains z s) (sym put.is)
         (⊎_elim (λ a. Contains-append_left put.front (x ∷ put.back) s a) (λ b. Contains-append_right put.front (x ∷ put.back) s (Contains-tail x put.back s b))
         (Contains-append_cases put.front put.back s (subst (λ z. Contains z s) put.was c)))
+
     itself : Contains new x
     itself = subst (λ z. Contains z x) (sym put.is) (Contains-append_right put.front (x ∷ put.back) x (Contains-head x put.back))
+
     back : IsSpanOf (events ++ e ∷ []) s → Contains new s
     back own =
         let within = slice_get_within (events ++ e ∷ []) s.place own.event own.stands in let more = length_push events e in
         ⊎_elim (λ lt. kept ((have s).1 record { event = own.event; stands = sym (slice_get-left events e s.place lt) ∙ own.stands; span = own.span }))
         (λ at. let event : own.event ≡ e = same_some own.event e (sym own.stands ∙ (ap (slice_get (events ++ e ∷ [])) at ∙ slice_get-last events e)) in
-            let same : s ≡ x = own.span ∙ (ap (λ (z : Event). live_span z s.place) event ∙ (ap (live_span e) at ∙ sym is)) in
-            subst (Contains new) (sym same) itself)
+        let same : s ≡ x = own.span ∙ (ap (λ (z : Event). live_span z s.place) event ∙ (ap (live_span e) at ∙ sym is)) in
+        subst (Contains new) (sym same) itself)
         (below_or_at s.place (length events) (omega (arith, within, more)))
 
 pub no_spans : (spans : List LiveSpan) → spans ≡ [] → HaveSpans [] spans
 no_spans spans is s = (
   (λ c. absurd (let none = subst (λ z. Contains z s) is c in omega (arith, none.1))),
-  (λ own. absurd (let within = slice_get_within [] s.place own.event own.stands in omega (arith, within))))
+  (λ own. absurd (let within = slice_get_within [] s.place own.event own.stands in omega (arith, within))),
+)
 
 -- a new event's ReadOrder is fail span's
 pub new_order : (events : List Event) (spans : List LiveSpan) (order : ℕ) → HaveSpans events spans → position_of order events ≡ None → All (λ s. s.order ≢ order) spans
@@ -213,10 +219,10 @@ module _ (events : List Event) (spans : List LiveSpan) (have : HaveSpans events 
           (λ c. let r = event_at found near at e c in
               let mine = own r.0 r.1 in
               subst (IsNear span_of events t) (same_some mine.event e (sym mine.stands ∙ r.2)) (event_near r.0 ((are.members r.0).0 r.1) mine)),
-          (λ n. let r = span_near e n in at_event found near at (live_span e r.0) e ((are.members (live_span e r.0)).1 r.2) r.1));
+          (λ n. let r = span_near e n in at_event found near at (live_span e r.0) e ((are.members (live_span e r.0)).1 r.2) r.1),
+        );
         sorted = pairwise_back span_of IsEarlier near (subst (Pairwise IsEarlier) (spans_same found near at own) (pairwise_map span_at IsEarlier found are.sorted));
       }
-
 
 -- ---- a loop over what was found
 pub event_read : {A B : Type 0} (v : A → B) (xs : List A) (k : ℕ) (a : A) → k < length xs → a ≡ get_or xs k a → slice_get (map v xs) k ≡ Some (v a)

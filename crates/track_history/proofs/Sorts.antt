@@ -1,11 +1,11 @@
 -- What was found, in order of time.
-use Rattle.std.proofs.Common.{Ordering, Less, Equal, Greater, ◌≡◌, ◌≢◌, ℕ, zero, suc, ◌+◌, ◌<◌, ◌≤◌, ℤ, ◌<ℤ◌, ◌≤ℤ◌, Bool, true, false, cond, List, [], ◌∷◌, ◌++◌, length, get_or, refl, sym, ap, subst, ◌∙◌, arith, ◌⊎◌, ⊎_elim, inl, inr, IsPermutation, IsSortedByKey}
+use Rattle.std.proofs.Common.{Ordering, Less, Equal, Greater, ◌≡◌, ◌≢◌, ℕ, zero, suc, ◌<◌, ℤ, Bool, true, false, cond, List, [], ◌∷◌, length, get_or, sym, ap, subst, ◌∙◌, arith, ⊎_elim, IsPermutation, IsSortedByKey}
 use Rattle.std.specs.Prelude.{int_lt, nat_lt, ◌==◌}
-use Rattle.std.specs.List.{All, Contains, IsDistinct}
+use Rattle.std.specs.List.{IsDistinct}
 use Rattle.std.specs.Cmp.{IsTotalOrder}
 use Rattle.std.specs.Ordering.{int_cmp, nat_cmp, is_lt, ordering_then}
 use Rattle.std.specs.Fn.{ComputesKey, Called}
-use Rattle.std.proofs.lemmas.Bool.{cases_Bool, false≢true}
+use Rattle.std.proofs.lemmas.Bool.{false≢true}
 use Rattle.std.proofs.lemmas.Bool.Decides.{nat_tests}
 use Rattle.std.proofs.lemmas.Cmp.{int_cmp_total, nat_cmp_total, on_total, then_total}
 use Rattle.std.proofs.lemmas.Int.{ints}
@@ -15,13 +15,13 @@ use Rattle.std.proofs.lemmas.Map.Keys.{IsDistinct-IsPermutation}
 use denote.Param.Members.{Mut}
 use denote.Ref.{Bor}
 use Rattle.ass_events.specs.Histories.{Pairwise}
-use Rattle.ass_events.specs.NearEvents.{IsEarlier, IsNear, AreNear}
+use Rattle.ass_events.specs.NearEvents.{IsEarlier, AreNear}
 use Rattle.track_history.specs.declared.spans.LiveSpan.{LiveSpan}
-use Rattle.track_history.specs.Spans.{StandsBefore, span_at, AreInTime}
+use Rattle.track_history.specs.Spans.{span_at, AreInTime}
 use Rattle.track_history.specs.Blocks.{IsIndex, spans_of}
 use Rattle.track_history.specs.declared.blocks.Block.{Block}
-use Rattle.track_history.specs.Walks.{WalkValue, first_walk, takes, stepped, walked}
-use Rattle.track_history.proofs.Pairs.{Pairwise-push, Contains-nil}
+use Rattle.track_history.specs.Walks.{WalkValue, first_walk, walked}
+use Rattle.track_history.proofs.Pairs.{Pairwise-push}
 use Rattle.track_history.proofs.Orders.{earlier_cases}
 use Rattle.track_history.proofs.Nears.{all_walked, found_there, step_cases, near_found, found_near}
 
@@ -50,7 +50,7 @@ earlier_is_lt : (a b : LiveSpan) → IsEarlier (span_at a) (span_at b) → is_lt
 earlier_is_lt a b p =
     ⊎_elim (λ x. before_by_start (int_lt a.start b.start) (int_lt b.start a.start) (nat_cmp a.order b.order) (grind (arith, ints)))
     (λ x. before_by_order (int_lt a.start b.start) (int_lt b.start a.start) (nat_lt a.order b.order) (a.order == b.order)
-        (let e = x.0 in grind (arith, ints)) (let e = x.0 in grind (arith, ints)) (let l = x.1 in grind (arith, nat_tests))) p
+    (let e = x.0 in grind (arith, ints)) (let e = x.0 in grind (arith, ints)) (let l = x.1 in grind (arith, nat_tests))) p
 
 pairwise_at : {X : Type 0} (R : X → X → Type 0) (xs : List X) → ((i j : ℕ) (d : X) → i < j → j < length xs → R (get_or xs i d) (get_or xs j d)) → Pairwise R xs
 pairwise_at R [] h = tt
@@ -97,8 +97,8 @@ found_differ t (x ∷ xs) h =
     let w = all_walked t xs in
     step_cases (λ v. Pairwise Differ v.found) t w x
     (λ e. Pairwise-push Differ w.found x (found_differ t xs h.1)
-        (λ k d lt same. let a = get_or w.found k d in
-            All-contains (λ b. x.order ≢ b.order) xs a h.0 (found_there t xs a (Contains-get_or w.found k d lt)).0 (sym same)))
+    (λ k d lt same. let a = get_or w.found k d in
+    All-contains (λ b. x.order ≢ b.order) xs a h.0 (found_there t xs a (Contains-get_or w.found k d lt)).0 (sym same)))
     (λ e. found_differ t xs h.1)
 
 -- in order of time and different: strictly in order
@@ -114,6 +114,7 @@ near_sorted t blocks w sorted index is moved timed =
     let moves : IsPermutation (all_walked t xs).found sorted = subst (λ (v : WalkValue). IsPermutation v.found sorted) is moved in record {
       members = λ s. (
         (λ c. near_found t xs xs index.sorted (λ y h. h) s (Contains-permutation sorted (all_walked t xs).found s (IsPermutation-sym (all_walked t xs).found sorted moves) c)),
-        (λ near. Contains-permutation (all_walked t xs).found sorted s moves (found_near t xs index.sorted s near)));
+        (λ near. Contains-permutation (all_walked t xs).found sorted s moves (found_near t xs index.sorted s near)),
+      );
       sorted = strictly sorted timed (differ_moved (all_walked t xs).found sorted moves (found_differ t xs index.orders));
     }

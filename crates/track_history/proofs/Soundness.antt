@@ -1,12 +1,12 @@
 -- What is kept stays sound.
-use Rattle.std.proofs.Common.{Ordering, Less, Equal, Greater, ◌≡◌, ◌≢◌, ℕ, ◌+◌, ◌-◌, ◌*◌, ◌<◌, ◌≤◌, Bool, true, false, cond, List, [], ◌∷◌, ◌++◌, length, map, refl, sym, ap, subst, ◌∙◌, arith, ◌⊎◌, ⊎_elim, inl, inr, Option, Some, None}
+use Rattle.std.proofs.Common.{Less, Equal, Greater, ◌≡◌, ◌≢◌, ℕ, ◌+◌, ◌*◌, ◌<◌, ◌≤◌, Bool, true, false, cond, List, [], ◌∷◌, ◌++◌, length, refl, sym, ap, subst, ◌∙◌, arith, ⊎_elim, Some, None}
 use Rattle.std.specs.Prelude.{nat_lt, ◌==◌}
 use Rattle.std.specs.Ordering.{nat_cmp, is_eq}
 use Rattle.std.specs.BTreeMap.{BTreeMap, get, is_at, Updates, UpdatesBy, IsEmpty}
 use Rattle.std.specs.Map.{lookup}
 use Rattle.std.proofs.lemmas.Bool.{cases_Bool, false≢true}
 use Rattle.std.proofs.lemmas.Bool.Decides.{nat_tests}
-use Rattle.std.proofs.lemmas.List.{length_push, length-map, map_push}
+use Rattle.std.proofs.lemmas.List.{length_push}
 use Rattle.ass_events.specs.declared.event.Event.{Event}
 use Rattle.ass_events.specs.Histories.{max_live, max_flushes}
 use Rattle.track_history.specs.declared.spans.LiveSpan.{LiveSpan}
@@ -40,9 +40,9 @@ pub places_pushed : (old new : BTreeMap ℕ ℕ) (events : List Event) (e : Even
 places_pushed old new events e place are put is absent order =
     ⊎_elim
     (λ pass. let same = at_same e.order order pass in
-        put.0 order ∙ (ap (λ t. cond t (Some place) (get nat_cmp old order)) pass ∙ (ap Some is ∙ subst (λ o. Some (length events) ≡ position_of o (events ++ e ∷ [])) same (sym (position_of_new events e absent)))))
+    put.0 order ∙ (ap (λ t. cond t (Some place) (get nat_cmp old order)) pass ∙ (ap Some is ∙ subst (λ o. Some (length events) ≡ position_of o (events ++ e ∷ [])) same (sym (position_of_new events e absent)))))
     (λ fail. let other : e.order ≢ order = λ same. false≢true (sym fail ∙ at_itself e.order order same) in
-        put.0 order ∙ (ap (λ t. cond t (Some place) (get nat_cmp old order)) fail ∙ (are order ∙ sym (position_of_other order events e other))))
+    put.0 order ∙ (ap (λ t. cond t (Some place) (get nat_cmp old order)) fail ∙ (are order ∙ sym (position_of_other order events e other))))
     (cases_Bool (is_at (nat_cmp e.order) order))
 
 pub places_undone : (old new back : BTreeMap ℕ ℕ) (events : List Event) (k k' place : ℕ) → ArePlaces old events → Updates nat_cmp old new k (Some place) → UpdatesBy nat_cmp (nat_cmp k') new back None
@@ -51,7 +51,7 @@ places_undone old new back events k k' place are put taken_at equal absent order
     let taken : UpdatesBy nat_cmp (nat_cmp k) new back None = subst (λ n. UpdatesBy nat_cmp (nat_cmp n) new back None) equal taken_at in
     ⊎_elim
     (λ pass. let same = at_same k order pass in
-        taken.0 order ∙ (ap (λ t. cond t None (get nat_cmp new order)) pass ∙ subst (λ o. None ≡ position_of o events) same (sym absent)))
+    taken.0 order ∙ (ap (λ t. cond t None (get nat_cmp new order)) pass ∙ subst (λ o. None ≡ position_of o events) same (sym absent)))
     (λ fail. taken.0 order ∙ (ap (λ t. cond t None (get nat_cmp new order)) fail ∙ (put.0 order ∙ (ap (λ t. cond t (Some place) (get nat_cmp old order)) fail ∙ are order))))
     (cases_Bool (is_at (nat_cmp k) order))
 

@@ -1,21 +1,18 @@
 -- Turns of a track.
-use Rattle.std.proofs.Common.{◌≡◌, ◌≢◌, ℕ, ◌+◌, List, [], ◌∷◌, ◌++◌, refl, sym, ap, subst, ◌∙◌, ◌⊎◌, inl, inr, Option, Some, None}
+use Rattle.std.proofs.Common.{◌≡◌, ℕ, [], ◌∷◌, refl, sym, ap, subst, ◌∙◌, Option, Some, None}
 use Rattle.std.specs.Prelude.{option_map}
 use Rattle.std.proofs.lemmas.List.{map-append}
 use Rattle.turn_cell.specs.History.{History, with_entry}
-use Rattle.turn_cell.specs.Passes.{TurnView, TakesTurn, IsTurnAfterTries}
+use Rattle.turn_cell.specs.Passes.{TurnView, IsTurnAfterTries}
 use Rattle.turn_cell.proofs.Passes.{Follows_give}
 use Rattle.ass_events.specs.declared.event.Event.{Event}
 use Rattle.ass_events.specs.Histories.{Entry, IsHistory}
-use Rattle.ass_events.specs.Histories as rule
 use Rattle.track_history.specs.declared.answers.TrackEntry.{TrackEntry}
 use Rattle.track_history.specs.declared.answers.Feed.{Feed}
-use Rattle.track_history.specs.declared.answers.Feed.TheVariants.{OutOfMemory}
 use Rattle.track_history.specs.declared.answers.Flushed.{Flushed}
 use Rattle.track_history.specs.declared.live_events.LiveEvents.{LiveEvents}
-use Rattle.track_history.specs.Answers.{IsFeedAnswer, entry_of, extended, fed_entry, feed_answer, flush_answer, flushed_entry}
-use Rattle.track_history.specs.Tellings.{Tells}
-use Rattle.track_history.specs.Calls.{TrackView, IsTurn, IsOffered, IsFlushed, StandsFor, history_of}
+use Rattle.track_history.specs.Answers.{IsFeedAnswer, entry_of, extended, fed_entry, flush_answer, flushed_entry}
+use Rattle.track_history.specs.Calls.{TrackView, IsTurn, IsOffered, IsFlushed, history_of}
 use Rattle.track_history.proofs.Histories.{fed_after, flushed_after}
 
 pub history_of-with_entry : (list : History TrackEntry) (n : ℕ) (given : Option TrackEntry) → history_of (with_entry list n given) ≡ extended (history_of list) (option_map entry_of given)

@@ -1,8 +1,8 @@
 -- Public: the spans of live events, and their order.
-use Rattle.std.specs.Prelude.{◌≡◌, ◌⊎◌, ℕ, ◌<◌, ◌+ℤ◌, ◌<ℤ◌, List, Some, slice_get}
+use Rattle.std.specs.Prelude.{◌≡◌, ◌⊎◌, ℕ, ◌+ℤ◌, ◌<ℤ◌, List, Some, slice_get}
 use Rattle.ass_events.specs.declared.event.Event.{Event}
 use Rattle.ass_events.specs.Histories.{Pairwise}
-use Rattle.ass_events.specs.NearEvents.{Span, IsEarlier, span_of}
+use Rattle.ass_events.specs.NearEvents.{Span, IsEarlier}
 use Rattle.track_history.specs.declared.spans.LiveSpan.{LiveSpan}
 
 abbrev pub span_at : LiveSpan → Span

@@ -3,6 +3,7 @@
 
 mod answers;
 mod blocks;
+pub mod laws;
 mod live_events;
 mod near_index;
 mod scene;

@@ -1,4 +1,4 @@
-use Rattle.std.proofs.Common.{◌≡◌, ◌<◌, List, length, sym, arith, rules, None}
+use Rattle.std.proofs.Common.{◌≡◌, ◌<◌, length, sym, arith, rules, None}
 use Rattle.std.specs.Arc.{arc_value}
 use Rattle.std.proofs.lemmas.List.{length-map}
 use Rattle.ass_events.specs.Histories.{max_live}

@@ -1,4 +1,4 @@
-use Rattle.std.proofs.Common.{◌≡◌, ℤ, pos, ◌+◌, List, [], ◌∷◌, ◌++◌, length, map, get_or, take, sym, ap, subst, ◌∙◌, arith}
+use Rattle.std.proofs.Common.{◌≡◌, ℤ, pos, ◌+◌, [], ◌∷◌, ◌++◌, map, get_or, take, sym, ap, subst, ◌∙◌, arith}
 use Rattle.std.specs.Arc.{arc_value}
 use Rattle.std.proofs.Math.Facts.{to_z-of_z}
 use Rattle.std.proofs.lemmas.List.{get_or_default, length-map, map_push}
@@ -29,7 +29,7 @@ loop-span-preserved c =
     let at = event_read arc_value arcs s.place a (omega (arith, within, length-map arcs arc_value)) c.index.ensures in
     let more = events_more (events_of self) read (map arc_value near) k s (arc_value a) lt (get_or_default read k nothing s lt) c.loop-span.invariant at in
     let made : map arc_value c.push.new.self.items ≡ map arc_value near ++ arc_value a ∷ [] =
-        ap (λ xs. map arc_value xs) c.in_ok-push.ensures.items ∙ (map_push arc_value near shared ∙ ap (λ (z : Event). map arc_value near ++ z ∷ []) c.in_ok-try_clone.ensures) in
+    ap (λ xs. map arc_value xs) c.in_ok-push.ensures.items ∙ (map_push arc_value near shared ∙ ap (λ (z : Event). map arc_value near ++ z ∷ []) c.in_ok-try_clone.ensures) in
     subst (AreEventsAt (events_of self) (take (k + 1) read)) (sym made) more
 
 pub returns : goal.returns

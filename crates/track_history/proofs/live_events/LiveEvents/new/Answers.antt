@@ -1,4 +1,4 @@
-use Rattle.std.proofs.Common.{List, map, refl, ap}
+use Rattle.std.proofs.Common.{map, refl, ap}
 use Rattle.std.specs.Arc.{arc_value}
 use Rattle.track_history.proofs.Histories.{tells_nothing}
 use Rattle.track_history.proofs.live_events.LiveEvents.new.Goals as goal

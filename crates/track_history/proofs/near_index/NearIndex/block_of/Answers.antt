@@ -1,4 +1,4 @@
-use Rattle.std.proofs.Common.{◌≡◌, ℕ, ◌+◌, ◌-◌, ◌/◌, drop, get_or, refl, ap, subst, ◌∙◌, arith}
+use Rattle.std.proofs.Common.{◌≡◌, ◌+◌, ◌-◌, ◌/◌, drop, get_or, refl, ap, subst, ◌∙◌, arith}
 use Rattle.std.proofs.lemmas.Bool.{false≢true}
 use Rattle.track_history.specs.declared.blocks.Block.{Block}
 use Rattle.track_history.specs.Blocks.{spans_of}
@@ -13,7 +13,7 @@ search-preserved-then-is_before c =
       order = omega (arith, more, inv.order);
       within = inv.within;
       before = blocks_before c.args.self.now.blocks.items (c.search.low + (c.search.high - c.search.low) / 2) c.index.result.now s c.args.span.now c.requires.index (omega (arith, more, inv.within))
-        (c.index-in-search.ensures ∙ ap (λ (z : Block). get_or z.spans.items 0 s) c.index.ensures) (c.if-is_before.ensures.0 refl);
+          (c.index-in-search.ensures ∙ ap (λ (z : Block). get_or z.spans.items 0 s) c.index.ensures) (c.if-is_before.ensures.0 refl);
       behind = inv.behind;
     }
 
@@ -26,7 +26,7 @@ search-preserved c =
       within = omega (arith, more, inv.within);
       before = inv.before;
       behind = blocks_behind c.args.self.now.blocks.items (c.search.low + (c.search.high - c.search.low) / 2) c.index.result.now s c.args.span.now c.requires.index (omega (arith, more, inv.within))
-        (c.index-in-search.ensures ∙ ap (λ (z : Block). get_or z.spans.items 0 s) c.index.ensures) c.requires.new (λ b. false≢true (c.if-is_before.ensures.1 b));
+          (c.index-in-search.ensures ∙ ap (λ (z : Block). get_or z.spans.items 0 s) c.index.ensures) c.requires.new (λ b. false≢true (c.if-is_before.ensures.1 b));
     }
 
 pub returns-clause-behind : goal.returns-clause-behind

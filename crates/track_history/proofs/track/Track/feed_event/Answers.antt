@@ -1,4 +1,4 @@
-use Rattle.std.proofs.Common.{◌≡◌, sym, subst, inr}
+use Rattle.std.proofs.Common.{sym, subst, inr}
 use Rattle.std.specs.Arc.{arc_value}
 use Rattle.ass_events.specs.declared.event.Event.{Event}
 use Rattle.track_history.specs.declared.live_events.LiveEvents.{LiveEvents}
