@@ -1,3 +1,4 @@
 pub mod AnswerLemmas
 pub mod GlyphLemmas
+pub mod KeyLemmas
 pub mod PartLemmas
