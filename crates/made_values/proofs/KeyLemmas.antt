@@ -1,15 +1,12 @@
 -- The masks of a key's parts.
-use Rattle.std.proofs.Common.{◌≡◌, ℕ, ◌≤◌, ℤ, List, [], ◌∷◌, All, map, refl, ap, arith}
-use Rattle.std.proofs.lemmas.Int.{ints}
-use Rattle.std.proofs.lemmas.List.Elements.{All-nil, All-cons, All-head, All-tail, All-map}
-use Rattle.ass_num.specs.Limits.{IsWithin, max_mask_shift}
-use Rattle.ass_num.specs.Masks.{MaskValue}
+use Rattle.std.proofs.Common.{◌≡◌, ℕ, List, [], ◌∷◌, All, map, refl, ap, arith}
+use Rattle.std.proofs.lemmas.List.Elements.{All-nil, All-cons, All-head, All-tail}
+use Rattle.ass_num.specs.Limits.{max_mask_shift}
 use Rattle.ass_num.proofs.LimitLemmas.{IsWithin-wider}
 use Rattle.bdf_font.specs.Fonts.{FontValue}
 use Rattle.mask_cover.specs.Sums.{IsPlaceableMask}
 use Rattle.mask_keys.specs.Keys.{IsValidPart, max_part_offset, region_key}
 use Rattle.mask_keys.specs.declared.composite_key.Part.{Part}
-use Rattle.mask_model.specs.Masks.{summed_mask}
 use Rattle.mask_model.specs.Values.{mask_value, placed_part, region_value}
 use Rattle.mask_model.proofs.ReachLemmas.{mask_bytes, mask_reach}
 use Rattle.made_values.specs.Parts.{HasByteValues, masks_of, placed_masks}

@@ -2,3 +2,4 @@ pub mod AnswerLemmas
 pub mod GlyphLemmas
 pub mod KeyLemmas
 pub mod PartLemmas
+pub mod SumLemmas

@@ -1,6 +1,8 @@
-//! Laws of composed masks. The function does nothing: its contract is the law.
+//! Laws of composed masks. The functions do nothing: their contracts are the laws.
 
-ghost use Rattle.std.specs.Prelude.{◌≡◌, ℕ, List, All};
+ghost use Rattle.std.specs.Prelude.{◌≡◌, ℕ, ℤ, List, All};
+ghost use Rattle.ass_num.specs.Coverage.{IsSum};
+ghost use Rattle.ass_num.specs.Masks.{MaskValue};
 ghost use Rattle.bdf_font.specs.Fonts.{FontValue};
 ghost use Rattle.made_values.specs.Parts.{HasByteValues, masks_of, placed_masks};
 ghost use Rattle.mask_cover.specs.Sums.{IsPlaceableMask};
@@ -9,6 +11,11 @@ ghost use Rattle.mask_model.specs.Masks.{summed_mask};
 ghost use Rattle.mask_model.specs.Values.{composite_value};
 
 use mask_keys::{CompositeKey, Part};
+
+/// The sum of moved masks, as a function, is at each pixel their sum, at most 255, in the least box that has their boxes.
+pub fn summed_masks_are_sums()
+    ensures { (placed : List (MaskValue × ℤ × ℤ)) → All IsPlaceableMask placed → IsSum placed (summed_mask placed) }
+{}
 
 /// The masks of a key's parts are what `made_composite` asks for, and make the key's composed mask.
 pub fn parts_make_their_composite()
