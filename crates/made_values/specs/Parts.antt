@@ -1,7 +1,9 @@
 -- Public: parts with their masks at hand.
-use Rattle.std.specs.Prelude.{ℤ, ◌≤◌, List, [], ◌∷◌}
+use Rattle.std.specs.Prelude.{ℤ, ◌≤◌, List, [], ◌∷◌, map}
 use Rattle.ass_num.specs.Masks.{MaskValue, value_at}
+use Rattle.bdf_font.specs.Fonts.{FontValue}
 use Rattle.mask_keys.specs.declared.composite_key.Part.{Part}
+use Rattle.mask_model.specs.Values.{mask_value}
 
 -- the masks of the parts in the same order, each with its part's offset
 abbrev pub placed_masks : List Part → List MaskValue → List (MaskValue × ℤ × ℤ)
@@ -11,3 +13,7 @@ placed_masks _ _ = []
 -- no value of the mask is above 255
 abbrev pub HasByteValues : MaskValue → Type 0
 HasByteValues m = (x y : ℤ) → value_at m x y ≤ 255
+
+-- the masks of the parts' keys
+abbrev pub masks_of : List FontValue → List Part → List MaskValue
+masks_of fonts parts = map (λ part. mask_value fonts part.mask) parts

@@ -3,6 +3,7 @@
 
 mod composites;
 mod costs;
+mod laws;
 mod masks;
 mod outlines;
 mod regions;
@@ -11,6 +12,7 @@ mod tests;
 
 pub use composites::made_composite;
 pub use costs::{mask_cost, region_cost};
+pub use laws::{parts_make_their_composite, summed_masks_are_sums};
 pub use masks::{made_mask, mask_of_region};
 pub use outlines::made_outline;
 pub use regions::made_border;

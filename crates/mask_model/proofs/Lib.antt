@@ -1,5 +1,7 @@
 pub mod BoxLemmas
+pub mod CoverLemmas
 pub mod EdgeLemmas
+pub mod LeastLemmas
 pub mod MaskLemmas
 pub mod OutlineLemmas
 pub mod ReachLemmas

@@ -26,12 +26,12 @@ use Rattle.mask_model.proofs.BoxLemmas.{some_from-found, some_from-made}
 
 -- ---- the box that a search finds
 
-record IsFirst (p : ℤ → Bool) (i : ℤ) (n : ℕ) (k : ℤ) : Type 0 where
-  from : i ≤ℤ k
-  before : k <ℤ (i +ℤ pos n)
-  passes : p k ≡ true
+pub record IsFirst (p : ℤ → Bool) (i : ℤ) (n : ℕ) (k : ℤ) : Type 0 where
+  pub from : i ≤ℤ k
+  pub before : k <ℤ (i +ℤ pos n)
+  pub passes : p k ≡ true
 
-first_is : (p : ℤ → Bool) (i : ℤ) (n : ℕ) → some_from p i n ≡ true → IsFirst p i n (first_from p i n)
+pub first_is : (p : ℤ → Bool) (i : ℤ) (n : ℕ) → some_from p i n ≡ true → IsFirst p i n (first_from p i n)
 unfolding some_from first_from
 first_is p i zero h = absurd (false≢true h)
 first_is p i (suc n) h = by_test (p i) refl (first_is p (i +ℤ pos 1) n)
@@ -45,7 +45,7 @@ first_is p i (suc n) h = by_test (p i) refl (first_is p (i +ℤ pos 1) n)
         let b = f.before in
         rw e (record { from = omega (arith, ints); before = omega (arith, ints); passes = f.passes })
 
-last_is : (p : ℤ → Bool) (i : ℤ) (n : ℕ) (k : ℤ) → i ≤ℤ k → k <ℤ (i +ℤ pos n) → p k ≡ true → (k <ℤ last_end_from p i n) × (last_end_from p i n ≤ℤ (i +ℤ pos n))
+pub last_is : (p : ℤ → Bool) (i : ℤ) (n : ℕ) (k : ℤ) → i ≤ℤ k → k <ℤ (i +ℤ pos n) → p k ≡ true → (k <ℤ last_end_from p i n) × (last_end_from p i n ≤ℤ (i +ℤ pos n))
 unfolding last_end_from
 last_is p i zero k a b e = absurd (omega (arith, ints))
 last_is p i (suc n) k a b e = by_test (p (i +ℤ pos n)) refl (λ l. last_is p i n k a l e)
@@ -57,7 +57,7 @@ last_is p i (suc n) k a b e = by_test (p (i +ℤ pos n)) refl (λ l. last_is p i
         (λ (l : k <ℤ (i +ℤ pos n)). let r = next l in let u = r.0 in let v = r.1 in rw f (u, omega (arith, ints)))
         (λ (l : (i +ℤ pos n) ≤ℤ k). let same : k ≡ i +ℤ pos n = omega (arith, ints) in absurd (false≢true (sym f ∙ ap p (sym same) ∙ e)))
 
-size_of : (z : ℤ) → pos 0 <ℤ z → pos (unsigned_abs z) ≡ z
+pub size_of : (z : ℤ) → pos 0 <ℤ z → pos (unsigned_abs z) ≡ z
 size_of (pos n) l = refl
 size_of (negsuc n) l = absurd (omega (arith, ints))
 

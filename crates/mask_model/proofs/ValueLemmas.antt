@@ -52,20 +52,20 @@ blurred_is r m result is blur = mask_in-is result (blurred r (value_at m)) is bl
 
 -- ---- sums
 
-in_box_true : (b : PixelBox) (i j : ℤ) → InBox b i j → is_in_box b i j ≡ true
+pub in_box_true : (b : PixelBox) (i j : ℤ) → InBox b i j → is_in_box b i j ≡ true
 in_box_true b i j h =
     and_from (int_le b.x i && int_lt i (b.x +ℤ pos b.w)) (int_le b.y j && int_lt j (b.y +ℤ pos b.h))
     (and_from (int_le b.x i) (int_lt i (b.x +ℤ pos b.w)) (le_true b.x i h.left) (lt_true i (b.x +ℤ pos b.w) h.right))
     (and_from (int_le b.y j) (int_lt j (b.y +ℤ pos b.h)) (le_true b.y j h.top) (lt_true j (b.y +ℤ pos b.h) h.bottom))
 
-in_box_is : (b : PixelBox) (i j : ℤ) → is_in_box b i j ≡ true → InBox b i j
+pub in_box_is : (b : PixelBox) (i j : ℤ) → is_in_box b i j ≡ true → InBox b i j
 in_box_is b i j h =
     let p = and_parts (int_le b.x i && int_lt i (b.x +ℤ pos b.w)) (int_le b.y j && int_lt j (b.y +ℤ pos b.h)) h in
     let x = and_parts (int_le b.x i) (int_lt i (b.x +ℤ pos b.w)) p.0 in
     let y = and_parts (int_le b.y j) (int_lt j (b.y +ℤ pos b.h)) p.1 in
     record { left = le_is b.x i x.0; right = lt_is i (b.x +ℤ pos b.w) x.1; top = le_is b.y j y.0; bottom = lt_is j (b.y +ℤ pos b.h) y.1 }
 
-Any_weaker : {X : Type 0} (P Q : X → Type 0) (xs : List X) → ((x : X) → P x → Q x) → Any P xs → Any Q xs
+pub Any_weaker : {X : Type 0} (P Q : X → Type 0) (xs : List X) → ((x : X) → P x → Q x) → Any P xs → Any Q xs
 Any_weaker P Q xs f h = (h.0, h.1, h.2, h.3, f h.1 h.4)
 
 pub summed_is : (parts : List (MaskValue × ℤ × ℤ)) (corner side : ℕ) (m : MaskValue) → is_mask m ≡ true → IsSum parts m → IsMaskWithin corner side m → corner + side ≤ max_summed → m ≡ summed_mask parts

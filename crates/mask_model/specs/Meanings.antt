@@ -1,4 +1,4 @@
--- Public: what regions are, in the words of samples.
+-- Public: what regions and masks are, in the words of samples and coverage.
 use Rattle.std.specs.Prelude.{◌≡◌, ℤ, List}
 use Rattle.ass_num.specs.Regions.{RegionValue, member}
 use Rattle.ass_num.specs.Winding.{inside}

@@ -1,13 +1,15 @@
 //! Laws of values. The functions do nothing: their contracts are the laws.
 
 ghost use Rattle.std.specs.Prelude.{◌≡◌, ℤ, ◌<◌, ◌≤◌, ◌^◌, true, List};
+ghost use Rattle.ass_num.specs.Coverage.{IsCover};
 ghost use Rattle.ass_num.specs.Limits.{IsMaskWithin, IsRegionWithin, max_mask_corner, max_mask_side, max_sample};
 ghost use Rattle.ass_num.specs.Masks.{MaskValue, value_at};
-ghost use Rattle.ass_num.specs.Regions.{RegionValue, is_canonical};
+ghost use Rattle.ass_num.specs.Regions.{RegionValue, is_canonical, member};
 ghost use Rattle.bdf_font.specs.Fonts.{FontValue};
 ghost use Rattle.mask_keys.specs.Equality.{equal_outlines, equal_regions, equal_masks, equal_composites};
-ghost use Rattle.mask_keys.specs.Keys.{HasMaskRanges, IsValidRegion};
+ghost use Rattle.mask_keys.specs.Keys.{HasMaskRanges, IsValidRegion, region_key};
 ghost use Rattle.mask_model.specs.Costs.{region_cost, mask_cost};
+ghost use Rattle.mask_model.specs.Masks.{covered_mask};
 ghost use Rattle.mask_model.specs.Meanings.{HasItsSamples};
 ghost use Rattle.mask_model.specs.Outlines.{glyph_counts};
 ghost use Rattle.sample_region.specs.Limits.{max_inside};
@@ -46,4 +48,9 @@ pub fn regions_have_their_samples()
 pub fn masks_can_be_added()
     ensures near { (fonts : List FontValue) (key : MaskKey) → HasMaskRanges key → IsMaskWithin max_mask_corner max_mask_side (mask_value fonts key) }
     ensures bytes { (fonts : List FontValue) (key : MaskKey) (x y : ℤ) → value_at (mask_value fonts key) x y ≤ 255 }
+{}
+
+/// Before it is softened and blurred, the mask of a key has the coverage of each pixel by the key's region, in the least box of the pixels that have a sample.
+pub fn masks_cover_their_samples()
+    ensures { (fonts : List FontValue) (key : MaskKey) → HasMaskRanges key → IsCover (member (region_value fonts (region_key key)).top (region_value fonts (region_key key)).rows) key.px key.py (covered_mask key.px key.py (region_value fonts (region_key key))) }
 {}

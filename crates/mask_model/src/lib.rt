@@ -4,6 +4,6 @@
 mod laws;
 
 pub use laws::{
-    costs_are_words, equal_keys_have_one_value, masks_can_be_added, regions_have_one_form,
-    regions_have_their_samples,
+    costs_are_words, equal_keys_have_one_value, masks_can_be_added, masks_cover_their_samples,
+    regions_have_one_form, regions_have_their_samples,
 };
