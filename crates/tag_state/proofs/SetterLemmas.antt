@@ -1,14 +1,14 @@
 -- The one lemma of all properties: behind an effect a property is what the effect alone makes of what it was before.
-use Rattle.std.proofs.Common.{◌≡◌, ℕ, ◌<◌, ℤ, pos, Bool, true, false, cond, List, [], ◌∷◌, refl, sym, ap, ◌∙◌, subst, Option, None, Some}
-use Rattle.std.specs.Prelude.{if◌then◌else◌, slice_get}
+use Rattle.std.proofs.Common.{◌≡◌, ℕ, Bool, true, false, cond, List, [], ◌∷◌, refl, sym, ap, ◌∙◌, Option, None, Some}
+use Rattle.std.specs.Prelude.{slice_get}
 use Rattle.std.specs.List.{filter_map, cons_option}
 use Rattle.ass_script.specs.Scripts.{ScriptValue}
 use Rattle.ass_script.specs.declared.style.Style.{Style}
 use Rattle.override_tags.specs.declared.tag.Tag.TheVariants.{Reset}
 use Rattle.override_tags.specs.declared.view.State.{State}
 use Rattle.override_tags.specs.declared.view.Syllable.{Syllable}
-use Rattle.tag_state.specs.Setters.{Effect, Plain, Gradual, Setter, Sets, Moves, Property, is_reset, since_reset, restyled, style_in_force, by_setters, setters_in, value_at}
-use Rattle.tag_state.specs.Properties.{Measure, Size, ScaleX, ScaleY, Spacing, Angle, BorderX, BorderY, ShadowX, ShadowY, Edges, Blur, Offset, Bold, Italic, Underline, Strikeout, number, number_of, Switch, switch, switch_of, Channel, byte, byte_in, colour_at, font, font_setter, level}
+use Rattle.tag_state.specs.Setters.{Effect, Plain, Setter, Sets, Moves, Property, is_reset, since_reset, restyled, style_in_force, by_setters, setters_in, value_at}
+use Rattle.tag_state.specs.Properties.{Measure, Size, ScaleX, ScaleY, Spacing, Angle, BorderX, BorderY, ShadowX, ShadowY, Edges, Blur, Offset, Bold, Italic, Underline, Strikeout, number, number_of, Switch, switch, switch_of, byte, font, font_setter, level}
 use Rattle.tag_state.specs.Syllables.{sung_at}
 use Rattle.tag_state.specs.Laws.{IsOrdinary}
 use Rattle.tag_state.specs.States.{IsStateAt}

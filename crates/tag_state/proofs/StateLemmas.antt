@@ -1,12 +1,11 @@
 -- The state behind each kind of tag.
-use Rattle.std.proofs.Common.{◌≡◌, ◌≢◌, ℕ, suc, ◌+◌, ◌*◌, ◌<◌, ◌≤◌, ℤ, pos, ◌+ℤ◌, ◌≤ℤ◌, Bool, true, false, cond, List, [], ◌∷◌, ◌++◌, length, map, reverse, take, get_or, refl, sym, ap, ◌∙◌, subst, Option, None, Some, arith, append_assoc}
-use Rattle.std.specs.Prelude.{slice_get, IfSome, unwrap_or}
+use Rattle.std.proofs.Common.{◌≡◌, ℕ, ◌+◌, ◌<◌, ◌≤◌, ℤ, pos, ◌+ℤ◌, List, [], ◌∷◌, ◌++◌, length, map, reverse, take, get_or, refl, sym, ap, ◌∙◌, subst, Option, None, Some, arith}
+use Rattle.std.specs.Prelude.{slice_get, unwrap_or}
 use Rattle.std.proofs.lemmas.Int.{ints}
 use Rattle.std.proofs.lemmas.List.{reverse-append, map_more, take_all}
 use Rattle.ass_script.specs.Scripts.{ScriptValue, style_for}
 use Rattle.ass_script.specs.declared.style.Style.{Style}
 use Rattle.event_instants.specs.Instants.{moved}
-use Rattle.override_tags.specs.Limits.{max_syllable}
 use Rattle.override_tags.specs.declared.tag.GradualTag.{GradualTag}
 use Rattle.override_tags.specs.declared.tag.Tag.{Tag}
 use Rattle.override_tags.specs.declared.tag.Tag.TheVariants.{Reset, FontName, Karaoke}
@@ -15,14 +14,14 @@ use Rattle.tag_arguments.specs.declared.kinds.Num.{Num}
 use Rattle.override_tags.specs.declared.view.State.{State}
 use Rattle.override_tags.specs.declared.view.Syllable.{Syllable}
 use Rattle.tag_arguments.specs.declared.kinds.Sung.{Sung}
-use Rattle.tag_state.specs.Setters.{Effect, Plain, Gradual, restyled, reset_name, style_in_force, value_at, replaced}
+use Rattle.tag_state.specs.Setters.{Effect, Plain, Gradual, reset_name, style_in_force, value_at, replaced}
 use Rattle.tag_state.specs.Properties.{Measure, Size, ScaleX, ScaleY, Spacing, Angle, BorderX, BorderY, ShadowX, ShadowY, Edges, Blur, Offset, number, number_of, Switch, Bold, Italic, Underline, Strikeout, switch, switch_of, font, font_named, number_setter, switch_setter, alpha_setter, colour_setter, level_setter, styled_number, styled_switch, Channel, Red, Green, Blue, Opacity, byte, byte_in, colour_at, moved_byte}
-use Rattle.tag_state.specs.Syllables.{sung_by, sung_at, sung_len, sung_until, syllable_count, syllables_in}
+use Rattle.tag_state.specs.Syllables.{sung_at, sung_until, syllables_in}
 use Rattle.tag_state.specs.Laws.{IsOrdinary}
 use Rattle.tag_state.specs.States.{IsStateAt}
-use Rattle.tag_state.specs.Steps.{after_setter, after, IsStepped, HasRoom, styled_state, restyled_state, syllable_behind}
+use Rattle.tag_state.specs.Steps.{after_setter, after, IsStepped, styled_state, restyled_state, syllable_behind}
 use Rattle.tag_state.proofs.ChoiceLemmas.{map-reverse}
-use Rattle.tag_state.proofs.SetterLemmas.{font_stays, state_core, state_step, style_stays, value_step}
+use Rattle.tag_state.proofs.SetterLemmas.{font_stays, state_core, state_step, value_step}
 
 -- ---- states
 

@@ -1,6 +1,6 @@
 -- What a tag's functions give is one step for each property.
-use Rattle.std.proofs.Common.{◌≡◌, ◌≢◌, ℕ, zero, suc, ◌+◌, ◌<◌, ◌==◌, ℤ, Bool, true, false, cond, List, [], ◌∷◌, length, get_or, set, refl, sym, ap, ◌∙◌, subst, Option, None, Some, arith, eq-eqb, get_or-set_other, get_or-set_same}
-use Rattle.std.specs.Prelude.{if◌then◌else◌, unwrap_or}
+use Rattle.std.proofs.Common.{◌≡◌, ◌≢◌, ℕ, zero, suc, ◌+◌, ◌<◌, ◌==◌, ℤ, Bool, true, false, cond, List, [], ◌∷◌, length, set, refl, sym, ap, ◌∙◌, subst, Option, None, Some, arith, eq-eqb, get_or-set_other, get_or-set_same}
+use Rattle.std.specs.Prelude.{unwrap_or}
 use Rattle.std.specs.Option.{option_map}
 use Rattle.ass_num.specs.Colours.{colour_of}
 use Rattle.ass_num.specs.declared.colour.Rgba.{Rgba}
@@ -11,9 +11,9 @@ use Rattle.override_tags.specs.declared.tag.Tag.TheVariants as tag
 use Rattle.override_tags.specs.declared.view.State.{State}
 use Rattle.tag_arguments.specs.declared.kinds.Num.{Num}
 use Rattle.tag_arguments.specs.declared.kinds.Num.TheVariants as num
-use Rattle.tag_state.specs.Setters.{Effect, Plain, Gradual, Setter, Sets, Moves, replaced}
+use Rattle.tag_state.specs.Setters.{Plain, Gradual, Sets, Moves, replaced}
 use Rattle.tag_state.specs.Properties.{Measure, Size, ScaleX, ScaleY, Spacing, Angle, BorderX, BorderY, ShadowX, ShadowY, Edges, Blur, Offset, number, number_of, sets_measure, given_number, styled_number, sets_switch, is_on, styled_switch, Switch, Bold, Italic, Underline, Strikeout, switch, switch_of, Channel, Red, Green, Blue, Opacity, byte, byte_in, colour_at, level, has_alpha, moved_byte, colour_setter, alpha_setter}
-use Rattle.tag_state.specs.Steps.{after_setter, after, IsStepped, set_or_moved, number_after, numbers_after, switch_after, level_after, number_stepped, recoloured, colour_after, alpha_after, number_effect, colour_effect, alpha_effect}
+use Rattle.tag_state.specs.Steps.{after_setter, after, IsStepped, set_or_moved, number_after, numbers_after, switch_after, level_after, number_stepped, colour_after, alpha_after, number_effect, colour_effect, alpha_effect}
 
 -- ---- numbers
 

@@ -1,5 +1,5 @@
 -- Public: a state that is folded forward over the effects of a text is the state that looking back gives.
-use Rattle.std.specs.Prelude.{◌≡◌, ℕ, ℤ, pos, Bool, false, List, [], ◌∷◌, Option, Some, None, slice_get, unwrap_or}
+use Rattle.std.specs.Prelude.{◌≡◌, ℕ, ℤ, pos, false, List, [], ◌∷◌, Option, Some, None, slice_get, unwrap_or}
 use Rattle.ass_script.specs.Scripts.{ScriptValue, style_for}
 use Rattle.override_tags.specs.declared.tag.Tag.TheVariants.{Reset, FontName, Karaoke}
 use Rattle.override_tags.specs.declared.view.State.{State}
