@@ -1,5 +1,5 @@
 -- What counts of several tags, one item after another.
-use Rattle.std.proofs.Common.{◌≡◌, ℕ, suc, ◌+◌, ◌<◌, ◌≤◌, ℤ, pos, Bool, true, false, cond, List, [], ◌∷◌, ◌++◌, length, map, reverse, take, drop, get_or, refl, sym, ap, ◌∙◌, subst, Option, None, Some, arith, append_assoc, drop-cons}
+use Rattle.std.proofs.Common.{◌≡◌, ℕ, suc, ◌+◌, ◌<◌, ◌≤◌, ℤ, true, false, List, [], ◌∷◌, ◌++◌, length, map, reverse, take, drop, get_or, refl, sym, ap, ◌∙◌, Option, None, Some, drop-cons}
 use Rattle.std.specs.Prelude.{slice_get, unwrap_or, is_some}
 use Rattle.std.specs.List.{filter_map, cons_option}
 use Rattle.std.specs.Option.{option_map}
@@ -13,13 +13,12 @@ use Rattle.override_tags.specs.declared.item.Item.{Item}
 use Rattle.override_tags.specs.declared.item.ItemKind.{ItemKind}
 use Rattle.override_tags.specs.declared.item.ItemKind.TheVariants as item
 use Rattle.override_tags.specs.declared.tag.ClipTag.{ClipTag}
-use Rattle.override_tags.specs.declared.tag.ClipTag.TheVariants.{Rect}
 use Rattle.override_tags.specs.declared.tag.GradualTag.{GradualTag}
 use Rattle.override_tags.specs.declared.tag.GradualTag.TheVariants as gradual
 use Rattle.override_tags.specs.declared.tag.Tag.{Tag}
 use Rattle.override_tags.specs.declared.tag.Tag.TheVariants as tag
 use Rattle.tag_arguments.specs.declared.kinds.Num.TheVariants as num
-use Rattle.tag_state.specs.Setters.{Effect, Plain, Gradual, by_setters, effects_of, effects_of_tag, past, past_all, replaced}
+use Rattle.tag_state.specs.Setters.{Effect, Gradual, by_setters, effects_of, past, past_all, replaced}
 use Rattle.tag_state.specs.Choices.{first_in, first_of, wrap_setter, wrap_at, clip_at}
 use Rattle.tag_state.specs.Steps.{wrap_said, clip_step}
 

@@ -1,14 +1,14 @@
 -- The one lemma of all properties: behind an effect a property is what the effect alone makes of what it was before.
-use Rattle.std.proofs.Common.{◌≡◌, ℕ, ◌<◌, ℤ, pos, Bool, true, false, cond, List, [], ◌∷◌, refl, sym, ap, ◌∙◌, subst, Option, None, Some}
-use Rattle.std.specs.Prelude.{if◌then◌else◌, slice_get}
+use Rattle.std.proofs.Common.{◌≡◌, ℕ, Bool, true, false, cond, List, [], ◌∷◌, refl, sym, ap, ◌∙◌, Option, None, Some}
+use Rattle.std.specs.Prelude.{slice_get}
 use Rattle.std.specs.List.{filter_map, cons_option}
 use Rattle.ass_script.specs.Scripts.{ScriptValue}
 use Rattle.ass_script.specs.declared.style.Style.{Style}
 use Rattle.override_tags.specs.declared.tag.Tag.TheVariants.{Reset}
 use Rattle.override_tags.specs.declared.view.State.{State}
 use Rattle.override_tags.specs.declared.view.Syllable.{Syllable}
-use Rattle.tag_state.specs.Setters.{Effect, Plain, Gradual, Setter, Sets, Moves, Property, is_reset, since_reset, restyled, style_in_force, by_setters, setters_in, value_at}
-use Rattle.tag_state.specs.Properties.{Measure, Size, ScaleX, ScaleY, Spacing, Angle, BorderX, BorderY, ShadowX, ShadowY, Edges, Blur, Offset, Bold, Italic, Underline, Strikeout, number, number_of, Switch, switch, switch_of, Channel, byte, byte_in, colour_at, font, font_setter, level}
+use Rattle.tag_state.specs.Setters.{Effect, Plain, Setter, Sets, Moves, Property, is_reset, since_reset, restyled, style_in_force, by_setters, setters_in, property_at}
+use Rattle.tag_state.specs.Properties.{Measure, Size, ScaleX, ScaleY, Spacing, Angle, BorderX, BorderY, ShadowX, ShadowY, Edges, Blur, Offset, Bold, Italic, Underline, Strikeout, number, measure_of, Switch, switch, switch_of, byte, font, font_setter, level}
 use Rattle.tag_state.specs.Syllables.{sung_at}
 use Rattle.tag_state.specs.Laws.{IsOrdinary}
 use Rattle.tag_state.specs.States.{IsStateAt}
@@ -37,7 +37,7 @@ setters_more p effect earlier kept = by_resets p.resets
     by_resets false = refl
 
 pub value_step : {V : Type 0} (p : Property V) (script : ScriptValue) (own : List ℕ) (effect : Effect) (earlier : List Effect) → is_reset effect ≡ false
-    → value_at p script own (effect ∷ earlier) ≡ after p (style_in_force script own earlier) effect (value_at p script own earlier)
+    → property_at p script own (effect ∷ earlier) ≡ after p (style_in_force script own earlier) effect (property_at p script own earlier)
 value_step p script own effect earlier kept =
     ap (λ style. by_setters p.moved (p.styled style) (setters_in p (effect ∷ earlier))) (style_stays script own effect (style_in_force script own earlier) kept)
     ∙ (ap (λ setters. by_setters p.moved (p.styled (style_in_force script own earlier)) setters) (setters_more p effect earlier kept)
@@ -48,7 +48,7 @@ value_step p script own effect earlier kept =
 -- A state behind an effect that is no reset, with a font and a syllable of its own.
 pub state_core : (script : ScriptValue) (own : List ℕ) (names : List (List ℕ)) (effect : Effect) (earlier : List Effect) (old mid : State) (number_of_font : ℕ) (syllable : Option Syllable)
     → IsStateAt script own names earlier old → IsStepped (style_in_force script own earlier) effect old mid → is_reset effect ≡ false
-    → slice_get names number_of_font ≡ Some (value_at font script own (effect ∷ earlier))
+    → slice_get names number_of_font ≡ Some (property_at font script own (effect ∷ earlier))
     → syllable ≡ sung_at (effect ∷ earlier)
     → IsStateAt script own names (effect ∷ earlier) (record mid { font = number_of_font; sung = syllable })
 state_core script own names effect earlier old mid number_of_font syllable at step kept named sung = record {
@@ -67,10 +67,10 @@ state_core script own names effect earlier old mid number_of_font syllable at st
     new : State
     new = record mid { font = number_of_font; sung = syllable }
 
-    number_step : (m : Measure) → number_of m mid ≡ value_at (number m) script own (effect ∷ earlier)
+    number_step : (m : Measure) → measure_of m mid ≡ property_at (number m) script own (effect ∷ earlier)
     number_step m = step.numbers m ∙ (ap (after (number m) style effect) (at.numbers m) ∙ sym (value_step (number m) script own effect earlier kept))
 
-    numbers : (m : Measure) → number_of m new ≡ value_at (number m) script own (effect ∷ earlier)
+    numbers : (m : Measure) → measure_of m new ≡ property_at (number m) script own (effect ∷ earlier)
     numbers Size = number_step Size
     numbers ScaleX = number_step ScaleX
     numbers ScaleY = number_step ScaleY
@@ -84,10 +84,10 @@ state_core script own names effect earlier old mid number_of_font syllable at st
     numbers Blur = number_step Blur
     numbers Offset = number_step Offset
 
-    switch_step : (s : Switch) → switch_of s mid ≡ value_at (switch s) script own (effect ∷ earlier)
+    switch_step : (s : Switch) → switch_of s mid ≡ property_at (switch s) script own (effect ∷ earlier)
     switch_step s = step.switches s ∙ (ap (after (switch s) style effect) (at.switches s) ∙ sym (value_step (switch s) script own effect earlier kept))
 
-    switches : (s : Switch) → switch_of s new ≡ value_at (switch s) script own (effect ∷ earlier)
+    switches : (s : Switch) → switch_of s new ≡ property_at (switch s) script own (effect ∷ earlier)
     switches Bold = switch_step Bold
     switches Italic = switch_step Italic
     switches Underline = switch_step Underline
@@ -95,10 +95,10 @@ state_core script own names effect earlier old mid number_of_font syllable at st
 
 -- the font behind an effect that sets none
 pub font_stays : (script : ScriptValue) (own : List ℕ) (effect : Effect) (earlier : List Effect) → is_reset effect ≡ false → font_setter effect ≡ None
-    → value_at font script own (effect ∷ earlier) ≡ value_at font script own earlier
+    → property_at font script own (effect ∷ earlier) ≡ property_at font script own earlier
 font_stays script own effect earlier kept none =
     value_step font script own effect earlier kept
-    ∙ ap (after_setter font.moved (font.styled (style_in_force script own earlier)) (value_at font script own earlier)) none
+    ∙ ap (after_setter font.moved (font.styled (style_in_force script own earlier)) (property_at font script own earlier)) none
 
 -- the state behind an ordinary effect
 pub state_step : (script : ScriptValue) (own : List ℕ) (names : List (List ℕ)) (effect : Effect) (earlier : List Effect) (old new : State)

@@ -1,12 +1,11 @@
 -- The state behind each kind of tag.
-use Rattle.std.proofs.Common.{◌≡◌, ◌≢◌, ℕ, suc, ◌+◌, ◌*◌, ◌<◌, ◌≤◌, ℤ, pos, ◌+ℤ◌, ◌≤ℤ◌, Bool, true, false, cond, List, [], ◌∷◌, ◌++◌, length, map, reverse, take, get_or, refl, sym, ap, ◌∙◌, subst, Option, None, Some, arith, append_assoc}
-use Rattle.std.specs.Prelude.{slice_get, IfSome, unwrap_or}
+use Rattle.std.proofs.Common.{◌≡◌, ℕ, ◌+◌, ◌<◌, ◌≤◌, ℤ, pos, ◌+ℤ◌, List, [], ◌∷◌, ◌++◌, length, map, reverse, take, get_or, refl, sym, ap, ◌∙◌, subst, Option, None, Some, arith}
+use Rattle.std.specs.Prelude.{slice_get, unwrap_or}
 use Rattle.std.proofs.lemmas.Int.{ints}
 use Rattle.std.proofs.lemmas.List.{reverse-append, map_more, take_all}
 use Rattle.ass_script.specs.Scripts.{ScriptValue, style_for}
 use Rattle.ass_script.specs.declared.style.Style.{Style}
 use Rattle.event_instants.specs.Instants.{moved}
-use Rattle.override_tags.specs.Limits.{max_syllable}
 use Rattle.override_tags.specs.declared.tag.GradualTag.{GradualTag}
 use Rattle.override_tags.specs.declared.tag.Tag.{Tag}
 use Rattle.override_tags.specs.declared.tag.Tag.TheVariants.{Reset, FontName, Karaoke}
@@ -15,14 +14,14 @@ use Rattle.tag_arguments.specs.declared.kinds.Num.{Num}
 use Rattle.override_tags.specs.declared.view.State.{State}
 use Rattle.override_tags.specs.declared.view.Syllable.{Syllable}
 use Rattle.tag_arguments.specs.declared.kinds.Sung.{Sung}
-use Rattle.tag_state.specs.Setters.{Effect, Plain, Gradual, restyled, reset_name, style_in_force, value_at, replaced}
-use Rattle.tag_state.specs.Properties.{Measure, Size, ScaleX, ScaleY, Spacing, Angle, BorderX, BorderY, ShadowX, ShadowY, Edges, Blur, Offset, number, number_of, Switch, Bold, Italic, Underline, Strikeout, switch, switch_of, font, font_named, number_setter, switch_setter, alpha_setter, colour_setter, level_setter, styled_number, styled_switch, Channel, Red, Green, Blue, Opacity, byte, byte_in, colour_at, moved_byte}
-use Rattle.tag_state.specs.Syllables.{sung_by, sung_at, sung_len, sung_until, syllable_count, syllables_in}
+use Rattle.tag_state.specs.Setters.{Effect, Plain, Gradual, reset_name, style_in_force, property_at, replaced}
+use Rattle.tag_state.specs.Properties.{Measure, Size, ScaleX, ScaleY, Spacing, Angle, BorderX, BorderY, ShadowX, ShadowY, Edges, Blur, Offset, number, measure_of, Switch, Bold, Italic, Underline, Strikeout, switch, switch_of, font, named_font, number_setter, switch_setter, alpha_setter, colour_setter, level_setter, styled_number, styled_switch, Channel, Red, Green, Blue, Opacity, byte, byte_in, colour_at, moved_byte}
+use Rattle.tag_state.specs.Syllables.{sung_at, sung_until, syllables_in}
 use Rattle.tag_state.specs.Laws.{IsOrdinary}
 use Rattle.tag_state.specs.States.{IsStateAt}
-use Rattle.tag_state.specs.Steps.{after_setter, after, IsStepped, HasRoom, styled_state, restyled_state, syllable_behind}
+use Rattle.tag_state.specs.Steps.{after_setter, after, IsStepped, styled_state, restyled_state, syllable_behind}
 use Rattle.tag_state.proofs.ChoiceLemmas.{map-reverse}
-use Rattle.tag_state.proofs.SetterLemmas.{font_stays, state_core, state_step, style_stays, value_step}
+use Rattle.tag_state.proofs.SetterLemmas.{font_stays, state_core, state_step, value_step}
 
 -- ---- states
 
@@ -34,7 +33,7 @@ first_state script own names number_of_font named = record { font = named; numbe
     first : State
     first = styled_state (style_for own script) number_of_font
 
-    numbers : (m : Measure) → number_of m first ≡ value_at (number m) script own []
+    numbers : (m : Measure) → measure_of m first ≡ property_at (number m) script own []
     numbers Size = refl
     numbers ScaleX = refl
     numbers ScaleY = refl
@@ -48,7 +47,7 @@ first_state script own names number_of_font named = record { font = named; numbe
     numbers Blur = refl
     numbers Offset = refl
 
-    switches : (s : Switch) → switch_of s first ≡ value_at (switch s) script own []
+    switches : (s : Switch) → switch_of s first ≡ property_at (switch s) script own []
     switches Bold = refl
     switches Italic = refl
     switches Underline = refl
@@ -64,7 +63,7 @@ reset_state script own names name earlier old number_of_font at named =
     new : State
     new = restyled_state old (style_for (reset_name own name) script) number_of_font
 
-    numbers : (m : Measure) → number_of m new ≡ value_at (number m) script own (Plain (Reset name) ∷ earlier)
+    numbers : (m : Measure) → measure_of m new ≡ property_at (number m) script own (Plain (Reset name) ∷ earlier)
     numbers Size = refl
     numbers ScaleX = refl
     numbers ScaleY = refl
@@ -78,7 +77,7 @@ reset_state script own names name earlier old number_of_font at named =
     numbers Blur = refl
     numbers Offset = at.numbers Offset
 
-    switches : (s : Switch) → switch_of s new ≡ value_at (switch s) script own (Plain (Reset name) ∷ earlier)
+    switches : (s : Switch) → switch_of s new ≡ property_at (switch s) script own (Plain (Reset name) ∷ earlier)
     switches Bold = refl
     switches Italic = refl
     switches Underline = refl
@@ -91,7 +90,7 @@ pub sets_nothing : (effect : Effect) (style : Style) (state : State)
     → IsStepped style effect state state
 sets_nothing effect style state numbers switches alphas hues none = record {
   font = refl;
-  numbers = λ m. sym (ap (after_setter moved (styled_number m style) (number_of m state)) (numbers m));
+  numbers = λ m. sym (ap (after_setter moved (styled_number m style) (measure_of m state)) (numbers m));
   switches = λ s. sym (ap (after_setter replaced (styled_switch s style) (switch_of s state)) (switches s));
   colours = colours;
   border_style = refl;
@@ -187,7 +186,7 @@ transform_all script own names weight tags place before state past at =
 
 -- the state behind a font
 pub font_state : (script : ScriptValue) (own : List ℕ) (names : List (List ℕ)) (name : List ℕ) (earlier : List Effect) (old : State) (number_of_font : ℕ)
-    → IsStateAt script own names earlier old → slice_get names number_of_font ≡ Some (unwrap_or (font_named name) (style_in_force script own earlier).font)
+    → IsStateAt script own names earlier old → slice_get names number_of_font ≡ Some (unwrap_or (named_font name) (style_in_force script own earlier).font)
     → IsStateAt script own names (Plain (FontName name) ∷ earlier) (record old { font = number_of_font })
 font_state script own names name earlier old number_of_font at named =
     state_core script own names (Plain (FontName name)) earlier old old number_of_font old.sung at

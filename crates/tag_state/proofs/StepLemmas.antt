@@ -1,6 +1,6 @@
 -- What a tag's functions give is one step for each property.
-use Rattle.std.proofs.Common.{◌≡◌, ◌≢◌, ℕ, zero, suc, ◌+◌, ◌<◌, ◌==◌, ℤ, Bool, true, false, cond, List, [], ◌∷◌, length, get_or, set, refl, sym, ap, ◌∙◌, subst, Option, None, Some, arith, eq-eqb, get_or-set_other, get_or-set_same}
-use Rattle.std.specs.Prelude.{if◌then◌else◌, unwrap_or}
+use Rattle.std.proofs.Common.{◌≡◌, ◌≢◌, ℕ, zero, suc, ◌+◌, ◌<◌, ◌==◌, ℤ, Bool, true, false, cond, List, [], ◌∷◌, length, set, refl, sym, ap, ◌∙◌, subst, Option, None, Some, arith, eq-eqb, get_or-set_other, get_or-set_same}
+use Rattle.std.specs.Prelude.{unwrap_or}
 use Rattle.std.specs.Option.{option_map}
 use Rattle.ass_num.specs.Colours.{colour_of}
 use Rattle.ass_num.specs.declared.colour.Rgba.{Rgba}
@@ -11,9 +11,9 @@ use Rattle.override_tags.specs.declared.tag.Tag.TheVariants as tag
 use Rattle.override_tags.specs.declared.view.State.{State}
 use Rattle.tag_arguments.specs.declared.kinds.Num.{Num}
 use Rattle.tag_arguments.specs.declared.kinds.Num.TheVariants as num
-use Rattle.tag_state.specs.Setters.{Effect, Plain, Gradual, Setter, Sets, Moves, replaced}
-use Rattle.tag_state.specs.Properties.{Measure, Size, ScaleX, ScaleY, Spacing, Angle, BorderX, BorderY, ShadowX, ShadowY, Edges, Blur, Offset, number, number_of, sets_measure, given_number, styled_number, sets_switch, is_on, styled_switch, Switch, Bold, Italic, Underline, Strikeout, switch, switch_of, Channel, Red, Green, Blue, Opacity, byte, byte_in, colour_at, level, has_alpha, moved_byte, colour_setter, alpha_setter}
-use Rattle.tag_state.specs.Steps.{after_setter, after, IsStepped, set_or_moved, number_after, numbers_after, switch_after, level_after, number_stepped, recoloured, colour_after, alpha_after, number_effect, colour_effect, alpha_effect}
+use Rattle.tag_state.specs.Setters.{Plain, Gradual, Sets, Moves, replaced}
+use Rattle.tag_state.specs.Properties.{Measure, Size, ScaleX, ScaleY, Spacing, Angle, BorderX, BorderY, ShadowX, ShadowY, Edges, Blur, Offset, number, measure_of, sets_measure, given_number, styled_number, sets_switch, is_on, styled_switch, Switch, Bold, Italic, Underline, Strikeout, switch, switch_of, Channel, Red, Green, Blue, Opacity, byte, byte_in, colour_at, level, has_alpha, moved_byte, colour_setter, alpha_setter}
+use Rattle.tag_state.specs.Steps.{after_setter, after, IsStepped, set_or_moved, number_after, numbers_after, switch_after, level_after, number_stepped, colour_after, alpha_after, number_effect, colour_effect, alpha_effect}
 
 -- ---- numbers
 
@@ -31,7 +31,7 @@ number_is m style property value (Some weight) old = by (sets_measure m property
     by false = refl
 
 numbers_are : (m : Measure) (style : Style) (property : Num) (value : Option ℤ) (weight : Option ℕ) (state : State)
-    → number_of m (numbers_after style property value weight state) ≡ number_after m style property value weight (number_of m state)
+    → measure_of m (numbers_after style property value weight state) ≡ number_after m style property value weight (measure_of m state)
 numbers_are Size style property value weight state = refl
 numbers_are ScaleX style property value weight state = refl
 numbers_are ScaleY style property value weight state = refl
@@ -47,7 +47,7 @@ numbers_are Offset style property value weight state = refl
 
 -- switches and the level are no numbers
 numbers_stay : (m : Measure) (style : Style) (property : Num) (value : Option ℤ) (state : State)
-    → number_of m (number_stepped style property value state) ≡ number_of m (numbers_after style property value None state)
+    → measure_of m (number_stepped style property value state) ≡ measure_of m (numbers_after style property value None state)
 numbers_stay Size style property value state = refl
 numbers_stay ScaleX style property value state = refl
 numbers_stay ScaleY style property value state = refl
@@ -91,7 +91,7 @@ gradual_number_steps style property value weight old new e =
     let P : State → Type 0 = λ z. IsStepped style (Gradual weight (gradual.Number property value)) old z in
     subst P (sym e) (record {
       font = refl;
-      numbers = λ m. numbers_are m style property value (Some weight) old ∙ number_is m style property value (Some weight) (number_of m old);
+      numbers = λ m. numbers_are m style property value (Some weight) old ∙ number_is m style property value (Some weight) (measure_of m old);
       switches = same;
       colours = λ c place four. bytes_stay c place style (Some weight) property value (byte_in c (colour_at old.colours place));
       border_style = refl;
@@ -110,7 +110,7 @@ number_steps style property value old new e =
     let P : State → Type 0 = λ z. IsStepped style (Plain (tag.Number property value)) old z in
     subst P (sym e) (record {
       font = refl;
-      numbers = λ m. numbers_stay m style property value old ∙ (numbers_are m style property value None old ∙ number_is m style property value None (number_of m old));
+      numbers = λ m. numbers_stay m style property value old ∙ (numbers_are m style property value None old ∙ number_is m style property value None (measure_of m old));
       switches = λ s. switches_are s style property value old ∙ switch_is s style property value (switch_of s old);
       colours = λ c place four. bytes_stay c place style None property value (byte_in c (colour_at old.colours place));
       border_style = refl;
@@ -208,7 +208,7 @@ colour_steps style which written value weight old new named within e =
     after_write : State
     after_write = record old { colours = set old.colours written (colour_after style written value weight (colour_at old.colours written)) }
 
-    same : (m : Measure) → number_of m after_write ≡ after (number m) style (colour_effect weight (written + 1) value) (number_of m old)
+    same : (m : Measure) → measure_of m after_write ≡ after (number m) style (colour_effect weight (written + 1) value) (measure_of m old)
     same Size = colour_numbers_stay Size style weight (written + 1) value old.size
     same ScaleX = colour_numbers_stay ScaleX style weight (written + 1) value old.scale_x
     same ScaleY = colour_numbers_stay ScaleY style weight (written + 1) value old.scale_y
@@ -307,7 +307,7 @@ alpha_steps style which value weight old new e =
     behind : State
     behind = record old { colours = alphas_after style which value weight old.colours }
 
-    same : (m : Measure) → number_of m behind ≡ after (number m) style (alpha_effect weight which value) (number_of m old)
+    same : (m : Measure) → measure_of m behind ≡ after (number m) style (alpha_effect weight which value) (measure_of m old)
     same Size = alpha_numbers_stay Size style weight which value old.size
     same ScaleX = alpha_numbers_stay ScaleX style weight which value old.scale_x
     same ScaleY = alpha_numbers_stay ScaleY style weight which value old.scale_y

@@ -1,5 +1,5 @@
 -- Public: what the tags of a text say of the whole event: which of several counts (docs/STATES.md).
-use Rattle.std.specs.Prelude.{◌≡◌, ℕ, ◌*◌, ℤ, pos, Bool, List, [], ◌∷◌, Option, Some, None, slice_get, unwrap_or}
+use Rattle.std.specs.Prelude.{ℕ, ◌*◌, ℤ, pos, List, [], ◌∷◌, Option, Some, None, slice_get}
 use Rattle.std.specs.Int.RustNames.{unsigned_abs}
 use Rattle.std.specs.List.{filter_map}
 use Rattle.std.specs.Option.{option_map}
@@ -10,12 +10,12 @@ use Rattle.override_tags.specs.declared.item.Item.{Item}
 use Rattle.override_tags.specs.declared.item.ItemKind.{ItemKind}
 use Rattle.override_tags.specs.declared.item.ItemKind.TheVariants as item
 use Rattle.override_tags.specs.declared.tag.ClipTag.{ClipTag}
-use Rattle.override_tags.specs.declared.tag.ClipTag.TheVariants.{Rect, Drawn}
+use Rattle.override_tags.specs.declared.tag.ClipTag.TheVariants.{Rect}
 use Rattle.override_tags.specs.declared.tag.GradualTag.TheVariants as gradual
 use Rattle.override_tags.specs.declared.tag.Tag.{Tag}
 use Rattle.override_tags.specs.declared.tag.Tag.TheVariants.{Number, Align, Pos, Move, Org, Fad, Fade, Clip}
 use Rattle.tag_arguments.specs.declared.kinds.Num.TheVariants as num
-use Rattle.tag_state.specs.Setters.{Effect, Plain, Gradual, Setter, Sets, Moves, by_setters, past_all, replaced}
+use Rattle.tag_state.specs.Setters.{Effect, Plain, Gradual, Setter, Sets, Moves, by_setters, replaced}
 
 -- ---- the first one counts
 

@@ -1,12 +1,12 @@
 -- Public: a state that is folded forward over the effects of a text is the state that looking back gives.
-use Rattle.std.specs.Prelude.{◌≡◌, ℕ, ℤ, pos, Bool, false, List, [], ◌∷◌, Option, Some, None, slice_get, unwrap_or}
+use Rattle.std.specs.Prelude.{◌≡◌, ℕ, ℤ, pos, false, List, [], ◌∷◌, Option, Some, None, slice_get, unwrap_or}
 use Rattle.ass_script.specs.Scripts.{ScriptValue, style_for}
 use Rattle.override_tags.specs.declared.tag.Tag.TheVariants.{Reset, FontName, Karaoke}
 use Rattle.override_tags.specs.declared.view.State.{State}
 use Rattle.override_tags.specs.declared.view.Syllable.{Syllable}
 use Rattle.tag_arguments.specs.declared.kinds.Sung.{Sung}
 use Rattle.tag_state.specs.Setters.{Effect, Plain, is_reset, reset_name, style_in_force}
-use Rattle.tag_state.specs.Properties.{font_named, font_setter}
+use Rattle.tag_state.specs.Properties.{named_font, font_setter}
 use Rattle.tag_state.specs.Syllables.{sung_by, sung_len, syllable_count}
 use Rattle.tag_state.specs.States.{IsStateAt}
 use Rattle.tag_state.specs.Steps.{IsStepped, styled_state, restyled_state, syllable_behind}
@@ -38,7 +38,7 @@ ResetState = (script : ScriptValue) (own : List ℕ) (names : List (List ℕ)) (
 -- behind a font it has another font,
 abbrev pub FontState : Type 0
 FontState = (script : ScriptValue) (own : List ℕ) (names : List (List ℕ)) (name : List ℕ) (earlier : List Effect) (old : State) (number_of_font : ℕ)
-    → IsStateAt script own names earlier old → slice_get names number_of_font ≡ Some (unwrap_or (font_named name) (style_in_force script own earlier).font)
+    → IsStateAt script own names earlier old → slice_get names number_of_font ≡ Some (unwrap_or (named_font name) (style_in_force script own earlier).font)
     → IsStateAt script own names (Plain (FontName name) ∷ earlier) (record old { font = number_of_font })
 
 -- and behind the tag of a syllable another syllable.

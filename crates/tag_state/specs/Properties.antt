@@ -1,5 +1,5 @@
 -- Public: the table of properties: what a style says of each, and which tags set it (docs/STATES.md).
-use Rattle.std.specs.Prelude.{◌≡◌, ℕ, ◌+◌, ◌==◌, ◌||◌, ℤ, pos, int_lt, int_le, Bool, true, false, if◌then◌else◌, List, [], ◌∷◌, slice_index_or, Option, Some, None, option_and_then}
+use Rattle.std.specs.Prelude.{ℕ, ◌+◌, ◌==◌, ◌||◌, ℤ, pos, int_lt, int_le, Bool, true, false, if◌then◌else◌, List, [], slice_index_or, Option, Some, None, option_and_then}
 use Rattle.std.specs.Int.{int_max}
 use Rattle.std.specs.Int.RustNames.{unsigned_abs}
 use Rattle.std.specs.Option.{option_map}
@@ -101,19 +101,19 @@ resets_measure _ = true
 abbrev pub number : Measure → Property ℤ
 number m = record { styled = styled_number m; setter = number_setter m; resets = resets_measure m; moved = moved }
 
-abbrev pub number_of : Measure → State → ℤ
-number_of Size state = state.size
-number_of ScaleX state = state.scale_x
-number_of ScaleY state = state.scale_y
-number_of Spacing state = state.spacing
-number_of Angle state = state.angle
-number_of BorderX state = state.border_x
-number_of BorderY state = state.border_y
-number_of ShadowX state = state.shadow_x
-number_of ShadowY state = state.shadow_y
-number_of Edges state = state.edges
-number_of Blur state = state.blur
-number_of Offset state = state.offset
+abbrev pub measure_of : Measure → State → ℤ
+measure_of Size state = state.size
+measure_of ScaleX state = state.scale_x
+measure_of ScaleY state = state.scale_y
+measure_of Spacing state = state.spacing
+measure_of Angle state = state.angle
+measure_of BorderX state = state.border_x
+measure_of BorderY state = state.border_y
+measure_of ShadowX state = state.shadow_x
+measure_of ShadowY state = state.shadow_y
+measure_of Edges state = state.edges
+measure_of Blur state = state.blur
+measure_of Offset state = state.offset
 
 -- ---- switches
 
@@ -201,12 +201,12 @@ byte c place = record { styled = λ style. byte_in c (colour_at style.colours pl
 -- ---- font and drawings
 
 -- An empty name restores the style's font.
-abbrev pub font_named : List ℕ → Option (List ℕ)
-font_named [] = None
-font_named name = Some name
+abbrev pub named_font : List ℕ → Option (List ℕ)
+named_font [] = None
+named_font name = Some name
 
 abbrev pub font_setter : Effect → Option (Setter (List ℕ))
-font_setter (Plain (tag.FontName name)) = Some (Sets (font_named name))
+font_setter (Plain (tag.FontName name)) = Some (Sets (named_font name))
 font_setter _ = None
 
 abbrev pub font : Property (List ℕ)

@@ -1,5 +1,5 @@
 -- Public: how the tags before a character decide a property of it (docs/STATES.md).
-use Rattle.std.specs.Prelude.{ℕ, ℤ, Bool, true, false, if◌then◌else◌, List, [], ◌∷◌, ◌++◌, map, reverse, Option, Some, None, unwrap_or}
+use Rattle.std.specs.Prelude.{ℕ, ℤ, Bool, true, false, if◌then◌else◌, List, [], ◌∷◌, ◌++◌, map, reverse, Option, unwrap_or}
 use Rattle.std.specs.List.{filter_map}
 use Rattle.ass_script.specs.Scripts.{ScriptValue, style_for}
 use Rattle.ass_script.specs.declared.style.Style.{Style}
@@ -87,8 +87,8 @@ abbrev pub setters_in : {V : Type 0} → Property V → List Effect → List (Se
 setters_in p before = filter_map p.setter (if p.resets then since_reset before else before)
 
 -- the value of a property of a character behind these effects, in an event of a style
-abbrev pub value_at : {V : Type 0} → Property V → ScriptValue → List ℕ → List Effect → V
-value_at p script own before = by_setters p.moved (p.styled (style_in_force script own before)) (setters_in p before)
+abbrev pub property_at : {V : Type 0} → Property V → ScriptValue → List ℕ → List Effect → V
+property_at p script own before = by_setters p.moved (p.styled (style_in_force script own before)) (setters_in p before)
 
 -- what never moves gradually
 abbrev pub replaced : {V : Type 0} → V → V → ℕ → V

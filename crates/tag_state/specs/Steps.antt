@@ -20,7 +20,7 @@ use Rattle.tag_arguments.specs.declared.kinds.Num.TheVariants as num
 use Rattle.tag_arguments.specs.declared.kinds.Sung.{Sung}
 use Rattle.tag_state.specs.Choices.{corners_from, corners_moved}
 use Rattle.tag_state.specs.Setters.{Effect, Plain, Gradual, Setter, Sets, Moves, Property}
-use Rattle.tag_state.specs.Properties.{Measure, Size, ScaleX, ScaleY, Spacing, Angle, BorderX, BorderY, ShadowX, ShadowY, Edges, Blur, Offset, number, number_of, sets_measure, given_number, styled_number, sets_switch, is_on, styled_switch, level_of, has_alpha, moved_byte, Switch, Bold, Italic, Underline, Strikeout, switch, switch_of, Channel, byte, byte_in, colour_at, level}
+use Rattle.tag_state.specs.Properties.{Measure, Size, ScaleX, ScaleY, Spacing, Angle, BorderX, BorderY, ShadowX, ShadowY, Edges, Blur, Offset, number, measure_of, sets_measure, given_number, styled_number, sets_switch, is_on, styled_switch, level_of, has_alpha, moved_byte, Switch, Bold, Italic, Underline, Strikeout, switch, switch_of, Channel, byte, byte_in, colour_at, level}
 
 abbrev pub after_setter : {V : Type 0} → (V → V → ℕ → V) → V → V → Option (Setter V) → V
 after_setter moved styled old None = old
@@ -34,7 +34,7 @@ after p style effect old = after_setter p.moved (p.styled style) old (p.setter e
 -- Each property is what the effect makes of it. Fonts and syllables stay.
 pub record IsStepped (style : Style) (effect : Effect) (old new : State) : Type 0 where
   pub font : new.font ≡ old.font
-  pub numbers : (m : Measure) → number_of m new ≡ after (number m) style effect (number_of m old)
+  pub numbers : (m : Measure) → measure_of m new ≡ after (number m) style effect (measure_of m old)
   pub switches : (s : Switch) → switch_of s new ≡ after (switch s) style effect (switch_of s old)
   pub colours : (c : Channel) (place : ℕ) → place < 4 → byte_in c (colour_at new.colours place) ≡ after (byte c place) style effect (byte_in c (colour_at old.colours place))
   pub border_style : new.border_style ≡ old.border_style
@@ -83,11 +83,11 @@ numbers_after style property value weight state = record state {
 }
 
 -- what a number makes of a switch whose style has a value
-abbrev pub switched : Switch → Option ℤ → Bool → Bool
-switched s value styled = unwrap_or (option_map (is_on s) value) styled
+abbrev pub switch_value : Switch → Option ℤ → Bool → Bool
+switch_value s value styled = unwrap_or (option_map (is_on s) value) styled
 
 abbrev pub switch_after : Switch → Style → Num → Option ℤ → Bool → Bool
-switch_after s style property value old = if sets_switch s property then switched s value (styled_switch s style) else old
+switch_after s style property value old = if sets_switch s property then switch_value s value (styled_switch s style) else old
 
 abbrev pub level_said : Option ℤ → ℕ
 level_said value = unwrap_or (option_map level_of value) 0
@@ -134,7 +134,7 @@ syllable_behind None kind len = record { kind = kind; begin = pos 0; end = len; 
 syllable_behind (Some last) kind len = record { kind = kind; begin = last.end; end = last.end +ℤ len; index = last.index + 1 }
 
 -- so many milliseconds of a song, and fewer syllables than a number of 32 bits can count
-pub record HasRoom (last : Syllable) : Type 0 where
+pub record HasSongRoom (last : Syllable) : Type 0 where
   pub begun : pos 0 ≤ℤ last.end
   pub short : last.end ≤ℤ pos (2 ^ 62)
   pub few : last.index + 1 < 2 ^ 32

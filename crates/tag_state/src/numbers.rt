@@ -82,7 +82,7 @@ pub(crate) fn set_gradual(
 
 /// Whether a number is bold: 1, or a weight from 600 on.
 fn bold_by(value: Option<Milli>, styled: bool) -> bool
-    ensures { result ≡ rule.switched table.Bold value styled }
+    ensures { result ≡ rule.switch_value table.Bold value styled }
 {
     match value {
         None => styled,
@@ -92,7 +92,7 @@ fn bold_by(value: Option<Milli>, styled: bool) -> bool
 
 /// Whether a number is 1.
 fn switched(value: Option<Milli>, styled: bool) -> bool
-    ensures { result ≡ rule.switched table.Italic value styled }
+    ensures { result ≡ rule.switch_value table.Italic value styled }
 {
     match value {
         None => styled,

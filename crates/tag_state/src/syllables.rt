@@ -2,13 +2,13 @@
 
 ghost use Rattle.std.specs.Prelude.{◌≡◌, pos, ◌≤ℤ◌, IfSome};
 ghost use Rattle.override_tags.specs.Limits.{max_syllable};
-ghost use Rattle.tag_state.specs.Steps.{HasRoom, syllable_behind};
+ghost use Rattle.tag_state.specs.Steps.{HasSongRoom, syllable_behind};
 
 use override_tags::{Sung, Syllable};
 
 /// A syllable of a length behind another one.
 pub fn next_syllable(before: Option<Syllable>, kind: Sung, len: i64) -> Syllable
-    requires room { IfSome before HasRoom }
+    requires room { IfSome before HasSongRoom }
     requires some { pos 0 ≤ℤ len }
     requires short { len ≤ℤ pos max_syllable }
     ensures { result ≡ syllable_behind before kind len }

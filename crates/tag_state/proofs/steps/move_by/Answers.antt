@@ -1,4 +1,4 @@
-use Rattle.std.proofs.Common.{◌≡◌, ◌+◌, ◌-◌, ◌<◌, ◌≤◌, sym, subst, arith, Some}
+use Rattle.std.proofs.Common.{◌-◌, sym, subst, arith, Some}
 use Rattle.override_tags.specs.declared.tag.GradualTag.{GradualTag}
 use Rattle.override_tags.specs.Ranges.{IsGradualTag}
 use Rattle.tag_state.specs.Setters.{Gradual}

@@ -1,4 +1,4 @@
-use Rattle.std.proofs.Common.{◌≡◌, ◌+◌, ◌-◌, ◌<◌, ◌≤◌, sym, subst, arith, None}
+use Rattle.std.proofs.Common.{◌-◌, sym, subst, arith, None}
 use Rattle.override_tags.specs.declared.tag.Tag.{Tag}
 use Rattle.override_tags.specs.Ranges.{IsHeldTag}
 use Rattle.tag_state.specs.Setters.{Plain}
