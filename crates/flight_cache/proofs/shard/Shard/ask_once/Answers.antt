@@ -51,11 +51,15 @@ give-pass-requires-in-Claimable-clause-value g c =
     (on-ok c.claim-claimed.result _ (sym c.is_err.ensures.value ∙ c.if-is_err.false) c.claim-claimed.ensures.ok) (ap (λ (z : Kept g.row.M.Denot g.row.M-Key.Denot g.row.M-Value.Denot g.row.M-Tag.Denot). z.entries) c.value_mut-in-Claimable.ensures.value ∙ c.in-Claimable.ensures.1) c.number-number.ensures c.in-Ok.ensures)
 
 pub returns-else-is_err-clause-asked : goal.returns-else-is_err-clause-asked
-returns-else-is_err-clause-asked g c =
-    (gives-key g.M.Made.meaning c.args.self.now.tag g.M.Key.PartialEq.eq g.met.M.Key.Eq.laws g.met.M.Made.same_key c.args.pass c.take-turn.result c.take-turn.ensures.turn
-    Claim (λ z. machine.Ask z machine.Claim) (λ k. refl) c.of-in-Claimable.result c.args.key c.of-in-Claimable.ensures c.args.self.now c.give-pass-in-Claimable.result refl c.take-turn.ensures.legal c.give-pass-in-Claimable.ensures.legal c.give-pass-in-Claimable.ensures.pass, refl)
+returns-else-is_err-clause-asked g c = (
+  gives-key g.M.Made.meaning c.args.self.now.tag g.M.Key.PartialEq.eq g.met.M.Key.Eq.laws g.met.M.Made.same_key c.args.pass c.take-turn.result c.take-turn.ensures.turn
+      Claim (λ z. machine.Ask z machine.Claim) (λ k. refl) c.of-in-Claimable.result c.args.key c.of-in-Claimable.ensures c.args.self.now c.give-pass-in-Claimable.result refl c.take-turn.ensures.legal c.give-pass-in-Claimable.ensures.legal c.give-pass-in-Claimable.ensures.pass,
+  refl,
+)
 
 pub returns-in-Flying-clause-flying : goal.returns-in-Flying-clause-flying
-returns-in-Flying-clause-flying g c =
-    (refl, gives-turn g.M.Made.meaning c.args.self.now.tag g.M.Key.PartialEq.eq g.met.M.Key.Eq.laws g.met.M.Made.same_key c.args.pass c.take-turn.result c.take-turn.ensures.turn
-    c.args.self.now c.give-pass-in-Flying.result None refl c.take-turn.ensures.legal c.give-pass-in-Flying.ensures.legal c.give-pass-in-Flying.ensures.pass)
+returns-in-Flying-clause-flying g c = (
+  refl,
+  gives-turn g.M.Made.meaning c.args.self.now.tag g.M.Key.PartialEq.eq g.met.M.Key.Eq.laws g.met.M.Made.same_key c.args.pass c.take-turn.result c.take-turn.ensures.turn
+      c.args.self.now c.give-pass-in-Flying.result None refl c.take-turn.ensures.legal c.give-pass-in-Flying.ensures.legal c.give-pass-in-Flying.ensures.pass,
+)
