@@ -8,7 +8,7 @@ use Rattle.frame_play.specs.declared.work.Task.{Task}
 use Rattle.frame_play.specs.declared.work.Task.TheVariants.{Check, Frame}
 use Rattle.run_status.specs.Statuses.{status_line}
 use Rattle.run_status.specs.declared.status.Status.{Status}
-use Rattle.run_status.specs.declared.status.Status.TheVariants.{Done, NotBuilt, ReadFault, WriteFault, OutOfMemory}
+use Rattle.run_status.specs.declared.status.Status.TheVariants.{Done, ReadFault, WriteFault, OutOfMemory}
 use Rattle.run_status.specs.declared.status.Which.TheVariants.{Frames, Report}
 use Rattle.frame_play.specs.Outputs.{sink_of}
 use Rattle.frame_play.specs.declared.outcome.Outcome.{Outcome}
