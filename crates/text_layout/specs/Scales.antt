@@ -1,0 +1,78 @@
+-- Public: how lengths of a script become lengths of the frame, and the matrices of characters, drawings and clips.
+-- (Advanced SubStation Alpha, "PlayResX", "ScaleX"; Aegisub tag reference, "\fs", "\fscx", "\p".)
+use Rattle.std.specs.Prelude.{ℕ, ◌*◌, ◌-◌, ◌^◌, Bool, false, ℤ, pos, ◌+ℤ◌, ◌*ℤ◌}
+use Rattle.std.specs.Int.{int_max, int_rem_euclid}
+use Rattle.ass_num.specs.Floor.{floor_div, held}
+use Rattle.ass_num.specs.Limits.{one_16}
+use Rattle.ass_num.specs.declared.geometry.Matrix.{Matrix}
+use Rattle.ass_num.specs.declared.size.Size.{Size}
+use Rattle.ass_script.specs.declared.script.Header.{Header}
+use Rattle.bdf_font.specs.Fonts.{FontValue}
+use Rattle.outline_points.specs.Limits.{max_scale}
+use Rattle.override_tags.specs.declared.view.State.{State}
+
+-- a pixel, in the unit of all lengths of the frame
+abbrev pub pixel : ℕ
+pixel = 64
+
+-- 1 in numbers of a script, which are in thousandths
+abbrev pub whole_milli : ℕ
+whole_milli = 1000
+
+-- 100 per cent in a scale, which is in thousandths of a per cent
+abbrev pub whole_per_cent : ℕ
+whole_per_cent = 100000
+
+-- a whole turn, in thousandths of a degree
+abbrev pub whole_turn : ℕ
+whole_turn = 360000
+
+-- A length of the script, where `side` pixels of the frame show `res` pixels of the script.
+abbrev pub framed : ℤ → ℕ → ℕ → ℤ
+framed len side res = floor_div (len *ℤ pos (pixel * side)) (pos (whole_milli * res))
+
+-- the height of a font above and below the baseline, at least 1
+abbrev pub em_height : FontValue → ℤ
+em_height font = int_max (pos 1) (font.ascent +ℤ font.descent)
+
+-- The scale of a bitmap pixel: a font that is `em` pixels high is `size` script pixels high at a scale of 100 per cent.
+abbrev pub text_scale : ℤ → ℤ → ℕ → ℕ → ℤ → ℤ
+text_scale size scale side res em =
+    held (pos 0) (pos max_scale)
+    (floor_div ((size *ℤ scale) *ℤ pos (side * pixel * one_16)) (pos (whole_milli * whole_per_cent * res) *ℤ em))
+
+-- The scale of a unit of a drawing: a script pixel in level 1, and half of that of the level before in each further one.
+abbrev pub drawing_scale : ℤ → ℕ → ℕ → ℕ → ℤ
+drawing_scale scale level side res =
+    held (pos 0) (pos max_scale)
+    (floor_div (scale *ℤ pos (side * pixel * one_16)) (pos (whole_per_cent * res * 2 ^ (level - 1))))
+
+abbrev pub turn_of : ℤ → ℤ
+turn_of angle = int_rem_euclid angle (pos whole_turn)
+
+-- the matrix of characters in a state with this font
+abbrev pub text_matrix : Header → FontValue → State → Size → Matrix
+text_matrix header font state size = record {
+  ux = text_scale state.size state.scale_x size.w header.res_x (em_height font);
+  uy = text_scale state.size state.scale_y size.h header.res_y (em_height font);
+  italic = state.italic;
+  turn = turn_of state.angle;
+}
+
+-- the matrix of drawings in a state
+abbrev pub drawing_matrix : Header → State → Size → Matrix
+drawing_matrix header state size = record {
+  ux = drawing_scale state.scale_x state.draw size.w header.res_x;
+  uy = drawing_scale state.scale_y state.draw size.h header.res_y;
+  italic = false;
+  turn = turn_of state.angle;
+}
+
+-- the matrix of the drawing of a clip, whose scale is a level
+abbrev pub clip_matrix : Header → ℕ → Size → Matrix
+clip_matrix header scale size = record {
+  ux = drawing_scale (pos whole_per_cent) scale size.w header.res_x;
+  uy = drawing_scale (pos whole_per_cent) scale size.h header.res_y;
+  italic = false;
+  turn = pos 0;
+}
