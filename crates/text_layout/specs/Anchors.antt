@@ -1,9 +1,10 @@
 -- Public: margins, the width for wrapping, and where the block stands in the frame. Places are in 1/64 pixel.
 -- (Advanced SubStation Alpha, "MarginL", "Alignment"; Aegisub tag reference, "\an", "\pos".)
-use Rattle.std.specs.Prelude.{ℕ, ◌*◌, ◌%◌, ◌==◌, nat_le, if◌then◌else◌, Option, Some, None, ℤ, pos, ◌+ℤ◌, ◌-ℤ◌, ◌*ℤ◌}
+use Rattle.std.specs.Prelude.{ℕ, ◌*◌, ◌%◌, ◌==◌, nat_le, if◌then◌else◌, Option, Some, None, ℤ, pos, ◌+ℤ◌, ◌-ℤ◌, ◌*ℤ◌, ◌≤ℤ◌}
 use Rattle.std.specs.Int.{int_max}
 use Rattle.std.specs.Ordering.{int_eq}
 use Rattle.ass_num.specs.Floor.{floor_div}
+use Rattle.ass_num.specs.Limits.{IsWithin, max_whole}
 use Rattle.ass_num.specs.declared.geometry.Point.{Point}
 use Rattle.ass_num.specs.declared.size.Size.{Size}
 use Rattle.ass_script.specs.Scripts.{ScriptValue, style_for}
@@ -13,6 +14,7 @@ use Rattle.override_tags.specs.declared.view.EventView.{EventView}
 use Rattle.text_layout.specs.declared.anchors.Edge.{Edge}
 use Rattle.text_layout.specs.declared.anchors.Edge.TheVariants.{Near, Middle, Far}
 use Rattle.text_layout.specs.declared.anchors.Margins.{Margins}
+use Rattle.text_layout.specs.Limits.{max_block}
 use Rattle.text_layout.specs.Scales.{framed, pixel, whole_milli}
 
 -- a margin of the event, or where it is 0 that of its style
@@ -80,3 +82,16 @@ block_corner anchor align width height = record {
   x = anchor.x -ℤ edge_within (column_of align) width;
   y = anchor.y -ℤ edge_within (row_of align) height;
 }
+
+-- ---- ranges
+
+-- margins that a script may have
+pub record IsMargins (margins : Margins) : Type 0 where
+  pub left : IsWithin max_whole margins.left
+  pub right : IsWithin max_whole margins.right
+  pub vertical : IsWithin max_whole margins.vertical
+
+-- the width or the height of a block
+pub record IsBlockSide (side : ℤ) : Type 0 where
+  pub from_zero : pos 0 ≤ℤ side
+  pub most : side ≤ℤ pos max_block

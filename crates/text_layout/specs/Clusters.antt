@@ -1,6 +1,6 @@
 -- Public: where grapheme clusters end. A text goes on from one hard break or drawing to the next, whatever the states of its characters.
 -- (UAX #29, Unicode Text Segmentation, "Grapheme Cluster Boundary Rules".)
-use Rattle.std.specs.Prelude.{ℕ, Bool, true, List, [], ◌∷◌, map, Option, Some, None}
+use Rattle.std.specs.Prelude.{ℕ, zero, suc, ◌==◌, Bool, true, List, [], ◌∷◌, map, Option, Some, None}
 use Rattle.unicode_segmentation.specs.Grapheme.{is_grapheme_break}
 
 -- the characters up to the next hard break or drawing
@@ -23,3 +23,8 @@ cluster_ends chars = ends_behind [] chars
 -- the same of a text alone
 abbrev pub text_ends : List ℕ → List Bool
 text_ends text = cluster_ends (map Some text)
+
+-- of a cluster of n characters the last one ends it
+abbrev pub flags_of : ℕ → List Bool
+flags_of zero = []
+flags_of (suc n) = (n == 0) ∷ flags_of n

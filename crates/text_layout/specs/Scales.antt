@@ -1,7 +1,7 @@
 -- Public: how lengths of a script become lengths of the frame, and the matrices of characters, drawings and clips.
 -- (Advanced SubStation Alpha, "PlayResX", "ScaleX"; Aegisub tag reference, "\fs", "\fscx", "\p".)
 use Rattle.std.specs.Prelude.{ℕ, ◌*◌, ◌-◌, ◌^◌, Bool, false, ℤ, pos, ◌+ℤ◌, ◌*ℤ◌}
-use Rattle.std.specs.Int.{int_max, int_rem_euclid}
+use Rattle.std.specs.Int.{int_max, int_rem_euclid, unsigned_abs}
 use Rattle.ass_num.specs.Floor.{floor_div, held}
 use Rattle.ass_num.specs.Limits.{one_16}
 use Rattle.ass_num.specs.declared.geometry.Matrix.{Matrix}
@@ -32,20 +32,28 @@ abbrev pub framed : ℤ → ℕ → ℕ → ℤ
 framed len side res = floor_div (len *ℤ pos (pixel * side)) (pos (whole_milli * res))
 
 -- the height of a font above and below the baseline, at least 1
-abbrev pub em_height : FontValue → ℤ
-em_height font = int_max (pos 1) (font.ascent +ℤ font.descent)
+abbrev pub em_height : FontValue → ℕ
+em_height font = unsigned_abs (int_max (font.ascent +ℤ font.descent) (pos 1))
+
+-- the side of a frame in the unit of scales: 1/65,536 of a length's unit
+abbrev pub fine_parts : ℕ → ℕ
+fine_parts side = side * pixel * one_16
+
+-- the nearest scale that a matrix may have
+abbrev pub held_scale : ℤ → ℤ
+held_scale z = held (pos 0) (pos max_scale) z
 
 -- The scale of a bitmap pixel: a font that is `em` pixels high is `size` script pixels high at a scale of 100 per cent.
-abbrev pub text_scale : ℤ → ℤ → ℕ → ℕ → ℤ → ℤ
-text_scale size scale side res em =
-    held (pos 0) (pos max_scale)
-    (floor_div ((size *ℤ scale) *ℤ pos (side * pixel * one_16)) (pos (whole_milli * whole_per_cent * res) *ℤ em))
+abbrev pub text_scale : ℤ → ℤ → ℕ → ℕ → ℕ → ℤ
+text_scale size scale side res em = held_scale (floor_div ((size *ℤ scale) *ℤ pos (fine_parts side)) (pos (whole_milli * whole_per_cent * res * em)))
 
--- The scale of a unit of a drawing: a script pixel in level 1, and half of that of the level before in each further one.
+-- how many units of a level make a script pixel: one of level 1, and twice as many of each further level
+abbrev pub level_parts : ℕ → ℕ
+level_parts level = 2 ^ (level - 1)
+
+-- The scale of a unit of a drawing.
 abbrev pub drawing_scale : ℤ → ℕ → ℕ → ℕ → ℤ
-drawing_scale scale level side res =
-    held (pos 0) (pos max_scale)
-    (floor_div (scale *ℤ pos (side * pixel * one_16)) (pos (whole_per_cent * res * 2 ^ (level - 1))))
+drawing_scale scale level side res = held_scale (floor_div (scale *ℤ pos (fine_parts side)) (pos (whole_per_cent * res * level_parts level)))
 
 abbrev pub turn_of : ℤ → ℤ
 turn_of angle = int_rem_euclid angle (pos whole_turn)

@@ -1,8 +1,8 @@
 //! Where grapheme clusters end, by the rules of UAX #29 (Unicode Text Segmentation).
 
-ghost use Rattle.std.specs.Prelude.{◌≡◌, ◌++◌, OnOk, IfOk, List, ℕ};
+ghost use Rattle.std.specs.Prelude.{◌≡◌, ◌++◌, length, OnOk, IfOk};
 ghost use Rattle.std.specs.Str.{chars};
-ghost use Rattle.text_layout.specs.Clusters.{cluster_ends, text_ends};
+ghost use Rattle.text_layout.specs.Clusters.{cluster_ends, flags_of, text_ends};
 ghost use Rattle.text_layout.specs.Kinds.{chars_of};
 
 use crate::kinds::char_of;
@@ -22,7 +22,9 @@ fn add_text(text: &str, ends: &mut Vec<bool>) -> Mem<()>
 }
 
 /// Adds the characters of one cluster, of which the last ends it.
-fn add_cluster(cluster: &str, ends: &mut Vec<bool>) -> Mem<()> {
+fn add_cluster(cluster: &str, ends: &mut Vec<bool>) -> Mem<()>
+    ensures { OnOk result (ends.new.items ≡ ends.old.items ++ flags_of (length (chars cluster.now))) }
+{
     let count = cluster.chars().count();
     for k in 0..count {
         ends.push(k + 1 == count)?;

@@ -1,24 +1,21 @@
 //! How far each item advances the pen, and how far it reaches above and below the baseline.
 
-ghost use Rattle.std.specs.Prelude.{◌≡◌, ◌≤◌, ◌<◌, pos, ◌≤ℤ◌, ℤ, Bool, length, map, slice_index, slice_index_or, All, IfOk};
-ghost use Rattle.ass_num.specs.Limits.{IsFrameSize};
-ghost use Rattle.ass_script.specs.Ranges.{IsScriptHeader};
-ghost use Rattle.override_tags.specs.Views.{IsState, IsView, IsShownItem};
-ghost use Rattle.outline_points.specs.Placing.{IsMatrix, IsScale};
+ghost use Rattle.std.specs.Prelude.{◌≡◌, ◌<◌, length, All, IfOk};
+ghost use Rattle.ass_num.specs.Limits.{IsWithin};
 ghost use Rattle.ass_num.specs.Paths.{IsPath};
 ghost use Rattle.bdf_font.specs.Ranges.{IsFont};
-ghost use Rattle.text_layout.specs.Fonts.{IsFontSet};
-ghost use Rattle.text_layout.specs.Extents.{IsExtent, advance_of, char_extent, drawing_extent_of, extents, extent_of};
+ghost use Rattle.outline_points.specs.Limits.{max_pixel};
+ghost use Rattle.outline_points.specs.Placing.{IsMatrix};
+ghost use Rattle.override_tags.specs.Views.{IsShownItem, IsShownKind};
+ghost use Rattle.text_layout.specs.Extents.{HasFont, IsExtent, IsMetrics, advance_of, char_extent, drawn_extent, extents, kind_extent};
 
 use crate::clusters::cluster_ends;
 use crate::kinds::char_of;
-use crate::metrics::{Metrics, all_metrics, held_extent, scaled_pixels};
-use crate::scales::drawing_matrix;
-use ass_num::{Fix, Matrix, Mem, Path, Size};
-use ass_script::Header;
+use crate::metrics::{Metrics, held_extent, scaled_pixels};
+use ass_num::{Fix, Matrix, Mem, Path};
 use bdf_font::{Font, FontSet, glyph};
 use outline_points::drawing_extent;
-use override_tags::{EventView, Shown, ShownKind};
+use override_tags::{Shown, ShownKind};
 use std::alloc::Global;
 
 /// How far an item advances the pen, and how far it reaches above and below the baseline.
@@ -29,9 +26,18 @@ pub(crate) struct Extent {
     pub descent: Fix,
 }
 
+/// The extent of what takes no room.
+pub(crate) const NO_EXTENT: Extent = Extent {
+    advance: 0,
+    ascent: 0,
+    descent: 0,
+};
+
 /// The advance of a character's glyph in pixels of its bitmap, or 0 without one.
 fn advance_of(font: &Font, c: char) -> i32
-    ensures { result ≡ advance_of font.now c }
+    requires { IsFont font.now }
+    ensures value { result ≡ advance_of font.now c }
+    ensures within { IsWithin max_pixel result }
 {
     match glyph(font, c) {
         Some(place) => font.glyphs()[place as usize].advance,
@@ -40,9 +46,11 @@ fn advance_of(font: &Font, c: char) -> i32
 }
 
 /// The extent of a character; spacing stands behind the last one of a cluster.
-fn char_extent(metrics: &Metrics, font: &Font, c: char, ends_cluster: bool) -> Extent
-    requires scale { IsScale metrics.now.ux }
-    ensures { result ≡ char_extent metrics.now font.now c ends_cluster }
+fn char_extent(metrics: &Metrics, font: &Font, ends_cluster: bool, c: char) -> Extent
+    requires metrics { IsMetrics metrics.now }
+    requires font { IsFont font.now }
+    ensures value { result ≡ char_extent metrics.now font.now ends_cluster c }
+    ensures range { IsExtent result }
 {
     let advance = scaled_pixels(advance_of(font, c), metrics.ux);
     let spacing = if ends_cluster { metrics.spacing } else { 0 };
@@ -54,10 +62,11 @@ fn char_extent(metrics: &Metrics, font: &Font, c: char, ends_cluster: bool) -> E
 }
 
 /// The extent of a drawing: its largest x and y, before it is shifted and turned.
-fn extent_of_drawing(alloc: Global, path: &Path, m: &Matrix) -> Mem<Extent>
+fn drawn_extent(alloc: Global, path: &Path, m: &Matrix) -> Mem<Extent>
     requires path { IsPath path.now.segs }
     requires matrix { IsMatrix m.now }
-    ensures { IfOk result (λ extent. extent ≡ drawing_extent_of m.now path.now.segs) }
+    ensures value { IfOk result (λ extent. extent ≡ drawn_extent m.now path.now.segs) }
+    ensures range { IfOk result IsExtent }
 {
     let largest = drawing_extent(alloc, path, m)?;
     Ok(Extent {
@@ -67,52 +76,55 @@ fn extent_of_drawing(alloc: Global, path: &Path, m: &Matrix) -> Mem<Extent>
     })
 }
 
-/// The extents of all items. A hard break has none.
-pub(crate) fn extents(
-    alloc: Global,
-    header: &Header,
-    fonts: &FontSet,
-    view: &EventView,
-    metrics: &[Metrics],
-    size: &Size,
-) -> Mem<Vec<Extent>>
-{
-    let items = view.items.as_slice();
-    let ends = cluster_ends(alloc, items, view.wrap)?;
-    let mut extents = Vec::with_capacity(alloc, items.len())?;
-    for (k, shown) in items.iter().enumerate() {
-        extents.push(extent_of(alloc, header, fonts, view, metrics, shown, ends[k], size)?)?;
-    }
-    Ok(extents)
-}
-
-/// The extent of an item.
+/// The extent of an item of a state with these metrics.
 fn extent_of(
     alloc: Global,
-    header: &Header,
     fonts: &FontSet,
-    view: &EventView,
-    metrics: &[Metrics],
+    metrics: &Metrics,
+    wrap: u8,
     shown: &Shown,
     ends_cluster: bool,
-    size: &Size,
 ) -> Mem<Extent>
+    requires fonts { All IsFont fonts.now.fonts }
+    requires metrics { IsMetrics metrics.now }
+    requires font { HasFont (length fonts.now.fonts) metrics.now }
+    requires shown { IsShownKind shown.now.kind }
+    ensures value { IfOk result (λ extent. extent ≡ kind_extent fonts.now.fonts metrics.now wrap ends_cluster shown.now.kind) }
+    ensures range { IfOk result IsExtent }
 {
-    let number = shown.state as usize;
     if let ShownKind::Drawing(path) = &shown.kind {
-        let m = drawing_matrix(header, &view.states.as_slice()[number], size);
-        return extent_of_drawing(alloc, path, &m);
+        return drawn_extent(alloc, path, &metrics.drawing);
     }
-    match char_of(shown, view.wrap) {
+    match char_of(shown, wrap) {
         Some(c) => {
-            let metrics = &metrics[number];
             let font = &fonts.fonts.as_slice()[metrics.font as usize];
-            Ok(char_extent(metrics, font, c, ends_cluster))
+            Ok(char_extent(metrics, font, ends_cluster, c))
         }
-        None => Ok(Extent {
-            advance: 0,
-            ascent: 0,
-            descent: 0,
-        }),
+        None => Ok(NO_EXTENT),
     }
+}
+
+/// The extents of all items.
+pub(crate) fn extents(
+    alloc: Global,
+    fonts: &FontSet,
+    metrics: &[Metrics],
+    wrap: u8,
+    items: &[Shown],
+) -> Mem<Vec<Extent>>
+    requires fonts { All IsFont fonts.now.fonts }
+    requires metrics { All IsMetrics metrics.now }
+    requires font { All (HasFont (length fonts.now.fonts)) metrics.now }
+    requires items { All (IsShownItem (length metrics.now)) items.now }
+    ensures value { IfOk result (λ list. list.items ≡ extents fonts.now.fonts metrics.now wrap items.now) }
+    ensures range { IfOk result (λ list. All IsExtent list.items) }
+    ensures count { IfOk result (λ list. length list.items ≡ length items.now) }
+{
+    let ends = cluster_ends(alloc, items, wrap)?;
+    let mut extents = Vec::with_capacity(alloc, items.len())?;
+    for (k, shown) in items.iter().enumerate() {
+        let metrics = &metrics[shown.state as usize];
+        extents.push(extent_of(alloc, fonts, metrics, wrap, shown, ends[k])?)?;
+    }
+    Ok(extents)
 }

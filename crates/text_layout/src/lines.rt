@@ -1,6 +1,13 @@
 //! Lines with their places in the block, and their items.
 
-ghost use Rattle.std.specs.Prelude.{◌≡◌, ◌≤◌, ◌<◌, ◌+◌, ◌++◌, ℕ, ℤ, pos, List, length, All, IfOk, OnOk};
+ghost use Rattle.std.specs.Prelude.{◌≡◌, ◌≤◌, ◌<◌, ◌++◌, ◌≤ℤ◌, pos, length, All, IfOk, OnOk};
+ghost use Rattle.ass_num.specs.Limits.{max_text_bytes};
+ghost use Rattle.override_tags.specs.Views.{IsShownItem};
+ghost use Rattle.text_layout.specs.Limits.{max_line, max_lines};
+ghost use Rattle.text_layout.specs.Anchors.{IsBlockSide};
+ghost use Rattle.text_layout.specs.Extents.{IsExtent, IsMetrics};
+ghost use Rattle.text_layout.specs.Lines.{IsLine, IsLineExtent, advances_of, blank_extent, block_height, block_width, joined_extent, line_at, line_extent, line_extents, lines_from, placed_from, placed_in};
+ghost use Rattle.text_layout.specs.Spans.{AreSpans, IsSpan};
 
 use crate::anchors::{Edge, edge_within};
 use crate::extents::Extent;
@@ -12,7 +19,13 @@ use override_tags::Shown;
 use std::alloc::Global;
 
 /// The extent of a line without items, which the item at `place` ends, or the end of the text: that of its state, or of the last one.
-fn blank_extent(metrics: &[Metrics], items: &[Shown], place: usize) -> Extent {
+fn blank_extent(metrics: &[Metrics], items: &[Shown], place: usize) -> Extent
+    requires states { 0 < length metrics.now }
+    requires metrics { All IsMetrics metrics.now }
+    requires items { All (IsShownItem (length metrics.now)) items.now }
+    ensures value { result ≡ blank_extent metrics.now items.now place }
+    ensures range { IsLineExtent result }
+{
     let state = if place < items.len() {
         items[place].state as usize
     } else {
@@ -26,7 +39,12 @@ fn blank_extent(metrics: &[Metrics], items: &[Shown], place: usize) -> Extent {
 }
 
 /// The extent of items side by side.
-fn joined_extent(extents: &[Extent]) -> Extent {
+fn joined_extent(extents: &[Extent]) -> Extent
+    requires items { length extents.now ≤ max_text_bytes }
+    requires extents { All IsExtent extents.now }
+    ensures value { result ≡ joined_extent extents.now }
+    ensures range { IsLineExtent result }
+{
     let mut joined = Extent {
         advance: 0,
         ascent: 0,
@@ -43,7 +61,16 @@ fn joined_extent(extents: &[Extent]) -> Extent {
 }
 
 /// The extent of a line.
-fn line_extent(metrics: &[Metrics], items: &[Shown], extents: &[Extent], span: Span) -> Extent {
+fn line_extent(metrics: &[Metrics], items: &[Shown], extents: &[Extent], span: Span) -> Extent
+    requires states { 0 < length metrics.now }
+    requires metrics { All IsMetrics metrics.now }
+    requires items { All (IsShownItem (length metrics.now)) items.now }
+    requires few { length extents.now ≤ max_text_bytes }
+    requires extents { All IsExtent extents.now }
+    requires span { IsSpan (length extents.now) span }
+    ensures value { result ≡ line_extent metrics.now items.now extents.now span }
+    ensures range { IsLineExtent result }
+{
     if span.first == span.last {
         return blank_extent(metrics, items, span.last);
     }
@@ -57,7 +84,16 @@ pub(crate) fn line_extents(
     items: &[Shown],
     extents: &[Extent],
     spans: &[Span],
-) -> Mem<Vec<Extent>> {
+) -> Mem<Vec<Extent>>
+    requires states { 0 < length metrics.now }
+    requires metrics { All IsMetrics metrics.now }
+    requires items { All (IsShownItem (length metrics.now)) items.now }
+    requires few { length extents.now ≤ max_text_bytes }
+    requires extents { All IsExtent extents.now }
+    requires spans { All (IsSpan (length extents.now)) spans.now }
+    ensures value { IfOk result (λ lines. lines.items ≡ line_extents metrics.now items.now extents.now spans.now) }
+    ensures range { IfOk result (λ lines. All IsLineExtent lines.items) }
+{
     let mut lines = Vec::with_capacity(alloc, spans.len())?;
     for span in spans {
         lines.push(line_extent(metrics, items, extents, *span))?;
@@ -66,16 +102,27 @@ pub(crate) fn line_extents(
 }
 
 /// The width of the widest line.
-pub(crate) fn block_width(extents: &[Extent]) -> Fix {
+pub(crate) fn block_width(extents: &[Extent]) -> Fix
+    requires { All IsLineExtent extents.now }
+    ensures value { result ≡ block_width extents.now }
+    ensures from_zero { pos 0 ≤ℤ result }
+    ensures most { result ≤ℤ pos max_line }
+    ensures widest { All (λ extent. extent.advance ≤ℤ result) extents.now }
+{
     let mut width = 0;
     for extent in extents {
-        width = extent.advance.max(width);
+        width = width.max(extent.advance);
     }
     width
 }
 
 /// The height of all lines together.
-pub(crate) fn block_height(extents: &[Extent]) -> Fix {
+pub(crate) fn block_height(extents: &[Extent]) -> Fix
+    requires few { length extents.now ≤ max_lines }
+    requires extents { All IsLineExtent extents.now }
+    ensures value { result ≡ block_height extents.now }
+    ensures range { IsBlockSide result }
+{
     let mut height = 0;
     for extent in extents {
         height += extent.ascent + extent.descent;
@@ -84,7 +131,13 @@ pub(crate) fn block_height(extents: &[Extent]) -> Fix {
 }
 
 /// A line whose top is here, in a block of this width.
-fn line_at(span: Span, extent: &Extent, top: Fix, column: Edge, width: Fix) -> Line {
+fn line_at(span: Span, extent: &Extent, top: Fix, column: Edge, width: Fix) -> Line
+    requires extent { IsLineExtent extent.now }
+    requires top { IsBlockSide top }
+    requires width { width ≤ℤ pos max_line }
+    requires wide { extent.now.advance ≤ℤ width }
+    ensures { result ≡ line_at column width span extent.now top }
+{
     Line {
         first: span.first,
         last: span.last,
@@ -103,7 +156,15 @@ pub(crate) fn lines_of(
     extents: &[Extent],
     column: Edge,
     width: Fix,
-) -> Mem<Items<Line>> {
+) -> Mem<Items<Line>>
+    requires few { length spans.now ≤ max_lines }
+    requires count { length extents.now ≡ length spans.now }
+    requires extents { All IsLineExtent extents.now }
+    requires width { width ≤ℤ pos max_line }
+    requires wide { All (λ extent. extent.advance ≤ℤ width) extents.now }
+    ensures value { IfOk result (λ lines. lines ≡ lines_from column width (pos 0) spans.now extents.now) }
+    ensures range { IfOk result (λ lines. (items : ℕ) → All (IsSpan items) spans.now → All (IsLine items) lines) }
+{
     let mut lines = Items::with_capacity(alloc, spans.len())?;
     let mut top = 0;
     for (k, span) in spans.iter().enumerate() {
@@ -120,7 +181,12 @@ fn add_items(
     number: usize,
     extents: &[Extent],
     placed: &mut Items<Placed>,
-) -> Mem<()> {
+) -> Mem<()>
+    requires few { length extents.now ≤ max_text_bytes }
+    requires extents { All IsExtent extents.now }
+    requires line { IsLine (length extents.now) line.now }
+    ensures { OnOk result (placed.new ≡ placed.old ++ placed_in (advances_of extents.now) number line.now) }
+{
     let mut x = line.left;
     for item in line.first..line.last {
         let advance = extents[item].advance;
@@ -140,7 +206,12 @@ pub(crate) fn placed_items(
     alloc: Global,
     lines: &[Line],
     extents: &[Extent],
-) -> Mem<Items<Placed>> {
+) -> Mem<Items<Placed>>
+    requires few { length extents.now ≤ max_text_bytes }
+    requires extents { All IsExtent extents.now }
+    requires lines { All (IsLine (length extents.now)) lines.now }
+    ensures { IfOk result (λ placed. placed ≡ placed_from (advances_of extents.now) 0 lines.now) }
+{
     let mut placed = Items::with_capacity(alloc, extents.len())?;
     for (number, line) in lines.iter().enumerate() {
         add_items(line, number, extents, &mut placed)?;
