@@ -1,11 +1,13 @@
 -- The clusters that a text is cut into have the ends that the rules give.
-use Rattle.std.proofs.Common.{◌≡◌, ℕ, zero, suc, ◌+◌, ◌-◌, ◌<◌, ◌≤◌, ◌==◌, Bool, true, false, cond, Option, Some, None, List, [], ◌∷◌, ◌++◌, map, flat_map, length, refl, sym, ap, ap₂, subst, ◌∙◌, arith, append_assoc, append-nil}
+use Rattle.std.proofs.Common.{◌≡◌, ℕ, zero, suc, ◌+◌, ◌-◌, ◌<◌, ◌≤◌, ◌==◌, ◌&&◌, Bool, true, false, cond, Option, Some, None, List, [], ◌∷◌, ◌++◌, map, flat_map, length, refl, sym, ap, ap₂, subst, ◌∙◌, arith, append_assoc, append-nil}
+use Rattle.std.proofs.lemmas.Bool.Decides.{nat_tests}
 use Rattle.std.proofs.lemmas.Str.{chars-append, chars-encodes, scalars-chars}
-use Rattle.std.specs.Prelude.{encode_utf8_all}
+use Rattle.std.specs.Prelude.{encode_utf8, encode_utf8_all}
 use Rattle.std.specs.Str.{chars, IsUtf8}
-use lib.Utf8.{scalars}
+use lib.Utf8.{scalar, scalars}
 use Rattle.unicode_segmentation.specs.Grapheme.{graphemes, is_grapheme_break}
 use Rattle.unicode_segmentation.specs.Segments.{Rule, cut, prepend, segments}
+use Rattle.unicode_segmentation.proofs.TextLemmas.{chars-encode_utf8}
 use Rattle.text_layout.specs.Clusters.{cluster_ends, ends_behind, flags_of, text_ends, text_of}
 
 -- ---- a text alone, and a text that a break ends
@@ -41,13 +43,16 @@ unfolding cut
 cut-front rule before c cs after =
     elim (rule (c ∷ before) (cs ++ after)) as (λ b. HasFront (cond b ((c ∷ []) ∷ cut rule (c ∷ before) cs after) (prepend (c ∷ []) (cut rule (c ∷ before) cs after)))) [
       | true ↦ tt
-      | false ↦ elim (cut rule (c ∷ before) cs after) as (λ l. HasFront (prepend (c ∷ []) l)) [ [] ↦ tt | _ ∷ _ _ ↦ tt ]
+      | false ↦ elim (cut rule (c ∷ before) cs after) as (λ l. HasFront (prepend (c ∷ []) l)) [ [] ↦ tt | _ ∷ _ ↦ tt ]
     ]
+
+flags_of-more : (n : ℕ) → flags_of (suc (suc n)) ≡ false ∷ flags_of (suc n)
+flags_of-more n = refl
 
 all_flags-prepend : (c : ℕ) (pieces : List (List ℕ)) → HasFront pieces → all_flags (prepend (c ∷ []) pieces) ≡ false ∷ all_flags pieces
 all_flags-prepend c [] h = absurd h
 all_flags-prepend c ([] ∷ pieces) h = absurd h
-all_flags-prepend c ((d ∷ piece) ∷ pieces) h = refl
+all_flags-prepend c ((d ∷ piece) ∷ pieces) h = ap (λ l. l ++ all_flags pieces) (flags_of-more (length piece))
 
 all_flags-step : (b : Bool) (c : ℕ) (rest : List (List ℕ)) → HasFront rest → all_flags (cond b ((c ∷ []) ∷ rest) (prepend (c ∷ []) rest)) ≡ b ∷ all_flags rest
 all_flags-step true c rest h = refl
@@ -77,12 +82,20 @@ abbrev AreText : List (List ℕ) → Type 0
 AreText [] = Unit {0}
 AreText (piece ∷ pieces) = (scalars piece ≡ true) × AreText pieces
 
+and_parts : (a b : Bool) → (a && b) ≡ true → (a ≡ true) × (b ≡ true)
+and_parts true b h = (refl, h)
+and_parts false b h = (cc)
+
+and_join : (a b : Bool) → a ≡ true → b ≡ true → (a && b) ≡ true
+and_join true b p q = q
+and_join false b p q = p
+
 scalars-cons : (c : ℕ) (cs : List ℕ) → scalars (c ∷ cs) ≡ true → (scalars (c ∷ []) ≡ true) × (scalars cs ≡ true)
-scalars-cons c cs h = ?
+scalars-cons c cs h = let parts = and_parts (scalar c) (scalars cs) h in (and_join (scalar c) true parts.0 refl, parts.1)
 
 AreText-prepend : (c : ℕ) (pieces : List (List ℕ)) → scalars (c ∷ []) ≡ true → AreText pieces → AreText (prepend (c ∷ []) pieces)
-AreText-prepend c [] h k = ?
-AreText-prepend c (piece ∷ pieces) h k = ?
+AreText-prepend c [] h k = (h, tt)
+AreText-prepend c (piece ∷ pieces) h k = (and_join (scalar c) (scalars piece) (and_parts (scalar c) true h).0 k.0, k.1)
 
 AreText-cut : (rule : Rule) (before cs after : List ℕ) → scalars cs ≡ true → AreText (cut rule before cs after)
 unfolding cut
@@ -105,3 +118,53 @@ unfolding segments
 flags-graphemes text h =
     let cs = chars text in
     flags-encoded (cut (is_grapheme_break true) [] cs []) (AreText-cut (is_grapheme_break true) [] cs [] (scalars-chars text h)) ∙ all_flags-cut [] cs
+
+-- ---- the walk along the items
+
+char_joins : (cs : List ℕ) (c : ℕ) (rest : List (Option ℕ)) → map Some (cs ++ c ∷ []) ++ rest ≡ map Some cs ++ Some c ∷ rest
+char_joins [] c rest = refl
+char_joins (d ∷ cs) c rest = ap (λ l. Some d ∷ l) (char_joins cs c rest)
+
+-- A character goes on with the text.
+pub walk-char : (ends all : List Bool) (cs : List ℕ) (c : ℕ) (codes rest : List (Option ℕ)) → codes ≡ Some c ∷ rest
+    → ends ++ ends_behind [] (map Some cs ++ codes) ≡ all → ends ++ ends_behind [] (map Some (cs ++ c ∷ []) ++ rest) ≡ all
+walk-char ends all cs c codes rest e h =
+    ap (λ l. ends ++ ends_behind [] l) (char_joins cs c rest ∙ ap (λ l. map Some cs ++ l) (sym e)) ∙ h
+
+-- A hard break or a drawing ends it.
+pub walk-break : (ends all : List Bool) (cs : List ℕ) (codes rest : List (Option ℕ)) → codes ≡ None ∷ rest
+    → ends ++ ends_behind [] (map Some cs ++ codes) ≡ all → ((ends ++ text_ends cs) ++ true ∷ []) ++ ends_behind [] rest ≡ all
+walk-break ends all cs codes rest e h =
+    append_assoc (ends ++ text_ends cs) (true ∷ []) (ends_behind [] rest)
+    ∙ append_assoc ends (text_ends cs) (true ∷ ends_behind [] rest)
+    ∙ ap (λ l. ends ++ l) (sym (ends_behind-ended [] cs rest) ∙ ap (λ l. ends_behind [] (map Some cs ++ l)) (sym e))
+    ∙ h
+
+-- At the end the last text is left.
+pub walk-end : (ends all : List Bool) (cs : List ℕ) (codes : List (Option ℕ)) → codes ≡ []
+    → ends ++ ends_behind [] (map Some cs ++ codes) ≡ all → ends ++ text_ends cs ≡ all
+walk-end ends all cs codes e h =
+    ap (λ l. ends ++ ends_behind [] l) (sym (append-nil (map Some cs)) ∙ ap (λ l. map Some cs ++ l) (sym e)) ∙ h
+
+-- A text that a character is put behind.
+pub chars-pushed : (bs : List ℕ) (c : ℕ) → IsUtf8 bs → IsUtf8 (encode_utf8 c) → chars (bs ++ encode_utf8 c) ≡ chars bs ++ c ∷ []
+chars-pushed bs c h k = chars-append bs (encode_utf8 c) h ∙ ap (λ l. chars bs ++ l) (chars-encode_utf8 c k)
+
+-- ---- the loops
+
+-- the first of the flags that are left
+pub flags_of-step : (count k : ℕ) (b : Bool) → k < count → b ≡ (k + 1 == count) → flags_of (count - k) ≡ b ∷ flags_of (count - (k + 1))
+flags_of-step count k b l e =
+    let n : count - k ≡ suc (count - (k + 1)) = omega arith in
+    ap flags_of n ∙ ap (λ t. t ∷ flags_of (count - (k + 1))) (same_test (count - (k + 1)) k count (omega arith) ∙ sym e)
+  where
+  same_test : (m k count : ℕ) → m + k + 1 ≡ count → (m == 0) ≡ (k + 1 == count)
+  same_test m k count h = grind (arith, nat_tests)
+
+pub flags_of-none : (count k : ℕ) → count ≤ k → flags_of (count - k) ≡ []
+flags_of-none count k l = ap flags_of (let e : count - k ≡ 0 = omega arith in e)
+
+-- a function of pieces, by what the references to them point to
+pub flat_map-now : {X Y Z : Type 0} (v : X → Y) (f : Y → List Z) (xs : List X) → flat_map (λ x. f (v x)) xs ≡ flat_map f (map v xs)
+flat_map-now v f [] = refl
+flat_map-now v f (x ∷ xs) = ap (λ l. f (v x) ++ l) (flat_map-now v f xs)

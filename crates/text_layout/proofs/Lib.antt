@@ -1,2 +1,4 @@
 pub mod ClusterLemmas
+pub mod LineLemmas
+pub mod ScaleLemmas
 pub mod SpanLemmas

@@ -1,7 +1,7 @@
 -- Public: how lengths of a script become lengths of the frame, and the matrices of characters, drawings and clips.
 -- (Advanced SubStation Alpha, "PlayResX", "ScaleX"; Aegisub tag reference, "\fs", "\fscx", "\p".)
-use Rattle.std.specs.Prelude.{ℕ, ◌*◌, ◌-◌, ◌^◌, Bool, false, ℤ, pos, ◌+ℤ◌, ◌*ℤ◌}
-use Rattle.std.specs.Int.{int_max, int_rem_euclid, unsigned_abs}
+use Rattle.std.specs.Prelude.{ℕ, ◌*◌, ◌-◌, ◌^◌, Bool, false, ℤ, pos, unsigned_abs, ◌+ℤ◌, ◌*ℤ◌}
+use Rattle.std.specs.Int.{int_max, int_rem_euclid}
 use Rattle.ass_num.specs.Floor.{floor_div, held}
 use Rattle.ass_num.specs.Limits.{one_16}
 use Rattle.ass_num.specs.declared.geometry.Matrix.{Matrix}

@@ -30,11 +30,11 @@ abbrev pub paragraphs_of : List Role → List Span
 paragraphs_of roles = spans_between 0 (length roles) (places_of Break roles)
 
 -- The places are where a wrap style breaks a paragraph of these widths and break places.
-abbrev pub AreChosen : ℕ → List ℤ → List ℕ → ℤ → List ℕ → Type 0
-AreChosen 0 widths spaces max places = IsBest widths spaces max true places
-AreChosen 1 widths spaces max places = AreFilled widths spaces max 0 places
-AreChosen 2 widths spaces max places = places ≡ []
-AreChosen _ widths spaces max places = IsBest widths spaces max false places
+pub record AreChosen (wrap : ℕ) (widths : List ℤ) (spaces : List ℕ) (max : ℤ) (places : List ℕ) : Type 0 where
+  pub greatest : wrap ≡ 0 → IsBest widths spaces max true places
+  pub filled : wrap ≡ 1 → AreFilled widths spaces max 0 places
+  pub none : wrap ≡ unwrapped → places ≡ []
+  pub least : wrap ≡ 3 → IsBest widths spaces max false places
 
 -- The spans are the lines of a paragraph, which is broken at chosen spaces.
 abbrev pub AreLinesOf : ℕ → List Role → List ℤ → ℤ → Span → List Span → Type 0
