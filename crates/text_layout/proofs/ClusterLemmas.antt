@@ -1,14 +1,17 @@
 -- The clusters that a text is cut into have the ends that the rules give.
-use Rattle.std.proofs.Common.{◌≡◌, ℕ, zero, suc, ◌+◌, ◌-◌, ◌<◌, ◌≤◌, ◌==◌, ◌&&◌, Bool, true, false, cond, Option, Some, None, List, [], ◌∷◌, ◌++◌, map, flat_map, length, refl, sym, ap, ap₂, subst, ◌∙◌, arith, append_assoc, append-nil}
+use Rattle.std.proofs.Common.{◌≡◌, ℕ, suc, ◌+◌, ◌-◌, ◌<◌, ◌≤◌, ◌==◌, ◌&&◌, Bool, true, false, cond, Option, Some, None, List, [], ◌∷◌, ◌++◌, map, flat_map, length, refl, sym, ap, ap₂, ◌∙◌, arith, append_assoc, append-nil, get_or, drop}
 use Rattle.std.proofs.lemmas.Bool.Decides.{nat_tests}
+use Rattle.std.proofs.lemmas.List.{drop_more}
 use Rattle.std.proofs.lemmas.Str.{chars-append, chars-encodes, scalars-chars}
 use Rattle.std.specs.Prelude.{encode_utf8, encode_utf8_all}
 use Rattle.std.specs.Str.{chars, IsUtf8}
 use lib.Utf8.{scalar, scalars}
 use Rattle.unicode_segmentation.specs.Grapheme.{graphemes, is_grapheme_break}
 use Rattle.unicode_segmentation.specs.Segments.{Rule, cut, prepend, segments}
-use Rattle.unicode_segmentation.proofs.TextLemmas.{chars-encode_utf8}
-use Rattle.text_layout.specs.Clusters.{cluster_ends, ends_behind, flags_of, text_ends, text_of}
+use Rattle.unicode_segmentation.proofs.TextLemmas.{IsUtf8-after, chars-encode_utf8}
+use Rattle.override_tags.specs.declared.view.Shown.{Shown}
+use Rattle.text_layout.specs.Kinds.{char_of, chars_of}
+use Rattle.text_layout.specs.Clusters.{ends_behind, flags_of, text_ends, text_of}
 
 -- ---- a text alone, and a text that a break ends
 
@@ -47,7 +50,7 @@ cut-front rule before c cs after =
     ]
 
 flags_of-more : (n : ℕ) → flags_of (suc (suc n)) ≡ false ∷ flags_of (suc n)
-flags_of-more n = refl
+flags_of-more n = let t : (suc n == 0) ≡ false = grind (arith, nat_tests) in ap (λ b. b ∷ flags_of (suc n)) t
 
 all_flags-prepend : (c : ℕ) (pieces : List (List ℕ)) → HasFront pieces → all_flags (prepend (c ∷ []) pieces) ≡ false ∷ all_flags pieces
 all_flags-prepend c [] h = absurd h
@@ -125,6 +128,14 @@ char_joins : (cs : List ℕ) (c : ℕ) (rest : List (Option ℕ)) → map Some (
 char_joins [] c rest = refl
 char_joins (d ∷ cs) c rest = ap (λ l. Some d ∷ l) (char_joins cs c rest)
 
+-- the characters of the items from one on
+pub codes-more : (wrap : ℕ) (items : List Shown) (k : ℕ) (shown : Shown) (o : Option ℕ) → k < length items → shown ≡ get_or items k shown → o ≡ char_of wrap shown.kind
+    → chars_of wrap (drop k items) ≡ o ∷ chars_of wrap (drop (k + 1) items)
+codes-more wrap items k shown o l is e =
+    ap (chars_of wrap) (drop_more items k shown l)
+    ∙ ap (λ (s : Shown). char_of wrap s.kind ∷ chars_of wrap (drop (k + 1) items)) (sym is)
+    ∙ ap (λ c. c ∷ chars_of wrap (drop (k + 1) items)) (sym e)
+
 -- A character goes on with the text.
 pub walk-char : (ends all : List Bool) (cs : List ℕ) (c : ℕ) (codes rest : List (Option ℕ)) → codes ≡ Some c ∷ rest
     → ends ++ ends_behind [] (map Some cs ++ codes) ≡ all → ends ++ ends_behind [] (map Some (cs ++ c ∷ []) ++ rest) ≡ all
@@ -147,8 +158,10 @@ walk-end ends all cs codes e h =
     ap (λ l. ends ++ ends_behind [] l) (sym (append-nil (map Some cs)) ∙ ap (λ l. map Some cs ++ l) (sym e)) ∙ h
 
 -- A text that a character is put behind.
-pub chars-pushed : (bs : List ℕ) (c : ℕ) → IsUtf8 bs → IsUtf8 (encode_utf8 c) → chars (bs ++ encode_utf8 c) ≡ chars bs ++ c ∷ []
-chars-pushed bs c h k = chars-append bs (encode_utf8 c) h ∙ ap (λ l. chars bs ++ l) (chars-encode_utf8 c k)
+pub chars-pushed : (bs : List ℕ) (c : ℕ) → IsUtf8 bs → IsUtf8 (bs ++ encode_utf8 c) → chars (bs ++ encode_utf8 c) ≡ chars bs ++ c ∷ []
+chars-pushed bs c h k =
+    let behind = IsUtf8-after (bs ++ encode_utf8 c) bs (encode_utf8 c) k h refl in
+    chars-append bs (encode_utf8 c) h ∙ ap (λ l. chars bs ++ l) (chars-encode_utf8 c behind)
 
 -- ---- the loops
 
@@ -158,8 +171,8 @@ flags_of-step count k b l e =
     let n : count - k ≡ suc (count - (k + 1)) = omega arith in
     ap flags_of n ∙ ap (λ t. t ∷ flags_of (count - (k + 1))) (same_test (count - (k + 1)) k count (omega arith) ∙ sym e)
   where
-  same_test : (m k count : ℕ) → m + k + 1 ≡ count → (m == 0) ≡ (k + 1 == count)
-  same_test m k count h = grind (arith, nat_tests)
+    same_test : (m k count : ℕ) → m + k + 1 ≡ count → (m == 0) ≡ (k + 1 == count)
+    same_test m k count h = grind (arith, nat_tests)
 
 pub flags_of-none : (count k : ℕ) → count ≤ k → flags_of (count - k) ≡ []
 flags_of-none count k l = ap flags_of (let e : count - k ≡ 0 = omega arith in e)

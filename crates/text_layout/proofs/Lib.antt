@@ -1,4 +1,3 @@
 pub mod ClusterLemmas
-pub mod LineLemmas
 pub mod ScaleLemmas
 pub mod SpanLemmas

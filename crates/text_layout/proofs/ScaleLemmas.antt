@@ -1,17 +1,9 @@
 -- How far from 0 lengths of the frame lie.
-use Rattle.std.proofs.Common.{◌≡◌, ℕ, ◌+◌, ◌*◌, ◌<◌, ◌≤◌, ℤ, pos, ◌+ℤ◌, ◌-ℤ◌, ◌*ℤ◌, ◌≤ℤ◌, FitsSigned, w64, arith}
+use Rattle.std.proofs.Common.{ℕ, ◌*◌, ◌≤◌, ℤ, pos, ◌*ℤ◌, FitsSigned, arith}
 use Rattle.std.proofs.lemmas.Int.{ints}
-use Rattle.std.proofs.lemmas.Nat.{mul-le}
-use Rattle.ass_num.specs.Floor.{floor_div}
-use Rattle.ass_num.specs.Limits.{IsWithin, IsHeldNumber, max_frame_side, max_held}
-use Rattle.ass_num.proofs.LimitLemmas.{IsWithin-wider}
-use Rattle.ass_script.specs.Ranges.{IsCanvasSide}
-use Rattle.outline_points.specs.Limits.{max_pixel, max_scale}
-use Rattle.outline_points.specs.Placing.{IsScale}
-use Rattle.outline_points.proofs.Bounds.{scale_within, within_product, within_quotient}
-use Rattle.text_layout.specs.Extents.{scaled_pixels, spacing_of}
-use Rattle.text_layout.specs.Limits.{max_dividend, max_factor, max_framed, max_script_length}
-use Rattle.text_layout.specs.Scales.{framed, pixel, whole_milli, whole_per_cent}
+use Rattle.ass_num.specs.Limits.{IsWithin, IsHeldNumber, max_held}
+use Rattle.outline_points.proofs.Bounds.{within_product}
+use Rattle.text_layout.specs.Limits.{max_dividend, max_factor}
 use mir.Syntax.{w128}
 
 pub factor_within : (n limit : ℕ) → n ≤ limit → IsWithin limit (pos n)
@@ -23,38 +15,5 @@ dividend_within a factor h l = within_product max_dividend max_factor a (pos fac
 pub dividend_fits : (z : ℤ) → IsWithin (max_dividend * max_factor) z → FitsSigned w128 z
 dividend_fits z h = omega (arith, ints)
 
-pub length_fits : (z : ℤ) → IsWithin max_framed z → FitsSigned w64 z
-length_fits z h = omega (arith, ints)
-
 pub product_within : (a b : ℤ) → IsHeldNumber a → IsHeldNumber b → IsWithin max_dividend (a *ℤ b)
 product_within a b h k = within_product max_held max_held a b h k
-
--- the most units that a side of a frame has
-abbrev max_units : ℕ
-max_units = 262144
-
-pub framed_within : (len : ℤ) (side res : ℕ) → IsWithin max_script_length len → side ≤ max_frame_side → IsCanvasSide res → IsWithin max_framed (framed len side res)
-framed_within len side res h s r =
-    within_quotient max_framed (whole_milli * res) (len *ℤ pos (pixel * side)) (omega (arith, r.0))
-    (IsWithin-wider (max_script_length * max_units) (max_framed * (whole_milli * res)) (len *ℤ pos (pixel * side)) (omega (arith, r.0))
-    (within_product max_script_length max_units len (pos (pixel * side)) h (factor_within (pixel * side) max_units (omega arith))))
-
-pub spacing_within : (spacing scale : ℤ) (side res : ℕ) → IsHeldNumber spacing → IsHeldNumber scale → side ≤ max_frame_side → IsCanvasSide res → IsWithin max_framed (spacing_of spacing scale side res)
-spacing_within spacing scale side res h k s r =
-    within_quotient max_framed (whole_milli * whole_per_cent * res) ((spacing *ℤ scale) *ℤ pos (pixel * side)) (omega (arith, r.0))
-    (IsWithin-wider (max_dividend * max_units) (max_framed * (whole_milli * whole_per_cent * res)) ((spacing *ℤ scale) *ℤ pos (pixel * side)) (omega (arith, r.0))
-    (within_product max_dividend max_units (spacing *ℤ scale) (pos (pixel * side)) (product_within spacing scale h k) (factor_within (pixel * side) max_units (omega arith))))
-
-pub pixels_within : (pixels scale : ℤ) → IsWithin max_pixel pixels → IsScale scale → IsWithin max_framed (scaled_pixels pixels scale)
-pixels_within pixels scale h k =
-    within_quotient max_framed 65536 (pixels *ℤ scale) (omega arith)
-    (IsWithin-wider (max_pixel * max_scale) (max_framed * 65536) (pixels *ℤ scale) (omega arith) (within_product max_pixel max_scale pixels scale h (scale_within scale k)))
-
--- A number that is nowhere below 0 is a number.
-pub length_is_number : (z : ℤ) (limit : ℕ) → pos 0 ≤ℤ z → z ≤ℤ pos limit → IsWithin limit z
-length_is_number z limit h k = (omega (arith, ints), k)
-
--- ---- edges
-
-pub middle_within : (limit : ℕ) (near far : ℤ) → IsWithin limit near → IsWithin limit far → IsWithin limit (floor_div (near +ℤ far) (pos 2))
-middle_within limit near far h k = within_quotient limit 2 (near +ℤ far) (omega arith) (omega (arith, ints), omega (arith, ints))

@@ -1,10 +1,5 @@
-pub mod Anchors
 pub mod Clusters
-pub mod Extents
-pub mod Fonts
 pub mod Kinds
-pub mod Layouts
 pub mod Limits
-pub mod Lines
 pub mod Scales
 pub mod Spans

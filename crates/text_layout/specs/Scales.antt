@@ -1,6 +1,6 @@
 -- Public: how lengths of a script become lengths of the frame, and the matrices of characters, drawings and clips.
 -- (Advanced SubStation Alpha, "PlayResX", "ScaleX"; Aegisub tag reference, "\fs", "\fscx", "\p".)
-use Rattle.std.specs.Prelude.{ℕ, ◌*◌, ◌-◌, ◌^◌, Bool, false, ℤ, pos, unsigned_abs, ◌+ℤ◌, ◌*ℤ◌}
+use Rattle.std.specs.Prelude.{ℕ, ◌*◌, ◌-◌, ◌^◌, false, ℤ, pos, unsigned_abs, ◌+ℤ◌, ◌*ℤ◌}
 use Rattle.std.specs.Int.{int_max, int_rem_euclid}
 use Rattle.ass_num.specs.Floor.{floor_div, held}
 use Rattle.ass_num.specs.Limits.{one_16}
@@ -26,10 +26,6 @@ whole_per_cent = 100000
 -- a whole turn, in thousandths of a degree
 abbrev pub whole_turn : ℕ
 whole_turn = 360000
-
--- A length of the script, where `side` pixels of the frame show `res` pixels of the script.
-abbrev pub framed : ℤ → ℕ → ℕ → ℤ
-framed len side res = floor_div (len *ℤ pos (pixel * side)) (pos (whole_milli * res))
 
 -- the height of a font above and below the baseline, at least 1
 abbrev pub em_height : FontValue → ℕ

@@ -33,18 +33,19 @@ fn add_cluster(cluster: &str, ends: &mut Vec<bool>) -> Mem<()>
 }
 
 /// For each item whether it is the last character of its cluster, in the text between hard breaks and drawings; `true` for these.
-pub(crate) fn cluster_ends(alloc: Global, items: &[Shown], wrap: u8) -> Mem<Vec<bool>>
+pub fn cluster_ends(alloc: Global, items: &[Shown], wrap: u8) -> Mem<Vec<bool>>
     ensures { IfOk result (λ ends. ends.items ≡ cluster_ends (chars_of wrap items.now)) }
 {
     let mut ends = Vec::with_capacity(alloc, items.len())?;
     let mut text = String::new(alloc);
     for shown in items {
-        if let Some(c) = char_of(shown, wrap) {
-            text.push(c)?;
-        } else {
-            add_text(text.as_str(), &mut ends)?;
-            text.clear();
-            ends.push(true)?;
+        match char_of(shown, wrap) {
+            Some(c) => text.push(c)?,
+            None => {
+                add_text(text.as_str(), &mut ends)?;
+                text.clear();
+                ends.push(true)?;
+            }
         }
     }
     add_text(text.as_str(), &mut ends)?;

@@ -15,7 +15,7 @@ use std::alloc::Global;
 
 /// The items from `first` up to `last`.
 #[derive(Clone, Copy, Debug, PartialEq, Eq)]
-pub(crate) struct Span {
+pub struct Span {
     pub first: usize,
     pub last: usize,
 }
@@ -86,11 +86,12 @@ fn add_lines(
     let widths = &advances[paragraph.first..paragraph.last];
     let spaces = places_of(alloc, shown, wrap, Role::Space)?;
     let chosen = choose_breaks(alloc, widths, spaces.as_slice(), max, wrap)?;
-    add_spans(paragraph.first, paragraph.last, chosen.as_slice(), lines)
+    add_spans(paragraph.first, paragraph.last, chosen.as_slice(), lines)?;
+    Ok(())
 }
 
 /// The items of each line.
-pub(crate) fn line_spans(
+pub fn line_spans(
     alloc: Global,
     items: &[Shown],
     wrap: u8,

@@ -1,7 +1,6 @@
-use Rattle.std.proofs.Common.{◌≡◌, ◌∙◌, ◌+◌, ◌-◌, ◌==◌, ◌∷◌, ◌++◌, [], length, sym, ap, arith, append_assoc, append-nil, refl}
+use Rattle.std.proofs.Common.{◌∙◌, ◌+◌, ◌-◌, ◌==◌, ◌∷◌, ◌++◌, [], sym, ap, arith, append_assoc, append-nil, refl}
 use Rattle.std.proofs.lemmas.Iterator.{YieldsList-from_chars}
 use Rattle.std.proofs.lemmas.Iterator.Consumers.{count_from_yields_List}
-use Rattle.std.specs.Str.{chars}
 use Rattle.text_layout.specs.Clusters.{flags_of}
 use Rattle.text_layout.proofs.ClusterLemmas.{flags_of-none, flags_of-step}
 use Rattle.text_layout.proofs.clusters.add_cluster.Goals as goal

@@ -1,4 +1,4 @@
-use Rattle.std.proofs.Common.{◌∙◌, ◌++◌, true, flat_map, length, ap}
+use Rattle.std.proofs.Common.{◌∙◌, ◌++◌, flat_map, length, ap}
 use Rattle.std.proofs.lemmas.Iterator.Consumers.{YieldsList-end}
 use Rattle.std.specs.Str.{chars}
 use Rattle.unicode_segmentation.specs.Iter.{graphemes_left}
