@@ -1,0 +1,5 @@
+pub mod Clusters
+pub mod Kinds
+pub mod Limits
+pub mod Scales
+pub mod Spans

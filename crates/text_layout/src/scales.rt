@@ -1,0 +1,167 @@
+//! How lengths of a script become lengths of the frame, and the matrices of characters, drawings and clips.
+
+ghost use Rattle.std.specs.Prelude.{◌≡◌, ◌≤◌, ◌<◌, pos, ◌*ℤ◌};
+ghost use Rattle.ass_num.specs.Floor.{floor_div};
+ghost use Rattle.ass_num.specs.Limits.{IsFrameSize, IsHeldLength, IsHeldNumber, IsWithin, max_frame_side};
+ghost use Rattle.ass_script.specs.Ranges.{IsCanvasSide, IsScriptHeader};
+ghost use Rattle.bdf_font.specs.Ranges.{IsFont};
+ghost use Rattle.outline_points.specs.Placing.{IsMatrix, IsScale};
+ghost use Rattle.override_tags.specs.Limits.{max_tag_scale};
+ghost use Rattle.text_layout.specs.Limits.{max_dividend, max_em, max_factor, max_level_parts};
+ghost use Rattle.text_layout.specs.Scales.{clip_matrix, drawing_matrix, drawing_scale, em_height, fine_parts, held_scale, level_parts, text_matrix, text_scale, turn_of};
+
+use ass_num::{Matrix, Milli, Size, div_floor, hold};
+use ass_script::Header;
+use bdf_font::Font;
+use override_tags::State;
+
+/// The largest scale of a matrix: 2^40.
+const MAX_SCALE: i64 = 1_099_511_627_776;
+
+/// The product of two numbers that a script may have.
+fn product(a: Milli, b: Milli) -> i128
+    requires a { IsHeldNumber a }
+    requires b { IsHeldNumber b }
+    ensures value { result ≡ a *ℤ b }
+    ensures within { IsWithin max_dividend result }
+{
+    i128::from(a) * i128::from(b)
+}
+
+/// A multiple of a number, divided and rounded down.
+fn divided(a: i128, factor: u64, divisor: u64) -> i128
+    requires number { IsWithin max_dividend a }
+    requires factor { factor ≤ max_factor }
+    requires divisor { 0 < divisor }
+    ensures { result ≡ floor_div (a *ℤ pos factor) (pos divisor) }
+{
+    div_floor(a * i128::from(factor), i128::from(divisor))
+}
+
+/// The height of a font above and below the baseline, at least 1.
+fn em_height(font: &Font) -> u64
+    requires { IsFont font.now }
+    ensures value { result ≡ em_height font.now }
+    ensures some { 0 < result }
+    ensures most { result ≤ max_em }
+{
+    (i64::from(font.ascent()) + i64::from(font.descent()))
+        .max(1)
+        .unsigned_abs()
+}
+
+/// The scale that a quotient is: none is above the largest one.
+fn held_scale(quotient: i128) -> i64
+    ensures value { result ≡ held_scale quotient }
+    ensures range { IsScale result }
+{
+    hold(quotient, 0, MAX_SCALE)
+}
+
+/// How many parts of 65,536 of 1/64 pixel a side of the frame has.
+fn fine_parts(side: u32) -> u64
+    requires { side ≤ max_frame_side }
+    ensures value { result ≡ fine_parts side }
+    ensures within { result ≤ max_factor }
+{
+    u64::from(side) * 64 * 65_536
+}
+
+/// The scale of a bitmap pixel of a font that is `em` pixels high.
+fn text_scale(size: Milli, scale: Milli, side: u32, res: u32, em: u64) -> i64
+    requires size { IsHeldLength size }
+    requires scale { IsHeldLength scale }
+    requires side { side ≤ max_frame_side }
+    requires res { IsCanvasSide res }
+    requires some { 0 < em }
+    requires most { em ≤ max_em }
+    ensures value { result ≡ text_scale size scale side res em }
+    ensures range { IsScale result }
+{
+    let divisor = 100_000_000 * u64::from(res) * em;
+    held_scale(divided(product(size, scale), fine_parts(side), divisor))
+}
+
+/// The scale of a unit of a drawing of a level, which is a script pixel in level 1 and half of the one before in each further level.
+fn drawing_scale(scale: Milli, level: u32, side: u32, res: u32) -> i64
+    requires scale { IsHeldLength scale }
+    requires level { level ≤ max_tag_scale }
+    requires side { side ≤ max_frame_side }
+    requires res { IsCanvasSide res }
+    ensures value { result ≡ drawing_scale scale level side res }
+    ensures range { IsScale result }
+{
+    let divisor = 100_000 * u64::from(res) * level_parts(level);
+    held_scale(divided(i128::from(scale), fine_parts(side), divisor))
+}
+
+/// How many units of a level make a script pixel.
+fn level_parts(level: u32) -> u64
+    requires { level ≤ max_tag_scale }
+    ensures value { result ≡ level_parts level }
+    ensures some { 0 < result }
+    ensures most { result ≤ max_level_parts }
+{
+    2_u64.pow(level.saturating_sub(1))
+}
+
+/// The turn by an angle, from 0 up to a whole turn.
+fn turn_of(angle: Milli) -> Milli
+    ensures { result ≡ turn_of angle }
+{
+    angle.rem_euclid(360_000)
+}
+
+/// The matrix of characters in a state with this font.
+pub fn text_matrix(header: &Header, font: &Font, state: &State, size: &Size) -> Matrix
+    requires header { IsScriptHeader header.now }
+    requires font { IsFont font.now }
+    requires scale_x { IsHeldLength state.now.scale_x }
+    requires scale_y { IsHeldLength state.now.scale_y }
+    requires height { IsHeldLength state.now.size }
+    requires size { IsFrameSize size.now }
+    ensures value { result ≡ text_matrix header.now font.now state.now size.now }
+    ensures range { IsMatrix result }
+{
+    let em = em_height(font);
+    Matrix {
+        ux: text_scale(state.size, state.scale_x, size.w, header.res_x, em),
+        uy: text_scale(state.size, state.scale_y, size.h, header.res_y, em),
+        italic: state.italic,
+        turn: turn_of(state.angle),
+    }
+}
+
+/// The matrix of drawings in a state.
+pub fn drawing_matrix(header: &Header, state: &State, size: &Size) -> Matrix
+    requires header { IsScriptHeader header.now }
+    requires scale_x { IsHeldLength state.now.scale_x }
+    requires scale_y { IsHeldLength state.now.scale_y }
+    requires level { state.now.draw ≤ max_tag_scale }
+    requires size { IsFrameSize size.now }
+    ensures value { result ≡ drawing_matrix header.now state.now size.now }
+    ensures range { IsMatrix result }
+{
+    Matrix {
+        ux: drawing_scale(state.scale_x, state.draw, size.w, header.res_x),
+        uy: drawing_scale(state.scale_y, state.draw, size.h, header.res_y),
+        italic: false,
+        turn: turn_of(state.angle),
+    }
+}
+
+/// The matrix of the drawing of a clip at a scale.
+pub fn clip_matrix(header: &Header, scale: u32, size: &Size) -> Matrix
+    requires header { IsScriptHeader header.now }
+    requires scale { scale ≤ max_tag_scale }
+    requires size { IsFrameSize size.now }
+    ensures value { result ≡ clip_matrix header.now scale size.now }
+    ensures range { IsMatrix result }
+{
+    Matrix {
+        ux: drawing_scale(100_000, scale, size.w, header.res_x),
+        uy: drawing_scale(100_000, scale, size.h, header.res_y),
+        italic: false,
+        turn: 0,
+    }
+}
