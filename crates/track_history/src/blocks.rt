@@ -44,13 +44,7 @@ impl Block {
         ensures block { IsBlock result }
         ensures spans { result.spans.items ≡ spans.items }
     {
-        let mut first = spans[0].start;
-        let mut last = spans[0].end;
-        'all: for span in &spans {
-            let wider = wider(first, last, *span);
-            first = wider.0;
-            last = wider.1;
-        }
+        let (first, last) = bounds_of(spans.as_slice());
         Block { spans, first, last }
     }
 
@@ -112,6 +106,9 @@ impl Block {
         ensures spans { self.new.spans.items ≡ take at self.old.spans.items }
     {
         self.spans.truncate(at);
+        let (first, last) = bounds_of(self.spans.as_slice());
+        self.first = first;
+        self.last = last;
     }
 
     /// Walks over the spans, the last one first.
@@ -125,6 +122,22 @@ impl Block {
         }
         Ok(())
     }
+}
+
+/// The earliest start and the latest end of some spans.
+fn bounds_of(spans: &[LiveSpan]) -> (i64, i64)
+    requires { 0 < length spans.now }
+    ensures first { All (λ s. result.0 ≤ℤ s.start) spans.now }
+    ensures last { All (λ s. s.end ≤ℤ result.1) spans.now }
+{
+    let mut first = spans[0].start;
+    let mut last = spans[0].end;
+    'all: for span in spans {
+        let wider = wider(first, last, *span);
+        first = wider.0;
+        last = wider.1;
+    }
+    (first, last)
 }
 
 /// The earliest start and the latest end with one span more.

@@ -1,6 +1,0 @@
-use Rattle.std.proofs.Common.{take}
-use Rattle.track_history.proofs.Bounds.{AreWithin}
-use Rattle.track_history.proofs.blocks.Block.of_all.Given as goal
-
-abbrev pub invariant-all : goal.invariant-all
-invariant-all l = AreWithin l.first l.last (take l.span-index l.span-items)
