@@ -1,7 +1,12 @@
 pub mod Asking
 pub mod Claiming
+pub mod Four
 pub mod Home
+pub mod Pinned
+pub mod Places
+pub mod Refusing
 pub mod Rows
 pub mod Standing
 pub mod Sums
+pub mod Trying
 pub mod Values

@@ -1,7 +1,9 @@
 pub mod Answers
 pub mod Calls
 pub mod Histories
+pub mod Holds
 pub mod Laws
 pub mod Meaning
 pub mod Others
+pub mod Pinning
 pub mod Shards

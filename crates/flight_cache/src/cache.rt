@@ -9,7 +9,7 @@ ghost use Rattle.flight_cache.specs.Meaning.{shard_count, shard_of};
 ghost use Rattle.flight_cache.specs.Histories.{left_by};
 ghost use Rattle.flight_cache.specs.Calls.{Gives, own_steps};
 ghost use Rattle.flight_cache.specs.Answers.{IsAsked};
-ghost use Rattle.flight_cache.specs.Shards.{IsCacheOf, IsShardOf, EachGives, EachIsLegal, EachExtends, HasNothing, HasLimits, min_cache_entries, total_sum, sum_of_totals, each, both, at, with_at, part};
+ghost use Rattle.flight_cache.specs.Shards.{IsCacheOf, IsShardOf, AreShardsOf, EachGives, EachIsLegal, EachExtends, HasNothing, HasLimits, min_cache_entries, total_sum, sum_of_totals, each, both, at, with_at, part};
 
 use crate::made::{Made, shard_number};
 use crate::pass::CachePass;
@@ -372,6 +372,13 @@ impl<M: Made> Cache<M> {
         self.second.legal(&pass.second);
         self.third.legal(&pass.third);
         self.fourth.legal(&pass.fourth);
+    }
+
+    // The shards have their numbers, and the cache's tag.
+    pub(crate) fn numbered(&self)
+        ensures { AreShardsOf self.now.tag self.now.shards }
+    {
+        let _ = &self.first;
     }
 
     // The shard of this number.

@@ -5,10 +5,12 @@
 #![tactic(auto)]
 
 mod cache;
+mod holds;
 mod kept;
 pub mod laws;
 mod made;
 mod pass;
+mod pinning;
 mod pins;
 mod shard;
 
@@ -16,4 +18,5 @@ pub use cache::Cache;
 pub use kept::{Entry, Opening};
 pub use made::{Made, ShardSum};
 pub use pass::CachePass;
+pub use pinning::PinRefusal;
 pub use pins::{Asked, Pin, Ticket};
