@@ -15,8 +15,8 @@ abbrev pub max_pen : ℕ
 max_pen = 262144
 
 -- the farthest that a shadow lies from what throws it, in samples
-abbrev pub max_offset : ℕ
-max_offset = max_held * one_16
+abbrev pub max_shadow_offset : ℕ
+max_shadow_offset = max_held * one_16
 
 -- the farthest from the frame that a mask may begin which can still reach it, in pixels
 abbrev pub max_reach : ℕ

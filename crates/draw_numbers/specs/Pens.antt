@@ -11,15 +11,15 @@ use Rattle.draw_numbers.specs.declared.pens.Spot.{Spot}
 use Rattle.draw_numbers.specs.declared.widths.Offsets.{Offsets}
 use Rattle.draw_numbers.specs.Limits.{max_pen, max_reach, sample}
 
-abbrev pub minus : Point → Point → Point
-minus p q = record { x = p.x -ℤ q.x; y = p.y -ℤ q.y }
+abbrev pub point_difference : Point → Point → Point
+point_difference p q = record { x = p.x -ℤ q.x; y = p.y -ℤ q.y }
 
-abbrev pub plus : Point → Point → Point
-plus p q = record { x = p.x +ℤ q.x; y = p.y +ℤ q.y }
+abbrev pub point_sum : Point → Point → Point
+point_sum p q = record { x = p.x +ℤ q.x; y = p.y +ℤ q.y }
 
 -- a point turned about an origin
 abbrev pub turned_about : Point → ℤ → Point → Point
-turned_about origin turn p = plus origin (turned_point turn (minus p origin))
+turned_about origin turn p = point_sum origin (turned_point turn (point_difference p origin))
 
 -- a coordinate in samples, moved by an offset, and held where pens may lie
 abbrev pub held_pen : ℤ → ℤ → ℤ

@@ -6,7 +6,7 @@ ghost use Rattle.ass_num.specs.Limits.{IsPointWithin, IsWithin};
 ghost use Rattle.mask_keys.specs.Keys.{samples_across};
 ghost use Rattle.outline_points.specs.Limits.{max_length, max_unturned};
 ghost use Rattle.outline_points.specs.Placing.{turned_point};
-ghost use Rattle.draw_numbers.specs.Limits.{max_offset, max_pen, sample};
+ghost use Rattle.draw_numbers.specs.Limits.{max_shadow_offset, max_pen, sample};
 ghost use Rattle.draw_numbers.specs.Pens as rule;
 
 use crate::widths::Offsets;
@@ -42,7 +42,7 @@ fn gap(a: Fix, b: Fix) -> Fix
 fn minus(p: Point, q: Point) -> Point
     requires p { IsPointWithin max_length p }
     requires q { IsPointWithin max_length q }
-    ensures value { result ≡ rule.minus p q }
+    ensures value { result ≡ rule.point_difference p q }
     ensures within { IsPointWithin max_unturned result }
 {
     Point {
@@ -64,7 +64,7 @@ fn sum(a: Fix, b: Fix) -> Fix
 fn plus(p: Point, q: Point) -> Point
     requires p { IsPointWithin max_length p }
     requires q { IsPointWithin (2 * max_unturned) q }
-    ensures { result ≡ rule.plus p q }
+    ensures { result ≡ rule.point_sum p q }
 {
     Point {
         x: sum(p.x, q.x),
@@ -92,7 +92,7 @@ fn turned_about(origin: Point, turn: &Turn, p: Point) -> Point
 
 /// A coordinate in samples, moved by an offset.
 fn moved(units: Fix, offset: i64) -> i64
-    requires { IsWithin max_offset offset }
+    requires { IsWithin max_shadow_offset offset }
     ensures { result ≡ floor_div units (pos sample) +ℤ offset }
 {
     units.div_euclid(4) + offset
@@ -100,7 +100,7 @@ fn moved(units: Fix, offset: i64) -> i64
 
 /// The same, held where pens may lie.
 fn held_pen(units: Fix, offset: i64) -> i64
-    requires { IsWithin max_offset offset }
+    requires { IsWithin max_shadow_offset offset }
     ensures value { result ≡ rule.held_pen units offset }
     ensures within { IsWithin max_pen result }
 {
@@ -109,8 +109,8 @@ fn held_pen(units: Fix, offset: i64) -> i64
 
 /// The pen of a mask, in samples.
 fn pen_of(p: Point, offsets: Offsets) -> Point
-    requires x { IsWithin max_offset offsets.x }
-    requires y { IsWithin max_offset offsets.y }
+    requires x { IsWithin max_shadow_offset offsets.x }
+    requires y { IsWithin max_shadow_offset offsets.y }
     ensures value { result ≡ rule.pen_of p offsets }
     ensures within { IsPointWithin max_pen result }
 {
@@ -156,8 +156,8 @@ fn spot_of(pen: Point) -> Spot
 pub fn spot_at(origin: Point, turn: &Turn, p: Point, offsets: Offsets) -> Spot
     requires origin { IsPointWithin max_length origin }
     requires point { IsPointWithin max_length p }
-    requires x { IsWithin max_offset offsets.x }
-    requires y { IsWithin max_offset offsets.y }
+    requires x { IsWithin max_shadow_offset offsets.x }
+    requires y { IsWithin max_shadow_offset offsets.y }
     ensures value { result ≡ rule.spot_at origin turn.now.angle p offsets }
     ensures px { result.px < samples_across }
     ensures py { result.py < samples_across }

@@ -4,7 +4,7 @@ ghost use Rattle.std.specs.Prelude.{◌≡◌, ◌≤◌, ◌<◌, IsTrue, ◌�
 ghost use Rattle.ass_num.specs.Limits.{IsFrameSize, IsHeldLength, IsHeldNumber, IsWithin, max_frame_side};
 ghost use Rattle.ass_script.specs.Ranges.{IsCanvasSide, IsScriptHeader};
 ghost use Rattle.mask_keys.specs.Keys.{max_border, max_passes, max_blur_radius};
-ghost use Rattle.draw_numbers.specs.Limits.{max_offset};
+ghost use Rattle.draw_numbers.specs.Limits.{max_shadow_offset};
 ghost use Rattle.draw_numbers.specs.Widths as rule;
 
 use crate::products::{rounded, scaled};
@@ -48,7 +48,7 @@ fn in_samples(is_scaled: bool, width: Milli, side: u32, res: u32) -> i64
     requires side { side ≤ max_frame_side }
     requires res { IsCanvasSide res }
     ensures value { result ≡ rule.in_samples is_scaled width side res }
-    ensures within { IsWithin max_offset result }
+    ensures within { IsWithin max_shadow_offset result }
 {
     if is_scaled {
         scaled(width, 16 * side, 1_000 * res)
@@ -91,8 +91,8 @@ pub fn offsets_of(header: &Header, state: &State, size: &Size) -> Offsets
     requires shadow_y { IsHeldNumber state.now.shadow_y }
     requires size { IsFrameSize size.now }
     ensures value { result ≡ rule.offsets_of header.now state.now size.now }
-    ensures x { IsWithin max_offset result.x }
-    ensures y { IsWithin max_offset result.y }
+    ensures x { IsWithin max_shadow_offset result.x }
+    ensures y { IsWithin max_shadow_offset result.y }
 {
     Offsets {
         x: in_samples(header.scaled, state.shadow_x, size.w, header.res_x),

@@ -8,7 +8,7 @@ use Rattle.evict_core.specs.Machine.{Step}
 use Rattle.evict_core.specs.History.{pins_taken, pins_left, is_open_in, has_open}
 use Rattle.flight_cache.specs.Meaning.{Meaning}
 use Rattle.flight_cache.specs.Histories.{step_of}
-use Rattle.flight_cache.specs.Calls.{ShardView, ShardPassView, Gives, own_steps}
+use Rattle.flight_cache.specs.Calls.{ShardView, ShardPassView, GivesSteps, own_steps}
 use Rattle.flight_cache.specs.Answers.{IsAsked}
 use Rattle.flight_cache.specs.declared.kept.Entry.{Entry}
 use Rattle.flight_cache.specs.declared.pins.Asked.{Asked}
@@ -20,13 +20,13 @@ no-more f (x ∷ xs) none = cc
 
 module _ {K V T : Type 0} (eq : K → K → Bool) (meaning : Meaning K V T) (shard : ShardView T) where
   -- the calls of a turn after others that gave nothing
-  pub gives-follows : (p q : ShardPassView K T) (steps : List (Step K V)) (g : Gives eq meaning shard p q steps) → Follows p q (entry_list g.entry)
+  pub gives-follows : (p q : ShardPassView K T) (steps : List (Step K V)) (g : GivesSteps eq meaning shard p q steps) → Follows p q (entry_list g.entry)
   gives-follows p q steps g = Follows_trans p g.waited q [] (entry_list g.entry) g.waits g.takes.follows
 
-  pub gives-nothing : (p q : ShardPassView K T) → Gives eq meaning shard p q [] → Follows p q []
+  pub gives-nothing : (p q : ShardPassView K T) → GivesSteps eq meaning shard p q [] → Follows p q []
   gives-nothing p q g = subst (λ (l : List (Entry K)). Follows p q l) (no-more (step_of meaning shard.tag) (entry_list g.entry) g.are) (gives-follows p q [] g)
 
-  pub gives-later : (p w q : ShardPassView K T) (steps : List (Step K V)) → Follows p w [] → Gives eq meaning shard w q steps → Gives eq meaning shard p q steps
+  pub gives-later : (p w q : ShardPassView K T) (steps : List (Step K V)) → Follows p w [] → GivesSteps eq meaning shard w q steps → GivesSteps eq meaning shard p q steps
   gives-later p w q steps f g =
       let own : own_steps meaning shard.tag w ≡ own_steps meaning shard.tag p = ap (map (step_of meaning shard.tag)) (f.mine ∙ append-nil (mine p)) in
       record {

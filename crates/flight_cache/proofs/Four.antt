@@ -9,8 +9,8 @@ use Rattle.flight_cache.specs.Meaning.{Meaning, shard_count, shard_of}
 use Rattle.flight_cache.specs.Histories.{is_in, value_under}
 use Rattle.flight_cache.specs.Calls.{ShardView, ShardPassView}
 use Rattle.flight_cache.specs.Shards.{Shards, CacheView, CachePassView, IsShardOf, AreShardsOf, AreAlike, at}
-use Rattle.flight_cache.specs.Pinning.{is_named, shown, GivesNothing, StopsBeforeAll}
-use Rattle.flight_cache.specs.Holds.{pass_back, passes_back, four_of, pins_at, value_at, IsHeld, IsHoldOf, CanPin, IsPassPinned, AreHeld, AreHoldsOf, CanPinAll, ArePassesPinned}
+use Rattle.flight_cache.specs.Pinning.{is_named, shown_state, GivesNothing, StopsBeforeAll}
+use Rattle.flight_cache.specs.Holds.{pass_back, passes_back, four_of, pins_at, held_value, IsHeld, IsHoldOf, CanPin, IsPassPinned, AreHeld, AreHoldsOf, CanPinAll, ArePassesPinned}
 use Rattle.flight_cache.specs.declared.holds.Hold.{Hold}
 use Rattle.flight_cache.specs.declared.holds.Hold.TheVariants.{Turn, Pass}
 use Rattle.flight_cache.specs.declared.holds.Holds.{Holds}
@@ -104,13 +104,13 @@ module _ {M K V T : Type 0} (eq : K → K → Bool) (laws : IsEquivalence eq) (s
       }
 
   -- the value of a key that is held
-  value-held : (shard : ShardView T) (hold : Hold M K V T) → IsHeld eq meaning shard hold → (k : K) (value : V) → value_at eq hold k ≡ Some value → value ≡ value_under meaning shard.tag k
+  value-held : (shard : ShardView T) (hold : Hold M K V T) → IsHeld eq meaning shard hold → (k : K) (value : V) → held_value eq hold k ≡ Some value → value ≡ value_under meaning shard.tag k
   value-held shard (Turn turn) h k value found = value-found meaning shard.tag eq laws same turn.value.entries h.1.made k value found
   value-held shard (Pass p) h k value found = cc
 
-  pub value-made : (cache : CacheView T) → AreShardsOf cache.tag cache.shards → (holds : Holds M K V T) → AreHeld eq meaning cache holds → (n : ℕ) → n < shard_count → (k : K) (value : V) → value_at eq (at (four_of holds) n) k ≡ Some value → value ≡ meaning.made cache.tag k
+  pub value-made : (cache : CacheView T) → AreShardsOf cache.tag cache.shards → (holds : Holds M K V T) → AreHeld eq meaning cache holds → (n : ℕ) → n < shard_count → (k : K) (value : V) → held_value eq (at (four_of holds) n) k ≡ Some value → value ≡ meaning.made cache.tag k
   value-made cache of holds held n lt k value found =
-      let law = at-each (λ (shard : ShardView T) (other : ShardView T) (hold : Hold M K V T). value_at eq hold k ≡ Some value → value ≡ value_under meaning shard.tag k) cache.shards cache.shards (four_of holds)
+      let law = at-each (λ (shard : ShardView T) (other : ShardView T) (hold : Hold M K V T). held_value eq hold k ≡ Some value → value ≡ value_under meaning shard.tag k) cache.shards cache.shards (four_of holds)
       (value-held cache.shards.first holds.first held.first k value) (value-held cache.shards.second holds.second held.second k value) (value-held cache.shards.third holds.third held.third k value) (value-held cache.shards.fourth holds.fourth held.fourth k value) n lt found in
       law ∙ ap (λ (t : T). meaning.made t k) (at-shard cache.tag cache.shards of n lt).tagged
 
@@ -132,12 +132,12 @@ module _ {M K V T : Type 0} (eq : K → K → Bool) (laws : IsEquivalence eq) (s
     }
 
     -- the pins of a key whose turn is held are what the turn showed
-    pins-one : (shard : ShardView T) (p : ShardPassView K T) (hold : Hold M K V T) → IsHoldOf eq meaning shards shard p hold → is_named shards shard.tag.shard ≡ true → (k : K) → ready_pins (status_of eq (shown eq meaning shard (pass_back hold)) k) ≡ pins_at eq hold k
+    pins-one : (shard : ShardView T) (p : ShardPassView K T) (hold : Hold M K V T) → IsHoldOf eq meaning shards shard p hold → is_named shards shard.tag.shard ≡ true → (k : K) → ready_pins (status_of eq (shown_state eq meaning shard (pass_back hold)) k) ≡ pins_at eq hold k
     pins-one shard p (Turn turn) h named k = ap (λ z. ready_pins (status_of eq z k)) (sym h.1.value.entries)
     pins-one shard p (Pass other) h named k = let no : true ≡ false = sym named ∙ h.0 in cc
 
-    pub pins-back : AreShardsOf cache.tag cache.shards → (n : ℕ) → n < shard_count → is_named shards n ≡ true → (k : K) → ready_pins (status_of eq (shown eq meaning (at cache.shards n) (at (passes_back holds) n)) k) ≡ pins_at eq (at (four_of holds) n) k
+    pub pins-back : AreShardsOf cache.tag cache.shards → (n : ℕ) → n < shard_count → is_named shards n ≡ true → (k : K) → ready_pins (status_of eq (shown_state eq meaning (at cache.shards n) (at (passes_back holds) n)) k) ≡ pins_at eq (at (four_of holds) n) k
     pins-back of n lt named k =
-        at-each (λ (shard : ShardView T) (after : ShardPassView K T) (hold : Hold M K V T). is_named shards shard.tag.shard ≡ true → ready_pins (status_of eq (shown eq meaning shard after) k) ≡ pins_at eq hold k) cache.shards (passes_back holds) (four_of holds)
+        at-each (λ (shard : ShardView T) (after : ShardPassView K T) (hold : Hold M K V T). is_named shards shard.tag.shard ≡ true → ready_pins (status_of eq (shown_state eq meaning shard after) k) ≡ pins_at eq hold k) cache.shards (passes_back holds) (four_of holds)
         (λ t. pins-one cache.shards.first pass.first holds.first h.first t k) (λ t. pins-one cache.shards.second pass.second holds.second h.second t k) (λ t. pins-one cache.shards.third pass.third holds.third h.third t k) (λ t. pins-one cache.shards.fourth pass.fourth holds.fourth h.fourth t k) n lt
         (subst (λ (m : ℕ). is_named shards m ≡ true) (sym (at-shard cache.tag cache.shards of n lt).number) named)

@@ -11,7 +11,7 @@ use Rattle.evict_core.proofs.FillLaws.{claims-once, fills-once}
 use Rattle.evict_core.proofs.PinLaws as pin
 use Rattle.flight_cache.specs.Meaning.{Meaning}
 use Rattle.flight_cache.specs.Histories.{step_of, steps_in, IsLegalUnder, left_by}
-use Rattle.flight_cache.specs.Laws.{StaysInBudget, StaysInLimit, HistoryInBudget, HistoryInLimit, ClaimsOnce, FillsOnce, FliesWhereOpen, PinsAreHeld, HeldIsKept}
+use Rattle.flight_cache.specs.Laws.{ShardsStayInBudget, ShardsStayInLimit, HistoryInBudget, HistoryInLimit, ShardsClaimOnce, ShardsFillOnce, FliesWhereOpen, ShardPinsAreHeld, ShardsKeepHeld}
 use Rattle.flight_cache.proofs.Standing.{steps-more, own-in}
 use Rattle.flight_cache.specs.declared.kept.Opening.{Opening}
 use Rattle.flight_cache.specs.declared.kept.Entry.{Entry}
@@ -26,17 +26,17 @@ module _ {K V T : Type 0} (eq : K → K → Bool) (laws : IsEquivalence eq) (mea
   pub history_in_limit : HistoryInLimit eq meaning
   history_in_limit under history legal = (sound under history legal).in_limit
 
-  pub stays_in_budget : (M : Type 0) → StaysInBudget M eq meaning
+  pub stays_in_budget : (M : Type 0) → ShardsStayInBudget M eq meaning
   stays_in_budget M under kept history s = (subst (λ (z : State K V). IsSound eq z) (sym s.entries) (sound under history s.legal)).in_budget
 
-  pub stays_in_limit : (M : Type 0) → StaysInLimit M eq meaning
+  pub stays_in_limit : (M : Type 0) → ShardsStayInLimit M eq meaning
   stays_in_limit M under kept history s = (subst (λ (z : State K V). IsSound eq z) (sym s.entries) (sound under history s.legal)).in_limit
 
-  pub claims_once : ClaimsOnce eq meaning
+  pub claims_once : ShardsClaimOnce eq meaning
   claims_once under history legal before between later m n key is =
       claims-once eq laws under.entries under.budget before between later m n key key (subst (λ (h : History (Step K V)). IsLegal eq under.entries under.budget h) is legal.legal) (laws.refl key)
 
-  pub fills_once : FillsOnce eq meaning
+  pub fills_once : ShardsFillOnce eq meaning
   fills_once under history legal before between later m n key c d v w is =
       fills-once eq laws under.entries under.budget before between later m n key key c d v w (subst (λ (h : History (Step K V)). IsLegal eq under.entries under.budget h) is legal.legal) (laws.refl key)
 
@@ -46,11 +46,11 @@ module _ {K V T : Type 0} (eq : K → K → Bool) (laws : IsEquivalence eq) (mea
       let same = ap (λ (l : List (Step K V)). has_open eq l key) (own-in eq laws meaning under history m) in
       ((λ making. sym same ∙ law.0 making), (λ pending. law.1 (same ∙ pending)))
 
-  pub pins_are_held : PinsAreHeld eq meaning
+  pub pins_are_held : ShardPinsAreHeld eq meaning
   pins_are_held under history legal n below key =
       pin.pins-are-held eq laws under.entries under.budget (steps_in meaning under history) legal.legal n (IsBelow-map (step_of meaning under) n history below) key
 
-  pub held_is_kept : HeldIsKept eq meaning
+  pub held_is_kept : ShardsKeepHeld eq meaning
   held_is_kept under history e legal key lost m =
       let step : ℕ × Step K V = (e.0, step_of meaning under e.1) in
       let more : steps_in meaning under (history ++ e ∷ []) ≡ steps_in meaning under history ++ step ∷ [] = steps-more meaning under history e.0 e.1 in

@@ -14,7 +14,7 @@ use Rattle.evict_core.specs.Laws.{ArePinnable}
 use Rattle.evict_core.proofs.PinAllLemmas.{each-is-pinnable}
 use Rattle.flight_cache.specs.Meaning.{Meaning}
 use Rattle.flight_cache.specs.Histories.{is_in, steps_in, Stands}
-use Rattle.flight_cache.specs.Calls.{ShardView, ShardPassView, Gives}
+use Rattle.flight_cache.specs.Calls.{ShardView, ShardPassView, GivesSteps}
 use Rattle.flight_cache.specs.Pinning.{keys_in, TurnsWith, StopsBefore}
 use Rattle.flight_cache.specs.Holds.{pass_back, IsHeld, IsHoldOf, CanPin, IsPassPinned}
 use Rattle.flight_cache.specs.declared.kept.Kept.{Kept}
@@ -52,9 +52,9 @@ module _ {M K V T : Type 0} (eq : K → K → Bool) (laws : IsEquivalence eq) (s
 
     -- given back without an entry
     pub back-turns : (hold : Hold M K V T) → IsHoldOf eq meaning shards shard pass hold → TurnsWith eq meaning shards shard pass (pass_back hold) []
-    back-turns (Turn turn) h = subst (λ (b : Bool). MatchBool b (Gives eq meaning shard pass (record turn.pass { seen = turn.list }) []) (record turn.pass { seen = turn.list } ≡ pass)) (sym h.0)
+    back-turns (Turn turn) h = subst (λ (b : Bool). MatchBool b (GivesSteps eq meaning shard pass (record turn.pass { seen = turn.list }) []) (record turn.pass { seen = turn.list } ≡ pass)) (sym h.0)
         (gives-turn meaning shard.tag eq laws same pass turn (record { lost = pass.lost; more = le_refl pass.lost; turn_of = h.1 }) shard (record turn.pass { seen = turn.list }) None refl h.2 h.1.value.legal refl)
-    back-turns (Pass p) h = subst (λ (b : Bool). MatchBool b (Gives eq meaning shard pass p []) (p ≡ pass)) (sym h.0) h.1
+    back-turns (Pass p) h = subst (λ (b : Bool). MatchBool b (GivesSteps eq meaning shard pass p []) (p ≡ pass)) (sym h.0) h.1
 
     pub back-follows : (hold : Hold M K V T) → IsHoldOf eq meaning shards shard pass hold → Follows pass (pass_back hold) []
     back-follows (Turn turn) h = gives-nothing eq meaning shard pass (record turn.pass { seen = turn.list })
@@ -77,7 +77,7 @@ module _ {M K V T : Type 0} (eq : K → K → Bool) (laws : IsEquivalence eq) (s
         → TurnsWith eq meaning shards shard pass after (machine.PinAll (keys_in meaning shard keys) ∷ [])
     pinned-turns (Turn turn) keys after h p =
         let gives = gives-turn meaning shard.tag eq laws same pass turn (record { lost = pass.lost; more = le_refl pass.lost; turn_of = h.1 }) shard after (Some (PinAll p.0)) refl h.2 p.3 p.2 in
-        subst (λ (b : Bool). MatchBool b (Gives eq meaning shard pass after (machine.PinAll (keys_in meaning shard keys) ∷ [])) (after ≡ pass)) (sym h.0)
-        (subst (λ (l : List K). Gives eq meaning shard pass after (machine.PinAll (keys_in meaning shard l) ∷ [])) p.1 gives)
+        subst (λ (b : Bool). MatchBool b (GivesSteps eq meaning shard pass after (machine.PinAll (keys_in meaning shard keys) ∷ [])) (after ≡ pass)) (sym h.0)
+        (subst (λ (l : List K). GivesSteps eq meaning shard pass after (machine.PinAll (keys_in meaning shard l) ∷ [])) p.1 gives)
     pinned-turns (Pass p) keys after h is =
-        subst (λ (b : Bool). MatchBool b (Gives eq meaning shard pass after (machine.PinAll (keys_in meaning shard keys) ∷ [])) (after ≡ pass)) (sym h.0) (is ∙ h.1)
+        subst (λ (b : Bool). MatchBool b (GivesSteps eq meaning shard pass after (machine.PinAll (keys_in meaning shard keys) ∷ [])) (after ≡ pass)) (sym h.0) (is ∙ h.1)

@@ -23,7 +23,7 @@ use Rattle.flight_cache.specs.declared.kept.Kept.{Kept}
 use Rattle.flight_cache.specs.declared.kept.Entry.{Entry}
 use Rattle.flight_cache.specs.declared.kept.Entry.TheVariants.{Fill, Fail, Unpin, Limits}
 use Rattle.flight_cache.specs.Histories.{value_under, step_of, steps_in, is_in, IsOfShard, AreMade, IsLegalUnder, left_by, Stands}
-use Rattle.flight_cache.specs.Calls.{ShardView, ShardPassView, own_steps, Gives}
+use Rattle.flight_cache.specs.Calls.{ShardView, ShardPassView, own_steps, GivesSteps}
 use Rattle.flight_cache.proofs.Values.{made-when-legal, value-found}
 
 module _ {K V T : Type 0} (eq : K → K → Bool) (laws : IsEquivalence eq) (meaning : Meaning K V T) (under : Opening T) where
@@ -200,12 +200,12 @@ module _ {K V T : Type 0} (meaning : Meaning K V T) (under : Opening T) where
         pub gives-turn : (shard : ShardView T) (after : ShardPassView K T) (entry : Option (Entry K)) → shard.tag ≡ under
             → IsLegalUnder eq meaning under pass.seen → IsLegalUnder eq meaning under after.seen
             → after ≡ record turn.pass { seen = with_entry turn.list turn.pass.number entry }
-            → Gives eq meaning shard pass after (map (step_of meaning under) (entry_list entry))
+            → GivesSteps eq meaning shard pass after (map (step_of meaning under) (entry_list entry))
         gives-turn shard after entry tag legal legal' is =
             let takes = TakesTurn_give (Stands eq meaning) under pass turn after entry t is in
             let steps = map (step_of meaning under) (entry_list entry) in
             let own : own_steps meaning under after ≡ own_steps meaning under pass ++ steps = ap (map (step_of meaning under)) takes.follows.mine ∙ map-append (step_of meaning under) (mine pass) (entry_list entry) in
-            subst (λ (o : Opening T). Gives eq meaning (record shard { tag = o }) pass after steps) (sym tag) record {
+            subst (λ (o : Opening T). GivesSteps eq meaning (record shard { tag = o }) pass after steps) (sym tag) record {
               waited = pass;
               waits = Follows_same pass;
               entry = entry;
@@ -221,6 +221,6 @@ module _ {K V T : Type 0} (meaning : Meaning K V T) (under : Opening T) where
             → (shard : ShardView T) (after : ShardPassView K T) → shard.tag ≡ under
             → IsLegalUnder eq meaning under pass.seen → IsLegalUnder eq meaning under after.seen
             → after ≡ record turn.pass { seen = with_entry turn.list turn.pass.number (Some (make k)) }
-            → Gives eq meaning shard pass after (kind key ∷ [])
+            → GivesSteps eq meaning shard pass after (kind key ∷ [])
         gives-key make kind step k key of shard after tag legal legal' is =
-            subst (λ (z : Step K V). Gives eq meaning shard pass after (z ∷ [])) (step k ∙ ap kind of) (gives-turn shard after (Some (make k)) tag legal legal' is)
+            subst (λ (z : Step K V). GivesSteps eq meaning shard pass after (z ∷ [])) (step k ∙ ap kind of) (gives-turn shard after (Some (make k)) tag legal legal' is)

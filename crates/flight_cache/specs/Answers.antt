@@ -5,14 +5,14 @@ use Rattle.evict_core.specs.Machine.{Step, Ask}
 use Rattle.evict_core.specs.Machine as machine
 use Rattle.flight_cache.specs.Meaning.{Meaning}
 use Rattle.flight_cache.specs.Histories.{value_under}
-use Rattle.flight_cache.specs.Calls.{ShardView, ShardPassView, Gives}
+use Rattle.flight_cache.specs.Calls.{ShardView, ShardPassView, GivesSteps}
 use Rattle.flight_cache.specs.declared.pins.Asked.{Asked}
 use Rattle.flight_cache.specs.declared.pins.Asked.TheVariants.{Hit, Claim, Crowded, OutOfMemory}
 
 module _ {K V T : Type 0} (eq : K → K → Bool) (meaning : Meaning K V T) (shard : ShardView T) (pass : ShardPassView K T) (key : K) (after : ShardPassView K T) where
   -- an ask is one entry, which says the answer; a hit has the key's value; want of memory is none
   abbrev pub IsAsked : {M : Type 0} → Asked M K V T → Type 0
-  IsAsked (Hit pin) = Gives eq meaning shard pass after (Ask key machine.Hit ∷ []) × (pin.key ≡ key) × (pin.value ≡ value_under meaning shard.tag key)
-  IsAsked (Claim ticket) = Gives eq meaning shard pass after (Ask key machine.Claim ∷ []) × (ticket.key ≡ key)
-  IsAsked Crowded = Gives eq meaning shard pass after (Ask key machine.Crowded ∷ [])
+  IsAsked (Hit pin) = GivesSteps eq meaning shard pass after (Ask key machine.Hit ∷ []) × (pin.key ≡ key) × (pin.value ≡ value_under meaning shard.tag key)
+  IsAsked (Claim ticket) = GivesSteps eq meaning shard pass after (Ask key machine.Claim ∷ []) × (ticket.key ≡ key)
+  IsAsked Crowded = GivesSteps eq meaning shard pass after (Ask key machine.Crowded ∷ [])
   IsAsked OutOfMemory = Follows pass after []

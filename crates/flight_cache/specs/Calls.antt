@@ -32,7 +32,7 @@ module _ {K V T : Type 0} (meaning : Meaning K V T) where
 module _ {K V T : Type 0} (eq : K → K → Bool) (meaning : Meaning K V T) where
   -- The pass after a turn that gave just these steps, one or none, after turns that gave none.
   -- Of each key it holds the pins that they took more and those that they gave back less
-  pub record Gives (shard : ShardView T) (pass after : ShardPassView K T) (steps : List (Step K V)) : Type 0 where
+  pub record GivesSteps (shard : ShardView T) (pass after : ShardPassView K T) (steps : List (Step K V)) : Type 0 where
     pub waited : ShardPassView K T
     pub waits : Follows pass waited []
     pub entry : Option (Entry K)

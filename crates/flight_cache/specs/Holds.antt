@@ -37,9 +37,9 @@ module _ {M K V T : Type 0} where
     pins_at (Turn turn) key = ready_pins (status_of eq turn.value.entries key)
     pins_at (Pass pass) key = None
 
-    abbrev pub value_at : Hold M K V T → K → Option V
-    value_at (Turn turn) key = ready_value (status_of eq turn.value.entries key)
-    value_at (Pass pass) key = None
+    abbrev pub held_value : Hold M K V T → K → Option V
+    held_value (Turn turn) key = ready_value (status_of eq turn.value.entries key)
+    held_value (Pass pass) key = None
 
   module _ (eq : K → K → Bool) (meaning : Meaning K V T) where
     -- what is held is the shard's

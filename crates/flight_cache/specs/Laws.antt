@@ -7,7 +7,7 @@ use Rattle.evict_core.specs.History.{replay, pins_left, held_below, has_open, ti
 use Rattle.evict_core.specs.Laws.{IsLostWithin, IsEvictedWithin}
 use Rattle.flight_cache.specs.Meaning.{Meaning}
 use Rattle.flight_cache.specs.Histories.{step_of, steps_in, IsLegalUnder, left_by, AreMade, Stands}
-use Rattle.flight_cache.specs.Calls.{ShardView, ShardPassView, Gives, own_steps}
+use Rattle.flight_cache.specs.Calls.{ShardView, ShardPassView, GivesSteps, own_steps}
 use Rattle.flight_cache.specs.Shards.{Shards, CacheView, CachePassView, IsCacheOf, EachGives, EachExtends, at, with_at, each, both}
 use Rattle.flight_cache.specs.declared.kept.Opening.{Opening}
 use Rattle.flight_cache.specs.declared.kept.Kept.{Kept}
@@ -15,26 +15,26 @@ use Rattle.flight_cache.specs.declared.kept.Entry.{Entry}
 
 module _ {K V T : Type 0} (M : Type 0) (eq : K → K → Bool) (meaning : Meaning K V T) where
   -- the entries that no pin holds cost at most the budget
-  abbrev pub StaysInBudget : Type 0
-  StaysInBudget = (opening : Opening T) (kept : Kept M K V T) (history : History (Entry K)) → Stands eq meaning opening kept history
+  abbrev pub ShardsStayInBudget : Type 0
+  ShardsStayInBudget = (opening : Opening T) (kept : Kept M K V T) (history : History (Entry K)) → Stands eq meaning opening kept history
       → unpinned kept.entries.entries ≤ kept.entries.budget
 
   -- where the list is longer than its limit, no entry may be evicted
-  abbrev pub StaysInLimit : Type 0
-  StaysInLimit = (opening : Opening T) (kept : Kept M K V T) (history : History (Entry K)) → Stands eq meaning opening kept history
+  abbrev pub ShardsStayInLimit : Type 0
+  ShardsStayInLimit = (opening : Opening T) (kept : Kept M K V T) (history : History (Entry K)) → Stands eq meaning opening kept history
       → kept.entries.limit < length kept.entries.entries → has_idle kept.entries.entries ≡ false
 
 module _ {K V T : Type 0} (eq : K → K → Bool) (meaning : Meaning K V T) where
   -- between two claims of a key stands its fail or an eviction of it
-  abbrev pub ClaimsOnce : Type 0
-  ClaimsOnce = (opening : Opening T) (history : History (Entry K)) → IsLegalUnder eq meaning opening history
+  abbrev pub ShardsClaimOnce : Type 0
+  ShardsClaimOnce = (opening : Opening T) (history : History (Entry K)) → IsLegalUnder eq meaning opening history
       → (before between later : History (Step K V)) (m n : ℕ) (key : K)
       → steps_in meaning opening history ≡ before ++ (m, Ask key Claim) ∷ (between ++ (n, Ask key Claim) ∷ later)
       → IsLostWithin eq (replay eq opening.entries opening.budget (before ++ (m, Ask key Claim) ∷ [])) between key
 
   -- between two fills of a key stands an eviction of it
-  abbrev pub FillsOnce : Type 0
-  FillsOnce = (opening : Opening T) (history : History (Entry K)) → IsLegalUnder eq meaning opening history
+  abbrev pub ShardsFillOnce : Type 0
+  ShardsFillOnce = (opening : Opening T) (history : History (Entry K)) → IsLegalUnder eq meaning opening history
       → (before between later : History (Step K V)) (m n : ℕ) (key : K) (c d : ℕ) (v w : V)
       → steps_in meaning opening history ≡ before ++ (m, Fill key c v) ∷ (between ++ (n, Fill key d w) ∷ later)
       → IsEvictedWithin eq (replay eq opening.entries opening.budget (before ++ (m, Fill key c v) ∷ [])) between key
@@ -49,13 +49,13 @@ module _ {K V T : Type 0} (eq : K → K → Bool) (meaning : Meaning K V T) wher
       → (m : ℕ) (key : K) → (maker_in (status_of eq (left_by eq meaning opening history) key) ≡ Some m) ↔ (has_open eq (map (step_of meaning opening) (entries_of m history)) key ≡ true)
 
   -- the pins of a key are those that all numbers hold
-  abbrev pub PinsAreHeld : Type 0
-  PinsAreHeld = (opening : Opening T) (history : History (Entry K)) → IsLegalUnder eq meaning opening history
+  abbrev pub ShardPinsAreHeld : Type 0
+  ShardPinsAreHeld = (opening : Opening T) (history : History (Entry K)) → IsLegalUnder eq meaning opening history
       → (n : ℕ) → IsBelow n history → (key : K) → pins_in (status_of eq (left_by eq meaning opening history) key) ≡ held_below eq (steps_in meaning opening history) n key
 
   -- no entry evicts a key that a number holds
-  abbrev pub HeldIsKept : Type 0
-  HeldIsKept = (opening : Opening T) (history : History (Entry K)) (e : ℕ × Entry K) → IsLegalUnder eq meaning opening (history ++ e ∷ [])
+  abbrev pub ShardsKeepHeld : Type 0
+  ShardsKeepHeld = (opening : Opening T) (history : History (Entry K)) (e : ℕ × Entry K) → IsLegalUnder eq meaning opening (history ++ e ∷ [])
       → (key : K) → is_evicted eq (left_by eq meaning opening history) (e.0, step_of meaning opening e.1) key ≡ true
       → (m : ℕ) → pins_left eq (map (step_of meaning opening) (entries_of m (history ++ e ∷ []))) key ≡ 0
 
@@ -71,24 +71,24 @@ module _ {K V T : Type 0} (eq : K → K → Bool) (meaning : Meaning K V T) wher
 module _ {K V T : Type 0} (eq : K → K → Bool) (meaning : Meaning K V T) where
   -- a hit and a fill are a pin more of the key, a fill closes its claim, an unpin is a pin less, and a pin-all a pin more for each place
   abbrev pub HitHolds : Type 0
-  HitHolds = (shard : ShardView T) (pass after : ShardPassView K T) (key : K) → Gives eq meaning shard pass after (Ask key Hit ∷ [])
+  HitHolds = (shard : ShardView T) (pass after : ShardPassView K T) (key : K) → GivesSteps eq meaning shard pass after (Ask key Hit ∷ [])
       → pins_left eq (own_steps meaning shard.tag after) key ≡ pins_left eq (own_steps meaning shard.tag pass) key + 1
 
   abbrev pub FillHolds : Type 0
-  FillHolds = (shard : ShardView T) (pass after : ShardPassView K T) (key : K) (cost : ℕ) (value : V) → Gives eq meaning shard pass after (Fill key cost value ∷ [])
+  FillHolds = (shard : ShardView T) (pass after : ShardPassView K T) (key : K) (cost : ℕ) (value : V) → GivesSteps eq meaning shard pass after (Fill key cost value ∷ [])
       → (pins_left eq (own_steps meaning shard.tag after) key ≡ pins_left eq (own_steps meaning shard.tag pass) key + 1) × (has_open eq (own_steps meaning shard.tag after) key ≡ false)
 
   abbrev pub UnpinGives : Type 0
-  UnpinGives = (shard : ShardView T) (pass after : ShardPassView K T) (key : K) → Gives eq meaning shard pass after (Unpin key ∷ [])
+  UnpinGives = (shard : ShardView T) (pass after : ShardPassView K T) (key : K) → GivesSteps eq meaning shard pass after (Unpin key ∷ [])
       → pins_left eq (own_steps meaning shard.tag after) key + 1 ≡ pins_left eq (own_steps meaning shard.tag pass) key
 
   abbrev pub PinAllHolds : Type 0
-  PinAllHolds = (shard : ShardView T) (pass after : ShardPassView K T) (keys : List K) → Gives eq meaning shard pass after (PinAll keys ∷ [])
+  PinAllHolds = (shard : ShardView T) (pass after : ShardPassView K T) (keys : List K) → GivesSteps eq meaning shard pass after (PinAll keys ∷ [])
       → (key : K) → pins_left eq (own_steps meaning shard.tag after) key ≡ pins_left eq (own_steps meaning shard.tag pass) key + times_named eq key keys
 
   -- after a claim the key is open
   abbrev pub ClaimOpens : Type 0
-  ClaimOpens = (shard : ShardView T) (pass after : ShardPassView K T) (key : K) → Gives eq meaning shard pass after (Ask key Claim ∷ [])
+  ClaimOpens = (shard : ShardView T) (pass after : ShardPassView K T) (key : K) → GivesSteps eq meaning shard pass after (Ask key Claim ∷ [])
       → has_open eq (own_steps meaning shard.tag after) key ≡ true
 
 module _ {K T : Type 0} where
@@ -145,11 +145,11 @@ module _ (K T : Type 0) where
 module _ {K V T : Type 0} (eq : K → K → Bool) (meaning : Meaning K V T) where
   -- what a call that gives steps is for `IsLater`
   abbrev pub GivesFollow : Type 0
-  GivesFollow = (shard : ShardView T) (pass after : ShardPassView K T) (steps : List (Step K V)) → Gives eq meaning shard pass after steps → (entries : List (Entry K)) × Follows pass after entries
+  GivesFollow = (shard : ShardView T) (pass after : ShardPassView K T) (steps : List (Step K V)) → GivesSteps eq meaning shard pass after steps → (entries : List (Entry K)) × Follows pass after entries
 
   abbrev pub EachIsLater : Type 0
   EachIsLater = (shards : Shards (ShardView T)) (pass after : CachePassView K T) (steps : ℕ → List (Step K V)) → EachGives eq meaning shards pass after steps → IsLater pass after
 
   -- what the first pass has seen extends it after a turn
   abbrev pub GivesItself : Type 0
-  GivesItself = (shard : ShardView T) (pass after : ShardPassView K T) (steps : List (Step K V)) → pass.number ≡ 0 → 0 < pass.next → Gives eq meaning shard pass after steps → Extends after after.seen
+  GivesItself = (shard : ShardView T) (pass after : ShardPassView K T) (steps : List (Step K V)) → pass.number ≡ 0 → 0 < pass.next → GivesSteps eq meaning shard pass after steps → Extends after after.seen

@@ -8,7 +8,7 @@ use Rattle.evict_core.specs.Asked.{ready_pins}
 use Rattle.evict_core.specs.Laws.{ArePinnable}
 use Rattle.flight_cache.specs.Meaning.{Meaning, shard_count, shard_of}
 use Rattle.flight_cache.specs.Histories.{is_in, left_by}
-use Rattle.flight_cache.specs.Calls.{PinView, ShardView, ShardPassView, Gives}
+use Rattle.flight_cache.specs.Calls.{PinView, ShardView, ShardPassView, GivesSteps}
 use Rattle.flight_cache.specs.Shards.{CacheView, CachePassView, at}
 use Rattle.flight_cache.specs.declared.pinning.PinRefusal.{PinRefusal}
 use Rattle.flight_cache.specs.declared.pinning.PinRefusal.TheVariants.{TurnOut, NotReady, PinsFull, OutOfMemory}
@@ -28,19 +28,19 @@ module _ {K V T : Type 0} (meaning : Meaning K V T) where
 
 module _ {K V T : Type 0} (eq : K → K → Bool) (meaning : Meaning K V T) where
   -- what a turn of the shard showed that gave no entry
-  abbrev pub shown : ShardView T → ShardPassView K T → State K V
-  shown shard after = left_by eq meaning shard.tag after.seen
+  abbrev pub shown_state : ShardView T → ShardPassView K T → State K V
+  shown_state shard after = left_by eq meaning shard.tag after.seen
 
   -- one shard with its pass, before and after; `shards` are those of the keys
   module _ (shards : List ℕ) (shard : ShardView T) (pass after : ShardPassView K T) where
     -- where the shard is named, its pass gave these steps; else it is as it was
     abbrev pub TurnsWith : List (Step K V) → Type 0
-    TurnsWith steps = MatchBool (is_named shards shard.tag.shard) (Gives eq meaning shard pass after steps) (after ≡ pass)
+    TurnsWith steps = MatchBool (is_named shards shard.tag.shard) (GivesSteps eq meaning shard pass after steps) (after ≡ pass)
 
     -- where the shard is named, its turn was taken, and showed that each of these keys can be pinned
     pub record StopsBefore (keys : List K) : Type 0 where
       pub turn : TurnsWith []
-      pub before : is_named shards shard.tag.shard ≡ true → ArePinnable eq (shown shard after) (keys_in meaning shard keys)
+      pub before : is_named shards shard.tag.shard ≡ true → ArePinnable eq (shown_state shard after) (keys_in meaning shard keys)
 
     -- The first named shard that was out is n: a try was lost there. Those before it gave nothing, and those after it are as they were
     abbrev pub IsOutAt : ℕ → Type 0
@@ -87,7 +87,7 @@ module _ {K V T : Type 0} (eq : K → K → Bool) (meaning : Meaning K V T) (cac
 
   -- the pins of a key in the state that the turn of its shard showed, where it is ready
   abbrev pub pins_shown : K → Option ℕ
-  pins_shown k = let n = shard_of (meaning.numbers k) in ready_pins (status_of eq (shown eq meaning (at cache.shards n) (at after n)) k)
+  pins_shown k = let n = shard_of (meaning.numbers k) in ready_pins (status_of eq (shown_state eq meaning (at cache.shards n) (at after n)) k)
 
   -- the turn of the first named shard that is out said so; or the key at i isn't ready; or it has all its pins, once its places before i are counted
   abbrev pub IsRefused : PinRefusal → Type 0

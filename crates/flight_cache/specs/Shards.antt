@@ -5,7 +5,7 @@ use Rattle.evict_core.specs.declared.counts.Totals.{Totals}
 use Rattle.turn_cell.specs.Passes.{IsOf, Extends}
 use Rattle.flight_cache.specs.Meaning.{Meaning, shard_count}
 use Rattle.flight_cache.specs.Histories.{IsLegalUnder}
-use Rattle.flight_cache.specs.Calls.{ShardView, ShardPassView, Gives, own_steps}
+use Rattle.flight_cache.specs.Calls.{ShardView, ShardPassView, GivesSteps, own_steps}
 
 pub record Shards (X : Type 0) : Type 0 where
   pub first : X
@@ -80,10 +80,10 @@ module _ {T : Type 0} where
 module _ {K V T : Type 0} (eq : K → K → Bool) (meaning : Meaning K V T) where
   -- each shard's pass gave these steps
   pub record EachGives (shards : Shards (ShardView T)) (pass after : CachePassView K T) (steps : ℕ → List (Step K V)) : Type 0 where
-    pub first : Gives eq meaning shards.first pass.first after.first (steps 0)
-    pub second : Gives eq meaning shards.second pass.second after.second (steps 1)
-    pub third : Gives eq meaning shards.third pass.third after.third (steps 2)
-    pub fourth : Gives eq meaning shards.fourth pass.fourth after.fourth (steps 3)
+    pub first : GivesSteps eq meaning shards.first pass.first after.first (steps 0)
+    pub second : GivesSteps eq meaning shards.second pass.second after.second (steps 1)
+    pub third : GivesSteps eq meaning shards.third pass.third after.third (steps 2)
+    pub fourth : GivesSteps eq meaning shards.fourth pass.fourth after.fourth (steps 3)
 
   -- what the pass has seen of each shard is legal
   pub record EachIsLegal (shards : Shards (ShardView T)) (pass : CachePassView K T) : Type 0 where

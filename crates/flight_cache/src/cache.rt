@@ -7,7 +7,7 @@ ghost use Rattle.evict_core.specs.History.{has_open, pins_left};
 ghost use Rattle.evict_core.specs.Asked.{totals_of};
 ghost use Rattle.flight_cache.specs.Meaning.{shard_count, shard_of};
 ghost use Rattle.flight_cache.specs.Histories.{left_by};
-ghost use Rattle.flight_cache.specs.Calls.{Gives, own_steps};
+ghost use Rattle.flight_cache.specs.Calls.{GivesSteps, own_steps};
 ghost use Rattle.flight_cache.specs.Answers.{IsAsked};
 ghost use Rattle.flight_cache.specs.Shards.{IsCacheOf, IsShardOf, AreShardsOf, EachGives, EachIsLegal, EachExtends, HasNothing, HasLimits, min_cache_entries, total_sum, sum_of_totals, each, both, at, with_at, part};
 
@@ -197,7 +197,7 @@ impl<M: Made> Cache<M> {
         requires pinned { arc_value pinned ≡ M.meaning.made self.now.tag ticket.key }
         requires cost { M.meaning.cost (arc_value kept) ≤ max_cost }
         ensures fill { let n = shard_of (M.meaning.numbers ticket.key) in
-            Gives M.Key.eq M.meaning (at self.now.shards n) (at pass n) (at result.0 n) (Fill ticket.key (M.meaning.cost (arc_value kept)) (arc_value kept) ∷ []) }
+            GivesSteps M.Key.eq M.meaning (at self.now.shards n) (at pass n) (at result.0 n) (Fill ticket.key (M.meaning.cost (arc_value kept)) (arc_value kept) ∷ []) }
         ensures others { let n = shard_of (M.meaning.numbers ticket.key) in result.0 ≡ with_at pass n (at result.0 n) }
         ensures pin { (result.1.key ≡ ticket.key) × (result.1.value ≡ arc_value pinned) }
     {
@@ -212,7 +212,7 @@ impl<M: Made> Cache<M> {
         requires cell { IsCacheOf self.now pass }
         requires open { let n = shard_of (M.meaning.numbers ticket.key) in has_open M.Key.eq (own_steps M.meaning (at self.now.shards n).tag (at pass n)) ticket.key ≡ true }
         ensures fail { let n = shard_of (M.meaning.numbers ticket.key) in
-            Gives M.Key.eq M.meaning (at self.now.shards n) (at pass n) (at result n) (Fail ticket.key ∷ []) }
+            GivesSteps M.Key.eq M.meaning (at self.now.shards n) (at pass n) (at result n) (Fail ticket.key ∷ []) }
         ensures others { let n = shard_of (M.meaning.numbers ticket.key) in result ≡ with_at pass n (at result n) }
     {
         let number = ticket.shard();
@@ -226,7 +226,7 @@ impl<M: Made> Cache<M> {
         requires cell { IsCacheOf self.now pass }
         requires held { let n = shard_of (M.meaning.numbers pin.key) in 1 ≤ pins_left M.Key.eq (own_steps M.meaning (at self.now.shards n).tag (at pass n)) pin.key }
         ensures unpin { let n = shard_of (M.meaning.numbers pin.key) in
-            Gives M.Key.eq M.meaning (at self.now.shards n) (at pass n) (at result n) (Unpin pin.key ∷ []) }
+            GivesSteps M.Key.eq M.meaning (at self.now.shards n) (at pass n) (at result n) (Unpin pin.key ∷ []) }
         ensures others { let n = shard_of (M.meaning.numbers pin.key) in result ≡ with_at pass n (at result n) }
     {
         let number = pin.shard();

@@ -7,7 +7,7 @@ ghost use Rattle.evict_core.specs.History.{times_named};
 ghost use Rattle.flight_cache.specs.Meaning.{shard_count};
 ghost use Rattle.flight_cache.specs.Shards.{IsCacheOf, at};
 ghost use Rattle.flight_cache.specs.Pinning.{IsTurnOut, is_named, keys_in, shards_of};
-ghost use Rattle.flight_cache.specs.Holds.{IsHeld, IsHoldOf, CanPin, IsPassPinned, AreHeld, AreHoldsOf, CanPinAll, ArePassesPinned, IsRefusalOf, pass_back, passes_back, pins_at, value_at, four_of};
+ghost use Rattle.flight_cache.specs.Holds.{IsHeld, IsHoldOf, CanPin, IsPassPinned, AreHeld, AreHoldsOf, CanPinAll, ArePassesPinned, IsRefusalOf, pass_back, passes_back, pins_at, held_value, four_of};
 
 use crate::cache::Cache;
 use crate::kept::{Entry, Kept};
@@ -49,7 +49,7 @@ impl<M: Made> Hold<M> {
 
     // The value of a key whose value is ready.
     fn value_of(&self, key: &M::Key) -> Mem<Option<Arc<M::Value>>>
-        ensures { IfOk result (λ o. option_map arc_value o ≡ value_at M.Key.eq self.now key.now) }
+        ensures { IfOk result (λ o. option_map arc_value o ≡ held_value M.Key.eq self.now key.now) }
     {
         match self {
             Hold::Turn(turn) => turn.value().entries.value_of(key),

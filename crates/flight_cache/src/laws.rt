@@ -1,13 +1,13 @@
 //! The laws of shards and of what calls make of a pass. The functions do nothing: their contracts are the laws.
-ghost use Rattle.flight_cache.specs.Laws.{StaysInBudget, StaysInLimit, HistoryInBudget, HistoryInLimit, ClaimsOnce, FillsOnce, ReadyAreMade, FliesWhereOpen, PinsAreHeld, HeldIsKept, HitHolds, FillHolds, UnpinGives, PinAllHolds, ClaimOpens, GivesFollow, EachIsLater, GivesItself, CallIsLater, LaterIsLater, StaysOfCache, FirstIsWhole, StaysWhole, JoinedIsWhole, WholeKnowsAll};
+ghost use Rattle.flight_cache.specs.Laws.{ShardsStayInBudget, ShardsStayInLimit, HistoryInBudget, HistoryInLimit, ShardsClaimOnce, ShardsFillOnce, ReadyAreMade, FliesWhereOpen, ShardPinsAreHeld, ShardsKeepHeld, HitHolds, FillHolds, UnpinGives, PinAllHolds, ClaimOpens, GivesFollow, EachIsLater, GivesItself, CallIsLater, LaterIsLater, StaysOfCache, FirstIsWhole, StaysWhole, JoinedIsWhole, WholeKnowsAll};
 
 use crate::made::Made;
 
 /// The single-fill law of every history that a shard can have: a key is claimed again only after its fail or its
 /// eviction, and filled again only after its eviction.
 pub fn single_fill<M: Made>()
-    ensures claims { ClaimsOnce M.Key.eq M.meaning }
-    ensures fills { FillsOnce M.Key.eq M.meaning }
+    ensures claims { ShardsClaimOnce M.Key.eq M.meaning }
+    ensures fills { ShardsFillOnce M.Key.eq M.meaning }
 {}
 
 /// The value law: each ready value is that of its key.
@@ -18,13 +18,13 @@ pub fn values<M: Made>()
 /// The budget law: the entries that no pin holds cost at most the shard's budget, whenever the turn is home and after
 /// every history.
 pub fn budget<M: Made>()
-    ensures home { StaysInBudget M M.Key.eq M.meaning }
+    ensures home { ShardsStayInBudget M M.Key.eq M.meaning }
     ensures history { HistoryInBudget M.Key.eq M.meaning }
 {}
 
 /// The limit law: a list that is longer than the shard's limit has no entry to evict.
 pub fn limit<M: Made>()
-    ensures home { StaysInLimit M M.Key.eq M.meaning }
+    ensures home { ShardsStayInLimit M M.Key.eq M.meaning }
     ensures history { HistoryInLimit M.Key.eq M.meaning }
 {}
 
@@ -32,8 +32,8 @@ pub fn limit<M: Made>()
 /// isn't evicted.
 pub fn pins<M: Made>()
     ensures making { FliesWhereOpen M.Key.eq M.meaning }
-    ensures counted { PinsAreHeld M.Key.eq M.meaning }
-    ensures kept { HeldIsKept M.Key.eq M.meaning }
+    ensures counted { ShardPinsAreHeld M.Key.eq M.meaning }
+    ensures kept { ShardsKeepHeld M.Key.eq M.meaning }
 {}
 
 /// What a call makes of the pins and of the open claims of its pass.

@@ -7,7 +7,7 @@ ghost use Rattle.evict_core.specs.Machine.{Fill, Fail, Unpin, Limits, max_entrie
 ghost use Rattle.evict_core.specs.History.{has_open, pins_left};
 ghost use Rattle.evict_core.specs.Asked.{totals_of};
 ghost use Rattle.flight_cache.specs.Histories.{value_under, is_in, left_by, IsLegalUnder, Stands};
-ghost use Rattle.flight_cache.specs.Calls.{Gives, own_steps};
+ghost use Rattle.flight_cache.specs.Calls.{GivesSteps, own_steps};
 ghost use Rattle.flight_cache.specs.Answers.{IsAsked};
 
 use crate::kept::{Entry, Kept, Opening};
@@ -129,7 +129,7 @@ impl<M: Made> Shard<M> {
         requires cell { IsOf self.now pass }
         requires shard { is_in M.meaning self.now.tag key ≡ true }
         ensures asked { IfOk result.1 (IsAsked M.Key.eq M.meaning self.now pass key result.0) }
-        ensures flying { IfErr result.1 (λ k. (k ≡ key) × Gives M.Key.eq M.meaning self.now pass result.0 []) }
+        ensures flying { IfErr result.1 (λ k. (k ≡ key) × GivesSteps M.Key.eq M.meaning self.now pass result.0 []) }
     {
         let mut turn = self.take(rt, pass);
         let shard = self.number;
@@ -182,7 +182,7 @@ impl<M: Made> Shard<M> {
         requires kept { arc_value kept ≡ value_under M.meaning self.now.tag ticket.key }
         requires pinned { arc_value pinned ≡ value_under M.meaning self.now.tag ticket.key }
         requires cost { M.meaning.cost (arc_value kept) ≤ max_cost }
-        ensures pass { Gives M.Key.eq M.meaning self.now pass result.0 (Fill ticket.key (M.meaning.cost (arc_value kept)) (arc_value kept) ∷ []) }
+        ensures pass { GivesSteps M.Key.eq M.meaning self.now pass result.0 (Fill ticket.key (M.meaning.cost (arc_value kept)) (arc_value kept) ∷ []) }
         ensures pin { (result.1.key ≡ ticket.key) × (result.1.value ≡ arc_value pinned) }
     {
         let Ticket { key, shard } = ticket;
@@ -205,7 +205,7 @@ impl<M: Made> Shard<M> {
         requires cell { IsOf self.now pass }
         requires shard { is_in M.meaning self.now.tag ticket.key ≡ true }
         requires open { has_open M.Key.eq (own_steps M.meaning self.now.tag pass) ticket.key ≡ true }
-        ensures { Gives M.Key.eq M.meaning self.now pass result (Fail ticket.key ∷ []) }
+        ensures { GivesSteps M.Key.eq M.meaning self.now pass result (Fail ticket.key ∷ []) }
     {
         let Ticket { key, shard: _ } = ticket;
         let mut turn = self.take(rt, pass);
@@ -218,7 +218,7 @@ impl<M: Made> Shard<M> {
         requires cell { IsOf self.now pass }
         requires shard { is_in M.meaning self.now.tag pin.key ≡ true }
         requires held { 1 ≤ pins_left M.Key.eq (own_steps M.meaning self.now.tag pass) pin.key }
-        ensures { Gives M.Key.eq M.meaning self.now pass result (Unpin pin.key ∷ []) }
+        ensures { GivesSteps M.Key.eq M.meaning self.now pass result (Unpin pin.key ∷ []) }
     {
         let Pin {
             key,
@@ -242,7 +242,7 @@ impl<M: Made> Shard<M> {
         requires least { 1 ≤ entries }
         requires most { entries ≤ max_entries }
         requires budget { budget ≤ max_budget }
-        ensures { Gives M.Key.eq M.meaning self.now pass result (Limits entries budget ∷ []) }
+        ensures { GivesSteps M.Key.eq M.meaning self.now pass result (Limits entries budget ∷ []) }
     {
         let mut turn = self.take(rt, pass);
         turn.value_mut().entries.set_limits(entries, budget);
@@ -252,7 +252,7 @@ impl<M: Made> Shard<M> {
     /// The counts and sums, as the history that the pass has seen leaves them.
     pub fn totals<R: Wait>(&self, rt: &R, pass: ShardPass<M>) -> (ShardPass<M>, Totals)
         requires { IsOf self.now pass }
-        ensures pass { Gives M.Key.eq M.meaning self.now pass result.0 [] }
+        ensures pass { GivesSteps M.Key.eq M.meaning self.now pass result.0 [] }
         ensures totals { result.1 ≡ totals_of (left_by M.Key.eq M.meaning self.now.tag result.0.seen) }
         ensures budget { result.1.unpinned ≤ result.1.budget }
     {

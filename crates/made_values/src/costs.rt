@@ -1,7 +1,7 @@
 //! What values cost in a cache.
 
 ghost use Rattle.std.specs.Prelude.{◌≡◌, min};
-ghost use Rattle.mask_model.specs.Costs.{mask_cost, max_cost, region_cost};
+ghost use Rattle.mask_model.specs.Costs.{mask_cost, greatest_cost, region_cost};
 
 use ass_num::{Mask, Region};
 
@@ -10,7 +10,7 @@ const BASE_COST: u64 = 64;
 
 /// A cost, held within 32 bits.
 fn held(cost: u64) -> u32
-    ensures { result ≡ min max_cost cost }
+    ensures { result ≡ min greatest_cost cost }
 {
     cost.min(u64::from(u32::MAX)) as u32
 }

@@ -16,8 +16,8 @@ stencil_of fonts (clip.Rect x1 y1 x2 y2 inverse) = Rect x1 y1 x2 y2 inverse
 stencil_of fonts (clip.Drawn key x y inverse) = Drawn (composite_value fonts key) x y inverse
 
 -- a draw with the masks of its keys
-abbrev pub image_of : List FontValue → Draw → Image
-image_of fonts draw = record {
+abbrev pub image_of_draw : List FontValue → Draw → Image
+image_of_draw fonts draw = record {
   mask = composite_value fonts draw.key;
   x = draw.x;
   y = draw.y;
@@ -29,7 +29,7 @@ image_of fonts draw = record {
 
 -- a canvas after a draw
 abbrev pub with_draw : List FontValue → CanvasValue → Draw → CanvasValue
-with_draw fonts canvas draw = drawn canvas (image_of fonts draw)
+with_draw fonts canvas draw = drawn canvas (image_of_draw fonts draw)
 
 -- The picture of a size and a list of draws.
 abbrev pub picture : List FontValue → Size → List Draw → CanvasValue

@@ -30,25 +30,25 @@ rows_from has left width j zero = []
 rows_from has left width j (suc n) = runs_from (λ i. has i j) left width ∷ rows_from has left width (j +ℤ pos 1) n
 
 -- a row before rows, unless all are empty
-abbrev pub with_row : List Run → List (List Run) → List (List Run)
-with_row [] [] = []
-with_row runs rows = runs ∷ rows
+abbrev pub with_row_before : List Run → List (List Run) → List (List Run)
+with_row_before [] [] = []
+with_row_before runs rows = runs ∷ rows
 
 -- the rows without the empty ones at the end
 abbrev pub without_end : List (List Run) → List (List Run)
 without_end [] = []
-without_end (runs ∷ rows) = with_row runs (without_end rows)
+without_end (runs ∷ rows) = with_row_before runs (without_end rows)
 
 -- the rows from `top` down without the empty ones at both ends
-abbrev pub trimmed : ℤ → List (List Run) → RegionValue
-trimmed top [] = record { top = pos 0; rows = [] }
-trimmed top ([] ∷ rows) = trimmed (top +ℤ pos 1) rows
-trimmed top ((r ∷ runs) ∷ rows) = record { top = top; rows = without_end ((r ∷ runs) ∷ rows) }
+abbrev pub trimmed_region : ℤ → List (List Run) → RegionValue
+trimmed_region top [] = record { top = pos 0; rows = [] }
+trimmed_region top ([] ∷ rows) = trimmed_region (top +ℤ pos 1) rows
+trimmed_region top ((r ∷ runs) ∷ rows) = record { top = top; rows = without_end ((r ∷ runs) ∷ rows) }
 
 -- The region of the samples within `limit` of 0 that pass.
 unfoldable pub region_within : ℕ → (ℤ → ℤ → Bool) → RegionValue
 region_within limit has =
-    trimmed (neg_ℤ (pos limit)) (rows_from has (neg_ℤ (pos limit)) (2 * limit + 1) (neg_ℤ (pos limit)) (2 * limit + 1))
+    trimmed_region (neg_ℤ (pos limit)) (rows_from has (neg_ℤ (pos limit)) (2 * limit + 1) (neg_ℤ (pos limit)) (2 * limit + 1))
 
 -- the region of an outline: the samples inside its rings
 abbrev pub outline_region : List (List Point) → RegionValue

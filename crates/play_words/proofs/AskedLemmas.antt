@@ -9,7 +9,7 @@ use Rattle.clap.specs.Simple.{subcommand_of}
 use Rattle.play_words.specs.Limits.{max_ahead, max_bands, max_batch, max_budget, max_events, max_seed, max_times, max_workers, usual_batch, usual_budget}
 use Rattle.play_words.specs.Asked.{budget_at, first_bad, job_for, play_of, size_at, smallest_size, text_at, unless_bad}
 use Rattle.play_words.specs.Grammar.{is_taken, words_app}
-use Rattle.play_words.specs.Jobs.{IsBetween, IsFrame, IsJob, IsPlay, IsMoment, IsStep}
+use Rattle.play_words.specs.Jobs.{IsNumberBetween, IsFrame, IsJob, IsPlay, IsMoment, IsStep}
 use Rattle.play_words.specs.Values.{is_x, number_in, number_within, sides_in, size_in}
 use Rattle.play_words.specs.Words.{IsReading, command_named, job_in, job_of, reading_in}
 use Rattle.play_words.specs.declared.argument.Argument.{Argument}
@@ -22,16 +22,16 @@ use Rattle.play_words.specs.declared.job.WordsFault.TheVariants.{Usage}
 use Rattle.play_words.specs.declared.job.WordsRefusal.{WordsRefusal}
 use Rattle.play_words.proofs.ValueLemmas.{both}
 
-picked : (least most : ℕ) (number : Option ℕ) → IfSome (option_and_then (λ n. cond (nat_le least n && nat_le n most) (Some n) None) number) (IsBetween least most)
+picked : (least most : ℕ) (number : Option ℕ) → IfSome (option_and_then (λ n. cond (nat_le least n && nat_le n most) (Some n) None) number) (IsNumberBetween least most)
 picked least most None = tt
 picked least most (Some n) = cases (nat_le least n && nat_le n most) refl
   where
-    cases : (b : Bool) → nat_le least n && nat_le n most ≡ b → IfSome (cond b (Some n) None) (IsBetween least most)
+    cases : (b : Bool) → nat_le least n && nat_le n most ≡ b → IfSome (cond b (Some n) None) (IsNumberBetween least most)
     cases true e = let parts = both _ _ e in (leb-true _ _ parts.0, leb-true _ _ parts.1)
     cases false e = tt
 
 -- a number of a text is between its limits
-pub within : (least most : ℕ) (text : List ℕ) → IfSome (number_within least most text) (IsBetween least most)
+pub within : (least most : ℕ) (text : List ℕ) → IfSome (number_within least most text) (IsNumberBetween least most)
 within least most text = picked least most (number_in text)
 
 or_absent : {A : Type 0} (P : A → Type 0) (found : Option A) (absent : A) → P absent → IfSome found P → P (unwrap_or found absent)
@@ -43,11 +43,11 @@ given P f None h = tt
 given P f (Some a) h = h a
 
 -- and so is the number of an argument
-pub between : (least most : ℕ) (text : Option (List ℕ)) (absent : ℕ) → least ≤ absent → absent ≤ most → IsBetween least most (unwrap_or (option_and_then (number_within least most) text) absent)
+pub between : (least most : ℕ) (text : Option (List ℕ)) (absent : ℕ) → least ≤ absent → absent ≤ most → IsNumberBetween least most (unwrap_or (option_and_then (number_within least most) text) absent)
 between least most text absent low high =
-    or_absent (IsBetween least most) (option_and_then (number_within least most) text) absent (low, high) (given (IsBetween least most) (number_within least most) text (within least most))
+    or_absent (IsNumberBetween least most) (option_and_then (number_within least most) text) absent (low, high) (given (IsNumberBetween least most) (number_within least most) text (within least most))
 
-sides : (w h : Option ℕ) → IfSome w (IsBetween 1 max_frame_side) → IfSome h (IsBetween 1 max_frame_side) →
+sides : (w h : Option ℕ) → IfSome w (IsNumberBetween 1 max_frame_side) → IfSome h (IsNumberBetween 1 max_frame_side) →
     IfSome (option_and_then (λ w. option_map (λ h. record { w = w; h = h }) h) w) IsFrame
 sides None h wide high = tt
 sides (Some w) None wide high = tt
@@ -66,10 +66,10 @@ frame_at rows =
     or_absent IsFrame (option_and_then size_in (text_at rows argument.Size)) smallest_size ((omega arith, omega arith), (omega arith, omega arith))
     (given IsFrame size_in (text_at rows argument.Size) frame_size)
 
-moment : (n : ℕ) → IsBetween 0 max_instant n → IsMoment (pos n)
+moment : (n : ℕ) → IsNumberBetween 0 max_instant n → IsMoment (pos n)
 moment n h = (omega (arith, ints), omega (arith, ints))
 
-step : (n : ℕ) → IsBetween 1 max_instant n → IsStep (pos n)
+step : (n : ℕ) → IsNumberBetween 1 max_instant n → IsStep (pos n)
 step n h = (omega (arith, ints), omega (arith, ints))
 
 budget_at_most : (rows : List Row) → budget_at rows ≤ max_budget

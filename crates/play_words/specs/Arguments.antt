@@ -48,28 +48,28 @@ is_required Size = true
 is_required argument = is_positional argument
 
 -- what the value has to be
-abbrev pub kind_of : Argument → Kind
-kind_of At = Number 0 max_instant
-kind_of From = Number 0 max_instant
-kind_of To = Number 0 max_instant
-kind_of Step = Number 1 max_instant
-kind_of Size = FrameSize
-kind_of Feeders = Number 1 max_workers
-kind_of Renderers = Number 1 max_workers
-kind_of Batch = Number 1 max_batch
-kind_of Again = Number 0 max_batch
-kind_of Times = Number 1 max_times
-kind_of Ahead = Number 0 max_ahead
-kind_of Bands = Number 1 max_bands
-kind_of Budget = Number 0 max_budget
-kind_of Mode = PlayMode
-kind_of Workers = Number 1 max_workers
-kind_of Later = Number 0 max_instant
-kind_of Earlier = Number 0 max_instant
-kind_of Script = FileName
-kind_of Fonts = FileName
-kind_of Seed = Number 0 max_seed
-kind_of Events = Number 1 max_events
+abbrev pub argument_kind : Argument → Kind
+argument_kind At = Number 0 max_instant
+argument_kind From = Number 0 max_instant
+argument_kind To = Number 0 max_instant
+argument_kind Step = Number 1 max_instant
+argument_kind Size = FrameSize
+argument_kind Feeders = Number 1 max_workers
+argument_kind Renderers = Number 1 max_workers
+argument_kind Batch = Number 1 max_batch
+argument_kind Again = Number 0 max_batch
+argument_kind Times = Number 1 max_times
+argument_kind Ahead = Number 0 max_ahead
+argument_kind Bands = Number 1 max_bands
+argument_kind Budget = Number 0 max_budget
+argument_kind Mode = PlayMode
+argument_kind Workers = Number 1 max_workers
+argument_kind Later = Number 0 max_instant
+argument_kind Earlier = Number 0 max_instant
+argument_kind Script = FileName
+argument_kind Fonts = FileName
+argument_kind Seed = Number 0 max_seed
+argument_kind Events = Number 1 max_events
 
 -- the last number of a kind
 abbrev pub most_in : Kind → ℕ
@@ -78,7 +78,7 @@ most_in _ = 0
 
 -- the last number that the value may be
 abbrev pub most_of : Argument → ℕ
-most_of argument = most_in (kind_of argument)
+most_of argument = most_in (argument_kind argument)
 
 -- the argument as a refusal names it
 abbrev pub shown_name : Argument → List ℕ

@@ -3,7 +3,7 @@ use Rattle.std.specs.Prelude.{ℕ, pos, Bool, true, not, List, [], Option, Some,
 use Rattle.std.specs.Option.{option_map_or}
 use Rattle.ass_num.specs.declared.size.Size.{Size}
 use Rattle.clap.specs.Walk.{Row, all_of, first_of}
-use Rattle.play_words.specs.Arguments.{argument_name, kind_of, shown_name}
+use Rattle.play_words.specs.Arguments.{argument_name, argument_kind, shown_name}
 use Rattle.play_words.specs.Commands.{arguments_of}
 use Rattle.play_words.specs.Limits.{usual_batch, usual_budget}
 use Rattle.play_words.specs.Values.{is_of_kind, mode_in, number_within, size_in}
@@ -27,7 +27,7 @@ text_at rows argument = first_of (argument_name argument) rows
 
 -- An argument that isn't given is of its rule.
 abbrev pub fits : List Row → Argument → Bool
-fits rows argument = option_map_or (is_of_kind (kind_of argument)) (text_at rows argument) true
+fits rows argument = option_map_or (is_of_kind (argument_kind argument)) (text_at rows argument) true
 
 -- the first argument of a command of which the text isn't of its rule
 abbrev pub first_bad : List Row → Command → Option Argument
@@ -39,7 +39,7 @@ number_by _ text absent = absent
 
 -- the number of an argument, or what stands for it where it isn't given
 abbrev pub number_at : List Row → Argument → ℕ → ℕ
-number_at rows argument absent = number_by (kind_of argument) (text_at rows argument) absent
+number_at rows argument absent = number_by (argument_kind argument) (text_at rows argument) absent
 
 abbrev pub smallest_size : Size
 smallest_size = record { w = 1; h = 1 }

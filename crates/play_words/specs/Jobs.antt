@@ -8,8 +8,8 @@ use Rattle.play_words.specs.declared.job.Job.TheVariants.{Check, Frame, Play, Se
 use Rattle.play_words.specs.declared.job.PlayJob.{PlayJob}
 
 -- the number is from `least` to `most`
-abbrev pub IsBetween : ℕ → ℕ → ℕ → Type 0
-IsBetween least most n = (least ≤ n) × (n ≤ most)
+abbrev pub IsNumberBetween : ℕ → ℕ → ℕ → Type 0
+IsNumberBetween least most n = (least ≤ n) × (n ≤ most)
 
 -- an instant, in milliseconds
 abbrev pub IsMoment : ℤ → Type 0
@@ -21,20 +21,20 @@ IsStep t = (pos 1 ≤ℤ t) × (t ≤ℤ pos max_instant)
 
 -- a frame of one column and row or more
 abbrev pub IsFrame : Size → Type 0
-IsFrame size = IsBetween 1 max_frame_side size.w × IsBetween 1 max_frame_side size.h
+IsFrame size = IsNumberBetween 1 max_frame_side size.w × IsNumberBetween 1 max_frame_side size.h
 
 pub record IsPlay (play : PlayJob) : Type 0 where
   pub from : IsMoment play.from
   pub to : IsMoment play.to
   pub step : IsStep play.step
   pub size : IsFrame play.size
-  pub feeders : IsBetween 1 max_workers play.feeders
-  pub renderers : IsBetween 1 max_workers play.renderers
-  pub batch : IsBetween 1 max_batch play.batch
+  pub feeders : IsNumberBetween 1 max_workers play.feeders
+  pub renderers : IsNumberBetween 1 max_workers play.renderers
+  pub batch : IsNumberBetween 1 max_batch play.batch
   pub again : play.again ≤ max_batch
-  pub times : IsBetween 1 max_times play.times
+  pub times : IsNumberBetween 1 max_times play.times
   pub ahead : play.ahead ≤ max_ahead
-  pub bands : IsBetween 1 max_bands play.bands
+  pub bands : IsNumberBetween 1 max_bands play.bands
   pub budget : play.budget ≤ max_budget
 
 -- The numbers of a job are within their limits.
@@ -42,6 +42,6 @@ abbrev pub IsJob : Job → Type 0
 IsJob (Check script fonts) = Unit {0}
 IsJob (Frame at size budget script fonts) = IsMoment at × IsFrame size × (budget ≤ max_budget)
 IsJob (Play play script fonts) = IsPlay play
-IsJob (Selftest seed events workers) = (seed ≤ max_seed) × IsBetween 1 max_events events × IsBetween 1 max_workers workers
+IsJob (Selftest seed events workers) = (seed ≤ max_seed) × IsNumberBetween 1 max_events events × IsNumberBetween 1 max_workers workers
 IsJob (Changes from to step size budget script fonts) = IsMoment from × IsMoment to × IsStep step × IsFrame size × (budget ≤ max_budget)
 IsJob (Write later earlier script) = IsMoment later × IsMoment earlier

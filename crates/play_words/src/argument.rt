@@ -1,7 +1,7 @@
 //! The arguments of all commands.
 
 ghost use Rattle.std.specs.Prelude.{◌≡◌, ◌++◌, IfOk, codes};
-ghost use Rattle.play_words.specs.Arguments.{argument_name, is_positional, is_required, kind_of, shown_name};
+ghost use Rattle.play_words.specs.Arguments.{argument_name, is_positional, is_required, argument_kind, shown_name};
 
 use ass_num::{Mem, Text};
 use std::alloc::Global;
@@ -127,7 +127,7 @@ impl Argument {
 
     /// What its value has to be.
     pub fn kind(self) -> Kind
-        ensures { result ≡ kind_of self }
+        ensures { result ≡ argument_kind self }
     {
         match self {
             Argument::At | Argument::From | Argument::To | Argument::Later | Argument::Earlier =>

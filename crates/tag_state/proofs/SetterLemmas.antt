@@ -12,7 +12,7 @@ use Rattle.tag_state.specs.Properties.{Measure, Size, ScaleX, ScaleY, Spacing, A
 use Rattle.tag_state.specs.Syllables.{sung_at}
 use Rattle.tag_state.specs.Laws.{IsOrdinary}
 use Rattle.tag_state.specs.States.{IsStateAt}
-use Rattle.tag_state.specs.Steps.{after_setter, after, IsStepped}
+use Rattle.tag_state.specs.Steps.{after_setter, property_after, IsStepped}
 
 -- ---- one property
 
@@ -37,7 +37,7 @@ setters_more p effect earlier kept = by_resets p.resets
     by_resets false = refl
 
 pub value_step : {V : Type 0} (p : Property V) (script : ScriptValue) (own : List ℕ) (effect : Effect) (earlier : List Effect) → is_reset effect ≡ false
-    → property_at p script own (effect ∷ earlier) ≡ after p (style_in_force script own earlier) effect (property_at p script own earlier)
+    → property_at p script own (effect ∷ earlier) ≡ property_after p (style_in_force script own earlier) effect (property_at p script own earlier)
 value_step p script own effect earlier kept =
     ap (λ style. by_setters p.moved (p.styled style) (setters_in p (effect ∷ earlier))) (style_stays script own effect (style_in_force script own earlier) kept)
     ∙ (ap (λ setters. by_setters p.moved (p.styled (style_in_force script own earlier)) setters) (setters_more p effect earlier kept)
@@ -55,9 +55,9 @@ state_core script own names effect earlier old mid number_of_font syllable at st
   font = named;
   numbers = numbers;
   switches = switches;
-  colours = λ c place four. step.colours c place four ∙ (ap (after (byte c place) style effect) (at.colours c place four) ∙ sym (value_step (byte c place) script own effect earlier kept));
+  colours = λ c place four. step.colours c place four ∙ (ap (property_after (byte c place) style effect) (at.colours c place four) ∙ sym (value_step (byte c place) script own effect earlier kept));
   border_style = step.border_style ∙ (at.border_style ∙ sym (ap (λ s. s.border_style) (style_stays script own effect style kept)));
-  draw = step.draw ∙ (ap (after level style effect) at.draw ∙ sym (value_step level script own effect earlier kept));
+  draw = step.draw ∙ (ap (property_after level style effect) at.draw ∙ sym (value_step level script own effect earlier kept));
   sung = sung;
 }
   where
@@ -68,7 +68,7 @@ state_core script own names effect earlier old mid number_of_font syllable at st
     new = record mid { font = number_of_font; sung = syllable }
 
     number_step : (m : Measure) → measure_of m mid ≡ property_at (number m) script own (effect ∷ earlier)
-    number_step m = step.numbers m ∙ (ap (after (number m) style effect) (at.numbers m) ∙ sym (value_step (number m) script own effect earlier kept))
+    number_step m = step.numbers m ∙ (ap (property_after (number m) style effect) (at.numbers m) ∙ sym (value_step (number m) script own effect earlier kept))
 
     numbers : (m : Measure) → measure_of m new ≡ property_at (number m) script own (effect ∷ earlier)
     numbers Size = number_step Size
@@ -85,7 +85,7 @@ state_core script own names effect earlier old mid number_of_font syllable at st
     numbers Offset = number_step Offset
 
     switch_step : (s : Switch) → switch_of s mid ≡ property_at (switch s) script own (effect ∷ earlier)
-    switch_step s = step.switches s ∙ (ap (after (switch s) style effect) (at.switches s) ∙ sym (value_step (switch s) script own effect earlier kept))
+    switch_step s = step.switches s ∙ (ap (property_after (switch s) style effect) (at.switches s) ∙ sym (value_step (switch s) script own effect earlier kept))
 
     switches : (s : Switch) → switch_of s new ≡ property_at (switch s) script own (effect ∷ earlier)
     switches Bold = switch_step Bold

@@ -19,7 +19,7 @@ use Rattle.tag_state.specs.Properties.{Measure, Size, ScaleX, ScaleY, Spacing, A
 use Rattle.tag_state.specs.Syllables.{sung_at, sung_until, syllables_in}
 use Rattle.tag_state.specs.Laws.{IsOrdinary}
 use Rattle.tag_state.specs.States.{IsStateAt}
-use Rattle.tag_state.specs.Steps.{after_setter, after, IsStepped, styled_state, restyled_state, syllable_behind}
+use Rattle.tag_state.specs.Steps.{after_setter, property_after, IsStepped, styled_state, restyled_state, syllable_behind}
 use Rattle.tag_state.proofs.ChoiceLemmas.{map-reverse}
 use Rattle.tag_state.proofs.SetterLemmas.{font_stays, state_core, state_step, value_step}
 
@@ -98,7 +98,7 @@ sets_nothing effect style state numbers switches alphas hues none = record {
   sung = refl;
 }
   where
-    colours : (c : Channel) (place : ℕ) → place < 4 → byte_in c (colour_at state.colours place) ≡ after (byte c place) style effect (byte_in c (colour_at state.colours place))
+    colours : (c : Channel) (place : ℕ) → place < 4 → byte_in c (colour_at state.colours place) ≡ property_after (byte c place) style effect (byte_in c (colour_at state.colours place))
     colours Red place four = sym (ap (after_setter moved_byte (byte_in Red (colour_at style.colours place)) (colour_at state.colours place).r) (hues Red place))
     colours Green place four = sym (ap (after_setter moved_byte (byte_in Green (colour_at style.colours place)) (colour_at state.colours place).g) (hues Green place))
     colours Blue place four = sym (ap (after_setter moved_byte (byte_in Blue (colour_at style.colours place)) (colour_at state.colours place).b) (hues Blue place))

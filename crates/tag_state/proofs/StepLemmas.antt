@@ -13,12 +13,12 @@ use Rattle.tag_arguments.specs.declared.kinds.Num.{Num}
 use Rattle.tag_arguments.specs.declared.kinds.Num.TheVariants as num
 use Rattle.tag_state.specs.Setters.{Plain, Gradual, Sets, Moves, replaced}
 use Rattle.tag_state.specs.Properties.{Measure, Size, ScaleX, ScaleY, Spacing, Angle, BorderX, BorderY, ShadowX, ShadowY, Edges, Blur, Offset, number, measure_of, sets_measure, given_number, styled_number, sets_switch, is_on, styled_switch, Switch, Bold, Italic, Underline, Strikeout, switch, switch_of, Channel, Red, Green, Blue, Opacity, byte, byte_in, colour_at, level, has_alpha, moved_byte, colour_setter, alpha_setter}
-use Rattle.tag_state.specs.Steps.{after_setter, after, IsStepped, set_or_moved, number_after, numbers_after, switch_after, level_after, number_stepped, colour_after, alpha_after, number_effect, colour_effect, alpha_effect}
+use Rattle.tag_state.specs.Steps.{after_setter, property_after, IsStepped, set_or_moved, number_after, numbers_after, switch_after, level_after, number_stepped, colour_after, alpha_after, number_effect, colour_effect, alpha_effect}
 
 -- ---- numbers
 
 number_is : (m : Measure) (style : Style) (property : Num) (value : Option ℤ) (weight : Option ℕ) (old : ℤ)
-    → number_after m style property value weight old ≡ after (number m) style (number_effect weight property value) old
+    → number_after m style property value weight old ≡ property_after (number m) style (number_effect weight property value) old
 number_is m style property value None old = by (sets_measure m property)
   where
     by : (b : Bool) → cond b (unwrap_or (given_number property value) (styled_number m style)) old ≡ after_setter moved (styled_number m style) old (cond b (Some (Sets (given_number property value))) None)
@@ -61,7 +61,7 @@ numbers_stay Edges style property value state = refl
 numbers_stay Blur style property value state = refl
 numbers_stay Offset style property value state = refl
 
-switch_is : (s : Switch) (style : Style) (property : Num) (value : Option ℤ) (old : Bool) → switch_after s style property value old ≡ after (switch s) style (Plain (tag.Number property value)) old
+switch_is : (s : Switch) (style : Style) (property : Num) (value : Option ℤ) (old : Bool) → switch_after s style property value old ≡ property_after (switch s) style (Plain (tag.Number property value)) old
 switch_is s style property value old = by (sets_switch s property)
   where
     by : (b : Bool) → cond b (unwrap_or (option_map (is_on s) value) (styled_switch s style)) old ≡ after_setter replaced (styled_switch s style) old (cond b (Some (Sets (option_map (is_on s) value))) None)
@@ -74,12 +74,12 @@ switches_are Italic style property value state = refl
 switches_are Underline style property value state = refl
 switches_are Strikeout style property value state = refl
 
-level_is : (style : Style) (property : Num) (value : Option ℤ) (old : ℕ) → level_after property value old ≡ after level style (Plain (tag.Number property value)) old
+level_is : (style : Style) (property : Num) (value : Option ℤ) (old : ℕ) → level_after property value old ≡ property_after level style (Plain (tag.Number property value)) old
 level_is style num.Draw value old = refl
 level_is style property value old = refl
 
 -- no number sets a byte of a colour
-bytes_stay : (c : Channel) (place : ℕ) (style : Style) (weight : Option ℕ) (property : Num) (value : Option ℤ) (old : ℕ) → old ≡ after (byte c place) style (number_effect weight property value) old
+bytes_stay : (c : Channel) (place : ℕ) (style : Style) (weight : Option ℕ) (property : Num) (value : Option ℤ) (old : ℕ) → old ≡ property_after (byte c place) style (number_effect weight property value) old
 bytes_stay Opacity place style None property value old = refl
 bytes_stay Opacity place style (Some weight) property value old = refl
 bytes_stay c place style None property value old = refl
@@ -121,15 +121,15 @@ number_steps style property value old new e =
 -- ---- colours
 
 -- no colour sets a number
-colour_numbers_stay : (m : Measure) (style : Style) (weight : Option ℕ) (which : ℕ) (value : Option ℕ) (old : ℤ) → old ≡ after (number m) style (colour_effect weight which value) old
+colour_numbers_stay : (m : Measure) (style : Style) (weight : Option ℕ) (which : ℕ) (value : Option ℕ) (old : ℤ) → old ≡ property_after (number m) style (colour_effect weight which value) old
 colour_numbers_stay m style None which value old = refl
 colour_numbers_stay m style (Some weight) which value old = refl
 
-colour_switches_stay : (s : Switch) (style : Style) (weight : Option ℕ) (which : ℕ) (value : Option ℕ) (old : Bool) → old ≡ after (switch s) style (colour_effect weight which value) old
+colour_switches_stay : (s : Switch) (style : Style) (weight : Option ℕ) (which : ℕ) (value : Option ℕ) (old : Bool) → old ≡ property_after (switch s) style (colour_effect weight which value) old
 colour_switches_stay s style None which value old = refl
 colour_switches_stay s style (Some weight) which value old = refl
 
-colour_level_stays : (style : Style) (weight : Option ℕ) (which : ℕ) (value : Option ℕ) (old : ℕ) → old ≡ after level style (colour_effect weight which value) old
+colour_level_stays : (style : Style) (weight : Option ℕ) (which : ℕ) (value : Option ℕ) (old : ℕ) → old ≡ property_after level style (colour_effect weight which value) old
 colour_level_stays style None which value old = refl
 colour_level_stays style (Some weight) which value old = refl
 
@@ -154,14 +154,14 @@ alpha_stays styled value None which place old = refl
 alpha_stays styled value (Some weight) which place old = refl
 
 byte_set : (c : Channel) (style : Style) (value : Option ℕ) (weight : Option ℕ) (which place : ℕ) (old : Rgba) → (which == place + 1) ≡ true
-    → byte_in c (colour_after style place value weight old) ≡ after (byte c place) style (colour_effect weight which value) (byte_in c old)
+    → byte_in c (colour_after style place value weight old) ≡ property_after (byte c place) style (colour_effect weight which value) (byte_in c old)
 byte_set Red style value weight which place old here = set_byte Red (colour_at style.colours place) value weight which place old.r here
 byte_set Green style value weight which place old here = set_byte Green (colour_at style.colours place) value weight which place old.g here
 byte_set Blue style value weight which place old here = set_byte Blue (colour_at style.colours place) value weight which place old.b here
 byte_set Opacity style value weight which place old here = alpha_stays (colour_at style.colours place) value weight which place old.a
 
 byte_kept : (c : Channel) (style : Style) (value : Option ℕ) (weight : Option ℕ) (which place : ℕ) (old : Rgba) → (which == place + 1) ≡ false
-    → byte_in c old ≡ after (byte c place) style (colour_effect weight which value) (byte_in c old)
+    → byte_in c old ≡ property_after (byte c place) style (colour_effect weight which value) (byte_in c old)
 byte_kept Red style value weight which place old other = kept_byte Red (colour_at style.colours place) value weight which place old.r other
 byte_kept Green style value weight which place old other = kept_byte Green (colour_at style.colours place) value weight which place old.g other
 byte_kept Blue style value weight which place old other = kept_byte Blue (colour_at style.colours place) value weight which place old.b other
@@ -169,7 +169,7 @@ byte_kept Opacity style value weight which place old other = alpha_stays (colour
 
 -- the colour at a place behind a write
 colour_written : (c : Channel) (style : Style) (value : Option ℕ) (weight : Option ℕ) (written place : ℕ) (colours : List Rgba) → written < length colours
-    → byte_in c (colour_at (set colours written (colour_after style written value weight (colour_at colours written))) place) ≡ after (byte c place) style (colour_effect weight (written + 1) value) (byte_in c (colour_at colours place))
+    → byte_in c (colour_at (set colours written (colour_after style written value weight (colour_at colours written))) place) ≡ property_after (byte c place) style (colour_effect weight (written + 1) value) (byte_in c (colour_at colours place))
 colour_written c style value weight written place colours within = by (place == written) refl
   where
     black : Rgba
@@ -178,10 +178,10 @@ colour_written c style value weight written place colours within = by (place == 
     new : Rgba
     new = colour_after style written value weight (colour_at colours written)
 
-    by : (b : Bool) → (place == written) ≡ b → byte_in c (colour_at (set colours written new) place) ≡ after (byte c place) style (colour_effect weight (written + 1) value) (byte_in c (colour_at colours place))
+    by : (b : Bool) → (place == written) ≡ b → byte_in c (colour_at (set colours written new) place) ≡ property_after (byte c place) style (colour_effect weight (written + 1) value) (byte_in c (colour_at colours place))
     by true same =
         let here : place ≡ written = grind (arith, same) in
-        let P : ℕ → Type 0 = λ z. byte_in c (colour_at (set colours written new) z) ≡ after (byte c z) style (colour_effect weight (written + 1) value) (byte_in c (colour_at colours z)) in
+        let P : ℕ → Type 0 = λ z. byte_in c (colour_at (set colours written new) z) ≡ property_after (byte c z) style (colour_effect weight (written + 1) value) (byte_in c (colour_at colours z)) in
         subst P (sym here) (ap (byte_in c) (get_or-set_same colours written new black within) ∙ byte_set c style value weight (written + 1) written (colour_at colours written) (eq-eqb (written + 1) (written + 1) refl))
     by false differs =
         let there : place ≢ written = grind (arith, differs) in
@@ -208,7 +208,7 @@ colour_steps style which written value weight old new named within e =
     after_write : State
     after_write = record old { colours = set old.colours written (colour_after style written value weight (colour_at old.colours written)) }
 
-    same : (m : Measure) → measure_of m after_write ≡ after (number m) style (colour_effect weight (written + 1) value) (measure_of m old)
+    same : (m : Measure) → measure_of m after_write ≡ property_after (number m) style (colour_effect weight (written + 1) value) (measure_of m old)
     same Size = colour_numbers_stay Size style weight (written + 1) value old.size
     same ScaleX = colour_numbers_stay ScaleX style weight (written + 1) value old.scale_x
     same ScaleY = colour_numbers_stay ScaleY style weight (written + 1) value old.scale_y
@@ -222,7 +222,7 @@ colour_steps style which written value weight old new named within e =
     same Blur = colour_numbers_stay Blur style weight (written + 1) value old.blur
     same Offset = colour_numbers_stay Offset style weight (written + 1) value old.offset
 
-    kept : (s : Switch) → switch_of s after_write ≡ after (switch s) style (colour_effect weight (written + 1) value) (switch_of s old)
+    kept : (s : Switch) → switch_of s after_write ≡ property_after (switch s) style (colour_effect weight (written + 1) value) (switch_of s old)
     kept Bold = colour_switches_stay Bold style weight (written + 1) value old.bold
     kept Italic = colour_switches_stay Italic style weight (written + 1) value old.italic
     kept Underline = colour_switches_stay Underline style weight (written + 1) value old.underline
@@ -230,15 +230,15 @@ colour_steps style which written value weight old new named within e =
 
 -- ---- alphas
 
-alpha_numbers_stay : (m : Measure) (style : Style) (weight : Option ℕ) (which : ℕ) (value : Option ℕ) (old : ℤ) → old ≡ after (number m) style (alpha_effect weight which value) old
+alpha_numbers_stay : (m : Measure) (style : Style) (weight : Option ℕ) (which : ℕ) (value : Option ℕ) (old : ℤ) → old ≡ property_after (number m) style (alpha_effect weight which value) old
 alpha_numbers_stay m style None which value old = refl
 alpha_numbers_stay m style (Some weight) which value old = refl
 
-alpha_switches_stay : (s : Switch) (style : Style) (weight : Option ℕ) (which : ℕ) (value : Option ℕ) (old : Bool) → old ≡ after (switch s) style (alpha_effect weight which value) old
+alpha_switches_stay : (s : Switch) (style : Style) (weight : Option ℕ) (which : ℕ) (value : Option ℕ) (old : Bool) → old ≡ property_after (switch s) style (alpha_effect weight which value) old
 alpha_switches_stay s style None which value old = refl
 alpha_switches_stay s style (Some weight) which value old = refl
 
-alpha_level_stays : (style : Style) (weight : Option ℕ) (which : ℕ) (value : Option ℕ) (old : ℕ) → old ≡ after level style (alpha_effect weight which value) old
+alpha_level_stays : (style : Style) (weight : Option ℕ) (which : ℕ) (value : Option ℕ) (old : ℕ) → old ≡ property_after level style (alpha_effect weight which value) old
 alpha_level_stays style None which value old = refl
 alpha_level_stays style (Some weight) which value old = refl
 
@@ -248,7 +248,7 @@ hue_stays c styled None which place value old = refl
 hue_stays c styled (Some weight) which place value old = refl
 
 alpha_byte : (c : Channel) (style : Style) (weight : Option ℕ) (which place : ℕ) (value : Option ℕ) (old : Rgba)
-    → byte_in c (alpha_after style place which value weight old) ≡ after (byte c place) style (alpha_effect weight which value) (byte_in c old)
+    → byte_in c (alpha_after style place which value weight old) ≡ property_after (byte c place) style (alpha_effect weight which value) (byte_in c old)
 alpha_byte Red style weight which place value old = red (has_alpha which place) ∙ hue_stays Red (colour_at style.colours place) weight which place value old.r
   where
     red : (b : Bool) → (cond b (record old { a = set_or_moved moved_byte old.a (unwrap_or value (colour_at style.colours place).a) weight }) old).r ≡ old.r
@@ -282,7 +282,7 @@ alphas_after style which value weight old =
     ∷ (alpha_after style 2 which value weight (colour_at old 2) ∷ (alpha_after style 3 which value weight (colour_at old 3) ∷ [])))
 
 alphas_are : (c : Channel) (style : Style) (weight : Option ℕ) (which : ℕ) (value : Option ℕ) (old : List Rgba) (place : ℕ) → place < 4
-    → byte_in c (colour_at (alphas_after style which value weight old) place) ≡ after (byte c place) style (alpha_effect weight which value) (byte_in c (colour_at old place))
+    → byte_in c (colour_at (alphas_after style which value weight old) place) ≡ property_after (byte c place) style (alpha_effect weight which value) (byte_in c (colour_at old place))
 alphas_are c style weight which value old zero four = alpha_byte c style weight which 0 value (colour_at old 0)
 alphas_are c style weight which value old (suc zero) four = alpha_byte c style weight which 1 value (colour_at old 1)
 alphas_are c style weight which value old (suc (suc zero)) four = alpha_byte c style weight which 2 value (colour_at old 2)
@@ -307,7 +307,7 @@ alpha_steps style which value weight old new e =
     behind : State
     behind = record old { colours = alphas_after style which value weight old.colours }
 
-    same : (m : Measure) → measure_of m behind ≡ after (number m) style (alpha_effect weight which value) (measure_of m old)
+    same : (m : Measure) → measure_of m behind ≡ property_after (number m) style (alpha_effect weight which value) (measure_of m old)
     same Size = alpha_numbers_stay Size style weight which value old.size
     same ScaleX = alpha_numbers_stay ScaleX style weight which value old.scale_x
     same ScaleY = alpha_numbers_stay ScaleY style weight which value old.scale_y
@@ -321,7 +321,7 @@ alpha_steps style which value weight old new e =
     same Blur = alpha_numbers_stay Blur style weight which value old.blur
     same Offset = alpha_numbers_stay Offset style weight which value old.offset
 
-    kept : (s : Switch) → switch_of s behind ≡ after (switch s) style (alpha_effect weight which value) (switch_of s old)
+    kept : (s : Switch) → switch_of s behind ≡ property_after (switch s) style (alpha_effect weight which value) (switch_of s old)
     kept Bold = alpha_switches_stay Bold style weight which value old.bold
     kept Italic = alpha_switches_stay Italic style weight which value old.italic
     kept Underline = alpha_switches_stay Underline style weight which value old.underline

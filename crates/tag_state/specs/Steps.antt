@@ -28,17 +28,17 @@ after_setter moved styled old (Some (Sets new)) = unwrap_or new styled
 after_setter moved styled old (Some (Moves weight new)) = moved old (unwrap_or new styled) weight
 
 -- the value of a property behind an effect
-abbrev pub after : {V : Type 0} → Property V → Style → Effect → V → V
-after p style effect old = after_setter p.moved (p.styled style) old (p.setter effect)
+abbrev pub property_after : {V : Type 0} → Property V → Style → Effect → V → V
+property_after p style effect old = after_setter p.moved (p.styled style) old (p.setter effect)
 
 -- Each property is what the effect makes of it. Fonts and syllables stay.
 pub record IsStepped (style : Style) (effect : Effect) (old new : State) : Type 0 where
   pub font : new.font ≡ old.font
-  pub numbers : (m : Measure) → measure_of m new ≡ after (number m) style effect (measure_of m old)
-  pub switches : (s : Switch) → switch_of s new ≡ after (switch s) style effect (switch_of s old)
-  pub colours : (c : Channel) (place : ℕ) → place < 4 → byte_in c (colour_at new.colours place) ≡ after (byte c place) style effect (byte_in c (colour_at old.colours place))
+  pub numbers : (m : Measure) → measure_of m new ≡ property_after (number m) style effect (measure_of m old)
+  pub switches : (s : Switch) → switch_of s new ≡ property_after (switch s) style effect (switch_of s old)
+  pub colours : (c : Channel) (place : ℕ) → place < 4 → byte_in c (colour_at new.colours place) ≡ property_after (byte c place) style effect (byte_in c (colour_at old.colours place))
   pub border_style : new.border_style ≡ old.border_style
-  pub draw : new.draw ≡ after level style effect old.draw
+  pub draw : new.draw ≡ property_after level style effect old.draw
   pub sung : new.sung ≡ old.sung
 
 -- the effect of a number with a weight, or without one

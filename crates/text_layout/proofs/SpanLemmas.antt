@@ -5,7 +5,7 @@ use Rattle.std.proofs.lemmas.List.Elements.{All-drop, All-take}
 use Rattle.std.specs.List.{All}
 use Rattle.ass_num.specs.Limits.{max_text_bytes}
 use Rattle.line_layout.specs.Breaks.{AreFilled, AreFrom, IsItemWidth, IsParagraph}
-use Rattle.text_layout.specs.Spans.{AreInOrder, AreLines, AreLinesOf, AreSpans, AreChosen, is_role, places_from, places_of, spans_between}
+use Rattle.text_layout.specs.Spans.{ArePlacesInOrder, AreLines, AreLinesOf, AreSpans, AreChosen, is_role, places_from, places_of, spans_between}
 use Rattle.override_tags.specs.declared.view.Shown.{Shown}
 use Rattle.text_layout.specs.Kinds.{role_of, roles_of}
 use Rattle.text_layout.specs.declared.kinds.Role.{Role}
@@ -13,53 +13,53 @@ use Rattle.text_layout.specs.declared.spans.Span.{Span}
 
 -- ---- places
 
-AreInOrder-lower : (a b to : ℕ) (ps : List ℕ) → a ≤ b → AreInOrder b to ps → AreInOrder a to ps
+AreInOrder-lower : (a b to : ℕ) (ps : List ℕ) → a ≤ b → ArePlacesInOrder b to ps → ArePlacesInOrder a to ps
 AreInOrder-lower a b to [] l h = omega arith
 AreInOrder-lower a b to (p ∷ ps) l h = (omega arith, h.1, h.2)
 
 -- The places of a role are in order.
-pub places_from-order : (role : Role) (from n : ℕ) (roles : List Role) → from ≤ n → AreInOrder from (n + length roles) (places_from role n roles)
+pub places_from-order : (role : Role) (from n : ℕ) (roles : List Role) → from ≤ n → ArePlacesInOrder from (n + length roles) (places_from role n roles)
 places_from-order role from n [] l = omega arith
 places_from-order role from n (r ∷ roles) l =
-    let later : AreInOrder (n + 1) (n + 1 + length roles) (places_from role (n + 1) roles) = places_from-order role (n + 1) (n + 1) roles (omega arith) in
-    let rest : AreInOrder (n + 1) (n + length (r ∷ roles)) (places_from role (n + 1) roles) =
-    subst (λ (end : ℕ). AreInOrder (n + 1) end (places_from role (n + 1) roles)) (let e : n + 1 + length roles ≡ n + length (r ∷ roles) = omega arith in e) later in
-    elim (is_role r role) as (λ b. AreInOrder from (n + length (r ∷ roles)) (cond b (n ∷ places_from role (n + 1) roles) (places_from role (n + 1) roles))) [
+    let later : ArePlacesInOrder (n + 1) (n + 1 + length roles) (places_from role (n + 1) roles) = places_from-order role (n + 1) (n + 1) roles (omega arith) in
+    let rest : ArePlacesInOrder (n + 1) (n + length (r ∷ roles)) (places_from role (n + 1) roles) =
+    subst (λ (end : ℕ). ArePlacesInOrder (n + 1) end (places_from role (n + 1) roles)) (let e : n + 1 + length roles ≡ n + length (r ∷ roles) = omega arith in e) later in
+    elim (is_role r role) as (λ b. ArePlacesInOrder from (n + length (r ∷ roles)) (cond b (n ∷ places_from role (n + 1) roles) (places_from role (n + 1) roles))) [
       | true ↦ (l, omega arith, rest)
       | false ↦ AreInOrder-lower from (n + 1) (n + length (r ∷ roles)) (places_from role (n + 1) roles) (omega arith) rest
     ]
 
 -- They may all be counted from another place.
-pub AreInOrder-moved : (from a to : ℕ) (ps : List ℕ) → AreInOrder a to ps → AreInOrder (from + a) (from + to) (map (λ p. from + p) ps)
+pub AreInOrder-moved : (from a to : ℕ) (ps : List ℕ) → ArePlacesInOrder a to ps → ArePlacesInOrder (from + a) (from + to) (map (λ p. from + p) ps)
 AreInOrder-moved from a to [] h = omega arith
 AreInOrder-moved from a to (p ∷ ps) h =
-    let rest : AreInOrder (from + (p + 1)) (from + to) (map (λ p. from + p) ps) = AreInOrder-moved from (p + 1) to ps h.2 in
-    (omega arith, omega arith, subst (λ (n : ℕ). AreInOrder n (from + to) (map (λ p. from + p) ps)) (let e : from + (p + 1) ≡ from + p + 1 = omega arith in e) rest)
+    let rest : ArePlacesInOrder (from + (p + 1)) (from + to) (map (λ p. from + p) ps) = AreInOrder-moved from (p + 1) to ps h.2 in
+    (omega arith, omega arith, subst (λ (n : ℕ). ArePlacesInOrder n (from + to) (map (λ p. from + p) ps)) (let e : from + (p + 1) ≡ from + p + 1 = omega arith in e) rest)
 
-pub AreInOrder-below : (a to k : ℕ) (ps : List ℕ) → AreInOrder a to ps → k < length ps → get_or ps k 0 < to
+pub AreInOrder-below : (a to k : ℕ) (ps : List ℕ) → ArePlacesInOrder a to ps → k < length ps → get_or ps k 0 < to
 AreInOrder-below a to k [] h l = absurd (omega arith)
 AreInOrder-below a to zero (p ∷ ps) h l = h.1
 AreInOrder-below a to (suc k) (p ∷ ps) h l = AreInOrder-below (p + 1) to k ps h.2 (omega arith)
 
-AreInOrder-above : (a to k : ℕ) (ps : List ℕ) → AreInOrder a to ps → k < length ps → a ≤ get_or ps k 0
+AreInOrder-above : (a to k : ℕ) (ps : List ℕ) → ArePlacesInOrder a to ps → k < length ps → a ≤ get_or ps k 0
 AreInOrder-above a to k [] h l = absurd (omega arith)
 AreInOrder-above a to zero (p ∷ ps) h l = h.0
 AreInOrder-above a to (suc k) (p ∷ ps) h l = omega (arith, h.0, AreInOrder-above (p + 1) to k ps h.2 (omega arith))
 
-pub AreInOrder-ascending : (a to k : ℕ) (ps : List ℕ) → AreInOrder a to ps → k + 1 < length ps → get_or ps k 0 < get_or ps (k + 1) 0
+pub AreInOrder-ascending : (a to k : ℕ) (ps : List ℕ) → ArePlacesInOrder a to ps → k + 1 < length ps → get_or ps k 0 < get_or ps (k + 1) 0
 AreInOrder-ascending a to k [] h l = absurd (omega arith)
 AreInOrder-ascending a to zero (p ∷ ps) h l = omega (arith, AreInOrder-above (p + 1) to 0 ps h.2 (omega arith))
 AreInOrder-ascending a to (suc k) (p ∷ ps) h l =
     subst (λ (n : ℕ). get_or ps k 0 < get_or (p ∷ ps) n 0) (let e : suc (k + 1) ≡ suc k + 1 = omega arith in e) (AreInOrder-ascending (p + 1) to k ps h.2 (omega arith))
 
 -- Chosen break places are in order.
-pub AreInOrder-from : (spaces : List ℕ) (a to : ℕ) (ps : List ℕ) → ((k : ℕ) → k < length spaces → get_or spaces k 0 < to) → a ≤ to → AreFrom spaces a ps → AreInOrder a to ps
+pub AreInOrder-from : (spaces : List ℕ) (a to : ℕ) (ps : List ℕ) → ((k : ℕ) → k < length spaces → get_or spaces k 0 < to) → a ≤ to → AreFrom spaces a ps → ArePlacesInOrder a to ps
 AreInOrder-from spaces a to [] below l h = l
 AreInOrder-from spaces a to (p ∷ ps) below l h =
     let less : p < to = subst (λ (n : ℕ). n < to) h.0.2 (below h.0.0 h.0.1) in
     (h.1, less, AreInOrder-from spaces (p + 1) to ps below (omega arith) h.2)
 
-pub AreInOrder-filled : (widths : List ℤ) (spaces : List ℕ) (max : ℤ) (a to : ℕ) (ps : List ℕ) → ((k : ℕ) → k < length spaces → get_or spaces k 0 < to) → a ≤ to → AreFilled widths spaces max a ps → AreInOrder a to ps
+pub AreInOrder-filled : (widths : List ℤ) (spaces : List ℕ) (max : ℤ) (a to : ℕ) (ps : List ℕ) → ((k : ℕ) → k < length spaces → get_or spaces k 0 < to) → a ≤ to → AreFilled widths spaces max a ps → ArePlacesInOrder a to ps
 AreInOrder-filled widths spaces max a to [] below l h = l
 AreInOrder-filled widths spaces max a to (p ∷ ps) below l h =
     let less : p < to = subst (λ (n : ℕ). n < to) h.0.place.2 (below h.0.place.0 h.0.place.1) in
@@ -67,13 +67,13 @@ AreInOrder-filled widths spaces max a to (p ∷ ps) below l h =
 
 -- The places of a role that were found along all items.
 pub places-order : (role : Role) (wrap : ℕ) (items : List Shown) (k : ℕ) (places : List ℕ) → length items ≤ k
-    → places ++ places_from role k (roles_of wrap (drop k items)) ≡ places_of role (roles_of wrap items) → AreInOrder 0 (length items) places
+    → places ++ places_from role k (roles_of wrap (drop k items)) ≡ places_of role (roles_of wrap items) → ArePlacesInOrder 0 (length items) places
 places-order role wrap items k places l h =
     let all : places ≡ places_of role (roles_of wrap items) =
     sym (append-nil places) ∙ ap (λ r. places ++ places_from role k (roles_of wrap r)) (sym (drop_all k items l)) ∙ h in
     let ordered = places_from-order role 0 0 (roles_of wrap items) (omega arith) in
     let counted : 0 + length (roles_of wrap items) ≡ length items = omega (arith, length-map items (λ (shown : Shown). role_of wrap shown.kind)) in
-    subst (λ (to : ℕ). AreInOrder 0 to places) counted (subst (AreInOrder 0 (0 + length (roles_of wrap items))) (sym all) ordered)
+    subst (λ (to : ℕ). ArePlacesInOrder 0 to places) counted (subst (ArePlacesInOrder 0 (0 + length (roles_of wrap items))) (sym all) ordered)
 
 pub map-zero : (ps : List ℕ) → map (λ p. 0 + p) ps ≡ ps
 map-zero [] = refl
@@ -81,7 +81,7 @@ map-zero (p ∷ ps) = ap₂ (λ x l. x ∷ l) (let e : 0 + p ≡ p = omega arith
 
 -- ---- spans
 
-pub AreSpans-between : (first to : ℕ) (ps : List ℕ) → AreInOrder first to ps → AreSpans first (to + 1) (spans_between first to ps)
+pub AreSpans-between : (first to : ℕ) (ps : List ℕ) → ArePlacesInOrder first to ps → AreSpans first (to + 1) (spans_between first to ps)
 AreSpans-between first to [] h = (refl, h, omega arith, refl)
 AreSpans-between first to (p ∷ ps) h = (refl, h.0, omega (arith, h.1), AreSpans-between (p + 1) to ps h.2)
 
@@ -115,7 +115,7 @@ wrap_cases (suc (suc zero)) l = inr (inr (inl refl))
 wrap_cases (suc (suc (suc n))) l = inr (inr (inr (let e : suc (suc (suc n)) ≡ 3 = omega arith in e)))
 
 -- Break places in order make a paragraph of widths.
-pub paragraph_of : (widths : List ℤ) (spaces : List ℕ) → length widths ≤ max_text_bytes → All IsItemWidth widths → AreInOrder 0 (length widths) spaces → IsParagraph widths spaces
+pub paragraph_of : (widths : List ℤ) (spaces : List ℕ) → length widths ≤ max_text_bytes → All IsItemWidth widths → ArePlacesInOrder 0 (length widths) spaces → IsParagraph widths spaces
 paragraph_of widths spaces l h order = record {
   short = l;
   narrow = h;
@@ -124,14 +124,14 @@ paragraph_of widths spaces l h order = record {
 }
 
 -- The chosen places are in order.
-pub chosen-order : (wrap : ℕ) (widths : List ℤ) (spaces : List ℕ) (max : ℤ) (places : List ℕ) → wrap ≤ 3 → AreInOrder 0 (length widths) spaces
-    → AreChosen wrap widths spaces max places → AreInOrder 0 (length widths) places
+pub chosen-order : (wrap : ℕ) (widths : List ℤ) (spaces : List ℕ) (max : ℤ) (places : List ℕ) → wrap ≤ 3 → ArePlacesInOrder 0 (length widths) spaces
+    → AreChosen wrap widths spaces max places → ArePlacesInOrder 0 (length widths) places
 chosen-order wrap widths spaces max places l order h =
     let below = λ (k : ℕ) (m : k < length spaces). AreInOrder-below 0 (length widths) k spaces order m in
     elim (wrap_cases wrap l) [
       | inl e ↦ AreInOrder-from spaces 0 (length widths) places below (omega arith) (h.greatest e).chosen
       | inr (inl e) ↦ AreInOrder-filled widths spaces max 0 (length widths) places below (omega arith) (h.filled e)
-      | inr (inr (inl e)) ↦ subst (AreInOrder 0 (length widths)) (sym (h.none e)) (omega arith)
+      | inr (inr (inl e)) ↦ subst (ArePlacesInOrder 0 (length widths)) (sym (h.none e)) (omega arith)
       | inr (inr (inr e)) ↦ AreInOrder-from spaces 0 (length widths) places below (omega arith) (h.least e).chosen
     ]
 
@@ -145,27 +145,27 @@ roles-slice wrap items a b =
     ap (take (b - a)) (drop-map (λ (shown : Shown). role_of wrap shown.kind) a items) ∙ take-map (λ (shown : Shown). role_of wrap shown.kind) (b - a) (drop a items)
 
 pub paragraph-slice : (advances : List ℤ) (items : List Shown) (a b : ℕ) (spaces : List ℕ) → length items ≤ max_text_bytes → length advances ≡ length items
-    → All IsItemWidth advances → a ≤ b → b ≤ length items → AreInOrder 0 (length (take (b - a) (drop a items))) spaces → IsParagraph (take (b - a) (drop a advances)) spaces
+    → All IsItemWidth advances → a ≤ b → b ≤ length items → ArePlacesInOrder 0 (length (take (b - a) (drop a items))) spaces → IsParagraph (take (b - a) (drop a advances)) spaces
 paragraph-slice advances items a b spaces short same narrow l m order =
     let n : length (take (b - a) (drop a advances)) ≡ b - a = slice-length advances a b l (omega arith) in
     let k : length (take (b - a) (drop a items)) ≡ b - a = slice-length items a b l m in
     paragraph_of (take (b - a) (drop a advances)) spaces (omega arith)
     (All-take IsItemWidth (b - a) (drop a advances) (All-drop IsItemWidth a advances narrow))
-    (subst (λ (to : ℕ). AreInOrder 0 to spaces) (k ∙ sym n) order)
+    (subst (λ (to : ℕ). ArePlacesInOrder 0 to spaces) (k ∙ sym n) order)
 
 pub chosen-slice : (wrap : ℕ) (advances : List ℤ) (items : List Shown) (a b : ℕ) (spaces : List ℕ) (max : ℤ) (places : List ℕ) → wrap ≤ 3 → length advances ≡ length items
-    → a ≤ b → b ≤ length items → AreInOrder 0 (length (take (b - a) (drop a items))) spaces → AreChosen wrap (take (b - a) (drop a advances)) spaces max places
-    → AreInOrder 0 (b - a) places
+    → a ≤ b → b ≤ length items → ArePlacesInOrder 0 (length (take (b - a) (drop a items))) spaces → AreChosen wrap (take (b - a) (drop a advances)) spaces max places
+    → ArePlacesInOrder 0 (b - a) places
 chosen-slice wrap advances items a b spaces max places style same l m order h =
     let n : length (take (b - a) (drop a advances)) ≡ b - a = slice-length advances a b l (omega arith) in
     let k : length (take (b - a) (drop a items)) ≡ b - a = slice-length items a b l m in
-    subst (λ (to : ℕ). AreInOrder 0 to places) n
-    (chosen-order wrap (take (b - a) (drop a advances)) spaces max places style (subst (λ (to : ℕ). AreInOrder 0 to spaces) (k ∙ sym n) order) h)
+    subst (λ (to : ℕ). ArePlacesInOrder 0 to places) n
+    (chosen-order wrap (take (b - a) (drop a advances)) spaces max places style (subst (λ (to : ℕ). ArePlacesInOrder 0 to spaces) (k ∙ sym n) order) h)
 
-pub AreInOrder-placed : (a b : ℕ) (ps : List ℕ) → a ≤ b → AreInOrder 0 (b - a) ps → AreInOrder a b (map (λ p. a + p) ps)
+pub AreInOrder-placed : (a b : ℕ) (ps : List ℕ) → a ≤ b → ArePlacesInOrder 0 (b - a) ps → ArePlacesInOrder a b (map (λ p. a + p) ps)
 AreInOrder-placed a b ps l h =
-    subst (λ (from : ℕ). AreInOrder from b (map (λ p. a + p) ps)) (let e : a + 0 ≡ a = omega arith in e)
-    (subst (λ (to : ℕ). AreInOrder (a + 0) to (map (λ p. a + p) ps)) (let e : a + (b - a) ≡ b = omega arith in e) (AreInOrder-moved a 0 (b - a) ps h))
+    subst (λ (from : ℕ). ArePlacesInOrder from b (map (λ p. a + p) ps)) (let e : a + 0 ≡ a = omega arith in e)
+    (subst (λ (to : ℕ). ArePlacesInOrder (a + 0) to (map (λ p. a + p) ps)) (let e : a + (b - a) ≡ b = omega arith in e) (AreInOrder-moved a 0 (b - a) ps h))
 
 -- ---- one more paragraph
 

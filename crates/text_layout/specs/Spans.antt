@@ -52,9 +52,9 @@ AreLines wrap roles advances max (paragraph ∷ paragraphs) lines =
 -- ---- ranges
 
 -- The places are in order, none before `from` or behind `to`.
-abbrev pub AreInOrder : ℕ → ℕ → List ℕ → Type 0
-AreInOrder from to [] = from ≤ to
-AreInOrder from to (place ∷ places) = (from ≤ place) × (place < to) × AreInOrder (place + 1) to places
+abbrev pub ArePlacesInOrder : ℕ → ℕ → List ℕ → Type 0
+ArePlacesInOrder from to [] = from ≤ to
+ArePlacesInOrder from to (place ∷ places) = (from ≤ place) × (place < to) × ArePlacesInOrder (place + 1) to places
 
 -- The spans follow one another from `from` on, with one place behind each, up to `end`.
 abbrev pub AreSpans : ℕ → ℕ → List Span → Type 0
@@ -62,6 +62,6 @@ AreSpans from end [] = from ≡ end
 AreSpans from end (span ∷ spans) = (span.first ≡ from) × (from ≤ span.last) × (span.last < end) × AreSpans (span.last + 1) end spans
 
 -- a span of so many items
-pub record IsSpan (items : ℕ) (span : Span) : Type 0 where
+pub record IsSpanWithin (items : ℕ) (span : Span) : Type 0 where
   pub ordered : span.first ≤ span.last
   pub within : span.last ≤ items

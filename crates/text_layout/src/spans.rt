@@ -5,7 +5,7 @@ ghost use Rattle.ass_num.specs.Limits.{max_text_bytes};
 ghost use Rattle.line_layout.specs.Breaks.{IsItemWidth};
 ghost use Rattle.text_layout.specs.declared.spans.Span.{Span};
 ghost use Rattle.text_layout.specs.Kinds.{roles_of};
-ghost use Rattle.text_layout.specs.Spans.{AreInOrder, AreLines, AreLinesOf, AreSpans, paragraphs_of, places_of, spans_between};
+ghost use Rattle.text_layout.specs.Spans.{ArePlacesInOrder, AreLines, AreLinesOf, AreSpans, paragraphs_of, places_of, spans_between};
 
 use crate::kinds::{Role, role_of};
 use ass_num::{Fix, Mem};
@@ -23,7 +23,7 @@ pub struct Span {
 /// The places of the items that have a role.
 fn places_of(alloc: Global, items: &[Shown], wrap: u8, role: Role) -> Mem<Vec<usize>>
     ensures value { IfOk result (λ places. places.items ≡ places_of role (roles_of wrap items.now)) }
-    ensures order { IfOk result (λ places. AreInOrder 0 (length items.now) places.items) }
+    ensures order { IfOk result (λ places. ArePlacesInOrder 0 (length items.now) places.items) }
 {
     let mut places = Vec::new(alloc);
     for (place, shown) in items.iter().enumerate() {
@@ -38,7 +38,7 @@ fn places_of(alloc: Global, items: &[Shown], wrap: u8, role: Role) -> Mem<Vec<us
 fn add_spans(from: usize, to: usize, places: &[usize], spans: &mut Vec<Span>) -> Mem<()>
     requires items { to ≤ max_text_bytes }
     requires ordered { from ≤ to }
-    requires order { AreInOrder 0 (to - from) places.now }
+    requires order { ArePlacesInOrder 0 (to - from) places.now }
     ensures value { OnOk result (spans.new.items ≡ spans.old.items ++ spans_between from to (map (λ place. from + place) places.now)) }
 {
     let mut first = from;

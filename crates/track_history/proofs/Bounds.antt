@@ -7,8 +7,8 @@ use Rattle.std.proofs.lemmas.List.{drop_more, drop_all, take_more}
 use Rattle.std.proofs.lemmas.List.Elements.{All-nil, All-cons, All-append, All-take, All-drop, All-weaker, All-get_or}
 use Rattle.track_history.specs.declared.spans.LiveSpan.{LiveSpan}
 use Rattle.track_history.specs.declared.blocks.Block.{Block}
-use Rattle.track_history.specs.Blocks.{IsBlock, IsIndex, spans_of}
-use Rattle.track_history.specs.Walks.{WalkValue, first_walk, stepped, walked}
+use Rattle.track_history.specs.Blocks.{IsSpanBlock, IsNearIndex, spans_of}
+use Rattle.track_history.specs.Walks.{WalkValue, first_walk, stepped, walked_spans}
 use Rattle.track_history.proofs.Nears.{walked-append, walked_ended, walked_late, least_low}
 use Rattle.track_history.proofs.Indexes.{spans_from}
 
@@ -46,11 +46,11 @@ insert_within a b c d xs i s h low start high end =
     let back : AreWithin a b (drop i xs) = record { first = All-drop (λ s. a ≤ℤ s.start) i xs h.first; last = All-drop (λ s. s.end ≤ℤ b) i xs h.last } in
     joined c d (take i xs) (s ∷ drop i xs) (widened a b c d (take i xs) low high front) (joined c d (s ∷ []) (drop i xs) (one_within c d s start end) (widened a b c d (drop i xs) low high back))
 
-pub block_of_spans : (block : Block) → 0 < length block.spans.items → AreWithin block.first block.last block.spans.items → IsBlock block
+pub block_of_spans : (block : Block) → 0 < length block.spans.items → AreWithin block.first block.last block.spans.items → IsSpanBlock block
 block_of_spans block some within = record { some = some; first = within.first; last = within.last }
 
-pub block_inserted : (old new : Block) (i : ℕ) (s : LiveSpan) → IsBlock old → i ≤ length old.spans.items → new.spans.items ≡ insert old.spans.items i s
-    → new.first ≤ℤ old.first → new.first ≤ℤ s.start → old.last ≤ℤ new.last → s.end ≤ℤ new.last → IsBlock new
+pub block_inserted : (old new : Block) (i : ℕ) (s : LiveSpan) → IsSpanBlock old → i ≤ length old.spans.items → new.spans.items ≡ insert old.spans.items i s
+    → new.first ≤ℤ old.first → new.first ≤ℤ s.start → old.last ≤ℤ new.last → s.end ≤ℤ new.last → IsSpanBlock new
 block_inserted old new i s block le items low start high end =
     let count = length-insert old.spans.items i s le in
     let long : length new.spans.items ≡ length (insert old.spans.items i s) = ap length items in
@@ -60,10 +60,10 @@ block_inserted old new i s block le items low start high end =
 -- a walk that has come down to this place
 pub record IsWalked (t : ℤ) (w : WalkValue) (xs : List LiveSpan) (rest : ℕ) (now : WalkValue) : Type 0 where
   pub within : rest ≤ length xs
-  pub is : now ≡ walked t w (drop rest xs)
+  pub is : now ≡ walked_spans t w (drop rest xs)
 
 pub walk_begun : (t : ℤ) (w : WalkValue) (xs : List LiveSpan) (n : ℕ) → n ≡ length xs → IsWalked t w xs n w
-walk_begun t w xs n is = record { within = omega (arith, is); is = sym (ap (walked t w) (drop_all n xs (omega (arith, is)))) }
+walk_begun t w xs n is = record { within = omega (arith, is); is = sym (ap (walked_spans t w) (drop_all n xs (omega (arith, is)))) }
 
 pub walk_more : (t : ℤ) (w : WalkValue) (xs : List LiveSpan) (rest : ℕ) (now next : WalkValue) (s : LiveSpan) → IsWalked t w xs rest now → 0 < rest → s ≡ get_or xs (rest - 1) s → next ≡ stepped t now s
     → IsWalked t w xs (rest - 1) next
@@ -71,17 +71,17 @@ walk_more t w xs rest now next s h some is step =
     let within = h.within in
     let back : (rest - 1) + 1 ≡ rest = omega (arith, some) in
     let cut : drop (rest - 1) xs ≡ s ∷ drop rest xs = drop_more xs (rest - 1) s (omega (arith, some, within)) ∙ (ap (λ z. z ∷ drop ((rest - 1) + 1) xs) (sym is) ∙ ap (λ n. s ∷ drop n xs) back) in
-    record { within = omega (arith, within); is = step ∙ (ap (λ v. stepped t v s) h.is ∙ sym (ap (walked t w) cut)) }
+    record { within = omega (arith, within); is = step ∙ (ap (λ v. stepped t v s) h.is ∙ sym (ap (walked_spans t w) cut)) }
 
 -- the same over blocks, from the first walk
 pub record AreWalked (t : ℤ) (blocks : List Block) (rest : ℕ) (now : WalkValue) : Type 0 where
   pub within : rest ≤ length blocks
-  pub is : now ≡ walked t (first_walk t) (spans_of (drop rest blocks))
+  pub is : now ≡ walked_spans t (first_walk t) (spans_of (drop rest blocks))
 
 pub walks_begun : (t : ℤ) (blocks : List Block) (n : ℕ) (now : WalkValue) → n ≡ length blocks → now ≡ first_walk t → AreWalked t blocks n now
-walks_begun t blocks n now is first = record { within = omega (arith, is); is = first ∙ sym (ap (λ bs. walked t (first_walk t) (spans_of bs)) (drop_all n blocks (omega (arith, is)))) }
+walks_begun t blocks n now is first = record { within = omega (arith, is); is = first ∙ sym (ap (λ bs. walked_spans t (first_walk t) (spans_of bs)) (drop_all n blocks (omega (arith, is)))) }
 
-pub block_walked : (t : ℤ) (blocks : List Block) (rest : ℕ) (now next : WalkValue) (b : Block) → AreWalked t blocks rest now → 0 < rest → b ≡ get_or blocks (rest - 1) b → next ≡ walked t now b.spans.items
+pub block_walked : (t : ℤ) (blocks : List Block) (rest : ℕ) (now next : WalkValue) (b : Block) → AreWalked t blocks rest now → 0 < rest → b ≡ get_or blocks (rest - 1) b → next ≡ walked_spans t now b.spans.items
     → AreWalked t blocks (rest - 1) next
 block_walked t blocks rest now next b h some is step =
     let within = h.within in
@@ -90,22 +90,22 @@ block_walked t blocks rest now next b h some is step =
     spans_from blocks (rest - 1) b (omega (arith, some, within)) ∙ (ap (λ (z : Block). z.spans.items ++ spans_of (drop ((rest - 1) + 1) blocks)) (sym is) ∙ ap (λ n. b.spans.items ++ spans_of (drop n blocks)) back) in
     record {
       within = omega (arith, within);
-      is = step ∙ (ap (λ v. walked t v b.spans.items) h.is ∙ (sym (walked-append t (first_walk t) b.spans.items (spans_of (drop rest blocks))) ∙ sym (ap (walked t (first_walk t)) cut)));
+      is = step ∙ (ap (λ v. walked_spans t v b.spans.items) h.is ∙ (sym (walked-append t (first_walk t) b.spans.items (spans_of (drop rest blocks))) ∙ sym (ap (walked_spans t (first_walk t)) cut)));
     }
 
 walk_low : (t : ℤ) (blocks : List Block) (rest : ℕ) (now : WalkValue) → AreWalked t blocks rest now → now.least ≤ℤ t
 walk_low t blocks rest now h = subst (λ (v : WalkValue). v.least ≤ℤ t) (sym h.is) (least_low t (first_walk t) (spans_of (drop rest blocks)) (omega (arith, ints)))
 
-pub late_passed : (t : ℤ) (blocks : List Block) (rest : ℕ) (now : WalkValue) (b : Block) → IsIndex blocks → AreWalked t blocks rest now → 0 < rest → b ≡ get_or blocks (rest - 1) b → t <ℤ b.first
+pub late_passed : (t : ℤ) (blocks : List Block) (rest : ℕ) (now : WalkValue) (b : Block) → IsNearIndex blocks → AreWalked t blocks rest now → 0 < rest → b ≡ get_or blocks (rest - 1) b → t <ℤ b.first
     → AreWalked t blocks (rest - 1) now
 late_passed t blocks rest now b index h some is late =
     let within = h.within in
-    let block = subst IsBlock (sym is) (All-get_or IsBlock blocks (rest - 1) b (omega (arith, some, within)) index.blocks) in
+    let block = subst IsSpanBlock (sym is) (All-get_or IsSpanBlock blocks (rest - 1) b (omega (arith, some, within)) index.blocks) in
     block_walked t blocks rest now now b h some is (sym (walked_late t b.first now b.spans.items late block.first))
 
-pub ended_passed : (t : ℤ) (blocks : List Block) (rest : ℕ) (now : WalkValue) (b : Block) → IsIndex blocks → AreWalked t blocks rest now → 0 < rest → b ≡ get_or blocks (rest - 1) b → b.last ≤ℤ now.least
+pub ended_passed : (t : ℤ) (blocks : List Block) (rest : ℕ) (now : WalkValue) (b : Block) → IsNearIndex blocks → AreWalked t blocks rest now → 0 < rest → b ≡ get_or blocks (rest - 1) b → b.last ≤ℤ now.least
     → AreWalked t blocks (rest - 1) now
 ended_passed t blocks rest now b index h some is ended =
     let within = h.within in
-    let block = subst IsBlock (sym is) (All-get_or IsBlock blocks (rest - 1) b (omega (arith, some, within)) index.blocks) in
+    let block = subst IsSpanBlock (sym is) (All-get_or IsSpanBlock blocks (rest - 1) b (omega (arith, some, within)) index.blocks) in
     block_walked t blocks rest now now b h some is (sym (walked_ended t b.last now b.spans.items (walk_low t blocks rest now h) ended block.last))

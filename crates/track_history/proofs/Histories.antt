@@ -10,7 +10,7 @@ use Rattle.ass_events.specs.Histories.{Entry, Chunk, Flush, HaveOwnOrders, IsHis
 use Rattle.track_history.specs.declared.answers.Feed.TheVariants.{Accepted, Repeated, Full}
 use Rattle.track_history.specs.declared.answers.Flushed.TheVariants.{Done, TooMany}
 use Rattle.track_history.specs.declared.live_events.LiveEvents.{LiveEvents}
-use Rattle.track_history.specs.Answers.{answer_at, extended, fed_entry, feed_answer, flush_answer, flushed_entry, position_of}
+use Rattle.track_history.specs.Answers.{answer_by, extended, fed_entry, feed_answer, flush_answer, flushed_entry, position_of}
 use Rattle.track_history.specs.Tellings.{Tells, events_of}
 use Rattle.track_history.proofs.Pairs.{Pairwise-push}
 use Rattle.track_history.proofs.Places.{position_absent}
@@ -100,25 +100,25 @@ tells_flushed kept later history tells room events entries flushes =
 
 -- ---- answers
 by_events : (kept : LiveEvents) (history : List Entry) (order : ℕ) → Tells kept history
-    → answer_at (position_of order (events_of kept)) (length (events_of kept)) kept.entries ≡ answer_at (position_of order (live history)) (length (live history)) (length history)
+    → answer_by (position_of order (events_of kept)) (length (events_of kept)) kept.entries ≡ answer_by (position_of order (live history)) (length (live history)) (length history)
 by_events kept history order tells =
-    ap (λ (es : List Event). answer_at (position_of order es) (length es) kept.entries) tells.events ∙ ap (λ n. answer_at (position_of order (live history)) (length (live history)) n) tells.entries
+    ap (λ (es : List Event). answer_by (position_of order es) (length es) kept.entries) tells.events ∙ ap (λ n. answer_by (position_of order (live history)) (length (live history)) n) tells.entries
 
 pub answer_repeated : (kept : LiveEvents) (history : List Entry) (e : Event) (place : ℕ) → Tells kept history → position_of e.order (events_of kept) ≡ Some place
     → Repeated (kept.entries - length (events_of kept) + place) ≡ feed_answer history e
-answer_repeated kept history e place tells found = sym (ap (λ o. answer_at o (length (events_of kept)) kept.entries) found) ∙ by_events kept history e.order tells
+answer_repeated kept history e place tells found = sym (ap (λ o. answer_by o (length (events_of kept)) kept.entries) found) ∙ by_events kept history e.order tells
 
 pub answer_full : (kept : LiveEvents) (history : List Entry) (e : Event) → Tells kept history → position_of e.order (events_of kept) ≡ None → max_live ≤ length (events_of kept)
     → Full max_live ≡ feed_answer history e
 answer_full kept history e tells absent full =
     let test : nat_le max_live (length (events_of kept)) ≡ true = grind (arith, nat_tests) in
-    sym (ap (λ o. answer_at o (length (events_of kept)) kept.entries) absent ∙ ap (λ b. cond b (Full max_live) (Accepted kept.entries)) test) ∙ by_events kept history e.order tells
+    sym (ap (λ o. answer_by o (length (events_of kept)) kept.entries) absent ∙ ap (λ b. cond b (Full max_live) (Accepted kept.entries)) test) ∙ by_events kept history e.order tells
 
 pub answer_accepted : (kept : LiveEvents) (history : List Entry) (e : Event) → Tells kept history → position_of e.order (events_of kept) ≡ None → length (events_of kept) < max_live
     → Accepted kept.entries ≡ feed_answer history e
 answer_accepted kept history e tells absent room =
     let test : nat_le max_live (length (events_of kept)) ≡ false = grind (arith, nat_tests) in
-    sym (ap (λ o. answer_at o (length (events_of kept)) kept.entries) absent ∙ ap (λ b. cond b (Full max_live) (Accepted kept.entries)) test) ∙ by_events kept history e.order tells
+    sym (ap (λ o. answer_by o (length (events_of kept)) kept.entries) absent ∙ ap (λ b. cond b (Full max_live) (Accepted kept.entries)) test) ∙ by_events kept history e.order tells
 
 pub answer_done : (kept : LiveEvents) (history : List Entry) → Tells kept history → kept.flushes < max_flushes → Done kept.entries ≡ flush_answer history
 answer_done kept history tells room =
@@ -139,7 +139,7 @@ any_from_position order i (e ∷ es) =
     (λ fail. ap (λ b. b || has_order order es) fail ∙ (rest ∙ sym (ap (λ b. is_some (cond b (Some i) (position_from (λ (e : Event). e.order == order) (i + 1) es))) fail)))
     (cases_Bool (e.order == order))
 
-answered : (history : List Entry) (e : Event) (o : Option ℕ) → has_order e.order (live history) ≡ is_some o → extended history (fed_entry e (answer_at o (length (live history)) (length history))) ≡ after history e
+answered : (history : List Entry) (e : Event) (o : Option ℕ) → has_order e.order (live history) ≡ is_some o → extended history (fed_entry e (answer_by o (length (live history)) (length history))) ≡ after history e
 answered history e (Some place) test = sym (ap (λ b. cond (b || nat_le max_live (length (live history))) history (history ++ Chunk e ∷ [])) test)
 answered history e None test =
     let added = sym (ap (λ b. cond (b || nat_le max_live (length (live history))) history (history ++ Chunk e ∷ [])) test) in

@@ -9,7 +9,7 @@ use Rattle.ass_events.specs.Histories.{Pairwise}
 use Rattle.track_history.specs.declared.spans.LiveSpan.{LiveSpan}
 use Rattle.track_history.specs.declared.blocks.Block.{Block}
 use Rattle.track_history.specs.Spans.{StandsBefore}
-use Rattle.track_history.specs.Blocks.{IsBlock, IsIndex, IsInserted, spans_of}
+use Rattle.track_history.specs.Blocks.{IsSpanBlock, IsNearIndex, IsInserted, spans_of}
 use Rattle.track_history.proofs.Pairs.{All-left, All-right, Pairwise-left, Pairwise-right, Pairwise-cross, Pairwise-insert}
 use Rattle.track_history.proofs.Orders.{before_trans, before_other}
 
@@ -75,9 +75,9 @@ drop_behind xs k s x sorted new lt is not_before =
     subst (Behind x) (sym rest) (back_behind (take k xs) (drop (k + 1) xs) s x (subst (Pairwise StandsBefore) cut sorted) (before_other s x other not_before))
 
 -- among blocks: all before one whose first span stands before x, and all from one whose first span doesn't
-module _ (blocks : List Block) (k : ℕ) (d : Block) (s x : LiveSpan) (index : IsIndex blocks) (lt : k < length blocks) (first : s ≡ get_or (get_or blocks k d).spans.items 0 s) where
+module _ (blocks : List Block) (k : ℕ) (d : Block) (s x : LiveSpan) (index : IsNearIndex blocks) (lt : k < length blocks) (first : s ≡ get_or (get_or blocks k d).spans.items 0 s) where
   private_rest : (rest : List LiveSpan) × ((get_or blocks k d).spans.items ≡ s ∷ rest)
-  private_rest = head_of (get_or blocks k d).spans.items s (All-get_or IsBlock blocks k d lt index.blocks).some first
+  private_rest = head_of (get_or blocks k d).spans.items s (All-get_or IsSpanBlock blocks k d lt index.blocks).some first
 
   cut_blocks : spans_of blocks ≡ spans_of (take k blocks) ++ s ∷ (private_rest.0 ++ spans_of (drop (k + 1) blocks))
   cut_blocks = spans_at blocks k d lt ∙ ap (λ z. spans_of (take k blocks) ++ (z ++ spans_of (drop (k + 1) blocks))) private_rest.1
@@ -126,10 +126,10 @@ order_other : (x : LiveSpan) (xs : List LiveSpan) → All (λ a. a.order ≢ x.o
 order_other x xs h = λ k d lt e. h k d lt (sym e)
 
 -- a span was put into the block at i, where it has its place
-pub inserted : (blocks : List Block) (i : ℕ) (b new : Block) (count : ℕ) (x : LiveSpan) → i < length blocks → b ≡ get_or blocks i b → IsIndex blocks
-    → All (λ a. a.order ≢ x.order) (spans_of blocks) → IsBlock new → new.spans.items ≡ insert b.spans.items count x
+pub inserted : (blocks : List Block) (i : ℕ) (b new : Block) (count : ℕ) (x : LiveSpan) → i < length blocks → b ≡ get_or blocks i b → IsNearIndex blocks
+    → All (λ a. a.order ≢ x.order) (spans_of blocks) → IsSpanBlock new → new.spans.items ≡ insert b.spans.items count x
     → Before x (spans_of (take i blocks)) → Behind x (spans_of (drop (i + 1) blocks)) → Before x (take count b.spans.items) → Behind x (drop count b.spans.items)
-    → IsIndex (set blocks i new) × IsInserted (spans_of blocks) x (spans_of (set blocks i new))
+    → IsNearIndex (set blocks i new) × IsInserted (spans_of blocks) x (spans_of (set blocks i new))
 inserted blocks i b new count x lt is index other block items before behind before_in behind_in =
     let p = spans_of (take i blocks) in let s = spans_of (drop (i + 1) blocks) in
     let t = take count b.spans.items in let r = drop count b.spans.items in
@@ -139,7 +139,7 @@ inserted blocks i b new count x lt is index other block items before behind befo
     spans_set blocks i new lt ∙ (ap (λ z. p ++ (z ++ s)) items ∙ mid_was p t (x ∷ r) s) in
     let others = subst (All (λ (a : LiveSpan). a.order ≢ x.order)) was other in (
       record {
-        blocks = All-set IsBlock blocks i new block index.blocks;
+        blocks = All-set IsSpanBlock blocks i new block index.blocks;
         sorted = subst (Pairwise StandsBefore) (sym now) (Pairwise-insert StandsBefore (p ++ t) x (r ++ s) (subst (Pairwise StandsBefore) was index.sorted)
             (All-append (λ a. StandsBefore a x) p t before before_in) (All-append (λ a. StandsBefore x a) r s behind_in behind));
         orders = subst (Pairwise (λ (a b : LiveSpan). a.order ≢ b.order)) (sym now) (Pairwise-insert (λ (a b : LiveSpan). a.order ≢ b.order) (p ++ t) x (r ++ s)
@@ -150,17 +150,17 @@ inserted blocks i b new count x lt is index other block items before behind befo
     )
 
 -- the same, where memory may have been wanting
-pub inserted_or_not : {T E : Type 0} (r : Result T E) (blocks : List Block) (i : ℕ) (b new : Block) (count : ℕ) (x : LiveSpan) → i < length blocks → b ≡ get_or blocks i b → IsIndex blocks
-    → All (λ a. a.order ≢ x.order) (spans_of blocks) → IsBlock new → OnOk r (new.spans.items ≡ insert b.spans.items count x) → OnErr r (new.spans.items ≡ b.spans.items)
+pub inserted_or_not : {T E : Type 0} (r : Result T E) (blocks : List Block) (i : ℕ) (b new : Block) (count : ℕ) (x : LiveSpan) → i < length blocks → b ≡ get_or blocks i b → IsNearIndex blocks
+    → All (λ a. a.order ≢ x.order) (spans_of blocks) → IsSpanBlock new → OnOk r (new.spans.items ≡ insert b.spans.items count x) → OnErr r (new.spans.items ≡ b.spans.items)
     → Before x (spans_of (take i blocks)) → Behind x (spans_of (drop (i + 1) blocks)) → Before x (take count b.spans.items) → Behind x (drop count b.spans.items)
-    → IsIndex (set blocks i new) × OnOk r (IsInserted (spans_of blocks) x (spans_of (set blocks i new))) × OnErr r (spans_of (set blocks i new) ≡ spans_of blocks)
+    → IsNearIndex (set blocks i new) × OnOk r (IsInserted (spans_of blocks) x (spans_of (set blocks i new))) × OnErr r (spans_of (set blocks i new) ≡ spans_of blocks)
 inserted_or_not (Ok v) blocks i b new count x lt is index other block ok err before behind before_in behind_in =
     let put = inserted blocks i b new count x lt is index other block ok before behind before_in behind_in in (put.0, put.1, tt)
 inserted_or_not (Err e) blocks i b new count x lt is index other block ok err before behind before_in behind_in =
     let same : spans_of (set blocks i new) ≡ spans_of blocks =
     spans_set blocks i new lt ∙ (ap (λ z. spans_of (take i blocks) ++ (z ++ spans_of (drop (i + 1) blocks))) (err ∙ ap (λ (z : Block). z.spans.items) is) ∙ sym (spans_at blocks i b lt)) in (
       record {
-        blocks = All-set IsBlock blocks i new block index.blocks;
+        blocks = All-set IsSpanBlock blocks i new block index.blocks;
         sorted = subst (Pairwise StandsBefore) (sym same) index.sorted;
         orders = subst (Pairwise (λ (a b : LiveSpan). a.order ≢ b.order)) (sym same) index.orders;
       },
@@ -169,7 +169,7 @@ inserted_or_not (Err e) blocks i b new count x lt is index other block ok err be
     )
 
 -- a block's own spans
-pub block_sorted : (blocks : List Block) (i : ℕ) (b : Block) → i < length blocks → b ≡ get_or blocks i b → IsIndex blocks → Pairwise StandsBefore b.spans.items
+pub block_sorted : (blocks : List Block) (i : ℕ) (b : Block) → i < length blocks → b ≡ get_or blocks i b → IsNearIndex blocks → Pairwise StandsBefore b.spans.items
 block_sorted blocks i b lt is index =
     let s = spans_of (drop (i + 1) blocks) in
     let cut : spans_of blocks ≡ spans_of (take i blocks) ++ (b.spans.items ++ s) = spans_at blocks i b lt ∙ ap (λ (z : Block). spans_of (take i blocks) ++ (z.spans.items ++ s)) (sym is) in
@@ -182,9 +182,9 @@ block_all P blocks i b lt is all =
     All-left P b.spans.items s (All-right P (spans_of (take i blocks)) (b.spans.items ++ s) (subst (All P) cut all))
 
 -- the block at i was split in two
-pub split : (blocks : List Block) (i : ℕ) (b tail new : Block) (cut : ℕ) → i < length blocks → b ≡ get_or blocks i b → IsIndex blocks → IsBlock tail → IsBlock new
+pub split : (blocks : List Block) (i : ℕ) (b tail new : Block) (cut : ℕ) → i < length blocks → b ≡ get_or blocks i b → IsNearIndex blocks → IsSpanBlock tail → IsSpanBlock new
     → tail.spans.items ≡ drop cut b.spans.items → new.spans.items ≡ take cut b.spans.items
-    → IsIndex (set (insert blocks (i + 1) tail) i new) × (spans_of (set (insert blocks (i + 1) tail) i new) ≡ spans_of blocks)
+    → IsNearIndex (set (insert blocks (i + 1) tail) i new) × (spans_of (set (insert blocks (i + 1) tail) i new) ≡ spans_of blocks)
 split blocks i b tail new cut lt is index block_tail block_new tail_is new_is =
     let p = take i blocks in let r = drop (i + 1) blocks in
     let count : length p ≡ i = length-take-le i blocks (omega (arith, lt)) in
@@ -197,25 +197,25 @@ split blocks i b tail new cut lt is index block_tail block_new tail_is new_is =
     ∙ (ap (λ z. spans_of p ++ z) (ap (λ z. new.spans.items ++ (z ++ spans_of r)) tail_is ∙ (ap (λ z. z ++ (drop cut b.spans.items ++ spans_of r)) new_is
     ∙ (sym (append_assoc (take cut b.spans.items) (drop cut b.spans.items) (spans_of r)) ∙ ap (λ z. z ++ spans_of r) (take-append-drop cut b.spans.items))))
     ∙ (ap (λ (z : Block). spans_of p ++ (z.spans.items ++ spans_of r)) is ∙ sym (spans_at blocks i b lt)))) in
-    let all : All IsBlock ((p ++ new ∷ []) ++ tail ∷ r) = All-append IsBlock (p ++ new ∷ []) (tail ∷ r)
-    (All-append IsBlock p (new ∷ []) (All-take IsBlock i blocks index.blocks) (All-cons IsBlock new [] block_new (All-nil IsBlock)))
-    (All-cons IsBlock tail r block_tail (All-drop IsBlock (i + 1) blocks index.blocks)) in (
+    let all : All IsSpanBlock ((p ++ new ∷ []) ++ tail ∷ r) = All-append IsSpanBlock (p ++ new ∷ []) (tail ∷ r)
+    (All-append IsSpanBlock p (new ∷ []) (All-take IsSpanBlock i blocks index.blocks) (All-cons IsSpanBlock new [] block_new (All-nil IsSpanBlock)))
+    (All-cons IsSpanBlock tail r block_tail (All-drop IsSpanBlock (i + 1) blocks index.blocks)) in (
       record {
-        blocks = subst (All IsBlock) (sym now) all;
+        blocks = subst (All IsSpanBlock) (sym now) all;
         sorted = subst (Pairwise StandsBefore) (sym spans) index.sorted;
         orders = subst (Pairwise (λ (a b : LiveSpan). a.order ≢ b.order)) (sym spans) index.orders;
       },
       spans,
     )
 
-pub no_index : (blocks : List Block) → blocks ≡ [] → IsIndex blocks
-no_index blocks e = subst IsIndex (sym e) record { blocks = All-nil IsBlock; sorted = tt; orders = tt }
+pub no_index : (blocks : List Block) → blocks ≡ [] → IsNearIndex blocks
+no_index blocks e = subst IsNearIndex (sym e) record { blocks = All-nil IsSpanBlock; sorted = tt; orders = tt }
 
-pub one_block : (b : Block) (x : LiveSpan) → IsBlock b → b.spans.items ≡ x ∷ [] → IsIndex (b ∷ []) × IsInserted [] x (spans_of (b ∷ []))
+pub one_block : (b : Block) (x : LiveSpan) → IsSpanBlock b → b.spans.items ≡ x ∷ [] → IsNearIndex (b ∷ []) × IsInserted [] x (spans_of (b ∷ []))
 one_block b x block items =
     let spans : spans_of (b ∷ []) ≡ x ∷ [] = ap (λ z. z ++ []) items in (
       record {
-        blocks = All-cons IsBlock b [] block (All-nil IsBlock);
+        blocks = All-cons IsSpanBlock b [] block (All-nil IsSpanBlock);
         sorted = subst (Pairwise StandsBefore) (sym spans) (All-nil (StandsBefore x), tt);
         orders = subst (Pairwise (λ (a b : LiveSpan). a.order ≢ b.order)) (sym spans) (All-nil (λ (a : LiveSpan). x.order ≢ a.order), tt);
       },

@@ -9,7 +9,7 @@ use Rattle.ass_events.specs.Histories.{Pairwise}
 use Rattle.ass_events.specs.NearEvents.{IsShownAt, IsEarlier, ComesBefore, IsNear, Shown, Chained}
 use Rattle.track_history.specs.declared.spans.LiveSpan.{LiveSpan}
 use Rattle.track_history.specs.Spans.{StandsBefore, span_at}
-use Rattle.track_history.specs.Walks.{WalkValue, first_walk, bound_of, takes, stepped, walked}
+use Rattle.track_history.specs.Walks.{WalkValue, first_walk, bound_of, walk_takes, stepped, walked_spans}
 use Rattle.track_history.proofs.Pairs.{Contains-nil, Contains-head, Contains-tail, Contains-cons_cases}
 use Rattle.track_history.proofs.Orders.{not_both_earlier, earlier_start, layer_le, before_in_layer}
 
@@ -17,24 +17,24 @@ use Rattle.track_history.proofs.Orders.{not_both_earlier, earlier_start, layer_l
 abbrev pub noted : WalkValue → LiveSpan → WalkValue
 noted w x = record { found = w.found ++ x ∷ []; layer = x.layer; least = x.start }
 
-pub step_taken : (t : ℤ) (w : WalkValue) (x : LiveSpan) → takes t w x ≡ true → stepped t w x ≡ noted w x
+pub step_taken : (t : ℤ) (w : WalkValue) (x : LiveSpan) → walk_takes t w x ≡ true → stepped t w x ≡ noted w x
 step_taken t w x e = ap (λ (b : Bool). cond b (noted w x) w) e
 
-pub step_left : (t : ℤ) (w : WalkValue) (x : LiveSpan) → takes t w x ≡ false → stepped t w x ≡ w
+pub step_left : (t : ℤ) (w : WalkValue) (x : LiveSpan) → walk_takes t w x ≡ false → stepped t w x ≡ w
 step_left t w x e = ap (λ (b : Bool). cond b (noted w x) w) e
 
 -- a fact of the walk after a step, by whether the span was taken
-pub step_cases : (P : WalkValue → Type 0) (t : ℤ) (w : WalkValue) (x : LiveSpan) → (takes t w x ≡ true → P (noted w x)) → (takes t w x ≡ false → P w) → P (stepped t w x)
+pub step_cases : (P : WalkValue → Type 0) (t : ℤ) (w : WalkValue) (x : LiveSpan) → (walk_takes t w x ≡ true → P (noted w x)) → (walk_takes t w x ≡ false → P w) → P (stepped t w x)
 step_cases P t w x taken left =
-    ⊎_elim (λ e. subst P (sym (step_taken t w x e)) (taken e)) (λ e. subst P (sym (step_left t w x e)) (left e)) (cases_Bool (takes t w x))
+    ⊎_elim (λ e. subst P (sym (step_taken t w x e)) (taken e)) (λ e. subst P (sym (step_left t w x e)) (left e)) (cases_Bool (walk_takes t w x))
 
-taken_start : (t : ℤ) (w : WalkValue) (x : LiveSpan) → takes t w x ≡ true → x.start ≤ℤ t
+taken_start : (t : ℤ) (w : WalkValue) (x : LiveSpan) → walk_takes t w x ≡ true → x.start ≤ℤ t
 taken_start t w x e = grind (arith, ints)
 
-taken_end : (t : ℤ) (w : WalkValue) (x : LiveSpan) → takes t w x ≡ true → bound_of t w x.layer <ℤ x.end
+taken_end : (t : ℤ) (w : WalkValue) (x : LiveSpan) → walk_takes t w x ≡ true → bound_of t w x.layer <ℤ x.end
 taken_end t w x e = let b : ℤ = bound_of t w x.layer in grind (arith, ints)
 
-takes_it : (t : ℤ) (w : WalkValue) (x : LiveSpan) → x.start ≤ℤ t → bound_of t w x.layer <ℤ x.end → takes t w x ≡ true
+takes_it : (t : ℤ) (w : WalkValue) (x : LiveSpan) → x.start ≤ℤ t → bound_of t w x.layer <ℤ x.end → walk_takes t w x ≡ true
 takes_it t w x a b = grind (arith, ints)
 
 -- the bound is that of the layer found last, or t
@@ -47,16 +47,16 @@ bound_cases t w layer =
     (λ e. inr (ap (λ (b : Bool). cond b w.least t) e)) (cases_Bool (int_eq layer w.layer))
 
 -- ---- the whole walk
-pub walked-append : (t : ℤ) (w : WalkValue) (xs ys : List LiveSpan) → walked t w (xs ++ ys) ≡ walked t (walked t w ys) xs
+pub walked-append : (t : ℤ) (w : WalkValue) (xs ys : List LiveSpan) → walked_spans t w (xs ++ ys) ≡ walked_spans t (walked_spans t w ys) xs
 walked-append t w [] ys = refl
 walked-append t w (x ∷ xs) ys = ap (λ v. stepped t v x) (walked-append t w xs ys)
 
-pub least_low : (t : ℤ) (w : WalkValue) (xs : List LiveSpan) → w.least ≤ℤ t → (walked t w xs).least ≤ℤ t
+pub least_low : (t : ℤ) (w : WalkValue) (xs : List LiveSpan) → w.least ≤ℤ t → (walked_spans t w xs).least ≤ℤ t
 least_low t w [] low = low
-least_low t w (x ∷ xs) low = step_cases (λ v. v.least ≤ℤ t) t (walked t w xs) x (λ e. taken_start t (walked t w xs) x e) (λ e. least_low t w xs low)
+least_low t w (x ∷ xs) low = step_cases (λ v. v.least ≤ℤ t) t (walked_spans t w xs) x (λ e. taken_start t (walked_spans t w xs) x e) (λ e. least_low t w xs low)
 
 abbrev pub all_walked : ℤ → List LiveSpan → WalkValue
-all_walked t xs = walked t (first_walk t) xs
+all_walked t xs = walked_spans t (first_walk t) xs
 
 -- what is found is there, and doesn't begin later
 abbrev pub IsThere : ℤ → List LiveSpan → LiveSpan → Type 0
@@ -86,7 +86,7 @@ abbrev pub NearIn : List LiveSpan → ℤ → LiveSpan → Type 0
 NearIn all t s = IsNear span_at all t s
 
 near_taken : (t : ℤ) (all xs : List LiveSpan) (x : LiveSpan) → Contains all x → All (StandsBefore x) xs → ((g : LiveSpan) → Contains (all_walked t xs).found g → NearIn all t g)
-    → takes t (all_walked t xs) x ≡ true → NearIn all t x
+    → walk_takes t (all_walked t xs) x ≡ true → NearIn all t x
 near_taken t all xs x there before near e =
     let w = all_walked t xs in
     let start = taken_start t w x e in
@@ -116,7 +116,7 @@ bound_low t xs layer =
     let low = least_low t (first_walk t) xs (omega (arith, ints)) in
     ⊎_elim (λ same. omega (arith, ints, same.1, low)) (λ is. omega (arith, ints, is)) (bound_cases t (all_walked t xs) layer)
 
-taken_now : (t : ℤ) (xs : List LiveSpan) (x : LiveSpan) → takes t (all_walked t xs) x ≡ true → Contains (all_walked t (x ∷ xs)).found x
+taken_now : (t : ℤ) (xs : List LiveSpan) (x : LiveSpan) → walk_takes t (all_walked t xs) x ≡ true → Contains (all_walked t (x ∷ xs)).found x
 taken_now t xs x e = subst (λ v. Contains v.found x) (sym (step_taken t (all_walked t xs) x e)) (Contains-push (all_walked t xs).found x)
 
 found_shown : (t : ℤ) (xs : List LiveSpan) (s : LiveSpan) → Contains xs s → IsShownAt (span_at s) t → Contains (all_walked t xs).found s
@@ -124,8 +124,8 @@ found_shown t [] s there shown = absurd (Contains-nil s there)
 found_shown t (x ∷ xs) s there shown =
     ⊎_elim
     (λ is. let low = bound_low t xs s.layer in let over = shown.1 in
-    let take : takes t (all_walked t xs) s ≡ true = takes_it t (all_walked t xs) s shown.0 (omega (arith, ints, low, over)) in
-    subst (λ y. Contains (all_walked t (x ∷ xs)).found y) is (taken_now t xs x (subst (λ y. takes t (all_walked t xs) y ≡ true) (sym is) take)))
+    let take : walk_takes t (all_walked t xs) s ≡ true = takes_it t (all_walked t xs) s shown.0 (omega (arith, ints, low, over)) in
+    subst (λ y. Contains (all_walked t (x ∷ xs)).found y) is (taken_now t xs x (subst (λ y. walk_takes t (all_walked t xs) y ≡ true) (sym is) take)))
     (λ later. found_grows t (all_walked t xs) x s (found_shown t xs s later shown))
     (Contains-cons_cases x xs s there)
 
@@ -194,19 +194,19 @@ found_near t xs sorted s (Shown there shown) = found_shown t xs s there shown
 found_near t xs sorted s (Chained {e = e} near there before over) = found_chained t xs sorted e s (found_near t xs sorted e near) there before over
 
 -- ---- what a walk can pass over
-pub walked_ended : (t last : ℤ) (w : WalkValue) (xs : List LiveSpan) → w.least ≤ℤ t → last ≤ℤ w.least → All (λ s. s.end ≤ℤ last) xs → walked t w xs ≡ w
+pub walked_ended : (t last : ℤ) (w : WalkValue) (xs : List LiveSpan) → w.least ≤ℤ t → last ≤ℤ w.least → All (λ s. s.end ≤ℤ last) xs → walked_spans t w xs ≡ w
 walked_ended t last w [] low ended all = refl
 walked_ended t last w (x ∷ xs) low ended all =
     let rest = walked_ended t last w xs low ended (All-tail (λ s. s.end ≤ℤ last) x xs all) in
     let own = All-head (λ s. s.end ≤ℤ last) x xs all in
-    let left : takes t w x ≡ false = ⊎_elim (λ e. let over = taken_end t w x e in
-    absurd (⊎_elim (λ same. omega (arith, ints, same.1, over, own, ended)) (λ is. omega (arith, ints, is, over, own, ended, low)) (bound_cases t w x.layer))) (λ e. e) (cases_Bool (takes t w x)) in
+    let left : walk_takes t w x ≡ false = ⊎_elim (λ e. let over = taken_end t w x e in
+    absurd (⊎_elim (λ same. omega (arith, ints, same.1, over, own, ended)) (λ is. omega (arith, ints, is, over, own, ended, low)) (bound_cases t w x.layer))) (λ e. e) (cases_Bool (walk_takes t w x)) in
     ap (λ v. stepped t v x) rest ∙ step_left t w x left
 
-pub walked_late : (t first : ℤ) (w : WalkValue) (xs : List LiveSpan) → t <ℤ first → All (λ s. first ≤ℤ s.start) xs → walked t w xs ≡ w
+pub walked_late : (t first : ℤ) (w : WalkValue) (xs : List LiveSpan) → t <ℤ first → All (λ s. first ≤ℤ s.start) xs → walked_spans t w xs ≡ w
 walked_late t first w [] late all = refl
 walked_late t first w (x ∷ xs) late all =
     let rest = walked_late t first w xs late (All-tail (λ s. first ≤ℤ s.start) x xs all) in
     let own = All-head (λ s. first ≤ℤ s.start) x xs all in
-    let left : takes t w x ≡ false = ⊎_elim (λ e. let start = taken_start t w x e in absurd (omega (arith, ints, start, own, late))) (λ e. e) (cases_Bool (takes t w x)) in
+    let left : walk_takes t w x ≡ false = ⊎_elim (λ e. let start = taken_start t w x e in absurd (omega (arith, ints, start, own, late))) (λ e. e) (cases_Bool (walk_takes t w x)) in
     ap (λ v. stepped t v x) rest ∙ step_left t w x left

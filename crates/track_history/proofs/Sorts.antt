@@ -18,9 +18,9 @@ use Rattle.ass_events.specs.Histories.{Pairwise}
 use Rattle.ass_events.specs.NearEvents.{IsEarlier, AreNear}
 use Rattle.track_history.specs.declared.spans.LiveSpan.{LiveSpan}
 use Rattle.track_history.specs.Spans.{span_at, AreInTime}
-use Rattle.track_history.specs.Blocks.{IsIndex, spans_of}
+use Rattle.track_history.specs.Blocks.{IsNearIndex, spans_of}
 use Rattle.track_history.specs.declared.blocks.Block.{Block}
-use Rattle.track_history.specs.Walks.{WalkValue, first_walk, walked}
+use Rattle.track_history.specs.Walks.{WalkValue, first_walk, walked_spans}
 use Rattle.track_history.proofs.Pairs.{Pairwise-push}
 use Rattle.track_history.proofs.Orders.{earlier_cases}
 use Rattle.track_history.proofs.Nears.{all_walked, found_there, step_cases, near_found, found_near}
@@ -107,7 +107,7 @@ strictly [] timed differ = tt
 strictly (x ∷ xs) timed differ =
     (λ k d lt. ⊎_elim (λ p. p) (λ q. absurd (timed.0 k d lt q)) (earlier_cases (span_at x) (span_at (get_or xs k d)) (differ.0 k d lt)), strictly xs timed.1 differ.1)
 
-pub near_sorted : (t : ℤ) (blocks : List Block) (w : WalkValue) (sorted : List LiveSpan) → IsIndex blocks → w ≡ walked t (first_walk t) (spans_of blocks) → IsPermutation w.found sorted → AreInTime sorted
+pub near_sorted : (t : ℤ) (blocks : List Block) (w : WalkValue) (sorted : List LiveSpan) → IsNearIndex blocks → w ≡ walked_spans t (first_walk t) (spans_of blocks) → IsPermutation w.found sorted → AreInTime sorted
     → AreNear span_at (spans_of blocks) t sorted
 near_sorted t blocks w sorted index is moved timed =
     let xs = spans_of blocks in

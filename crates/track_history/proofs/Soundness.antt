@@ -12,7 +12,7 @@ use Rattle.ass_events.specs.Histories.{max_live, max_flushes}
 use Rattle.track_history.specs.declared.spans.LiveSpan.{LiveSpan}
 use Rattle.track_history.specs.declared.live_events.LiveEvents.{LiveEvents}
 use Rattle.track_history.specs.Spans.{live_span}
-use Rattle.track_history.specs.Blocks.{IsIndex, IsInserted, spans_of}
+use Rattle.track_history.specs.Blocks.{IsNearIndex, IsInserted, spans_of}
 use Rattle.track_history.specs.Answers.{position_of}
 use Rattle.track_history.specs.Tellings.{IsSound, events_of}
 use Rattle.track_history.proofs.Indexes.{no_index}
@@ -62,7 +62,7 @@ pub no_places : (places : BTreeMap ℕ ℕ) → IsEmpty places → ArePlaces pla
 no_places places empty order = ap (λ (es : List (ℕ × ℕ)). lookup (is_at (nat_cmp order)) es) empty
 
 -- ---- the whole
-pub sound_kept : (old new : LiveEvents) → IsSound old → events_of new ≡ events_of old → IsIndex new.index.blocks.items → spans_of new.index.blocks.items ≡ spans_of old.index.blocks.items
+pub sound_kept : (old new : LiveEvents) → IsSound old → events_of new ≡ events_of old → IsNearIndex new.index.blocks.items → spans_of new.index.blocks.items ≡ spans_of old.index.blocks.items
     → ArePlaces new.places (events_of old) → new.entries ≡ old.entries → new.flushes ≡ old.flushes → IsSound new
 sound_kept old new sound events index spans places entries flushes =
     let same : length (events_of new) ≡ length (events_of old) = ap length events in
@@ -77,7 +77,7 @@ sound_kept old new sound events index spans places entries flushes =
       bounded = subst (λ f. new.entries ≤ f * (max_live + 1) + length (events_of new)) (sym flushes) (omega (arith, same, entries, bounded));
     }
 
-pub sound_accepted : (old new : LiveEvents) (e : Event) (x : LiveSpan) → IsSound old → length (events_of old) < max_live → events_of new ≡ events_of old ++ e ∷ [] → IsIndex new.index.blocks.items
+pub sound_accepted : (old new : LiveEvents) (e : Event) (x : LiveSpan) → IsSound old → length (events_of old) < max_live → events_of new ≡ events_of old ++ e ∷ [] → IsNearIndex new.index.blocks.items
     → IsInserted (spans_of old.index.blocks.items) x (spans_of new.index.blocks.items) → x ≡ live_span e (length (events_of old)) → ArePlaces new.places (events_of old ++ e ∷ [])
     → new.entries ≡ old.entries + 1 → new.flushes ≡ old.flushes → IsSound new
 sound_accepted old new e x sound room events index put is places entries flushes =

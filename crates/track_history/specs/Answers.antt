@@ -33,13 +33,13 @@ abbrev pub position_of : ℕ → List Event → Option ℕ
 position_of order events = position_from (λ event. event.order == order) 0 events
 
 -- the answer to an event whose ReadOrder has this place among so many live events, at the end of so many entries
-abbrev pub answer_at : Option ℕ → ℕ → ℕ → Feed
-answer_at (Some place) lives entries = Repeated (entries - lives + place)
-answer_at None lives entries = if nat_le max_live lives then Full max_live else Accepted entries
+abbrev pub answer_by : Option ℕ → ℕ → ℕ → Feed
+answer_by (Some place) lives entries = Repeated (entries - lives + place)
+answer_by None lives entries = if nat_le max_live lives then Full max_live else Accepted entries
 
 -- the answer to a feed of the event: the place of the live entry that has its ReadOrder, or that there is no room, or the place of its own entry
 abbrev pub feed_answer : List Entry → Event → Feed
-feed_answer history event = answer_at (position_of event.order (live history)) (length (live history)) (length history)
+feed_answer history event = answer_by (position_of event.order (live history)) (length (live history)) (length history)
 
 -- It is the answer, unless memory ran out.
 abbrev pub IsFeedAnswer : List Entry → Event → Feed → Type 0

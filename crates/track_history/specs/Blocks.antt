@@ -7,7 +7,7 @@ use Rattle.track_history.specs.declared.blocks.Block.{Block}
 use Rattle.track_history.specs.Spans.{StandsBefore}
 
 -- a block has a span, and none begins before `first` or ends after `last`
-pub record IsBlock (block : Block) : Type 0 where
+pub record IsSpanBlock (block : Block) : Type 0 where
   pub some : 0 < length block.spans.items
   pub first : All (λ s. block.first ≤ℤ s.start) block.spans.items
   pub last : All (λ s. s.end ≤ℤ block.last) block.spans.items
@@ -17,8 +17,8 @@ abbrev pub spans_of : List Block → List LiveSpan
 spans_of blocks = flat_map (λ block. block.spans.items) blocks
 
 -- the blocks are filled, and all spans are in order and have different ReadOrders
-pub record IsIndex (all : List Block) : Type 0 where
-  pub blocks : All IsBlock all
+pub record IsNearIndex (all : List Block) : Type 0 where
+  pub blocks : All IsSpanBlock all
   pub sorted : Pairwise StandsBefore (spans_of all)
   pub orders : Pairwise (λ a b. a.order ≢ b.order) (spans_of all)
 

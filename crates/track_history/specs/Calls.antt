@@ -51,7 +51,7 @@ abbrev pub IsFedBy : Result Event ChunkRefusal → TrackView → TrackView → F
 IsFedBy (Ok event) pass after answer = IsEventFed event pass after answer
 IsFedBy (Err refusal) pass after answer = (after ≡ pass) × ((answer ≡ OutOfMemory) ⊎ (answer ≡ refused_answer refusal))
 
--- A chunk that gives an event is offered. One that gives none is refused as `read_chunk` refuses it, and takes no turn.
+-- A chunk that gives an event is offered. One that gives none is refused as `read_chunk` refuses it, and walk_takes no turn.
 abbrev pub IsFed : List ℕ → ℤ → ℤ → TrackView → TrackView → Feed → Type 0
 IsFed bytes start duration pass after answer = IsFedBy (event_of bytes start duration) pass after answer
 

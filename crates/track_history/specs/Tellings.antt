@@ -8,7 +8,7 @@ use Rattle.ass_events.specs.Histories.{Entry, IsHistory, max_live, max_flushes, 
 use Rattle.track_history.specs.declared.spans.LiveSpan.{LiveSpan}
 use Rattle.track_history.specs.declared.live_events.LiveEvents.{LiveEvents}
 use Rattle.track_history.specs.Spans.{IsSpanOf}
-use Rattle.track_history.specs.Blocks.{IsIndex, spans_of}
+use Rattle.track_history.specs.Blocks.{IsNearIndex, spans_of}
 use Rattle.track_history.specs.Answers.{position_of}
 
 -- the live events that are kept
@@ -17,7 +17,7 @@ events_of kept = map arc_value kept.events.items
 
 -- What is kept beside the live events fits them: the index has just their spans, and the map their places; and the counts fit.
 pub record IsSound (kept : LiveEvents) : Type 0 where
-  pub index : IsIndex kept.index.blocks.items
+  pub index : IsNearIndex kept.index.blocks.items
   pub spans : (s : LiveSpan) → Contains (spans_of kept.index.blocks.items) s ↔ IsSpanOf (events_of kept) s
   pub places : (order : ℕ) → get nat_cmp kept.places order ≡ position_of order (events_of kept)
   pub few : length (events_of kept) ≤ max_live

@@ -21,13 +21,13 @@ first_walk t = record { found = []; layer = pos 0; least = t }
 abbrev pub bound_of : ℤ → WalkValue → ℤ → ℤ
 bound_of t walk layer = if int_eq layer walk.layer then walk.least else t
 
-abbrev pub takes : ℤ → WalkValue → LiveSpan → Bool
-takes t walk span = int_le span.start t && int_lt (bound_of t walk span.layer) span.end
+abbrev pub walk_takes : ℤ → WalkValue → LiveSpan → Bool
+walk_takes t walk span = int_le span.start t && int_lt (bound_of t walk span.layer) span.end
 
 abbrev pub stepped : ℤ → WalkValue → LiveSpan → WalkValue
-stepped t walk span = if takes t walk span then record { found = walk.found ++ span ∷ []; layer = span.layer; least = span.start } else walk
+stepped t walk span = if walk_takes t walk span then record { found = walk.found ++ span ∷ []; layer = span.layer; least = span.start } else walk
 
 -- after all these spans, the last one first
-abbrev pub walked : ℤ → WalkValue → List LiveSpan → WalkValue
-walked t walk [] = walk
-walked t walk (span ∷ spans) = stepped t (walked t walk spans) span
+abbrev pub walked_spans : ℤ → WalkValue → List LiveSpan → WalkValue
+walked_spans t walk [] = walk
+walked_spans t walk (span ∷ spans) = stepped t (walked_spans t walk spans) span

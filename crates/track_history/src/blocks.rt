@@ -4,8 +4,8 @@ ghost use Rattle.std.specs.Prelude.{◌≡◌, ◌≢◌, ◌<◌, ◌≤◌, �
 ghost use Rattle.std.specs.List.{insert};
 ghost use Rattle.ass_events.specs.Histories.{Pairwise};
 ghost use Rattle.track_history.specs.Spans.{StandsBefore};
-ghost use Rattle.track_history.specs.Blocks.{IsBlock};
-ghost use Rattle.track_history.specs.Walks.{walk_of, walked};
+ghost use Rattle.track_history.specs.Blocks.{IsSpanBlock};
+ghost use Rattle.track_history.specs.Walks.{walk_of, walked_spans};
 
 use crate::spans::LiveSpan;
 use crate::walks::Walk;
@@ -26,7 +26,7 @@ pub struct Block {
 impl Block {
     /// The block of one span.
     pub fn of_one(alloc: Global, span: LiveSpan) -> Mem<Block>
-        ensures block { IfOk result IsBlock }
+        ensures block { IfOk result IsSpanBlock }
         ensures spans { IfOk result (λ block. block.spans.items ≡ span ∷ []) }
     {
         let mut spans = Vec::new(alloc);
@@ -41,7 +41,7 @@ impl Block {
     /// The block of these spans.
     pub fn of_all(spans: Vec<LiveSpan>) -> Block
         requires { 0 < length spans.items }
-        ensures block { IsBlock result }
+        ensures block { IsSpanBlock result }
         ensures spans { result.spans.items ≡ spans.items }
     {
         let (first, last) = bounds_of(spans.as_slice());
@@ -75,9 +75,9 @@ impl Block {
 
     /// Inserts the span at this place.
     pub fn insert(&mut self, at: usize, span: LiveSpan) -> Mem<()>
-        requires block { IsBlock self.old }
+        requires block { IsSpanBlock self.old }
         requires within { at ≤ length self.old.spans.items }
-        ensures block { IsBlock self.new }
+        ensures block { IsSpanBlock self.new }
         ensures ok { OnOk result (self.new.spans.items ≡ insert self.old.spans.items at span) }
         ensures err { OnErr result (self.new.spans.items ≡ self.old.spans.items) }
     {
@@ -90,7 +90,7 @@ impl Block {
     /// A copy of the spans from this place on, as a block.
     pub fn tail(&self, alloc: Global, at: usize) -> Mem<Block>
         requires { at < length self.now.spans.items }
-        ensures block { IfOk result IsBlock }
+        ensures block { IfOk result IsSpanBlock }
         ensures spans { IfOk result (λ block. block.spans.items ≡ drop at self.now.spans.items) }
     {
         let mut spans = Vec::with_capacity(alloc, MOST)?;
@@ -100,9 +100,9 @@ impl Block {
 
     /// Drops the spans from this place on.
     pub fn cut(&mut self, at: usize)
-        requires block { IsBlock self.old }
+        requires block { IsSpanBlock self.old }
         requires some { 0 < at }
-        ensures block { IsBlock self.new }
+        ensures block { IsSpanBlock self.new }
         ensures spans { self.new.spans.items ≡ take at self.old.spans.items }
     {
         self.spans.truncate(at);
@@ -113,7 +113,7 @@ impl Block {
 
     /// Walks over the spans, the last one first.
     pub fn walk(&self, t: i64, walk: &mut Walk) -> Mem<()>
-        ensures { OnOk result (walk_of walk.new ≡ walked t (walk_of walk.old) self.now.spans.items) }
+        ensures { OnOk result (walk_of walk.new ≡ walked_spans t (walk_of walk.old) self.now.spans.items) }
     {
         let mut rest = self.spans.len();
         'down: while rest > 0 {

@@ -4,8 +4,8 @@ ghost use Rattle.std.specs.Prelude.{◌≡◌, ◌≢◌, ◌+◌, ◌<◌, ◌�
 ghost use Rattle.std.specs.List.Sorted.{IsPermutation};
 ghost use Rattle.ass_events.specs.NearEvents.{AreNear};
 ghost use Rattle.track_history.specs.Spans.{StandsBefore, AreInTime, span_at};
-ghost use Rattle.track_history.specs.Blocks.{IsIndex, IsInserted, spans_of};
-ghost use Rattle.track_history.specs.Walks.{first_walk, walk_of, walked};
+ghost use Rattle.track_history.specs.Blocks.{IsNearIndex, IsInserted, spans_of};
+ghost use Rattle.track_history.specs.Walks.{first_walk, walk_of, walked_spans};
 
 use crate::blocks::Block;
 use crate::spans::LiveSpan;
@@ -37,9 +37,9 @@ impl NearIndex {
 
     /// Puts in a span whose ReadOrder no other has. Where memory is wanting, the spans stay as they are.
     pub fn insert(&mut self, alloc: Global, span: LiveSpan) -> Mem<()>
-        requires index { IsIndex self.old.blocks.items }
+        requires index { IsNearIndex self.old.blocks.items }
         requires new { All (λ s. s.order ≢ span.order) (spans_of self.old.blocks.items) }
-        ensures index { IsIndex self.new.blocks.items }
+        ensures index { IsNearIndex self.new.blocks.items }
         ensures ok { OnOk result (IsInserted (spans_of self.old.blocks.items) span (spans_of self.new.blocks.items)) }
         ensures err { OnErr result (spans_of self.new.blocks.items ≡ spans_of self.old.blocks.items) }
     {
@@ -59,7 +59,7 @@ impl NearIndex {
 
     /// The block in which the span has its place.
     fn block_of(&self, span: &LiveSpan) -> usize
-        requires index { IsIndex self.now.blocks.items }
+        requires index { IsNearIndex self.now.blocks.items }
         requires some { 0 < length self.now.blocks.items }
         requires new { All (λ s. s.order ≢ span.now.order) (spans_of self.now.blocks.items) }
         ensures within { result < length self.now.blocks.items }
@@ -81,9 +81,9 @@ impl NearIndex {
 
     /// Splits a block in two. The last one keeps all but one of its spans, since most events come in order.
     fn split(&mut self, alloc: Global, at: usize) -> Mem<()>
-        requires index { IsIndex self.old.blocks.items }
+        requires index { IsNearIndex self.old.blocks.items }
         requires within { at < length self.old.blocks.items }
-        ensures index { IsIndex self.new.blocks.items }
+        ensures index { IsNearIndex self.new.blocks.items }
         ensures spans { spans_of self.new.blocks.items ≡ spans_of self.old.blocks.items }
         ensures some { 0 < length self.new.blocks.items }
     {
@@ -104,12 +104,12 @@ impl NearIndex {
 
     /// Puts the span into the block in which it has its place.
     fn insert_into(&mut self, at: usize, span: LiveSpan) -> Mem<()>
-        requires index { IsIndex self.old.blocks.items }
+        requires index { IsNearIndex self.old.blocks.items }
         requires new { All (λ s. s.order ≢ span.order) (spans_of self.old.blocks.items) }
         requires within { at < length self.old.blocks.items }
         requires before { All (λ s. StandsBefore s span) (spans_of (take at self.old.blocks.items)) }
         requires behind { All (λ s. StandsBefore span s) (spans_of (drop (at + 1) self.old.blocks.items)) }
-        ensures index { IsIndex self.new.blocks.items }
+        ensures index { IsNearIndex self.new.blocks.items }
         ensures ok { OnOk result (IsInserted (spans_of self.old.blocks.items) span (spans_of self.new.blocks.items)) }
         ensures err { OnErr result (spans_of self.new.blocks.items ≡ spans_of self.old.blocks.items) }
     {
@@ -119,8 +119,8 @@ impl NearIndex {
 
     /// Finds what matters at an instant: a walk over the blocks that may have some of it, the last one first.
     fn walk(&self, alloc: Global, t: i64) -> Mem<Walk>
-        requires { IsIndex self.now.blocks.items }
-        ensures { IfOk result (λ walk. walk_of walk ≡ walked t (first_walk t) (spans_of self.now.blocks.items)) }
+        requires { IsNearIndex self.now.blocks.items }
+        ensures { IfOk result (λ walk. walk_of walk ≡ walked_spans t (first_walk t) (spans_of self.now.blocks.items)) }
     {
         let mut walk = Walk::new(alloc, t);
         let mut rest = self.blocks.len();
@@ -136,7 +136,7 @@ impl NearIndex {
 
     /// The spans that matter at an instant, by start and then ReadOrder.
     pub fn near(&self, alloc: Global, t: i64) -> Mem<Vec<LiveSpan>>
-        requires { IsIndex self.now.blocks.items }
+        requires { IsNearIndex self.now.blocks.items }
         ensures { IfOk result (λ near. AreNear span_at (spans_of self.now.blocks.items) t near.items) }
     {
         let Walk {

@@ -3,7 +3,7 @@ use Rattle.std.specs.Arc.{arc_value}
 use Rattle.std.proofs.lemmas.List.{take_more, map_push, map_more}
 use Rattle.flight_cache.specs.Meaning.{shard_of, shard_count}
 use Rattle.flight_cache.specs.Calls.{PinView}
-use Rattle.flight_cache.specs.Holds.{value_at}
+use Rattle.flight_cache.specs.Holds.{held_value}
 use Rattle.flight_cache.specs.declared.holds.Hold.{Hold}
 use Rattle.flight_cache.proofs.Places.{shard-at}
 use Rattle.flight_cache.proofs.Four.{value-made}
@@ -23,7 +23,7 @@ loop-i-preserved g c =
     let value-is = c.in-Ok-Some.value-is in
     let some : c.in-Ok-Some.field-0 ≡ Some c.in-Ok-Some.value = cc in
     let value : v.value ≡ g.M.Made.meaning.made c.args.self.now.tag c.in-Ok.key = value-made g.M.Key.PartialEq.eq g.met.M.Key.Eq.laws g.met.M.Made.same_key g.M.Made.meaning c.args.self.now c.numbered.ensures c.args.holds.now c.requires.held n below c.in-Ok.key v.value
-    (ap (λ (h : Hold g.row.M.Denot g.row.M-Key.Denot g.row.M-Value.Denot g.row.M-Tag.Denot). value_at g.M.Key.PartialEq.eq h c.in-Ok.key) (sym c.of.ensures) ∙ (sym c.in-Ok-Some.ensures ∙ ap (option_map arc_value) some)) in
+    (ap (λ (h : Hold g.row.M.Denot g.row.M-Key.Denot g.row.M-Value.Denot g.row.M-Tag.Denot). held_value g.M.Key.PartialEq.eq h c.in-Ok.key) (sym c.of.ensures) ∙ (sym c.in-Ok-Some.ensures ∙ ap (option_map arc_value) some)) in
     record {
       len = omega (arith, c.push_reserved.ensures.len, c.loop-i.invariant.len);
       room = omega (arith, c.push_reserved.ensures.capacity, c.loop-i.invariant.room);

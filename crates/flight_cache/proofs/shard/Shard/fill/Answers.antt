@@ -1,7 +1,7 @@
 use Rattle.std.proofs.Common.{refl, ap, sym, subst, ◌∙◌, [], ◌∷◌}
 use Rattle.evict_core.specs.Machine as machine
 use Rattle.flight_cache.specs.Histories.{value_under}
-use Rattle.flight_cache.specs.Calls.{TicketView, Gives}
+use Rattle.flight_cache.specs.Calls.{TicketView, GivesSteps}
 use Rattle.flight_cache.specs.declared.kept.Entry.TheVariants.{Fill}
 use Rattle.flight_cache.proofs.Standing.{some-flies, stands-fill, gives-key}
 use Rattle.flight_cache.proofs.shard.Shard.fill.Goals as goal
@@ -20,7 +20,7 @@ give-pass-requires-clause-value g c =
 pub returns-clause-pass : goal.returns-clause-pass
 returns-clause-pass g c =
     let kind = λ (v : g.row.M-Value.Denot). machine.Fill c.args.ticket.key (g.M.Made.meaning.cost v) v in
-    subst (λ (v : g.row.M-Value.Denot). Gives g.M.Key.PartialEq.eq g.M.Made.meaning c.args.self.now c.args.pass c.give-pass.result (kind v ∷ [])) (sym c.requires.kept)
+    subst (λ (v : g.row.M-Value.Denot). GivesSteps g.M.Key.PartialEq.eq g.M.Made.meaning c.args.self.now c.args.pass c.give-pass.result (kind v ∷ [])) (sym c.requires.kept)
     (gives-key g.M.Made.meaning c.args.self.now.tag g.M.Key.PartialEq.eq g.met.M.Key.Eq.laws g.met.M.Made.same_key c.args.pass c.take-turn.result c.take-turn.ensures.turn
     Fill (λ z. machine.Fill z (g.M.Made.meaning.cost (value_under g.M.Made.meaning c.args.self.now.tag z)) (value_under g.M.Made.meaning c.args.self.now.tag z)) (λ k. refl)
     c.of.result c.args.ticket.key (c.of.ensures ∙ ap (λ (t : TicketView g.row.M-Key.Denot). t.key) c.ticket.view_is) c.args.self.now c.give-pass.result refl c.take-turn.ensures.legal c.give-pass.ensures.legal c.give-pass.ensures.pass)

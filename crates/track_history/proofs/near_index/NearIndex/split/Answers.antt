@@ -2,7 +2,7 @@ use Rattle.std.proofs.Common.{◌≡◌, ◌+◌, take, List, get_or, set, sym, 
 use Rattle.std.proofs.lemmas.List.{get_or_default}
 use Rattle.std.proofs.lemmas.List.Edits.{get_or-insert_below}
 use Rattle.track_history.specs.declared.blocks.Block.{Block}
-use Rattle.track_history.specs.Blocks.{IsIndex, spans_of}
+use Rattle.track_history.specs.Blocks.{IsNearIndex, spans_of}
 use Rattle.track_history.proofs.Indexes.{split}
 use Rattle.track_history.proofs.near_index.NearIndex.split.Goals as goal
 
@@ -13,7 +13,7 @@ returns-clause-index c =
     let same : m ≡ b = c.index_mut.ensures.value ∙ (ap (λ (bs : List Block). get_or bs at m) c.in_ok-insert.ensures.items
     ∙ (get_or-insert_below blocks (at + 1) tail m at (omega arith) (omega (arith, c.requires.within)) ∙ (get_or_default blocks at m b c.requires.within ∙ sym c.index-2.ensures))) in
     let cut = c.if-at-len.cut in
-    subst (λ (bs : List Block). IsIndex (set bs at c.cut.new.self)) (sym c.in_ok-insert.ensures.items)
+    subst (λ (bs : List Block). IsNearIndex (set bs at c.cut.new.self)) (sym c.in_ok-insert.ensures.items)
     (split blocks at b tail c.cut.new.self cut c.requires.within c.index-2.ensures c.requires.index c.in_ok-tail.ensures.block c.cut.ensures.block c.in_ok-tail.ensures.spans
     (c.cut.ensures.spans ∙ ap (λ (z : Block). take cut z.spans.items) same)).0
 
