@@ -35,6 +35,7 @@ module _ {K V T : Type 0} (eq : K → K → Bool) (meaning : Meaning K V T) (sha
         entry = g.entry;
         takes = g.takes;
         are = g.are;
+        legal = g.legal;
         pins = λ key. g.pins key ∙ ap (λ (l : List (Step K V)). pins_left eq l key + pins_taken eq steps key) own;
         claims = λ key. g.claims key ∙ ap (λ (l : List (Step K V)). is_open_in eq (has_open eq l key) steps key) own;
       }

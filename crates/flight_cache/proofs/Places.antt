@@ -99,6 +99,17 @@ module _ {K : Type 0} (eq : K → K → Bool) where
     | false ↦ omega (arith, named-filter p k xs)
   ]
 
+  -- and as many where it keeps each element that is the key
+  pub named-kept : (p : K → Bool) (k : K) → ((x : K) → eq k x ≡ true → p x ≡ true) → (xs : List K) → times_named eq k (filter p xs) ≡ times_named eq k xs
+  named-kept p k keeps [] = refl
+  named-kept p k keeps (x ∷ xs) = (elim (p x) as (λ b. p x ≡ b → times_named eq k (cond b (x ∷ filter p xs) (filter p xs)) ≡ one_if (eq k x) + times_named eq k xs) [
+    | true ↦ λ t. omega (arith, named-kept p k keeps xs)
+    | false ↦ λ f. (elim (eq k x) as (λ c. eq k x ≡ c → times_named eq k (filter p xs) ≡ one_if c + times_named eq k xs) [
+      | true ↦ λ e. let no : true ≡ false = sym (keeps x e) ∙ f in cc
+      | false ↦ λ e. omega (arith, named-kept p k keeps xs)
+    ]) refl
+  ]) refl
+
   module _ {V : Type 0} (s : State K V) where
     pub none-pinnable : ArePinnable eq s []
     none-pinnable front back k is = absurd (no-end front back k is)

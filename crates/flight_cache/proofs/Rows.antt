@@ -1,14 +1,22 @@
 -- What calls make of a pass: pins and claims, calls in a row, and passes that are whole.
-use Rattle.std.proofs.Common.{ℕ, ◌<◌, ◌==◌, Bool, true, false, cond, List, [], ◌++◌, refl, sym, ap, ◌∙◌, subst, arith}
+use Rattle.std.proofs.Common.{◌≡◌, ℕ, ◌<◌, ◌==◌, Bool, true, false, cond, List, [], ◌∷◌, ◌++◌, map, Option, Some, None, refl, sym, ap, ◌∙◌, subst, arith}
 use Rattle.std.specs.Cmp.{IsEquivalence}
-use Rattle.turn_cell.specs.Passes.{Follows, first_pass}
-use Rattle.turn_cell.proofs.Passes.{Follows_same, Follows_trans, IsOf-Follows, TakesTurn_itself, whole_first, whole_follows, whole_rejoined, whole_list}
+use Rattle.std.proofs.lemmas.List.{map-append}
+use Rattle.turn_cell.specs.History.{History, entry_list, with_entry}
+use Rattle.turn_cell.specs.Passes.{Follows, IsWholeBut, first_pass, split_pass, joined_pass, mine}
+use Rattle.turn_cell.proofs.Passes.{Follows_same, Follows_trans, IsOf-Follows, TakesTurn_itself, whole_first, whole_follows, whole_rejoined, whole_list, whole-but_none, whole-but_split, whole-but_join, whole-but_follows}
+use Rattle.evict_core.specs.Machine.{Step, Answer, Ask, IsEnabled, ask_answer}
+use Rattle.evict_core.specs.History.{pins_left, pins_held, has_open}
 use Rattle.flight_cache.specs.Meaning.{Meaning}
-use Rattle.flight_cache.specs.Calls.{ShardPassView}
+use Rattle.flight_cache.specs.Histories.{is_in, step_of, steps_in, IsLegalUnder, left_by}
+use Rattle.flight_cache.specs.Calls.{ShardView, ShardPassView, GivesSteps, HasGivenBack, own_steps}
 use Rattle.flight_cache.specs.Shards.{Shards, CachePassView, at, with_at}
+use Rattle.flight_cache.specs.declared.kept.Opening.{Opening}
 use Rattle.flight_cache.specs.declared.kept.Entry.{Entry}
-use Rattle.flight_cache.specs.Laws.{HitHolds, FillHolds, UnpinGives, PinAllHolds, ClaimOpens, IsLater, CallIsLater, LaterIsLater, StaysOfCache, FirstIsWhole, StaysWhole, JoinedIsWhole, WholeKnowsAll, GivesFollow, EachIsLater, GivesItself}
+use Rattle.flight_cache.specs.Laws.{HitHolds, FillHolds, UnpinGives, PinAllHolds, ClaimOpens, IsLater, CallIsLater, LaterIsLater, StaysOfCache, FirstIsWhole, StaysWhole, JoinedIsWhole, WholeButNone, SplitIsWholeBut, JoinIsWholeBut, LaterIsWholeBut, WholeKnowsAll, AskIsAnswered, PlacesAreInShard, NothingIsGivenBack, GivesFollow, GivesOwnSteps, EachIsLater, GivesItself}
 use Rattle.flight_cache.proofs.Asking.{gives-follows}
+use Rattle.flight_cache.proofs.Places.{named-kept}
+use Rattle.flight_cache.proofs.Standing.{steps-more}
 
 module _ {K V T : Type 0} (eq : K → K → Bool) (laws : IsEquivalence eq) (meaning : Meaning K V T) where
   pub hit_holds : HitHolds eq meaning
@@ -26,16 +34,56 @@ module _ {K V T : Type 0} (eq : K → K → Bool) (laws : IsEquivalence eq) (mea
   pub claim_opens : ClaimOpens eq meaning
   claim_opens shard pass after key g = rw (laws.refl key) at (g.claims key)
 
+module _ {K V T : Type 0} (eq : K → K → Bool) (laws : IsEquivalence eq) (same : (a b : K) → eq a b ≡ true → a ≡ b) (meaning : Meaning K V T) where
+  pub places_are_in_shard : PlacesAreInShard eq meaning
+  places_are_in_shard shard keys key here = named-kept eq (is_in meaning shard.tag) key (λ x e. subst (λ (k : K). is_in meaning shard.tag k ≡ true) (same key x e) here) keys
+
 module _ {K V T : Type 0} (eq : K → K → Bool) (meaning : Meaning K V T) where
   pub gives_follow : GivesFollow eq meaning
-  gives_follow shard pass after steps g = (_, gives-follows eq meaning shard pass after steps g)
+  gives_follow shard pass after steps g = (entry_list g.entry, gives-follows eq meaning shard pass after steps g, g.are)
+
+  pub gives_own_steps : GivesOwnSteps eq meaning
+  gives_own_steps shard pass after steps g =
+      ap (map (step_of meaning shard.tag)) (gives-follows eq meaning shard pass after steps g).mine
+      ∙ (map-append (step_of meaning shard.tag) (mine pass) (entry_list g.entry) ∙ ap (λ (l : List (Step K V)). own_steps meaning shard.tag pass ++ l) g.are)
+
+  -- the last entry of what is seen was answered by the state before it
+  last-answer : (under : Opening T) (list : History (Entry K)) (n : ℕ) (entry : Option (Entry K)) (key : K) (answer : Answer)
+      → map (step_of meaning under) (entry_list entry) ≡ Ask key answer ∷ [] → IsLegalUnder eq meaning under (with_entry list n entry)
+      → ask_answer eq (left_by eq meaning under list) key ≡ Some answer
+  last-answer under list n None key answer are legal = cc
+  last-answer under list n (Some e) key answer are legal =
+      let step : step_of meaning under e ≡ Ask key answer = cc in
+      let may = legal.legal (steps_in meaning under list) [] (n, step_of meaning under e) (steps-more meaning under list n e) in
+      subst (λ (z : Step K V). IsEnabled eq (left_by eq meaning under list) (pins_held eq (steps_in meaning under list) n) n z) step may
+
+  pub ask_is_answered : AskIsAnswered eq meaning
+  ask_is_answered shard pass after key answer g =
+      last-answer shard.tag g.takes.list g.waited.number g.entry key answer g.are (subst (λ (h : History (Entry K)). IsLegalUnder eq meaning shard.tag h) g.takes.seen g.legal)
+
+  empty-given : (shard : ShardView T) (pass : ShardPassView K T) → own_steps meaning shard.tag pass ≡ [] → HasGivenBack eq meaning shard pass
+  empty-given shard pass none = record {
+    pins = λ key. ap (λ (l : List (Step K V)). pins_left eq l key) none;
+    claims = λ key. ap (λ (l : List (Step K V)). has_open eq l key) none;
+  }
+
+  pub nothing_is_given_back : NothingIsGivenBack eq meaning
+  nothing_is_given_back shards pass h = record {
+    first = empty-given shards.first pass.first h.first;
+    second = empty-given shards.second pass.second h.second;
+    third = empty-given shards.third pass.third h.third;
+    fourth = empty-given shards.fourth pass.fourth h.fourth;
+  }
+
+  later-one : (shard : ShardView T) (pass after : ShardPassView K T) (steps : List (Step K V)) → GivesSteps eq meaning shard pass after steps → (entries : List (Entry K)) × Follows pass after entries
+  later-one shard pass after steps g = (entry_list g.entry, gives-follows eq meaning shard pass after steps g)
 
   pub each_is_later : EachIsLater eq meaning
   each_is_later shards pass after steps g = record {
-    first = gives_follow shards.first pass.first after.first (steps 0) g.first;
-    second = gives_follow shards.second pass.second after.second (steps 1) g.second;
-    third = gives_follow shards.third pass.third after.third (steps 2) g.third;
-    fourth = gives_follow shards.fourth pass.fourth after.fourth (steps 3) g.fourth;
+    first = later-one shards.first pass.first after.first (steps 0) g.first;
+    second = later-one shards.second pass.second after.second (steps 1) g.second;
+    third = later-one shards.third pass.third after.third (steps 2) g.third;
+    fourth = later-one shards.fourth pass.fourth after.fourth (steps 3) g.fourth;
   }
 
   pub gives_itself : GivesItself eq meaning
@@ -113,4 +161,40 @@ module _ {K T : Type 0} where
     second = whole_list p.second p.second.seen (ap (λ (s : Shards ℕ). s.second) zeroth) whole.second ex.second;
     third = whole_list p.third p.third.seen (ap (λ (s : Shards ℕ). s.third) zeroth) whole.third ex.third;
     fourth = whole_list p.fourth p.fourth.seen (ap (λ (s : Shards ℕ). s.fourth) zeroth) whole.fourth ex.fourth;
+  }
+
+  pub whole_but_none : WholeButNone K T
+  whole_but_none p = (
+    λ w. record { first = (whole-but_none p.first).0 w.first; second = (whole-but_none p.second).0 w.second; third = (whole-but_none p.third).0 w.third; fourth = (whole-but_none p.fourth).0 w.fourth },
+    λ w. record { first = (whole-but_none p.first).1 w.first; second = (whole-but_none p.second).1 w.second; third = (whole-but_none p.third).1 w.third; fourth = (whole-but_none p.fourth).1 w.fourth },
+  )
+
+  split-alike : (p : ShardPassView K T) (next : ℕ) (ns : List ℕ) → p.next ≡ next → IsWholeBut p ns → IsWholeBut (split_pass p) (next ∷ ns)
+  split-alike p next ns is w = subst (λ (n : ℕ). IsWholeBut (split_pass p) (n ∷ ns)) is (whole-but_split p ns w)
+
+  pub split_is_whole_but : SplitIsWholeBut K T
+  split_is_whole_but p ns a w = record {
+    first = split-alike p.first p.first.next ns refl w.first;
+    second = split-alike p.second p.first.next ns a.second_next w.second;
+    third = split-alike p.third p.first.next ns a.third_next w.third;
+    fourth = split-alike p.fourth p.first.next ns a.fourth_next w.fourth;
+  }
+
+  join-alike : (p other : ShardPassView K T) (number : ℕ) (before later : List ℕ) → other.number ≡ number → IsWholeBut p (before ++ number ∷ later) → IsWholeBut (joined_pass p other) (before ++ later)
+  join-alike p other number before later is w = whole-but_join p other before later (subst (λ (n : ℕ). IsWholeBut p (before ++ n ∷ later)) (sym is) w)
+
+  pub join_is_whole_but : JoinIsWholeBut K T
+  join_is_whole_but p other before later a w = record {
+    first = join-alike p.first other.first other.first.number before later refl w.first;
+    second = join-alike p.second other.second other.first.number before later a.second_number w.second;
+    third = join-alike p.third other.third other.first.number before later a.third_number w.third;
+    fourth = join-alike p.fourth other.fourth other.first.number before later a.fourth_number w.fourth;
+  }
+
+  pub later_is_whole_but : LaterIsWholeBut K T
+  later_is_whole_but p q ns w l = record {
+    first = whole-but_follows p.first q.first ns l.first.0 w.first l.first.1;
+    second = whole-but_follows p.second q.second ns l.second.0 w.second l.second.1;
+    third = whole-but_follows p.third q.third ns l.third.0 w.third l.third.1;
+    fourth = whole-but_follows p.fourth q.fourth ns l.fourth.0 w.fourth l.fourth.1;
   }

@@ -211,6 +211,7 @@ module _ {K V T : Type 0} (meaning : Meaning K V T) (under : Opening T) where
               entry = entry;
               takes = takes;
               are = refl;
+              legal = legal';
               pins = λ key. pins-added eq laws meaning under pass after steps own legal legal' key;
               claims = λ key. claims-added eq laws meaning under pass after steps own key;
             }

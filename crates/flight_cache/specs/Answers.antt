@@ -9,6 +9,14 @@ use Rattle.flight_cache.specs.Calls.{ShardView, ShardPassView, GivesSteps}
 use Rattle.flight_cache.specs.declared.pins.Asked.{Asked}
 use Rattle.flight_cache.specs.declared.pins.Asked.TheVariants.{Hit, Claim, Crowded, OutOfMemory}
 
+module _ {K V T : Type 0} (meaning : Meaning K V T) (tag : T) (key : K) where
+  -- the pin of a hit has the key's value under the tag
+  abbrev pub HasKeyValue : {M : Type 0} → Asked M K V T → Type 0
+  HasKeyValue (Hit pin) = pin.value ≡ meaning.made tag key
+  HasKeyValue (Claim ticket) = Unit {0}
+  HasKeyValue Crowded = Unit {0}
+  HasKeyValue OutOfMemory = Unit {0}
+
 module _ {K V T : Type 0} (eq : K → K → Bool) (meaning : Meaning K V T) (shard : ShardView T) (pass : ShardPassView K T) (key : K) (after : ShardPassView K T) where
   -- an ask is one entry, which says the answer; a hit has the key's value; want of memory is none
   abbrev pub IsAsked : {M : Type 0} → Asked M K V T → Type 0

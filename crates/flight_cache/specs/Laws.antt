@@ -1,14 +1,15 @@
 -- Public: what holds of every history that a shard can have, of entries that stand for one, and what calls make of a pass.
 use Rattle.std.specs.Prelude.{◌≡◌, ℕ, ◌+◌, ◌<◌, ◌≤◌, Bool, true, false, ◌⊎◌, ◌↔◌, List, [], ◌∷◌, ◌++◌, length, map, Some, All, Contains}
 use Rattle.turn_cell.specs.History.{History, IsBelow, entries_of, numbers_of}
-use Rattle.turn_cell.specs.Passes.{Follows, Extends, IsWholePass, first_pass, split_pass, new_pass, joined_pass}
-use Rattle.evict_core.specs.Machine.{Hit, Claim, Ask, PinAll, Fill, Unpin, Step, unpinned, has_idle, maker_in, pins_in, status_of}
+use Rattle.turn_cell.specs.Passes.{Follows, Extends, IsWholePass, IsWholeBut, first_pass, split_pass, new_pass, joined_pass}
+use Rattle.evict_core.specs.Machine.{Answer, Hit, Claim, Ask, ask_answer, PinAll, Fill, Unpin, Step, unpinned, has_idle, maker_in, pins_in, status_of}
 use Rattle.evict_core.specs.History.{replay, pins_left, held_below, has_open, times_named, is_evicted}
 use Rattle.evict_core.specs.Laws.{IsLostWithin, IsEvictedWithin}
 use Rattle.flight_cache.specs.Meaning.{Meaning}
-use Rattle.flight_cache.specs.Histories.{step_of, steps_in, IsLegalUnder, left_by, AreMade, Stands}
+use Rattle.flight_cache.specs.Histories.{is_in, step_of, steps_in, IsLegalUnder, left_by, AreMade, Stands}
 use Rattle.flight_cache.specs.Calls.{ShardView, ShardPassView, GivesSteps, own_steps}
-use Rattle.flight_cache.specs.Shards.{Shards, CacheView, CachePassView, IsCacheOf, EachGives, EachExtends, at, with_at, each, both}
+use Rattle.flight_cache.specs.Shards.{Shards, CacheView, CachePassView, IsCacheOf, AreAlike, EachGives, EachHasGivenBack, EachExtends, HasNothing, at, with_at, each, both}
+use Rattle.flight_cache.specs.Pinning.{keys_in}
 use Rattle.flight_cache.specs.declared.kept.Opening.{Opening}
 use Rattle.flight_cache.specs.declared.kept.Kept.{Kept}
 use Rattle.flight_cache.specs.declared.kept.Entry.{Entry}
@@ -86,6 +87,15 @@ module _ {K V T : Type 0} (eq : K → K → Bool) (meaning : Meaning K V T) wher
   PinAllHolds = (shard : ShardView T) (pass after : ShardPassView K T) (keys : List K) → GivesSteps eq meaning shard pass after (PinAll keys ∷ [])
       → (key : K) → pins_left eq (own_steps meaning shard.tag after) key ≡ pins_left eq (own_steps meaning shard.tag pass) key + times_named eq key keys
 
+  -- the places of a key among those of its shard are its places among all
+  abbrev pub PlacesAreInShard : Type 0
+  PlacesAreInShard = (shard : ShardView T) (keys : List K) (key : K) → is_in meaning shard.tag key ≡ true
+      → times_named eq key (keys_in meaning shard keys) ≡ times_named eq key keys
+
+  -- a pass that gave nothing has nothing to give back
+  abbrev pub NothingIsGivenBack : Type 0
+  NothingIsGivenBack = (shards : Shards (ShardView T)) (pass : CachePassView K T) → HasNothing meaning shards pass → EachHasGivenBack eq meaning shards pass
+
   -- after a claim the key is open
   abbrev pub ClaimOpens : Type 0
   ClaimOpens = (shard : ShardView T) (pass after : ShardPassView K T) (key : K) → GivesSteps eq meaning shard pass after (Ask key Claim ∷ [])
@@ -105,6 +115,13 @@ module _ {K T : Type 0} where
     pub second : IsWholePass pass.second
     pub third : IsWholePass pass.third
     pub fourth : IsWholePass pass.fourth
+
+  -- the same, but for these numbers of passes that are not joined yet
+  pub record EachIsWholeBut (pass : CachePassView K T) (numbers : List ℕ) : Type 0 where
+    pub first : IsWholeBut pass.first numbers
+    pub second : IsWholeBut pass.second numbers
+    pub third : IsWholeBut pass.third numbers
+    pub fourth : IsWholeBut pass.fourth numbers
 
   -- what a shard's pass has seen was given by the number 0 or by one of a joined pass
   abbrev pub IsOfFamily : ShardPassView K T → Type 0
@@ -138,14 +155,38 @@ module _ (K T : Type 0) where
   abbrev pub JoinedIsWhole : Type 0
   JoinedIsWhole = (pass one other : CachePassView K T) → IsWhole pass → IsLater (each split_pass pass) one → IsLater (each new_pass pass) other → IsWhole (both joined_pass one other)
 
+  -- several passes may be out at once: a split has one number more that isn't joined, a join one less, and calls that do neither as many
+  abbrev pub WholeButNone : Type 0
+  WholeButNone = (pass : CachePassView K T) → IsWhole pass ↔ EachIsWholeBut pass []
+
+  abbrev pub SplitIsWholeBut : Type 0
+  SplitIsWholeBut = (pass : CachePassView K T) (numbers : List ℕ) → AreAlike pass → EachIsWholeBut pass numbers → EachIsWholeBut (each split_pass pass) (pass.first.next ∷ numbers)
+
+  abbrev pub JoinIsWholeBut : Type 0
+  JoinIsWholeBut = (pass other : CachePassView K T) (before later : List ℕ) → AreAlike other → EachIsWholeBut pass (before ++ other.first.number ∷ later) → EachIsWholeBut (both joined_pass pass other) (before ++ later)
+
+  abbrev pub LaterIsWholeBut : Type 0
+  LaterIsWholeBut = (pass after : CachePassView K T) (numbers : List ℕ) → EachIsWholeBut pass numbers → IsLater pass after → EachIsWholeBut after numbers
+
   -- a whole pass knows that every entry that it has seen is of its own family
   abbrev pub WholeKnowsAll : Type 0
   WholeKnowsAll = (pass : CachePassView K T) → IsWhole pass → (each (λ p. p.number) pass ≡ record { first = 0; second = 0; third = 0; fourth = 0 }) → EachExtends pass → EachOfFamily pass
 
 module _ {K V T : Type 0} (eq : K → K → Bool) (meaning : Meaning K V T) where
-  -- what a call that gives steps is for `IsLater`
+  -- a call that gives steps gave the entries of these steps
   abbrev pub GivesFollow : Type 0
-  GivesFollow = (shard : ShardView T) (pass after : ShardPassView K T) (steps : List (Step K V)) → GivesSteps eq meaning shard pass after steps → (entries : List (Entry K)) × Follows pass after entries
+  GivesFollow = (shard : ShardView T) (pass after : ShardPassView K T) (steps : List (Step K V)) → GivesSteps eq meaning shard pass after steps
+      → (entries : List (Entry K)) × Follows pass after entries × (map (step_of meaning shard.tag) entries ≡ steps)
+
+  -- the steps of the pass are those that it had, and then these
+  abbrev pub GivesOwnSteps : Type 0
+  GivesOwnSteps = (shard : ShardView T) (pass after : ShardPassView K T) (steps : List (Step K V)) → GivesSteps eq meaning shard pass after steps
+      → own_steps meaning shard.tag after ≡ own_steps meaning shard.tag pass ++ steps
+
+  -- an ask was answered as the machine answers in the state that the turn showed
+  abbrev pub AskIsAnswered : Type 0
+  AskIsAnswered = (shard : ShardView T) (pass after : ShardPassView K T) (key : K) (answer : Answer) → (gives : GivesSteps eq meaning shard pass after (Ask key answer ∷ []))
+      → ask_answer eq (left_by eq meaning shard.tag gives.takes.list) key ≡ Some answer
 
   abbrev pub EachIsLater : Type 0
   EachIsLater = (shards : Shards (ShardView T)) (pass after : CachePassView K T) (steps : ℕ → List (Step K V)) → EachGives eq meaning shards pass after steps → IsLater pass after

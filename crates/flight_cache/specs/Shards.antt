@@ -2,10 +2,11 @@
 use Rattle.std.specs.Prelude.{◌≡◌, ℕ, ◌+◌, ◌/◌, ◌==◌, if◌then◌else◌, min, Bool, List, []}
 use Rattle.evict_core.specs.Machine.{Step, last_count}
 use Rattle.evict_core.specs.declared.counts.Totals.{Totals}
+use Rattle.turn_cell.specs.History.{IsPrefix, IsBelow}
 use Rattle.turn_cell.specs.Passes.{IsOf, Extends}
 use Rattle.flight_cache.specs.Meaning.{Meaning, shard_count}
 use Rattle.flight_cache.specs.Histories.{IsLegalUnder}
-use Rattle.flight_cache.specs.Calls.{ShardView, ShardPassView, GivesSteps, own_steps}
+use Rattle.flight_cache.specs.Calls.{ShardView, ShardPassView, GivesSteps, HasGivenBack, own_steps}
 
 pub record Shards (X : Type 0) : Type 0 where
   pub first : X
@@ -85,6 +86,13 @@ module _ {K V T : Type 0} (eq : K → K → Bool) (meaning : Meaning K V T) wher
     pub third : GivesSteps eq meaning shards.third pass.third after.third (steps 2)
     pub fourth : GivesSteps eq meaning shards.fourth pass.fourth after.fourth (steps 3)
 
+  -- each shard's pass has nothing to give back
+  pub record EachHasGivenBack (shards : Shards (ShardView T)) (pass : CachePassView K T) : Type 0 where
+    pub first : HasGivenBack eq meaning shards.first pass.first
+    pub second : HasGivenBack eq meaning shards.second pass.second
+    pub third : HasGivenBack eq meaning shards.third pass.third
+    pub fourth : HasGivenBack eq meaning shards.fourth pass.fourth
+
   -- what the pass has seen of each shard is legal
   pub record EachIsLegal (shards : Shards (ShardView T)) (pass : CachePassView K T) : Type 0 where
     pub first : IsLegalUnder eq meaning shards.first.tag pass.first.seen
@@ -93,6 +101,20 @@ module _ {K V T : Type 0} (eq : K → K → Bool) (meaning : Meaning K V T) wher
     pub fourth : IsLegalUnder eq meaning shards.fourth.tag pass.fourth.seen
 
 module _ {K T : Type 0} where
+  -- what a pass has seen of each shard begins what the other has seen
+  pub record EachBegins (pass after : CachePassView K T) : Type 0 where
+    pub first : IsPrefix pass.first.seen after.first.seen
+    pub second : IsPrefix pass.second.seen after.second.seen
+    pub third : IsPrefix pass.third.seen after.third.seen
+    pub fourth : IsPrefix pass.fourth.seen after.fourth.seen
+
+  -- each number in what the pass has seen of each shard is below this one of the shard's pass
+  pub record EachIsBelow (bound : ShardPassView K T → ℕ) (pass : CachePassView K T) : Type 0 where
+    pub first : IsBelow (bound pass.first) pass.first.seen
+    pub second : IsBelow (bound pass.second) pass.second.seen
+    pub third : IsBelow (bound pass.third) pass.third.seen
+    pub fourth : IsBelow (bound pass.fourth) pass.fourth.seen
+
   -- what the pass has seen of each shard extends what it knows
   pub record EachExtends (pass : CachePassView K T) : Type 0 where
     pub first : Extends pass.first pass.first.seen
@@ -101,6 +123,13 @@ module _ {K T : Type 0} where
     pub fourth : Extends pass.fourth pass.fourth.seen
 
 module _ {K V T : Type 0} (meaning : Meaning K V T) where
+  -- each shard's pass gave the same steps as before
+  pub record EachGaveAsMuch (shards : Shards (ShardView T)) (pass after : CachePassView K T) : Type 0 where
+    pub first : own_steps meaning shards.first.tag after.first ≡ own_steps meaning shards.first.tag pass.first
+    pub second : own_steps meaning shards.second.tag after.second ≡ own_steps meaning shards.second.tag pass.second
+    pub third : own_steps meaning shards.third.tag after.third ≡ own_steps meaning shards.third.tag pass.third
+    pub fourth : own_steps meaning shards.fourth.tag after.fourth ≡ own_steps meaning shards.fourth.tag pass.fourth
+
   -- each shard's pass gave nothing
   pub record HasNothing (shards : Shards (ShardView T)) (pass : CachePassView K T) : Type 0 where
     pub first : own_steps meaning shards.first.tag pass.first ≡ []

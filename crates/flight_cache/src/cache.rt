@@ -1,5 +1,5 @@
 //! A cache of four shards.
-ghost use Rattle.std.specs.Prelude.{◌≡◌, ◌≤◌, ◌<◌, ◌∷◌, [], true, IfOk, IfErr};
+ghost use Rattle.std.specs.Prelude.{◌≡◌, ◌≤◌, ◌<◌, ◌∷◌, [], true, IfOk, IfErr, OnOk};
 ghost use Rattle.std.specs.Arc.{arc_value};
 ghost use Rattle.turn_cell.specs.Passes.{first_pass, split_pass, new_pass, joined_pass};
 ghost use Rattle.evict_core.specs.Machine.{Fill, Fail, Unpin, Limits, max_entries, max_budget, max_cost};
@@ -8,8 +8,8 @@ ghost use Rattle.evict_core.specs.Asked.{totals_of};
 ghost use Rattle.flight_cache.specs.Meaning.{shard_count, shard_of};
 ghost use Rattle.flight_cache.specs.Histories.{left_by};
 ghost use Rattle.flight_cache.specs.Calls.{GivesSteps, own_steps};
-ghost use Rattle.flight_cache.specs.Answers.{IsAsked};
-ghost use Rattle.flight_cache.specs.Shards.{IsCacheOf, IsShardOf, AreShardsOf, EachGives, EachIsLegal, EachExtends, HasNothing, HasLimits, min_cache_entries, total_sum, sum_of_totals, each, both, at, with_at, part};
+ghost use Rattle.flight_cache.specs.Answers.{IsAsked, HasKeyValue};
+ghost use Rattle.flight_cache.specs.Shards.{IsCacheOf, IsShardOf, AreShardsOf, EachGives, EachHasGivenBack, EachIsLegal, EachBegins, EachGaveAsMuch, EachIsBelow, EachExtends, HasNothing, HasLimits, min_cache_entries, total_sum, sum_of_totals, each, both, at, with_at, part};
 
 use crate::made::{Made, shard_number};
 use crate::pass::CachePass;
@@ -69,6 +69,7 @@ impl<M: Made> Cache<M> {
         requires most { entries ≤ max_entries }
         requires budget { budget ≤ max_budget }
         ensures tag { IfOk result (λ r. r.0.tag ≡ tag) }
+        ensures shards { IfOk result (λ r. AreShardsOf tag r.0.shards) }
         ensures limits { IfOk result (λ r. HasLimits r.0.shards entries budget) }
         ensures pass { IfOk result (λ r. r.1 ≡ each first_pass r.0.shards) }
     {
@@ -174,6 +175,7 @@ impl<M: Made> Cache<M> {
         requires { IsCacheOf self.now pass }
         ensures asked { let n = shard_of (M.meaning.numbers key.now) in
             IsAsked M.Key.eq M.meaning (at self.now.shards n) (at pass n) key.now (at result.0 n) result.1 }
+        ensures value { HasKeyValue M.meaning self.now.tag key.now result.1 }
         ensures others { let n = shard_of (M.meaning.numbers key.now) in result.0 ≡ with_at pass n (at result.0 n) }
     {
         let number = shard_number::<M>(key);
@@ -274,8 +276,10 @@ impl<M: Made> Cache<M> {
         requires cell { IsCacheOf self.now pass }
         requires first { pass.first.number ≡ 0 }
         ensures passes { IfOk result (λ r. (r.0 ≡ each split_pass pass) × (r.1 ≡ each new_pass pass)) }
+        ensures room { OnOk result (pass.first.next < u32.MAX) }
         ensures refused { IfErr result (λ p. (pass.first.next ≡ u32.MAX) × (p ≡ pass)) }
         ensures empty { IfOk result (λ r. HasNothing M.meaning self.now.shards r.1) }
+        ensures below { IfOk result (λ r. EachIsBelow (λ p. p.number) r.1 × EachIsBelow (λ p. p.next) r.0) }
     {
         let CachePass {
             first,
@@ -313,11 +317,15 @@ impl<M: Made> Cache<M> {
         ))
     }
 
-    /// Spends the other pass.
+    /// Spends the other pass, which holds no pin and has no claim open.
     pub fn join(&self, pass: CachePass<M>, other: CachePass<M>) -> CachePass<M>
         requires cells { IsCacheOf self.now pass × IsCacheOf self.now other }
         requires first { pass.first.number ≡ 0 }
+        requires given { EachHasGivenBack M.Key.eq M.meaning self.now.shards other }
         ensures pass { result ≡ both joined_pass pass other }
+        ensures begins { EachBegins pass result }
+        ensures begins_other { EachBegins other result }
+        ensures own { EachGaveAsMuch M.meaning self.now.shards pass result }
         ensures itself { EachExtends result }
     {
         let CachePass {
@@ -374,8 +382,8 @@ impl<M: Made> Cache<M> {
         self.fourth.legal(&pass.fourth);
     }
 
-    // The shards have their numbers, and the cache's tag.
-    pub(crate) fn numbered(&self)
+    /// The shards have their numbers, and the cache's tag.
+    pub fn numbered(&self)
         ensures { AreShardsOf self.now.tag self.now.shards }
     {
         let _ = &self.first;

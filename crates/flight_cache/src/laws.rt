@@ -1,5 +1,5 @@
 //! The laws of shards and of what calls make of a pass. The functions do nothing: their contracts are the laws.
-ghost use Rattle.flight_cache.specs.Laws.{ShardsStayInBudget, ShardsStayInLimit, HistoryInBudget, HistoryInLimit, ShardsClaimOnce, ShardsFillOnce, ReadyAreMade, FliesWhereOpen, ShardPinsAreHeld, ShardsKeepHeld, HitHolds, FillHolds, UnpinGives, PinAllHolds, ClaimOpens, GivesFollow, EachIsLater, GivesItself, CallIsLater, LaterIsLater, StaysOfCache, FirstIsWhole, StaysWhole, JoinedIsWhole, WholeKnowsAll};
+ghost use Rattle.flight_cache.specs.Laws.{ShardsStayInBudget, ShardsStayInLimit, HistoryInBudget, HistoryInLimit, ShardsClaimOnce, ShardsFillOnce, ReadyAreMade, FliesWhereOpen, ShardPinsAreHeld, ShardsKeepHeld, HitHolds, FillHolds, UnpinGives, PinAllHolds, ClaimOpens, AskIsAnswered, PlacesAreInShard, NothingIsGivenBack, GivesFollow, GivesOwnSteps, EachIsLater, GivesItself, CallIsLater, LaterIsLater, StaysOfCache, FirstIsWhole, StaysWhole, JoinedIsWhole, WholeButNone, SplitIsWholeBut, JoinIsWholeBut, LaterIsWholeBut, WholeKnowsAll};
 
 use crate::made::Made;
 
@@ -36,31 +36,44 @@ pub fn pins<M: Made>()
     ensures kept { ShardsKeepHeld M.Key.eq M.meaning }
 {}
 
-/// What a call makes of the pins and of the open claims of its pass.
+/// What a call makes of the pins and of the open claims of its pass. A pass that gave nothing has nothing to give back.
 pub fn calls<M: Made>()
+    ensures answer { AskIsAnswered M.Key.eq M.meaning }
     ensures hit { HitHolds M.Key.eq M.meaning }
     ensures claim { ClaimOpens M.Key.eq M.meaning }
     ensures fill { FillHolds M.Key.eq M.meaning }
     ensures unpin { UnpinGives M.Key.eq M.meaning }
     ensures pin_all { PinAllHolds M.Key.eq M.meaning }
+    ensures places { PlacesAreInShard M.Key.eq M.meaning }
+    ensures nothing { NothingIsGivenBack M.Key.eq M.meaning }
 {}
 
-/// Calls in a row: what they leave is a later pass, which stays one of its cache.
+/// Calls in a row: their steps add up, and what they leave is a later pass, which stays one of its cache.
 pub fn calls_in_a_row<M: Made>()
     ensures gives { GivesFollow M.Key.eq M.meaning }
+    ensures own { GivesOwnSteps M.Key.eq M.meaning }
     ensures each { EachIsLater M.Key.eq M.meaning }
     ensures one { CallIsLater M.Key M.Tag }
     ensures two { LaterIsLater M.Key M.Tag }
     ensures cache { StaysOfCache M.Key M.Tag }
 {}
 
-/// The first pass is whole as long as each pass that was split off it is joined again, and a whole pass knows that every
-/// entry which it has seen was given by itself or by one of those. What it has seen extends it after a join and after
-/// a turn.
+/// The first pass is whole, and is so again once a pass that was split off it is joined, where no other is out
+/// meanwhile. A whole pass knows that every entry which it has seen was given by itself or by a joined one. What it has
+/// seen extends it after a join and after a turn.
 pub fn whole_passes<M: Made>()
     ensures first { FirstIsWhole M.Key M.Tag }
     ensures later { StaysWhole M.Key M.Tag }
     ensures joined { JoinedIsWhole M.Key M.Tag }
     ensures itself { GivesItself M.Key.eq M.meaning }
     ensures family { WholeKnowsAll M.Key M.Tag }
+{}
+
+/// Several passes may be out at once. A split has one number more that isn't joined, a join one less, and calls that
+/// do neither as many. The pass is whole where none is left.
+pub fn passes_apart<M: Made>()
+    ensures none { WholeButNone M.Key M.Tag }
+    ensures split { SplitIsWholeBut M.Key M.Tag }
+    ensures join { JoinIsWholeBut M.Key M.Tag }
+    ensures later { LaterIsWholeBut M.Key M.Tag }
 {}

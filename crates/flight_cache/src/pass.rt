@@ -35,6 +35,13 @@ pub(crate) struct Others<M: Made> {
 }
 
 impl<M: Made> CachePass<M> {
+    /// The passes of the four shards have one number, and drew as many numbers.
+    pub fn alike(&self)
+        ensures { AreAlike self.now }
+    {
+        let _ = &self.first;
+    }
+
     // The pass of one shard, and the others.
     pub(crate) fn apart(self, number: u32) -> (ShardPass<M>, Others<M>)
         ensures own { result.0 ≡ at self number }

@@ -1,7 +1,7 @@
 //! One shard of a cache.
 ghost use Rattle.std.specs.Prelude.{◌≡◌, ◌+◌, ◌<◌, ◌≤◌, ◌∷◌, [], true, IfOk, IfErr, OnOk};
 ghost use Rattle.std.specs.Arc.{arc_value};
-ghost use Rattle.turn_cell.specs.History.{with_entry};
+ghost use Rattle.turn_cell.specs.History.{IsPrefix, IsBelow, with_entry};
 ghost use Rattle.turn_cell.specs.Passes.{IsOf, IsTurnAfterTries, Extends, first_pass, split_pass, new_pass, joined_pass};
 ghost use Rattle.evict_core.specs.Machine.{Fill, Fail, Unpin, Limits, max_entries, max_budget, max_cost};
 ghost use Rattle.evict_core.specs.History.{has_open, pins_left};
@@ -269,6 +269,7 @@ impl<M: Made> Shard<M> {
         ensures room { OnOk result (pass.next < u32.MAX) }
         ensures refused { IfErr result (λ p. (pass.next ≡ u32.MAX) × (p ≡ pass)) }
         ensures empty { IfOk result (λ r. own_steps M.meaning self.now.tag r.1 ≡ []) }
+        ensures below { IfOk result (λ r. IsBelow r.1.number r.1.seen × IsBelow r.0.next r.0.seen) }
     {
         let ShardPass { pass } = pass;
         match self.cell.split(pass) {
@@ -284,6 +285,7 @@ impl<M: Made> Shard<M> {
         requires room { pass.next < u32.MAX }
         ensures passes { (result.0 ≡ split_pass pass) × (result.1 ≡ new_pass pass) }
         ensures empty { own_steps M.meaning self.now.tag result.1 ≡ [] }
+        ensures below { IsBelow result.1.number result.1.seen × IsBelow result.0.next result.0.seen }
     {
         match self.split(pass) {
             Ok(two) => two,
@@ -296,6 +298,7 @@ impl<M: Made> Shard<M> {
         requires cells { IsOf self.now pass × IsOf self.now other }
         requires first { pass.number ≡ 0 }
         ensures pass { result ≡ joined_pass pass other }
+        ensures begins { IsPrefix pass.seen result.seen × IsPrefix other.seen result.seen }
         ensures own { own_steps M.meaning self.now.tag result ≡ own_steps M.meaning self.now.tag pass }
         ensures itself { Extends result result.seen }
     {
