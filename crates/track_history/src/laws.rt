@@ -1,14 +1,15 @@
 //! Laws of a track's calls, and of what is near, for the crates above. Each function does nothing: its contract is the law.
 
-ghost use Rattle.std.specs.Prelude.{◌≡◌, ℕ, ℤ, List, map, Option, option_to_list};
+ghost use Rattle.std.specs.Prelude.{◌≡◌, ◌≤◌, ℕ, ℤ, List, length, map, All, Contains, Option, option_to_list};
 ghost use Rattle.turn_cell.specs.Passes.{Follows};
 ghost use Rattle.ass_events.specs.declared.event.Event.{Event};
-ghost use Rattle.ass_events.specs.Histories.{Entry};
+ghost use Rattle.ass_events.specs.Histories.{Entry, HaveOwnOrders, IsHistory, live, max_live};
 ghost use Rattle.ass_events.specs.NearEvents.{AreNear, span_of};
 ghost use Rattle.track_history.specs.declared.answers.TrackEntry.{TrackEntry};
 ghost use Rattle.track_history.specs.declared.answers.Feed.{Feed};
 ghost use Rattle.track_history.specs.declared.answers.Flushed.{Flushed};
 ghost use Rattle.track_history.specs.Answers.{entry_of, flushed_entry};
+ghost use Rattle.track_history.specs.ShortEvents.{IsShortEvent, HaveShortEvents};
 ghost use Rattle.track_history.specs.Calls.{IsFed, IsFlushed, IsTurn, TrackView};
 
 /// After each call the pass goes on as one of a turn cell, with what the call gave.
@@ -24,4 +25,17 @@ pub fn calls_follow()
 /// What is near an instant is one list.
 pub fn one_near()
     ensures { (events a b : List Event) (t : ℤ) → AreNear span_of events t a → AreNear span_of events t b → a ≡ b }
+{}
+
+/// The live events of a track's history are short.
+pub fn live_is_short()
+    ensures { (history : List Entry) → HaveShortEvents history → All IsShortEvent (live history) }
+{}
+
+/// What is near an instant in a track's history are live events with different ReadOrders, at most as many as can be live, and short.
+pub fn near_is_live()
+    ensures live { (history : List Entry) (near : List Event) (t : ℤ) → AreNear span_of (live history) t near → All (Contains (live history)) near }
+    ensures orders { (history : List Entry) (near : List Event) (t : ℤ) → IsHistory history → AreNear span_of (live history) t near → HaveOwnOrders near }
+    ensures few { (history : List Entry) (near : List Event) (t : ℤ) → IsHistory history → AreNear span_of (live history) t near → length near ≤ max_live }
+    ensures short { (history : List Entry) (near : List Event) (t : ℤ) → HaveShortEvents history → AreNear span_of (live history) t near → All IsShortEvent near }
 {}
