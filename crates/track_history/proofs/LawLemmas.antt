@@ -1,12 +1,12 @@
 -- What holds of all calls, and of what is near.
-use Rattle.std.proofs.Common.{◌≡◌, ◌≢◌, ℕ, ℤ, ◌≤◌, List, [], ◌∷◌, ◌++◌, length, map, get_or, refl, sym, ap, subst, ◌∙◌, arith, ⊎_elim, length-append, Option, Some, None, Result, Ok, Err}
+use Rattle.std.proofs.Common.{◌≡◌, ◌≢◌, ℕ, ◌+◌, ℤ, ◌≤◌, List, [], ◌∷◌, ◌++◌, length, map, get_or, refl, sym, ap, subst, ◌∙◌, arith, ⊎_elim, length-append, Option, Some, None, Result, Ok, Err}
 use Rattle.std.specs.Option.{option_map, option_to_list}
 use Rattle.std.specs.List.{All, Contains}
 use Rattle.std.proofs.lemmas.List.Elements.{All-head, All-tail, All-contains, Contains-get_or, Contains-append_left, Contains-append_right, Contains-append_cases}
 use Rattle.std.proofs.lemmas.List.{append-nil}
 use Rattle.turn_cell.specs.History.{entry_list}
 use Rattle.turn_cell.specs.Passes.{Follows}
-use Rattle.turn_cell.proofs.Passes.{Follows_same}
+use Rattle.turn_cell.proofs.Passes.{Follows_same, Follows_tries}
 use Rattle.ass_events.specs.declared.event.Event.{Event}
 use Rattle.ass_events.specs.declared.event.ChunkRefusal.{ChunkRefusal}
 use Rattle.ass_events.specs.Events.{event_of}
@@ -14,9 +14,12 @@ use Rattle.ass_events.specs.Histories.{Entry, HaveOwnOrders, IsHistory, Pairwise
 use Rattle.ass_events.specs.NearEvents.{AreNear, IsEarlier, Span, span_of}
 use Rattle.track_history.specs.declared.answers.TrackEntry.{TrackEntry}
 use Rattle.track_history.specs.declared.answers.Feed.{Feed}
+use Rattle.track_history.specs.declared.answers.LookRefusal.{LookRefusal}
+use Rattle.track_history.specs.declared.answers.LookRefusal.TheVariants as look
+use Rattle.track_history.specs.declared.scene.Scene.{Scene}
 use Rattle.track_history.specs.ShortEvents.{IsShortEvent, HaveShortEvents}
-use Rattle.track_history.specs.Answers.{entry_of}
-use Rattle.track_history.specs.Calls.{IsFed, IsFedBy, IsTurn, TrackView}
+use Rattle.track_history.specs.Answers.{chunk_entry, entry_of, fed_entry}
+use Rattle.track_history.specs.Calls.{IsFed, IsFedBy, IsTriedLook, IsTurn, TrackView}
 use Rattle.track_history.proofs.Histories.{live_short}
 use Rattle.track_history.proofs.Pairs.{Contains-nil, Contains-head, Contains-tail, Contains-cons_cases, Pairwise-weaker}
 use Rattle.track_history.proofs.Places.{near_there}
@@ -30,15 +33,33 @@ given_list (Some x) = refl
 pub turn_follows : (pass later : TrackView) (entry : Option Entry) → IsTurn pass later entry → (given : List TrackEntry) × (map entry_of given ≡ option_to_list entry) × Follows pass later given
 turn_follows pass later entry h = (entry_list h.given, given_list h.given ∙ ap option_to_list h.is_entry, h.turn.follows)
 
-same_follows : (pass later : TrackView) → later ≡ pass → (given : List TrackEntry) × Follows pass later given
-same_follows pass later e = ([], subst (λ (z : TrackView). Follows pass z []) (sym e) (Follows_same pass))
+same_follows : (pass later : TrackView) → later ≡ pass → Follows pass later []
+same_follows pass later e = subst (λ (z : TrackView). Follows pass z []) (sym e) (Follows_same pass)
 
-by_event : (r : Result Event ChunkRefusal) (pass later : TrackView) (answer : Feed) → IsFedBy r pass later answer → (given : List TrackEntry) × Follows pass later given
-by_event (Ok event) pass later answer h = ⊎_elim (λ none. same_follows pass later none.1) (λ turn. (entry_list turn.turn.given, turn.turn.turn.follows)) h
-by_event (Err refusal) pass later answer h = same_follows pass later h.0
+by_event : (r : Result Event ChunkRefusal) (pass later : TrackView) (answer : Feed) → IsFedBy r pass later answer
+    → (given : List TrackEntry) × (map entry_of given ≡ option_to_list (chunk_entry r answer)) × Follows pass later given
+by_event (Ok event) pass later answer h =
+    ⊎_elim (λ none. ([], ap (λ a. option_to_list (fed_entry event a)) (sym none.0), same_follows pass later none.1)) (λ turn. turn_follows pass later (fed_entry event answer) turn.turn) h
+by_event (Err refusal) pass later answer h = ([], refl, same_follows pass later h.0)
+
+none_given : (given : Option TrackEntry) → option_map entry_of given ≡ None → given ≡ None
+none_given None e = refl
+none_given (Some x) e = let some : Some (entry_of x) ≡ None = e in absurd (cc)
+
+turn_alone : (pass later : TrackView) → IsTurn pass later None → Follows pass later []
+turn_alone pass later h = subst (λ (given : Option TrackEntry). Follows pass later (entry_list given)) (none_given h.given h.is_entry) h.turn.follows
+
+pub tried_follows : (pass later : TrackView) (t : ℤ) (answer : Result Scene LookRefusal) → IsTriedLook pass t later answer → Follows pass later []
+tried_follows pass later t (Ok scene) h = turn_alone pass later h.0
+tried_follows pass later t (Err (look.TurnOut word)) h = Follows_tries pass later (pass.lost + 1) (omega arith) h.1
+tried_follows pass later t (Err look.OutOfMemory) h = turn_alone pass later h
+
+pub fed_gives : (bytes : List ℕ) (start duration : ℤ) (pass later : TrackView) (answer : Feed) → IsFed bytes start duration pass later answer
+    → (given : List TrackEntry) × (map entry_of given ≡ option_to_list (chunk_entry (event_of bytes start duration) answer)) × Follows pass later given
+fed_gives bytes start duration pass later answer h = by_event (event_of bytes start duration) pass later answer h
 
 pub fed_follows : (bytes : List ℕ) (start duration : ℤ) (pass later : TrackView) (answer : Feed) → IsFed bytes start duration pass later answer → (given : List TrackEntry) × Follows pass later given
-fed_follows bytes start duration pass later answer h = by_event (event_of bytes start duration) pass later answer h
+fed_follows bytes start duration pass later answer h = let gives = fed_gives bytes start duration pass later answer h in (gives.0, gives.2)
 
 -- ---- what is near
 module _ {E : Type 0} (span : E → Span) where

@@ -1,5 +1,5 @@
 -- Public: what the calls of a track answer, and what they add to its history.
-use Rattle.std.specs.Prelude.{◌≡◌, ◌≢◌, ℕ, ℤ, ◌+◌, ◌-◌, ◌==◌, nat_le, if◌then◌else◌, List, [], ◌∷◌, ◌++◌, length, map, All, Option, Some, None}
+use Rattle.std.specs.Prelude.{◌≡◌, ◌≢◌, ℕ, ℤ, ◌+◌, ◌-◌, ◌==◌, nat_le, if◌then◌else◌, List, [], ◌∷◌, ◌++◌, length, map, All, Option, Some, None, Result, Ok, Err}
 use Rattle.std.specs.Arc.{arc_value}
 use Rattle.std.specs.List.{position_from}
 use Rattle.ass_events.specs.declared.event.Event.{Event}
@@ -53,6 +53,11 @@ fed_entry event (Repeated place) = None
 fed_entry event (Malformed field place) = None
 fed_entry event (Full most) = None
 fed_entry event OutOfMemory = None
+
+-- what the feed of a chunk that gives this event, or none, adds to the history
+abbrev pub chunk_entry : Result Event ChunkRefusal → Feed → Option Entry
+chunk_entry (Ok event) answer = fed_entry event answer
+chunk_entry (Err refusal) answer = None
 
 -- the answer to a chunk that gives no event
 abbrev pub refused_answer : ChunkRefusal → Feed
