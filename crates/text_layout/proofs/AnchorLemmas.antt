@@ -6,8 +6,8 @@ use Rattle.ass_num.specs.Limits.{IsWithin, max_frame_side, max_whole}
 use Rattle.ass_num.proofs.LimitLemmas.{IsWithin-wider}
 use Rattle.ass_script.specs.Ranges.{IsCanvasSide}
 use Rattle.text_layout.specs.declared.anchors.Edge.{Edge}
-use Rattle.text_layout.specs.Anchors.{IsBlockSide, edge_at, margin_or, whole_pixels}
-use Rattle.text_layout.specs.Limits.{max_anchor, max_framed, max_place, max_script_length}
+use Rattle.text_layout.specs.Anchors.{IsBlockSide, edge_at, event_margin_or, whole_pixels}
+use Rattle.text_layout.specs.Limits.{max_anchor, max_framed, max_block_place, max_script_length}
 use Rattle.text_layout.specs.Scales.{pixel}
 
 -- the number that 32 bits hold, and the one that 64 bits hold
@@ -20,26 +20,26 @@ bits_64 z = to_z w64 (of_z w64 z)
 pub whole_bits : (z : ℤ) → IsWithin max_whole z → bits_32 z ≡ z
 whole_bits z h = let f : FitsSigned w32 z = omega (arith, ints) in to_z-of_z f
 
-pub place_bits : (z : ℤ) → IsWithin max_place z → bits_64 z ≡ z
+pub place_bits : (z : ℤ) → IsWithin max_block_place z → bits_64 z ≡ z
 place_bits z h = let f : FitsSigned w64 z = omega (arith, ints) in to_z-of_z f
 
 pub framed_bits : (z : ℤ) → IsWithin max_framed z → bits_64 z ≡ z
-framed_bits z h = place_bits z (IsWithin-wider max_framed max_place z (omega arith) h)
+framed_bits z h = place_bits z (IsWithin-wider max_framed max_block_place z (omega arith) h)
 
 -- ---- margins
 
-pub margin_within : (event style : ℤ) → IsWithin max_whole event → IsWithin max_whole style → IsWithin max_whole (margin_or event style)
+pub margin_within : (event style : ℤ) → IsWithin max_whole event → IsWithin max_whole style → IsWithin max_whole (event_margin_or event style)
 margin_within event style h k = elim (int_eq event (pos 0)) as (λ b. IsWithin max_whole (cond b style event)) [ true ↦ k | false ↦ h ]
 
-pub margin_bits : (event style r : ℤ) → IsWithin max_whole event → IsWithin max_whole style → r ≡ margin_or (bits_32 event) (bits_32 style)
-    → bits_32 r ≡ margin_or event style
+pub margin_bits : (event style r : ℤ) → IsWithin max_whole event → IsWithin max_whole style → r ≡ event_margin_or (bits_32 event) (bits_32 style)
+    → bits_32 r ≡ event_margin_or event style
 margin_bits event style r h k is =
-    ap bits_32 (is ∙ ap₂ margin_or (whole_bits event h) (whole_bits style k)) ∙ whole_bits (margin_or event style) (margin_within event style h k)
+    ap bits_32 (is ∙ ap₂ event_margin_or (whole_bits event h) (whole_bits style k)) ∙ whole_bits (event_margin_or event style) (margin_within event style h k)
 
 -- a margin in 64 bits
 pub long_bits : (margin r : ℤ) → IsWithin max_whole margin → r ≡ bits_32 margin → bits_64 r ≡ margin
 long_bits margin r h is =
-    ap bits_64 (is ∙ whole_bits margin h) ∙ place_bits margin (IsWithin-wider max_whole max_place margin (omega arith) h)
+    ap bits_64 (is ∙ whole_bits margin h) ∙ place_bits margin (IsWithin-wider max_whole max_block_place margin (omega arith) h)
 
 -- the farthest from 0 that the room between margins is, in script pixels
 abbrev pub max_inner : ℕ
@@ -55,7 +55,7 @@ pixels_within n h = (omega (arith, ints), omega (arith, ints))
 pub pixels_bits : (n m : ℤ) → IsWithin max_inner n → m ≡ n → bits_64 (pos 1000 *ℤ m) ≡ whole_pixels n
 pixels_bits n m h is =
     ap (λ z. bits_64 (whole_pixels z)) is
-    ∙ place_bits (whole_pixels n) (IsWithin-wider max_script_length max_place (whole_pixels n) (omega arith) (pixels_within n h))
+    ∙ place_bits (whole_pixels n) (IsWithin-wider max_script_length max_block_place (whole_pixels n) (omega arith) (pixels_within n h))
 
 pub inner_within : (res : ℕ) (left right : ℤ) → IsCanvasSide res → IsWithin max_whole left → IsWithin max_whole right → IsWithin max_inner ((pos res -ℤ left) -ℤ right)
 inner_within res left right few h k = (omega (arith, ints), omega (arith, ints))
@@ -81,7 +81,7 @@ far_bits side a margin few is h =
     let y : bits_64 (pos 64 *ℤ bits_64 a) ≡ pos (pixel * side) =
     ap (λ z. bits_64 (pos 64 *ℤ z)) x ∙ place_bits (pos (pixel * side)) (omega (arith, ints), omega (arith, ints)) in
     ap bits_64 (ap₂ ◌-ℤ◌ y (framed_bits margin h))
-    ∙ place_bits (pos (pixel * side) -ℤ margin) (IsWithin-wider max_anchor max_place (pos (pixel * side) -ℤ margin) (omega arith) (far_within side margin few h))
+    ∙ place_bits (pos (pixel * side) -ℤ margin) (IsWithin-wider max_anchor max_block_place (pos (pixel * side) -ℤ margin) (omega arith) (far_within side margin few h))
 
 pub edge_same : (r near far a b : ℤ) (e f : Edge) → r ≡ edge_at e a b → e ≡ f → a ≡ near → b ≡ far → r ≡ edge_at f near far
 edge_same r near far a b e f is p q s = is ∙ ap (λ (edge : Edge). edge_at edge a b) p ∙ ap₂ (edge_at f) q s
@@ -90,6 +90,6 @@ edge_same r near far a b e f is p q s = is ∙ ap (λ (edge : Edge). edge_at edg
 
 pub corner_bits : (a r side : ℤ) → IsWithin max_anchor a → IsBlockSide side → pos 0 ≤ℤ r → r ≤ℤ side → bits_64 (bits_64 a -ℤ bits_64 r) ≡ a -ℤ r
 corner_bits a r side h k least most =
-    let x = place_bits a (IsWithin-wider max_anchor max_place a (omega arith) h) in
+    let x = place_bits a (IsWithin-wider max_anchor max_block_place a (omega arith) h) in
     let y = place_bits r (omega (arith, ints), omega (arith, ints)) in
     ap bits_64 (ap₂ ◌-ℤ◌ x y) ∙ place_bits (a -ℤ r) (omega (arith, ints), omega (arith, ints))

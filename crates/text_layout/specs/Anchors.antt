@@ -18,16 +18,16 @@ use Rattle.text_layout.specs.Limits.{max_block}
 use Rattle.text_layout.specs.Scales.{framed, pixel, whole_milli}
 
 -- a margin of the event, or where it is 0 that of its style
-abbrev pub margin_or : ℤ → ℤ → ℤ
-margin_or event style = if int_eq event (pos 0) then style else event
+abbrev pub event_margin_or : ℤ → ℤ → ℤ
+event_margin_or event style = if int_eq event (pos 0) then style else event
 
 abbrev pub margins_of : ScriptValue → Event → Margins
 margins_of script event =
     let style = style_for event.style script in
     record {
-      left = margin_or event.margin_l style.margin_l;
-      right = margin_or event.margin_r style.margin_r;
-      vertical = margin_or event.margin_v style.margin_v;
+      left = event_margin_or event.margin_l style.margin_l;
+      right = event_margin_or event.margin_r style.margin_r;
+      vertical = event_margin_or event.margin_v style.margin_v;
     }
 
 -- so many script pixels as a length
@@ -40,12 +40,12 @@ wrapping_width header margins size =
     int_max (framed (whole_pixels ((pos header.res_x -ℤ margins.left) -ℤ margins.right)) size.w header.res_x) (pos 0)
 
 -- where an alignment puts the block across the frame: 1, 4 and 7 at the left, 2, 5 and 8 in the middle, 3, 6 and 9 at the right
-abbrev pub column_of : ℕ → Edge
-column_of align = if align % 3 == 1 then Near else (if align % 3 == 2 then Middle else Far)
+abbrev pub edge_across : ℕ → Edge
+edge_across align = if align % 3 == 1 then Near else (if align % 3 == 2 then Middle else Far)
 
 -- where it puts it down the frame: 7, 8 and 9 at the top, 4, 5 and 6 in the middle, 1, 2 and 3 at the bottom
-abbrev pub row_of : ℕ → Edge
-row_of align = if nat_le 7 align then Near else (if nat_le 4 align then Middle else Far)
+abbrev pub edge_down : ℕ → Edge
+edge_down align = if nat_le 7 align then Near else (if nat_le 4 align then Middle else Far)
 
 -- the place of an edge between two others
 abbrev pub edge_at : Edge → ℤ → ℤ → ℤ
@@ -64,8 +64,8 @@ margin_anchor header margins align size =
     let right = framed (whole_pixels margins.right) size.w header.res_x in
     let vertical = framed (whole_pixels margins.vertical) size.h header.res_y in
     record {
-      x = edge_at (column_of align) left (pos (pixel * size.w) -ℤ right);
-      y = edge_at (row_of align) vertical (pos (pixel * size.h) -ℤ vertical);
+      x = edge_at (edge_across align) left (pos (pixel * size.w) -ℤ right);
+      y = edge_at (edge_down align) vertical (pos (pixel * size.h) -ℤ vertical);
     }
 
 -- the anchor by the point of `\pos` or `\move`, or else by the margins
@@ -79,8 +79,8 @@ anchor script event view size = anchor_by script.header (margins_of script event
 -- the upper left corner of a block of this width and height at an anchor
 abbrev pub block_corner : Point → ℕ → ℤ → ℤ → Point
 block_corner anchor align width height = record {
-  x = anchor.x -ℤ edge_within (column_of align) width;
-  y = anchor.y -ℤ edge_within (row_of align) height;
+  x = anchor.x -ℤ edge_within (edge_across align) width;
+  y = anchor.y -ℤ edge_within (edge_down align) height;
 }
 
 -- ---- ranges

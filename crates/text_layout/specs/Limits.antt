@@ -30,17 +30,17 @@ abbrev pub max_framed : ℕ
 max_framed = 2 ^ 52
 
 -- the most lines of a text: one more than it has items, if all of them are breaks
-abbrev pub max_lines : ℕ
-max_lines = max_text_bytes + 1
+abbrev pub max_block_lines : ℕ
+max_block_lines = max_text_bytes + 1
 
 -- the widest and the highest that a block may be: each line reaches above and below its baseline
 abbrev pub max_block : ℕ
-max_block = max_lines * (2 * max_width)
+max_block = max_block_lines * (2 * max_width)
 
 -- the farthest from 0 that an anchor may lie
 abbrev pub max_anchor : ℕ
 max_anchor = 2 ^ 53
 
 -- the farthest from 0 that an edge may lie
-abbrev pub max_place : ℕ
-max_place = 2 ^ 60
+abbrev pub max_block_place : ℕ
+max_block_place = 2 ^ 60

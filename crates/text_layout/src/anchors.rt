@@ -5,8 +5,8 @@ ghost use Rattle.ass_num.specs.Limits.{IsFrameSize, IsPointWithin, IsWithin};
 ghost use Rattle.ass_script.specs.Ranges.{IsScript, IsScriptHeader, IsStyle};
 ghost use Rattle.ass_events.specs.Ranges.{IsEvent};
 ghost use Rattle.override_tags.specs.Views.{IsHeldPlace};
-ghost use Rattle.text_layout.specs.Limits.{max_anchor, max_place};
-ghost use Rattle.text_layout.specs.Anchors.{IsBlockSide, IsMargins, anchor, block_corner, column_of, edge_at, edge_within, margin_anchor, margin_or, margins_of, row_of, wrapping_width};
+ghost use Rattle.text_layout.specs.Limits.{max_anchor, max_block_place};
+ghost use Rattle.text_layout.specs.Anchors.{IsBlockSide, IsMargins, anchor, block_corner, edge_across, edge_at, edge_within, margin_anchor, event_margin_or, margins_of, edge_down, wrapping_width};
 
 use crate::scales::framed;
 use ass_events::Event;
@@ -34,7 +34,7 @@ enum Edge {
 
 /// A margin of the event, or where it is 0 that of its style (ASS specification, "MarginL").
 fn margin_or(event: i32, style: i32) -> i32
-    ensures { result ≡ margin_or event style }
+    ensures { result ≡ event_margin_or event style }
 {
     if event == 0 { style } else { event }
 }
@@ -67,7 +67,7 @@ pub fn wrapping_width(header: &Header, margins: &Margins, size: &Size) -> Fix
 
 /// Where an alignment puts a block across the frame (Aegisub tag reference, "\an").
 fn column_of(align: u8) -> Edge
-    ensures { result ≡ column_of align }
+    ensures { result ≡ edge_across align }
 {
     match align % 3 {
         1 => Edge::Near,
@@ -78,7 +78,7 @@ fn column_of(align: u8) -> Edge
 
 /// Where it puts a block down the frame.
 fn row_of(align: u8) -> Edge
-    ensures { result ≡ row_of align }
+    ensures { result ≡ edge_down align }
 {
     if align >= 7 {
         Edge::Near
@@ -91,8 +91,8 @@ fn row_of(align: u8) -> Edge
 
 /// The place of an edge between two others.
 fn edge_at(edge: Edge, near: Fix, far: Fix) -> Fix
-    requires near { IsWithin max_place near }
-    requires far { IsWithin max_place far }
+    requires near { IsWithin max_block_place near }
+    requires far { IsWithin max_block_place far }
     ensures value { result ≡ edge_at edge near far }
     ensures within { (limit : ℕ) → IsWithin limit near → IsWithin limit far → IsWithin limit result }
 {
@@ -106,7 +106,7 @@ fn edge_at(edge: Edge, near: Fix, far: Fix) -> Fix
 /// How far the edge of something of this length lies from its near end.
 fn edge_within(edge: Edge, length: Fix) -> Fix
     requires from_zero { pos 0 ≤ℤ length }
-    requires most { length ≤ℤ pos max_place }
+    requires most { length ≤ℤ pos max_block_place }
     ensures value { result ≡ edge_within edge length }
     ensures least { pos 0 ≤ℤ result }
     ensures most { result ≤ℤ length }
