@@ -8,7 +8,7 @@ use std::process::Abort;
 use std::sync::Wait;
 use std::test::Fail;
 
-/// Offers a chunk with its time.
+/// Offers a chunk of at most 100 bytes with its time.
 fn offer<R: Wait + AllocGlobal>(
     rt: &R,
     track: &Track,
@@ -20,7 +20,11 @@ fn offer<R: Wait + AllocGlobal>(
     requires { IsOf track.now pass × (pass.number ≡ 0) }
     ensures { IsOf track.now result.0 × (result.0.number ≡ 0) }
 {
-    track.feed(rt, rt.alloc(), pass, chunk.as_bytes(), start, duration)
+    let bytes = chunk.as_bytes();
+    if bytes.len() > 100 {
+        return (pass, Feed::OutOfMemory);
+    }
+    track.feed(rt, rt.alloc(), pass, bytes, start, duration)
 }
 
 fn flush<R: Wait>(rt: &R, track: &Track, pass: TrackPass) -> (TrackPass, Flushed)
