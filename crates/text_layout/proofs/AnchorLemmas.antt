@@ -1,30 +1,15 @@
 -- Margins, edges and corners in the bits that hold them.
-use Rattle.std.proofs.Common.{◌≡◌, ℕ, ◌*◌, ◌≤◌, true, false, cond, ℤ, pos, ◌-ℤ◌, ◌*ℤ◌, ◌≤ℤ◌, FitsSigned, w32, w64, to_z, of_z, to_z-of_z, ap, ap₂, ◌∙◌, arith}
+use Rattle.std.proofs.Common.{◌≡◌, ℕ, ◌*◌, ◌≤◌, true, false, cond, ℤ, pos, ◌-ℤ◌, ◌*ℤ◌, ◌≤ℤ◌, ap, ap₂, ◌∙◌, arith}
 use Rattle.std.specs.Ordering.{int_eq}
 use Rattle.std.proofs.lemmas.Int.{ints}
 use Rattle.ass_num.specs.Limits.{IsWithin, max_frame_side, max_whole}
 use Rattle.ass_num.proofs.LimitLemmas.{IsWithin-wider}
 use Rattle.ass_script.specs.Ranges.{IsCanvasSide}
+use Rattle.text_layout.proofs.BitLemmas.{bits_32, bits_64, framed_bits, place_bits, whole_bits}
 use Rattle.text_layout.specs.declared.anchors.Edge.{Edge}
 use Rattle.text_layout.specs.Anchors.{IsBlockSide, edge_at, event_margin_or, whole_pixels}
 use Rattle.text_layout.specs.Limits.{max_anchor, max_framed, max_block_place, max_script_length}
 use Rattle.text_layout.specs.Scales.{pixel}
-
--- the number that 32 bits hold, and the one that 64 bits hold
-abbrev pub bits_32 : ℤ → ℤ
-bits_32 z = to_z w32 (of_z w32 z)
-
-abbrev pub bits_64 : ℤ → ℤ
-bits_64 z = to_z w64 (of_z w64 z)
-
-pub whole_bits : (z : ℤ) → IsWithin max_whole z → bits_32 z ≡ z
-whole_bits z h = let f : FitsSigned w32 z = omega (arith, ints) in to_z-of_z f
-
-pub place_bits : (z : ℤ) → IsWithin max_block_place z → bits_64 z ≡ z
-place_bits z h = let f : FitsSigned w64 z = omega (arith, ints) in to_z-of_z f
-
-pub framed_bits : (z : ℤ) → IsWithin max_framed z → bits_64 z ≡ z
-framed_bits z h = place_bits z (IsWithin-wider max_framed max_block_place z (omega arith) h)
 
 -- ---- margins
 

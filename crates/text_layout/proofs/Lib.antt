@@ -1,4 +1,5 @@
 pub mod AnchorLemmas
+pub mod BitLemmas
 pub mod ClusterLemmas
 pub mod ScaleLemmas
 pub mod SpanLemmas

@@ -4,6 +4,7 @@
 mod anchors;
 mod clusters;
 mod kinds;
+mod metrics;
 mod scales;
 mod spans;
 #[cfg(test)]
@@ -12,5 +13,6 @@ mod tests;
 pub use anchors::{Margins, anchor, block_corner, margins_of, wrapping_width};
 pub use ass_num::{Matrix, Point, Size};
 pub use clusters::cluster_ends;
+pub use metrics::{Metrics, all_metrics};
 pub use scales::{clip_matrix, drawing_matrix, framed, text_matrix};
 pub use spans::{Span, line_spans};

@@ -19,7 +19,7 @@ use override_tags::State;
 const MAX_SCALE: i64 = 1_099_511_627_776;
 
 /// The product of two numbers that a script may have.
-fn product(a: Milli, b: Milli) -> i128
+pub(crate) fn product(a: Milli, b: Milli) -> i128
     requires a { IsHeldNumber a }
     requires b { IsHeldNumber b }
     ensures value { result ≡ a *ℤ b }
@@ -29,7 +29,7 @@ fn product(a: Milli, b: Milli) -> i128
 }
 
 /// A multiple of a number, divided and rounded down.
-fn divided(a: i128, factor: u64, divisor: u64) -> i128
+pub(crate) fn divided(a: i128, factor: u64, divisor: u64) -> i128
     requires number { IsWithin max_dividend a }
     requires factor { factor ≤ max_factor }
     requires divisor { 0 < divisor }

@@ -4,7 +4,8 @@ use Rattle.ass_num.proofs.LimitLemmas.{IsWithin-wider}
 use Rattle.text_layout.specs.Anchors.{whole_pixels}
 use Rattle.text_layout.specs.Limits.{max_anchor, max_framed}
 use Rattle.text_layout.specs.Scales.{framed}
-use Rattle.text_layout.proofs.AnchorLemmas.{bits_64, edge_same, far_bits, far_within, framed_bits, long_bits, margin_inner, pixels_bits}
+use Rattle.text_layout.proofs.AnchorLemmas.{edge_same, far_bits, far_within, long_bits, margin_inner, pixels_bits}
+use Rattle.text_layout.proofs.BitLemmas.{bits_64, framed_bits}
 use Rattle.text_layout.proofs.anchors.margin_anchor.Goals as goal
 
 left_is : (c : goal.After-edge_at-2) → c.framed-left.result ≡ framed (whole_pixels c.args.margins.now.left) c.args.size.now.w c.args.header.now.res_x

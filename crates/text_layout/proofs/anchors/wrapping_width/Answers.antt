@@ -4,7 +4,8 @@ use Rattle.std.specs.Int.{int_max}
 use Rattle.ass_num.specs.Limits.{IsWithin}
 use Rattle.text_layout.specs.Limits.{max_script_length}
 use Rattle.text_layout.specs.Scales.{framed}
-use Rattle.text_layout.proofs.AnchorLemmas.{framed_bits, inner_bits, inner_within, pixels_bits, pixels_within}
+use Rattle.text_layout.proofs.AnchorLemmas.{inner_bits, inner_within, pixels_bits, pixels_within}
+use Rattle.text_layout.proofs.BitLemmas.{framed_bits}
 use Rattle.text_layout.proofs.anchors.wrapping_width.Goals as goal
 
 script_length_fits : (z : ℤ) → IsWithin max_script_length z → FitsSigned w64 z

@@ -1,0 +1,34 @@
+use Rattle.std.proofs.Common.{◌≡◌, ◌∙◌, ℤ, ap, ap₂, FitsSigned, w32, w64, to_z-of_z, refl, rules}
+use Rattle.ass_num.specs.declared.geometry.Matrix.{Matrix}
+use Rattle.text_layout.specs.Metrics.{held_extent, scaled_pixels, spacing_of}
+use Rattle.text_layout.specs.Scales.{text_matrix}
+use Rattle.text_layout.proofs.BitLemmas.{bits_64, held_bits, scale_bits}
+use Rattle.text_layout.proofs.ScaleLemmas.{held_is_number}
+use Rattle.text_layout.proofs.metrics.metrics_of.Goals as goal
+use mir.Syntax.{w128}
+
+pub returns-clause-value : goal.returns-clause-value
+returns-clause-value c =
+    let m = text_matrix c.args.header.now c.args.font.now c.args.state.now c.args.size.now in
+    let matrix = c.text_matrix-m.ensures.value in
+    let ux : bits_64 c.text_matrix-m.result.ux ≡ m.ux = scale_bits _ c.text_matrix-m.ensures.range.ux ∙ ap (λ (t : Matrix). t.ux) matrix in
+    let uy : bits_64 c.text_matrix-m.result.uy ≡ m.uy = scale_bits _ c.text_matrix-m.ensures.range.uy ∙ ap (λ (t : Matrix). t.uy) matrix in
+    let f1 : FitsSigned w32 c.ascent.result = search rules in
+    let f2 : FitsSigned w128 c.scaled_pixels.result = search rules in
+    let f3 : FitsSigned w64 c.held_extent.result = search rules in
+    let g1 : FitsSigned w32 c.descent.result = search rules in
+    let g2 : FitsSigned w128 c.scaled_pixels-2.result = search rules in
+    let g3 : FitsSigned w64 c.held_extent-2.result = search rules in
+    let h : FitsSigned w64 c.spacing_of.result = search rules in
+    let ascent =
+    to_z-of_z f3 ∙ c.held_extent.ensures.value
+    ∙ ap held_extent (to_z-of_z f2 ∙ c.scaled_pixels.ensures.value ∙ ap₂ scaled_pixels (to_z-of_z f1 ∙ c.ascent.ensures) uy) in
+    let descent =
+    to_z-of_z g3 ∙ c.held_extent-2.ensures.value
+    ∙ ap held_extent (to_z-of_z g2 ∙ c.scaled_pixels-2.ensures.value ∙ ap₂ scaled_pixels (to_z-of_z g1 ∙ c.descent.ensures) uy) in
+    let spacing =
+    to_z-of_z h ∙ c.spacing_of.ensures.value
+    ∙ ap₂ (λ a b. spacing_of a b c.args.size.now.w c.args.header.now.res_x)
+    (held_bits c.args.state.now.spacing c.requires.spacing)
+    (held_bits c.args.state.now.scale_x (held_is_number c.args.state.now.scale_x c.requires.scale_x)) in
+    rw (ux, ascent, descent, spacing, c.drawing_matrix.ensures.value) refl
