@@ -5,3 +5,4 @@ pub mod ChoiceLemmas
 pub mod PenLemmas
 pub mod FontLemmas
 pub mod StateEquality
+pub mod WalkLemmas

@@ -6,3 +6,5 @@ pub mod Choices
 pub mod Steps
 pub mod Laws
 pub mod Walks
+pub mod Looks
+pub mod Views

@@ -1,17 +1,30 @@
 -- Inner: what holds while the items of a text are walked.
-use Rattle.std.specs.Prelude.{◌≡◌, ℕ, ◌+◌, ◌*◌, ◌≤◌, pos, ◌≤ℤ◌, List, length, Some, slice_get}
+use Rattle.std.specs.Prelude.{◌≡◌, ℕ, ◌+◌, ◌-◌, ◌*◌, ◌<◌, ◌≤◌, ℤ, pos, ◌≤ℤ◌, List, [], ◌∷◌, ◌++◌, length, take, drop, Option, Some, None, slice_get, IfSome, All}
 use Rattle.std.specs.BTreeMap.{get, get_by_text}
 use Rattle.std.specs.Ordering.{nat_cmp}
 use Rattle.ass_script.specs.Scripts.{ScriptValue, style_for}
 use Rattle.ass_script.specs.declared.style.Style.{Style}
+use Rattle.ass_num.specs.Limits.{max_text_bytes}
+use Rattle.ass_events.specs.declared.event.Event.{Event}
+use Rattle.override_tags.specs.Laws.{Follow, IsAtCharacters}
 use Rattle.override_tags.specs.Limits.{max_syllable}
+use Rattle.override_tags.specs.Ranges.{IsHeldItem}
+use Rattle.override_tags.specs.declared.item.Item.{Item}
+use Rattle.override_tags.specs.declared.view.Shown.{Shown}
 use Rattle.override_tags.specs.declared.view.State.{State}
-use Rattle.tag_state.specs.Setters.{Effect, style_in_force}
+use Rattle.tag_state.specs.Setters.{Effect, past_all, style_in_force}
 use Rattle.tag_state.specs.Syllables.{sung_until, syllables_in}
 use Rattle.tag_state.specs.States.{IsStateAt}
+use Rattle.tag_state.specs.Looks.{Look, AreLooks, IsShownText, BeginsNoText}
+use Rattle.tag_state.specs.Views.{AreSeen, HasState}
 use Rattle.tag_state.specs.declared.fonts.Fonts.{Fonts}
 use Rattle.tag_state.specs.declared.pen.Face.{Face}
 use Rattle.tag_state.specs.declared.pen.Pen.{Pen}
+use Rattle.tag_state.specs.declared.sheet.Sheet.{Sheet}
+
+-- the effects before the item at a place
+abbrev pub before_at : Event → ℤ → List Item → ℕ → List Effect
+before_at event elapsed items place = past_all event.duration elapsed [] (take place items)
 
 -- Names and numbers find each other, and a style's number is that of its font.
 pub record AreFonts (script : ScriptValue) (fonts : Fonts) : Type 0 where
@@ -44,3 +57,41 @@ pub record IsPen (script : ScriptValue) (own : List ℕ) (before : List Effect) 
 pub record IsLast (states : List State) (state : State) (number : ℕ) : Type 0 where
   pub place : number + 1 ≡ length states
   pub there : slice_get states number ≡ Some state
+
+-- What was shown of the items before a place: at most one for each item, and what the rest shows is shown behind it.
+pub record IsSheet (script : ScriptValue) (event : Event) (elapsed : ℤ) (items : List Item) (place : ℕ) (pen : Pen) (sheet : Sheet) : Type 0 where
+  pub looks : List Look
+  pub seen : AreSeen script event.style pen.fonts.names sheet.states sheet.items looks
+  pub shows : (rest : List Look) → AreLooks event.text event.duration elapsed (before_at event elapsed items place) (drop place items) rest → AreLooks event.text event.duration elapsed [] items (looks ++ rest)
+  pub few : length sheet.items ≤ place
+  pub few_states : length sheet.states ≤ place
+  pub current : IfSome sheet.current (IsLast sheet.states pen.state)
+
+-- The walk over a text has come to a place.
+pub record IsAt (script : ScriptValue) (event : Event) (elapsed : ℤ) (items : List Item) (place : ℕ) (pen : Pen) (sheet : Sheet) : Type 0 where
+  pub state : IsPen script event.style (before_at event elapsed items place) place pen
+  pub shown : IsSheet script event elapsed items place pen sheet
+  pub within : place ≤ length items
+
+-- The whole text was walked: what it shows, and the state behind it as the last one.
+pub record IsWalked (script : ScriptValue) (event : Event) (elapsed : ℤ) (items : List Item) (pen : Pen) (sheet : Sheet) : Type 0 where
+  pub behind : IsPen script event.style (past_all event.duration elapsed [] items) (length items) pen
+  pub looks : List Look
+  pub shows : AreLooks event.text event.duration elapsed [] items looks
+  pub seen : AreSeen script event.style pen.fonts.names sheet.states sheet.items looks
+  pub last : HasState script event.style pen.fonts.names sheet.states (past_all event.duration elapsed [] items) (length sheet.states - 1)
+  pub few : length sheet.items ≤ length items
+
+-- the items of a text, each in its range, one behind the other, and not too many
+pub record AreItemsOf (text : List ℕ) (items : List Item) : Type 0 where
+  pub held : All IsHeldItem items
+  pub cuts : All (IsAtCharacters text) items
+  pub follow : Follow 0 items (length text)
+  pub few : length items ≤ max_text_bytes
+
+-- the items from one place up to another are text, and behind them a block begins or nothing stands
+pub record IsSliceTo (items : List Item) (place end : ℕ) : Type 0 where
+  pub some : place < end
+  pub within : end ≤ length items
+  pub text : (k : ℕ) (i : Item) → place ≤ k → k < end → slice_get items k ≡ Some i → IsShownText i
+  pub behind : BeginsNoText (drop end items)

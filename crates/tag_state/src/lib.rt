@@ -11,6 +11,7 @@ mod sheet;
 mod state;
 mod steps;
 mod syllables;
+mod walk;
 
 pub use choices::{align_of, clip_of, fade_of, origin_of, point_of, wrap_of};
 pub use laws::looks_back;

@@ -6,7 +6,7 @@ ghost use Rattle.override_tags.specs.Ranges.{IsHeldTag};
 ghost use Rattle.override_tags.specs.declared.tag.Tag.TheVariants.{FontName, Reset};
 ghost use Rattle.tag_state.specs.Setters.{Effect, Plain, effects_of_tag};
 ghost use Rattle.tag_state.specs.Steps.{HasSongRoom};
-ghost use Rattle.tag_state.specs.Walks.{IsPen};
+ghost use Rattle.tag_state.specs.Walks.{IsPen, Grow};
 
 use crate::fonts::Fonts;
 use crate::state::{restyled, styled};
@@ -54,7 +54,8 @@ impl<'a> Pen<'a> {
     /// Sets the font of a name.
     fn set_font(&mut self, alloc: Global, name: &str) -> Mem<()>
         requires room { length self.old.fonts.names + 1 < 2 ^ 32 }
-        ensures { (script : ScriptValue) (own : List ℕ) (before : List Effect) (tags : ℕ) → IsPen script own before tags self.old → OnOk result (IsPen script own (Plain (FontName name.now) ∷ before) (tags + 1) self.new) }
+        ensures grown { OnOk result (Grow self.old.fonts.names self.new.fonts.names) }
+        ensures pen { (script : ScriptValue) (own : List ℕ) (before : List Effect) (tags : ℕ) → IsPen script own before tags self.old → OnOk result (IsPen script own (Plain (FontName name.now) ∷ before) (tags + 1) self.new) }
     {
         if name.is_empty() {
             self.state.font = self.face.font;
@@ -67,7 +68,8 @@ impl<'a> Pen<'a> {
     /// Resets to the style of a name, or to the event's own one.
     fn reset(&mut self, alloc: Global, script: &'a Script, name: &str) -> Mem<()>
         requires room { length self.old.fonts.names + 1 < 2 ^ 32 }
-        ensures { (own : List ℕ) (before : List Effect) (tags : ℕ) → IsPen script.now own before tags self.old → OnOk result (IsPen script.now own (Plain (Reset name.now) ∷ before) (tags + 1) self.new) }
+        ensures grown { OnOk result (Grow self.old.fonts.names self.new.fonts.names) }
+        ensures pen { (own : List ℕ) (before : List Effect) (tags : ℕ) → IsPen script.now own before tags self.old → OnOk result (IsPen script.now own (Plain (Reset name.now) ∷ before) (tags + 1) self.new) }
     {
         if name.is_empty() {
             self.face = self.own;
@@ -92,7 +94,8 @@ impl<'a> Pen<'a> {
         requires held { IsHeldTag tag.now }
         requires room { length self.old.fonts.names + 1 < 2 ^ 32 }
         requires song { IfSome self.old.state.sung HasSongRoom }
-        ensures { (own : List ℕ) (before : List Effect) (tags : ℕ) → IsPen script.now own before tags self.old → OnOk result (IsPen script.now own (reverse (effects_of_tag event.now.duration elapsed tag.now) ++ before) (tags + 1) self.new) }
+        ensures grown { OnOk result (Grow self.old.fonts.names self.new.fonts.names) }
+        ensures pen { (own : List ℕ) (before : List Effect) (tags : ℕ) → IsPen script.now own before tags self.old → OnOk result (IsPen script.now own (reverse (effects_of_tag event.now.duration elapsed tag.now) ++ before) (tags + 1) self.new) }
     {
         let style = self.face.style;
         match tag {

@@ -1,0 +1,17 @@
+use Rattle.std.proofs.Common.{arith, to_z-of_z, ℤ, sym, subst}
+use Rattle.tag_state.specs.Walks.{IsAt}
+use Rattle.tag_state.proofs.WalkLemmas.{at_front, walked}
+use Rattle.tag_state.proofs.walk.walk.Goals as goal
+
+pub loop-place-init : goal.loop-place-init
+loop-place-init c =
+    let P : ℤ → Type 0 = λ z. IsAt c.args.script.now c.args.event.now z c.args.items.now 0 c.args.pen.now c.new-sheet.result in
+    subst P (sym (to_z-of_z c.ranges.elapsed))
+    (at_front c.args.script.now c.args.event.now c.args.elapsed c.args.items.now c.args.pen.now c.new-sheet.result c.requires.pen c.new-sheet.ensures.states c.new-sheet.ensures.items c.new-sheet.ensures.current)
+
+pub returns : goal.returns
+returns c =
+    let P : ℤ → Type 0 = λ z. IsAt c.args.script.now c.args.event.now z c.args.items.now c.loop-place.place c.loop-place.pen c.loop-place.sheet in
+    let at : IsAt c.args.script.now c.args.event.now c.args.elapsed c.args.items.now c.loop-place.place c.loop-place.pen c.loop-place.sheet = subst P (to_z-of_z c.ranges.elapsed) c.loop-place.invariant in
+    walked c.args.script.now c.args.event.now c.args.elapsed c.args.items.now c.loop-place.place c.loop-place.pen c.loop-place.sheet c.number_of.new.self c.in_ok-_last._last at
+    (omega (arith, c.loop-place-test.false)) c.in_ok-_last.ensures.number c.in_ok-_last.ensures.grown c.in_ok-_last.ensures.items
