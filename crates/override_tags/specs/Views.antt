@@ -1,4 +1,4 @@
--- Inner: the ranges of states and of what an event shows at an instant. They are conditions of calls.
+-- Public: the ranges of states and of what an event shows at an instant. They are conditions of calls.
 use Rattle.std.specs.Prelude.{◌≡◌, ℕ, ◌<◌, ◌≤◌, ◌⊎◌, ℤ, pos, ◌≤ℤ◌, length, All, IfSome}
 use Rattle.ass_num.specs.Limits.{max_text_bytes, IsHeldNumber, IsHeldLength}
 use Rattle.ass_num.specs.Paths.{IsPath}

@@ -7,7 +7,7 @@ use Rattle.clap.specs.Faults.{check_fault, entered_fault, defaults_fault, fault_
 use Rattle.clap.specs.Kinds.{HasKind, Kinds, or_else}
 use Rattle.clap.specs.Matches.{found_of, subcommand_name_of}
 use Rattle.clap.specs.Simple.{App, HasMatchesOf, Shape, is_simple, argument_words, built, entered, label_of, names_of, rows_at, subcommand_of, subcommand_rows, subcommand_rows_of}
-use Rattle.clap.specs.Values.{argument_kind}
+use Rattle.clap.specs.Values.{kind_of}
 use Rattle.clap.specs.Walk.{Row, answers_to, finished, is_empty, nothing_held, rows_of, settled, stop_after, walk, walk_from}
 use Rattle.clap.specs.declared.error.Error.{Error}
 use Rattle.clap.specs.declared.error.kind.ErrorKind.TheVariants as kind
@@ -26,7 +26,7 @@ use Rattle.play_words.proofs.GrammarLemmas.{simple, simple_and_free}
 use Rattle.play_words.proofs.ValueLemmas.{both}
 
 -- Kinds of an error that isn't want of memory are some.
-pub some_kind : (kinds : Kinds) (e : Error) → (argument_kind e ≡ kind.OutOfMemory → ⊥) → HasKind kinds e → is_empty kinds ≡ false
+pub some_kind : (kinds : Kinds) (e : Error) → (kind_of e ≡ kind.OutOfMemory → ⊥) → HasKind kinds e → is_empty kinds ≡ false
 some_kind kinds e other (inl memory) = absurd (other memory)
 some_kind [] e other (inr among) = absurd among
 some_kind (k ∷ ks) e other (inr among) = ne_eqb _ _ (λ none. omega (arith, none))
@@ -135,7 +135,7 @@ read_ok app words m same faultless matches =
     ap (λ b. cond b (job_in (subcommand_of words_app words)) (Err Usage)) taken ∙ ap job_in (sym sub)
 
 -- words that are refused aren't of the grammar
-pub read_err : (app : App) (words : List (List ℕ)) (e : Error) → app ≡ words_app → (is_simple_and_free app ≡ true → HasKind (fault_of app words) e) → (argument_kind e ≡ kind.OutOfMemory → ⊥) →
+pub read_err : (app : App) (words : List (List ℕ)) (e : Error) → app ≡ words_app → (is_simple_and_free app ≡ true → HasKind (fault_of app words) e) → (kind_of e ≡ kind.OutOfMemory → ⊥) →
     job_of words ≡ Err Usage
 read_err app words e same fails other =
     let fault : HasKind (fault_of words_app words) e = subst (λ a. HasKind (fault_of a words) e) same (fails (ap is_simple_and_free same ∙ simple_and_free)) in

@@ -5,3 +5,4 @@ pub mod States
 pub mod Choices
 pub mod Steps
 pub mod Laws
+pub mod Walks

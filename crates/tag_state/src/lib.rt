@@ -3,8 +3,11 @@
 
 mod choices;
 mod colours;
+mod fonts;
 mod laws;
 mod numbers;
+mod pen;
+mod sheet;
 mod state;
 mod steps;
 mod syllables;

@@ -1,3 +1,4 @@
+pub mod AnchorLemmas
 pub mod ClusterLemmas
 pub mod ScaleLemmas
 pub mod SpanLemmas

@@ -1,9 +1,13 @@
 -- How far from 0 lengths of the frame lie.
-use Rattle.std.proofs.Common.{ℕ, ◌*◌, ◌≤◌, ℤ, pos, ◌*ℤ◌, FitsSigned, arith}
+use Rattle.std.proofs.Common.{ℕ, ◌*◌, ◌≤◌, ℤ, pos, ◌+ℤ◌, ◌*ℤ◌, FitsSigned, w64, arith}
 use Rattle.std.proofs.lemmas.Int.{ints}
-use Rattle.ass_num.specs.Limits.{IsWithin, IsHeldNumber, max_held}
-use Rattle.outline_points.proofs.Bounds.{within_product}
-use Rattle.text_layout.specs.Limits.{max_dividend, max_factor}
+use Rattle.ass_num.specs.Floor.{floor_div}
+use Rattle.ass_num.specs.Limits.{IsWithin, IsHeldNumber, max_frame_side, max_held}
+use Rattle.ass_num.proofs.LimitLemmas.{IsWithin-wider}
+use Rattle.ass_script.specs.Ranges.{IsCanvasSide}
+use Rattle.outline_points.proofs.Bounds.{within_product, within_quotient}
+use Rattle.text_layout.specs.Limits.{max_dividend, max_factor, max_framed, max_script_length}
+use Rattle.text_layout.specs.Scales.{framed, pixel, whole_milli}
 use mir.Syntax.{w128}
 
 pub factor_within : (n limit : ℕ) → n ≤ limit → IsWithin limit (pos n)
@@ -17,3 +21,21 @@ dividend_fits z h = omega (arith, ints)
 
 pub product_within : (a b : ℤ) → IsHeldNumber a → IsHeldNumber b → IsWithin max_dividend (a *ℤ b)
 product_within a b h k = within_product max_held max_held a b h k
+
+pub length_fits : (z : ℤ) → IsWithin max_framed z → FitsSigned w64 z
+length_fits z h = omega (arith, ints)
+
+-- the most units that a side of a frame has
+abbrev max_units : ℕ
+max_units = 262144
+
+pub framed_within : (len : ℤ) (side res : ℕ) → IsWithin max_script_length len → side ≤ max_frame_side → IsCanvasSide res → IsWithin max_framed (framed len side res)
+framed_within len side res h s r =
+    within_quotient max_framed (whole_milli * res) (len *ℤ pos (pixel * side)) (omega (arith, r.0))
+    (IsWithin-wider (max_script_length * max_units) (max_framed * (whole_milli * res)) (len *ℤ pos (pixel * side)) (omega (arith, r.0))
+    (within_product max_script_length max_units len (pos (pixel * side)) h (factor_within (pixel * side) max_units (omega arith))))
+
+-- ---- edges
+
+pub middle_within : (limit : ℕ) (near far : ℤ) → IsWithin limit near → IsWithin limit far → IsWithin limit (floor_div (near +ℤ far) (pos 2))
+middle_within limit near far h k = within_quotient limit 2 (near +ℤ far) (omega arith) (omega (arith, ints), omega (arith, ints))

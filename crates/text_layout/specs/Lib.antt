@@ -1,3 +1,4 @@
+pub mod Anchors
 pub mod Clusters
 pub mod Kinds
 pub mod Limits

@@ -1,7 +1,8 @@
--- Inner: the limits of layout.
+-- Public: the limits of layout.
 use Rattle.std.specs.Prelude.{ℕ, ◌+◌, ◌*◌, ◌^◌}
-use Rattle.ass_num.specs.Limits.{max_frame_side, max_held, one_16}
+use Rattle.ass_num.specs.Limits.{max_frame_side, max_held, max_text_bytes, one_16}
 use Rattle.bdf_font.specs.Limits.{max_ascent, max_offset}
+use Rattle.line_layout.specs.Breaks.{max_width}
 use Rattle.override_tags.specs.Limits.{max_tag_scale}
 
 -- the greatest height of a font, in its own pixels
@@ -19,3 +20,27 @@ max_factor = max_frame_side * 64 * one_16
 -- the most units of a drawing's level that make a script pixel
 abbrev pub max_level_parts : ℕ
 max_level_parts = 2 ^ max_tag_scale
+
+-- the farthest from 0 that a length of a script may be, in thousandths of its pixels
+abbrev pub max_script_length : ℕ
+max_script_length = 2 ^ 43
+
+-- the farthest from 0 that such a length is in the frame, in 1/64 pixel
+abbrev pub max_framed : ℕ
+max_framed = 2 ^ 52
+
+-- the most lines of a text: one more than it has items, if all of them are breaks
+abbrev pub max_block_lines : ℕ
+max_block_lines = max_text_bytes + 1
+
+-- the widest and the highest that a block may be: each line reaches above and below its baseline
+abbrev pub max_block : ℕ
+max_block = max_block_lines * (2 * max_width)
+
+-- the farthest from 0 that an anchor may lie
+abbrev pub max_anchor : ℕ
+max_anchor = 2 ^ 53
+
+-- the farthest from 0 that an edge may lie
+abbrev pub max_block_place : ℕ
+max_block_place = 2 ^ 60

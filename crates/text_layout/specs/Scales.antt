@@ -27,6 +27,10 @@ whole_per_cent = 100000
 abbrev pub whole_turn : ℕ
 whole_turn = 360000
 
+-- A length of the script, in a frame whose `side` pixels show `res` pixels of the script.
+abbrev pub framed : ℤ → ℕ → ℕ → ℤ
+framed len side res = floor_div (len *ℤ pos (pixel * side)) (pos (whole_milli * res))
+
 -- the height of a font above and below the baseline, at least 1
 abbrev pub em_height : FontValue → ℕ
 em_height font = unsigned_abs (int_max (font.ascent +ℤ font.descent) (pos 1))

@@ -1,6 +1,7 @@
 //! Stages of the layout of an event's text: matrices, grapheme clusters, paragraphs and their lines.
 #![tactic(auto)]
 
+mod anchors;
 mod clusters;
 mod kinds;
 mod scales;
@@ -8,7 +9,8 @@ mod spans;
 #[cfg(test)]
 mod tests;
 
-pub use ass_num::{Matrix, Size};
+pub use anchors::{Margins, anchor, block_corner, margins_of, wrapping_width};
+pub use ass_num::{Matrix, Point, Size};
 pub use clusters::cluster_ends;
-pub use scales::{clip_matrix, drawing_matrix, text_matrix};
+pub use scales::{clip_matrix, drawing_matrix, framed, text_matrix};
 pub use spans::{Span, line_spans};

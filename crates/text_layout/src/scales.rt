@@ -7,10 +7,10 @@ ghost use Rattle.ass_script.specs.Ranges.{IsCanvasSide, IsScriptHeader};
 ghost use Rattle.bdf_font.specs.Ranges.{IsFont};
 ghost use Rattle.outline_points.specs.Placing.{IsMatrix, IsScale};
 ghost use Rattle.override_tags.specs.Limits.{max_tag_scale};
-ghost use Rattle.text_layout.specs.Limits.{max_dividend, max_em, max_factor, max_level_parts};
-ghost use Rattle.text_layout.specs.Scales.{clip_matrix, drawing_matrix, drawing_scale, em_height, fine_parts, held_scale, level_parts, text_matrix, text_scale, turn_of};
+ghost use Rattle.text_layout.specs.Limits.{max_dividend, max_em, max_factor, max_framed, max_level_parts, max_script_length};
+ghost use Rattle.text_layout.specs.Scales.{clip_matrix, drawing_matrix, drawing_scale, em_height, fine_parts, framed, held_scale, level_parts, text_matrix, text_scale, turn_of};
 
-use ass_num::{Matrix, Milli, Size, div_floor, hold};
+use ass_num::{Fix, Matrix, Milli, Size, div_floor, hold};
 use ass_script::Header;
 use bdf_font::Font;
 use override_tags::State;
@@ -36,6 +36,22 @@ fn divided(a: i128, factor: u64, divisor: u64) -> i128
     ensures { result ≡ floor_div (a *ℤ pos factor) (pos divisor) }
 {
     div_floor(a * i128::from(factor), i128::from(divisor))
+}
+
+/// A length of the script, in thousandths of its pixels, in 1/64 pixel of a frame whose `side` pixels show `res` pixels of the script
+/// (Advanced SubStation Alpha, "PlayResX").
+pub fn framed(length: Milli, side: u32, res: u32) -> Fix
+    requires length { IsWithin max_script_length length }
+    requires side { side ≤ max_frame_side }
+    requires res { IsCanvasSide res }
+    ensures value { result ≡ framed length side res }
+    ensures within { IsWithin max_framed result }
+{
+    divided(
+        i128::from(length),
+        64 * u64::from(side),
+        1_000 * u64::from(res),
+    ) as Fix
 }
 
 /// The height of a font above and below the baseline, at least 1.

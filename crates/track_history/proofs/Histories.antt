@@ -5,11 +5,13 @@ use Rattle.std.specs.List.{All, position_from}
 use Rattle.std.proofs.lemmas.Bool.{cases_Bool}
 use Rattle.std.proofs.lemmas.Bool.Decides.{nat_tests}
 use Rattle.std.proofs.lemmas.List.{length_push, append-nil}
+use Rattle.std.proofs.lemmas.List.Elements.{All-nil, All-cons, All-head, All-tail, All-append}
 use Rattle.ass_events.specs.declared.event.Event.{Event}
 use Rattle.ass_events.specs.Histories.{Entry, Chunk, Flush, HaveOwnOrders, IsHistory, max_live, max_flushes, live, live_after, flushes_of, has_order, after, flushed}
 use Rattle.track_history.specs.declared.answers.Feed.TheVariants.{Accepted, Repeated, Full}
 use Rattle.track_history.specs.declared.answers.Flushed.TheVariants.{Done, TooMany}
 use Rattle.track_history.specs.declared.live_events.LiveEvents.{LiveEvents}
+use Rattle.track_history.specs.ShortEvents.{IsShortEvent, IsShortEntry, HaveShortEvents}
 use Rattle.track_history.specs.Answers.{answer_by, extended, fed_entry, feed_answer, flush_answer, flushed_entry, position_of}
 use Rattle.track_history.specs.Tellings.{Tells, events_of}
 use Rattle.track_history.proofs.Pairs.{Pairwise-push}
@@ -58,17 +60,31 @@ IsHistory_push xs x legal flushes orders few = record {
   few = λ front rest e. ⊎_elim (λ q. legal.few front q.0 q.1) (λ whole. subst (λ (z : List Entry). length (live z) ≤ max_live) (sym whole) few) (front_cases front rest xs x e);
 }
 
+-- ---- short events
+short_push : (xs : List Entry) (x : Entry) → HaveShortEvents xs → IsShortEntry x → HaveShortEvents (xs ++ x ∷ [])
+short_push xs x h short = All-append IsShortEntry xs (x ∷ []) h (All-cons IsShortEntry x [] short (All-nil IsShortEntry))
+
+short_after : (events : List Event) (entries : List Entry) → All IsShortEvent events → HaveShortEvents entries → All IsShortEvent (live_after events entries)
+short_after events [] held h = held
+short_after events (Chunk e ∷ es) held h =
+    let one : IsShortEvent e = All-head IsShortEntry (Chunk e) es h in
+    short_after (events ++ e ∷ []) es (All-append IsShortEvent events (e ∷ []) held (All-cons IsShortEvent e [] one (All-nil IsShortEvent))) (All-tail IsShortEntry (Chunk e) es h)
+short_after events (Flush ∷ es) held h = short_after [] es (All-nil IsShortEvent) (All-tail IsShortEntry Flush es h)
+
+pub live_short : (history : List Entry) → HaveShortEvents history → All IsShortEvent (live history)
+live_short history h = short_after [] history (All-nil IsShortEvent) h
+
 -- ---- what is kept
 pub tells_nothing : (kept : LiveEvents) → events_of kept ≡ [] → kept.entries ≡ 0 → kept.flushes ≡ 0 → Tells kept []
-tells_nothing kept events entries flushes = record { events = events; entries = entries; flushes = flushes; legal = IsHistory_nil }
+tells_nothing kept events entries flushes = record { events = events; entries = entries; flushes = flushes; legal = IsHistory_nil; short = All-nil IsShortEntry }
 
 pub tells_same : (kept later : LiveEvents) (history : List Entry) → Tells kept history → events_of later ≡ events_of kept → later.entries ≡ kept.entries → later.flushes ≡ kept.flushes → Tells later history
 tells_same kept later history tells events entries flushes =
-    record { events = events ∙ tells.events; entries = entries ∙ tells.entries; flushes = flushes ∙ tells.flushes; legal = tells.legal }
+    record { events = events ∙ tells.events; entries = entries ∙ tells.entries; flushes = flushes ∙ tells.flushes; legal = tells.legal; short = tells.short }
 
-pub tells_accepted : (kept later : LiveEvents) (history : List Entry) (e : Event) → Tells kept history → position_of e.order (events_of kept) ≡ None → length (events_of kept) < max_live
+pub tells_accepted : (kept later : LiveEvents) (history : List Entry) (e : Event) → Tells kept history → IsShortEvent e → position_of e.order (events_of kept) ≡ None → length (events_of kept) < max_live
     → events_of later ≡ events_of kept ++ e ∷ [] → later.entries ≡ kept.entries + 1 → later.flushes ≡ kept.flushes → Tells later (history ++ Chunk e ∷ [])
-tells_accepted kept later history e tells absent room events entries flushes =
+tells_accepted kept later history e tells short_event absent room events entries flushes =
     let was = tells.events in
     let now : live (history ++ Chunk e ∷ []) ≡ live history ++ e ∷ [] = live-chunk history e in
     let others = subst (λ (es : List Event). All (λ a. a.order ≢ e.order) es) was (position_absent e.order (events_of kept) absent) in
@@ -83,6 +99,7 @@ tells_accepted kept later history e tells absent room events entries flushes =
       legal = IsHistory_push history (Chunk e) legal (omega (arith, no_flush, most))
           (subst HaveOwnOrders (sym now) (Pairwise-push (λ (a b : Event). a.order ≢ b.order) (live history) e (legal.orders history [] (append-nil history)) others))
           (subst (λ (es : List Event). length es ≤ max_live) (sym now) (omega (arith, length_push (live history) e, short)));
+      short = short_push history (Chunk e) tells.short short_event;
     }
 
 pub tells_flushed : (kept later : LiveEvents) (history : List Entry) → Tells kept history → kept.flushes < max_flushes → events_of later ≡ [] → later.entries ≡ kept.entries + 1 → later.flushes ≡ kept.flushes + 1
@@ -96,6 +113,7 @@ tells_flushed kept later history tells room events entries flushes =
       entries = omega (arith, entries, tells.entries, length_push history Flush);
       flushes = omega (arith, flushes, was, more);
       legal = IsHistory_push history Flush tells.legal (omega (arith, was, more, room)) (subst HaveOwnOrders (sym now) tt) (subst (λ (es : List Event). length es ≤ max_live) (sym now) (omega arith));
+      short = short_push history Flush tells.short tt;
     }
 
 -- ---- answers

@@ -7,5 +7,6 @@ pub mod Bounds
 pub mod Places
 pub mod Soundness
 pub mod Histories
+pub mod Repeats
 pub mod Turns
 pub mod LawLemmas

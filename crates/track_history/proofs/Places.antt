@@ -149,7 +149,7 @@ pairwise_back : {X Y : Type 0} (f : X → Y) (R : Y → Y → Type 0) (xs : List
 pairwise_back f R [] h = tt
 pairwise_back f R (x ∷ xs) h = (all_back f (R (f x)) xs h.0, pairwise_back f R xs h.1)
 
-near_there : {E : Type 0} (span : E → Span) (all : List E) (t : ℤ) (e : E) → IsNear span all t e → Contains all e
+pub near_there : {E : Type 0} (span : E → Span) (all : List E) (t : ℤ) (e : E) → IsNear span all t e → Contains all e
 near_there span all t e (Shown there shown) = there
 near_there span all t e (Chained near there before over) = there
 

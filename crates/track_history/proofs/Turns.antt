@@ -11,6 +11,7 @@ use Rattle.track_history.specs.declared.answers.TrackEntry.{TrackEntry}
 use Rattle.track_history.specs.declared.answers.Feed.{Feed}
 use Rattle.track_history.specs.declared.answers.Flushed.{Flushed}
 use Rattle.track_history.specs.declared.live_events.LiveEvents.{LiveEvents}
+use Rattle.track_history.specs.ShortEvents.{HaveShortEvents}
 use Rattle.track_history.specs.Answers.{IsFeedAnswer, entry_of, extended, fed_entry, flush_answer, flushed_entry}
 use Rattle.track_history.specs.Calls.{TrackView, IsTurn, IsOffered, IsFlushed, history_of}
 use Rattle.track_history.proofs.Histories.{fed_after, flushed_after}
@@ -33,8 +34,8 @@ module _ (stands : Unit {0} → LiveEvents → History TrackEntry → Type 0) (t
   seen_then : (entry : Option Entry) → option_map entry_of given ≡ entry → history_of q.seen ≡ extended (history_of turn.list) entry
   seen_then entry is = ap (λ (z : TrackView). history_of z.seen) back ∙ (history_of-with_entry turn.list turn.pass.number given ∙ ap (extended (history_of turn.list)) is)
 
-  pub turn_given : (entry : Option Entry) → option_map entry_of given ≡ entry → IsHistory (extended (history_of turn.list) entry) → IsTurn p q entry
-  turn_given entry is legal = record {
+  pub turn_given : (entry : Option Entry) → option_map entry_of given ≡ entry → IsHistory (extended (history_of turn.list) entry) → HaveShortEvents (extended (history_of turn.list) entry) → IsTurn p q entry
+  turn_given entry is legal short = record {
     given = given;
     is_entry = is;
     turn = record {
@@ -45,22 +46,23 @@ module _ (stands : Unit {0} → LiveEvents → History TrackEntry → Type 0) (t
       follows = Follows_give stands tag p turn q given taken back;
     };
     legal = subst IsHistory (sym (seen_then entry is)) legal;
+    short = subst HaveShortEvents (sym (seen_then entry is)) short;
   }
 
-  pub offered : (event : Event) (answer : Feed) → option_map entry_of given ≡ fed_entry event answer → IsHistory (extended (history_of turn.list) (fed_entry event answer))
+  pub offered : (event : Event) (answer : Feed) → option_map entry_of given ≡ fed_entry event answer → IsHistory (extended (history_of turn.list) (fed_entry event answer)) → HaveShortEvents (extended (history_of turn.list) (fed_entry event answer))
       → IsFeedAnswer (history_of turn.list) event answer → IsOffered event p q answer
   unfolding turn_given
-  offered event answer is legal answered = record {
-    turn = turn_given (fed_entry event answer) is legal;
+  offered event answer is legal short answered = record {
+    turn = turn_given (fed_entry event answer) is legal short;
     answered = answered;
     history = λ fine. seen_then (fed_entry event answer) is ∙ (ap (λ a. extended (history_of turn.list) (fed_entry event a)) (answered fine) ∙ fed_after (history_of turn.list) event);
   }
 
-  pub flushed_turn : (answer : Flushed) → option_map entry_of given ≡ flushed_entry answer → IsHistory (extended (history_of turn.list) (flushed_entry answer))
+  pub flushed_turn : (answer : Flushed) → option_map entry_of given ≡ flushed_entry answer → IsHistory (extended (history_of turn.list) (flushed_entry answer)) → HaveShortEvents (extended (history_of turn.list) (flushed_entry answer))
       → answer ≡ flush_answer (history_of turn.list) → IsFlushed p q answer
   unfolding turn_given
-  flushed_turn answer is legal answered = record {
-    turn = turn_given (flushed_entry answer) is legal;
+  flushed_turn answer is legal short answered = record {
+    turn = turn_given (flushed_entry answer) is legal short;
     answered = answered;
     history = seen_then (flushed_entry answer) is ∙ (ap (λ a. extended (history_of turn.list) (flushed_entry a)) answered ∙ flushed_after (history_of turn.list));
   }

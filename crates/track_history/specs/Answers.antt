@@ -1,5 +1,5 @@
 -- Public: what the calls of a track answer, and what they add to its history.
-use Rattle.std.specs.Prelude.{◌≡◌, ◌≢◌, ℕ, ℤ, ◌+◌, ◌-◌, ◌==◌, nat_le, if◌then◌else◌, List, [], ◌∷◌, ◌++◌, length, map, Option, Some, None}
+use Rattle.std.specs.Prelude.{◌≡◌, ◌≢◌, ℕ, ℤ, ◌+◌, ◌-◌, ◌==◌, nat_le, if◌then◌else◌, List, [], ◌∷◌, ◌++◌, length, map, All, Option, Some, None, Result, Ok, Err}
 use Rattle.std.specs.Arc.{arc_value}
 use Rattle.std.specs.List.{position_from}
 use Rattle.ass_events.specs.declared.event.Event.{Event}
@@ -14,6 +14,7 @@ use Rattle.track_history.specs.declared.answers.Feed.TheVariants.{Accepted, Repe
 use Rattle.track_history.specs.declared.answers.Flushed.{Flushed}
 use Rattle.track_history.specs.declared.answers.Flushed.TheVariants.{Done, TooMany}
 use Rattle.track_history.specs.declared.scene.Scene.{Scene}
+use Rattle.track_history.specs.ShortEvents.{IsShortEvent}
 
 -- an entry as a history has it
 abbrev pub entry_of : TrackEntry → Entry
@@ -53,6 +54,11 @@ fed_entry event (Malformed field place) = None
 fed_entry event (Full most) = None
 fed_entry event OutOfMemory = None
 
+-- what the feed of a chunk that gives this event, or none, adds to the history
+abbrev pub chunk_entry : Result Event ChunkRefusal → Feed → Option Entry
+chunk_entry (Ok event) answer = fed_entry event answer
+chunk_entry (Err refusal) answer = None
+
 -- the answer to a chunk that gives no event
 abbrev pub refused_answer : ChunkRefusal → Feed
 refused_answer (refusal.Malformed field place) = Malformed field place
@@ -67,8 +73,9 @@ abbrev pub flushed_entry : Flushed → Option Entry
 flushed_entry (Done place) = Some Flush
 flushed_entry (TooMany most) = None
 
--- The scene has the length of the history, and of its live events those that matter at t.
+-- The scene has the length of the history, and of its live events those that matter at t. Each is a short one.
 pub record IsSceneOf (history : List Entry) (t : ℤ) (scene : Scene) : Type 0 where
   pub n : scene.n ≡ length history
   pub instant : scene.t ≡ t
   pub events : AreNear span_of (live history) t (map arc_value scene.events)
+  pub short : All IsShortEvent (map arc_value scene.events)

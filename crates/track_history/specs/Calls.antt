@@ -15,6 +15,7 @@ use Rattle.track_history.specs.declared.answers.LookRefusal.{LookRefusal}
 use Rattle.track_history.specs.declared.answers.LookRefusal.TheVariants as look
 use Rattle.track_history.specs.declared.live_events.LiveEvents.{LiveEvents}
 use Rattle.track_history.specs.declared.scene.Scene.{Scene}
+use Rattle.track_history.specs.ShortEvents.{HaveShortEvents}
 use Rattle.track_history.specs.Answers.{IsFeedAnswer, IsSceneOf, entry_of, fed_entry, flush_answer, flushed_entry, refused_answer}
 use Rattle.track_history.specs.Tellings.{IsSound, Tells}
 
@@ -31,12 +32,13 @@ pub record StandsFor (kept : LiveEvents) (list : History TrackEntry) : Type 0 wh
   pub sound : IsSound kept
   pub tells : Tells kept (history_of list)
 
--- The pass took one turn and gave it back with this entry, if any. What it has seen then is a legal history.
+-- The pass took one turn and gave it back with this entry, if any. What it has seen then is a legal history of short events.
 pub record IsTurn (pass after : TrackView) (entry : Option Entry) : Type 0 where
   pub given : Option TrackEntry
   pub is_entry : option_map entry_of given ≡ entry
   pub turn : TakesTurn pass after given
   pub legal : IsHistory (history_of after.seen)
+  pub short : HaveShortEvents (history_of after.seen)
 
 -- The event was offered at a turn, which found `turn.turn.list`. Where memory was wanting before it, no turn was taken.
 pub record IsOffered (event : Event) (pass after : TrackView) (answer : Feed) : Type 0 where
@@ -51,7 +53,7 @@ abbrev pub IsFedBy : Result Event ChunkRefusal → TrackView → TrackView → F
 IsFedBy (Ok event) pass after answer = IsEventFed event pass after answer
 IsFedBy (Err refusal) pass after answer = (after ≡ pass) × ((answer ≡ OutOfMemory) ⊎ (answer ≡ refused_answer refusal))
 
--- A chunk that gives an event is offered. One that gives none is refused as `read_chunk` refuses it, and walk_takes no turn.
+-- A chunk that gives an event is offered. One that gives none is refused as `read_chunk` refuses it, and takes no turn.
 abbrev pub IsFed : List ℕ → ℤ → ℤ → TrackView → TrackView → Feed → Type 0
 IsFed bytes start duration pass after answer = IsFedBy (event_of bytes start duration) pass after answer
 

@@ -9,6 +9,7 @@ use Rattle.track_history.specs.declared.spans.LiveSpan.{LiveSpan}
 use Rattle.track_history.specs.declared.live_events.LiveEvents.{LiveEvents}
 use Rattle.track_history.specs.Spans.{IsSpanOf}
 use Rattle.track_history.specs.Blocks.{IsNearIndex, spans_of}
+use Rattle.track_history.specs.ShortEvents.{HaveShortEvents}
 use Rattle.track_history.specs.Answers.{position_of}
 
 -- the live events that are kept
@@ -25,9 +26,10 @@ pub record IsSound (kept : LiveEvents) : Type 0 where
   pub counted : length (events_of kept) ≤ kept.entries
   pub bounded : kept.entries ≤ kept.flushes * (max_live + 1) + length (events_of kept)
 
--- What is kept tells of this history: its live events, and how many entries and flushes it has.
+-- What is kept tells of this history: its live events, and how many entries and flushes it has. It is legal, and its events are short.
 pub record Tells (kept : LiveEvents) (history : List Entry) : Type 0 where
   pub events : events_of kept ≡ live history
   pub entries : kept.entries ≡ length history
   pub flushes : kept.flushes ≡ flushes_of history
   pub legal : IsHistory history
+  pub short : HaveShortEvents history

@@ -1,10 +1,11 @@
 //! What is kept of a track's history: the live events, and how many entries and flushes there were.
 
-ghost use Rattle.std.specs.Prelude.{◌≡◌, ◌+◌, ◌<◌, ◌++◌, ◌∷◌, List, [], None, IfOk, OnOk, OnErr, length, map};
+ghost use Rattle.std.specs.Prelude.{◌≡◌, ◌+◌, ◌<◌, ◌≤◌, ◌++◌, ◌∷◌, List, [], None, IfOk, OnOk, OnErr, length, map};
 ghost use Rattle.std.specs.Arc.{arc_value};
 ghost use Rattle.ass_events.specs.Histories.{Entry, max_live};
 ghost use Rattle.ass_events.specs.NearEvents.{AreNear, span_of};
-ghost use Rattle.ass_events.specs.Ranges.{IsEvent};
+ghost use Rattle.ass_num.specs.Limits.{max_text_bytes};
+ghost use Rattle.ass_events.specs.Ranges.{IsEvent, text_bytes};
 ghost use Rattle.track_history.specs.Answers.{IsFeedAnswer, fed_entry, flush_answer, flushed_entry, extended, position_of, read_orders};
 ghost use Rattle.track_history.specs.Tellings.{IsSound, Tells, events_of};
 
@@ -50,10 +51,11 @@ impl LiveEvents {
         }
     }
 
-    /// Accepts the event if no live event has its ReadOrder and there is room. Whatever else is answered, nothing changes.
+    /// Accepts the event if no live event has its ReadOrder and there is room. Whatever else is answered, the history stays as it is.
     pub fn feed(&mut self, alloc: Global, event: &Arc<Event>) -> Feed
         requires sound { IsSound self.old }
         requires event { IsEvent event.now.value }
+        requires short { text_bytes event.now.value ≤ max_text_bytes }
         ensures sound { IsSound self.new }
         ensures answer { (history : List Entry) → Tells self.old history → IsFeedAnswer history event.now.value result }
         ensures history { (history : List Entry) → Tells self.old history → Tells self.new (extended history (fed_entry event.now.value result)) }
@@ -79,7 +81,7 @@ impl LiveEvents {
         self.places.get(&order).copied()
     }
 
-    /// Puts the event behind the others. All memory is taken before anything changes.
+    /// Puts the event behind the others. A refusal leaves the history as it was.
     fn accept(&mut self, alloc: Global, event: &Arc<Event>) -> Mem<()>
         requires sound { IsSound self.old }
         requires event { IsEvent event.now.value }

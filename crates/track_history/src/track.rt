@@ -1,10 +1,11 @@
 //! A track, and the calls on it.
 
-ghost use Rattle.std.specs.Prelude.{◌≡◌, ◌<◌, List, [], None, IfOk, IfErr, OnOk};
+ghost use Rattle.std.specs.Prelude.{◌≡◌, ◌<◌, ◌≤◌, List, [], length, None, IfOk, IfErr, OnOk};
 ghost use Rattle.turn_cell.specs.History.{IsPrefix, IsBelow};
 ghost use Rattle.turn_cell.specs.Passes.{IsOf, Extends, first_pass, split_pass, new_pass, joined_pass, mine};
 ghost use Rattle.ass_events.specs.Histories.{Entry, live};
-ghost use Rattle.ass_events.specs.Ranges.{IsEvent};
+ghost use Rattle.ass_num.specs.Limits.{max_text_bytes};
+ghost use Rattle.ass_events.specs.Ranges.{IsEvent, text_bytes};
 ghost use Rattle.track_history.specs.Answers.{IsSceneOf, read_orders};
 ghost use Rattle.track_history.specs.Calls.{IsFed, IsEventFed, IsFlushed, IsTriedLook, IsTurn, StandsFor, history_of};
 ghost use Rattle.track_history.specs.Tellings.{IsSound, Tells};
@@ -70,7 +71,7 @@ impl Track {
     }
 
     /// Offers the event of a chunk, with its time in milliseconds beside it (`ass_process_chunk` in libass `ass.h`). Only `Accepted`
-    /// changes the history. A malformed chunk takes no turn.
+    /// changes the history. A malformed chunk takes no turn. A chunk has at most 134,217,728 bytes, so that each live event is short.
     pub fn feed<R: Wait>(
         &self,
         rt: &R,
@@ -80,7 +81,8 @@ impl Track {
         start: i64,
         duration: i64,
     ) -> (TrackPass, Feed)
-        requires { IsOf self.now pass }
+        requires cell { IsOf self.now pass }
+        requires short { length chunk.now ≤ max_text_bytes }
         ensures { IsFed chunk.now start duration pass result.0 result.1 }
     {
         match read_chunk(alloc, chunk, start, duration) {
@@ -100,6 +102,7 @@ impl Track {
     ) -> (TrackPass, Feed)
         requires cell { IsOf self.now pass }
         requires event { IsEvent event }
+        requires short { text_bytes event ≤ max_text_bytes }
         ensures { IsEventFed event pass result.0 result.1 }
     {
         let Ok(event) = Arc::new(alloc, event) else {

@@ -18,4 +18,4 @@ pub returns-in-Ok-clause-history : goal.returns-in-Ok-clause-history
 returns-in-Ok-clause-history c = λ history tells.
     let absent : position_of (arc_value c.args.event.now).order (events_of c.args.self.now) ≡ None = search rules in
     let room : length (events_of c.args.self.now) < max_live = omega (arith, c.if-len-ge-MAX_LIVE.false, c.len-2.ensures, length-map c.args.self.now.events.items arc_value, c.args.self.now.events.ok.0) in
-    tells_accepted c.args.self.now _ history (arc_value c.args.event.now) tells absent room c.in-Ok.ensures.ok c.in-Ok.ensures.counted c.in-Ok.ensures.flushes
+    tells_accepted c.args.self.now _ history (arc_value c.args.event.now) tells record { is_event = c.requires.event; texts = c.requires.short } absent room c.in-Ok.ensures.ok c.in-Ok.ensures.counted c.in-Ok.ensures.flushes

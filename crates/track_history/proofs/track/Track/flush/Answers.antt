@@ -20,4 +20,4 @@ returns g c =
     let turn = c.take-turn.result in let taken = c.take-turn.ensures in let told = c.flush-answer.ensures in let history = history_of turn.list in
     let tells : Tells c.value_mut.result.now history = subst (λ (k : LiveEvents). Tells k history) (sym c.value_mut.ensures.value) taken.turn_of.value.tells in
     subst (λ (z : TrackView). IsFlushed z c.give-pass.result c.flush-answer.result) c.pass.view_is
-    (flushed_turn _ _ c.pass.inside.pass turn c.give-pass.result c.entry.result taken c.give-pass.ensures c.flush-answer.result c.entry.ensures (told.history history tells).legal (told.answer history tells))
+    (flushed_turn _ _ c.pass.inside.pass turn c.give-pass.result c.entry.result taken c.give-pass.ensures c.flush-answer.result c.entry.ensures (told.history history tells).legal (told.history history tells).short (told.answer history tells))

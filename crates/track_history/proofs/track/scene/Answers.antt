@@ -1,0 +1,15 @@
+use Rattle.std.proofs.Common.{ℤ, List, map, of_z, rules, subst, to_z, w64}
+use Rattle.std.specs.Arc.{arc_value}
+use Rattle.std.proofs.Math.Facts.{to_z-of_z}
+use Rattle.ass_events.specs.declared.event.Event.{Event}
+use Rattle.ass_events.specs.Histories.{live}
+use Rattle.ass_events.specs.NearEvents.{AreNear, span_of}
+use Rattle.track_history.proofs.LawLemmas.{near_short}
+use Rattle.track_history.proofs.track.scene.Goals as goal
+
+pub returns : goal.returns
+returns c = λ history tells.
+    let t = c.args.t in let events = map arc_value c.in_ok-events.events in
+    let told = subst (λ (es : List Event). AreNear span_of es (to_z w64 (of_z w64 t)) events) tells.events c.in_ok-events.ensures in
+    let near : AreNear span_of (live history) t events = subst (λ (z : ℤ). AreNear span_of (live history) z events) (to_z-of_z c.ranges.t) told in
+    record { n = c.entries.ensures history tells; instant = to_z-of_z c.ranges.t; events = near; short = near_short history events t tells.short near }
