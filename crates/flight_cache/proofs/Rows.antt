@@ -1,21 +1,27 @@
 -- What calls make of a pass: pins and claims, calls in a row, and passes that are whole.
-use Rattle.std.proofs.Common.{◌≡◌, ℕ, ◌<◌, ◌==◌, Bool, true, false, cond, List, [], ◌∷◌, ◌++◌, map, Option, Some, None, refl, sym, ap, ◌∙◌, subst, arith}
+use Rattle.std.proofs.Common.{◌≡◌, ℕ, ◌+◌, ◌<◌, ◌==◌, ◌||◌, Bool, true, false, cond, List, [], ◌∷◌, ◌++◌, map, Option, Some, None, refl, sym, ap, ◌∙◌, subst, arith}
 use Rattle.std.specs.Cmp.{IsEquivalence}
+use Rattle.std.specs.Bool.{MatchBool}
+use Rattle.std.proofs.lemmas.Bool.{eq-eqb}
 use Rattle.std.proofs.lemmas.List.{map-append}
 use Rattle.turn_cell.specs.History.{History, entry_list, with_entry}
 use Rattle.turn_cell.specs.Passes.{Follows, IsWholeBut, first_pass, split_pass, joined_pass, mine}
 use Rattle.turn_cell.proofs.Passes.{Follows_same, Follows_trans, IsOf-Follows, TakesTurn_itself, whole_first, whole_follows, whole_rejoined, whole_list, whole-but_none, whole-but_split, whole-but_join, whole-but_follows}
-use Rattle.evict_core.specs.Machine.{Step, Answer, Ask, IsEnabled, ask_answer}
-use Rattle.evict_core.specs.History.{pins_left, pins_held, has_open}
-use Rattle.flight_cache.specs.Meaning.{Meaning}
+use Rattle.evict_core.specs.Machine.{Step, Answer, Ask, PinAll, IsEnabled, ask_answer}
+use Rattle.evict_core.specs.History.{one_if, times_named, pins_taken, pins_given, pins_left, pins_held, is_open_in, has_open}
+use Rattle.evict_core.proofs.HistoryLemmas.{taken-append, given-append, open-append}
+use Rattle.flight_cache.specs.Meaning.{Meaning, shard_of}
 use Rattle.flight_cache.specs.Histories.{is_in, step_of, steps_in, IsLegalUnder, left_by}
 use Rattle.flight_cache.specs.Calls.{ShardView, ShardPassView, GivesSteps, HasGivenBack, own_steps}
-use Rattle.flight_cache.specs.Shards.{Shards, CachePassView, at, with_at}
+use Rattle.flight_cache.specs.Shards.{Shards, CachePassView, EachHasGivenBack, at, with_at}
+use Rattle.flight_cache.specs.Pinning.{is_named, shards_of, keys_in, TurnsWith}
 use Rattle.flight_cache.specs.declared.kept.Opening.{Opening}
 use Rattle.flight_cache.specs.declared.kept.Entry.{Entry}
-use Rattle.flight_cache.specs.Laws.{HitHolds, FillHolds, UnpinGives, PinAllHolds, ClaimOpens, IsLater, CallIsLater, LaterIsLater, StaysOfCache, FirstIsWhole, StaysWhole, JoinedIsWhole, WholeButNone, SplitIsWholeBut, JoinIsWholeBut, LaterIsWholeBut, WholeKnowsAll, AskIsAnswered, PlacesAreInShard, NothingIsGivenBack, GivesFollow, GivesOwnSteps, EachIsLater, GivesItself}
+use Rattle.flight_cache.specs.Laws.{HitHolds, FillHolds, UnpinGives, PinAllHolds, ClaimOpens, IsLater, CallIsLater, LaterIsLater, StaysOfCache, FirstIsWhole, StaysWhole, JoinedIsWhole, WholeButNone, SplitIsWholeBut, JoinIsWholeBut, LaterIsWholeBut, WholeKnowsAll, AskIsAnswered, PlacesAreInShard, PinnedAllHolds, NothingIsGivenBack, GivenBackAgain, OneGivesBack, GivesFollow, GivesOwnSteps, EachIsLater, GivesItself}
 use Rattle.flight_cache.proofs.Asking.{gives-follows}
 use Rattle.flight_cache.proofs.Places.{named-kept}
+use Rattle.flight_cache.proofs.Four.{at-shard, at-each}
+use Rattle.flight_cache.proofs.Refusing.{below-four}
 use Rattle.flight_cache.proofs.Standing.{steps-more}
 
 module _ {K V T : Type 0} (eq : K → K → Bool) (laws : IsEquivalence eq) (meaning : Meaning K V T) where
@@ -37,6 +43,39 @@ module _ {K V T : Type 0} (eq : K → K → Bool) (laws : IsEquivalence eq) (mea
 module _ {K V T : Type 0} (eq : K → K → Bool) (laws : IsEquivalence eq) (same : (a b : K) → eq a b ≡ true → a ≡ b) (meaning : Meaning K V T) where
   pub places_are_in_shard : PlacesAreInShard eq meaning
   places_are_in_shard shard keys key here = named-kept eq (is_in meaning shard.tag) key (λ x e. subst (λ (k : K). is_in meaning shard.tag k ≡ true) (same key x e) here) keys
+
+  -- no place of a key is among keys whose shards leave its shard out
+  named-none : (under : Opening T) (key : K) → is_in meaning under key ≡ true → (keys : List K) → is_named (shards_of meaning keys) under.shard ≡ false → times_named eq key keys ≡ 0
+  named-none under key here [] none = refl
+  named-none under key here (x ∷ xs) none =
+      (elim (shard_of (meaning.numbers x) == under.shard) as (λ b. is_in meaning under x ≡ b → (b || is_named (shards_of meaning xs) under.shard) ≡ false → one_if (eq key x) + times_named eq key xs ≡ 0) [
+        | true ↦ λ t no. cc
+        | false ↦ λ f rest. (elim (eq key x) as (λ c. eq key x ≡ c → one_if c + times_named eq key xs ≡ 0) [
+          | true ↦ λ e. let no : true ≡ false = sym (subst (λ (k : K). is_in meaning under k ≡ true) (same key x e) here) ∙ f in cc
+          | false ↦ λ e. omega (arith, named-none under key here xs rest)
+        ]) refl
+      ]) refl none
+
+  pinned-one : (shard : ShardView T) (pass after : ShardPassView K T) (keys : List K) (key : K) → is_in meaning shard.tag key ≡ true
+      → TurnsWith eq meaning (shards_of meaning keys) shard pass after (PinAll (keys_in meaning shard keys) ∷ [])
+      → pins_left eq (own_steps meaning shard.tag after) key ≡ pins_left eq (own_steps meaning shard.tag pass) key + times_named eq key keys
+  pinned-one shard pass after keys key here =
+      (elim (is_named (shards_of meaning keys) shard.tag.shard) as (λ b. is_named (shards_of meaning keys) shard.tag.shard ≡ b
+      → MatchBool b (GivesSteps eq meaning shard pass after (PinAll (keys_in meaning shard keys) ∷ [])) (after ≡ pass)
+      → pins_left eq (own_steps meaning shard.tag after) key ≡ pins_left eq (own_steps meaning shard.tag pass) key + times_named eq key keys) [
+        | true ↦ λ t g. pin_all_holds eq laws meaning shard pass after (keys_in meaning shard keys) g key ∙ ap (λ (n : ℕ). pins_left eq (own_steps meaning shard.tag pass) key + n) (places_are_in_shard shard keys key here)
+        | false ↦ λ f is. let none = named-none shard.tag key here keys f in let kept = ap (λ (p : ShardPassView K T). pins_left eq (own_steps meaning shard.tag p) key) is in omega arith
+      ]) refl
+
+  pub pinned_all_holds : PinnedAllHolds eq meaning
+  pinned_all_holds cache pass after keys pins of p key =
+      let n = shard_of (meaning.numbers key) in
+      at-each (λ (shard : ShardView T) (q r : ShardPassView K T). is_in meaning shard.tag key ≡ true → pins_left eq (own_steps meaning shard.tag r) key ≡ pins_left eq (own_steps meaning shard.tag q) key + times_named eq key keys) cache.shards pass after
+      (λ here. pinned-one cache.shards.first pass.first after.first keys key here p.first)
+      (λ here. pinned-one cache.shards.second pass.second after.second keys key here p.second)
+      (λ here. pinned-one cache.shards.third pass.third after.third keys key here p.third)
+      (λ here. pinned-one cache.shards.fourth pass.fourth after.fourth keys key here p.fourth)
+      n (below-four (meaning.numbers key)) (eq-eqb _ _ (sym (at-shard cache.tag cache.shards of n (below-four (meaning.numbers key))).number))
 
 module _ {K V T : Type 0} (eq : K → K → Bool) (meaning : Meaning K V T) where
   pub gives_follow : GivesFollow eq meaning
@@ -75,7 +114,33 @@ module _ {K V T : Type 0} (eq : K → K → Bool) (meaning : Meaning K V T) wher
     fourth = empty-given shards.fourth pass.fourth h.fourth;
   }
 
-  later-one : (shard : ShardView T) (pass after : ShardPassView K T) (steps : List (Step K V)) → GivesSteps eq meaning shard pass after steps → (entries : List (Entry K)) × Follows pass after entries
+  pub given_back_again : GivenBackAgain eq meaning
+  given_back_again shard pass after steps before own pins claims = record {
+    pins = λ key. let was = before.pins key in let here = pins key in
+        let t = ap (λ l. pins_taken eq l key) own ∙ taken-append eq (own_steps meaning shard.tag pass) steps key in
+        let g = ap (λ l. pins_given eq l key) own ∙ given-append eq (own_steps meaning shard.tag pass) steps key in omega arith;
+    claims = λ key. ap (λ l. has_open eq l key) own ∙ (open-append eq false (own_steps meaning shard.tag pass) steps key ∙ (ap (λ (b : Bool). is_open_in eq b steps key) (before.claims key) ∙ claims key));
+  }
+
+  given-with : (shards : Shards (ShardView T)) (pass : CachePassView K T) (n : ℕ) (own : ShardPassView K T) → EachHasGivenBack eq meaning shards pass → HasGivenBack eq meaning (at shards n) own → EachHasGivenBack eq meaning shards (with_at pass n own)
+  given-with shards pass n own h =
+      (elim (n == 0) as (λ b. HasGivenBack eq meaning (cond b shards.first (cond (n == 1) shards.second (cond (n == 2) shards.third shards.fourth))) own
+      → EachHasGivenBack eq meaning shards (cond b (record pass { first = own }) (cond (n == 1) (record pass { second = own }) (cond (n == 2) (record pass { third = own }) (record pass { fourth = own }))))) [
+        | true ↦ λ f. record { first = f; second = h.second; third = h.third; fourth = h.fourth }
+        | false ↦ elim (n == 1) as (λ b. HasGivenBack eq meaning (cond b shards.second (cond (n == 2) shards.third shards.fourth)) own
+            → EachHasGivenBack eq meaning shards (cond b (record pass { second = own }) (cond (n == 2) (record pass { third = own }) (record pass { fourth = own })))) [
+              | true ↦ λ f. record { first = h.first; second = f; third = h.third; fourth = h.fourth }
+              | false ↦ elim (n == 2) as (λ b. HasGivenBack eq meaning (cond b shards.third shards.fourth) own → EachHasGivenBack eq meaning shards (cond b (record pass { third = own }) (record pass { fourth = own }))) [
+                | true ↦ λ f. record { first = h.first; second = h.second; third = f; fourth = h.fourth }
+                | false ↦ λ f. record { first = h.first; second = h.second; third = h.third; fourth = f }
+              ]
+            ]
+      ])
+
+  pub one_gives_back : OneGivesBack eq meaning
+  one_gives_back shards pass after n h is own = subst (λ (z : CachePassView K T). EachHasGivenBack eq meaning shards z) (sym is) (given-with shards pass n (at after n) h own)
+
+  pub later-one : (shard : ShardView T) (pass after : ShardPassView K T) (steps : List (Step K V)) → GivesSteps eq meaning shard pass after steps → (entries : List (Entry K)) × Follows pass after entries
   later-one shard pass after steps g = (entry_list g.entry, gives-follows eq meaning shard pass after steps g)
 
   pub each_is_later : EachIsLater eq meaning

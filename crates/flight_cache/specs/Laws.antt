@@ -3,13 +3,13 @@ use Rattle.std.specs.Prelude.{◌≡◌, ℕ, ◌+◌, ◌<◌, ◌≤◌, Bool,
 use Rattle.turn_cell.specs.History.{History, IsBelow, entries_of, numbers_of}
 use Rattle.turn_cell.specs.Passes.{Follows, Extends, IsWholePass, IsWholeBut, first_pass, split_pass, new_pass, joined_pass}
 use Rattle.evict_core.specs.Machine.{Answer, Hit, Claim, Ask, ask_answer, PinAll, Fill, Unpin, Step, unpinned, has_idle, maker_in, pins_in, status_of}
-use Rattle.evict_core.specs.History.{replay, pins_left, held_below, has_open, times_named, is_evicted}
+use Rattle.evict_core.specs.History.{replay, pins_taken, pins_given, pins_left, held_below, has_open, times_named, is_evicted}
 use Rattle.evict_core.specs.Laws.{IsLostWithin, IsEvictedWithin}
-use Rattle.flight_cache.specs.Meaning.{Meaning}
+use Rattle.flight_cache.specs.Meaning.{Meaning, shard_of}
 use Rattle.flight_cache.specs.Histories.{is_in, step_of, steps_in, IsLegalUnder, left_by, AreMade, Stands}
-use Rattle.flight_cache.specs.Calls.{ShardView, ShardPassView, GivesSteps, own_steps}
-use Rattle.flight_cache.specs.Shards.{Shards, CacheView, CachePassView, IsCacheOf, AreAlike, EachGives, EachHasGivenBack, EachExtends, HasNothing, at, with_at, each, both}
-use Rattle.flight_cache.specs.Pinning.{keys_in}
+use Rattle.flight_cache.specs.Calls.{PinView, ShardView, ShardPassView, GivesSteps, HasGivenBack, own_steps}
+use Rattle.flight_cache.specs.Shards.{Shards, CacheView, CachePassView, IsCacheOf, AreShardsOf, AreAlike, EachGives, EachHasGivenBack, EachExtends, HasNothing, at, with_at, each, both}
+use Rattle.flight_cache.specs.Pinning.{keys_in, IsPinnedAll}
 use Rattle.flight_cache.specs.declared.kept.Opening.{Opening}
 use Rattle.flight_cache.specs.declared.kept.Kept.{Kept}
 use Rattle.flight_cache.specs.declared.kept.Entry.{Entry}
@@ -92,9 +92,27 @@ module _ {K V T : Type 0} (eq : K → K → Bool) (meaning : Meaning K V T) wher
   PlacesAreInShard = (shard : ShardView T) (keys : List K) (key : K) → is_in meaning shard.tag key ≡ true
       → times_named eq key (keys_in meaning shard keys) ≡ times_named eq key keys
 
+  -- after a success of pinning several keys, the pass of each key's shard holds a pin more of it for each of its places
+  abbrev pub PinnedAllHolds : Type 0
+  PinnedAllHolds = (cache : CacheView T) (pass after : CachePassView K T) (keys : List K) (pins : List (PinView K V)) → AreShardsOf cache.tag cache.shards → IsPinnedAll eq meaning cache pass keys after pins
+      → (key : K) → let n = shard_of (meaning.numbers key) in
+      pins_left eq (own_steps meaning (at cache.shards n).tag (at after n)) key ≡ pins_left eq (own_steps meaning (at cache.shards n).tag (at pass n)) key + times_named eq key keys
+
   -- a pass that gave nothing has nothing to give back
   abbrev pub NothingIsGivenBack : Type 0
   NothingIsGivenBack = (shards : Shards (ShardView T)) (pass : CachePassView K T) → HasNothing meaning shards pass → EachHasGivenBack eq meaning shards pass
+
+  -- a pass that has nothing to give back has nothing again after steps that give back what they take
+  abbrev pub GivenBackAgain : Type 0
+  GivenBackAgain = (shard : ShardView T) (pass after : ShardPassView K T) (steps : List (Step K V)) → HasGivenBack eq meaning shard pass
+      → own_steps meaning shard.tag after ≡ own_steps meaning shard.tag pass ++ steps
+      → ((key : K) → pins_taken eq steps key ≤ pins_given eq steps key) → ((key : K) → has_open eq steps key ≡ false)
+      → HasGivenBack eq meaning shard after
+
+  -- calls on one shard, after which its pass has nothing to give back
+  abbrev pub OneGivesBack : Type 0
+  OneGivesBack = (shards : Shards (ShardView T)) (pass after : CachePassView K T) (n : ℕ) → EachHasGivenBack eq meaning shards pass → after ≡ with_at pass n (at after n)
+      → HasGivenBack eq meaning (at shards n) (at after n) → EachHasGivenBack eq meaning shards after
 
   -- after a claim the key is open
   abbrev pub ClaimOpens : Type 0

@@ -1,5 +1,5 @@
 //! The laws of shards and of what calls make of a pass. The functions do nothing: their contracts are the laws.
-ghost use Rattle.flight_cache.specs.Laws.{ShardsStayInBudget, ShardsStayInLimit, HistoryInBudget, HistoryInLimit, ShardsClaimOnce, ShardsFillOnce, ReadyAreMade, FliesWhereOpen, ShardPinsAreHeld, ShardsKeepHeld, HitHolds, FillHolds, UnpinGives, PinAllHolds, ClaimOpens, AskIsAnswered, PlacesAreInShard, NothingIsGivenBack, GivesFollow, GivesOwnSteps, EachIsLater, GivesItself, CallIsLater, LaterIsLater, StaysOfCache, FirstIsWhole, StaysWhole, JoinedIsWhole, WholeButNone, SplitIsWholeBut, JoinIsWholeBut, LaterIsWholeBut, WholeKnowsAll};
+ghost use Rattle.flight_cache.specs.Laws.{ShardsStayInBudget, ShardsStayInLimit, HistoryInBudget, HistoryInLimit, ShardsClaimOnce, ShardsFillOnce, ReadyAreMade, FliesWhereOpen, ShardPinsAreHeld, ShardsKeepHeld, HitHolds, FillHolds, UnpinGives, PinAllHolds, ClaimOpens, AskIsAnswered, PlacesAreInShard, PinnedAllHolds, NothingIsGivenBack, GivenBackAgain, OneGivesBack, GivesFollow, GivesOwnSteps, EachIsLater, GivesItself, CallIsLater, LaterIsLater, StaysOfCache, FirstIsWhole, StaysWhole, JoinedIsWhole, WholeButNone, SplitIsWholeBut, JoinIsWholeBut, LaterIsWholeBut, WholeKnowsAll};
 
 use crate::made::Made;
 
@@ -36,7 +36,7 @@ pub fn pins<M: Made>()
     ensures kept { ShardsKeepHeld M.Key.eq M.meaning }
 {}
 
-/// What a call makes of the pins and of the open claims of its pass. A pass that gave nothing has nothing to give back.
+/// What a call makes of the pins and of the open claims of its pass.
 pub fn calls<M: Made>()
     ensures answer { AskIsAnswered M.Key.eq M.meaning }
     ensures hit { HitHolds M.Key.eq M.meaning }
@@ -45,7 +45,14 @@ pub fn calls<M: Made>()
     ensures unpin { UnpinGives M.Key.eq M.meaning }
     ensures pin_all { PinAllHolds M.Key.eq M.meaning }
     ensures places { PlacesAreInShard M.Key.eq M.meaning }
+    ensures pinned { PinnedAllHolds M.Key.eq M.meaning }
+{}
+
+/// A pass that gave nothing has nothing to give back, and has nothing again after steps that give back what they take.
+pub fn given_back<M: Made>()
     ensures nothing { NothingIsGivenBack M.Key.eq M.meaning }
+    ensures again { GivenBackAgain M.Key.eq M.meaning }
+    ensures one { OneGivesBack M.Key.eq M.meaning }
 {}
 
 /// Calls in a row: their steps add up, and what they leave is a later pass, which stays one of its cache.

@@ -1,4 +1,4 @@
-use Rattle.flight_cache.proofs.Rows.{ask_is_answered, places_are_in_shard, nothing_is_given_back, hit_holds, claim_opens, fill_holds, unpin_gives, pin_all_holds}
+use Rattle.flight_cache.proofs.Rows.{ask_is_answered, places_are_in_shard, pinned_all_holds, hit_holds, claim_opens, fill_holds, unpin_gives, pin_all_holds}
 use Rattle.flight_cache.proofs.laws.calls.Goals as goal
 
 pub returns : goal.returns
@@ -10,5 +10,5 @@ returns g c = record {
   unpin = unpin_gives g.M.Key.PartialEq.eq g.met.M.Key.Eq.laws g.M.Made.meaning;
   pin_all = pin_all_holds g.M.Key.PartialEq.eq g.met.M.Key.Eq.laws g.M.Made.meaning;
   places = places_are_in_shard g.M.Key.PartialEq.eq g.met.M.Key.Eq.laws g.met.M.Made.same_key g.M.Made.meaning;
-  nothing = nothing_is_given_back g.M.Key.PartialEq.eq g.M.Made.meaning;
+  pinned = pinned_all_holds g.M.Key.PartialEq.eq g.met.M.Key.Eq.laws g.met.M.Made.same_key g.M.Made.meaning;
 }
