@@ -1,5 +1,9 @@
 pub mod AnchorLemmas
 pub mod BitLemmas
+pub mod BlockLemmas
 pub mod ClusterLemmas
+pub mod ImageLemmas
+pub mod LineLemmas
+pub mod OneLemmas
 pub mod ScaleLemmas
 pub mod SpanLemmas

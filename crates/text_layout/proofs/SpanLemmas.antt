@@ -108,7 +108,7 @@ AreLines-push wrap roles advances max (q ∷ ps) p lines front h k =
 
 -- ---- chosen places
 
-wrap_cases : (wrap : ℕ) → wrap ≤ 3 → (wrap ≡ 0) ⊎ ((wrap ≡ 1) ⊎ ((wrap ≡ 2) ⊎ (wrap ≡ 3)))
+pub wrap_cases : (wrap : ℕ) → wrap ≤ 3 → (wrap ≡ 0) ⊎ ((wrap ≡ 1) ⊎ ((wrap ≡ 2) ⊎ (wrap ≡ 3)))
 wrap_cases zero l = inl refl
 wrap_cases (suc zero) l = inr (inl refl)
 wrap_cases (suc (suc zero)) l = inr (inr (inl refl))

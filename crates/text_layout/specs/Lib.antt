@@ -1,8 +1,11 @@
 pub mod Anchors
 pub mod Clusters
+pub mod Extents
 pub mod Fonts
 pub mod Kinds
+pub mod Layouts
 pub mod Limits
+pub mod Lines
 pub mod Metrics
 pub mod Scales
 pub mod Spans

@@ -29,6 +29,10 @@ max_script_length = 2 ^ 43
 abbrev pub max_framed : ℕ
 max_framed = 2 ^ 52
 
+-- the widest that a line may be: each item of a text may be as wide as one can be
+abbrev pub max_line : ℕ
+max_line = max_text_bytes * max_width
+
 -- the most lines of a text: one more than it has items, if all of them are breaks
 abbrev pub max_block_lines : ℕ
 max_block_lines = max_text_bytes + 1

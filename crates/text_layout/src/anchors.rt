@@ -24,7 +24,7 @@ pub struct Margins {
 
 /// Where something stands between two edges.
 #[derive(Clone, Copy, Debug, PartialEq, Eq)]
-enum Edge {
+pub(crate) enum Edge {
     /// At the left or the upper edge.
     Near,
     Middle,
@@ -66,7 +66,7 @@ pub fn wrapping_width(header: &Header, margins: &Margins, size: &Size) -> Fix
 }
 
 /// Where an alignment puts a block across the frame (Aegisub tag reference, "\an").
-fn column_of(align: u8) -> Edge
+pub(crate) fn column_of(align: u8) -> Edge
     ensures { result ≡ edge_across align }
 {
     match align % 3 {
@@ -104,7 +104,7 @@ fn edge_at(edge: Edge, near: Fix, far: Fix) -> Fix
 }
 
 /// How far the edge of something of this length lies from its near end.
-fn edge_within(edge: Edge, length: Fix) -> Fix
+pub(crate) fn edge_within(edge: Edge, length: Fix) -> Fix
     requires from_zero { pos 0 ≤ℤ length }
     requires most { length ≤ℤ pos max_block_place }
     ensures value { result ≡ edge_within edge length }

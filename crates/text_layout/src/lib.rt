@@ -1,9 +1,14 @@
-//! Stages of the layout of an event's text: matrices, grapheme clusters, paragraphs and their lines.
+//! The layout of an event's text: matrices, grapheme clusters, paragraphs and their lines, and where lines and items lie in the block.
 #![tactic(auto)]
 
 mod anchors;
 mod clusters;
+mod extents;
 mod kinds;
+mod laid;
+mod laws;
+mod layouts;
+mod lines;
 mod metrics;
 mod scales;
 mod spans;
@@ -13,6 +18,11 @@ mod tests;
 pub use anchors::{Margins, anchor, block_corner, margins_of, wrapping_width};
 pub use ass_num::{Matrix, Point, Size};
 pub use clusters::cluster_ends;
+pub use extents::{Extent, drawn_extent, item_extents};
+pub use kinds::char_of;
+pub use laid::{Laid, Line, Placed};
+pub use laws::one_layout;
+pub use layouts::layout;
 pub use metrics::{Metrics, all_metrics};
 pub use scales::{clip_matrix, drawing_matrix, framed, text_matrix};
 pub use spans::{Span, line_spans};
