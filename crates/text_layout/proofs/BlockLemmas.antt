@@ -47,7 +47,7 @@ spans-some items (s ∷ ss) h = omega arith
 
 pub edge-inner : (edge : Edge) (len : ℤ) → pos 0 ≤ℤ len → (pos 0 ≤ℤ edge_within edge len) × (edge_within edge len ≤ℤ len)
 edge-inner Near len l = (omega (arith, ints), l)
-edge-inner Middle len l = floor_div_nonnegative (pos 0 +ℤ len) 2 (omega arith) (omega (arith, ints, l))
+edge-inner Middle len l = let h = floor_div_nonnegative (pos 0 +ℤ len) 2 (omega arith) (omega (arith, ints, l)) in let most = h.1 in (h.0, omega (arith, ints, most))
 edge-inner Far len l = (l, omega (arith, ints))
 
 -- ---- lines
@@ -86,7 +86,7 @@ lines-within edge ws across down top f (s ∷ ss) each h x w t b =
     let inner = edge-inner edge (across -ℤ e.advance) (omega (arith, ints, fits)) in
     let near = inner.0 in
     let far = inner.1 in
-    let below : (top +ℤ (e.ascent +ℤ e.descent)) +ℤ block_height (map f ss) ≤ℤ down = omega (arith, ints, sum, b) in
+    let below : ((top +ℤ (e.ascent +ℤ e.descent)) +ℤ block_height (map f ss)) ≤ℤ down = omega (arith, ints, sum, b) in
     All-cons P (line_at edge across s e top) (lines_from edge across (top +ℤ (e.ascent +ℤ e.descent)) ss (map f ss)) (
       record {
         ordered = span.ordered;

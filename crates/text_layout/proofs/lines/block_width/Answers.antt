@@ -20,7 +20,7 @@ loop-extent-preserved c =
     let most = c.loop-extent.invariant.most in
     let low = reach.from_zero in
     let wide = reach.advance in
-    let m = c.max.ensures.value in
+    let m = c.max-width.ensures.value in
     record {
       value = omega (arith, ints, clamps, more, value, from_zero, most, low, wide, m);
       from_zero = omega (arith, ints, clamps, from_zero, most, low, wide, m);

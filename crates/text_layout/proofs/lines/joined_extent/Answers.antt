@@ -26,8 +26,8 @@ loop-extent-preserved c =
     let wide = reach.advance in
     let high = reach.ascent in
     let deep = reach.descent in
-    let m = c.max.ensures.value in
-    let n = c.max-2.ensures.value in
+    let m = c.max-ascent.ensures.value in
+    let n = c.max-descent.ensures.value in
     record {
       advance = omega (arith, ints, sum, advance, from_zero, most, wide);
       ascent = omega (arith, ints, clamps, up, ascent, above, high, m);
