@@ -239,3 +239,28 @@ laid-within view metrics es spans few each order reach high =
         placed = placed;
       }),
     )
+
+IsLineWithin-wider : (items : ℕ) (a b m n : ℤ) (line : Line) → a ≤ℤ m → b ≤ℤ n → IsLineWithin items a b line → IsLineWithin items m n line
+IsLineWithin-wider items a b m n line l k h =
+    let right = h.right in
+    let bottom = h.bottom in
+    record {
+      ordered = h.ordered;
+      within = h.within;
+      left = h.left;
+      wide = h.wide;
+      right = omega (arith, ints, right, l);
+      top = h.top;
+      above = h.above;
+      below = h.below;
+      bottom = omega (arith, ints, bottom, k);
+    }
+
+-- Lines lie within the greatest block.
+pub lines-most : (view : EventView) (metrics : List Metrics) (es : List Extent) (spans : List Span) → length es ≤ max_text_bytes → All IsExtent es
+    → AreSpans 0 (length es + 1) spans → All IsLineExtent (line_extents metrics view.items es spans) → block_height (line_extents metrics view.items es spans) ≤ℤ pos max_block
+    → All (IsLineWithin (length es) (pos max_line) (pos max_block)) (laid_out view metrics es spans).lines
+lines-most view metrics es spans few each order reach high =
+    let laid = laid_out view metrics es spans in
+    let all = (laid-within view metrics es spans few each order reach high).1.lines in
+    λ k d l. IsLineWithin-wider (length es) laid.width laid.height (pos max_line) (pos max_block) (get_or laid.lines k d) (width-most (line_extents metrics view.items es spans) reach) high (all k d l)

@@ -1,7 +1,6 @@
-use Rattle.std.proofs.Common.{◌≡◌, ◌∙◌, get_or, ℤ, pos, ◌≤ℤ◌, sym, ap, subst, take_all, arith}
+use Rattle.std.proofs.Common.{◌≡◌, get_or, take, pos, ap, take_all, arith}
 use Rattle.std.proofs.lemmas.Int.{clamps, ints}
 use Rattle.std.specs.Int.{int_max}
-use Rattle.std.specs.List.{All}
 use Rattle.text_layout.specs.declared.extents.Extent.{Extent}
 use Rattle.text_layout.specs.Extents.{no_extent}
 use Rattle.text_layout.specs.Lines.{IsLineExtent, block_width}
@@ -30,5 +29,8 @@ loop-extent-preserved c =
 pub returns-clause-widest : goal.returns-clause-widest
 returns-clause-widest c =
     let es = c.args.extents.now in
-    let same : c.loop-extent.width ≡ block_width es = c.loop-extent.invariant.value ∙ ap block_width (take_all c.loop-extent.extent-index es c.loop-extent-test.false) in
-    subst (λ (z : ℤ). All (λ (e : Extent). e.advance ≤ℤ z) es) (sym same) (width-widest es)
+    let value = c.loop-extent.invariant.value in
+    let from_zero = c.loop-extent.invariant.from_zero in
+    let most = c.loop-extent.invariant.most in
+    let all : block_width (take c.loop-extent.extent-index es) ≡ block_width es = ap block_width (take_all c.loop-extent.extent-index es c.loop-extent-test.false) in
+    λ k d l. let each = width-widest es k d l in omega (arith, ints, value, all, each, from_zero, most)

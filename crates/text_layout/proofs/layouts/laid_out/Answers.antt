@@ -1,0 +1,59 @@
+use Rattle.std.proofs.Common.{◌≡◌, ◌∙◌, ◌+◌, ◌≤◌, ℤ, List, length, pos, ◌≤ℤ◌, sym, ap, ap₂, subst, arith}
+use Rattle.std.proofs.lemmas.Int.{ints}
+use Rattle.std.proofs.lemmas.List.{length-map}
+use Rattle.std.specs.List.{All}
+use Rattle.text_layout.specs.declared.anchors.Edge.{Edge}
+use Rattle.text_layout.specs.declared.extents.Extent.{Extent}
+use Rattle.text_layout.specs.declared.laid.Laid.{Laid}
+use Rattle.text_layout.specs.declared.laid.Line.{Line}
+use Rattle.text_layout.specs.declared.laid.Placed.{Placed}
+use Rattle.text_layout.specs.Anchors.{edge_across}
+use Rattle.text_layout.specs.Layouts.{IsWithinBlock, laid_out}
+use Rattle.text_layout.specs.Limits.{max_block, max_block_lines, max_line}
+use Rattle.text_layout.specs.Lines.{IsLineExtent, IsLineWithin, advances_of, block_height, block_width, line_extent, line_extents, lines_from, placed_from}
+use Rattle.text_layout.proofs.BitLemmas.{bits_64, place_bits}
+use Rattle.text_layout.proofs.BlockLemmas.{laid-within, lines-most, spans-within}
+use Rattle.text_layout.proofs.SpanLemmas.{AreSpans-length}
+use Rattle.text_layout.proofs.layouts.laid_out.Goals as goal
+
+pub line_extents-requires-clause-spans : goal.line_extents-requires-clause-spans
+line_extents-requires-clause-spans c = spans-within 0 (length c.args.extents.now) c.args.spans.now c.requires.spans
+
+pub block_height-height-requires-clause-few : goal.block_height-height-requires-clause-few
+block_height-height-requires-clause-few c =
+    let spans = c.args.spans.now in
+    let same = ap length (c.as_slice-3.ensures.value ∙ c.in_ok-heights.ensures.value) ∙ length-map spans (line_extent c.args.metrics.now c.as_slice.result.now c.args.extents.now) in
+    let count = AreSpans-length 0 (length c.args.extents.now + 1) spans c.requires.spans in
+    let few = c.requires.few in
+    omega (arith, same, count, few)
+
+pub lines_of-requires-clause-few : goal.lines_of-requires-clause-few
+lines_of-requires-clause-few c =
+    let count = AreSpans-length 0 (length c.args.extents.now + 1) c.args.spans.now c.requires.spans in
+    let few = c.requires.few in
+    omega (arith, count, few)
+
+pub placed_items-requires-clause-lines : goal.placed_items-requires-clause-lines
+placed_items-requires-clause-lines c =
+    let view = c.args.view.now in
+    let metrics = c.args.metrics.now in
+    let es = c.args.extents.now in
+    let spans = c.args.spans.now in
+    let extents = line_extents metrics view.items es spans in
+    let heights : c.in_ok-heights.heights.items ≡ extents = c.in_ok-heights.ensures.value ∙ ap (λ items. line_extents metrics items es spans) c.as_slice.ensures in
+    let reach = subst (All IsLineExtent) heights c.in_ok-heights.ensures.range in
+    let total : c.block_height-height.result ≡ block_height extents = c.block_height-height.ensures.value ∙ ap block_height (c.as_slice-3.ensures.value ∙ heights) in
+    let high = subst (λ (z : ℤ). z ≤ℤ pos max_block) total c.block_height-height.ensures.range.most in
+    let from_zero = c.block_width-width.ensures.from_zero in
+    let most = c.block_width-width.ensures.most in
+    let width : bits_64 c.block_width-width.result ≡ block_width extents =
+    place_bits c.block_width-width.result (omega (arith, ints, from_zero, most), omega (arith, ints, from_zero, most))
+    ∙ c.block_width-width.ensures.value ∙ ap block_width (c.as_slice-2.ensures.value ∙ heights) in
+    let lines : c.in_ok-lines.lines ≡ (laid_out view metrics es spans).lines =
+    c.in_ok-lines.ensures
+    ∙ ap₂ (λ (edge : Edge) (across : ℤ). lines_from edge across (pos 0) spans c.as_slice-4.result.now) c.column_of-column.ensures width
+    ∙ ap (lines_from (edge_across view.align) (block_width extents) (pos 0) spans) (c.as_slice-4.ensures.value ∙ heights) in
+    subst (All (IsLineWithin (length es) (pos max_line) (pos max_block))) (sym (c.as_slice-5.ensures ∙ lines)) (lines-most view metrics es spans c.requires.few c.requires.extents c.requires.spans reach high)
+
+pub returns-clause-within : goal.returns-clause-within
+returns-clause-within c = ?
