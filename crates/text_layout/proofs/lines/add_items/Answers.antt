@@ -11,6 +11,7 @@ use Rattle.text_layout.specs.declared.laid.Placed.{Placed}
 use Rattle.text_layout.specs.Extents.{IsExtent, no_extent}
 use Rattle.text_layout.specs.Limits.{max_block, max_line}
 use Rattle.text_layout.specs.Lines.{IsLineWithin, advances_of, placed_item}
+use Rattle.text_layout.proofs.BitLemmas.{bits_64, place_bits}
 use Rattle.text_layout.proofs.BlockLemmas.{paragraph_of_all}
 use Rattle.text_layout.proofs.LineLemmas.{item_step, width-more}
 use Rattle.text_layout.proofs.lines.add_items.Goals as goal
@@ -40,6 +41,15 @@ advance_at es i l = get_or-map (λ (e : Extent). e.advance) es i no_extent (pos 
 
 abbrev placed_of : ℕ → ℕ → ℤ → ℤ → Placed
 placed_of item line x advance = record { item = item; line = line; x = x; advance = advance }
+
+-- one more item of a line
+placed_more : (es : List Extent) (number : ℕ) (line : Line) (i : ℕ) (start before after : List Placed) (x a : ℤ) → i < length es → line.first ≤ i
+    → before ≡ start ++ map (placed_item (advances_of es) number line) (range_with_len line.first (i - line.first)) → after ≡ before ++ placed_of i number x a ∷ []
+    → x ≡ line.left +ℤ width (advances_of es) line.first i → a ≡ (get_or es i no_extent).advance
+    → after ≡ start ++ map (placed_item (advances_of es) number line) (range_with_len line.first (i + 1 - line.first))
+placed_more es number line i start before after x a l from h push pen advance =
+    item_step (placed_item (advances_of es) number line) line.first i start before after (placed_of i number x a) from h push
+    (ap₂ (placed_of i number) pen (advance ∙ sym (advance_at es i l)))
 
 pub overflow_add-x : goal.overflow_add-x
 overflow_add-x c =
@@ -74,6 +84,7 @@ loop-item-preserved c =
     let advance = advance_at es i l in
     let more = width-more (advances_of es) line.first i (let m : i < length (advances_of es) = omega (arith, n, l) in m) in
     record {
-      value = ?;
+      value = placed_more es c.args.number line i c.args.placed.now c.loop-item.placed c.push.new.self (to_z w64 c.loop-item.x-bits) (bits_64 (get_or es i no_extent).advance) l c.loop-item.auto.item
+          c.loop-item.invariant.value (c.in_ok-push.ensures.ok) pen (place_bits (get_or es i no_extent).advance (omega (arith, ints, wide), omega (arith, ints, wide)));
       pen = omega (arith, ints, pen, more, advance, low, high, wide);
     }

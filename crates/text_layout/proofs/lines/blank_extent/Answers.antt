@@ -1,4 +1,4 @@
-use Rattle.std.proofs.Common.{◌≡◌, ◌∙◌, ℕ, ◌-◌, ◌<◌, ◌≤◌, List, length, get_or, ℤ, pos, refl, sym, ap, ap₂, arith}
+use Rattle.std.proofs.Common.{◌≡◌, ◌∙◌, ℕ, ◌-◌, ◌<◌, ◌≤◌, List, length, get_or, ℤ, pos, sym, ap, ap₂, arith}
 use Rattle.std.proofs.lemmas.Int.{ints}
 use Rattle.std.proofs.lemmas.Option.{slice_get-get_or, slice_get_past}
 use Rattle.std.specs.List.{All}
@@ -37,7 +37,14 @@ returns-clause-value c =
     let items = c.args.items.now in
     let place = c.args.place in
     let n = c.if-place-items.state in
+    let some = c.requires.states in
     elim c.if-place-items.branch [
-      | then-place-items w ↦ ?
-      | else-place-items w ↦ ?
+      | then-place-items w ↦
+        let l = w.if-place-items.true in
+        let within = (c.requires.items place w.index-items-place.result l).state in
+        let is = w.state-is in
+        blank_bits metrics items place n c.requires.metrics (omega (arith, is, within)) (is ∙ state_within (length metrics) items place w.index-items-place.result l)
+      | else-place-items w ↦
+        let is = w.state-is in
+        blank_bits metrics items place n c.requires.metrics (omega (arith, is, some)) (is ∙ state_past (length metrics) items place w.if-place-items.false)
     ]
