@@ -6,3 +6,4 @@ pub mod PenLemmas
 pub mod FontLemmas
 pub mod StateEquality
 pub mod WalkLemmas
+pub mod ViewLemmas
