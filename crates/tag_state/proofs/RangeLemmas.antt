@@ -11,7 +11,9 @@ use Rattle.std.proofs.lemmas.Int.{ints, clamps}
 use Rattle.std.proofs.lemmas.List.{reverse-append}
 use Rattle.std.proofs.lemmas.List.Elements.{All-nil, All-cons, All-head, All-tail, All-append, All-map}
 use Rattle.std.proofs.lemmas.Option.{slice_get_within, get_or_from_slice_get}
-use Rattle.std.proofs.lemmas.Str.{IsUtf8-nil, IsUtf8-from_is_utf8}
+use Rattle.std.specs.Str.{IsUtf8}
+use Rattle.std.proofs.lemmas.Str.{IsUtf8-nil, IsUtf8-from_ascii}
+use Rattle.std.proofs.lemmas.Str.Ascii.{IsAscii-cons, IsAscii-nil}
 use Rattle.ass_num.specs.Limits.{max_held, one_16, IsHeldNumber}
 use Rattle.ass_num.specs.Floor.{held}
 use Rattle.ass_num.proofs.Floor.{held_within}
@@ -47,9 +49,12 @@ use Rattle.tag_state.proofs.WeightLemmas.{IsHeldFrom, moved_held, transform_unit
 
 -- ---- styles
 
+default_utf8 : IsUtf8 built_in_style.name
+default_utf8 = IsUtf8-from_ascii (68 ∷ (101 ∷ (102 ∷ (97 ∷ (117 ∷ (108 ∷ (116 ∷ []))))))) (IsAscii-cons 68 (101 ∷ (102 ∷ (97 ∷ (117 ∷ (108 ∷ (116 ∷ [])))))) (omega arith) (IsAscii-cons 101 (102 ∷ (97 ∷ (117 ∷ (108 ∷ (116 ∷ []))))) (omega arith) (IsAscii-cons 102 (97 ∷ (117 ∷ (108 ∷ (116 ∷ [])))) (omega arith) (IsAscii-cons 97 (117 ∷ (108 ∷ (116 ∷ []))) (omega arith) (IsAscii-cons 117 (108 ∷ (116 ∷ [])) (omega arith) (IsAscii-cons 108 (116 ∷ []) (omega arith) (IsAscii-cons 116 [] (omega arith) IsAscii-nil)))))))
+
 built_in : IsStyle built_in_style
 built_in = record {
-  name = IsUtf8-from_is_utf8 built_in_style.name refl;
+  name = default_utf8;
   font = IsUtf8-nil;
   size = (omega (arith, ints), omega (arith, ints));
   colours = refl;
@@ -111,13 +116,14 @@ past_held duration elapsed before (i ∷ items) all each =
     (All-append IsHeldEffect (reverse (effects_of duration elapsed i.kind)) before (reverse_held (effects_of duration elapsed i.kind) (kind_held duration elapsed i.kind (All-head IsHeldItem i items each))) all)
     (All-tail IsHeldItem i items each)
 
+reset_held : (b : Bool) (effect : Effect) (since : List Effect) → IsHeldEffect effect → All IsHeldEffect since → All IsHeldEffect (cond b [] (effect ∷ since))
+reset_held true effect since is all = All-nil IsHeldEffect
+reset_held false effect since is all = All-cons IsHeldEffect effect since is all
+
 since_held : (before : List Effect) → All IsHeldEffect before → All IsHeldEffect (since_reset before)
 since_held [] all = all
-since_held (effect ∷ earlier) all = by (is_reset effect)
-  where
-    by : (b : Bool) → All IsHeldEffect (cond b [] (effect ∷ since_reset earlier))
-    by true = All-nil IsHeldEffect
-    by false = All-cons IsHeldEffect effect (since_reset earlier) (All-head IsHeldEffect effect earlier all) (since_held earlier (All-tail IsHeldEffect effect earlier all))
+since_held (effect ∷ earlier) all =
+    reset_held (is_reset effect) effect (since_reset earlier) (All-head IsHeldEffect effect earlier all) (since_held earlier (All-tail IsHeldEffect effect earlier all))
 
 restyled_held : (script : ScriptValue) (own : List ℕ) (effect : Effect) (style : Style) → IsScript script → IsStyle style → IsStyle (restyled script own effect style)
 restyled_held script own (Plain (tag.Reset name)) style is styled = style_held script is (reset_name own name)
@@ -139,21 +145,24 @@ value_or : {V : Type 0} (P : V → Type 0) (new : Option V) (styled : V) → IfS
 value_or P None styled is held = held
 value_or P (Some new) styled is held = is
 
+-- one more setter
+setter_held : {V : Type 0} (P : V → Type 0) (moves : V → V → ℕ → V) (styled : V) (setter : Option (Setter V)) (earlier : List (Setter V))
+    → P styled
+    → ((old new : V) (weight : ℕ) → weight ≤ one_16 → P old → P new → P (moves old new weight))
+    → P (by_setters moves styled earlier) → IsSetterIn P setter → P (by_setters moves styled (cons_option setter earlier))
+setter_held P moves styled None earlier first moved rest is = rest
+setter_held P moves styled (Some (Sets new)) earlier first moved rest is = value_or P new styled is first
+setter_held P moves styled (Some (Moves weight new)) earlier first moved rest is = moved (by_setters moves styled earlier) (unwrap_or new styled) weight is.0 rest (value_or P new styled is.1 first)
+
 setters_held : {V : Type 0} (P : V → Type 0) (moves : V → V → ℕ → V) (styled : V) (sets : Effect → Option (Setter V))
     → P styled
     → ((old new : V) (weight : ℕ) → weight ≤ one_16 → P old → P new → P (moves old new weight))
     → ((effect : Effect) → IsHeldEffect effect → IsSetterIn P (sets effect))
     → (before : List Effect) → All IsHeldEffect before → P (by_setters moves styled (filter_map sets before))
 setters_held P moves styled sets first moved each [] all = first
-setters_held P moves styled sets first moved each (effect ∷ earlier) all = by (sets effect) (each effect (All-head IsHeldEffect effect earlier all))
-  where
-    rest : P (by_setters moves styled (filter_map sets earlier))
-    rest = setters_held P moves styled sets first moved each earlier (All-tail IsHeldEffect effect earlier all)
-
-    by : (setter : Option (Setter _)) → IsSetterIn P setter → P (by_setters moves styled (cons_option setter (filter_map sets earlier)))
-    by None is = rest
-    by (Some (Sets new)) is = value_or P new styled is first
-    by (Some (Moves weight new)) is = moved (by_setters moves styled (filter_map sets earlier)) (unwrap_or new styled) weight is.0 rest (value_or P new styled is.1 first)
+setters_held P moves styled sets first moved each (effect ∷ earlier) all =
+    setter_held P moves styled (sets effect) (filter_map sets earlier) first moved
+    (setters_held P moves styled sets first moved each earlier (All-tail IsHeldEffect effect earlier all)) (each effect (All-head IsHeldEffect effect earlier all))
 
 -- ---- numbers
 
@@ -339,13 +348,15 @@ said_held : {V : Type 0} (P : V → Type 0) (says : Tag → Option V) → ((t : 
 said_held P says each (item.Tag t) is = each t is
 said_held P says each kind is = tt
 
+said_first : {V : Type 0} (P : V → Type 0) (said : Option V) (rest : List V) → IfSome said P → IfSome (slice_get rest 0) P → IfSome (slice_get (cons_option said rest) 0) P
+said_first P None rest is others = others
+said_first P (Some value) rest is others = is
+
 pub first_held : {V : Type 0} (P : V → Type 0) (says : Tag → Option V) → ((t : Tag) → IsHeldTag t → IfSome (says t) P) → (items : List Item) → All IsHeldItem items → IfSome (first_of says items) P
 first_held P says each [] all = tt
-first_held P says each (i ∷ items) all = by (first_in says i.kind) (said_held P says each i.kind (All-head IsHeldItem i items all))
-  where
-    by : (said : Option _) → IfSome said P → IfSome (slice_get (cons_option said (filter_map (λ j. first_in says j.kind) items)) 0) P
-    by None is = first_held P says each items (All-tail IsHeldItem i items all)
-    by (Some said) is = is
+first_held P says each (i ∷ items) all =
+    said_first P (first_in says i.kind) (filter_map (λ j. first_in says j.kind) items) (said_held P says each i.kind (All-head IsHeldItem i items all))
+    (first_held P says each items (All-tail IsHeldItem i items all))
 
 abbrev IsKey : ℕ → Type 0
 IsKey key = (1 ≤ key) × (key ≤ 9)
@@ -366,9 +377,10 @@ point_said_held duration elapsed (tag.Pos x y) is = is
 point_said_held duration elapsed (tag.Move path t1 t2) is =
     let weight = move_weight (in_order (given_times t1 t2 duration)) elapsed in
     let unit = move_unit (in_order (given_times t1 t2 duration)) elapsed in
-    let least = neg_ℤ (pos max_held) in
-    (moved_held least (nth path 0) (nth path 2) weight unit (corner_held path 0 (omega arith) is.0) (corner_held path 2 (omega arith) is.0),
-    moved_held least (nth path 1) (nth path 3) weight unit (corner_held path 1 (omega arith) is.0) (corner_held path 3 (omega arith) is.0))
+    let least = neg_ℤ (pos max_held) in (
+      moved_held least (nth path 0) (nth path 2) weight unit (corner_held path 0 (omega arith) is.0) (corner_held path 2 (omega arith) is.0),
+      moved_held least (nth path 1) (nth path 3) weight unit (corner_held path 1 (omega arith) is.0) (corner_held path 3 (omega arith) is.0),
+    )
 point_said_held duration elapsed t is = tt
 
 pub point_held : (duration elapsed : ℤ) (items : List Item) → All IsHeldItem items → IfSome (first_of (point_said duration elapsed) items) IsHeldPlace

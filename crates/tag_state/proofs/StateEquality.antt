@@ -1,7 +1,9 @@
 -- States are equal by `==` only where they are one.
-use Rattle.std.proofs.Common.{arith, ◌≡◌, ℕ, ◌-◌, ◌<◌, refl, sym, ap, ◌∙◌, true, Bool, List, [], ◌∷◌, ◌++◌, length, ◌&&◌, Option, Some, None, nat_eq, length-append}
+use Rattle.std.proofs.Common.{arith, ◌≡◌, ℕ, ◌-◌, ◌<◌, refl, sym, ap, ◌∙◌, subst, All, true, Bool, List, [], ◌∷◌, ◌++◌, length, get_or, ◌&&◌, Option, Some, None, nat_eq, length-append}
 use Rattle.std.specs.Prelude.{slice_get}
-use Rattle.std.proofs.lemmas.Option.{slice_get_within}
+use Rattle.std.proofs.lemmas.List.Elements.{All-nil, All-cons, All-append}
+use Rattle.override_tags.specs.Views.{IsState}
+use Rattle.std.proofs.lemmas.Option.{slice_get_within, slice_get-get_or}
 use Rattle.std.specs.Bool.{beq}
 use Rattle.std.specs.Ordering.{int_eq}
 use Rattle.std.specs.Option.{option_eq}
@@ -85,8 +87,8 @@ state_same a b e =
 -- ---- stored states
 
 -- a state that is equal to one that is stored
-pub stored_same : (states : List State) (found wanted : State) (number : ℕ) → slice_get states number ≡ Some found → state.ghosts.eq found wanted ≡ true → IsStored states wanted number
-stored_same states found wanted number there equal = there ∙ ap Some (state_same found wanted equal)
+pub stored_same : (states : List State) (d wanted : State) (number : ℕ) → number < length states → state.ghosts.eq (get_or states number d) wanted ≡ true → IsStored states wanted number
+stored_same states d wanted number within equal = slice_get-get_or states number d within ∙ ap Some (state_same (get_or states number d) wanted equal)
 
 -- the last state is that of the number before the end
 pub last_same : (states : List State) (last wanted : State) → Some last ≡ slice_get states (length states - 1) → state.ghosts.eq last wanted ≡ true → IsLast states wanted (length states - 1)
@@ -100,3 +102,9 @@ last_stored states kept wanted number more is = record {
   place = omega (arith, ap length more, length-append kept (wanted ∷ []));
   there = ap (λ z. slice_get z number) more ∙ (ap (slice_get (kept ++ wanted ∷ [])) is ∙ get_end kept wanted);
 }
+
+-- states that are in range, and one more
+pub stored_held : (names : ℕ) (states kept : List State) (wanted : State) → states ≡ kept ++ wanted ∷ [] → IsState names wanted → All (IsState names) kept → All (IsState names) states
+stored_held names states kept wanted more is all =
+    let P : List State → Type 0 = λ z. All (IsState names) z in
+    subst P (sym more) (All-append (IsState names) kept (wanted ∷ []) all (All-cons (IsState names) wanted [] is (All-nil (IsState names))))

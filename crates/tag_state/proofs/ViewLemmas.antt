@@ -1,11 +1,13 @@
 -- The items of a text are few, no name of a font stands twice, and a view is in range.
-use Rattle.std.proofs.Common.{◌≡◌, ℕ, ◌+◌, ◌-◌, ◌≤◌, ◌<◌, ℤ, List, [], ◌∷◌, ◌++◌, length, drop, refl, sym, ap, ◌∙◌, subst, arith, Option, None, Some, All, length-append}
-use Rattle.std.specs.Prelude.{slice_get, IfSome}
+use Rattle.std.proofs.Common.{◌≡◌, ℕ, ◌+◌, ◌-◌, ◌≤◌, ◌<◌, ℤ, pos, ◌-ℤ◌, ◌≤ℤ◌, FitsSigned, w64, Bool, true, false, ◌&&◌, List, [], ◌∷◌, ◌++◌, length, drop, refl, sym, ap, ◌∙◌, subst, arith, Option, None, Some, All, length-append}
+use Rattle.std.specs.Prelude.{slice_get, unwrap_or, int_le, IfSome}
 use Rattle.std.proofs.lemmas.List.Elements.{All-nil, All-cons, All-head, All-tail}
 use Rattle.std.proofs.lemmas.Option.{slice_get_within}
 use Rattle.std.specs.BTreeMap.{get_by_text}
 use Rattle.std.proofs.lemmas.List.{length-drop}
-use Rattle.ass_num.specs.Limits.{max_text_bytes}
+use Rattle.ass_num.specs.Limits.{IsWithin, max_instant, max_text_bytes}
+use Rattle.ass_events.specs.Events.{is_time}
+use Rattle.std.proofs.lemmas.Int.{ints}
 use Rattle.ass_script.specs.Ranges.{IsScript}
 use Rattle.ass_script.specs.Scripts.{ScriptValue, style_for}
 use Rattle.ass_events.specs.declared.event.Event.{Event}
@@ -33,9 +35,12 @@ use Rattle.tag_arguments.specs.Cuts.{tag_len}
 use Rattle.tag_state.specs.Setters.{Effect, past_all}
 use Rattle.tag_state.specs.Looks as looks
 use Rattle.tag_state.specs.Looks.{Look, AreLooks, shown_as, no_break_space}
+use Rattle.tag_state.specs.Choices.{first_of, align_said, point_said, origin_said, fade_said, wrap_at, clip_at}
+use Rattle.tag_state.specs.declared.pen.Pen.{Pen}
+use Rattle.tag_state.specs.declared.sheet.Sheet.{Sheet}
 use Rattle.tag_state.specs.Views.{AreOnce, AreSeen, IsViewBy}
 use Rattle.tag_state.proofs.RangeLemmas.{IsHeldEffect, style_held, past_held, align_held, wrap_held, point_held, origin_held, clip_held}
-use Rattle.tag_state.specs.Walks.{AreFonts, AreItemsOf}
+use Rattle.tag_state.specs.Walks.{AreFonts, AreItemsOf, IsWalked}
 use Rattle.tag_state.specs.declared.fonts.Fonts.{Fonts}
 
 -- at most one item for each tag
@@ -127,3 +132,41 @@ view_held script event elapsed items view is all shows states few =
           (let P : Option ClipTag → Type 0 = λ z. IfSome z IsClip in
           subst P (sym shows.clip) (clip_held script.header (past_all event.duration elapsed [] items) is.header effects));
     }
+
+-- ---- the whole view
+
+-- what the walk and the choices come to
+pub view_by : (script : ScriptValue) (event : Event) (elapsed : ℤ) (items : List Item) (pen : Pen) (sheet : Sheet) (align wrap fade : ℕ) (position origin : Option (ℤ × ℤ)) (clip : Option ClipTag)
+    → IsWalked script event elapsed items pen sheet
+    → align ≡ unwrap_or (first_of align_said items) (style_for event.style script).alignment
+    → wrap ≡ wrap_at script.header.wrap (past_all event.duration elapsed [] items)
+    → position ≡ first_of (point_said event.duration elapsed) items
+    → origin ≡ first_of origin_said items
+    → pos fade ≡ unwrap_or (first_of (fade_said event.duration elapsed) items) (pos 0)
+    → clip ≡ clip_at script.header (past_all event.duration elapsed [] items)
+    → IsViewBy script event elapsed items (record { names = pen.fonts.names; states = sheet.states; items = sheet.items; align = align; wrap = wrap; pos = position; org = origin; fade = fade; clip = clip })
+view_by script event elapsed items pen sheet align wrap fade position origin clip walked align_is wrap_is position_is origin_is fade_is clip_is = record {
+  looks = walked.looks;
+  shows = walked.shows;
+  seen = walked.seen;
+  last = walked.last;
+  align = align_is;
+  wrap = wrap_is;
+  position = position_is;
+  origin = origin_is;
+  fade = fade_is;
+  clip = clip_is;
+}
+
+time_within : (time : ℤ) → is_time time ≡ true → (pos 0 ≤ℤ time) × (time ≤ℤ pos max_instant)
+time_within time e = by (int_le (pos 0) time) (int_le time (pos max_instant)) e (λ low. grind (arith, ints)) (λ high. grind (arith, ints))
+  where
+    by : (a b : Bool) → (a && b) ≡ true → (a ≡ true → pos 0 ≤ℤ time) → (b ≡ true → time ≤ℤ pos max_instant) → (pos 0 ≤ℤ time) × (time ≤ℤ pos max_instant)
+    by true true e low high = (low refl, high refl)
+    by true false e low high = cc
+    by false b e low high = cc
+
+pub elapsed_fits : (t start : ℤ) → IsWithin max_instant t → is_time start ≡ true → FitsSigned w64 (t -ℤ start)
+elapsed_fits t start within begins =
+    let begun = time_within start begins in
+    omega (arith, ints, within.0, within.1, begun.0, begun.1)

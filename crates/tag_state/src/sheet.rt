@@ -16,7 +16,8 @@ const MIX: u64 = 0x9e37_79b9_7f4a_7c15;
 
 /// The slot in which the number of a state is kept. Equal states have the same slot.
 fn slot_of(state: &State) -> usize
-    ensures { result < 256 }
+    ensures within { result < 256 }
+    ensures four { length state.now.colours ≡ 4 }
 {
     let mut hash = u64::from(state.font);
     for value in [
@@ -41,7 +42,8 @@ fn slot_of(state: &State) -> usize
     ] {
         hash = hash.wrapping_mul(MIX).wrapping_add_signed(value);
     }
-    for colour in state.colours {
+    for place in 0..4 {
+        let colour = state.colours[place];
         let bytes = u32::from_be_bytes([colour.r, colour.g, colour.b, colour.a]);
         hash = hash.wrapping_mul(MIX).wrapping_add(u64::from(bytes));
     }
@@ -86,23 +88,28 @@ impl Sheet {
         ensures { IfSome result (IsStored self.now.states state.now) }
     {
         let number = self.slots[slot];
-        match self.states.as_slice().get(number as usize) {
-            Some(found) if *found == *state => Some(number),
-            _ => None,
+        let states = self.states.as_slice();
+        if number as usize >= states.len() {
+            return None;
         }
+        if states[number as usize] == *state {
+            return Some(number);
+        }
+        None
     }
 
-    /// Stores the state as the last one.
-    fn store(&mut self, state: &State) -> Mem<u32>
+    /// Stores the state as the last one, and its number in its slot.
+    fn store(&mut self, slot: usize, state: &State) -> Mem<u32>
         requires room { length self.old.states + 1 < 2 ^ 32 }
+        requires slot { slot < 256 }
         ensures number { IfOk result (λ number. IsLast self.new.states state.now number) }
         ensures grown { OnOk result (Grow self.old.states self.new.states) }
         ensures items { self.new.items ≡ self.old.items }
-        ensures four { length state.now.colours ≡ 4 }
         ensures held { (names : ℕ) → IsState names state.now → All (IsState names) self.old.states → OnOk result (All (IsState names) self.new.states) }
     {
         let number = self.states.len() as u32;
         self.states.push(*state)?;
+        self.slots[slot] = number;
         Ok(number)
     }
 
@@ -114,8 +121,7 @@ impl Sheet {
         ensures current { IfOk result (λ number. self.new.current ≡ Some number) }
         ensures grown { OnOk result (Grow self.old.states self.new.states) }
         ensures items { self.new.items ≡ self.old.items }
-        ensures four { length state.now.colours ≡ 4 }
-        ensures held { (names : ℕ) → IsState names state.now → All (IsState names) self.old.states → OnOk result (All (IsState names) self.new.states) }
+        ensures held { (names : ℕ) → (length state.now.colours ≡ 4 → IsState names state.now) → All (IsState names) self.old.states → OnOk result (All (IsState names) self.new.states) }
     {
         if let Some(number) = self.current {
             return Ok(number);
@@ -125,8 +131,7 @@ impl Sheet {
             self.current = Some(number);
             return Ok(number);
         }
-        let number = self.store(state)?;
-        self.slots[slot] = number;
+        let number = self.store(slot, state)?;
         self.current = Some(number);
         Ok(number)
     }
@@ -138,8 +143,7 @@ impl Sheet {
         ensures shown { OnOk result ((number : ℕ) × (self.new.items ≡ self.old.items ++ record { kind = kind; state = number } ∷ []) × IsStored self.new.states state.now number) }
         ensures current { OnOk result (IfSome self.new.current (IsStored self.new.states state.now)) }
         ensures grown { OnOk result (Grow self.old.states self.new.states) }
-        ensures four { length state.now.colours ≡ 4 }
-        ensures held { (names : ℕ) → IsState names state.now → All (IsState names) self.old.states → OnOk result (All (IsState names) self.new.states) }
+        ensures held { (names : ℕ) → (length state.now.colours ≡ 4 → IsState names state.now) → All (IsState names) self.old.states → OnOk result (All (IsState names) self.new.states) }
     {
         let state = self.number_of(state)?;
         self.items.push(Shown { kind, state })
@@ -161,13 +165,12 @@ impl Sheet {
         ensures last { OnOk result ((number : ℕ) × IsLast self.new.states state.now number) }
         ensures grown { OnOk result (Grow self.old.states self.new.states) }
         ensures items { self.new.items ≡ self.old.items }
-        ensures four { length state.now.colours ≡ 4 }
-        ensures held { (names : ℕ) → IsState names state.now → All (IsState names) self.old.states → OnOk result (All (IsState names) self.new.states) }
+        ensures held { (names : ℕ) → (length state.now.colours ≡ 4 → IsState names state.now) → All (IsState names) self.old.states → OnOk result (All (IsState names) self.new.states) }
     {
         if self.is_last(state) {
             return Ok(());
         }
-        let _number = self.store(state)?;
+        let _number = self.store(slot_of(state), state)?;
         Ok(())
     }
 }

@@ -50,7 +50,7 @@ returns-then-pen-eq0 c =
           (slice_get-get_or items place c.index-items-place-2.result c.requires.within) (sym c.shown_as.ensures ∙ c.in-Some.is) c.if-pen-eq0.true c.in_ok-show.ensures.shown.1 c.in_ok-show.ensures.shown.2
           c.in_ok-show.ensures.grown c.in_ok-show.ensures.current
           (c.in_ok-show.ensures.held (length c.args.pen.now.fonts.names)
-          (pen_held c.args.script.now c.args.event.now c.args.elapsed items place c.args.pen.now c.requires.script c.requires.items.held c.requires.at.state c.show.ensures.four) c.requires.at.shown.held);
+          (λ four. pen_held c.args.script.now c.args.event.now c.args.elapsed items place c.args.pen.now c.requires.script c.requires.items.held c.requires.at.state four) c.requires.at.shown.held);
       on = omega arith;
     }
 
@@ -103,6 +103,6 @@ returns c =
           (subst P (c.range.ensures.value ∙ ap (λ (z : List ℕ). slice_range z i.from last.to) c.as_str-text.ensures) c.in_ok-path.ensures.path)
           c.in_ok-show-2.ensures.shown.1 c.in_ok-show-2.ensures.shown.2 c.in_ok-show-2.ensures.grown c.in_ok-show-2.ensures.current
           (c.in_ok-show-2.ensures.held (length c.args.pen.now.fonts.names)
-          (pen_held c.args.script.now c.args.event.now c.args.elapsed items place c.args.pen.now c.requires.script c.requires.items.held c.requires.at.state c.show-2.ensures.four) c.requires.at.shown.held);
+          (λ four. pen_held c.args.script.now c.args.event.now c.args.elapsed items place c.args.pen.now c.requires.script c.requires.items.held c.requires.at.state four) c.requires.at.shown.held);
       on = c.text_end-end.ensures.some;
     }

@@ -16,4 +16,4 @@ returns c =
     walked c.args.script.now c.args.event.now c.args.elapsed c.args.items.now c.loop-place.place c.loop-place.pen c.loop-place.sheet c.end.new.self c.in_ok-end.ensures.last.0 at
     (omega (arith, c.loop-place-test.false)) c.in_ok-end.ensures.last.1 c.in_ok-end.ensures.grown c.end.ensures.items
     (c.in_ok-end.ensures.held (length c.loop-place.pen.fonts.names)
-    (pen_held c.args.script.now c.args.event.now c.args.elapsed c.args.items.now c.loop-place.place c.loop-place.pen c.requires.script c.requires.items.held at.state c.end.ensures.four) at.shown.held)
+    (λ four. pen_held c.args.script.now c.args.event.now c.args.elapsed c.args.items.now c.loop-place.place c.loop-place.pen c.requires.script c.requires.items.held at.state four) at.shown.held)
