@@ -1,5 +1,5 @@
 -- The items of a text are few, no name of a font stands twice, and a view is in range.
-use Rattle.std.proofs.Common.{◌≡◌, ℕ, ◌+◌, ◌-◌, ◌≤◌, ◌<◌, ℤ, pos, ◌-ℤ◌, ◌≤ℤ◌, FitsSigned, w64, Bool, true, false, ◌&&◌, List, [], ◌∷◌, ◌++◌, length, drop, refl, sym, ap, ◌∙◌, subst, arith, Option, None, Some, All, length-append}
+use Rattle.std.proofs.Common.{◌≡◌, ℕ, ◌+◌, ◌-◌, ◌≤◌, ◌<◌, ℤ, pos, ◌-ℤ◌, ◌≤ℤ◌, FitsSigned, w64, Bool, true, false, ◌&&◌, ◌==◌, List, [], ◌∷◌, ◌++◌, length, drop, refl, sym, ap, ◌∙◌, subst, arith, Option, None, Some, All, length-append, zero-add}
 use Rattle.std.specs.Prelude.{slice_get, unwrap_or, int_le, IfSome}
 use Rattle.std.proofs.lemmas.List.Elements.{All-nil, All-cons, All-head, All-tail}
 use Rattle.std.proofs.lemmas.Option.{slice_get_within}
@@ -31,6 +31,8 @@ use Rattle.override_tags.specs.declared.view.ShownKind.TheVariants as shown
 use Rattle.override_tags.specs.declared.view.State.{State}
 use Rattle.override_tags.specs.declared.tag.Tag.{Tag}
 use Rattle.override_tags.proofs.LawLemmas.{items_follow, some_bytes}
+use Rattle.std.specs.List.{position_or_len}
+use Rattle.ass_num.specs.Bytes.{backslash}
 use Rattle.tag_arguments.specs.Cuts.{tag_len}
 use Rattle.tag_state.specs.Setters.{Effect, past_all}
 use Rattle.tag_state.specs.Looks as looks
@@ -61,14 +63,14 @@ part_few from text HardSpace rest mine front none = omega (arith, some_bytes tex
 part_few from text (Block body) rest mine front are =
     let e = ap length front.0 in
     let split = length-append body (125 ∷ rest) in
-    omega (arith, tags_few are, length-drop _ body)
+    omega (arith, tags_few are, e, split, length-drop (position_or_len (λ c. c == backslash) body) body)
 
 pub items_few : {from : ℕ} {text : List ℕ} {items : List Item} → AreItems from text items → length items ≤ length text
 items_few (reads.none from) = omega arith
 items_few (reads.more from to text part rest mine items front place are others) = omega (arith, part_few from text part rest mine front are, items_few others, length-append mine items)
 
 pub items_of_reading : (text : List ℕ) (items : List Item) → AreItems 0 text items → All IsHeldItem items → All (IsAtCharacters text) items → length text ≤ max_text_bytes → AreItemsOf text items
-items_of_reading text items are held cuts few = record { held = held; cuts = cuts; follow = items_follow are; few = omega (arith, items_few are) }
+items_of_reading text items are held cuts few = record { held = held; cuts = cuts; follow = subst (λ (z : ℕ). Follow 0 items z) (zero-add (length text)) (items_follow are); few = omega (arith, items_few are) }
 
 pub names_once : (script : ScriptValue) (fonts : Fonts) → AreFonts script fonts → AreOnce fonts.names
 names_once script fonts are i j name first second =
