@@ -1,5 +1,5 @@
 -- Looking back gives nothing out of range: no property of a state, and nothing that a text says of its event.
-use Rattle.std.proofs.Common.{◌≡◌, ℕ, ◌+◌, ◌*◌, ◌<◌, ◌≤◌, ◌⊎◌, ℤ, pos, negsuc, ◌≤ℤ◌, neg_ℤ, Bool, true, false, cond, ◌||◌, List, [], ◌∷◌, ◌++◌, length, map, reverse, get_or, refl, sym, ap, ◌∙◌, subst, inl, inr, Option, None, Some, All, arith}
+use Rattle.std.proofs.Common.{◌≡◌, ℕ, ◌*◌, ◌<◌, ◌≤◌, ◌⊎◌, ℤ, pos, negsuc, ◌≤ℤ◌, neg_ℤ, Bool, true, false, cond, ◌||◌, List, [], ◌∷◌, length, reverse, get_or, refl, sym, subst, inl, Option, None, Some, All, arith}
 use Rattle.std.specs.Prelude.{slice_get, unwrap_or, option_and_then, IfSome, int_lt}
 use Rattle.std.specs.Int.{int_max}
 use Rattle.std.specs.Int.RustNames.{unsigned_abs}
@@ -22,7 +22,7 @@ use Rattle.ass_script.specs.Scripts.{ScriptValue, style_for, style_place}
 use Rattle.ass_script.specs.Styles.{built_in_style}
 use Rattle.ass_script.specs.declared.script.Header.{Header}
 use Rattle.ass_script.specs.declared.style.Style.{Style}
-use Rattle.event_instants.specs.Instants.{moved, move_at, nth, transform_weight, given_times, in_order, move_weight}
+use Rattle.event_instants.specs.Instants.{moved, nth, transform_weight, given_times, in_order, move_weight}
 use Rattle.override_tags.specs.Limits.{max_tag_scale}
 use Rattle.override_tags.specs.Ranges.{IsHeldItem, IsHeldKind, IsHeldTag, IsGradualTag, IsSetNumber, IsClip, AreCorners}
 use Rattle.override_tags.specs.Singles.{whole, is_wrap_style}
@@ -32,7 +32,6 @@ use Rattle.override_tags.specs.declared.item.ItemKind.{ItemKind}
 use Rattle.override_tags.specs.declared.item.ItemKind.TheVariants as item
 use Rattle.override_tags.specs.declared.tag.ClipTag.{ClipTag}
 use Rattle.override_tags.specs.declared.tag.ClipTag.TheVariants.{Rect, Drawn}
-use Rattle.override_tags.specs.declared.tag.GradualTag.{GradualTag}
 use Rattle.override_tags.specs.declared.tag.GradualTag.TheVariants as gradual
 use Rattle.override_tags.specs.declared.tag.Tag.{Tag}
 use Rattle.override_tags.specs.declared.tag.Tag.TheVariants as tag

@@ -1,6 +1,6 @@
 -- The items of a text are few, no name of a font stands twice, and a view is in range.
-use Rattle.std.proofs.Common.{◌≡◌, ℕ, ◌+◌, ◌-◌, ◌≤◌, ◌<◌, ℤ, pos, ◌-ℤ◌, ◌≤ℤ◌, FitsSigned, w64, Bool, true, false, ◌&&◌, ◌==◌, List, [], ◌∷◌, ◌++◌, length, drop, refl, sym, ap, ◌∙◌, subst, arith, Option, None, Some, All, length-append, zero-add}
-use Rattle.std.specs.Prelude.{slice_get, unwrap_or, int_le, IfSome}
+use Rattle.std.proofs.Common.{◌≡◌, ℕ, ◌+◌, ◌-◌, ◌≤◌, ℤ, pos, ◌-ℤ◌, ◌≤ℤ◌, FitsSigned, w64, Bool, true, false, ◌&&◌, ◌==◌, List, [], ◌∷◌, ◌++◌, length, refl, sym, ap, subst, arith, Option, None, Some, All, length-append, zero-add}
+use Rattle.std.specs.Prelude.{unwrap_or, int_le, IfSome}
 use Rattle.std.proofs.lemmas.List.Elements.{All-nil, All-cons, All-head, All-tail}
 use Rattle.std.proofs.lemmas.Option.{slice_get_within}
 use Rattle.std.specs.BTreeMap.{get_by_text}
@@ -17,7 +17,6 @@ use Rattle.override_tags.specs.Laws.{Follow, IsAtCharacters}
 use Rattle.override_tags.specs.Ranges.{IsHeldItem}
 use Rattle.override_tags.specs.Readings as reads
 use Rattle.override_tags.specs.Readings.{AreItems, AreTags, ArePartTags, tag_items, part_item}
-use Rattle.override_tags.specs.Tags.{from_tags}
 use Rattle.override_tags.specs.Ranges.{IsClip}
 use Rattle.override_tags.specs.Views.{IsState, IsShownKind, IsShownItem, IsHeldPlace, IsView}
 use Rattle.override_tags.specs.declared.item.Item.{Item}

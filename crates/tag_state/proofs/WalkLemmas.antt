@@ -1,11 +1,11 @@
 -- What was shown, one item or one drawing further.
-use Rattle.std.proofs.Common.{◌≡◌, ◌≢◌, ℕ, zero, suc, ◌+◌, ◌-◌, ◌<◌, ◌≤◌, ℤ, Bool, true, false, List, [], ◌∷◌, ◌++◌, length, take, drop, get_or, reverse, refl, sym, ap, ◌∙◌, subst, Option, None, Some, All, arith, add-one, append_assoc, length-append, drop-cons, zero-add, pos, ◌≤ℤ◌, ◌*◌}
+use Rattle.std.proofs.Common.{◌≡◌, ℕ, zero, suc, ◌+◌, ◌-◌, ◌<◌, ◌≤◌, ℤ, Bool, true, false, List, [], ◌∷◌, ◌++◌, length, take, drop, get_or, reverse, refl, sym, ap, ◌∙◌, subst, Option, None, Some, All, arith, add-one, append_assoc, length-append, drop-cons, pos, ◌≤ℤ◌, ◌*◌}
 use Rattle.std.specs.Prelude.{slice_range, MatchBool}
 use Rattle.std.proofs.lemmas.Int.{ints}
 use Rattle.std.proofs.Math.Seq.{take-add}
 use Rattle.std.specs.Prelude.{slice_get, IfSome}
 use Rattle.std.proofs.lemmas.List.{take_more, take_all, drop_all, take-append-drop, drop-drop, get_or-drop, get_or-take, length-take, length-drop}
-use Rattle.std.proofs.lemmas.List.Elements.{All-nil, All-cons, All-head, All-tail, All-take}
+use Rattle.std.proofs.lemmas.List.Elements.{All-nil, All-head, All-tail, All-take}
 use Rattle.std.proofs.lemmas.Option.{slice_get_within, get_or_from_slice_get, slice_get-get_or}
 use Rattle.ass_script.specs.Scripts.{ScriptValue}
 use Rattle.ass_num.specs.declared.geometry.Path.{Path}
@@ -30,7 +30,7 @@ use Rattle.tag_state.proofs.StateLemmas.{IsSong, song_is}
 use Rattle.tag_state.specs.States.{IsStateAt}
 use Rattle.tag_state.specs.Looks.{Look, AreLooks, is_shown, IsShownText}
 use Rattle.tag_state.specs.Looks as looks
-use Rattle.tag_state.specs.Views.{AreSeen, IsSeen, HasState}
+use Rattle.tag_state.specs.Views.{AreSeen, IsSeen}
 use Rattle.tag_state.specs.Walks.{Grow, IsStored, IsLast, IsSheet, IsAt, IsWalked, IsPen, IsSliceTo, before_at}
 use Rattle.tag_state.specs.declared.pen.Pen.{Pen}
 use Rattle.tag_state.specs.declared.sheet.Sheet.{Sheet}

@@ -1,5 +1,5 @@
 -- Inner: what holds while the items of a text are walked.
-use Rattle.std.specs.Prelude.{◌≡◌, ℕ, ◌+◌, ◌-◌, ◌*◌, ◌<◌, ◌≤◌, ℤ, pos, ◌≤ℤ◌, List, [], ◌∷◌, ◌++◌, length, take, drop, Option, Some, None, slice_get, IfSome, All}
+use Rattle.std.specs.Prelude.{◌≡◌, ℕ, ◌+◌, ◌-◌, ◌*◌, ◌<◌, ◌≤◌, ℤ, pos, ◌≤ℤ◌, List, [], ◌++◌, length, take, drop, Some, slice_get, IfSome, All}
 use Rattle.std.specs.BTreeMap.{get, get_by_text}
 use Rattle.std.specs.Ordering.{nat_cmp}
 use Rattle.ass_script.specs.Scripts.{ScriptValue, style_for}
@@ -11,7 +11,6 @@ use Rattle.override_tags.specs.Limits.{max_syllable}
 use Rattle.override_tags.specs.Ranges.{IsHeldItem}
 use Rattle.override_tags.specs.Views.{IsState}
 use Rattle.override_tags.specs.declared.item.Item.{Item}
-use Rattle.override_tags.specs.declared.view.Shown.{Shown}
 use Rattle.override_tags.specs.declared.view.State.{State}
 use Rattle.tag_state.specs.Setters.{Effect, past_all, style_in_force}
 use Rattle.tag_state.specs.Syllables.{sung_until, syllables_in}
@@ -53,6 +52,10 @@ pub record IsPen (script : ScriptValue) (own : List ℕ) (before : List Effect) 
   pub syllables : syllables_in before ≤ tags
   pub begun : pos 0 ≤ℤ sung_until before
   pub sung : sung_until before ≤ℤ pos (tags * max_syllable)
+
+-- how many slots keep numbers of states
+abbrev pub slot_count : ℕ
+slot_count = 256
 
 -- the number of a state that is stored
 abbrev pub IsStored : List State → State → ℕ → Type 0

@@ -2,7 +2,7 @@
 
 ghost use Rattle.std.specs.Prelude.{◌≡◌, ℕ, ◌+◌, ◌-◌, ◌^◌, ◌<◌, [], ◌∷◌, ◌++◌, length, true, Some, None, All, OnOk, IfOk, IfSome};
 ghost use Rattle.override_tags.specs.Views.{IsState};
-ghost use Rattle.tag_state.specs.Walks.{IsStored, IsLast, Grow};
+ghost use Rattle.tag_state.specs.Walks.{IsStored, IsLast, Grow, slot_count};
 
 use ass_num::{Items, Mem};
 use override_tags::{Shown, ShownKind, State};
@@ -16,7 +16,7 @@ const MIX: u64 = 0x9e37_79b9_7f4a_7c15;
 
 /// The slot in which the number of a state is kept. Equal states have the same slot.
 fn slot_of(state: &State) -> usize
-    ensures within { result < 256 }
+    ensures within { result < slot_count }
     ensures four { length state.now.colours ≡ 4 }
 {
     let mut hash = u64::from(state.font);
@@ -84,7 +84,7 @@ impl Sheet {
 
     /// The number of the state, where its slot has it.
     fn found(&self, slot: usize, state: &State) -> Option<u32>
-        requires { slot < 256 }
+        requires { slot < slot_count }
         ensures { IfSome result (IsStored self.now.states state.now) }
     {
         let number = self.slots[slot];
@@ -101,7 +101,7 @@ impl Sheet {
     /// Stores the state as the last one, and its number in its slot.
     fn store(&mut self, slot: usize, state: &State) -> Mem<u32>
         requires room { length self.old.states + 1 < 2 ^ 32 }
-        requires slot { slot < 256 }
+        requires slot { slot < slot_count }
         ensures number { IfOk result (λ number. IsLast self.new.states state.now number) }
         ensures grown { OnOk result (Grow self.old.states self.new.states) }
         ensures items { self.new.items ≡ self.old.items }

@@ -1,4 +1,4 @@
-use Rattle.std.proofs.Common.{rules, ◌≡◌, ◌∙◌, ap, ℕ, pos, List, [], All, sym, subst, ◌-ℤ◌, ℤ, FitsSigned, w64, to_z-of_z, arith}
+use Rattle.std.proofs.Common.{rules, ◌≡◌, ◌∙◌, ap, ℕ, pos, List, [], All, sym, subst, ◌-ℤ◌, FitsSigned, w64, to_z-of_z, arith}
 use Rattle.tag_state.proofs.ViewLemmas.{items_few, items_of_reading, names_once, elapsed_fits, view_by, view_held}
 use Rattle.override_tags.specs.Laws.{IsAtCharacters}
 use Rattle.override_tags.specs.Ranges.{IsHeldItem}

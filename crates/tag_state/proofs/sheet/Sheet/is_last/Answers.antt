@@ -1,4 +1,4 @@
-use Rattle.std.proofs.Common.{◌≡◌, sym, ap, ◌∙◌, subst, Some, List, length, ◌-◌}
+use Rattle.std.proofs.Common.{◌≡◌, sym, ap, ◌∙◌, Some, List, length, ◌-◌}
 use Rattle.std.specs.Prelude.{slice_get}
 use Rattle.override_tags.specs.declared.view.State.{State}
 use Rattle.tag_state.proofs.StateEquality.{last_same}
