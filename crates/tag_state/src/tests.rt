@@ -39,6 +39,13 @@ fn event_of(alloc: Global, script: &Script) -> Result<Event, Fail>
     Ok(event)
 }
 
+/// The view so many milliseconds behind the event's start.
+fn view_of(alloc: Global, text: &str, elapsed: u16) -> Result<EventView, Fail> {
+    let script = script_of(alloc, text)?;
+    let event = event_of(alloc, &script)?;
+    Ok(states_at(alloc, &script, &event, 1_000 + i64::from(elapsed))?)
+}
+
 /// What is shown, and in which size, weight, red, alpha and begin of a syllable.
 fn shown_line(alloc: Global, item: &Shown, state: &State) -> Result<String, AllocError> {
     let begin = state.sung.map(|syllable| syllable.begin);
@@ -66,7 +73,7 @@ fn told(alloc: Global, view: &EventView) -> Result<String, AllocError> {
 #[test]
 fn texts_at_instants(rt: HostRuntime) -> Result<(), Fail> {
     let alloc = rt.alloc();
-    for (text, t, wanted) in [
+    for (text, elapsed, wanted) in [
         (
             "{\\b1}a{\\r}b",
             0,
@@ -118,9 +125,7 @@ fn texts_at_instants(rt: HostRuntime) -> Result<(), Fail> {
             "2 0 None None 0 2: Drawing(Path { segs: Items { items: [Move(Point { x: 0, y: 0 }), Line(Point { x: 1000, y: 0 })] } }) 1000 false 255 0 None; Char('x') 1000 false 255 0 None;",
         ),
     ] {
-        let script = script_of(alloc, text)?;
-        let event = event_of(alloc, &script)?;
-        let view = states_at(alloc, &script, &event, 1_000 + t)?;
+        let view = view_of(alloc, text, elapsed)?;
         assert_eq!(rt; told(alloc, &view)?.as_str(), wanted);
     }
     Ok(())
