@@ -1,6 +1,6 @@
 //! Values of keys, at the limits of keys among them, which were worked out elsewhere.
 
-ghost use Rattle.std.specs.Prelude.{◌≡◌, [], ◌∷◌, IfOk};
+ghost use Rattle.std.specs.Prelude.{◌≡◌, ◌<◌, pos, [], ◌∷◌, IfOk};
 ghost use Rattle.ass_num.specs.Limits.{IsMaskWithin, max_mask_corner, max_mask_side};
 ghost use Rattle.ass_num.specs.Paths.{IsPath};
 ghost use Rattle.mask_keys.specs.Keys.{HasMaskRanges, IsValidOutline};
@@ -9,7 +9,7 @@ ghost use Rattle.mask_model.specs.Outlines.{IsFontSet, glyph_counts};
 use crate::{made_border, made_composite, made_mask, made_outline, mask_cost, mask_of_region};
 use ass_num::{Items, Mask, Matrix, Mem, Path, Point, Seg};
 use bdf_font::{FontSet, read_font};
-use mask_keys::{MaskKey, OutlineKey, Part, Shared};
+use mask_keys::{MaskKey, OutlineKey, Part, Shared, mask_key_copy};
 use std::alloc::Global;
 use std::sync::Arc;
 use std::test::Fail;
@@ -42,18 +42,10 @@ fn fonts(alloc: Global) -> Result<FontSet, Fail>
     Ok(FontSet { fonts })
 }
 
-/// What is drawn: a glyph, a box of 64 units' height, or the drawing of a pixel.
-#[derive(Clone, Copy)]
-enum Shape {
-    Blank,
-    Dot,
-    Box,
-    BoxWithoutWidth,
-    NoSegments,
-    Square,
-}
-
-fn glyph(glyph: u32) -> OutlineKey {
+fn glyph(glyph: u32) -> OutlineKey
+    requires { glyph < 2 }
+    ensures { IsValidOutline (2 ∷ []) result }
+{
     OutlineKey::Glyph {
         font: 0,
         glyph,
@@ -64,8 +56,15 @@ fn glyph(glyph: u32) -> OutlineKey {
     }
 }
 
-fn box_of(w: i64) -> OutlineKey {
-    OutlineKey::Box { w, h: 64, turn: 0 }
+/// A box of a pixel's height, and no more than a pixel wide.
+fn box_of(w: u8) -> OutlineKey
+    ensures { IsValidOutline (2 ∷ []) result }
+{
+    OutlineKey::Box {
+        w: i64::from(w),
+        h: 64,
+        turn: 0,
+    }
 }
 
 fn square(alloc: Global) -> Mem<Path>
@@ -90,56 +89,53 @@ fn drawing(alloc: Global, path: Path) -> Mem<OutlineKey>
     })
 }
 
-fn outline(alloc: Global, shape: Shape) -> Mem<OutlineKey>
+/// A blank, a dot, a box of a pixel, one without width, a drawing without segments, or one of a pixel.
+fn outline(alloc: Global, shape: i64) -> Mem<OutlineKey>
     ensures { IfOk result (IsValidOutline (2 ∷ [])) }
 {
-    match shape {
-        Shape::Blank => Ok(glyph(0)),
-        Shape::Dot => Ok(glyph(1)),
-        Shape::Box => Ok(box_of(64)),
-        Shape::BoxWithoutWidth => Ok(box_of(0)),
-        Shape::NoSegments => drawing(
-            alloc,
-            Path {
-                segs: Items::new(alloc),
-            },
-        ),
-        Shape::Square => drawing(alloc, square(alloc)?),
+    if shape == 0 {
+        return Ok(glyph(0));
     }
+    if shape == 1 {
+        return Ok(glyph(1));
+    }
+    if shape == 2 {
+        return Ok(box_of(64));
+    }
+    if shape == 3 {
+        return Ok(box_of(0));
+    }
+    if shape == 4 {
+        let segs = Items::new(alloc);
+        return drawing(alloc, Path { segs });
+    }
+    drawing(alloc, square(alloc)?)
 }
 
-/// Radii, passes and a blur, at most the greatest that a key may have.
-#[derive(Clone, Copy)]
-struct Numbers {
-    rx: u32,
-    ry: u32,
-    edges: u8,
-    blur: u8,
-}
-
-fn key(outline: OutlineKey, numbers: Numbers) -> MaskKey
+fn key(outline: OutlineKey, rx: i64, ry: i64, edges: i64, blur: i64) -> MaskKey
     ensures outline { result.outline ≡ outline }
     ensures ranges { HasMaskRanges result }
 {
     MaskKey {
         outline,
-        rx: numbers.rx.min(1_600),
-        ry: numbers.ry.min(1_600),
+        rx: rx.max(0).min(1_600) as u32,
+        ry: ry.max(0).min(1_600) as u32,
         px: 0,
         py: 0,
-        edges: numbers.edges.min(127),
-        blur: numbers.blur.min(100),
+        edges: edges.max(0).min(127) as u8,
+        blur: blur.max(0).min(100) as u8,
     }
 }
 
-fn mask_of(alloc: Global, fonts: &FontSet, shape: Shape, numbers: Numbers) -> Mem<Mask>
+fn mask_of(alloc: Global, fonts: &FontSet, key: &MaskKey) -> Mem<Mask>
     requires fonts { IsFontSet fonts.now.fonts }
     requires glyphs { glyph_counts fonts.now.fonts ≡ 2 ∷ [] }
+    requires outline { IsValidOutline (2 ∷ []) key.now.outline }
+    requires ranges { HasMaskRanges key.now }
     ensures { IfOk result (IsMaskWithin max_mask_corner max_mask_side) }
 {
-    let key = key(outline(alloc, shape)?, numbers);
     let region = made_outline(alloc, fonts, &key.outline)?;
-    made_mask(alloc, &region, &key)
+    made_mask(alloc, &region, key)
 }
 
 fn has_box(mask: &Mask, x: i32, y: i32, w: u32, h: u32) -> bool {
@@ -155,44 +151,52 @@ fn weight(mask: &Mask) -> u64 {
     sum
 }
 
+/// A shape, its radii, passes and blur, and the box and the weight of the mask, in each line.
+const MASKS: &str = "1 0 0 0 0 0 -1 1 1 255
+1 16 16 0 0 -1 -2 3 3 2003
+0 16 16 1 1 0 0 0 0 0
+2 0 0 1 0 -1 -1 3 3 256
+2 0 0 0 1 -3 -3 7 7 249
+2 32 32 0 2 -8 -8 17 17 5342
+2 32 32 0 3 -11 -11 23 23 5353
+3 8 8 0 0 0 0 0 0 0
+4 16 16 0 0 0 0 0 0 0
+5 0 5 0 0 0 -1 1 3 415
+5 24 8 0 0 -2 -1 5 3 1805
+2 1600 1600 0 0 -100 -100 201 201 8106807
+2 0 0 127 0 -127 -127 255 255 206
+2 1600 1600 127 100 -527 -527 1055 1055 8109544";
+
+fn numbers_of(alloc: Global, line: &str) -> Result<Vec<i64>, Fail> {
+    let mut numbers = Vec::new(alloc);
+    for word in line.split(' ') {
+        numbers.push(word.parse::<i64>()?)?;
+    }
+    Ok(numbers)
+}
+
+/// Whether the mask of a line has its box and its weight.
+fn holds(alloc: Global, fonts: &FontSet, line: &[i64]) -> Mem<bool>
+    requires fonts { IsFontSet fonts.now.fonts }
+    requires glyphs { glyph_counts fonts.now.fonts ≡ 2 ∷ [] }
+{
+    let [shape, rx, ry, edges, blur, x, y, w, h, sum] = line else {
+        return Ok(false);
+    };
+    let key = key(outline(alloc, *shape)?, *rx, *ry, *edges, *blur);
+    let mask = mask_of(alloc, fonts, &key)?;
+    let corner = i64::from(mask.x()) == *x && i64::from(mask.y()) == *y;
+    let sides = i64::from(mask.w()) == *w && i64::from(mask.h()) == *h;
+    Ok(corner && sides && i128::from(weight(&mask)) == i128::from(*sum))
+}
+
 #[test]
 fn masks_of_keys(rt: HostRuntime) -> Result<(), Fail> {
-    let fonts = fonts(rt.alloc())?;
-    for (shape, (rx, ry, edges, blur), (x, y, w, h), sum) in [
-        (Shape::Dot, (0, 0, 0, 0), (0, -1, 1, 1), 255),
-        (Shape::Dot, (16, 16, 0, 0), (-1, -2, 3, 3), 2_003),
-        (Shape::Blank, (16, 16, 1, 1), (0, 0, 0, 0), 0),
-        (Shape::Box, (0, 0, 1, 0), (-1, -1, 3, 3), 256),
-        (Shape::Box, (0, 0, 0, 1), (-3, -3, 7, 7), 249),
-        (Shape::Box, (32, 32, 0, 2), (-8, -8, 17, 17), 5_342),
-        (Shape::Box, (32, 32, 0, 3), (-11, -11, 23, 23), 5_353),
-        (Shape::BoxWithoutWidth, (8, 8, 0, 0), (0, 0, 0, 0), 0),
-        (Shape::NoSegments, (16, 16, 0, 0), (0, 0, 0, 0), 0),
-        (Shape::Square, (0, 5, 0, 0), (0, -1, 1, 3), 415),
-        (Shape::Square, (24, 8, 0, 0), (-2, -1, 5, 3), 1_805),
-        (
-            Shape::Box,
-            (1_600, 1_600, 0, 0),
-            (-100, -100, 201, 201),
-            8_106_807,
-        ),
-        (Shape::Box, (0, 0, 127, 0), (-127, -127, 255, 255), 206),
-        (
-            Shape::Box,
-            (1_600, 1_600, 127, 100),
-            (-527, -527, 1_055, 1_055),
-            8_109_544,
-        ),
-    ] {
-        let numbers = Numbers {
-            rx,
-            ry,
-            edges,
-            blur,
-        };
-        let mask = mask_of(rt.alloc(), &fonts, shape, numbers)?;
-        assert!(rt; has_box(&mask, x, y, w, h), "{sum}");
-        assert_eq!(rt; weight(&mask), sum);
+    let alloc = rt.alloc();
+    let fonts = fonts(alloc)?;
+    for line in MASKS.lines() {
+        let numbers = numbers_of(alloc, line)?;
+        assert!(rt; holds(alloc, &fonts, numbers.as_slice())?, "{line}");
     }
     Ok(())
 }
@@ -202,13 +206,7 @@ fn weights(alloc: Global, fonts: &FontSet) -> Mem<u64>
     requires fonts { IsFontSet fonts.now.fonts }
     requires glyphs { glyph_counts fonts.now.fonts ≡ 2 ∷ [] }
 {
-    let numbers = Numbers {
-        rx: 32,
-        ry: 32,
-        edges: 0,
-        blur: 0,
-    };
-    let mut key = key(outline(alloc, Shape::Dot)?, numbers);
+    let mut key = key(glyph(1), 32, 32, 0, 0);
     let region = made_outline(alloc, fonts, &key.outline)?;
     let border = made_border(alloc, &region, 32, 32)?;
     let mut sum = 0u64;
@@ -220,12 +218,11 @@ fn weights(alloc: Global, fonts: &FontSet) -> Mem<u64>
     Ok(sum)
 }
 
-fn part(key: MaskKey, dx: i32) -> Part {
-    Part {
-        mask: key,
-        dx,
-        dy: 0,
-    }
+fn part(mask: MaskKey, dx: i32) -> Part
+    ensures dx { result.dx ≡ dx }
+    ensures dy { result.dy ≡ pos 0 }
+{
+    Part { mask, dx, dy: 0 }
 }
 
 /// The sum of two dots that are moved as far apart as parts may be.
@@ -233,19 +230,12 @@ fn far_dots(alloc: Global, fonts: &FontSet) -> Mem<Arc<Mask>>
     requires fonts { IsFontSet fonts.now.fonts }
     requires glyphs { glyph_counts fonts.now.fonts ≡ 2 ∷ [] }
 {
-    let none = Numbers {
-        rx: 0,
-        ry: 0,
-        edges: 0,
-        blur: 0,
-    };
-    let dot = Arc::new(alloc, mask_of(alloc, fonts, Shape::Dot, none)?)?;
+    let key = key(glyph(1), 0, 0, 0, 0);
+    let dot = Arc::new(alloc, mask_of(alloc, fonts, &key)?)?;
     let again = Arc::try_clone(&dot)?;
-    let parts = [
-        part(key(glyph(1), none), -20_480),
-        part(key(glyph(1), none), 20_480),
-    ];
-    made_composite(alloc, &parts, &[dot, again])
+    let left = part(mask_key_copy(alloc, &key)?, -20_480);
+    let right = part(key, 20_480);
+    made_composite(alloc, &[left, right], &[dot, again])
 }
 
 #[test]
