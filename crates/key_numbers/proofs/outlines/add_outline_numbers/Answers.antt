@@ -20,5 +20,5 @@ returns-in-Drawing c =
     let shifted = ap (λ z. mixed c.add_matrix-in-Drawing.new.sum (word_of z)) (to_z-of_z w64 c.in-Drawing.shift fits) in
     subst P (sym c.in-Drawing.is)
     (mixed_drawing c.args.sum.now c.add-in-Drawing.new.self c.add_length.new.sum c.add_segments.new.sum c.add_matrix-in-Drawing.new.sum c.add_word.new.sum
-     c.in-Drawing.path c.in-Drawing.m c.in-Drawing.shift
-     c.add-in-Drawing.ensures (c.add_length.ensures ∙ counted) (c.add_segments.ensures ∙ named) c.add_matrix-in-Drawing.ensures (c.add_word.ensures ∙ shifted))
+    c.in-Drawing.path c.in-Drawing.m c.in-Drawing.shift
+    c.add-in-Drawing.ensures (c.add_length.ensures ∙ counted) (c.add_segments.ensures ∙ named) c.add_matrix-in-Drawing.ensures (c.add_word.ensures ∙ shifted))

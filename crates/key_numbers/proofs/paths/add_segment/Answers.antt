@@ -1,4 +1,4 @@
-use Rattle.std.proofs.Common.{◌≡◌, ℕ, List, sym, ap, ◌∙◌, subst}
+use Rattle.std.proofs.Common.{◌≡◌, List, sym, ap, ◌∙◌, subst}
 use Rattle.std.specs.List.{flat_map}
 use Rattle.ass_num.specs.declared.geometry.Point.{Point}
 use Rattle.ass_num.specs.declared.geometry.Seg.{Seg}
@@ -14,4 +14,4 @@ returns-in-Spline c =
     let pointed = ap (λ z. mixed_all c.add_length.new.sum (flat_map point_numbers z)) c.as_slice-in-Spline.ensures in
     subst P (sym c.in-Spline.is)
     (mixed_spline c.args.sum.now c.add-in-Spline.new.self c.add_length.new.sum c.add_points.new.sum c.add_flag.new.sum c.in-Spline.controls c.in-Spline.closed
-     c.add-in-Spline.ensures (c.add_length.ensures ∙ counted) (c.add_points.ensures ∙ pointed) c.add_flag.ensures)
+    c.add-in-Spline.ensures (c.add_length.ensures ∙ counted) (c.add_points.ensures ∙ pointed) c.add_flag.ensures)
