@@ -1,6 +1,6 @@
-use Rattle.std.proofs.Common.{◌∙◌, FitsSigned, w64, to_z-of_z, refl, rules, arith}
+use Rattle.std.proofs.Common.{FitsSigned, w64, to_z-of_z, refl, rules, arith}
 use Rattle.std.proofs.lemmas.Int.{ints}
-use Rattle.text_layout.proofs.BitLemmas.{bits_64, place_bits}
+use Rattle.text_layout.proofs.BitLemmas.{place_bits}
 use Rattle.text_layout.proofs.extents.char_extent.Goals as goal
 
 pub returns-clause-value : goal.returns-clause-value
