@@ -7,7 +7,8 @@ use Rattle.text_layout.specs.declared.extents.Extent.{Extent}
 use Rattle.text_layout.specs.declared.laid.Laid.{Laid}
 use Rattle.text_layout.specs.declared.laid.Line.{Line}
 use Rattle.text_layout.specs.declared.laid.Placed.{Placed}
-use Rattle.text_layout.specs.Anchors.{edge_across}
+use Rattle.text_layout.specs.declared.spans.Span.{Span}
+use Rattle.text_layout.specs.Anchors.{IsBlockSide, edge_across}
 use Rattle.text_layout.specs.Layouts.{IsWithinBlock, laid_out}
 use Rattle.text_layout.specs.Limits.{max_block, max_block_lines, max_line}
 use Rattle.text_layout.specs.Lines.{IsLineExtent, IsLineWithin, advances_of, block_height, block_width, line_extent, line_extents, lines_from, placed_from}
@@ -15,6 +16,24 @@ use Rattle.text_layout.proofs.BitLemmas.{bits_64, place_bits}
 use Rattle.text_layout.proofs.BlockLemmas.{laid-within, lines-most, spans-within}
 use Rattle.text_layout.proofs.SpanLemmas.{AreSpans-length}
 use Rattle.text_layout.proofs.layouts.laid_out.Goals as goal
+
+abbrev laid_of : List Line → List Placed → ℤ → ℤ → Laid
+laid_of lines placed width height = record { lines = lines; placed = placed; width = width; height = height }
+
+-- the width of a block in 64 bits
+width_bits : (width : ℤ) (extents es : List Extent) → es ≡ extents → width ≡ block_width es → pos 0 ≤ℤ width → width ≤ℤ pos max_line → bits_64 width ≡ block_width extents
+width_bits width extents es same is l m = place_bits width (omega (arith, ints, l, m), omega (arith, ints, l, m)) ∙ is ∙ ap block_width same
+
+side_bits : (side : ℤ) → IsBlockSide side → bits_64 side ≡ side
+side_bits side h =
+    let low = h.from_zero in
+    let high = h.most in
+    place_bits side (omega (arith, ints, low, high), omega (arith, ints, low, high))
+
+-- the same lines by equal edges, widths and extents
+lines_same : (spans : List Span) (e f : Edge) (v w : ℤ) (xs ys : List Extent) → e ≡ f → v ≡ w → xs ≡ ys → lines_from e v (pos 0) spans xs ≡ lines_from f w (pos 0) spans ys
+lines_same spans e f v w xs ys edge width same =
+    ap₂ (λ (g : Edge) (across : ℤ). lines_from g across (pos 0) spans xs) edge width ∙ ap (lines_from f w (pos 0) spans) same
 
 pub line_extents-requires-clause-spans : goal.line_extents-requires-clause-spans
 line_extents-requires-clause-spans c = spans-within 0 (length c.args.extents.now) c.args.spans.now c.requires.spans
@@ -44,16 +63,30 @@ placed_items-requires-clause-lines c =
     let reach = subst (All IsLineExtent) heights c.in_ok-heights.ensures.range in
     let total : c.block_height-height.result ≡ block_height extents = c.block_height-height.ensures.value ∙ ap block_height (c.as_slice-3.ensures.value ∙ heights) in
     let high = subst (λ (z : ℤ). z ≤ℤ pos max_block) total c.block_height-height.ensures.range.most in
-    let from_zero = c.block_width-width.ensures.from_zero in
-    let most = c.block_width-width.ensures.most in
-    let width : bits_64 c.block_width-width.result ≡ block_width extents =
-    place_bits c.block_width-width.result (omega (arith, ints, from_zero, most), omega (arith, ints, from_zero, most))
-    ∙ c.block_width-width.ensures.value ∙ ap block_width (c.as_slice-2.ensures.value ∙ heights) in
-    let lines : c.in_ok-lines.lines ≡ (laid_out view metrics es spans).lines =
-    c.in_ok-lines.ensures
-    ∙ ap₂ (λ (edge : Edge) (across : ℤ). lines_from edge across (pos 0) spans c.as_slice-4.result.now) c.column_of-column.ensures width
-    ∙ ap (lines_from (edge_across view.align) (block_width extents) (pos 0) spans) (c.as_slice-4.ensures.value ∙ heights) in
+    let width = width_bits c.block_width-width.result extents c.as_slice-2.result.now (c.as_slice-2.ensures.value ∙ heights) c.block_width-width.ensures.value c.block_width-width.ensures.from_zero c.block_width-width.ensures.most in
+    let lines =
+    c.in_ok-lines.ensures ∙ lines_same spans _ (edge_across view.align) _ (block_width extents) c.as_slice-4.result.now extents c.column_of-column.ensures width (c.as_slice-4.ensures.value ∙ heights) in
     subst (All (IsLineWithin (length es) (pos max_line) (pos max_block))) (sym (c.as_slice-5.ensures ∙ lines)) (lines-most view metrics es spans c.requires.few c.requires.extents c.requires.spans reach high)
 
 pub returns-clause-within : goal.returns-clause-within
-returns-clause-within c = ?
+returns-clause-within c =
+    let view = c.args.view.now in
+    let metrics = c.args.metrics.now in
+    let es = c.args.extents.now in
+    let spans = c.args.spans.now in
+    let extents = line_extents metrics view.items es spans in
+    let laid = laid_out view metrics es spans in
+    let heights : c.in_ok-heights.heights.items ≡ extents = c.in_ok-heights.ensures.value ∙ ap (λ items. line_extents metrics items es spans) c.as_slice.ensures in
+    let reach = subst (All IsLineExtent) heights c.in_ok-heights.ensures.range in
+    let total : c.block_height-height.result ≡ block_height extents = c.block_height-height.ensures.value ∙ ap block_height (c.as_slice-3.ensures.value ∙ heights) in
+    let side = c.block_height-height.ensures.range in
+    let width = width_bits c.block_width-width.result extents c.as_slice-2.result.now (c.as_slice-2.ensures.value ∙ heights) c.block_width-width.ensures.value c.block_width-width.ensures.from_zero c.block_width-width.ensures.most in
+    let height = side_bits c.block_height-height.result side ∙ total in
+    let lines =
+    c.in_ok-lines.ensures ∙ lines_same spans _ (edge_across view.align) _ (block_width extents) c.as_slice-4.result.now extents c.column_of-column.ensures width (c.as_slice-4.ensures.value ∙ heights) in
+    let placed = c.in_ok-placed.ensures ∙ ap (placed_from (advances_of es) 0) (c.as_slice-5.ensures ∙ lines) in
+    let same =
+    ap₂ (λ (ls : List Line) (ps : List Placed). laid_of ls ps (bits_64 c.block_width-width.result) (bits_64 c.block_height-height.result)) lines placed
+    ∙ ap₂ (laid_of laid.lines laid.placed) width height in
+    subst (IsWithinBlock (length es)) (sym same)
+    (laid-within view metrics es spans c.requires.few c.requires.extents c.requires.spans reach (subst (λ (z : ℤ). z ≤ℤ pos max_block) total side.most)).1
