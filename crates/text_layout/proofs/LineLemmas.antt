@@ -1,22 +1,21 @@
 -- Sums and greatest numbers along a list of extents, and where they put lines and items.
-use Rattle.std.proofs.Common.{◌≡◌, ℕ, ◌+◌, ◌-◌, ◌<◌, ◌≤◌, List, [], ◌∷◌, ◌++◌, map, fold, length, take, drop, get_or, ℤ, pos, ◌+ℤ◌, ◌-ℤ◌, ◌≤ℤ◌, refl, sym, ap, ap₂, subst, ◌∙◌, append_assoc, arith}
+use Rattle.std.proofs.Common.{◌≡◌, ℕ, ◌+◌, ◌-◌, ◌<◌, ◌≤◌, List, [], ◌∷◌, ◌++◌, map, fold, length, take, drop, get_or, ℤ, pos, ◌+ℤ◌, ◌≤ℤ◌, sym, ap, ap₂, subst, ◌∙◌, append_assoc, arith}
 use Rattle.std.proofs.lemmas.Int.{ints, clamps}
-use Rattle.std.proofs.lemmas.List.{drop_more, take-map, get_or-map, length-map, map-append}
+use Rattle.std.proofs.lemmas.List.{drop_more, take-map, get_or-map, length-map}
 use Rattle.std.proofs.lemmas.List.Elements.{All-cons, All-head, All-nil, All-tail}
 use Rattle.std.proofs.lemmas.List.FromFn.{map-range_with_len_more}
 use Rattle.std.proofs.lemmas.List.Sums.{fold_more}
 use Rattle.std.specs.Int.{int_max}
 use Rattle.std.specs.List.{All, range_with_len}
-use Rattle.line_layout.specs.Breaks.{IsItemWidth, max_width, pen, width}
+use Rattle.line_layout.specs.Breaks.{width}
 use Rattle.line_layout.proofs.PenLemmas.{pen-more}
 use Rattle.text_layout.specs.declared.anchors.Edge.{Edge}
 use Rattle.text_layout.specs.declared.laid.Line.{Line}
 use Rattle.text_layout.specs.declared.laid.Placed.{Placed}
 use Rattle.text_layout.specs.declared.spans.Span.{Span}
 use Rattle.text_layout.specs.declared.extents.Extent.{Extent}
-use Rattle.text_layout.specs.Extents.{IsExtent}
 use Rattle.text_layout.specs.Limits.{max_line}
-use Rattle.text_layout.specs.Lines.{IsLineExtent, advances_of, ascents_of, descents_of, block_height, block_width, heights_of, greatest, total, line_at, lines_from, placed_from, placed_in}
+use Rattle.text_layout.specs.Lines.{IsLineExtent, advances_of, block_width, total, line_at, lines_from, placed_from, placed_in}
 
 -- ---- sums
 

@@ -12,7 +12,6 @@ use Rattle.text_layout.specs.declared.laid.Placed.{Placed}
 use Rattle.text_layout.specs.declared.metrics.Metrics.{Metrics}
 use Rattle.text_layout.specs.declared.spans.Span.{Span}
 use Rattle.text_layout.specs.Anchors.{edge_within}
-use Rattle.text_layout.specs.Extents.{no_extent}
 use Rattle.text_layout.specs.Metrics.{no_metrics}
 use Rattle.text_layout.specs.Limits.{max_line}
 

@@ -1,4 +1,4 @@
-use Rattle.std.proofs.Common.{◌≡◌, ◌∙◌, ◌+◌, ◌≤◌, ℤ, List, length, pos, ◌≤ℤ◌, sym, ap, ap₂, subst, arith}
+use Rattle.std.proofs.Common.{◌≡◌, ◌∙◌, ◌+◌, ℤ, List, length, pos, ◌≤ℤ◌, sym, ap, ap₂, subst, arith}
 use Rattle.std.proofs.lemmas.Int.{ints}
 use Rattle.std.proofs.lemmas.List.{length-map}
 use Rattle.std.specs.List.{All}
@@ -10,7 +10,7 @@ use Rattle.text_layout.specs.declared.laid.Placed.{Placed}
 use Rattle.text_layout.specs.declared.spans.Span.{Span}
 use Rattle.text_layout.specs.Anchors.{IsBlockSide, edge_across}
 use Rattle.text_layout.specs.Layouts.{IsWithinBlock, laid_out}
-use Rattle.text_layout.specs.Limits.{max_block, max_block_lines, max_line}
+use Rattle.text_layout.specs.Limits.{max_block, max_line}
 use Rattle.text_layout.specs.Lines.{IsLineExtent, IsLineWithin, advances_of, block_height, block_width, line_extent, line_extents, lines_from, placed_from}
 use Rattle.text_layout.proofs.BitLemmas.{bits_64, place_bits}
 use Rattle.text_layout.proofs.BlockLemmas.{laid-within, lines-most, spans-within}

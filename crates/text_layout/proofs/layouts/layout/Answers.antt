@@ -47,7 +47,7 @@ laid_by script fonts event view size metrics extents advances items max spans sh
     let lines_by = λ (xs : List Shown) (ws : List ℤ) (z : ℤ). AreLines view.wrap (roles_of view.wrap xs) ws z (paragraphs_of (roles_of view.wrap xs)) spans in (
       spans,
       subst (λ (xs : List Shown). lines_by xs (advances_of each) width) i
-      (subst (λ (z : ℤ). lines_by items (advances_of each) z) w (subst (λ (ws : List ℤ). lines_by items ws max) a lines)),
+          (subst (λ (z : ℤ). lines_by items (advances_of each) z) w (subst (λ (ws : List ℤ). lines_by items ws max) a lines)),
       is ∙ ap₂ (λ (x : List Metrics) (y : List Extent). laid_out view x y shown) m e ∙ ap (laid_out view all each) s,
     )
 

@@ -40,11 +40,11 @@ returns-clause-value c =
     let some = c.requires.states in
     elim c.if-place-items.branch [
       | then-place-items w ↦
-        let l = w.if-place-items.true in
-        let within = (c.requires.items place w.index-items-place.result l).state in
-        let is = w.state-is in
-        blank_bits metrics items place n c.requires.metrics (omega (arith, is, within)) (is ∙ state_within (length metrics) items place w.index-items-place.result l)
+          let l = w.if-place-items.true in
+          let within = (c.requires.items place w.index-items-place.result l).state in
+          let is = w.state-is in
+          blank_bits metrics items place n c.requires.metrics (omega (arith, is, within)) (is ∙ state_within (length metrics) items place w.index-items-place.result l)
       | else-place-items w ↦
-        let is = w.state-is in
-        blank_bits metrics items place n c.requires.metrics (omega (arith, is, some)) (is ∙ state_past (length metrics) items place w.if-place-items.false)
+          let is = w.state-is in
+          blank_bits metrics items place n c.requires.metrics (omega (arith, is, some)) (is ∙ state_past (length metrics) items place w.if-place-items.false)
     ]

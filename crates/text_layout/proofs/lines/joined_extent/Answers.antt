@@ -1,4 +1,4 @@
-use Rattle.std.proofs.Common.{◌≡◌, get_or, pos, ◌+ℤ◌, arith}
+use Rattle.std.proofs.Common.{get_or, pos, ◌+ℤ◌, arith}
 use Rattle.std.proofs.lemmas.Int.{clamps, ints}
 use Rattle.std.specs.Int.{int_max}
 use Rattle.text_layout.specs.declared.extents.Extent.{Extent}
