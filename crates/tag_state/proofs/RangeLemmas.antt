@@ -44,7 +44,7 @@ use Rattle.tag_state.specs.Properties.{Measure, Size, ScaleX, ScaleY, Spacing, A
 use Rattle.tag_state.specs.Syllables.{sung_at, sung_by, sung_len, sung_until}
 use Rattle.tag_state.specs.States.{IsStateAt}
 use Rattle.tag_state.specs.Choices.{first_in, first_of, align_said, point_said, origin_said, wrap_setter, wrap_at, canvas_corners, corners_from, corners_moved, clip_setter, clip_moved, clip_at}
-use Rattle.tag_state.proofs.WeightLemmas.{IsHeldFrom, moved_held, transform_unit, move_unit}
+use Rattle.tag_state.proofs.WeightLemmas.{IsHeldFrom, abs_most, moved_held, transform_unit, move_unit}
 
 -- ---- styles
 
@@ -250,10 +250,6 @@ number_held m script own before is all = by (resets_measure m)
         (moved_held (least_of m)) (number_setter_held m) before all
 
 -- ---- the level of drawings
-
-abs_most : (z : ℤ) (most : ℕ) → pos 0 ≤ℤ z → z ≤ℤ pos most → unsigned_abs z ≤ most
-abs_most (pos n) most low high = omega (arith, ints)
-abs_most (negsuc n) most low high = absurd (omega (arith, ints))
 
 level_value_held : (value : Option ℤ) → IfSome (option_map level_of value) (λ n. n ≤ max_tag_scale)
 level_value_held None = tt

@@ -41,7 +41,7 @@ use Rattle.tag_state.specs.declared.pen.Pen.{Pen}
 use Rattle.tag_state.specs.declared.sheet.Sheet.{Sheet}
 use Rattle.tag_state.specs.Views.{AreOnce, AreSeen, IsViewBy}
 use Rattle.tag_state.proofs.RangeLemmas.{IsHeldEffect, style_held, past_held, align_held, wrap_held, point_held, origin_held, clip_held}
-use Rattle.tag_state.specs.Walks.{AreFonts, AreItemsOf, IsWalked}
+use Rattle.tag_state.specs.Walks.{AreFonts, AreItemsOf, IsItemWalk}
 use Rattle.tag_state.specs.declared.fonts.Fonts.{Fonts}
 
 -- at most one item for each tag
@@ -138,7 +138,7 @@ view_held script event elapsed items view is all shows states few =
 
 -- what the walk and the choices come to
 pub view_by : (script : ScriptValue) (event : Event) (elapsed : ℤ) (items : List Item) (pen : Pen) (sheet : Sheet) (align wrap fade : ℕ) (position origin : Option (ℤ × ℤ)) (clip : Option ClipTag)
-    → IsWalked script event elapsed items pen sheet
+    → IsItemWalk script event elapsed items pen sheet
     → align ≡ unwrap_or (first_of align_said items) (style_for event.style script).alignment
     → wrap ≡ wrap_at script.header.wrap (past_all event.duration elapsed [] items)
     → position ≡ first_of (point_said event.duration elapsed) items

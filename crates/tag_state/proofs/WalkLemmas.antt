@@ -28,10 +28,10 @@ use Rattle.tag_state.specs.Syllables.{sung_at, sung_until, syllables_in}
 use Rattle.tag_state.specs.Steps.{HasSongRoom}
 use Rattle.tag_state.proofs.StateLemmas.{IsSong, song_is}
 use Rattle.tag_state.specs.States.{IsStateAt}
-use Rattle.tag_state.specs.Looks.{Look, AreLooks, is_shown, IsShownText}
+use Rattle.tag_state.specs.Looks.{Look, AreLooks, is_text_kind, IsShownText}
 use Rattle.tag_state.specs.Looks as looks
 use Rattle.tag_state.specs.Views.{AreSeen, IsSeen}
-use Rattle.tag_state.specs.Walks.{Grow, IsStored, IsLast, IsSheet, IsAt, IsWalked, IsPen, IsSliceTo, before_at}
+use Rattle.tag_state.specs.Walks.{Grow, IsStored, IsLast, IsSheet, IsAt, IsItemWalk, IsPen, IsSliceTo, before_at}
 use Rattle.tag_state.specs.declared.pen.Pen.{Pen}
 use Rattle.tag_state.specs.declared.sheet.Sheet.{Sheet}
 use Rattle.tag_state.proofs.ChoiceLemmas.{past_all-append}
@@ -84,10 +84,10 @@ before_more event elapsed items place i found =
     ∙ past_all-append event.duration elapsed [] (take place items) (i ∷ [])
 
 -- text has no effects
-pub text_past : (duration elapsed : ℤ) (before : List Effect) (i : Item) → is_shown i.kind ≡ true → past duration elapsed before i ≡ before
+pub text_past : (duration elapsed : ℤ) (before : List Effect) (i : Item) → is_text_kind i.kind ≡ true → past duration elapsed before i ≡ before
 text_past duration elapsed before i text = by i.kind text
   where
-    by : (kind : ItemKind) → is_shown kind ≡ true → reverse (effects_of duration elapsed kind) ++ before ≡ before
+    by : (kind : ItemKind) → is_text_kind kind ≡ true → reverse (effects_of duration elapsed kind) ++ before ≡ before
     by (item.Char c) text = refl
     by item.HardBreak text = refl
     by item.SoftBreak text = refl
@@ -98,7 +98,7 @@ text_past duration elapsed before i text = by i.kind text
 -- ---- one step
 
 pub sheet_unseen : (script : ScriptValue) (event : Event) (elapsed : ℤ) (items : List Item) (place : ℕ) (pen new_pen : Pen) (sheet new_sheet : Sheet) (i : Item)
-    → IsSheet script event elapsed items place pen sheet → slice_get items place ≡ Some i → is_shown i.kind ≡ false
+    → IsSheet script event elapsed items place pen sheet → slice_get items place ≡ Some i → is_text_kind i.kind ≡ false
     → Grow pen.fonts.names new_pen.fonts.names → new_sheet.states ≡ sheet.states → new_sheet.items ≡ sheet.items
     → IfSome new_sheet.current (IsStored new_sheet.states new_pen.state) → IsSheet script event elapsed items (place + 1) new_pen new_sheet
 sheet_unseen script event elapsed items place pen new_pen sheet new_sheet i is found hidden named stored shown current = record {
@@ -169,12 +169,12 @@ at_tag script event elapsed items place pen new_pen sheet new_sheet i tag at fou
       (let P : List Effect → Type 0 = λ z. IsPen script event.style z (place + 1) new_pen in
       subst P (sym (before_more event elapsed items place i found ∙ ap (λ k. reverse (effects_of event.duration elapsed k) ++ before_at event elapsed items place) is)) moved);
   shown =
-      sheet_unseen script event elapsed items place pen new_pen sheet new_sheet i at.shown found (ap is_shown is) grown (ap (λ (s : Sheet). s.states) turned) (ap (λ (s : Sheet). s.items) turned)
+      sheet_unseen script event elapsed items place pen new_pen sheet new_sheet i at.shown found (ap is_text_kind is) grown (ap (λ (s : Sheet). s.states) turned) (ap (λ (s : Sheet). s.items) turned)
       (let P : Sheet → Type 0 = λ s. IfSome s.current (IsStored s.states new_pen.state) in subst P (sym turned) tt);
   within = omega (arith, slice_get_within items place i found);
 }
 
-unshown : (kind : ItemKind) → looks.shown_as kind ≡ None → is_shown kind ≡ false
+unshown : (kind : ItemKind) → looks.shown_as kind ≡ None → is_text_kind kind ≡ false
 unshown (item.Char c) e = cc
 unshown item.HardBreak e = cc
 unshown item.SoftBreak e = cc
@@ -203,7 +203,7 @@ at_block script event elapsed items place pen sheet i at found none other = reco
   within = omega (arith, slice_get_within items place i found);
 }
 
-pub shown_text : (kind : ItemKind) (shows : ShownKind) → looks.shown_as kind ≡ Some shows → is_shown kind ≡ true
+pub shown_text : (kind : ItemKind) (shows : ShownKind) → looks.shown_as kind ≡ Some shows → is_text_kind kind ≡ true
 shown_text (item.Char c) shows e = refl
 shown_text item.HardBreak shows e = refl
 shown_text item.SoftBreak shows e = refl
@@ -256,7 +256,7 @@ before_end event elapsed items place end is =
     ∙ (past_all-append event.duration elapsed [] (take place items) (take (end - place) (drop place items))
     ∙ past_texts event.duration elapsed (before_at event elapsed items place) (take (end - place) (drop place items)) (slice_all items place end is)))
 
-end_last : (from : ℕ) (items : List Item) (n : ℕ) (last : Item) → slice_get items n ≡ Some last → looks.end_of from (take (suc n) items) ≡ last.to
+end_last : (from : ℕ) (items : List Item) (n : ℕ) (last : Item) → slice_get items n ≡ Some last → looks.items_end from (take (suc n) items) ≡ last.to
 end_last from [] n last found = cc
 end_last from (i ∷ items) zero last found =
     let same : i ≡ last = cc in
@@ -285,8 +285,8 @@ at_drawing script event elapsed items place end pen sheet new_sheet i last path 
     let in_all : slice_get (drop place items) m ≡ Some last =
     slice_get-get_or (drop place items) m last (omega (arith, length-drop place items, slice.some, slice.within))
     ∙ ap Some (get_or-drop place items m last ∙ (ap (λ z. get_or items z last) (last_place place end slice.some) ∙ get_or_from_slice_get items (end - 1) last last found_last)) in
-    let ends : looks.end_of i.to (take m behind) ≡ last.to =
-    sym (ap (λ z. looks.end_of i.from (take (suc m) z)) (drop_here items place i found)) ∙ end_last i.from (drop place items) m last in_all in
+    let ends : looks.items_end i.to (take m behind) ≡ last.to =
+    sym (ap (λ z. looks.items_end i.from (take (suc m) z)) (drop_here items place i found)) ∙ end_last i.from (drop place items) m last in_all in
     record {
       state =
           (let P : List Effect → Type 0 = λ z. IsPen script event.style z end pen in
@@ -345,7 +345,7 @@ follow_two from (x ∷ items) end (suc place) (suc behind) i last follow found f
     by_match (is_tag x.kind) follow (λ (f : Follow from items end). follow_two from items end place behind i last f found found_last (omega arith) text text_last)
     (λ (parts : (x.from ≡ from) × (from < x.to) × Follow x.to items end). follow_two x.to items end place behind i last parts.2 found found_last (omega arith) text text_last)
 
-pub untagged : (kind : ItemKind) → is_shown kind ≡ true → is_tag kind ≡ false
+pub untagged : (kind : ItemKind) → is_text_kind kind ≡ true → is_tag kind ≡ false
 untagged (item.Char c) e = refl
 untagged item.HardBreak e = refl
 untagged item.SoftBreak e = refl
@@ -396,7 +396,7 @@ nothing_more [] = refl
 nothing_more (look ∷ seen) = ap (λ z. look ∷ z) (nothing_more seen)
 
 pub walked : (script : ScriptValue) (event : Event) (elapsed : ℤ) (items : List Item) (place : ℕ) (pen : Pen) (sheet new_sheet : Sheet) (number : ℕ) → IsAt script event elapsed items place pen sheet → length items ≤ place
-    → IsLast new_sheet.states pen.state number → Grow sheet.states new_sheet.states → new_sheet.items ≡ sheet.items → All (IsState (length pen.fonts.names)) new_sheet.states → IsWalked script event elapsed items pen new_sheet
+    → IsLast new_sheet.states pen.state number → Grow sheet.states new_sheet.states → new_sheet.items ≡ sheet.items → All (IsState (length pen.fonts.names)) new_sheet.states → IsItemWalk script event elapsed items pen new_sheet
 walked script event elapsed items place pen sheet new_sheet number at whole last grown same held =
     let all : before_at event elapsed items place ≡ past_all event.duration elapsed [] items = ap (past_all event.duration elapsed []) (take_all place items whole) in
     let none : drop place items ≡ [] = drop_all place items whole in

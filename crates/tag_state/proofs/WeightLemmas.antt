@@ -52,14 +52,14 @@ power_unit x q small =
 
 -- ---- weights
 
-abs_unit : (z : ℤ) (most : ℕ) → pos 0 ≤ℤ z → z ≤ℤ pos most → unsigned_abs z ≤ most
-abs_unit (pos n) most low high = omega (arith, ints)
-abs_unit (negsuc n) most low high = absurd (omega (arith, ints))
+pub abs_most : (z : ℤ) (most : ℕ) → pos 0 ≤ℤ z → z ≤ℤ pos most → unsigned_abs z ≤ most
+abs_most (pos n) most low high = omega (arith, ints)
+abs_most (negsuc n) most low high = absurd (omega (arith, ints))
 
 share_unit : (begin end elapsed : ℤ) → begin ≤ℤ elapsed → elapsed <ℤ end → share begin end elapsed ≤ one_16
 share_unit begin end elapsed begun before =
     let way = between_within (pos 0) (pos 65536) (elapsed -ℤ begin) (end -ℤ begin) (omega (arith, ints)) (omega (arith, ints)) (omega (arith, ints)) in
-    abs_unit (between (pos 0) (pos 65536) (elapsed -ℤ begin) (end -ℤ begin)) 65536 way.0 way.1
+    abs_most (between (pos 0) (pos 65536) (elapsed -ℤ begin) (end -ℤ begin)) 65536 way.0 way.1
 
 not_lt : (a b : ℤ) → int_lt a b ≡ false → b ≤ℤ a
 not_lt a b e = grind (arith, ints)

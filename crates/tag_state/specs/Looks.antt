@@ -24,23 +24,23 @@ shown_as item.HardSpace = Some (Char no_break_space)
 shown_as item.Block = None
 shown_as (item.Tag _) = None
 
-abbrev pub is_shown : ItemKind → Bool
-is_shown item.Block = false
-is_shown (item.Tag _) = false
-is_shown _ = true
+abbrev pub is_text_kind : ItemKind → Bool
+is_text_kind item.Block = false
+is_text_kind (item.Tag _) = false
+is_text_kind _ = true
 
 abbrev pub IsShownText : Item → Type 0
-IsShownText i = is_shown i.kind ≡ true
+IsShownText i = is_text_kind i.kind ≡ true
 
 -- A slice ends where the next block begins, or with the text.
 abbrev pub BeginsNoText : List Item → Type 0
 BeginsNoText [] = Unit {0}
-BeginsNoText (i ∷ _) = is_shown i.kind ≡ false
+BeginsNoText (i ∷ _) = is_text_kind i.kind ≡ false
 
 -- the end of the last of some items, which stand behind a place
-abbrev pub end_of : ℕ → List Item → ℕ
-end_of place [] = place
-end_of place (i ∷ items) = end_of i.to items
+abbrev pub items_end : ℕ → List Item → ℕ
+items_end place [] = place
+items_end place (i ∷ items) = items_end i.to items
 
 -- the level of drawings behind these effects; the last one stands first
 abbrev pub level_at : List Effect → ℕ
@@ -56,7 +56,7 @@ pub record Look : Type 0 where
 pub data AreLooks (text : List ℕ) (duration elapsed : ℤ) : List Effect → List Item → List Look → Type 0 where
   none : (before : List Effect) → AreLooks text duration elapsed before [] []
   unseen : (before : List Effect) (i : Item) (items : List Item) (looks : List Look)
-      → is_shown i.kind ≡ false
+      → is_text_kind i.kind ≡ false
       → AreLooks text duration elapsed (past duration elapsed before i) items looks
       → AreLooks text duration elapsed before (i ∷ items) looks
   seen : (before : List Effect) (i : Item) (kind : ShownKind) (items : List Item) (looks : List Look)
@@ -68,6 +68,6 @@ pub data AreLooks (text : List ℕ) (duration elapsed : ℤ) : List Effect → L
       → 0 < level_at before
       → All IsShownText (i ∷ slice)
       → BeginsNoText items
-      → IsPathOf (slice_range text i.from (end_of i.to slice)) path.segs
+      → IsPathOf (slice_range text i.from (items_end i.to slice)) path.segs
       → AreLooks text duration elapsed before items looks
       → AreLooks text duration elapsed before ((i ∷ slice) ++ items) (record { kind = Drawing path; before = before } ∷ looks)

@@ -83,7 +83,7 @@ pub record IsAt (script : ScriptValue) (event : Event) (elapsed : ℤ) (items : 
   pub within : place ≤ length items
 
 -- The whole text was walked: what it shows, and the state behind it as the last one.
-pub record IsWalked (script : ScriptValue) (event : Event) (elapsed : ℤ) (items : List Item) (pen : Pen) (sheet : Sheet) : Type 0 where
+pub record IsItemWalk (script : ScriptValue) (event : Event) (elapsed : ℤ) (items : List Item) (pen : Pen) (sheet : Sheet) : Type 0 where
   pub behind : IsPen script event.style (past_all event.duration elapsed [] items) (length items) pen
   pub looks : List Look
   pub shows : AreLooks event.text event.duration elapsed [] items looks

@@ -4,7 +4,7 @@ ghost use Rattle.std.specs.Prelude.{◌≡◌, ◌<◌, true, [], length, Some, 
 ghost use Rattle.ass_script.specs.Ranges.{IsScript};
 ghost use Rattle.tag_state.specs.Looks as rule;
 ghost use Rattle.override_tags.specs.declared.item.Item.{Item};
-ghost use Rattle.tag_state.specs.Walks.{AreItemsOf, IsAt, IsPen, IsSliceTo, IsWalked};
+ghost use Rattle.tag_state.specs.Walks.{AreItemsOf, IsAt, IsPen, IsSliceTo, IsItemWalk};
 
 use crate::pen::Pen;
 use crate::sheet::Sheet;
@@ -17,7 +17,7 @@ use std::alloc::Global;
 
 /// Whether an item is no block and no tag.
 fn is_shown(kind: &ItemKind) -> bool
-    ensures { result ≡ rule.is_shown kind.now }
+    ensures { result ≡ rule.is_text_kind kind.now }
 {
     match kind {
         ItemKind::Block => false,
@@ -43,7 +43,7 @@ fn shown_as(kind: &ItemKind) -> Option<ShownKind>
 /// The place of the next block or tag behind the item at a place, or the number of items.
 fn text_end(items: &[Item], place: usize) -> usize
     requires within { place < length items.now }
-    requires text { (i : Item) → slice_get items.now place ≡ Some i → rule.is_shown i.kind ≡ true }
+    requires text { (i : Item) → slice_get items.now place ≡ Some i → rule.is_text_kind i.kind ≡ true }
     ensures { IsSliceTo items.now place result }
 {
     let mut end = place + 1;
@@ -103,7 +103,7 @@ pub(crate) fn walk<'a>(
     requires script { IsScript script.now }
     requires items { AreItemsOf event.now.text items.now }
     requires pen { IsPen script.now event.now.style [] 0 pen.old }
-    ensures { IfOk result (λ sheet. IsWalked script.now event.now elapsed items.now pen.new sheet) }
+    ensures { IfOk result (λ sheet. IsItemWalk script.now event.now elapsed items.now pen.new sheet) }
 {
     let mut sheet = Sheet::new(alloc);
     let mut place = 0;

@@ -20,10 +20,10 @@ use Rattle.text_layout.specs.declared.spans.Span.{Span}
 use Rattle.override_tags.specs.declared.view.EventView.{EventView}
 use Rattle.override_tags.specs.declared.view.Shown.{Shown}
 use Rattle.text_layout.specs.Anchors.{edge_across, edge_within}
-use Rattle.text_layout.specs.Extents.{IsExtent}
+use Rattle.text_layout.specs.Extents.{IsItemExtent}
 use Rattle.text_layout.specs.Limits.{max_block, max_line}
 use Rattle.text_layout.specs.Layouts.{IsWithinBlock, laid_out}
-use Rattle.text_layout.specs.Lines.{IsLineExtent, IsLineWithin, IsPlacedWithin, advances_of, blank_extent, block_height, block_width, heights_of, joined_extent, line_extent, line_extents, line_at, lines_from, placed_from, placed_in, placed_item, total}
+use Rattle.text_layout.specs.Lines.{IsLineExtent, IsLineWithin, IsPlacedWithin, advances_of, blank_extent, block_height, block_width, heights_of, joined_extent, line_extent, line_extents, line_at, lines_from, placed_from, placed_in, placed_item, length_sum}
 use Rattle.text_layout.specs.Spans.{AreSpans, IsSpanWithin}
 use Rattle.text_layout.proofs.SpanLemmas.{AreSpans-length}
 use Rattle.text_layout.proofs.LineLemmas.{total-append, total-cons, width-from_zero, width-most, width-widest}
@@ -167,14 +167,14 @@ placed-count edge ws number from end across top f (s ∷ ss) h =
 -- ---- widths
 
 -- how wide the items of a part of a list are
-pub slice-total : (es : List Extent) (a b : ℕ) → a ≤ b → total (advances_of (take (b - a) (drop a es))) ≡ width (advances_of es) a b
+pub slice-total : (es : List Extent) (a b : ℕ) → a ≤ b → length_sum (advances_of (take (b - a) (drop a es))) ≡ width (advances_of es) a b
 slice-total es a b l =
     let g : Extent → ℤ = λ (e : Extent). e.advance in
     let ws = advances_of es in
     let part : advances_of (take (b - a) (drop a es)) ≡ take (b - a) (drop a ws) = sym (ap (take (b - a)) (drop-map g a es) ∙ take-map g (b - a) (drop a es)) in
-    let sum = ap total part in
-    let all : pen ws b ≡ pen ws a +ℤ total (take (b - a) (drop a ws)) =
-    ap (pen ws) (let e : b ≡ a + (b - a) = omega (arith, l) in e) ∙ ap total (take-add a (b - a) ws) ∙ total-append (take a ws) (take (b - a) (drop a ws)) in
+    let sum = ap length_sum part in
+    let all : pen ws b ≡ pen ws a +ℤ length_sum (take (b - a) (drop a ws)) =
+    ap (pen ws) (let e : b ≡ a + (b - a) = omega (arith, l) in e) ∙ ap length_sum (take-add a (b - a) ws) ∙ total-append (take a ws) (take (b - a) (drop a ws)) in
     omega (arith, ints, sum, all)
 
 by_test : (t : Bool) (blank joined : Extent) (z : ℤ) → (t ≡ true → blank.advance ≡ z) → joined.advance ≡ z → (cond t blank joined).advance ≡ z
@@ -192,10 +192,10 @@ line-advance metrics items es s ordered =
 -- ---- the block
 
 -- the items have widths
-pub advances-within : (es : List Extent) → All IsExtent es → All IsItemWidth (advances_of es)
+pub advances-within : (es : List Extent) → All IsItemExtent es → All IsItemWidth (advances_of es)
 advances-within es h = All-map IsItemWidth (λ (e : Extent). e.advance) es (λ k d l. (h k d l).advance)
 
-pub paragraph_of_all : (es : List Extent) → length es ≤ max_text_bytes → All IsExtent es → IsParagraph (advances_of es) []
+pub paragraph_of_all : (es : List Extent) → length es ≤ max_text_bytes → All IsItemExtent es → IsParagraph (advances_of es) []
 paragraph_of_all es few h = record {
   short = let same = length-map es (λ (e : Extent). e.advance) in omega (arith, same, few);
   narrow = advances-within es h;
@@ -204,7 +204,7 @@ paragraph_of_all es few h = record {
 }
 
 -- Lines and items lie within the block, and it isn't too wide or high.
-pub laid-within : (view : EventView) (metrics : List Metrics) (es : List Extent) (spans : List Span) → length es ≤ max_text_bytes → All IsExtent es
+pub laid-within : (view : EventView) (metrics : List Metrics) (es : List Extent) (spans : List Span) → length es ≤ max_text_bytes → All IsItemExtent es
     → AreSpans 0 (length es + 1) spans → All IsLineExtent (line_extents metrics view.items es spans) → block_height (line_extents metrics view.items es spans) ≤ℤ pos max_block
     → All (HoldsItems (advances_of es) (laid_out view metrics es spans).width (laid_out view metrics es spans).height) (laid_out view metrics es spans).lines
     × IsWithinBlock (length es) (laid_out view metrics es spans)
@@ -223,7 +223,7 @@ laid-within view metrics es spans few each order reach high =
     (omega (arith, ints)) (omega (arith, ints)) in
     let count = lines-count edge across (pos 0) f spans in
     let placed = placed-within ws (length laid.lines) 0 across down laid.lines (paragraph_of_all es few each) (omega arith) lines in
-    let total = placed-count edge ws 0 0 (length ws + 1) across (pos 0) f spans all in
+    let length_sum = placed-count edge ws 0 0 (length ws + 1) across (pos 0) f spans all in
     let some = spans-some (length ws) spans all in
     let most = AreSpans-length 0 (length ws + 1) spans all in
     let wide = width-most extents reach in (
@@ -234,7 +234,7 @@ laid-within view metrics es spans few each order reach high =
         some_line = omega (arith, count, some);
         few_lines = omega (arith, count, most);
         lines = λ k d l. (lines k d l).0;
-        few_placed = omega (arith, total, some);
+        few_placed = omega (arith, length_sum, some);
         placed = placed;
       }),
     )
@@ -256,7 +256,7 @@ IsLineWithin-wider items a b m n line l k h =
     }
 
 -- Lines lie within the greatest block.
-pub lines-most : (view : EventView) (metrics : List Metrics) (es : List Extent) (spans : List Span) → length es ≤ max_text_bytes → All IsExtent es
+pub lines-most : (view : EventView) (metrics : List Metrics) (es : List Extent) (spans : List Span) → length es ≤ max_text_bytes → All IsItemExtent es
     → AreSpans 0 (length es + 1) spans → All IsLineExtent (line_extents metrics view.items es spans) → block_height (line_extents metrics view.items es spans) ≤ℤ pos max_block
     → All (IsLineWithin (length es) (pos max_line) (pos max_block)) (laid_out view metrics es spans).lines
 lines-most view metrics es spans few each order reach high =

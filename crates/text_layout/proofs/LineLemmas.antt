@@ -15,7 +15,7 @@ use Rattle.text_layout.specs.declared.laid.Placed.{Placed}
 use Rattle.text_layout.specs.declared.spans.Span.{Span}
 use Rattle.text_layout.specs.declared.extents.Extent.{Extent}
 use Rattle.text_layout.specs.Limits.{max_line}
-use Rattle.text_layout.specs.Lines.{IsLineExtent, advances_of, block_width, total, line_at, lines_from, placed_from, placed_in}
+use Rattle.text_layout.specs.Lines.{IsLineExtent, advances_of, block_width, length_sum, line_at, lines_from, placed_from, placed_in}
 
 -- ---- sums
 
@@ -27,17 +27,17 @@ fold-map_more f a g xs k d l =
     ap (fold f a) (sym (take-map g (k + 1) xs)) ∙ fold_more f a (map g xs) k (g d) long ∙ ap₂ f (ap (fold f a) (take-map g k xs)) (get_or-map g xs k d (g d) l)
 
 -- a sum from a number on
-fold-from : (a : ℤ) (xs : List ℤ) → fold ◌+ℤ◌ a xs ≡ a +ℤ total xs
+fold-from : (a : ℤ) (xs : List ℤ) → fold ◌+ℤ◌ a xs ≡ a +ℤ length_sum xs
 fold-from a [] = omega (arith, ints)
 fold-from a (x ∷ xs) =
     let f = fold-from (a +ℤ x) xs in
     let g = fold-from (pos 0 +ℤ x) xs in
     omega (arith, ints, f, g)
 
-pub total-cons : (x : ℤ) (xs : List ℤ) → total (x ∷ xs) ≡ x +ℤ total xs
+pub total-cons : (x : ℤ) (xs : List ℤ) → length_sum (x ∷ xs) ≡ x +ℤ length_sum xs
 total-cons x xs = let f = fold-from (pos 0 +ℤ x) xs in omega (arith, ints, f)
 
-pub total-append : (xs ys : List ℤ) → total (xs ++ ys) ≡ total xs +ℤ total ys
+pub total-append : (xs ys : List ℤ) → length_sum (xs ++ ys) ≡ length_sum xs +ℤ length_sum ys
 total-append [] ys = omega (arith, ints)
 total-append (x ∷ xs) ys =
     let both = total-cons x (xs ++ ys) in

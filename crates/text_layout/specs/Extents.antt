@@ -22,8 +22,8 @@ abbrev pub glyph_advance : List FontGlyph → Option ℕ → ℤ
 glyph_advance glyphs None = pos 0
 glyph_advance glyphs (Some place) = option_map_or (λ (glyph : FontGlyph). glyph.advance) (slice_get glyphs place) (pos 0)
 
-abbrev pub advance_of : FontValue → ℕ → ℤ
-advance_of font c = glyph_advance font.glyphs (glyph_of font c)
+abbrev pub font_advance : FontValue → ℕ → ℤ
+font_advance font c = glyph_advance font.glyphs (glyph_of font c)
 
 -- what is put behind a character: spacing stands behind the last one of a cluster
 abbrev pub spacing_behind : Metrics → Bool → ℤ
@@ -31,7 +31,7 @@ spacing_behind metrics ends_cluster = if ends_cluster then metrics.spacing else 
 
 -- how far a character advances the pen
 abbrev pub char_advance : Metrics → FontValue → Bool → ℕ → ℤ
-char_advance metrics font ends_cluster c = held_extent (scaled_pixels (advance_of font c) metrics.ux +ℤ spacing_behind metrics ends_cluster)
+char_advance metrics font ends_cluster c = held_extent (scaled_pixels (font_advance font c) metrics.ux +ℤ spacing_behind metrics ends_cluster)
 
 -- the extent of a character
 abbrev pub char_extent : Metrics → FontValue → Bool → ℕ → Extent
@@ -68,7 +68,7 @@ item_extents fonts metrics wrap items = map (λ x. extent_of fonts metrics wrap 
 -- ---- ranges
 
 -- how far an item may reach
-pub record IsExtent (extent : Extent) : Type 0 where
+pub record IsItemExtent (extent : Extent) : Type 0 where
   pub advance : IsItemWidth extent.advance
   pub ascent : IsItemWidth extent.ascent
   pub descent : IsItemWidth extent.descent

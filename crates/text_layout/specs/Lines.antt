@@ -29,8 +29,8 @@ descents_of extents = map (λ (extent : Extent). extent.descent) extents
 abbrev pub heights_of : List Extent → List ℤ
 heights_of extents = map (λ (extent : Extent). extent.ascent +ℤ extent.descent) extents
 
-abbrev pub total : List ℤ → ℤ
-total lengths = fold ◌+ℤ◌ (pos 0) lengths
+abbrev pub length_sum : List ℤ → ℤ
+length_sum lengths = fold ◌+ℤ◌ (pos 0) lengths
 
 -- the greatest of lengths that aren't below 0; 0 of none
 abbrev pub greatest : List ℤ → ℤ
@@ -38,7 +38,7 @@ greatest lengths = fold int_max (pos 0) lengths
 
 -- the extent of items side by side
 abbrev pub joined_extent : List Extent → Extent
-joined_extent extents = record { advance = total (advances_of extents); ascent = greatest (ascents_of extents); descent = greatest (descents_of extents) }
+joined_extent extents = record { advance = length_sum (advances_of extents); ascent = greatest (ascents_of extents); descent = greatest (descents_of extents) }
 
 -- the state at a place: that of its item, or at the end the last of so many states, which is the one after the whole text
 abbrev pub state_at : ℕ → List Shown → ℕ → ℕ
@@ -64,7 +64,7 @@ block_width lines = greatest (advances_of lines)
 
 -- its lines follow one another from the top
 abbrev pub block_height : List Extent → ℤ
-block_height lines = total (heights_of lines)
+block_height lines = length_sum (heights_of lines)
 
 -- a line of this extent whose top is here, in a block of this width
 abbrev pub line_at : Edge → ℤ → Span → Extent → ℤ → Line

@@ -10,7 +10,7 @@ ghost use Rattle.outline_points.specs.Placing.{IsMatrix};
 ghost use Rattle.override_tags.specs.Views.{IsShownItem, IsShownKind};
 ghost use Rattle.text_layout.specs.Metrics.{HasFont, IsMetrics};
 ghost use Rattle.text_layout.specs.Limits.{max_framed};
-ghost use Rattle.text_layout.specs.Extents.{IsExtent, advance_of, char_advance, char_extent, drawn_extent, extent_of, item_extents, kind_extent, spacing_behind};
+ghost use Rattle.text_layout.specs.Extents.{IsItemExtent, font_advance, char_advance, char_extent, drawn_extent, extent_of, item_extents, kind_extent, spacing_behind};
 
 use crate::clusters::cluster_ends;
 use crate::kinds::char_of;
@@ -39,7 +39,7 @@ pub(crate) const NO_EXTENT: Extent = Extent {
 /// The advance of a character's glyph in pixels of its bitmap, or 0 without one.
 fn advance_of(font: &Font, c: char) -> i32
     requires { IsFont font.now }
-    ensures value { result ≡ advance_of font.now c }
+    ensures value { result ≡ font_advance font.now c }
     ensures within { IsWithin max_pixel result }
 {
     match glyph(font, c) {
@@ -73,7 +73,7 @@ fn char_extent(metrics: &Metrics, font: &Font, ends_cluster: bool, c: char) -> E
     requires metrics { IsMetrics metrics.now }
     requires font { IsFont font.now }
     ensures value { result ≡ char_extent metrics.now font.now ends_cluster c }
-    ensures range { IsExtent result }
+    ensures range { IsItemExtent result }
 {
     Extent {
         advance: char_advance(metrics, font, ends_cluster, c),
@@ -87,7 +87,7 @@ pub fn drawn_extent(alloc: Global, path: &Path, m: &Matrix) -> Mem<Extent>
     requires path { IsPath path.now.segs }
     requires matrix { IsMatrix m.now }
     ensures value { IfOk result (λ extent. extent ≡ drawn_extent m.now path.now.segs) }
-    ensures range { IfOk result IsExtent }
+    ensures range { IfOk result IsItemExtent }
 {
     let largest = drawing_extent(alloc, path, m)?;
     Ok(Extent {
@@ -111,7 +111,7 @@ fn extent_of(
     requires font { HasFont (length fonts.now.fonts) metrics.now }
     requires shown { IsShownKind shown.now.kind }
     ensures value { IfOk result (λ extent. extent ≡ kind_extent fonts.now.fonts metrics.now wrap ends_cluster shown.now.kind) }
-    ensures range { IfOk result IsExtent }
+    ensures range { IfOk result IsItemExtent }
 {
     if let ShownKind::Drawing(path) = &shown.kind {
         return drawn_extent(alloc, path, &metrics.drawing);
@@ -139,7 +139,7 @@ fn shown_extent(
     requires font { All (HasFont (length fonts.now.fonts)) metrics.now }
     requires shown { IsShownItem (length metrics.now) shown.now }
     ensures value { IfOk result (λ extent. extent ≡ extent_of fonts.now.fonts metrics.now wrap shown.now ends_cluster) }
-    ensures range { IfOk result IsExtent }
+    ensures range { IfOk result IsItemExtent }
 {
     extent_of(
         alloc,
@@ -164,7 +164,7 @@ pub fn item_extents(
     requires font { All (HasFont (length fonts.now.fonts)) metrics.now }
     requires items { All (IsShownItem (length metrics.now)) items.now }
     ensures value { IfOk result (λ list. list.items ≡ item_extents fonts.now.fonts metrics.now wrap items.now) }
-    ensures range { IfOk result (λ list. All IsExtent list.items) }
+    ensures range { IfOk result (λ list. All IsItemExtent list.items) }
     ensures count { IfOk result (λ list. length list.items ≡ length items.now) }
 {
     let ends = cluster_ends(alloc, items, wrap)?;

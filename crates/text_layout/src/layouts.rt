@@ -5,7 +5,7 @@ ghost use Rattle.ass_num.specs.Limits.{IsFrameSize, max_text_bytes};
 ghost use Rattle.ass_script.specs.Ranges.{IsScript};
 ghost use Rattle.ass_events.specs.Ranges.{IsEvent};
 ghost use Rattle.override_tags.specs.Views.{IsShownItem, IsView};
-ghost use Rattle.text_layout.specs.Extents.{IsExtent};
+ghost use Rattle.text_layout.specs.Extents.{IsItemExtent};
 ghost use Rattle.text_layout.specs.Metrics.{IsMetrics};
 ghost use Rattle.text_layout.specs.Fonts.{IsLayoutFontSet};
 ghost use Rattle.text_layout.specs.Layouts.{IsLaid, IsWithinBlock, laid_out};
@@ -48,7 +48,7 @@ fn laid_out(
     requires metrics { All IsMetrics metrics.now }
     requires items { All (IsShownItem (length metrics.now)) view.now.items }
     requires few { length extents.now ≤ max_text_bytes }
-    requires extents { All IsExtent extents.now }
+    requires extents { All IsItemExtent extents.now }
     requires spans { AreSpans 0 (length extents.now + 1) spans.now }
     ensures value { IfOk result (λ laid. laid ≡ laid_out view.now metrics.now extents.now spans.now) }
     ensures within { IfOk result (IsWithinBlock (length extents.now)) }

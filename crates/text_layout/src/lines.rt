@@ -5,7 +5,7 @@ ghost use Rattle.ass_num.specs.Limits.{max_text_bytes};
 ghost use Rattle.override_tags.specs.Views.{IsShownItem};
 ghost use Rattle.text_layout.specs.Limits.{max_block, max_block_lines, max_line};
 ghost use Rattle.text_layout.specs.Anchors.{IsBlockSide};
-ghost use Rattle.text_layout.specs.Extents.{IsExtent};
+ghost use Rattle.text_layout.specs.Extents.{IsItemExtent};
 ghost use Rattle.text_layout.specs.Metrics.{IsMetrics};
 ghost use Rattle.text_layout.specs.Lines.{IsLineExtent, IsLineWithin, advances_of, blank_extent, block_height, block_width, joined_extent, line_at, line_extent, line_extents, lines_from, placed_from, placed_in};
 ghost use Rattle.text_layout.specs.Spans.{AreSpans, IsSpanWithin};
@@ -42,7 +42,7 @@ fn blank_extent(metrics: &[Metrics], items: &[Shown], place: usize) -> Extent
 /// The extent of items side by side.
 fn joined_extent(extents: &[Extent]) -> Extent
     requires items { length extents.now ≤ max_text_bytes }
-    requires extents { All IsExtent extents.now }
+    requires extents { All IsItemExtent extents.now }
     ensures value { result ≡ joined_extent extents.now }
     ensures range { IsLineExtent result }
 {
@@ -67,7 +67,7 @@ fn line_extent(metrics: &[Metrics], items: &[Shown], extents: &[Extent], span: S
     requires metrics { All IsMetrics metrics.now }
     requires items { All (IsShownItem (length metrics.now)) items.now }
     requires few { length extents.now ≤ max_text_bytes }
-    requires extents { All IsExtent extents.now }
+    requires extents { All IsItemExtent extents.now }
     requires span { IsSpanWithin (length extents.now) span }
     ensures value { result ≡ line_extent metrics.now items.now extents.now span }
     ensures range { IsLineExtent result }
@@ -90,7 +90,7 @@ pub(crate) fn line_extents(
     requires metrics { All IsMetrics metrics.now }
     requires items { All (IsShownItem (length metrics.now)) items.now }
     requires few { length extents.now ≤ max_text_bytes }
-    requires extents { All IsExtent extents.now }
+    requires extents { All IsItemExtent extents.now }
     requires spans { All (IsSpanWithin (length extents.now)) spans.now }
     ensures value { IfOk result (λ lines. lines.items ≡ line_extents metrics.now items.now extents.now spans.now) }
     ensures range { IfOk result (λ lines. All IsLineExtent lines.items) }
@@ -178,7 +178,7 @@ pub(crate) fn lines_of(
 /// Adds the items of a line.
 fn add_items(line: &Line, number: usize, extents: &[Extent], placed: &mut Items<Placed>) -> Mem<()>
     requires few { length extents.now ≤ max_text_bytes }
-    requires extents { All IsExtent extents.now }
+    requires extents { All IsItemExtent extents.now }
     requires line { IsLineWithin (length extents.now) (pos max_line) (pos max_block) line.now }
     ensures { OnOk result (placed.new ≡ placed.old ++ placed_in (advances_of extents.now) number line.now) }
 {
@@ -199,7 +199,7 @@ fn add_items(line: &Line, number: usize, extents: &[Extent], placed: &mut Items<
 /// The items of all lines.
 pub(crate) fn placed_items(alloc: Global, lines: &[Line], extents: &[Extent]) -> Mem<Items<Placed>>
     requires few { length extents.now ≤ max_text_bytes }
-    requires extents { All IsExtent extents.now }
+    requires extents { All IsItemExtent extents.now }
     requires lines { All (IsLineWithin (length extents.now) (pos max_line) (pos max_block)) lines.now }
     ensures { IfOk result (λ placed. placed ≡ placed_from (advances_of extents.now) 0 lines.now) }
 {

@@ -11,7 +11,7 @@ use Rattle.ass_script.specs.declared.style.Style.{Style}
 use Rattle.tag_state.specs.Choices.{first_of, align_said, point_said, origin_said, fade_said, wrap_at, clip_at}
 use Rattle.tag_state.specs.Setters.{past_all}
 use Rattle.tag_state.specs.Views.{IsViewBy}
-use Rattle.tag_state.specs.Walks.{AreItemsOf, IsWalked}
+use Rattle.tag_state.specs.Walks.{AreItemsOf, IsItemWalk}
 use Rattle.tag_state.proofs.view.states_at.Goals as goal
 use Rattle.tag_state.proofs.view.states_at.Goals.{After-drop-pen-3}
 
@@ -36,7 +36,7 @@ wrap_of-wrap-requires c =
 
 -- what the walk and the choices came to
 shown : (c : After-drop-pen-3)
-    → IsWalked c.args.script.now c.args.event.now (c.args.t -ℤ c.args.event.now.start) c.in_ok-items.items.items c.walk.new.pen c.in_ok-sheet.sheet
+    → IsItemWalk c.args.script.now c.args.event.now (c.args.t -ℤ c.args.event.now.start) c.in_ok-items.items.items c.walk.new.pen c.in_ok-sheet.sheet
     × IsViewBy c.args.script.now c.args.event.now (c.args.t -ℤ c.args.event.now.start) c.in_ok-items.items.items (record {
       names = c.walk.new.pen.fonts.names;
       states = c.in_ok-sheet.sheet.states;
@@ -57,9 +57,9 @@ shown c =
     let begins : FitsSigned w64 c.args.event.now.start = search rules in
     let lasts : FitsSigned w64 c.args.event.now.duration = search rules in
     let fits : FitsSigned w64 (c.args.t -ℤ c.args.event.now.start) = elapsed_fits c.args.t c.args.event.now.start c.requires.instant c.requires.event.start in
-    let walked : IsWalked c.args.script.now c.args.event.now (c.args.t -ℤ c.args.event.now.start) c.deref.result.now c.walk.new.pen c.in_ok-sheet.sheet =
+    let walked : IsItemWalk c.args.script.now c.args.event.now (c.args.t -ℤ c.args.event.now.start) c.deref.result.now c.walk.new.pen c.in_ok-sheet.sheet =
     simp (to_z-of_z c.ranges.t, to_z-of_z begins, to_z-of_z fits) at c.in_ok-sheet.ensures in
-    let P : List Item → Type 0 = λ z. IsWalked c.args.script.now c.args.event.now (c.args.t -ℤ c.args.event.now.start) z c.walk.new.pen c.in_ok-sheet.sheet in
+    let P : List Item → Type 0 = λ z. IsItemWalk c.args.script.now c.args.event.now (c.args.t -ℤ c.args.event.now.start) z c.walk.new.pen c.in_ok-sheet.sheet in
     let all = subst P c.deref.ensures.value walked in
     let point : c.point_of-pos.result ≡ first_of (point_said c.args.event.now.duration (c.args.t -ℤ c.args.event.now.start)) c.deref-4.result.now =
     simp (to_z-of_z c.ranges.t, to_z-of_z begins, to_z-of_z lasts, to_z-of_z fits) at c.point_of-pos.ensures in

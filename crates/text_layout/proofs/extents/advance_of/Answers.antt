@@ -8,13 +8,13 @@ use Rattle.bdf_font.specs.Fonts.{FontValue, glyph_of}
 use Rattle.bdf_font.specs.Limits.{max_offset}
 use Rattle.bdf_font.specs.Ranges.{IsGlyph}
 use Rattle.bdf_font.specs.declared.glyphs.FontGlyph.{FontGlyph}
-use Rattle.text_layout.specs.Extents.{advance_of, glyph_advance}
+use Rattle.text_layout.specs.Extents.{font_advance, glyph_advance}
 use Rattle.text_layout.proofs.BitLemmas.{bits_32, whole_bits}
 use Rattle.text_layout.proofs.extents.advance_of.Goals as goal
 
 -- the advance of the glyph that was found
 read_advance : (font : FontValue) (c place : ℕ) (glyphs : List FontGlyph) (d : FontGlyph) → All IsGlyph font.glyphs → glyph_of font c ≡ Some place → place < length font.glyphs
-    → glyphs ≡ font.glyphs → bits_32 (get_or glyphs place d).advance ≡ advance_of font c
+    → glyphs ≡ font.glyphs → bits_32 (get_or glyphs place d).advance ≡ font_advance font c
 read_advance font c place glyphs d each found within same =
     ap (λ (gs : List FontGlyph). bits_32 (get_or gs place d).advance) same
     ∙ whole_bits (get_or font.glyphs place d).advance (IsWithin-wider max_offset max_whole (get_or font.glyphs place d).advance (omega arith) (each place d within).advance)

@@ -3,7 +3,7 @@ use Rattle.std.proofs.lemmas.Int.{ints}
 use Rattle.ass_num.specs.Limits.{IsWithin, max_whole}
 use Rattle.ass_num.proofs.LimitLemmas.{IsWithin-wider}
 use Rattle.outline_points.specs.Limits.{max_pixel}
-use Rattle.text_layout.specs.Extents.{advance_of}
+use Rattle.text_layout.specs.Extents.{font_advance}
 use Rattle.text_layout.specs.Limits.{max_block_place, max_framed}
 use Rattle.text_layout.specs.Metrics.{held_extent, scaled_pixels}
 use Rattle.text_layout.proofs.BitLemmas.{bits_32, bits_64, bits_128, framed_bits, long_place_bits, scale_bits, whole_bits}
@@ -19,7 +19,7 @@ sum_bits p s r h k is =
 pub returns-clause-value : goal.returns-clause-value
 returns-clause-value c =
     let m = c.args.metrics.now in
-    let a : bits_32 c.advance_of.result ≡ advance_of c.args.font.now c.args.c =
+    let a : bits_32 c.advance_of.result ≡ font_advance c.args.font.now c.args.c =
     whole_bits c.advance_of.result (IsWithin-wider max_pixel max_whole c.advance_of.result (omega arith) c.advance_of.ensures.within) ∙ c.advance_of.ensures.value in
     let p = c.scaled_pixels-pixels.ensures.value ∙ ap₂ scaled_pixels a (scale_bits m.ux c.requires.metrics.scale) in
     let sum = sum_bits c.scaled_pixels-pixels.result c.spacing_behind.result c.from.result c.scaled_pixels-pixels.ensures.within c.spacing_behind.ensures.within c.from.ensures in

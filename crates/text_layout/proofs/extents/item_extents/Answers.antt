@@ -6,7 +6,7 @@ use Rattle.bdf_font.specs.Fonts.{FontValue}
 use Rattle.override_tags.specs.declared.view.Shown.{Shown}
 use Rattle.text_layout.specs.declared.extents.Extent.{Extent}
 use Rattle.text_layout.specs.declared.metrics.Metrics.{Metrics}
-use Rattle.text_layout.specs.Extents.{IsExtent, extent_of, item_extents}
+use Rattle.text_layout.specs.Extents.{IsItemExtent, extent_of, item_extents}
 use Rattle.text_layout.specs.Kinds.{char_of, chars_of}
 use Rattle.text_layout.proofs.ClusterLemmas.{length-ends_behind}
 use Rattle.text_layout.proofs.ImageLemmas.{zipped_more}
@@ -46,6 +46,6 @@ loop-k-preserved c =
     record {
       value = zipped_more (λ (x : Shown × Bool). extent_of fonts metrics wrap x.0 x.1) items ends k shown end c.loop-k.extents.items c.push.new.self.items (item_extents fonts metrics wrap items) r
           inside (omega (arith, inside, count)) c.loop-k.invariant.value pushed is;
-      range = subst (All IsExtent) (sym pushed) (All-push IsExtent c.loop-k.extents.items r c.loop-k.invariant.range c.in_ok-shown_extent.ensures.range);
+      range = subst (All IsItemExtent) (sym pushed) (All-push IsItemExtent c.loop-k.extents.items r c.loop-k.invariant.range c.in_ok-shown_extent.ensures.range);
       count = ap length pushed ∙ length_push c.loop-k.extents.items r ∙ ap (λ n. n + 1) c.loop-k.invariant.count;
     }

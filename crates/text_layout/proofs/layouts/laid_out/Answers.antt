@@ -61,8 +61,8 @@ placed_items-requires-clause-lines c =
     let extents = line_extents metrics view.items es spans in
     let heights : c.in_ok-heights.heights.items ≡ extents = c.in_ok-heights.ensures.value ∙ ap (λ items. line_extents metrics items es spans) c.as_slice.ensures in
     let reach = subst (All IsLineExtent) heights c.in_ok-heights.ensures.range in
-    let total : c.block_height-height.result ≡ block_height extents = c.block_height-height.ensures.value ∙ ap block_height (c.as_slice-3.ensures.value ∙ heights) in
-    let high = subst (λ (z : ℤ). z ≤ℤ pos max_block) total c.block_height-height.ensures.range.most in
+    let length_sum : c.block_height-height.result ≡ block_height extents = c.block_height-height.ensures.value ∙ ap block_height (c.as_slice-3.ensures.value ∙ heights) in
+    let high = subst (λ (z : ℤ). z ≤ℤ pos max_block) length_sum c.block_height-height.ensures.range.most in
     let width = width_bits c.block_width-width.result extents c.as_slice-2.result.now (c.as_slice-2.ensures.value ∙ heights) c.block_width-width.ensures.value c.block_width-width.ensures.from_zero c.block_width-width.ensures.most in
     let lines =
     c.in_ok-lines.ensures ∙ lines_same spans _ (edge_across view.align) _ (block_width extents) c.as_slice-4.result.now extents c.column_of-column.ensures width (c.as_slice-4.ensures.value ∙ heights) in
@@ -78,10 +78,10 @@ returns-clause-within c =
     let laid = laid_out view metrics es spans in
     let heights : c.in_ok-heights.heights.items ≡ extents = c.in_ok-heights.ensures.value ∙ ap (λ items. line_extents metrics items es spans) c.as_slice.ensures in
     let reach = subst (All IsLineExtent) heights c.in_ok-heights.ensures.range in
-    let total : c.block_height-height.result ≡ block_height extents = c.block_height-height.ensures.value ∙ ap block_height (c.as_slice-3.ensures.value ∙ heights) in
+    let length_sum : c.block_height-height.result ≡ block_height extents = c.block_height-height.ensures.value ∙ ap block_height (c.as_slice-3.ensures.value ∙ heights) in
     let side = c.block_height-height.ensures.range in
     let width = width_bits c.block_width-width.result extents c.as_slice-2.result.now (c.as_slice-2.ensures.value ∙ heights) c.block_width-width.ensures.value c.block_width-width.ensures.from_zero c.block_width-width.ensures.most in
-    let height = side_bits c.block_height-height.result side ∙ total in
+    let height = side_bits c.block_height-height.result side ∙ length_sum in
     let lines =
     c.in_ok-lines.ensures ∙ lines_same spans _ (edge_across view.align) _ (block_width extents) c.as_slice-4.result.now extents c.column_of-column.ensures width (c.as_slice-4.ensures.value ∙ heights) in
     let placed = c.in_ok-placed.ensures ∙ ap (placed_from (advances_of es) 0) (c.as_slice-5.ensures ∙ lines) in
@@ -89,4 +89,4 @@ returns-clause-within c =
     ap₂ (λ (ls : List Line) (ps : List Placed). laid_of ls ps (bits_64 c.block_width-width.result) (bits_64 c.block_height-height.result)) lines placed
     ∙ ap₂ (laid_of laid.lines laid.placed) width height in
     subst (IsWithinBlock (length es)) (sym same)
-    (laid-within view metrics es spans c.requires.few c.requires.extents c.requires.spans reach (subst (λ (z : ℤ). z ≤ℤ pos max_block) total side.most)).1
+    (laid-within view metrics es spans c.requires.few c.requires.extents c.requires.spans reach (subst (λ (z : ℤ). z ≤ℤ pos max_block) length_sum side.most)).1

@@ -18,7 +18,7 @@ use Rattle.text_layout.specs.declared.laid.Laid.{Laid}
 use Rattle.text_layout.specs.declared.metrics.Metrics.{Metrics}
 use Rattle.text_layout.specs.declared.spans.Span.{Span}
 use Rattle.text_layout.specs.Anchors.{margins_of, wrapping_width}
-use Rattle.text_layout.specs.Extents.{IsExtent, item_extents}
+use Rattle.text_layout.specs.Extents.{IsItemExtent, item_extents}
 use Rattle.text_layout.specs.Fonts.{font_numbers}
 use Rattle.text_layout.specs.Kinds.{roles_of}
 use Rattle.text_layout.specs.Layouts.{IsLaid, IsWithinBlock, laid_out}
@@ -54,7 +54,7 @@ laid_by script fonts event view size metrics extents advances items max spans sh
 pub line_spans-requires-clause-widths : goal.line_spans-requires-clause-widths
 line_spans-requires-clause-widths c =
     subst (All IsItemWidth) (sym (c.as_slice-3.ensures.value ∙ c.in_ok-advances.ensures))
-    (advances-within c.as_slice-2.result.now (subst (All IsExtent) (sym c.as_slice-2.ensures.value) c.in_ok-extents.ensures.range))
+    (advances-within c.as_slice-2.result.now (subst (All IsItemExtent) (sym c.as_slice-2.ensures.value) c.in_ok-extents.ensures.range))
 
 pub laid_out-requires-clause-metrics : goal.laid_out-requires-clause-metrics
 laid_out-requires-clause-metrics c = subst (All IsMetrics) (sym c.as_slice-4.ensures.value) c.in_ok-metrics.ensures.range
@@ -66,7 +66,7 @@ laid_out-requires-clause-items c =
     subst (λ (n : ℕ). All (IsShownItem n) view.items) (sym count) c.requires.view.items
 
 pub laid_out-requires-clause-extents : goal.laid_out-requires-clause-extents
-laid_out-requires-clause-extents c = subst (All IsExtent) (sym c.as_slice-5.ensures.value) c.in_ok-extents.ensures.range
+laid_out-requires-clause-extents c = subst (All IsItemExtent) (sym c.as_slice-5.ensures.value) c.in_ok-extents.ensures.range
 
 pub returns-clause-laid : goal.returns-clause-laid
 returns-clause-laid c =

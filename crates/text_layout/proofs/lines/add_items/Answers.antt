@@ -8,7 +8,7 @@ use Rattle.line_layout.proofs.PenLemmas.{pen-above, pen-le, pen-small}
 use Rattle.text_layout.specs.declared.extents.Extent.{Extent}
 use Rattle.text_layout.specs.declared.laid.Line.{Line}
 use Rattle.text_layout.specs.declared.laid.Placed.{Placed}
-use Rattle.text_layout.specs.Extents.{IsExtent, no_extent}
+use Rattle.text_layout.specs.Extents.{IsItemExtent, no_extent}
 use Rattle.text_layout.specs.Limits.{max_block, max_line}
 use Rattle.text_layout.specs.Lines.{IsLineWithin, advances_of, placed_item}
 use Rattle.text_layout.proofs.BitLemmas.{bits_64, place_bits}
@@ -20,7 +20,7 @@ use Rattle.text_layout.proofs.lines.add_items.Goals as goal
 abbrev max_pen : ℕ
 max_pen = 2 ^ 48
 
-pen_within : (es : List Extent) (line : Line) (i : ℕ) (x : ℤ) → length es ≤ max_text_bytes → All IsExtent es → IsLineWithin (length es) (pos max_line) (pos max_block) line
+pen_within : (es : List Extent) (line : Line) (i : ℕ) (x : ℤ) → length es ≤ max_text_bytes → All IsItemExtent es → IsLineWithin (length es) (pos max_line) (pos max_block) line
     → line.first ≤ i → i < length es → x ≡ line.left +ℤ width (advances_of es) line.first i → (pos 0 ≤ℤ x) × (x ≤ℤ pos max_pen)
 pen_within es line i x few each h from l is =
     let ws = advances_of es in
@@ -62,7 +62,7 @@ overflow_add-x c =
     let p = pen_within es line i (to_z w64 c.loop-item.x-bits) c.requires.few c.requires.extents c.requires.line c.loop-item.auto.item l c.loop-item.invariant.pen in
     let low = p.0 in
     let high = p.1 in
-    let reach : IsExtent (get_or es i no_extent) = c.requires.extents i no_extent l in
+    let reach : IsItemExtent (get_or es i no_extent) = c.requires.extents i no_extent l in
     let wide = reach.advance in
     omega (arith, ints, low, high, wide)
 
@@ -78,7 +78,7 @@ loop-item-preserved c =
     let p = pen_within es line i (to_z w64 c.loop-item.x-bits) c.requires.few c.requires.extents c.requires.line c.loop-item.auto.item l pen in
     let low = p.0 in
     let high = p.1 in
-    let reach : IsExtent (get_or es i no_extent) = c.requires.extents i no_extent l in
+    let reach : IsItemExtent (get_or es i no_extent) = c.requires.extents i no_extent l in
     let wide = reach.advance in
     let n = length-map es (λ (e : Extent). e.advance) in
     let advance = advance_at es i l in

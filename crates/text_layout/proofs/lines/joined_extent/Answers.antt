@@ -2,7 +2,7 @@ use Rattle.std.proofs.Common.{get_or, pos, ◌+ℤ◌, arith}
 use Rattle.std.proofs.lemmas.Int.{clamps, ints}
 use Rattle.std.specs.Int.{int_max}
 use Rattle.text_layout.specs.declared.extents.Extent.{Extent}
-use Rattle.text_layout.specs.Extents.{IsExtent, no_extent}
+use Rattle.text_layout.specs.Extents.{IsItemExtent, no_extent}
 use Rattle.text_layout.proofs.LineLemmas.{fold-map_more}
 use Rattle.text_layout.proofs.lines.joined_extent.Goals as goal
 
@@ -12,7 +12,7 @@ loop-extent-preserved c =
     let es = c.args.extents.now in
     let l = c.loop-extent-test.true in
     let inv = c.loop-extent.invariant in
-    let reach : IsExtent (get_or es k no_extent) = c.requires.extents k no_extent l in
+    let reach : IsItemExtent (get_or es k no_extent) = c.requires.extents k no_extent l in
     let sum = fold-map_more ◌+ℤ◌ (pos 0) (λ (e : Extent). e.advance) es k no_extent l in
     let up = fold-map_more int_max (pos 0) (λ (e : Extent). e.ascent) es k no_extent l in
     let down = fold-map_more int_max (pos 0) (λ (e : Extent). e.descent) es k no_extent l in
