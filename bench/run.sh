@@ -71,15 +71,16 @@ measure script 100000 20
 measure script 1000000 5
 measure text 1000000 20
 measure text 10000000 3
-view '' '{\an8\b1}The quick brown fox jumps {\i1}over{\i0} the lazy dog and then it sits' '' 1 100000
-view '' 'some words' '' 1000000 5
-view '{' '\b1\i1\u1x' '}' 1000000 10
-view '' '{\b1}a{\b0}b' '' 833333 5
-view '' '{\fs20}a{\fs30}b{\fs}c' '' 476190 5
-view '' '{\k10}a' '' 1428571 5
-view '' '{\fnArial}a{\fnTimes New}b' '' 384615 5
-view '' '{\t(\fs20\c&H00FF00&)}a' '' 434782 5
-view '' '{\r}a{\rTop}b' '' 769230 5
-view '' '{\p1}m 0 0 l 1 0{\p0}x' '' 454545 5
+view '' '{\an8\b1}The quick brown fox jumps {\i1}over{\i0} the lazy dog and then it sits' '' 1 50000
+view '' 'some words' '' 100000 5
+view '{' '\b1\i1\u1x' '}' 100000 15
+view '{' '\b1\i1\u1x' '}' 1000000 4
+view '' '{\b1}a{\b0}b' '' 83333 8
+view '' '{\fs20}a{\fs30}b{\fs}c' '' 47619 8
+view '' '{\k10}a' '' 142857 8
+view '' '{\fnArial}a{\fnTimes New}b' '' 38461 8
+view '' '{\t(\fs20\c&H00FF00&)}a' '' 43478 8
+view '' '{\r}a{\rTop}b' '' 76923 8
+view '' '{\p1}m 0 0 l 1 0{\p0}x' '' 45454 8
 
 printf '\nload after: %s\n' "$(cut -d ' ' -f 1-3 /proc/loadavg)"
