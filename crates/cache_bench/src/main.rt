@@ -10,8 +10,8 @@ mod tests;
 mod visits;
 mod workers;
 
-ghost use Rattle.std.specs.Prelude.{◌≡◌};
 ghost use Rattle.flight_cache.specs.Shards.{IsCacheOf};
+ghost use Rattle.cache_bench.specs.Doubled.{IsAfterVisits};
 
 use ass_num::Mem;
 use evict_core::Totals;
@@ -50,8 +50,7 @@ fn visit_all<R: Wait>(
     rounds: u32,
 ) -> CachePass<Doubled>
     requires { IsCacheOf cache.now pass }
-    ensures cell { IsCacheOf cache.now result }
-    ensures number { result.first.number ≡ pass.first.number }
+    ensures { IsAfterVisits cache.now pass result }
 {
     let (pass, _) = visit_keys(rt, alloc, cache, pass, &keys.first, rounds);
     let (pass, _) = visit_keys(rt, alloc, cache, pass, &keys.second, rounds);

@@ -202,22 +202,31 @@ fn fill_shard<R: Wait + Abort>(
     (pass, (totals.entries, totals.evictions))
 }
 
+/// The entries and the evictions once five keys of the first shard were visited, and then five of the last one.
+fn fill_parts<R: Wait + Abort>(
+    rt: &R,
+    alloc: Global,
+    entries: u32,
+    budget: u64,
+) -> ((u32, u64), (u32, u64))
+    requires least { min_cache_entries ≤ entries }
+    requires most { entries ≤ max_entries }
+    requires budget { budget ≤ max_budget }
+{
+    let (cache, pass) = open(rt, alloc, entries, budget);
+    let (pass, one) = fill_shard(rt, alloc, &cache, pass, 0, 5);
+    let (pass, both) = fill_shard(rt, alloc, &cache, pass, 3, 5);
+    cache.close(pass);
+    (one, both)
+}
+
 #[test]
 fn each_shard_has_its_part(rt: HostRuntime) -> Result<(), Fail> {
     let alloc = rt.alloc();
-    for (entries, budget, first, last) in [
-        (17, 4000, (4, 1), (9, 1)),
-        (16, 4000, (4, 1), (8, 2)),
-        (64, 17, (4, 1), (9, 1)),
-        (64, 0, (0, 5), (0, 10)),
-    ] {
-        let (cache, pass) = open(&rt, alloc, entries, budget);
-        let (pass, one) = fill_shard(&rt, alloc, &cache, pass, 0, 5);
-        let (pass, both) = fill_shard(&rt, alloc, &cache, pass, 3, 5);
-        cache.close(pass);
-        assert_eq!(rt; one, first, "{entries} {budget}");
-        assert_eq!(rt; both, last, "{entries} {budget}");
-    }
+    assert_eq!(rt; fill_parts(&rt, alloc, 17, 4000), ((4, 1), (9, 1)), "17 entries");
+    assert_eq!(rt; fill_parts(&rt, alloc, 16, 4000), ((4, 1), (8, 2)), "16 entries");
+    assert_eq!(rt; fill_parts(&rt, alloc, 64, 17), ((4, 1), (9, 1)), "budget 17");
+    assert_eq!(rt; fill_parts(&rt, alloc, 64, 0), ((0, 5), (0, 10)), "budget 0");
     Ok(())
 }
 
@@ -256,6 +265,7 @@ fn pin_all<R: Wait>(
     let Ok(keys) = keys.to_vec(alloc) else {
         return (pass, Err(PinRefusal::OutOfMemory));
     };
+    cache.numbered();
     laws::calls::<Doubled>();
     match cache.try_pin_all(alloc, pass, &keys) {
         (pass, Ok(pins)) => {

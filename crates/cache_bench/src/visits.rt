@@ -1,8 +1,8 @@
 //! Visits of a shared cache: a key is asked for, its value made where nobody has, and the pin given back.
-ghost use Rattle.std.specs.Prelude.{◌≡◌, ◌*◌, ◌==◌, IfOk};
+ghost use Rattle.std.specs.Prelude.{◌≡◌, ◌*◌, IfOk};
 ghost use Rattle.std.specs.Arc.{arc_value};
-ghost use Rattle.flight_cache.specs.Shards.{IsCacheOf, EachHasGivenBack};
-ghost use Rattle.cache_bench.specs.Doubled.{doubled};
+ghost use Rattle.flight_cache.specs.Shards.{IsCacheOf};
+ghost use Rattle.cache_bench.specs.Doubled.{IsAfterVisits};
 
 use ass_num::Mem;
 use flight_cache::{Asked, Cache, CachePass, Made, ShardSum, laws};
@@ -54,9 +54,7 @@ pub fn visit<R: Wait>(
     key: u32,
 ) -> (CachePass<Doubled>, bool)
     requires { IsCacheOf cache.now pass }
-    ensures cell { IsCacheOf cache.now result.0 }
-    ensures number { result.0.first.number ≡ pass.first.number }
-    ensures given { EachHasGivenBack (◌==◌) doubled cache.now.shards pass → EachHasGivenBack (◌==◌) doubled cache.now.shards result.0 }
+    ensures { IsAfterVisits cache.now pass result.0 }
 {
     laws::calls::<Doubled>();
     match cache.ask(rt, alloc, pass, &key) {
@@ -87,9 +85,7 @@ pub fn visit_keys<R: Wait>(
     rounds: u32,
 ) -> (CachePass<Doubled>, u32)
     requires { IsCacheOf cache.now pass }
-    ensures cell { IsCacheOf cache.now result.0 }
-    ensures number { result.0.first.number ≡ pass.first.number }
-    ensures given { EachHasGivenBack (◌==◌) doubled cache.now.shards pass → EachHasGivenBack (◌==◌) doubled cache.now.shards result.0 }
+    ensures { IsAfterVisits cache.now pass result.0 }
 {
     let mut waiting = pass;
     let mut found = 0u32;
@@ -109,9 +105,7 @@ fn visit_round<R: Wait>(
     keys: &Vec<u32>,
 ) -> (CachePass<Doubled>, u32)
     requires { IsCacheOf cache.now pass }
-    ensures cell { IsCacheOf cache.now result.0 }
-    ensures number { result.0.first.number ≡ pass.first.number }
-    ensures given { EachHasGivenBack (◌==◌) doubled cache.now.shards pass → EachHasGivenBack (◌==◌) doubled cache.now.shards result.0 }
+    ensures { IsAfterVisits cache.now pass result.0 }
 {
     let mut waiting = pass;
     let mut found = 0u32;

@@ -68,7 +68,7 @@ named-at (x ∷ xs) (suc i) d lt = (elim (x == get_or xs i d) as (λ b. (b || is
 ])
 
 module _ {K : Type 0} (eq : K → K → Bool) where
-  named-append : (k : K) (xs ys : List K) → times_named eq k (xs ++ ys) ≡ times_named eq k xs + times_named eq k ys
+  pub named-append : (k : K) (xs ys : List K) → times_named eq k (xs ++ ys) ≡ times_named eq k xs + times_named eq k ys
   named-append k [] ys = omega arith
   named-append k (x ∷ xs) ys = omega (arith, named-append k xs ys)
 
