@@ -1,4 +1,4 @@
--- Public: the values that the program keeps, the passes that its threads are lent, and what visits leave.
+-- Inner: the values that the program keeps, the passes that its threads are lent, and what visits leave.
 use Rattle.std.specs.Prelude.{◌≡◌, ℕ, ◌*◌, ◌≤◌, ◌==◌, List, [], ◌∷◌}
 use Rattle.evict_core.specs.History.{times_named, pins_left}
 use Rattle.flight_cache.specs.Meaning.{Meaning, shard_of}

@@ -14,8 +14,8 @@ ghost use Rattle.flight_cache.specs.Shards.{IsCacheOf, IsShardOf, AreShardsOf, E
 use crate::made::{Made, shard_number};
 use crate::pass::CachePass;
 use crate::pins::{Asked, Pin, Ticket};
-use crate::shard::Shard;
-use ass_num::Mem;
+use crate::shard::{Shard, ShardPass};
+use ass_num::{Mem, OutOfMemory};
 use evict_core::Totals;
 use std::alloc::Global;
 use std::marker::Model;
@@ -57,6 +57,27 @@ fn sum(one: Totals, other: Totals) -> Totals
     }
 }
 
+// The shard of this number, with its part of both limits.
+fn open_part<M: Made>(
+    alloc: Global,
+    tag: &M::Tag,
+    number: u32,
+    entries: u32,
+    budget: u64,
+) -> Mem<(Shard<M>, ShardPass<M>)>
+    requires number { number < shard_count }
+    requires least { min_cache_entries ≤ entries }
+    requires most { entries ≤ max_entries }
+    requires budget { budget ≤ max_budget }
+    ensures shard { IfOk result (λ r. IsShardOf tag.now r.0 number) }
+    ensures limits { IfOk result (λ r. (r.0.tag.entries ≡ part entries number) × (r.0.tag.budget ≡ part budget number)) }
+    ensures pass { IfOk result (λ r. r.1 ≡ first_pass r.0) }
+{
+    let entries = (entries + number) / 4;
+    let budget = (budget + u64::from(number)) / 4;
+    Shard::open(alloc, tag, number, entries, budget)
+}
+
 impl<M: Made> Cache<M> {
     /// No entries, and the first pass. Each shard gets its part of both limits.
     pub fn open(
@@ -73,48 +94,21 @@ impl<M: Made> Cache<M> {
         ensures limits { IfOk result (λ r. HasLimits r.0.shards entries budget) }
         ensures pass { IfOk result (λ r. r.1 ≡ each first_pass r.0.shards) }
     {
-        let (first, first_pass) = Shard::open(alloc, &tag, 0, entries / 4, budget / 4)?;
-        let (second, second_pass) = match Shard::open(
-            alloc,
-            &tag,
-            1,
-            (entries + 1) / 4,
-            (budget + 1) / 4,
-        ) {
-            Ok(opened) => opened,
-            Err(refused) => {
-                first.close(first_pass);
-                return Err(refused);
-            }
+        let (first, first_pass) = open_part(alloc, &tag, 0, entries, budget)?;
+        let Ok((second, second_pass)) = open_part(alloc, &tag, 1, entries, budget) else {
+            first.close(first_pass);
+            return Err(OutOfMemory);
         };
-        let (third, third_pass) = match Shard::open(
-            alloc,
-            &tag,
-            2,
-            (entries + 2) / 4,
-            (budget + 2) / 4,
-        ) {
-            Ok(opened) => opened,
-            Err(refused) => {
-                first.close(first_pass);
-                second.close(second_pass);
-                return Err(refused);
-            }
+        let Ok((third, third_pass)) = open_part(alloc, &tag, 2, entries, budget) else {
+            first.close(first_pass);
+            second.close(second_pass);
+            return Err(OutOfMemory);
         };
-        let (fourth, fourth_pass) = match Shard::open(
-            alloc,
-            &tag,
-            3,
-            (entries + 3) / 4,
-            (budget + 3) / 4,
-        ) {
-            Ok(opened) => opened,
-            Err(refused) => {
-                first.close(first_pass);
-                second.close(second_pass);
-                third.close(third_pass);
-                return Err(refused);
-            }
+        let Ok((fourth, fourth_pass)) = open_part(alloc, &tag, 3, entries, budget) else {
+            first.close(first_pass);
+            second.close(second_pass);
+            third.close(third_pass);
+            return Err(OutOfMemory);
         };
         Ok((
             Cache {
