@@ -10,8 +10,9 @@ mod tests;
 mod visits;
 mod workers;
 
-ghost use Rattle.flight_cache.specs.Shards.{IsCacheOf};
-ghost use Rattle.cache_bench.specs.Doubled.{IsAfterVisits};
+ghost use Rattle.std.specs.Prelude.{◌==◌};
+ghost use Rattle.flight_cache.specs.Shards.{IsCacheOf, GivesBack};
+ghost use Rattle.cache_bench.specs.Doubled.{doubled};
 
 use ass_num::Mem;
 use evict_core::Totals;
@@ -50,7 +51,7 @@ fn visit_all<R: Wait>(
     rounds: u32,
 ) -> CachePass<Doubled>
     requires { IsCacheOf cache.now pass }
-    ensures { IsAfterVisits cache.now pass result }
+    ensures { GivesBack (◌==◌) doubled cache.now pass result }
 {
     let (pass, _) = visit_keys(rt, alloc, cache, pass, &keys.first, rounds);
     let (pass, _) = visit_keys(rt, alloc, cache, pass, &keys.second, rounds);
@@ -100,7 +101,10 @@ fn run_threads<R: Wait + Threads + Sync + Clock>(
     })
 }
 
-fn show_counts<R: Wait + Threads + Sync + Clock + Print>(rt: &R, alloc: Global) -> Result<(), Stop> {
+fn show_counts<R: Wait + Threads + Sync + Clock + Print>(
+    rt: &R,
+    alloc: Global,
+) -> Result<(), Stop> {
     let totals = run_threads(rt, alloc, &keys_apart(alloc, 10)?, 10, 1)?.totals;
     println!(rt;
         "claims {}, fills {}, hits {}",

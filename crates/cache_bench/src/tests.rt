@@ -1,8 +1,8 @@
 //! What threads make of one cache. Each wait has a bound, and each test a time.
 ghost use Rattle.std.specs.Prelude.{◌≡◌, ◌≤◌, ◌==◌, map, IsSomeAnd};
 ghost use Rattle.evict_core.specs.Machine.{max_entries, max_budget};
-ghost use Rattle.flight_cache.specs.Shards.{IsCacheOf, EachHasGivenBack, min_cache_entries};
-ghost use Rattle.cache_bench.specs.Doubled.{IsFreePass, HoldsEach, doubled};
+ghost use Rattle.flight_cache.specs.Shards.{IsCacheOf, HoldsEach, min_cache_entries};
+ghost use Rattle.cache_bench.specs.Doubled.{IsFreePass, doubled};
 
 use crate::orders::{Keys, SHARD_KEYS, keys_of_shard};
 use crate::visits::{Doubled, visit, visit_keys};
@@ -223,10 +223,26 @@ fn fill_parts<R: Wait + Abort>(
 #[test]
 fn each_shard_has_its_part(rt: HostRuntime) -> Result<(), Fail> {
     let alloc = rt.alloc();
-    assert_eq!(rt; fill_parts(&rt, alloc, 17, 4000), ((4, 1), (9, 1)), "17 entries");
-    assert_eq!(rt; fill_parts(&rt, alloc, 16, 4000), ((4, 1), (8, 2)), "16 entries");
-    assert_eq!(rt; fill_parts(&rt, alloc, 64, 17), ((4, 1), (9, 1)), "budget 17");
-    assert_eq!(rt; fill_parts(&rt, alloc, 64, 0), ((0, 5), (0, 10)), "budget 0");
+    assert_eq!(rt;
+        fill_parts(&rt, alloc, 17, 4000),
+        ((4, 1), (9, 1)),
+        "17 entries"
+    );
+    assert_eq!(rt;
+        fill_parts(&rt, alloc, 16, 4000),
+        ((4, 1), (8, 2)),
+        "16 entries"
+    );
+    assert_eq!(rt;
+        fill_parts(&rt, alloc, 64, 17),
+        ((4, 1), (9, 1)),
+        "budget 17"
+    );
+    assert_eq!(rt;
+        fill_parts(&rt, alloc, 64, 0),
+        ((0, 5), (0, 10)),
+        "budget 0"
+    );
     Ok(())
 }
 
@@ -237,7 +253,7 @@ fn unpin_all<R: Wait>(
     pins: Vec<Pin<Doubled>>,
 ) -> CachePass<Doubled>
     requires cell { IsCacheOf cache.now pass }
-    requires held { HoldsEach cache.now pass (map (λ p. p.key) pins.items) }
+    requires held { HoldsEach (◌==◌) doubled cache.now pass (map (λ p. p.key) pins.items) }
     ensures cell { IsCacheOf cache.now result }
     ensures number { result.first.number ≡ pass.first.number }
 {

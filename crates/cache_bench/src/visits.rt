@@ -1,8 +1,8 @@
 //! Visits of a shared cache: a key is asked for, its value made where nobody has, and the pin given back.
-ghost use Rattle.std.specs.Prelude.{◌≡◌, ◌*◌, IfOk};
+ghost use Rattle.std.specs.Prelude.{◌≡◌, ◌*◌, ◌==◌, IfOk};
 ghost use Rattle.std.specs.Arc.{arc_value};
-ghost use Rattle.flight_cache.specs.Shards.{IsCacheOf};
-ghost use Rattle.cache_bench.specs.Doubled.{IsAfterVisits};
+ghost use Rattle.flight_cache.specs.Shards.{IsCacheOf, GivesBack};
+ghost use Rattle.cache_bench.specs.Doubled.{doubled};
 
 use ass_num::Mem;
 use flight_cache::{Asked, Cache, CachePass, Made, ShardSum, laws};
@@ -54,7 +54,7 @@ pub fn visit<R: Wait>(
     key: u32,
 ) -> (CachePass<Doubled>, bool)
     requires { IsCacheOf cache.now pass }
-    ensures { IsAfterVisits cache.now pass result.0 }
+    ensures { GivesBack (◌==◌) doubled cache.now pass result.0 }
 {
     laws::calls::<Doubled>();
     match cache.ask(rt, alloc, pass, &key) {
@@ -85,7 +85,7 @@ pub fn visit_keys<R: Wait>(
     rounds: u32,
 ) -> (CachePass<Doubled>, u32)
     requires { IsCacheOf cache.now pass }
-    ensures { IsAfterVisits cache.now pass result.0 }
+    ensures { GivesBack (◌==◌) doubled cache.now pass result.0 }
 {
     let mut waiting = pass;
     let mut found = 0u32;
@@ -105,7 +105,7 @@ fn visit_round<R: Wait>(
     keys: &Vec<u32>,
 ) -> (CachePass<Doubled>, u32)
     requires { IsCacheOf cache.now pass }
-    ensures { IsAfterVisits cache.now pass result.0 }
+    ensures { GivesBack (◌==◌) doubled cache.now pass result.0 }
 {
     let mut waiting = pass;
     let mut found = 0u32;

@@ -5,8 +5,10 @@ pub mod Home
 pub mod Pinned
 pub mod Places
 pub mod Refusing
+pub mod Releases
 pub mod Rows
 pub mod Standing
 pub mod Sums
 pub mod Trying
 pub mod Values
+pub mod Visits

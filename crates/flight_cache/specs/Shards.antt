@@ -1,10 +1,11 @@
 -- Public: four of a kind, one for each shard, and what is said of them together.
-use Rattle.std.specs.Prelude.{◌≡◌, ℕ, ◌+◌, ◌/◌, ◌==◌, if◌then◌else◌, min, Bool, List, []}
+use Rattle.std.specs.Prelude.{◌≡◌, ℕ, ◌+◌, ◌/◌, ◌≤◌, ◌==◌, if◌then◌else◌, min, Bool, List, []}
 use Rattle.evict_core.specs.Machine.{Step, last_count}
+use Rattle.evict_core.specs.History.{times_named, pins_left}
 use Rattle.evict_core.specs.declared.counts.Totals.{Totals}
 use Rattle.turn_cell.specs.History.{IsPrefix, IsBelow}
 use Rattle.turn_cell.specs.Passes.{IsOf, Extends}
-use Rattle.flight_cache.specs.Meaning.{Meaning, shard_count}
+use Rattle.flight_cache.specs.Meaning.{Meaning, shard_count, shard_of}
 use Rattle.flight_cache.specs.Histories.{IsLegalUnder}
 use Rattle.flight_cache.specs.Calls.{ShardView, ShardPassView, GivesSteps, HasGivenBack, own_steps}
 
@@ -92,6 +93,17 @@ module _ {K V T : Type 0} (eq : K → K → Bool) (meaning : Meaning K V T) wher
     pub second : HasGivenBack eq meaning shards.second pass.second
     pub third : HasGivenBack eq meaning shards.third pass.third
     pub fourth : HasGivenBack eq meaning shards.fourth pass.fourth
+
+  -- the pass holds a pin for each place of these keys
+  abbrev pub HoldsEach : CacheView T → CachePassView K T → List K → Type 0
+  HoldsEach cache pass keys = (key : K) → let n = shard_of (meaning.numbers key) in
+      times_named eq key keys ≤ pins_left eq (own_steps meaning (at cache.shards n).tag (at pass n)) key
+
+  -- the pass after calls: one of the cache with its number, and with nothing to give back where it had nothing before
+  pub record GivesBack (cache : CacheView T) (pass after : CachePassView K T) : Type 0 where
+    pub cell : IsCacheOf cache after
+    pub number : after.first.number ≡ pass.first.number
+    pub given : EachHasGivenBack cache.shards pass → EachHasGivenBack cache.shards after
 
   -- what the pass has seen of each shard is legal
   pub record EachIsLegal (shards : Shards (ShardView T)) (pass : CachePassView K T) : Type 0 where
