@@ -33,6 +33,9 @@ const ENTRIES: u32 = 65_536;
 // Each value costs 1, so none is evicted.
 const BUDGET: u64 = 1_000_000;
 
+// So often a time is taken. The least one counts.
+const LAPS: u32 = 200;
+
 /// What a run came to: the least time that one thread took, that four took, and the counts.
 #[derive(Drop)]
 struct Outcome {
@@ -125,7 +128,7 @@ fn show_times<R: Wait + Threads + Sync + Clock + Print>(
     count: u32,
     rounds: u32,
 ) -> Result<(), Stop> {
-    let outcome = run_threads(rt, alloc, keys, rounds, 20)?;
+    let outcome = run_threads(rt, alloc, keys, rounds, LAPS)?;
     let visits = (4 * u128::from(count) * u128::from(rounds)).max(1);
     let one = outcome.one.as_nanos();
     let four = outcome.four.as_nanos().max(1);

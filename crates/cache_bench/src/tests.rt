@@ -51,10 +51,10 @@ fn claim_and_fail<R: Wait>(
     requires { IsFreePass cache.now pass }
     ensures { IsFreePass cache.now result }
 {
-    laws::calls::<Doubled>();
-    match cache.ask(rt, alloc, pass, &key) {
-        (pass, Asked::Hit(pin)) => cache.unpin(rt, pass, pin),
-        (pass, Asked::Claim(ticket)) => {
+    let (pass, asked) = cache.ask(rt, alloc, pass, &key);
+    match asked {
+        Asked::Hit(pin) => cache.unpin(rt, pass, pin),
+        Asked::Claim(ticket) => {
             flags.claimed.store(true, Ordering::Release);
             await_flag(&flags.asking);
             let backoff = Backoff::new();
@@ -63,7 +63,8 @@ fn claim_and_fail<R: Wait>(
             }
             cache.fail(rt, pass, ticket)
         }
-        (pass, Asked::Crowded | Asked::OutOfMemory) => pass,
+        Asked::Crowded => pass,
+        Asked::OutOfMemory => pass,
     }
 }
 
@@ -283,12 +284,14 @@ fn pin_all<R: Wait>(
     };
     cache.numbered();
     laws::calls::<Doubled>();
-    match cache.try_pin_all(alloc, pass, &keys) {
-        (pass, Ok(pins)) => {
+    let (pass, pinned) = cache.try_pin_all(alloc, pass, &keys);
+    match pinned {
+        Ok(pins) => {
             let count = pins.len();
-            (unpin_all(rt, cache, pass, pins), Ok(count))
+            let pass = unpin_all(rt, cache, pass, pins);
+            (pass, Ok(count))
         }
-        (pass, Err(refusal)) => (pass, Err(refusal)),
+        Err(refusal) => (pass, Err(refusal)),
     }
 }
 

@@ -5,7 +5,7 @@ ghost use Rattle.flight_cache.specs.Shards.{IsCacheOf, GivesBack};
 ghost use Rattle.cache_bench.specs.Doubled.{doubled};
 
 use ass_num::Mem;
-use flight_cache::{Asked, Cache, CachePass, Made, ShardSum, laws};
+use flight_cache::{Asked, Cache, CachePass, Made, ShardSum};
 use std::alloc::Global;
 use std::sync::{Arc, Wait};
 
@@ -39,10 +39,13 @@ impl Made for Doubled {
     ghost same_key = { eqb-true };
 }
 
-fn make(alloc: Global, key: u32) -> Mem<Arc<u64>>
-    ensures { IfOk result (λ value. arc_value value ≡ 2 * key) }
+// The value of a key, twice.
+fn make(alloc: Global, key: u32) -> Mem<(Arc<u64>, Arc<u64>)>
+    ensures { IfOk result (λ r. (arc_value r.0 ≡ 2 * key) × (arc_value r.1 ≡ 2 * key)) }
 {
-    Ok(Arc::new(alloc, 2 * u64::from(key))?)
+    let kept = Arc::new(alloc, 2 * u64::from(key))?;
+    let pinned = Arc::try_clone(&kept)?;
+    Ok((kept, pinned))
 }
 
 /// Asks for the key, makes its value where nobody has, and gives the pin back. Tells whether there was a value.
@@ -56,14 +59,14 @@ pub fn visit<R: Wait>(
     requires { IsCacheOf cache.now pass }
     ensures { GivesBack (◌==◌) doubled cache.now pass result.0 }
 {
-    laws::calls::<Doubled>();
-    match cache.ask(rt, alloc, pass, &key) {
-        (pass, Asked::Hit(pin)) => {
+    let (pass, asked) = cache.ask(rt, alloc, pass, &key);
+    match asked {
+        Asked::Hit(pin) => {
             let pass = cache.unpin(rt, pass, pin);
             (pass, true)
         }
-        (pass, Asked::Claim(ticket)) => {
-            let (Ok(kept), Ok(pinned)) = (make(alloc, key), make(alloc, key)) else {
+        Asked::Claim(ticket) => {
+            let Ok((kept, pinned)) = make(alloc, key) else {
                 let pass = cache.fail(rt, pass, ticket);
                 return (pass, false);
             };
@@ -71,7 +74,8 @@ pub fn visit<R: Wait>(
             let pass = cache.unpin(rt, pass, pin);
             (pass, true)
         }
-        (pass, Asked::Crowded | Asked::OutOfMemory) => (pass, false),
+        Asked::Crowded => (pass, false),
+        Asked::OutOfMemory => (pass, false),
     }
 }
 
