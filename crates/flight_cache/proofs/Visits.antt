@@ -2,14 +2,14 @@
 use Rattle.std.proofs.Common.{◌≡◌, ℕ, zero, suc, ◌+◌, ◌<◌, ◌≤◌, ◌&&◌, ◌||◌, not, Bool, true, false, List, ◌∷◌, [], ◌++◌, map, refl, sym, ap, ◌∙◌, subst, arith}
 use Rattle.std.specs.Cmp.{IsEquivalence}
 use Rattle.std.proofs.lemmas.List.{append-nil}
-use Rattle.turn_cell.specs.Passes.{Follows, mine}
+use Rattle.turn_cell.specs.Passes.{Follows, mine, split_pass, new_pass, joined_pass}
 use Rattle.turn_cell.proofs.Passes.{Follows_trans}
 use Rattle.evict_core.specs.Machine.{Step, Hit, Claim, Crowded, Ask, Fill, Fail, Unpin}
 use Rattle.evict_core.specs.History.{pins_left, has_open}
 use Rattle.flight_cache.specs.Meaning.{Meaning, shard_of, shard_count}
 use Rattle.flight_cache.specs.Histories.{step_of}
 use Rattle.flight_cache.specs.Calls.{ShardView, ShardPassView, GivesSteps, HasGivenBack, own_steps}
-use Rattle.flight_cache.specs.Shards.{Shards, CacheView, CachePassView, IsCacheOf, GivesBack, at, with_at}
+use Rattle.flight_cache.specs.Shards.{Shards, CacheView, CachePassView, IsCacheOf, GivesBack, at, with_at, each, both}
 use Rattle.flight_cache.specs.declared.kept.Entry.{Entry}
 use Rattle.flight_cache.proofs.Rows.{gives_follow, call_is_later, stays_of_cache, one_gives_back}
 use Rattle.flight_cache.proofs.Four.{at-each}
@@ -155,3 +155,29 @@ module _ {K V T : Type 0} (eq : K → K → Bool) (laws : IsEquivalence eq) (mea
       let n = shard_of (meaning.numbers key) in
       after-calls n (below-four (meaning.numbers key)) p q [] of follows is
       (λ before. nothing-back eq meaning (at cache.shards n) (at p n) before key (at q n) (at q n) (at q n) follows)
+
+-- a split and a join leave passes of the same cache
+module _ {K T : Type 0} (cache : CacheView T) (p : CachePassView K T) (of : IsCacheOf cache p) where
+  pub split-stays : (q : CachePassView K T) → q ≡ each split_pass p → IsCacheOf cache q
+  split-stays q is = subst (λ (z : CachePassView K T). IsCacheOf cache z) (sym is) (record {
+    first = record { id = of.first.id; tagged = of.first.tagged };
+    second = record { id = of.second.id; tagged = of.second.tagged };
+    third = record { id = of.third.id; tagged = of.third.tagged };
+    fourth = record { id = of.fourth.id; tagged = of.fourth.tagged };
+  })
+
+  pub new-stays : (q : CachePassView K T) → q ≡ each new_pass p → IsCacheOf cache q
+  new-stays q is = subst (λ (z : CachePassView K T). IsCacheOf cache z) (sym is) (record {
+    first = record { id = of.first.id; tagged = of.first.tagged };
+    second = record { id = of.second.id; tagged = of.second.tagged };
+    third = record { id = of.third.id; tagged = of.third.tagged };
+    fourth = record { id = of.fourth.id; tagged = of.fourth.tagged };
+  })
+
+  pub join-stays : (other q : CachePassView K T) → q ≡ both joined_pass p other → IsCacheOf cache q
+  join-stays other q is = subst (λ (z : CachePassView K T). IsCacheOf cache z) (sym is) (record {
+    first = record { id = of.first.id; tagged = of.first.tagged };
+    second = record { id = of.second.id; tagged = of.second.tagged };
+    third = record { id = of.third.id; tagged = of.third.tagged };
+    fourth = record { id = of.fourth.id; tagged = of.fourth.tagged };
+  })
