@@ -11,7 +11,9 @@ use Rattle.ass_num.proofs.MaskLemmas.{mask_wider}
 use Rattle.mask_blur.specs.Blur.{IsBlurred}
 use Rattle.mask_blur.specs.Softening.{IsSoftened}
 use Rattle.mask_keys.specs.declared.mask_key.MaskKey.{MaskKey}
+use Rattle.mask_keys.specs.Keys.{max_blur_radius, max_passes}
 use Rattle.sample_region.specs.Limits.{max_inside}
+use Rattle.made_values.specs.Reach.{max_covered_corner, max_covered_side}
 use Rattle.mask_model.specs.Masks.{covered_mask, softened_mask, blurred_mask}
 use Rattle.mask_model.specs.Regions.{outline_region}
 use Rattle.mask_model.specs.Values.{mask_of_region}
@@ -46,12 +48,12 @@ pub covered_answer : {E : Type 0} (answer : Result MaskValue E) (r : RegionValue
     → IfOk answer (IsCover (member r.top r.rows) px py) → IfOk answer (λ m. is_mask m ≡ true)
     → IfOk answer (λ m. (limit : ℕ) → IsRegionWithin limit r.top r.rows → IsMaskWithin (limit / 16 + 1) (2 * (limit / 16) + 3) m)
     → IfOk answer (λ m. m ≡ covered_mask px py r)
-covered_answer (Ok m) r px py near cover is within = covered_is r px py 8193 16387 m is cover (within max_sample near) (omega arith)
+covered_answer (Ok m) r px py near cover is within = covered_is r px py max_covered_corner max_covered_side m is cover (within max_sample near) (omega arith)
 covered_answer (Err e) r px py near cover is within = cover
 
 pub covered_near : {E : Type 0} (answer : Result MaskValue E) (r : RegionValue) → IsRegionWithin max_sample r.top r.rows
     → IfOk answer (λ m. (limit : ℕ) → IsRegionWithin limit r.top r.rows → IsMaskWithin (limit / 16 + 1) (2 * (limit / 16) + 3) m)
-    → IfOk answer (IsMaskWithin 8193 16387)
+    → IfOk answer (IsMaskWithin max_covered_corner max_covered_side)
 covered_near (Ok m) r near within = within max_sample near
 covered_near (Err e) r near within = within
 
@@ -76,14 +78,14 @@ blurred_near (Ok result) k r m e within = λ corner side w. mask_wider (corner +
 blurred_near (Err e) k r m f within = within
 
 -- how far masks of keys reach
-pub soft_near : (m : MaskValue) (passes : ℕ) → passes ≤ 127 → IsMaskWithin (8193 + passes) (16387 + 2 * passes) m → IsMaskWithin max_mask_corner max_mask_side m
-soft_near m passes few within = mask_wider (8193 + passes) (16387 + 2 * passes) max_mask_corner max_mask_side m (omega arith) (omega arith) within
+pub soft_near : (m : MaskValue) (passes : ℕ) → passes ≤ max_passes → IsMaskWithin (max_covered_corner + passes) (max_covered_side + 2 * passes) m → IsMaskWithin max_mask_corner max_mask_side m
+soft_near m passes few within = mask_wider (max_covered_corner + passes) (max_covered_side + 2 * passes) max_mask_corner max_mask_side m (omega arith) (omega arith) within
 
-pub mask_near : {E : Type 0} (answer : Result MaskValue E) (soft : MaskValue) (passes radius : ℕ) → passes ≤ 127 → radius ≤ 100 → IsMaskWithin (8193 + passes) (16387 + 2 * passes) soft
+pub mask_near : {E : Type 0} (answer : Result MaskValue E) (soft : MaskValue) (passes radius : ℕ) → passes ≤ max_passes → radius ≤ max_blur_radius → IsMaskWithin (max_covered_corner + passes) (max_covered_side + 2 * passes) soft
     → IfOk answer (λ m. (corner side : ℕ) → IsMaskWithin corner side soft → IsMaskWithin (corner + 3 * radius) (side + 6 * radius) m)
     → IfOk answer (IsMaskWithin max_mask_corner max_mask_side)
 mask_near (Ok m) soft passes radius few small near within =
-    mask_wider (8193 + passes + 3 * radius) (16387 + 2 * passes + 6 * radius) max_mask_corner max_mask_side m (omega arith) (omega arith) (within (8193 + passes) (16387 + 2 * passes) near)
+    mask_wider (max_covered_corner + passes + 3 * radius) (max_covered_side + 2 * passes + 6 * radius) max_mask_corner max_mask_side m (omega arith) (omega arith) (within (max_covered_corner + passes) (max_covered_side + 2 * passes) near)
 mask_near (Err e) soft passes radius few small near within = within
 
 pub same_region : {E : Type 0} (answer : Result MaskValue E) (key : MaskKey) (r s : RegionValue) → r ≡ s → IfOk answer (λ m. m ≡ mask_of_region key r) → IfOk answer (λ m. m ≡ mask_of_region key s)

@@ -8,8 +8,8 @@ use Rattle.mask_cover.specs.Sums.{IsPlaceableMask}
 use Rattle.mask_keys.specs.Keys.{IsValidPart, max_part_offset, region_key}
 use Rattle.mask_keys.specs.declared.composite_key.Part.{Part}
 use Rattle.mask_model.specs.Values.{mask_value, placed_part, region_value}
-use Rattle.mask_model.proofs.ReachLemmas.{mask_bytes, mask_reach}
-use Rattle.made_values.specs.Parts.{HasByteValues, masks_of, placed_masks}
+use Rattle.mask_model.proofs.ReachLemmas.{mask_reach}
+use Rattle.made_values.specs.Parts.{masks_of, placed_masks}
 
 pub placed_are : (fonts : List FontValue) (parts : List Part) → placed_masks parts (masks_of fonts parts) ≡ map (placed_part fonts) parts
 placed_are fonts [] = refl
@@ -27,8 +27,3 @@ parts_placeable fonts glyphs [] valid = All-nil IsPlaceableMask
 parts_placeable fonts glyphs (p ∷ parts) valid =
     All-cons IsPlaceableMask (mask_value fonts p.mask, p.dx, p.dy) (placed_masks parts (masks_of fonts parts))
     (part_placeable fonts glyphs p (All-head (IsValidPart glyphs) p parts valid)) (parts_placeable fonts glyphs parts (All-tail (IsValidPart glyphs) p parts valid))
-
-pub parts_bytes : (fonts : List FontValue) (parts : List Part) → All HasByteValues (masks_of fonts parts)
-parts_bytes fonts [] = All-nil HasByteValues
-parts_bytes fonts (p ∷ parts) =
-    All-cons HasByteValues (mask_value fonts p.mask) (masks_of fonts parts) (mask_bytes p.mask (region_value fonts (region_key p.mask))) (parts_bytes fonts parts)

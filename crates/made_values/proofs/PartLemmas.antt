@@ -9,7 +9,8 @@ use Rattle.ass_num.specs.Masks.{MaskValue, is_mask, value_at}
 use Rattle.mask_keys.specs.declared.composite_key.Part.{Part}
 use Rattle.mask_model.specs.Masks.{summed_mask}
 use Rattle.mask_model.proofs.ValueLemmas.{summed_is}
-use Rattle.made_values.specs.Parts.{HasByteValues, placed_masks}
+use Rattle.ass_num.proofs.MaskLemmas.{value_most}
+use Rattle.made_values.specs.Parts.{placed_masks}
 
 -- ---- a single mask that isn't moved
 
@@ -37,10 +38,10 @@ pixel_alone m i j h =
 alone_value : (v : ℕ) → v ≤ 255 → v ≡ min 255 v
 alone_value v l = grind arith
 
-alone_sum : (m : MaskValue) → HasByteValues m → IsSum (alone m) m
+alone_sum : (m : MaskValue) → ((k : ℕ) → get_or m.bytes k 0 ≤ 255) → IsSum (alone m) m
 alone_sum m bytes = record {
   value = λ x y.
-      alone_value (value_at m x y) (bytes x y)
+      alone_value (value_at m x y) (value_most m x y 255 bytes)
       ∙ ap (λ z. min 255 (value_at m z y)) (sym (unmoved x)) ∙ ap (λ z. min 255 (value_at m (x -ℤ pos 0) z)) (sym (unmoved y))
       ∙ ap (min 255) (sym (sum_by-cons (λ (p : MaskValue × ℤ × ℤ). moved_value p x y) (m, pos 0, pos 0) [] ∙ omega arith));
   box = record {
@@ -49,7 +50,7 @@ alone_sum m bytes = record {
   };
 }
 
-pub alone_is : (m : MaskValue) → is_mask m ≡ true → IsMaskWithin max_mask_corner max_mask_side m → HasByteValues m → m ≡ summed_mask (alone m)
+pub alone_is : (m : MaskValue) → is_mask m ≡ true → IsMaskWithin max_mask_corner max_mask_side m → ((k : ℕ) → get_or m.bytes k 0 ≤ 255) → m ≡ summed_mask (alone m)
 alone_is m is within bytes = summed_is (alone m) max_mask_corner max_mask_side m is (alone_sum m bytes) within (omega arith)
 
 -- ---- the item of a part and its mask
@@ -103,8 +104,3 @@ placed_alone value (q ∷ []) (b ∷ masks) p a one e f g x y =
     let X : Part → ℤ = λ z. z.dx in
     let Y : Part → ℤ = λ z. z.dy in
     alone_same (value b) (value a) q.dx q.dy (ap value (sym g)) (sym (ap X f) ∙ x) (sym (ap Y f) ∙ y)
-
--- what holds of the first mask of a list
-pub first_mask : {A : Type 0} (P : MaskValue → Type 0) (value : A → MaskValue) (masks : List A) (a : A) → 0 < length masks → a ≡ get_or masks 0 a → All P (map value masks) → P (value a)
-first_mask P value [] a l f all = absurd (omega arith)
-first_mask P value (b ∷ masks) a l f all = subst P (ap value (sym f)) (all 0 (value b) (omega arith))

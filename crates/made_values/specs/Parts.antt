@@ -1,6 +1,6 @@
 -- Public: parts with their masks at hand.
-use Rattle.std.specs.Prelude.{ℤ, ◌≤◌, List, [], ◌∷◌, map}
-use Rattle.ass_num.specs.Masks.{MaskValue, value_at}
+use Rattle.std.specs.Prelude.{ℤ, List, [], ◌∷◌, map}
+use Rattle.ass_num.specs.Masks.{MaskValue}
 use Rattle.bdf_font.specs.Fonts.{FontValue}
 use Rattle.mask_keys.specs.declared.composite_key.Part.{Part}
 use Rattle.mask_model.specs.Values.{mask_value}
@@ -9,10 +9,6 @@ use Rattle.mask_model.specs.Values.{mask_value}
 abbrev pub placed_masks : List Part → List MaskValue → List (MaskValue × ℤ × ℤ)
 placed_masks (p ∷ parts) (m ∷ masks) = (m, p.dx, p.dy) ∷ placed_masks parts masks
 placed_masks _ _ = []
-
--- no value of the mask is above 255
-abbrev pub HasByteValues : MaskValue → Type 0
-HasByteValues m = (x y : ℤ) → value_at m x y ≤ 255
 
 -- the masks of the parts' keys
 abbrev pub masks_of : List FontValue → List Part → List MaskValue

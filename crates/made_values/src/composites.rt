@@ -1,13 +1,13 @@
 //! Sums of masks.
 
-ghost use Rattle.std.specs.Prelude.{◌≡◌, ℤ, pos, List, [], ◌∷◌, ◌++◌, length, map, All, IfOk};
+ghost use Rattle.std.specs.Prelude.{◌≡◌, ℕ, ◌≤◌, true, ℤ, pos, List, [], ◌∷◌, ◌++◌, length, map, slice_index, All, IfOk};
 ghost use Rattle.std.specs.Arc.{arc_value};
 ghost use Rattle.ass_num.specs.Coverage.{InBox, IsMovedPixel, box_of};
 ghost use Rattle.ass_num.specs.Limits.{IsMaskWithin, max_mask_corner, max_mask_side};
-ghost use Rattle.ass_num.specs.Masks.{MaskValue};
+ghost use Rattle.ass_num.specs.Masks.{MaskValue, is_mask};
 ghost use Rattle.mask_cover.specs.Sums.{HasSum, IsBoxOf, IsPlaceableMask};
 ghost use Rattle.mask_model.specs.Masks.{summed_mask};
-ghost use Rattle.made_values.specs.Parts.{HasByteValues, placed_masks};
+ghost use Rattle.made_values.specs.Parts.{placed_masks};
 
 use ass_num::{Mask, Mem};
 use mask_cover::{Extent, MaskSum};
@@ -58,14 +58,19 @@ fn sum_of_parts(alloc: Global, parts: &[Part], masks: &[Arc<Mask>]) -> Mem<Mask>
     Ok(sum.into_mask())
 }
 
+/// Bytes are at most 255, as their type says.
+fn are_most_255(bytes: &[u8])
+    ensures { (k : ℕ) → slice_index bytes.now k ≤ 255 }
+{}
+
 /// The composed mask of one part that isn't moved: the part's own, which is shared and not copied.
 fn shared_mask(mask: &Arc<Mask>) -> Mem<Arc<Mask>>
-    requires near { IsMaskWithin max_mask_corner max_mask_side (arc_value mask.now) }
-    requires values { HasByteValues (arc_value mask.now) }
+    requires { IsMaskWithin max_mask_corner max_mask_side (arc_value mask.now) }
     ensures { IfOk result (λ m. arc_value m ≡ summed_mask ((arc_value mask.now, pos 0, pos 0) ∷ [])) }
 {
     // The bytes tell that the mask has its one form.
-    let _bytes = mask.bytes();
+    let bytes = mask.bytes();
+    are_most_255(bytes);
     Ok(Arc::try_clone(mask)?)
 }
 
@@ -75,7 +80,6 @@ fn shared_mask(mask: &Arc<Mask>) -> Mem<Arc<Mask>>
 pub fn made_composite(alloc: Global, parts: &[Part], masks: &[Arc<Mask>]) -> Mem<Arc<Mask>>
     requires count { length masks.now ≡ length parts.now }
     requires masks { All IsPlaceableMask (placed_masks parts.now (map arc_value masks.now)) }
-    requires values { All HasByteValues (map arc_value masks.now) }
     ensures { IfOk result (λ m. arc_value m ≡ summed_mask (placed_masks parts.now (map arc_value masks.now))) }
 {
     if let [part] = parts {

@@ -4,7 +4,7 @@ ghost use Rattle.std.specs.Prelude.{◌≡◌, ℕ, ℤ, List, All};
 ghost use Rattle.ass_num.specs.Coverage.{IsSum};
 ghost use Rattle.ass_num.specs.Masks.{MaskValue};
 ghost use Rattle.bdf_font.specs.Fonts.{FontValue};
-ghost use Rattle.made_values.specs.Parts.{HasByteValues, masks_of, placed_masks};
+ghost use Rattle.made_values.specs.Parts.{masks_of, placed_masks};
 ghost use Rattle.mask_cover.specs.Sums.{IsPlaceableMask};
 ghost use Rattle.mask_keys.specs.Keys.{IsValidPart};
 ghost use Rattle.mask_model.specs.Masks.{summed_mask};
@@ -21,5 +21,4 @@ pub fn summed_masks_are_sums()
 pub fn parts_make_their_composite()
     ensures value { (fonts : List FontValue) (key : CompositeKey) → summed_mask (placed_masks key.parts (masks_of fonts key.parts)) ≡ composite_value fonts key }
     ensures masks { (fonts : List FontValue) (glyphs : List ℕ) (parts : List Part) → All (IsValidPart glyphs) parts → All IsPlaceableMask (placed_masks parts (masks_of fonts parts)) }
-    ensures bytes { (fonts : List FontValue) (parts : List Part) → All HasByteValues (masks_of fonts parts) }
 {}

@@ -7,6 +7,7 @@ ghost use Rattle.mask_keys.specs.Keys.{HasMaskRanges, max_blur_radius, max_passe
 ghost use Rattle.mask_model.specs.Masks.{blurred_mask, covered_mask, softened_mask};
 ghost use Rattle.mask_model.specs.Regions.{widened_region};
 ghost use Rattle.sample_region.specs.Limits.{max_inside};
+ghost use Rattle.made_values.specs.Reach.{max_covered_corner, max_covered_side};
 ghost use Rattle.mask_model.specs.Values.{mask_of_region};
 
 use crate::regions::made_border;
@@ -23,7 +24,7 @@ fn covered(alloc: Global, region: &Region, px: u8, py: u8) -> Mem<Mask>
     requires py { py < samples_across }
     ensures value { IfOk result (λ m. m ≡ covered_mask px py region.now) }
     ensures canonical { IfOk result (λ m. is_mask m ≡ true) }
-    ensures within { IfOk result (IsMaskWithin 8193 16387) }
+    ensures within { IfOk result (IsMaskWithin max_covered_corner max_covered_side) }
 {
     cover(alloc, region, px, py)
 }

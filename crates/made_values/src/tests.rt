@@ -1,72 +1,263 @@
-//! Masks of boxes, which were worked out elsewhere, and composed ones.
+//! Values of keys, at the limits of keys among them, which were worked out elsewhere.
 
-ghost use Rattle.std.specs.Prelude.{IfOk};
+ghost use Rattle.std.specs.Prelude.{◌≡◌, ◌<◌, ◌≤◌, [], ◌∷◌, IfOk};
 ghost use Rattle.ass_num.specs.Limits.{IsMaskWithin, max_mask_corner, max_mask_side};
+ghost use Rattle.ass_num.specs.Paths.{IsPath};
+ghost use Rattle.mask_keys.specs.Keys.{HasMaskRanges, IsValidOutline};
+ghost use Rattle.mask_model.specs.Outlines.{IsFontSet, glyph_counts};
 
-use crate::{made_composite, made_mask, made_outline, mask_cost};
-use ass_num::{Items, Mask, Mem};
-use bdf_font::FontSet;
-use mask_keys::{MaskKey, OutlineKey};
+use crate::{made_border, made_composite, made_mask, made_outline, mask_cost, mask_of_region};
+use ass_num::{Items, Mask, Matrix, Mem, Path, Point, Seg};
+use bdf_font::{FontSet, read_font};
+use mask_keys::{MaskKey, OutlineKey, Shared};
 use std::alloc::Global;
 use std::test::Fail;
 
-/// The mask of a box with these sides, a border of one radius, passes of softening and a blur.
-fn mask_of_box(alloc: Global, w: u8, h: u8, radius: u8, edges: u8, blur: u8) -> Mem<Mask>
-    ensures { IfOk result (IsMaskWithin max_mask_corner max_mask_side) }
+/// A blank, and a dot of one pixel.
+const DOT: &str =
+    "STARTFONT 2.1\nFONT dot\nFONTBOUNDINGBOX 1 1 0 0\nSTARTPROPERTIES 2\nFONT_ASCENT 1\nFONT_DESCENT 0\nENDPROPERTIES\nSTARTCHAR space\nENCODING 32\nDWIDTH 1 0\nBBX 0 0 0 0\nBITMAP\nENDCHAR\nSTARTCHAR x\nENCODING 120\nDWIDTH 1 0\nBBX 1 1 0 0\nBITMAP\n80\nENDCHAR\nENDFONT\n";
+
+/// A bitmap's pixel, and a script's unit, is a pixel.
+const PLAIN: Matrix = Matrix {
+    ux: 4_194_304,
+    uy: 4_194_304,
+    italic: false,
+    turn: 0,
+};
+
+fn fonts(alloc: Global) -> Result<FontSet, Fail>
+    ensures whole { IfOk result (λ set. IsFontSet set.fonts) }
+    ensures glyphs { IfOk result (λ set. glyph_counts set.fonts ≡ 2 ∷ []) }
 {
-    let fonts = FontSet {
-        fonts: Items::new(alloc),
-    };
-    let key = MaskKey {
-        outline: OutlineKey::Box {
-            w: i64::from(w),
-            h: i64::from(h),
-            turn: 0,
-        },
-        rx: u32::from(radius),
-        ry: u32::from(radius),
+    if DOT.len() > 1_000 {
+        return Err("the font is long".into());
+    }
+    let font = read_font(alloc, DOT.as_bytes())?;
+    if font.glyphs().len() != 2 {
+        return Err("the font has other glyphs".into());
+    }
+    let mut fonts = Items::new(alloc);
+    fonts.push(font)?;
+    Ok(FontSet { fonts })
+}
+
+fn glyph(glyph: u32) -> OutlineKey
+    requires { glyph < 2 }
+    ensures { IsValidOutline (2 ∷ []) result }
+{
+    OutlineKey::Glyph {
+        font: 0,
+        glyph,
+        m: PLAIN,
+        bold: false,
+        underline: false,
+        strikeout: false,
+    }
+}
+
+/// A box of a pixel's height, and no more than a pixel wide.
+fn box_of(w: u8) -> OutlineKey
+    ensures { IsValidOutline (2 ∷ []) result }
+{
+    OutlineKey::Box {
+        w: i64::from(w),
+        h: 64,
+        turn: 0,
+    }
+}
+
+fn square(alloc: Global) -> Mem<Path>
+    ensures { IfOk result (λ path. IsPath path.segs) }
+{
+    let mut segs = Items::new(alloc);
+    segs.push(Seg::Move(Point { x: 0, y: 0 }))?;
+    segs.push(Seg::Line(Point { x: 1_000, y: 0 }))?;
+    segs.push(Seg::Line(Point { x: 1_000, y: 1_000 }))?;
+    segs.push(Seg::Line(Point { x: 0, y: 1_000 }))?;
+    Ok(Path { segs })
+}
+
+fn drawing(alloc: Global, path: Path) -> Mem<OutlineKey>
+    requires { IsPath path.segs }
+    ensures { IfOk result (IsValidOutline (2 ∷ [])) }
+{
+    Ok(OutlineKey::Drawing {
+        path: Shared::new(alloc, path)?,
+        m: PLAIN,
+        shift: 0,
+    })
+}
+
+/// A blank, a dot, a box of a pixel, one without width, a drawing without segments, or one of a pixel.
+fn outline(alloc: Global, shape: i64) -> Mem<OutlineKey>
+    ensures { IfOk result (IsValidOutline (2 ∷ [])) }
+{
+    if shape == 0 {
+        return Ok(glyph(0));
+    }
+    if shape == 1 {
+        return Ok(glyph(1));
+    }
+    if shape == 2 {
+        return Ok(box_of(64));
+    }
+    if shape == 3 {
+        return Ok(box_of(0));
+    }
+    if shape == 4 {
+        let segs = Items::new(alloc);
+        return drawing(alloc, Path { segs });
+    }
+    drawing(alloc, square(alloc)?)
+}
+
+/// A number of a table, which is below 256.
+fn small(number: i64) -> u8 {
+    if number < 0 || number > 255 {
+        return 0;
+    }
+    number as u8
+}
+
+/// A radius of a table.
+fn radius(number: i64) -> u32
+    ensures { result ≤ 1600 }
+{
+    if number < 0 || number > 1_600 {
+        return 0;
+    }
+    number as u32
+}
+
+fn key(outline: OutlineKey, rx: u32, ry: u32, edges: u8, blur: u8) -> MaskKey
+    requires rx { rx ≤ 1600 }
+    requires ry { ry ≤ 1600 }
+    ensures outline { result.outline ≡ outline }
+    ensures ranges { HasMaskRanges result }
+{
+    MaskKey {
+        outline,
+        rx,
+        ry,
         px: 0,
         py: 0,
-        edges: edges % 128,
-        blur: blur % 101,
-    };
-    let region = made_outline(alloc, &fonts, &key.outline)?;
-    made_mask(alloc, &region, &key)
+        edges: edges.min(127),
+        blur: blur.min(100),
+    }
+}
+
+fn mask_of(alloc: Global, fonts: &FontSet, key: &MaskKey) -> Mem<Mask>
+    requires fonts { IsFontSet fonts.now.fonts }
+    requires glyphs { glyph_counts fonts.now.fonts ≡ 2 ∷ [] }
+    requires outline { IsValidOutline (2 ∷ []) key.now.outline }
+    requires ranges { HasMaskRanges key.now }
+    ensures { IfOk result (IsMaskWithin max_mask_corner max_mask_side) }
+{
+    let region = made_outline(alloc, fonts, &key.outline)?;
+    made_mask(alloc, &region, key)
 }
 
 fn has_box(mask: &Mask, x: i32, y: i32, w: u32, h: u32) -> bool {
     mask.x() == x && mask.y() == y && mask.w() == w && mask.h() == h
 }
 
-fn middle(mask: &Mask) -> Option<u8> {
-    let bytes = mask.bytes();
-    bytes.get(bytes.len() / 2).copied()
+/// The sum of all bytes.
+fn weight(mask: &Mask) -> u64 {
+    let mut sum = 0u64;
+    for byte in mask.bytes() {
+        sum = sum.wrapping_add(u64::from(*byte));
+    }
+    sum
+}
+
+/// A shape, its radii, passes and blur, and the box and the weight of the mask, in each line.
+const MASKS: &str = "1 0 0 0 0 0 -1 1 1 255
+1 16 16 0 0 -1 -2 3 3 2003
+0 16 16 1 1 0 0 0 0 0
+2 0 0 1 0 -1 -1 3 3 256
+2 0 0 0 1 -3 -3 7 7 249
+2 32 32 0 2 -8 -8 17 17 5342
+2 32 32 0 3 -11 -11 23 23 5353
+3 8 8 0 0 0 0 0 0 0
+4 16 16 0 0 0 0 0 0 0
+5 0 5 0 0 0 -1 1 3 415
+5 24 8 0 0 -2 -1 5 3 1805
+2 1600 1600 0 0 -100 -100 201 201 8106807
+2 0 0 127 0 -127 -127 255 255 206
+2 1600 1600 127 100 -527 -527 1055 1055 8109544";
+
+fn numbers_of(alloc: Global, line: &str) -> Result<Vec<i64>, Fail> {
+    let mut numbers = Vec::new(alloc);
+    for word in line.split(' ') {
+        numbers.push(word.parse::<i64>()?)?;
+    }
+    Ok(numbers)
+}
+
+/// Whether the mask of a line has its box and its weight.
+fn holds(alloc: Global, fonts: &FontSet, line: &[i64]) -> Mem<bool>
+    requires fonts { IsFontSet fonts.now.fonts }
+    requires glyphs { glyph_counts fonts.now.fonts ≡ 2 ∷ [] }
+{
+    let [shape, rx, ry, edges, blur, x, y, w, h, sum] = line else {
+        return Ok(false);
+    };
+    let (rx, ry) = (radius(*rx), radius(*ry));
+    let key = key(outline(alloc, *shape)?, rx, ry, small(*edges), small(*blur));
+    let mask = mask_of(alloc, fonts, &key)?;
+    let corner = i64::from(mask.x()) == *x && i64::from(mask.y()) == *y;
+    let sides = i64::from(mask.w()) == *w && i64::from(mask.h()) == *h;
+    Ok(corner && sides && i128::from(weight(&mask)) == i128::from(*sum))
 }
 
 #[test]
-fn masks_of_boxes(rt: HostRuntime) -> Result<(), Fail> {
+fn masks_of_keys(rt: HostRuntime) -> Result<(), Fail> {
     let alloc = rt.alloc();
-    let bordered = mask_of_box(alloc, 64, 64, 16, 0, 0)?;
-    assert!(rt; has_box(&bordered, -1, -1, 3, 3));
-    assert_eq!(rt;
-        bordered.bytes(),
-        [182, 255, 182, 255, 255, 255, 182, 255, 182].as_slice()
-    );
-    let soft = mask_of_box(alloc, 64, 64, 0, 1, 0)?;
-    assert!(rt; has_box(&soft, -1, -1, 3, 3));
-    assert_eq!(rt; middle(&soft), Some(64));
-    let blurred = mask_of_box(alloc, 64, 64, 0, 0, 1)?;
-    assert!(rt; has_box(&blurred, -3, -3, 7, 7));
-    assert_eq!(rt; middle(&blurred), Some(17));
-    assert_eq!(rt; mask_cost(&blurred), 113);
-    let none = mask_of_box(alloc, 0, 64, 8, 0, 0)?;
-    assert!(rt; has_box(&none, 0, 0, 0, 0));
+    let fonts = fonts(alloc)?;
+    for line in MASKS.lines() {
+        let numbers = numbers_of(alloc, line)?;
+        assert!(rt; holds(alloc, &fonts, numbers.as_slice())?, "{line}");
+    }
     Ok(())
 }
 
+fn border_key(phase: u8) -> MaskKey
+    requires { phase < 16 }
+    ensures { HasMaskRanges result }
+{
+    MaskKey {
+        outline: glyph(1),
+        rx: 32,
+        ry: 32,
+        px: phase,
+        py: 0,
+        edges: 0,
+        blur: 0,
+    }
+}
+
+/// The weights of a dot's border of two pixels at each phase, from one widened region.
+fn weights(alloc: Global, fonts: &FontSet) -> Mem<u64>
+    requires fonts { IsFontSet fonts.now.fonts }
+    requires glyphs { glyph_counts fonts.now.fonts ≡ 2 ∷ [] }
+{
+    let region = made_outline(alloc, fonts, &glyph(1))?;
+    let border = made_border(alloc, &region, 32, 32)?;
+    let mut sum = 0u64;
+    for phase in 0..16u8 {
+        let mask = mask_of_region(alloc, &border, &border_key(phase))?;
+        sum = sum.wrapping_add(weight(&mask));
+    }
+    Ok(sum)
+}
+
 #[test]
-fn no_parts_make_the_empty_mask(rt: HostRuntime) -> Result<(), Fail> {
-    let none = made_composite(rt.alloc(), &[], &[])?;
+fn phases_and_no_parts(rt: HostRuntime) -> Result<(), Fail> {
+    let alloc = rt.alloc();
+    let fonts = fonts(alloc)?;
+    assert_eq!(rt; weights(alloc, &fonts)?, 85_805);
+    let none = made_composite(alloc, &[], &[])?;
     assert!(rt; has_box(&none, 0, 0, 0, 0));
+    assert_eq!(rt; mask_cost(&none), 64);
     Ok(())
 }

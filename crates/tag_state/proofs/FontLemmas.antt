@@ -1,9 +1,10 @@
 -- Names of fonts and their numbers.
-use Rattle.std.proofs.Common.{◌≡◌, ℕ, zero, suc, Bool, true, false, cond, List, [], ◌∷◌, ◌++◌, length, ◌⊎◌, inl, inr, refl, sym, ap, ◌∙◌, subst, None, Some, arith, length-append}
+use Rattle.std.proofs.Common.{◌≡◌, ℕ, zero, suc, Bool, true, false, cond, List, [], ◌∷◌, ◌++◌, length, get_or, ◌≤◌, ◌⊎◌, inl, inr, refl, sym, ap, ◌∙◌, subst, None, Some, arith, length-append}
 use Rattle.std.specs.Prelude.{slice_get}
 use Rattle.std.specs.BTreeMap.{get, get_by_text}
 use Rattle.std.specs.Ordering.{nat_cmp, is_eq}
 use Rattle.std.proofs.lemmas.Bool.Decides.{nat_tests}
+use Rattle.std.proofs.lemmas.Option.{slice_get_within, slice_get-get_or}
 use Rattle.std.specs.Str.{bytes_eq}
 use Rattle.std.proofs.lemmas.Slice.Eq.{bytes_eq-Decides}
 use Rattle.ass_script.specs.Scripts.{ScriptValue}
@@ -34,6 +35,14 @@ pub grow_one : {X : Type 0} (xs ys : List X) (x : X) → ys ≡ xs ++ x ∷ [] �
 grow_one xs ys x e =
     let P : List _ → Type 0 = λ z. Grow xs z in
     subst P (sym e) (record { kept = λ place y found. get_left xs (x ∷ []) place y found; few = omega (arith, length-append xs (x ∷ [])) })
+
+-- What grows gets no shorter.
+pub grow_longer : {X : Type 0} (xs ys : List X) → Grow xs ys → length xs ≤ length ys
+grow_longer [] ys grown = omega arith
+grow_longer (x ∷ xs) ys grown =
+    let last = get_or (x ∷ xs) (length xs) x in
+    let found : slice_get (x ∷ xs) (length xs) ≡ Some last = slice_get-get_or (x ∷ xs) (length xs) x (omega arith) in
+    omega (arith, slice_get_within ys (length xs) last (grown.kept (length xs) last found))
 
 -- one more name
 pub fonts_push : (script : ScriptValue) (old new : Fonts) (name : List ℕ) → AreFonts script old → get_by_text old.numbers name ≡ None → new.names ≡ old.names ++ name ∷ []

@@ -5,4 +5,7 @@ pub mod ChoiceLemmas
 pub mod PenLemmas
 pub mod FontLemmas
 pub mod StateEquality
+pub mod WeightLemmas
+pub mod RangeLemmas
 pub mod WalkLemmas
+pub mod ViewLemmas

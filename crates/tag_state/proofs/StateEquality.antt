@@ -1,7 +1,9 @@
 -- States are equal by `==` only where they are one.
-use Rattle.std.proofs.Common.{arith, ◌≡◌, ℕ, ◌-◌, ◌<◌, refl, sym, ap, ◌∙◌, true, Bool, List, [], ◌∷◌, ◌++◌, length, ◌&&◌, Option, Some, None, nat_eq, length-append}
+use Rattle.std.proofs.Common.{arith, ◌≡◌, ℕ, ◌-◌, ◌<◌, refl, sym, ap, ◌∙◌, subst, All, true, Bool, List, [], ◌∷◌, ◌++◌, length, get_or, ◌&&◌, Option, Some, None, nat_eq, length-append}
 use Rattle.std.specs.Prelude.{slice_get}
-use Rattle.std.proofs.lemmas.Option.{slice_get_within}
+use Rattle.std.proofs.lemmas.List.Elements.{All-nil, All-cons, All-append}
+use Rattle.override_tags.specs.Views.{IsState}
+use Rattle.std.proofs.lemmas.Option.{slice_get_within, slice_get-get_or}
 use Rattle.std.specs.Bool.{beq}
 use Rattle.std.specs.Ordering.{int_eq}
 use Rattle.std.specs.Option.{option_eq}
@@ -16,7 +18,7 @@ use Rattle.override_tags.specs.declared.view.State.{State}
 use Rattle.override_tags.specs.declared.view.Syllable.{Syllable}
 use Rattle.override_tags.specs.contracts.view.StatePartialEq.TheImpl as state
 use Rattle.override_tags.specs.contracts.view.SyllablePartialEq.TheImpl as syllable
-use Rattle.tag_state.specs.Walks.{IsLast}
+use Rattle.tag_state.specs.Walks.{IsLast, IsStored}
 use Rattle.tag_state.proofs.FontLemmas.{get_end}
 
 both : (r s : Bool) → (r && s) ≡ true → (r ≡ true) × (s ≡ true)
@@ -82,16 +84,17 @@ state_same a b e =
     let p19 = both (int_eq a.offset b.offset) _ p18.1 in
     state_parts a b ((unsigned_Decides a.font b.font).0 p0.0) ((signed_Decides a.size b.size).0 p1.0) (colours_same a.colours b.colours p2.0) ((booleans_Decides a.bold b.bold).0 p3.0) ((booleans_Decides a.italic b.italic).0 p4.0) ((booleans_Decides a.underline b.underline).0 p5.0) ((booleans_Decides a.strikeout b.strikeout).0 p6.0) ((signed_Decides a.scale_x b.scale_x).0 p7.0) ((signed_Decides a.scale_y b.scale_y).0 p8.0) ((signed_Decides a.spacing b.spacing).0 p9.0) ((signed_Decides a.angle b.angle).0 p10.0) ((unsigned_Decides a.border_style b.border_style).0 p11.0) ((signed_Decides a.border_x b.border_x).0 p12.0) ((signed_Decides a.border_y b.border_y).0 p13.0) ((signed_Decides a.shadow_x b.shadow_x).0 p14.0) ((signed_Decides a.shadow_y b.shadow_y).0 p15.0) ((signed_Decides a.edges b.edges).0 p16.0) ((signed_Decides a.blur b.blur).0 p17.0) ((unsigned_Decides a.draw b.draw).0 p18.0) ((signed_Decides a.offset b.offset).0 p19.0) (sung_same a.sung b.sung p19.1)
 
--- ---- the last state
+-- ---- stored states
+
+-- a state that is equal to one that is stored
+pub stored_same : (states : List State) (d wanted : State) (number : ℕ) → number < length states → state.ghosts.eq (get_or states number d) wanted ≡ true → IsStored states wanted number
+stored_same states d wanted number within equal = slice_get-get_or states number d within ∙ ap Some (state_same (get_or states number d) wanted equal)
 
 -- the last state is that of the number before the end
-pub last_same : (states kept : List State) (last wanted : State) (number : ℕ) → states ≡ kept → Some last ≡ slice_get kept (length kept - 1) → last ≡ wanted → number ≡ length kept - 1 → IsLast states wanted number
-last_same states kept last wanted number same found equal is =
-    let within : length kept - 1 < length kept = slice_get_within kept (length kept - 1) last (sym found) in
-    record {
-      place = omega (arith, ap length same);
-      there = ap (λ z. slice_get z number) same ∙ (ap (slice_get kept) is ∙ (sym found ∙ ap Some equal));
-    }
+pub last_same : (states : List State) (last wanted : State) → Some last ≡ slice_get states (length states - 1) → state.ghosts.eq last wanted ≡ true → IsLast states wanted (length states - 1)
+last_same states last wanted found equal =
+    let within : length states - 1 < length states = slice_get_within states (length states - 1) last (sym found) in
+    record { place = omega arith; there = sym found ∙ ap Some (state_same last wanted equal) }
 
 -- a state that was stored
 pub last_stored : (states kept : List State) (wanted : State) (number : ℕ) → states ≡ kept ++ wanted ∷ [] → number ≡ length kept → IsLast states wanted number
@@ -99,3 +102,9 @@ last_stored states kept wanted number more is = record {
   place = omega (arith, ap length more, length-append kept (wanted ∷ []));
   there = ap (λ z. slice_get z number) more ∙ (ap (slice_get (kept ++ wanted ∷ [])) is ∙ get_end kept wanted);
 }
+
+-- states that are in range, and one more
+pub stored_held : (names : ℕ) (states kept : List State) (wanted : State) → states ≡ kept ++ wanted ∷ [] → IsState names wanted → All (IsState names) kept → All (IsState names) states
+stored_held names states kept wanted more is all =
+    let P : List State → Type 0 = λ z. All (IsState names) z in
+    subst P (sym more) (All-append (IsState names) kept (wanted ∷ []) all (All-cons (IsState names) wanted [] is (All-nil (IsState names))))

@@ -1,11 +1,11 @@
 -- What was shown, one item or one drawing further.
-use Rattle.std.proofs.Common.{◌≡◌, ◌≢◌, ℕ, zero, suc, ◌+◌, ◌-◌, ◌<◌, ◌≤◌, ℤ, Bool, true, false, List, [], ◌∷◌, ◌++◌, length, take, drop, get_or, reverse, refl, sym, ap, ◌∙◌, subst, Option, None, Some, All, arith, add-one, append_assoc, length-append, drop-cons, zero-add, pos, ◌≤ℤ◌, ◌*◌}
+use Rattle.std.proofs.Common.{◌≡◌, ℕ, zero, suc, ◌+◌, ◌-◌, ◌<◌, ◌≤◌, ℤ, Bool, true, false, List, [], ◌∷◌, ◌++◌, length, take, drop, get_or, reverse, refl, sym, ap, ◌∙◌, subst, Option, None, Some, All, arith, add-one, append_assoc, length-append, drop-cons, pos, ◌≤ℤ◌, ◌*◌}
 use Rattle.std.specs.Prelude.{slice_range, MatchBool}
 use Rattle.std.proofs.lemmas.Int.{ints}
 use Rattle.std.proofs.Math.Seq.{take-add}
 use Rattle.std.specs.Prelude.{slice_get, IfSome}
 use Rattle.std.proofs.lemmas.List.{take_more, take_all, drop_all, take-append-drop, drop-drop, get_or-drop, get_or-take, length-take, length-drop}
-use Rattle.std.proofs.lemmas.List.Elements.{All-nil, All-cons, All-head, All-tail}
+use Rattle.std.proofs.lemmas.List.Elements.{All-nil, All-head, All-tail, All-take}
 use Rattle.std.proofs.lemmas.Option.{slice_get_within, get_or_from_slice_get, slice_get-get_or}
 use Rattle.ass_script.specs.Scripts.{ScriptValue}
 use Rattle.ass_num.specs.declared.geometry.Path.{Path}
@@ -30,13 +30,17 @@ use Rattle.tag_state.proofs.StateLemmas.{IsSong, song_is}
 use Rattle.tag_state.specs.States.{IsStateAt}
 use Rattle.tag_state.specs.Looks.{Look, AreLooks, is_shown, IsShownText}
 use Rattle.tag_state.specs.Looks as looks
-use Rattle.tag_state.specs.Views.{AreSeen, IsSeen, HasState}
-use Rattle.tag_state.specs.Walks.{Grow, IsLast, IsSheet, IsAt, IsWalked, IsPen, IsSliceTo, before_at}
+use Rattle.tag_state.specs.Views.{AreSeen, IsSeen}
+use Rattle.tag_state.specs.Walks.{Grow, IsStored, IsLast, IsSheet, IsAt, IsWalked, IsPen, IsSliceTo, before_at}
 use Rattle.tag_state.specs.declared.pen.Pen.{Pen}
 use Rattle.tag_state.specs.declared.sheet.Sheet.{Sheet}
 use Rattle.tag_state.proofs.ChoiceLemmas.{past_all-append}
 use Rattle.tag_state.proofs.PenLemmas.{state_grows}
-use Rattle.tag_state.proofs.FontLemmas.{grow_same}
+use Rattle.tag_state.proofs.FontLemmas.{grow_same, grow_longer}
+use Rattle.override_tags.specs.Views.{IsState}
+use Rattle.tag_state.proofs.RangeLemmas.{states_more, state_held, past_held, IsHeldEffect}
+use Rattle.ass_script.specs.Ranges.{IsScript}
+use Rattle.override_tags.specs.Ranges.{IsHeldItem}
 
 -- ---- what was seen
 
@@ -96,7 +100,7 @@ text_past duration elapsed before i text = by i.kind text
 pub sheet_unseen : (script : ScriptValue) (event : Event) (elapsed : ℤ) (items : List Item) (place : ℕ) (pen new_pen : Pen) (sheet new_sheet : Sheet) (i : Item)
     → IsSheet script event elapsed items place pen sheet → slice_get items place ≡ Some i → is_shown i.kind ≡ false
     → Grow pen.fonts.names new_pen.fonts.names → new_sheet.states ≡ sheet.states → new_sheet.items ≡ sheet.items
-    → IfSome new_sheet.current (IsLast new_sheet.states new_pen.state) → IsSheet script event elapsed items (place + 1) new_pen new_sheet
+    → IfSome new_sheet.current (IsStored new_sheet.states new_pen.state) → IsSheet script event elapsed items (place + 1) new_pen new_sheet
 sheet_unseen script event elapsed items place pen new_pen sheet new_sheet i is found hidden named stored shown current = record {
   looks = is.looks;
   seen =
@@ -110,6 +114,9 @@ sheet_unseen script event elapsed items place pen new_pen sheet new_sheet i is f
   few = omega (arith, is.few, ap length shown);
   few_states = omega (arith, is.few_states, ap length stored);
   current = current;
+  held =
+      (let P : List State → Type 0 = λ z. All (IsState (length new_pen.fonts.names)) z in
+      subst P (sym stored) (states_more (length pen.fonts.names) (length new_pen.fonts.names) sheet.states (grow_longer pen.fonts.names new_pen.fonts.names named) is.held));
 }
 
 pub sheet_shown : (script : ScriptValue) (event : Event) (elapsed : ℤ) (items : List Item) (place end : ℕ) (pen : Pen) (sheet new_sheet : Sheet) (kind : ShownKind) (number : ℕ)
@@ -117,21 +124,22 @@ pub sheet_shown : (script : ScriptValue) (event : Event) (elapsed : ℤ) (items 
     → ((rest : List Look) → AreLooks event.text event.duration elapsed (before_at event elapsed items end) (drop end items) rest
     → AreLooks event.text event.duration elapsed (before_at event elapsed items place) (drop place items) (record { kind = kind; before = before_at event elapsed items place } ∷ rest))
     → IsStateAt script event.style pen.fonts.names (before_at event elapsed items place) pen.state
-    → new_sheet.items ≡ sheet.items ++ record { kind = kind; state = number } ∷ [] → IsLast new_sheet.states pen.state number → Grow sheet.states new_sheet.states
-    → IfSome new_sheet.current (IsLast new_sheet.states pen.state) → IsSheet script event elapsed items end pen new_sheet
-sheet_shown script event elapsed items place end pen sheet new_sheet kind number is on goes at shown last grown current = record {
+    → new_sheet.items ≡ sheet.items ++ record { kind = kind; state = number } ∷ [] → IsStored new_sheet.states pen.state number → Grow sheet.states new_sheet.states
+    → IfSome new_sheet.current (IsStored new_sheet.states pen.state) → All (IsState (length pen.fonts.names)) new_sheet.states → IsSheet script event elapsed items end pen new_sheet
+sheet_shown script event elapsed items place end pen sheet new_sheet kind number is on goes at shown stored grown current held = record {
   looks = is.looks ++ look ∷ [];
   seen =
       (let P : List Shown → Type 0 = λ z. AreSeen script event.style pen.fonts.names new_sheet.states z (is.looks ++ look ∷ []) in
       subst P (sym shown) (seen_more script event.style pen.fonts.names new_sheet.states sheet.items is.looks (record { kind = kind; state = number }) look
       (all_grow script event.style pen.fonts.names pen.fonts.names sheet.states new_sheet.states sheet.items is.looks (grow_same pen.fonts.names) grown is.seen)
-      (record { kind = refl; state = (pen.state, last.there, at) })));
+      (record { kind = refl; state = (pen.state, stored, at) })));
   shows = λ rest are.
       (let P : List Look → Type 0 = λ z. AreLooks event.text event.duration elapsed [] items z in
       subst P (sym (append_assoc is.looks (look ∷ []) rest)) (is.shows (look ∷ rest) (goes rest are)));
   few = omega (arith, is.few, on, ap length shown, length-append sheet.items (record { kind = kind; state = number } ∷ []));
   few_states = omega (arith, is.few_states, grown.few, on);
   current = current;
+  held = held;
 }
   where
     look : Look
@@ -162,7 +170,7 @@ at_tag script event elapsed items place pen new_pen sheet new_sheet i tag at fou
       subst P (sym (before_more event elapsed items place i found ∙ ap (λ k. reverse (effects_of event.duration elapsed k) ++ before_at event elapsed items place) is)) moved);
   shown =
       sheet_unseen script event elapsed items place pen new_pen sheet new_sheet i at.shown found (ap is_shown is) grown (ap (λ (s : Sheet). s.states) turned) (ap (λ (s : Sheet). s.items) turned)
-      (let P : Sheet → Type 0 = λ s. IfSome s.current (IsLast s.states new_pen.state) in subst P (sym turned) tt);
+      (let P : Sheet → Type 0 = λ s. IfSome s.current (IsStored s.states new_pen.state) in subst P (sym turned) tt);
   within = omega (arith, slice_get_within items place i found);
 }
 
@@ -206,9 +214,9 @@ shown_text (item.Tag tag) shows e = cc
 -- behind a character or a break
 pub at_text : (script : ScriptValue) (event : Event) (elapsed : ℤ) (items : List Item) (place : ℕ) (pen : Pen) (sheet new_sheet : Sheet) (i : Item) (kind : ShownKind) (number : ℕ)
     → IsAt script event elapsed items place pen sheet → slice_get items place ≡ Some i → looks.shown_as i.kind ≡ Some kind → pen.state.draw ≡ 0
-    → new_sheet.items ≡ sheet.items ++ record { kind = kind; state = number } ∷ [] → IsLast new_sheet.states pen.state number → Grow sheet.states new_sheet.states
-    → IfSome new_sheet.current (IsLast new_sheet.states pen.state) → IsAt script event elapsed items (place + 1) pen new_sheet
-at_text script event elapsed items place pen sheet new_sheet i kind number at found shows plain shown last grown current =
+    → new_sheet.items ≡ sheet.items ++ record { kind = kind; state = number } ∷ [] → IsStored new_sheet.states pen.state number → Grow sheet.states new_sheet.states
+    → IfSome new_sheet.current (IsStored new_sheet.states pen.state) → All (IsState (length pen.fonts.names)) new_sheet.states → IsAt script event elapsed items (place + 1) pen new_sheet
+at_text script event elapsed items place pen sheet new_sheet i kind number at found shows plain shown stored grown current held =
     let same : before_at event elapsed items (place + 1) ≡ before_at event elapsed items place =
     before_more event elapsed items place i found ∙ text_past event.duration elapsed (before_at event elapsed items place) i (shown_text i.kind kind shows) in
     record {
@@ -222,7 +230,7 @@ at_text script event elapsed items place pen sheet new_sheet i kind number at fo
           let Q : List Item → Type 0 = λ z. AreLooks event.text event.duration elapsed (before_at event elapsed items place) z (record { kind = kind; before = before_at event elapsed items place } ∷ rest) in
           subst Q (sym (drop_here items place i found))
           (looks.seen (before_at event elapsed items place) i kind (drop (place + 1) items) rest (sym at.state.state.draw ∙ plain) shows (subst P same are))))
-          at.state.state shown last grown current;
+          at.state.state shown stored grown current held;
       within = omega (arith, slice_get_within items place i found);
     }
 
@@ -259,9 +267,9 @@ end_last from (i ∷ items) (suc n) last found = end_last i.to items n last foun
 pub at_drawing : (script : ScriptValue) (event : Event) (elapsed : ℤ) (items : List Item) (place end : ℕ) (pen : Pen) (sheet new_sheet : Sheet) (i last : Item) (path : Path) (number : ℕ)
     → IsAt script event elapsed items place pen sheet → slice_get items place ≡ Some i → slice_get items (end - 1) ≡ Some last → IsSliceTo items place end → (pen.state.draw ≡ 0 → ⊥)
     → IsPathOf (slice_range event.text i.from last.to) path.segs
-    → new_sheet.items ≡ sheet.items ++ record { kind = shown.Drawing path; state = number } ∷ [] → IsLast new_sheet.states pen.state number → Grow sheet.states new_sheet.states
-    → IfSome new_sheet.current (IsLast new_sheet.states pen.state) → IsAt script event elapsed items end pen new_sheet
-at_drawing script event elapsed items place end pen sheet new_sheet i last path number at found found_last slice drawn path_is shown_is last_is grown current =
+    → new_sheet.items ≡ sheet.items ++ record { kind = shown.Drawing path; state = number } ∷ [] → IsStored new_sheet.states pen.state number → Grow sheet.states new_sheet.states
+    → IfSome new_sheet.current (IsStored new_sheet.states pen.state) → All (IsState (length pen.fonts.names)) new_sheet.states → IsAt script event elapsed items end pen new_sheet
+at_drawing script event elapsed items place end pen sheet new_sheet i last path number at found found_last slice drawn path_is shown_is stored grown current held =
     let before = before_at event elapsed items place in
     let m = end - (place + 1) in
     let behind = drop (place + 1) items in
@@ -290,7 +298,7 @@ at_drawing script event elapsed items place end pen sheet new_sheet i last path 
           let Q : List Item → Type 0 = λ z. AreLooks event.text event.duration elapsed before z (record { kind = shown.Drawing path; before = before } ∷ rest) in
           let R : ℕ → Type 0 = λ z. IsPathOf (slice_range event.text i.from z) path.segs in
           subst Q (sym split) (looks.drawn before i (take m behind) (drop end items) path rest positive all slice.behind (subst R (sym ends) path_is) (subst P same are))))
-          at.state.state shown_is last_is grown current;
+          at.state.state shown_is stored grown current held;
       within = slice.within;
     }
   where
@@ -357,6 +365,14 @@ song_room script own before tags pen is most =
     let P : Option Syllable → Type 0 = λ z. IfSome z HasSongRoom in
     subst P (sym is.state.sung) (room_of (sung_at before) (sung_until before) (syllables_in before) tags (song_is before) is.begun is.sung is.syllables most)
 
+-- ---- states in range
+
+pub pen_held : (script : ScriptValue) (event : Event) (elapsed : ℤ) (items : List Item) (place : ℕ) (pen : Pen)
+    → IsScript script → All IsHeldItem items → IsPen script event.style (before_at event elapsed items place) place pen → length pen.state.colours ≡ 4 → IsState (length pen.fonts.names) pen.state
+pen_held script event elapsed items place pen is all at four =
+    state_held script event.style pen.fonts.names (before_at event elapsed items place) pen.state is
+    (past_held event.duration elapsed [] (take place items) (All-nil IsHeldEffect) (All-take IsHeldItem place items all)) at.state four
+
 -- ---- the whole text
 
 pub at_front : (script : ScriptValue) (event : Event) (elapsed : ℤ) (items : List Item) (pen : Pen) (sheet : Sheet) → IsPen script event.style [] 0 pen → sheet.states ≡ [] → sheet.items ≡ [] → sheet.current ≡ None
@@ -369,7 +385,8 @@ at_front script event elapsed items pen sheet is none nothing fresh = record {
     shows = λ rest are. are;
     few = omega (arith, ap length nothing);
     few_states = omega (arith, ap length none);
-    current = (let P : Option ℕ → Type 0 = λ z. IfSome z (IsLast sheet.states pen.state) in subst P (sym fresh) tt);
+    current = (let P : Option ℕ → Type 0 = λ z. IfSome z (IsStored sheet.states pen.state) in subst P (sym fresh) tt);
+    held = (let P : List State → Type 0 = λ z. All (IsState (length pen.fonts.names)) z in subst P (sym none) (All-nil (IsState (length pen.fonts.names))));
   };
   within = omega arith;
 }
@@ -379,8 +396,8 @@ nothing_more [] = refl
 nothing_more (look ∷ seen) = ap (λ z. look ∷ z) (nothing_more seen)
 
 pub walked : (script : ScriptValue) (event : Event) (elapsed : ℤ) (items : List Item) (place : ℕ) (pen : Pen) (sheet new_sheet : Sheet) (number : ℕ) → IsAt script event elapsed items place pen sheet → length items ≤ place
-    → IsLast new_sheet.states pen.state number → Grow sheet.states new_sheet.states → new_sheet.items ≡ sheet.items → IsWalked script event elapsed items pen new_sheet
-walked script event elapsed items place pen sheet new_sheet number at whole last grown same =
+    → IsLast new_sheet.states pen.state number → Grow sheet.states new_sheet.states → new_sheet.items ≡ sheet.items → All (IsState (length pen.fonts.names)) new_sheet.states → IsWalked script event elapsed items pen new_sheet
+walked script event elapsed items place pen sheet new_sheet number at whole last grown same held =
     let all : before_at event elapsed items place ≡ past_all event.duration elapsed [] items = ap (past_all event.duration elapsed []) (take_all place items whole) in
     let none : drop place items ≡ [] = drop_all place items whole in
     let number_is : length new_sheet.states - 1 ≡ number = omega (arith, last.place) in
@@ -400,4 +417,5 @@ walked script event elapsed items place pen sheet new_sheet number at whole last
           (let P : List Effect → Type 0 = λ z. IsStateAt script event.style pen.fonts.names z pen.state in
           (pen.state, ap (slice_get new_sheet.states) number_is ∙ last.there, subst P all at.state.state));
       few = omega (arith, ap length same, at.shown.few, at.within);
+      held = held;
     }

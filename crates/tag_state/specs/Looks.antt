@@ -1,4 +1,4 @@
--- Inner: what a text shows, in order, and which tags stand before each (docs/STATES.md).
+-- Public: what a text shows, in order, and which tags stand before each (docs/STATES.md).
 use Rattle.std.specs.Prelude.{◌≡◌, ℕ, ◌<◌, ℤ, Bool, true, false, List, [], ◌∷◌, ◌++◌, All, Option, Some, None, slice_range}
 use Rattle.ass_num.specs.declared.geometry.Path.{Path}
 use Rattle.drawing_path.specs.Paths.{IsPathOf}
@@ -8,7 +8,7 @@ use Rattle.override_tags.specs.declared.item.ItemKind.TheVariants as item
 use Rattle.override_tags.specs.declared.view.ShownKind.{ShownKind}
 use Rattle.override_tags.specs.declared.view.ShownKind.TheVariants.{Char, Drawing, Hard, Soft}
 use Rattle.tag_state.specs.Setters.{Effect, by_setters, past, replaced}
-use Rattle.tag_state.specs.Properties.{level, level_setter}
+use Rattle.tag_state.specs.Properties.{level_setter}
 use Rattle.std.specs.List.{filter_map}
 
 -- the code of U+00A0, which a hard space is

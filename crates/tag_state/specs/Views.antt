@@ -1,5 +1,5 @@
--- Inner: what an event shows at an instant (docs/STATES.md).
-use Rattle.std.specs.Prelude.{◌≡◌, ℕ, ◌-◌, ℤ, pos, ◌-ℤ◌, List, [], ◌∷◌, Option, Some, length, slice_get, unwrap_or, IfSome}
+-- Public: what an event shows at an instant (docs/STATES.md).
+use Rattle.std.specs.Prelude.{◌≡◌, ℕ, ◌-◌, ℤ, pos, ◌-ℤ◌, List, [], ◌∷◌, Some, length, slice_get, unwrap_or}
 use Rattle.ass_script.specs.Scripts.{ScriptValue, style_for}
 use Rattle.ass_events.specs.declared.event.Event.{Event}
 use Rattle.override_tags.specs.Readings.{IsTextReading}

@@ -1,5 +1,5 @@
 -- Inner: what holds while the items of a text are walked.
-use Rattle.std.specs.Prelude.{◌≡◌, ℕ, ◌+◌, ◌-◌, ◌*◌, ◌<◌, ◌≤◌, ℤ, pos, ◌≤ℤ◌, List, [], ◌∷◌, ◌++◌, length, take, drop, Option, Some, None, slice_get, IfSome, All}
+use Rattle.std.specs.Prelude.{◌≡◌, ℕ, ◌+◌, ◌-◌, ◌*◌, ◌<◌, ◌≤◌, ℤ, pos, ◌≤ℤ◌, List, [], ◌++◌, length, take, drop, Some, slice_get, IfSome, All}
 use Rattle.std.specs.BTreeMap.{get, get_by_text}
 use Rattle.std.specs.Ordering.{nat_cmp}
 use Rattle.ass_script.specs.Scripts.{ScriptValue, style_for}
@@ -9,8 +9,8 @@ use Rattle.ass_events.specs.declared.event.Event.{Event}
 use Rattle.override_tags.specs.Laws.{Follow, IsAtCharacters}
 use Rattle.override_tags.specs.Limits.{max_syllable}
 use Rattle.override_tags.specs.Ranges.{IsHeldItem}
+use Rattle.override_tags.specs.Views.{IsState}
 use Rattle.override_tags.specs.declared.item.Item.{Item}
-use Rattle.override_tags.specs.declared.view.Shown.{Shown}
 use Rattle.override_tags.specs.declared.view.State.{State}
 use Rattle.tag_state.specs.Setters.{Effect, past_all, style_in_force}
 use Rattle.tag_state.specs.Syllables.{sung_until, syllables_in}
@@ -53,6 +53,14 @@ pub record IsPen (script : ScriptValue) (own : List ℕ) (before : List Effect) 
   pub begun : pos 0 ≤ℤ sung_until before
   pub sung : sung_until before ≤ℤ pos (tags * max_syllable)
 
+-- how many slots keep numbers of states
+abbrev pub slot_count : ℕ
+slot_count = 256
+
+-- the number of a state that is stored
+abbrev pub IsStored : List State → State → ℕ → Type 0
+IsStored states state number = slice_get states number ≡ Some state
+
 -- the number of a state that is the last one
 pub record IsLast (states : List State) (state : State) (number : ℕ) : Type 0 where
   pub place : number + 1 ≡ length states
@@ -65,7 +73,8 @@ pub record IsSheet (script : ScriptValue) (event : Event) (elapsed : ℤ) (items
   pub shows : (rest : List Look) → AreLooks event.text event.duration elapsed (before_at event elapsed items place) (drop place items) rest → AreLooks event.text event.duration elapsed [] items (looks ++ rest)
   pub few : length sheet.items ≤ place
   pub few_states : length sheet.states ≤ place
-  pub current : IfSome sheet.current (IsLast sheet.states pen.state)
+  pub current : IfSome sheet.current (IsStored sheet.states pen.state)
+  pub held : All (IsState (length pen.fonts.names)) sheet.states
 
 -- The walk over a text has come to a place.
 pub record IsAt (script : ScriptValue) (event : Event) (elapsed : ℤ) (items : List Item) (place : ℕ) (pen : Pen) (sheet : Sheet) : Type 0 where
@@ -81,6 +90,7 @@ pub record IsWalked (script : ScriptValue) (event : Event) (elapsed : ℤ) (item
   pub seen : AreSeen script event.style pen.fonts.names sheet.states sheet.items looks
   pub last : HasState script event.style pen.fonts.names sheet.states (past_all event.duration elapsed [] items) (length sheet.states - 1)
   pub few : length sheet.items ≤ length items
+  pub held : All (IsState (length pen.fonts.names)) sheet.states
 
 -- the items of a text, each in its range, one behind the other, and not too many
 pub record AreItemsOf (text : List ℕ) (items : List Item) : Type 0 where

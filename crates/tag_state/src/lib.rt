@@ -11,6 +11,7 @@ mod sheet;
 mod state;
 mod steps;
 mod syllables;
+mod view;
 mod walk;
 
 pub use choices::{align_of, clip_of, fade_of, origin_of, point_of, wrap_of};
@@ -19,3 +20,4 @@ pub use override_tags::{EventView, Shown, ShownKind, State, Syllable};
 pub use state::{restyled, styled};
 pub use steps::{move_by, set_by, transform};
 pub use syllables::next_syllable;
+pub use view::states_at;

@@ -1,18 +1,63 @@
 //! What was shown so far, and in which states.
 
-ghost use Rattle.std.specs.Prelude.{◌≡◌, ℕ, ◌+◌, ◌^◌, ◌<◌, [], ◌∷◌, ◌++◌, length, Some, None, IfOk, OnOk, IfSome};
-ghost use Rattle.tag_state.specs.Walks.{IsLast, Grow};
+ghost use Rattle.std.specs.Prelude.{◌≡◌, ℕ, ◌+◌, ◌-◌, ◌^◌, ◌<◌, [], ◌∷◌, ◌++◌, length, true, Some, None, All, OnOk, IfOk, IfSome};
+ghost use Rattle.override_tags.specs.Views.{IsState};
+ghost use Rattle.tag_state.specs.Walks.{IsStored, IsLast, Grow, slot_count};
 
 use ass_num::{Items, Mem};
 use override_tags::{Shown, ShownKind, State};
 use std::alloc::Global;
 
-/// What was shown, the states that were stored, and the number of the present one where it was.
+/// How many numbers of states are kept to find equal ones.
+const SLOTS: usize = 256;
+
+/// An odd number of 64 bits, near 2^64 divided by the golden ratio.
+const MIX: u64 = 0x9e37_79b9_7f4a_7c15;
+
+/// The slot in which the number of a state is kept. Equal states have the same slot.
+fn slot_of(state: &State) -> usize
+    ensures within { result < slot_count }
+    ensures four { length state.now.colours ≡ 4 }
+{
+    let mut hash = u64::from(state.font);
+    for value in [
+        state.size,
+        state.scale_x,
+        state.scale_y,
+        state.spacing,
+        state.angle,
+        state.border_x,
+        state.border_y,
+        state.shadow_x,
+        state.shadow_y,
+        state.edges,
+        state.blur,
+        state.offset,
+        i64::from(state.bold),
+        i64::from(state.italic),
+        i64::from(state.underline),
+        i64::from(state.strikeout),
+        i64::from(state.draw),
+        state.sung.map_or(-1, |syllable| i64::from(syllable.index)),
+    ] {
+        hash = hash.wrapping_mul(MIX).wrapping_add_signed(value);
+    }
+    for place in 0..4 {
+        let colour = state.colours[place];
+        let bytes = u32::from_be_bytes([colour.r, colour.g, colour.b, colour.a]);
+        hash = hash.wrapping_mul(MIX).wrapping_add(u64::from(bytes));
+    }
+    (hash.wrapping_mul(MIX) >> 56) as usize
+}
+
+/// What was shown, the states that were stored, the number of the present one where it was, and of each slot the number of
+/// the state that was last found there.
 #[derive(Drop)]
 pub(crate) struct Sheet {
     pub(crate) states: Items<State>,
     pub(crate) items: Items<Shown>,
     current: Option<u32>,
+    slots: [u32; SLOTS],
 }
 
 impl Sheet {
@@ -26,6 +71,7 @@ impl Sheet {
             states: Items::new(alloc),
             items: Items::new(alloc),
             current: None,
+            slots: [0; SLOTS],
         }
     }
 
@@ -36,26 +82,56 @@ impl Sheet {
         self.current = None;
     }
 
-    /// The number of the state, which is stored where it isn't the last one.
-    pub(crate) fn number_of(&mut self, state: &State) -> Mem<u32>
+    /// The number of the state, where its slot has it.
+    fn found(&self, slot: usize, state: &State) -> Option<u32>
+        requires { slot < slot_count }
+        ensures { IfSome result (IsStored self.now.states state.now) }
+    {
+        let number = self.slots[slot];
+        let states = self.states.as_slice();
+        if number as usize >= states.len() {
+            return None;
+        }
+        if states[number as usize] == *state {
+            return Some(number);
+        }
+        None
+    }
+
+    /// Stores the state as the last one, and its number in its slot.
+    fn store(&mut self, slot: usize, state: &State) -> Mem<u32>
         requires room { length self.old.states + 1 < 2 ^ 32 }
-        requires current { IfSome self.old.current (IsLast self.old.states state.now) }
+        requires slot { slot < slot_count }
         ensures number { IfOk result (λ number. IsLast self.new.states state.now number) }
+        ensures grown { OnOk result (Grow self.old.states self.new.states) }
+        ensures items { self.new.items ≡ self.old.items }
+        ensures held { (names : ℕ) → IsState names state.now → All (IsState names) self.old.states → OnOk result (All (IsState names) self.new.states) }
+    {
+        let number = self.states.len() as u32;
+        self.states.push(*state)?;
+        self.slots[slot] = number;
+        Ok(number)
+    }
+
+    /// The number of the state, which is stored where it isn't found.
+    fn number_of(&mut self, state: &State) -> Mem<u32>
+        requires room { length self.old.states + 1 < 2 ^ 32 }
+        requires current { IfSome self.old.current (IsStored self.old.states state.now) }
+        ensures number { IfOk result (λ number. IsStored self.new.states state.now number) }
         ensures current { IfOk result (λ number. self.new.current ≡ Some number) }
         ensures grown { OnOk result (Grow self.old.states self.new.states) }
         ensures items { self.new.items ≡ self.old.items }
+        ensures held { (names : ℕ) → (length state.now.colours ≡ 4 → IsState names state.now) → All (IsState names) self.old.states → OnOk result (All (IsState names) self.new.states) }
     {
         if let Some(number) = self.current {
             return Ok(number);
         }
-        let count = self.states.len();
-        let number = match self.states.as_slice().last() {
-            Some(last) if *last == *state => (count - 1) as u32,
-            _ => {
-                self.states.push(*state)?;
-                count as u32
-            }
-        };
+        let slot = slot_of(state);
+        if let Some(number) = self.found(slot, state) {
+            self.current = Some(number);
+            return Ok(number);
+        }
+        let number = self.store(slot, state)?;
         self.current = Some(number);
         Ok(number)
     }
@@ -63,12 +139,38 @@ impl Sheet {
     /// Shows a kind in a state.
     pub(crate) fn show(&mut self, state: &State, kind: ShownKind) -> Mem<()>
         requires room { length self.old.states + 1 < 2 ^ 32 }
-        requires current { IfSome self.old.current (IsLast self.old.states state.now) }
-        ensures shown { OnOk result ((number : ℕ) × (self.new.items ≡ self.old.items ++ record { kind = kind; state = number } ∷ []) × IsLast self.new.states state.now number) }
-        ensures current { OnOk result (IfSome self.new.current (IsLast self.new.states state.now)) }
+        requires current { IfSome self.old.current (IsStored self.old.states state.now) }
+        ensures shown { OnOk result ((number : ℕ) × (self.new.items ≡ self.old.items ++ record { kind = kind; state = number } ∷ []) × IsStored self.new.states state.now number) }
+        ensures current { OnOk result (IfSome self.new.current (IsStored self.new.states state.now)) }
         ensures grown { OnOk result (Grow self.old.states self.new.states) }
+        ensures held { (names : ℕ) → (length state.now.colours ≡ 4 → IsState names state.now) → All (IsState names) self.old.states → OnOk result (All (IsState names) self.new.states) }
     {
         let state = self.number_of(state)?;
         self.items.push(Shown { kind, state })
+    }
+
+    /// Whether the state is the last one.
+    fn is_last(&self, state: &State) -> bool
+        ensures { result ≡ true → IsLast self.now.states state.now (length self.now.states - 1) }
+    {
+        match self.states.as_slice().last() {
+            Some(last) => *last == *state,
+            None => false,
+        }
+    }
+
+    /// Stores the state behind the whole text, where it isn't the last one.
+    pub(crate) fn end(&mut self, state: &State) -> Mem<()>
+        requires room { length self.old.states + 1 < 2 ^ 32 }
+        ensures last { OnOk result ((number : ℕ) × IsLast self.new.states state.now number) }
+        ensures grown { OnOk result (Grow self.old.states self.new.states) }
+        ensures items { self.new.items ≡ self.old.items }
+        ensures held { (names : ℕ) → (length state.now.colours ≡ 4 → IsState names state.now) → All (IsState names) self.old.states → OnOk result (All (IsState names) self.new.states) }
+    {
+        if self.is_last(state) {
+            return Ok(());
+        }
+        let _number = self.store(slot_of(state), state)?;
+        Ok(())
     }
 }

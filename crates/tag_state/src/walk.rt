@@ -1,6 +1,7 @@
 //! The walk over the items of a text.
 
 ghost use Rattle.std.specs.Prelude.{◌≡◌, ◌<◌, true, [], length, Some, IfOk, slice_get};
+ghost use Rattle.ass_script.specs.Ranges.{IsScript};
 ghost use Rattle.tag_state.specs.Looks as rule;
 ghost use Rattle.override_tags.specs.declared.item.Item.{Item};
 ghost use Rattle.tag_state.specs.Walks.{AreItemsOf, IsAt, IsPen, IsSliceTo, IsWalked};
@@ -64,6 +65,7 @@ fn step<'a>(
     items: &[Item],
     place: usize,
 ) -> Mem<usize>
+    requires script { IsScript script.now }
     requires items { AreItemsOf event.now.text items.now }
     requires within { place < length items.now }
     requires at { IsAt script.now event.now elapsed items.now place pen.old sheet.old }
@@ -98,6 +100,7 @@ pub(crate) fn walk<'a>(
     pen: &mut Pen<'a>,
     items: &[Item],
 ) -> Mem<Sheet>
+    requires script { IsScript script.now }
     requires items { AreItemsOf event.now.text items.now }
     requires pen { IsPen script.now event.now.style [] 0 pen.old }
     ensures { IfOk result (λ sheet. IsWalked script.now event.now elapsed items.now pen.new sheet) }
@@ -107,6 +110,6 @@ pub(crate) fn walk<'a>(
     while place < items.len() {
         place = step(alloc, script, event, elapsed, pen, &mut sheet, items, place)?;
     }
-    let _last = sheet.number_of(&pen.state)?;
+    sheet.end(&pen.state)?;
     Ok(sheet)
 }

@@ -7,13 +7,17 @@ use Rattle.outline_points.proofs.Bounds.{scale_within}
 use Rattle.outline_points.specs.Limits.{max_scale}
 use Rattle.outline_points.specs.Placing.{IsScale}
 use Rattle.text_layout.specs.Limits.{max_framed, max_block_place}
+use mir.Syntax.{w128}
 
--- the number that 32 bits hold, and the one that 64 bits hold
+-- the number that 32 bits hold, and those that 64 and 128 bits hold
 abbrev pub bits_32 : ℤ → ℤ
 bits_32 z = to_z w32 (of_z w32 z)
 
 abbrev pub bits_64 : ℤ → ℤ
 bits_64 z = to_z w64 (of_z w64 z)
+
+abbrev pub bits_128 : ℤ → ℤ
+bits_128 z = to_z w128 (of_z w128 z)
 
 pub whole_bits : (z : ℤ) → IsWithin max_whole z → bits_32 z ≡ z
 whole_bits z h = let f : FitsSigned w32 z = omega (arith, ints) in to_z-of_z f
@@ -29,3 +33,6 @@ held_bits z h = place_bits z (IsWithin-wider max_held max_block_place z (omega a
 
 pub scale_bits : (z : ℤ) → IsScale z → bits_64 z ≡ z
 scale_bits z h = place_bits z (IsWithin-wider max_scale max_block_place z (omega arith) (scale_within z h))
+
+pub long_place_bits : (z : ℤ) → IsWithin max_block_place z → bits_128 z ≡ z
+long_place_bits z h = let f : FitsSigned w128 z = omega (arith, ints) in to_z-of_z f

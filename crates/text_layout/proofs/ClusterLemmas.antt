@@ -181,3 +181,9 @@ flags_of-none count k l = ap flags_of (let e : count - k ≡ 0 = omega arith in 
 pub flat_map-now : {X Y Z : Type 0} (v : X → Y) (f : Y → List Z) (xs : List X) → flat_map (λ x. f (v x)) xs ≡ flat_map f (map v xs)
 flat_map-now v f [] = refl
 flat_map-now v f (x ∷ xs) = ap (λ l. f (v x) ++ l) (flat_map-now v f xs)
+
+-- There is a flag for each item.
+pub length-ends_behind : (before : List ℕ) (codes : List (Option ℕ)) → length (ends_behind before codes) ≡ length codes
+length-ends_behind before [] = refl
+length-ends_behind before (None ∷ codes) = ap suc (length-ends_behind [] codes)
+length-ends_behind before (Some c ∷ codes) = ap suc (length-ends_behind (c ∷ before) codes)

@@ -1,5 +1,6 @@
 pub mod AnchorLemmas
 pub mod BitLemmas
 pub mod ClusterLemmas
+pub mod ImageLemmas
 pub mod ScaleLemmas
 pub mod SpanLemmas

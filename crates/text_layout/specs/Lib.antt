@@ -1,5 +1,6 @@
 pub mod Anchors
 pub mod Clusters
+pub mod Extents
 pub mod Fonts
 pub mod Kinds
 pub mod Limits

@@ -1,6 +1,6 @@
 -- Public: what the items of a state have in common: the heights of its font, its spacing and its scales, in 1/64 pixel.
 -- (Aegisub tag reference, "\fs", "\fsp".)
-use Rattle.std.specs.Prelude.{ℕ, ◌*◌, ◌<◌, false, Option, None, List, [], map, slice_index, slice_index_or, ℤ, pos, ◌*ℤ◌}
+use Rattle.std.specs.Prelude.{ℕ, ◌*◌, ◌<◌, false, None, List, [], map, slice_index, slice_index_or, ℤ, pos, ◌*ℤ◌}
 use Rattle.ass_num.specs.Floor.{floor_div, held}
 use Rattle.ass_num.specs.Limits.{one_16, IsWithin}
 use Rattle.ass_num.specs.declared.geometry.Matrix.{Matrix}

@@ -16,8 +16,9 @@ pub(crate) enum Role {
     Break,
 }
 
-/// The character that an item is; `None` for hard breaks and drawings.
-pub(crate) fn char_of(shown: &Shown, wrap: u8) -> Option<char>
+/// The character that an item is in a wrap style; `None` for hard breaks and drawings. A soft break is a space, or a hard break in wrap
+/// style 2 (Aegisub tag reference, "\n").
+pub fn char_of(shown: &Shown, wrap: u8) -> Option<char>
     ensures { result ≡ char_of wrap shown.now.kind }
 {
     match &shown.kind {

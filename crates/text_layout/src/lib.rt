@@ -1,8 +1,9 @@
-//! Stages of the layout of an event's text: matrices, grapheme clusters, paragraphs and their lines.
+//! Stages of the layout of an event's text: matrices, grapheme clusters, extents of items, paragraphs and their lines.
 #![tactic(auto)]
 
 mod anchors;
 mod clusters;
+mod extents;
 mod kinds;
 mod metrics;
 mod scales;
@@ -13,6 +14,8 @@ mod tests;
 pub use anchors::{Margins, anchor, block_corner, margins_of, wrapping_width};
 pub use ass_num::{Matrix, Point, Size};
 pub use clusters::cluster_ends;
+pub use extents::{Extent, drawn_extent, item_extents};
+pub use kinds::char_of;
 pub use metrics::{Metrics, all_metrics};
 pub use scales::{clip_matrix, drawing_matrix, framed, text_matrix};
 pub use spans::{Span, line_spans};

@@ -138,6 +138,61 @@ fn a_flush_drops_what_was_accepted(rt: HostRuntime) -> Result<(), Fail> {
     Ok(())
 }
 
+/// How many bytes the text of the first event has that is near the instant.
+fn text_length<R: Wait + AllocGlobal>(
+    rt: &R,
+    track: &Track,
+    pass: TrackPass,
+    t: i64,
+) -> (TrackPass, usize)
+    requires { IsOf track.now pass × (pass.number ≡ 0) }
+    ensures { IsOf track.now result.0 × (result.0.number ≡ 0) }
+{
+    let (pass, scene) = track.look(rt, rt.alloc(), pass, t);
+    let Ok(scene) = scene else {
+        return (pass, 99);
+    };
+    match scene.events.as_slice() {
+        [first, ..] => (pass, first.text.as_str().len()),
+        [] => (pass, 0),
+    }
+}
+
+/// The ReadOrders of the live events, each a decimal digit.
+fn live_orders<R: Wait + AllocGlobal>(rt: &R, track: &Track, pass: TrackPass) -> (TrackPass, u32)
+    requires { IsOf track.now pass × (pass.number ≡ 0) }
+    ensures { IsOf track.now result.0 × (result.0.number ≡ 0) }
+{
+    let (pass, orders) = track.orders(rt, rt.alloc(), pass);
+    let Ok(orders) = orders else {
+        return (pass, 0);
+    };
+    let mut digits = 0u32;
+    for order in orders.as_slice() {
+        digits = digits.wrapping_mul(10).wrapping_add(*order);
+    }
+    (pass, digits)
+}
+
+#[test]
+fn after_a_flush_others_are_accepted(rt: HostRuntime) -> Result<(), Fail> {
+    let opened = Track::open(rt.alloc());
+    let Ok((track, pass)) = opened else {
+        panic!(rt; "memory")
+    };
+    let (pass, _) = offer(&rt, &track, pass, "4,0,D,,0,0,0,,x", 0, 10);
+    let (pass, _) = offer(&rt, &track, pass, "2,0,D,,0,0,0,,y", 9, 10);
+    let (pass, before) = live_orders(&rt, &track, pass);
+    let (pass, _) = flush(&rt, &track, pass);
+    let (pass, none) = live_orders(&rt, &track, pass);
+    let (pass, _) = offer(&rt, &track, pass, "4,0,D,,0,0,0,,other", 0, 10);
+    let (pass, after) = live_orders(&rt, &track, pass);
+    let (pass, length) = text_length(&rt, &track, pass, 5);
+    track.close(pass);
+    assert_eq!(rt; (before, none, after, length), (42, 0, 4, 5));
+    Ok(())
+}
+
 #[test]
 fn what_an_event_is_placed_clear_of_is_near(rt: HostRuntime) -> Result<(), Fail> {
     let opened = Track::open(rt.alloc());

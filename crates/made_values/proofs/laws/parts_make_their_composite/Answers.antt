@@ -1,6 +1,6 @@
 use Rattle.std.proofs.Common.{ap}
 use Rattle.mask_model.specs.Masks.{summed_mask}
-use Rattle.made_values.proofs.KeyLemmas.{parts_bytes, parts_placeable, placed_are}
+use Rattle.made_values.proofs.KeyLemmas.{parts_placeable, placed_are}
 use Rattle.made_values.proofs.laws.parts_make_their_composite.Goals as goal
 
 pub returns-clause-value : goal.returns-clause-value
@@ -8,6 +8,3 @@ returns-clause-value c = λ fonts key. ap summed_mask (placed_are fonts key.part
 
 pub returns-clause-masks : goal.returns-clause-masks
 returns-clause-masks c = parts_placeable
-
-pub returns-clause-bytes : goal.returns-clause-bytes
-returns-clause-bytes c = parts_bytes

@@ -8,7 +8,7 @@ use Rattle.std.specs.Str.{IsCharBoundary}
 use Rattle.override_tags.specs.Laws.{IsAtCharacters}
 use Rattle.tag_state.specs.Setters.{effects_of_tag}
 use Rattle.tag_state.specs.Walks.{before_at, IsPen, IsSliceTo}
-use Rattle.tag_state.proofs.WalkLemmas.{at_tag, at_block, at_text, at_drawing, follow_two, song_room, shown_text, untagged}
+use Rattle.tag_state.proofs.WalkLemmas.{at_tag, at_block, at_text, at_drawing, follow_two, pen_held, song_room, shown_text, untagged}
 use Rattle.tag_state.proofs.walk.step.Goals as goal
 
 pub apply-requires-clause-song : goal.apply-requires-clause-song
@@ -48,7 +48,9 @@ returns-then-pen-eq0 c =
       next =
           at_text c.args.script.now c.args.event.now c.args.elapsed items place c.args.pen.now c.args.sheet.now c.show.new.self i c.in-Some.kind c.in_ok-show.ensures.shown.0 c.requires.at
           (slice_get-get_or items place c.index-items-place-2.result c.requires.within) (sym c.shown_as.ensures ∙ c.in-Some.is) c.if-pen-eq0.true c.in_ok-show.ensures.shown.1 c.in_ok-show.ensures.shown.2
-          c.in_ok-show.ensures.grown c.in_ok-show.ensures.current;
+          c.in_ok-show.ensures.grown c.in_ok-show.ensures.current
+          (c.in_ok-show.ensures.held (length c.args.pen.now.fonts.names)
+          (λ four. pen_held c.args.script.now c.args.event.now c.args.elapsed items place c.args.pen.now c.requires.script c.requires.items.held c.requires.at.state four) c.requires.at.shown.held);
       on = omega arith;
     }
 
@@ -99,6 +101,8 @@ returns c =
           (slice_get-get_or items (end - 1) c.index-items-end.result (omega (arith, c.text_end-end.ensures.some, c.text_end-end.ensures.within)))
           c.text_end-end.ensures c.if-pen-eq0.false
           (subst P (c.range.ensures.value ∙ ap (λ (z : List ℕ). slice_range z i.from last.to) c.as_str-text.ensures) c.in_ok-path.ensures.path)
-          c.in_ok-show-2.ensures.shown.1 c.in_ok-show-2.ensures.shown.2 c.in_ok-show-2.ensures.grown c.in_ok-show-2.ensures.current;
+          c.in_ok-show-2.ensures.shown.1 c.in_ok-show-2.ensures.shown.2 c.in_ok-show-2.ensures.grown c.in_ok-show-2.ensures.current
+          (c.in_ok-show-2.ensures.held (length c.args.pen.now.fonts.names)
+          (λ four. pen_held c.args.script.now c.args.event.now c.args.elapsed items place c.args.pen.now c.requires.script c.requires.items.held c.requires.at.state four) c.requires.at.shown.held);
       on = c.text_end-end.ensures.some;
     }

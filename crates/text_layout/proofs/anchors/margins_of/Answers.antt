@@ -1,4 +1,4 @@
-use Rattle.std.proofs.Common.{◌≡◌, ◌∙◌, ap}
+use Rattle.std.proofs.Common.{◌∙◌, ap}
 use Rattle.ass_script.specs.Scripts.{style_for}
 use Rattle.ass_script.specs.declared.style.Style.{Style}
 use Rattle.text_layout.specs.Anchors.{event_margin_or}

@@ -1,4 +1,4 @@
-use Rattle.std.proofs.Common.{◌≡◌, ◌∙◌, ℤ, pos, ◌-ℤ◌, ◌*ℤ◌, ap, FitsSigned, w64, to_z-of_z, rules, arith}
+use Rattle.std.proofs.Common.{◌∙◌, ℤ, pos, ◌-ℤ◌, ap, FitsSigned, w64, to_z-of_z, rules, arith}
 use Rattle.std.proofs.lemmas.Int.{ints}
 use Rattle.std.specs.Int.{int_max}
 use Rattle.ass_num.specs.Limits.{IsWithin}

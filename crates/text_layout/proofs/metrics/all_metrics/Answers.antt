@@ -1,5 +1,4 @@
-use Rattle.std.proofs.Common.{◌≡◌, ◌∙◌, ℕ, ◌+◌, ◌<◌, false, None, List, [], ◌∷◌, ◌++◌, length, map, take, get_or, pos, ap, ap₂, sym, subst}
-use Rattle.std.proofs.lemmas.List.{map-append, take_more}
+use Rattle.std.proofs.Common.{◌≡◌, ◌∙◌, ℕ, ◌+◌, ◌<◌, false, None, List, [], ◌∷◌, ◌++◌, length, map, take, get_or, pos, ap, sym, subst}
 use Rattle.std.proofs.lemmas.List.Elements.{All-push}
 use Rattle.std.specs.List.{All}
 use Rattle.ass_num.specs.declared.size.Size.{Size}
@@ -8,13 +7,8 @@ use Rattle.bdf_font.specs.Fonts.{FontValue}
 use Rattle.override_tags.specs.declared.view.State.{State}
 use Rattle.text_layout.specs.declared.metrics.Metrics.{Metrics}
 use Rattle.text_layout.specs.Metrics.{HasFont, IsMetrics, state_metrics}
+use Rattle.text_layout.proofs.ImageLemmas.{mapped_more}
 use Rattle.text_layout.proofs.metrics.all_metrics.Goals as goal
-
--- One more element of a list of images.
-mapped_more : {A B : Type 0} (f : A → B) (xs : List A) (k : ℕ) (d : A) (before after : List B) (r : B) → k < length xs
-    → before ≡ map f (take k xs) → after ≡ before ++ r ∷ [] → r ≡ f (get_or xs k d) → after ≡ map f (take (k + 1) xs)
-mapped_more f xs k d before after r l h push is =
-    push ∙ ap₂ (λ a b. a ++ b ∷ []) h is ∙ sym (ap (map f) (take_more xs k d l) ∙ map-append f (take k xs) (get_or xs k d ∷ []))
 
 -- One more state.
 state_more : (header : Header) (fonts : List FontValue) (given numbers : List ℕ) (size : Size) (xs : List State) (k : ℕ) (d : State) (before after : List Metrics) (r : Metrics)

@@ -1,4 +1,4 @@
-use Rattle.std.proofs.Common.{◌≡◌, ◌∙◌, ℤ, ap, ap₂, FitsSigned, w32, w64, to_z-of_z, refl, rules}
+use Rattle.std.proofs.Common.{◌≡◌, ◌∙◌, ap, ap₂, FitsSigned, w32, w64, to_z-of_z, refl, rules}
 use Rattle.ass_num.specs.declared.geometry.Matrix.{Matrix}
 use Rattle.text_layout.specs.Metrics.{held_extent, scaled_pixels, spacing_of}
 use Rattle.text_layout.specs.Scales.{text_matrix}

@@ -1,4 +1,4 @@
-use Rattle.std.proofs.Common.{◌≡◌, FitsSigned, w64, to_z-of_z, rules}
+use Rattle.std.proofs.Common.{◌≡◌, FitsSigned, to_z-of_z, rules}
 use Rattle.ass_num.specs.Limits.{IsWithin}
 use Rattle.text_layout.specs.Limits.{max_framed}
 use Rattle.text_layout.specs.Metrics.{spacing_of}

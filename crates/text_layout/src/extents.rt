@@ -1,0 +1,176 @@
+//! How far each item advances the pen, and how far it reaches above and below the baseline.
+
+ghost use Rattle.std.specs.Prelude.{◌≡◌, ◌<◌, length, All, IfOk};
+ghost use Rattle.ass_num.specs.Limits.{IsWithin};
+ghost use Rattle.ass_num.specs.Paths.{IsPath};
+ghost use Rattle.bdf_font.specs.Ranges.{IsFont};
+ghost use Rattle.line_layout.specs.Breaks.{IsItemWidth};
+ghost use Rattle.outline_points.specs.Limits.{max_pixel};
+ghost use Rattle.outline_points.specs.Placing.{IsMatrix};
+ghost use Rattle.override_tags.specs.Views.{IsShownItem, IsShownKind};
+ghost use Rattle.text_layout.specs.Metrics.{HasFont, IsMetrics};
+ghost use Rattle.text_layout.specs.Limits.{max_framed};
+ghost use Rattle.text_layout.specs.Extents.{IsExtent, advance_of, char_advance, char_extent, drawn_extent, extent_of, item_extents, kind_extent, spacing_behind};
+
+use crate::clusters::cluster_ends;
+use crate::kinds::char_of;
+use crate::metrics::{Metrics, held_extent, scaled_pixels};
+use ass_num::{Fix, Matrix, Mem, Path};
+use bdf_font::{Font, FontSet, glyph};
+use outline_points::drawing_extent;
+use override_tags::{Shown, ShownKind};
+use std::alloc::Global;
+
+/// How far an item advances the pen, and how far it reaches above and below the baseline.
+#[derive(Clone, Copy, Debug, PartialEq, Eq)]
+pub struct Extent {
+    pub advance: Fix,
+    pub ascent: Fix,
+    pub descent: Fix,
+}
+
+/// The extent of what takes no room.
+pub(crate) const NO_EXTENT: Extent = Extent {
+    advance: 0,
+    ascent: 0,
+    descent: 0,
+};
+
+/// The advance of a character's glyph in pixels of its bitmap, or 0 without one.
+fn advance_of(font: &Font, c: char) -> i32
+    requires { IsFont font.now }
+    ensures value { result ≡ advance_of font.now c }
+    ensures within { IsWithin max_pixel result }
+{
+    match glyph(font, c) {
+        Some(place) => font.glyphs()[place as usize].advance,
+        None => 0,
+    }
+}
+
+/// What is put behind a character: the spacing behind the last one of a cluster.
+fn spacing_behind(metrics: &Metrics, ends_cluster: bool) -> Fix
+    requires { IsMetrics metrics.now }
+    ensures value { result ≡ spacing_behind metrics.now ends_cluster }
+    ensures within { IsWithin max_framed result }
+{
+    if ends_cluster { metrics.spacing } else { 0 }
+}
+
+/// How far a character advances the pen.
+fn char_advance(metrics: &Metrics, font: &Font, ends_cluster: bool, c: char) -> Fix
+    requires metrics { IsMetrics metrics.now }
+    requires font { IsFont font.now }
+    ensures value { result ≡ char_advance metrics.now font.now ends_cluster c }
+    ensures range { IsItemWidth result }
+{
+    let pixels = scaled_pixels(advance_of(font, c), metrics.ux);
+    held_extent(pixels + i128::from(spacing_behind(metrics, ends_cluster)))
+}
+
+/// The extent of a character.
+fn char_extent(metrics: &Metrics, font: &Font, ends_cluster: bool, c: char) -> Extent
+    requires metrics { IsMetrics metrics.now }
+    requires font { IsFont font.now }
+    ensures value { result ≡ char_extent metrics.now font.now ends_cluster c }
+    ensures range { IsExtent result }
+{
+    Extent {
+        advance: char_advance(metrics, font, ends_cluster, c),
+        ascent: metrics.ascent,
+        descent: metrics.descent,
+    }
+}
+
+/// The extent of a drawing under a matrix: its largest x and y, before it is shifted and turned (Aegisub tag reference, "\p").
+pub fn drawn_extent(alloc: Global, path: &Path, m: &Matrix) -> Mem<Extent>
+    requires path { IsPath path.now.segs }
+    requires matrix { IsMatrix m.now }
+    ensures value { IfOk result (λ extent. extent ≡ drawn_extent m.now path.now.segs) }
+    ensures range { IfOk result IsExtent }
+{
+    let largest = drawing_extent(alloc, path, m)?;
+    Ok(Extent {
+        advance: held_extent(i128::from(largest.x)),
+        ascent: held_extent(i128::from(largest.y)),
+        descent: 0,
+    })
+}
+
+/// The extent of an item of a state with these metrics.
+fn extent_of(
+    alloc: Global,
+    fonts: &FontSet,
+    metrics: &Metrics,
+    wrap: u8,
+    shown: &Shown,
+    ends_cluster: bool,
+) -> Mem<Extent>
+    requires fonts { All IsFont fonts.now.fonts }
+    requires metrics { IsMetrics metrics.now }
+    requires font { HasFont (length fonts.now.fonts) metrics.now }
+    requires shown { IsShownKind shown.now.kind }
+    ensures value { IfOk result (λ extent. extent ≡ kind_extent fonts.now.fonts metrics.now wrap ends_cluster shown.now.kind) }
+    ensures range { IfOk result IsExtent }
+{
+    if let ShownKind::Drawing(path) = &shown.kind {
+        return drawn_extent(alloc, path, &metrics.drawing);
+    }
+    match char_of(shown, wrap) {
+        Some(c) => {
+            let font = &fonts.fonts.as_slice()[metrics.font as usize];
+            Ok(char_extent(metrics, font, ends_cluster, c))
+        }
+        None => Ok(NO_EXTENT),
+    }
+}
+
+/// The extent of an item, in its state.
+fn shown_extent(
+    alloc: Global,
+    fonts: &FontSet,
+    metrics: &[Metrics],
+    wrap: u8,
+    shown: &Shown,
+    ends_cluster: bool,
+) -> Mem<Extent>
+    requires fonts { All IsFont fonts.now.fonts }
+    requires metrics { All IsMetrics metrics.now }
+    requires font { All (HasFont (length fonts.now.fonts)) metrics.now }
+    requires shown { IsShownItem (length metrics.now) shown.now }
+    ensures value { IfOk result (λ extent. extent ≡ extent_of fonts.now.fonts metrics.now wrap shown.now ends_cluster) }
+    ensures range { IfOk result IsExtent }
+{
+    extent_of(
+        alloc,
+        fonts,
+        &metrics[shown.state as usize],
+        wrap,
+        shown,
+        ends_cluster,
+    )
+}
+
+/// The extents of all items.
+pub fn item_extents(
+    alloc: Global,
+    fonts: &FontSet,
+    metrics: &[Metrics],
+    wrap: u8,
+    items: &[Shown],
+) -> Mem<Vec<Extent>>
+    requires fonts { All IsFont fonts.now.fonts }
+    requires metrics { All IsMetrics metrics.now }
+    requires font { All (HasFont (length fonts.now.fonts)) metrics.now }
+    requires items { All (IsShownItem (length metrics.now)) items.now }
+    ensures value { IfOk result (λ list. list.items ≡ item_extents fonts.now.fonts metrics.now wrap items.now) }
+    ensures range { IfOk result (λ list. All IsExtent list.items) }
+    ensures count { IfOk result (λ list. length list.items ≡ length items.now) }
+{
+    let ends = cluster_ends(alloc, items, wrap)?;
+    let mut extents = Vec::with_capacity(alloc, items.len())?;
+    for (k, shown) in items.iter().enumerate() {
+        extents.push(shown_extent(alloc, fonts, metrics, wrap, shown, ends[k])?)?;
+    }
+    Ok(extents)
+}
