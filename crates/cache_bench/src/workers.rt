@@ -133,8 +133,14 @@ pub fn work_by_four<R: Wait + Threads + Sync>(
     let Four { left, right } = four;
     join_mut(
         rt,
-        &mut || work_by_two(rt, alloc, cache, left, &keys.first, &keys.second, rounds),
-        &mut || work_by_two(rt, alloc, cache, right, &keys.third, &keys.fourth, rounds),
+        &mut ||
+            requires one { IsSomeAnd left.now.left.pass (IsFreePass cache.now) }
+            requires other { IsSomeAnd left.now.right.pass (IsFreePass cache.now) }
+        { work_by_two(rt, alloc, cache, left, &keys.first, &keys.second, rounds) },
+        &mut ||
+            requires one { IsSomeAnd right.now.left.pass (IsFreePass cache.now) }
+            requires other { IsSomeAnd right.now.right.pass (IsFreePass cache.now) }
+        { work_by_two(rt, alloc, cache, right, &keys.third, &keys.fourth, rounds) },
     );
 }
 
