@@ -5,8 +5,6 @@
 
 mod orders;
 mod stop;
-#[cfg(test)]
-mod tests;
 mod visits;
 mod workers;
 
