@@ -1,0 +1,168 @@
+//! Measures visits of a shared cache: an ask, mostly a hit, and the pin given back. Without words it lets four threads
+//! visit a few keys and prints the counts. With the words `KEYS ROUNDS` it prints how long a visit takes one thread, and
+//! four at once, each of which visits so many keys of its own in so many rounds.
+#![tactic(auto)]
+
+mod orders;
+mod stop;
+mod visits;
+mod workers;
+
+ghost use Rattle.std.specs.Prelude.{◌==◌};
+ghost use Rattle.flight_cache.specs.Shards.{IsCacheOf, GivesBack};
+ghost use Rattle.cache_bench.specs.Doubled.{doubled};
+
+use ass_num::Mem;
+use evict_core::Totals;
+use flight_cache::{Cache, CachePass};
+use orders::{Keys, keys_apart, keys_mixed};
+use std::alloc::Global;
+use std::sync::Wait;
+use std::thread::Threads;
+use std::time::{Clock, Duration, Instant};
+use std::{env, io};
+use stop::Stop;
+use visits::{Doubled, visit_keys};
+use workers::{lend_four, rejoin_four, work_by_four};
+
+// So many entries that no shard is full.
+const ENTRIES: u32 = 65_536;
+
+// Each value costs 1, so none is evicted.
+const BUDGET: u64 = 1_000_000;
+
+// So often a time is taken. The least one counts.
+const LAPS: u32 = 200;
+
+/// What a run came to: the least time that one thread took, that four took, and the counts.
+#[derive(Drop)]
+struct Outcome {
+    one: Duration,
+    four: Duration,
+    totals: Totals,
+}
+
+/// All four threads' visits, by one.
+fn visit_all<R: Wait>(
+    rt: &R,
+    alloc: Global,
+    cache: &Cache<Doubled>,
+    pass: CachePass<Doubled>,
+    keys: &Keys,
+    rounds: u32,
+) -> CachePass<Doubled>
+    requires { IsCacheOf cache.now pass }
+    ensures { GivesBack (◌==◌) doubled cache.now pass result }
+{
+    let (pass, _) = visit_keys(rt, alloc, cache, pass, &keys.first, rounds);
+    let (pass, _) = visit_keys(rt, alloc, cache, pass, &keys.second, rounds);
+    let (pass, _) = visit_keys(rt, alloc, cache, pass, &keys.third, rounds);
+    let (pass, _) = visit_keys(rt, alloc, cache, pass, &keys.fourth, rounds);
+    pass
+}
+
+fn since<R: Clock>(rt: &R, began: io::Result<Instant>) -> Duration {
+    match began {
+        Ok(began) => match began.elapsed(rt) {
+            Ok(spent) => spent,
+            Err(_) => Duration::MAX,
+        },
+        Err(_) => Duration::MAX,
+    }
+}
+
+/// Fills a cache with these keys, and times visits of all of them so often.
+fn run_threads<R: Wait + Threads + Sync + Clock>(
+    rt: &R,
+    alloc: Global,
+    keys: &Keys,
+    rounds: u32,
+    laps: u32,
+) -> Mem<Outcome> {
+    let (cache, pass) = Cache::open(alloc, (), ENTRIES, BUDGET)?;
+    let (pass, mut four) = lend_four(&cache, pass);
+    let mut pass = visit_all(rt, alloc, &cache, pass, keys, 1);
+    let mut by_one = Duration::MAX;
+    let mut by_four = Duration::MAX;
+    for _ in 0..laps {
+        let began = Instant::now(rt);
+        pass = visit_all(rt, alloc, &cache, pass, keys, rounds);
+        by_one = by_one.min(since(rt, began));
+        let began = Instant::now(rt);
+        work_by_four(rt, alloc, &cache, &mut four, keys, rounds);
+        by_four = by_four.min(since(rt, began));
+    }
+    let (pass, _) = rejoin_four(&cache, pass, four);
+    let (pass, totals) = cache.totals(rt, pass);
+    cache.close(pass);
+    Ok(Outcome {
+        one: by_one,
+        four: by_four,
+        totals,
+    })
+}
+
+fn show_counts<R: Wait + Threads + Sync + Clock + Print>(
+    rt: &R,
+    alloc: Global,
+) -> Result<(), Stop> {
+    let totals = run_threads(rt, alloc, &keys_apart(alloc, 10)?, 10, 1)?.totals;
+    println!(rt;
+        "claims {}, fills {}, hits {}",
+        totals.claims, totals.fills, totals.hits
+    )?;
+    println!(rt;
+        "entries {}, pinned {}, unpinned {}",
+        totals.entries, totals.pinned, totals.unpinned
+    )?;
+    Ok(())
+}
+
+fn show_times<R: Wait + Threads + Sync + Clock + Print>(
+    rt: &R,
+    alloc: Global,
+    name: &str,
+    keys: &Keys,
+    count: u32,
+    rounds: u32,
+) -> Result<(), Stop> {
+    let outcome = run_threads(rt, alloc, keys, rounds, LAPS)?;
+    let visits = (4 * u128::from(count) * u128::from(rounds)).max(1);
+    let one = outcome.one.as_nanos();
+    let four = outcome.four.as_nanos().max(1);
+    let times = 100 * one / four;
+    println!(rt;
+        "{name}: {} ns a visit by one thread; by four at once {}.{:02} times as many in the same time",
+        one / visits,
+        times / 100,
+        times % 100
+    )?;
+    Ok(())
+}
+
+fn number_of(word: &String) -> Result<u32, Stop> {
+    match word.as_str().parse::<u32>() {
+        Ok(number) => Ok(number),
+        Err(_) => Err(Stop::UnknownWords),
+    }
+}
+
+fn main(rt: HostRuntime) -> Result<(), Stop> {
+    let alloc = rt.alloc();
+    let mut words = Vec::new(alloc);
+    for word in env::args(&rt)?.skip(1) {
+        words.push(word)?;
+    }
+    match words.as_slice() {
+        [] => show_counts(&rt, alloc),
+        [count, rounds] => {
+            let count = number_of(count)?;
+            let rounds = number_of(rounds)?;
+            let apart = keys_apart(alloc, count)?;
+            let mixed = keys_mixed(alloc, count)?;
+            show_times(&rt, alloc, "a shard for each thread", &apart, count, rounds)?;
+            show_times(&rt, alloc, "keys in all shards", &mixed, count, rounds)
+        }
+        _ => Err(Stop::UnknownWords),
+    }
+}
