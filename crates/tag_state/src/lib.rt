@@ -11,6 +11,8 @@ mod sheet;
 mod state;
 mod steps;
 mod syllables;
+#[cfg(test)]
+mod tests;
 mod view;
 mod walk;
 
