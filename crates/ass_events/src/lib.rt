@@ -7,8 +7,6 @@ mod laws;
 mod line;
 mod numbers;
 mod read;
-#[cfg(test)]
-mod tests;
 mod words;
 mod write;
 

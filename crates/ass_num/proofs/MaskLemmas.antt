@@ -112,7 +112,7 @@ far_corner_in b v g = record { left = omega (arith, ints); right = omega (arith,
 
 -- ---- one mask
 
-box_parts : (x u y v : ℤ) (w m h n : ℕ) → x ≡ u → y ≡ v → w ≡ m → h ≡ n → ◌≡◌ {A = PixelBox} (record { x = x; y = y; w = w; h = h }) (record { x = u; y = v; w = m; h = n })
+pub box_parts : (x u y v : ℤ) (w m h n : ℕ) → x ≡ u → y ≡ v → w ≡ m → h ≡ n → ◌≡◌ {A = PixelBox} (record { x = x; y = y; w = w; h = h }) (record { x = u; y = v; w = m; h = n })
 box_parts x u y v w m h n a b c d = rw (a, b, c, d) refl
 
 box_from : (a b : PixelBox) → a.x ≡ b.x → a.y ≡ b.y → a.w ≡ b.w → a.h ≡ b.h → a ≡ b

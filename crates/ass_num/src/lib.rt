@@ -14,14 +14,10 @@ mod items_compare;
 mod laws;
 mod mask;
 mod memory;
-#[cfg(test)]
-mod number_tests;
 mod powers;
 mod readings;
 mod region;
 mod size;
-#[cfg(test)]
-mod tests;
 mod text;
 mod text_compare;
 mod times;

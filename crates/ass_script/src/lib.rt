@@ -14,8 +14,6 @@ mod style;
 mod style_field;
 mod style_format;
 mod style_line;
-#[cfg(test)]
-mod tests;
 mod words;
 
 pub use laws::numbers_are_read;

@@ -11,8 +11,6 @@ mod laws;
 mod numbers;
 mod read;
 mod reading;
-#[cfg(test)]
-mod tests;
 mod words;
 
 pub use cause::{FontCause, FontRefusal};

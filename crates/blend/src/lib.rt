@@ -9,8 +9,6 @@ mod laws;
 mod placed;
 mod span;
 mod stencil;
-#[cfg(test)]
-mod tests;
 
 pub use canvas::Canvas;
 pub use drawing::draw_rows;

@@ -5,8 +5,6 @@ mod border;
 mod ellipse;
 mod frontier;
 mod merge;
-#[cfg(test)]
-mod tests;
 mod wide_rows;
 
 pub use border::widened;

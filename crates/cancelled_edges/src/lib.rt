@@ -4,7 +4,5 @@
 mod cancel;
 mod edges;
 mod rings;
-#[cfg(test)]
-mod tests;
 
 pub use cancel::cancelled;

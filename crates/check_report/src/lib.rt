@@ -3,7 +3,5 @@
 
 mod fields;
 mod report;
-#[cfg(test)]
-mod tests;
 
 pub use report::check_report;

@@ -5,8 +5,6 @@ mod clips;
 mod colours;
 mod pens;
 mod products;
-#[cfg(test)]
-mod tests;
 mod widths;
 
 pub use clips::clip_bound;

@@ -6,8 +6,6 @@ mod laws;
 mod points;
 mod read;
 mod sketch;
-#[cfg(test)]
-mod tests;
 
 pub use command::Command;
 pub use laws::one_path;

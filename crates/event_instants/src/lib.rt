@@ -5,8 +5,6 @@
 mod between;
 mod fades;
 mod movement;
-#[cfg(test)]
-mod tests;
 mod weights;
 
 pub use between::moved;

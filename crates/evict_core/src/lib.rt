@@ -8,8 +8,6 @@ mod laws;
 mod ledger;
 mod recency;
 mod stored;
-#[cfg(test)]
-mod tests;
 
 pub use ask::Ask;
 pub use counts::{Counts, Totals};

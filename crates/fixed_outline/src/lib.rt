@@ -4,8 +4,6 @@
 mod boxes;
 mod drawings;
 mod glyphs;
-#[cfg(test)]
-mod tests;
 
 pub use ass_num::Matrix;
 pub use boxes::box_outline;

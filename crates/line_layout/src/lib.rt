@@ -5,8 +5,6 @@ mod breaks;
 mod filling;
 mod laws;
 mod pens;
-#[cfg(test)]
-mod tests;
 
 pub use breaks::choose_breaks;
 pub use laws::{a_best_set_exists, one_best_set};

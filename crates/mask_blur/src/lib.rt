@@ -9,8 +9,6 @@ mod lines;
 mod means;
 mod rows;
 mod softening;
-#[cfg(test)]
-mod tests;
 mod weights;
 
 pub use blur::box_blur;

@@ -8,8 +8,6 @@ mod reading;
 mod region_mask;
 mod steps;
 mod sum;
-#[cfg(test)]
-mod tests;
 
 pub use extent::Extent;
 pub use reading::at;

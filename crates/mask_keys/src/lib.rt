@@ -9,8 +9,6 @@ mod outline_key;
 mod plans;
 mod region_key;
 mod shared;
-#[cfg(test)]
-mod tests;
 
 pub use composite_key::{CompositeKey, Part};
 pub use copies::{key_copy, mask_key_copy, outline_key_copy, region_key_copy, region_key_of};

@@ -3,7 +3,7 @@ use Rattle.std.proofs.Common.{◌≡◌, ℕ, zero, suc, ◌+◌, ◌*◌, ◌<�
 use Rattle.std.proofs.lemmas.Int.{ints, by_lt_z}
 use Rattle.std.proofs.lemmas.Bool.{or_left, or_right, or_cases, false≢true}
 use Rattle.ass_num.specs.Coverage.{PixelBox, InBox}
-use Rattle.ass_num.proofs.MaskLemmas.{corner_in, far_corner_in}
+use Rattle.ass_num.proofs.MaskLemmas.{box_parts, corner_in, far_corner_in}
 use Rattle.mask_model.specs.Boxes.{some_from, first_from, last_end_from, no_box, box_from, box_within}
 
 -- ---- some number of a stretch passes
@@ -63,9 +63,6 @@ pub record IsBoxNear (limit : ℕ) (b : PixelBox) : Type 0 where
 pub record IsLeastOf (passes : ℤ → ℤ → Bool) (b : PixelBox) : Type 0 where
   pub has : (i j : ℤ) → passes i j ≡ true → InBox b i j
   pub least : (other : PixelBox) → ((i j : ℤ) → passes i j ≡ true → InBox other i j) → (i j : ℤ) → InBox b i j → InBox other i j
-
-box_parts : (x u y v : ℤ) (w m h n : ℕ) → x ≡ u → y ≡ v → w ≡ m → h ≡ n → ◌≡◌ {A = PixelBox} (record { x = x; y = y; w = w; h = h }) (record { x = u; y = v; w = m; h = n })
-box_parts x u y v w m h n a b c d = rw (a, b, c, d) refl
 
 none_in_no_box : (i j : ℤ) → InBox no_box i j → ⊥
 none_in_no_box i j h = let l = h.left in let r = h.right in omega (arith, ints)

@@ -1,6 +1,5 @@
 -- How far from 0 the samples inside an outline lie.
-use Rattle.std.proofs.Math.Nat.{mul-le-mul_left, mul-le-mul_right}
-use borrow.Author.Differences.{up, down}
+use Rattle.std.proofs.Math.Nat.{mul-le-mul_left}
 use Rattle.std.proofs.Common.{◌≡◌, ℕ, suc, ◌+◌, ◌*◌, ◌≤◌, Bool, true, false, not, cond, ◌&&◌, ℤ, pos, negsuc, neg_ℤ, ◌-ℤ◌, ◌*ℤ◌, ◌≤ℤ◌, ◌<ℤ◌, int_le, int_lt, List, [], ◌∷◌, ◌++◌, All, count_by, refl, sym, ◌∙◌, arith}
 use Rattle.std.proofs.lemmas.Int.{ints, by_lt_z}
 use Rattle.std.proofs.lemmas.Bool.{and_left, and_right, and_parts, false≢true}
@@ -10,6 +9,7 @@ use Rattle.std.specs.Ordering.{int_eq}
 use Rattle.ass_num.specs.Limits.{IsWithin, IsOutline, IsOutlinePoint, max_coordinate}
 use Rattle.ass_num.specs.Winding.{place, spans, counts, line, edges, edges_of, inside}
 use Rattle.ass_num.specs.declared.geometry.Point.{Point}
+use Rattle.sample_region.proofs.SignedLemmas.{mul_le}
 use Rattle.ass_num.proofs.OrderLemmas.{lt_true, lt_false, le_true, le_false, lt_is, le_is}
 
 abbrev Way : Type 0
@@ -102,12 +102,6 @@ below_balances x y P far a b pa pb =
 
 -- ---- products of signed numbers
 
-nat_products : (a b c d k : ℕ) → a + d ≤ b + c → a * k + d * k ≤ b * k + c * k
-nat_products a b c d k h = let e : (a + d) * k ≤ (b + c) * k = mul-le-mul_right k h in omega arith
-
-products : (a b : ℤ) (k : ℕ) → a ≤ℤ b → (a *ℤ pos k) ≤ℤ (b *ℤ pos k)
-products a b k h = let e = nat_products (up a) (up b) (down a) (down b) k (omega (arith, ints)) in omega (arith, ints)
-
 -- an edge whose ends lie left of a sample, or under it
 right_product : (u w v h : ℤ) → w ≤ℤ u → pos 0 ≤ℤ u → pos 0 ≤ℤ v → v ≤ℤ h → (w *ℤ v) ≤ℤ (u *ℤ h)
 right_product u w (negsuc n) h a b c d = absurd (omega (arith, ints))
@@ -115,7 +109,7 @@ right_product u w (pos n) (negsuc m) a b c d = absurd (omega (arith, ints))
 right_product (negsuc p) w (pos n) (pos m) a b c d = absurd (omega (arith, ints))
 right_product (pos p) w (pos n) (pos m) a b c d =
     let less : n ≤ m = omega (arith, ints) in
-    let e = products w (pos p) n a in
+    let e = mul_le w (pos p) n a in
     let f : p * n ≤ p * m = mul-le-mul_left p less in
     omega (arith, ints)
 
@@ -126,7 +120,7 @@ left_product u w (pos n) (negsuc m) a b c d = absurd (omega (arith, ints))
 left_product (pos p) w (pos n) (pos m) a b c d = absurd (omega (arith, ints))
 left_product (negsuc p) w (pos n) (pos m) a b c d =
     let less : n + 1 ≤ m = omega (arith, ints) in
-    let e = products (negsuc p) w n a in
+    let e = mul_le (negsuc p) w n a in
     let f : suc p * (n + 1) ≤ suc p * m = mul-le-mul_left (suc p) less in
     omega (arith, ints)
 

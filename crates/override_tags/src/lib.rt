@@ -10,10 +10,6 @@ mod read;
 mod scan;
 mod single;
 mod tag;
-#[cfg(test)]
-mod tag_table_tests;
-#[cfg(test)]
-mod tests;
 mod transform;
 pub mod view;
 

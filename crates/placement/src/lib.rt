@@ -5,8 +5,6 @@ mod boxes;
 mod laws;
 mod list;
 mod shift;
-#[cfg(test)]
-mod tests;
 
 pub use boxes::{Box2, Stand};
 pub use laws::one_list_of_shifts;

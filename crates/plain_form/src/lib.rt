@@ -4,8 +4,6 @@
 mod line;
 mod pixels;
 mod style;
-#[cfg(test)]
-mod tests;
 
 pub use line::{PlainLine, plain_line};
 pub use pixels::shown_pixels;

@@ -5,8 +5,6 @@ mod fill;
 mod glyph;
 mod line;
 mod small;
-#[cfg(test)]
-mod tests;
 
 pub use line::line_pixels;
 pub use small::is_small;

@@ -6,8 +6,6 @@ mod asked;
 mod command;
 mod grammar;
 mod job;
-#[cfg(test)]
-mod tests;
 mod values;
 mod words;
 

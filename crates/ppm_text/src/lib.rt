@@ -2,7 +2,5 @@
 #![tactic(auto)]
 
 mod image;
-#[cfg(test)]
-mod tests;
 
 pub use image::ppm_bytes;

@@ -2,7 +2,7 @@ mod BetweenLemmas
 mod EdgeLemmas
 mod InsideLemmas
 mod OutsideLemmas
-mod SignedLemmas
+pub mod SignedLemmas
 mod SortLemmas
 mod SweepLemmas
 mod WalkLemmas

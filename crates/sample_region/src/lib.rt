@@ -7,8 +7,6 @@ mod either;
 mod region;
 mod row;
 mod sweep;
-#[cfg(test)]
-mod tests;
 
 pub use either::union;
 pub use region::region_of;
