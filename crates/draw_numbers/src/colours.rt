@@ -10,9 +10,9 @@ ghost use Rattle.draw_numbers.specs.Limits.{max_bound, sample};
 ghost use Rattle.draw_numbers.specs.Colours as rule;
 
 use crate::clips::held_bound;
-use crate::products::{length_between, on_the_way};
+use crate::products::length_between;
 use ass_num::{Fix, Rgba};
-use event_instants::faded;
+use event_instants::{between, faded};
 use override_tags::{State, Sung, Syllable};
 
 /// The colours of a draw: `left` left of the column `edge` of the frame, and `right` from it on.
@@ -117,7 +117,7 @@ fn swept_to(left: Fix, right: Fix, syllable: &Syllable, elapsed: i64) -> Fix
 {
     let gone = length_between(syllable.begin, elapsed);
     let length = length_between(syllable.begin, syllable.end);
-    on_the_way(left, right, gone, length)
+    between(left, right, gone, length)
 }
 
 /// The column of the frame in which a place lies.

@@ -11,7 +11,7 @@ use ass_num::div_floor;
 pub(crate) const ONE: u32 = 65_536;
 
 /// How far `a` is above `b`.
-pub(crate) fn difference(a: i64, b: i64) -> i128
+pub fn difference(a: i64, b: i64) -> i128
     ensures value { result ≡ a -ℤ b }
     ensures above { neg_ℤ (pos (2 ^ 64)) ≤ℤ result }
     ensures below { result ≤ℤ pos (2 ^ 64) }
@@ -20,12 +20,12 @@ pub(crate) fn difference(a: i64, b: i64) -> i128
 }
 
 /// The number that has gone `part` of the `whole` way from `old` to `new`, rounded down.
-fn between(old: i64, new: i64, part: i128, whole: i128) -> i64
+pub fn between(old: i64, new: i64, part: i128, whole: i128) -> i64
     requires begun { pos 0 ≤ℤ part }
     requires not_past { part ≤ℤ whole }
     requires way { pos 0 <ℤ whole }
-    requires above { neg_ℤ (pos (2 ^ 120)) ≤ℤ ((new -ℤ old) *ℤ part) }
-    requires below { ((new -ℤ old) *ℤ part) ≤ℤ pos (2 ^ 120) }
+    requires above { neg_ℤ (pos (2 ^ 126)) ≤ℤ ((new -ℤ old) *ℤ part) }
+    requires below { ((new -ℤ old) *ℤ part) ≤ℤ pos (2 ^ 126) }
     ensures value { result ≡ rule.between old new part whole }
     ensures within { IsBetween old new result }
 {

@@ -1,5 +1,5 @@
 //! What the movement, the fade and the transforms of an event come to at an instant. Times are in milliseconds from the event's
-//! start, points in thousandths. Each call takes every `i64` as a time or a point, and takes no memory.
+//! start, points in thousandths. Each call at an instant takes every `i64` as a time or a point, and none takes memory.
 #![tactic(auto)]
 
 mod between;
@@ -7,7 +7,7 @@ mod fades;
 mod movement;
 mod weights;
 
-pub use between::moved;
+pub use between::{between, difference, moved};
 pub use fades::{fad_at, fade_at, faded};
 pub use movement::move_at;
 pub use weights::{transform_weight, weight_at};

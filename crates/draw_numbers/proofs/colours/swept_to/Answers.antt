@@ -18,12 +18,12 @@ within c =
     let u = t.0 in let v = t.1 in
     (omega (arith, ints, u), omega (arith, ints, v))
 
-pub on_the_way-requires-clause-above : goal.on_the_way-requires-clause-above
-on_the_way-requires-clause-above c =
+pub between-requires-clause-above : goal.between-requires-clause-above
+between-requires-clause-above c =
     let fd : FitsSigned w128 c.length_between-gone.result = search rules in
     rw (to_z-of_z c.ranges.right, to_z-of_z c.ranges.left, to_z-of_z fd) (within c).0
 
-pub on_the_way-requires-clause-below : goal.on_the_way-requires-clause-below
-on_the_way-requires-clause-below c =
+pub between-requires-clause-below : goal.between-requires-clause-below
+between-requires-clause-below c =
     let fd : FitsSigned w128 c.length_between-gone.result = search rules in
     rw (to_z-of_z c.ranges.right, to_z-of_z c.ranges.left, to_z-of_z fd) (within c).1
