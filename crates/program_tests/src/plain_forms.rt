@@ -3,10 +3,10 @@
 ghost use Rattle.std.specs.Prelude.{IfOk};
 ghost use Rattle.ass_script.specs.Ranges.{IsScript};
 
-use plain_form::{plain_line, shown_pixels};
 use ass_num::Size;
 use ass_script::{Script, read_script};
 use bdf_font::{Font, read_font};
+use plain_form::{plain_line, shown_pixels};
 use std::alloc::Global;
 use std::test::Fail;
 

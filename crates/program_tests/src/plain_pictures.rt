@@ -3,9 +3,9 @@
 ghost use Rattle.std.specs.Prelude.{◌≡◌, true, IfOk};
 ghost use Rattle.plain_picture.specs.Pictures.{small_font};
 
-use plain_picture::{is_small, line_pixels};
 use ass_num::{Rgba, Size};
 use bdf_font::{Font, read_font};
+use plain_picture::{is_small, line_pixels};
 use std::alloc::Global;
 use std::process::Abort;
 use std::test::Fail;

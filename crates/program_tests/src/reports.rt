@@ -1,9 +1,9 @@
 //! Reports as they were worked out by hand.
 
-use check_report::check_report;
 use ass_num::Items;
 use ass_script::read_script;
 use bdf_font::{Font, FontRefusal, read_font};
+use check_report::check_report;
 use std::alloc::Global;
 use std::test::Fail;
 

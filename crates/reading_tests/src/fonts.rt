@@ -1,7 +1,7 @@
 //! Fonts as programs and hands write them, and each way of leaving the format.
 
-use bdf_font::{Font, FontRefusal, FontSet, find_font, glyph, read_font};
 use ass_num::Items;
+use bdf_font::{Font, FontRefusal, FontSet, find_font, glyph, read_font};
 use std::alloc::Global;
 use std::test::Fail;
 

@@ -1,7 +1,7 @@
 //! What no clause says: that drawing gives the bytes that were worked out by hand from the rules.
 
-use blend::{Canvas, Stencil, draw_rows};
 use ass_num::{Mask, Rgba, Size, is_mask};
+use blend::{Canvas, Stencil, draw_rows};
 use std::alloc::Global;
 use std::process::Abort;
 use std::test::Fail;

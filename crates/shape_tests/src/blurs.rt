@@ -2,8 +2,8 @@
 
 ghost use Rattle.std.specs.Prelude.{◌≡◌, pos, IfOk};
 
-use mask_blur::{box_blur, soften};
 use ass_num::{Mask, is_mask};
+use mask_blur::{box_blur, soften};
 use std::alloc::Global;
 use std::test::Fail;
 

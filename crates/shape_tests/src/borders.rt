@@ -3,8 +3,8 @@
 ghost use Rattle.std.specs.Prelude.{IfOk};
 ghost use Rattle.ass_num.specs.Limits.{IsRegionWithin, max_sample};
 
-use border_region::widened;
 use ass_num::{FlatLists, Mem, Region, Run};
+use border_region::widened;
 use std::alloc::{AllocError, Global};
 use std::test::Fail;
 

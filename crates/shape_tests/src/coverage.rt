@@ -4,8 +4,8 @@ ghost use Rattle.std.specs.Prelude.{IfOk};
 ghost use Rattle.ass_num.specs.Limits.{IsWithin, max_mask_shift};
 ghost use Rattle.mask_cover.specs.Sums.{IsPlaceableMask};
 
-use mask_cover::{at, cover, sum_of};
 use ass_num::{FlatLists, Mask, Mem, Region, Run, is_canonical, is_mask};
+use mask_cover::{at, cover, sum_of};
 use std::alloc::Global;
 use std::test::Fail;
 

@@ -1,7 +1,7 @@
 //! Edges that are left, worked out by hand and by another program: quads that touch, rings drawn twice, spikes and repeated points.
 
-use cancelled_edges::cancelled;
 use ass_num::{FlatLists, Mem, Outline, Point};
+use cancelled_edges::cancelled;
 use std::alloc::Global;
 use std::test::Fail;
 

@@ -1,10 +1,10 @@
 //! That calls succeed with ample memory, and that equality and hashing serve.
 
+use ass_num::{Items, Matrix, Mem, Path, Point, Rgba, Seg};
 use mask_keys::{
     Clip, CompositeKey, Draw, MaskKey, OutlineKey, Part, Plan, Shared, key_copy, mask_key_copy,
     outline_key_copy, region_key_copy, region_key_of,
 };
-use ass_num::{Items, Matrix, Mem, Path, Point, Rgba, Seg};
 use std::alloc::Global;
 use std::hash::{DefaultHasher, Hash, Hasher};
 use std::test::Fail;

@@ -3,9 +3,9 @@
 ghost use Rattle.std.specs.Prelude.{IfOk};
 ghost use Rattle.ass_num.specs.Paths.{IsPath};
 
-use fixed_outline::{Matrix, box_outline, cancelled, outline_of_path, quads_of, turned};
 use ass_num::{FlatLists, Items, Mem, Outline, Path, Point, Seg};
 use bdf_font::read_font;
+use fixed_outline::{Matrix, box_outline, cancelled, outline_of_path, quads_of, turned};
 use outline_points::drawing_extent;
 use std::alloc::{AllocError, Global};
 use std::test::Fail;

@@ -1,7 +1,7 @@
 //! What no clause says: that an image reads as it was worked out by hand.
 
-use ppm_text::ppm_bytes;
 use ass_num::Size;
+use ppm_text::ppm_bytes;
 use std::test::Fail;
 
 #[test]

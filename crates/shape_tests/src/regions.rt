@@ -3,8 +3,8 @@
 ghost use Rattle.std.specs.Prelude.{IfOk, OnOk, All};
 ghost use Rattle.ass_num.specs.Limits.{IsOutline, IsOutlinePoint, IsRegionWithin};
 
-use sample_region::{region_of, union};
 use ass_num::{FlatLists, Mem, Outline, Point, Region};
+use sample_region::{region_of, union};
 use std::alloc::{AllocError, Global};
 use std::test::Fail;
 

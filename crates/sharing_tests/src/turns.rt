@@ -2,11 +2,11 @@
 ghost use Rattle.std.specs.Prelude.{◌≡◌, ◌≤◌, [], map, IsSomeAnd};
 ghost use Rattle.turn_cell.specs.Passes.{IsOf};
 
-use turn_cell::{Book, Pass, TurnCell};
 use std::alloc::Global;
 use std::sync::Wait;
 use std::test::Fail;
 use std::thread::{Threads, join_mut};
+use turn_cell::{Book, Pass, TurnCell};
 
 /// The entries that were given, in order.
 #[derive(Drop)]

@@ -4,8 +4,8 @@ ghost use Rattle.std.specs.Prelude.{◌<◌, ◌≤◌, ◌+◌, ℕ, IsTrue, le
 ghost use Rattle.std.specs.List.{All};
 ghost use Rattle.line_layout.specs.Breaks.{IsItemWidth, IsParagraph};
 
-use line_layout::choose_breaks;
 use ass_num::{Fix, Mem};
+use line_layout::choose_breaks;
 use std::alloc::Global;
 use std::test::Fail;
 

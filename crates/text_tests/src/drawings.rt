@@ -1,7 +1,7 @@
 //! Drawings read whole.
 
-use drawing_path::read_path;
 use ass_num::{Items, Mem, Path, Point, Seg};
+use drawing_path::read_path;
 use std::alloc::Global;
 use std::test::Fail;
 

@@ -1,10 +1,10 @@
 //! Numbers worked by the rules.
 
+use ass_num::{Point, Rgba, Size};
 use draw_numbers::{
     NO_OFFSETS, back_colour, fill_paint, is_near_frame, lacks_border, offsets_of, outline_colour,
     plain_paint, spot_at,
 };
-use ass_num::{Point, Rgba, Size};
 use outline_points::Turn;
 use override_tags::{State, Sung, Syllable};
 use std::test::Fail;

@@ -3,8 +3,8 @@
 ghost use Rattle.std.specs.Prelude.{◌^◌, IsTrue};
 ghost use Rattle.placement.specs.Placement.{AreInOrder, IsPlaceableStand, IsBoxWithin, max_box};
 
-use placement::{Box2, Stand, least_shift, replay};
 use ass_num::{Fix, Mem};
+use placement::{Box2, Stand, least_shift, replay};
 use std::alloc::Global;
 use std::test::Fail;
 
