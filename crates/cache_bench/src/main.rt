@@ -1,11 +1,15 @@
 //! Measures visits of a shared cache: an ask, mostly a hit, and the pin given back. Without words it lets four threads
-//! visit a few keys and prints the counts. With the words `KEYS ROUNDS` it prints how long a visit takes one thread, and
-//! four at once, each of which visits so many keys of its own in so many rounds.
+//! visit a few keys and prints the counts. With the words `KEYS ROUNDS` it prints how long a visit takes one thread, how
+//! long the ask of it alone, and what four threads do at once, each of which visits so many keys of its own in so many
+//! rounds.
 #![tactic(auto)]
 
 mod orders;
 mod stop;
+#[cfg(test)]
+mod tests;
 mod visits;
+mod watch;
 mod workers;
 
 ghost use Rattle.std.specs.Prelude.{◌==◌};
@@ -22,7 +26,8 @@ use std::thread::Threads;
 use std::time::{Clock, Duration, Instant};
 use std::{env, io};
 use stop::Stop;
-use visits::{Doubled, visit_keys};
+use visits::{Doubled, visit_keys, visit_round};
+use watch::{Timer, time_nothing};
 use workers::{lend_four, rejoin_four, work_by_four};
 
 // So many entries that no shard is full.
@@ -34,10 +39,15 @@ const BUDGET: u64 = 1_000_000;
 // So often a time is taken. The least one counts.
 const LAPS: u32 = 200;
 
-/// What a run came to: the least time that one thread took, that four took, and the counts.
+// So often the clock is read to tell what that takes.
+const CLOCK_READINGS: u32 = 100_000;
+
+/// What a run came to: the least time that one thread took for all visits, for the asks among them alone, that four
+/// threads took for all visits, and the counts.
 #[derive(Drop)]
 struct Outcome {
     one: Duration,
+    asks: Duration,
     four: Duration,
     totals: Totals,
 }
@@ -59,6 +69,25 @@ fn visit_all<R: Wait>(
     let (pass, _) = visit_keys(rt, alloc, cache, pass, &keys.third, rounds);
     let (pass, _) = visit_keys(rt, alloc, cache, pass, &keys.fourth, rounds);
     pass
+}
+
+/// All four threads' visits once, by one, and how long their asks took by the clock.
+fn time_asks<R: Wait + Clock>(
+    rt: &R,
+    alloc: Global,
+    cache: &Cache<Doubled>,
+    pass: CachePass<Doubled>,
+    keys: &Keys,
+) -> (CachePass<Doubled>, Duration)
+    requires { IsCacheOf cache.now pass }
+    ensures { GivesBack (◌==◌) doubled cache.now pass result.0 }
+{
+    let mut timer = Timer::new(rt);
+    let (pass, _) = visit_round(rt, alloc, cache, pass, &keys.first, &mut timer);
+    let (pass, _) = visit_round(rt, alloc, cache, pass, &keys.second, &mut timer);
+    let (pass, _) = visit_round(rt, alloc, cache, pass, &keys.third, &mut timer);
+    let (pass, _) = visit_round(rt, alloc, cache, pass, &keys.fourth, &mut timer);
+    (pass, timer.spent())
 }
 
 fn since<R: Clock>(rt: &R, began: io::Result<Instant>) -> Duration {
@@ -83,11 +112,15 @@ fn run_threads<R: Wait + Threads + Sync + Clock>(
     let (pass, mut four) = lend_four(&cache, pass);
     let mut pass = visit_all(rt, alloc, &cache, pass, keys, 1);
     let mut by_one = Duration::MAX;
+    let mut asks = Duration::MAX;
     let mut by_four = Duration::MAX;
     for _ in 0..laps {
         let began = Instant::now(rt);
         pass = visit_all(rt, alloc, &cache, pass, keys, rounds);
         by_one = by_one.min(since(rt, began));
+        let (next, spent) = time_asks(rt, alloc, &cache, pass, keys);
+        pass = next;
+        asks = asks.min(spent);
         let began = Instant::now(rt);
         work_by_four(rt, alloc, &cache, &mut four, keys, rounds);
         by_four = by_four.min(since(rt, began));
@@ -97,6 +130,7 @@ fn run_threads<R: Wait + Threads + Sync + Clock>(
     cache.close(pass);
     Ok(Outcome {
         one: by_one,
+        asks,
         four: by_four,
         totals,
     })
@@ -127,13 +161,15 @@ fn show_times<R: Wait + Threads + Sync + Clock + Print>(
     rounds: u32,
 ) -> Result<(), Stop> {
     let outcome = run_threads(rt, alloc, keys, rounds, LAPS)?;
-    let visits = (4 * u128::from(count) * u128::from(rounds)).max(1);
+    let all = (4 * u128::from(count)).max(1);
+    let visits = (all * u128::from(rounds)).max(1);
     let one = outcome.one.as_nanos();
     let four = outcome.four.as_nanos().max(1);
     let times = 100 * one / four;
     println!(rt;
-        "{name}: {} ns a visit by one thread; by four at once {}.{:02} times as many in the same time",
+        "{name}: {} ns a visit by one thread, {} ns its ask by the clock; by four at once {}.{:02} times as many visits",
         one / visits,
+        outcome.asks.as_nanos() / all,
         times / 100,
         times % 100
     )?;
@@ -158,6 +194,8 @@ fn main(rt: HostRuntime) -> Result<(), Stop> {
         [count, rounds] => {
             let count = number_of(count)?;
             let rounds = number_of(rounds)?;
+            let reading = time_nothing(&rt, CLOCK_READINGS).as_nanos() / u128::from(CLOCK_READINGS);
+            println!(&rt; "a reading of the clock: {reading} ns")?;
             let apart = keys_apart(alloc, count)?;
             let mixed = keys_mixed(alloc, count)?;
             show_times(&rt, alloc, "a shard for each thread", &apart, count, rounds)?;
