@@ -1,0 +1,81 @@
+-- Two sets of events that agree on the events that are drawn, and on the rivals of these and of their rivals, draw the same.
+use Rattle.std.proofs.Common.{◌↔◌, ℤ, List, Contains, All}
+use Rattle.std.proofs.lemmas.List.Elements.{All-contains_itself, All-head, All-tail, All-weaker}
+use Rattle.ass_num.specs.declared.size.Size.{Size}
+use Rattle.ass_events.specs.NearEvents.{IsShownAt, span_of}
+use Rattle.ass_events.specs.declared.event.Event.{Event}
+use Rattle.ass_script.specs.Scripts.{ScriptValue}
+use Rattle.bdf_font.specs.Fonts.{FontValue}
+use Rattle.mask_keys.specs.declared.plans.Draw.{Draw}
+use Rattle.placement.specs.declared.boxes.Box2.{Box2}
+use Rattle.picture_plan.specs.Shifts.{IsRival, IsRivalBox, HasShift, Placed, IsMovedBy, Shifted, Pointed}
+use Rattle.picture_plan.specs.Pictures.{AreShown, AreEventDraws, AreDrawsInOrder, None, Next, AreDraws}
+
+-- Of the events that matter the sets have the same rivals, which matter too; and of what is shown they have the same, which matters.
+pub record Agree (matters : Event → Type 0) (t : ℤ) (a b : List Event) : Type 0 where
+  pub rivals : (e f : Event) → matters e → IsRival a e f → IsRival b e f × matters f
+  pub back : (e f : Event) → matters e → IsRival b e f → IsRival a e f
+  pub shown : (e : Event) → IsShownAt (span_of e) t → Contains a e ↔ Contains b e
+  pub drawn : (e : Event) → IsShownAt (span_of e) t → Contains a e → matters e
+
+rival_box : {script : ScriptValue} {fonts : List FontValue} {size : Size} {a b : List Event} {shift_of : Event → ℤ} {e : Event} {box : Box2}
+    → ((f : Event) → IsRival a e f → IsRival b e f)
+    → IsRivalBox script fonts size a shift_of e box → IsRivalBox script fonts size b shift_of e box
+rival_box over h = record { rival = h.rival; is_rival = over h.rival h.is_rival; stand = h.stand; stands = h.stands; moved = h.moved }
+
+shift_agrees : {script : ScriptValue} {fonts : List FontValue} {size : Size} {a b : List Event} (matters : Event → Type 0) (t : ℤ)
+    → Agree matters t a b
+    → (e : Event) (shift : ℤ) → matters e → HasShift script fonts size a e shift → HasShift script fonts size b e shift
+shift_agrees matters t h _ _ m (Placed e stand others shift_of shift stands each boxes least) =
+    Placed e stand others shift_of shift stands
+    (λ f s rival stood.
+    let was = h.back e f m rival in
+    shift_agrees matters t h f (shift_of f) (h.rivals e f m was).1 (each f s was stood))
+    (λ box. (
+      λ c. rival_box (λ f r. (h.rivals e f m r).0) ((boxes box).0 c),
+      λ r. (boxes box).1 (rival_box (λ f r. h.back e f m r) r),
+    ))
+    least
+
+moved_agrees : {script : ScriptValue} {fonts : List FontValue} {size : Size} {a b : List Event} (matters : Event → Type 0) (t : ℤ)
+    → Agree matters t a b
+    → (e : Event) (shift : ℤ) → matters e → IsMovedBy script fonts size a e shift → IsMovedBy script fonts size b e shift
+moved_agrees matters t h _ _ m (Shifted e stand shift stands shifted) = Shifted e stand shift stands (shift_agrees matters t h e shift m shifted)
+moved_agrees matters t h _ _ m (Pointed e point) = Pointed e point
+
+event_agrees : {script : ScriptValue} {fonts : List FontValue} {size : Size} {a b : List Event} {t : ℤ} (matters : Event → Type 0)
+    → Agree matters t a b
+    → (e : Event) (draws : List Draw) → matters e → AreEventDraws script fonts a t size e draws → AreEventDraws script fonts b t size e draws
+event_agrees {t} matters h e draws m d = record { shift = d.shift; moved = moved_agrees matters t h e d.shift m d.moved; drawn = d.drawn }
+
+in_order_agrees : {script : ScriptValue} {fonts : List FontValue} {size : Size} {a b : List Event} {t : ℤ} (matters : Event → Type 0)
+    → Agree matters t a b
+    → (shown : List Event) (draws : List Draw) → All matters shown
+    → AreDrawsInOrder script fonts a t size shown draws → AreDrawsInOrder script fonts b t size shown draws
+in_order_agrees matters h _ _ m None = None
+in_order_agrees matters h _ _ m (Next event above draws rest first others) =
+    Next event above draws rest
+    (event_agrees matters h event draws (All-head matters event above m) first)
+    (in_order_agrees matters h above rest (All-tail matters event above m) others)
+
+shown_matter : {a b : List Event} {t : ℤ} (matters : Event → Type 0) → Agree matters t a b → (shown : List Event) → AreShown a t shown → All matters shown
+shown_matter matters h shown s =
+    All-weaker (Contains shown) matters (λ e c. let p = (s.members e).0 c in h.drawn e p.1 p.0) shown (All-contains_itself shown)
+
+shown_agrees : {a b : List Event} {t : ℤ} (matters : Event → Type 0) → Agree matters t a b → (shown : List Event) → AreShown a t shown → AreShown b t shown
+shown_agrees matters h shown s = record {
+  members = λ e. (
+    λ c. let p = (s.members e).0 c in ((h.shown e p.1).0 p.0, p.1),
+    λ p. (s.members e).1 ((h.shown e p.1).1 p.0, p.1),
+  );
+  sorted = s.sorted;
+}
+
+-- So they draw the same.
+pub draws_agree : {script : ScriptValue} {fonts : List FontValue} {size : Size} {a b : List Event} {t : ℤ} {draws : List Draw} (matters : Event → Type 0)
+    → Agree matters t a b → AreDraws script fonts a t size draws → AreDraws script fonts b t size draws
+draws_agree {draws} matters h d = record {
+  shown = d.shown;
+  are_shown = shown_agrees matters h d.shown d.are_shown;
+  in_order = in_order_agrees matters h d.shown draws (shown_matter matters h d.shown d.are_shown) d.in_order;
+}

@@ -1,0 +1,15 @@
+pub mod Agreement
+pub mod Copies
+pub mod DrawLaws
+pub mod LayoutLemmas
+pub mod LineSpans
+pub mod MarkLemmas
+pub mod MaximalRuns
+pub mod OneShift
+pub mod PixelLemmas
+pub mod RowLemmas
+pub mod RunLemmas
+pub mod ShiftBounds
+pub mod StageLemmas
+pub mod StampLemmas
+pub mod StepLemmas

@@ -1,0 +1,77 @@
+-- Public: the draws of a picture: those of the events shown at an instant, by layer, then ReadOrder.
+-- (Advanced SubStation Alpha, "Layer"; Matroska, "ReadOrder".)
+use Rattle.std.specs.Prelude.{◌≡◌, ◌↔◌, ◌⊎◌, ◌<◌, List, [], ◌∷◌, ◌++◌, Contains, ℤ, ◌<ℤ◌}
+use Rattle.ass_num.specs.declared.size.Size.{Size}
+use Rattle.ass_events.specs.Histories.{Pairwise}
+use Rattle.ass_events.specs.NearEvents.{AreNear, IsShownAt, span_of}
+use Rattle.ass_events.specs.declared.event.Event.{Event}
+use Rattle.ass_script.specs.Scripts.{ScriptValue}
+use Rattle.bdf_font.specs.Fonts.{FontValue}
+use Rattle.mask_keys.specs.declared.plans.Draw.{Draw}
+use Rattle.override_tags.specs.declared.view.EventView.{EventView}
+use Rattle.tag_state.specs.Views.{IsViewOf}
+use Rattle.text_layout.specs.Layouts.{IsLaid}
+use Rattle.text_layout.specs.declared.laid.Laid.{Laid}
+use Rattle.picture_plan.specs.EventDraws.{event_draws}
+use Rattle.picture_plan.specs.Stages.{stage_at}
+use Rattle.picture_plan.specs.Shifts.{IsMovedBy}
+
+-- e lies below f: in a lower layer, or in the same one by ReadOrder.
+abbrev pub IsBelow : Event → Event → Type 0
+IsBelow e f = (e.layer <ℤ f.layer) ⊎ ((e.layer ≡ f.layer) × (e.order < f.order))
+
+-- The list has just the events that are shown at t, the lowest first.
+pub record AreShown (events : List Event) (t : ℤ) (shown : List Event) : Type 0 where
+  pub members : (e : Event) → Contains shown e ↔ (Contains events e × IsShownAt (span_of e) t)
+  pub sorted : Pairwise IsBelow shown
+
+-- These are the draws of an event at t that is moved down by a shift: it is laid out as it shows then.
+pub record AreMovedDraws (script : ScriptValue) (fonts : List FontValue) (event : Event) (t : ℤ) (size : Size) (shift : ℤ) (draws : List Draw) : Type 0 where
+  pub view : EventView
+  pub shows : IsViewOf script event t view
+  pub laid : Laid
+  pub laid_out : IsLaid script fonts event view size laid
+  pub value : draws ≡ event_draws (stage_at script event t size view laid shift) fonts view laid
+
+-- They stand behind those that there were before.
+pub record AddsMovedDraws (script : ScriptValue) (fonts : List FontValue) (event : Event) (t : ℤ) (size : Size) (shift : ℤ) (old new : List Draw) : Type 0 where
+  pub added : List Draw
+  pub whole : new ≡ old ++ added
+  pub drawn : AreMovedDraws script fonts event t size shift added
+
+-- These are the draws of one of the events at t, which stands where it is moved to.
+pub record AreEventDraws (script : ScriptValue) (fonts : List FontValue) (events : List Event) (t : ℤ) (size : Size) (event : Event) (draws : List Draw) : Type 0 where
+  pub shift : ℤ
+  pub moved : IsMovedBy script fonts size events event shift
+  pub drawn : AreMovedDraws script fonts event t size shift draws
+
+-- These are the draws of events one after the other.
+pub data AreDrawsInOrder (script : ScriptValue) (fonts : List FontValue) (events : List Event) (t : ℤ) (size : Size) : List Event → List Draw → Type 0 where
+  None : AreDrawsInOrder script fonts events t size [] []
+  Next : (event : Event) (above : List Event) (draws rest : List Draw)
+      → AreEventDraws script fonts events t size event draws
+      → AreDrawsInOrder script fonts events t size above rest
+      → AreDrawsInOrder script fonts events t size (event ∷ above) (draws ++ rest)
+
+-- These are the draws of the picture that a set of events shows at t, in milliseconds.
+pub record AreDraws (script : ScriptValue) (fonts : List FontValue) (events : List Event) (t : ℤ) (size : Size) (draws : List Draw) : Type 0 where
+  pub shown : List Event
+  pub are_shown : AreShown events t shown
+  pub in_order : AreDrawsInOrder script fonts events t size shown draws
+
+-- ---- laws
+
+-- The two lists have the same events, in whatever order.
+abbrev pub HaveSameEvents : List Event → List Event → Type 0
+HaveSameEvents a b = (e : Event) → Contains a e ↔ Contains b e
+
+-- What a set of events draws doesn't depend on the order in which they are listed.
+abbrev pub DrawsOfASet : ScriptValue → List FontValue → Type 0
+DrawsOfASet script fonts =
+    (a b : List Event) (t : ℤ) (size : Size) (draws : List Draw) → HaveSameEvents a b → AreDraws script fonts a t size draws → AreDraws script fonts b t size draws
+
+-- The events that matter at an instant draw what all events do.
+abbrev pub DrawsOfNearEvents : ScriptValue → List FontValue → Type 0
+DrawsOfNearEvents script fonts =
+    (events near : List Event) (t : ℤ) (size : Size) (draws : List Draw)
+    → AreNear span_of events t near → AreDraws script fonts near t size draws ↔ AreDraws script fonts events t size draws

@@ -1,0 +1,57 @@
+-- Public: where an event stands before it is moved clear of others: its block at its own start.
+-- (Advanced SubStation Alpha, "Layer", "Alignment".)
+use Rattle.std.specs.Prelude.{◌≡◌, ℕ, nat_le, List, None, IsSome, if◌then◌else◌, ℤ, pos, ◌+ℤ◌, neg_ℤ}
+use Rattle.std.specs.Int.{int_min}
+use Rattle.ass_num.specs.declared.geometry.Point.{Point}
+use Rattle.ass_num.specs.declared.size.Size.{Size}
+use Rattle.ass_events.specs.declared.event.Event.{Event}
+use Rattle.ass_script.specs.Scripts.{ScriptValue}
+use Rattle.bdf_font.specs.Fonts.{FontValue}
+use Rattle.override_tags.specs.declared.view.EventView.{EventView}
+use Rattle.placement.specs.Placement.{max_height}
+use Rattle.placement.specs.declared.boxes.Box2.{Box2}
+use Rattle.placement.specs.declared.boxes.Stand.{Stand}
+use Rattle.tag_state.specs.Views.{IsViewOf}
+use Rattle.text_layout.specs.Anchors.{anchor, block_corner}
+use Rattle.text_layout.specs.Layouts.{IsLaid}
+use Rattle.text_layout.specs.declared.laid.Laid.{Laid}
+
+-- the least alignment that gives way downwards: 7, 8 and 9 stand at the top
+abbrev pub least_top_align : ℕ
+least_top_align = 7
+
+-- the box of a block whose upper left corner is here; a higher block counts as so high
+abbrev pub box_at : Point → Laid → Box2
+box_at corner laid = record {
+  left = corner.x;
+  top = corner.y;
+  right = corner.x +ℤ laid.width;
+  bottom = corner.y +ℤ int_min laid.height (pos max_height);
+}
+
+abbrev pub stand_of : ScriptValue → Event → EventView → Laid → Size → Stand
+stand_of script event view laid size = record {
+  start = event.start;
+  end = event.start +ℤ event.duration;
+  place = box_at (block_corner (anchor script event view size) view.align laid.width laid.height) laid;
+  down = nat_le least_top_align view.align;
+}
+
+-- The event has no point of its own, and stands there.
+pub record IsStandOf (script : ScriptValue) (fonts : List FontValue) (size : Size) (event : Event) (stand : Stand) : Type 0 where
+  pub view : EventView
+  pub shows : IsViewOf script event event.start view
+  pub pointless : view.pos ≡ None
+  pub laid : Laid
+  pub laid_out : IsLaid script fonts event view size laid
+  pub value : stand ≡ stand_of script event view laid size
+
+-- The event has a point of its own, by `\pos` or `\move`.
+pub record HasPoint (script : ScriptValue) (event : Event) : Type 0 where
+  pub view : EventView
+  pub shows : IsViewOf script event event.start view
+  pub point : IsSome view.pos
+
+-- how far down a shift moves a stand
+abbrev pub down_by : Stand → ℤ → ℤ
+down_by stand shift = if stand.down then shift else neg_ℤ shift

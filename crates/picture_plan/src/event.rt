@@ -1,0 +1,47 @@
+//! The draws of an event that is moved by a shift.
+
+ghost use Rattle.std.specs.Prelude.{◌≡◌, ◌≤◌, ◌++◌, List, length, OnOk};
+ghost use Rattle.ass_num.specs.Limits.{IsFrameSize, IsWithin, max_instant, max_text_bytes};
+ghost use Rattle.ass_script.specs.Ranges.{IsScript};
+ghost use Rattle.ass_events.specs.Ranges.{IsEvent};
+ghost use Rattle.text_layout.specs.Fonts.{IsLayoutFontSet};
+ghost use Rattle.picture_plan.specs.Limits.{max_shift};
+ghost use Rattle.picture_plan.specs.Pictures.{AddsMovedDraws};
+
+use crate::rows::add_event_draws;
+use crate::stage::Stage;
+use ass_events::Event;
+use ass_num::{Fix, Items, Mem, Size};
+use ass_script::Script;
+use bdf_font::FontSet;
+use mask_keys::Draw;
+use std::alloc::Global;
+use tag_state::states_at;
+use text_layout::layout;
+
+/// Adds the draws of an event at an instant in milliseconds, moved down by a shift in 1/64 pixel to stand clear of others: first all
+/// shadows, then borders and boxes, then fills, each in the order of the text (Advanced SubStation Alpha, "BorderStyle").
+pub fn add_moved_event(
+    alloc: Global,
+    script: &Script,
+    fonts: &FontSet,
+    event: &Event,
+    t: i64,
+    size: &Size,
+    shift: Fix,
+    draws: &mut Items<Draw>,
+) -> Mem<()>
+    requires script { IsScript script.now }
+    requires fonts { IsLayoutFontSet fonts.now.fonts }
+    requires event { IsEvent event.now }
+    requires few { length event.now.text ≤ max_text_bytes }
+    requires instant { IsWithin max_instant t }
+    requires size { IsFrameSize size.now }
+    requires shift { IsWithin max_shift shift }
+    ensures { OnOk result (AddsMovedDraws script.now fonts.now.fonts event.now t size.now shift draws.old draws.new) }
+{
+    let view = states_at(alloc, script, event, t)?;
+    let laid = layout(alloc, script, fonts, event, &view, size)?;
+    let stage = Stage::of(script, event, t, size, &view, &laid, shift);
+    add_event_draws(alloc, &stage, fonts, &view, &laid, draws)
+}
