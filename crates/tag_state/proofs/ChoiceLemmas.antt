@@ -1,14 +1,12 @@
 -- What counts of several tags, one item after another.
-use Rattle.std.proofs.Common.{◌≡◌, ℕ, suc, ◌+◌, ◌<◌, ◌≤◌, ℤ, true, false, List, [], ◌∷◌, ◌++◌, length, map, reverse, take, drop, get_or, refl, sym, ap, ◌∙◌, Option, None, Some, drop-cons}
-use Rattle.std.specs.Prelude.{slice_get, unwrap_or, is_some}
+use Rattle.std.proofs.Common.{◌≡◌, ℕ, ◌+◌, ◌<◌, ℤ, pos, List, [], ◌∷◌, ◌++◌, length, map, reverse, take, get_or, refl, sym, ap, ◌∙◌, Option, None, Some, All}
+use Rattle.std.specs.Prelude.{slice_get}
 use Rattle.std.specs.List.{filter_map, cons_option}
-use Rattle.std.specs.Option.{option_map}
-use Rattle.std.specs.Int.RustNames.{unsigned_abs}
-use Rattle.std.proofs.lemmas.List.{reverse-append, map-append, map_more, take_more, take_all, take-append-drop}
-use Rattle.std.proofs.lemmas.List.Elements.{filter_map-append}
+use Rattle.std.specs.Option.{option_map, option_or}
+use Rattle.std.proofs.lemmas.List.{reverse-append, map-append, map_more, take_more}
+use Rattle.std.proofs.lemmas.List.Elements.{All-nil, All-head, All-tail, All-same, All-push, filter_map-append}
 use Rattle.ass_script.specs.declared.script.Header.{Header}
 use Rattle.event_instants.specs.Instants.{transform_weight}
-use Rattle.override_tags.specs.Singles.{whole}
 use Rattle.override_tags.specs.declared.item.Item.{Item}
 use Rattle.override_tags.specs.declared.item.ItemKind.{ItemKind}
 use Rattle.override_tags.specs.declared.item.ItemKind.TheVariants as item
@@ -18,62 +16,40 @@ use Rattle.override_tags.specs.declared.tag.GradualTag.TheVariants as gradual
 use Rattle.override_tags.specs.declared.tag.Tag.{Tag}
 use Rattle.override_tags.specs.declared.tag.Tag.TheVariants as tag
 use Rattle.tag_arguments.specs.declared.kinds.Num.TheVariants as num
-use Rattle.tag_state.specs.Setters.{Effect, Gradual, by_setters, effects_of, past, past_all, replaced}
-use Rattle.tag_state.specs.Choices.{first_in, first_of, wrap_setter, wrap_at, clip_at}
-use Rattle.tag_state.specs.Steps.{wrap_said, clip_step}
+use Rattle.tag_state.specs.declared.choices.Said.{Said}
+use Rattle.tag_state.specs.Setters.{Effect, Gradual, by_setters, effects_of, effects_of_tag, past, past_all, replaced}
+use Rattle.tag_state.specs.Choices.{first_in, first_of, align_said, point_said, origin_said, fade_said, wrap_setter, wrap_at, clip_at, IsSaid}
+use Rattle.tag_state.specs.Steps.{wrap_said, wrap_step, clip_step, IsNoClip}
 
 -- ---- the first one
 
--- what stands behind items that say nothing decides
-pub first_behind : {V : Type 0} (says : Tag → Option V) (before items : List Item) → filter_map (λ i. first_in says i.kind) before ≡ [] → first_of says (before ++ items) ≡ first_of says items
-first_behind says before items none =
-    ap (λ said. slice_get said 0) (filter_map-append (λ i. first_in says i.kind) before items ∙ ap (λ z. z ++ filter_map (λ i. first_in says i.kind) items) none)
+-- with one more item
+first_more : {V : Type 0} (says : Tag → Option V) (items : List Item) (i : Item) → first_of says (items ++ i ∷ []) ≡ option_or (first_of says items) (first_in says i.kind)
+first_more says items i = ap (λ said. slice_get said 0) (filter_map-append (λ j. first_in says j.kind) items (i ∷ [])) ∙ by (filter_map (λ j. first_in says j.kind) items) (first_in says i.kind)
+  where
+    by : {V : Type 0} (said : List V) (o : Option V) → slice_get (said ++ cons_option o []) 0 ≡ option_or (slice_get said 0) o
+    by [] None = refl
+    by [] (Some v) = refl
+    by (v ∷ said) o = refl
 
--- one more item that says nothing
-pub none_more : {V : Type 0} (says : Tag → Option V) (before : List Item) (i : Item) → filter_map (λ j. first_in says j.kind) before ≡ [] → first_in says i.kind ≡ None
-    → filter_map (λ j. first_in says j.kind) (before ++ i ∷ []) ≡ []
-none_more says before i none quiet =
-    filter_map-append (λ j. first_in says j.kind) before (i ∷ [])
-    ∙ (ap (λ z. z ++ filter_map (λ j. first_in says j.kind) (i ∷ [])) none ∙ ap (λ o. cons_option o []) quiet)
+-- with one more item that is a tag
+first_tag : {V : Type 0} (says : Tag → Option V) (items : List Item) (i : Item) (tag : Tag) (old new : Option V) → i.kind ≡ item.Tag tag → old ≡ first_of says items → new ≡ option_or old (says tag)
+    → new ≡ first_of says (items ++ i ∷ [])
+first_tag says items i tag old new kind so_far is =
+    is ∙ (ap (λ o. option_or o (says tag)) so_far ∙ (ap (λ k. option_or (first_of says items) (first_in says k)) (sym kind) ∙ sym (first_more says items i)))
 
--- the first item that says something
-pub first_here : {V : Type 0} (says : Tag → Option V) (before : List Item) (i : Item) (items : List Item) (said : V) → filter_map (λ j. first_in says j.kind) before ≡ [] → first_in says i.kind ≡ Some said
-    → first_of says (before ++ (i ∷ items)) ≡ Some said
-first_here says before i items said none here =
-    first_behind says before (i ∷ items) none
-    ∙ ap (λ o. slice_get (cons_option o (filter_map (λ j. first_in says j.kind) items)) 0) here
+-- and with one that is none
+no_tag_says : {V : Type 0} (says : Tag → Option V) (kind : ItemKind) → ((tag : Tag) → kind ≡ item.Tag tag → ⊥) → first_in says kind ≡ None
+no_tag_says says (item.Tag tag) no_tag = absurd (no_tag tag refl)
+no_tag_says says kind no_tag = refl
 
--- no item says anything
-pub first_none : {V : Type 0} (says : Tag → Option V) (items : List Item) → filter_map (λ j. first_in says j.kind) items ≡ [] → first_of says items ≡ None
-first_none says items none = ap (λ said. slice_get said 0) none
+or_none : {V : Type 0} (o : Option V) → option_or o None ≡ o
+or_none None = refl
+or_none (Some v) = refl
 
--- the first item that says something, at its place
-pub first_at : {V : Type 0} (says : Tag → Option V) (items : List Item) (place : ℕ) (i : Item) (said : V) → place < length items → i ≡ get_or items place i
-    → filter_map (λ j. first_in says j.kind) (take place items) ≡ [] → first_in says i.kind ≡ Some said → first_of says items ≡ Some said
-first_at says items place i said within is none here =
-    let rest : drop place items ≡ i ∷ drop (suc place) items = drop-cons items place i within ∙ ap (λ z. z ∷ drop (suc place) items) (sym is) in
-    let whole_list : items ≡ take place items ++ (i ∷ drop (suc place) items) = sym (take-append-drop place items) ∙ ap (λ z. take place items ++ z) rest in
-    ap (first_of says) whole_list ∙ first_here says (take place items) i (drop (suc place) items) said none here
-
-pub none_at : {V : Type 0} (says : Tag → Option V) (items : List Item) (place : ℕ) (i : Item) → place < length items → i ≡ get_or items place i
-    → filter_map (λ j. first_in says j.kind) (take place items) ≡ [] → first_in says i.kind ≡ None → filter_map (λ j. first_in says j.kind) (take (place + 1) items) ≡ []
-none_at says items place i within is none quiet =
-    ap (filter_map (λ j. first_in says j.kind)) (take_more items place i within ∙ ap (λ z. take place items ++ z ∷ []) (sym is))
-    ∙ none_more says (take place items) i none quiet
-
--- the same where it is told whether it says something
-pub found_at : {V : Type 0} (says : Tag → Option V) (items : List Item) (place : ℕ) (i : Item) (said : Option V) → place < length items → i ≡ get_or items place i
-    → filter_map (λ j. first_in says j.kind) (take place items) ≡ [] → first_in says i.kind ≡ said → is_some said ≡ true → first_of says items ≡ said
-found_at says items place i None within is none here some = cc
-found_at says items place i (Some said) within is none here some = first_at says items place i said within is none here
-
-pub quiet_at : {V : Type 0} (says : Tag → Option V) (items : List Item) (place : ℕ) (i : Item) (said : Option V) → place < length items → i ≡ get_or items place i
-    → filter_map (λ j. first_in says j.kind) (take place items) ≡ [] → first_in says i.kind ≡ said → is_some said ≡ false → filter_map (λ j. first_in says j.kind) (take (place + 1) items) ≡ []
-quiet_at says items place i None within is none here quiet = none_at says items place i within is none here
-quiet_at says items place i (Some said) within is none here quiet = cc
-
-pub none_in_all : {V : Type 0} (says : Tag → Option V) (items : List Item) (place : ℕ) → length items ≤ place → filter_map (λ j. first_in says j.kind) (take place items) ≡ [] → first_of says items ≡ None
-none_in_all says items place past none = first_none says items (ap (filter_map (λ j. first_in says j.kind)) (sym (take_all place items past)) ∙ none)
+first_quiet : {V : Type 0} (says : Tag → Option V) (items : List Item) (i : Item) (old : Option V) → ((tag : Tag) → i.kind ≡ item.Tag tag → ⊥) → old ≡ first_of says items → old ≡ first_of says (items ++ i ∷ [])
+first_quiet says items i old no_tag so_far =
+    so_far ∙ (sym (or_none (first_of says items)) ∙ (ap (option_or (first_of says items)) (sym (no_tag_says says i.kind no_tag)) ∙ sym (first_more says items i)))
 
 -- ---- the effects before an item
 
@@ -104,36 +80,13 @@ pub none_transform : {V : Type 0} (sets : Effect → Option V) (weight : ℕ) (t
 none_transform sets weight tags before none =
     ap (λ z. filter_map sets (z ++ before)) (sym (map-reverse (Gradual weight) tags)) ∙ none_gradual sets weight (reverse tags) before none
 
--- the effects before the next item
-pub past_more : (duration elapsed : ℤ) (items : List Item) (place : ℕ) (i : Item) → place < length items → i ≡ get_or items place i
-    → past_all duration elapsed [] (take (place + 1) items) ≡ past duration elapsed (past_all duration elapsed [] (take place items)) i
-past_more duration elapsed items place i within is =
-    ap (past_all duration elapsed []) (take_more items place i within ∙ ap (λ z. take place items ++ z ∷ []) (sym is))
-    ∙ past_all-append duration elapsed [] (take place items) (i ∷ [])
-
 -- ---- the wrap style
 
-abbrev pub wrap_step : Option (Option ℤ) → ℕ → ℕ → ℕ
-wrap_step None scripted old = old
-wrap_step (Some value) scripted old = unwrap_or (option_map (λ v. unsigned_abs (whole v)) value) scripted
-
-pub wrap_past : (scripted : ℕ) (duration elapsed : ℤ) (before : List Effect) (i : Item) → wrap_at scripted (past duration elapsed before i) ≡ wrap_step (wrap_said i.kind) scripted (wrap_at scripted before)
-wrap_past scripted duration elapsed before i = by i.kind
-  where
-    by : (kind : ItemKind) → wrap_at scripted (reverse (effects_of duration elapsed kind) ++ before) ≡ wrap_step (wrap_said kind) scripted (wrap_at scripted before)
-    by (item.Tag (tag.Number num.Wrap value)) = refl
-    by (item.Tag (tag.Transform times quarters tags)) =
-        ap (by_setters replaced scripted) (none_transform wrap_setter (transform_weight times duration quarters elapsed) tags before (λ tag. refl))
-    by kind = refl
-
-pub wrap_more : (scripted : ℕ) (duration elapsed : ℤ) (items : List Item) (place : ℕ) (i : Item) (wrap next : ℕ) → place < length items → i ≡ get_or items place i
-    → wrap ≡ wrap_at scripted (past_all duration elapsed [] (take place items)) → next ≡ wrap_step (wrap_said i.kind) scripted wrap
-    → next ≡ wrap_at scripted (past_all duration elapsed [] (take (place + 1) items))
-wrap_more scripted duration elapsed items place i wrap next within is so_far step =
-    step
-    ∙ (ap (wrap_step (wrap_said i.kind) scripted) so_far
-    ∙ (sym (wrap_past scripted duration elapsed (past_all duration elapsed [] (take place items)) i)
-    ∙ sym (ap (wrap_at scripted) (past_more duration elapsed items place i within is))))
+wrap_past : (scripted : ℕ) (duration elapsed : ℤ) (before : List Effect) (t : Tag) → wrap_at scripted (reverse (effects_of_tag duration elapsed t) ++ before) ≡ wrap_step (wrap_said t) scripted (wrap_at scripted before)
+wrap_past scripted duration elapsed before (tag.Number num.Wrap value) = refl
+wrap_past scripted duration elapsed before (tag.Transform times quarters tags) =
+    ap (by_setters replaced scripted) (none_transform wrap_setter (transform_weight times duration quarters elapsed) tags before (λ tag. refl))
+wrap_past scripted duration elapsed before t = refl
 
 -- ---- the clip
 
@@ -155,10 +108,29 @@ clip_more header weight tags place d before old next within so_far step =
     ∙ (sym (clip_gradual header weight tag (reverse (map (Gradual weight) shown) ++ before))
     ∙ sym (ap (λ z. clip_at header (z ++ before)) more)))
 
--- the clip behind all items
-pub clip_past : (header : Header) (duration elapsed : ℤ) (items : List Item) (i : Item) (next : Option ClipTag)
-    → next ≡ clip_at header (past duration elapsed (past_all duration elapsed [] items) i) → next ≡ clip_at header (past_all duration elapsed [] (items ++ i ∷ []))
-clip_past header duration elapsed items i next is = is ∙ sym (ap (clip_at header) (past_all-append duration elapsed [] items (i ∷ [])))
+-- tags of a transform that are no clips leave it
+clip_stays : (header : Header) (weight : ℕ) (tag : GradualTag) (before : List Effect) → IsNoClip tag → clip_at header (Gradual weight tag ∷ before) ≡ clip_at header before
+clip_stays header weight (gradual.Clip corners inverse) before none = absurd none
+clip_stays header weight tag before none = refl
+
+all_stay : (header : Header) (weight : ℕ) (tags : List GradualTag) (before : List Effect) → All IsNoClip tags → clip_at header (map (Gradual weight) tags ++ before) ≡ clip_at header before
+all_stay header weight [] before none = refl
+all_stay header weight (tag ∷ tags) before none =
+    clip_stays header weight tag (map (Gradual weight) tags ++ before) (All-head IsNoClip tag tags none) ∙ all_stay header weight tags before (All-tail IsNoClip tag tags none)
+
+pub no_clip_more : (tags : List GradualTag) (place : ℕ) (d : GradualTag) → place < length tags → All IsNoClip (take place tags) → IsNoClip (get_or tags place d) → All IsNoClip (take (place + 1) tags)
+no_clip_more tags place d within none is =
+    All-same IsNoClip (take (place + 1) tags) (take place tags ++ get_or tags place d ∷ []) (take_more tags place d within) (All-push IsNoClip (take place tags) (get_or tags place d) none is)
+
+no_reverse : (tags : List GradualTag) → All IsNoClip tags → All IsNoClip (reverse tags)
+no_reverse [] none = All-nil IsNoClip
+no_reverse (tag ∷ tags) none =
+    All-same IsNoClip (reverse (tag ∷ tags)) (reverse tags ++ tag ∷ []) (reverse-append (tag ∷ []) tags)
+    (All-push IsNoClip (reverse tags) tag (no_reverse tags (All-tail IsNoClip tag tags none)) (All-head IsNoClip tag tags none))
+
+pub no_clip : (header : Header) (weight : ℕ) (tags : List GradualTag) (before : List Effect) → All IsNoClip tags → clip_at header (reverse (map (Gradual weight) tags) ++ before) ≡ clip_at header before
+no_clip header weight tags before none =
+    ap (λ z. clip_at header (z ++ before)) (sym (map-reverse (Gradual weight) tags)) ∙ all_stay header weight (reverse tags) before (no_reverse tags none)
 
 -- what is no tag has no effects
 pub other_past : (duration elapsed : ℤ) (before : List Effect) (i : Item) → ((tag : Tag) → i.kind ≡ item.Tag tag → ⊥) → past duration elapsed before i ≡ before
@@ -167,3 +139,48 @@ other_past duration elapsed before i no_tag = by i.kind no_tag
     by : (kind : ItemKind) → ((tag : Tag) → kind ≡ item.Tag tag → ⊥) → reverse (effects_of duration elapsed kind) ++ before ≡ before
     by (item.Tag tag) no_tag = absurd (no_tag tag refl)
     by kind no_tag = refl
+
+-- ---- all of it
+
+pub said_none : (header : Header) (duration elapsed : ℤ) → IsSaid header duration elapsed [] (record { align = None; pos = None; org = None; fade = None; wrap = header.wrap; clip = None })
+said_none header duration elapsed = record { align = refl; position = refl; origin = refl; fade = refl; wrap = refl; clip = refl }
+
+-- behind one more tag
+pub said_more : (header : Header) (duration elapsed : ℤ) (items : List Item) (i : Item) (t : Tag) (old new : Said) → i.kind ≡ item.Tag t → IsSaid header duration elapsed items old
+    → new.align ≡ option_or old.align (align_said t)
+    → new.pos ≡ option_or old.pos (point_said duration elapsed t)
+    → new.org ≡ option_or old.org (origin_said t)
+    → option_map (λ fade. pos fade) new.fade ≡ option_or (option_map (λ fade. pos fade) old.fade) (fade_said duration elapsed t)
+    → new.wrap ≡ wrap_step (wrap_said t) header.wrap old.wrap
+    → ((before : List Effect) → old.clip ≡ clip_at header before → new.clip ≡ clip_at header (reverse (effects_of_tag duration elapsed t) ++ before))
+    → IsSaid header duration elapsed (items ++ i ∷ []) new
+said_more header duration elapsed items i t old new kind so_far align position origin fade wrap clip =
+    let before = past_all duration elapsed [] items in
+    let all : past_all duration elapsed [] (items ++ i ∷ []) ≡ reverse (effects_of_tag duration elapsed t) ++ before =
+    past_all-append duration elapsed [] items (i ∷ []) ∙ ap (λ k. reverse (effects_of duration elapsed k) ++ before) kind in
+    record {
+      align = first_tag align_said items i t old.align new.align kind so_far.align align;
+      position = first_tag (point_said duration elapsed) items i t old.pos new.pos kind so_far.position position;
+      origin = first_tag origin_said items i t old.org new.org kind so_far.origin origin;
+      fade = first_tag (fade_said duration elapsed) items i t (option_map (λ fade. pos fade) old.fade) (option_map (λ fade. pos fade) new.fade) kind so_far.fade fade;
+      wrap =
+          wrap
+          ∙ (ap (wrap_step (wrap_said t) header.wrap) so_far.wrap
+          ∙ (sym (wrap_past header.wrap duration elapsed before t) ∙ sym (ap (wrap_at header.wrap) all)));
+      clip = clip before so_far.clip ∙ sym (ap (clip_at header) all);
+    }
+
+-- and behind what is no tag
+pub said_quiet : (header : Header) (duration elapsed : ℤ) (items : List Item) (i : Item) (said : Said) → ((tag : Tag) → i.kind ≡ item.Tag tag → ⊥) → IsSaid header duration elapsed items said
+    → IsSaid header duration elapsed (items ++ i ∷ []) said
+said_quiet header duration elapsed items i said no_tag so_far =
+    let before = past_all duration elapsed [] items in
+    let all : past_all duration elapsed [] (items ++ i ∷ []) ≡ before = past_all-append duration elapsed [] items (i ∷ []) ∙ other_past duration elapsed before i no_tag in
+    record {
+      align = first_quiet align_said items i said.align no_tag so_far.align;
+      position = first_quiet (point_said duration elapsed) items i said.pos no_tag so_far.position;
+      origin = first_quiet origin_said items i said.org no_tag so_far.origin;
+      fade = first_quiet (fade_said duration elapsed) items i (option_map (λ fade. pos fade) said.fade) no_tag so_far.fade;
+      wrap = so_far.wrap ∙ sym (ap (wrap_at header.wrap) all);
+      clip = so_far.clip ∙ sym (ap (clip_at header) all);
+    }

@@ -1,6 +1,7 @@
 -- The items of a text are few, no name of a font stands twice, and a view is in range.
-use Rattle.std.proofs.Common.{◌≡◌, ℕ, ◌+◌, ◌-◌, ◌≤◌, ℤ, pos, ◌-ℤ◌, ◌≤ℤ◌, FitsSigned, w64, Bool, true, false, ◌&&◌, ◌==◌, List, [], ◌∷◌, ◌++◌, length, refl, sym, ap, subst, arith, Option, None, Some, All, length-append, zero-add}
+use Rattle.std.proofs.Common.{◌≡◌, ℕ, ◌+◌, ◌-◌, ◌≤◌, ℤ, pos, ◌-ℤ◌, ◌≤ℤ◌, FitsSigned, w64, Bool, true, false, ◌&&◌, ◌==◌, List, [], ◌∷◌, ◌++◌, length, refl, sym, ap, ◌∙◌, subst, arith, Option, None, Some, All, length-append, zero-add}
 use Rattle.std.specs.Prelude.{unwrap_or, int_le, IfSome}
+use Rattle.std.specs.Option.{option_map}
 use Rattle.std.proofs.lemmas.List.Elements.{All-nil, All-cons, All-head, All-tail}
 use Rattle.std.proofs.lemmas.Option.{slice_get_within}
 use Rattle.std.specs.BTreeMap.{get_by_text}
@@ -36,7 +37,8 @@ use Rattle.tag_arguments.specs.Cuts.{tag_len}
 use Rattle.tag_state.specs.Setters.{Effect, past_all}
 use Rattle.tag_state.specs.Looks as looks
 use Rattle.tag_state.specs.Looks.{Look, AreLooks, shown_as, no_break_space}
-use Rattle.tag_state.specs.Choices.{first_of, align_said, point_said, origin_said, fade_said, wrap_at, clip_at}
+use Rattle.tag_state.specs.Choices.{IsSaid}
+use Rattle.tag_state.specs.declared.choices.Said.{Said}
 use Rattle.tag_state.specs.declared.pen.Pen.{Pen}
 use Rattle.tag_state.specs.declared.sheet.Sheet.{Sheet}
 use Rattle.tag_state.specs.Views.{AreOnce, AreSeen, IsViewBy}
@@ -136,27 +138,28 @@ view_held script event elapsed items view is all shows states few =
 
 -- ---- the whole view
 
--- what the walk and the choices come to
-pub view_by : (script : ScriptValue) (event : Event) (elapsed : ℤ) (items : List Item) (pen : Pen) (sheet : Sheet) (align wrap fade : ℕ) (position origin : Option (ℤ × ℤ)) (clip : Option ClipTag)
+fade_number : (fade : Option ℕ) → pos (unwrap_or fade 0) ≡ unwrap_or (option_map (λ f. pos f) fade) (pos 0)
+fade_number None = refl
+fade_number (Some f) = refl
+
+-- the view that the walk and what the tags say come to
+pub view_by : (script : ScriptValue) (event : Event) (elapsed : ℤ) (items : List Item) (pen : Pen) (sheet : Sheet) (said : Said) (align fade : ℕ)
     → IsItemWalk script event elapsed items pen sheet
-    → align ≡ unwrap_or (first_of align_said items) (style_for event.style script).alignment
-    → wrap ≡ wrap_at script.header.wrap (past_all event.duration elapsed [] items)
-    → position ≡ first_of (point_said event.duration elapsed) items
-    → origin ≡ first_of origin_said items
-    → pos fade ≡ unwrap_or (first_of (fade_said event.duration elapsed) items) (pos 0)
-    → clip ≡ clip_at script.header (past_all event.duration elapsed [] items)
-    → IsViewBy script event elapsed items (record { names = pen.fonts.names; states = sheet.states; items = sheet.items; align = align; wrap = wrap; pos = position; org = origin; fade = fade; clip = clip })
-view_by script event elapsed items pen sheet align wrap fade position origin clip walked align_is wrap_is position_is origin_is fade_is clip_is = record {
+    → IsSaid script.header event.duration elapsed items said
+    → align ≡ unwrap_or said.align (style_for event.style script).alignment
+    → fade ≡ unwrap_or said.fade 0
+    → IsViewBy script event elapsed items (record { names = pen.fonts.names; states = sheet.states; items = sheet.items; align = align; wrap = said.wrap; pos = said.pos; org = said.org; fade = fade; clip = said.clip })
+view_by script event elapsed items pen sheet said align fade walked is align_is fade_is = record {
   looks = walked.looks;
   shows = walked.shows;
   seen = walked.seen;
   last = walked.last;
-  align = align_is;
-  wrap = wrap_is;
-  position = position_is;
-  origin = origin_is;
-  fade = fade_is;
-  clip = clip_is;
+  align = align_is ∙ ap (λ o. unwrap_or o (style_for event.style script).alignment) is.align;
+  wrap = is.wrap;
+  position = is.position;
+  origin = is.origin;
+  fade = ap (λ n. pos n) fade_is ∙ (fade_number said.fade ∙ ap (λ o. unwrap_or o (pos 0)) is.fade);
+  clip = is.clip;
 }
 
 time_within : (time : ℤ) → is_time time ≡ true → (pos 0 ≤ℤ time) × (time ≤ℤ pos max_instant)

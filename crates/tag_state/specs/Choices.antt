@@ -1,5 +1,5 @@
 -- Public: what the tags of a text say of the whole event: which of several counts (docs/STATES.md).
-use Rattle.std.specs.Prelude.{ℕ, ◌*◌, ℤ, pos, List, [], ◌∷◌, Option, Some, None, slice_get}
+use Rattle.std.specs.Prelude.{◌≡◌, ℕ, ◌*◌, ℤ, pos, List, [], ◌∷◌, Option, Some, None, slice_get}
 use Rattle.std.specs.Int.RustNames.{unsigned_abs}
 use Rattle.std.specs.List.{filter_map}
 use Rattle.std.specs.Option.{option_map}
@@ -15,7 +15,8 @@ use Rattle.override_tags.specs.declared.tag.GradualTag.TheVariants as gradual
 use Rattle.override_tags.specs.declared.tag.Tag.{Tag}
 use Rattle.override_tags.specs.declared.tag.Tag.TheVariants.{Number, Align, Pos, Move, Org, Fad, Fade, Clip}
 use Rattle.tag_arguments.specs.declared.kinds.Num.TheVariants as num
-use Rattle.tag_state.specs.Setters.{Effect, Plain, Gradual, Setter, Sets, Moves, by_setters, replaced}
+use Rattle.tag_state.specs.Setters.{Effect, Plain, Gradual, Setter, Sets, Moves, by_setters, past_all, replaced}
+use Rattle.tag_state.specs.declared.choices.Said.{Said}
 
 -- ---- the first one counts
 
@@ -82,3 +83,12 @@ clip_moved header old new weight = new
 -- the clip behind these effects, the last of which stands first
 abbrev pub clip_at : Header → List Effect → Option ClipTag
 clip_at header before = by_setters (clip_moved header) None (filter_map clip_setter before)
+
+-- What the items of a text say of an event of a duration.
+pub record IsSaid (header : Header) (duration elapsed : ℤ) (items : List Item) (said : Said) : Type 0 where
+  pub align : said.align ≡ first_of align_said items
+  pub position : said.pos ≡ first_of (point_said duration elapsed) items
+  pub origin : said.org ≡ first_of origin_said items
+  pub fade : option_map (λ fade. pos fade) said.fade ≡ first_of (fade_said duration elapsed) items
+  pub wrap : said.wrap ≡ wrap_at header.wrap (past_all duration elapsed [] items)
+  pub clip : said.clip ≡ clip_at header (past_all duration elapsed [] items)

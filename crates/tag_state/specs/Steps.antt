@@ -1,16 +1,17 @@
 -- Public: what one effect does to a state, property by property.
 use Rattle.std.specs.Prelude.{◌≡◌, ℕ, ◌+◌, ◌^◌, ◌<◌, ℤ, pos, ◌+ℤ◌, ◌≤ℤ◌, Bool, if◌then◌else◌, Option, Some, None, unwrap_or}
+use Rattle.std.specs.Int.RustNames.{unsigned_abs}
 use Rattle.std.specs.Option.{option_map}
 use Rattle.ass_num.specs.Colours.{colour_of}
 use Rattle.ass_num.specs.declared.colour.Rgba.{Rgba}
 use Rattle.ass_script.specs.declared.script.Header.{Header}
 use Rattle.ass_script.specs.declared.style.Style.{Style}
-use Rattle.override_tags.specs.declared.item.ItemKind.{ItemKind}
-use Rattle.override_tags.specs.declared.item.ItemKind.TheVariants as item
+use Rattle.override_tags.specs.Singles.{whole}
 use Rattle.override_tags.specs.declared.tag.ClipTag.{ClipTag}
 use Rattle.override_tags.specs.declared.tag.ClipTag.TheVariants.{Rect}
 use Rattle.override_tags.specs.declared.tag.GradualTag.{GradualTag}
 use Rattle.override_tags.specs.declared.tag.GradualTag.TheVariants as gradual
+use Rattle.override_tags.specs.declared.tag.Tag.{Tag}
 use Rattle.override_tags.specs.declared.tag.Tag.TheVariants as tag
 use Rattle.event_instants.specs.Instants.{moved}
 use Rattle.override_tags.specs.declared.view.State.{State}
@@ -169,12 +170,22 @@ styled_state style font = record {
 abbrev pub restyled_state : State → Style → ℕ → State
 restyled_state state style font = record (styled_state style font) { draw = state.draw; offset = state.offset; sung = state.sung }
 
--- the wrap style that an item sets, or restores where it has none
-abbrev pub wrap_said : ItemKind → Option (Option ℤ)
-wrap_said (item.Tag (tag.Number num.Wrap value)) = Some value
+-- the wrap style that a tag sets, or restores where it has none
+abbrev pub wrap_said : Tag → Option (Option ℤ)
+wrap_said (tag.Number num.Wrap value) = Some value
 wrap_said _ = None
+
+-- what a tag that sets a wrap style, or sets none, makes of the one before
+abbrev pub wrap_step : Option (Option ℤ) → ℕ → ℕ → ℕ
+wrap_step None scripted old = old
+wrap_step (Some value) scripted old = unwrap_or (option_map (λ v. unsigned_abs (whole v)) value) scripted
 
 -- what a tag of a transform of a weight makes of the clip
 abbrev pub clip_step : Header → ℕ → GradualTag → Option ClipTag → Option ClipTag
 clip_step header weight (gradual.Clip corners inverse) old = Some (Rect (corners_moved (corners_from header old) corners weight) inverse)
 clip_step header weight _ old = old
+
+-- a tag of a transform that is no clip
+abbrev pub IsNoClip : GradualTag → Type 0
+IsNoClip (gradual.Clip _ _) = ⊥
+IsNoClip _ = Unit {0}

@@ -1,13 +1,15 @@
 //! What the tags of a text say of the whole event.
 
-ghost use Rattle.std.specs.Prelude.{◌≡◌, ◌≤◌, ℤ, pos, true, [], ◌++◌, List, map, reverse, unwrap_or, All, IfSome};
+ghost use Rattle.std.specs.Prelude.{◌≡◌, ◌≤◌, ℤ, pos, true, false, [], ◌∷◌, ◌++◌, List, map, reverse, unwrap_or, All, IfSome};
 ghost use Rattle.std.specs.Int.RustNames.{unsigned_abs};
-ghost use Rattle.std.specs.Option.{option_map};
+ghost use Rattle.std.specs.Option.{option_map, option_or};
 ghost use Rattle.ass_num.specs.Limits.{one_16};
 ghost use Rattle.override_tags.specs.Ranges.{IsHeldItem, IsHeldTag};
 ghost use Rattle.override_tags.specs.Singles.{is_wrap_style, whole as rule_whole};
-ghost use Rattle.tag_state.specs.Setters.{Effect, Gradual, effects_of_tag, past_all};
-ghost use Rattle.tag_state.specs.Steps.{wrap_said, clip_step};
+ghost use Rattle.override_tags.specs.declared.item.Item.{Item};
+ghost use Rattle.override_tags.specs.declared.item.ItemKind.TheVariants as item;
+ghost use Rattle.tag_state.specs.Setters.{Effect, Gradual, effects_of_tag};
+ghost use Rattle.tag_state.specs.Steps.{wrap_said, wrap_step, clip_step, IsNoClip};
 ghost use Rattle.tag_state.specs.Choices as rule;
 
 use ass_num::Milli;
@@ -15,108 +17,99 @@ use ass_script::Header;
 use event_instants::{fad_at, fade_at, move_at, moved, transform_weight};
 use override_tags::{ClipTag, GradualTag, Item, ItemKind, Num, Tag, whole};
 
-/// The alignment that an item says.
-fn align_said(kind: &ItemKind) -> Option<u8>
-    ensures { result ≡ rule.first_in rule.align_said kind.now }
+/// The alignment that a tag says.
+fn align_said(tag: &Tag) -> Option<u8>
+    ensures { result ≡ rule.align_said tag.now }
 {
-    match kind {
-        ItemKind::Tag(Tag::Align(key)) => Some(*key),
+    match tag {
+        Tag::Align(key) => Some(*key),
         _ => None,
     }
 }
 
-/// The first alignment, or else the style's.
-pub fn align_of(items: &[Item], styled: u8) -> u8
-    ensures { result ≡ unwrap_or (rule.first_of rule.align_said items.now) styled }
+/// The alignment that was said before, or else that of a tag.
+fn first_align(before: Option<u8>, tag: &Tag) -> Option<u8>
+    ensures { result ≡ option_or before (rule.align_said tag.now) }
 {
-    for item in items {
-        if let Some(key) = align_said(&item.kind) {
-            return key;
-        }
+    match before {
+        Some(key) => Some(key),
+        None => align_said(tag),
     }
-    styled
 }
 
-/// The point that an item says.
-fn point_said(kind: &ItemKind, duration: i64, elapsed: i64) -> Option<(Milli, Milli)>
-    ensures { result ≡ rule.first_in (rule.point_said duration elapsed) kind.now }
+/// The point that a tag says.
+fn point_said(tag: &Tag, duration: i64, elapsed: i64) -> Option<(Milli, Milli)>
+    ensures { result ≡ rule.point_said duration elapsed tag.now }
 {
-    match kind {
-        ItemKind::Tag(Tag::Pos(x, y)) => Some((*x, *y)),
-        ItemKind::Tag(Tag::Move(path, t1, t2)) => {
-            Some(move_at(path, *t1, *t2, duration, elapsed))
-        }
+    match tag {
+        Tag::Pos(x, y) => Some((*x, *y)),
+        Tag::Move(path, t1, t2) => Some(move_at(path, *t1, *t2, duration, elapsed)),
         _ => None,
     }
 }
 
-/// The point of the first position or movement.
-pub fn point_of(items: &[Item], duration: i64, elapsed: i64) -> Option<(Milli, Milli)>
-    ensures { result ≡ rule.first_of (rule.point_said duration elapsed) items.now }
+/// The point that was said before, or else that of a tag.
+fn first_point(
+    before: Option<(Milli, Milli)>,
+    tag: &Tag,
+    duration: i64,
+    elapsed: i64,
+) -> Option<(Milli, Milli)>
+    ensures { result ≡ option_or before (rule.point_said duration elapsed tag.now) }
 {
-    for item in items {
-        let said = point_said(&item.kind, duration, elapsed);
-        if said.is_some() {
-            return said;
-        }
+    match before {
+        Some(point) => Some(point),
+        None => point_said(tag, duration, elapsed),
     }
-    None
 }
 
-/// The origin that an item says.
-fn origin_said(kind: &ItemKind) -> Option<(Milli, Milli)>
-    ensures { result ≡ rule.first_in rule.origin_said kind.now }
+/// The origin that a tag says.
+fn origin_said(tag: &Tag) -> Option<(Milli, Milli)>
+    ensures { result ≡ rule.origin_said tag.now }
 {
-    match kind {
-        ItemKind::Tag(Tag::Org(x, y)) => Some((*x, *y)),
+    match tag {
+        Tag::Org(x, y) => Some((*x, *y)),
         _ => None,
     }
 }
 
-/// The first origin of turning.
-pub fn origin_of(items: &[Item]) -> Option<(Milli, Milli)>
-    ensures { result ≡ rule.first_of rule.origin_said items.now }
+/// The origin that was said before, or else that of a tag.
+fn first_origin(before: Option<(Milli, Milli)>, tag: &Tag) -> Option<(Milli, Milli)>
+    ensures { result ≡ option_or before (rule.origin_said tag.now) }
 {
-    for item in items {
-        let said = origin_said(&item.kind);
-        if said.is_some() {
-            return said;
-        }
+    match before {
+        Some(point) => Some(point),
+        None => origin_said(tag),
     }
-    None
 }
 
-/// The fade that an item says.
-fn fade_said(kind: &ItemKind, duration: i64, elapsed: i64) -> Option<u8>
-    ensures { option_map (λ fade. pos fade) result ≡ rule.first_in (rule.fade_said duration elapsed) kind.now }
+/// The fade that a tag says.
+fn fade_said(tag: &Tag, duration: i64, elapsed: i64) -> Option<u8>
+    ensures { option_map (λ fade. pos fade) result ≡ rule.fade_said duration elapsed tag.now }
 {
-    match kind {
-        ItemKind::Tag(Tag::Fad(fade_in, fade_out)) => {
-            Some(fad_at(*fade_in, *fade_out, duration, elapsed))
-        }
-        ItemKind::Tag(Tag::Fade(numbers)) => Some(fade_at(numbers, elapsed)),
+    match tag {
+        Tag::Fad(fade_in, fade_out) => Some(fad_at(*fade_in, *fade_out, duration, elapsed)),
+        Tag::Fade(numbers) => Some(fade_at(numbers, elapsed)),
         _ => None,
     }
 }
 
-/// The first fade, or 0.
-pub fn fade_of(items: &[Item], duration: i64, elapsed: i64) -> u8
-    ensures { pos result ≡ unwrap_or (rule.first_of (rule.fade_said duration elapsed) items.now) (pos 0) }
+/// The fade that was said before, or else that of a tag.
+fn first_fade(before: Option<u8>, tag: &Tag, duration: i64, elapsed: i64) -> Option<u8>
+    ensures { option_map (λ fade. pos fade) result ≡ option_or (option_map (λ fade. pos fade) before) (rule.fade_said duration elapsed tag.now) }
 {
-    for item in items {
-        if let Some(fade) = fade_said(&item.kind, duration, elapsed) {
-            return fade;
-        }
+    match before {
+        Some(fade) => Some(fade),
+        None => fade_said(tag, duration, elapsed),
     }
-    0
 }
 
-/// The wrap style that an item sets, or restores where it has none.
-fn wrap_said(kind: &ItemKind) -> Option<Option<Milli>>
-    ensures { result ≡ wrap_said kind.now }
+/// The wrap style that a tag sets, or restores where it has none.
+fn wrap_said(tag: &Tag) -> Option<Option<Milli>>
+    ensures { result ≡ wrap_said tag.now }
 {
-    match kind {
-        ItemKind::Tag(Tag::Number(Num::Wrap, value)) => Some(*value),
+    match tag {
+        Tag::Number(Num::Wrap, value) => Some(*value),
         _ => None,
     }
 }
@@ -132,18 +125,15 @@ fn wrap_by(value: Option<Milli>, scripted: u8) -> u8
     }
 }
 
-/// The last wrap style, where the script has another.
-pub fn wrap_of(items: &[Item], scripted: u8) -> u8
-    requires { All IsHeldItem items.now }
-    ensures { (duration elapsed : ℤ) → result ≡ rule.wrap_at scripted (past_all duration elapsed [] items.now) }
+/// The wrap style of a tag, or else the one before.
+fn last_wrap(before: u8, tag: &Tag, scripted: u8) -> u8
+    requires { IsHeldTag tag.now }
+    ensures { result ≡ wrap_step (wrap_said tag.now) scripted before }
 {
-    let mut wrap = scripted;
-    for item in items {
-        if let Some(value) = wrap_said(&item.kind) {
-            wrap = wrap_by(value, scripted);
-        }
+    match wrap_said(tag) {
+        Some(value) => wrap_by(value, scripted),
+        None => before,
     }
-    wrap
 }
 
 /// The rectangle from which a clip moves: the one in force, or else the whole canvas.
@@ -210,38 +200,104 @@ fn transformed(
     clip
 }
 
-/// The clip behind a tag.
-fn clip_behind(
-    header: &Header,
-    clip: Option<ClipTag>,
-    tag: Tag,
-    duration: i64,
-    elapsed: i64,
-) -> Option<ClipTag>
-    requires { IsHeldTag tag }
-    ensures { (before : List Effect) → clip ≡ rule.clip_at header.now before → result ≡ rule.clip_at header.now (reverse (effects_of_tag duration elapsed tag) ++ before) }
+/// Whether a tag of a transform is a clip.
+fn is_clip(tag: &GradualTag) -> bool
+    ensures { result ≡ false → IsNoClip tag.now }
 {
     match tag {
-        Tag::Clip(new) => Some(new),
-        Tag::Transform(times, quarters, tags) => {
-            let weight = transform_weight(times, duration, quarters, elapsed);
-            transformed(header, clip, tags.as_slice(), weight)
-        }
-        _other => clip,
+        GradualTag::Clip(_, _) => true,
+        _ => false,
     }
 }
 
-/// The clip behind the last item.
-pub fn clip_of(header: &Header, items: Vec<Item>, duration: i64, elapsed: i64) -> Option<ClipTag>
-    requires { All IsHeldItem items.items }
-    ensures { result ≡ rule.clip_at header.now (past_all duration elapsed [] items.items) }
+/// Whether a tag of a transform is a clip. Without one its weight isn't needed for the clip.
+fn has_clip(tags: &[GradualTag]) -> bool
+    ensures { result ≡ false → All IsNoClip tags.now }
 {
-    let mut clip = None;
+    for tag in tags {
+        if is_clip(tag) {
+            return true;
+        }
+    }
+    false
+}
+
+/// Sets the clip behind a tag.
+#[inline]
+fn set_clip(clip: &mut Option<ClipTag>, header: &Header, tag: Tag, duration: i64, elapsed: i64)
+    requires { IsHeldTag tag }
+    ensures { (before : List Effect) → clip.old ≡ rule.clip_at header.now before → clip.new ≡ rule.clip_at header.now (reverse (effects_of_tag duration elapsed tag) ++ before) }
+{
+    match tag {
+        Tag::Clip(new) => *clip = Some(new),
+        Tag::Transform(times, quarters, tags) => {
+            if has_clip(tags.as_slice()) {
+                let weight = transform_weight(times, duration, quarters, elapsed);
+                *clip = transformed(header, clip.take(), tags.as_slice(), weight);
+            }
+        }
+        _other => {}
+    }
+}
+
+/// What the tags of a text say of the whole event, where they say it.
+#[derive(Drop)]
+pub struct Said {
+    /// The first alignment.
+    pub align: Option<u8>,
+    /// The point of the first position or movement.
+    pub pos: Option<(Milli, Milli)>,
+    /// The first origin of turning.
+    pub org: Option<(Milli, Milli)>,
+    /// The first fade.
+    pub fade: Option<u8>,
+    /// The last wrap style, or else the script's.
+    pub wrap: u8,
+    /// The last clip.
+    pub clip: Option<ClipTag>,
+}
+
+impl Said {
+    /// What no tag says.
+    fn new(scripted: u8) -> Said
+        ensures { result ≡ record { align = None; pos = None; org = None; fade = None; wrap = scripted; clip = None } }
+    {
+        Said {
+            align: None,
+            pos: None,
+            org: None,
+            fade: None,
+            wrap: scripted,
+            clip: None,
+        }
+    }
+
+    /// Takes what one more tag says.
+    #[inline]
+    fn hear(&mut self, header: &Header, tag: Tag, duration: i64, elapsed: i64)
+        requires { IsHeldTag tag }
+        ensures { (items : List Item) (i : Item) → i.kind ≡ item.Tag tag → rule.IsSaid header.now duration elapsed items self.old → rule.IsSaid header.now duration elapsed (items ++ i ∷ []) self.new }
+    {
+        self.align = first_align(self.align, &tag);
+        self.pos = first_point(self.pos, &tag, duration, elapsed);
+        self.org = first_origin(self.org, &tag);
+        self.fade = first_fade(self.fade, &tag, duration, elapsed);
+        self.wrap = last_wrap(self.wrap, &tag, header.wrap);
+        set_clip(&mut self.clip, header, tag, duration, elapsed);
+    }
+}
+
+/// What the tags of a text say of an event of a duration, when so much of it has passed.
+pub fn said_of(header: &Header, items: Vec<Item>, duration: i64, elapsed: i64) -> Said
+    requires { All IsHeldItem items.items }
+    ensures { rule.IsSaid header.now duration elapsed items.items result }
+{
+    let mut said = Said::new(header.wrap);
     for item in items {
         match item.kind {
-            ItemKind::Tag(tag) => clip = clip_behind(header, clip, tag, duration, elapsed),
+            ItemKind::Tag(tag) => said.hear(header, tag, duration, elapsed),
             _other => {}
         }
     }
-    clip
+    said
 }

@@ -16,7 +16,7 @@ mod tests;
 mod view;
 mod walk;
 
-pub use choices::{align_of, clip_of, fade_of, origin_of, point_of, wrap_of};
+pub use choices::{Said, said_of};
 pub use laws::looks_back;
 pub use override_tags::{EventView, Shown, ShownKind, State, Syllable};
 pub use state::{restyled, styled};

@@ -4,7 +4,7 @@ ghost use Rattle.std.specs.Prelude.{◌≡◌, ℕ, ◌+◌, ◌-◌, ◌^◌, �
 ghost use Rattle.override_tags.specs.Views.{IsState};
 ghost use Rattle.tag_state.specs.Walks.{IsStored, IsLast, Grow, slot_count};
 
-use ass_num::{Items, Mem};
+use ass_num::{Items, Mem, Rgba};
 use override_tags::{Shown, ShownKind, State};
 use std::alloc::Global;
 
@@ -14,39 +14,61 @@ const SLOTS: usize = 256;
 /// An odd number of 64 bits, near 2^64 divided by the golden ratio.
 const MIX: u64 = 0x9e37_79b9_7f4a_7c15;
 
+/// A hash of six numbers.
+#[inline]
+fn hash_of(numbers: [i64; 6]) -> u64 {
+    let mut hash = 0u64;
+    for place in 0..6 {
+        hash = hash.wrapping_mul(MIX).wrapping_add_signed(numbers[place]);
+    }
+    hash
+}
+
+/// A colour as one number.
+#[inline]
+fn number_of_colour(colour: Rgba) -> i64 {
+    i64::from(u32::from_be_bytes([colour.r, colour.g, colour.b, colour.a]))
+}
+
 /// The slot in which the number of a state is kept. Equal states have the same slot.
 fn slot_of(state: &State) -> usize
     ensures within { result < slot_count }
     ensures four { length state.now.colours ≡ 4 }
 {
-    let mut hash = u64::from(state.font);
-    for value in [
+    let letters = hash_of([
+        i64::from(state.font),
+        i64::from(state.bold),
+        i64::from(state.italic),
+        i64::from(state.underline),
+        i64::from(state.strikeout),
+        i64::from(state.draw),
+    ]);
+    let sizes = hash_of([
         state.size,
         state.scale_x,
         state.scale_y,
         state.spacing,
         state.angle,
+        state.offset,
+    ]);
+    let edges = hash_of([
         state.border_x,
         state.border_y,
         state.shadow_x,
         state.shadow_y,
         state.edges,
         state.blur,
-        state.offset,
-        i64::from(state.bold),
-        i64::from(state.italic),
-        i64::from(state.underline),
-        i64::from(state.strikeout),
-        i64::from(state.draw),
+    ]);
+    let [first, second, third, fourth] = state.colours;
+    let colours = hash_of([
+        number_of_colour(first),
+        number_of_colour(second),
+        number_of_colour(third),
+        number_of_colour(fourth),
+        i64::from(state.border_style),
         state.sung.map_or(-1, |syllable| i64::from(syllable.index)),
-    ] {
-        hash = hash.wrapping_mul(MIX).wrapping_add_signed(value);
-    }
-    for place in 0..4 {
-        let colour = state.colours[place];
-        let bytes = u32::from_be_bytes([colour.r, colour.g, colour.b, colour.a]);
-        hash = hash.wrapping_mul(MIX).wrapping_add(u64::from(bytes));
-    }
+    ]);
+    let hash = letters ^ sizes.rotate_left(16) ^ edges.rotate_left(32) ^ colours.rotate_left(48);
     (hash.wrapping_mul(MIX) >> 56) as usize
 }
 

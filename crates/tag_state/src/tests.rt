@@ -47,54 +47,65 @@ fn view_of(alloc: Global, text: &str, elapsed: u16) -> Result<EventView, Fail> {
     Ok(states_at(alloc, &script, &event, i64::from(elapsed))?)
 }
 
-/// A state's size, its bit of bold, its red and its alpha, and the begin of its syllable or -1.
-fn numbers_of(state: &State) -> [i64; 5] {
-    let [primary, _, _, _] = state.colours;
-    let begin = match state.sung {
+/// The begin of a state's syllable, or -1.
+fn begin_of(state: &State) -> i64 {
+    match state.sung {
         Some(syllable) => syllable.begin,
         None => -1,
-    };
+    }
+}
+
+/// A state's size, its bit of bold, its red, green and alpha, and the begin of its syllable or -1.
+fn numbers_of(state: &State) -> [i64; 6] {
+    let [primary, _, _, _] = state.colours;
     [
         state.size,
         i64::from(state.bold),
         i64::from(primary.r),
+        i64::from(primary.g),
         i64::from(primary.a),
-        begin,
+        begin_of(state),
     ]
 }
 
 #[test]
 fn last_states(rt: HostRuntime) -> Result<(), Fail> {
     for (text, elapsed, items, states, wanted) in [
-        ("{\\b1}a{\\r}b", 0, 2, 2, [1_000, 0, 255, 0, -1]),
-        ("{\\t(0,1000,2,\\fs2)}x", 500, 1, 1, [1_250, 0, 255, 0, -1]),
+        ("{\\b1}a{\\r}b", 0, 2, 2, [1_000, 0, 255, 255, 0, -1]),
         (
-            "{\\1a&H80&\\t(\\1c&H00&)}x",
+            "{\\t(0,1000,2,\\fs2)}x",
             500,
             1,
             1,
-            [1_000, 0, 127, 128, -1],
+            [1_250, 0, 255, 255, 0, -1],
         ),
         (
-            "{\\k10}a{\\kf20}b{\\ko30}c",
+            "{\\1c&HFF&\\1a&H80&}x",
             0,
-            3,
-            3,
-            [1_000, 0, 255, 0, 300],
+            1,
+            1,
+            [1_000, 0, 255, 0, 128, -1],
+        ),
+        (
+            "{\\1a&H80&\\t(\\1c&HFF&)}x",
+            500,
+            1,
+            1,
+            [1_000, 0, 255, 127, 128, -1],
         ),
         (
             "{\\b1}a{\\b0}b{\\b1}c{\\b0}d",
             0,
             4,
             2,
-            [1_000, 0, 255, 0, -1],
+            [1_000, 0, 255, 255, 0, -1],
         ),
         (
             "{\\p99}m 0 0\\Nl 1 0{\\p0\\fs0}x",
             0,
             2,
             2,
-            [1_000, 0, 255, 0, -1],
+            [1_000, 0, 255, 255, 0, -1],
         ),
     ] {
         let view = view_of(rt.alloc(), text, elapsed)?;
@@ -103,6 +114,20 @@ fn last_states(rt: HostRuntime) -> Result<(), Fail> {
         if let Some(state) = view.states.as_slice().last() {
             assert_eq!(rt; numbers_of(state), wanted);
         }
+    }
+    Ok(())
+}
+
+#[test]
+fn songs(rt: HostRuntime) -> Result<(), Fail> {
+    let song = view_of(rt.alloc(), "{\\k10}a{\\kf20}b{\\ko30}c", 0)?;
+    match song.states.as_slice() {
+        [first, second, third] => {
+            assert_eq!(rt; begin_of(first), 0);
+            assert_eq!(rt; begin_of(second), 100);
+            assert_eq!(rt; begin_of(third), 300);
+        }
+        _ => return Err("states".into()),
     }
     Ok(())
 }

@@ -7,7 +7,7 @@ ghost use Rattle.ass_events.specs.Ranges.{IsEvent};
 ghost use Rattle.override_tags.specs.Views.{IsView};
 ghost use Rattle.tag_state.specs.Views.{AreOnce, IsViewOf};
 
-use crate::choices::{align_of, clip_of, fade_of, origin_of, point_of, wrap_of};
+use crate::choices::said_of;
 use crate::pen::Pen;
 use crate::walk::walk;
 use ass_events::Event;
@@ -31,23 +31,17 @@ pub fn states_at(alloc: Global, script: &Script, event: &Event, t: i64) -> Mem<E
     let items = read_text(alloc, event.text.as_str())?;
     let mut pen = Pen::new(alloc, script, event.style.as_str())?;
     let sheet = walk(alloc, script, event, elapsed, &mut pen, &items)?;
-    let header = script.header();
+    let said = said_of(&script.header(), items, event.duration, elapsed);
     let style = script.style_named(event.style.as_str());
-    let align = align_of(&items, style.alignment);
-    let wrap = wrap_of(&items, header.wrap);
-    let pos = point_of(&items, event.duration, elapsed);
-    let org = origin_of(&items);
-    let fade = fade_of(&items, event.duration, elapsed);
-    let clip = clip_of(&header, items, event.duration, elapsed);
     Ok(EventView {
         names: pen.fonts.names,
         states: sheet.states,
         items: sheet.items,
-        align,
-        wrap,
-        pos,
-        org,
-        fade,
-        clip,
+        align: said.align.unwrap_or(style.alignment),
+        wrap: said.wrap,
+        pos: said.pos,
+        org: said.org,
+        fade: said.fade.unwrap_or(0),
+        clip: said.clip,
     })
 }

@@ -8,8 +8,7 @@ use Rattle.std.specs.Prelude.{unwrap_or}
 use Rattle.ass_script.specs.Scripts.{style_for}
 use Rattle.ass_script.specs.declared.script.Header.{Header}
 use Rattle.ass_script.specs.declared.style.Style.{Style}
-use Rattle.tag_state.specs.Choices.{first_of, align_said, point_said, origin_said, fade_said, wrap_at, clip_at}
-use Rattle.tag_state.specs.Setters.{past_all}
+use Rattle.tag_state.specs.Choices.{IsSaid}
 use Rattle.tag_state.specs.Views.{IsViewBy}
 use Rattle.tag_state.specs.Walks.{AreItemsOf, IsItemWalk}
 use Rattle.tag_state.proofs.view.states_at.Goals as goal
@@ -29,30 +28,23 @@ walk-requires-clause-items c =
     subst Q text (c.in_ok-items.ensures.reading, c.in_ok-items.ensures.cuts) in
     subst P (sym c.deref.ensures.value) (items_of_reading c.args.event.now.text c.in_ok-items.items.items read.0 c.in_ok-items.ensures.held read.1 c.requires.few)
 
-pub wrap_of-wrap-requires : goal.wrap_of-wrap-requires
-wrap_of-wrap-requires c =
-    let P : List Item → Type 0 = λ z. All IsHeldItem z in
-    subst P (sym c.deref-3.ensures.value) c.in_ok-items.ensures.held
-
--- what the walk and the choices came to
+-- what the walk and the tags came to
 shown : (c : After-drop-pen-3)
     → IsItemWalk c.args.script.now c.args.event.now (c.args.t -ℤ c.args.event.now.start) c.in_ok-items.items.items c.walk.new.pen c.in_ok-sheet.sheet
     × IsViewBy c.args.script.now c.args.event.now (c.args.t -ℤ c.args.event.now.start) c.in_ok-items.items.items (record {
       names = c.walk.new.pen.fonts.names;
       states = c.in_ok-sheet.sheet.states;
       items = c.in_ok-sheet.sheet.items;
-      align = c.align_of-align.result;
-      wrap = c.wrap_of-wrap.result;
-      pos = c.point_of-pos.result;
-      org = c.origin_of-org.result;
-      fade = c.fade_of-fade.result;
-      clip = c.clip_of-clip.result;
+      align = c.unwrap_or.result;
+      wrap = c.said_of-said.result.wrap;
+      pos = c.said_of-said.result.pos;
+      org = c.said_of-said.result.org;
+      fade = c.unwrap_or-2.result;
+      clip = c.said_of-said.result.clip;
     })
 shown c =
     let script = c.args.script.now in
     let event = c.args.event.now in
-    let duration = c.args.event.now.duration in
-    let elapsed = c.args.t -ℤ c.args.event.now.start in
     let items = c.in_ok-items.items.items in
     let begins : FitsSigned w64 c.args.event.now.start = search rules in
     let lasts : FitsSigned w64 c.args.event.now.duration = search rules in
@@ -61,24 +53,14 @@ shown c =
     simp (to_z-of_z c.ranges.t, to_z-of_z begins, to_z-of_z fits) at c.in_ok-sheet.ensures in
     let P : List Item → Type 0 = λ z. IsItemWalk c.args.script.now c.args.event.now (c.args.t -ℤ c.args.event.now.start) z c.walk.new.pen c.in_ok-sheet.sheet in
     let all = subst P c.deref.ensures.value walked in
-    let point : c.point_of-pos.result ≡ first_of (point_said c.args.event.now.duration (c.args.t -ℤ c.args.event.now.start)) c.deref-4.result.now =
-    simp (to_z-of_z c.ranges.t, to_z-of_z begins, to_z-of_z lasts, to_z-of_z fits) at c.point_of-pos.ensures in
-    let fade : pos c.fade_of-fade.result ≡ unwrap_or (first_of (fade_said c.args.event.now.duration (c.args.t -ℤ c.args.event.now.start)) c.deref-6.result.now) (pos 0) =
-    simp (to_z-of_z c.ranges.t, to_z-of_z begins, to_z-of_z lasts, to_z-of_z fits) at c.fade_of-fade.ensures in
-    let clip : c.clip_of-clip.result ≡ clip_at c.header-header.result (past_all c.args.event.now.duration (c.args.t -ℤ c.args.event.now.start) [] c.in_ok-items.items.items) =
-    simp (to_z-of_z c.ranges.t, to_z-of_z begins, to_z-of_z lasts, to_z-of_z fits) at c.clip_of-clip.ensures in (
+    let said : IsSaid c.header.result c.args.event.now.duration (c.args.t -ℤ c.args.event.now.start) c.in_ok-items.items.items c.said_of-said.result =
+    simp (to_z-of_z c.ranges.t, to_z-of_z begins, to_z-of_z lasts, to_z-of_z fits) at c.said_of-said.ensures in
+    let Q : Header → Type 0 = λ h. IsSaid h c.args.event.now.duration (c.args.t -ℤ c.args.event.now.start) c.in_ok-items.items.items c.said_of-said.result in (
       all,
-      view_by script event elapsed items c.walk.new.pen c.in_ok-sheet.sheet c.align_of-align.result c.wrap_of-wrap.result c.fade_of-fade.result c.point_of-pos.result c.origin_of-org.result c.clip_of-clip.result all
-          (c.align_of-align.ensures
-          ∙ (ap (λ (z : List Item). unwrap_or (first_of align_said z) c.style_named-style.result.now.alignment) c.deref-2.ensures.value
-          ∙ ap (λ (s : Style). unwrap_or (first_of align_said items) s.alignment) (c.style_named-style.ensures.style ∙ ap (λ (z : List ℕ). style_for z script) c.as_str-3.ensures)))
-          (c.wrap_of-wrap.ensures duration elapsed
-          ∙ (ap (λ (z : List Item). wrap_at c.header-header.result.wrap (past_all duration elapsed [] z)) c.deref-3.ensures.value
-          ∙ ap (λ (h : Header). wrap_at h.wrap (past_all duration elapsed [] items)) c.header-header.ensures))
-          (point ∙ ap (first_of (point_said duration elapsed)) c.deref-4.ensures.value)
-          (c.origin_of-org.ensures ∙ ap (first_of origin_said) c.deref-5.ensures.value)
-          (fade ∙ ap (λ (z : List Item). unwrap_or (first_of (fade_said duration elapsed) z) (pos 0)) c.deref-6.ensures.value)
-          (clip ∙ ap (λ (h : Header). clip_at h (past_all duration elapsed [] items)) c.header-header.ensures),
+      view_by script event (c.args.t -ℤ c.args.event.now.start) items c.walk.new.pen c.in_ok-sheet.sheet c.said_of-said.result c.unwrap_or.result c.unwrap_or-2.result all (subst Q c.header.ensures said)
+          (c.unwrap_or.ensures
+          ∙ ap (λ (s : Style). unwrap_or c.said_of-said.result.align s.alignment) (c.style_named-style.ensures.style ∙ ap (λ (z : List ℕ). style_for z script) c.as_str-3.ensures))
+          c.unwrap_or-2.ensures,
     )
 
 pub returns-clause-view : goal.returns-clause-view
