@@ -11,8 +11,6 @@ mod sheet;
 mod state;
 mod steps;
 mod syllables;
-#[cfg(test)]
-mod tests;
 mod view;
 mod walk;
 

@@ -1,4 +1,4 @@
-//! Tests of what an event's text is made into: tags, drawings, values at instants, breaks, shifts.
+//! Tests of what an event's text is made into: tags, drawings, states, breaks, shifts.
 #![tactic(auto)]
 
 #[cfg(test)]
@@ -11,6 +11,8 @@ mod draws;
 mod instants;
 #[cfg(test)]
 mod shifts;
+#[cfg(test)]
+mod states;
 #[cfg(test)]
 mod tag_table;
 #[cfg(test)]

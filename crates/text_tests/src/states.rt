@@ -5,12 +5,12 @@ ghost use Rattle.ass_num.specs.Limits.{max_text_bytes};
 ghost use Rattle.ass_script.specs.Ranges.{IsScript};
 ghost use Rattle.ass_events.specs.Ranges.{IsEvent};
 
-use crate::{EventView, State, states_at};
 use ass_events::{Event, event_of_line};
 use ass_script::{Script, read_script};
 use override_tags::ClipTag;
 use std::alloc::Global;
 use std::test::Fail;
+use tag_state::{EventView, State, states_at};
 
 /// A script with one line.
 fn script_of(alloc: Global, text: &str) -> Result<Script, Fail>
