@@ -3,7 +3,7 @@
 ghost use Rattle.std.specs.Prelude.{◌≡◌, ◌≤◌, pos};
 ghost use Rattle.event_instants.specs.Instants as rule;
 
-use crate::between::{at_time, difference, on_the_way};
+use crate::ways::{at_time, difference, on_the_way};
 use ass_num::hold;
 
 /// The nearest alpha to a number.

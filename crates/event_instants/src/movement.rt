@@ -5,7 +5,7 @@ ghost use Rattle.ass_num.specs.Limits.{one_16};
 ghost use Rattle.event_instants.specs.Instants.{IsBetween, nth};
 ghost use Rattle.event_instants.specs.Instants as rule;
 
-use crate::between::{ONE, moved};
+use crate::ways::{ONE, moved};
 use crate::weights::share;
 use ass_num::Milli;
 

@@ -4,7 +4,7 @@ ghost use Rattle.std.specs.Prelude.{◌≡◌, ◌≤◌, ◌<ℤ◌, ◌≤ℤ�
 ghost use Rattle.ass_num.specs.Limits.{one_16};
 ghost use Rattle.event_instants.specs.Instants as rule;
 
-use crate::between::{ONE, at_time};
+use crate::ways::{ONE, at_time};
 use ass_num::power;
 
 /// What of the time from `begin` to `end` has passed, in 65,536ths.

@@ -4,7 +4,7 @@ use Rattle.event_instants.specs.Instants.{IsBetween}
 use Rattle.event_instants.specs.Instants as rule
 use Rattle.ass_num.specs.Floor.{floor_div}
 use Rattle.event_instants.proofs.OnTheWay.{between_within, fits_between}
-use Rattle.event_instants.proofs.between.between.Goals as goal
+use Rattle.event_instants.proofs.ways.between.Goals as goal
 use mir.Syntax.{w128}
 
 gone_is : (c : goal.After-from) → c.div_floor-gone.result ≡ floor_div ((c.args.new -ℤ c.args.old) *ℤ c.args.part) c.args.whole

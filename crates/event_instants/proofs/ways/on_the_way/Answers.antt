@@ -3,7 +3,7 @@ use Rattle.std.proofs.lemmas.Int.{ints, clamps}
 use Rattle.event_instants.specs.Instants.{IsBetween}
 use Rattle.event_instants.specs.Instants as rule
 use Rattle.event_instants.proofs.OnTheWay.{product_within}
-use Rattle.event_instants.proofs.between.on_the_way.Goals as goal
+use Rattle.event_instants.proofs.ways.on_the_way.Goals as goal
 use mir.Syntax.{w128}
 
 weight_is : (r : ℤ) (n : ℕ) → r ≡ pos n → n ≤ 65536 → to_z w64 (of_z w64 r) ≡ pos n
