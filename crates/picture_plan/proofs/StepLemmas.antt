@@ -10,7 +10,7 @@ use Rattle.override_tags.specs.declared.view.State.{State}
 use Rattle.text_layout.specs.declared.laid.Laid.{Laid}
 use Rattle.text_layout.specs.declared.laid.Line.{Line}
 use Rattle.text_layout.specs.declared.laid.Placed.{Placed}
-use Rattle.picture_plan.specs.EventDraws.{FollowLines, line_runs, row_by, row_of, rows_made, run_of, runs_made}
+use Rattle.picture_plan.specs.EventDraws.{FollowLines, line_runs, row_by, row_on, rows_made, run_of, runs_made}
 use Rattle.picture_plan.specs.Items.{items_of, state_of}
 use Rattle.picture_plan.specs.Marks.{IsMark, mark_of, marks_of}
 use Rattle.picture_plan.specs.Runs.{runs_of}
@@ -55,11 +55,11 @@ marks_all (Some x) h = All-cons IsMark x [] h (All-nil IsMark)
 
 -- the rows of one more line
 rows_more : (stage : Stage) (fonts : List FontValue) (view : EventView) (laid : Laid) (lines : List Line) (k : ℕ) (d : Line) → k < length lines
-    → rows_made stage fonts view laid (take (k + 1) lines) ≡ rows_made stage fonts view laid (take k lines) ++ option_to_list (row_of stage fonts view laid (get_or lines k d))
+    → rows_made stage fonts view laid (take (k + 1) lines) ≡ rows_made stage fonts view laid (take k lines) ++ option_to_list (row_on stage fonts view laid (get_or lines k d))
 rows_more stage fonts view laid lines k d within =
     ap (rows_made stage fonts view laid) (take_more lines k d within)
-    ∙ filter_map-append (row_of stage fonts view laid) (take k lines) (get_or lines k d ∷ [])
-    ∙ ap (λ z. rows_made stage fonts view laid (take k lines) ++ z) (listed (row_of stage fonts view laid (get_or lines k d)))
+    ∙ filter_map-append (row_on stage fonts view laid) (take k lines) (get_or lines k d ∷ [])
+    ∙ ap (λ z. rows_made stage fonts view laid (take k lines) ++ z) (listed (row_on stage fonts view laid (get_or lines k d)))
 
 pub rows_step : (stage : Stage) (fonts : List FontValue) (view : EventView) (laid : Laid) (lines : List Line) (k : ℕ) (d : Line) (items : List Placed) (before after : List Row) → k < length lines
     → items_of laid (get_or lines k d) ≡ items → before ≡ rows_made stage fonts view laid (take k lines)

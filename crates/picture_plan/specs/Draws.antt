@@ -74,8 +74,8 @@ draw_of making paint clip (first ∷ rest) =
     ∷ []
 
 -- the draw of marks
-abbrev pub drawn : Stage → Making → Paint → Clip → List Mark → List Draw
-drawn stage making paint clip marks = draw_of making paint clip (stamps_of stage making marks)
+abbrev pub draw_of_marks : Stage → Making → Paint → Clip → List Mark → List Draw
+draw_of_marks stage making paint clip marks = draw_of making paint clip (stamps_of stage making marks)
 
 -- ---- the draws of a run
 
@@ -105,15 +105,15 @@ fill_making stage boxed state = record { angle = state.angle; radii = no_radii; 
 abbrev pub run_shadow : Stage → Clip → Bool → Run → List Draw
 run_shadow stage clip boxed run =
     if are_no_offsets (offsets_in stage run.state) then []
-    else drawn stage (border_making stage boxed run.state (offsets_in stage run.state)) (plain_paint (back_colour stage.fade run.state)) clip run.marks
+    else draw_of_marks stage (border_making stage boxed run.state (offsets_in stage run.state)) (plain_paint (back_colour stage.fade run.state)) clip run.marks
 
 abbrev pub run_border : Stage → Clip → Bool → Run → List Draw
 run_border stage clip boxed run =
     if are_no_radii (border_radii stage boxed run.state) then []
-    else drawn stage (border_making stage boxed run.state no_offsets) (plain_paint (outline_colour stage.fade run.state)) clip run.marks
+    else draw_of_marks stage (border_making stage boxed run.state no_offsets) (plain_paint (outline_colour stage.fade run.state)) clip run.marks
 
 abbrev pub run_fill : Stage → Clip → Bool → Run → List Draw
-run_fill stage clip boxed run = drawn stage (fill_making stage boxed run.state) run.paint clip run.marks
+run_fill stage clip boxed run = draw_of_marks stage (fill_making stage boxed run.state) run.paint clip run.marks
 
 -- ---- boxes
 
@@ -142,7 +142,7 @@ abbrev pub box_making : Stage → State → Offsets → Making
 box_making stage state offsets = record { angle = state.angle; radii = no_radii; softness = softness_in stage state; offsets = offsets }
 
 abbrev pub box_draw : Stage → Clip → Line → State → Offsets → Paint → List Draw
-box_draw stage clip line state offsets paint = drawn stage (box_making stage state offsets) paint clip (box_mark stage line state ∷ [])
+box_draw stage clip line state offsets paint = draw_of_marks stage (box_making stage state offsets) paint clip (box_mark stage line state ∷ [])
 
 abbrev pub box_shadow : Stage → Clip → Line → State → List Draw
 box_shadow stage clip line state =

@@ -82,12 +82,12 @@ row_by stage fonts view line [] = None
 row_by stage fonts view line (item ∷ items) =
     Some (record { line = line; state = state_of view item; runs = line_runs stage fonts view line (item ∷ items) })
 
-abbrev pub row_of : Stage → List FontValue → EventView → Laid → Line → Option Row
-row_of stage fonts view laid line = row_by stage fonts view line (items_of laid line)
+abbrev pub row_on : Stage → List FontValue → EventView → Laid → Line → Option Row
+row_on stage fonts view laid line = row_by stage fonts view line (items_of laid line)
 
 -- those of some lines that have items
 abbrev pub rows_made : Stage → List FontValue → EventView → Laid → List Line → List Row
-rows_made stage fonts view laid lines = filter_map (row_of stage fonts view laid) lines
+rows_made stage fonts view laid lines = filter_map (row_on stage fonts view laid) lines
 
 abbrev pub rows_of : Stage → List FontValue → EventView → Laid → List Row
 rows_of stage fonts view laid = rows_made stage fonts view laid laid.lines

@@ -62,8 +62,8 @@ char_outline stage fonts names state c =
 abbrev pub pen_on : Stage → Line → Placed → Point
 pen_on stage line placed = record { x = stage.corner.x +ℤ placed.x; y = stage.corner.y +ℤ line.baseline }
 
-abbrev pub raised : Point → ℤ → Point
-raised p height = record { x = p.x; y = p.y -ℤ height }
+abbrev pub point_above : Point → ℤ → Point
+point_above p height = record { x = p.x; y = p.y -ℤ height }
 
 -- how far down a drawing of a state is moved under a matrix
 abbrev pub drawing_shift : State → ℤ → ℤ
@@ -74,7 +74,7 @@ abbrev pub drawing_mark : Stage → State → Point → Path → List Seg → Op
 drawing_mark stage state pen path [] = None
 drawing_mark stage state pen path segs =
     let m = drawing_matrix stage.header state stage.size in
-    Some (record { outline = Drawing path m (drawing_shift state m.uy); pen = raised pen (drawn_extent m segs).ascent })
+    Some (record { outline = Drawing path m (drawing_shift state m.uy); pen = point_above pen (drawn_extent m segs).ascent })
 
 -- the mark of a character, if it leaves any
 abbrev pub char_mark : Stage → List FontValue → List (List ℕ) → State → Point → ℕ → Option Mark

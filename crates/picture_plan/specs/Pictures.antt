@@ -16,14 +16,14 @@ use Rattle.picture_plan.specs.EventDraws.{event_draws}
 use Rattle.picture_plan.specs.Stages.{stage_at}
 use Rattle.picture_plan.specs.Shifts.{IsMovedBy}
 
--- e lies below f: in a lower layer, or in the same one by ReadOrder.
-abbrev pub IsBelow : Event → Event → Type 0
-IsBelow e f = (e.layer <ℤ f.layer) ⊎ ((e.layer ≡ f.layer) × (e.order < f.order))
+-- e is drawn before f: in a lower layer, or in the same one by ReadOrder.
+abbrev pub IsDrawnBefore : Event → Event → Type 0
+IsDrawnBefore e f = (e.layer <ℤ f.layer) ⊎ ((e.layer ≡ f.layer) × (e.order < f.order))
 
 -- The list has just the events that are shown at t, the lowest first.
 pub record AreShown (events : List Event) (t : ℤ) (shown : List Event) : Type 0 where
   pub members : (e : Event) → Contains shown e ↔ (Contains events e × IsShownAt (span_of e) t)
-  pub sorted : Pairwise IsBelow shown
+  pub sorted : Pairwise IsDrawnBefore shown
 
 -- These are the draws of an event at t that is moved down by a shift: it is laid out as it shows then.
 pub record AreMovedDraws (script : ScriptValue) (fonts : List FontValue) (event : Event) (t : ℤ) (size : Size) (shift : ℤ) (draws : List Draw) : Type 0 where

@@ -200,7 +200,7 @@ fn add_draw(
     requires stage { IsStage stage.now }
     requires making { rule.IsMaking making.now }
     requires marks { All IsMark marks.now }
-    ensures { OnOk result (draws.new ≡ draws.old ++ rule.drawn stage.now making.now paint clip.now marks.now) }
+    ensures { OnOk result (draws.new ≡ draws.old ++ rule.draw_of_marks stage.now making.now paint clip.now marks.now) }
 {
     let stamps = stamps_of(alloc, stage, making, marks)?;
     add_masks(

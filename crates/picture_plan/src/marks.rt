@@ -178,7 +178,7 @@ fn drawing_shift(state: &State, uy: i64) -> Fix
 fn raised(p: Point, height: Fix) -> Point
     requires point { IsPointWithin (max_block_corner + max_block) p }
     requires height { IsBlockSide height }
-    ensures value { result ≡ rule.raised p height }
+    ensures value { result ≡ rule.point_above p height }
     ensures within { IsPointWithin max_block_pen result }
 {
     Point {
