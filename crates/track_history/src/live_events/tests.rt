@@ -1,4 +1,4 @@
-//! Live events without a turn: what is near beside a plain filter, and as many flushes as there can be.
+//! Live events without a turn: what is near beside a plain filter, and as many flushes and as many live events as there can be.
 ghost use Rattle.std.specs.Prelude.{◌≤◌, IfSome};
 ghost use Rattle.ass_num.specs.Limits.{max_text_bytes};
 ghost use Rattle.ass_events.specs.Ranges.{IsEvent, text_bytes};
@@ -94,6 +94,17 @@ fn event_of(alloc: Global, row: &Row) -> Option<Arc<Event>>
     }
 }
 
+/// Offers the event of the row.
+fn offer(alloc: Global, live: &mut LiveEvents, row: &Row) -> Feed
+    requires { IsSound live.old }
+    ensures { IsSound live.new }
+{
+    match event_of(alloc, row) {
+        Some(event) => live.feed(alloc, &event),
+        None => Feed::OutOfMemory,
+    }
+}
+
 /// Feeds the events of the rows, and answers how many were accepted.
 fn feed_all(alloc: Global, live: &mut LiveEvents, rows: &[Row]) -> usize
     requires { IsSound live.old }
@@ -101,10 +112,8 @@ fn feed_all(alloc: Global, live: &mut LiveEvents, rows: &[Row]) -> usize
 {
     let mut accepted = 0usize;
     for row in rows {
-        if let Some(event) = event_of(alloc, row) {
-            if let Feed::Accepted(_) = live.feed(alloc, &event) {
-                accepted = accepted.wrapping_add(1);
-            }
+        if let Feed::Accepted(_) = offer(alloc, live, row) {
+            accepted = accepted.wrapping_add(1);
         }
     }
     accepted
@@ -197,5 +206,53 @@ fn there_are_a_million_flushes_at_most(rt: HostRuntime) -> Result<(), Fail> {
     let accepted = feed_all(rt.alloc(), &mut live, &[row]);
     assert_eq!(rt; (wrong, last), (0, Flushed::TooMany(1_000_000)));
     assert_eq!(rt; (accepted, live.entries()), (1, 1_000_001));
+    Ok(())
+}
+
+/// One of many events, each of which is shown for ten milliseconds after the one before.
+fn row_of(order: u32) -> Row {
+    Row {
+        order,
+        layer: 0,
+        start: order.wrapping_mul(10),
+        duration: 10,
+    }
+}
+
+/// Feeds a million events, and answers how often the place was another than the number of events before.
+fn feed_million(alloc: Global, live: &mut LiveEvents) -> u32
+    requires { IsSound live.old }
+    ensures { IsSound live.new }
+{
+    let mut wrong = 0u32;
+    for i in 0..1_000_000usize {
+        let order = u32::try_from(i).unwrap_or(0);
+        if offer(alloc, live, &row_of(order)) != Feed::Accepted(i) {
+            wrong = wrong.wrapping_add(1);
+        }
+    }
+    wrong
+}
+
+#[test]
+fn there_are_a_million_live_events_at_most(rt: HostRuntime) -> Result<(), Fail> {
+    let mut live = LiveEvents::new(rt.alloc());
+    let wrong = feed_million(rt.alloc(), &mut live);
+    let one_more = row_of(1_000_000);
+    let full = offer(rt.alloc(), &mut live, &one_more);
+    let repeated = offer(rt.alloc(), &mut live, &row_of(7));
+    let near = found_near(rt.alloc(), &live, 10_000_000)?;
+    let entries = live.entries();
+    let flushed = live.flush();
+    let accepted = offer(rt.alloc(), &mut live, &one_more);
+    assert_eq!(rt;
+        (wrong, full, repeated),
+        (0, Feed::Full(1_000_000), Feed::Repeated(7))
+    );
+    assert_eq!(rt; (near.len(), entries), (0, 1_000_000));
+    assert_eq!(rt;
+        (flushed, accepted),
+        (Flushed::Done(1_000_000), Feed::Accepted(1_000_001))
+    );
     Ok(())
 }
