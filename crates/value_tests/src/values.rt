@@ -7,9 +7,11 @@ ghost use Rattle.ass_num.specs.Paths.{IsPath};
 ghost use Rattle.mask_keys.specs.Keys.{HasMaskRanges, IsValidOutline, IsValidPart, max_part_offset};
 ghost use Rattle.mask_model.specs.Outlines.{IsFontSet, glyph_counts};
 
-use made_values::{made_border, made_composite, made_mask, made_outline, mask_cost, mask_of_region};
 use ass_num::{Items, Mask, Matrix, Mem, Path, Point, Seg};
 use bdf_font::{FontSet, read_font};
+use made_values::{
+    made_border, made_composite, made_mask, made_outline, mask_cost, mask_of_region,
+};
 use mask_keys::{MaskKey, OutlineKey, Part, Shared};
 use std::alloc::Global;
 use std::sync::Arc;
