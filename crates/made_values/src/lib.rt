@@ -7,8 +7,6 @@ mod laws;
 mod masks;
 mod outlines;
 mod regions;
-#[cfg(test)]
-mod tests;
 
 pub use composites::made_composite;
 pub use costs::{mask_cost, region_cost};

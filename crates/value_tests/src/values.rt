@@ -1,16 +1,20 @@
 //! Values of keys, at the limits of keys among them, which were worked out elsewhere.
 
-ghost use Rattle.std.specs.Prelude.{◌≡◌, ◌<◌, ◌≤◌, [], ◌∷◌, IfOk};
-ghost use Rattle.ass_num.specs.Limits.{IsMaskWithin, max_mask_corner, max_mask_side};
+ghost use Rattle.std.specs.Prelude.{◌≡◌, ℕ, ℤ, pos, ◌+◌, ◌<◌, ◌≤◌, List, [], ◌∷◌, IfOk};
+ghost use Rattle.std.specs.Arc.{arc_value};
+ghost use Rattle.ass_num.specs.Limits.{IsMaskWithin, IsWithin, max_mask_corner, max_mask_side};
 ghost use Rattle.ass_num.specs.Paths.{IsPath};
-ghost use Rattle.mask_keys.specs.Keys.{HasMaskRanges, IsValidOutline};
+ghost use Rattle.mask_keys.specs.Keys.{HasMaskRanges, IsValidOutline, IsValidPart, max_part_offset};
 ghost use Rattle.mask_model.specs.Outlines.{IsFontSet, glyph_counts};
 
-use crate::{made_border, made_composite, made_mask, made_outline, mask_cost, mask_of_region};
 use ass_num::{Items, Mask, Matrix, Mem, Path, Point, Seg};
 use bdf_font::{FontSet, read_font};
-use mask_keys::{MaskKey, OutlineKey, Shared};
+use made_values::{
+    made_border, made_composite, made_mask, made_outline, mask_cost, mask_of_region,
+};
+use mask_keys::{MaskKey, OutlineKey, Part, Shared};
 use std::alloc::Global;
+use std::sync::Arc;
 use std::test::Fail;
 
 /// A blank, and a dot of one pixel.
@@ -259,5 +263,57 @@ fn phases_and_no_parts(rt: HostRuntime) -> Result<(), Fail> {
     let none = made_composite(alloc, &[], &[])?;
     assert!(rt; has_box(&none, 0, 0, 0, 0));
     assert_eq!(rt; mask_cost(&none), 64);
+    Ok(())
+}
+
+/// The part of a dot that is moved so far.
+fn dot_part(dx: i32, dy: i32) -> Part
+    ensures dx { result.dx ≡ dx }
+    ensures dy { result.dy ≡ dy }
+{
+    Part {
+        mask: key(glyph(1), 0, 0, 0, 0),
+        dx,
+        dy,
+    }
+}
+
+/// The composed mask of one mask that is moved so far.
+fn moved(alloc: Global, mask: &Arc<Mask>, dx: i32, dy: i32) -> Mem<Arc<Mask>>
+    requires mask { IsMaskWithin max_mask_corner max_mask_side (arc_value mask.now) }
+    requires dx { IsWithin max_part_offset dx }
+    requires dy { IsWithin max_part_offset dy }
+{
+    let masks = [Arc::try_clone(mask)?];
+    made_composite(alloc, &[dot_part(dx, dy)], &masks)
+}
+
+/// A part that is moved one pixel further isn't valid.
+fn further_parts_are_not_valid()
+    ensures across { (glyphs : List ℕ) (part : Part) → part.dx ≡ pos (max_part_offset + 1) → ¬ (IsValidPart glyphs part) }
+    ensures down { (glyphs : List ℕ) (part : Part) → part.dy ≡ pos (max_part_offset + 1) → ¬ (IsValidPart glyphs part) }
+{}
+
+#[test]
+fn parts_are_moved_to_the_limit(rt: HostRuntime) -> Result<(), Fail> {
+    let alloc = rt.alloc();
+    let fonts = fonts(alloc)?;
+    let dot = Arc::new(alloc, mask_of(alloc, &fonts, &key(glyph(1), 0, 0, 0, 0))?)?;
+    further_parts_are_not_valid();
+    let below = moved(alloc, &dot, -20_480, 20_480)?;
+    assert!(rt; has_box(&below, -20_480, 20_479, 1, 1));
+    let above = moved(alloc, &dot, 20_480, -20_480)?;
+    assert!(rt; has_box(&above, 20_480, -20_481, 1, 1));
+    Ok(())
+}
+
+#[test]
+fn single_masks_are_shared(rt: HostRuntime) -> Result<(), Fail> {
+    let alloc = rt.alloc();
+    let fonts = fonts(alloc)?;
+    let dot = Arc::new(alloc, mask_of(alloc, &fonts, &key(glyph(1), 0, 0, 0, 0))?)?;
+    let shared = moved(alloc, &dot, 0, 0)?;
+    assert!(rt; has_box(&shared, 0, -1, 1, 1));
+    assert_eq!(rt; Arc::strong_count(&dot), 2);
     Ok(())
 }
