@@ -79,11 +79,27 @@ fn pens_of(alloc: Global, placed: &[Placed]) -> io::Result<String> {
     Ok(text)
 }
 
+/// Numbers behind a head.
+fn numbers_text(alloc: Global, head: &str, numbers: &[i64]) -> io::Result<String> {
+    let mut text = String::from_str(alloc, head)?;
+    for number in numbers {
+        let digits = format!(in alloc; " {number}")?;
+        text.push_str(digits.as_str())?;
+    }
+    Ok(text)
+}
+
+/// Prints a head and numbers.
+fn show_numbers(rt: &HostRuntime, head: &str, numbers: &[i64]) -> io::Result<()> {
+    let text = numbers_text(rt.alloc(), head, numbers)?;
+    println!(rt; "{text}")
+}
+
+/// Prints the items of a line, its width and height, its left and upper edge and its baseline.
 fn show_line(rt: &HostRuntime, line: &Line) -> io::Result<()> {
-    println!(rt;
-        "  items {}..{}: {} by {} at {}, {}, on {}",
-        line.first, line.last, line.width, line.height, line.left, line.top, line.baseline
-    )
+    println!(rt; "  items {}..{}", line.first, line.last)?;
+    let numbers = [line.width, line.height, line.left, line.top, line.baseline];
+    show_numbers(rt, "   ", &numbers)
 }
 
 /// Prints the lines of a layout and the pens of its items.
@@ -95,7 +111,7 @@ fn show_laid(rt: &HostRuntime, laid: &Laid) -> io::Result<()> {
     println!(rt; "  pens{pens}")
 }
 
-/// Prints where the block of an event stands and how large it is, and its layout.
+/// Prints how large the block of an event is, where it stands and by which anchor, and its layout.
 fn show_event(
     rt: &HostRuntime,
     script: &Script,
@@ -114,10 +130,8 @@ fn show_event(
         Ok(laid) => {
             let at = anchor(script, event, view, size);
             let corner = block_corner(at, view.align, laid.width, laid.height);
-            println!(rt;
-                "  block {} by {} at {}, {}, by the anchor {}, {}",
-                laid.width, laid.height, corner.x, corner.y, at.x, at.y
-            )?;
+            let numbers = [laid.width, laid.height, corner.x, corner.y, at.x, at.y];
+            show_numbers(rt, "  block", &numbers)?;
             show_laid(rt, &laid)
         }
         Err(_) => Err(unreadable()),
@@ -157,10 +171,7 @@ fn show_aligned(rt: &HostRuntime) -> io::Result<()> {
 fn show_clip(rt: &HostRuntime, scale: u32) -> io::Result<()> {
     let script = script_of(rt.alloc(), HEAD, "0,0,0,,")?;
     let m = clip_matrix(&script.header(), scale.min(30), &Size { w: 96, h: 32 });
-    println!(rt;
-        "a clip of scale {scale}: {} by {}, turned by {}",
-        m.ux, m.uy, m.turn
-    )
+    show_numbers(rt, "clip", &[i64::from(scale), m.ux, m.uy])
 }
 
 /// Prints all rows.

@@ -1,5 +1,6 @@
 //! How long the layout of a text takes.
 
+ghost use Rattle.ass_num.specs.Limits.{IsFrameSize};
 ghost use Rattle.ass_script.specs.Ranges.{IsScript};
 ghost use Rattle.ass_events.specs.Ranges.{IsEvent};
 ghost use Rattle.override_tags.specs.Views.{IsView};
@@ -20,15 +21,15 @@ use text_layout::layout;
 const HEAD: &str = "[Script Info]\nPlayResX: 1920\nPlayResY: 1080\n\
     [V4+ Styles]\nStyle: Default,many,40,&H00FFFFFF,&H000000FF,&H00000000,&H00000000,0,0,0,0,100,100,0,0,1,0,0,2,20,20,20,1\n";
 
+const FONT_HEAD: &str =
+    "STARTFONT 2.1\nFONT many\nSTARTPROPERTIES 2\nFONT_ASCENT 16\nFONT_DESCENT 4\nENDPROPERTIES\n";
+
 /// A font of so many glyphs of no pixels, each of its own code.
 fn font_text(alloc: Global, glyphs: u32) -> io::Result<String> {
-    let mut text = String::from_str(
-        alloc,
-        "STARTFONT 2.1\nFONT many\nSTARTPROPERTIES 2\nFONT_ASCENT 16\nFONT_DESCENT 4\nENDPROPERTIES\n",
-    )?;
+    let mut text = String::from_str(alloc, FONT_HEAD)?;
     for code in 0..glyphs {
         let glyph = format!(in alloc;
-            "STARTCHAR {code}\nENCODING {code}\nDWIDTH 10 0\nBBX 0 0 0 0\nBITMAP\nENDCHAR\n"
+            "STARTCHAR x\nENCODING {code}\nDWIDTH 10 0\nBBX 0 0 0 0\nBITMAP\nENDCHAR\n"
         )?;
         text.push_str(glyph.as_str())?;
     }
@@ -43,24 +44,19 @@ fn least_time(
     fonts: &FontSet,
     event: &Event,
     view: &EventView,
+    size: &Size,
     turns: u32,
 ) -> io::Result<u128>
     requires script { IsScript script.now }
     requires fonts { IsLayoutFontSet fonts.now.fonts }
     requires event { IsEvent event.now }
     requires view { IsView view.now }
+    requires size { IsFrameSize size.now }
 {
     let mut least = u128::MAX;
     for _ in 0..turns {
         let began = Instant::now(rt)?;
-        let _laid = layout(
-            rt.alloc(),
-            script,
-            fonts,
-            event,
-            view,
-            &Size { w: 1920, h: 1080 },
-        );
+        let _laid = layout(rt.alloc(), script, fonts, event, view, size);
         least = least.min(began.elapsed(rt)?.as_nanos());
     }
     Ok(least)
@@ -73,25 +69,16 @@ fn show_count(
     fonts: &FontSet,
     event: &Event,
     view: &EventView,
+    size: &Size,
 ) -> io::Result<()>
     requires script { IsScript script.now }
     requires fonts { IsLayoutFontSet fonts.now.fonts }
     requires event { IsEvent event.now }
     requires view { IsView view.now }
+    requires size { IsFrameSize size.now }
 {
-    let (items, states) = (view.items.len(), view.states.len());
-    match layout(
-        rt.alloc(),
-        script,
-        fonts,
-        event,
-        view,
-        &Size { w: 1920, h: 1080 },
-    ) {
-        Ok(laid) => {
-            let lines = laid.lines.len();
-            println!(rt; "{items} items, {states} states, {lines} lines")
-        }
+    match layout(rt.alloc(), script, fonts, event, view, size) {
+        Ok(laid) => println!(rt; "{} lines", laid.lines.len()),
         Err(_) => Err(crate::unreadable()),
     }
 }
@@ -105,7 +92,8 @@ pub fn measure(rt: &HostRuntime, glyphs: u32, text: &str, turns: u32) -> io::Res
     let view = view_of(alloc, &script, &event)?;
     let font = font_text(alloc, glyphs)?;
     let fonts = fonts_of(alloc, font.as_str(), "STARTFONT 2.1\nENDFONT\n")?;
-    show_count(rt, &script, &fonts, &event, &view)?;
-    let least = least_time(rt, &script, &fonts, &event, &view, turns)?;
+    let size = Size { w: 1920, h: 1080 };
+    show_count(rt, &script, &fonts, &event, &view, &size)?;
+    let least = least_time(rt, &script, &fonts, &event, &view, &size, turns)?;
     println!(rt; "{least} ns")
 }
