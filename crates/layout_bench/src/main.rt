@@ -31,13 +31,36 @@ fn number_of(word: &String) -> io::Result<u32> {
     }
 }
 
-/// A piece so many times, behind a head.
-fn repeated(rt: &HostRuntime, head: &str, piece: &str, count: u32) -> io::Result<String> {
-    let mut text = String::from_str(rt.alloc(), head)?;
+/// A piece so many times between what stands before and after it.
+fn repeated(
+    rt: &HostRuntime,
+    before: &str,
+    piece: &str,
+    after: &str,
+    count: u32,
+) -> io::Result<String> {
+    let mut text = String::from_str(rt.alloc(), before)?;
     for _ in 0..count {
         text.push_str(piece)?;
     }
+    text.push_str(after)?;
     Ok(text)
+}
+
+/// Times the layout of a text of so many pieces.
+fn measure_pieces(
+    rt: &HostRuntime,
+    glyphs: &String,
+    text: [&str; 3],
+    count: &String,
+    turns: &String,
+) -> io::Result<()> {
+    let glyphs = number_of(glyphs)?;
+    let count = number_of(count)?;
+    let turns = number_of(turns)?;
+    let [before, piece, after] = text;
+    let text = repeated(rt, before, piece, after, count)?;
+    measure(rt, glyphs, text.as_str(), turns)
 }
 
 fn main(rt: HostRuntime) -> io::Result<()> {
@@ -45,9 +68,8 @@ fn main(rt: HostRuntime) -> io::Result<()> {
     match words.as_slice() {
         [] => show_all(&rt),
         [glyphs, before, piece, after, count, turns] => {
-            let mut text = repeated(&rt, before.as_str(), piece.as_str(), number_of(count)?)?;
-            text.push_str(after.as_str())?;
-            measure(&rt, number_of(glyphs)?, text.as_str(), number_of(turns)?)
+            let text = [before.as_str(), piece.as_str(), after.as_str()];
+            measure_pieces(&rt, glyphs, text, count, turns)
         }
         _ => Err(unreadable()),
     }

@@ -1,5 +1,6 @@
 //! How long the layout of a text takes.
 
+ghost use Rattle.std.specs.Prelude.{IfOk};
 ghost use Rattle.ass_num.specs.Limits.{IsFrameSize};
 ghost use Rattle.ass_script.specs.Ranges.{IsScript};
 ghost use Rattle.ass_events.specs.Ranges.{IsEvent};
@@ -83,17 +84,40 @@ fn show_count(
     }
 }
 
+/// A font of so many glyphs, and one without any.
+fn many_fonts(alloc: Global, glyphs: u32) -> io::Result<FontSet>
+    ensures { IfOk result (λ set. IsLayoutFontSet set.fonts) }
+{
+    let font = font_text(alloc, glyphs)?;
+    fonts_of(alloc, font.as_str(), "STARTFONT 2.1\nENDFONT\n")
+}
+
+/// Prints how many lines the layout has, and the least time of so many turns.
+fn show_times(
+    rt: &HostRuntime,
+    script: &Script,
+    fonts: &FontSet,
+    event: &Event,
+    view: &EventView,
+    turns: u32,
+) -> io::Result<()>
+    requires script { IsScript script.now }
+    requires fonts { IsLayoutFontSet fonts.now.fonts }
+    requires event { IsEvent event.now }
+    requires view { IsView view.now }
+{
+    let size = Size { w: 1920, h: 1080 };
+    show_count(rt, script, fonts, event, view, &size)?;
+    let least = least_time(rt, script, fonts, event, view, &size, turns)?;
+    println!(rt; "{least} ns")
+}
+
 /// Times the layout of a text in a font of so many glyphs.
 pub fn measure(rt: &HostRuntime, glyphs: u32, text: &str, turns: u32) -> io::Result<()> {
     let alloc = rt.alloc();
-    let tail = format!(in alloc; "0,0,0,,{text}")?;
-    let script = script_of(alloc, HEAD, tail.as_str())?;
+    let script = script_of(alloc, HEAD, text)?;
     let event = event_of(alloc, &script)?;
     let view = view_of(alloc, &script, &event)?;
-    let font = font_text(alloc, glyphs)?;
-    let fonts = fonts_of(alloc, font.as_str(), "STARTFONT 2.1\nENDFONT\n")?;
-    let size = Size { w: 1920, h: 1080 };
-    show_count(rt, &script, &fonts, &event, &view, &size)?;
-    let least = least_time(rt, &script, &fonts, &event, &view, &size, turns)?;
-    println!(rt; "{least} ns")
+    let fonts = many_fonts(alloc, glyphs)?;
+    show_times(rt, &script, &fonts, &event, &view, turns)
 }
