@@ -19,7 +19,7 @@ is_fresh() {
 # The layout of a text that is so many pieces between what stands before and after them, in a font of so many glyphs.
 layout() {
     printf '\n%s turns in a font of %s glyphs: %s%s%s, %s times %s\n' "$6" "$1" "$2" "$3" "$4" "$5" "$3"
-    "$program" "$@" | sed 's/^/  /'
+    "$program" "$1" "0,0,0,,$2" "${@:3}" | sed 's/^/  /'
 }
 
 if ! is_fresh; then
