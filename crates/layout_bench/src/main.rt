@@ -31,7 +31,7 @@ fn number_of(word: &String) -> io::Result<u32> {
     }
 }
 
-/// A piece so many times between what stands before and after it.
+/// The end of an event's line, from its left margin on: its text is a piece so many times between what stands before and after it.
 fn repeated(
     rt: &HostRuntime,
     before: &str,
@@ -39,7 +39,8 @@ fn repeated(
     after: &str,
     count: u32,
 ) -> io::Result<String> {
-    let mut text = String::from_str(rt.alloc(), before)?;
+    let mut text = String::from_str(rt.alloc(), "0,0,0,,")?;
+    text.push_str(before)?;
     for _ in 0..count {
         text.push_str(piece)?;
     }
