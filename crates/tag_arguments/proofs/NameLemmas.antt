@@ -1,12 +1,12 @@
 -- Names at the front of a text, and the longest of them.
-use Rattle.std.proofs.Common.{◌≡◌, ◌≢◌, ℕ, ◌+◌, ◌<◌, ◌≤◌, true, false, cond, List, [], ◌∷◌, ◌++◌, length, drop, ap, refl, sym, ◌∙◌, map, get_or, add-one, drop-cons, Bor, Option, Some, None, inl, inr, nat_eq, arith}
-use Rattle.std.specs.List.{starts_with}
+use Rattle.std.proofs.Common.{◌≡◌, ◌≢◌, ℕ, ◌+◌, ◌<◌, ◌≤◌, true, false, cond, List, [], ◌∷◌, ◌++◌, length, drop, slice_index_or, ap, refl, sym, ◌∙◌, map, get_or, add-one, drop-cons, Bor, Option, Some, None, inl, inr, not, nat_eq, arith}
+use Rattle.std.specs.List.{starts_with, filter, list_all}
 use Rattle.std.specs.Option.{option_map}
-use Rattle.std.proofs.lemmas.Bool.{cases_Bool, cases_lt, cond-true, cond-false, false_from_ne_true, lt-ltb, le-ltb}
+use Rattle.std.proofs.lemmas.Bool.{and_parts, both_ways, cases_Bool, cases_lt, cond-true, cond-false, false_from_ne_true, lt-ltb, le-ltb}
 use Rattle.std.proofs.lemmas.Bool.Decides.{Decides-eqb}
 use Rattle.std.proofs.lemmas.Slice.Eq.{starts_is}
 use Rattle.tag_arguments.specs.declared.kinds.TagName.{TagName}
-use Rattle.tag_arguments.specs.Names.{NameRow, tag_names, longer_row, longer_found, longest_row, found_by, longest_name}
+use Rattle.tag_arguments.specs.Names.{NameRow, tag_names, rows_of, longer_row, longer_found, longest_row, found_by, longest_name}
 
 pub begins : (text name rest : List ℕ) → text ≡ name ++ rest → starts_with nat_eq text name ≡ true
 begins text name rest e = (starts_is Decides-eqb text name (starts_with nat_eq text name) refl).1 rest e
@@ -84,6 +84,31 @@ longest_begins (r ∷ rows) text row is = elim (cases_Bool (starts_with nat_eq t
       | inl below ↦ ap (λ z. starts_with nat_eq text z.0) (longer_yes a o below) ∙ others o refl
       | inr above ↦ ap (λ z. starts_with nat_eq text z.0) (longer_no a o above) ∙ first
     ])
+
+-- ---- rows whose spelling begins with another byte don't count
+
+other_byte : (spelling : List ℕ) (byte : ℕ) (rest : List ℕ) → not (nat_eq (length spelling) 0) ≡ true → starts_with nat_eq spelling (byte ∷ []) ≡ false → starts_with nat_eq (byte ∷ rest) spelling ≡ false
+other_byte [] byte rest spelled lacks = absurd (cc)
+other_byte (b ∷ bs) byte rest spelled lacks =
+    begins_not (byte ∷ rest) (b ∷ bs) (λ more e. let same : b ≡ byte = cc in both_ways _ lacks (begins (b ∷ bs) (byte ∷ []) bs (ap (λ z. z ∷ bs) same)))
+
+same_byte : (rows : List NameRow) (byte : ℕ) (rest : List ℕ) → list_all (λ row. not (nat_eq (length row.0) 0)) rows ≡ true
+    → longest_row (filter (λ row. starts_with nat_eq row.0 (byte ∷ [])) rows) (byte ∷ rest) ≡ longest_row rows (byte ∷ rest)
+same_byte [] byte rest spelled = refl
+same_byte (row ∷ rows) byte rest spelled =
+    let text = byte ∷ rest in
+    let parts = and_parts _ _ spelled in
+    let others = same_byte rows byte rest parts.1 in
+    elim (cases_Bool (starts_with nat_eq row.0 (byte ∷ []))) [
+      | inl does ↦ ap (λ z. longest_row z text) (cond-true _ _ _ does) ∙ ap (λ z. cond (starts_with nat_eq text row.0) (longer_found (Some row) z) z) others
+      | inr lacks ↦ ap (λ z. longest_row z text) (cond-false _ _ _ lacks) ∙ others ∙ sym (cond-false _ _ _ (other_byte row.0 byte rest parts.0 lacks))
+    ]
+
+pub rows_enough : (text bytes : List ℕ) (rows : List NameRow) (found : Option NameRow) → bytes ≡ text → 1 ≤ length bytes → rows ≡ rows_of (slice_index_or bytes 0 0)
+    → found ≡ longest_row rows text → found ≡ longest_row tag_names text
+rows_enough [] bytes rows found same some are is = let len : length bytes ≡ 0 = ap length same in absurd (omega arith)
+rows_enough (byte ∷ rest) bytes rows found same some are is =
+    is ∙ ap (λ z. longest_row z (byte ∷ rest)) (are ∙ ap (λ z. rows_of (slice_index_or z 0 0)) same) ∙ same_byte tag_names byte rest refl
 
 -- ---- the name that is found
 

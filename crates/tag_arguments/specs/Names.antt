@@ -1,6 +1,6 @@
 -- Public: the names of tags and what each stands for (Aegisub, "ASS override tags"), as docs/TAGS.md has them.
 use Rattle.std.specs.Prelude.{ℕ, nat_eq, nat_lt, codes, if◌then◌else◌, true, false, List, [], ◌∷◌, length, drop, Option, Some, None}
-use Rattle.std.specs.List.{starts_with}
+use Rattle.std.specs.List.{starts_with, filter}
 use Rattle.std.specs.Option.{option_map}
 use Rattle.tag_arguments.specs.declared.kinds.Num.TheVariants as num
 use Rattle.tag_arguments.specs.declared.kinds.Sung.TheVariants as sung
@@ -36,6 +36,10 @@ tag_names =
     (codes "t", name.Transform) ∷
     (codes "frx", name.Skipped) ∷ (codes "fry", name.Skipped) ∷ (codes "fax", name.Skipped) ∷ (codes "fay", name.Skipped) ∷
     (codes "fe", name.Skipped) ∷ (codes "kt", name.Skipped) ∷ (codes "fsc", name.Skipped) ∷ []
+
+-- its rows whose spelling begins with a byte
+abbrev pub rows_of : ℕ → List NameRow
+rows_of byte = filter (λ row. starts_with nat_eq row.0 (byte ∷ [])) tag_names
 
 -- of two rows the one with the longer spelling
 abbrev pub longer_row : NameRow → NameRow → NameRow
