@@ -1,0 +1,4 @@
+pub mod WordLemmas
+pub mod ColumnLemmas
+pub mod BoxLemmas
+pub mod DrawLemmas

@@ -1,0 +1,11 @@
+//! What changed between two pictures: between the draws that make them, and between their pixels.
+#![tactic(auto)]
+
+mod bytes;
+mod columns;
+mod kinds;
+mod pixels;
+mod words;
+
+pub use kinds::{ChangeKind, change};
+pub use pixels::{Changed, changed_box};
