@@ -1,0 +1,6 @@
+//! What the caches of regions, masks and composed masks keep. All their values are made from the same fonts.
+#![tactic(auto)]
+
+mod kinds;
+
+pub use kinds::{CompositeMade, MaskMade, OutlineMade};
