@@ -1,11 +1,14 @@
 -- Rows whose runs reach further to both sides.
-use Rattle.std.proofs.Common.{◌≡◌, ℕ, ◌+◌, ◌<◌, true, ◌&&◌, ◌||◌, ℤ, pos, ◌+ℤ◌, ◌-ℤ◌, ◌≤ℤ◌, ◌<ℤ◌, ◌⊎◌, inl, inr, ⊎_elim, refl, sym, ◌∙◌, arith, int_lt, int_le, List, [], length, get_or, take}
+use Rattle.std.proofs.Common.{◌≡◌, ℕ, ◌+◌, ◌<◌, Bool, true, subst, ◌∷◌, ◌&&◌, ◌||◌, ℤ, pos, ◌+ℤ◌, ◌-ℤ◌, ◌≤ℤ◌, ◌<ℤ◌, ◌⊎◌, inl, inr, ⊎_elim, refl, sym, ◌∙◌, arith, int_lt, int_le, List, [], length, get_or, take}
 use Rattle.std.proofs.lemmas.Int.{ints, by_lt_z}
 use Rattle.std.proofs.lemmas.Bool.{and_parts, or_cases, or_left, or_right, and_from, false≢true}
 use Rattle.std.proofs.lemmas.List.{take_more, get_or_default}
 use Rattle.std.proofs.lemmas.List.Elements.{All-nil}
 use Rattle.ass_num.specs.Limits.{IsWithin}
 use Rattle.ass_num.specs.Regions.{in_runs, ascend}
+use Rattle.std.specs.Cmp.{signed_Decides}
+use Rattle.std.specs.Cmp.Lexicographic.{pointwise}
+use Rattle.ass_num.specs.contracts.region.RunPartialEq.TheImpl as run
 use Rattle.ass_num.specs.declared.region.Run.{Run}
 use Rattle.region_rows.specs.Joins.{AllBegin, IsJoinedTo}
 use Rattle.region_rows.proofs.JoinLemmas.{in_runs-push, next_at}
@@ -39,6 +42,26 @@ front_from row n d k l f =
 -- ---- a row whose runs are held one after another
 pub covers_none : (w : ℕ) (runs : List Run) → Covers w [] runs
 covers_none w runs = λ k i m near. absurd (false≢true m)
+
+covers_itself : (row : List Run) → Covers 0 row row
+covers_itself row k i h near = let e : i ≡ k = omega (arith, ints, near.0, near.1) in rw e h
+
+run_same : (a b : Run) → run.ghosts.eq a b ≡ true → a ≡ b
+run_same a b e = grind (arith, signed_Decides a.from b.from, signed_Decides a.to b.to)
+
+runs_same : (xs ys : List Run) → pointwise run.ghosts.eq xs ys ≡ true → xs ≡ ys
+runs_same [] [] e = refl
+runs_same [] (y ∷ ys) e = cc
+runs_same (x ∷ xs) [] e = cc
+runs_same (x ∷ xs) (y ∷ ys) e =
+    let parts = and_parts (run.ghosts.eq x y) (pointwise run.ghosts.eq xs ys) e in
+    let head = run_same x y parts.0 in
+    let tail = runs_same xs ys parts.1 in
+    cc
+
+-- A row that is found equal to another one by `==` lies in it.
+pub equal_covers : (row before : List Run) (found : Bool) → found ≡ pointwise run.ghosts.eq row before → found ≡ true → Covers 0 row before
+equal_covers row before found is e = subst (Covers 0 row) (runs_same row before (sym is ∙ e)) (covers_itself row)
 
 pub covers_more : (w : ℕ) (row : List Run) (n : ℕ) (d wide : Run) (runs : List Run) → n < length row → wide.from ≡ (get_or row n d).from -ℤ pos w → wide.to ≡ (get_or row n d).to +ℤ pos w → Covers w (take n row) runs → IsRunCovered wide runs → Covers w (take (n + 1) row) runs
 covers_more w row n d wide runs l f t old new = λ k i m near.

@@ -1,9 +1,10 @@
 //! The rows of a region that reach beyond the rows before them.
 
-ghost use Rattle.std.specs.Prelude.{◌≡◌, ℤ, pos, ◌+ℤ◌, ◌-ℤ◌, ◌≤ℤ◌, ◌<ℤ◌, ◌⊎◌, true, false, All, IfOk, length, neg_ℤ};
+ghost use Rattle.std.specs.Prelude.{◌≡◌, ℤ, pos, ◌+ℤ◌, ◌-ℤ◌, ◌≤ℤ◌, ◌<ℤ◌, ◌⊎◌, true, false, All, IfOk, IsTrue, length, neg_ℤ};
 ghost use Rattle.border_region.specs.Limits.{max_key, max_seen};
 ghost use Rattle.ass_num.specs.Limits.{IsRegionWithin, IsRunWithin, max_sample};
 ghost use Rattle.ass_num.specs.Regions.{ascend, in_runs};
+ghost use Rattle.border_region.specs.Widths.{Covers};
 ghost use Rattle.border_region.specs.Frontier.{IsFrontier, is_seen, row_of_key};
 
 use crate::wide_rows::covers_row;
@@ -53,6 +54,14 @@ fn keys_of(region: &Region, upwards: bool) -> RowRange
     }
 }
 
+/// Whether all samples of a row are in the row before it, which often has the same runs.
+fn is_covered(row: &[Run], before: &[Run]) -> bool
+    requires { All (IsRunWithin max_sample) row.now }
+    ensures { IsTrue result → Covers 0 row.now before.now }
+{
+    row == before || covers_row(before, row, 0)
+}
+
 /// The keys of the rows with a run that the row before doesn't cover, in ascending order.
 pub fn frontier(alloc: Global, region: &Region, upwards: bool) -> Mem<Vec<i32>>
     requires { IsRegionWithin max_sample region.now.top region.now.rows }
@@ -62,7 +71,7 @@ pub fn frontier(alloc: Global, region: &Region, upwards: bool) -> Mem<Vec<i32>>
     let mut found = Vec::new(alloc);
     for key in keys.first..keys.end {
         let before = seen_row(region, upwards, key - 1);
-        if !covers_row(before, seen_row(region, upwards, key), 0) {
+        if !is_covered(seen_row(region, upwards, key), before) {
             found.push(key)?;
         }
     }

@@ -4,6 +4,7 @@ mod InsideLemmas
 mod OutsideLemmas
 pub mod SignedLemmas
 mod SortLemmas
+mod SteadyLemmas
 mod SweepLemmas
 mod WalkLemmas
 mod WindingLemmas

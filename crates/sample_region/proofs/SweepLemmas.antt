@@ -37,7 +37,7 @@ begun_crossed y es h =
     (All-weaker (λ (e : Edge). e.upper.y ≤ℤ y) (λ (e : Edge). int_lt y e.lower.y ≡ spans e.upper e.lower y) (λ e k. rw (le_true e.upper.y y k) refl) es h)
 
 -- and of those that haven't begun none
-rest_crossed : (y : ℤ) (es : List Edge) → All (λ e. y <ℤ e.upper.y) es → filter (λ (e : Edge). spans e.upper e.lower y) es ≡ []
+pub rest_crossed : (y : ℤ) (es : List Edge) → All (λ e. y <ℤ e.upper.y) es → filter (λ (e : Edge). spans e.upper e.lower y) es ≡ []
 rest_crossed y es h =
     filter_none (λ (e : Edge). spans e.upper e.lower y) es
     (All-weaker (λ (e : Edge). y <ℤ e.upper.y) (λ (e : Edge). spans e.upper e.lower y ≡ false) (λ e k. and_left (int_le e.upper.y y) (int_lt y e.lower.y) (le_false e.upper.y y k)) es h)

@@ -1,5 +1,5 @@
 -- Inner: the edges of an outline as the sweep takes them, and how far it has come.
-use Rattle.std.specs.Prelude.{◌≡◌, ℕ, ℤ, ◌≤ℤ◌, ◌<ℤ◌, ◌≤◌, ◌<◌, true, false, int_lt, List, [], ◌∷◌, cond, length, take, filter, All, slice_index_or}
+use Rattle.std.specs.Prelude.{◌≡◌, ℕ, ℤ, ◌≤ℤ◌, ◌<ℤ◌, ◌≤◌, ◌<◌, true, false, int_lt, List, [], ◌∷◌, cond, length, take, drop, filter, All, slice_index_or}
 use Rattle.ass_num.specs.Limits.{IsOutlinePoint}
 use Rattle.ass_num.specs.declared.geometry.Point.{Point}
 use Rattle.sample_region.specs.declared.edges.Edge.{Edge}
@@ -29,6 +29,26 @@ pub record IsSwept (y : ℤ) (edges : List Edge) (begun : ℕ) (active : List Ed
   pub active_is : (z : ℤ) → y ≤ℤ z → unended z active ≡ unended z (take begun edges)
   pub above : All (λ e. e.upper.y ≤ℤ y) (take begun edges)
   pub within : begun ≤ length edges
+
+-- The sweep has come to the row at y: the first edges have begun, and those of them that don't end above the row are active.
+pub record IsSweptTo (y : ℤ) (edges : List Edge) (begun : ℕ) (active : List Edge) : Type 0 where
+  pub active_is : active ≡ unended y (take begun edges)
+  pub above : All (λ e. e.upper.y ≤ℤ y) (take begun edges)
+  pub below : All (λ e. y <ℤ e.upper.y) (drop begun edges)
+  pub within : begun ≤ length edges
+
+-- all edges begin below the row at y
+abbrev pub BeginBelow : ℤ → List Edge → Type 0
+BeginBelow y edges = All (λ e. y <ℤ e.upper.y) edges
+
+-- the edge stands upright and reaches below the row at y
+abbrev pub IsUprightPast : ℤ → Edge → Type 0
+IsUprightPast y e = (e.upper.x ≡ e.lower.x) × (y <ℤ e.lower.y)
+
+-- Down to the row at y no edge begins or ends, and those that have begun stand upright.
+pub record IsSteady (y : ℤ) (edges : List Edge) (begun : ℕ) (active : List Edge) : Type 0 where
+  pub begins : BeginBelow y (drop begun edges)
+  pub upright : All (IsUprightPast y) active
 
 -- the edge crosses the row at y
 pub record IsCrossed (y : ℤ) (e : Edge) : Type 0 where

@@ -106,9 +106,43 @@ struct Scan {
 }
 
 impl Scan {
-    ghost use Rattle.sample_region.specs.Scans.{HasScanned};
+    ghost use Rattle.sample_region.specs.Scans.{HasReached, HasScanned, HasSteadyRows, HoldsRow};
 
-    /// Sweeps row j, the next one, and adds it.
+    /// Sweeps row j, and finds its runs.
+    fn sweep_row(&mut self, edges: &[Edge], j: i32) -> Mem<()>
+        requires edges { IsSweepable edges.now }
+        requires low { neg_ℤ (pos max_swept) ≤ℤ j }
+        requires high { j ≤ℤ pos max_swept }
+        requires reached { HasReached edges.now j self.old }
+        ensures reached { OnOk result (HasReached edges.now j self.new) }
+        ensures steady { OnOk result (HasSteadyRows edges.now j self.new) }
+        ensures row { OnOk result (HoldsRow edges.now j self.new) }
+        ensures growth { self.new.growth ≡ self.old.growth }
+    {
+        self.sweep.advance(edges, height_of(j))?;
+        self.walk.walk(self.sweep.crossings.as_slice())?;
+        Ok(())
+    }
+
+    /// Finds the runs of row j. Where they are known to be those of the row before, it isn't swept.
+    fn find_row(&mut self, edges: &[Edge], j: i32) -> Mem<()>
+        requires edges { IsSweepable edges.now }
+        requires low { neg_ℤ (pos max_swept) ≤ℤ j }
+        requires high { j ≤ℤ pos max_swept }
+        requires reached { HasReached edges.now j self.old }
+        requires steady { HasSteadyRows edges.now j self.old }
+        ensures reached { OnOk result (HasReached edges.now j self.new) }
+        ensures steady { OnOk result (HasSteadyRows edges.now j self.new) }
+        ensures row { OnOk result (HoldsRow edges.now j self.new) }
+        ensures growth { self.new.growth ≡ self.old.growth }
+    {
+        if self.sweep.is_steady(edges, height_of(j)) {
+            return Ok(());
+        }
+        self.sweep_row(edges, j)
+    }
+
+    /// Adds row j, the next one.
     fn add_row(&mut self, edges: &[Edge], j: i32) -> Mem<()>
         requires edges { IsSweepable edges.now }
         requires low { neg_ℤ (pos max_swept) ≤ℤ j }
@@ -116,8 +150,7 @@ impl Scan {
         requires rows { HasScanned edges.now j self.old }
         ensures { OnOk result (HasScanned edges.now (j +ℤ pos 1) self.new) }
     {
-        self.sweep.advance(edges, height_of(j))?;
-        self.walk.walk(self.sweep.crossings.as_slice())?;
+        self.find_row(edges, j)?;
         self.growth.add(self.walk.runs.as_slice())?;
         Ok(())
     }

@@ -1,6 +1,6 @@
 //! The runs of a row, by a walk along its crossings.
 
-ghost use Rattle.std.specs.Prelude.{◌≡◌, ◌+◌, ◌<◌, ◌^◌, OnOk};
+ghost use Rattle.std.specs.Prelude.{◌≡◌, [], ◌+◌, ◌<◌, ◌^◌, OnOk};
 ghost use Rattle.sample_region.specs.Crossings.{IsAscending, downs, ups};
 ghost use Rattle.sample_region.specs.Rows.{IsRowOf, Reopens};
 
@@ -20,7 +20,10 @@ pub struct Walk {
 impl Walk {
     ghost use Rattle.sample_region.specs.Walks.{Passes};
 
-    pub fn new(alloc: Global) -> Walk {
+    /// A walk that has found nothing yet.
+    pub fn new(alloc: Global) -> Walk
+        ensures { result.runs.items ≡ [] }
+    {
         Walk {
             downs: 0,
             ups: 0,

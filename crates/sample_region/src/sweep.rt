@@ -1,7 +1,8 @@
 //! The sweep over the rows: which edges cross a row, and where.
 
 ghost use Rattle.std.specs.Prelude.{◌≡◌, ℤ, ◌≤ℤ◌, ◌<ℤ◌, ◌≤◌, ◌++◌, ◌∷◌, [], All, List, map, take, drop, cond, int_lt, length, OnOk, IsPermutation};
-ghost use Rattle.sample_region.specs.Edges.{IsCrossed, IsSwept, unended};
+ghost use Rattle.std.specs.Bool.{IsTrue};
+ghost use Rattle.sample_region.specs.Edges.{BeginBelow, IsCrossed, IsSteady, IsSwept, IsSweptTo, IsUprightPast, unended};
 ghost use Rattle.sample_region.specs.Crossings.{IsAscending, IsSweepable, crossing_at, row_crossings};
 
 use crate::cut::cut;
@@ -29,7 +30,9 @@ impl Sweep {
 
     /// A sweep that hasn't begun.
     pub fn new(alloc: Global) -> Sweep
-        ensures { (y : ℤ) → (edges : List Edge) → IsSwept y edges result.begun result.active.items }
+        ensures swept { (y : ℤ) → (edges : List Edge) → IsSwept y edges result.begun result.active.items }
+        ensures begun { result.begun ≡ 0 }
+        ensures active { result.active.items ≡ [] }
     {
         Sweep {
             begun: 0,
@@ -79,6 +82,7 @@ impl Sweep {
         ensures crossings { OnOk result (IsPermutation (row_crossings y edges.now) self.new.crossings.items) }
         ensures ascending { OnOk result (IsAscending self.new.crossings.items) }
         ensures swept { OnOk result ((z : ℤ) → y ≤ℤ z → IsSwept z edges.now self.new.begun self.new.active.items) }
+        ensures swept_to { OnOk result (IsSweptTo y edges.now self.new.begun self.new.active.items) }
     {
         drop_ended(&mut self.active, y);
         self.begin_edges(edges, y)?;
@@ -86,6 +90,41 @@ impl Sweep {
         sort(&mut self.crossings);
         Ok(())
     }
+
+    /// Whether all edges that haven't begun yet begin below the row at `y`.
+    fn begin_below(&self, edges: &[Edge], y: i64) -> bool
+        requires { IsSweepable edges.now }
+        ensures { IsTrue result → BeginBelow y (drop self.now.begun edges.now) }
+    {
+        self.begun >= edges.len() || y < edges[self.begun].upper.y
+    }
+
+    /// Whether the row at `y` is known to have the same crossings as the last row.
+    pub fn is_steady(&self, edges: &[Edge], y: i64) -> bool
+        requires { IsSweepable edges.now }
+        ensures { IsTrue result → IsSteady y edges.now self.now.begun self.now.active.items }
+    {
+        self.begin_below(edges, y) && are_upright_past(self.active.as_slice(), y)
+    }
+}
+
+/// Whether an edge stands upright and reaches below the row at `y`.
+fn is_upright_past(e: Edge, y: i64) -> bool
+    ensures { IsTrue result → IsUprightPast y e }
+{
+    e.upper.x == e.lower.x && y < e.lower.y
+}
+
+/// Whether all edges do.
+fn are_upright_past(edges: &[Edge], y: i64) -> bool
+    ensures { IsTrue result → All (IsUprightPast y) edges.now }
+{
+    for e in edges {
+        if !is_upright_past(*e, y) {
+            return false;
+        }
+    }
+    true
 }
 
 /// Drops the edges that end above the row at `y`.

@@ -3,7 +3,7 @@ use Rattle.std.proofs.lemmas.Int.{ints}
 use Rattle.ass_num.proofs.OrderLemmas.{lt_is, lt_not}
 use Rattle.border_region.proofs.FrontierLemmas.{HasFound, found_none, found_same, found_more, found_all}
 use Rattle.border_region.proofs.frontier.frontier.Goals as goal
-use Rattle.border_region.proofs.frontier.frontier.Goals.{then-not-covers_row+in_ok-push, else-not-covers_row}
+use Rattle.border_region.proofs.frontier.frontier.Goals.{then-not-is_covered+in_ok-push, else-not-is_covered}
 
 pub loop-key-init : goal.loop-key-init
 loop-key-init c =
@@ -24,10 +24,10 @@ loop-key-preserved c =
     let t : key <ℤ c.keys_of-keys.result.end = lt_is key c.keys_of-keys.result.end (rw (to_z-of_z fe) at c.loop-key-test.true) in
     let f : FitsSigned w32 (key +ℤ pos 1) = omega (arith, ints) in
     let b : FitsSigned w32 (key -ℤ pos 1) = omega (arith, ints) in
-    let found : HasFound c.args.region.now c.args.upwards (key +ℤ pos 1) c.if-not-covers_row.found.items =
-    elim c.if-not-covers_row.branch [
-      | then-not-covers_row+in_ok-push w ↦ rw (w.found-is, w.in_ok-push.ensures.items) (found_more c.args.region.now c.args.upwards key c.loop-key.found.items low (omega (arith, ints)) c.loop-key.invariant.found)
-      | else-not-covers_row w ↦ rw w.found-is (found_same c.args.region.now c.args.upwards key c.loop-key.found.items c.seen_row-before.result.now c.seen_row.result.now (λ i. rw (to_z-of_z b) at (c.seen_row-before.ensures.seen i)) c.seen_row.ensures.seen (c.covers_row.ensures w.if-not-covers_row.false) c.loop-key.invariant.found)
+    let found : HasFound c.args.region.now c.args.upwards (key +ℤ pos 1) c.if-not-is_covered.found.items =
+    elim c.if-not-is_covered.branch [
+      | then-not-is_covered+in_ok-push w ↦ rw (w.found-is, w.in_ok-push.ensures.items) (found_more c.args.region.now c.args.upwards key c.loop-key.found.items low (omega (arith, ints)) c.loop-key.invariant.found)
+      | else-not-is_covered w ↦ rw w.found-is (found_same c.args.region.now c.args.upwards key c.loop-key.found.items c.seen_row-before.result.now c.seen_row.result.now (λ i. rw (to_z-of_z b) at (c.seen_row-before.ensures.seen i)) c.seen_row.ensures.seen (c.is_covered.ensures w.if-not-is_covered.false) c.loop-key.invariant.found)
     ] in
     rw (to_z-of_z f, to_z-of_z fe) (record { low = omega (arith, ints); high = omega (arith, ints); found = found })
 

@@ -8,6 +8,7 @@ use Rattle.ass_num.proofs.LimitLemmas.{IsWithin-wider, within_from}
 use Rattle.sample_region.proofs.InsideLemmas.{columns_near, rows_near}
 use Rattle.sample_region.proofs.OutsideLemmas.{outside, outside_all}
 use Rattle.ass_num.proofs.OrderLemmas.{lt_is}
+use Rattle.sample_region.proofs.SteadyLemmas.{first_rows}
 use Rattle.sample_region.proofs.region.region_of.Goals as goal
 
 pub returns-then-heights-clause-samples : goal.returns-then-heights-clause-samples
@@ -24,7 +25,8 @@ add_rows-requires-clause-rows c =
     let none : (i j : ℤ) → j <ℤ c.rows_within-rows.result.first → is_inside c.in_ok-edges.edges.items i j ≡ false =
     λ i j l. c.in_ok-edges.ensures.insides i j ∙ outside c.find_heights-heights.result.low c.find_heights-heights.result.high c.args.outline.now.rings c.find_heights-heights.ensures.between i j (inl (c.rows_within-rows.ensures.above j l)) in
     rw (to_z-of_z f, c.as_slice.ensures.value) (record {
-      swept = c.new.ensures (place c.rows_within-rows.result.first) c.in_ok-edges.edges.items;
+      reached = c.new.ensures.swept (place c.rows_within-rows.result.first) c.in_ok-edges.edges.items;
+      steady = λ k _ s. rw c.new-2.ensures (first_rows c.in_ok-edges.edges.items k (rw (c.new.ensures.begun, c.new.ensures.active) at s));
       grown = g (is_inside c.in_ok-edges.edges.items) none;
     })
 

@@ -24,3 +24,10 @@ returns-clause-swept c =
     let a = simp (to_z-of_z c.ranges.y) at c.in_ok-begin_edges.ensures.active in
     let u = simp (to_z-of_z c.ranges.y) at c.in_ok-begin_edges.ensures.above in
     swept c.args.y c.args.edges.now c.begin_edges.new.self.begun c.begin_edges.new.self.active.items a u c.in_ok-begin_edges.ensures.within
+
+pub returns-clause-swept_to : goal.returns-clause-swept_to
+returns-clause-swept_to c =
+    let a = simp (to_z-of_z c.ranges.y) at c.in_ok-begin_edges.ensures.active in
+    let u = simp (to_z-of_z c.ranges.y) at c.in_ok-begin_edges.ensures.above in
+    let b = simp (to_z-of_z c.ranges.y) at c.in_ok-begin_edges.ensures.below in
+    record { active_is = a; above = u; below = b; within = c.in_ok-begin_edges.ensures.within }

@@ -1,0 +1,9 @@
+use Rattle.std.proofs.Common.{rules, arith, FitsSigned, to_z-of_z, w64}
+use Rattle.std.proofs.lemmas.Int.{ints}
+use Rattle.sample_region.proofs.region.Scan.find_row.Goals as goal
+
+pub returns-then-is_steady-clause-row : goal.returns-then-is_steady-clause-row
+returns-then-is_steady-clause-row c =
+    let f : FitsSigned w64 c.height_of.result = search rules in
+    let e = rw (to_z-of_z c.ranges.j) at c.height_of.ensures in
+    c.requires.steady c.args.j (omega (arith, ints)) (rw (to_z-of_z f, e) at (c.if-is_steady.ensures (search rules)))
