@@ -8,8 +8,9 @@ use Rattle.ass_num.specs.declared.geometry.Point.{Point}
 use Rattle.ass_num.specs.declared.size.Size.{Size}
 use Rattle.ass_num.proofs.LimitLemmas.{IsWithin-wider}
 use Rattle.ass_events.specs.declared.event.Event.{Event}
+use Rattle.ass_events.specs.Ranges.{IsEvent}
 use Rattle.ass_script.specs.Ranges.{IsCanvasSide, IsScript}
-use Rattle.ass_script.specs.Scripts.{ScriptValue}
+use Rattle.ass_script.specs.Scripts.{ScriptValue, style_for}
 use Rattle.outline_points.proofs.Bounds.{within_product, within_quotient}
 use Rattle.override_tags.specs.declared.view.EventView.{EventView}
 use Rattle.placement.specs.Placement.{IsPlaceableStand, max_height}
@@ -17,9 +18,21 @@ use Rattle.text_layout.specs.Anchors.{IsBlockSide, IsMargins, anchor, anchor_by,
 use Rattle.text_layout.specs.Limits.{max_block}
 use Rattle.text_layout.specs.Scales.{framed, pixel, whole_milli}
 use Rattle.text_layout.specs.declared.laid.Laid.{Laid}
+use Rattle.tag_state.proofs.RangeLemmas.{style_held}
+use Rattle.text_layout.proofs.AnchorLemmas.{margin_within}
 use Rattle.text_layout.proofs.BlockLemmas.{edge-inner}
 use Rattle.text_layout.proofs.ScaleLemmas.{factor_within, middle_within}
 use Rattle.event_places.specs.Stands.{stand_of}
+
+pub margins_within : (script : ScriptValue) (event : Event) → IsScript script → IsEvent event → IsMargins (margins_of script event)
+margins_within script event s e =
+    let style = style_for event.style script in
+    let held = style_held script s event.style in
+    record {
+      left = margin_within event.margin_l style.margin_l e.margin_l held.margin_l;
+      right = margin_within event.margin_r style.margin_r e.margin_r held.margin_r;
+      vertical = margin_within event.margin_v style.margin_v e.margin_v held.margin_v;
+    }
 
 -- ---- the anchor
 -- the most units of a frame's side

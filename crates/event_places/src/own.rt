@@ -21,7 +21,7 @@ use bdf_font::FontSet;
 use override_tags::EventView;
 use placement::{Box2, Stand};
 use std::alloc::Global;
-use text_layout::{Laid, anchor, block_corner, layout, margins_of};
+use text_layout::{Laid, anchor, block_corner, layout};
 
 /// The highest that a box counts, in 1/64 pixel: 2^40.
 const MAX_HEIGHT: Fix = 1_099_511_627_776;
@@ -136,8 +136,6 @@ pub(crate) fn stand_of(script: &Script, event: &Event, own: &OwnLayout, size: &S
     ensures value { result ≡ stand_of script.now event.now own.now.view own.now.laid size.now }
     ensures range { IsPlaceableStand result }
 {
-    // Their range tells how far out the box may lie.
-    let _margins = margins_of(script, event);
     Stand {
         start: event.start,
         end: end_of(event),

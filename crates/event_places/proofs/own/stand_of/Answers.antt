@@ -1,7 +1,6 @@
-use Rattle.std.proofs.Common.{rules, arith, subst}
+use Rattle.std.proofs.Common.{rules, arith}
 use Rattle.std.proofs.lemmas.Grind.{common_steps}
-use Rattle.text_layout.specs.Anchors.{IsMargins}
-use Rattle.event_places.proofs.StandLemmas.{placeable}
+use Rattle.event_places.proofs.StandLemmas.{margins_within, placeable}
 use Rattle.event_places.proofs.own.stand_of.Goals as goal
 
 pub returns-clause-value : goal.returns-clause-value
@@ -12,4 +11,4 @@ returns-clause-range c =
     let own = c.args.own.now in
     rw (returns-clause-value c)
     (placeable c.args.script.now c.args.event.now own.view own.laid c.args.size.now c.requires.script
-    (subst IsMargins c.margins_of-margins.ensures.value c.margins_of-margins.ensures.range) c.requires.size c.requires.pointless c.requires.width c.requires.height)
+    (margins_within c.args.script.now c.args.event.now c.requires.script c.requires.event) c.requires.size c.requires.pointless c.requires.width c.requires.height)
