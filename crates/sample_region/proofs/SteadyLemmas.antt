@@ -1,16 +1,15 @@
 -- Rows between which no edge begins or ends, and whose edges stand upright, have the same crossings.
-use Rattle.std.proofs.Common.{◌≡◌, ℕ, ◌+◌, ◌<◌, ◌≤◌, ℤ, pos, ◌+ℤ◌, ◌-ℤ◌, ◌≤ℤ◌, ◌<ℤ◌, refl, sym, ap, subst, ◌∙◌, arith, List, [], ◌∷◌, map, filter, length, get_or, drop, take, All, IsPermutation, nat_eq}
+use Rattle.std.proofs.Common.{◌≡◌, ℕ, ℤ, pos, ◌-ℤ◌, ◌≤ℤ◌, refl, sym, ap, subst, ◌∙◌, arith, List, [], ◌∷◌, map, filter, take, All, IsPermutation}
 use Rattle.std.proofs.Math.IntN.{zero-*ℤ}
 use Rattle.std.proofs.lemmas.Int.{ints}
-use Rattle.std.proofs.lemmas.List.{get_or-drop, length-drop, drop_all}
-use Rattle.std.proofs.lemmas.List.Elements.{All-head, All-tail, All-nil, All-from_get_or, All-weaker}
+use Rattle.std.proofs.lemmas.List.Elements.{All-head, All-tail, All-weaker}
 use Rattle.ass_num.proofs.OrderLemmas.{lt_true}
 use Rattle.ass_num.specs.Winding.{place, spans}
 use Rattle.ass_num.specs.declared.geometry.Point.{Point}
 use Rattle.ass_num.specs.declared.region.Run.{Run}
 use Rattle.region_rows.specs.Growths.{IsRowHolding}
 use Rattle.sample_region.specs.Crossings.{crossing_at, cut_of, is_inside, row_crossings}
-use Rattle.sample_region.specs.Edges.{BeginBelow, IsOrdered, IsSteady, IsSwept, IsSweptTo, IsUprightPast, unended}
+use Rattle.sample_region.specs.Edges.{IsSteady, IsSwept, IsSweptTo, IsUprightPast, unended}
 use Rattle.sample_region.specs.Rows.{IsRowOf}
 use Rattle.sample_region.specs.declared.edges.Edge.{Edge}
 use Rattle.sample_region.specs.declared.sweep.Crossing.{Crossing}
