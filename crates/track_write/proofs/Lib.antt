@@ -1,0 +1,13 @@
+pub mod RowLemmas
+pub mod ShiftLemmas
+pub mod Tokens
+pub mod Readings
+pub mod Colours
+pub mod StyleReads
+pub mod EventReads
+pub mod LineReads
+pub mod LineCuts
+pub mod LinesHold
+pub mod Walks
+pub mod ReadBack
+pub mod Spelled
