@@ -12,4 +12,8 @@ pub mod RunLemmas
 pub mod ShiftBounds
 pub mod StageLemmas
 pub mod StampLemmas
+pub mod ListAlls
+pub mod ValidMarks
+pub mod ValidDraws
+pub mod ValidEvents
 pub mod StepLemmas
