@@ -6,47 +6,20 @@ use Rattle.ass_events.specs.NearEvents.{IsShownAt, span_of}
 use Rattle.ass_events.specs.declared.event.Event.{Event}
 use Rattle.ass_script.specs.Scripts.{ScriptValue}
 use Rattle.bdf_font.specs.Fonts.{FontValue}
+use Rattle.event_places.proofs.RivalAgreement.{HaveSameRivals, moved_agrees}
 use Rattle.mask_keys.specs.declared.plans.Draw.{Draw}
-use Rattle.placement.specs.declared.boxes.Box2.{Box2}
-use Rattle.picture_plan.specs.Shifts.{IsRival, IsRivalBox, HasShift, Placed, IsMovedBy, Shifted, Pointed}
 use Rattle.picture_plan.specs.Pictures.{AreShown, AreEventDraws, AreDrawsInOrder, None, Next, AreDraws}
 
 -- Of the events that matter the sets have the same rivals, which matter too; and of what is shown they have the same, which matters.
 pub record Agree (matters : Event → Type 0) (t : ℤ) (a b : List Event) : Type 0 where
-  pub rivals : (e f : Event) → matters e → IsRival a e f → IsRival b e f × matters f
-  pub back : (e f : Event) → matters e → IsRival b e f → IsRival a e f
+  pub rivals : HaveSameRivals matters a b
   pub shown : (e : Event) → IsShownAt (span_of e) t → Contains a e ↔ Contains b e
   pub drawn : (e : Event) → IsShownAt (span_of e) t → Contains a e → matters e
-
-rival_box : {script : ScriptValue} {fonts : List FontValue} {size : Size} {a b : List Event} {shift_of : Event → ℤ} {e : Event} {box : Box2}
-    → ((f : Event) → IsRival a e f → IsRival b e f)
-    → IsRivalBox script fonts size a shift_of e box → IsRivalBox script fonts size b shift_of e box
-rival_box over h = record { rival = h.rival; is_rival = over h.rival h.is_rival; stand = h.stand; stands = h.stands; moved = h.moved }
-
-shift_agrees : {script : ScriptValue} {fonts : List FontValue} {size : Size} {a b : List Event} (matters : Event → Type 0) (t : ℤ)
-    → Agree matters t a b
-    → (e : Event) (shift : ℤ) → matters e → HasShift script fonts size a e shift → HasShift script fonts size b e shift
-shift_agrees matters t h _ _ m (Placed e stand others shift_of shift stands each boxes least) =
-    Placed e stand others shift_of shift stands
-    (λ f s rival stood.
-    let was = h.back e f m rival in
-    shift_agrees matters t h f (shift_of f) (h.rivals e f m was).1 (each f s was stood))
-    (λ box. (
-      λ c. rival_box (λ f r. (h.rivals e f m r).0) ((boxes box).0 c),
-      λ r. (boxes box).1 (rival_box (λ f r. h.back e f m r) r),
-    ))
-    least
-
-moved_agrees : {script : ScriptValue} {fonts : List FontValue} {size : Size} {a b : List Event} (matters : Event → Type 0) (t : ℤ)
-    → Agree matters t a b
-    → (e : Event) (shift : ℤ) → matters e → IsMovedBy script fonts size a e shift → IsMovedBy script fonts size b e shift
-moved_agrees matters t h _ _ m (Shifted e stand shift stands shifted) = Shifted e stand shift stands (shift_agrees matters t h e shift m shifted)
-moved_agrees matters t h _ _ m (Pointed e point) = Pointed e point
 
 event_agrees : {script : ScriptValue} {fonts : List FontValue} {size : Size} {a b : List Event} {t : ℤ} (matters : Event → Type 0)
     → Agree matters t a b
     → (e : Event) (draws : List Draw) → matters e → AreEventDraws script fonts a t size e draws → AreEventDraws script fonts b t size e draws
-event_agrees {t} matters h e draws m d = record { shift = d.shift; moved = moved_agrees matters t h e d.shift m d.moved; drawn = d.drawn }
+event_agrees matters h e draws m d = record { shift = d.shift; moved = moved_agrees matters h.rivals e d.shift m d.moved; drawn = d.drawn }
 
 in_order_agrees : {script : ScriptValue} {fonts : List FontValue} {size : Size} {a b : List Event} {t : ℤ} (matters : Event → Type 0)
     → Agree matters t a b

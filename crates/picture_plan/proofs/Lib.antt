@@ -5,7 +5,6 @@ pub mod LayoutLemmas
 pub mod LineSpans
 pub mod MarkLemmas
 pub mod MaximalRuns
-pub mod OneShift
 pub mod PixelLemmas
 pub mod RowLemmas
 pub mod RunLemmas

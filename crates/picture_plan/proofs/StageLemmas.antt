@@ -7,7 +7,8 @@ use Rattle.ass_num.proofs.LimitLemmas.{IsWithin-wider}
 use Rattle.text_layout.specs.Anchors.{IsBlockSide, anchor, block_corner, edge_across, edge_down}
 use Rattle.text_layout.specs.Limits.{max_anchor, max_block}
 use Rattle.text_layout.proofs.BlockLemmas.{edge-inner}
-use Rattle.picture_plan.specs.Limits.{max_block_corner, max_shift}
+use Rattle.event_places.specs.Limits.{max_shift}
+use Rattle.picture_plan.specs.Limits.{max_block_corner}
 use Rattle.picture_plan.specs.Stages.{moved_down, origin_by, stage_at}
 use Rattle.picture_plan.specs.declared.stage.Stage.{Stage}
 use Rattle.ass_events.specs.declared.event.Event.{Event}

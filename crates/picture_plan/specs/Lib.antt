@@ -6,6 +6,4 @@ pub mod Runs
 pub mod Clips
 pub mod Draws
 pub mod EventDraws
-pub mod Stands
-pub mod Shifts
 pub mod Pictures

@@ -1,11 +1,7 @@
 -- Public: how far from 0 the numbers lie of an event that stands in the frame. These are conditions of calls.
 use Rattle.std.specs.Prelude.{ℕ, ◌+◌}
-use Rattle.placement.specs.Placement.{max_moved, max_place}
+use Rattle.event_places.specs.Limits.{max_shift}
 use Rattle.text_layout.specs.Limits.{max_anchor, max_block}
-
--- the farthest that a block is moved to stand clear of others, in 1/64 pixel
-abbrev pub max_shift : ℕ
-max_shift = max_place + max_moved
 
 -- the farthest from 0 that the corner of a block may lie which is moved so far
 abbrev pub max_block_corner : ℕ

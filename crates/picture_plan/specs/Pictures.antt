@@ -7,6 +7,7 @@ use Rattle.ass_events.specs.NearEvents.{AreNear, IsShownAt, span_of}
 use Rattle.ass_events.specs.declared.event.Event.{Event}
 use Rattle.ass_script.specs.Scripts.{ScriptValue}
 use Rattle.bdf_font.specs.Fonts.{FontValue}
+use Rattle.event_places.specs.Shifts.{IsMovedBy}
 use Rattle.mask_keys.specs.declared.plans.Draw.{Draw}
 use Rattle.override_tags.specs.declared.view.EventView.{EventView}
 use Rattle.tag_state.specs.Views.{IsViewOf}
@@ -14,7 +15,6 @@ use Rattle.text_layout.specs.Layouts.{IsLaid}
 use Rattle.text_layout.specs.declared.laid.Laid.{Laid}
 use Rattle.picture_plan.specs.EventDraws.{event_draws}
 use Rattle.picture_plan.specs.Stages.{stage_at}
-use Rattle.picture_plan.specs.Shifts.{IsMovedBy}
 
 -- e is drawn before f: in a lower layer, or in the same one by ReadOrder.
 abbrev pub IsDrawnBefore : Event → Event → Type 0

@@ -5,7 +5,7 @@ ghost use Rattle.ass_num.specs.Limits.{IsFrameSize, IsWithin, max_instant, max_t
 ghost use Rattle.ass_script.specs.Ranges.{IsScript};
 ghost use Rattle.ass_events.specs.Ranges.{IsEvent};
 ghost use Rattle.text_layout.specs.Fonts.{IsLayoutFontSet};
-ghost use Rattle.picture_plan.specs.Limits.{max_shift};
+ghost use Rattle.event_places.specs.Limits.{max_shift};
 ghost use Rattle.picture_plan.specs.Pictures.{AddsMovedDraws};
 
 use crate::rows::add_event_draws;

@@ -3,12 +3,10 @@
 ghost use Rattle.std.specs.Prelude.{List};
 ghost use Rattle.ass_script.specs.Scripts.{ScriptValue};
 ghost use Rattle.bdf_font.specs.Fonts.{FontValue};
-ghost use Rattle.ass_num.specs.declared.size.Size.{Size};
 ghost use Rattle.picture_plan.specs.Pictures.{DrawsOfASet, DrawsOfNearEvents};
 ghost use Rattle.override_tags.specs.declared.view.EventView.{EventView};
 ghost use Rattle.text_layout.specs.declared.laid.Placed.{Placed};
 ghost use Rattle.picture_plan.specs.Runs.{AreRunsOf, runs_of};
-ghost use Rattle.picture_plan.specs.Shifts.{HaveOneShift, HaveOneStand};
 
 /// What a set of events draws doesn't depend on the order in which they came.
 pub fn order_of_arrival()
@@ -18,11 +16,6 @@ pub fn order_of_arrival()
 /// The events that matter at an instant draw what all events do.
 pub fn near_events_draw()
     ensures { (script : ScriptValue) (fonts : List FontValue) → DrawsOfNearEvents script fonts }
-{}
-
-/// Where each event has one stand, each has one shift.
-pub fn one_shift()
-    ensures { (script : ScriptValue) (fonts : List FontValue) (size : Size) → HaveOneStand script fonts size → HaveOneShift script fonts size }
 {}
 
 /// The runs of a line are its items, one run after the other, and none could go on.

@@ -12,7 +12,7 @@ mod runs;
 mod stage;
 
 pub use event::add_moved_event;
-pub use laws::{near_events_draw, one_shift, order_of_arrival, runs_are_maximal};
+pub use laws::{near_events_draw, order_of_arrival, runs_are_maximal};
 pub use mask_keys::{Clip, Draw, Plan};
 pub use rows::add_event_draws;
 pub use stage::Stage;

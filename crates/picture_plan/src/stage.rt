@@ -9,7 +9,8 @@ ghost use Rattle.override_tags.specs.Views.{IsHeldPlace};
 ghost use Rattle.tag_state.specs.Views.{elapsed_at};
 ghost use Rattle.text_layout.specs.Anchors.{IsBlockSide, block_corner};
 ghost use Rattle.text_layout.specs.Limits.{max_anchor, max_block};
-ghost use Rattle.picture_plan.specs.Limits.{max_block_corner, max_shift};
+ghost use Rattle.event_places.specs.Limits.{max_shift};
+ghost use Rattle.picture_plan.specs.Limits.{max_block_corner};
 ghost use Rattle.picture_plan.specs.Stages.{moved_down, origin_by};
 
 use crate::lengths::sum;
