@@ -15,4 +15,7 @@ pub mod ListAlls
 pub mod ValidMarks
 pub mod ValidDraws
 pub mod ValidEvents
+pub mod ShownLemmas
+pub mod PlacedLemmas
+pub mod PlanLemmas
 pub mod StepLemmas

@@ -1,5 +1,5 @@
 -- The draws of marks, of lines and of an event have valid keys: all numbers of keys are held where they may lie.
-use Rattle.std.proofs.Common.{◌≡◌, ℕ, ◌+◌, ◌*◌, ◌<◌, ◌≤◌, Bool, true, false, cond, ◌&&◌, ◌||◌, Option, Some, None, List, [], ◌∷◌, ◌++◌, flat_map, length, map, filter, ℤ, pos, negsuc, neg_ℤ, ◌+ℤ◌, ◌-ℤ◌, ◌≤ℤ◌, int_le, int_lt, unsigned_abs, arith}
+use Rattle.std.proofs.Common.{◌≡◌, ℕ, ◌+◌, ◌*◌, ◌<◌, ◌≤◌, Bool, true, false, cond, ◌&&◌, ◌||◌, Option, Some, None, List, [], ◌∷◌, ◌++◌, flat_map, length, map, filter, ℤ, pos, negsuc, neg_ℤ, ◌+ℤ◌, ◌-ℤ◌, ◌*ℤ◌, ◌≤ℤ◌, int_le, int_lt, unsigned_abs, arith}
 use Rattle.std.specs.List.{All}
 use Rattle.std.specs.Option.{IfSome}
 use Rattle.std.specs.Int.{int_rem_euclid}
@@ -7,7 +7,7 @@ use Rattle.std.proofs.lemmas.Bool.{and_parts}
 use Rattle.std.proofs.lemmas.Int.{ints}
 use Rattle.std.proofs.Math.Nat.{mod-lt}
 use Rattle.std.proofs.lemmas.List.Elements.{All-append, All-cons, All-filter, All-map, All-nil, All-weaker}
-use Rattle.ass_num.specs.Floor.{held}
+use Rattle.ass_num.specs.Floor.{floor_div, held}
 use Rattle.ass_num.specs.Limits.{IsFrameSize, IsWithin, max_frame_side}
 use Rattle.ass_num.specs.declared.geometry.Path.{Path}
 use Rattle.ass_num.specs.declared.geometry.Point.{Point}
@@ -17,9 +17,9 @@ use Rattle.ass_num.proofs.OrderLemmas.{le_is, lt_is}
 use Rattle.ass_script.specs.declared.script.Header.{Header}
 use Rattle.bdf_font.specs.Fonts.{FontValue}
 use Rattle.draw_numbers.specs.Colours.{back_colour, lacks_border, outline_colour, plain_paint}
-use Rattle.draw_numbers.specs.Limits.{max_reach}
+use Rattle.draw_numbers.specs.Limits.{max_reach, one_milli}
 use Rattle.draw_numbers.specs.Pens.{is_near_frame, phase_of, reaches}
-use Rattle.draw_numbers.specs.Widths.{are_no_offsets, are_no_radii, no_offsets, no_radii, no_softness, radii_of, radius, softness_of}
+use Rattle.draw_numbers.specs.Widths.{are_no_offsets, are_no_radii, blur_radius, in_samples, no_offsets, no_radii, no_softness, radii_of, softness_of}
 use Rattle.draw_numbers.specs.declared.colours.Paint.{Paint}
 use Rattle.draw_numbers.specs.declared.pens.Spot.{Spot}
 use Rattle.draw_numbers.specs.declared.widths.Offsets.{Offsets}
@@ -29,13 +29,15 @@ use Rattle.mask_keys.specs.Keys.{IsValidClip, IsValidComposite, IsValidDraw, IsV
 use Rattle.mask_keys.specs.declared.plans.Clip.{Clip}
 use Rattle.mask_keys.specs.declared.plans.Draw.{Draw}
 use Rattle.mask_model.specs.Outlines.{glyph_counts}
+use Rattle.outline_points.specs.Limits.{max_length}
 use Rattle.override_tags.specs.Ranges.{IsClip}
 use Rattle.override_tags.specs.declared.tag.ClipTag.{ClipTag}
 use Rattle.override_tags.specs.declared.tag.ClipTag.TheVariants as clip_tag
 use Rattle.override_tags.specs.declared.view.State.{State}
+use Rattle.text_layout.specs.Anchors.{IsBlockSide}
 use Rattle.text_layout.specs.declared.laid.Line.{Line}
 use Rattle.picture_plan.specs.Clips.{clip_by}
-use Rattle.picture_plan.specs.Draws.{IsBlockLine, IsStampNear, border_making, border_radii, box_border, box_making, box_mark, box_shadow, draw_of, draw_of_marks, fill_making, fill_softness, is_near_stamp, offsets_in, part_from, run_border, run_fill, run_shadow, softness_in, stamp_of, stamps_of}
+use Rattle.picture_plan.specs.Draws.{IsBlockLine, IsStampNear, border_making, border_radii, box_border, box_making, box_mark, box_shadow, draw_of, draw_of_marks, fill_making, fill_softness, is_near_stamp, offsets_in, part_from, run_border, run_fill, run_shadow, samples_long, softness_in, stamp_of, stamps_of}
 use Rattle.picture_plan.specs.declared.draws.Making.{Making}
 use Rattle.picture_plan.specs.declared.draws.Stamp.{Stamp}
 use Rattle.picture_plan.specs.declared.marks.Mark.{Mark}
@@ -143,10 +145,17 @@ record IsSoftness (softness : Softness) : Type 0 where
   blur : softness.blur ≤ max_blur_radius
 
 radii_within : (header : Header) (state : State) (size : Size) → AreRadii (radii_of header state size)
-radii_within header state size = record { x = held_abs max_border _; y = held_abs max_border _ }
+radii_within header state size = record {
+  x = held_abs max_border (in_samples header.scaled state.border_x size.w header.res_x);
+  y = held_abs max_border (in_samples header.scaled state.border_y size.h header.res_y);
+}
+
+blur_within : (scaled : Bool) (blur : ℤ) (side res : ℕ) → blur_radius scaled blur side res ≤ max_blur_radius
+blur_within true blur side res = held_abs max_blur_radius (floor_div ((blur *ℤ pos (2 * side)) +ℤ pos (one_milli * res)) (pos (2 * (one_milli * res))))
+blur_within false blur side res = held_abs max_blur_radius (floor_div ((blur *ℤ pos 2) +ℤ pos one_milli) (pos (2 * one_milli)))
 
 softness_within : (header : Header) (state : State) (size : Size) → IsSoftness (softness_of header state size)
-softness_within header state size = record { edges = held_abs max_passes _; blur = held_abs max_blur_radius _ }
+softness_within header state size = record { edges = held_abs max_passes (floor_div state.edges (pos one_milli)); blur = blur_within header.scaled state.blur size.h header.res_y }
 
 radii_if : (b : Bool) (radii : Radii) → AreRadii radii → AreRadii (cond b no_radii radii)
 radii_if true radii h = record { x = omega arith; y = omega arith }
@@ -207,18 +216,15 @@ fill_valid stage fonts clip boxed run ground h =
 
 -- ---- boxes
 
+side_within : (w : ℤ) (r : ℕ) → IsBlockSide w → r ≤ max_border → IsWithin max_length (w +ℤ samples_long (2 * r))
+side_within w r h k = (omega (arith, ints, h.from_zero), omega (arith, ints, h.most, k))
+
 box_valid : (stage : Stage) (fonts : List FontValue) (line : Line) (state : State) → IsBlockLine line → All (IsValidMark fonts) (box_mark stage line state ∷ [])
 box_valid stage fonts line state h =
     let r = radii_within stage.header state stage.size in
-    let x = r.x in
-    let y = r.y in
-    let w = h.width in
-    let t = h.height in
+    let radii = radii_of stage.header state stage.size in
     All-cons (IsValidMark fonts) (box_mark stage line state) []
-    (record {
-      width = (omega (arith, ints, w.from_zero), omega (arith, ints, w.most, x));
-      height = (omega (arith, ints, t.from_zero), omega (arith, ints, t.most, y));
-    })
+    (record { width = side_within line.width radii.x h.width r.x; height = side_within line.height radii.y h.height r.y })
     (All-nil (IsValidMark fonts))
 
 pub box_shadow_valid : (stage : Stage) (fonts : List FontValue) (clip : Clip) (line : Line) (state : State) → IsValidGround stage fonts clip → IsBlockLine line

@@ -1,10 +1,11 @@
 -- The outlines of marks are valid keys.
-use Rattle.std.proofs.Common.{◌≡◌, refl, sym, ap, subst, ◌∙◌, ℕ, suc, ◌+◌, ◌<◌, ◌≤◌, Bool, true, false, cond, Option, Some, None, List, [], ◌∷◌, length, map, get_or, slice_get, slice_index, slice_index_or, option_and_then, ℤ, pos, arith}
+use Rattle.std.proofs.Common.{◌≡◌, refl, sym, ap, subst, ◌∙◌, ℕ, suc, ◌+◌, ◌*◌, ◌<◌, ◌≤◌, Bool, true, false, cond, Option, Some, None, List, [], ◌∷◌, length, map, get_or, slice_get, slice_index, slice_index_or, option_and_then, ℤ, pos, ◌*ℤ◌, arith}
 use Rattle.std.specs.List.{All, filter_map}
 use Rattle.std.specs.Option.{IfSome, option_map, option_map_or}
 use Rattle.std.proofs.lemmas.Int.{ints}
 use Rattle.std.proofs.lemmas.List.{get_or-map, length-map}
 use Rattle.std.proofs.lemmas.List.Elements.{All-weaker}
+use Rattle.ass_num.specs.Floor.{floor_div}
 use Rattle.ass_num.specs.Limits.{IsWithin}
 use Rattle.ass_num.specs.Names.{same_name}
 use Rattle.ass_num.specs.Paths.{IsPath}
@@ -30,7 +31,7 @@ use Rattle.override_tags.specs.declared.view.State.{State}
 use Rattle.text_layout.specs.Fonts.{IsLayoutFontSet, font_numbers}
 use Rattle.text_layout.specs.Kinds.{char_of}
 use Rattle.text_layout.specs.Metrics.{no_font}
-use Rattle.text_layout.specs.Scales.{clip_matrix, drawing_matrix, held_scale, text_matrix}
+use Rattle.text_layout.specs.Scales.{clip_matrix, drawing_matrix, drawing_scale, em_height, fine_parts, held_scale, level_parts, text_matrix, text_scale, whole_milli, whole_per_cent}
 use Rattle.text_layout.specs.declared.laid.Line.{Line}
 use Rattle.text_layout.specs.declared.laid.Placed.{Placed}
 use Rattle.picture_plan.specs.Items.{IsBlockItem, no_shown, no_state, shown_of, state_of}
@@ -50,14 +51,29 @@ scale_held z =
     let h = held_within (pos 0) (pos max_scale) z (omega (arith, ints)) in
     record { least = h.0; most = h.1 }
 
+text_held : (size scale : ℤ) (side res em : ℕ) → IsScale (text_scale size scale side res em)
+text_held size scale side res em = scale_held (floor_div ((size *ℤ scale) *ℤ pos (fine_parts side)) (pos (whole_milli * whole_per_cent * res * em)))
+
+drawing_held : (scale : ℤ) (level side res : ℕ) → IsScale (drawing_scale scale level side res)
+drawing_held scale level side res = scale_held (floor_div (scale *ℤ pos (fine_parts side)) (pos (whole_per_cent * res * level_parts level)))
+
 text_is_matrix : (header : Header) (font : FontValue) (state : State) (size : Size) → IsMatrix (text_matrix header font state size)
-text_is_matrix header font state size = record { ux = scale_held _; uy = scale_held _ }
+text_is_matrix header font state size = record {
+  ux = text_held state.size state.scale_x size.w header.res_x (em_height font);
+  uy = text_held state.size state.scale_y size.h header.res_y (em_height font);
+}
 
 drawing_is_matrix : (header : Header) (state : State) (size : Size) → IsMatrix (drawing_matrix header state size)
-drawing_is_matrix header state size = record { ux = scale_held _; uy = scale_held _ }
+drawing_is_matrix header state size = record {
+  ux = drawing_held state.scale_x state.draw size.w header.res_x;
+  uy = drawing_held state.scale_y state.draw size.h header.res_y;
+}
 
 pub clip_is_matrix : (header : Header) (scale : ℕ) (size : Size) → IsMatrix (clip_matrix header scale size)
-clip_is_matrix header scale size = record { ux = scale_held _; uy = scale_held _ }
+clip_is_matrix header scale size = record {
+  ux = drawing_held (pos whole_per_cent) scale size.w header.res_x;
+  uy = drawing_held (pos whole_per_cent) scale size.h header.res_y;
+}
 
 -- ---- fonts
 
@@ -73,9 +89,10 @@ named_within n name (font ∷ fonts) some =
 
 number_within : (fonts : List FontValue) (names : List (List ℕ)) (k : ℕ) → 0 < length fonts → k < length names
     → slice_index (font_numbers fonts names) k < length fonts
-number_within fonts names k some within =
-    let e : slice_index (font_numbers fonts names) k ≡ font_named (get_or names k []) fonts = get_or-map (λ name. font_named name fonts) names k [] 0 within in
-    subst (λ (n : ℕ). n < length fonts) (sym e) (named_within 0 (get_or names k []) fonts some)
+number_within fonts names k some listed =
+    let e : slice_index (font_numbers fonts names) k ≡ font_named (get_or names k []) fonts = get_or-map (λ name. font_named name fonts) names k [] 0 listed in
+    let within : font_named (get_or names k []) fonts < length fonts = omega (arith, named_within 0 (get_or names k []) fonts (omega (arith, some))) in
+    subst (λ (n : ℕ). n < length fonts) (sym e) within
 
 -- ---- marks of characters
 
