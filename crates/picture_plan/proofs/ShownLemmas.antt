@@ -19,6 +19,7 @@ use Rattle.ass_num.proofs.OrderLemmas.{le_is, le_true, lt_is, lt_true}
 use Rattle.ass_events.specs.Histories.{HaveOwnOrders, Pairwise}
 use Rattle.ass_events.specs.NearEvents.{IsNear, IsShownAt, Shown, span_of}
 use Rattle.ass_events.specs.declared.event.Event.{Event}
+use Rattle.event_places.proofs.Pairs.{Pairwise-push}
 use Rattle.event_places.specs.declared.placed.PlacedEvent.{PlacedEvent}
 use Rattle.picture_plan.specs.Pictures.{AreShown, IsDrawnBefore}
 use Rattle.picture_plan.specs.ShownEvents.{ArePlaces, AreByLayer, AreShownPlaces, IsBelow, IsShownPlace, event_at, event_of, event_shown, is_shown, no_event, no_placed, shown_if}
@@ -35,10 +36,6 @@ at_pairwise R [] i j d h order within = absurd (omega arith)
 at_pairwise R (x ∷ xs) i zero d h order within = absurd (omega arith)
 at_pairwise R (x ∷ xs) zero (suc j) d h order within = h.0 j d (omega arith)
 at_pairwise R (x ∷ xs) (suc i) (suc j) d h order within = at_pairwise R xs i j d h.1 (omega arith) (omega arith)
-
-pairwise_push : {X : Type 0} (R : X → X → Type 0) (xs : List X) (x : X) → Pairwise R xs → All (λ a. R a x) xs → Pairwise R (xs ++ x ∷ [])
-pairwise_push R [] x h all = (All-nil (R x), tt)
-pairwise_push R (y ∷ ys) x h all = (All-push (R y) ys x h.0 (all zero x (omega arith)), pairwise_push R ys x h.1 (λ k d lt. all (suc k) d (omega arith)))
 
 -- ---- shown events, place by place
 
@@ -85,7 +82,7 @@ one_more events placed t n true shown h is =
           (λ l. let e : n ≡ k = omega arith in subst (Contains (map place_in shown ++ n ∷ [])) e (Contains-push (map place_in shown) n))
           (cases_lt k n));
       once =
-          pairwise_push Differ shown one h.once
+          Pairwise-push Differ shown one h.once
           (λ k d lt same. let w = (h.each k d lt).within in absurd (omega (arith, w, same)));
     }
 

@@ -1,4 +1,4 @@
--- Public: those of the placed events of a list that are shown at an instant, in the order in which they are drawn.
+-- Inner: those of the placed events of a list that are shown at an instant, in the order in which they are drawn.
 use Rattle.std.specs.Prelude.{◌≡◌, ◌≢◌, ◌⊎◌, ℕ, ◌<◌, ◌&&◌, Bool, true, if◌then◌else◌, List, [], ◌∷◌, length, map, All, Contains, None, slice_index_or, ℤ, pos, ◌+ℤ◌, ◌<ℤ◌, int_le, int_lt}
 use Rattle.ass_events.specs.Histories.{Pairwise}
 use Rattle.ass_events.specs.declared.event.Event.{Event}
