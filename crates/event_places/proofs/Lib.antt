@@ -1,2 +1,13 @@
+pub mod AloneLemmas
+pub mod Lists
+pub mod Nears
+pub mod NearSpans
 pub mod OneShift
+pub mod Orders
+pub mod Pairs
+pub mod PlacedLemmas
 pub mod RivalAgreement
+pub mod SettleLemmas
+pub mod Sorts
+pub mod StandLemmas
+pub mod StepLemmas

@@ -1,5 +1,5 @@
 -- An event has one shift, since its rivals have one each.
-use Rattle.std.proofs.Common.{◌≡◌, ◌∙◌, ap, sym, subst, ◌⊎◌, inl, inr, ⊎_elim, refl, ℤ, Bool, List, Contains, Option, Some, None, arith}
+use Rattle.std.proofs.Common.{◌≡◌, ◌∙◌, ap, sym, subst, ◌⊎◌, inl, inr, ⊎_elim, refl, ℤ, pos, neg_ℤ, Bool, true, false, cond, List, Contains, Option, Some, None, arith}
 use Rattle.std.proofs.lemmas.Int.{ints}
 use Rattle.std.proofs.lemmas.List.Elements.{All-contains, All-contains_itself, All-weaker}
 use Rattle.ass_num.specs.declared.size.Size.{Size}
@@ -9,8 +9,8 @@ use Rattle.bdf_font.specs.Fonts.{FontValue}
 use Rattle.placement.specs.Placement.{IsClear, IsLeastShift, Meet, moved_box}
 use Rattle.placement.specs.declared.boxes.Box2.{Box2}
 use Rattle.placement.specs.declared.boxes.Stand.{Stand}
-use Rattle.event_places.specs.Shifts.{HaveOneStand, IsRival, IsRivalBox, HasShift, Placed}
-use Rattle.event_places.specs.Stands.{HasPoint, IsStandOf}
+use Rattle.event_places.specs.Shifts.{HaveOneStand, IsRival, IsRivalBox, HasShift, Placed, IsMovedBy, Shifted, Pointed, Alone}
+use Rattle.event_places.specs.Stands.{HasPoint, IsStandOf, down_by}
 
 -- What is clear of some boxes is clear of boxes that are all among them.
 clear_of : (b : Box2) (some all : List Box2) (down : Bool) (shift : ℤ)
@@ -81,3 +81,35 @@ one_shift {script} {fonts} {size} {events} one _ _ _ a b (Placed e stand others 
     (λ box c. (boxes' box).1 (same_box one p q stood stood' points' same ((boxes box).0 c)))
     (λ box c. (boxes box).1 (same_box one q p stood' stood points (λ f s r y z rival has has'. sym (same f r s z y rival has' has)) ((boxes' box).0 c)))
     least moved
+
+-- Without rivals a shift is 0.
+no_shift : {script : ScriptValue} {fonts : List FontValue} {size : Size} {events : List Event} (e : Event) (s : Stand) (z : ℤ)
+    → ((f : Event) → IsRival events e f → ⊥) → HasShift script fonts size events e s z → z ≡ pos 0
+no_shift _ _ z alone (Placed e stand others p _ stands points each boxes least) =
+    let P : Box2 → Type 0 = λ other. Meet (moved_box stand.down (pos 0) stand.place) other → ⊥ in
+    let clear : IsClear stand.place others stand.down (pos 0) =
+    All-weaker (Contains others) P (λ box c. let rival = (boxes box).0 c in absurd (alone rival.rival rival.is_rival)) others (All-contains_itself others)
+    in
+    let below = least.least (pos 0) (omega (arith, ints)) clear in
+    let above = least.from_zero in
+    omega (arith, ints, below, above)
+
+unmoved_down : (s : Stand) → down_by s (pos 0) ≡ pos 0
+unmoved_down s = elim s.down as (λ b. cond b (pos 0) (neg_ℤ (pos 0)) ≡ pos 0) [ true ↦ refl | false ↦ refl ]
+
+still : {script : ScriptValue} {fonts : List FontValue} {size : Size} {events : List Event} (e : Event) (s : Stand) (z : ℤ)
+    → ((f : Event) → IsRival events e f → ⊥) → HasShift script fonts size events e s z → down_by s z ≡ pos 0
+still e s z alone h = ap (down_by s) (no_shift e s z alone h) ∙ unmoved_down s
+
+pub one_move : {script : ScriptValue} {fonts : List FontValue} {size : Size} {events : List Event} → HaveOneStand script fonts size
+    → (e : Event) (a b : ℤ) → IsMovedBy script fonts size events e a → IsMovedBy script fonts size events e b → a ≡ b
+one_move one _ _ _ (Shifted e s z h) (Shifted _ r y k) =
+    ap (λ (t : Stand). down_by t z) (one.one e s r (shift_stands e s z h) (shift_stands e r y k)) ∙ ap (down_by r) (one_shift one e s r z y h k)
+one_move one _ _ _ (Shifted e s z h) (Pointed _ point) = absurd (one.pointless e s (shift_stands e s z h) point)
+one_move one _ _ _ (Shifted e s z h) (Alone _ alone) = still e s z alone h
+one_move one _ _ _ (Pointed e point) (Shifted _ r y k) = absurd (one.pointless e r (shift_stands e r y k) point)
+one_move one _ _ _ (Pointed e point) (Pointed _ other) = refl
+one_move one _ _ _ (Pointed e point) (Alone _ alone) = refl
+one_move one _ _ _ (Alone e alone) (Shifted _ r y k) = sym (still e r y alone k)
+one_move one _ _ _ (Alone e alone) (Pointed _ point) = refl
+one_move one _ _ _ (Alone e alone) (Alone _ other) = refl

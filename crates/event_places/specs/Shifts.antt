@@ -55,3 +55,7 @@ pub record HaveOneStand (script : ScriptValue) (fonts : List FontValue) (size : 
 abbrev pub HaveOneShift : ScriptValue → List FontValue → Size → Type 0
 HaveOneShift script fonts size =
     (events : List Event) (e : Event) (s r : Stand) (a b : ℤ) → HasShift script fonts size events e s a → HasShift script fonts size events e r b → a ≡ b
+
+-- So there is one distance that it is moved by.
+abbrev pub HaveOneMove : ScriptValue → List FontValue → Size → Type 0
+HaveOneMove script fonts size = (events : List Event) (e : Event) (a b : ℤ) → IsMovedBy script fonts size events e a → IsMovedBy script fonts size events e b → a ≡ b

@@ -29,11 +29,15 @@ box_at corner laid = record {
   bottom = corner.y +ℤ int_min laid.height (pos max_height);
 }
 
+-- the upper left corner of the block of an event that is laid out so
+abbrev pub corner_of : ScriptValue → Event → EventView → Laid → Size → Point
+corner_of script event view laid size = block_corner (anchor script event view size) view.align laid.width laid.height
+
 abbrev pub stand_of : ScriptValue → Event → EventView → Laid → Size → Stand
 stand_of script event view laid size = record {
   start = event.start;
   end = event.start +ℤ event.duration;
-  place = box_at (block_corner (anchor script event view size) view.align laid.width laid.height) laid;
+  place = box_at (corner_of script event view laid size) laid;
   down = nat_le least_top_align view.align;
 }
 

@@ -4,9 +4,10 @@ ghost use Rattle.std.specs.Prelude.{List};
 ghost use Rattle.ass_num.specs.declared.size.Size.{Size};
 ghost use Rattle.ass_script.specs.Scripts.{ScriptValue};
 ghost use Rattle.bdf_font.specs.Fonts.{FontValue};
-ghost use Rattle.event_places.specs.Shifts.{HaveOneShift, HaveOneStand};
+ghost use Rattle.event_places.specs.Shifts.{HaveOneMove, HaveOneShift, HaveOneStand};
 
-/// Where each event has one stand, each has one shift.
+/// Where each event has one stand, and none beside a point, each has one shift, and is moved by one distance.
 pub fn one_shift()
-    ensures { (script : ScriptValue) (fonts : List FontValue) (size : Size) → HaveOneStand script fonts size → HaveOneShift script fonts size }
+    ensures shift { (script : ScriptValue) (fonts : List FontValue) (size : Size) → HaveOneStand script fonts size → HaveOneShift script fonts size }
+    ensures moved { (script : ScriptValue) (fonts : List FontValue) (size : Size) → HaveOneStand script fonts size → HaveOneMove script fonts size }
 {}

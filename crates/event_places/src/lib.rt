@@ -1,6 +1,15 @@
 //! Where the events of a picture stand: each at its own start, moved clear of those before it in its layer.
 #![tactic(auto)]
 
+mod boxes;
 mod laws;
+mod near;
+mod own;
+mod placed;
+mod spans;
+mod steps;
+mod walks;
 
 pub use laws::one_shift;
+pub use own::OwnLayout;
+pub use placed::{PlacedEvent, placed_events};

@@ -1,0 +1,165 @@
+-- The events gone through are those that matter, each moved clear of its rivals.
+use Rattle.std.proofs.Common.{◌≡◌, ◌≢◌, ℤ, pos, List, [], ◌∷◌, ◌++◌, map, get_or, refl, sym, ap, subst, ◌∙◌, arith, ⊎_elim, inl, inr, Some}
+use Rattle.std.specs.Prelude.{slice_get, neg_ℤ, cond}
+use Rattle.std.specs.List.{All, Contains}
+use Rattle.std.proofs.lemmas.Bool.{cases_Bool}
+use Rattle.std.proofs.lemmas.Int.{ints}
+use Rattle.std.proofs.lemmas.List.{append_assoc, append-nil, map_push}
+use Rattle.std.proofs.lemmas.List.Elements.{All-contains, All-nil, All-push, Contains-append_left, Contains-append_right, Contains-push, Contains-push_cases, Contains-get_or}
+use Rattle.ass_num.specs.Limits.{IsWithin}
+use Rattle.ass_num.specs.declared.size.Size.{Size}
+use Rattle.ass_events.specs.declared.event.Event.{Event}
+use Rattle.ass_events.specs.Histories.{HaveOwnOrders, Pairwise}
+use Rattle.ass_script.specs.Scripts.{ScriptValue}
+use Rattle.bdf_font.specs.Fonts.{FontValue}
+use Rattle.placement.specs.Placement.{moved_box}
+use Rattle.placement.specs.declared.boxes.Stand.{Stand}
+use Rattle.event_places.specs.Limits.{max_shift}
+use Rattle.event_places.specs.PlacedEvents.{ArePlacedEvents, IsPlacedEvent, places_of}
+use Rattle.event_places.specs.Shifts.{HasShift, IsMovedBy, Shifted as moved_by_shift, Pointed as moved_by_point, Alone as moved_alone}
+use Rattle.event_places.specs.Spans.{AreNearSpans, IsSpanOf, StandsBefore, event_span}
+use Rattle.event_places.specs.Stands.{HasPoint, down_by}
+use Rattle.event_places.specs.Steps.{AreSteps, First, Next, IsGoneThrough, IsPlacing, IsStep, Pointed, Shifted, Alone, Moved, moved_event, settled_at, unmoved}
+use Rattle.event_places.specs.declared.placed.PlacedEvent.{PlacedEvent}
+use Rattle.event_places.specs.declared.spans.EventSpan.{EventSpan}
+use Rattle.event_places.specs.declared.steps.Settled.{Settled}
+use Rattle.event_places.proofs.Lists.{same_some, in_map, from_map}
+use Rattle.event_places.proofs.Orders.{not_before_itself}
+use Rattle.event_places.proofs.Pairs.{Contains-nil, Contains-head, Contains-tail, Pairwise-push}
+use Rattle.event_places.proofs.StepLemmas.{AreDone, AreSettled, DifferSettled, IsDone, done_more, has_shift, new_differs, no_rival}
+
+module _ (script : ScriptValue) (fonts : List FontValue) (size : Size) (events : List Event) (t : ℤ) (near : List EventSpan) (orders : HaveOwnOrders events) (are : AreNearSpans events t near) where
+  -- an event that isn't moved
+  still : (s : EventSpan) (e : Event) → slice_get events s.place ≡ Some e → IsMovedBy script fonts size events e (pos 0) → IsPlacedEvent script fonts size events (unmoved s.place)
+  still s e at moved = record { event = e; stands = at; moved = moved; near = (omega (arith, ints), omega (arith, ints)); own = tt }
+
+  places_more : (spans : List EventSpan) (placed : List PlacedEvent) (s : EventSpan) (one : PlacedEvent) → one.place ≡ s.place → places_of placed ≡ map (λ (s : EventSpan). s.place) spans
+      → places_of (placed ++ one ∷ []) ≡ map (λ (s : EventSpan). s.place) (spans ++ s ∷ [])
+  places_more spans placed s one same h =
+      map_push (λ (p : PlacedEvent). p.place) placed one ∙ (ap (λ z. z ++ one.place ∷ []) h ∙ (ap (λ z. map (λ (s : EventSpan). s.place) spans ++ z ∷ []) same ∙ sym (map_push (λ (s : EventSpan). s.place) spans s)))
+
+  -- where nothing was settled
+  settled_same : (spans : List EventSpan) (s : EventSpan) (settled : List Settled) → AreSettled script fonts size events near spans settled → IsDone script events near settled s
+      → AreSettled script fonts size events near (spans ++ s ∷ []) settled
+  settled_same spans s settled so d = record {
+    spanned = λ x c. Contains-append_left spans (s ∷ []) x.span (so.spanned x c);
+    stood = so.stood;
+    shifted = so.shifted;
+    done = λ r c. ⊎_elim (λ old. so.done r old) (λ is. subst (IsDone script events near settled) is d) (Contains-push_cases spans s r c);
+    differ = so.differ;
+  }
+
+  -- where one more was
+  settled_more : (spans : List EventSpan) (s : EventSpan) (rest : List EventSpan) (settled : List Settled) (e : Event) (stand : Stand) (shift : ℤ) → near ≡ spans ++ s ∷ rest
+      → AreSettled script fonts size events near spans settled → slice_get events s.place ≡ Some e → HasShift script fonts size events e stand shift
+      → AreSettled script fonts size events near (spans ++ s ∷ []) (settled ++ settled_at s stand shift ∷ [])
+  settled_more spans s rest settled e stand shift split so at has =
+      let new = settled_at s stand shift in
+      record {
+        spanned = λ x c. ⊎_elim (λ old. Contains-append_left spans (s ∷ []) x.span (so.spanned x old)) (λ is. subst (λ (y : Settled). Contains (spans ++ s ∷ []) y.span) is (Contains-push spans s)) (Contains-push_cases settled new x c);
+        stood = λ x c. ⊎_elim (λ old. so.stood x old) (λ is. subst (λ (y : Settled). y.place ≡ moved_box y.stand.down y.shift y.stand.place) is refl) (Contains-push_cases settled new x c);
+        shifted = λ x f c there.
+            ⊎_elim (λ old. so.shifted x f old there)
+            (λ is.
+            let own : slice_get events x.span.place ≡ Some e = subst (λ (y : Settled). slice_get events y.span.place ≡ Some e) is at in
+            let same : e ≡ f = same_some e f (sym own ∙ there) in
+            subst (λ (y : Settled). HasShift script fonts size events f y.stand y.shift) is (subst (λ (g : Event). HasShift script fonts size events g stand shift) same has))
+            (Contains-push_cases settled new x c);
+        done = λ r c.
+            ⊎_elim (λ old. done_more script events near settled new r (so.done r old))
+            (λ is. inr (inr (new, Contains-push settled new, is))) (Contains-push_cases spans s r c);
+        differ = Pairwise-push DifferSettled settled new so.differ
+            (λ k d lt. new_differs events t near orders are spans s rest split script fonts size settled so e at (get_or settled k d) (Contains-get_or settled k d lt));
+      }
+
+  -- a shift lies within the limit also upwards
+  down_within : (stand : Stand) (shift : ℤ) → IsWithin max_shift shift → IsWithin max_shift (down_by stand shift)
+  down_within stand shift h =
+      ⊎_elim (λ yes. subst (IsWithin max_shift) (sym (ap (λ b. cond b shift (neg_ℤ shift)) yes)) h)
+      (λ no. subst (IsWithin max_shift) (sym (ap (λ b. cond b shift (neg_ℤ shift)) no)) (omega (arith, ints, h.1), omega (arith, ints, h.0)))
+      (cases_Bool stand.down)
+
+  step_done : (spans : List EventSpan) (s : EventSpan) (rest : List EventSpan) (placed : List PlacedEvent) (settled : List Settled) (e : Event) (one : PlacedEvent) (new : List Settled)
+      → near ≡ spans ++ s ∷ rest → slice_get events s.place ≡ Some e → AreDone script fonts size events near spans placed settled → IsPlacing script fonts size e s settled one new
+      → AreDone script fonts size events near (spans ++ s ∷ []) (placed ++ one ∷ []) new
+  step_done spans s rest placed settled e _ _ split at d (Pointed point) = record {
+    settling = settled_same spans s settled d.settling
+        (inr (inl (λ f there. subst (HasPoint script) (same_some e f (sym at ∙ there)) point)));
+    each = All-push (IsPlacedEvent script fonts size events) placed (unmoved s.place) d.each (still s e at (moved_by_point e point));
+    places = places_more spans placed s (unmoved s.place) refl d.places;
+  }
+  step_done spans s rest placed settled e _ _ split at d (Shifted stand shift own new stands laid settling) =
+      let has = has_shift events t near orders are spans s rest split script fonts size settled d.settling e at stand shift stands settling.least in
+      record {
+        settling = subst (AreSettled script fonts size events near (spans ++ s ∷ [])) (sym settling.added) (settled_more spans s rest settled e stand shift split d.settling at has);
+        each = All-push (IsPlacedEvent script fonts size events) placed (moved_event s.place stand shift own) d.each
+            record { event = e; stands = at; moved = moved_by_shift e stand shift has; near = down_within stand shift settling.within; own = laid };
+        places = places_more spans placed s (moved_event s.place stand shift own) refl d.places;
+      }
+
+  step_more : (spans : List EventSpan) (s : EventSpan) (rest : List EventSpan) (placed : List PlacedEvent) (settled : List Settled) (one : PlacedEvent) (new : List Settled)
+      → near ≡ spans ++ s ∷ rest → AreDone script fonts size events near spans placed settled → IsStep script fonts size events near s settled one new
+      → AreDone script fonts size events near (spans ++ s ∷ []) (placed ++ one ∷ []) new
+  step_more spans s rest placed settled _ _ split d (Alone alone) =
+      let here : Contains near s = subst (λ z. Contains z s) (sym split) (Contains-append_right spans (s ∷ rest) s (Contains-head s rest)) in
+      let own = are.own s here in
+      record {
+        settling = settled_same spans s settled d.settling (inl alone);
+        each = All-push (IsPlacedEvent script fonts size events) placed (unmoved s.place) d.each
+            (still s own.event own.stands (moved_alone own.event (λ f rival. no_rival events t near orders are spans s rest split own.event f own.stands alone rival)));
+        places = places_more spans placed s (unmoved s.place) refl d.places;
+      }
+  step_more spans s rest placed settled _ _ split d (Moved e one new at placing) = step_done spans s rest placed settled e one new split at d placing
+
+  steps_done : (rest spans : List EventSpan) (placed : List PlacedEvent) (settled : List Settled) → near ≡ spans ++ rest → AreSteps script fonts size events near spans placed settled
+      → AreDone script fonts size events near spans placed settled
+  steps_done rest _ _ _ split First = record {
+    settling =
+        record {
+          spanned = λ x c. absurd (Contains-nil x c);
+          stood = λ x c. absurd (Contains-nil x c);
+          shifted = λ x e c at. absurd (Contains-nil x c);
+          done = λ s c. absurd (Contains-nil s c);
+          differ = tt;
+        };
+    each = All-nil (IsPlacedEvent script fonts size events);
+    places = refl;
+  }
+  steps_done rest _ _ _ split (Next spans placed settled s one more steps step) =
+      let split_here : near ≡ spans ++ s ∷ rest = split ∙ append_assoc spans (s ∷ []) rest in
+      step_more spans s rest placed settled one more split_here (steps_done (s ∷ rest) spans placed settled split_here steps) step
+
+  -- two spans in order have different places
+  other_places : (xs : List EventSpan) → ((s : EventSpan) → Contains xs s → IsSpanOf events s) → Pairwise StandsBefore xs → Pairwise (λ a b. a ≢ b) (map (λ (s : EventSpan). s.place) xs)
+  other_places [] own h = tt
+  other_places (x ∷ xs) own h = (
+    all_other,
+    other_places xs (λ s c. own s (Contains-tail x xs s c)) h.1,
+  )
+    where
+      all_other : All (λ b. x.place ≢ b) (map (λ (s : EventSpan). s.place) xs)
+      all_other = λ k d lt same.
+          let c = from_map (λ (s : EventSpan). s.place) xs (get_or (map (λ (s : EventSpan). s.place) xs) k d) (Contains-get_or (map (λ (s : EventSpan). s.place) xs) k d lt) in
+          let y = c.0 in
+          let mine = own x (Contains-head x xs) in
+          let other = own y (Contains-tail x xs y c.1) in
+          let place : x.place ≡ y.place = same ∙ sym c.2 in
+          let event : mine.event ≡ other.event = same_some mine.event other.event (sym mine.stands ∙ (ap (slice_get events) place ∙ other.stands)) in
+          let is : x ≡ y = mine.span ∙ (ap (λ (z : Event). event_span z x.place) event ∙ (ap (event_span other.event) place ∙ sym other.span)) in
+          not_before_itself y (subst (λ z. StandsBefore z y) is (All-contains (StandsBefore x) xs y h.0 c.1))
+
+  pub placed_are : (placed : List PlacedEvent) → IsGoneThrough script fonts size events near placed → ArePlacedEvents script fonts size events t placed
+  placed_are placed gone =
+      let whole : near ≡ near ++ [] = sym (append-nil near) in
+      let d = steps_done [] near placed gone.0 whole gone.1 in
+      let places = λ (s : EventSpan). s.place in
+      record {
+        each = d.each;
+        members = λ place. (
+          (λ c. let m = from_map places near place (subst (λ z. Contains z place) d.places c) in
+              let own = are.own m.0 m.1 in
+              record { event = own.event; stands = ap (slice_get events) (sym m.2) ∙ own.stands; matters = are.matters m.0 own.event m.1 own.stands }),
+          (λ n. subst (λ z. Contains z place) (sym d.places) (in_map places near (event_span n.event place) (are.all place n.event n.stands n.matters))),
+        );
+        once = subst (Pairwise (λ a b. a ≢ b)) (sym d.places) (other_places near are.own are.sorted);
+      }

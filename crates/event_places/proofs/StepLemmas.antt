@@ -1,0 +1,282 @@
+-- Events that are moved one after the other stand clear of their rivals among all events.
+use Rattle.std.proofs.Common.{◌≡◌, ◌≢◌, ℕ, ◌+◌, ◌<◌, get_or, take, ℤ, pos, ◌<ℤ◌, true, false, cond, List, [], ◌∷◌, ◌++◌, length, map, refl, sym, ap, subst, ◌∙◌, arith, ◌⊎◌, ⊎_elim, inl, inr, Option, Some, None}
+use Rattle.std.specs.Prelude.{slice_get, ◌==◌}
+use Rattle.std.specs.List.{All, Contains, filter}
+use Rattle.std.proofs.lemmas.Bool.{cases_Bool}
+use Rattle.std.proofs.lemmas.Bool.Decides.{nat_tests}
+use Rattle.std.proofs.lemmas.Int.{ints}
+use Rattle.std.proofs.lemmas.List.{take_more}
+use Rattle.std.proofs.lemmas.Option.{get_or_from_slice_get, slice_get-get_or}
+use Rattle.std.proofs.lemmas.List.Elements.{All-contains, Contains-append_left, Contains-append_right, Contains-append_cases}
+use Rattle.ass_num.specs.declared.size.Size.{Size}
+use Rattle.ass_events.specs.declared.event.Event.{Event}
+use Rattle.ass_events.specs.Histories.{HaveOwnOrders, Pairwise}
+use Rattle.ass_events.specs.NearEvents.{ComesBefore, IsEarlier, Chained, Span, span_of}
+use Rattle.ass_script.specs.Scripts.{ScriptValue}
+use Rattle.bdf_font.specs.Fonts.{FontValue}
+use Rattle.placement.specs.Placement.{IsLeastShift, moved_box}
+use Rattle.placement.specs.declared.boxes.Box2.{Box2}
+use Rattle.placement.specs.declared.boxes.Stand.{Stand}
+use Rattle.event_places.specs.PlacedEvents.{IsPlacedEvent, places_of}
+use Rattle.event_places.specs.Shifts.{HasShift, IsRival, IsRivalBox, Placed}
+use Rattle.event_places.specs.Spans.{AreNearSpans, IsSpanOf, StandsBefore, event_span, span_at}
+use Rattle.event_places.specs.Stands.{HasPoint, IsStandOf}
+use Rattle.event_places.specs.Steps.{AreSteps, Next, IsAlone, IsPlacing, IsStep, Alone, Moved, boxes_in_way, is_in_way, place_in, unmoved}
+use Rattle.event_places.specs.declared.placed.PlacedEvent.{PlacedEvent}
+use Rattle.event_places.specs.declared.spans.EventSpan.{EventSpan}
+use Rattle.event_places.specs.declared.steps.Settled.{Settled}
+use Rattle.event_places.proofs.Lists.{there_from_get, get_from_there, same_some, none_some, in_map, from_map, in_filter, from_filter, pairwise_get}
+use Rattle.event_places.proofs.Orders.{before_in_layer, before_trans, not_before_itself}
+use Rattle.event_places.proofs.Pairs.{Contains-nil, Contains-head, Contains-tail, Contains-cons_cases, Pairwise-cross, Pairwise-right}
+
+-- ---- the event of a ReadOrder
+nat_three : (m n : ℕ) → (m ≡ n) ⊎ ((m < n) ⊎ (n < m))
+nat_three m n = grind arith
+
+pub same_place : (events : List Event) (i j : ℕ) (e f : Event) → HaveOwnOrders events → slice_get events i ≡ Some e → slice_get events j ≡ Some f → e.order ≡ f.order → i ≡ j
+same_place events i j e f orders at at' same =
+    let R : Event → Event → Type 0 = λ a b. a.order ≢ b.order in
+    ⊎_elim (λ is. is)
+    (λ other. absurd (⊎_elim (λ lt. pairwise_get R events i j e f orders lt at at' same) (λ lt. pairwise_get R events j i f e orders lt at' at (sym same)) other))
+    (nat_three i j)
+
+pub same_event : (events : List Event) (i j : ℕ) (e f : Event) → HaveOwnOrders events → slice_get events i ≡ Some e → slice_get events j ≡ Some f → e.order ≡ f.order → e ≡ f
+same_event events i j e f orders at at' same =
+    let place = same_place events i j e f orders at at' same in
+    same_some e f (sym at ∙ (ap (slice_get events) place ∙ at'))
+
+-- ---- places by ReadOrder
+abbrev pub DifferSettled : Settled → Settled → Type 0
+DifferSettled a b = a.span.order ≢ b.span.order
+
+-- what is found of it
+abbrev entry : Settled → Stand × ℤ
+entry x = (x.stand, x.shift)
+
+place_first : (x : Settled) (xs : List Settled) (order : ℕ) → (x.span.order == order) ≡ true → place_in (x ∷ xs) order ≡ Some (entry x)
+place_first x xs order e = ap (λ b. cond b (Some (entry x)) (place_in xs order)) e
+
+place_later : (x : Settled) (xs : List Settled) (order : ℕ) → (x.span.order == order) ≡ false → place_in (x ∷ xs) order ≡ place_in xs order
+place_later x xs order e = ap (λ b. cond b (Some (entry x)) (place_in xs order)) e
+
+place_some : (xs : List Settled) (order : ℕ) (p : Stand × ℤ) → place_in xs order ≡ Some p → (x : Settled) × Contains xs x × (x.span.order ≡ order) × (entry x ≡ p)
+place_some [] order p has = absurd (none_some p has)
+place_some (x ∷ xs) order p has =
+    ⊎_elim
+    (λ yes. let same : x.span.order ≡ order = grind (arith, nat_tests) in
+    (x, Contains-head x xs, same, same_some (entry x) p (sym (place_first x xs order yes) ∙ has)))
+    (λ no. let r = place_some xs order p (sym (place_later x xs order no) ∙ has) in (r.0, Contains-tail x xs r.0 r.1, r.2, r.3))
+    (cases_Bool (x.span.order == order))
+
+place_of_settled : (xs : List Settled) (x : Settled) → Pairwise DifferSettled xs → Contains xs x → place_in xs x.span.order ≡ Some (entry x)
+place_of_settled [] x h c = absurd (Contains-nil x c)
+place_of_settled (y ∷ ys) x h c =
+    ⊎_elim
+    (λ is. let same : y.span.order ≡ x.span.order = ap (λ (z : Settled). z.span.order) is in
+    place_first y ys x.span.order (grind (arith, nat_tests)) ∙ ap (λ (z : Settled). Some (entry z)) is)
+    (λ later. let other : y.span.order ≢ x.span.order = All-contains (DifferSettled y) ys x h.0 later in
+    place_later y ys x.span.order (grind (arith, nat_tests)) ∙ place_of_settled ys x h.1 later)
+    (Contains-cons_cases y ys x c)
+
+-- ---- what holds behind some spans
+-- The span has its layer for itself, its event has a point, or it was settled.
+abbrev pub IsDone : ScriptValue → List Event → List EventSpan → List Settled → EventSpan → Type 0
+IsDone script events near settled s =
+    IsAlone near s ⊎ (((e : Event) → slice_get events s.place ≡ Some e → HasPoint script e) ⊎ ((x : Settled) × Contains settled x × (x.span ≡ s)))
+
+pub record AreSettled (script : ScriptValue) (fonts : List FontValue) (size : Size) (events : List Event) (near spans : List EventSpan) (settled : List Settled) : Type 0 where
+  pub spanned : (x : Settled) → Contains settled x → Contains spans x.span
+  pub stood : (x : Settled) → Contains settled x → x.place ≡ moved_box x.stand.down x.shift x.stand.place
+  pub shifted : (x : Settled) (e : Event) → Contains settled x → slice_get events x.span.place ≡ Some e → HasShift script fonts size events e x.stand x.shift
+  pub done : (s : EventSpan) → Contains spans s → IsDone script events near settled s
+  pub differ : Pairwise DifferSettled settled
+
+pub record AreDone (script : ScriptValue) (fonts : List FontValue) (size : Size) (events : List Event) (near spans : List EventSpan) (placed : List PlacedEvent) (settled : List Settled) : Type 0 where
+  pub settling : AreSettled script fonts size events near spans settled
+  pub each : All (IsPlacedEvent script fonts size events) placed
+  pub places : places_of placed ≡ map (λ (s : EventSpan). s.place) spans
+
+pub done_more : (script : ScriptValue) (events : List Event) (near : List EventSpan) (settled : List Settled) (x : Settled) (s : EventSpan) → IsDone script events near settled s → IsDone script events near (settled ++ x ∷ []) s
+done_more script events near settled x s d =
+    ⊎_elim (λ a. inl a) (λ b. ⊎_elim (λ p. inr (inl p)) (λ q. inr (inr (q.0, Contains-append_left settled (x ∷ []) q.0 q.1, q.2))) b) d
+
+-- ---- rivals among the spans
+module _ (events : List Event) (t : ℤ) (near : List EventSpan) (orders : HaveOwnOrders events) (are : AreNearSpans events t near) where
+  pub span_is : (s : EventSpan) (e : Event) → Contains near s → slice_get events s.place ≡ Some e → s ≡ event_span e s.place
+  span_is s e c at = let own = are.own s c in own.span ∙ ap (λ (z : Event). event_span z s.place) (same_some own.event e (sym own.stands ∙ at))
+
+  -- a rival has a span, which stands before
+  rival_span : (s : EventSpan) (e f : Event) → Contains near s → slice_get events s.place ≡ Some e → IsRival events e f
+      → (r : EventSpan) × Contains near r × (slice_get events r.place ≡ Some f) × (r ≡ event_span f r.place) × StandsBefore r s
+  rival_span s e f c at rival =
+      let place = get_from_there events f rival.listed in
+      let n = are.matters s e c at in
+      let is : span_of e ≡ span_at s = sym (ap span_at (span_is s e c at)) in
+      let before : ComesBefore (span_of f) (span_at s) = subst (ComesBefore (span_of f)) is rival.before in (
+        event_span f place.0,
+        are.all place.0 f place.1 (Chained n rival.listed rival.before rival.lasts),
+        place.1,
+        refl,
+        inr (before.0, before.1),
+      )
+
+  module _ (spans : List EventSpan) (s : EventSpan) (rest : List EventSpan) (split : near ≡ spans ++ s ∷ rest) where
+    up : Pairwise StandsBefore (spans ++ s ∷ rest)
+    up = subst (Pairwise StandsBefore) split are.sorted
+
+    here : Contains near s
+    here = subst (λ z. Contains z s) (sym split) (Contains-append_right spans (s ∷ rest) s (Contains-head s rest))
+
+    earlier_near : (r : EventSpan) → Contains spans r → Contains near r
+    earlier_near r c = subst (λ z. Contains z r) (sym split) (Contains-append_left spans (s ∷ rest) r c)
+
+    -- what was gone through stands before
+    gone_before : (r : EventSpan) → Contains spans r → StandsBefore r s
+    gone_before r c = All-contains (StandsBefore r) (s ∷ rest) s (All-contains (λ a. All (StandsBefore a) (s ∷ rest)) spans r (Pairwise-cross StandsBefore spans (s ∷ rest) up) c) (Contains-head s rest)
+
+    -- and what stands before was gone through
+    before_gone : (r : EventSpan) → Contains near r → StandsBefore r s → Contains spans r
+    before_gone r c before =
+        let behind = Pairwise-right StandsBefore spans (s ∷ rest) up in
+        ⊎_elim (λ a. a)
+        (λ b. absurd (⊎_elim (λ is. not_before_itself s (subst (λ z. StandsBefore z s) (sym is) before))
+        (λ later. not_before_itself s (before_trans s r s (All-contains (StandsBefore s) rest r behind.0 later) before)) (Contains-cons_cases s rest r b)))
+        (Contains-append_cases spans (s ∷ rest) r (subst (λ z. Contains z r) split c))
+
+    -- a rival isn't alone
+    rival_not_alone : (r : EventSpan) → r.layer ≡ s.layer → StandsBefore r s → IsAlone near r → ⊥
+    rival_not_alone r layer before alone = not_before_itself s (subst (λ z. StandsBefore z s) (sym (alone s here (sym layer))) before)
+
+    module _ (script : ScriptValue) (fonts : List FontValue) (size : Size) (settled : List Settled) (so : AreSettled script fonts size events near spans settled) (e : Event) (at : slice_get events s.place ≡ Some e) where
+      -- what was settled has an event
+      event_of : (x : Settled) → Contains settled x → IsSpanOf events x.span
+      event_of x c = are.own x.span (earlier_near x.span (so.spanned x c))
+
+      order_of : (x : Settled) → (c : Contains settled x) → x.span.order ≡ (event_of x c).event.order
+      order_of x c = ap (λ (z : EventSpan). z.order) (event_of x c).span
+
+      -- that of a ReadOrder is the rival
+      rival_of : (x : Settled) (f : Event) → (c : Contains settled x) → IsRival events e f → x.span.order ≡ f.order → (event_of x c).event ≡ f
+      rival_of x f c rival same =
+          let place = get_from_there events f rival.listed in
+          same_event events x.span.place place.0 (event_of x c).event f orders (event_of x c).stands place.1 (sym (order_of x c) ∙ same)
+
+      places_are : Event → Option (Stand × ℤ)
+      places_are f = place_in settled f.order
+
+      points : (f : Event) → IsRival events e f → place_in settled f.order ≡ None → HasPoint script f
+      points f rival none =
+          let r = rival_span s e f here at rival in
+          let layer : (r.0).layer ≡ s.layer = ap (λ (z : EventSpan). z.layer) r.3 ∙ (rival.before.0 ∙ sym (ap (λ (z : EventSpan). z.layer) (span_is s e here at))) in
+          ⊎_elim (λ alone. absurd (rival_not_alone r.0 layer r.4 alone))
+          (λ b. ⊎_elim (λ point. point f r.2)
+          (λ x.
+          let order : (x.0).span.order ≡ f.order = ap (λ (z : EventSpan). z.order) (x.2 ∙ r.3) in
+          absurd (none_some (entry x.0) (sym none ∙ (ap (place_in settled) (sym order) ∙ place_of_settled settled x.0 so.differ x.1)))) b)
+          (so.done r.0 (before_gone r.0 r.1 r.4))
+
+      shifts : (f : Event) (a : Stand) (z : ℤ) → IsRival events e f → place_in settled f.order ≡ Some (a, z) → HasShift script fonts size events f a z
+      shifts f a z rival has =
+          let x = place_some settled f.order (a, z) has in
+          let own = event_of x.0 x.1 in
+          let shift = so.shifted x.0 own.event x.1 own.stands in
+          let first : HasShift script fonts size events f (x.0).stand (x.0).shift = subst (λ (g : Event). HasShift script fonts size events g (x.0).stand (x.0).shift) (rival_of x.0 f x.1 rival x.2) shift in
+          subst (λ (p : Stand × ℤ). HasShift script fonts size events f p.0 p.1) x.3 first
+
+      way_layer : (x : Settled) → is_in_way s x ≡ true → x.span.layer ≡ s.layer
+      way_layer x e = grind (arith, ints)
+
+      way_end : (x : Settled) → is_in_way s x ≡ true → s.start <ℤ x.span.end
+      way_end x e = grind (arith, ints)
+
+      in_way : (x : Settled) → x.span.layer ≡ s.layer → s.start <ℤ x.span.end → is_in_way s x ≡ true
+      in_way x a b = grind (arith, ints)
+
+      box_rival : (box : Box2) → Contains (boxes_in_way s settled) box → IsRivalBox events (λ f. place_in settled f.order) e box
+      box_rival box c =
+          let m = from_map (λ (x : Settled). x.place) (filter (is_in_way s) settled) box c in
+          let x = m.0 in
+          let k = from_filter (is_in_way s) settled x m.1 in
+          let own = event_of x k.0 in
+          let g = own.event in
+          let mine = span_is s e here at in
+          let before : StandsBefore x.span s = gone_before x.span (so.spanned x k.0) in
+          let layer = way_layer x k.1 in
+          let earlier : IsEarlier (span_at x.span) (span_at s) = before_in_layer x.span s layer before in
+          let g_span : span_at x.span ≡ span_of g = ap span_at own.span in
+          let e_span : span_at s ≡ span_of e = ap span_at mine in
+          let comes : ComesBefore (span_of g) (span_of e) =
+          subst (λ z. ComesBefore z (span_of e)) g_span (subst (ComesBefore (span_at x.span)) e_span (layer, earlier)) in
+          let lasts : e.start <ℤ (span_of g).end =
+          subst (λ (z : Span). e.start <ℤ z.end) g_span (subst (λ (z : Span). z.start <ℤ x.span.end) e_span (way_end x k.1)) in
+          record {
+            rival = g;
+            is_rival = record { listed = there_from_get events x.span.place g own.stands; before = comes; lasts = lasts };
+            stand = x.stand;
+            shift = x.shift;
+            stands = ap (place_in settled) (sym (order_of x k.0)) ∙ place_of_settled settled x so.differ k.0;
+            moved = sym m.2 ∙ so.stood x k.0;
+          }
+
+      rival_box : (box : Box2) → IsRivalBox events (λ f. place_in settled f.order) e box → Contains (boxes_in_way s settled) box
+      rival_box box r =
+          let x = place_some settled r.rival.order (r.stand, r.shift) r.stands in
+          let own = event_of x.0 x.1 in
+          let g : own.event ≡ r.rival = rival_of x.0 r.rival x.1 r.is_rival x.2 in
+          let x_span : span_at (x.0).span ≡ span_of r.rival = ap span_at own.span ∙ ap span_of g in
+          let e_span : span_at s ≡ span_of e = ap span_at (span_is s e here at) in
+          let layer : (x.0).span.layer ≡ s.layer = ap (λ (z : Span). z.layer) x_span ∙ (r.is_rival.before.0 ∙ sym (ap (λ (z : Span). z.layer) e_span)) in
+          let lasts : s.start <ℤ (x.0).span.end =
+          subst (λ (z : Span). s.start <ℤ z.end) (sym x_span) (subst (λ (z : Span). z.start <ℤ (span_of r.rival).end) (sym e_span) r.is_rival.lasts) in
+          let c = in_filter (is_in_way s) settled x.0 x.1 (in_way x.0 layer lasts) in
+          let place : (x.0).place ≡ box = so.stood x.0 x.1 ∙ (ap (λ (p : Stand × ℤ). moved_box (p.0).down p.1 (p.0).place) x.3 ∙ sym r.moved) in
+          subst (Contains (boxes_in_way s settled)) place (in_map (λ (y : Settled). y.place) (filter (is_in_way s) settled) x.0 c)
+
+      pub has_shift : (stand : Stand) (shift : ℤ) → IsStandOf script fonts size e stand → IsLeastShift stand.place (boxes_in_way s settled) stand.down shift → HasShift script fonts size events e stand shift
+      has_shift stand shift stands least =
+          Placed e stand (boxes_in_way s settled) (λ f. place_in settled f.order) shift stands points shifts (λ box. (box_rival box, rival_box box)) least
+
+      -- no other event has its ReadOrder
+      pub new_differs : (x : Settled) → Contains settled x → x.span.order ≢ s.order
+      new_differs x c same =
+          let own = event_of x c in
+          let order : own.event.order ≡ e.order = sym (order_of x c) ∙ (same ∙ ap (λ (z : EventSpan). z.order) (span_is s e here at)) in
+          let place = same_place events x.span.place s.place own.event e orders own.stands at order in
+          let event = same_event events x.span.place s.place own.event e orders own.stands at order in
+          let is : x.span ≡ s = own.span ∙ (ap (λ (z : Event). event_span z x.span.place) event ∙ (ap (event_span e) place ∙ sym (span_is s e here at))) in
+          not_before_itself s (subst (λ z. StandsBefore z s) is (gone_before x.span (so.spanned x c)))
+
+    -- an event alone in its layer has no rival
+    pub no_rival : (e f : Event) → slice_get events s.place ≡ Some e → IsAlone near s → IsRival events e f → ⊥
+    no_rival e f at alone rival =
+        let r = rival_span s e f here at rival in
+        let layer : (r.0).layer ≡ s.layer = ap (λ (z : EventSpan). z.layer) r.3 ∙ (rival.before.0 ∙ sym (ap (λ (z : EventSpan). z.layer) (span_is s e here at))) in
+        not_before_itself s (subst (λ z. StandsBefore z s) (alone r.0 r.1 layer) r.4)
+
+-- ---- one more step
+-- a span that stands for none
+abbrev pub no_span : EventSpan
+no_span = record { layer = pos 0; start = pos 0; end = pos 0; order = 0; place = 0 }
+
+pub steps_more : (script : ScriptValue) (fonts : List FontValue) (size : Size) (events : List Event) (near : List EventSpan) (k : ℕ) (placed pushed : List PlacedEvent) (settled more : List Settled) (one : PlacedEvent)
+    → k < length near → AreSteps script fonts size events near (take k near) placed settled
+    → ((span : EventSpan) → slice_get near k ≡ Some span → IsStep script fonts size events near span settled one more)
+    → pushed ≡ placed ++ one ∷ [] → AreSteps script fonts size events near (take (k + 1) near) pushed more
+steps_more script fonts size events near k placed pushed settled more one lt steps step is =
+    let s = get_or near k no_span in
+    let next = Next (take k near) placed settled s one more steps (step s (slice_get-get_or near k no_span lt)) in
+    subst (λ z. AreSteps script fonts size events near z pushed more) (sym (take_more near k no_span lt))
+    (subst (λ z. AreSteps script fonts size events near (take k near ++ s ∷ []) z more) (sym is) next)
+
+pub step_alone : (script : ScriptValue) (fonts : List FontValue) (size : Size) (events : List Event) (near : List EventSpan) (k : ℕ) (span : EventSpan) (settled : List Settled) (one : PlacedEvent)
+    → slice_get near k ≡ Some span → IsAlone near span → one ≡ unmoved (get_or near k no_span).place → IsStep script fonts size events near span settled one settled
+step_alone script fonts size events near k span settled one at alone is =
+    let same : get_or near k no_span ≡ span = get_or_from_slice_get near k span no_span at in
+    subst (λ (p : PlacedEvent). IsStep script fonts size events near span settled p settled) (sym (is ∙ ap (λ (s : EventSpan). unmoved s.place) same)) (Alone alone)
+
+pub step_moved : (script : ScriptValue) (fonts : List FontValue) (size : Size) (events : List Event) (near : List EventSpan) (k : ℕ) (span : EventSpan) (settled : List Settled) (one : PlacedEvent) (more : List Settled) (e : Event)
+    → k < length near → slice_get near k ≡ Some span → slice_get events (get_or near k no_span).place ≡ Some e → IsPlacing script fonts size e (get_or near k no_span) settled one more
+    → IsStep script fonts size events near span settled one more
+step_moved script fonts size events near k span settled one more e lt at event placing =
+    let same : get_or near k no_span ≡ span = get_or_from_slice_get near k span no_span at in
+    subst (λ (s : EventSpan). IsStep script fonts size events near s settled one more) same (Moved e one more event placing)

@@ -1,0 +1,84 @@
+-- Inner: how events are moved one after the other, each clear of those that were moved before it.
+use Rattle.std.specs.Prelude.{◌≡◌, ℕ, Bool, ◌&&◌, ◌==◌, if◌then◌else◌, int_lt, List, [], ◌∷◌, ◌++◌, Contains, All, Option, Some, None, length, map, slice_get, ℤ, pos}
+use Rattle.std.specs.List.{filter}
+use Rattle.std.specs.Ordering.{int_eq}
+use Rattle.ass_num.specs.Limits.{IsWithin}
+use Rattle.ass_num.specs.declared.size.Size.{Size}
+use Rattle.ass_events.specs.declared.event.Event.{Event}
+use Rattle.ass_script.specs.Scripts.{ScriptValue}
+use Rattle.bdf_font.specs.Fonts.{FontValue}
+use Rattle.placement.specs.Placement.{IsBoxWithin, IsLeastShift, moved_box}
+use Rattle.placement.specs.declared.boxes.Box2.{Box2}
+use Rattle.placement.specs.declared.boxes.Stand.{Stand}
+use Rattle.event_places.specs.Limits.{max_shift, reach}
+use Rattle.event_places.specs.PlacedEvents.{IsOwnLayout}
+use Rattle.event_places.specs.Stands.{HasPoint, IsStandOf, down_by}
+use Rattle.event_places.specs.declared.own.OwnLayout.{OwnLayout}
+use Rattle.event_places.specs.declared.placed.PlacedEvent.{PlacedEvent}
+use Rattle.event_places.specs.declared.spans.EventSpan.{EventSpan}
+use Rattle.event_places.specs.declared.steps.Settled.{Settled}
+
+-- the event of a span with this stand, moved by a shift
+abbrev pub settled_at : EventSpan → Stand → ℤ → Settled
+settled_at span stand shift = record { span = span; stand = stand; shift = shift; place = moved_box stand.down shift stand.place }
+
+-- An event that was moved is in the way of another one that starts later: it is in the same layer and ends after the other's start.
+abbrev pub is_in_way : EventSpan → Settled → Bool
+is_in_way span settled = int_eq settled.span.layer span.layer && int_lt span.start settled.span.end
+
+-- the boxes that are in the way of an event
+abbrev pub boxes_in_way : EventSpan → List Settled → List Box2
+boxes_in_way span settled = map (λ (x : Settled). x.place) (filter (is_in_way span) settled)
+
+-- The box is moved by the least shift that clears it of those in its way.
+pub record IsSettling (span : EventSpan) (stand : Stand) (old : List Settled) (shift : ℤ) (new : List Settled) : Type 0 where
+  pub least : IsLeastShift stand.place (boxes_in_way span old) stand.down shift
+  pub within : IsWithin max_shift shift
+  pub added : new ≡ old ++ settled_at span stand shift ∷ []
+
+-- No box lies further out than so many can push one another.
+abbrev pub AreSettledWithin : List Settled → Type 0
+AreSettledWithin settled = All (λ (x : Settled). IsBoxWithin (reach (length settled)) x.place) settled
+
+-- The span has its layer for itself.
+abbrev pub IsAlone : List EventSpan → EventSpan → Type 0
+IsAlone near span = (other : EventSpan) → Contains near other → other.layer ≡ span.layer → other ≡ span
+
+-- an event that isn't moved
+abbrev pub unmoved : ℕ → PlacedEvent
+unmoved place = record { place = place; down = pos 0; own = None }
+
+abbrev pub moved_event : ℕ → Stand → ℤ → OwnLayout → PlacedEvent
+moved_event place stand shift own = record { place = place; down = down_by stand shift; own = Some own }
+
+-- How an event is moved, behind some that were moved.
+pub data IsPlacing (script : ScriptValue) (fonts : List FontValue) (size : Size) (event : Event) (span : EventSpan) (old : List Settled) : PlacedEvent → List Settled → Type 0 where
+  Pointed : HasPoint script event → IsPlacing script fonts size event span old (unmoved span.place) old
+  Shifted : (stand : Stand) (shift : ℤ) (own : OwnLayout) (new : List Settled)
+      → IsStandOf script fonts size event stand
+      → IsOwnLayout script fonts size event own
+      → IsSettling span stand old shift new
+      → IsPlacing script fonts size event span old (moved_event span.place stand shift own) new
+
+-- The event of a span is moved, unless it has its layer for itself.
+pub data IsStep (script : ScriptValue) (fonts : List FontValue) (size : Size) (events : List Event) (near : List EventSpan) (span : EventSpan) (old : List Settled) : PlacedEvent → List Settled → Type 0 where
+  Alone : IsAlone near span → IsStep script fonts size events near span old (unmoved span.place) old
+  Moved : (event : Event) (one : PlacedEvent) (new : List Settled) → slice_get events span.place ≡ Some event → IsPlacing script fonts size event span old one new
+      → IsStep script fonts size events near span old one new
+
+-- The spans were gone through one after the other.
+pub data AreSteps (script : ScriptValue) (fonts : List FontValue) (size : Size) (events : List Event) (near : List EventSpan) : List EventSpan → List PlacedEvent → List Settled → Type 0 where
+  First : AreSteps script fonts size events near [] [] []
+  Next : (spans : List EventSpan) (placed : List PlacedEvent) (settled : List Settled) (span : EventSpan) (one : PlacedEvent) (more : List Settled)
+      → AreSteps script fonts size events near spans placed settled
+      → IsStep script fonts size events near span settled one more
+      → AreSteps script fonts size events near (spans ++ span ∷ []) (placed ++ one ∷ []) more
+
+-- All spans were gone through.
+abbrev pub IsGoneThrough : ScriptValue → List FontValue → Size → List Event → List EventSpan → List PlacedEvent → Type 0
+IsGoneThrough script fonts size events near placed = (settled : List Settled) × AreSteps script fonts size events near near placed settled
+
+-- the stand and the shift of the event of this ReadOrder
+abbrev pub place_in : List Settled → ℕ → Option (Stand × ℤ)
+place_in [] order = None
+place_in (x ∷ settled) order = if x.span.order == order then Some (x.stand, x.shift) else place_in settled order

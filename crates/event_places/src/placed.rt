@@ -1,0 +1,218 @@
+//! The events that matter at an instant, each moved clear of those before it.
+
+ghost use Rattle.std.specs.Prelude.{◌≡◌, ◌≢◌, ◌+◌, ◌-◌, ◌≤◌, ◌<◌, All, Contains, IfOk, IsTrue, length, map, slice_get, Some};
+ghost use Rattle.std.specs.Arc.{arc_value};
+ghost use Rattle.ass_num.specs.Limits.{IsFrameSize, max_text_bytes};
+ghost use Rattle.ass_events.specs.Histories.{HaveOwnOrders, Pairwise, max_live};
+ghost use Rattle.ass_events.specs.Ranges.{IsEvent};
+ghost use Rattle.ass_events.specs.declared.event.Event.{Event};
+ghost use Rattle.ass_script.specs.Ranges.{IsScript};
+ghost use Rattle.text_layout.specs.Fonts.{IsLayoutFontSet};
+ghost use Rattle.event_places.specs.PlacedEvents.{ArePlacedEvents};
+ghost use Rattle.event_places.specs.Spans.{IsSpanOf, StandsBefore};
+ghost use Rattle.event_places.specs.Steps.{AreSettledWithin, IsAlone, IsGoneThrough, IsPlacing, IsStep, unmoved};
+ghost use Rattle.event_places.specs.declared.spans.EventSpan.{EventSpan};
+
+use crate::boxes::down_by;
+use crate::near::near_spans;
+use crate::own::{OwnLayout, own_layout, stand_of};
+use crate::spans::EventSpan;
+use crate::steps::{Settled, settle};
+use ass_events::Event;
+use ass_num::{Fix, Mem, Size};
+use ass_script::Script;
+use bdf_font::FontSet;
+use std::alloc::Global;
+use std::sync::Arc;
+use tag_state::states_at;
+
+/// An event that matters at an instant: its place in the list of events, how far down it is moved, in 1/64 pixel, and its own layout
+/// where one was made.
+#[derive(Debug, Drop)]
+pub struct PlacedEvent {
+    pub place: usize,
+    pub down: Fix,
+    pub own: Option<OwnLayout>,
+}
+
+/// An event that isn't moved.
+fn unmoved(place: usize) -> PlacedEvent
+    ensures { result ≡ unmoved place }
+{
+    PlacedEvent {
+        place,
+        down: 0,
+        own: None,
+    }
+}
+
+/// Whether the span at another place, if there is one, is in another layer.
+fn are_apart(near: &[EventSpan], index: usize, other: usize) -> bool
+    requires { index < length near.now }
+    ensures { (span next : EventSpan) → slice_get near.now index ≡ Some span → slice_get near.now other ≡ Some next → IsTrue result → next.layer ≢ span.layer }
+{
+    if other >= near.len() {
+        return true;
+    }
+    near[other].layer != near[index].layer
+}
+
+/// Whether the span before, if there is one, is in another layer.
+fn is_first(near: &[EventSpan], index: usize) -> bool
+    requires { index < length near.now }
+    ensures { (span last : EventSpan) → slice_get near.now index ≡ Some span → 0 < index → slice_get near.now (index - 1) ≡ Some last → IsTrue result → last.layer ≢ span.layer }
+{
+    if index == 0 {
+        return true;
+    }
+    are_apart(near, index, index - 1)
+}
+
+/// Whether a span has its layer for itself among spans in order.
+fn is_alone(near: &[EventSpan], index: usize) -> bool
+    requires index { index < length near.now }
+    requires sorted { Pairwise StandsBefore near.now }
+    ensures { (span : EventSpan) → slice_get near.now index ≡ Some span → IsTrue result → IsAlone near.now span }
+{
+    is_first(near, index) && are_apart(near, index, index + 1)
+}
+
+/// An event, moved clear of those that were moved before it. One with a point of its own isn't moved, so it needs no layout.
+fn place_event(
+    alloc: Global,
+    script: &Script,
+    fonts: &FontSet,
+    event: &Event,
+    span: &EventSpan,
+    size: &Size,
+    settled: &mut Vec<Settled>,
+) -> Mem<PlacedEvent>
+    requires script { IsScript script.now }
+    requires fonts { IsLayoutFontSet fonts.now.fonts }
+    requires event { IsEvent event.now }
+    requires few { length event.now.text ≤ max_text_bytes }
+    requires size { IsFrameSize size.now }
+    requires within { AreSettledWithin settled.old.items }
+    requires room { length settled.old.items < max_live }
+    ensures placed { IfOk result (λ one. IsPlacing script.now fonts.now.fonts size.now event.now span.now settled.old.items one settled.new.items) }
+    ensures within { IfOk result (λ one. AreSettledWithin settled.new.items) }
+    ensures count { IfOk result (λ one. length settled.new.items ≤ length settled.old.items + 1) }
+{
+    let view = states_at(alloc, script, event, event.start)?;
+    if view.pos.is_some() {
+        return Ok(unmoved(span.place));
+    }
+    let own = own_layout(alloc, script, fonts, event, view, size)?;
+    let stand = stand_of(script, event, &own, size);
+    let shift = settle(alloc, span, &stand, settled)?;
+    Ok(PlacedEvent {
+        place: span.place,
+        down: down_by(&stand, shift),
+        own: Some(own),
+    })
+}
+
+/// The event of a span, moved clear of those before it. One that is alone in its layer stays where it is.
+fn place_next(
+    alloc: Global,
+    script: &Script,
+    fonts: &FontSet,
+    events: &[Arc<Event>],
+    near: &[EventSpan],
+    index: usize,
+    size: &Size,
+    settled: &mut Vec<Settled>,
+) -> Mem<PlacedEvent>
+    requires script { IsScript script.now }
+    requires fonts { IsLayoutFontSet fonts.now.fonts }
+    requires events { All IsEvent (map arc_value events.now) }
+    requires texts { All (λ (e : Event). length e.text ≤ max_text_bytes) (map arc_value events.now) }
+    requires few { length events.now ≤ max_live }
+    requires near { (s : EventSpan) → Contains near.now s → IsSpanOf (map arc_value events.now) s }
+    requires sorted { Pairwise StandsBefore near.now }
+    requires index { index < length near.now }
+    requires size { IsFrameSize size.now }
+    requires within { AreSettledWithin settled.old.items }
+    requires room { length settled.old.items < max_live }
+    ensures step { (span : EventSpan) → slice_get near.now index ≡ Some span → IfOk result (λ one. IsStep script.now fonts.now.fonts size.now (map arc_value events.now) near.now span settled.old.items one settled.new.items) }
+    ensures within { IfOk result (λ one. AreSettledWithin settled.new.items) }
+    ensures count { IfOk result (λ one. length settled.new.items ≤ length settled.old.items + 1) }
+{
+    let span = near[index];
+    if is_alone(near, index) {
+        return Ok(unmoved(span.place));
+    }
+    let one = place_event(
+        alloc,
+        script,
+        fonts,
+        &events[span.place],
+        &span,
+        size,
+        settled,
+    )?;
+    Ok(one)
+}
+
+/// The events of these spans, each moved clear of those before it.
+fn place_all(
+    alloc: Global,
+    script: &Script,
+    fonts: &FontSet,
+    events: &[Arc<Event>],
+    near: &[EventSpan],
+    size: &Size,
+) -> Mem<Vec<PlacedEvent>>
+    requires script { IsScript script.now }
+    requires fonts { IsLayoutFontSet fonts.now.fonts }
+    requires events { All IsEvent (map arc_value events.now) }
+    requires texts { All (λ (e : Event). length e.text ≤ max_text_bytes) (map arc_value events.now) }
+    requires few { length events.now ≤ max_live }
+    requires near { (s : EventSpan) → Contains near.now s → IsSpanOf (map arc_value events.now) s }
+    requires sorted { Pairwise StandsBefore near.now }
+    requires few_near { length near.now ≤ max_live }
+    requires size { IsFrameSize size.now }
+    ensures { IfOk result (λ placed. IsGoneThrough script.now fonts.now.fonts size.now (map arc_value events.now) near.now placed.items) }
+{
+    let mut placed = Vec::with_capacity(alloc, near.len())?;
+    let mut settled = Vec::new(alloc);
+    for index in 0..near.len() {
+        let one = place_next(
+            alloc,
+            script,
+            fonts,
+            events,
+            near,
+            index,
+            size,
+            &mut settled,
+        )?;
+        placed.push(one)?;
+    }
+    Ok(placed)
+}
+
+/// The events that matter at t, in milliseconds: those shown, and with each those before it in its layer that end after its start. Each
+/// is there once, by layer, then start, then ReadOrder, and moved clear of those before it in its layer (Advanced SubStation Alpha,
+/// "Layer").
+pub fn placed_events(
+    alloc: Global,
+    script: &Script,
+    fonts: &FontSet,
+    events: &[Arc<Event>],
+    t: i64,
+    size: &Size,
+) -> Mem<Vec<PlacedEvent>>
+    requires script { IsScript script.now }
+    requires fonts { IsLayoutFontSet fonts.now.fonts }
+    requires events { All IsEvent (map arc_value events.now) }
+    requires texts { All (λ (e : Event). length e.text ≤ max_text_bytes) (map arc_value events.now) }
+    requires few { length events.now ≤ max_live }
+    requires orders { HaveOwnOrders (map arc_value events.now) }
+    requires size { IsFrameSize size.now }
+    ensures { IfOk result (λ placed. ArePlacedEvents script.now fonts.now.fonts size.now (map arc_value events.now) t placed.items) }
+{
+    let near = near_spans(alloc, events, t)?;
+    let placed = place_all(alloc, script, fonts, events, near.as_slice(), size)?;
+    Ok(placed)
+}
