@@ -121,10 +121,11 @@ rows_plan : (stage : Stage) (fonts : List FontValue) (clip : Clip) (rows : List 
     → IsValidPlan (glyph_counts fonts) (draws_of_rows stage clip rows)
 rows_plan stage fonts clip rows ground h =
     let valid = IsValidDraw (glyph_counts fonts) in
-    All-append valid (flat_map (row_shadows stage clip) rows) _ (rows_drawn fonts (row_shadows stage clip) rows (λ row k. shadows_valid stage fonts clip row ground k) h)
-    (All-append valid (flat_map (row_borders stage clip) rows) (flat_map (row_fills stage clip) rows)
-    (rows_drawn fonts (row_borders stage clip) rows (λ row k. borders_valid stage fonts clip row ground k) h)
-    (rows_drawn fonts (row_fills stage clip) rows (λ row k. fills_valid stage fonts clip row ground k) h))
+    All-append valid (flat_map (row_shadows stage clip) rows ++ flat_map (row_borders stage clip) rows) (flat_map (row_fills stage clip) rows)
+    (All-append valid (flat_map (row_shadows stage clip) rows) (flat_map (row_borders stage clip) rows)
+    (rows_drawn fonts (row_shadows stage clip) rows (λ row k. shadows_valid stage fonts clip row ground k) h)
+    (rows_drawn fonts (row_borders stage clip) rows (λ row k. borders_valid stage fonts clip row ground k) h))
+    (rows_drawn fonts (row_fills stage clip) rows (λ row k. fills_valid stage fonts clip row ground k) h)
 
 -- All keys of the draws of an event are valid.
 pub event_valid : (stage : Stage) (fonts : List FontValue) (view : EventView) (laid : Laid) → IsFrameSize stage.size → IsLayoutFontSet fonts → IsView view

@@ -1,4 +1,4 @@
-use Rattle.std.proofs.Common.{◌≡◌, ◌<◌, ◌≤◌, ℕ, length, map, get_or, subst, sym, ap, to_z-of_z, arith}
+use Rattle.std.proofs.Common.{◌≡◌, ◌<◌, ◌≤◌, refl, ℕ, length, map, get_or, subst, sym, to_z-of_z, arith}
 use Rattle.std.specs.List.{All}
 use Rattle.std.proofs.lemmas.List.{length-map}
 use Rattle.std.proofs.lemmas.List.Elements.{All-nil}
@@ -6,9 +6,9 @@ use Rattle.std.specs.Arc.{arc_value}
 use Rattle.event_places.specs.declared.placed.PlacedEvent.{PlacedEvent}
 use Rattle.picture_plan.specs.Pictures.{AddsMovedDraws, None}
 use Rattle.picture_plan.specs.ShownEvents.{AreByLayer, AreShownPlaces, event_shown, no_placed}
-use Rattle.picture_plan.specs.declared.shown.ShownEvent.{ShownEvent}
 use Rattle.picture_plan.proofs.PlacedLemmas.{are_places}
 use Rattle.picture_plan.proofs.PlanLemmas.{all_drawn, shown_drawn}
+use Rattle.picture_plan.proofs.ShownLemmas.{no_shown}
 use Rattle.picture_plan.proofs.pictures.placed_draws.Goals as goal
 
 pub shown_events-requires-clause-places : goal.shown_events-requires-clause-places
@@ -33,14 +33,14 @@ add_shown_event-requires-clause-place c =
     subst (AreShownPlaces (map arc_value c.args.events.now) placed c.args.t (length placed)) (sym c.as_slice-one-items.ensures.value)
     (rw (to_z-of_z c.ranges.t) at c.in_ok-shown.ensures.shown)
     in
-    subst (λ (s : ShownEvent). s.place < length placed) (sym c.one-item.is) (are.each c.loop-one.one-index c.one-item.result c.loop-one-test.true).within
+    (are.each c.loop-one.one-index no_shown c.loop-one-test.true).within
 
 pub loop-one-preserved : goal.loop-one-preserved
 loop-one-preserved c =
     let events = map arc_value c.args.events.now in
     let placed = c.args.placed.now in
     let items = c.as_slice-one-items.result.now in
-    let one = c.one-item.result in
+    let one = get_or items c.loop-one.one-index no_shown in
     let are : AreShownPlaces events placed c.args.t (length placed) items =
     subst (AreShownPlaces events placed c.args.t (length placed)) (sym c.as_slice-one-items.ensures.value) (rw (to_z-of_z c.ranges.t) at c.in_ok-shown.ensures.shown)
     in
@@ -50,8 +50,8 @@ loop-one-preserved c =
     rw (to_z-of_z c.ranges.t)
     (record {
       drawn =
-          shown_drawn events placed items c.loop-one.one-index one (get_or placed one.place no_placed) c.loop-one.draws c.add_shown_event.new.draws c.requires.placed are
-          c.loop-one-test.true (ap (λ (s : ShownEvent). get_or placed s.place no_placed) c.one-item.is) (rw (to_z-of_z c.ranges.t) at c.loop-one.invariant.drawn) adds;
+          shown_drawn events placed items c.loop-one.one-index no_shown (get_or placed one.place no_placed) c.loop-one.draws c.add_shown_event.new.draws c.requires.placed are
+          c.loop-one-test.true refl (rw (to_z-of_z c.ranges.t) at c.loop-one.invariant.drawn) adds;
       valid = c.in_ok-add_shown_event.ensures.valid c.loop-one.invariant.valid;
     })
 
