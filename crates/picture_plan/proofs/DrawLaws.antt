@@ -6,7 +6,7 @@ use Rattle.ass_script.specs.Scripts.{ScriptValue}
 use Rattle.bdf_font.specs.Fonts.{FontValue}
 use Rattle.event_places.proofs.RivalAgreement.{near_have_all, near_listed, relisted, rivals_are_near}
 use Rattle.picture_plan.proofs.Agreement.{Agree, draws_agree}
-use Rattle.picture_plan.specs.Pictures.{DrawsOfASet, DrawsOfNearEvents, HaveSameEvents}
+use Rattle.picture_plan.specs.Pictures.{DrawsOfASet, DrawsOfNearEvents, HaveSameEvents, PicturesOfASet, PicturesOfNearEvents}
 
 always : Event → Type 0
 always _ = Unit {0}
@@ -40,4 +40,16 @@ pub draws_of_near_events : (script : ScriptValue) (fonts : List FontValue) → D
 draws_of_near_events script fonts events near t size draws h = (
   λ d. draws_agree (IsNear span_of events t) (from_near t events near h) d,
   λ d. draws_agree (IsNear span_of events t) (to_near t events near h) d,
+)
+
+-- ---- pictures
+
+pub pictures_of_a_set : (script : ScriptValue) (fonts : List FontValue) → PicturesOfASet script fonts
+pictures_of_a_set script fonts a b t size canvas same p =
+    record { draws = p.draws; are_draws = draws_of_a_set script fonts a b t size p.draws same p.are_draws; value = p.value }
+
+pub pictures_of_near_events : (script : ScriptValue) (fonts : List FontValue) → PicturesOfNearEvents script fonts
+pictures_of_near_events script fonts events near t size canvas h = (
+  λ p. record { draws = p.draws; are_draws = (draws_of_near_events script fonts events near t size p.draws h).0 p.are_draws; value = p.value },
+  λ p. record { draws = p.draws; are_draws = (draws_of_near_events script fonts events near t size p.draws h).1 p.are_draws; value = p.value },
 )

@@ -11,4 +11,11 @@ pub mod RunLemmas
 pub mod ShiftBounds
 pub mod StageLemmas
 pub mod StampLemmas
+pub mod ListAlls
+pub mod ValidMarks
+pub mod ValidDraws
+pub mod ValidEvents
+pub mod ShownLemmas
+pub mod PlacedLemmas
+pub mod PlanLemmas
 pub mod StepLemmas

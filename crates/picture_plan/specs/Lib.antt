@@ -7,3 +7,4 @@ pub mod Clips
 pub mod Draws
 pub mod EventDraws
 pub mod Pictures
+pub mod ShownEvents

@@ -7,8 +7,10 @@ use Rattle.ass_events.specs.NearEvents.{AreNear, IsShownAt, span_of}
 use Rattle.ass_events.specs.declared.event.Event.{Event}
 use Rattle.ass_script.specs.Scripts.{ScriptValue}
 use Rattle.bdf_font.specs.Fonts.{FontValue}
+use Rattle.blend.specs.Canvases.{CanvasValue}
 use Rattle.event_places.specs.Shifts.{IsMovedBy}
 use Rattle.mask_keys.specs.declared.plans.Draw.{Draw}
+use Rattle.mask_model.specs.Pictures.{picture}
 use Rattle.override_tags.specs.declared.view.EventView.{EventView}
 use Rattle.tag_state.specs.Views.{IsViewOf}
 use Rattle.text_layout.specs.Layouts.{IsLaid}
@@ -59,6 +61,12 @@ pub record AreDraws (script : ScriptValue) (fonts : List FontValue) (events : Li
   pub are_shown : AreShown events t shown
   pub in_order : AreDrawsInOrder script fonts events t size shown draws
 
+-- The canvas is the picture that a set of events shows at t, in milliseconds.
+pub record IsPictureAt (script : ScriptValue) (fonts : List FontValue) (events : List Event) (t : ℤ) (size : Size) (canvas : CanvasValue) : Type 0 where
+  pub draws : List Draw
+  pub are_draws : AreDraws script fonts events t size draws
+  pub value : canvas ≡ picture fonts size draws
+
 -- ---- laws
 
 -- The two lists have the same events, in whatever order.
@@ -75,3 +83,14 @@ abbrev pub DrawsOfNearEvents : ScriptValue → List FontValue → Type 0
 DrawsOfNearEvents script fonts =
     (events near : List Event) (t : ℤ) (size : Size) (draws : List Draw)
     → AreNear span_of events t near → AreDraws script fonts near t size draws ↔ AreDraws script fonts events t size draws
+
+-- So are their pictures.
+abbrev pub PicturesOfASet : ScriptValue → List FontValue → Type 0
+PicturesOfASet script fonts =
+    (a b : List Event) (t : ℤ) (size : Size) (canvas : CanvasValue)
+    → HaveSameEvents a b → IsPictureAt script fonts a t size canvas → IsPictureAt script fonts b t size canvas
+
+abbrev pub PicturesOfNearEvents : ScriptValue → List FontValue → Type 0
+PicturesOfNearEvents script fonts =
+    (events near : List Event) (t : ℤ) (size : Size) (canvas : CanvasValue)
+    → AreNear span_of events t near → IsPictureAt script fonts near t size canvas ↔ IsPictureAt script fonts events t size canvas

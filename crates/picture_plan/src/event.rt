@@ -4,6 +4,8 @@ ghost use Rattle.std.specs.Prelude.{◌≡◌, ◌≤◌, ◌++◌, List, length
 ghost use Rattle.ass_num.specs.Limits.{IsFrameSize, IsWithin, max_instant, max_text_bytes};
 ghost use Rattle.ass_script.specs.Ranges.{IsScript};
 ghost use Rattle.ass_events.specs.Ranges.{IsEvent};
+ghost use Rattle.mask_keys.specs.Keys.{IsValidPlan};
+ghost use Rattle.mask_model.specs.Outlines.{glyph_counts};
 ghost use Rattle.text_layout.specs.Fonts.{IsLayoutFontSet};
 ghost use Rattle.event_places.specs.Limits.{max_shift};
 ghost use Rattle.picture_plan.specs.Pictures.{AddsMovedDraws};
@@ -38,7 +40,8 @@ pub fn add_moved_event(
     requires instant { IsWithin max_instant t }
     requires size { IsFrameSize size.now }
     requires shift { IsWithin max_shift shift }
-    ensures { OnOk result (AddsMovedDraws script.now fonts.now.fonts event.now t size.now shift draws.old draws.new) }
+    ensures draws { OnOk result (AddsMovedDraws script.now fonts.now.fonts event.now t size.now shift draws.old draws.new) }
+    ensures valid { OnOk result (IsValidPlan (glyph_counts fonts.now.fonts) draws.old → IsValidPlan (glyph_counts fonts.now.fonts) draws.new) }
 {
     let view = states_at(alloc, script, event, t)?;
     let laid = layout(alloc, script, fonts, event, &view, size)?;

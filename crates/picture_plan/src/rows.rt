@@ -1,6 +1,8 @@
 //! The draws of an event: shadows, then borders and boxes, then fills.
 
 ghost use Rattle.std.specs.Prelude.{◌≡◌, ◌++◌, length, flat_map, All, OnOk, IfSome};
+ghost use Rattle.mask_keys.specs.Keys.{IsValidPlan};
+ghost use Rattle.mask_model.specs.Outlines.{glyph_counts};
 ghost use Rattle.override_tags.specs.Views.{IsView};
 ghost use Rattle.text_layout.specs.Fonts.{IsLayoutFontSet};
 ghost use Rattle.picture_plan.specs.EventDraws as rule;
@@ -170,7 +172,8 @@ pub fn add_event_draws(
     requires fonts { IsLayoutFontSet fonts.now.fonts }
     requires view { IsView view.now }
     requires laid { rule.IsDrawnLayout (length view.now.items) laid.now }
-    ensures { OnOk result (draws.new ≡ draws.old ++ rule.event_draws stage.now fonts.now.fonts view.now laid.now) }
+    ensures draws { OnOk result (draws.new ≡ draws.old ++ rule.event_draws stage.now fonts.now.fonts view.now laid.now) }
+    ensures valid { OnOk result (IsValidPlan (glyph_counts fonts.now.fonts) draws.old → IsValidPlan (glyph_counts fonts.now.fonts) draws.new) }
 {
     let clip = clip_of(alloc, &stage.header, &view.clip, &stage.size)?;
     let rows = rows_of(alloc, stage, fonts, view, laid)?;

@@ -12,8 +12,8 @@ add_event_draws-requires-clause-laid c =
     drawn_layout c.args.script.now c.args.fonts.now.fonts c.args.event.now c.in_ok-view.view c.args.size.now c.in_ok-laid.laid c.in_ok-view.ensures.range.wrap
     c.in_ok-laid.ensures.laid c.in_ok-laid.ensures.within
 
-pub returns : goal.returns
-returns c =
+pub returns-clause-draws : goal.returns-clause-draws
+returns-clause-draws c =
     let fonts = c.args.fonts.now.fonts in
     let view = c.in_ok-view.view in
     let laid = c.in_ok-laid.laid in
@@ -31,4 +31,4 @@ returns c =
             value = ap (λ (stage : Stage). event_draws stage fonts view laid) stands;
           };
     })
-    c.add_event_draws.ensures
+    c.add_event_draws.ensures.draws
