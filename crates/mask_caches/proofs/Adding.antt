@@ -1,6 +1,5 @@
 -- What calls add: one call, and calls in a row.
-use Rattle.std.proofs.Common.{◌≡◌, ℕ, zero, suc, ◌+◌, ◌<◌, ◌==◌, Bool, true, false, List, [], ◌∷◌, ◌++◌, filter, map, refl, sym, ap, ◌∙◌, subst, append_assoc, arith}
-use Rattle.std.specs.Cmp.{IsEquivalence}
+use Rattle.std.proofs.Common.{◌≡◌, ℕ, zero, suc, ◌+◌, ◌<◌, ◌==◌, Bool, true, false, List, [], ◌∷◌, ◌++◌, map, refl, sym, ap, ◌∙◌, subst, append_assoc, arith}
 use Rattle.std.proofs.lemmas.Bool.{eq-eqb, eqb-true}
 use Rattle.std.proofs.lemmas.List.{append-nil}
 use Rattle.std.proofs.lemmas.List.Elements.{filter-append}
@@ -14,7 +13,6 @@ use Rattle.flight_cache.specs.Histories.{step_of}
 use Rattle.flight_cache.specs.Calls.{ShardView, ShardPassView, GivesSteps, own_steps}
 use Rattle.flight_cache.specs.Shards.{Shards, CacheView, CachePassView, IsCacheOf, at, with_at}
 use Rattle.flight_cache.specs.Laws.{IsLater}
-use Rattle.flight_cache.specs.declared.kept.Entry.{Entry}
 use Rattle.flight_cache.proofs.Rows.{gives_follow, gives_own_steps, call_is_later, later_is_later, stays_of_cache}
 use Rattle.flight_cache.proofs.Refusing.{below-four}
 use Rattle.mask_caches.specs.Adding.{Adds, GaveIn, shard_of_step, steps_of_shard, pins_of, is_open}
