@@ -1,0 +1,81 @@
+-- Public: the three caches with their passes, and what calls make of them.
+use Rattle.std.specs.Prelude.{◌≡◌, ℕ, Bool, List, ◌∷◌, []}
+use Rattle.turn_cell.specs.Passes.{first_pass, split_pass, new_pass, joined_pass}
+use Rattle.evict_core.specs.Asked.{totals_of}
+use Rattle.evict_core.specs.declared.counts.Totals.{Totals}
+use Rattle.flight_cache.specs.Meaning.{Meaning}
+use Rattle.flight_cache.specs.Histories.{left_by}
+use Rattle.flight_cache.specs.Shards.{CacheView, CachePassView, IsCacheOf, AreShardsOf, EachHasGivenBack, EachGaveAsMuch, EachBegins, EachIsBelow, EachExtends, HasLimits, HasNothing, each, both, sum_of_totals}
+use Rattle.mask_keys.specs.Equality.{equal_regions, equal_masks, equal_composites}
+use Rattle.cache_kinds.specs.Kinds.{region_meaning, mask_meaning, composite_meaning}
+use Rattle.mask_caches.specs.Together.{entries_of}
+use Rattle.mask_caches.specs.declared.caches.Caches.{Caches}
+use Rattle.mask_caches.specs.declared.passes.CachesPass.{CachesPass}
+
+-- the pass comes from the caches
+pub record IsPassOf (caches : Caches) (pass : CachesPass) : Type 0 where
+  pub outlines : IsCacheOf caches.outlines pass.outlines
+  pub masks : IsCacheOf caches.masks pass.masks
+  pub composites : IsCacheOf caches.composites pass.composites
+
+-- one pass is what the other was
+pub record IsSamePass (pass after : CachesPass) : Type 0 where
+  pub outlines : after.outlines ≡ pass.outlines
+  pub masks : after.masks ≡ pass.masks
+  pub composites : after.composites ≡ pass.composites
+
+-- the pass holds no pin and has no claim open
+pub record HasAllGivenBack (caches : Caches) (pass : CachesPass) : Type 0 where
+  pub outlines : EachHasGivenBack equal_regions region_meaning caches.outlines.shards pass.outlines
+  pub masks : EachHasGivenBack equal_masks mask_meaning caches.masks.shards pass.masks
+  pub composites : EachHasGivenBack equal_composites composite_meaning caches.composites.shards pass.composites
+
+-- a new cache: its shards have their numbers, its tag and their parts of the limits, and the pass is the first one
+pub record IsNewCache {K T : Type 0} (cache : CacheView T) (pass : CachePassView K T) (budget : ℕ) : Type 0 where
+  pub shards : AreShardsOf cache.tag cache.shards
+  pub limits : HasLimits cache.shards (entries_of budget) budget
+  pub pass_is : pass ≡ each first_pass cache.shards
+
+-- each of the caches is new, with the whole budget
+pub record AreNew (caches : Caches) (pass : CachesPass) (budget : ℕ) : Type 0 where
+  pub outlines : IsNewCache caches.outlines pass.outlines budget
+  pub masks : IsNewCache caches.masks pass.masks budget
+  pub composites : IsNewCache caches.composites pass.composites budget
+
+-- a pass of one cache is split: into itself with one number drawn more, and a new one that gave nothing
+pub record IsSplitIn {K V T : Type 0} (meaning : Meaning K V T) (cache : CacheView T) (pass first new : CachePassView K T) : Type 0 where
+  pub first_is : first ≡ each split_pass pass
+  pub new_is : new ≡ each new_pass pass
+  pub nothing : HasNothing meaning cache.shards new
+  pub new_below : EachIsBelow (λ p. p.number) new
+  pub first_below : EachIsBelow (λ p. p.next) first
+
+pub record IsSplit (caches : Caches) (pass first new : CachesPass) : Type 0 where
+  pub outlines : IsSplitIn region_meaning caches.outlines pass.outlines first.outlines new.outlines
+  pub masks : IsSplitIn mask_meaning caches.masks pass.masks first.masks new.masks
+  pub composites : IsSplitIn composite_meaning caches.composites pass.composites first.composites new.composites
+
+-- two passes of one cache are joined: the first has seen what both had, and gave what it gave before
+pub record IsJoinedIn {K V T : Type 0} (meaning : Meaning K V T) (cache : CacheView T) (pass other joined : CachePassView K T) : Type 0 where
+  pub is : joined ≡ both joined_pass pass other
+  pub begins : EachBegins pass joined
+  pub begins_other : EachBegins other joined
+  pub own : EachGaveAsMuch meaning cache.shards pass joined
+  pub itself : EachExtends joined
+
+pub record IsJoined (caches : Caches) (pass other joined : CachesPass) : Type 0 where
+  pub outlines : IsJoinedIn region_meaning caches.outlines pass.outlines other.outlines joined.outlines
+  pub masks : IsJoinedIn mask_meaning caches.masks pass.masks other.masks joined.masks
+  pub composites : IsJoinedIn composite_meaning caches.composites pass.composites other.composites joined.composites
+
+-- the totals that the turns of a cache's shards showed
+abbrev pub shown_totals : {K V T : Type 0} → (K → K → Bool) → Meaning K V T → CacheView T → CachePassView K T → Totals
+shown_totals eq meaning cache after = sum_of_totals (both (λ shard own. totals_of (left_by eq meaning shard.tag own.seen)) cache.shards after)
+
+-- those of the three, the outlines first
+abbrev pub all_totals : Caches → CachesPass → List Totals
+all_totals caches after =
+    shown_totals equal_regions region_meaning caches.outlines after.outlines
+    ∷ shown_totals equal_masks mask_meaning caches.masks after.masks
+    ∷ shown_totals equal_composites composite_meaning caches.composites after.composites
+    ∷ []

@@ -1,0 +1,4 @@
+pub mod Adding
+pub mod Caches
+pub mod Leases
+pub mod Together

@@ -1,0 +1,27 @@
+-- Public: the passes of three caches that go together.
+use Rattle.std.specs.Prelude.{◌≡◌, ℕ, ◌/◌, min, max}
+use Rattle.std.specs.Arc.{arc_value}
+use Rattle.std.specs.declared.sync.Arc.{Arc}
+use Rattle.flight_cache.specs.Shards.{CachePassView, min_cache_entries}
+use Rattle.evict_core.specs.Machine.{max_entries}
+
+-- the three passes have one number, and drew as many numbers
+pub record AreTogether {J K L T : Type 0} (outlines : CachePassView J T) (masks : CachePassView K T) (composites : CachePassView L T) : Type 0 where
+  pub masks_number : masks.first.number ≡ outlines.first.number
+  pub composites_number : composites.first.number ≡ outlines.first.number
+  pub masks_next : masks.first.next ≡ outlines.first.next
+  pub composites_next : composites.first.next ≡ outlines.first.next
+
+-- the tags of the three caches are these fonts
+pub record HaveFonts {F Z : Type 0} (fonts outlines masks composites : Arc F Z) : Type 0 where
+  pub outlines_have : arc_value outlines ≡ arc_value fonts
+  pub masks_have : arc_value masks ≡ arc_value fonts
+  pub composites_have : arc_value composites ≡ arc_value fonts
+
+-- how much budget an entry stands for
+abbrev pub budget_of_entry : ℕ
+budget_of_entry = 1024
+
+-- the limit of entries that goes with a budget
+abbrev pub entries_of : ℕ → ℕ
+entries_of budget = min max_entries (max min_cache_entries (budget / budget_of_entry))

@@ -1,0 +1,268 @@
+//! The calls of the three caches together.
+ghost use Rattle.std.specs.Prelude.{◌≡◌, ◌≤◌, ◌<◌, ◌∷◌, [], false, IfOk, IfErr, OnOk, All};
+ghost use Rattle.std.specs.Arc.{arc_value};
+ghost use Rattle.evict_core.specs.Machine.{Limits, Unpin, max_budget, max_entries};
+ghost use Rattle.flight_cache.specs.Shards.{EachGives, IsCacheOf, min_cache_entries, part};
+ghost use Rattle.cache_kinds.specs.Kinds.{composite_meaning, mask_meaning, region_meaning};
+ghost use Rattle.mask_keys.specs.Equality.{equal_composites, equal_masks, equal_regions};
+ghost use Rattle.mask_model.specs.Outlines.{IsFontSet};
+ghost use Rattle.mask_caches.specs.Adding.{Adds};
+ghost use Rattle.mask_caches.specs.Leases.{IsHeld, given_steps, is_pinned};
+ghost use Rattle.mask_caches.specs.Caches.{AreNew, HasAllGivenBack, IsNewCache, IsJoined, IsPassOf, IsSamePass, IsSplit, IsSplitIn, all_totals};
+ghost use Rattle.mask_caches.specs.Together.{entries_of};
+
+use crate::caches::Caches;
+use crate::lease::{Lease, give_back};
+use crate::passes::CachesPass;
+use ass_num::{Mem, OutOfMemory};
+use bdf_font::FontSet;
+use cache_kinds::CompositeMade;
+use evict_core::Totals;
+use flight_cache::{Cache, CachePass, Made};
+use std::alloc::Global;
+use std::sync::{Arc, Wait};
+
+// How much budget an entry stands for.
+const BUDGET_OF_ENTRY: u64 = 1024;
+
+const MIN_ENTRIES: u64 = 16;
+
+const MAX_ENTRIES: u64 = 65_536;
+
+// The limit of entries that goes with a budget.
+fn entries_of(budget: u64) -> u32
+    ensures value { result ≡ entries_of budget }
+    ensures least { min_cache_entries ≤ result }
+    ensures most { result ≤ max_entries }
+{
+    (budget / BUDGET_OF_ENTRY).max(MIN_ENTRIES).min(MAX_ENTRIES) as u32
+}
+
+// A cache with the whole budget, and its first pass.
+fn open_cache<M: Made>(alloc: Global, tag: M::Tag, budget: u64) -> Mem<(Cache<M>, CachePass<M>)>
+    requires { budget ≤ max_budget }
+    ensures tag { IfOk result (λ r. r.0.tag ≡ tag) }
+    ensures new { IfOk result (λ r. IsNewCache r.0 r.1 budget) }
+    ensures pass { IfOk result (λ r. IsCacheOf r.0 r.1) }
+{
+    let entries = entries_of(budget);
+    Cache::open(alloc, tag, entries, budget)
+}
+
+// A split that can't be refused.
+fn split_with_room<M: Made>(cache: &Cache<M>, pass: CachePass<M>) -> (CachePass<M>, CachePass<M>)
+    requires cell { IsCacheOf cache.now pass }
+    requires first { pass.first.number ≡ 0 }
+    requires room { pass.first.next < u32.MAX }
+    ensures { IsSplitIn M.meaning cache.now pass result.0 result.1 }
+{
+    match cache.split(pass) {
+        Ok(two) => two,
+        Err(_pass) => unreachable!(),
+    }
+}
+
+impl Caches {
+    /// No entries, and the first pass. Each cache gets the whole budget, and a limit of one entry for each 1,024 of it,
+    /// from 16 to 65,536.
+    pub fn open(alloc: Global, fonts: Arc<FontSet>, budget: u64) -> Mem<(Caches, CachesPass)>
+        requires fonts { IsFontSet (arc_value fonts).fonts }
+        requires budget { budget ≤ max_budget }
+        ensures fonts { IfOk result (λ r. arc_value r.0.fonts ≡ arc_value fonts) }
+        ensures new { IfOk result (λ r. AreNew r.0 r.1 budget) }
+        ensures pass { IfOk result (λ r. IsPassOf r.0 r.1) }
+    {
+        let of_outlines = Arc::try_clone(&fonts)?;
+        let of_masks = Arc::try_clone(&fonts)?;
+        let of_composites = Arc::try_clone(&fonts)?;
+        let (outlines, outlines_pass) = open_cache(alloc, of_outlines, budget)?;
+        let Ok((masks, masks_pass)) = open_cache(alloc, of_masks, budget) else {
+            outlines.close(outlines_pass);
+            return Err(OutOfMemory);
+        };
+        let Ok((composites, composites_pass)) = open_cache(alloc, of_composites, budget) else {
+            outlines.close(outlines_pass);
+            masks.close(masks_pass);
+            return Err(OutOfMemory);
+        };
+        let caches = Caches {
+            fonts,
+            outlines,
+            masks,
+            composites,
+        };
+        let pass = CachesPass {
+            outlines: outlines_pass,
+            masks: masks_pass,
+            composites: composites_pass,
+        };
+        Ok((caches, pass))
+    }
+
+    /// A new budget, and the limit of entries that goes with it, for each cache.
+    pub fn set_budgets<R: Wait>(&self, rt: &R, pass: CachesPass, budget: u64) -> CachesPass
+        requires pass { IsPassOf self.now pass }
+        requires budget { budget ≤ max_budget }
+        ensures outlines { EachGives equal_regions region_meaning self.now.outlines.shards pass.outlines result.outlines (λ n. Limits (part (entries_of budget) n) (part budget n) ∷ []) }
+        ensures masks { EachGives equal_masks mask_meaning self.now.masks.shards pass.masks result.masks (λ n. Limits (part (entries_of budget) n) (part budget n) ∷ []) }
+        ensures composites { EachGives equal_composites composite_meaning self.now.composites.shards pass.composites result.composites (λ n. Limits (part (entries_of budget) n) (part budget n) ∷ []) }
+    {
+        let CachesPass {
+            outlines,
+            masks,
+            composites,
+        } = pass;
+        let entries = entries_of(budget);
+        let outlines = self.outlines.set_limits(rt, outlines, entries, budget);
+        let masks = self.masks.set_limits(rt, masks, entries, budget);
+        let composites = self.composites.set_limits(rt, composites, entries, budget);
+        CachesPass {
+            outlines,
+            masks,
+            composites,
+        }
+    }
+
+    /// The totals of the outlines, the masks and the composed masks, in this order.
+    pub fn totals<R: Wait>(&self, rt: &R, pass: CachesPass) -> (CachesPass, [Totals; 3])
+        requires { IsPassOf self.now pass }
+        ensures outlines { EachGives equal_regions region_meaning self.now.outlines.shards pass.outlines result.0.outlines (λ n. []) }
+        ensures masks { EachGives equal_masks mask_meaning self.now.masks.shards pass.masks result.0.masks (λ n. []) }
+        ensures composites { EachGives equal_composites composite_meaning self.now.composites.shards pass.composites result.0.composites (λ n. []) }
+        ensures totals { result.1 ≡ all_totals self.now result.0 }
+        ensures budgets { All (λ t. t.unpinned ≤ t.budget) result.1 }
+    {
+        let CachesPass {
+            outlines,
+            masks,
+            composites,
+        } = pass;
+        let (outlines, of_outlines) = self.outlines.totals(rt, outlines);
+        let (masks, of_masks) = self.masks.totals(rt, masks);
+        let (composites, of_composites) = self.composites.totals(rt, composites);
+        (
+            CachesPass {
+                outlines,
+                masks,
+                composites,
+            },
+            [of_outlines, of_masks, of_composites],
+        )
+    }
+
+    /// Gives back what was had of a composed mask.
+    pub fn give_back<R: Wait>(
+        &self,
+        rt: &R,
+        pass: CachesPass,
+        lease: Lease<CompositeMade>,
+    ) -> CachesPass
+        requires pass { IsPassOf self.now pass }
+        requires held { IsHeld equal_composites composite_meaning self.now.composites pass.composites lease }
+        ensures composites { Adds equal_composites composite_meaning self.now.composites pass.composites result.composites (given_steps lease) }
+        ensures own { is_pinned lease ≡ false → result.composites ≡ pass.composites }
+        ensures masks { result.masks ≡ pass.masks }
+        ensures outlines { result.outlines ≡ pass.outlines }
+    {
+        let CachesPass {
+            outlines,
+            masks,
+            composites,
+        } = pass;
+        let composites = give_back(&self.composites, rt, composites, lease);
+        CachesPass {
+            outlines,
+            masks,
+            composites,
+        }
+    }
+
+    /// A new pass. The first one comes back alone where no number is left.
+    pub fn split(&self, pass: CachesPass) -> Result<(CachesPass, CachesPass), CachesPass>
+        requires pass { IsPassOf self.now pass }
+        requires first { pass.outlines.first.number ≡ 0 }
+        ensures passes { IfOk result (λ r. IsSplit self.now pass r.0 r.1) }
+        ensures room { OnOk result (pass.outlines.first.next < u32.MAX) }
+        ensures refused { IfErr result (λ p. (pass.outlines.first.next ≡ u32.MAX) × IsSamePass pass p) }
+    {
+        let CachesPass {
+            outlines,
+            masks,
+            composites,
+        } = pass;
+        match self.outlines.split(outlines) {
+            Ok(two) => {
+                let (outlines, new_outlines) = two;
+                let (masks, new_masks) = split_with_room(&self.masks, masks);
+                let (composites, new_composites) = split_with_room(&self.composites, composites);
+                let first = CachesPass {
+                    outlines,
+                    masks,
+                    composites,
+                };
+                let new = CachesPass {
+                    outlines: new_outlines,
+                    masks: new_masks,
+                    composites: new_composites,
+                };
+                Ok((first, new))
+            }
+            Err(outlines) => {
+                let pass = CachesPass {
+                    outlines,
+                    masks,
+                    composites,
+                };
+                Err(pass)
+            }
+        }
+    }
+
+    /// Spends the other pass, which holds no pin and has no claim open.
+    pub fn join(&self, pass: CachesPass, other: CachesPass) -> CachesPass
+        requires passes { IsPassOf self.now pass × IsPassOf self.now other }
+        requires first { pass.outlines.first.number ≡ 0 }
+        requires given { HasAllGivenBack self.now other }
+        ensures { IsJoined self.now pass other result }
+    {
+        let CachesPass {
+            outlines,
+            masks,
+            composites,
+        } = pass;
+        let CachesPass {
+            outlines: other_outlines,
+            masks: other_masks,
+            composites: other_composites,
+        } = other;
+        let outlines = self.outlines.join(outlines, other_outlines);
+        let masks = self.masks.join(masks, other_masks);
+        let composites = self.composites.join(composites, other_composites);
+        CachesPass {
+            outlines,
+            masks,
+            composites,
+        }
+    }
+
+    /// Spends the last pass.
+    pub fn close(self, pass: CachesPass)
+        requires pass { IsPassOf self pass }
+        requires first { pass.outlines.first.number ≡ 0 }
+    {
+        let Caches {
+            fonts: _,
+            outlines,
+            masks,
+            composites,
+        } = self;
+        let CachesPass {
+            outlines: outlines_pass,
+            masks: masks_pass,
+            composites: composites_pass,
+        } = pass;
+        outlines.close(outlines_pass);
+        masks.close(masks_pass);
+        composites.close(composites_pass);
+    }
+}

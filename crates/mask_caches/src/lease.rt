@@ -1,0 +1,44 @@
+//! What a caller has of a value.
+ghost use Rattle.std.specs.Prelude.{◌≡◌, false};
+ghost use Rattle.flight_cache.specs.Shards.{IsCacheOf};
+ghost use Rattle.mask_caches.specs.Adding.{Adds};
+ghost use Rattle.mask_caches.specs.Leases.{IsHeld, given_steps, is_pinned, lease_value};
+
+use flight_cache::{Cache, CachePass, Made, Pin};
+use std::sync::{Arc, Wait};
+
+/// A value that is pinned in its cache, or one that was made apart since the cache had no room. It must be given back.
+pub enum Lease<M: Made> {
+    Pinned(Pin<M>),
+    Own(Arc<M::Value>),
+}
+
+impl<M: Made> Lease<M> {
+    /// The value.
+    pub fn value(&self) -> &M::Value
+        ensures { result.now ≡ lease_value self.now }
+    {
+        match self {
+            Lease::Pinned(pin) => pin.value(),
+            Lease::Own(value) => value,
+        }
+    }
+}
+
+/// Gives back what was had of a value.
+pub(crate) fn give_back<M: Made, R: Wait>(
+    cache: &Cache<M>,
+    rt: &R,
+    pass: CachePass<M>,
+    lease: Lease<M>,
+) -> CachePass<M>
+    requires cell { IsCacheOf cache.now pass }
+    requires held { IsHeld M.Key.eq M.meaning cache.now pass lease }
+    ensures steps { Adds M.Key.eq M.meaning cache.now pass result (given_steps lease) }
+    ensures own { is_pinned lease ≡ false → result ≡ pass }
+{
+    match lease {
+        Lease::Pinned(pin) => cache.unpin(rt, pass, pin),
+        Lease::Own(_value) => pass,
+    }
+}
