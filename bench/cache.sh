@@ -27,4 +27,7 @@ printf 'load before: %s\n' "$(cut -d ' ' -f 1-3 /proc/loadavg)"
 # 10,000 keys, 2,500 for each of four threads
 "$program" 2500 4
 
+# 60,000 keys, nearly as many as a cache has: their entries outgrow a processor's own caches
+"$program" 15000 1
+
 printf 'load after: %s\n' "$(cut -d ' ' -f 1-3 /proc/loadavg)"

@@ -4,6 +4,7 @@
 //! is legal for the cache machine of `evict_core`. docs/SINGLE_FLIGHT.md explains the words.
 #![tactic(auto)]
 
+mod boxed_entries;
 mod cache;
 mod holds;
 mod kept;

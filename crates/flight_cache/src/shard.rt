@@ -10,12 +10,13 @@ ghost use Rattle.flight_cache.specs.Histories.{value_under, is_in, left_by, IsLe
 ghost use Rattle.flight_cache.specs.Calls.{GivesSteps, own_steps};
 ghost use Rattle.flight_cache.specs.Answers.{IsAsked};
 
+use crate::boxed_entries::BoxedEntries;
 use crate::kept::{Entry, Kept, Opening};
 use crate::made::Made;
 use crate::pins::{Asked, Pin, Ticket};
 use ass_num::{Mem, OutOfMemory};
 use crossbeam_utils::Backoff;
-use evict_core::{Ask, Entries, Totals};
+use evict_core::{Ask, Totals};
 use std::alloc::Global;
 use std::marker::Model;
 use std::snapshot::Snapshot;
@@ -37,10 +38,17 @@ impl<M: Made> Model for ShardPass<M> {
     ghost invariant = { λ p. HasLegal M.Key.eq M.meaning p.pass.tag p.pass.seen };
 }
 
+// So many words lie between what two shards change: two lines of a processor's cache.
+const GAP: usize = 16;
+
 /// The entries of a shard's keys, behind a turn.
+///
+/// The gap is memory that nobody reads or writes. It is taken before the shard's other memory, so that no line of a
+/// processor's cache has what two shards change: threads on different shards would take such a line from one another.
 pub struct Shard<M: Made> {
     pub(crate) cell: TurnCell<Kept<M>>,
     pub(crate) number: u32,
+    pub(crate) gap: Box<[u64; GAP]>,
 }
 
 impl<M: Made> Model for Shard<M> {
@@ -71,8 +79,9 @@ impl<M: Made> Shard<M> {
         ensures limits { IfOk result (λ r. (r.0.tag.entries ≡ entries) × (r.0.tag.budget ≡ budget)) }
         ensures pass { IfOk result (λ r. r.1 ≡ first_pass r.0) }
     {
+        let gap = Box::new(alloc, [0; GAP])?;
         let kept = Kept {
-            entries: Entries::open(alloc, entries, budget)?,
+            entries: BoxedEntries::open(alloc, entries, budget)?,
         };
         let opening = Opening {
             tag: Snapshot::of(tag),
@@ -81,7 +90,7 @@ impl<M: Made> Shard<M> {
             budget,
         };
         match TurnCell::open(alloc, opening, kept) {
-            Ok((cell, pass)) => Ok((Shard { cell, number }, ShardPass { pass })),
+            Ok((cell, pass)) => Ok((Shard { cell, number, gap }, ShardPass { pass })),
             Err(_) => Err(OutOfMemory),
         }
     }
@@ -131,7 +140,27 @@ impl<M: Made> Shard<M> {
         ensures asked { IfOk result.1 (IsAsked M.Key.eq M.meaning self.now pass key result.0) }
         ensures flying { IfErr result.1 (λ k. (k ≡ key) × GivesSteps M.Key.eq M.meaning self.now pass result.0 []) }
     {
-        let mut turn = self.take(rt, pass);
+        let before = Snapshot::of(&pass);
+        let turn = self.take(rt, pass);
+        self.answer(alloc, before, turn, key)
+    }
+
+    // What the turn answers. It comes home in here, where nothing can wait: there is no handle to wait with.
+    fn answer(
+        &self,
+        alloc: Global,
+        before: Snapshot<ShardPass<M>>,
+        mut turn: Turn<Kept<M>>,
+        key: M::Key,
+    ) -> (ShardPass<M>, Result<Asked<M>, M::Key>)
+        requires cell { IsOf self.now before.value }
+        requires turn { IsTurnAfterTries (Stands M.Key.eq M.meaning) self.now.tag before.value turn }
+        requires legal { IsLegalUnder M.Key.eq M.meaning self.now.tag before.value.seen }
+        requires shard { is_in M.meaning self.now.tag key ≡ true }
+        ensures asked { IfOk result.1 (IsAsked M.Key.eq M.meaning self.now before.value key result.0) }
+        ensures flying { IfErr result.1 (λ k. (k ≡ key) × GivesSteps M.Key.eq M.meaning self.now before.value result.0 []) }
+    {
+        let _ = before;
         let shard = self.number;
         match turn.value_mut().entries.ask(&key) {
             Ask::Hit(value) => {
@@ -314,7 +343,11 @@ impl<M: Made> Shard<M> {
         requires cell { IsOf self pass }
         requires first { pass.number ≡ 0 }
     {
-        let Shard { cell, number: _ } = self;
+        let Shard {
+            cell,
+            number: _,
+            gap: _,
+        } = self;
         let ShardPass { pass } = pass;
         cell.close(pass);
     }

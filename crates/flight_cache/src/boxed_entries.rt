@@ -1,0 +1,133 @@
+//! The entries of a shard in a place of their own.
+//!
+//! A turn takes the value behind it out of its slot and puts it back, so a pointer lies there in place of the entries.
+ghost use Rattle.std.specs.Prelude.{◌≡◌, ℕ, ◌≤◌, Some, IfOk, OnOk, OnErr, IsSome, option_map};
+ghost use Rattle.std.specs.Arc.{arc_value};
+ghost use Rattle.evict_core.specs.Machine.{Hit, Claim, Ask as ask_step, Fill, Fail, Unpin, Limits, max_entries, max_budget, max_cost, status_of, pins_in, maker_in, ask_answer, state_after};
+ghost use Rattle.evict_core.specs.History.{opening};
+ghost use Rattle.evict_core.specs.Asked.{IsAskAnswer, ready_pins, ready_value, totals_of};
+
+use ass_num::Mem;
+use evict_core::{Ask, Entries, Totals};
+use std::alloc::Global;
+use std::hash::Hash;
+use std::marker::Model;
+use std::sync::Arc;
+
+/// The entries. Each call is the one of `Entries`, with its contract.
+#[derive(Drop)]
+pub struct BoxedEntries<K: Eq + Hash, V> {
+    inner: Box<Entries<K, V>>,
+}
+
+impl<K: Eq + Hash, V> Model for BoxedEntries<K, V> {
+    ghost use Rattle.evict_core.specs.Machine.{State};
+    ghost use Rattle.evict_core.specs.Codes.{state_code};
+
+    ghost Value = { State K V };
+
+    ghost coded = { state_code K.code V.code };
+
+    ghost view = { λ s. s.inner.value };
+}
+
+impl<K: Eq + Hash, V> BoxedEntries<K, V> {
+    pub fn open(alloc: Global, entries: u32, budget: u64) -> Mem<BoxedEntries<K, V>>
+    where
+        K: Drop,
+        V: Drop,
+        requires least { 1 ≤ entries }
+        requires most { entries ≤ max_entries }
+        requires budget { budget ≤ max_budget }
+        ensures { IfOk result (λ s. s ≡ opening entries budget) }
+    {
+        let entries = Entries::open(alloc, entries, budget)?;
+        Ok(BoxedEntries {
+            inner: Box::new(alloc, entries)?,
+        })
+    }
+
+    pub fn ask(&mut self, key: &K) -> Ask<V>
+        ensures { IsAskAnswer K.eq self.old key.now result self.new }
+    {
+        self.inner.ask(key)
+    }
+
+    pub fn claim(&mut self, key: K, number: u32) -> Mem<()>
+    where
+        K: Drop,
+        V: Drop,
+        requires { ask_answer K.eq self.old key ≡ Some Claim }
+        ensures ok { OnOk result (self.new ≡ state_after K.eq self.old number (ask_step key Claim)) }
+        ensures err { OnErr result (self.new ≡ self.old) }
+    {
+        self.inner.claim(key, number)
+    }
+
+    pub fn fill(&mut self, key: &K, value: Arc<V>, cost: u64)
+    where
+        V: Drop,
+        requires flying { IsSome (maker_in (status_of K.eq self.old key.now)) }
+        requires cost { cost ≤ max_cost }
+        ensures { (m : ℕ) → self.new ≡ state_after K.eq self.old m (Fill key.now cost (arc_value value)) }
+    {
+        self.inner.fill(key, value, cost);
+    }
+
+    pub fn fail(&mut self, key: &K)
+    where
+        K: Drop,
+        V: Drop,
+        requires { IsSome (maker_in (status_of K.eq self.old key.now)) }
+        ensures { (m : ℕ) → self.new ≡ state_after K.eq self.old m (Fail key.now) }
+    {
+        self.inner.fail(key);
+    }
+
+    pub fn unpin(&mut self, key: &K)
+    where
+        K: Drop,
+        V: Drop,
+        requires { 1 ≤ pins_in (status_of K.eq self.old key.now) }
+        ensures { (m : ℕ) → self.new ≡ state_after K.eq self.old m (Unpin key.now) }
+    {
+        self.inner.unpin(key);
+    }
+
+    pub fn set_limits(&mut self, entries: u32, budget: u64)
+    where
+        K: Drop,
+        V: Drop,
+        requires least { 1 ≤ entries }
+        requires most { entries ≤ max_entries }
+        requires budget { budget ≤ max_budget }
+        ensures { (m : ℕ) → self.new ≡ state_after K.eq self.old m (Limits entries budget) }
+    {
+        self.inner.set_limits(entries, budget);
+    }
+
+    pub fn pins_of(&self, key: &K) -> Option<u32>
+        ensures { result ≡ ready_pins (status_of K.eq self.now key.now) }
+    {
+        self.inner.pins_of(key)
+    }
+
+    pub fn value_of(&self, key: &K) -> Mem<Option<Arc<V>>>
+        ensures { IfOk result (λ o. option_map arc_value o ≡ ready_value (status_of K.eq self.now key.now)) }
+    {
+        self.inner.value_of(key)
+    }
+
+    pub fn pin(&mut self, key: &K)
+        requires { ask_answer K.eq self.old key.now ≡ Some Hit }
+        ensures { (m : ℕ) → self.new ≡ state_after K.eq self.old m (ask_step key.now Hit) }
+    {
+        self.inner.pin(key);
+    }
+
+    pub fn totals(&self) -> Totals
+        ensures { result ≡ totals_of self.now }
+    {
+        self.inner.totals()
+    }
+}
