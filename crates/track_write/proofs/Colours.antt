@@ -1,5 +1,5 @@
 -- Colours are read as they were written.
-use Rattle.std.proofs.Common.{◌≡◌, ℕ, ◌+◌, ◌*◌, ◌/◌, ◌%◌, ◌^◌, ◌<◌, Bool, true, false, cond, eqb, ltb, List, [], ◌∷◌, ◌++◌, drop, Option, Some, None, refl, sym, ap, ◌∙◌, arith}
+use Rattle.std.proofs.Common.{◌≡◌, ℕ, ◌+◌, ◌*◌, ◌/◌, ◌%◌, ◌<◌, Bool, true, false, cond, ltb, [], ◌∷◌, ◌++◌, drop, Some, refl, ap, ◌∙◌, arith}
 use Rattle.std.specs.Char.{digit_value}
 use Rattle.std.specs.List.{prefix_len}
 use Rattle.std.proofs.Math.Nat.{mod-eq_of_lt}
@@ -8,7 +8,7 @@ use Rattle.ass_num.specs.Colours.{colour_of}
 use Rattle.ass_num.specs.Numerals.{is_hexadecimal, is_mark, number_of}
 use Rattle.ass_num.specs.declared.colour.Rgba.{Rgba}
 use Rattle.ass_num.proofs.Runs.{hexadecimal_no_mark}
-use Rattle.ass_script.specs.Numbers.{hex_colour_in, hex_colour_from, colour_in, style_colour_of}
+use Rattle.ass_script.specs.Numbers.{hex_colour_in, hex_colour_from, style_colour_of}
 use Rattle.track_write.specs.Ranges.{IsByteColour}
 use Rattle.track_write.specs.Spelling.{hex_digit, byte_text, colour_text}
 

@@ -1,16 +1,15 @@
 -- An event is read back from its line.
-use Rattle.std.proofs.Common.{◌≡◌, ℕ, ◌+◌, ◌*◌, ◌%◌, ◌≤◌, Bool, true, false, List, [], ◌∷◌, ◌++◌, length, Option, Some, None, Result, Ok, Err, ℤ, pos, negsuc, ◌+ℤ◌, ◌-ℤ◌, int_le, refl, sym, ap, ◌∙◌, subst, arith}
+use Rattle.std.proofs.Common.{◌≡◌, ℕ, ◌+◌, ◌%◌, ◌≤◌, true, false, List, [], ◌∷◌, ◌++◌, length, Some, Ok, ℤ, pos, ◌+ℤ◌, ◌-ℤ◌, int_le, refl, sym, ap, ◌∙◌, arith}
 use Rattle.std.specs.Prelude.{option_and_then}
-use Rattle.std.specs.Fmt.{decimal, signed_decimal}
+use Rattle.std.specs.Fmt.{signed_decimal}
 use Rattle.std.specs.Int.RustNames.{unsigned_abs}
-use Rattle.std.specs.List.{All, slice_split, join_with_byte, list_all}
+use Rattle.std.specs.List.{All, join_with_byte}
 use Rattle.std.specs.Int.{int_max}
 use Rattle.std.proofs.lemmas.Bool.{and_parts}
 use Rattle.std.proofs.lemmas.Int.{ints}
 use Rattle.std.proofs.lemmas.List.Elements.{All-cons}
 use Rattle.std.proofs.lemmas.List.Splits.{slice_split_at, length-slice_split, join_with_byte-slice_split}
-use Rattle.ass_num.specs.Limits.{IsWithin, max_instant, max_whole}
-use Rattle.ass_num.specs.Numerals.{is_blank}
+use Rattle.ass_num.specs.Limits.{max_instant}
 use Rattle.ass_num.proofs.OrderLemmas.{le_is}
 use Rattle.ass_script.specs.Fields.{usual_event_fields}
 use Rattle.ass_script.specs.Words.{is_comma}
@@ -18,7 +17,7 @@ use Rattle.ass_script.specs.declared.lines.Version.TheVariants.{V4Plus}
 use Rattle.ass_script.specs.declared.script.EventField.{EventField}
 use Rattle.ass_script.specs.declared.script.EventField.TheVariants as field
 use Rattle.ass_events.specs.Cuts.{pieces_of}
-use Rattle.ass_events.specs.Events.{is_time, event_at, duration_between, line_made, line_event}
+use Rattle.ass_events.specs.Events.{is_time, duration_between, line_made, line_event}
 use Rattle.ass_events.specs.Fields.{FieldValues, no_fields, columns_from, columns_of, field_put, examined}
 use Rattle.ass_events.specs.Numbers.{whole_or_zero, instant_of}
 use Rattle.ass_events.specs.Ranges.{IsEvent}

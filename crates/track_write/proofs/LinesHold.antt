@@ -1,13 +1,10 @@
 -- The lines of a written script stand whole in its text.
-use Rattle.std.proofs.Common.{◌≡◌, ℕ, suc, ◌+◌, ◌-◌, ◌*◌, ◌%◌, ◌^◌, ◌<◌, ◌≤◌, Bool, true, false, cond, eqb, leb, ltb, not, ◌&&◌, ◌||◌, List, [], ◌∷◌, ◌++◌, length, get_or, map, Option, Some, None, ℤ, pos, negsuc, ◌+ℤ◌, int_le, refl, sym, ap, ◌∙◌, subst, arith, inl, inr, ◌⊎◌, ◌≤ℤ◌, length-append}
+use Rattle.std.proofs.Common.{◌≡◌, ℕ, ◌-◌, ◌%◌, ◌^◌, ◌<◌, ◌≤◌, Bool, true, false, cond, eqb, ltb, not, ◌&&◌, ◌||◌, List, [], ◌∷◌, ◌++◌, length, get_or, map, Some, None, ℤ, pos, negsuc, ◌+ℤ◌, int_le, refl, ap, ◌∙◌, arith, inl, inr, ◌⊎◌, ◌≤ℤ◌, length-append}
 use Rattle.std.specs.Prelude.{codes}
 use Rattle.std.specs.Fmt.{decimal, signed_decimal}
 use Rattle.std.specs.Cmp.{signed_Decides}
-use Rattle.std.specs.Int.{int_rem_euclid}
 use Rattle.std.specs.Int.RustNames.{unsigned_abs}
-use Rattle.std.specs.List.{All, AllPass, list_any, list_all}
-use Rattle.std.specs.Option.{option_map_or}
-use Rattle.std.specs.Ordering.{int_eq}
+use Rattle.std.specs.List.{All, list_all}
 use Rattle.std.specs.Str.{IsUtf8}
 use Rattle.std.proofs.lemmas.Bool.Decides.{nat_tests}
 use Rattle.std.proofs.lemmas.Fmt.{decimal_nonempty}
@@ -22,7 +19,6 @@ use Rattle.ass_num.specs.Colours.{colour_of}
 use Rattle.ass_num.specs.Limits.{IsWithin, IsHeldNumber, IsHeldLength, max_whole, max_instant}
 use Rattle.ass_num.proofs.OrderLemmas.{le_is}
 use Rattle.ass_script.specs.Ranges.{IsStyle, IsScriptHeader}
-use Rattle.ass_script.specs.declared.script.EventField.{EventField}
 use Rattle.ass_script.specs.declared.script.EventField.TheVariants as field
 use Rattle.ass_script.specs.declared.script.Header.{Header}
 use Rattle.ass_script.specs.declared.style.Style.{Style}
@@ -31,9 +27,9 @@ use Rattle.ass_events.specs.Ranges.{IsEvent}
 use Rattle.ass_events.specs.declared.event.Event.{Event}
 use Rattle.ass_events.proofs.PieceLemmas.{EachUtf8, joined_utf8}
 use Rattle.track_write.specs.Ranges.{IsByteColour, IsSpelledStyle}
-use Rattle.track_write.specs.Rows.{row, end_of, number_line, scaled_line, header_lines, style_fields, style_line, style_lines, style_format_line, event_format_line, event_fields, dialogue_line, event_lines, colour_at}
+use Rattle.track_write.specs.Rows.{row, end_of, scaled_line, header_lines, style_line, style_lines, style_format_line, event_format_line, dialogue_line, event_lines, colour_at}
 use Rattle.track_write.specs.Spelling.{milli_text, colour_text, flag_text, time_text}
-use Rattle.track_write.specs.Texts.{is_line_feed, has_line_feed, ends_in_return, is_hundredths, is_written_end, is_broken, text_fault, event_fault, max_written_end}
+use Rattle.track_write.specs.Texts.{is_line_feed, has_line_feed, ends_in_return, is_hundredths, is_written_end, text_fault, event_fault, max_written_end}
 use Rattle.track_write.proofs.EventReads.{IsWrittenTime}
 use Rattle.track_write.proofs.LineCuts.{IsLine, AreLines, last_of_two, EachField, row_all, row_last}
 use Rattle.track_write.proofs.Tokens.{AreTokens, no_line_feed, tokens_utf8, token_no_return, decimal_tokens, signed_tokens, milli_tokens, colour_tokens, flag_tokens, time_tokens}

@@ -1,5 +1,5 @@
 -- A text that is written is read back.
-use Rattle.std.proofs.Common.{◌≡◌, ℕ, zero, suc, ◌<◌, ◌≤◌, cond, List, [], ◌∷◌, ◌++◌, length, get_or, map, flat_map, Option, Some, None, Result, Ok, Err, refl, sym, ap, ◌∙◌, subst, arith}
+use Rattle.std.proofs.Common.{◌≡◌, ℕ, zero, suc, ◌≤◌, List, [], ◌∷◌, ◌++◌, length, get_or, map, Option, Some, None, Ok, Err, refl, sym, ap, ◌∙◌, subst}
 use Rattle.std.specs.Prelude.{slice_get}
 use Rattle.std.specs.List.{All}
 use Rattle.std.specs.Option.{option_map_or}
@@ -20,9 +20,8 @@ use Rattle.ass_events.specs.Ranges.{IsEvent}
 use Rattle.ass_events.specs.declared.event.Event.{Event}
 use Rattle.track_write.specs.Laws.{script_read}
 use Rattle.track_write.specs.Ranges.{IsSpelledScript}
-use Rattle.track_write.specs.Rows.{spoken, header_lines, style_lines, event_lines, ended, script_lines, script_bytes}
+use Rattle.track_write.specs.Rows.{spoken, header_lines, style_lines, event_lines, script_lines, script_bytes}
 use Rattle.track_write.specs.Texts.{event_fault, first_fault, written}
-use Rattle.track_write.specs.declared.refusal.WriteRefusal.{WriteRefusal}
 use Rattle.track_write.specs.declared.refusal.WriteRefusal.TheVariants.{Unwritable}
 use Rattle.track_write.proofs.EventReads.{event_read}
 use Rattle.track_write.proofs.LineCuts.{AreLines, lines_append, lines_back, text_utf8}

@@ -1,9 +1,8 @@
 -- The styles of a script that a text spells are such as a line can say.
-use Rattle.std.proofs.Common.{◌≡◌, ℕ, ◌+◌, ◌-◌, ◌%◌, ◌<◌, Bool, true, false, cond, eqb, leb, not, List, [], ◌∷◌, ◌++◌, length, get_or, set, take, drop, Option, Some, None, Result, Ok, Err, refl, sym, ap, ◌∙◌, subst, arith}
+use Rattle.std.proofs.Common.{◌≡◌, ℕ, ◌+◌, ◌-◌, Bool, true, false, cond, eqb, leb, not, List, [], ◌∷◌, ◌++◌, length, get_or, set, take, Option, Some, None, Ok, Err, refl, sym, ◌∙◌, subst, arith}
 use Rattle.std.specs.Prelude.{codes, is_some}
 use Rattle.std.specs.List.{All, slice_split, onto_first, list_all, list_any, position_or_len, before_first, after_first}
 use Rattle.std.specs.Option.{option_map_or}
-use Rattle.std.specs.Str.{IsUtf8}
 use Rattle.std.specs.Str.Lossy.{utf8_valid_len}
 use Rattle.std.specs.Str.Lines.{strip_carriage_return, lines_of_parts, lines}
 use Rattle.std.proofs.Math.Nat.{mod-lt}
@@ -15,9 +14,9 @@ use Rattle.ass_script.specs.Fields.{event_fields_of, ends_in_text}
 use Rattle.ass_script.specs.Limits.{max_lines, max_styles}
 use Rattle.ass_script.specs.Lines.{Line, is_heading, is_comment, section_named, keyed_line, line_in, key_named}
 use Rattle.ass_script.specs.Numbers.{style_colour_of}
-use Rattle.ass_script.specs.Styles.{built_in_style, bare_style, colours_with, with_field, with_fields, style_of}
+use Rattle.ass_script.specs.Styles.{bare_style, colours_with, with_field, with_fields, style_of}
 use Rattle.ass_script.specs.Scripts.{ScriptValue, script_of_lines, script_of, lines_of}
-use Rattle.ass_script.specs.Walk.{fields_of, key_step, keyed_step, style_step, line_step, walked, no_script_lines, script_said, made_script}
+use Rattle.ass_script.specs.Walk.{fields_of, key_step, keyed_step, line_step, walked, no_script_lines, script_said, made_script}
 use Rattle.ass_script.specs.Words.{is_comma, is_colon, past_mark}
 use Rattle.ass_script.specs.declared.lines.Key.{Key}
 use Rattle.ass_script.specs.declared.lines.Key.TheVariants as key

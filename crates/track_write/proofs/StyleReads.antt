@@ -1,9 +1,9 @@
 -- A style is read back from its line.
-use Rattle.std.proofs.Common.{◌≡◌, ℕ, ◌+◌, ◌*◌, ◌/◌, ◌%◌, ◌≤◌, cond, eqb, leb, ◌&&◌, Bool, true, false, List, [], ◌∷◌, ◌++◌, length, get_or, set, Option, Some, ℤ, pos, negsuc, refl, sym, ap, ◌∙◌, subst, arith, inl, inr, ◌⊎◌}
+use Rattle.std.proofs.Common.{◌≡◌, ℕ, ◌*◌, ◌/◌, ◌%◌, ◌≤◌, cond, eqb, leb, ◌&&◌, Bool, true, false, List, [], ◌∷◌, length, get_or, set, ℤ, pos, refl, sym, ap, ◌∙◌, arith, inl, inr, ◌⊎◌}
 use Rattle.std.specs.Prelude.{codes}
 use Rattle.std.specs.Fmt.{decimal, signed_decimal}
 use Rattle.std.specs.Int.{int_max}
-use Rattle.std.specs.List.{All, slice_split, join_with_byte}
+use Rattle.std.specs.List.{All, slice_split}
 use Rattle.std.specs.Option.{option_map_or}
 use Rattle.std.specs.Ordering.{int_eq}
 use Rattle.std.proofs.lemmas.Bool.Decides.{nat_tests}
@@ -15,7 +15,7 @@ use Rattle.ass_num.specs.Limits.{IsWithin, IsHeldLength, IsHeldNumber, max_whole
 use Rattle.ass_num.specs.Wholes.{whole_of}
 use Rattle.ass_num.specs.declared.colour.Rgba.{Rgba}
 use Rattle.ass_script.specs.Fields.{usual_style_fields}
-use Rattle.ass_script.specs.Numbers.{milli_of, style_colour_of}
+use Rattle.ass_script.specs.Numbers.{milli_of}
 use Rattle.ass_script.specs.Ranges.{IsStyle}
 use Rattle.ass_script.specs.Styles.{built_in_style, bare_style, milli_or, size_or, margin_or, flag_or, border_style_or, alignment_in, alignment_or, colours_with, with_fields, style_of}
 use Rattle.ass_script.specs.Words.{is_comma}
@@ -26,7 +26,7 @@ use Rattle.blanks.specs.Blanks.{trimmed}
 use Rattle.track_write.specs.Ranges.{IsByteColour, IsSpelledStyle}
 use Rattle.track_write.specs.Rows.{row, colour_at, style_fields}
 use Rattle.track_write.specs.Spelling.{milli_text, colour_text, flag_text}
-use Rattle.track_write.proofs.Colours.{number_of_colour, colour_back, colour_read}
+use Rattle.track_write.proofs.Colours.{colour_back, colour_read}
 use Rattle.track_write.proofs.Readings.{milli_read, whole_milli, whole_read, no_blanks, not_below}
 use Rattle.track_write.proofs.Tokens.{no_comma, tokens_stay, milli_tokens, colour_tokens, flag_tokens, decimal_tokens, signed_tokens, blank_dropped}
 

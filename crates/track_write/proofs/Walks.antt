@@ -1,5 +1,5 @@
 -- A written script is read back.
-use Rattle.std.proofs.Common.{◌≡◌, ℕ, suc, ◌+◌, ◌<◌, ◌≤◌, Bool, true, false, cond, leb, ◌&&◌, List, [], ◌∷◌, ◌++◌, length, drop, map, Option, Some, None, Result, Ok, Err, pos, refl, sym, ap, ◌∙◌, subst, arith, append_assoc, length-append}
+use Rattle.std.proofs.Common.{◌≡◌, ℕ, ◌+◌, ◌<◌, ◌≤◌, Bool, true, false, cond, leb, ◌&&◌, List, [], ◌∷◌, ◌++◌, length, drop, map, Some, None, Ok, pos, refl, sym, ap, ◌∙◌, arith, append_assoc, length-append}
 use Rattle.std.specs.Prelude.{codes, option_and_then}
 use Rattle.std.specs.Fmt.{decimal}
 use Rattle.std.specs.List.{All}
@@ -22,7 +22,6 @@ use Rattle.ass_script.specs.declared.lines.Section.{Section}
 use Rattle.ass_script.specs.declared.lines.Section.TheVariants as section
 use Rattle.ass_script.specs.declared.lines.Version.TheVariants.{V4Plus}
 use Rattle.ass_script.specs.declared.lines.Key.{Key}
-use Rattle.ass_script.specs.declared.lines.Key.TheVariants as key
 use Rattle.ass_script.specs.declared.reading.Reading.{Reading}
 use Rattle.ass_script.specs.declared.refusal.ScriptRefusal.TheVariants as refusal
 use Rattle.ass_script.specs.declared.script.Header.{Header}

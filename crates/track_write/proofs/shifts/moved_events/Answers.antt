@@ -1,13 +1,12 @@
-use Rattle.std.proofs.Common.{◌≡◌, ◌+◌, ◌++◌, ◌∷◌, [], true, false, List, ℤ, Result, Ok, map, drop, length, w64, to_z, of_z, to_z-of_z, FitsSigned, Some, None, refl, sym, ap, ◌∙◌, subst, rules}
+use Rattle.std.proofs.Common.{◌≡◌, ◌++◌, ◌∷◌, [], true, false, List, ℤ, Ok, map, w64, to_z, of_z, to_z-of_z, FitsSigned, Some, None, refl, sym, ap, ◌∙◌, subst, rules}
 use Rattle.std.specs.Arc.{arc_value}
 use Rattle.std.specs.List.{All}
-use Rattle.std.proofs.lemmas.List.{append-nil, drop_all}
+use Rattle.std.proofs.lemmas.List.{drop_all}
 use Rattle.std.proofs.lemmas.List.Elements.{All-push}
 use Rattle.ass_events.specs.Events.{is_time}
 use Rattle.ass_events.specs.Ranges.{IsEvent}
 use Rattle.ass_events.specs.declared.event.Event.{Event}
-use Rattle.track_write.specs.Shifts.{moved, first_outside, moved_events}
-use Rattle.track_write.specs.Texts.{IsWriteAnswer}
+use Rattle.track_write.specs.Shifts.{moved, first_outside}
 use Rattle.track_write.proofs.RowLemmas.{text_more, text_whole}
 use Rattle.track_write.proofs.ShiftLemmas.{at_item, moved_sound, outside_here, outside_later, moved_is, refuse, shift_done}
 use Rattle.track_write.proofs.shifts.moved_events.Goals as goal
