@@ -11,3 +11,4 @@ pub mod LinesHold
 pub mod Walks
 pub mod ReadBack
 pub mod Spelled
+pub mod NearLemmas

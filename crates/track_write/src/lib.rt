@@ -11,7 +11,7 @@ mod rows;
 mod shifts;
 mod texts;
 
-pub use laws::written_is_read_back;
+pub use laws::{near_events_are_moved, written_is_read_back};
 pub use refusal::WriteRefusal;
 pub use shifts::shifted;
 pub use texts::script_text;
