@@ -1,18 +1,16 @@
 -- The places of the events that matter: each is a place of the list, no two are one, and each event that matters has one.
-use Rattle.std.proofs.Common.{◌≡◌, ◌≢◌, sym, ap, subst, ◌∙◌, ℕ, ◌<◌, List, length, map, get_or, slice_get, Some, ℤ, arith}
+use Rattle.std.proofs.Common.{◌≡◌, ◌≢◌, sym, subst, ◌∙◌, ℕ, ◌<◌, List, length, get_or, ℤ, arith}
 use Rattle.std.proofs.lemmas.List.{get_or-map, length-map}
 use Rattle.std.proofs.lemmas.Option.{get_or_from_slice_get, slice_get-get_or, slice_get_within}
-use Rattle.ass_num.specs.Limits.{IsWithin}
 use Rattle.ass_num.specs.declared.size.Size.{Size}
 use Rattle.ass_events.specs.NearEvents.{IsNear, span_of}
 use Rattle.ass_events.specs.declared.event.Event.{Event}
 use Rattle.ass_script.specs.Scripts.{ScriptValue}
 use Rattle.bdf_font.specs.Fonts.{FontValue}
-use Rattle.event_places.specs.Limits.{max_shift}
 use Rattle.event_places.specs.PlacedEvents.{ArePlacedEvents, places_of}
 use Rattle.event_places.specs.Shifts.{IsMovedBy}
 use Rattle.event_places.specs.declared.placed.PlacedEvent.{PlacedEvent}
-use Rattle.picture_plan.specs.ShownEvents.{ArePlaces, event_at, event_of, no_event, no_placed}
+use Rattle.picture_plan.specs.ShownEvents.{ArePlaces, event_at, no_event, no_placed}
 use Rattle.picture_plan.proofs.ShownLemmas.{at_pairwise}
 
 abbrev place_in : PlacedEvent → ℕ

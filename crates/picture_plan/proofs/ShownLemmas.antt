@@ -1,5 +1,5 @@
 -- The events that are shown, one more place at a time, and by layer, then ReadOrder.
-use Rattle.std.proofs.Common.{Ordering, Less, Equal, Greater, ◌≡◌, ◌≢◌, ◌↔◌, ◌⊎◌, inl, inr, refl, sym, ap, subst, ◌∙◌, ℕ, zero, suc, ◌+◌, ◌<◌, ◌≤◌, Bool, true, false, cond, ◌&&◌, List, [], ◌∷◌, ◌++◌, length, map, get_or, ℤ, pos, ◌+ℤ◌, ◌<ℤ◌, ◌≤ℤ◌, int_le, int_lt, nat_lt, nat_eq, All, Contains, IsPermutation, IsSortedByKey, ⊎_elim, arith}
+use Rattle.std.proofs.Common.{Ordering, Less, Equal, Greater, ◌≡◌, ◌≢◌, ◌⊎◌, inl, inr, refl, sym, ap, subst, ◌∙◌, ℕ, zero, suc, ◌+◌, ◌<◌, ◌≤◌, Bool, true, false, cond, List, [], ◌∷◌, ◌++◌, length, map, get_or, ℤ, pos, ◌+ℤ◌, ◌<ℤ◌, int_le, int_lt, nat_lt, Contains, IsPermutation, IsSortedByKey, ⊎_elim, arith}
 use Rattle.std.specs.Prelude.{◌==◌}
 use Rattle.std.specs.Cmp.{IsTotalOrder}
 use Rattle.std.specs.Fn.{ComputesKey, Called}
@@ -10,7 +10,7 @@ use Rattle.std.proofs.lemmas.Bool.Decides.{nat_tests}
 use Rattle.std.proofs.lemmas.Cmp.{int_cmp_total, nat_cmp_total, on_total, then_total}
 use Rattle.std.proofs.lemmas.Int.{ints}
 use Rattle.std.proofs.lemmas.List.{append-nil, get_or-map, get_or_default, length-map, map-append}
-use Rattle.std.proofs.lemmas.List.Elements.{All-contains, All-from_recursion, All-map, All-nil, All-push, All-weaker, Contains-append_left, Contains-get_or, Contains-push, recursion_from_All}
+use Rattle.std.proofs.lemmas.List.Elements.{All-from_recursion, All-map, All-nil, All-push, All-weaker, Contains-append_left, Contains-get_or, Contains-push, recursion_from_All}
 use Rattle.std.proofs.lemmas.List.Sorted.{All-permutation, Contains-permutation, IsPermutation-map, answers_always, ranks_by, sorted_far}
 use Rattle.std.proofs.lemmas.Map.Keys.{IsDistinct-IsPermutation}
 use denote.Param.Members.{Mut}
@@ -22,7 +22,7 @@ use Rattle.ass_events.specs.declared.event.Event.{Event}
 use Rattle.event_places.proofs.Pairs.{Pairwise-push}
 use Rattle.event_places.specs.declared.placed.PlacedEvent.{PlacedEvent}
 use Rattle.picture_plan.specs.Pictures.{AreShown, IsDrawnBefore}
-use Rattle.picture_plan.specs.ShownEvents.{ArePlaces, AreByLayer, AreShownPlaces, IsBelow, IsShownPlace, event_at, event_of, event_shown, is_shown, no_event, no_placed, shown_if}
+use Rattle.picture_plan.specs.ShownEvents.{ArePlaces, AreByLayer, AreShownPlaces, IsBelow, IsShownPlace, event_at, event_shown, is_shown, no_event, no_placed, shown_if}
 use Rattle.picture_plan.specs.declared.shown.ShownEvent.{ShownEvent}
 
 -- ---- pairs

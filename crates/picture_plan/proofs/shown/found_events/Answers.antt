@@ -2,7 +2,7 @@ use Rattle.std.proofs.Common.{◌≡◌, ℕ, length, map, subst, to_z-of_z, rul
 use Rattle.std.proofs.lemmas.Grind.{common_steps}
 use Rattle.std.specs.Arc.{arc_value}
 use Rattle.picture_plan.specs.ShownEvents.{AreShownPlaces, event_at}
-use Rattle.picture_plan.proofs.ShownLemmas.{none_shown, shown_more}
+use Rattle.picture_plan.proofs.ShownLemmas.{shown_more}
 use Rattle.picture_plan.proofs.shown.found_events.Goals as goal
 
 pub loop-place-preserved : goal.loop-place-preserved
