@@ -1,5 +1,5 @@
 -- Inner: the spans of events, and their order.
-use Rattle.std.specs.Prelude.{◌≡◌, ◌⊎◌, ℕ, ◌+◌, ◌+ℤ◌, ◌<ℤ◌, List, [], ◌∷◌, Some, slice_get, ℤ, Contains}
+use Rattle.std.specs.Prelude.{◌≤ℤ◌, Bool, true, ◌&&◌, int_le, int_lt, All, ◌≡◌, ◌⊎◌, ℕ, ◌+◌, ◌+ℤ◌, ◌<ℤ◌, List, [], ◌∷◌, Some, slice_get, ℤ, Contains}
 use Rattle.ass_events.specs.declared.event.Event.{Event}
 use Rattle.ass_events.specs.Histories.{Pairwise}
 use Rattle.ass_events.specs.NearEvents.{Span, IsEarlier, IsNear, span_of}
@@ -37,3 +37,12 @@ pub record AreNearSpans (events : List Event) (t : ℤ) (near : List EventSpan) 
   pub matters : (s : EventSpan) (e : Event) → Contains near s → slice_get events s.place ≡ Some e → IsNear span_of events t e
   pub all : (place : ℕ) (e : Event) → slice_get events place ≡ Some e → IsNear span_of events t e → Contains near (event_span e place)
   pub sorted : Pairwise StandsBefore near
+
+-- the span begins by t and ends after a bound
+abbrev pub is_behind : ℤ → ℤ → EventSpan → Bool
+is_behind t bound s = int_le s.start t && int_lt bound s.end
+
+-- Whatever is behind the bound doesn't begin before it. The bound isn't after t.
+pub record IsBound (t bound : ℤ) (spans : List EventSpan) : Type 0 where
+  pub by : bound ≤ℤ t
+  pub all : All (λ (s : EventSpan). is_behind t bound s ≡ true → bound ≤ℤ s.start) spans
