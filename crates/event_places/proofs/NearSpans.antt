@@ -11,7 +11,7 @@ use Rattle.ass_events.specs.Histories.{HaveOwnOrders, Pairwise}
 use Rattle.ass_events.specs.Ranges.{IsEvent}
 use Rattle.ass_events.specs.NearEvents.{ComesBefore, IsShownAt, IsNear, Shown, Chained, Span, span_of}
 use Rattle.event_places.specs.declared.spans.EventSpan.{EventSpan}
-use Rattle.event_places.specs.Spans.{AreInOrder, AreNearSpans, IsBound, IsSpanOf, is_behind, StandsBefore, event_span, span_at, spans_from}
+use Rattle.event_places.specs.Spans.{AreSpansInOrder, AreNearSpans, IsBound, IsSpanOf, is_behind, StandsBefore, event_span, span_at, spans_from}
 use Rattle.event_places.specs.Walks.{all_walked}
 use Rattle.event_places.proofs.Lists.{from_filter, in_filter, there_from_get, get_from_there, same_some}
 use Rattle.event_places.proofs.Nears.{found_near, found_there, near_found, step_cases}
@@ -210,7 +210,7 @@ starts_from place (e ∷ es) h =
     All-cons (λ (s : EventSpan). pos 0 ≤ℤ s.start) (event_span e place) (spans_from (place + 1) es) first (starts_from (place + 1) es (All-tail IsEvent e es h))
 
 pub near_spans_are : (events : List Event) (t bound : ℤ) (spans few sorted found : List EventSpan) → HaveOwnOrders events → spans ≡ spans_from 0 events → IsBound t bound spans
-    → few ≡ filter (is_behind t bound) spans → IsPermutation few sorted → AreInOrder sorted → found ≡ reverse (all_walked t sorted).found → AreNearSpans events t found
+    → few ≡ filter (is_behind t bound) spans → IsPermutation few sorted → AreSpansInOrder sorted → found ≡ reverse (all_walked t sorted).found → AreNearSpans events t found
 near_spans_are events t bound spans few sorted found orders is bounded few_is moved ordered found_is =
     let p = is_behind t bound in
     let all = spans_from 0 events in

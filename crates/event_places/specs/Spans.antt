@@ -13,8 +13,8 @@ abbrev pub StandsBefore : EventSpan → EventSpan → Type 0
 StandsBefore a b = (a.layer <ℤ b.layer) ⊎ ((a.layer ≡ b.layer) × IsEarlier (span_at a) (span_at b))
 
 -- none stands before one that comes earlier
-abbrev pub AreInOrder : List EventSpan → Type 0
-AreInOrder spans = Pairwise (λ a b. StandsBefore b a → ⊥) spans
+abbrev pub AreSpansInOrder : List EventSpan → Type 0
+AreSpansInOrder spans = Pairwise (λ a b. StandsBefore b a → ⊥) spans
 
 -- the span of the event at a place
 abbrev pub event_span : Event → ℕ → EventSpan
