@@ -1,18 +1,21 @@
 -- The spans that a walk finds are those of the events that matter.
-use Rattle.std.proofs.Common.{◌≡◌, ◌≢◌, ℕ, zero, suc, ◌+◌, ◌<◌, ◌≤◌, ℤ, ◌<ℤ◌, List, [], ◌∷◌, ◌++◌, length, get_or, map, take, refl, sym, ap, subst, ◌∙◌, arith, ⊎_elim, Some, IsPermutation}
+use Rattle.std.proofs.Common.{◌≡◌, ◌≢◌, ℕ, zero, suc, ◌+◌, ◌<◌, ◌≤◌, ℤ, pos, ◌<ℤ◌, ◌≤ℤ◌, Bool, true, false, cond, List, [], ◌∷◌, ◌++◌, length, get_or, map, take, refl, sym, ap, subst, ◌∙◌, arith, ⊎_elim, Some, IsPermutation}
 use Rattle.std.specs.Prelude.{slice_get, ◌↔◌, reverse}
-use Rattle.std.specs.List.{All, Contains}
+use Rattle.std.specs.List.{All, Contains, filter}
+use Rattle.std.proofs.lemmas.Int.{ints}
 use Rattle.std.proofs.lemmas.List.{length_push, length-reverse, map_push, reverse-append, take_more}
-use Rattle.std.proofs.lemmas.List.Elements.{All-nil, All-cons, All-head, All-tail, All-contains, Contains-get_or}
+use Rattle.std.proofs.lemmas.List.Elements.{All-nil, All-cons, All-filter, All-head, All-tail, All-contains, All-push, All-weaker, Contains-get_or}
 use Rattle.std.proofs.lemmas.List.Sorted.{Contains-permutation, IsPermutation-sym, IsPermutation-reverse, length_permutation}
 use Rattle.ass_events.specs.declared.event.Event.{Event}
 use Rattle.ass_events.specs.Histories.{HaveOwnOrders, Pairwise}
+use Rattle.ass_events.specs.Ranges.{IsEvent}
 use Rattle.ass_events.specs.NearEvents.{ComesBefore, IsShownAt, IsNear, Shown, Chained, Span, span_of}
 use Rattle.event_places.specs.declared.spans.EventSpan.{EventSpan}
-use Rattle.event_places.specs.Spans.{AreInOrder, AreNearSpans, IsSpanOf, StandsBefore, event_span, span_at, spans_from}
+use Rattle.event_places.specs.Spans.{AreSpansInOrder, AreNearSpans, IsBound, IsSpanOf, is_behind, StandsBefore, event_span, span_at, spans_from}
 use Rattle.event_places.specs.Walks.{all_walked}
-use Rattle.event_places.proofs.Lists.{there_from_get, get_from_there, same_some}
+use Rattle.event_places.proofs.Lists.{from_filter, in_filter, there_from_get, get_from_there, same_some}
 use Rattle.event_places.proofs.Nears.{found_near, found_there, near_found, step_cases}
+use Rattle.event_places.proofs.Orders.{earlier_start}
 use Rattle.event_places.proofs.Pairs.{Contains-nil, Contains-head, Contains-tail, Contains-cons_cases}
 use Rattle.event_places.proofs.Sorts.{Differ, differ_moved, strictly}
 
@@ -104,17 +107,16 @@ walked_sorted t (x ∷ xs) h =
 abbrev HaveSpans : List Event → List EventSpan → Type 0
 HaveSpans events spans = (s : EventSpan) → Contains spans s ↔ IsSpanOf events s
 
-have_spans : (events : List Event) (sorted : List EventSpan) → IsPermutation (spans_from 0 events) sorted → HaveSpans events sorted
-have_spans events sorted moved s =
+have_spans : (events : List Event) → HaveSpans events (spans_from 0 events)
+have_spans events s =
     let all = spans_from 0 events in (
-      (λ c. let r = span_from 0 events s (Contains-permutation sorted all s (IsPermutation-sym all sorted moved) c) in
+      (λ c. let r = span_from 0 events s c in
           let same : 0 + r.0 ≡ r.0 = omega arith in
           let is : s ≡ event_span r.1 r.0 = r.3 ∙ ap (event_span r.1) same in
           let place : r.0 ≡ s.place = sym (ap (λ (z : EventSpan). z.place) is) in
           record { event = r.1; stands = subst (λ n. slice_get events n ≡ Some r.1) place r.2; span = subst (λ n. s ≡ event_span r.1 n) place is }),
       (λ own. let same : 0 + s.place ≡ s.place = omega arith in
-          Contains-permutation all sorted s moved
-          (subst (Contains all) (ap (event_span own.event) same ∙ sym own.span) (span_there 0 events s.place own.event own.stands))),
+          subst (Contains all) (ap (event_span own.event) same ∙ sym own.span) (span_there 0 events s.place own.event own.stands)),
     )
 
 near_there : {E : Type 0} (span : E → Span) (all : List E) (t : ℤ) (e : E) → IsNear span all t e → Contains all e
@@ -139,33 +141,112 @@ module _ (events : List Event) (spans : List EventSpan) (have : HaveSpans events
       let place = get_from_there events f (near_there span_of events t f near) in
       Chained (span_near f near place.0 place.1) (spanned k e at) before over
 
-pub near_spans_are : (events : List Event) (t : ℤ) (spans sorted found : List EventSpan) → HaveOwnOrders events → spans ≡ spans_from 0 events → IsPermutation spans sorted → AreInOrder sorted
-    → found ≡ reverse (all_walked t sorted).found → AreNearSpans events t found
-near_spans_are events t spans sorted found orders is moved ordered found_is =
-    let moves : IsPermutation (spans_from 0 events) sorted = subst (λ z. IsPermutation z sorted) is moved in
-    let have = have_spans events sorted moves in
-    let up : Pairwise StandsBefore sorted = strictly sorted ordered (differ_moved (spans_from 0 events) sorted moves (spans_differ 0 events orders)) in
+-- ---- spans that are behind a bound
+behind_lower : (t low from : ℤ) (s : EventSpan) → low ≤ℤ from → is_behind t from s ≡ true → is_behind t low s ≡ true
+behind_lower t low from s le h = grind (arith, ints)
+
+-- one more span
+pub lowered_more : (t from low next : ℤ) (spans : List EventSpan) (k : ℕ) (s : EventSpan) → k < length spans → s ≡ get_or spans k s → low ≤ℤ from → next ≤ℤ low → (is_behind t low s ≡ true → next ≤ℤ s.start)
+    → All (λ (s : EventSpan). is_behind t from s ≡ true → low ≤ℤ s.start) (take k spans) → All (λ (s : EventSpan). is_behind t from s ≡ true → next ≤ℤ s.start) (take (k + 1) spans)
+lowered_more t from low next spans k s lt is by down start old =
+    let P : ℤ → EventSpan → Type 0 = λ z s. is_behind t from s ≡ true → z ≤ℤ s.start in
+    let wider : All (P next) (take k spans) = All-weaker (P low) (P next) (λ x h b. let l = h b in omega (arith, ints, l, down)) (take k spans) old in
+    let mine : P next s = λ b. start (behind_lower t low from s by b) in
+    let more : take (k + 1) spans ≡ take k spans ++ s ∷ [] = take_more spans k s lt ∙ ap (λ z. take k spans ++ z ∷ []) (sym is) in
+    subst (All (P next)) (sym more) (All-push (P next) (take k spans) s wider mine)
+
+pub bound_is : (t low next : ℤ) (spans : List EventSpan) → low ≤ℤ t → next ≡ low → All (λ (s : EventSpan). is_behind t low s ≡ true → next ≤ℤ s.start) spans → IsBound t low spans
+bound_is t low next spans by same all = record {
+  by = by;
+  all = subst (λ z. All (λ (s : EventSpan). is_behind t low s ≡ true → z ≤ℤ s.start) spans) same all;
+}
+
+pub lowest_is : (t low : ℤ) (spans : List EventSpan) → low ≤ℤ t → low ≤ℤ pos 0 → All (λ (s : EventSpan). pos 0 ≤ℤ s.start) spans → IsBound t low spans
+lowest_is t low spans by zero_up all = record { by = by; all = λ k d lt b. let l = all k d lt in omega (arith, ints, l, zero_up) }
+
+behind_parts : (t bound : ℤ) (s : EventSpan) → s.start ≤ℤ t → bound <ℤ s.end → is_behind t bound s ≡ true
+behind_parts t bound s a b = grind (arith, ints)
+
+earlier_by : (f e : EventSpan) (t : ℤ) → ComesBefore (span_at f) (span_at e) → e.start ≤ℤ t → f.start ≤ℤ t
+earlier_by f e t before by = let start = earlier_start (span_at f) (span_at e) before.1 in omega (arith, ints, start, by)
+
+-- what matters among all is behind the bound, and matters among what is
+abbrev IsKept : ℤ → ℤ → List EventSpan → EventSpan → Type 0
+IsKept t bound some s = IsNear span_at some t s × (bound ≤ℤ s.start) × (s.start ≤ℤ t)
+
+near_kept : (t bound : ℤ) (all : List EventSpan) → IsBound t bound all → (s : EventSpan) → IsNear span_at all t s → IsKept t bound (filter (is_behind t bound) all) s
+near_kept t bound all is _ (Shown {e} there shown) =
+    let by = is.by in
+    let over : bound <ℤ e.end = let last = shown.1 in omega (arith, ints, by, last) in
+    let low = All-contains (λ (s : EventSpan). is_behind t bound s ≡ true → bound ≤ℤ s.start) all e is.all there (behind_parts t bound e shown.0 over) in
+    (Shown (in_filter (is_behind t bound) all e there (behind_parts t bound e shown.0 over)) shown, low, shown.0)
+near_kept t bound all is _ (Chained {e} {f} near there before over) =
+    let kept = near_kept t bound all is e near in
+    let floor = kept.1 in
+    let start = earlier_by f e t before kept.2 in
+    let last : bound <ℤ f.end = omega (arith, ints, floor, over) in
+    let low = All-contains (λ (s : EventSpan). is_behind t bound s ≡ true → bound ≤ℤ s.start) all f is.all there (behind_parts t bound f start last) in
+    (Chained kept.0 (in_filter (is_behind t bound) all f there (behind_parts t bound f start last)) before over, low, start)
+
+near_wider : (t : ℤ) (some all : List EventSpan) → ((s : EventSpan) → Contains some s → Contains all s) → (s : EventSpan) → IsNear span_at some t s → IsNear span_at all t s
+near_wider t some all over s (Shown there shown) = Shown (over s there) shown
+near_wider t some all over s (Chained {e = e} near there before lasts) = Chained (near_wider t some all over e near) (over s there) before lasts
+
+filter_differ : (p : EventSpan → Bool) (xs : List EventSpan) → Pairwise Differ xs → Pairwise Differ (filter p xs)
+filter_differ p [] h = tt
+filter_differ p (x ∷ xs) h =
+    elim (p x) as (λ b. Pairwise Differ (cond b (x ∷ filter p xs) (filter p xs))) [ true ↦ (All-filter p (Differ x) xs h.0, filter_differ p xs h.1) | false ↦ filter_differ p xs h.1 ]
+
+filter_less : (p : EventSpan → Bool) (xs : List EventSpan) → length (filter p xs) ≤ length xs
+filter_less p [] = omega arith
+filter_less p (x ∷ xs) =
+    let rest = filter_less p xs in
+    elim (p x) as (λ b. length (cond b (x ∷ filter p xs) (filter p xs)) ≤ length (x ∷ xs)) [ true ↦ omega (arith, rest) | false ↦ omega (arith, rest) ]
+
+pub starts_from : (place : ℕ) (events : List Event) → All IsEvent events → All (λ (s : EventSpan). pos 0 ≤ℤ s.start) (spans_from place events)
+starts_from place [] h = All-nil (λ (s : EventSpan). pos 0 ≤ℤ s.start)
+starts_from place (e ∷ es) h =
+    let first : pos 0 ≤ℤ e.start = let held = (All-head IsEvent e es h).start in grind (arith, ints) in
+    All-cons (λ (s : EventSpan). pos 0 ≤ℤ s.start) (event_span e place) (spans_from (place + 1) es) first (starts_from (place + 1) es (All-tail IsEvent e es h))
+
+pub near_spans_are : (events : List Event) (t bound : ℤ) (spans few sorted found : List EventSpan) → HaveOwnOrders events → spans ≡ spans_from 0 events → IsBound t bound spans
+    → few ≡ filter (is_behind t bound) spans → IsPermutation few sorted → AreSpansInOrder sorted → found ≡ reverse (all_walked t sorted).found → AreNearSpans events t found
+near_spans_are events t bound spans few sorted found orders is bounded few_is moved ordered found_is =
+    let p = is_behind t bound in
+    let all = spans_from 0 events in
+    let bounds : IsBound t bound all = subst (IsBound t bound) is bounded in
+    let kept : few ≡ filter p all = few_is ∙ ap (filter p) is in
+    let moves : IsPermutation (filter p all) sorted = subst (λ z. IsPermutation z sorted) kept moved in
+    let have = have_spans events in
+    let up : Pairwise StandsBefore sorted = strictly sorted ordered (differ_moved (filter p all) sorted moves (filter_differ p all (spans_differ 0 events orders))) in
+    let in_all : (s : EventSpan) → Contains sorted s → Contains all s =
+    λ s c. (from_filter p all s (Contains-permutation sorted (filter p all) s (IsPermutation-sym (filter p all) sorted moves) c)).0 in
+    let to_sorted : (s : EventSpan) → Contains (filter p all) s → Contains sorted s = λ s c. Contains-permutation (filter p all) sorted s moves c in
     let was : (s : EventSpan) → Contains found s → Contains (all_walked t sorted).found s =
     λ s c. from_reverse (all_walked t sorted).found s (subst (λ z. Contains z s) found_is c) in
-    let near : (s : EventSpan) → Contains found s → IsNear span_at sorted t s = λ s c. near_found t sorted sorted up (λ y h. h) s (was s c) in
+    let near : (s : EventSpan) → Contains found s → IsNear span_at all t s =
+    λ s c. near_wider t sorted all in_all s (near_found t sorted sorted up (λ y h. h) s (was s c)) in
     record {
-      own = λ s c. (have s).0 (near_there span_at sorted t s (near s c));
+      own = λ s c. (have s).0 (near_there span_at all t s (near s c));
       matters = λ s e c at.
-          let own = (have s).0 (near_there span_at sorted t s (near s c)) in
-          subst (IsNear span_of events t) (same_some own.event e (sym own.stands ∙ at)) (event_near events sorted have t s (near s c) own);
+          let own = (have s).0 (near_there span_at all t s (near s c)) in
+          subst (IsNear span_of events t) (same_some own.event e (sym own.stands ∙ at)) (event_near events all have t s (near s c) own);
       all = λ k e at n.
-          subst (λ z. Contains z (event_span e k)) (sym found_is)
-          (in_reverse (all_walked t sorted).found (event_span e k) (found_near t sorted up (event_span e k) (span_near events sorted have t e n k at)));
+          let s = event_span e k in
+          let some = near_wider t (filter p all) sorted to_sorted s (near_kept t bound all bounds s (span_near events all have t e n k at)).0 in
+          subst (λ z. Contains z s) (sym found_is) (in_reverse (all_walked t sorted).found s (found_near t sorted up s some));
       sorted = subst (Pairwise StandsBefore) (sym found_is) (walked_sorted t sorted up);
     }
 
-pub near_spans_few : (events : List Event) (t : ℤ) (spans sorted found : List EventSpan) → spans ≡ spans_from 0 events → IsPermutation spans sorted → found ≡ reverse (all_walked t sorted).found
-    → length found ≤ length events
-near_spans_few events t spans sorted found is moved found_is =
+pub near_spans_few : (events : List Event) (t bound : ℤ) (spans few sorted found : List EventSpan) → spans ≡ spans_from 0 events → few ≡ filter (is_behind t bound) spans → IsPermutation few sorted
+    → found ≡ reverse (all_walked t sorted).found → length found ≤ length events
+near_spans_few events t bound spans few sorted found is few_is moved found_is =
     let a : length found ≡ length (reverse (all_walked t sorted).found) = ap length found_is in
     let b = length-reverse (all_walked t sorted).found in
     let c = walked_less t sorted in
-    let d : length sorted ≡ length spans = length_permutation spans sorted moved in
+    let d : length sorted ≡ length few = length_permutation few sorted moved in
+    let g : length few ≡ length (filter (is_behind t bound) spans) = ap length few_is in
+    let less = filter_less (is_behind t bound) spans in
     let e : length spans ≡ length (spans_from 0 events) = ap length is in
     let f = spans_many 0 events in
-    omega (arith, a, b, c, d, e, f)
+    omega (arith, a, b, c, d, e, f, g, less)

@@ -15,11 +15,11 @@ use Rattle.bdf_font.specs.Fonts.{FontValue}
 use Rattle.placement.specs.Placement.{moved_box}
 use Rattle.placement.specs.declared.boxes.Stand.{Stand}
 use Rattle.event_places.specs.Limits.{max_shift}
-use Rattle.event_places.specs.PlacedEvents.{ArePlacedEvents, IsPlacedEvent, places_of}
+use Rattle.event_places.specs.PlacedEvents.{ArePlacedEvents, IsPlacedEvent, placed_places}
 use Rattle.event_places.specs.Shifts.{HasShift, IsMovedBy, Shifted as moved_by_shift, Pointed as moved_by_point, Alone as moved_alone}
 use Rattle.event_places.specs.Spans.{AreNearSpans, IsSpanOf, StandsBefore, event_span}
 use Rattle.event_places.specs.Stands.{HasPoint, down_by}
-use Rattle.event_places.specs.Steps.{AreSteps, First, Next, IsGoneThrough, IsPlacing, IsStep, Pointed, Shifted, Alone, Moved, moved_event, settled_at, unmoved}
+use Rattle.event_places.specs.Steps.{AreSteps, First, Next, IsGoneThrough, IsPlacing, IsPlacingStep, Pointed, Shifted, Alone, Moved, placed_by, settled_at, unmoved}
 use Rattle.event_places.specs.declared.placed.PlacedEvent.{PlacedEvent}
 use Rattle.event_places.specs.declared.spans.EventSpan.{EventSpan}
 use Rattle.event_places.specs.declared.steps.Settled.{Settled}
@@ -33,8 +33,8 @@ module _ (script : ScriptValue) (fonts : List FontValue) (size : Size) (events :
   still : (s : EventSpan) (e : Event) → slice_get events s.place ≡ Some e → IsMovedBy script fonts size events e (pos 0) → IsPlacedEvent script fonts size events (unmoved s.place)
   still s e at moved = record { event = e; stands = at; moved = moved; near = (omega (arith, ints), omega (arith, ints)); own = tt }
 
-  places_more : (spans : List EventSpan) (placed : List PlacedEvent) (s : EventSpan) (one : PlacedEvent) → one.place ≡ s.place → places_of placed ≡ map (λ (s : EventSpan). s.place) spans
-      → places_of (placed ++ one ∷ []) ≡ map (λ (s : EventSpan). s.place) (spans ++ s ∷ [])
+  places_more : (spans : List EventSpan) (placed : List PlacedEvent) (s : EventSpan) (one : PlacedEvent) → one.place ≡ s.place → placed_places placed ≡ map (λ (s : EventSpan). s.place) spans
+      → placed_places (placed ++ one ∷ []) ≡ map (λ (s : EventSpan). s.place) (spans ++ s ∷ [])
   places_more spans placed s one same h =
       map_push (λ (p : PlacedEvent). p.place) placed one ∙ (ap (λ z. z ++ one.place ∷ []) h ∙ (ap (λ z. map (λ (s : EventSpan). s.place) spans ++ z ∷ []) same ∙ sym (map_push (λ (s : EventSpan). s.place) spans s)))
 
@@ -92,13 +92,13 @@ module _ (script : ScriptValue) (fonts : List FontValue) (size : Size) (events :
       let has = has_shift events t near orders are spans s rest split script fonts size settled d.settling e at stand shift stands settling.least in
       record {
         settling = subst (AreSettled script fonts size events near (spans ++ s ∷ [])) (sym settling.added) (settled_more spans s rest settled e stand shift split d.settling at has);
-        each = All-push (IsPlacedEvent script fonts size events) placed (moved_event s.place stand shift own) d.each
+        each = All-push (IsPlacedEvent script fonts size events) placed (placed_by s.place stand shift own) d.each
             record { event = e; stands = at; moved = moved_by_shift e stand shift has; near = down_within stand shift settling.within; own = laid };
-        places = places_more spans placed s (moved_event s.place stand shift own) refl d.places;
+        places = places_more spans placed s (placed_by s.place stand shift own) refl d.places;
       }
 
   step_more : (spans : List EventSpan) (s : EventSpan) (rest : List EventSpan) (placed : List PlacedEvent) (settled : List Settled) (one : PlacedEvent) (new : List Settled)
-      → near ≡ spans ++ s ∷ rest → AreDone script fonts size events near spans placed settled → IsStep script fonts size events near s settled one new
+      → near ≡ spans ++ s ∷ rest → AreDone script fonts size events near spans placed settled → IsPlacingStep script fonts size events near s settled one new
       → AreDone script fonts size events near (spans ++ s ∷ []) (placed ++ one ∷ []) new
   step_more spans s rest placed settled _ _ split d (Alone alone) =
       let here : Contains near s = subst (λ z. Contains z s) (sym split) (Contains-append_right spans (s ∷ rest) s (Contains-head s rest)) in

@@ -16,7 +16,7 @@ use denote.Param.Members.{Mut}
 use denote.Ref.{Bor}
 use Rattle.ass_events.specs.Histories.{Pairwise}
 use Rattle.event_places.specs.declared.spans.EventSpan.{EventSpan}
-use Rattle.event_places.specs.Spans.{AreInOrder, StandsBefore}
+use Rattle.event_places.specs.Spans.{AreSpansInOrder, StandsBefore}
 use Rattle.event_places.proofs.Orders.{before_other}
 
 -- ---- a sort by layer, start and ReadOrder
@@ -67,7 +67,7 @@ pairwise_at R (x ∷ xs) h = (λ k d lt. h zero (suc k) d (omega arith) (omega a
 
 pub in_order_from_sort : {F : Type 0} {g : Mut F (Bor EventSpan × Unit {0}) Key} {f : F} (xs : List EventSpan)
     → ((k : EventSpan → Key) → ComputesKey g k f → IsSortedByKey k key_cmp xs)
-    → ((f : F) (a : Bor EventSpan × Unit {0}) (r : Key) (f' : F) → Called g f a r f' → r ≡ key_at a.0.now) → AreInOrder xs
+    → ((f : F) (a : Bor EventSpan × Unit {0}) (r : Key) (f' : F) → Called g f a r f' → r ≡ key_at a.0.now) → AreSpansInOrder xs
 in_order_from_sort {g = g} {f = f} xs up h =
     let sorted = up key_at (answers_always g (λ a r. r ≡ key_at a.0.now) f h) in
     let lt = λ (x : EventSpan) (y : EventSpan). is_lt (key_cmp (key_at x) (key_at y)) in
@@ -101,7 +101,7 @@ pub differ_moved : (xs ys : List EventSpan) → IsPermutation xs ys → Pairwise
 differ_moved xs ys moved h = differ_from ys (IsDistinct-IsPermutation same_order flips xs ys moved (distinct_from xs h))
 
 -- in order and different: strictly in order
-pub strictly : (xs : List EventSpan) → AreInOrder xs → Pairwise Differ xs → Pairwise StandsBefore xs
+pub strictly : (xs : List EventSpan) → AreSpansInOrder xs → Pairwise Differ xs → Pairwise StandsBefore xs
 strictly [] ordered differ = tt
 strictly (x ∷ xs) ordered differ =
     (λ k d lt. before_other (get_or xs k d) x (λ same. differ.0 k d lt (sym same)) (ordered.0 k d lt), strictly xs ordered.1 differ.1)

@@ -17,11 +17,11 @@ use Rattle.bdf_font.specs.Fonts.{FontValue}
 use Rattle.placement.specs.Placement.{IsLeastShift, moved_box}
 use Rattle.placement.specs.declared.boxes.Box2.{Box2}
 use Rattle.placement.specs.declared.boxes.Stand.{Stand}
-use Rattle.event_places.specs.PlacedEvents.{IsPlacedEvent, places_of}
+use Rattle.event_places.specs.PlacedEvents.{IsPlacedEvent, placed_places}
 use Rattle.event_places.specs.Shifts.{HasShift, IsRival, IsRivalBox, Placed}
 use Rattle.event_places.specs.Spans.{AreNearSpans, IsSpanOf, StandsBefore, event_span, span_at}
 use Rattle.event_places.specs.Stands.{HasPoint, IsStandOf}
-use Rattle.event_places.specs.Steps.{AreSteps, Next, IsAlone, IsPlacing, IsStep, Alone, Moved, boxes_in_way, is_in_way, place_in, unmoved}
+use Rattle.event_places.specs.Steps.{AreSteps, Next, IsAlone, IsPlacing, IsPlacingStep, Alone, Moved, boxes_in_way, is_in_way, place_in, unmoved}
 use Rattle.event_places.specs.declared.placed.PlacedEvent.{PlacedEvent}
 use Rattle.event_places.specs.declared.spans.EventSpan.{EventSpan}
 use Rattle.event_places.specs.declared.steps.Settled.{Settled}
@@ -94,7 +94,7 @@ pub record AreSettled (script : ScriptValue) (fonts : List FontValue) (size : Si
 pub record AreDone (script : ScriptValue) (fonts : List FontValue) (size : Size) (events : List Event) (near spans : List EventSpan) (placed : List PlacedEvent) (settled : List Settled) : Type 0 where
   pub settling : AreSettled script fonts size events near spans settled
   pub each : All (IsPlacedEvent script fonts size events) placed
-  pub places : places_of placed ≡ map (λ (s : EventSpan). s.place) spans
+  pub places : placed_places placed ≡ map (λ (s : EventSpan). s.place) spans
 
 pub done_more : (script : ScriptValue) (events : List Event) (near : List EventSpan) (settled : List Settled) (x : Settled) (s : EventSpan) → IsDone script events near settled s → IsDone script events near (settled ++ x ∷ []) s
 done_more script events near settled x s d =
@@ -260,7 +260,7 @@ no_span = record { layer = pos 0; start = pos 0; end = pos 0; order = 0; place =
 
 pub steps_more : (script : ScriptValue) (fonts : List FontValue) (size : Size) (events : List Event) (near : List EventSpan) (k : ℕ) (placed pushed : List PlacedEvent) (settled more : List Settled) (one : PlacedEvent)
     → k < length near → AreSteps script fonts size events near (take k near) placed settled
-    → ((span : EventSpan) → slice_get near k ≡ Some span → IsStep script fonts size events near span settled one more)
+    → ((span : EventSpan) → slice_get near k ≡ Some span → IsPlacingStep script fonts size events near span settled one more)
     → pushed ≡ placed ++ one ∷ [] → AreSteps script fonts size events near (take (k + 1) near) pushed more
 steps_more script fonts size events near k placed pushed settled more one lt steps step is =
     let s = get_or near k no_span in
@@ -269,14 +269,14 @@ steps_more script fonts size events near k placed pushed settled more one lt ste
     (subst (λ z. AreSteps script fonts size events near (take k near ++ s ∷ []) z more) (sym is) next)
 
 pub step_alone : (script : ScriptValue) (fonts : List FontValue) (size : Size) (events : List Event) (near : List EventSpan) (k : ℕ) (span : EventSpan) (settled : List Settled) (one : PlacedEvent)
-    → slice_get near k ≡ Some span → IsAlone near span → one ≡ unmoved (get_or near k no_span).place → IsStep script fonts size events near span settled one settled
+    → slice_get near k ≡ Some span → IsAlone near span → one ≡ unmoved (get_or near k no_span).place → IsPlacingStep script fonts size events near span settled one settled
 step_alone script fonts size events near k span settled one at alone is =
     let same : get_or near k no_span ≡ span = get_or_from_slice_get near k span no_span at in
-    subst (λ (p : PlacedEvent). IsStep script fonts size events near span settled p settled) (sym (is ∙ ap (λ (s : EventSpan). unmoved s.place) same)) (Alone alone)
+    subst (λ (p : PlacedEvent). IsPlacingStep script fonts size events near span settled p settled) (sym (is ∙ ap (λ (s : EventSpan). unmoved s.place) same)) (Alone alone)
 
 pub step_moved : (script : ScriptValue) (fonts : List FontValue) (size : Size) (events : List Event) (near : List EventSpan) (k : ℕ) (span : EventSpan) (settled : List Settled) (one : PlacedEvent) (more : List Settled) (e : Event)
     → k < length near → slice_get near k ≡ Some span → slice_get events (get_or near k no_span).place ≡ Some e → IsPlacing script fonts size e (get_or near k no_span) settled one more
-    → IsStep script fonts size events near span settled one more
+    → IsPlacingStep script fonts size events near span settled one more
 step_moved script fonts size events near k span settled one more e lt at event placing =
     let same : get_or near k no_span ≡ span = get_or_from_slice_get near k span no_span at in
-    subst (λ (s : EventSpan). IsStep script fonts size events near s settled one more) same (Moved e one more event placing)
+    subst (λ (s : EventSpan). IsPlacingStep script fonts size events near s settled one more) same (Moved e one more event placing)

@@ -35,11 +35,11 @@ pub record IsNearPlace (events : List Event) (t : ℤ) (place : ℕ) : Type 0 wh
   pub matters : IsNear span_of events t event
 
 -- where placed events have their events
-abbrev pub places_of : List PlacedEvent → List ℕ
-places_of placed = map (λ (one : PlacedEvent). one.place) placed
+abbrev pub placed_places : List PlacedEvent → List ℕ
+placed_places placed = map (λ (one : PlacedEvent). one.place) placed
 
 -- These are the events that matter at t, each once, and moved.
 pub record ArePlacedEvents (script : ScriptValue) (fonts : List FontValue) (size : Size) (events : List Event) (t : ℤ) (placed : List PlacedEvent) : Type 0 where
   pub each : All (IsPlacedEvent script fonts size events) placed
-  pub members : (place : ℕ) → Contains (places_of placed) place ↔ IsNearPlace events t place
-  pub once : Pairwise (λ a b. a ≢ b) (places_of placed)
+  pub members : (place : ℕ) → Contains (placed_places placed) place ↔ IsNearPlace events t place
+  pub once : Pairwise (λ a b. a ≢ b) (placed_places placed)

@@ -1,5 +1,5 @@
 -- Inner: the spans of events, and their order.
-use Rattle.std.specs.Prelude.{◌≡◌, ◌⊎◌, ℕ, ◌+◌, ◌+ℤ◌, ◌<ℤ◌, List, [], ◌∷◌, Some, slice_get, ℤ, Contains}
+use Rattle.std.specs.Prelude.{◌≤ℤ◌, Bool, true, ◌&&◌, int_le, int_lt, All, ◌≡◌, ◌⊎◌, ℕ, ◌+◌, ◌+ℤ◌, ◌<ℤ◌, List, [], ◌∷◌, Some, slice_get, ℤ, Contains}
 use Rattle.ass_events.specs.declared.event.Event.{Event}
 use Rattle.ass_events.specs.Histories.{Pairwise}
 use Rattle.ass_events.specs.NearEvents.{Span, IsEarlier, IsNear, span_of}
@@ -13,8 +13,8 @@ abbrev pub StandsBefore : EventSpan → EventSpan → Type 0
 StandsBefore a b = (a.layer <ℤ b.layer) ⊎ ((a.layer ≡ b.layer) × IsEarlier (span_at a) (span_at b))
 
 -- none stands before one that comes earlier
-abbrev pub AreInOrder : List EventSpan → Type 0
-AreInOrder spans = Pairwise (λ a b. StandsBefore b a → ⊥) spans
+abbrev pub AreSpansInOrder : List EventSpan → Type 0
+AreSpansInOrder spans = Pairwise (λ a b. StandsBefore b a → ⊥) spans
 
 -- the span of the event at a place
 abbrev pub event_span : Event → ℕ → EventSpan
@@ -37,3 +37,12 @@ pub record AreNearSpans (events : List Event) (t : ℤ) (near : List EventSpan) 
   pub matters : (s : EventSpan) (e : Event) → Contains near s → slice_get events s.place ≡ Some e → IsNear span_of events t e
   pub all : (place : ℕ) (e : Event) → slice_get events place ≡ Some e → IsNear span_of events t e → Contains near (event_span e place)
   pub sorted : Pairwise StandsBefore near
+
+-- the span begins by t and ends after a bound
+abbrev pub is_behind : ℤ → ℤ → EventSpan → Bool
+is_behind t bound s = int_le s.start t && int_lt bound s.end
+
+-- Whatever is behind the bound doesn't begin before it. The bound isn't after t.
+pub record IsBound (t bound : ℤ) (spans : List EventSpan) : Type 0 where
+  pub by : bound ≤ℤ t
+  pub all : All (λ (s : EventSpan). is_behind t bound s ≡ true → bound ≤ℤ s.start) spans

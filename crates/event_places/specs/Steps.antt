@@ -48,8 +48,8 @@ IsAlone near span = (other : EventSpan) → Contains near other → other.layer 
 abbrev pub unmoved : ℕ → PlacedEvent
 unmoved place = record { place = place; down = pos 0; own = None }
 
-abbrev pub moved_event : ℕ → Stand → ℤ → OwnLayout → PlacedEvent
-moved_event place stand shift own = record { place = place; down = down_by stand shift; own = Some own }
+abbrev pub placed_by : ℕ → Stand → ℤ → OwnLayout → PlacedEvent
+placed_by place stand shift own = record { place = place; down = down_by stand shift; own = Some own }
 
 -- How an event is moved, behind some that were moved.
 pub data IsPlacing (script : ScriptValue) (fonts : List FontValue) (size : Size) (event : Event) (span : EventSpan) (old : List Settled) : PlacedEvent → List Settled → Type 0 where
@@ -58,20 +58,20 @@ pub data IsPlacing (script : ScriptValue) (fonts : List FontValue) (size : Size)
       → IsStandOf script fonts size event stand
       → IsOwnLayout script fonts size event own
       → IsSettling span stand old shift new
-      → IsPlacing script fonts size event span old (moved_event span.place stand shift own) new
+      → IsPlacing script fonts size event span old (placed_by span.place stand shift own) new
 
 -- The event of a span is moved, unless it has its layer for itself.
-pub data IsStep (script : ScriptValue) (fonts : List FontValue) (size : Size) (events : List Event) (near : List EventSpan) (span : EventSpan) (old : List Settled) : PlacedEvent → List Settled → Type 0 where
-  Alone : IsAlone near span → IsStep script fonts size events near span old (unmoved span.place) old
+pub data IsPlacingStep (script : ScriptValue) (fonts : List FontValue) (size : Size) (events : List Event) (near : List EventSpan) (span : EventSpan) (old : List Settled) : PlacedEvent → List Settled → Type 0 where
+  Alone : IsAlone near span → IsPlacingStep script fonts size events near span old (unmoved span.place) old
   Moved : (event : Event) (one : PlacedEvent) (new : List Settled) → slice_get events span.place ≡ Some event → IsPlacing script fonts size event span old one new
-      → IsStep script fonts size events near span old one new
+      → IsPlacingStep script fonts size events near span old one new
 
 -- The spans were gone through one after the other.
 pub data AreSteps (script : ScriptValue) (fonts : List FontValue) (size : Size) (events : List Event) (near : List EventSpan) : List EventSpan → List PlacedEvent → List Settled → Type 0 where
   First : AreSteps script fonts size events near [] [] []
   Next : (spans : List EventSpan) (placed : List PlacedEvent) (settled : List Settled) (span : EventSpan) (one : PlacedEvent) (more : List Settled)
       → AreSteps script fonts size events near spans placed settled
-      → IsStep script fonts size events near span settled one more
+      → IsPlacingStep script fonts size events near span settled one more
       → AreSteps script fonts size events near (spans ++ span ∷ []) (placed ++ one ∷ []) more
 
 -- All spans were gone through.

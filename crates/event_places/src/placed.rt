@@ -10,7 +10,7 @@ ghost use Rattle.ass_script.specs.Ranges.{IsScript};
 ghost use Rattle.text_layout.specs.Fonts.{IsLayoutFontSet};
 ghost use Rattle.event_places.specs.PlacedEvents.{ArePlacedEvents};
 ghost use Rattle.event_places.specs.Spans.{IsSpanOf, StandsBefore};
-ghost use Rattle.event_places.specs.Steps.{AreSettledWithin, IsAlone, IsGoneThrough, IsPlacing, IsStep, unmoved};
+ghost use Rattle.event_places.specs.Steps.{AreSettledWithin, IsAlone, IsGoneThrough, IsPlacing, IsPlacingStep, unmoved};
 ghost use Rattle.event_places.specs.declared.spans.EventSpan.{EventSpan};
 
 use crate::boxes::down_by;
@@ -134,7 +134,7 @@ fn place_next(
     requires size { IsFrameSize size.now }
     requires within { AreSettledWithin settled.old.items }
     requires room { length settled.old.items < max_live }
-    ensures step { (span : EventSpan) → slice_get near.now index ≡ Some span → IfOk result (λ one. IsStep script.now fonts.now.fonts size.now (map arc_value events.now) near.now span settled.old.items one settled.new.items) }
+    ensures step { (span : EventSpan) → slice_get near.now index ≡ Some span → IfOk result (λ one. IsPlacingStep script.now fonts.now.fonts size.now (map arc_value events.now) near.now span settled.old.items one settled.new.items) }
     ensures within { IfOk result (λ one. AreSettledWithin settled.new.items) }
     ensures count { IfOk result (λ one. length settled.new.items ≤ length settled.old.items + 1) }
 {

@@ -4,7 +4,7 @@ ghost use Rattle.std.specs.Prelude.{◌≡◌, ◌≤◌, ◌<◌, All, IfOk, le
 ghost use Rattle.std.specs.Arc.{arc_value};
 ghost use Rattle.std.specs.List.Sorted.{IsPermutation};
 ghost use Rattle.ass_events.specs.Ranges.{IsEvent};
-ghost use Rattle.event_places.specs.Spans.{AreInOrder, event_span, spans_from};
+ghost use Rattle.event_places.specs.Spans.{AreSpansInOrder, event_span, spans_from};
 
 use ass_events::Event;
 use ass_num::Mem;
@@ -53,7 +53,7 @@ pub(crate) fn all_spans(alloc: Global, events: &[Arc<Event>]) -> Mem<Vec<EventSp
 /// Brings spans in order of layer, then start, then ReadOrder.
 pub(crate) fn sort_spans(spans: &mut Vec<EventSpan>)
     ensures permutation { IsPermutation spans.old.items spans.new.items }
-    ensures sorted { AreInOrder spans.new.items }
+    ensures sorted { AreSpansInOrder spans.new.items }
 {
     spans.sort_unstable_by_key(|span| (span.layer, (span.start, span.order)));
 }

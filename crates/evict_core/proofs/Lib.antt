@@ -5,6 +5,7 @@ pub mod FillLaws
 pub mod HistoryLemmas
 pub mod InsertLemmas
 pub mod LegalLemmas
+pub mod LookLemmas
 pub mod PinAllLemmas
 pub mod PinLaws
 pub mod PinLemmas

@@ -3,6 +3,7 @@ pub mod Codes
 pub mod Counting
 pub mod History
 pub mod Laws
+pub mod Looks
 pub mod Machine
 pub mod Places
 pub mod Recency

@@ -9,6 +9,7 @@ ghost use Rattle.evict_core.specs.Asked.{IsAskAnswer, ready_pins, ready_value, t
 use crate::ask::Ask;
 use crate::counts::{Counts, Totals, raise};
 use crate::ledger::Ledger;
+use crate::look::Look;
 use crate::stored::Stored;
 use ass_num::Mem;
 use std::alloc::Global;
@@ -69,20 +70,18 @@ impl<K: Eq + Hash, V> Entries<K, V> {
     pub fn ask(&mut self, key: &K) -> Ask<V>
         ensures { IsAskAnswer K.eq self.old key.now result self.new }
     {
-        match self.list.get(key) {
-            Some(Stored::Making(maker)) => Ask::Flying(*maker),
-            Some(Stored::Made(pins, _, value)) => {
-                if *pins < u32::MAX {
-                    let Ok(value) = Arc::try_clone(value) else {
-                        return Ask::OutOfMemory;
-                    };
-                    self.pin(key);
-                    return Ask::Hit(value);
-                }
+        match self.list.take_pin(key) {
+            Look::Pinned(value, _) => {
+                self.counts.hits = raise(self.counts.hits);
+                Ask::Hit(value)
+            }
+            Look::Making(maker) => Ask::Flying(maker),
+            Look::Full => {
                 self.refuse();
                 Ask::Crowded
             }
-            None => self.ask_absent(key),
+            Look::OutOfMemory => Ask::OutOfMemory,
+            Look::Absent => self.ask_absent(key),
         }
     }
 

@@ -4,8 +4,10 @@ ghost use Rattle.std.specs.Map.{lookup, remove_entry};
 ghost use Rattle.std.specs.Arc.{arc_value};
 ghost use Rattle.evict_core.specs.Recency.{to_front, change, without_last};
 ghost use Rattle.evict_core.specs.Machine.{Flying, Ready, max_pins, max_entries, max_cost, is_idle, has_idle, unpinned, pinned, pins_in, maker_in, one_pin_more, one_pin_less};
+ghost use Rattle.evict_core.specs.Looks.{IsLookAt, after_look};
 ghost use Rattle.evict_core.specs.Places.{stored_status};
 
+use crate::look::Look;
 use crate::recency::Recency;
 use crate::stored::Stored;
 use std::alloc::{AllocError, Global};
@@ -101,6 +103,20 @@ impl<K: Eq + Hash, V> Ledger<K, V> {
             }
             None => self.entries.add_pin(key),
         }
+    }
+
+    /// Looks the key up once, for a pin. A value that has a pin left gets it, and the key becomes the most recent.
+    pub fn take_pin(&mut self, key: &K) -> Look<V>
+        ensures look { IsLookAt (lookup (K.eq key.now) self.old) result }
+        ensures list { self.new ≡ after_look (K.eq key.now) result self.old }
+    {
+        let look = self.entries.take_pin(key);
+        if let Some(cost) = look.idle_cost() {
+            self.unpinned -= cost;
+            self.pinned += cost;
+            self.idle -= 1;
+        }
+        look
     }
 
     /// One pin less on the key, which stays where it is.

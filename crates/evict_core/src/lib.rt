@@ -6,6 +6,7 @@ mod counts;
 mod entries;
 mod laws;
 mod ledger;
+mod look;
 mod recency;
 mod stored;
 

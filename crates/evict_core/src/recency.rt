@@ -5,9 +5,11 @@ ghost use Rattle.std.specs.Map.{lookup, remove_entry};
 ghost use Rattle.std.specs.Arc.{arc_value};
 ghost use Rattle.evict_core.specs.Recency.{to_front, change, some_passes, without_last};
 ghost use Rattle.evict_core.specs.Machine.{Flying, Ready, max_pins, is_idle, has_idle, unpinned, pins_in, one_pin_more, one_pin_less};
+ghost use Rattle.evict_core.specs.Looks.{IsLookAt, after_look};
 ghost use Rattle.evict_core.specs.Sums.{IsIdleAt, IsBusyAt};
 ghost use Rattle.evict_core.specs.Places.{stored_status, entries_in, is_idle_place, IsTied, IsOldestIdle};
 
+use crate::look::Look;
 use crate::stored::Stored;
 use indexmap::IndexMap;
 use lru::LruCache;
@@ -97,6 +99,32 @@ impl<K: Eq + Hash, V> Recency<K, V> {
             if let Some(place) = self.order.get_mut(number) {
                 place.stored.add_pin();
             }
+        }
+    }
+
+    /// Looks the key up once, for a pin. A value that has a pin left gets it, and the key becomes the most recent.
+    pub fn take_pin(&mut self, key: &K) -> Look<V>
+        ensures look { IsLookAt (lookup (K.eq key.now) self.old) result }
+        ensures list { self.new ≡ after_look (K.eq key.now) result self.old }
+    {
+        let Some(number) = self.keys.get(key) else {
+            return Look::Absent;
+        };
+        let Some(place) = self.order.peek(number) else {
+            return Look::Absent;
+        };
+        match place.stored.look() {
+            Look::Pinned(value, idle) => {
+                let Some(place) = self.order.get_mut(number) else {
+                    return Look::Pinned(value, idle);
+                };
+                place.stored.add_pin();
+                Look::Pinned(value, idle)
+            }
+            Look::Absent => Look::Absent,
+            Look::Making(maker) => Look::Making(maker),
+            Look::Full => Look::Full,
+            Look::OutOfMemory => Look::OutOfMemory,
         }
     }
 

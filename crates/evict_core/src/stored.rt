@@ -2,8 +2,10 @@
 ghost use Rattle.std.specs.Prelude.{◌≡◌, ◌<◌, Some, is_some, IfSome};
 ghost use Rattle.std.specs.Arc.{arc_value};
 ghost use Rattle.evict_core.specs.Machine.{Ready, max_pins, is_idle, idle_cost, pins_in, one_pin_more, one_pin_less};
+ghost use Rattle.evict_core.specs.Looks.{IsLookAt};
 ghost use Rattle.evict_core.specs.Places.{stored_status};
 
+use crate::look::Look;
 use std::sync::Arc;
 
 /// A key is being made by a number, or its value is made: so many pins hold it, and it costs so much.
@@ -23,6 +25,24 @@ impl<V> Stored<V> {
             Stored::Made(0, cost, _) => Some(*cost),
             Stored::Made(_, _, _) => None,
             Stored::Making(_) => None,
+        }
+    }
+
+    /// What a look for a pin finds. The pin isn't counted yet.
+    pub fn look(&self) -> Look<V>
+        ensures { IsLookAt (Some (stored_status self.now)) result }
+    {
+        match self {
+            Stored::Making(maker) => Look::Making(*maker),
+            Stored::Made(pins, _, value) => {
+                if *pins == u32::MAX {
+                    return Look::Full;
+                }
+                match Arc::try_clone(value) {
+                    Ok(value) => Look::Pinned(value, self.idle_cost()),
+                    Err(_) => Look::OutOfMemory,
+                }
+            }
         }
     }
 

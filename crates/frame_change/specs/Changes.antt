@@ -33,7 +33,7 @@ pub record IsInBox (box : Changed) (i j : ℕ) : Type 0 where
 abbrev pub HasChanges : Size → List ℕ → List ℕ → Changed → Type 0
 HasChanges size a b box = (i j : ℕ) → i < size.w → j < size.h → DiffersAt size.w a b i j → IsInBox box i j
 
-pub record IsInside (box other : Changed) : Type 0 where
+pub record LiesInside (box other : Changed) : Type 0 where
   pub left : other.x1 ≤ box.x1
   pub right : box.x2 ≤ other.x2
   pub top : other.y1 ≤ box.y1
@@ -42,7 +42,7 @@ pub record IsInside (box other : Changed) : Type 0 where
 -- The least box that has each pixel at which two pictures differ.
 pub record IsLeastChanged (size : Size) (a b : List ℕ) (box : Changed) : Type 0 where
   pub has : HasChanges size a b box
-  pub least : (other : Changed) → HasChanges size a b other → IsInside box other
+  pub least : (other : Changed) → HasChanges size a b other → LiesInside box other
 
 -- A picture of this size has so many bytes.
 abbrev pub IsPicture : Size → List ℕ → Type 0

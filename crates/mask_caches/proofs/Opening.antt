@@ -3,11 +3,11 @@ use Rattle.std.proofs.Common.{◌≡◌, ℕ, Result, Ok, Err, sym, refl, subst}
 use Rattle.std.specs.Result.{IfOk}
 use Rattle.turn_cell.specs.Passes.{first_pass}
 use Rattle.flight_cache.specs.Shards.{CacheView, CachePassView, IsCacheOf, AreShardsOf, HasLimits, each}
-use Rattle.mask_caches.specs.Together.{entries_of}
+use Rattle.mask_caches.specs.Together.{entry_limit}
 use Rattle.mask_caches.specs.Caches.{IsNewCache}
 
 module _ {K T E : Type 0} where
-  pub opened-new : (result : Result (CacheView T × CachePassView K T) E) (tag : T) (entries budget : ℕ) → entries ≡ entries_of budget
+  pub opened-new : (result : Result (CacheView T × CachePassView K T) E) (tag : T) (entries budget : ℕ) → entries ≡ entry_limit budget
       → IfOk result (λ r. r.0.tag ≡ tag) → IfOk result (λ r. AreShardsOf tag r.0.shards) → IfOk result (λ r. HasLimits r.0.shards entries budget) → IfOk result (λ r. r.1 ≡ each first_pass r.0.shards)
       → IfOk result (λ r. IsNewCache r.0 r.1 budget)
   opened-new (Ok r) tag entries budget is tagged shards limits first = record {

@@ -8,7 +8,7 @@ use Rattle.flight_cache.specs.Histories.{left_by}
 use Rattle.flight_cache.specs.Shards.{CacheView, CachePassView, IsCacheOf, AreShardsOf, EachHasGivenBack, EachGaveAsMuch, EachBegins, EachIsBelow, EachExtends, HasLimits, HasNothing, each, both, sum_of_totals}
 use Rattle.mask_keys.specs.Equality.{equal_regions, equal_masks, equal_composites}
 use Rattle.cache_kinds.specs.Kinds.{region_meaning, mask_meaning, composite_meaning}
-use Rattle.mask_caches.specs.Together.{entries_of}
+use Rattle.mask_caches.specs.Together.{entry_limit}
 use Rattle.mask_caches.specs.declared.caches.Caches.{Caches}
 use Rattle.mask_caches.specs.declared.passes.CachesPass.{CachesPass}
 
@@ -33,7 +33,7 @@ pub record HasAllGivenBack (caches : Caches) (pass : CachesPass) : Type 0 where
 -- a new cache: its shards have their numbers, its tag and their parts of the limits, and the pass is the first one
 pub record IsNewCache {K T : Type 0} (cache : CacheView T) (pass : CachePassView K T) (budget : ℕ) : Type 0 where
   pub shards : AreShardsOf cache.tag cache.shards
-  pub limits : HasLimits cache.shards (entries_of budget) budget
+  pub limits : HasLimits cache.shards (entry_limit budget) budget
   pub pass_is : pass ≡ each first_pass cache.shards
 
 -- each of the caches is new, with the whole budget
@@ -63,7 +63,7 @@ pub record IsJoinedIn {K V T : Type 0} (meaning : Meaning K V T) (cache : CacheV
   pub own : EachGaveAsMuch meaning cache.shards pass joined
   pub itself : EachExtends joined
 
-pub record IsJoined (caches : Caches) (pass other joined : CachesPass) : Type 0 where
+pub record AreJoined (caches : Caches) (pass other joined : CachesPass) : Type 0 where
   pub outlines : IsJoinedIn region_meaning caches.outlines pass.outlines other.outlines joined.outlines
   pub masks : IsJoinedIn mask_meaning caches.masks pass.masks other.masks joined.masks
   pub composites : IsJoinedIn composite_meaning caches.composites pass.composites other.composites joined.composites

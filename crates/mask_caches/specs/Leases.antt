@@ -24,6 +24,6 @@ given_steps (Pinned pin) = Unpin pin.key ∷ []
 given_steps (Own value) = []
 
 -- the pass holds the pin of the lease, if that is one
-abbrev pub IsHeld : {M K V T : Type 0} → (K → K → Bool) → Meaning K V T → CacheView T → CachePassView K T → Lease M K V T → Type 0
-IsHeld eq meaning cache pass (Pinned pin) = 1 ≤ pins_of eq meaning cache pass pin.key
-IsHeld eq meaning cache pass (Own value) = Unit {0}
+abbrev pub HoldsLease : {M K V T : Type 0} → (K → K → Bool) → Meaning K V T → CacheView T → CachePassView K T → Lease M K V T → Type 0
+HoldsLease eq meaning cache pass (Pinned pin) = 1 ≤ pins_of eq meaning cache pass pin.key
+HoldsLease eq meaning cache pass (Own value) = Unit {0}

@@ -23,5 +23,5 @@ abbrev pub budget_of_entry : ℕ
 budget_of_entry = 1024
 
 -- the limit of entries that goes with a budget
-abbrev pub entries_of : ℕ → ℕ
-entries_of budget = min max_entries (max min_cache_entries (budget / budget_of_entry))
+abbrev pub entry_limit : ℕ → ℕ
+entry_limit budget = min max_entries (max min_cache_entries (budget / budget_of_entry))

@@ -7,9 +7,9 @@ ghost use Rattle.cache_kinds.specs.Kinds.{composite_meaning, mask_meaning, regio
 ghost use Rattle.mask_keys.specs.Equality.{equal_composites, equal_masks, equal_regions};
 ghost use Rattle.mask_model.specs.Outlines.{IsFontSet};
 ghost use Rattle.mask_caches.specs.Adding.{Adds};
-ghost use Rattle.mask_caches.specs.Leases.{IsHeld, given_steps, is_pinned};
-ghost use Rattle.mask_caches.specs.Caches.{AreNew, HasAllGivenBack, IsNewCache, IsJoined, IsPassOf, IsSamePass, IsSplit, IsSplitIn, all_totals};
-ghost use Rattle.mask_caches.specs.Together.{entries_of};
+ghost use Rattle.mask_caches.specs.Leases.{HoldsLease, given_steps, is_pinned};
+ghost use Rattle.mask_caches.specs.Caches.{AreNew, HasAllGivenBack, IsNewCache, AreJoined, IsPassOf, IsSamePass, IsSplit, IsSplitIn, all_totals};
+ghost use Rattle.mask_caches.specs.Together.{entry_limit};
 
 use crate::caches::Caches;
 use crate::lease::{Lease, give_back};
@@ -31,7 +31,7 @@ const MAX_ENTRIES: u64 = 65_536;
 
 // The limit of entries that goes with a budget.
 fn entries_of(budget: u64) -> u32
-    ensures value { result ≡ entries_of budget }
+    ensures value { result ≡ entry_limit budget }
     ensures least { min_cache_entries ≤ result }
     ensures most { result ≤ max_entries }
 {
@@ -103,9 +103,9 @@ impl Caches {
     pub fn set_budgets<R: Wait>(&self, rt: &R, pass: CachesPass, budget: u64) -> CachesPass
         requires pass { IsPassOf self.now pass }
         requires budget { budget ≤ max_budget }
-        ensures outlines { EachGives equal_regions region_meaning self.now.outlines.shards pass.outlines result.outlines (λ n. Limits (part (entries_of budget) n) (part budget n) ∷ []) }
-        ensures masks { EachGives equal_masks mask_meaning self.now.masks.shards pass.masks result.masks (λ n. Limits (part (entries_of budget) n) (part budget n) ∷ []) }
-        ensures composites { EachGives equal_composites composite_meaning self.now.composites.shards pass.composites result.composites (λ n. Limits (part (entries_of budget) n) (part budget n) ∷ []) }
+        ensures outlines { EachGives equal_regions region_meaning self.now.outlines.shards pass.outlines result.outlines (λ n. Limits (part (entry_limit budget) n) (part budget n) ∷ []) }
+        ensures masks { EachGives equal_masks mask_meaning self.now.masks.shards pass.masks result.masks (λ n. Limits (part (entry_limit budget) n) (part budget n) ∷ []) }
+        ensures composites { EachGives equal_composites composite_meaning self.now.composites.shards pass.composites result.composites (λ n. Limits (part (entry_limit budget) n) (part budget n) ∷ []) }
     {
         let CachesPass {
             outlines,
@@ -158,7 +158,7 @@ impl Caches {
         lease: Lease<CompositeMade>,
     ) -> CachesPass
         requires pass { IsPassOf self.now pass }
-        requires held { IsHeld equal_composites composite_meaning self.now.composites pass.composites lease }
+        requires held { HoldsLease equal_composites composite_meaning self.now.composites pass.composites lease }
         ensures composites { Adds equal_composites composite_meaning self.now.composites pass.composites result.composites (given_steps lease) }
         ensures own { is_pinned lease ≡ false → result.composites ≡ pass.composites }
         ensures masks { result.masks ≡ pass.masks }
@@ -223,7 +223,7 @@ impl Caches {
         requires passes { IsPassOf self.now pass × IsPassOf self.now other }
         requires first { pass.outlines.first.number ≡ 0 }
         requires given { HasAllGivenBack self.now other }
-        ensures { IsJoined self.now pass other result }
+        ensures { AreJoined self.now pass other result }
     {
         let CachesPass {
             outlines,

@@ -2,7 +2,7 @@
 ghost use Rattle.std.specs.Prelude.{◌≡◌, false};
 ghost use Rattle.flight_cache.specs.Shards.{IsCacheOf};
 ghost use Rattle.mask_caches.specs.Adding.{Adds};
-ghost use Rattle.mask_caches.specs.Leases.{IsHeld, given_steps, is_pinned, lease_value};
+ghost use Rattle.mask_caches.specs.Leases.{HoldsLease, given_steps, is_pinned, lease_value};
 
 use flight_cache::{Cache, CachePass, Made, Pin};
 use std::sync::{Arc, Wait};
@@ -33,7 +33,7 @@ pub(crate) fn give_back<M: Made, R: Wait>(
     lease: Lease<M>,
 ) -> CachePass<M>
     requires cell { IsCacheOf cache.now pass }
-    requires held { IsHeld M.Key.eq M.meaning cache.now pass lease }
+    requires held { HoldsLease M.Key.eq M.meaning cache.now pass lease }
     ensures steps { Adds M.Key.eq M.meaning cache.now pass result (given_steps lease) }
     ensures own { is_pinned lease ≡ false → result ≡ pass }
 {

@@ -1,5 +1,5 @@
 -- The laws of the draws of a set of events.
-use Rattle.std.proofs.Common.{ℤ, List, Contains}
+use Rattle.std.proofs.Common.{ℤ, List}
 use Rattle.ass_events.specs.NearEvents.{AreNear, IsNear, Shown, span_of}
 use Rattle.ass_events.specs.declared.event.Event.{Event}
 use Rattle.ass_script.specs.Scripts.{ScriptValue}

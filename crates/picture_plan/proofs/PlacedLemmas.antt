@@ -1,18 +1,16 @@
 -- The places of the events that matter: each is a place of the list, no two are one, and each event that matters has one.
-use Rattle.std.proofs.Common.{◌≡◌, ◌≢◌, sym, ap, subst, ◌∙◌, ℕ, ◌<◌, List, length, map, get_or, slice_get, Some, ℤ, arith}
+use Rattle.std.proofs.Common.{◌≡◌, ◌≢◌, sym, subst, ◌∙◌, ℕ, ◌<◌, List, length, get_or, ℤ, arith}
 use Rattle.std.proofs.lemmas.List.{get_or-map, length-map}
 use Rattle.std.proofs.lemmas.Option.{get_or_from_slice_get, slice_get-get_or, slice_get_within}
-use Rattle.ass_num.specs.Limits.{IsWithin}
 use Rattle.ass_num.specs.declared.size.Size.{Size}
 use Rattle.ass_events.specs.NearEvents.{IsNear, span_of}
 use Rattle.ass_events.specs.declared.event.Event.{Event}
 use Rattle.ass_script.specs.Scripts.{ScriptValue}
 use Rattle.bdf_font.specs.Fonts.{FontValue}
-use Rattle.event_places.specs.Limits.{max_shift}
-use Rattle.event_places.specs.PlacedEvents.{ArePlacedEvents, places_of}
+use Rattle.event_places.specs.PlacedEvents.{ArePlacedEvents, placed_places}
 use Rattle.event_places.specs.Shifts.{IsMovedBy}
 use Rattle.event_places.specs.declared.placed.PlacedEvent.{PlacedEvent}
-use Rattle.picture_plan.specs.ShownEvents.{ArePlaces, event_at, event_of, no_event, no_placed}
+use Rattle.picture_plan.specs.ShownEvents.{ArePlaces, event_placed_at, no_event, no_placed}
 use Rattle.picture_plan.proofs.ShownLemmas.{at_pairwise}
 
 abbrev place_in : PlacedEvent → ℕ
@@ -24,7 +22,7 @@ are_places events placed h = record {
   within = λ k d w. let p = h.each k d w in slice_get_within events (get_or placed k d).place p.event p.stands;
   once =
       λ i j d order last.
-      let differ = at_pairwise (λ a b. a ≢ b) (places_of placed) i j 0 h.once order (omega (arith, last, length-map placed place_in)) in
+      let differ = at_pairwise (λ a b. a ≢ b) (placed_places placed) i j 0 h.once order (omega (arith, last, length-map placed place_in)) in
       λ same.
       differ (get_or-map place_in placed i d 0 (omega (arith, order, last)) ∙ same ∙ sym (get_or-map place_in placed j d 0 last));
 }
@@ -40,7 +38,7 @@ near_placed events placed h k within near =
 -- the event of a place is moved so far
 pub placed_moved : {script : ScriptValue} {fonts : List FontValue} {size : Size} {t : ℤ} (events : List Event) (placed : List PlacedEvent) (k : ℕ)
     → ArePlacedEvents script fonts size events t placed → k < length placed
-    → IsMovedBy script fonts size events (event_at events placed k) (get_or placed k no_placed).down
+    → IsMovedBy script fonts size events (event_placed_at events placed k) (get_or placed k no_placed).down
 placed_moved {script} {fonts} {size} events placed k h within =
     let p = h.each k no_placed within in
     subst (λ (e : Event). IsMovedBy script fonts size events e (get_or placed k no_placed).down)

@@ -1,5 +1,5 @@
 -- The draws of one more event.
-use Rattle.std.proofs.Common.{◌≡◌, refl, sym, ap, subst, ◌∙◌, ℕ, ◌+◌, ◌<◌, ◌≤◌, List, [], ◌∷◌, ◌++◌, length, map, get_or, take, ℤ, append_assoc}
+use Rattle.std.proofs.Common.{◌≡◌, sym, subst, ℕ, ◌+◌, ◌<◌, ◌≤◌, List, [], ◌∷◌, ◌++◌, length, map, get_or, take, ℤ, append_assoc}
 use Rattle.std.proofs.lemmas.List.{append-nil, map_more, take_all}
 use Rattle.ass_num.specs.declared.size.Size.{Size}
 use Rattle.ass_events.specs.Histories.{HaveOwnOrders}
@@ -11,7 +11,7 @@ use Rattle.event_places.specs.Shifts.{IsMovedBy}
 use Rattle.event_places.specs.declared.placed.PlacedEvent.{PlacedEvent}
 use Rattle.mask_keys.specs.declared.plans.Draw.{Draw}
 use Rattle.picture_plan.specs.Pictures.{AddsMovedDraws, AreDraws, AreDrawsInOrder, AreEventDraws, None, Next}
-use Rattle.picture_plan.specs.ShownEvents.{AreByLayer, AreShownPlaces, event_of, event_shown, no_placed}
+use Rattle.picture_plan.specs.ShownEvents.{AreByLayer, AreShownPlaces, placed_event, event_shown, no_placed}
 use Rattle.picture_plan.specs.declared.shown.ShownEvent.{ShownEvent}
 use Rattle.picture_plan.proofs.PlacedLemmas.{are_places, near_placed, placed_moved}
 use Rattle.picture_plan.proofs.ShownLemmas.{are_shown}
@@ -41,13 +41,13 @@ drawn_more {script} {fonts} {events} {t} {size} f shown k d before after shift w
 pub shown_drawn : {script : ScriptValue} {fonts : List FontValue} {t : ℤ} {size : Size} (events : List Event) (placed : List PlacedEvent) (shown : List ShownEvent) (k : ℕ) (d : ShownEvent)
     (p : PlacedEvent) (before after : List Draw) → ArePlacedEvents script fonts size events t placed → AreShownPlaces events placed t (length placed) shown → k < length shown
     → p ≡ get_or placed (get_or shown k d).place no_placed → AreDrawsInOrder script fonts events t size (map (event_shown events placed) (take k shown)) before
-    → AddsMovedDraws script fonts (event_of events p) t size p.down before after
+    → AddsMovedDraws script fonts (placed_event events p) t size p.down before after
     → AreDrawsInOrder script fonts events t size (map (event_shown events placed) (take (k + 1) shown)) after
 shown_drawn {script} {fonts} {t} {size} events placed shown k d p before after h are within is drawn adds =
     let place = (get_or shown k d).place in
     drawn_more (event_shown events placed) shown k d before after (get_or placed place no_placed).down within drawn
     (placed_moved events placed place h (are.each k d within).within)
-    (subst (λ (q : PlacedEvent). AddsMovedDraws script fonts (event_of events q) t size q.down before after) is adds)
+    (subst (λ (q : PlacedEvent). AddsMovedDraws script fonts (placed_event events q) t size q.down before after) is adds)
 
 -- The draws of all shown events.
 pub all_drawn : {script : ScriptValue} {fonts : List FontValue} {t : ℤ} {size : Size} (events : List Event) (placed : List PlacedEvent) (shown : List ShownEvent) (k : ℕ) (draws : List Draw)

@@ -1,5 +1,5 @@
 -- The events that are shown, one more place at a time, and by layer, then ReadOrder.
-use Rattle.std.proofs.Common.{Ordering, Less, Equal, Greater, ◌≡◌, ◌≢◌, ◌↔◌, ◌⊎◌, inl, inr, refl, sym, ap, subst, ◌∙◌, ℕ, zero, suc, ◌+◌, ◌<◌, ◌≤◌, Bool, true, false, cond, ◌&&◌, List, [], ◌∷◌, ◌++◌, length, map, get_or, ℤ, pos, ◌+ℤ◌, ◌<ℤ◌, ◌≤ℤ◌, int_le, int_lt, nat_lt, nat_eq, All, Contains, IsPermutation, IsSortedByKey, ⊎_elim, arith}
+use Rattle.std.proofs.Common.{Ordering, Less, Equal, Greater, ◌≡◌, ◌≢◌, ◌⊎◌, inl, inr, refl, sym, ap, subst, ◌∙◌, ℕ, zero, suc, ◌+◌, ◌<◌, ◌≤◌, Bool, true, false, cond, List, [], ◌∷◌, ◌++◌, length, map, get_or, ℤ, pos, ◌+ℤ◌, ◌<ℤ◌, int_le, int_lt, nat_lt, Contains, IsPermutation, IsSortedByKey, ⊎_elim, arith}
 use Rattle.std.specs.Prelude.{◌==◌}
 use Rattle.std.specs.Cmp.{IsTotalOrder}
 use Rattle.std.specs.Fn.{ComputesKey, Called}
@@ -10,7 +10,7 @@ use Rattle.std.proofs.lemmas.Bool.Decides.{nat_tests}
 use Rattle.std.proofs.lemmas.Cmp.{int_cmp_total, nat_cmp_total, on_total, then_total}
 use Rattle.std.proofs.lemmas.Int.{ints}
 use Rattle.std.proofs.lemmas.List.{append-nil, get_or-map, get_or_default, length-map, map-append}
-use Rattle.std.proofs.lemmas.List.Elements.{All-contains, All-from_recursion, All-map, All-nil, All-push, All-weaker, Contains-append_left, Contains-get_or, Contains-push, recursion_from_All}
+use Rattle.std.proofs.lemmas.List.Elements.{All-from_recursion, All-map, All-nil, All-push, All-weaker, Contains-append_left, Contains-get_or, Contains-push, recursion_from_All}
 use Rattle.std.proofs.lemmas.List.Sorted.{All-permutation, Contains-permutation, IsPermutation-map, answers_always, ranks_by, sorted_far}
 use Rattle.std.proofs.lemmas.Map.Keys.{IsDistinct-IsPermutation}
 use denote.Param.Members.{Mut}
@@ -22,7 +22,7 @@ use Rattle.ass_events.specs.declared.event.Event.{Event}
 use Rattle.event_places.proofs.Pairs.{Pairwise-push}
 use Rattle.event_places.specs.declared.placed.PlacedEvent.{PlacedEvent}
 use Rattle.picture_plan.specs.Pictures.{AreShown, IsDrawnBefore}
-use Rattle.picture_plan.specs.ShownEvents.{ArePlaces, AreByLayer, AreShownPlaces, IsBelow, IsShownPlace, event_at, event_of, event_shown, is_shown, no_event, no_placed, shown_if}
+use Rattle.picture_plan.specs.ShownEvents.{ArePlaces, AreByLayer, AreShownPlaces, IsDrawnUnder, IsShownPlace, event_placed_at, event_shown, is_shown_at, no_event, no_placed, shown_if}
 use Rattle.picture_plan.specs.declared.shown.ShownEvent.{ShownEvent}
 
 -- ---- pairs
@@ -53,9 +53,9 @@ more_within : (events : List Event) (placed : List PlacedEvent) (t : ℤ) (n : �
 more_within events placed t n s h = record { within = omega (arith, h.within); layer = h.layer; order = h.order; shows = h.shows }
 
 one_more : (events : List Event) (placed : List PlacedEvent) (t : ℤ) (n : ℕ) (b : Bool) (shown : List ShownEvent) → AreShownPlaces events placed t n shown
-    → is_shown t (event_at events placed n) ≡ b
+    → is_shown_at t (event_placed_at events placed n) ≡ b
     → AreShownPlaces events placed t (n + 1)
-    (shown ++ cond b ((let one : ShownEvent = record { layer = (event_at events placed n).layer; order = (event_at events placed n).order; place = n } in one) ∷ []) [])
+    (shown ++ cond b ((let one : ShownEvent = record { layer = (event_placed_at events placed n).layer; order = (event_placed_at events placed n).order; place = n } in one) ∷ []) [])
 one_more events placed t n false shown h is =
     subst (AreShownPlaces events placed t (n + 1)) (sym (append-nil shown))
     (record {
@@ -63,12 +63,12 @@ one_more events placed t n false shown h is =
       all =
           λ k within shows.
           ⊎_elim (λ l. h.all k l shows)
-          (λ l. let e : k ≡ n = omega arith in absurd (false≢true (sym is ∙ subst (λ (m : ℕ). is_shown t (event_at events placed m) ≡ true) e shows)))
+          (λ l. let e : k ≡ n = omega arith in absurd (false≢true (sym is ∙ subst (λ (m : ℕ). is_shown_at t (event_placed_at events placed m) ≡ true) e shows)))
           (cases_lt k n);
       once = h.once;
     })
 one_more events placed t n true shown h is =
-    let one : ShownEvent = record { layer = (event_at events placed n).layer; order = (event_at events placed n).order; place = n } in
+    let one : ShownEvent = record { layer = (event_placed_at events placed n).layer; order = (event_placed_at events placed n).order; place = n } in
     let places : map place_in (shown ++ one ∷ []) ≡ map place_in shown ++ n ∷ [] = map-append place_in shown (one ∷ []) in
     record {
       each =
@@ -88,10 +88,10 @@ one_more events placed t n true shown h is =
 
 -- One more place.
 pub shown_more : (events : List Event) (placed : List PlacedEvent) (t : ℤ) (n : ℕ) (event : Event) (before after : List ShownEvent) → AreShownPlaces events placed t n before
-    → event ≡ event_at events placed n → after ≡ before ++ shown_if t event n → AreShownPlaces events placed t (n + 1) after
+    → event ≡ event_placed_at events placed n → after ≡ before ++ shown_if t event n → AreShownPlaces events placed t (n + 1) after
 shown_more events placed t n event before after h is push =
     subst (AreShownPlaces events placed t (n + 1)) (sym (push ∙ ap (λ (e : Event). before ++ shown_if t e n) is))
-    (one_more events placed t n (is_shown t (event_at events placed n)) before h refl)
+    (one_more events placed t n (is_shown_at t (event_placed_at events placed n)) before h refl)
 
 -- ---- in order
 
@@ -115,7 +115,7 @@ below_by_order a b c d p q r =
     ap (λ t. is_lt (ordering_then (cond t Less (cond b Greater Equal)) (cond c Less (cond d Equal Greater)))) p
     ∙ (ap (λ t. is_lt (ordering_then (cond t Greater Equal) (cond c Less (cond d Equal Greater)))) q ∙ ap (λ t. is_lt (cond t Less (cond d Equal Greater))) r)
 
-below_is_lt : (a b : ShownEvent) → IsBelow a b → is_lt (key_cmp (key_of a) (key_of b)) ≡ true
+below_is_lt : (a b : ShownEvent) → IsDrawnUnder a b → is_lt (key_cmp (key_of a) (key_of b)) ≡ true
 below_is_lt a b p =
     ⊎_elim (λ x. below_by_layer (int_lt a.layer b.layer) (int_lt b.layer a.layer) (nat_cmp a.order b.order) (grind (arith, ints)))
     (λ x. below_by_order (int_lt a.layer b.layer) (int_lt b.layer a.layer) (nat_lt a.order b.order) (a.order == b.order)
@@ -127,7 +127,7 @@ pub by_layer_from_sort : {F : Type 0} {g : Mut F (Bor ShownEvent × Unit {0}) Ke
 by_layer_from_sort {g = g} {f = f} xs up h =
     let sorted = up key_of (answers_always g (λ a r. r ≡ key_of a.0.now) f h) in
     let lt = λ (x : ShownEvent) (y : ShownEvent). is_lt (key_cmp (key_of x) (key_of y)) in
-    pairwise_at (λ a b. IsBelow b a → ⊥) xs
+    pairwise_at (λ a b. IsDrawnUnder b a → ⊥) xs
     (λ i j d order last below. false≢true (sym (sorted_far lt (ranks_by key_total key_of) xs sorted i j d (omega arith) last) ∙ below_is_lt (get_or xs j d) (get_or xs i d) below))
 
 -- ---- the same events in another order
@@ -161,12 +161,12 @@ shown_reordered events placed t n before after h moved = record {
 
 -- ---- the events that are shown
 
-shown_at : (t : ℤ) (e : Event) → is_shown t e ≡ true → IsShownAt (span_of e) t
+shown_at : (t : ℤ) (e : Event) → is_shown_at t e ≡ true → IsShownAt (span_of e) t
 shown_at t e h =
     let p = and_parts (int_le e.start t) (int_lt t (e.start +ℤ e.duration)) h in
     (le_is e.start t p.0, lt_is t (e.start +ℤ e.duration) p.1)
 
-at_shown : (t : ℤ) (e : Event) → IsShownAt (span_of e) t → is_shown t e ≡ true
+at_shown : (t : ℤ) (e : Event) → IsShownAt (span_of e) t → is_shown_at t e ≡ true
 at_shown t e h = rw (le_true e.start t h.0, lt_true t (e.start +ℤ e.duration) h.1) refl
 
 -- events of different places have different ReadOrders
@@ -202,7 +202,7 @@ drawn_cases e f differ = by (int_lt e.layer f.layer) (int_lt f.layer e.layer) re
         ⊎_elim (λ l. inl (inr (level, l))) (λ l. inr (inr (sym level, omega (arith, l, differ)))) (cases_lt e.order f.order)
 
 below_events : (events : List Event) (placed : List PlacedEvent) (t : ℤ) (n : ℕ) (a b : ShownEvent) → IsShownPlace events placed t n a → IsShownPlace events placed t n b
-    → (IsBelow b a → ⊥) → (event_shown events placed a).order ≢ (event_shown events placed b).order
+    → (IsDrawnUnder b a → ⊥) → (event_shown events placed a).order ≢ (event_shown events placed b).order
     → IsDrawnBefore (event_shown events placed a) (event_shown events placed b)
 below_events events placed t n a b ha hb not_below differ =
     ⊎_elim (λ x. x)
@@ -224,7 +224,7 @@ shown_sorted events placed t n shown places own most h sorted =
     let b = get_or shown j d in
     let ha = h.each i d (omega arith) in
     let hb = h.each j d last in
-    below_events events placed t n a b ha hb (at_pairwise (λ x y. IsBelow y x → ⊥) shown i j d sorted order last)
+    below_events events placed t n a b ha hb (at_pairwise (λ x y. IsDrawnUnder y x → ⊥) shown i j d sorted order last)
     (other_orders events placed a b places own (omega (arith, ha.within, most)) (omega (arith, hb.within, most)) (at_pairwise Differ shown i j d h.once order last))))
 
 -- what stands for a shown event that isn't there
@@ -249,12 +249,12 @@ shown_member events placed t shown e near h c shows =
     let f = event_shown events placed in
     let here : get_or events c.0 no_event ≡ e = get_or_default events c.0 no_event e c.1 ∙ c.2 in
     let j = near c.0 c.1 (subst (IsNear span_of events t) (sym here) (Shown c shows)) in
-    let at : event_at events placed j.0 ≡ e = ap (λ (m : ℕ). get_or events m no_event) j.2 ∙ here in
-    let m = h.all j.0 j.1 (subst (λ (x : Event). is_shown t x ≡ true) (sym at) (at_shown t e shows)) in
+    let at : event_placed_at events placed j.0 ≡ e = ap (λ (m : ℕ). get_or events m no_event) j.2 ∙ here in
+    let m = h.all j.0 j.1 (subst (λ (x : Event). is_shown_at t x ≡ true) (sym at) (at_shown t e shows)) in
     let w : m.0 < length shown = omega (arith, m.1, length-map shown place_in) in
     let s = get_or shown m.0 no_shown in
     let place : s.place ≡ j.0 = sym (get_or-map place_in shown m.0 no_shown j.0 w) ∙ m.2 in
-    let reached : f s ≡ e = ap (event_at events placed) place ∙ at in
+    let reached : f s ≡ e = ap (event_placed_at events placed) place ∙ at in
     let is : get_or (map f shown) m.0 e ≡ e = get_or-map f shown m.0 no_shown e w ∙ reached in
     subst (Contains (map f shown)) is (Contains-get_or (map f shown) m.0 e (omega (arith, w, length-map shown f)))
 

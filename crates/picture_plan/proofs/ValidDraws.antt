@@ -1,16 +1,13 @@
 -- The draws of marks, of lines and of an event have valid keys: all numbers of keys are held where they may lie.
-use Rattle.std.proofs.Common.{◌≡◌, ℕ, ◌+◌, ◌*◌, ◌<◌, ◌≤◌, Bool, true, false, cond, ◌&&◌, ◌||◌, Option, Some, None, List, [], ◌∷◌, ◌++◌, flat_map, length, map, filter, ℤ, pos, negsuc, neg_ℤ, ◌+ℤ◌, ◌-ℤ◌, ◌*ℤ◌, ◌≤ℤ◌, int_le, int_lt, unsigned_abs, arith}
+use Rattle.std.proofs.Common.{◌≡◌, ℕ, ◌*◌, ◌<◌, ◌≤◌, Bool, true, false, cond, ◌||◌, Option, Some, None, List, [], ◌∷◌, map, ℤ, pos, negsuc, neg_ℤ, ◌+ℤ◌, ◌-ℤ◌, ◌*ℤ◌, ◌≤ℤ◌, int_le, int_lt, unsigned_abs, arith}
 use Rattle.std.specs.List.{All}
 use Rattle.std.specs.Option.{IfSome}
-use Rattle.std.specs.Int.{int_rem_euclid}
 use Rattle.std.proofs.lemmas.Bool.{and_parts}
 use Rattle.std.proofs.lemmas.Int.{ints}
 use Rattle.std.proofs.Math.Nat.{mod-lt}
-use Rattle.std.proofs.lemmas.List.Elements.{All-append, All-cons, All-filter, All-map, All-nil, All-weaker}
+use Rattle.std.proofs.lemmas.List.Elements.{All-cons, All-filter, All-map, All-nil, All-weaker}
 use Rattle.ass_num.specs.Floor.{floor_div, held}
 use Rattle.ass_num.specs.Limits.{IsFrameSize, IsWithin, max_frame_side}
-use Rattle.ass_num.specs.declared.geometry.Path.{Path}
-use Rattle.ass_num.specs.declared.geometry.Point.{Point}
 use Rattle.ass_num.specs.declared.size.Size.{Size}
 use Rattle.ass_num.proofs.Floor.{held_within}
 use Rattle.ass_num.proofs.OrderLemmas.{le_is, lt_is}
@@ -25,9 +22,8 @@ use Rattle.draw_numbers.specs.declared.pens.Spot.{Spot}
 use Rattle.draw_numbers.specs.declared.widths.Offsets.{Offsets}
 use Rattle.draw_numbers.specs.declared.widths.Radii.{Radii}
 use Rattle.draw_numbers.specs.declared.widths.Softness.{Softness}
-use Rattle.mask_keys.specs.Keys.{IsValidClip, IsValidComposite, IsValidDraw, IsValidOutline, IsValidPart, IsValidPlan, max_blur_radius, max_border, max_part_offset, max_passes, samples_across}
+use Rattle.mask_keys.specs.Keys.{IsValidClip, IsValidDraw, IsValidOutline, IsValidPart, IsValidPlan, max_blur_radius, max_border, max_part_offset, max_passes, samples_across}
 use Rattle.mask_keys.specs.declared.plans.Clip.{Clip}
-use Rattle.mask_keys.specs.declared.plans.Draw.{Draw}
 use Rattle.mask_model.specs.Outlines.{glyph_counts}
 use Rattle.outline_points.specs.Limits.{max_length}
 use Rattle.override_tags.specs.Ranges.{IsClip}

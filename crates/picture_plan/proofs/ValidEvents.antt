@@ -1,5 +1,5 @@
 -- The draws of an event have valid keys.
-use Rattle.std.proofs.Common.{◌≡◌, ℕ, ◌<◌, Bool, true, false, cond, Option, Some, None, List, [], ◌∷◌, ◌++◌, flat_map, length, filter}
+use Rattle.std.proofs.Common.{ℕ, ◌<◌, Bool, true, false, cond, List, [], ◌∷◌, ◌++◌, flat_map, length}
 use Rattle.std.specs.List.{All}
 use Rattle.std.specs.Option.{IfSome}
 use Rattle.std.proofs.lemmas.List.Elements.{All-append, All-cons, All-filter, All-head, All-nil, All-tail, All-weaker}
@@ -17,7 +17,7 @@ use Rattle.text_layout.specs.declared.laid.Line.{Line}
 use Rattle.text_layout.specs.declared.laid.Placed.{Placed}
 use Rattle.picture_plan.specs.Clips.{clip_by}
 use Rattle.picture_plan.specs.Draws.{IsBlockLine, run_border, run_fill, run_shadow}
-use Rattle.picture_plan.specs.EventDraws.{IsDrawnLayout, draws_of_rows, event_draws, is_boxed, line_runs, row_borders, row_by, row_fills, row_on, row_shadows, rows_of, run_of}
+use Rattle.picture_plan.specs.EventDraws.{IsDrawnLayout, draws_of_rows, event_draws, is_boxed, line_runs, row_borders, row_by, row_fills, row_on, row_shadows, draw_rows, run_of}
 use Rattle.picture_plan.specs.Items.{IsBlockItem, is_of_line, items_of}
 use Rattle.picture_plan.specs.Runs.{are_joined, runs_of, with_item}
 use Rattle.picture_plan.specs.declared.runs.Row.{Row}
@@ -75,7 +75,7 @@ row_valid stage fonts view line (item ∷ items) some h lined within =
     record { line = lined; runs = runs_valid stage fonts view line (item ∷ items) some h within }
 
 rows_valid : (stage : Stage) (fonts : List FontValue) (view : EventView) (laid : Laid) → 0 < length fonts → IsView view → IsDrawnLayout (length view.items) laid
-    → All (IsValidRow fonts) (rows_of stage fonts view laid)
+    → All (IsValidRow fonts) (draw_rows stage fonts view laid)
 rows_valid stage fonts view laid some h within =
     all-filter_map (row_on stage fonts view laid) (IsValidRow fonts) laid.lines
     (All-weaker IsBlockLine (λ line. IfSome (row_on stage fonts view laid line) (IsValidRow fonts))
@@ -132,6 +132,6 @@ pub event_valid : (stage : Stage) (fonts : List FontValue) (view : EventView) (l
     → IsDrawnLayout (length view.items) laid → IsValidPlan (glyph_counts fonts) (event_draws stage fonts view laid)
 event_valid stage fonts view laid framed set h within =
     let clip = clip_by stage.header stage.size view.clip in
-    rows_plan stage fonts clip (rows_of stage fonts view laid)
+    rows_plan stage fonts clip (draw_rows stage fonts view laid)
     (record { framed = framed; clipped = clip_valid stage.header fonts stage.size view.clip h.clip })
     (rows_valid stage fonts view laid set.some h within)

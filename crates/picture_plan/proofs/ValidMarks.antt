@@ -1,12 +1,11 @@
 -- The outlines of marks are valid keys.
-use Rattle.std.proofs.Common.{◌≡◌, refl, sym, ap, subst, ◌∙◌, ℕ, suc, ◌+◌, ◌*◌, ◌<◌, ◌≤◌, Bool, true, false, cond, Option, Some, None, List, [], ◌∷◌, length, map, get_or, slice_get, slice_index, slice_index_or, option_and_then, ℤ, pos, ◌*ℤ◌, arith}
-use Rattle.std.specs.List.{All, filter_map}
+use Rattle.std.proofs.Common.{◌≡◌, sym, subst, ℕ, ◌+◌, ◌*◌, ◌<◌, Bool, true, false, cond, Option, Some, None, List, [], ◌∷◌, length, get_or, slice_get, slice_index, slice_index_or, option_and_then, ℤ, pos, ◌*ℤ◌, arith}
+use Rattle.std.specs.List.{All}
 use Rattle.std.specs.Option.{IfSome, option_map, option_map_or}
 use Rattle.std.proofs.lemmas.Int.{ints}
 use Rattle.std.proofs.lemmas.List.{get_or-map, length-map}
 use Rattle.std.proofs.lemmas.List.Elements.{All-weaker}
 use Rattle.ass_num.specs.Floor.{floor_div}
-use Rattle.ass_num.specs.Limits.{IsWithin}
 use Rattle.ass_num.specs.Names.{same_name}
 use Rattle.ass_num.specs.Paths.{IsPath}
 use Rattle.ass_num.specs.declared.geometry.Path.{Path}
@@ -28,14 +27,14 @@ use Rattle.override_tags.specs.declared.view.EventView.{EventView}
 use Rattle.override_tags.specs.declared.view.ShownKind.{ShownKind}
 use Rattle.override_tags.specs.declared.view.ShownKind.TheVariants as shown
 use Rattle.override_tags.specs.declared.view.State.{State}
-use Rattle.text_layout.specs.Fonts.{IsLayoutFontSet, font_numbers}
+use Rattle.text_layout.specs.Fonts.{font_numbers}
 use Rattle.text_layout.specs.Kinds.{char_of}
 use Rattle.text_layout.specs.Metrics.{no_font}
 use Rattle.text_layout.specs.Scales.{clip_matrix, drawing_matrix, drawing_scale, em_height, fine_parts, held_scale, level_parts, text_matrix, text_scale, whole_milli, whole_per_cent}
 use Rattle.text_layout.specs.declared.laid.Line.{Line}
 use Rattle.text_layout.specs.declared.laid.Placed.{Placed}
 use Rattle.picture_plan.specs.Items.{IsBlockItem, no_shown, no_state, shown_of, state_of}
-use Rattle.picture_plan.specs.Marks.{char_mark, char_outline, drawing_mark, font_outline, glyph_outline, is_marked, mark_by, mark_of, marks_of, pen_on}
+use Rattle.picture_plan.specs.Marks.{char_mark, char_outline, drawing_mark, glyph_outline, is_marked, mark_by, mark_of, marks_of, pen_on}
 use Rattle.picture_plan.specs.declared.marks.Mark.{Mark}
 use Rattle.picture_plan.specs.declared.stage.Stage.{Stage}
 use Rattle.picture_plan.proofs.ListAlls.{all-filter_map}

@@ -89,8 +89,8 @@ row_on stage fonts view laid line = row_by stage fonts view line (items_of laid 
 abbrev pub rows_made : Stage → List FontValue → EventView → Laid → List Line → List Row
 rows_made stage fonts view laid lines = filter_map (row_on stage fonts view laid) lines
 
-abbrev pub rows_of : Stage → List FontValue → EventView → Laid → List Row
-rows_of stage fonts view laid = rows_made stage fonts view laid laid.lines
+abbrev pub draw_rows : Stage → List FontValue → EventView → Laid → List Row
+draw_rows stage fonts view laid = rows_made stage fonts view laid laid.lines
 
 -- ---- the draws of lines
 
@@ -116,7 +116,7 @@ draws_of_rows stage clip rows = flat_map (row_shadows stage clip) rows ++ flat_m
 
 -- The draws of an event that is laid out and stands there.
 abbrev pub event_draws : Stage → List FontValue → EventView → Laid → List Draw
-event_draws stage fonts view laid = draws_of_rows stage (clip_by stage.header stage.size view.clip) (rows_of stage fonts view laid)
+event_draws stage fonts view laid = draws_of_rows stage (clip_by stage.header stage.size view.clip) (draw_rows stage fonts view laid)
 
 -- ---- ranges
 

@@ -26,24 +26,24 @@ abbrev pub no_placed : PlacedEvent
 no_placed = record { place = 0; down = pos 0; own = None }
 
 -- the event of a place
-abbrev pub event_of : List Event → PlacedEvent → Event
-event_of events placed = slice_index_or events placed.place no_event
+abbrev pub placed_event : List Event → PlacedEvent → Event
+placed_event events placed = slice_index_or events placed.place no_event
 
 -- the event of place k
-abbrev pub event_at : List Event → List PlacedEvent → ℕ → Event
-event_at events placed k = event_of events (slice_index_or placed k no_placed)
+abbrev pub event_placed_at : List Event → List PlacedEvent → ℕ → Event
+event_placed_at events placed k = placed_event events (slice_index_or placed k no_placed)
 
 -- the event of a shown event
 abbrev pub event_shown : List Event → List PlacedEvent → ShownEvent → Event
-event_shown events placed shown = event_at events placed shown.place
+event_shown events placed shown = event_placed_at events placed shown.place
 
 -- whether an event is shown at t
-abbrev pub is_shown : ℤ → Event → Bool
-is_shown t event = int_le event.start t && int_lt t (event.start +ℤ event.duration)
+abbrev pub is_shown_at : ℤ → Event → Bool
+is_shown_at t event = int_le event.start t && int_lt t (event.start +ℤ event.duration)
 
 -- what is kept of the event of place k, if it is shown
 abbrev pub shown_if : ℤ → Event → ℕ → List ShownEvent
-shown_if t event k = if is_shown t event then record { layer = event.layer; order = event.order; place = k } ∷ [] else []
+shown_if t event k = if is_shown_at t event then record { layer = event.layer; order = event.order; place = k } ∷ [] else []
 
 -- The places are places of the events, no two of the same one.
 pub record ArePlaces (events : List Event) (placed : List PlacedEvent) : Type 0 where
@@ -55,18 +55,18 @@ pub record IsShownPlace (events : List Event) (placed : List PlacedEvent) (t : �
   pub within : shown.place < n
   pub layer : shown.layer ≡ (event_shown events placed shown).layer
   pub order : shown.order ≡ (event_shown events placed shown).order
-  pub shows : is_shown t (event_shown events placed shown) ≡ true
+  pub shows : is_shown_at t (event_shown events placed shown) ≡ true
 
 -- They tell each event of the first n places that is shown at t, once.
 pub record AreShownPlaces (events : List Event) (placed : List PlacedEvent) (t : ℤ) (n : ℕ) (shown : List ShownEvent) : Type 0 where
   pub each : All (IsShownPlace events placed t n) shown
-  pub all : (k : ℕ) → k < n → is_shown t (event_at events placed k) ≡ true → Contains (map (λ (s : ShownEvent). s.place) shown) k
+  pub all : (k : ℕ) → k < n → is_shown_at t (event_placed_at events placed k) ≡ true → Contains (map (λ (s : ShownEvent). s.place) shown) k
   pub once : Pairwise (λ (a b : ShownEvent). a.place ≢ b.place) shown
 
 -- a is drawn before b
-abbrev pub IsBelow : ShownEvent → ShownEvent → Type 0
-IsBelow a b = (a.layer <ℤ b.layer) ⊎ ((a.layer ≡ b.layer) × (a.order < b.order))
+abbrev pub IsDrawnUnder : ShownEvent → ShownEvent → Type 0
+IsDrawnUnder a b = (a.layer <ℤ b.layer) ⊎ ((a.layer ≡ b.layer) × (a.order < b.order))
 
 -- None is drawn before one that stands before it.
 abbrev pub AreByLayer : List ShownEvent → Type 0
-AreByLayer shown = Pairwise (λ a b. IsBelow b a → ⊥) shown
+AreByLayer shown = Pairwise (λ a b. IsDrawnUnder b a → ⊥) shown

@@ -26,7 +26,7 @@ pub(crate) fn event_of<'a>(events: &'a [Arc<Event>], placed: &PlacedEvent) -> &'
     requires events { All IsEvent (map arc_value events.now) }
     requires texts { All (λ (e : Event). length e.text ≤ max_text_bytes) (map arc_value events.now) }
     requires place { placed.now.place < length events.now }
-    ensures value { result.now ≡ rule.event_of (map arc_value events.now) placed.now }
+    ensures value { result.now ≡ rule.placed_event (map arc_value events.now) placed.now }
     ensures range { IsEvent result.now }
     ensures text { length result.now.text ≤ max_text_bytes }
 {
@@ -36,7 +36,7 @@ pub(crate) fn event_of<'a>(events: &'a [Arc<Event>], placed: &PlacedEvent) -> &'
 /// Whether an event is shown at t.
 fn is_shown(event: &Event, t: i64) -> bool
     requires { IsEvent event.now }
-    ensures { result ≡ rule.is_shown t event.now }
+    ensures { result ≡ rule.is_shown_at t event.now }
 {
     event.start <= t && t < event.start + event.duration
 }

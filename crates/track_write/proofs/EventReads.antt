@@ -26,7 +26,7 @@ use Rattle.ass_events.proofs.FieldLemmas.{examined_some}
 use Rattle.ass_events.proofs.NumberLemmas.{number-signed_decimal}
 use Rattle.ass_events.proofs.PieceLemmas.{EachPlain}
 use Rattle.blanks.specs.Blanks.{trimmed}
-use Rattle.track_write.specs.Rows.{row, end_of, event_fields}
+use Rattle.track_write.specs.Rows.{row, event_end, event_fields}
 use Rattle.track_write.specs.Spelling.{time_text}
 use Rattle.track_write.specs.Texts.{max_written_end}
 use Rattle.track_write.proofs.Readings.{number_read, instant_read, signed_no_blank, one_blank, not_below}
@@ -106,10 +106,10 @@ pub record IsWrittenTime (t : ℤ) : Type 0 where
 time_said : (t : ℤ) → IsWrittenTime t → instant_of (time_text (unsigned_abs t)) ≡ Some t
 time_said t is = ap (λ z. instant_of (time_text (unsigned_abs z))) is.value ∙ instant_read is.number is.whole is.most ∙ ap Some (sym is.value)
 
-module _ (event : Event) (is : IsEvent event) (start : IsWrittenTime event.start) (last : IsWrittenTime (end_of event)) where
+module _ (event : Event) (is : IsEvent event) (start : IsWrittenTime event.start) (last : IsWrittenTime (event_end event)) where
   abbrev front : List (List ℕ)
   front =
-      (32 ∷ signed_decimal event.layer) ∷ time_text (unsigned_abs event.start) ∷ time_text (unsigned_abs (end_of event)) ∷ event.style ∷ event.name
+      (32 ∷ signed_decimal event.layer) ∷ time_text (unsigned_abs event.start) ∷ time_text (unsigned_abs (event_end event)) ∷ event.style ∷ event.name
       ∷ signed_decimal event.margin_l ∷ signed_decimal event.margin_r ∷ signed_decimal event.margin_v ∷ event.effect ∷ []
 
   time_plain : (t : ℤ) → IsWrittenTime t → All (λ c. is_comma c ≡ false) (time_text (unsigned_abs t))
@@ -121,7 +121,7 @@ module _ (event : Event) (is : IsEvent event) (start : IsWrittenTime event.start
     (
       time_plain event.start start,
       (
-        time_plain (end_of event) last,
+        time_plain (event_end event) last,
         (
           is.style.no_comma,
           (
@@ -144,7 +144,7 @@ module _ (event : Event) (is : IsEvent event) (start : IsWrittenTime event.start
     order = 0;
     layer = event.layer;
     start = event.start;
-    end = end_of event;
+    end = event_end event;
     style = event.style;
     name = event.name;
     margin_l = event.margin_l;
@@ -162,7 +162,7 @@ module _ (event : Event) (is : IsEvent event) (start : IsWrittenTime event.start
       let len = length (32 ∷ row (event_fields event)) in
       let a : FieldValues = record no_fields { layer = event.layer } in
       let b : FieldValues = record a { start = event.start } in
-      let c : FieldValues = record b { end = end_of event } in
+      let c : FieldValues = record b { end = event_end event } in
       let d : FieldValues = record c { style = event.style } in
       let e : FieldValues = record d { name = event.name } in
       let f : FieldValues = record e { margin_l = event.margin_l } in
@@ -172,7 +172,7 @@ module _ (event : Event) (is : IsEvent event) (start : IsWrittenTime event.start
       ap (λ z. examined (columns_from len 0 (usual_event_fields V4Plus) z) no_fields) (front_cut front event.text front_plain)
       ∙ read_on len _ field.Layer field.Start _ (32 ∷ signed_decimal event.layer) _ no_fields a (put_layer event.layer (32 ∷ signed_decimal event.layer) no_fields layer_said)
       ∙ read_on len _ field.Start field.End _ (time_text (unsigned_abs event.start)) _ a b (put_start event.start (time_text (unsigned_abs event.start)) a (time_said event.start start))
-      ∙ read_on len _ field.End field.Style _ (time_text (unsigned_abs (end_of event))) _ b c (put_end (end_of event) (time_text (unsigned_abs (end_of event))) b (time_said (end_of event) last))
+      ∙ read_on len _ field.End field.Style _ (time_text (unsigned_abs (event_end event))) _ b c (put_end (event_end event) (time_text (unsigned_abs (event_end event))) b (time_said (event_end event) last))
       ∙ read_on len _ field.Style field.Name _ event.style _ c d (put_style event.style c is.style.bare)
       ∙ read_on len _ field.Name field.MarginL _ event.name _ d e (put_name event.name d is.name.bare)
       ∙ read_on len _ field.MarginL field.MarginR _ (signed_decimal event.margin_l) _ e f (put_left event.margin_l (signed_decimal event.margin_l) e (number-signed_decimal event.margin_l is.margin_l))
@@ -182,7 +182,7 @@ module _ (event : Event) (is : IsEvent event) (start : IsWrittenTime event.start
       ∙ read_text len _ event.text i
 
   -- the time between the two ends
-  duration_said : duration_between event.start (end_of event) ≡ event.duration
+  duration_said : duration_between event.start (event_end event) ≡ event.duration
   duration_said = length_left event.start event.duration is.duration
 
   pub event_read : (i : ℕ) → line_event (usual_event_fields V4Plus) i (32 ∷ row (event_fields event)) ≡ Ok (record event { order = i })

@@ -27,7 +27,7 @@ use Rattle.ass_events.specs.Ranges.{IsEvent}
 use Rattle.ass_events.specs.declared.event.Event.{Event}
 use Rattle.ass_events.proofs.PieceLemmas.{EachUtf8, joined_utf8}
 use Rattle.track_write.specs.Ranges.{IsByteColour, IsSpelledStyle}
-use Rattle.track_write.specs.Rows.{row, end_of, scaled_line, header_lines, style_line, style_lines, style_format_line, event_format_line, dialogue_line, event_lines, colour_at}
+use Rattle.track_write.specs.Rows.{row, event_end, scaled_line, header_lines, style_line, style_lines, style_format_line, event_format_line, dialogue_line, event_lines, colour_of_place}
 use Rattle.track_write.specs.Spelling.{milli_text, colour_text, flag_text, time_text}
 use Rattle.track_write.specs.Texts.{is_line_feed, has_line_feed, ends_in_return, is_hundredths, is_written_end, text_fault, event_fault, max_written_end}
 use Rattle.track_write.proofs.EventReads.{IsWrittenTime}
@@ -133,8 +133,8 @@ module _ (s : Style) (is : IsStyle s) (spelled : IsSpelledStyle s) where
   length_whole : (z : ℤ) → IsHeldLength z → Whole (milli_text z)
   length_whole z held = milli_whole z (omega (arith, ints, held.0), held.1)
 
-  colour_whole : (k : ℕ) → k ≤ 3 → Whole (colour_text (colour_at s k))
-  colour_whole k below = of_tokens (colour_text (colour_at s k)) (colour_tokens (colour_at s k) (All-get_or IsByteColour s.colours k (colour_of 0) (omega (arith, is.colours)) spelled.colours))
+  colour_whole : (k : ℕ) → k ≤ 3 → Whole (colour_text (colour_of_place s k))
+  colour_whole k below = of_tokens (colour_text (colour_of_place s k)) (colour_tokens (colour_of_place s k) (All-get_or IsByteColour s.colours k (colour_of 0) (omega (arith, is.colours)) spelled.colours))
 
   flag_whole : (b : Bool) → Whole (flag_text b)
   flag_whole b = of_tokens (flag_text b) (flag_tokens b)
@@ -151,7 +151,7 @@ module _ (s : Style) (is : IsStyle s) (spelled : IsSpelledStyle s) where
 
   abbrev first_half : List (List ℕ)
   first_half =
-      s.name ∷ s.font ∷ milli_text s.size ∷ colour_text (colour_at s 0) ∷ colour_text (colour_at s 1) ∷ colour_text (colour_at s 2) ∷ colour_text (colour_at s 3)
+      s.name ∷ s.font ∷ milli_text s.size ∷ colour_text (colour_of_place s 0) ∷ colour_text (colour_of_place s 1) ∷ colour_text (colour_of_place s 2) ∷ colour_text (colour_of_place s 3)
       ∷ flag_text s.bold ∷ flag_text s.italic ∷ flag_text s.underline ∷ flag_text s.strikeout ∷ []
 
   abbrev second_half : List (List ℕ)
@@ -225,11 +225,11 @@ module _ (s : Style) (is : IsStyle s) (spelled : IsSpelledStyle s) where
   pub style_holds : IsLine (style_line s)
   style_holds =
       row_line (codes "Style: ") s.name
-      (s.font ∷ milli_text s.size ∷ colour_text (colour_at s 0) ∷ colour_text (colour_at s 1) ∷ colour_text (colour_at s 2) ∷ colour_text (colour_at s 3)
+      (s.font ∷ milli_text s.size ∷ colour_text (colour_of_place s 0) ∷ colour_text (colour_of_place s 1) ∷ colour_text (colour_of_place s 2) ∷ colour_text (colour_of_place s 3)
       ∷ flag_text s.bold ∷ flag_text s.italic ∷ flag_text s.underline ∷ flag_text s.strikeout
       ∷ milli_text s.scale_x ∷ milli_text s.scale_y ∷ milli_text s.spacing ∷ milli_text s.angle ∷ decimal s.border_style ∷ milli_text s.outline ∷ milli_text s.shadow ∷ decimal s.alignment
       ∷ signed_decimal s.margin_l ∷ signed_decimal s.margin_r ∷ signed_decimal s.margin_v ∷ []) (codes "1") refl (whole_append first_half second_half first_whole second_whole)
-      (some_row s.name s.font (milli_text s.size ∷ colour_text (colour_at s 0) ∷ colour_text (colour_at s 1) ∷ colour_text (colour_at s 2) ∷ colour_text (colour_at s 3)
+      (some_row s.name s.font (milli_text s.size ∷ colour_text (colour_of_place s 0) ∷ colour_text (colour_of_place s 1) ∷ colour_text (colour_of_place s 2) ∷ colour_text (colour_of_place s 3)
       ∷ flag_text s.bold ∷ flag_text s.italic ∷ flag_text s.underline ∷ flag_text s.strikeout ∷ second_half)) refl
 
 all_styles_hold : (styles : List Style) → All IsStyle styles → All IsSpelledStyle styles → AreLines (map style_line styles)
@@ -245,7 +245,7 @@ styles_hold styles is spelled = (plain_line (codes "[V4+ Styles]") refl refl, (p
 pub record IsWritable (event : Event) : Type 0 where
   pub is : IsEvent event
   pub start : IsWrittenTime event.start
-  pub last : IsWrittenTime (end_of event)
+  pub last : IsWrittenTime (event_end event)
   pub style : All (λ c. is_line_feed c ≡ false) event.style
   pub name : All (λ c. is_line_feed c ≡ false) event.name
   pub effect : All (λ c. is_line_feed c ≡ false) event.effect
@@ -265,7 +265,7 @@ module _ (event : Event) (can : IsWritable event) where
 
   abbrev after_layer : List (List ℕ)
   after_layer =
-      time_text (unsigned_abs event.start) ∷ time_text (unsigned_abs (end_of event)) ∷ event.style ∷ event.name
+      time_text (unsigned_abs event.start) ∷ time_text (unsigned_abs (event_end event)) ∷ event.style ∷ event.name
       ∷ signed_decimal event.margin_l ∷ signed_decimal event.margin_r ∷ signed_decimal event.margin_v ∷ event.effect ∷ []
 
   fields_whole : EachWhole ((signed_decimal event.layer ∷ after_layer) ++ event.text ∷ [])
@@ -274,7 +274,7 @@ module _ (event : Event) (can : IsWritable event) where
     (
       time_whole event.start can.start,
       (
-        time_whole (end_of event) can.last,
+        time_whole (event_end event) can.last,
         (
           (can.style, can.is.style.utf8),
           (
@@ -292,7 +292,7 @@ module _ (event : Event) (can : IsWritable event) where
   pub event_holds : IsLine (dialogue_line event)
   event_holds =
       row_line (codes "Dialogue: ") (signed_decimal event.layer) after_layer event.text refl fields_whole
-      (some_row (signed_decimal event.layer) (time_text (unsigned_abs event.start)) (time_text (unsigned_abs (end_of event)) ∷ event.style ∷ event.name
+      (some_row (signed_decimal event.layer) (time_text (unsigned_abs event.start)) (time_text (unsigned_abs (event_end event)) ∷ event.style ∷ event.name
       ∷ signed_decimal event.margin_l ∷ signed_decimal event.margin_r ∷ signed_decimal event.margin_v ∷ event.effect ∷ event.text ∷ [])) (text_last event.text can.ends)
 
 all_events_hold : (events : List Event) → All IsWritable events → AreLines (map dialogue_line events)
@@ -326,17 +326,17 @@ times start duration s d e =
 
 pub no_fault : (event : Event) → IsEvent event → event_fault event ≡ None → IsWritable event
 unfolding event_fault text_fault
-no_fault event is e = cases (is_hundredths event.start) (is_written_end (end_of event)) (has_line_feed event.style) (has_line_feed event.name) (has_line_feed event.effect) (has_line_feed event.text) (ends_in_return event.text) refl refl refl refl refl refl refl e
+no_fault event is e = cases (is_hundredths event.start) (is_written_end (event_end event)) (has_line_feed event.style) (has_line_feed event.name) (has_line_feed event.effect) (has_line_feed event.text) (ends_in_return event.text) refl refl refl refl refl refl refl e
   where
-    cases : (a b c d f g h : Bool) → is_hundredths event.start ≡ a → is_written_end (end_of event) ≡ b → has_line_feed event.style ≡ c → has_line_feed event.name ≡ d → has_line_feed event.effect ≡ f → has_line_feed event.text ≡ g → ends_in_return event.text ≡ h →
+    cases : (a b c d f g h : Bool) → is_hundredths event.start ≡ a → is_written_end (event_end event) ≡ b → has_line_feed event.style ≡ c → has_line_feed event.name ≡ d → has_line_feed event.effect ≡ f → has_line_feed event.text ≡ g → ends_in_return event.text ≡ h →
         cond (not a) (Some field.Start) (cond (not b) (Some field.End) (cond c (Some field.Style) (cond d (Some field.Name) (cond f (Some field.Effect) (cond (g || h) (Some field.Text) None))))) ≡ None → IsWritable event
     cases true true false false false false false ea eb ec ed ef eg eh e =
-        let parts : (is_hundredths (end_of event) ≡ true) × (int_le (end_of event) (pos max_written_end) ≡ true) = and_parts (is_hundredths (end_of event)) (int_le (end_of event) (pos max_written_end)) eb in
+        let parts : (is_hundredths (event_end event) ≡ true) × (int_le (event_end event) (pos max_written_end) ≡ true) = and_parts (is_hundredths (event_end event)) (int_le (event_end event) (pos max_written_end)) eb in
         let first = times event.start event.duration is.start is.duration parts.1 in
         record {
           is = is;
           start = written_time event.start ea first.0 first.1;
-          last = written_time (end_of event) parts.0 first.2 first.3;
+          last = written_time (event_end event) parts.0 first.2 first.3;
           style = none_of event.style ec;
           name = none_of event.name ed;
           effect = none_of event.effect ef;

@@ -12,7 +12,7 @@ use Rattle.ass_script.specs.declared.script.EventField.TheVariants as field
 use Rattle.ass_events.specs.Events.{is_time}
 use Rattle.ass_events.specs.Ranges.{IsEvent}
 use Rattle.ass_events.specs.declared.event.Event.{Event}
-use Rattle.track_write.specs.Shifts.{moved, moved_event, first_outside, moved_events}
+use Rattle.track_write.specs.Shifts.{later_event, shifted_event, first_outside, moved_events}
 use Rattle.track_write.specs.declared.refusal.WriteRefusal.{WriteRefusal}
 use Rattle.track_write.specs.declared.refusal.WriteRefusal.TheVariants.{Unwritable, OutOfMemory}
 use Rattle.track_write.specs.Texts.{IsWriteAnswer}
@@ -32,7 +32,7 @@ shift_within later earlier l e =
     let d = le_is earlier (pos max_instant) second.1 in
     (omega (arith, ints), omega (arith, ints))
 
-pub moved_sound : (by : ℤ) (event : Event) → IsEvent event → is_time (moved by event).start ≡ true → IsEvent (moved by event)
+pub moved_sound : (by : ℤ) (event : Event) → IsEvent event → is_time (later_event by event).start ≡ true → IsEvent (later_event by event)
 moved_sound by event is time = record {
   order = is.order;
   layer = is.layer;
@@ -48,38 +48,38 @@ moved_sound by event is time = record {
 }
 
 module _ {X : Type 0} (f : X → Event) (by : ℤ) (xs : List X) (i : ℕ) (d : X) (inside : i < length xs) (is : d ≡ get_or xs i d) where
-  here : first_outside by (map f (drop i xs)) ≡ cond (is_time (moved by (f d)).start) (first_outside by (map f (drop (i + 1) xs))) (Some (f d).order)
+  here : first_outside by (map f (drop i xs)) ≡ cond (is_time (later_event by (f d)).start) (first_outside by (map f (drop (i + 1) xs))) (Some (f d).order)
   here = ap (λ z. first_outside by (map f z)) (drop_more xs i d inside) ∙ ap (λ x. first_outside by (f x ∷ map f (drop (i + 1) xs))) (sym is)
 
-  pub outside_here : is_time (moved by (f d)).start ≡ false → first_outside by (map f (drop i xs)) ≡ Some (f d).order
+  pub outside_here : is_time (later_event by (f d)).start ≡ false → first_outside by (map f (drop i xs)) ≡ Some (f d).order
   outside_here e = here ∙ ap (λ b. cond b (first_outside by (map f (drop (i + 1) xs))) (Some (f d).order)) e
 
-  pub outside_later : is_time (moved by (f d)).start ≡ true → first_outside by (map f (drop i xs)) ≡ first_outside by (map f (drop (i + 1) xs))
+  pub outside_later : is_time (later_event by (f d)).start ≡ true → first_outside by (map f (drop i xs)) ≡ first_outside by (map f (drop (i + 1) xs))
   outside_later e = here ∙ ap (λ b. cond b (first_outside by (map f (drop (i + 1) xs))) (Some (f d).order)) e
 
 pub shift_refused : (by : ℤ) (events : List Event) (order : ℕ) → first_outside by events ≡ Some order → moved_events by events ≡ Err (Unwritable order field.Start)
-shift_refused by events order e = ap (λ o. option_map_or (λ n. Err (Unwritable n field.Start)) o (Ok (map (moved by) events))) e
+shift_refused by events order e = ap (λ o. option_map_or (λ n. Err (Unwritable n field.Start)) o (Ok (map (later_event by) events))) e
 
-pub shift_done : (by : ℤ) (events : List Event) → first_outside by events ≡ None → moved_events by events ≡ Ok (map (moved by) events)
-shift_done by events e = ap (λ o. option_map_or (λ n. Err (Unwritable n field.Start)) o (Ok (map (moved by) events))) e
+pub shift_done : (by : ℤ) (events : List Event) → first_outside by events ≡ None → moved_events by events ≡ Ok (map (later_event by) events)
+shift_done by events e = ap (λ o. option_map_or (λ n. Err (Unwritable n field.Start)) o (Ok (map (later_event by) events))) e
 
 -- what one event answers is what all do, where it is the first that refuses
-refused_all : (by : ℤ) (event : Event) (events : List Event) (n : ℕ) (f : EventField) → (is_time (moved by event).start ≡ false → first_outside by events ≡ Some event.order) → moved_event by event ≡ Err (Unwritable n f) → moved_events by events ≡ Err (Unwritable n f)
-refused_all by event events n f first e = cases (is_time (moved by event).start) refl e
+refused_all : (by : ℤ) (event : Event) (events : List Event) (n : ℕ) (f : EventField) → (is_time (later_event by event).start ≡ false → first_outside by events ≡ Some event.order) → shifted_event by event ≡ Err (Unwritable n f) → moved_events by events ≡ Err (Unwritable n f)
+refused_all by event events n f first e = cases (is_time (later_event by event).start) refl e
   where
-    cases : (b : Bool) → is_time (moved by event).start ≡ b → cond b (Ok (moved by event)) (Err (Unwritable event.order field.Start)) ≡ Err (Unwritable n f) → moved_events by events ≡ Err (Unwritable n f)
+    cases : (b : Bool) → is_time (later_event by event).start ≡ b → cond b (Ok (later_event by event)) (Err (Unwritable event.order field.Start)) ≡ Err (Unwritable n f) → moved_events by events ≡ Err (Unwritable n f)
     cases true is e = absurd (cc)
     cases false is e = let same : Unwritable event.order field.Start ≡ Unwritable n f = cc in shift_refused by events event.order (first is) ∙ ap Err same
 
 -- the answer of the first event that refuses is that of all
-pub refuse : {V W : Type 0} (said : V → Event) (told : W → List Event) (by : ℤ) (event : Event) (events : List Event) (refusal : WriteRefusal) → (is_time (moved by event).start ≡ false → first_outside by events ≡ Some event.order) →
-    IsWriteAnswer said (Err refusal) (moved_event by event) → IsWriteAnswer told (Err refusal) (moved_events by events)
+pub refuse : {V W : Type 0} (said : V → Event) (told : W → List Event) (by : ℤ) (event : Event) (events : List Event) (refusal : WriteRefusal) → (is_time (later_event by event).start ≡ false → first_outside by events ≡ Some event.order) →
+    IsWriteAnswer said (Err refusal) (shifted_event by event) → IsWriteAnswer told (Err refusal) (moved_events by events)
 refuse said told by event events (Unwritable n f) first e = refused_all by event events n f first e
 refuse said told by event events OutOfMemory first e = tt
 
-pub moved_is : (by : ℤ) (event made : Event) → moved_event by event ≡ Ok made → (is_time (moved by event).start ≡ true) × (moved by event ≡ made)
-moved_is by event made e = cases (is_time (moved by event).start) refl e
+pub moved_is : (by : ℤ) (event made : Event) → shifted_event by event ≡ Ok made → (is_time (later_event by event).start ≡ true) × (later_event by event ≡ made)
+moved_is by event made e = cases (is_time (later_event by event).start) refl e
   where
-    cases : (b : Bool) → is_time (moved by event).start ≡ b → cond b (Ok (moved by event)) (Err (Unwritable event.order field.Start)) ≡ Ok made → (is_time (moved by event).start ≡ true) × (moved by event ≡ made)
+    cases : (b : Bool) → is_time (later_event by event).start ≡ b → cond b (Ok (later_event by event)) (Err (Unwritable event.order field.Start)) ≡ Ok made → (is_time (later_event by event).start ≡ true) × (later_event by event ≡ made)
     cases true is e = (is, cc)
     cases false is e = absurd (cc)

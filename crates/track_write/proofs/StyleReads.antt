@@ -24,7 +24,7 @@ use Rattle.ass_script.specs.declared.style.Style.{Style}
 use Rattle.ass_events.proofs.PieceLemmas.{EachPlain}
 use Rattle.blanks.specs.Blanks.{trimmed}
 use Rattle.track_write.specs.Ranges.{IsByteColour, IsSpelledStyle}
-use Rattle.track_write.specs.Rows.{row, colour_at, style_fields}
+use Rattle.track_write.specs.Rows.{row, colour_of_place, style_fields}
 use Rattle.track_write.specs.Spelling.{milli_text, colour_text, flag_text}
 use Rattle.track_write.proofs.Colours.{colour_back, colour_read}
 use Rattle.track_write.proofs.Readings.{milli_read, whole_milli, whole_read, no_blanks, not_below}
@@ -100,34 +100,34 @@ four (a ∷ b ∷ c ∷ []) d size = absurd (omega (arith, size))
 four (a ∷ b ∷ c ∷ e ∷ f ∷ fs) d size = absurd (omega (arith, size))
 
 module _ (s : Style) (is : IsStyle s) (spelled : IsSpelledStyle s) where
-  colour_is : (k : ℕ) → k ≤ 3 → IsByteColour (colour_at s k)
+  colour_is : (k : ℕ) → k ≤ 3 → IsByteColour (colour_of_place s k)
   colour_is k below = All-get_or IsByteColour s.colours k (colour_of 0) (omega (arith, is.colours)) spelled.colours
 
   said : ℕ → List ℕ
-  said k = trimmed (colour_text (colour_at s k))
+  said k = trimmed (colour_text (colour_of_place s k))
 
   abbrev first_colours : List Rgba
   first_colours = built_in_style.colours
 
-  colours_read : colours_with 3 (colours_with 2 (colours_with 1 (colours_with 0 built_in_style.colours (trimmed (colour_text (colour_at s 0)))) (trimmed (colour_text (colour_at s 1)))) (trimmed (colour_text (colour_at s 2)))) (trimmed (colour_text (colour_at s 3))) ≡ s.colours
+  colours_read : colours_with 3 (colours_with 2 (colours_with 1 (colours_with 0 built_in_style.colours (trimmed (colour_text (colour_of_place s 0)))) (trimmed (colour_text (colour_of_place s 1)))) (trimmed (colour_text (colour_of_place s 2)))) (trimmed (colour_text (colour_of_place s 3))) ≡ s.colours
   colours_read =
-      let t1 = trimmed (colour_text (colour_at s 1)) in
-      let t2 = trimmed (colour_text (colour_at s 2)) in
-      let t3 = trimmed (colour_text (colour_at s 3)) in
-      let c0 = set built_in_style.colours 0 (colour_at s 0) in
-      let c1 = set c0 1 (colour_at s 1) in
-      let c2 = set c1 2 (colour_at s 2) in
-      ap (λ z. colours_with 3 (colours_with 2 (colours_with 1 z t1) t2) t3) (colour_put 0 built_in_style.colours (colour_at s 0) (colour_is 0 (omega arith)))
-      ∙ ap (λ z. colours_with 3 (colours_with 2 z t2) t3) (colour_put 1 c0 (colour_at s 1) (colour_is 1 (omega arith)))
-      ∙ ap (λ z. colours_with 3 z t3) (colour_put 2 c1 (colour_at s 2) (colour_is 2 (omega arith)))
-      ∙ colour_put 3 c2 (colour_at s 3) (colour_is 3 (omega arith))
+      let t1 = trimmed (colour_text (colour_of_place s 1)) in
+      let t2 = trimmed (colour_text (colour_of_place s 2)) in
+      let t3 = trimmed (colour_text (colour_of_place s 3)) in
+      let c0 = set built_in_style.colours 0 (colour_of_place s 0) in
+      let c1 = set c0 1 (colour_of_place s 1) in
+      let c2 = set c1 2 (colour_of_place s 2) in
+      ap (λ z. colours_with 3 (colours_with 2 (colours_with 1 z t1) t2) t3) (colour_put 0 built_in_style.colours (colour_of_place s 0) (colour_is 0 (omega arith)))
+      ∙ ap (λ z. colours_with 3 (colours_with 2 z t2) t3) (colour_put 1 c0 (colour_of_place s 1) (colour_is 1 (omega arith)))
+      ∙ ap (λ z. colours_with 3 z t3) (colour_put 2 c1 (colour_of_place s 2) (colour_is 2 (omega arith)))
+      ∙ colour_put 3 c2 (colour_of_place s 3) (colour_is 3 (omega arith))
       ∙ four s.colours (colour_of 0) is.colours
 
   name_read : trimmed (32 ∷ s.name) ≡ s.name
   name_read = blank_dropped s.name ∙ spelled.name.bare
 
   fields_read : with_fields (usual_style_fields V4Plus) ((32 ∷ s.name) ∷ s.font ∷ milli_text s.size
-      ∷ colour_text (colour_at s 0) ∷ colour_text (colour_at s 1) ∷ colour_text (colour_at s 2) ∷ colour_text (colour_at s 3)
+      ∷ colour_text (colour_of_place s 0) ∷ colour_text (colour_of_place s 1) ∷ colour_text (colour_of_place s 2) ∷ colour_text (colour_of_place s 3)
       ∷ flag_text s.bold ∷ flag_text s.italic ∷ flag_text s.underline ∷ flag_text s.strikeout
       ∷ milli_text s.scale_x ∷ milli_text s.scale_y ∷ milli_text s.spacing ∷ milli_text s.angle
       ∷ decimal s.border_style ∷ milli_text s.outline ∷ milli_text s.shadow ∷ decimal s.alignment
@@ -157,7 +157,7 @@ module _ (s : Style) (is : IsStyle s) (spelled : IsSpelledStyle s) where
   abbrev pieces : List (List ℕ)
   pieces =
       s.font ∷ milli_text s.size
-      ∷ colour_text (colour_at s 0) ∷ colour_text (colour_at s 1) ∷ colour_text (colour_at s 2) ∷ colour_text (colour_at s 3)
+      ∷ colour_text (colour_of_place s 0) ∷ colour_text (colour_of_place s 1) ∷ colour_text (colour_of_place s 2) ∷ colour_text (colour_of_place s 3)
       ∷ flag_text s.bold ∷ flag_text s.italic ∷ flag_text s.underline ∷ flag_text s.strikeout
       ∷ milli_text s.scale_x ∷ milli_text s.scale_y ∷ milli_text s.spacing ∷ milli_text s.angle
       ∷ decimal s.border_style ∷ milli_text s.outline ∷ milli_text s.shadow ∷ decimal s.alignment
@@ -166,8 +166,8 @@ module _ (s : Style) (is : IsStyle s) (spelled : IsSpelledStyle s) where
   milli_plain : (z : ℤ) → IsHeldNumber z → All (λ c. is_comma c ≡ false) (milli_text z)
   milli_plain z held = no_comma (milli_text z) (milli_tokens z held)
 
-  colour_plain : (k : ℕ) → k ≤ 3 → All (λ c. is_comma c ≡ false) (colour_text (colour_at s k))
-  colour_plain k below = no_comma (colour_text (colour_at s k)) (colour_tokens (colour_at s k) (colour_is k below))
+  colour_plain : (k : ℕ) → k ≤ 3 → All (λ c. is_comma c ≡ false) (colour_text (colour_of_place s k))
+  colour_plain k below = no_comma (colour_text (colour_of_place s k)) (colour_tokens (colour_of_place s k) (colour_is k below))
 
   flag_plain : (b : Bool) → All (λ c. is_comma c ≡ false) (flag_text b)
   flag_plain b = no_comma (flag_text b) (flag_tokens b)

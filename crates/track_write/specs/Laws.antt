@@ -10,7 +10,7 @@ use Rattle.ass_events.specs.Ranges.{IsEvent}
 use Rattle.ass_events.specs.declared.event.Event.{Event}
 use Rattle.track_write.specs.Ranges.{IsSpelledStyle, IsSpelledScript}
 use Rattle.track_write.specs.Rows.{spoken}
-use Rattle.track_write.specs.Shifts.{moved}
+use Rattle.track_write.specs.Shifts.{later_event}
 use Rattle.track_write.specs.Texts.{written}
 
 -- the same header and styles, with one line for each event
@@ -33,4 +33,4 @@ StylesAreSpelled = (bytes : List ℕ) (script : ScriptValue) → script_of bytes
 
 -- What matters of shifted events at the shifted instant are the events that mattered, shifted: they are shown then and placed clear of each other as before.
 abbrev pub NearEventsAreMoved : Type 0
-NearEventsAreMoved = (by : ℤ) (events near : List Event) (t : ℤ) → AreNear span_of events t near → AreNear span_of (map (moved by) events) (t +ℤ by) (map (moved by) near)
+NearEventsAreMoved = (by : ℤ) (events near : List Event) (t : ℤ) → AreNear span_of events t near → AreNear span_of (map (later_event by) events) (t +ℤ by) (map (later_event by) near)

@@ -41,14 +41,14 @@ abbrev pub style_format_line : List ℕ
 style_format_line = style_names ++ shape_names
 
 -- the primary, the secondary, the outline and the back colour by their place
-abbrev pub colour_at : Style → ℕ → Rgba
-colour_at style k = slice_index_or style.colours k (colour_of 0)
+abbrev pub colour_of_place : Style → ℕ → Rgba
+colour_of_place style k = slice_index_or style.colours k (colour_of 0)
 
 -- the fields of a style in the order of the Format; the encoding is 1
 abbrev pub style_fields : Style → List (List ℕ)
 style_fields style =
     style.name ∷ style.font ∷ milli_text style.size
-    ∷ colour_text (colour_at style 0) ∷ colour_text (colour_at style 1) ∷ colour_text (colour_at style 2) ∷ colour_text (colour_at style 3)
+    ∷ colour_text (colour_of_place style 0) ∷ colour_text (colour_of_place style 1) ∷ colour_text (colour_of_place style 2) ∷ colour_text (colour_of_place style 3)
     ∷ flag_text style.bold ∷ flag_text style.italic ∷ flag_text style.underline ∷ flag_text style.strikeout
     ∷ milli_text style.scale_x ∷ milli_text style.scale_y ∷ milli_text style.spacing ∷ milli_text style.angle
     ∷ decimal style.border_style ∷ milli_text style.outline ∷ milli_text style.shadow ∷ decimal style.alignment
@@ -71,13 +71,13 @@ abbrev pub event_format_line : List ℕ
 event_format_line = codes "Format: Layer, Start, End, Style, Name, MarginL, MarginR, MarginV, Effect, Text"
 
 -- when an event ends, in milliseconds
-abbrev pub end_of : Event → ℤ
-end_of event = event.start +ℤ event.duration
+abbrev pub event_end : Event → ℤ
+event_end event = event.start +ℤ event.duration
 
 -- the fields of an event in the order of the Format
 abbrev pub event_fields : Event → List (List ℕ)
 event_fields event =
-    signed_decimal event.layer ∷ time_text (unsigned_abs event.start) ∷ time_text (unsigned_abs (end_of event)) ∷ event.style ∷ event.name
+    signed_decimal event.layer ∷ time_text (unsigned_abs event.start) ∷ time_text (unsigned_abs (event_end event)) ∷ event.style ∷ event.name
     ∷ signed_decimal event.margin_l ∷ signed_decimal event.margin_r ∷ signed_decimal event.margin_v ∷ event.effect ∷ event.text ∷ []
 
 abbrev pub dialogue_line : Event → List ℕ

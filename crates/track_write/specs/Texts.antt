@@ -8,7 +8,7 @@ use Rattle.ass_script.specs.Scripts.{ScriptValue}
 use Rattle.ass_script.specs.declared.script.EventField.{EventField}
 use Rattle.ass_script.specs.declared.script.EventField.TheVariants as field
 use Rattle.ass_events.specs.declared.event.Event.{Event}
-use Rattle.track_write.specs.Rows.{end_of, script_bytes}
+use Rattle.track_write.specs.Rows.{event_end, script_bytes}
 use Rattle.track_write.specs.declared.refusal.WriteRefusal.{WriteRefusal}
 use Rattle.track_write.specs.declared.refusal.WriteRefusal.TheVariants.{Unwritable, OutOfMemory}
 
@@ -51,7 +51,7 @@ text_fault event =
 unfoldable pub event_fault : Event → Option EventField
 event_fault event =
     if not (is_hundredths event.start) then Some field.Start
-    else if not (is_written_end (end_of event)) then Some field.End
+    else if not (is_written_end (event_end event)) then Some field.End
     else text_fault event
 
 -- the ReadOrder of the first event that no line can say, and the field

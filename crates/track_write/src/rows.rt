@@ -5,7 +5,7 @@ ghost use Rattle.std.specs.Arc.{arc_value};
 ghost use Rattle.std.specs.List.{flat_map};
 ghost use Rattle.ass_events.specs.Ranges.{IsEvent};
 ghost use Rattle.track_write.specs.Pieces.{piece_text};
-ghost use Rattle.track_write.specs.Rows.{row, ended, end_of, style_line, dialogue_line};
+ghost use Rattle.track_write.specs.Rows.{row, ended, event_end, style_line, dialogue_line};
 
 use crate::pieces::{Piece, put_row};
 use ass_events::Event;
@@ -80,7 +80,7 @@ pub fn put_styles(alloc: Global, text: &mut Vec<u8>, styles: &[Style]) -> Mem<()
 /// When an event ends, in milliseconds.
 fn end_of(event: &Event) -> i64
     requires { IsEvent event.now }
-    ensures { result ≡ end_of event.now }
+    ensures { result ≡ event_end event.now }
 {
     event.start + event.duration
 }

@@ -5,7 +5,7 @@ ghost use Rattle.std.specs.Arc.{arc_value};
 ghost use Rattle.ass_events.specs.Events.{is_time};
 ghost use Rattle.ass_events.specs.Ranges.{IsEvent};
 ghost use Rattle.ass_num.specs.Limits.{IsWithin, max_instant};
-ghost use Rattle.track_write.specs.Shifts.{moved, moved_start, moved_event, moved_events, shifted};
+ghost use Rattle.track_write.specs.Shifts.{later_event, moved_start, shifted_event, moved_events, shifted};
 ghost use Rattle.track_write.specs.Texts.{IsWriteAnswer};
 
 use crate::refusal::WriteRefusal;
@@ -78,8 +78,8 @@ fn put_moved(
 ) -> Result<(), WriteRefusal>
     requires event { IsEvent event.now }
     requires within { IsWithin max_instant by }
-    ensures answer { IsWriteAnswer (λ done. moved by event.now) result (moved_event by event.now) }
-    ensures put { OnOk result (map arc_value all.new.items ≡ map arc_value all.old.items ++ moved by event.now ∷ []) }
+    ensures answer { IsWriteAnswer (λ done. later_event by event.now) result (shifted_event by event.now) }
+    ensures put { OnOk result (map arc_value all.new.items ≡ map arc_value all.old.items ++ later_event by event.now ∷ []) }
 {
     match moved_start(event, by) {
         Some(start) => Ok(put_started(alloc, all, event, start)?),
@@ -95,8 +95,8 @@ fn moved_events(
 ) -> Result<Vec<Arc<Event>>, WriteRefusal>
     requires events { All IsEvent (map arc_value events.now) }
     requires within { IsWithin max_instant by }
-    ensures answer { IsWriteAnswer (λ moved. map arc_value moved.items) result (moved_events by (map arc_value events.now)) }
-    ensures events { IfOk result (λ moved. All IsEvent (map arc_value moved.items)) }
+    ensures answer { IsWriteAnswer (λ made. map arc_value made.items) result (moved_events by (map arc_value events.now)) }
+    ensures events { IfOk result (λ made. All IsEvent (map arc_value made.items)) }
 {
     let mut all = Vec::new(alloc);
     for event in events {
@@ -129,8 +129,8 @@ pub fn shifted(
     requires events { All IsEvent (map arc_value events.now) }
     requires later { is_time later ≡ true }
     requires earlier { is_time earlier ≡ true }
-    ensures answer { IsWriteAnswer (λ moved. map arc_value moved.items) result (shifted later earlier (map arc_value events.now)) }
-    ensures events { IfOk result (λ moved. All IsEvent (map arc_value moved.items)) }
+    ensures answer { IsWriteAnswer (λ made. map arc_value made.items) result (shifted later earlier (map arc_value events.now)) }
+    ensures events { IfOk result (λ made. All IsEvent (map arc_value made.items)) }
 {
     moved_events(alloc, events, difference(later, earlier))
 }

@@ -1,20 +1,24 @@
-use Rattle.std.proofs.Common.{ℤ, map, subst, arith}
+use Rattle.std.proofs.Common.{ℤ, map, subst, rules, arith, FitsSigned, w64, to_z-of_z}
 use Rattle.std.specs.Arc.{arc_value}
-use Rattle.std.proofs.Math.Facts.{to_z-of_z}
 use Rattle.std.proofs.lemmas.List.{length-map}
 use Rattle.event_places.specs.Spans.{AreNearSpans}
-use Rattle.event_places.proofs.NearSpans.{near_spans_are, near_spans_few}
+use Rattle.event_places.proofs.NearSpans.{near_spans_are, near_spans_few, starts_from}
 use Rattle.event_places.proofs.near.near_spans.Goals as goal
+
+pub bound_of-bound-requires : goal.bound_of-bound-requires
+bound_of-bound-requires c = rw (c.as_slice.ensures.value, c.in_ok-spans.ensures) (starts_from 0 (map arc_value c.args.events.now) c.requires.events)
 
 pub returns-clause-near : goal.returns-clause-near
 returns-clause-near c =
+    let fits : FitsSigned w64 c.bound_of-bound.result = search rules in
     subst (λ (t : ℤ). AreNearSpans (map arc_value c.args.events.now) t c.in_ok-found.found.items) (to_z-of_z c.ranges.t)
-    (near_spans_are (map arc_value c.args.events.now) _ c.in_ok-spans.spans.items c.sort_spans.new.spans.items c.in_ok-found.found.items c.requires.orders c.in_ok-spans.ensures c.sort_spans.ensures.permutation
-    c.sort_spans.ensures.sorted (rw c.as_slice.ensures.value at c.in_ok-found.ensures))
+    (near_spans_are (map arc_value c.args.events.now) _ c.bound_of-bound.result c.in_ok-spans.spans.items c.in_ok-few.few.items c.sort_spans.new.spans.items c.in_ok-found.found.items c.requires.orders
+    c.in_ok-spans.ensures (rw c.as_slice.ensures.value at c.bound_of-bound.ensures) (rw (c.as_slice-2.ensures.value, to_z-of_z fits) at c.in_ok-few.ensures) c.sort_spans.ensures.permutation
+    c.sort_spans.ensures.sorted (rw c.as_slice-3.ensures.value at c.in_ok-found.ensures))
 
 pub returns-clause-count : goal.returns-clause-count
 returns-clause-count c =
     let few =
-    near_spans_few (map arc_value c.args.events.now) _ c.in_ok-spans.spans.items c.sort_spans.new.spans.items c.in_ok-found.found.items c.in_ok-spans.ensures c.sort_spans.ensures.permutation
-    (rw c.as_slice.ensures.value at c.in_ok-found.ensures) in
+    near_spans_few (map arc_value c.args.events.now) _ _ c.in_ok-spans.spans.items c.in_ok-few.few.items c.sort_spans.new.spans.items c.in_ok-found.found.items c.in_ok-spans.ensures
+    (rw c.as_slice-2.ensures.value at c.in_ok-few.ensures) c.sort_spans.ensures.permutation (rw c.as_slice-3.ensures.value at c.in_ok-found.ensures) in
     omega (arith, few, length-map c.args.events.now arc_value)

@@ -1,4 +1,4 @@
-use Rattle.std.proofs.Common.{◌≡◌, ◌<◌, ◌≤◌, refl, ℕ, length, map, get_or, subst, sym, to_z-of_z, arith}
+use Rattle.std.proofs.Common.{◌<◌, refl, ℕ, length, map, get_or, subst, sym, to_z-of_z, arith}
 use Rattle.std.specs.List.{All}
 use Rattle.std.proofs.lemmas.List.{length-map}
 use Rattle.std.proofs.lemmas.List.Elements.{All-nil}

@@ -1,21 +1,17 @@
-use Rattle.std.proofs.Common.{Some, sym, ap, ◌∙◌}
+use Rattle.std.proofs.Common.{◌≤◌, length, sym, ap, subst, arith}
 use Rattle.std.specs.Map.{lookup}
-use Rattle.evict_core.specs.Asked.{ready_value}
-use Rattle.evict_core.specs.Places.{stored_status}
-use Rattle.evict_core.proofs.AskLemmas.{hit-ready, crowded-ready}
+use Rattle.evict_core.specs.Machine.{max_pins, pins_in, one_pin_more}
+use Rattle.evict_core.proofs.SumLemmas.{length-to_front}
+use Rattle.evict_core.proofs.LookLemmas.{full-crowds}
 use Rattle.evict_core.proofs.entries.Entries.ask.Goals as goal
 
-pub pin-requires : goal.pin-requires
-pin-requires g c =
-    let is = ap (λ s. lookup (g.K.PartialEq.eq c.args.key.now) s.entries) (sym c.self.view_is) ∙ (sym c.in-Some-Made.ensures ∙ ap (λ x. Some (stored_status x)) c.in-Some-Made.field-0-is) in
-    hit-ready g.K.PartialEq.eq c.args.self.now c.args.key.now _ _ _ is c.if-pins-lt4294967295.true
+pub invariant_of-self : goal.invariant_of-self
+invariant_of-self g c =
+    (omega (arith, ap length c.in-Pinned.ensures.list, length-to_front (g.K.PartialEq.eq c.args.key.now) one_pin_more c.self.inside.list, c.self.invariant.0), c.self.invariant.1)
 
-pub returns-then-pins-lt4294967295 : goal.returns-then-pins-lt4294967295
-returns-then-pins-lt4294967295 g c =
-    let is = ap (λ s. lookup (g.K.PartialEq.eq c.args.key.now) s.entries) (sym c.self.view_is) ∙ (sym c.in-Some-Made.ensures ∙ ap (λ x. Some (stored_status x)) c.in-Some-Made.field-0-is) in
-    (hit-ready g.K.PartialEq.eq c.args.self.now c.args.key.now _ _ _ is c.if-pins-lt4294967295.true, ap ready_value is ∙ ap Some (sym c.in-Ok.ensures), c.pin.ensures)
-
-pub returns-else-pins-lt4294967295 : goal.returns-else-pins-lt4294967295
-returns-else-pins-lt4294967295 g c =
-    let is = ap (λ s. lookup (g.K.PartialEq.eq c.args.key.now) s.entries) (sym c.self.view_is) ∙ (sym c.in-Some-Made.ensures ∙ ap (λ x. Some (stored_status x)) c.in-Some-Made.field-0-is) in
-    (crowded-ready g.K.PartialEq.eq c.args.self.now c.args.key.now _ _ _ is c.if-pins-lt4294967295.false, c.refuse.ensures c.args.key.now)
+pub returns-in-Full : goal.returns-in-Full
+returns-in-Full g c =
+    let is = ap (λ s. lookup (g.K.PartialEq.eq c.args.key.now) s.entries) c.self.view_is in (
+      full-crowds c.args.self.now _ (subst (λ o. max_pins ≤ pins_in o) is c.in-Full.ensures.look),
+      λ number. rw (← c.self.view_is) (rw c.in-Full.ensures.list at (c.refuse.ensures c.args.key.now number)),
+    )
