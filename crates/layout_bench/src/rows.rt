@@ -9,11 +9,10 @@ ghost use Rattle.text_layout.specs.Fonts.{IsLayoutFontSet};
 use crate::inputs::{event_of, fonts_of, script_of, view_of};
 use crate::unreadable;
 use ass_events::Event;
-use ass_num::{Items, Size};
+use ass_num::Size;
 use ass_script::Script;
 use bdf_font::FontSet;
 use override_tags::EventView;
-use picture_plan::add_moved_event;
 use std::alloc::Global;
 use std::io;
 use text_layout::{Laid, Line, Placed, anchor, block_corner, clip_matrix, layout};
@@ -175,26 +174,11 @@ fn show_clip(rt: &HostRuntime, scale: u32) -> io::Result<()> {
     show_numbers(rt, "clip", &[i64::from(scale), m.ux, m.uy])
 }
 
-/// Prints how many draws the first row's event has.
-fn show_draws(rt: &HostRuntime) -> io::Result<()> {
-    let alloc = rt.alloc();
-    let script = script_of(alloc, DOT_HEAD, "0,0,0,,x")?;
-    let event = event_of(alloc, &script)?;
-    let fonts = fonts_of(alloc, SMALL_FONT, DOT_FONT)?;
-    let size = Size { w: 4, h: 3 };
-    let mut draws = Items::new(alloc);
-    match add_moved_event(alloc, &script, &fonts, &event, 0, &size, 0, &mut draws) {
-        Ok(()) => println!(rt; "draws {}", draws.as_slice().len()),
-        Err(_) => Err(unreadable()),
-    }
-}
-
 /// Prints all rows.
 pub fn show_all(rt: &HostRuntime) -> io::Result<()> {
     show(rt, DOT_HEAD, "0,0,0,,x", &Size { w: 4, h: 3 })?;
     show_tails(rt)?;
     show_aligned(rt)?;
     show_clip(rt, 1)?;
-    show_clip(rt, 4)?;
-    show_draws(rt)
+    show_clip(rt, 4)
 }
