@@ -313,7 +313,7 @@ pub(crate) fn rows_of(
     requires fonts { IsLayoutFontSet fonts.now.fonts }
     requires view { IsView view.now }
     requires laid { rule.IsDrawnLayout (length view.now.items) laid.now }
-    ensures value { IfOk result (λ rows. rows ≡ rule.rows_of stage.now fonts.now.fonts view.now laid.now) }
+    ensures value { IfOk result (λ rows. rows ≡ rule.draw_rows stage.now fonts.now.fonts view.now laid.now) }
     ensures range { IfOk result (λ rows. All rule.IsDrawnRow rows) }
 {
     let placed = laid.placed.as_slice();
