@@ -1,6 +1,6 @@
 -- Public: the events that matter at an instant, each with how far it is moved to stand clear of the others.
 -- (Advanced SubStation Alpha, "Layer": within a layer, events don't overlap each other.)
-use Rattle.std.specs.Prelude.{◌≡◌, ◌≢◌, ◌↔◌, ℕ, List, Contains, All, IfSome, Some, map, slice_get, ℤ}
+use Rattle.std.specs.Prelude.{◌≡◌, ◌≢◌, ◌↔◌, ℕ, List, Contains, All, IfSome, Some, length, map, slice_get, ℤ}
 use Rattle.ass_num.specs.Limits.{IsWithin}
 use Rattle.ass_num.specs.declared.size.Size.{Size}
 use Rattle.ass_events.specs.Histories.{Pairwise}
@@ -9,7 +9,7 @@ use Rattle.ass_events.specs.declared.event.Event.{Event}
 use Rattle.ass_script.specs.Scripts.{ScriptValue}
 use Rattle.bdf_font.specs.Fonts.{FontValue}
 use Rattle.tag_state.specs.Views.{IsViewOf}
-use Rattle.text_layout.specs.Layouts.{IsLaid}
+use Rattle.text_layout.specs.Layouts.{IsLaid, IsWithinBlock}
 use Rattle.event_places.specs.Limits.{max_shift}
 use Rattle.event_places.specs.Shifts.{IsMovedBy}
 use Rattle.event_places.specs.declared.own.OwnLayout.{OwnLayout}
@@ -19,6 +19,7 @@ use Rattle.event_places.specs.declared.placed.PlacedEvent.{PlacedEvent}
 pub record IsOwnLayout (script : ScriptValue) (fonts : List FontValue) (size : Size) (event : Event) (own : OwnLayout) : Type 0 where
   pub shows : IsViewOf script event event.start own.view
   pub laid_out : IsLaid script fonts event own.view size own.laid
+  pub within : IsWithinBlock (length own.view.items) own.laid
 
 -- The event at its place among the events is moved so far among all of them, and its own layout is right where there is one.
 pub record IsPlacedEvent (script : ScriptValue) (fonts : List FontValue) (size : Size) (events : List Event) (placed : PlacedEvent) : Type 0 where

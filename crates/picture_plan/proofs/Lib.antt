@@ -19,3 +19,4 @@ pub mod ShownLemmas
 pub mod PlacedLemmas
 pub mod PlanLemmas
 pub mod StepLemmas
+pub mod AlikeLemmas

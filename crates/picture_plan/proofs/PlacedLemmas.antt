@@ -1,5 +1,7 @@
 -- The places of the events that matter: each is a place of the list, no two are one, and each event that matters has one.
 use Rattle.std.proofs.Common.{◌≡◌, ◌≢◌, sym, subst, ◌∙◌, ℕ, ◌<◌, List, length, get_or, ℤ, arith}
+use Rattle.std.specs.Prelude.{IfSome}
+use Rattle.std.specs.List.{All}
 use Rattle.std.proofs.lemmas.List.{get_or-map, length-map}
 use Rattle.std.proofs.lemmas.Option.{get_or_from_slice_get, slice_get-get_or, slice_get_within}
 use Rattle.ass_num.specs.declared.size.Size.{Size}
@@ -7,10 +9,10 @@ use Rattle.ass_events.specs.NearEvents.{IsNear, span_of}
 use Rattle.ass_events.specs.declared.event.Event.{Event}
 use Rattle.ass_script.specs.Scripts.{ScriptValue}
 use Rattle.bdf_font.specs.Fonts.{FontValue}
-use Rattle.event_places.specs.PlacedEvents.{ArePlacedEvents, placed_places}
+use Rattle.event_places.specs.PlacedEvents.{ArePlacedEvents, IsOwnLayout, placed_places}
 use Rattle.event_places.specs.Shifts.{IsMovedBy}
 use Rattle.event_places.specs.declared.placed.PlacedEvent.{PlacedEvent}
-use Rattle.picture_plan.specs.ShownEvents.{ArePlaces, event_placed_at, no_event, no_placed}
+use Rattle.picture_plan.specs.ShownEvents.{ArePlaces, event_placed_at, no_event, no_placed, placed_event}
 use Rattle.picture_plan.proofs.ShownLemmas.{at_pairwise}
 
 abbrev place_in : PlacedEvent → ℕ
@@ -43,3 +45,11 @@ placed_moved {script} {fonts} {size} events placed k h within =
     let p = h.each k no_placed within in
     subst (λ (e : Event). IsMovedBy script fonts size events e (get_or placed k no_placed).down)
     (sym (get_or_from_slice_get events (get_or placed k no_placed).place p.event no_event p.stands)) p.moved
+
+-- the own layout of a placed event is right for the event of its place
+pub placed_own : {script : ScriptValue} {fonts : List FontValue} {size : Size} {t : ℤ} (events : List Event) (placed : List PlacedEvent)
+    → ArePlacedEvents script fonts size events t placed → All (λ (p : PlacedEvent). IfSome p.own (IsOwnLayout script fonts size (placed_event events p))) placed
+placed_own {script} {fonts} {size} events placed h = λ k d within.
+    let p = h.each k d within in
+    subst (λ (e : Event). IfSome (get_or placed k d).own (IsOwnLayout script fonts size e)) (sym (get_or_from_slice_get events (get_or placed k d).place p.event no_event p.stands))
+    p.own

@@ -8,3 +8,4 @@ pub mod Draws
 pub mod EventDraws
 pub mod Pictures
 pub mod ShownEvents
+pub mod Alike

@@ -1,6 +1,7 @@
 //! The draws of a picture: the events shown at an instant, each laid out, placed clear of those before it, and cut into masks.
 #![tactic(auto)]
 
+mod alike;
 mod clip;
 mod draws;
 mod event;

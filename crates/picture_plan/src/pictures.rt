@@ -1,6 +1,6 @@
 //! The draws of a picture.
 
-ghost use Rattle.std.specs.Prelude.{◌≡◌, ◌≤◌, ◌<◌, List, length, map, slice_index_or, All, IfOk, OnOk};
+ghost use Rattle.std.specs.Prelude.{◌≡◌, ◌≤◌, ◌<◌, List, length, map, slice_index_or, All, IfOk, IfSome, OnOk};
 ghost use Rattle.std.specs.Arc.{arc_value};
 ghost use Rattle.ass_num.specs.Limits.{IsFrameSize, IsWithin, max_instant, max_text_bytes};
 ghost use Rattle.ass_events.specs.Histories.{HaveOwnOrders, max_live};
@@ -8,15 +8,15 @@ ghost use Rattle.ass_events.specs.Ranges.{IsEvent};
 ghost use Rattle.ass_events.specs.declared.event.Event.{Event};
 ghost use Rattle.ass_script.specs.Ranges.{IsScript};
 ghost use Rattle.event_places.specs.Limits.{max_shift};
-ghost use Rattle.event_places.specs.PlacedEvents.{ArePlacedEvents};
+ghost use Rattle.event_places.specs.PlacedEvents.{ArePlacedEvents, IsOwnLayout};
 ghost use Rattle.mask_keys.specs.Keys.{IsValidPlan};
 ghost use Rattle.mask_model.specs.Outlines.{glyph_counts};
 ghost use Rattle.text_layout.specs.Fonts.{IsLayoutFontSet};
 ghost use Rattle.picture_plan.specs.Pictures.{AddsMovedDraws, AreDraws};
 ghost use Rattle.event_places.specs.declared.placed.PlacedEvent.{PlacedEvent};
-ghost use Rattle.picture_plan.specs.ShownEvents.{event_shown, no_placed};
+ghost use Rattle.picture_plan.specs.ShownEvents.{event_shown, no_placed, placed_event};
 
-use crate::event::add_moved_event;
+use crate::event::add_placed_event;
 use crate::shown::{ShownEvent, event_of, shown_events};
 use ass_events::Event;
 use ass_num::{Items, Mem, Size};
@@ -45,6 +45,7 @@ fn add_shown_event(
     requires texts { All (λ (e : Event). length e.text ≤ max_text_bytes) (map arc_value events.now) }
     requires places { All (λ (p : PlacedEvent). p.place < length events.now) placed.now }
     requires shifts { All (λ (p : PlacedEvent). IsWithin max_shift p.down) placed.now }
+    requires own { All (λ (p : PlacedEvent). IfSome p.own (IsOwnLayout script.now fonts.now.fonts size.now (placed_event (map arc_value events.now) p))) placed.now }
     requires place { shown.now.place < length placed.now }
     requires instant { IsWithin max_instant t }
     requires size { IsFrameSize size.now }
@@ -53,7 +54,7 @@ fn add_shown_event(
 {
     let one = &placed[shown.place];
     let event = event_of(events, one);
-    add_moved_event(alloc, script, fonts, event, t, size, one.down, draws)
+    add_placed_event(alloc, script, fonts, event, one, t, size, draws)
 }
 
 /// The draws of those of the placed events that are shown at t, by layer, then ReadOrder.

@@ -1,13 +1,26 @@
-use Rattle.std.proofs.Common.{◌≡◌, ◌∙◌, map, get_or, subst, FitsSigned, w64, to_z-of_z, rules, arith}
+use Rattle.std.proofs.Common.{◌≡◌, ◌∙◌, sym, map, get_or, subst, to_z-of_z, rules, arith}
+use Rattle.std.specs.Prelude.{IfSome}
 use Rattle.std.proofs.lemmas.Grind.{common_steps}
 use Rattle.std.proofs.lemmas.List.{get_or_default}
 use Rattle.std.proofs.lemmas.Result.{on_ok_weaker}
 use Rattle.std.specs.Arc.{arc_value}
 use Rattle.ass_events.specs.declared.event.Event.{Event}
+use Rattle.event_places.specs.PlacedEvents.{IsOwnLayout}
 use Rattle.event_places.specs.declared.placed.PlacedEvent.{PlacedEvent}
 use Rattle.picture_plan.specs.Pictures.{AddsMovedDraws}
-use Rattle.picture_plan.specs.ShownEvents.{event_shown, no_placed}
+use Rattle.picture_plan.specs.ShownEvents.{event_shown, no_placed, placed_event}
 use Rattle.picture_plan.proofs.pictures.add_shown_event.Goals as goal
+
+pub add_placed_event-requires-clause-own : goal.add_placed_event-requires-clause-own
+add_placed_event-requires-clause-own c =
+    let events = map arc_value c.args.events.now in
+    let place = c.args.shown.now.place in
+    let one = c.index-placed-shown.result in
+    let here : one ≡ get_or c.args.placed.now place no_placed = c.index-placed-shown.is ∙ get_or_default c.args.placed.now place one no_placed c.requires.place in
+    let at : c.event_of-event.result.now ≡ event_shown events c.args.placed.now c.args.shown.now = first_of (search rules, grind (arith, common_steps)) in
+    subst (λ (e : Event). IfSome one.own (IsOwnLayout c.args.script.now c.args.fonts.now.fonts c.args.size.now e)) (sym at)
+    (subst (λ (p : PlacedEvent). IfSome p.own (IsOwnLayout c.args.script.now c.args.fonts.now.fonts c.args.size.now (placed_event events (get_or c.args.placed.now place no_placed)))) (sym here)
+    (c.requires.own place no_placed c.requires.place))
 
 pub returns-clause-draws : goal.returns-clause-draws
 returns-clause-draws c =
@@ -16,10 +29,9 @@ returns-clause-draws c =
     let one = c.index-placed-shown.result in
     let here : one ≡ get_or c.args.placed.now place no_placed = c.index-placed-shown.is ∙ get_or_default c.args.placed.now place one no_placed c.requires.place in
     let at : c.event_of-event.result.now ≡ event = first_of (search rules, grind (arith, common_steps)) in
-    let fits : FitsSigned w64 one.down = search rules in
-    on_ok_weaker c.add_moved_event.result
+    on_ok_weaker c.add_placed_event.result
     (λ h.
-    subst (λ (p : PlacedEvent). AddsMovedDraws c.args.script.now c.args.fonts.now.fonts event c.args.t c.args.size.now p.down c.args.draws.now c.add_moved_event.new.draws) here
-    (subst (λ (e : Event). AddsMovedDraws c.args.script.now c.args.fonts.now.fonts e c.args.t c.args.size.now one.down c.args.draws.now c.add_moved_event.new.draws) at
-    (rw (to_z-of_z c.ranges.t, to_z-of_z fits) at h)))
-    c.add_moved_event.ensures.draws
+    subst (λ (p : PlacedEvent). AddsMovedDraws c.args.script.now c.args.fonts.now.fonts event c.args.t c.args.size.now p.down c.args.draws.now c.add_placed_event.new.draws) here
+    (subst (λ (e : Event). AddsMovedDraws c.args.script.now c.args.fonts.now.fonts e c.args.t c.args.size.now one.down c.args.draws.now c.add_placed_event.new.draws) at
+    (rw (to_z-of_z c.ranges.t) at h)))
+    c.add_placed_event.ensures.draws

@@ -1,22 +1,22 @@
-use Rattle.std.proofs.Common.{◌≡◌, ap, to_z-of_z, rules, arith}
+use Rattle.std.proofs.Common.{◌≡◌, ap, rules, arith}
 use Rattle.std.proofs.lemmas.Grind.{common_steps}
 use Rattle.std.proofs.lemmas.Result.{on_ok_weaker}
 use Rattle.picture_plan.specs.EventDraws.{event_draws}
 use Rattle.picture_plan.specs.Stages.{stage_at}
 use Rattle.picture_plan.specs.declared.stage.Stage.{Stage}
 use Rattle.picture_plan.proofs.LayoutLemmas.{drawn_layout}
-use Rattle.picture_plan.proofs.event.add_moved_event.Goals as goal
+use Rattle.picture_plan.proofs.event.add_laid_event.Goals as goal
 
 pub add_event_draws-requires-clause-laid : goal.add_event_draws-requires-clause-laid
 add_event_draws-requires-clause-laid c =
-    drawn_layout c.args.script.now c.args.fonts.now.fonts c.args.event.now c.in_ok-view.view c.args.size.now c.in_ok-laid.laid c.in_ok-view.ensures.range.wrap
-    c.in_ok-laid.ensures.laid c.in_ok-laid.ensures.within
+    drawn_layout c.args.script.now c.args.fonts.now.fonts c.args.event.now c.args.view.now c.args.size.now c.args.laid.now c.requires.view.wrap c.requires.laid_out
+    c.requires.within
 
 pub returns-clause-draws : goal.returns-clause-draws
 returns-clause-draws c =
     let fonts = c.args.fonts.now.fonts in
-    let view = c.in_ok-view.view in
-    let laid = c.in_ok-laid.laid in
+    let view = c.args.view.now in
+    let laid = c.args.laid.now in
     let stands : c.of-stage.result ≡ stage_at c.args.script.now c.args.event.now c.args.t c.args.size.now view laid c.args.shift = first_of (search rules, grind (arith, common_steps)) in
     on_ok_weaker c.add_event_draws.result
     (λ e. record {
@@ -25,9 +25,9 @@ returns-clause-draws c =
       drawn =
           record {
             view = view;
-            shows = rw (to_z-of_z c.ranges.t) at c.in_ok-view.ensures.view;
+            shows = c.requires.shows;
             laid = laid;
-            laid_out = c.in_ok-laid.ensures.laid;
+            laid_out = c.requires.laid_out;
             value = ap (λ (stage : Stage). event_draws stage fonts view laid) stands;
           };
     })
