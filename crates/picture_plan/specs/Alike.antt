@@ -1,4 +1,4 @@
--- Public: views that are laid out alike: layout looks at nothing else of a view.
+-- Inner: views that are laid out alike: layout looks at nothing else of a view.
 use Rattle.std.specs.Prelude.{◌≡◌}
 use Rattle.override_tags.specs.declared.view.EventView.{EventView}
 
