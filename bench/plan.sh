@@ -35,6 +35,7 @@ plan 'The quick brown fox jumps over the lazy dog and then it sits' 1 0 20000
 plan '{\an5\pos(400,300)\fad(200,200)\blur3}A sign by the road' 200 0 200
 plan 'One line of many' 50 0 500
 plan 'One line of many' 1000 0 20
-plan 'One line of many' 100000 200 8
+plan 'One line of many' 5000 200 20
+plan 'One line of many' 100000 1001 20
 
 printf '\nload after: %s\n' "$(cut -d ' ' -f 1-3 /proc/loadavg)"
