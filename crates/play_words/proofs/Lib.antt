@@ -2,3 +2,4 @@ pub mod ValueLemmas
 pub mod GrammarLemmas
 pub mod AskedLemmas
 pub mod WordsLemmas
+pub mod FirstWordLemmas

@@ -112,7 +112,7 @@ taken_enters words e =
     let four = last_of (defaults_fault (settled a.top.rules w.held).rows a.top.rules) _ three in
     wanted (finished a.top.rules w.held) (is_some (entered a stop)) four
 
-none_is_empty : (kinds : Kinds) → is_empty kinds ≡ true → kinds ≡ []
+pub none_is_empty : (kinds : Kinds) → is_empty kinds ≡ true → kinds ≡ []
 none_is_empty [] e = refl
 none_is_empty (k ∷ ks) e = absurd (omega (arith, eqb-true _ _ e))
 

@@ -1,5 +1,5 @@
 -- Public: the job that the words of a run ask for, or why they are refused (docs/PROGRAM.md).
-use Rattle.std.specs.Prelude.{◌≡◌, ◌↔◌, ℕ, false, List, map, Option, Some, None, Result, Ok, Err, find, if◌then◌else◌, string_bytes}
+use Rattle.std.specs.Prelude.{◌≡◌, ◌↔◌, ℕ, false, List, map, Option, Some, None, Result, Ok, Err, IfOk, find, if◌then◌else◌, slice_get, string_bytes}
 use Rattle.std.specs.Global.{Global}
 use Rattle.std.specs.Str.{bytes_eq}
 use Rattle.std.specs.declared.string.String.{String}
@@ -9,7 +9,9 @@ use Rattle.play_words.specs.Asked.{command_reading}
 use Rattle.play_words.specs.Commands.{command_name, commands}
 use Rattle.play_words.specs.Grammar.{is_taken, words_app}
 use Rattle.play_words.specs.declared.command.Command.{Command}
+use Rattle.play_words.specs.declared.command.Command.TheVariants as command
 use Rattle.play_words.specs.declared.job.Job.{Job}
+use Rattle.play_words.specs.declared.job.Job.TheVariants.{Check, Frame, Play, Selftest, Changes, Write}
 use Rattle.play_words.specs.declared.job.WordsFault.{WordsFault}
 use Rattle.play_words.specs.declared.job.WordsFault.TheVariants.{Usage}
 use Rattle.play_words.specs.declared.job.WordsRefusal.{WordsRefusal}
@@ -45,3 +47,16 @@ IsReading reading (Err OutOfMemory) = Unit {0}
 -- Words are refused as `Usage` exactly where `clap` refuses them.
 abbrev pub UsageIsOfGrammar : Type 0
 UsageIsOfGrammar = (words : List (List ℕ)) → (job_of words ≡ Err Usage) ↔ (is_taken words ≡ false)
+
+-- the command that asks for the job
+abbrev pub command_of : Job → Command
+command_of (Check script fonts) = command.Check
+command_of (Frame at size budget script fonts) = command.Frame
+command_of (Play play script fonts) = command.Play
+command_of (Selftest seed events workers) = command.Selftest
+command_of (Changes from to step size budget script fonts) = command.Changes
+command_of (Write later earlier script) = command.Write
+
+-- Words that ask for a job begin with the word that names its command.
+abbrev pub FirstWordIsCommand : Type 0
+FirstWordIsCommand = (words : List (List ℕ)) → IfOk (job_of words) (λ job. slice_get words 0 ≡ Some (command_name (command_of job)))

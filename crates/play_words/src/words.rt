@@ -4,7 +4,7 @@ ghost use Rattle.std.specs.Prelude.{◌≡◌, IfOk, map};
 ghost use Rattle.clap.specs.Words.{found_of, rows_of, subcommand_rows_of};
 ghost use Rattle.play_words.specs.Asked.{command_reading};
 ghost use Rattle.play_words.specs.Jobs.{IsJob};
-ghost use Rattle.play_words.specs.Words.{IsReading, UsageIsOfGrammar, job_in, job_of, texts};
+ghost use Rattle.play_words.specs.Words.{FirstWordIsCommand, IsReading, UsageIsOfGrammar, job_in, job_of, texts};
 
 use crate::asked::{first_bad, job_for};
 use crate::command::{Command, command_named};
@@ -57,4 +57,9 @@ pub fn read_words(alloc: Global, words: &[String]) -> Result<Job, WordsRefusal>
 /// Words are refused as `Usage` exactly where `clap` refuses them: no job and no value is refused so.
 pub fn usage_is_of_grammar()
     ensures { UsageIsOfGrammar }
+{}
+
+/// Words that ask for a job begin with the word that names its command.
+pub fn first_word_is_command()
+    ensures { FirstWordIsCommand }
 {}
