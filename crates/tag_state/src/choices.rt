@@ -1,6 +1,6 @@
 //! What the tags of a text say of the whole event.
 
-ghost use Rattle.std.specs.Prelude.{◌≡◌, ◌≤◌, ℤ, pos, true, false, [], ◌∷◌, ◌++◌, List, map, reverse, unwrap_or, All, IfSome};
+ghost use Rattle.std.specs.Prelude.{◌≡◌, ◌≤◌, pos, true, false, [], ◌∷◌, ◌++◌, List, map, reverse, unwrap_or, All, IfSome};
 ghost use Rattle.std.specs.Int.RustNames.{unsigned_abs};
 ghost use Rattle.std.specs.Option.{option_map, option_or};
 ghost use Rattle.ass_num.specs.Limits.{one_16};
