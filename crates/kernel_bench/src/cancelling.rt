@@ -6,6 +6,7 @@ ghost use Rattle.ass_num.specs.Limits.{IsOutline};
 use crate::glyph::{add_dot, measure_region};
 use crate::laps::Laps;
 use crate::stop::Stop;
+use crate::telling::{show_numbers, tell};
 use ass_num::{FlatLists, Mem, Outline, Point};
 use cancelled_edges::cancelled;
 use std::alloc::Global;
@@ -61,9 +62,7 @@ fn measure_cancelled(
         laps.add(began.elapsed(rt)?);
         left = edge_count(&boundary);
     }
-    let edges = edge_count(outline);
-    println!(rt; "cancel, {name}: {left} of {edges} edges left, {laps}")?;
-    Ok(())
+    tell(rt, "cancel", name, left, "edges left", &laps)
 }
 
 /// Times the region of a chessboard, of all its edges and of those that are left.
@@ -77,10 +76,8 @@ fn measure_regions(
     let alloc = rt.alloc();
     let outline = chessboard(alloc, pixels, block, zoom)?;
     let boundary = cancelled(alloc, &outline)?;
-    let before = format!(in alloc; "zoom {zoom}, all edges")?;
-    measure_region(rt, before.as_str(), &outline, turns)?;
-    let after = format!(in alloc; "zoom {zoom}, edges left")?;
-    measure_region(rt, after.as_str(), &boundary, turns)
+    measure_region(rt, "all edges", &outline, turns)?;
+    measure_region(rt, "edges left", &boundary, turns)
 }
 
 fn measure_chessboard(
@@ -112,9 +109,11 @@ pub fn show(rt: &HostRuntime) -> Result<(), Stop> {
     let alloc = rt.alloc();
     for block in [5, 2, 1] {
         let outline = chessboard(alloc, 20, block, 1)?;
-        let left = edge_count(&cancelled(alloc, &outline)?);
-        let edges = edge_count(&outline);
-        println!(rt; "20 pixels, fields of {block} by {block}: {left} of {edges} edges left")?;
+        let counts = [
+            edge_count(&outline),
+            edge_count(&cancelled(alloc, &outline)?),
+        ];
+        show_numbers(rt, "edges of 20 pixels, and those left", &counts)?;
     }
     Ok(())
 }

@@ -9,6 +9,7 @@ use crate::border::region;
 use crate::glyph::leanings;
 use crate::laps::Laps;
 use crate::stop::Stop;
+use crate::telling::{show_numbers, tell};
 use ass_num::Mask;
 use mask_cover::{cover, sum_of};
 use std::alloc::Global;
@@ -26,7 +27,7 @@ pub fn measure_cover(rt: &HostRuntime, pixels: u32, turns: u32) -> Result<(), St
             laps.add(began.elapsed(rt)?);
             count = mask.bytes().len();
         }
-        println!(rt; "cover, {name}: {count} pixels, {laps}")?;
+        tell(rt, "cover", name, count, "pixels", &laps)?;
     }
     Ok(())
 }
@@ -76,8 +77,7 @@ pub fn measure_sum(rt: &HostRuntime, side: u32, turns: u32) -> Result<(), Stop> 
         laps.add(began.elapsed(rt)?);
         count = sum.bytes().len();
     }
-    println!(rt; "sum of ten squares: {count} pixels, {laps}")?;
-    Ok(())
+    tell(rt, "sum", "ten squares", count, "pixels", &laps)
 }
 
 /// Prints the box of a glyph's mask, and that of a sum of squares.
@@ -85,8 +85,6 @@ pub fn show(rt: &HostRuntime) -> Result<(), Stop> {
     let alloc = rt.alloc();
     let mask = cover(alloc, &region(alloc, 32, 5)?, 3, 5)?;
     let sum = sum_of(alloc, squares(alloc, 4)?.as_slice())?;
-    let (w, h) = (mask.w(), mask.h());
-    let (sum_w, sum_h) = (sum.w(), sum.h());
-    println!(rt; "masks: {w} by {h}, a sum of {sum_w} by {sum_h}")?;
-    Ok(())
+    show_numbers(rt, "mask", &[mask.w() as usize, mask.h() as usize])?;
+    show_numbers(rt, "sum of masks", &[sum.w() as usize, sum.h() as usize])
 }
