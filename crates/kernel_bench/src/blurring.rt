@@ -84,11 +84,20 @@ pub fn measure(rt: &HostRuntime, side: u32, turns: u32) -> Result<(), Stop> {
     measure_radius(rt, "radius 100", side, 100, turns)
 }
 
+fn show_softened(rt: &HostRuntime) -> Result<(), Stop> {
+    let mask = square(rt.alloc(), 1, 0)?;
+    let softened = soften(rt.alloc(), &mask, 1)?;
+    show_bytes(rt, "softened once", softened.bytes())
+}
+
+fn show_blurred(rt: &HostRuntime) -> Result<(), Stop> {
+    let mask = square(rt.alloc(), 2, 85)?;
+    let blurred = box_blur(rt.alloc(), &mask, 1)?;
+    show_bytes(rt, "blurred by 1", blurred.bytes())
+}
+
 /// Prints a pixel softened once, and four pixels blurred with the radius 1.
 pub fn show(rt: &HostRuntime) -> Result<(), Stop> {
-    let alloc = rt.alloc();
-    let softened = soften(alloc, &square(alloc, 1, 0)?, 1)?;
-    show_bytes(rt, "softened once", softened.bytes())?;
-    let blurred = box_blur(alloc, &square(alloc, 2, 85)?, 1)?;
-    show_bytes(rt, "blurred by 1", blurred.bytes())
+    show_softened(rt)?;
+    show_blurred(rt)
 }

@@ -56,13 +56,15 @@ pub fn measure(rt: &HostRuntime, pixels: u32, turns: u32) -> Result<(), Stop> {
     Ok(())
 }
 
+fn show_border(rt: &HostRuntime, what: &str, lean: i64) -> Result<(), Stop> {
+    let region = region(rt.alloc(), 32, lean)?;
+    let border = widened(rt.alloc(), &region, 16, 8)?;
+    let counts = [border.rows().len(), border.rows().all_items().len()];
+    show_numbers(rt, what, &counts)
+}
+
 /// Prints how many rows and runs the border of a glyph of 8 pixels has, upright and turned.
 pub fn show(rt: &HostRuntime) -> Result<(), Stop> {
-    let alloc = rt.alloc();
-    for (what, lean) in [("border, upright", 0), ("border, turned", 5)] {
-        let border = widened(alloc, &region(alloc, 32, lean)?, 16, 8)?;
-        let counts = [border.rows().len(), border.rows().all_items().len()];
-        show_numbers(rt, what, &counts)?;
-    }
-    Ok(())
+    show_border(rt, "border, upright", 0)?;
+    show_border(rt, "border, turned", 5)
 }

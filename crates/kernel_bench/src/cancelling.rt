@@ -104,16 +104,17 @@ pub fn measure(rt: &HostRuntime, pixels: u32, turns: u32) -> Result<(), Stop> {
     measure_chessboard(rt, "single pixels", pixels, 1, turns)
 }
 
+fn show_edges(rt: &HostRuntime, block: u16) -> Result<(), Stop> {
+    let outline = chessboard(rt.alloc(), 20, block, 1)?;
+    let boundary = cancelled(rt.alloc(), &outline)?;
+    let counts = [edge_count(&outline), edge_count(&boundary)];
+    show_numbers(rt, "edges of 20 pixels, and those left", &counts)
+}
+
 /// Prints how many edges are left of 20 pixels: a rectangle of 5 by 4, fields of 2 by 2, and single pixels.
 pub fn show(rt: &HostRuntime) -> Result<(), Stop> {
-    let alloc = rt.alloc();
     for block in [5, 2, 1] {
-        let outline = chessboard(alloc, 20, block, 1)?;
-        let counts = [
-            edge_count(&outline),
-            edge_count(&cancelled(alloc, &outline)?),
-        ];
-        show_numbers(rt, "edges of 20 pixels, and those left", &counts)?;
+        show_edges(rt, block)?;
     }
     Ok(())
 }

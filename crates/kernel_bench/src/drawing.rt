@@ -103,13 +103,16 @@ pub fn measure(rt: &HostRuntime, side: u32, turns: u32) -> Result<(), Stop> {
     measure_copy(rt, side, turns)
 }
 
+fn show_draw(rt: &HostRuntime, value: u8, alpha: u8) -> Result<(), Stop> {
+    let mut canvas = Canvas::new(rt.alloc(), &Size { w: 2, h: 2 })?;
+    let mask = square(rt.alloc(), 2, value)?;
+    draw(&mut canvas, &mask, white(alpha));
+    show_bytes(rt, "drawn", canvas.pixels())
+}
+
 /// Prints the pixels of three canvases of 2 by 2, each after one draw.
 pub fn show(rt: &HostRuntime) -> Result<(), Stop> {
-    let alloc = rt.alloc();
-    for (value, alpha) in [(255, 0), (128, 127), (0, 0)] {
-        let mut canvas = Canvas::new(alloc, &Size { w: 2, h: 2 })?;
-        draw(&mut canvas, &square(alloc, 2, value)?, white(alpha));
-        show_bytes(rt, "drawn", canvas.pixels())?;
-    }
-    Ok(())
+    show_draw(rt, 255, 0)?;
+    show_draw(rt, 128, 127)?;
+    show_draw(rt, 0, 0)
 }

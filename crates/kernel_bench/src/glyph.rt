@@ -109,13 +109,15 @@ pub fn measure(rt: &HostRuntime, pixels: u32, turns: u32) -> Result<(), Stop> {
     Ok(())
 }
 
+fn show_region(rt: &HostRuntime, what: &str, lean: i64) -> Result<(), Stop> {
+    let outline = glyph(rt.alloc(), 32, lean)?;
+    let region = region_of(rt.alloc(), &outline)?;
+    let counts = [region.rows().len(), region.rows().all_items().len()];
+    show_numbers(rt, what, &counts)
+}
+
 /// Prints how many rows and runs the region of a glyph of 8 pixels has, upright and turned.
 pub fn show(rt: &HostRuntime) -> Result<(), Stop> {
-    let alloc = rt.alloc();
-    for (what, lean) in [("region, upright", 0), ("region, turned", 5)] {
-        let region = region_of(alloc, &glyph(alloc, 32, lean)?)?;
-        let counts = [region.rows().len(), region.rows().all_items().len()];
-        show_numbers(rt, what, &counts)?;
-    }
-    Ok(())
+    show_region(rt, "region, upright", 0)?;
+    show_region(rt, "region, turned", 5)
 }
