@@ -1,7 +1,7 @@
 //! The layouts of a few events, which `stdin` has, and of which `stdout` has what the rules give.
 
-ghost use Rattle.std.specs.Prelude.{◌≤◌};
-ghost use Rattle.ass_num.specs.Limits.{IsFrameSize, max_frame_side};
+ghost use Rattle.std.specs.Prelude.{◌≤◌, length};
+ghost use Rattle.ass_num.specs.Limits.{IsFrameSize, max_frame_side, max_text_bytes};
 ghost use Rattle.ass_script.specs.Ranges.{IsScript, IsScriptHeader};
 ghost use Rattle.ass_events.specs.Ranges.{IsEvent};
 ghost use Rattle.override_tags.specs.Views.{IsView};
@@ -94,17 +94,46 @@ fn number(word: &str) -> u32
     word.parse::<u32>().unwrap_or(0).min(4_096)
 }
 
+/// Prints the layout of a script's event.
+fn show_of_script(
+    rt: &HostRuntime,
+    script: &Script,
+    fonts: &FontSet,
+    event: &Event,
+    size: &Size,
+) -> io::Result<()>
+    requires script { IsScript script.now }
+    requires fonts { IsLayoutFontSet fonts.now.fonts }
+    requires event { IsEvent event.now }
+    requires few { length event.now.text ≤ max_text_bytes }
+    requires size { IsFrameSize size.now }
+{
+    let view = view_of(rt.alloc(), script, event, 0)?;
+    show_event(rt, script, fonts, event, &view, size)
+}
+
+/// Prints the layout of a script's first line.
+fn show_script(rt: &HostRuntime, script: &Script, fonts: &FontSet, size: &Size) -> io::Result<()>
+    requires script { IsScript script.now }
+    requires fonts { IsLayoutFontSet fonts.now.fonts }
+    requires size { IsFrameSize size.now }
+{
+    let event = event_of(rt.alloc(), script)?;
+    show_of_script(rt, script, fonts, &event, size)
+}
+
+fn show_title(rt: &HostRuntime, tail: &str, size: &Size) -> io::Result<()> {
+    println!(rt; "{tail} at {} by {}", size.w, size.h)
+}
+
 /// Prints the layout of an event that ends so, in a script of this head and a frame of this size.
 fn show(rt: &HostRuntime, fonts: &FontSet, head: &str, tail: &str, size: &Size) -> io::Result<()>
     requires fonts { IsLayoutFontSet fonts.now.fonts }
     requires size { IsFrameSize size.now }
 {
-    let alloc = rt.alloc();
-    println!(rt; "{tail} at {} by {}", size.w, size.h)?;
-    let script = script_of(alloc, head, "10", tail)?;
-    let event = event_of(alloc, &script)?;
-    let view = view_of(alloc, &script, &event, 0)?;
-    show_event(rt, &script, fonts, &event, &view, size)
+    show_title(rt, tail, size)?;
+    let script = script_of(rt.alloc(), head, "10", tail)?;
+    show_script(rt, &script, fonts, size)
 }
 
 /// The matrix of a clip's drawing.
@@ -118,12 +147,28 @@ fn show_clip(rt: &HostRuntime, head: &str, scale: u32) -> io::Result<()> {
     show_numbers(rt, "clip", &[i64::from(scale), m.ux, m.uy])
 }
 
+/// How many items and states an event's view has after half of a second.
+fn view_counts(alloc: Global, script: &Script, event: &Event) -> io::Result<[usize; 2]>
+    requires script { IsScript script.now }
+    requires event { IsEvent event.now }
+    requires few { length event.now.text ≤ max_text_bytes }
+{
+    let view = view_of(alloc, script, event, 500)?;
+    Ok([view.items.as_slice().len(), view.states.as_slice().len()])
+}
+
+/// The same of a script's first line.
+fn counts_of(alloc: Global, script: &Script) -> io::Result<[usize; 2]>
+    requires { IsScript script.now }
+{
+    let event = event_of(alloc, script)?;
+    view_counts(alloc, script, &event)
+}
+
 /// Prints how many items and states the view of a text has at half of its second.
 pub fn show_view(rt: &HostRuntime, tail: &str) -> io::Result<()> {
     let script = script_of(rt.alloc(), "", "01", tail)?;
-    let event = event_of(rt.alloc(), &script)?;
-    let view = view_of(rt.alloc(), &script, &event, 500)?;
-    let (items, states) = (view.items.as_slice().len(), view.states.as_slice().len());
+    let [items, states] = counts_of(rt.alloc(), &script)?;
     println!(rt; "{items} items, {states} states")
 }
 

@@ -1,6 +1,6 @@
 //! How long the view of a text takes, and its layout.
 
-ghost use Rattle.std.specs.Prelude.{◌≤◌, length};
+ghost use Rattle.std.specs.Prelude.{◌≤◌, IfOk, length};
 ghost use Rattle.ass_num.specs.Limits.{max_text_bytes};
 ghost use Rattle.ass_script.specs.Ranges.{IsScript};
 ghost use Rattle.ass_events.specs.Ranges.{IsEvent};
@@ -55,16 +55,23 @@ fn least_view(rt: &HostRuntime, script: &Script, event: &Event, turns: u32) -> i
     Ok(least)
 }
 
+/// The same of a script's first line.
+fn least_view_of(rt: &HostRuntime, script: &Script, turns: u32) -> io::Result<u128>
+    requires { IsScript script.now }
+{
+    let event = event_of(rt.alloc(), script)?;
+    least_view(rt, script, &event, turns)
+}
+
 /// Prints how many items and states the view of a text has, and the least time of so many views.
 pub fn measure_views(rt: &HostRuntime, text: &str, turns: u32) -> io::Result<()> {
     show_view(rt, text)?;
-    if turns > 0 {
-        let script = script_of(rt.alloc(), "", "01", text)?;
-        let event = event_of(rt.alloc(), &script)?;
-        let least = least_view(rt, &script, &event, turns)?;
-        println!(rt; "{least} ns")?;
+    if turns == 0 {
+        return Ok(());
     }
-    Ok(())
+    let script = script_of(rt.alloc(), "", "01", text)?;
+    let least = least_view_of(rt, &script, turns)?;
+    println!(rt; "{least} ns")
 }
 
 /// How many lines the layout has, and the nanoseconds of the shortest of so many.
@@ -93,15 +100,49 @@ fn least_layout(
     Ok((lines, least))
 }
 
+/// The same of an event.
+fn least_layout_at(
+    rt: &HostRuntime,
+    script: &Script,
+    fonts: &FontSet,
+    event: &Event,
+    turns: u32,
+) -> io::Result<(usize, u128)>
+    requires script { IsScript script.now }
+    requires fonts { IsLayoutFontSet fonts.now.fonts }
+    requires event { IsEvent event.now }
+    requires few { length event.now.text ≤ max_text_bytes }
+{
+    let view = view_of(rt.alloc(), script, event, 0)?;
+    least_layout(rt, script, fonts, event, &view, turns)
+}
+
+/// The same of a script's first line.
+fn least_layout_of(
+    rt: &HostRuntime,
+    script: &Script,
+    fonts: &FontSet,
+    turns: u32,
+) -> io::Result<(usize, u128)>
+    requires script { IsScript script.now }
+    requires fonts { IsLayoutFontSet fonts.now.fonts }
+{
+    let event = event_of(rt.alloc(), script)?;
+    least_layout_at(rt, script, fonts, &event, turns)
+}
+
+/// A font of so many glyphs, and one without any.
+fn many_fonts(alloc: Global, glyphs: u32) -> io::Result<FontSet>
+    ensures { IfOk result (λ set. IsLayoutFontSet set.fonts) }
+{
+    let font = font_text(alloc, glyphs)?;
+    fonts_of(alloc, font.as_str(), "STARTFONT 2.1\nENDFONT\n")
+}
+
 /// Prints how many lines the layout of a text has in a font of so many glyphs, and the least time of so many layouts.
 pub fn measure_layouts(rt: &HostRuntime, glyphs: u32, text: &str, turns: u32) -> io::Result<()> {
-    let alloc = rt.alloc();
-    let script = script_of(alloc, HEAD, "10", text)?;
-    let event = event_of(alloc, &script)?;
-    let view = view_of(alloc, &script, &event, 0)?;
-    let font = font_text(alloc, glyphs)?;
-    let fonts = fonts_of(alloc, font.as_str(), "STARTFONT 2.1\nENDFONT\n")?;
-    let (lines, least) = least_layout(rt, &script, &fonts, &event, &view, turns)?;
-    println!(rt; "{lines} lines")?;
-    println!(rt; "{least} ns")
+    let script = script_of(rt.alloc(), HEAD, "10", text)?;
+    let fonts = many_fonts(rt.alloc(), glyphs)?;
+    let (lines, least) = least_layout_of(rt, &script, &fonts, turns)?;
+    println!(rt; "{lines} lines\n{least} ns")
 }
