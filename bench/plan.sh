@@ -24,7 +24,7 @@ plan() {
 
 if ! is_fresh; then
     echo "plan.sh: proving and building the program, which takes some minutes" >&2
-    (cd "$top/crates/plan_bench" && rt run) >&2
+    (cd "$top/crates/plan_bench" && rt run < stdin) >&2
 fi
 
 date -u +%Y-%m-%d

@@ -1,6 +1,8 @@
-//! Tests of the program's parts: words, plain pictures, reports.
+//! Tests of the program's parts: shelves and sinks, words, plain pictures, reports.
 #![tactic(auto)]
 
+#[cfg(test)]
+mod outside;
 #[cfg(test)]
 mod plain_forms;
 #[cfg(test)]

@@ -1,12 +1,11 @@
-//! Passes of a track on several threads, and a try to look while another pass has the turn.
+//! Passes of a track on several threads: two feed while a third looks, and tries to look.
 ghost use Rattle.std.specs.Prelude.{◌≡◌, ◌+◌, ◌<◌, IsSomeAnd};
 ghost use Rattle.turn_cell.specs.Passes.{IsOf};
 
-use super::{Track, TrackPass};
-use crate::{Feed, LookRefusal};
 use std::sync::Wait;
 use std::test::Fail;
 use std::thread::{Threads, join_mut};
+use track_history::{Feed, LookRefusal, Track, TrackPass};
 
 /// A pass that is lent to a thread, the thread's number, and how many times its calls did what they should.
 struct Worker {
@@ -59,7 +58,25 @@ fn feed_thousand<R: Wait + AllocGlobal>(
     (mine, accepted)
 }
 
-/// Looks a hundred times, and answers how often there were as many entries as before, or more.
+/// Tries to look, and tells how many entries there are; as many as before where another pass has the turn.
+fn tried<R: AllocGlobal>(
+    rt: &R,
+    track: &Track,
+    pass: TrackPass,
+    before: usize,
+) -> (TrackPass, usize)
+    requires { IsOf track.now pass }
+    ensures { IsOf track.now result.0 }
+{
+    let (pass, scene) = track.try_look(rt.alloc(), pass, 5);
+    match scene {
+        Ok(scene) => (pass, scene.n),
+        Err(LookRefusal::TurnOut(1)) => (pass, before),
+        Err(_) => (pass, 0),
+    }
+}
+
+/// Looks a hundred times, and tries as often; answers how often there were as many entries as before, or more.
 fn look_hundred<R: Wait + AllocGlobal>(rt: &R, track: &Track, pass: TrackPass) -> (TrackPass, u32)
     requires { IsOf track.now pass }
     ensures { IsOf track.now result.0 }
@@ -71,10 +88,12 @@ fn look_hundred<R: Wait + AllocGlobal>(rt: &R, track: &Track, pass: TrackPass) -
         let (next, scene) = track.look(rt, rt.alloc(), mine, i64::from(i) * 100);
         mine = next;
         if let Ok(scene) = scene {
-            if scene.n >= before {
+            let (next, n) = tried(rt, track, mine, scene.n);
+            mine = next;
+            if before <= scene.n && scene.n <= n {
                 grown = grown.wrapping_add(1);
             }
-            before = scene.n;
+            before = n;
         }
     }
     (mine, grown)
@@ -178,58 +197,6 @@ fn work_by_three<R: Threads + Wait + AllocGlobal + Sync>(
     );
 }
 
-/// What a try to look shows: how many entries there are, or the word that says that the turn is out.
-fn tried<R: AllocGlobal>(rt: &R, track: &Track, pass: TrackPass) -> (TrackPass, Result<usize, u64>)
-    requires { IsOf track.now pass }
-    ensures { IsOf track.now result.0 }
-{
-    let (pass, scene) = track.try_look(rt.alloc(), pass, 5);
-    match scene {
-        Ok(scene) => (pass, Ok(scene.n)),
-        Err(LookRefusal::TurnOut(word)) => (pass, Err(word)),
-        Err(LookRefusal::OutOfMemory) => (pass, Err(0)),
-    }
-}
-
-/// The second pass tries while the first has the turn, and once more when it was given back.
-fn try_twice<R: Wait + AllocGlobal>(
-    rt: &R,
-    track: &Track,
-    first: TrackPass,
-    second: TrackPass,
-) -> (TrackPass, [Result<usize, u64>; 2])
-    requires cells { IsOf track.now first × IsOf track.now second }
-    requires number { first.number ≡ 0 }
-    ensures { IsOf track.now result.0 × (result.0.number ≡ 0) }
-{
-    let TrackPass { pass } = first;
-    let turn = track.cell.take(rt, pass);
-    let (second, out) = tried(rt, track, second);
-    let pass = track.cell.give(turn, None);
-    let (second, home) = tried(rt, track, second);
-    (track.join(TrackPass { pass }, second), [out, home])
-}
-
-#[test]
-fn a_try_to_look_waits_for_no_turn(rt: HostRuntime) -> Result<(), Fail> {
-    let opened = Track::open(rt.alloc());
-    let Ok((track, pass)) = opened else {
-        panic!(rt; "memory")
-    };
-    let (first, second) = match track.split(pass) {
-        Ok(two) => two,
-        Err(pass) => {
-            track.close(pass);
-            panic!(rt; "numbers")
-        }
-    };
-    let (first, _) = offer(&rt, &track, first, 1, 0);
-    let (pass, seen) = try_twice(&rt, &track, first, second);
-    track.close(pass);
-    assert_eq!(rt; seen, [Err(1), Ok(1)]);
-    Ok(())
-}
-
 #[test]
 fn two_threads_feed_beside_one_that_looks(rt: HostRuntime) -> Result<(), Fail> {
     let opened = Track::open(rt.alloc());
@@ -248,10 +215,8 @@ fn two_threads_feed_beside_one_that_looks(rt: HostRuntime) -> Result<(), Fail> {
     let Ok(orders) = orders else {
         panic!(rt; "memory")
     };
-    assert_eq!(rt;
-        (fed, also_fed, looked, orders.len()),
-        (1000, 1000, 100, 2000)
-    );
+    assert_eq!(rt; (fed, also_fed, looked), (1000, 1000, 100));
+    assert_eq!(rt; orders.len(), 2000);
     let mut next = [0u32, 1000];
     for order in orders.as_slice() {
         let feeder = usize::from(*order >= 1000);

@@ -1,7 +1,7 @@
 use Rattle.std.proofs.Common.{pos, to_z, of_z, w64}
 use Rattle.turn_cell.proofs.Passes.{IsOf-Follows}
 use Rattle.track_history.proofs.LawLemmas.{fed_follows}
-use Rattle.track_history.proofs.track.tests.offer.Goals as goal
+use Rattle.sharing_tests.proofs.tracks.offer.Goals as goal
 
 pub returns : goal.returns
 returns g c =

@@ -5,7 +5,7 @@ use Rattle.ass_events.specs.declared.event.Event.{Event}
 use Rattle.ass_events.specs.Ranges.{IsEvent, text_bytes}
 use Rattle.ass_events.proofs.LawLemmas.{chunk_gives_event}
 use Rattle.ass_events.proofs.TextLemmas.{chunk_fits}
-use Rattle.track_history.proofs.live_events.tests.event_of.Goals as goal
+use Rattle.sharing_tests.proofs.live_events.event_of.Goals as goal
 
 pub returns-in-Ok-new : goal.returns-in-Ok-new
 returns-in-Ok-new c =
