@@ -11,3 +11,4 @@ pub mod SettleLemmas
 pub mod Sorts
 pub mod StandLemmas
 pub mod StepLemmas
+pub mod WalkLemmas

@@ -6,6 +6,7 @@ mod laws;
 mod near;
 mod own;
 mod placed;
+mod settled;
 mod spans;
 mod steps;
 mod walks;
