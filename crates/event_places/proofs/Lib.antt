@@ -3,6 +3,7 @@ pub mod Lists
 pub mod Nears
 pub mod NearSpans
 pub mod OneShift
+pub mod OneStand
 pub mod Orders
 pub mod Pairs
 pub mod PlacedLemmas

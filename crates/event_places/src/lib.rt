@@ -11,6 +11,6 @@ mod spans;
 mod steps;
 mod walks;
 
-pub use laws::one_shift;
+pub use laws::{one_shift, one_stand};
 pub use own::OwnLayout;
 pub use placed::{PlacedEvent, placed_events};
