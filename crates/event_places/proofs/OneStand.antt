@@ -34,7 +34,7 @@ use Rattle.tag_state.specs.Properties.{Measure, ScaleX, ScaleY, Spacing, Angle, 
 use Rattle.tag_state.specs.Properties as property
 use Rattle.tag_state.specs.Setters.{Effect, past}
 use Rattle.tag_state.specs.States.{IsStateAt}
-use Rattle.tag_state.specs.Views.{AreSeen, HasState, IsSeen, IsViewBy, IsViewOf, elapsed_at}
+use Rattle.tag_state.specs.Views.{AreSeen, HasState, IsViewBy, IsViewOf, elapsed_at}
 use Rattle.tag_state.proofs.RangeLemmas.{IsHeldEffect, past_held, wrap_held}
 use Rattle.text_layout.specs.Anchors.{edge_across, margins_of, wrapping_width}
 use Rattle.text_layout.specs.Extents.{extent_of, item_extents, kind_extent}
@@ -46,7 +46,6 @@ use Rattle.text_layout.specs.Lines.{advances_of, blank_extent, block_height, blo
 use Rattle.text_layout.specs.Metrics.{all_metrics, metrics_of, no_font, no_metrics, state_metrics}
 use Rattle.text_layout.specs.Spans.{AreLines, paragraphs_of}
 use Rattle.text_layout.specs.declared.extents.Extent.{Extent}
-use Rattle.text_layout.specs.declared.kinds.Role.{Role}
 use Rattle.text_layout.specs.declared.laid.Laid.{Laid}
 use Rattle.text_layout.specs.declared.metrics.Metrics.{Metrics}
 use Rattle.text_layout.specs.declared.spans.Span.{Span}
@@ -248,7 +247,7 @@ module _ (script : ScriptValue) (own : List ℕ) (fonts : List FontValue) (size 
         ap (λ (z : ℕ). item_extents fonts (metrics_by v) z v.items) wrap ∙ same_items w.wrap in
         let lines : AreLines v.wrap (roles_of v.wrap v.items) (advances_of (item_extents fonts (metrics_by v) v.wrap v.items)) max (paragraphs_of (roles_of v.wrap v.items)) l.0 =
         subst (λ (z : ℕ). AreLines z (roles_of v.wrap v.items) (advances_of (item_extents fonts (metrics_by v) v.wrap v.items)) max (paragraphs_of (roles_of v.wrap v.items)) l.0) (sym wrap)
-        (subst (λ (z : List Role). AreLines w.wrap z (advances_of (item_extents fonts (metrics_by v) v.wrap v.items)) max (paragraphs_of z) l.0) (sym roles)
+        (subst (λ z. AreLines w.wrap z (advances_of (item_extents fonts (metrics_by v) v.wrap v.items)) max (paragraphs_of z) l.0) (sym roles)
         (subst (λ (z : List Extent). AreLines w.wrap (roles_of w.wrap w.items) (advances_of z) max (paragraphs_of (roles_of w.wrap w.items)) l.0) (sym items) l.1))
         in
         let out : laid_out w (metrics_by w) (item_extents fonts (metrics_by w) w.wrap w.items) l.0 ≡ laid_out v (metrics_by v) (item_extents fonts (metrics_by v) v.wrap v.items) l.0 =
