@@ -115,8 +115,9 @@ type Row = (i64, &'static [&'static str]);
 
 /// What is shown and what isn't; borders, shadows, boxes, runs without a pixel; sweeps, over two lines and turned; syllables whose border
 /// comes later; an origin; clips; events that stand clear of one another, of a line that has ended, in layers of their own, and at points;
-/// and parts so far outside that they are left out, and just not so far.
-const ROWS: [Row; 28] = [
+/// parts so far outside that they are left out, and just not so far; and three events of which one matters, two, or one beside another
+/// layer.
+const ROWS: [Row; 31] = [
     (2000, &["0,0:00:01.00,0:00:04.00,Default,,0,0,0,,"]),
     (
         2000,
@@ -222,6 +223,30 @@ const ROWS: [Row; 28] = [
         2000,
         &["0,0:00:01.00,0:00:04.00,Default,,0,0,0,,{\\pos(1000000,1000000)}A"],
     ),
+    (
+        35_000,
+        &[
+            "0,0:00:00.00,0:00:10.00,Default,,0,0,0,,A",
+            "0,0:00:05.00,0:00:20.00,Default,,0,0,0,,g",
+            "0,0:00:30.00,0:00:40.00,Default,,0,0,0,,W",
+        ],
+    ),
+    (
+        15_000,
+        &[
+            "0,0:00:00.00,0:00:10.00,Default,,0,0,0,,A",
+            "0,0:00:05.00,0:00:20.00,Default,,0,0,0,,g",
+            "0,0:00:30.00,0:00:40.00,Default,,0,0,0,,W",
+        ],
+    ),
+    (
+        15_000,
+        &[
+            "0,0:00:00.00,0:00:10.00,Default,,0,0,0,,A",
+            "1,0:00:05.00,0:00:20.00,Default,,0,0,0,,g",
+            "0,0:00:30.00,0:00:40.00,Default,,0,0,0,,W",
+        ],
+    ),
 ];
 
 /// The text of a script with these Dialogue lines.
@@ -268,7 +293,7 @@ fn show_row(rt: &HostRuntime, fonts: &FontSet, row: &Row) -> io::Result<()>
 {
     let (t, lines) = *row;
     show_lines(rt, t, lines)?;
-    show_plan(rt, fonts, t.clamp(0, 10_000), lines)
+    show_plan(rt, fonts, t.clamp(0, 100_000), lines)
 }
 
 /// Prints all rows.
