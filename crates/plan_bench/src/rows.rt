@@ -89,7 +89,8 @@ fn show_text(rt: &HostRuntime, text: &str) -> io::Result<()> {
 
 /// Reads fonts and rows, and prints all rows: what is shown and what isn't; borders, shadows, boxes, runs without a pixel; sweeps, over two
 /// lines and turned; syllables whose border comes later; an origin; clips; events that stand clear of one another, of a line that has
-/// ended, in layers of their own, and at points; and parts so far outside that they are left out, and just not so far.
+/// ended, in layers of their own, and at points; parts so far outside
+/// that they are left out, and just not so far; and three events of which one matters, two, or one beside another layer.
 pub fn show_all(rt: &HostRuntime) -> io::Result<()> {
     let text = io::read_to_string(rt.alloc(), rt.reader())?;
     show_text(rt, text.as_str())
