@@ -10,7 +10,7 @@ use Rattle.placement.specs.declared.boxes.Box2.{Box2}
 use Rattle.placement.specs.declared.boxes.Stand.{Stand}
 use Rattle.placement.proofs.ShiftLemmas.{IsBoxWithin-wider, passing-later, passing-least}
 use Rattle.event_places.specs.Limits.{max_shift, reach}
-use Rattle.event_places.specs.Steps.{AreFromLowest, AreSettledWithin, boxes_of, most_before}
+use Rattle.event_places.specs.Steps.{AreFromLowest, AreSettledWithin, settled_boxes, most_before}
 use Rattle.event_places.specs.declared.settled.Settled.{Settled}
 use Rattle.event_places.proofs.Lists.{in_map}
 use Rattle.event_places.proofs.Orders.{int_three}
@@ -76,7 +76,7 @@ passing_range stand other s placeable within range met = passing_within stand.do
 -- After so many steps no shift that is clear of all is less, and the boxes passed are clear.
 pub record Walked (stand : Stand) (settled : List Settled) (shift : ℤ) (step : ℕ) : Type 0 where
   pub range : IsShift max_shift shift
-  pub least : (t : ℤ) → pos 0 ≤ℤ t → IsClear stand.place (boxes_of settled) stand.down t → shift ≤ℤ t
+  pub least : (t : ℤ) → pos 0 ≤ℤ t → IsClear stand.place (settled_boxes settled) stand.down t → shift ≤ℤ t
   pub clear : (j : ℕ) (d : Settled) → j < step → Meet (moved_box stand.down shift stand.place) (get_or settled (way (length settled) stand.down j) d).place → ⊥
 
 pub walked_none : (stand : Stand) (settled : List Settled) → Walked stand settled (pos 0) 0
@@ -100,10 +100,10 @@ module _ (stand : Stand) (settled : List Settled) (shift : ℤ) (step : ℕ) (ot
   other_near : IsBoxWithin max_moved other.place
   other_near = subst (λ (x : Settled). IsBoxWithin max_moved x.place) (is other) (other_within settled (way (length settled) stand.down step) other within here)
 
-  no_less : (t : ℤ) → pos 0 ≤ℤ t → IsClear stand.place (boxes_of settled) stand.down t → Meet (moved_box stand.down t stand.place) other.place → ⊥
+  no_less : (t : ℤ) → pos 0 ≤ℤ t → IsClear stand.place (settled_boxes settled) stand.down t → Meet (moved_box stand.down t stand.place) other.place → ⊥
   no_less t from clear =
       let there = subst (Contains settled) (is other) (Contains-get_or settled (way (length settled) stand.down step) other here) in
-      All-contains (λ o. Meet (moved_box stand.down t stand.place) o → ⊥) (boxes_of settled) other.place clear (in_map (λ (x : Settled). x.place) settled other there)
+      All-contains (λ o. Meet (moved_box stand.down t stand.place) o → ⊥) (settled_boxes settled) other.place clear (in_map (λ (x : Settled). x.place) settled other there)
 
   pub walked_met : Meet (moved_box stand.down shift stand.place) other.place → Walked stand settled (passing stand.down stand.place other.place) (step + 1)
   walked_met met = record {
@@ -133,7 +133,7 @@ module _ (stand : Stand) (settled : List Settled) (shift : ℤ) (step : ℕ) (ot
   }
 
 -- after all steps
-pub walked_all : (stand : Stand) (settled : List Settled) (shift : ℤ) (step : ℕ) → step ≡ length settled → Walked stand settled shift step → IsLeastShift stand.place (boxes_of settled) stand.down shift
+pub walked_all : (stand : Stand) (settled : List Settled) (shift : ℤ) (step : ℕ) → step ≡ length settled → Walked stand settled shift step → IsLeastShift stand.place (settled_boxes settled) stand.down shift
 walked_all stand settled shift step all walked =
     let P : Box2 → Type 0 = λ other. Meet (moved_box stand.down shift stand.place) other → ⊥ in
     let clear : All (λ (x : Settled). P x.place) settled =

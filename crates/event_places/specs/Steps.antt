@@ -28,12 +28,12 @@ settled_at span stand shift = record { layer = span.layer; end = span.end; place
 abbrev pub is_in_way : EventSpan → Settled → Bool
 is_in_way span settled = int_eq settled.layer span.layer && int_lt span.start settled.end
 
-abbrev pub boxes_of : List Settled → List Box2
-boxes_of settled = map (λ (x : Settled). x.place) settled
+abbrev pub settled_boxes : List Settled → List Box2
+settled_boxes settled = map (λ (x : Settled). x.place) settled
 
 -- the boxes that are in the way of an event
 abbrev pub boxes_in_way : EventSpan → List Settled → List Box2
-boxes_in_way span settled = boxes_of (filter (is_in_way span) settled)
+boxes_in_way span settled = settled_boxes (filter (is_in_way span) settled)
 
 -- None begins lower than one before it.
 abbrev pub AreFromLowest : List Settled → Type 0

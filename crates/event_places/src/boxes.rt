@@ -4,7 +4,7 @@ ghost use Rattle.std.specs.Prelude.{◌≡◌, ◌-◌, ◌<◌, ◌↔◌, if�
 ghost use Rattle.placement.specs.Placement.{IsBoxWithin, IsLeastShift, IsPlaceableStand, IsShift, Meet, Overlap, max_moved, moved_box, passing};
 ghost use Rattle.event_places.specs.Limits.{max_shift};
 ghost use Rattle.event_places.specs.Stands.{down_by};
-ghost use Rattle.event_places.specs.Steps.{AreFromLowest, AreSettledWithin, boxes_of, most_before};
+ghost use Rattle.event_places.specs.Steps.{AreFromLowest, AreSettledWithin, settled_boxes, most_before};
 
 use crate::settled::Settled;
 use ass_num::Fix;
@@ -65,7 +65,7 @@ pub(crate) fn shift_clear(stand: &Stand, settled: &[Settled]) -> Fix
     requires stand { IsPlaceableStand stand.now }
     requires within { AreSettledWithin most_before settled.now }
     requires sorted { AreFromLowest settled.now }
-    ensures least { IsLeastShift stand.now.place (boxes_of settled.now) stand.now.down result }
+    ensures least { IsLeastShift stand.now.place (settled_boxes settled.now) stand.now.down result }
     ensures range { IsShift max_shift result }
 {
     let mut shift = 0;

@@ -16,5 +16,5 @@ abbrev pub first_events : ScriptValue → ℕ → List Event
 first_events script count = flat_map event_given (map (event_of_line script) (range_with_len 0 count))
 
 -- The events of a script. Each has the place of its line as its ReadOrder.
-abbrev pub events_of : ScriptValue → List Event
-events_of script = first_events script (length script.lines)
+abbrev pub line_events : ScriptValue → List Event
+line_events script = first_events script (length script.lines)

@@ -8,7 +8,7 @@ ghost use Rattle.ass_events.specs.Histories.{HaveOwnOrders, max_live};
 ghost use Rattle.ass_events.specs.Ranges.{IsEvent};
 ghost use Rattle.ass_events.specs.declared.event.Event.{Event};
 ghost use Rattle.script_events.specs.Laws.{HasShortLines};
-ghost use Rattle.script_events.specs.ScriptEvents.{events_of, first_events};
+ghost use Rattle.script_events.specs.ScriptEvents.{line_events, first_events};
 
 use ass_events::{ChunkRefusal, Event, event_of_line, lines_give_events, texts_fit};
 use ass_num::{Mem, OutOfMemory};
@@ -35,7 +35,7 @@ fn add_line(alloc: Global, script: &Script, i: usize, events: &mut Vec<Arc<Event
 pub fn events_of(alloc: Global, script: &Script) -> Mem<Vec<Arc<Event>>>
     requires script { IsScript script.now }
     requires short { HasShortLines script.now }
-    ensures events { IfOk result (λ events. map arc_value events.items ≡ events_of script.now) }
+    ensures events { IfOk result (λ events. map arc_value events.items ≡ line_events script.now) }
     ensures each { IfOk result (λ events. All IsEvent (map arc_value events.items)) }
     ensures texts { IfOk result (λ events. All (λ (e : Event). length e.text ≤ max_text_bytes) (map arc_value events.items)) }
     ensures few { IfOk result (λ events. length events.items ≤ max_live) }
