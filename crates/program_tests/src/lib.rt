@@ -1,11 +1,11 @@
-//! Tests of the program's parts: words, plain pictures, reports.
+//! Tests of the program's parts, and of whole runs: words, pictures, reports.
 #![tactic(auto)]
 
 #[cfg(test)]
-mod plain_forms;
-#[cfg(test)]
-mod plain_pictures;
+mod pictures;
 #[cfg(test)]
 mod reports;
+#[cfg(test)]
+mod runs;
 #[cfg(test)]
 mod words;
