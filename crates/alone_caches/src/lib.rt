@@ -1,0 +1,6 @@
+//! A cache of one thread.
+#![tactic(auto)]
+
+mod cache;
+
+pub use cache::AloneCache;
