@@ -1,1 +1,3 @@
+pub mod KeyLemmas
+pub mod OneLemmas
 pub mod Resting

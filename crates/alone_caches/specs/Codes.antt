@@ -1,4 +1,4 @@
--- Public: how caches of one thread are told apart as data.
+-- Inner: how caches of one thread are told apart as data.
 use Rattle.std.specs.Prelude.{refl}
 use Rattle.std.specs.Coded.{Coded, code_by, coded×}
 use Rattle.evict_core.specs.Codes.{state_code}

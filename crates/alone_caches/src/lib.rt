@@ -1,6 +1,10 @@
-//! A cache of one thread.
+//! The caches of regions, masks and composed masks of one thread, and painting plans through them.
 #![tactic(auto)]
 
+mod alone;
 mod cache;
+mod making;
+mod paint;
+mod values;
 
-pub use cache::AloneCache;
+pub use alone::Alone;
