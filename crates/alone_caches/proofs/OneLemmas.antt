@@ -1,7 +1,12 @@
 -- Three caches of one thread stay of one kind.
-use Rattle.std.proofs.Common.{◌≡◌, ℕ, ◌∙◌}
+use Rattle.std.proofs.Common.{◌≡◌, ℕ, ap, ◌∙◌}
+use Rattle.std.specs.Arc.{arc_value}
 use Rattle.std.specs.declared.sync.Arc.{Arc}
 use Rattle.bdf_font.specs.declared.font.FontSet.{FontSet}
+use Rattle.mask_keys.specs.declared.composite_key.CompositeKey.{CompositeKey}
+use Rattle.mask_keys.specs.declared.mask_key.MaskKey.{MaskKey}
+use Rattle.mask_keys.specs.declared.region_key.RegionKey.{RegionKey}
+use Rattle.mask_model.specs.Values.{composite_value, mask_value, region_value}
 use Rattle.alone_caches.specs.Alones.{AreOfOne}
 use Rattle.alone_caches.specs.Keeping.{AloneCacheView}
 
@@ -35,3 +40,14 @@ module _ {I J K V W Z : Type 0} (fonts : Arc FontSet Z) (outlines : AloneCacheVi
     masks_budget = one.masks_budget;
     composites_budget = budget ∙ one.composites_budget;
   }
+
+-- the values under the fonts that a cache is tagged with
+module _ {Z : Type 0} (tag fonts : Arc FontSet Z) (same : tag ≡ fonts) where
+  pub region-tagged : (key : RegionKey) → region_value (arc_value tag).fonts key ≡ region_value (arc_value fonts).fonts key
+  region-tagged key = ap (λ (set : Arc FontSet Z). region_value (arc_value set).fonts key) same
+
+  pub mask-tagged : (key : MaskKey) → mask_value (arc_value tag).fonts key ≡ mask_value (arc_value fonts).fonts key
+  mask-tagged key = ap (λ (set : Arc FontSet Z). mask_value (arc_value set).fonts key) same
+
+  pub composite-tagged : (key : CompositeKey) → composite_value (arc_value tag).fonts key ≡ composite_value (arc_value fonts).fonts key
+  composite-tagged key = ap (λ (set : Arc FontSet Z). composite_value (arc_value set).fonts key) same
