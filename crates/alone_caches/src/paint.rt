@@ -26,7 +26,9 @@ fn blend_draw(canvas: &mut Canvas, draw: &Draw, mask: &Mask, stencil: &Stencil<'
       stencil = stencil_value stencil.now;
     }) }
 {
-    canvas.draw(mask, draw.x, draw.y, draw.left, draw.right, draw.edge, stencil);
+    canvas.draw(
+        mask, draw.x, draw.y, draw.left, draw.right, draw.edge, stencil,
+    );
 }
 
 impl Alone {
