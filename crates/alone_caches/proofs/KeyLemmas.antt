@@ -1,15 +1,13 @@
--- The regions of keys, widened or not, and what values cost.
-use Rattle.std.proofs.Common.{◌≡◌, ◌≤◌, List, refl, sym, ap, ◌∙◌, subst, arith}
+-- The regions and masks of keys, widened or not.
+use Rattle.std.proofs.Common.{◌≡◌, List, refl, sym, ap, ◌∙◌, subst}
 use Rattle.ass_num.specs.Limits.{IsRegionWithin, max_sample}
 use Rattle.ass_num.specs.Masks.{MaskValue}
 use Rattle.ass_num.specs.Regions.{RegionValue, member}
 use Rattle.ass_num.specs.Winding.{inside}
 use Rattle.bdf_font.specs.Fonts.{FontValue}
-use Rattle.evict_core.specs.Machine.{max_cost}
 use Rattle.mask_keys.specs.Keys.{region_key}
 use Rattle.mask_keys.specs.declared.mask_key.MaskKey.{MaskKey}
 use Rattle.mask_keys.specs.declared.region_key.RegionKey.{RegionKey}
-use Rattle.mask_model.specs.Costs.{region_cost, mask_cost}
 use Rattle.mask_model.specs.Outlines.{rings_of}
 use Rattle.mask_model.specs.Regions.{widened_region}
 use Rattle.mask_model.specs.Values.{mask_of_region, mask_value, outline_value, region_value}
@@ -35,12 +33,6 @@ unwidened-near fonts key = subst (λ (r : RegionValue). IsRegionWithin max_insid
 
 pub region-near : (fonts : List FontValue) (key : RegionKey) → IsRegionWithin max_sample (region_value fonts key).top (region_value fonts key).rows
 region-near fonts key = region_within-limit max_sample (in_widened (member (outline_value fonts key.outline).top (outline_value fonts key.outline).rows) key.rx key.ry)
-
-pub region-price : (r : RegionValue) → region_cost r ≤ max_cost
-region-price r = omega arith
-
-pub mask-price : (m : MaskValue) → mask_cost m ≤ max_cost
-mask-price m = omega arith
 
 -- ---- values made one after the other
 

@@ -1,4 +1,4 @@
 pub mod KeyLemmas
-pub mod OneLemmas
 pub mod PaintLemmas
 pub mod Resting
+pub mod TagLemmas

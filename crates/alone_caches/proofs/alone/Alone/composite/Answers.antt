@@ -5,7 +5,7 @@ use Rattle.mask_model.specs.Outlines.{glyph_counts}
 use Rattle.mask_model.specs.Values.{composite_value}
 use Rattle.made_values.proofs.KeyLemmas.{parts_placeable}
 use Rattle.alone_caches.specs.Alones.{AloneView}
-use Rattle.alone_caches.proofs.OneLemmas.{composite-tagged}
+use Rattle.alone_caches.proofs.TagLemmas.{composite-tagged}
 use Rattle.alone_caches.proofs.PaintLemmas.{composite-made}
 use Rattle.alone_caches.proofs.alone.Alone.composite.Goals as goal
 

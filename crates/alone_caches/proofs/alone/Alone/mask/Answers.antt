@@ -4,7 +4,7 @@ use Rattle.bdf_font.specs.Fonts.{FontValue}
 use Rattle.mask_model.specs.Values.{mask_value}
 use Rattle.alone_caches.specs.Alones.{AloneView}
 use Rattle.alone_caches.proofs.KeyLemmas.{mask-made, region-read_near}
-use Rattle.alone_caches.proofs.OneLemmas.{mask-tagged}
+use Rattle.alone_caches.proofs.TagLemmas.{mask-tagged}
 use Rattle.alone_caches.proofs.alone.Alone.mask.Goals as goal
 
 pub mask_from-requires-clause-region : goal.mask_from-requires-clause-region

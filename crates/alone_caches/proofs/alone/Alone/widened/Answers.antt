@@ -4,7 +4,7 @@ use Rattle.bdf_font.specs.Fonts.{FontValue}
 use Rattle.mask_model.specs.Values.{region_value}
 use Rattle.alone_caches.specs.Alones.{AloneView}
 use Rattle.alone_caches.proofs.KeyLemmas.{border-made, outline-read, outline-read_near}
-use Rattle.alone_caches.proofs.OneLemmas.{region-tagged}
+use Rattle.alone_caches.proofs.TagLemmas.{region-tagged}
 use Rattle.alone_caches.proofs.alone.Alone.widened.Goals as goal
 
 pub border_from-requires-clause-outline : goal.border_from-requires-clause-outline
