@@ -10,7 +10,7 @@ use Rattle.mask_model.specs.Outlines.{IsFontSet}
 use Rattle.mask_model.specs.Pictures.{with_draw}
 use Rattle.picture_plan.specs.Pictures.{AreDraws, IsPictureAt}
 use Rattle.ppm_text.specs.Images.{image_bytes}
-use Rattle.script_events.specs.ScriptEvents.{events_of}
+use Rattle.script_events.specs.ScriptEvents.{line_events}
 use Rattle.text_layout.specs.Fonts.{IsLayoutFontSet}
 use Rattle.frame_play.specs.Outputs.{IsFrameImage}
 
@@ -44,7 +44,7 @@ pictured script fonts events t size draws old new are blank painted = record {
 
 -- the bytes of the picture of a script's events are its image
 pub imaged : (script : ScriptValue) (fonts : List FontValue) (at : ℕ) (size : Size) (canvas : CanvasValue) (events : List Event) (pixels bytes : List ℕ) (count : ℕ) →
-    IsPictureAt script fonts events (pos at) size canvas → events ≡ events_of script → pixels ≡ canvas.bytes → count ≡ length events →
+    IsPictureAt script fonts events (pos at) size canvas → events ≡ line_events script → pixels ≡ canvas.bytes → count ≡ length events →
     bytes ≡ image_bytes size.w size.h pixels (pos at) count → IsFrameImage script fonts at size bytes
 imaged script fonts at size canvas events pixels bytes count is_picture all shown counted image = record {
   canvas = canvas;

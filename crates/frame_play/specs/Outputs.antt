@@ -12,15 +12,15 @@ use Rattle.run_status.specs.declared.status.Status.{Status}
 use Rattle.run_status.specs.declared.status.Status.TheVariants.{Done}
 use Rattle.run_status.specs.declared.status.Which.{Which}
 use Rattle.run_status.specs.declared.status.Which.TheVariants as sink
-use Rattle.script_events.specs.ScriptEvents.{events_of}
+use Rattle.script_events.specs.ScriptEvents.{line_events}
 use Rattle.frame_play.specs.declared.work.Task.{Task}
 use Rattle.frame_play.specs.declared.work.Task.TheVariants.{Check, Frame}
 
 -- These bytes are the image of the picture that the events of a script show in fonts at an instant in milliseconds, on a frame of a size; its comment counts these events.
 pub record IsFrameImage (script : ScriptValue) (fonts : List FontValue) (at : ℕ) (size : Size) (bytes : List ℕ) : Type 0 where
   pub canvas : CanvasValue
-  pub is_picture : IsPictureAt script fonts (events_of script) (pos at) size canvas
-  pub value : bytes ≡ image_bytes size.w size.h canvas.bytes (pos at) (length (events_of script))
+  pub is_picture : IsPictureAt script fonts (line_events script) (pos at) size canvas
+  pub value : bytes ≡ image_bytes size.w size.h canvas.bytes (pos at) (length (line_events script))
 
 -- What a task may put to the frames sink: a check nothing, and a picture its image, whatever the budget.
 abbrev pub IsFramesOf : Task → Inputs → List ℕ → Type 0
