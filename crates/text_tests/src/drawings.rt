@@ -4,7 +4,8 @@ use drawing_path::read_path;
 use std::test::Fail;
 
 /// Texts, and the segments of their paths.
-const ROWS: &str = "m 0 0 l 1 0 1 -2.5 z => [Move(Point { x: 0, y: 0 }), Line(Point { x: 1000, y: 0 }), Line(Point { x: 1000, y: -2500 })]
+const ROWS: &str =
+    "m 0 0 l 1 0 1 -2.5 z => [Move(Point { x: 0, y: 0 }), Line(Point { x: 1000, y: 0 }), Line(Point { x: 1000, y: -2500 })]
 n0,0l1,0,1-2.5m5 => [Move(Point { x: 0, y: 0 }), Line(Point { x: 1000, y: 0 }), Line(Point { x: 1000, y: -2500 })]
 9 9 m0 0x l 1 0 b 1 1 l 1-2.5 7 => [Move(Point { x: 0, y: 0 }), Line(Point { x: 1000, y: 0 }), Line(Point { x: 1000, y: -2500 })]
 l 1 1 M 0 0 5 => []
