@@ -71,7 +71,7 @@ const CORNER: [u8; 3] = [182, 0, 0];
 /// numbers, row by row.
 type Row = (&'static str, u32, usize, &'static [(usize, [u8; 3])]);
 
-const ROWS: [Row; 22] = [
+const ROWS: [Row; 23] = [
     ("x", 9999, 1, &[(0, WHITE)]),
     ("x", 10_000, 1, &[]),
     ("yx", 0, 1, &[(0, WHITE)]),
@@ -144,6 +144,25 @@ const ROWS: [Row; 22] = [
     ("{\\fad(1000,0)}x", 500, 1, &[(0, HALF)]),
     ("{\\clip(1,0,4,3)}xx", 0, 1, &[(1, WHITE)]),
     ("{\\fnwide}x", 0, 1, &[(0, WHITE), (1, WHITE)]),
+    (
+        "{\\fs4096}x",
+        0,
+        1,
+        &[
+            (0, WHITE),
+            (1, WHITE),
+            (2, WHITE),
+            (3, WHITE),
+            (4, WHITE),
+            (5, WHITE),
+            (6, WHITE),
+            (7, WHITE),
+            (8, WHITE),
+            (9, WHITE),
+            (10, WHITE),
+            (11, WHITE),
+        ],
+    ),
     ("{\\fs1000000}x", 0, 1, &[]),
     ("{\\pos(1000000,1000000)}x", 0, 1, &[]),
     ("{\\fscx-5}x", 0, 1, &[]),
