@@ -6,30 +6,23 @@ use std::alloc::Global;
 use std::test::Fail;
 
 /// Chunks that are refused, with their start and duration, and the first field that refuses with its place.
-const REFUSED: &str = "|0|10 = Malformed(ReadOrder, 0)
-2147483648,0,D,,0,0,0,,x|0|10 = Malformed(ReadOrder, 0)
-\t ,0,D,,0,0,0,,x|0|10 = Malformed(ReadOrder, 0)
-1|0|10 = Malformed(Layer, 1)
-1, a,D,,0,0,0,,x|0|10 = Malformed(Layer, 2)
-1,0,D,,0,x,0,,t|0|10 = Malformed(MarginR, 9)
-1,0,D,,0,0,0,|0|10 = Malformed(Text, 13)
-1,0,D,,0,0,0,,x|-1|-1 = Malformed(Start, 15)
-1,0,D,,0,0,0,,x|4000000000000|4000000000001 = Malformed(Duration, 15)";
-
-/// Why the chunk of a row is refused.
-fn refusal(alloc: Global, row: &str) -> Result<String, Fail> {
-    let mut parts = row.split('|');
-    let chunk = parts.next().unwrap_or("");
-    let start = parts.next().unwrap_or("").parse::<i64>().unwrap_or(7);
-    let duration = parts.next().unwrap_or("").parse::<i64>().unwrap_or(7);
-    if chunk.len() > 100 {
-        return Err("a long chunk".into());
-    }
-    match read_chunk(alloc, chunk.as_bytes(), start, duration) {
-        Ok(_) => Ok(String::new(alloc)),
-        Err(refusal) => Ok(format!(in alloc; "{refusal:?}")?),
-    }
-}
+const REFUSED: [(&str, i64, i64, EventField, usize); 9] = [
+    ("", 0, 10, EventField::ReadOrder, 0),
+    ("2147483648,0,D,,0,0,0,,x", 0, 10, EventField::ReadOrder, 0),
+    ("\t ,0,D,,0,0,0,,x", 0, 10, EventField::ReadOrder, 0),
+    ("1", 0, 10, EventField::Layer, 1),
+    ("1, a,D,,0,0,0,,x", 0, 10, EventField::Layer, 2),
+    ("1,0,D,,0,x,0,,t", 0, 10, EventField::MarginR, 9),
+    ("1,0,D,,0,0,0,", 0, 10, EventField::Text, 13),
+    ("1,0,D,,0,0,0,,x", -1, -1, EventField::Start, 15),
+    (
+        "1,0,D,,0,0,0,,x",
+        4_000_000_000_000,
+        4_000_000_000_001,
+        EventField::Duration,
+        15,
+    ),
+];
 
 /// Events that a chunk gives, and what is written of them.
 const READ: [(&str, &str); 3] = [
@@ -44,10 +37,9 @@ const READ: [(&str, &str); 3] = [
 #[test]
 fn chunks_give_their_events(rt: HostRuntime) -> Result<(), Fail> {
     let alloc = rt.alloc();
-    for row in REFUSED.lines() {
-        let (case, wanted) = row.split_once(" = ").ok_or("no case")?;
-        let found = refusal(alloc, case)?;
-        assert_eq!(rt; found.as_str(), wanted, "{case}");
+    for (chunk, start, duration, field, place) in REFUSED {
+        let refusal = read_chunk(alloc, chunk.as_bytes(), start, duration).err();
+        assert_eq!(rt; refusal, Some(ChunkRefusal::Malformed(field, place)));
     }
     let refusal = read_chunk(alloc, b"0,0,\xff".as_slice(), -1, 0).err();
     assert_eq!(rt; refusal, Some(ChunkRefusal::Malformed(EventField::Utf8, 4)));

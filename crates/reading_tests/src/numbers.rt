@@ -4,63 +4,58 @@ use ass_num::{
     cosine, div_floor, hold, power, read_alpha, read_colour, read_milli, read_style_colour,
     read_time, read_whole, sine,
 };
-use std::alloc::{AllocError, Global};
-use std::test::Fail;
-
-/// A reader, a text between bars, and what is read.
-const READ: &str = "milli|-.5x|Some((-500, 3))
-milli|1.23456|Some((1234, 7))
-milli|-1.2345|Some((-1234, 7))
-milli|-0.0005|Some((0, 7))
-milli|+2000000|Some((1000000000, 8))
-milli|999999.9999|Some((999999999, 11))
-milli|1.|Some((1000, 2))
-milli|.|None
-milli|-|None
-milli| 1|None
-milli|x|None
-whole| -2147483647\t|Some(-2147483647)
-whole|2147483648|None
-whole|+ 7|None
-whole|7.|None
-colours|&H0000FF&|Some(255) Some(255) Some(255)
-colours|&H80&|Some(128) Some(128) Some(128)
-colours| & H 1 2|Some(1) None Some(1)
-colours|&FF|Some(255) None Some(255)
-colours|-1|None Some(4294967295) None
-colours|&HFFFFFFFFFF1|Some(4294967281) Some(4294967281) Some(241)
-colours|&H|None None None
-time|0:01:02.03|Some(62030)
-time| 999999:0:0.1 |Some(3599996400010)
-time|1000000:0:0.0|None
-time|0:00:00.|None";
-
-/// What a reader makes of a text; of a colour those of scripts and of styles, and the alpha.
-fn told(alloc: Global, reader: &str, text: &[u8]) -> Result<String, AllocError> {
-    match reader {
-        "milli" => format!(in alloc; "{:?}", read_milli(text)),
-        "whole" => format!(in alloc; "{:?}", read_whole(text)),
-        "time" => format!(in alloc; "{:?}", read_time(text)),
-        _ => {
-            let (colour, style) = (read_colour(text), read_style_colour(text));
-            format!(in alloc; "{colour:?} {style:?} {:?}", read_alpha(text))
-        }
-    }
-}
-
-#[test]
-fn numbers_are_read(rt: HostRuntime) -> Result<(), Fail> {
-    for row in READ.lines() {
-        let (reader, rest) = row.split_once('|').ok_or("no reader")?;
-        let (text, wanted) = rest.split_once('|').ok_or("no text")?;
-        let found = told(rt.alloc(), reader, text.as_bytes())?;
-        assert_eq!(rt; found.as_str(), wanted, "{row}");
-    }
-    Ok(())
-}
 
 #[test]
 fn numbers_are_what_the_rules_say(rt: HostRuntime) {
+    for (text, read) in [
+        ("-.5x", Some((-500, 3))),
+        ("1.23456", Some((1_234, 7))),
+        ("-1.2345", Some((-1_234, 7))),
+        ("-0.0005", Some((0, 7))),
+        ("+2000000", Some((1_000_000_000, 8))),
+        ("999999.9999", Some((999_999_999, 11))),
+        ("1.", Some((1_000, 2))),
+        (".", None),
+        ("-", None),
+        (" 1", None),
+        ("x", None),
+    ] {
+        assert_eq!(rt; read_milli(text.as_bytes()), read, "{text}");
+    }
+    for (text, whole) in [
+        (" -2147483647\t", Some(-2_147_483_647)),
+        ("2147483648", None),
+        ("+ 7", None),
+        ("7.", None),
+    ] {
+        assert_eq!(rt; read_whole(text.as_bytes()), whole, "{text}");
+    }
+    for (text, colour, style, alpha) in [
+        ("&H0000FF&", Some(255), Some(255), Some(255)),
+        ("&H80&", Some(128), Some(128), Some(128)),
+        (" & H 1 2", Some(1), None, Some(1)),
+        ("&FF", Some(255), None, Some(255)),
+        ("-1", None, Some(4_294_967_295), None),
+        (
+            "&HFFFFFFFFFF1",
+            Some(4_294_967_281),
+            Some(4_294_967_281),
+            Some(241),
+        ),
+        ("&H", None, None, None),
+    ] {
+        assert_eq!(rt; read_colour(text.as_bytes()), colour, "{text}");
+        assert_eq!(rt; read_style_colour(text.as_bytes()), style, "{text}");
+        assert_eq!(rt; read_alpha(text.as_bytes()), alpha, "{text}");
+    }
+    for (text, time) in [
+        ("0:01:02.03", Some(62_030)),
+        (" 999999:0:0.1 ", Some(3_599_996_400_010)),
+        ("1000000:0:0.0", None),
+        ("0:00:00.", None),
+    ] {
+        assert_eq!(rt; read_time(text.as_bytes()), time, "{text}");
+    }
     for (angle, down, right) in [
         (0, 0, 10_000),
         (30_500, 5_075, 8_616),
