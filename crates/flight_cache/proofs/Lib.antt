@@ -2,8 +2,10 @@ pub mod Asking
 pub mod Claiming
 pub mod Four
 pub mod Home
+pub mod Limits
 pub mod Pinned
 pub mod Places
+pub mod Refusals
 pub mod Refusing
 pub mod Releases
 pub mod Rows

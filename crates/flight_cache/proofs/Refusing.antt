@@ -23,6 +23,10 @@ named-of (x ∷ xs) (suc i) m is = elim (x == m) as (λ b. (b || is_named xs m) 
   | false ↦ named-of xs i m is
 ]
 
+-- the shard of a key is named
+pub named-key : {K V T : Type 0} (meaning : Meaning K V T) (keys : List K) (i : ℕ) (k : K) → slice_get keys i ≡ Some k → is_named (shards_of meaning keys) (shard_of (meaning.numbers k)) ≡ true
+named-key meaning keys i k is = named-of (shards_of meaning keys) i (shard_of (meaning.numbers k)) (slice_get-map (λ k. shard_of (meaning.numbers k)) keys i ∙ ap (option_map (λ k. shard_of (meaning.numbers k))) is)
+
 pub below-four : (numbers : List ℕ) → shard_of numbers < shard_count
 below-four numbers = omega arith
 
@@ -30,21 +34,18 @@ pub same-nothing : {K T : Type 0} (pass : CachePassView K T) → GivesNothing pa
 same-nothing pass = record { first = Follows_same pass.first; second = Follows_same pass.second; third = Follows_same pass.third; fourth = Follows_same pass.fourth }
 
 module _ {M K V T : Type 0} (eq : K → K → Bool) (laws : IsEquivalence eq) (same : (a b : K) → eq a b ≡ true → a ≡ b) (meaning : Meaning K V T) (cache : CacheView T) (of : AreShardsOf cache.tag cache.shards) (pass : CachePassView K T) (keys : List K) (holds : Holds M K V T) (h : AreHoldsOf eq meaning (shards_of meaning keys) cache pass holds) where
-  named-key : (i : ℕ) (k : K) → slice_get keys i ≡ Some k → is_named (shards_of meaning keys) (shard_of (meaning.numbers k)) ≡ true
-  named-key i k is = named-of (shards_of meaning keys) i (shard_of (meaning.numbers k)) (slice_get-map (λ (k : K). shard_of (meaning.numbers k)) keys i ∙ ap (option_map (λ (k : K). shard_of (meaning.numbers k))) is)
-
   pub refused-of : (r : PinRefusal) → IsRefusalOf eq meaning cache keys holds r → IsRefused eq meaning cache pass keys (passes_back holds) r
   refused-of (TurnOut word) r = absurd r
   refused-of (NotReady i) r = (
     r.0,
     (back-stops-all eq laws same meaning (shards_of meaning keys) cache pass holds h (take i keys) r.2, r.1),
-    pins-back eq laws same meaning (shards_of meaning keys) cache pass holds h of (shard_of (meaning.numbers r.0)) (below-four (meaning.numbers r.0)) (named-key i r.0 r.1) r.0 ∙ r.3,
+    pins-back eq laws same meaning (shards_of meaning keys) cache pass holds h of (shard_of (meaning.numbers r.0)) (below-four (meaning.numbers r.0)) (named-key meaning keys i r.0 r.1) r.0 ∙ r.3,
   )
   refused-of (PinsFull i) r = (
     r.0,
     r.1,
     (back-stops-all eq laws same meaning (shards_of meaning keys) cache pass holds h (take i keys) r.3, r.2),
-    pins-back eq laws same meaning (shards_of meaning keys) cache pass holds h of (shard_of (meaning.numbers r.0)) (below-four (meaning.numbers r.0)) (named-key i r.0 r.2) r.0 ∙ r.4,
+    pins-back eq laws same meaning (shards_of meaning keys) cache pass holds h of (shard_of (meaning.numbers r.0)) (below-four (meaning.numbers r.0)) (named-key meaning keys i r.0 r.2) r.0 ∙ r.4,
     r.5,
   )
   refused-of OutOfMemory r = absurd r

@@ -3,7 +3,7 @@ use Rattle.std.proofs.Common.{◌≡◌, ℕ, ◌+◌, ◌<◌, ◌==◌, ◌||�
 use Rattle.std.specs.Cmp.{IsEquivalence}
 use Rattle.std.specs.Bool.{MatchBool}
 use Rattle.std.proofs.lemmas.Bool.{eq-eqb}
-use Rattle.std.proofs.lemmas.List.{map-append}
+use Rattle.std.proofs.lemmas.List.{append-nil, map-append}
 use Rattle.turn_cell.specs.History.{History, entry_list, with_entry}
 use Rattle.turn_cell.specs.Passes.{Follows, IsWholeBut, first_pass, split_pass, joined_pass, mine}
 use Rattle.turn_cell.proofs.Passes.{Follows_same, Follows_trans, IsOf-Follows, TakesTurn_itself, whole_first, whole_follows, whole_rejoined, whole_list, whole-but_none, whole-but_split, whole-but_join, whole-but_follows}
@@ -17,7 +17,7 @@ use Rattle.flight_cache.specs.Shards.{Shards, CachePassView, EachHasGivenBack, a
 use Rattle.flight_cache.specs.Pinning.{is_named, shards_of, keys_in, TurnsWith}
 use Rattle.flight_cache.specs.declared.kept.Opening.{Opening}
 use Rattle.flight_cache.specs.declared.kept.Entry.{Entry}
-use Rattle.flight_cache.specs.Laws.{HitHolds, FillHolds, UnpinGives, PinAllHolds, ClaimOpens, IsLater, CallIsLater, LaterIsLater, StaysOfCache, FirstIsWhole, StaysWhole, JoinedIsWhole, WholeButNone, SplitIsWholeBut, JoinIsWholeBut, LaterIsWholeBut, WholeKnowsAll, AskIsAnswered, PlacesAreInShard, PinnedAllHolds, NothingIsGivenBack, GivenBackAgain, OneGivesBack, GivesFollow, GivesOwnSteps, EachIsLater, GivesItself}
+use Rattle.flight_cache.specs.Laws.{HitHolds, FillHolds, UnpinGives, PinAllHolds, ClaimOpens, IsLater, CallIsLater, LaterIsLater, StaysOfCache, FirstIsWhole, StaysWhole, JoinedIsWhole, WholeButNone, SplitIsWholeBut, JoinIsWholeBut, LaterIsWholeBut, WholeKnowsAll, AskIsAnswered, PlacesAreInShard, PinnedAllHolds, NothingHolds, NothingIsGivenBack, GivenBackAgain, OneGivesBack, GivesFollow, GivesOwnSteps, EachIsLater, GivesItself}
 use Rattle.flight_cache.proofs.Asking.{gives-follows}
 use Rattle.flight_cache.proofs.Places.{named-kept}
 use Rattle.flight_cache.proofs.Four.{at-shard, at-each}
@@ -43,39 +43,6 @@ module _ {K V T : Type 0} (eq : K → K → Bool) (laws : IsEquivalence eq) (mea
 module _ {K V T : Type 0} (eq : K → K → Bool) (laws : IsEquivalence eq) (same : (a b : K) → eq a b ≡ true → a ≡ b) (meaning : Meaning K V T) where
   pub places_are_in_shard : PlacesAreInShard eq meaning
   places_are_in_shard shard keys key here = named-kept eq (is_in meaning shard.tag) key (λ x e. subst (λ (k : K). is_in meaning shard.tag k ≡ true) (same key x e) here) keys
-
-  -- no place of a key is among keys whose shards leave its shard out
-  named-none : (under : Opening T) (key : K) → is_in meaning under key ≡ true → (keys : List K) → is_named (shards_of meaning keys) under.shard ≡ false → times_named eq key keys ≡ 0
-  named-none under key here [] none = refl
-  named-none under key here (x ∷ xs) none =
-      (elim (shard_of (meaning.numbers x) == under.shard) as (λ b. is_in meaning under x ≡ b → (b || is_named (shards_of meaning xs) under.shard) ≡ false → one_if (eq key x) + times_named eq key xs ≡ 0) [
-        | true ↦ λ t no. cc
-        | false ↦ λ f rest. (elim (eq key x) as (λ c. eq key x ≡ c → one_if c + times_named eq key xs ≡ 0) [
-          | true ↦ λ e. let no : true ≡ false = sym (subst (λ (k : K). is_in meaning under k ≡ true) (same key x e) here) ∙ f in cc
-          | false ↦ λ e. omega (arith, named-none under key here xs rest)
-        ]) refl
-      ]) refl none
-
-  pinned-one : (shard : ShardView T) (pass after : ShardPassView K T) (keys : List K) (key : K) → is_in meaning shard.tag key ≡ true
-      → TurnsWith eq meaning (shards_of meaning keys) shard pass after (PinAll (keys_in meaning shard keys) ∷ [])
-      → pins_left eq (own_steps meaning shard.tag after) key ≡ pins_left eq (own_steps meaning shard.tag pass) key + times_named eq key keys
-  pinned-one shard pass after keys key here =
-      (elim (is_named (shards_of meaning keys) shard.tag.shard) as (λ b. is_named (shards_of meaning keys) shard.tag.shard ≡ b
-      → MatchBool b (GivesSteps eq meaning shard pass after (PinAll (keys_in meaning shard keys) ∷ [])) (after ≡ pass)
-      → pins_left eq (own_steps meaning shard.tag after) key ≡ pins_left eq (own_steps meaning shard.tag pass) key + times_named eq key keys) [
-        | true ↦ λ t g. pin_all_holds eq laws meaning shard pass after (keys_in meaning shard keys) g key ∙ ap (λ (n : ℕ). pins_left eq (own_steps meaning shard.tag pass) key + n) (places_are_in_shard shard keys key here)
-        | false ↦ λ f is. let none = named-none shard.tag key here keys f in let kept = ap (λ (p : ShardPassView K T). pins_left eq (own_steps meaning shard.tag p) key) is in omega arith
-      ]) refl
-
-  pub pinned_all_holds : PinnedAllHolds eq meaning
-  pinned_all_holds cache pass after keys pins of p key =
-      let n = shard_of (meaning.numbers key) in
-      at-each (λ (shard : ShardView T) (q r : ShardPassView K T). is_in meaning shard.tag key ≡ true → pins_left eq (own_steps meaning shard.tag r) key ≡ pins_left eq (own_steps meaning shard.tag q) key + times_named eq key keys) cache.shards pass after
-      (λ here. pinned-one cache.shards.first pass.first after.first keys key here p.first)
-      (λ here. pinned-one cache.shards.second pass.second after.second keys key here p.second)
-      (λ here. pinned-one cache.shards.third pass.third after.third keys key here p.third)
-      (λ here. pinned-one cache.shards.fourth pass.fourth after.fourth keys key here p.fourth)
-      n (below-four (meaning.numbers key)) (eq-eqb _ _ (sym (at-shard cache.tag cache.shards of n (below-four (meaning.numbers key))).number))
 
 module _ {K V T : Type 0} (eq : K → K → Bool) (meaning : Meaning K V T) where
   pub gives_follow : GivesFollow eq meaning
@@ -263,3 +230,82 @@ module _ {K T : Type 0} where
     third = whole-but_follows p.third q.third ns l.third.0 w.third l.third.1;
     fourth = whole-but_follows p.fourth q.fourth ns l.fourth.0 w.fourth l.fourth.1;
   }
+
+module _ {K V T : Type 0} (eq : K → K → Bool) (meaning : Meaning K V T) (shard : ShardView T) (pass after : ShardPassView K T) where
+  turned : (b : Bool) (steps : List (Step K V)) → MatchBool b (GivesSteps eq meaning shard pass after steps) (after ≡ pass) → (entries : List (Entry K)) × Follows pass after entries
+  turned true steps g = later-one eq meaning shard pass after steps g
+  turned false steps e = subst (λ (z : ShardPassView K T). (entries : List (Entry K)) × Follows pass z entries) (sym e) (same-later pass)
+
+  same-open : (b : Bool) (keys : List K) → MatchBool b (GivesSteps eq meaning shard pass after (PinAll keys ∷ [])) (after ≡ pass)
+      → (key : K) → has_open eq (own_steps meaning shard.tag after) key ≡ has_open eq (own_steps meaning shard.tag pass) key
+  same-open true keys g key = g.claims key
+  same-open false keys e key = ap (λ (p : ShardPassView K T). has_open eq (own_steps meaning shard.tag p) key) e
+
+-- what a success of pinning several keys leaves
+module _ {K V T : Type 0} (eq : K → K → Bool) (laws : IsEquivalence eq) (same : (a b : K) → eq a b ≡ true → a ≡ b) (meaning : Meaning K V T) where
+  -- no place of a key is among keys whose shards leave its shard out
+  named-none : (under : Opening T) (key : K) → is_in meaning under key ≡ true → (keys : List K) → is_named (shards_of meaning keys) under.shard ≡ false → times_named eq key keys ≡ 0
+  named-none under key here [] none = refl
+  named-none under key here (x ∷ xs) none =
+      (elim (shard_of (meaning.numbers x) == under.shard) as (λ b. is_in meaning under x ≡ b → (b || is_named (shards_of meaning xs) under.shard) ≡ false → one_if (eq key x) + times_named eq key xs ≡ 0) [
+        | true ↦ λ t no. cc
+        | false ↦ λ f rest. (elim (eq key x) as (λ c. eq key x ≡ c → one_if c + times_named eq key xs ≡ 0) [
+          | true ↦ λ e. let no : true ≡ false = sym (subst (λ (k : K). is_in meaning under k ≡ true) (same key x e) here) ∙ f in cc
+          | false ↦ λ e. omega (arith, named-none under key here xs rest)
+        ]) refl
+      ]) refl none
+
+  pinned-one : (shard : ShardView T) (pass after : ShardPassView K T) (keys : List K) (key : K) → is_in meaning shard.tag key ≡ true
+      → TurnsWith eq meaning (shards_of meaning keys) shard pass after (PinAll (keys_in meaning shard keys) ∷ [])
+      → pins_left eq (own_steps meaning shard.tag after) key ≡ pins_left eq (own_steps meaning shard.tag pass) key + times_named eq key keys
+  pinned-one shard pass after keys key here =
+      (elim (is_named (shards_of meaning keys) shard.tag.shard) as (λ b. is_named (shards_of meaning keys) shard.tag.shard ≡ b
+      → MatchBool b (GivesSteps eq meaning shard pass after (PinAll (keys_in meaning shard keys) ∷ [])) (after ≡ pass)
+      → pins_left eq (own_steps meaning shard.tag after) key ≡ pins_left eq (own_steps meaning shard.tag pass) key + times_named eq key keys) [
+        | true ↦ λ t g. pin_all_holds eq laws meaning shard pass after (keys_in meaning shard keys) g key ∙ ap (λ (n : ℕ). pins_left eq (own_steps meaning shard.tag pass) key + n) (places_are_in_shard eq laws same meaning shard keys key here)
+        | false ↦ λ f is. let none = named-none shard.tag key here keys f in let kept = ap (λ (p : ShardPassView K T). pins_left eq (own_steps meaning shard.tag p) key) is in omega arith
+      ]) refl
+
+  pub pinned_all_holds : PinnedAllHolds eq meaning
+  pinned_all_holds cache pass after keys pins of p = record {
+    later = record {
+      first = turned eq meaning cache.shards.first pass.first after.first _ _ p.first;
+      second = turned eq meaning cache.shards.second pass.second after.second _ _ p.second;
+      third = turned eq meaning cache.shards.third pass.third after.third _ _ p.third;
+      fourth = turned eq meaning cache.shards.fourth pass.fourth after.fourth _ _ p.fourth;
+    };
+    pins = λ key. let n = shard_of (meaning.numbers key) in
+        at-each (λ (shard : ShardView T) (q r : ShardPassView K T). is_in meaning shard.tag key ≡ true → pins_left eq (own_steps meaning shard.tag r) key ≡ pins_left eq (own_steps meaning shard.tag q) key + times_named eq key keys) cache.shards pass after
+        (λ here. pinned-one cache.shards.first pass.first after.first keys key here p.first)
+        (λ here. pinned-one cache.shards.second pass.second after.second keys key here p.second)
+        (λ here. pinned-one cache.shards.third pass.third after.third keys key here p.third)
+        (λ here. pinned-one cache.shards.fourth pass.fourth after.fourth keys key here p.fourth)
+        n (below-four (meaning.numbers key)) (eq-eqb _ _ (sym (at-shard cache.tag cache.shards of n (below-four (meaning.numbers key))).number));
+    claims = λ key.
+        at-each (λ (shard : ShardView T) (q r : ShardPassView K T). has_open eq (own_steps meaning shard.tag r) key ≡ has_open eq (own_steps meaning shard.tag q) key) cache.shards pass after
+        (same-open eq meaning cache.shards.first pass.first after.first _ _ p.first key)
+        (same-open eq meaning cache.shards.second pass.second after.second _ _ p.second key)
+        (same-open eq meaning cache.shards.third pass.third after.third _ _ p.third key)
+        (same-open eq meaning cache.shards.fourth pass.fourth after.fourth _ _ p.fourth key)
+        (shard_of (meaning.numbers key)) (below-four (meaning.numbers key));
+  }
+
+-- and what a call leaves that gave nothing
+module _ {K V T : Type 0} (eq : K → K → Bool) (meaning : Meaning K V T) where
+  pub nothing-own : (shard : ShardView T) (pass after : ShardPassView K T) → Follows pass after [] → own_steps meaning shard.tag after ≡ own_steps meaning shard.tag pass
+  nothing-own shard pass after f = ap (map (step_of meaning shard.tag)) (f.mine ∙ append-nil (mine pass))
+
+  pub nothing_holds : NothingHolds eq meaning
+  nothing_holds cache pass after h =
+      let own : (key : K) → let n = shard_of (meaning.numbers key) in own_steps meaning (at cache.shards n).tag (at after n) ≡ own_steps meaning (at cache.shards n).tag (at pass n) = λ key.
+      at-each (λ (shard : ShardView T) (q r : ShardPassView K T). own_steps meaning shard.tag r ≡ own_steps meaning shard.tag q) cache.shards pass after
+      (nothing-own cache.shards.first pass.first after.first h.first)
+      (nothing-own cache.shards.second pass.second after.second h.second)
+      (nothing-own cache.shards.third pass.third after.third h.third)
+      (nothing-own cache.shards.fourth pass.fourth after.fourth h.fourth)
+      (shard_of (meaning.numbers key)) (below-four (meaning.numbers key)) in
+      record {
+        later = record { first = ([], h.first); second = ([], h.second); third = ([], h.third); fourth = ([], h.fourth) };
+        pins = λ key. let kept = ap (λ (l : List (Step K V)). pins_left eq l key) (own key) in omega arith;
+        claims = λ key. ap (λ (l : List (Step K V)). has_open eq l key) (own key);
+      }

@@ -2,17 +2,19 @@
 use Rattle.std.specs.Prelude.{◌≡◌, ℕ, ◌+◌, ◌<◌, ◌≤◌, Bool, true, false, ◌⊎◌, ◌↔◌, List, [], ◌∷◌, ◌++◌, length, map, Some, All, Contains}
 use Rattle.turn_cell.specs.History.{History, IsBelow, entries_of, numbers_of}
 use Rattle.turn_cell.specs.Passes.{Follows, Extends, IsWholePass, IsWholeBut, first_pass, split_pass, new_pass, joined_pass}
-use Rattle.evict_core.specs.Machine.{Answer, Hit, Claim, Ask, ask_answer, PinAll, Fill, Unpin, Step, unpinned, has_idle, maker_in, pins_in, status_of}
+use Rattle.evict_core.specs.Machine.{Answer, Hit, Claim, Ask, ask_answer, PinAll, Fill, Fail, Unpin, Limits, Step, unpinned, has_idle, maker_in, pins_in, status_of}
 use Rattle.evict_core.specs.History.{replay, pins_taken, pins_given, pins_left, held_below, has_open, times_named, is_evicted}
 use Rattle.evict_core.specs.Laws.{IsLostWithin, IsEvictedWithin}
 use Rattle.flight_cache.specs.Meaning.{Meaning, shard_of}
 use Rattle.flight_cache.specs.Histories.{is_in, step_of, steps_in, IsLegalUnder, left_by, AreMade, Stands}
 use Rattle.flight_cache.specs.Calls.{PinView, ShardView, ShardPassView, GivesSteps, HasGivenBack, own_steps}
-use Rattle.flight_cache.specs.Shards.{Shards, CacheView, CachePassView, IsCacheOf, AreShardsOf, AreAlike, EachGives, EachHasGivenBack, EachExtends, HasNothing, at, with_at, each, both}
-use Rattle.flight_cache.specs.Pinning.{keys_in, IsPinnedAll}
+use Rattle.flight_cache.specs.Shards.{Shards, CacheView, CachePassView, IsCacheOf, AreShardsOf, AreAlike, EachGives, EachHasGivenBack, EachExtends, HasNothing, at, with_at, each, both, part}
+use Rattle.flight_cache.specs.Pinning.{keys_in, GivesNothing, IsPinnedAll, IsRefused}
 use Rattle.flight_cache.specs.declared.kept.Opening.{Opening}
 use Rattle.flight_cache.specs.declared.kept.Kept.{Kept}
 use Rattle.flight_cache.specs.declared.kept.Entry.{Entry}
+use Rattle.flight_cache.specs.declared.pinning.PinRefusal.{PinRefusal}
+use Rattle.flight_cache.specs.declared.pinning.PinRefusal.TheVariants.{OutOfMemory}
 
 module _ {K V T : Type 0} (M : Type 0) (eq : K → K → Bool) (meaning : Meaning K V T) where
   -- the entries that no pin holds cost at most the budget
@@ -69,6 +71,31 @@ module _ {K V T : Type 0} (eq : K → K → Bool) (meaning : Meaning K V T) wher
   HistoryInLimit = (opening : Opening T) (history : History (Entry K)) → IsLegalUnder eq meaning opening history
       → (left_by eq meaning opening history).limit < length (left_by eq meaning opening history).entries → has_idle (left_by eq meaning opening history).entries ≡ false
 
+-- the step sets no limits
+abbrev pub SetsNoLimits : {K V : Type 0} → Step K V → Type 0
+SetsNoLimits (Ask key answer) = Unit {0}
+SetsNoLimits (PinAll keys) = Unit {0}
+SetsNoLimits (Fill key cost value) = Unit {0}
+SetsNoLimits (Fail key) = Unit {0}
+SetsNoLimits (Unpin key) = Unit {0}
+SetsNoLimits (Limits entries budget) = ⊥
+
+module _ {K V T : Type 0} (eq : K → K → Bool) (meaning : Meaning K V T) where
+  -- the limits that a history leaves are those of the opening where no step of it sets any
+  abbrev pub LimitsAreOpened : Type 0
+  LimitsAreOpened = (opening : Opening T) (history : History (Entry K)) → All (λ e. SetsNoLimits e.1) (steps_in meaning opening history)
+      → ((left_by eq meaning opening history).limit ≡ opening.entries) × ((left_by eq meaning opening history).budget ≡ opening.budget)
+
+  -- and else those of the last step that does
+  abbrev pub LimitsAreSet : Type 0
+  LimitsAreSet = (opening : Opening T) (history : History (Entry K)) (before later : History (Step K V)) (m entries budget : ℕ)
+      → steps_in meaning opening history ≡ before ++ (m, Limits entries budget) ∷ later → All (λ e. SetsNoLimits e.1) later
+      → ((left_by eq meaning opening history).limit ≡ entries) × ((left_by eq meaning opening history).budget ≡ budget)
+
+-- the parts of a limit are the whole
+abbrev pub PartsAddUp : Type 0
+PartsAddUp = (limit : ℕ) → part limit 0 + part limit 1 + part limit 2 + part limit 3 ≡ limit
+
 module _ {K V T : Type 0} (eq : K → K → Bool) (meaning : Meaning K V T) where
   -- a hit and a fill are a pin more of the key, a fill closes its claim, an unpin is a pin less, and a pin-all a pin more for each place
   abbrev pub HitHolds : Type 0
@@ -91,12 +118,6 @@ module _ {K V T : Type 0} (eq : K → K → Bool) (meaning : Meaning K V T) wher
   abbrev pub PlacesAreInShard : Type 0
   PlacesAreInShard = (shard : ShardView T) (keys : List K) (key : K) → is_in meaning shard.tag key ≡ true
       → times_named eq key (keys_in meaning shard keys) ≡ times_named eq key keys
-
-  -- after a success of pinning several keys, the pass of each key's shard holds a pin more of it for each of its places
-  abbrev pub PinnedAllHolds : Type 0
-  PinnedAllHolds = (cache : CacheView T) (pass after : CachePassView K T) (keys : List K) (pins : List (PinView K V)) → AreShardsOf cache.tag cache.shards → IsPinnedAll eq meaning cache pass keys after pins
-      → (key : K) → let n = shard_of (meaning.numbers key) in
-      pins_left eq (own_steps meaning (at cache.shards n).tag (at after n)) key ≡ pins_left eq (own_steps meaning (at cache.shards n).tag (at pass n)) key + times_named eq key keys
 
   -- a pass that gave nothing has nothing to give back
   abbrev pub NothingIsGivenBack : Type 0
@@ -212,3 +233,27 @@ module _ {K V T : Type 0} (eq : K → K → Bool) (meaning : Meaning K V T) wher
   -- what the first pass has seen extends it after a turn
   abbrev pub GivesItself : Type 0
   GivesItself = (shard : ShardView T) (pass after : ShardPassView K T) (steps : List (Step K V)) → pass.number ≡ 0 → 0 < pass.next → GivesSteps eq meaning shard pass after steps → Extends after after.seen
+
+module _ {K V T : Type 0} (eq : K → K → Bool) (meaning : Meaning K V T) where
+  -- a later pass, which holds a pin more of each key for each place that it has among these, and has the same claims open
+  pub record HoldsEachMore (cache : CacheView T) (pass after : CachePassView K T) (keys : List K) : Type 0 where
+    pub later : IsLater pass after
+    pub pins : (key : K) → let n = shard_of (meaning.numbers key) in
+        pins_left eq (own_steps meaning (at cache.shards n).tag (at after n)) key ≡ pins_left eq (own_steps meaning (at cache.shards n).tag (at pass n)) key + times_named eq key keys
+    pub claims : (key : K) → let n = shard_of (meaning.numbers key) in
+        has_open eq (own_steps meaning (at cache.shards n).tag (at after n)) key ≡ has_open eq (own_steps meaning (at cache.shards n).tag (at pass n)) key
+
+  -- a success of pinning several keys is a pin more for each place of a key
+  abbrev pub PinnedAllHolds : Type 0
+  PinnedAllHolds = (cache : CacheView T) (pass after : CachePassView K T) (keys : List K) (pins : List (PinView K V)) → AreShardsOf cache.tag cache.shards
+      → IsPinnedAll eq meaning cache pass keys after pins → HoldsEachMore cache pass after keys
+
+  -- a pass that gave nothing holds what it held
+  abbrev pub NothingHolds : Type 0
+  NothingHolds = (cache : CacheView T) (pass after : CachePassView K T) → GivesNothing pass after → HoldsEachMore cache pass after []
+
+  -- a refusal of pinning several keys is for one cause, where it isn't for want of memory
+  abbrev pub RefusedForOneCause : Type 0
+  RefusedForOneCause = (cache : CacheView T) (pass after : CachePassView K T) (keys : List K) (one other : PinRefusal) → AreShardsOf cache.tag cache.shards
+      → ¬ (one ≡ OutOfMemory) → ¬ (other ≡ OutOfMemory)
+      → IsRefused eq meaning cache pass keys after one → IsRefused eq meaning cache pass keys after other → one ≡ other

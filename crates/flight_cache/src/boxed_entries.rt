@@ -32,6 +32,7 @@ impl<K: Eq + Hash, V> Model for BoxedEntries<K, V> {
 }
 
 impl<K: Eq + Hash, V> BoxedEntries<K, V> {
+    /// No entries, with a limit from 1 to 65,536 and a budget of at most 2^40.
     pub fn open(alloc: Global, entries: u32, budget: u64) -> Mem<BoxedEntries<K, V>>
     where
         K: Drop,
@@ -47,12 +48,16 @@ impl<K: Eq + Hash, V> BoxedEntries<K, V> {
         })
     }
 
+    /// Asks for the key. A hit is the most recent entry from then on, and has one pin more. A key that may be claimed,
+    /// one that is being made and want of memory change nothing.
     pub fn ask(&mut self, key: &K) -> Ask<V>
         ensures { IsAskAnswer K.eq self.old key.now result self.new }
     {
         self.inner.ask(key)
     }
 
+    /// Takes the leave to make the value of a key, which the number then does. Want of memory changes nothing here, but
+    /// the key is gone.
     pub fn claim(&mut self, key: K, number: u32) -> Mem<()>
     where
         K: Drop,
@@ -64,6 +69,7 @@ impl<K: Eq + Hash, V> BoxedEntries<K, V> {
         self.inner.claim(key, number)
     }
 
+    /// The key that is being made has its value, with one pin, and is the most recent. The cost is at most 2^32.
     pub fn fill(&mut self, key: &K, value: Arc<V>, cost: u64)
     where
         V: Drop,
@@ -74,6 +80,7 @@ impl<K: Eq + Hash, V> BoxedEntries<K, V> {
         self.inner.fill(key, value, cost);
     }
 
+    /// The key that is being made is taken away.
     pub fn fail(&mut self, key: &K)
     where
         K: Drop,
@@ -84,6 +91,7 @@ impl<K: Eq + Hash, V> BoxedEntries<K, V> {
         self.inner.fail(key);
     }
 
+    /// One pin of the key is given back, and then as few entries are evicted as the limits want.
     pub fn unpin(&mut self, key: &K)
     where
         K: Drop,
@@ -94,6 +102,8 @@ impl<K: Eq + Hash, V> BoxedEntries<K, V> {
         self.inner.unpin(key);
     }
 
+    /// New limits, the entries from 1 to 65,536 and the budget at most 2^40, and then as few entries are evicted as they
+    /// want.
     pub fn set_limits(&mut self, entries: u32, budget: u64)
     where
         K: Drop,
@@ -106,18 +116,21 @@ impl<K: Eq + Hash, V> BoxedEntries<K, V> {
         self.inner.set_limits(entries, budget);
     }
 
+    /// The pins of a key whose value is made.
     pub fn pins_of(&self, key: &K) -> Option<u32>
         ensures { result ≡ ready_pins (status_of K.eq self.now key.now) }
     {
         self.inner.pins_of(key)
     }
 
+    /// The value of a key whose value is made.
     pub fn value_of(&self, key: &K) -> Mem<Option<Arc<V>>>
         ensures { IfOk result (λ o. option_map arc_value o ≡ ready_value (status_of K.eq self.now key.now)) }
     {
         self.inner.value_of(key)
     }
 
+    /// The hit of an ask, without the value. It takes no memory.
     pub fn pin(&mut self, key: &K)
         requires { ask_answer K.eq self.old key.now ≡ Some Hit }
         ensures { (m : ℕ) → self.new ≡ state_after K.eq self.old m (ask_step key.now Hit) }
@@ -125,6 +138,7 @@ impl<K: Eq + Hash, V> BoxedEntries<K, V> {
         self.inner.pin(key);
     }
 
+    /// The counts and sums.
     pub fn totals(&self) -> Totals
         ensures { result ≡ totals_of self.now }
     {

@@ -1,5 +1,5 @@
 //! The laws of shards and of what calls make of a pass. The functions do nothing: their contracts are the laws.
-ghost use Rattle.flight_cache.specs.Laws.{ShardsStayInBudget, ShardsStayInLimit, HistoryInBudget, HistoryInLimit, ShardsClaimOnce, ShardsFillOnce, ReadyAreMade, FliesWhereOpen, ShardPinsAreHeld, ShardsKeepHeld, HitHolds, FillHolds, UnpinGives, PinAllHolds, ClaimOpens, AskIsAnswered, PlacesAreInShard, PinnedAllHolds, NothingIsGivenBack, GivenBackAgain, OneGivesBack, GivesFollow, GivesOwnSteps, EachIsLater, GivesItself, CallIsLater, LaterIsLater, StaysOfCache, FirstIsWhole, StaysWhole, JoinedIsWhole, WholeButNone, SplitIsWholeBut, JoinIsWholeBut, LaterIsWholeBut, WholeKnowsAll};
+ghost use Rattle.flight_cache.specs.Laws.{ShardsStayInBudget, ShardsStayInLimit, HistoryInBudget, HistoryInLimit, ShardsClaimOnce, ShardsFillOnce, ReadyAreMade, FliesWhereOpen, ShardPinsAreHeld, ShardsKeepHeld, HitHolds, FillHolds, UnpinGives, PinAllHolds, ClaimOpens, AskIsAnswered, PlacesAreInShard, PinnedAllHolds, NothingIsGivenBack, GivenBackAgain, OneGivesBack, GivesFollow, GivesOwnSteps, EachIsLater, GivesItself, NothingHolds, RefusedForOneCause, LimitsAreOpened, LimitsAreSet, PartsAddUp, CallIsLater, LaterIsLater, StaysOfCache, FirstIsWhole, StaysWhole, JoinedIsWhole, WholeButNone, SplitIsWholeBut, JoinIsWholeBut, LaterIsWholeBut, WholeKnowsAll};
 
 use crate::made::Made;
 
@@ -46,6 +46,21 @@ pub fn calls<M: Made>()
     ensures pin_all { PinAllHolds M.Key.eq M.meaning }
     ensures places { PlacesAreInShard M.Key.eq M.meaning }
     ensures pinned { PinnedAllHolds M.Key.eq M.meaning }
+    ensures nothing { NothingHolds M.Key.eq M.meaning }
+{}
+
+/// A refusal of `try_pin_all` is for one cause: no two of the refusals that aren't for want of memory hold of the same
+/// call.
+pub fn refusals<M: Made>()
+    ensures { RefusedForOneCause M.Key.eq M.meaning }
+{}
+
+/// The limits of what a shard's history leaves are those of its last entry that sets some, or else those that the shard
+/// was opened with; and the parts of a limit, one for each shard, add up to it.
+pub fn limits<M: Made>()
+    ensures opened { LimitsAreOpened M.Key.eq M.meaning }
+    ensures set { LimitsAreSet M.Key.eq M.meaning }
+    ensures parts { PartsAddUp }
 {}
 
 /// A pass that gave nothing has nothing to give back, and has nothing again after steps that give back what they take.

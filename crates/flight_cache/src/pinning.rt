@@ -1,7 +1,7 @@
 //! Pins of several keys at once, without waiting.
 ghost use Rattle.std.specs.Prelude.{◌≡◌, IfOk, IfErr};
 ghost use Rattle.flight_cache.specs.Shards.{IsCacheOf};
-ghost use Rattle.flight_cache.specs.Pinning.{IsPinnedAll, IsRefused, shards_of};
+ghost use Rattle.flight_cache.specs.Pinning.{GivesNothing, IsPinnedAll, IsRefused, shards_of};
 
 use crate::cache::Cache;
 use crate::made::{Made, shard_number};
@@ -32,6 +32,7 @@ impl<M: Made> Cache<M> {
         requires { IsCacheOf self.now pass }
         ensures pinned { IfOk result.1 (λ pins. IsPinnedAll M.Key.eq M.meaning self.now pass keys.now.items result.0 pins.items) }
         ensures refused { IfErr result.1 (IsRefused M.Key.eq M.meaning self.now pass keys.now.items result.0) }
+        ensures nothing { IfErr result.1 (λ refusal. GivesNothing pass result.0) }
     {
         self.numbered();
         let Ok(shards) = shard_numbers::<M>(alloc, keys) else {

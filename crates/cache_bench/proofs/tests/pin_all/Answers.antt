@@ -1,12 +1,12 @@
 use Rattle.std.proofs.Common.{◌==◌, ◌∙◌}
-use Rattle.flight_cache.proofs.Releases.{pinned-stays, refused-stays, pinned-held}
+use Rattle.flight_cache.proofs.Releases.{pinned-stays, nothing-stays, pinned-held}
 use Rattle.cache_bench.specs.Doubled.{doubled}
 use Rattle.cache_bench.proofs.tests.pin_all.Goals as goal
 
 pub unpin_all-pass-requires-clause-cell : goal.unpin_all-pass-requires-clause-cell
 unpin_all-pass-requires-clause-cell g c =
     let pinned = rw c.in-Ok.is at c.try_pin_all-pass.ensures.pinned in
-    (pinned-stays (◌==◌) doubled c.args.cache.now c.args.pass c.args.keys.now.items c.try_pin_all-pass.result.0 _ c.requires pinned).0
+    (pinned-stays (◌==◌) doubled c.args.cache.now c.args.pass c.args.keys.now.items c.try_pin_all-pass.result.0 c.calls.ensures.pinned c.numbered.ensures _ c.requires pinned).0
 
 pub unpin_all-pass-requires-clause-held : goal.unpin_all-pass-requires-clause-held
 unpin_all-pass-requires-clause-held g c =
@@ -16,10 +16,10 @@ unpin_all-pass-requires-clause-held g c =
 pub returns-in-Ok-clause-number : goal.returns-in-Ok-clause-number
 returns-in-Ok-clause-number g c =
     let pinned = rw c.in-Ok.is at c.try_pin_all-pass.ensures.pinned in
-    c.unpin_all-pass.ensures.number ∙ (pinned-stays (◌==◌) doubled c.args.cache.now c.args.pass c.args.keys.now.items c.try_pin_all-pass.result.0 _ c.requires pinned).1
+    c.unpin_all-pass.ensures.number ∙ (pinned-stays (◌==◌) doubled c.args.cache.now c.args.pass c.args.keys.now.items c.try_pin_all-pass.result.0 c.calls.ensures.pinned c.numbered.ensures _ c.requires pinned).1
 
 pub returns-in-Err : goal.returns-in-Err
 returns-in-Err g c =
-    let refused = rw c.in-Err.is at c.try_pin_all-pass.ensures.refused in
-    let stays = refused-stays (◌==◌) doubled c.args.cache.now c.args.pass c.args.keys.now.items c.try_pin_all-pass.result.0 _ c.requires refused in
+    let nothing = rw c.in-Err.is at c.try_pin_all-pass.ensures.nothing in
+    let stays = nothing-stays (◌==◌) doubled c.args.cache.now c.args.pass c.args.keys.now.items c.try_pin_all-pass.result.0 c.requires nothing in
     record { cell = stays.0; number = stays.1 }

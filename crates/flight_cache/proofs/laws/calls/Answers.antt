@@ -1,4 +1,4 @@
-use Rattle.flight_cache.proofs.Rows.{ask_is_answered, places_are_in_shard, pinned_all_holds, hit_holds, claim_opens, fill_holds, unpin_gives, pin_all_holds}
+use Rattle.flight_cache.proofs.Rows.{ask_is_answered, places_are_in_shard, pinned_all_holds, nothing_holds, hit_holds, claim_opens, fill_holds, unpin_gives, pin_all_holds}
 use Rattle.flight_cache.proofs.laws.calls.Goals as goal
 
 pub returns : goal.returns
@@ -11,4 +11,5 @@ returns g c = record {
   pin_all = pin_all_holds g.M.Key.PartialEq.eq g.met.M.Key.Eq.laws g.M.Made.meaning;
   places = places_are_in_shard g.M.Key.PartialEq.eq g.met.M.Key.Eq.laws g.met.M.Made.same_key g.M.Made.meaning;
   pinned = pinned_all_holds g.M.Key.PartialEq.eq g.met.M.Key.Eq.laws g.met.M.Made.same_key g.M.Made.meaning;
+  nothing = nothing_holds g.M.Key.PartialEq.eq g.M.Made.meaning;
 }
