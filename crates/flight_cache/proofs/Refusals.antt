@@ -9,7 +9,7 @@ use Rattle.turn_cell.proofs.Passes.{Follows_same, Follows_tries}
 use Rattle.evict_core.specs.Machine.{max_pins, status_of}
 use Rattle.evict_core.specs.History.{times_named}
 use Rattle.evict_core.specs.Asked.{ready_pins}
-use Rattle.flight_cache.specs.Meaning.{Meaning, shard_count, shard_of}
+use Rattle.flight_cache.specs.Meaning.{Meaning, shard_of}
 use Rattle.flight_cache.specs.Histories.{is_in}
 use Rattle.flight_cache.specs.Calls.{ShardView, ShardPassView, GivesSteps}
 use Rattle.flight_cache.specs.Shards.{CacheView, CachePassView, AreShardsOf}
@@ -78,7 +78,7 @@ module _ {K V T : Type 0} (eq : K → K → Bool) (same : (a b : K) → eq a b �
   shown-one i j k is lt shard pass after here named stops =
       let cut = cut-at keys i j k is lt in
       let parted = ap (keys_in meaning shard) cut.1 ∙ (filter-append (is_in meaning shard.tag) (take i keys) (k ∷ cut.0)
-          ∙ ap (λ (b : Bool). keys_in meaning shard (take i keys) ++ cond b (k ∷ keys_in meaning shard cut.0) (keys_in meaning shard cut.0)) here) in
+      ∙ ap (λ (b : Bool). keys_in meaning shard (take i keys) ++ cond b (k ∷ keys_in meaning shard cut.0) (keys_in meaning shard cut.0)) here) in
       let can = stops.before named (keys_in meaning shard (take i keys)) (keys_in meaning shard cut.0) k parted in
       (can.0, can.1, subst (λ (n : ℕ). can.0 + n < max_pins) (places_are_in_shard eq laws same meaning shard (take i keys) k here) can.2)
 

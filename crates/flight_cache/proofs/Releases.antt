@@ -1,8 +1,8 @@
 -- What pinning several keys leaves, and giving their pins back.
-use Rattle.std.proofs.Common.{◌≡◌, ℕ, zero, suc, ◌+◌, ◌<◌, ◌≤◌, ◌==◌, Bool, true, false, List, ◌∷◌, [], ◌++◌, map, refl, sym, ap, ◌∙◌, subst, arith}
+use Rattle.std.proofs.Common.{◌≡◌, ℕ, zero, suc, ◌<◌, ◌≤◌, ◌==◌, Bool, true, false, List, ◌∷◌, [], ◌++◌, map, refl, sym, ap, ◌∙◌, subst, arith}
 use Rattle.std.specs.Cmp.{IsEquivalence}
 use Rattle.std.proofs.lemmas.Bool.{eq-eqb, eqb-true}
-use Rattle.evict_core.specs.Machine.{Step, Unpin}
+use Rattle.evict_core.specs.Machine.{Unpin}
 use Rattle.evict_core.specs.History.{times_named, pins_left}
 use Rattle.flight_cache.specs.Meaning.{Meaning, shard_of, shard_count}
 use Rattle.flight_cache.specs.Calls.{PinView, ShardPassView, own_steps}
