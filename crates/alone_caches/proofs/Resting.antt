@@ -12,7 +12,8 @@ use Rattle.evict_core.proofs.RecencyLemmas.{lookup-to_front, lookup-change, look
 use Rattle.evict_core.proofs.TrimLemmas.{kept-by-trim}
 use Rattle.evict_core.proofs.StateLemmas.{IsSound, sound-after}
 use Rattle.evict_core.proofs.PinLemmas.{pins-after}
-use Rattle.alone_caches.specs.Keeping.{IsAtRest, entry_limit, with_hit, with_fill}
+use Rattle.cache_kinds.specs.Limits.{entry_limit}
+use Rattle.alone_caches.specs.Keeping.{IsAtRest, with_hit, with_fill}
 
 some-limit : (budget : ℕ) → 1 ≤ entry_limit budget
 some-limit budget = omega arith

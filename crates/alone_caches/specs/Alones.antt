@@ -15,7 +15,8 @@ use Rattle.mask_keys.specs.declared.region_key.RegionKey.{RegionKey}
 use Rattle.mask_model.specs.Costs.{mask_cost, region_cost}
 use Rattle.mask_model.specs.Outlines.{IsFontSet}
 use Rattle.mask_model.specs.Values.{composite_value, mask_value, region_value}
-use Rattle.alone_caches.specs.Keeping.{AloneCacheView, IsAtRest, entry_limit}
+use Rattle.cache_kinds.specs.Limits.{entry_limit}
+use Rattle.alone_caches.specs.Keeping.{AloneCacheView, IsAtRest}
 
 -- The fonts that all values are made from, the budget that each cache has, and the entries of the three.
 pub record AloneView : Type 0 where

@@ -1,16 +1,8 @@
 -- Public: a cache of one thread: what its entries are between its calls, and what each call makes of them.
-use Rattle.std.specs.Prelude.{◌≡◌, ℕ, ◌/◌, ◌≤◌, Bool, length, min, max, Option, Some, None}
+use Rattle.std.specs.Prelude.{◌≡◌, ℕ, ◌≤◌, Bool, length, Option, Some, None}
 use Rattle.evict_core.specs.Recency.{Apart}
-use Rattle.evict_core.specs.Machine.{Status, Ready, State, Hit, Claim, Ask, Fill, Unpin, max_entries, status_of, state_after, unpinned}
-use Rattle.flight_cache.specs.Shards.{min_cache_entries}
-
--- how much budget an entry stands for
-abbrev pub budget_of_entry : ℕ
-budget_of_entry = 1024
-
--- the limit of entries that goes with a budget
-abbrev pub entry_limit : ℕ → ℕ
-entry_limit budget = min max_entries (max min_cache_entries (budget / budget_of_entry))
+use Rattle.evict_core.specs.Machine.{Status, Ready, State, Hit, Claim, Ask, Fill, Unpin, status_of, state_after, unpinned}
+use Rattle.cache_kinds.specs.Limits.{entry_limit}
 
 -- a cache of one thread: what its values are made from besides their keys, and its entries
 pub record AloneCacheView (K V T : Type 0) : Type 0 where

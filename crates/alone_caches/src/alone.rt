@@ -5,7 +5,7 @@ ghost use Rattle.evict_core.specs.Machine.{Limits, max_budget, state_after};
 ghost use Rattle.mask_keys.specs.Equality.{equal_composites, equal_masks, equal_regions};
 ghost use Rattle.mask_model.specs.Outlines.{IsFontSet};
 ghost use Rattle.alone_caches.specs.Alones.{AreAtRest, no_entries};
-ghost use Rattle.alone_caches.specs.Keeping.{entry_limit};
+ghost use Rattle.cache_kinds.specs.Limits.{entry_limit};
 
 use crate::cache::AloneCache;
 use ass_num::Mem;

@@ -4,9 +4,11 @@ ghost use Rattle.std.specs.Arc.{arc_value};
 ghost use Rattle.evict_core.specs.Machine.{Limits, max_budget, max_cost, max_entries, state_after, status_of};
 ghost use Rattle.evict_core.specs.History.{opening};
 ghost use Rattle.evict_core.specs.Asked.{ready_value};
-ghost use Rattle.alone_caches.specs.Keeping.{IsAtRest, after_find, after_keep, entry_limit, with_fill};
+ghost use Rattle.alone_caches.specs.Keeping.{IsAtRest, after_find, after_keep, with_fill};
+ghost use Rattle.cache_kinds.specs.Limits.{entry_limit};
 
 use ass_num::{Mem, OutOfMemory};
+use cache_kinds::entry_limit;
 use evict_core::{Ask, Entries};
 use flight_cache::Made;
 use std::alloc::Global;
@@ -14,24 +16,8 @@ use std::marker::Model;
 use std::snapshot::Snapshot;
 use std::sync::Arc;
 
-// How much budget an entry stands for.
-const BUDGET_OF_ENTRY: u64 = 1024;
-
-const MIN_ENTRIES: u64 = 16;
-
-const MAX_ENTRIES: u64 = 65_536;
-
 // Who claims: nobody else could.
 const OWN_NUMBER: u32 = 0;
-
-// The limit of entries that goes with a budget.
-fn entries_of(budget: u64) -> u32
-    ensures value { result ≡ entry_limit budget }
-    ensures least { 1 ≤ result }
-    ensures most { result ≤ max_entries }
-{
-    (budget / BUDGET_OF_ENTRY).max(MIN_ENTRIES).min(MAX_ENTRIES) as u32
-}
 
 /// Values of keys, for one thread. A value is shared and not lent, so it outlives its entry, and no pin outlives the call
 /// that took it.
@@ -62,7 +48,7 @@ impl<M: Made> AloneCache<M> {
         ensures tag { IfOk result (λ c. c.tag ≡ tag.now) }
         ensures entries { IfOk result (λ c. c.entries ≡ opening (entry_limit budget) budget) }
     {
-        let entries = Entries::open(alloc, entries_of(budget), budget)?;
+        let entries = Entries::open(alloc, entry_limit(budget), budget)?;
         Ok(AloneCache {
             tag: Snapshot::of(tag),
             entries,
@@ -116,7 +102,7 @@ impl<M: Made> AloneCache<M> {
         ensures tag { self.new.tag ≡ self.old.tag }
         ensures budget { self.new.entries.budget ≡ budget }
     {
-        self.entries.set_limits(entries_of(budget), budget);
+        self.entries.set_limits(entry_limit(budget), budget);
     }
 
     /// The entries are at rest between calls.

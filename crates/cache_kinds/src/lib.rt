@@ -2,5 +2,7 @@
 #![tactic(auto)]
 
 mod kinds;
+mod limits;
 
 pub use kinds::{CompositeMade, MaskMade, OutlineMade};
+pub use limits::entry_limit;

@@ -3,7 +3,7 @@ use Rattle.std.proofs.Common.{◌≡◌, ℕ, Result, Ok, Err, sym, refl, subst}
 use Rattle.std.specs.Result.{IfOk}
 use Rattle.turn_cell.specs.Passes.{first_pass}
 use Rattle.flight_cache.specs.Shards.{CacheView, CachePassView, IsCacheOf, AreShardsOf, HasLimits, each}
-use Rattle.mask_caches.specs.Together.{entry_limit}
+use Rattle.cache_kinds.specs.Limits.{entry_limit}
 use Rattle.mask_caches.specs.Caches.{IsNewCache}
 
 module _ {K T E : Type 0} where

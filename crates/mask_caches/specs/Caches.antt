@@ -8,7 +8,7 @@ use Rattle.flight_cache.specs.Histories.{left_by}
 use Rattle.flight_cache.specs.Shards.{CacheView, CachePassView, IsCacheOf, AreShardsOf, EachHasGivenBack, EachGaveAsMuch, EachBegins, EachIsBelow, EachExtends, HasLimits, HasNothing, each, both, sum_of_totals}
 use Rattle.mask_keys.specs.Equality.{equal_regions, equal_masks, equal_composites}
 use Rattle.cache_kinds.specs.Kinds.{region_meaning, mask_meaning, composite_meaning}
-use Rattle.mask_caches.specs.Together.{entry_limit}
+use Rattle.cache_kinds.specs.Limits.{entry_limit}
 use Rattle.mask_caches.specs.declared.caches.Caches.{Caches}
 use Rattle.mask_caches.specs.declared.passes.CachesPass.{CachesPass}
 

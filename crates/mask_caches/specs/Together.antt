@@ -1,9 +1,8 @@
--- Public: the passes of three caches that go together.
-use Rattle.std.specs.Prelude.{◌≡◌, ℕ, ◌/◌, min, max}
+-- Inner: the passes of three caches that go together.
+use Rattle.std.specs.Prelude.{◌≡◌}
 use Rattle.std.specs.Arc.{arc_value}
 use Rattle.std.specs.declared.sync.Arc.{Arc}
-use Rattle.flight_cache.specs.Shards.{CachePassView, min_cache_entries}
-use Rattle.evict_core.specs.Machine.{max_entries}
+use Rattle.flight_cache.specs.Shards.{CachePassView}
 
 -- the three passes have one number, and drew as many numbers
 pub record AreTogether {J K L T : Type 0} (outlines : CachePassView J T) (masks : CachePassView K T) (composites : CachePassView L T) : Type 0 where
@@ -17,11 +16,3 @@ pub record HaveFonts {F Z : Type 0} (fonts outlines masks composites : Arc F Z) 
   pub outlines_have : arc_value outlines ≡ arc_value fonts
   pub masks_have : arc_value masks ≡ arc_value fonts
   pub composites_have : arc_value composites ≡ arc_value fonts
-
--- how much budget an entry stands for
-abbrev pub budget_of_entry : ℕ
-budget_of_entry = 1024
-
--- the limit of entries that goes with a budget
-abbrev pub entry_limit : ℕ → ℕ
-entry_limit budget = min max_entries (max min_cache_entries (budget / budget_of_entry))

@@ -9,34 +9,18 @@ ghost use Rattle.mask_model.specs.Outlines.{IsFontSet};
 ghost use Rattle.mask_caches.specs.Adding.{Adds};
 ghost use Rattle.mask_caches.specs.Leases.{HoldsLease, given_steps, is_pinned};
 ghost use Rattle.mask_caches.specs.Caches.{AreNew, HasAllGivenBack, IsNewCache, AreJoined, IsPassOf, IsSamePass, IsSplit, IsSplitIn, all_totals};
-ghost use Rattle.mask_caches.specs.Together.{entry_limit};
+ghost use Rattle.cache_kinds.specs.Limits.{entry_limit};
 
 use crate::caches::Caches;
 use crate::lease::{Lease, give_back};
 use crate::passes::CachesPass;
 use ass_num::{Mem, OutOfMemory};
 use bdf_font::FontSet;
-use cache_kinds::CompositeMade;
+use cache_kinds::{CompositeMade, entry_limit};
 use evict_core::Totals;
 use flight_cache::{Cache, CachePass, Made};
 use std::alloc::Global;
 use std::sync::{Arc, Wait};
-
-// How much budget an entry stands for.
-const BUDGET_OF_ENTRY: u64 = 1024;
-
-const MIN_ENTRIES: u64 = 16;
-
-const MAX_ENTRIES: u64 = 65_536;
-
-// The limit of entries that goes with a budget.
-fn entries_of(budget: u64) -> u32
-    ensures value { result ≡ entry_limit budget }
-    ensures least { min_cache_entries ≤ result }
-    ensures most { result ≤ max_entries }
-{
-    (budget / BUDGET_OF_ENTRY).max(MIN_ENTRIES).min(MAX_ENTRIES) as u32
-}
 
 // A cache with the whole budget, and its first pass.
 fn open_cache<M: Made>(alloc: Global, tag: M::Tag, budget: u64) -> Mem<(Cache<M>, CachePass<M>)>
@@ -45,7 +29,7 @@ fn open_cache<M: Made>(alloc: Global, tag: M::Tag, budget: u64) -> Mem<(Cache<M>
     ensures new { IfOk result (λ r. IsNewCache r.0 r.1 budget) }
     ensures pass { IfOk result (λ r. IsCacheOf r.0 r.1) }
 {
-    let entries = entries_of(budget);
+    let entries = entry_limit(budget);
     Cache::open(alloc, tag, entries, budget)
 }
 
@@ -112,7 +96,7 @@ impl Caches {
             masks,
             composites,
         } = pass;
-        let entries = entries_of(budget);
+        let entries = entry_limit(budget);
         let outlines = self.outlines.set_limits(rt, outlines, entries, budget);
         let masks = self.masks.set_limits(rt, masks, entries, budget);
         let composites = self.composites.set_limits(rt, composites, entries, budget);

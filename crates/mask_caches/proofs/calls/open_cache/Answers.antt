@@ -4,6 +4,6 @@ use Rattle.mask_caches.proofs.calls.open_cache.Goals as goal
 pub returns : goal.returns
 returns g c = record {
   tag = c.open.ensures.tag;
-  new = opened-new c.open.result c.args.tag c.entries_of-entries.result c.args.budget c.entries_of-entries.ensures.value c.open.ensures.tag c.open.ensures.shards c.open.ensures.limits c.open.ensures.pass;
+  new = opened-new c.open.result c.args.tag c.entry_limit-entries.result c.args.budget c.entry_limit-entries.ensures.value c.open.ensures.tag c.open.ensures.shards c.open.ensures.limits c.open.ensures.pass;
   pass = opened-pass c.open.result c.open.ensures.pass;
 }
