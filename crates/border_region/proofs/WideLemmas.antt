@@ -1,5 +1,5 @@
 -- Rows whose runs reach further to both sides.
-use Rattle.std.proofs.Common.{◌≡◌, ℕ, ◌+◌, ◌<◌, Bool, true, subst, ◌∷◌, ◌&&◌, ◌||◌, ℤ, pos, ◌+ℤ◌, ◌-ℤ◌, ◌≤ℤ◌, ◌<ℤ◌, ◌⊎◌, inl, inr, ⊎_elim, refl, sym, ◌∙◌, arith, int_lt, int_le, List, [], length, get_or, take}
+use Rattle.std.proofs.Common.{◌≡◌, ℕ, ◌+◌, ◌<◌, Bool, true, false, not, ◌∷◌, ◌&&◌, ◌||◌, ℤ, pos, ◌+ℤ◌, ◌-ℤ◌, ◌≤ℤ◌, ◌<ℤ◌, ◌⊎◌, inl, inr, ⊎_elim, refl, sym, ◌∙◌, arith, int_lt, int_le, List, [], length, get_or, take}
 use Rattle.std.proofs.lemmas.Int.{ints, by_lt_z}
 use Rattle.std.proofs.lemmas.Bool.{and_parts, or_cases, or_left, or_right, and_from, false≢true}
 use Rattle.std.proofs.lemmas.List.{take_more, get_or_default}
@@ -43,9 +43,6 @@ front_from row n d k l f =
 pub covers_none : (w : ℕ) (runs : List Run) → Covers w [] runs
 covers_none w runs = λ k i m near. absurd (false≢true m)
 
-covers_itself : (row : List Run) → Covers 0 row row
-covers_itself row k i h near = let e : i ≡ k = omega (arith, ints, near.0, near.1) in rw e h
-
 run_same : (a b : Run) → run.ghosts.eq a b ≡ true → a ≡ b
 run_same a b e = grind (arith, signed_Decides a.from b.from, signed_Decides a.to b.to)
 
@@ -59,9 +56,13 @@ runs_same (x ∷ xs) (y ∷ ys) e =
     let tail = runs_same xs ys parts.1 in
     cc
 
--- A row that is found equal to another one by `==` lies in it.
-pub equal_covers : (row before : List Run) (found : Bool) → found ≡ pointwise run.ghosts.eq row before → found ≡ true → Covers 0 row before
-equal_covers row before found is e = subst (Covers 0 row) (runs_same row before (sym is ∙ e)) (covers_itself row)
+from_not : (b : Bool) → not b ≡ false → b ≡ true
+from_not true e = refl
+from_not false e = sym e
+
+-- Rows that aren't found different by `!=` are the same.
+pub equal_rows : (row before : List Run) (differ : Bool) → differ ≡ not (pointwise run.ghosts.eq row before) → differ ≡ false → row ≡ before
+equal_rows row before differ is e = runs_same row before (from_not (pointwise run.ghosts.eq row before) (sym is ∙ e))
 
 pub covers_more : (w : ℕ) (row : List Run) (n : ℕ) (d wide : Run) (runs : List Run) → n < length row → wide.from ≡ (get_or row n d).from -ℤ pos w → wide.to ≡ (get_or row n d).to +ℤ pos w → Covers w (take n row) runs → IsRunCovered wide runs → Covers w (take (n + 1) row) runs
 covers_more w row n d wide runs l f t old new = λ k i m near.

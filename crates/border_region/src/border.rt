@@ -7,7 +7,7 @@ ghost use Rattle.ass_num.specs.Regions.{is_canonical, member};
 ghost use Rattle.region_rows.specs.Widened.{in_widened};
 
 use crate::ellipse::{Ellipse, ellipse_of};
-use crate::frontier::frontier;
+use crate::frontier::{changes, frontier};
 use crate::merge::Merge;
 use ass_num::{Mem, Region};
 use region_rows::{Growth, RowRange, end};
@@ -88,10 +88,11 @@ pub fn widened(alloc: Global, region: &Region, rx: u32, ry: u32) -> Mem<Region>
         return Ok(Region::empty(alloc));
     }
     let rows = rows_around(region, ry);
+    let changes = changes(alloc, region)?;
     let mut border = Border {
         ellipse: ellipse_of(alloc, rx, ry)?,
-        above: frontier(alloc, region, true)?,
-        below: frontier(alloc, region, false)?,
+        above: frontier(alloc, region, changes.as_slice(), true)?,
+        below: frontier(alloc, region, changes.as_slice(), false)?,
         merge: Merge::new(alloc),
         growth: Growth::new(alloc, rows.first),
     };

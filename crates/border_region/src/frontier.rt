@@ -1,15 +1,14 @@
 //! The rows of a region that reach beyond the rows before them.
 
-ghost use Rattle.std.specs.Prelude.{◌≡◌, ℤ, pos, ◌+ℤ◌, ◌-ℤ◌, ◌≤ℤ◌, ◌<ℤ◌, ◌⊎◌, true, false, All, IfOk, IsTrue, length, neg_ℤ};
-ghost use Rattle.border_region.specs.Limits.{max_key, max_seen};
+ghost use Rattle.std.specs.Prelude.{◌≡◌, ℤ, pos, ◌≤ℤ◌, ◌<◌, true, All, IfOk, length, neg_ℤ};
+ghost use Rattle.border_region.specs.Limits.{max_seen};
 ghost use Rattle.ass_num.specs.Limits.{IsRegionWithin, IsRunWithin, max_sample};
 ghost use Rattle.ass_num.specs.Regions.{ascend, in_runs};
-ghost use Rattle.border_region.specs.Widths.{Covers};
-ghost use Rattle.border_region.specs.Frontier.{IsFrontier, is_seen, row_of_key};
+ghost use Rattle.border_region.specs.Frontier.{AreChanges, AreNear, IsFrontier, change_key, is_seen, row_of_key};
 
 use crate::wide_rows::covers_row;
 use ass_num::{Mem, Region, Run};
-use region_rows::{RowRange, end, row};
+use region_rows::{end, row};
 use std::alloc::Global;
 
 /// The row at a key: the key itself, or with its sign turned where rows are taken upwards.
@@ -33,45 +32,43 @@ pub fn seen_row(region: &Region, upwards: bool, key: i32) -> &[Run]
     row(region, row_of_key(upwards, key))
 }
 
-/// The keys of the region's rows.
-fn keys_of(region: &Region, upwards: bool) -> RowRange
+/// The rows that don't have the runs of the row before them, in ascending order.
+pub fn changes(alloc: Global, region: &Region) -> Mem<Vec<i32>>
     requires { IsRegionWithin max_sample region.now.top region.now.rows }
-    ensures before { (key i : ℤ) → key <ℤ result.first → is_seen region.now upwards key i ≡ false }
-    ensures after { (key i : ℤ) → result.end ≤ℤ key → is_seen region.now upwards key i ≡ false }
-    ensures low { neg_ℤ (pos max_key) ≤ℤ result.first }
-    ensures high { result.end ≤ℤ pos max_key }
-    ensures ordered { result.first ≤ℤ result.end }
+    ensures { IfOk result (λ rows. AreChanges region.now rows.items) }
 {
-    if upwards {
-        return RowRange {
-            first: 1 - end(region),
-            end: 1 - region.top(),
-        };
+    let mut found = Vec::new(alloc);
+    for j in region.top()..end(region) + 1 {
+        if row(region, j) != row(region, j - 1) {
+            found.push(j)?;
+        }
     }
-    RowRange {
-        first: region.top(),
-        end: end(region),
-    }
+    Ok(found)
 }
 
-/// Whether all samples of a row are in the row before it, which often has the same runs.
-fn is_covered(row: &[Run], before: &[Run]) -> bool
-    requires { All (IsRunWithin max_sample) row.now }
-    ensures { IsTrue result → Covers 0 row.now before.now }
+/// The key at which the n-th change is met.
+fn change_key(changes: &[i32], upwards: bool, n: usize) -> i32
+    requires within { n < length changes.now }
+    requires near { AreNear changes.now }
+    ensures { result ≡ change_key upwards changes.now n }
 {
-    row == before || covers_row(before, row, 0)
+    if upwards {
+        return 1 - changes[changes.len() - 1 - n];
+    }
+    changes[n]
 }
 
 /// The keys of the rows with a run that the row before doesn't cover, in ascending order.
-pub fn frontier(alloc: Global, region: &Region, upwards: bool) -> Mem<Vec<i32>>
-    requires { IsRegionWithin max_sample region.now.top region.now.rows }
+pub fn frontier(alloc: Global, region: &Region, changes: &[i32], upwards: bool) -> Mem<Vec<i32>>
+    requires within { IsRegionWithin max_sample region.now.top region.now.rows }
+    requires changes { AreChanges region.now changes.now }
     ensures { IfOk result (λ keys. IsFrontier region.now upwards keys.items) }
 {
-    let keys = keys_of(region, upwards);
     let mut found = Vec::new(alloc);
-    for key in keys.first..keys.end {
+    for n in 0..changes.len() {
+        let key = change_key(changes, upwards, n);
         let before = seen_row(region, upwards, key - 1);
-        if !is_covered(seen_row(region, upwards, key), before) {
+        if !covers_row(before, seen_row(region, upwards, key), 0) {
             found.push(key)?;
         }
     }
