@@ -1,2 +1,9 @@
 pub mod Adding
+pub mod Closing
+pub mod Levels
 pub mod Opening
+pub mod PartVisits
+pub mod PlainValues
+pub mod Releasing
+pub mod Tagged
+pub mod Visiting

@@ -1,0 +1,148 @@
+-- Visits of the masks of parts, one after another.
+use Rattle.std.proofs.Common.{◌≡◌, ℕ, ◌+◌, ◌-◌, ◌<◌, ◌≤◌, Bool, true, false, List, [], ◌∷◌, ◌++◌, length, map, take, reverse, flat_map, Result, Ok, Err, All, refl, sym, ap, ◌∙◌, subst, append_assoc, append-nil, arith}
+use Rattle.std.specs.Arc.{arc_value}
+use Rattle.std.specs.declared.sync.Arc.{Arc}
+use Rattle.std.proofs.lemmas.Grind.{flat_map-append}
+use Rattle.std.proofs.Math.Seq.{take-append_seam}
+use Rattle.std.proofs.lemmas.List.{length-append, length-map, map-append, reverse-append}
+use Rattle.std.proofs.lemmas.List.Elements.{All-push, All-nil, All-take}
+use Rattle.ass_num.specs.Masks.{MaskValue}
+use Rattle.bdf_font.specs.Fonts.{FontValue}
+use Rattle.bdf_font.specs.declared.font.FontSet.{FontSet}
+use Rattle.evict_core.specs.Machine.{Step}
+use Rattle.evict_core.specs.History.{times_named, one_if}
+use Rattle.flight_cache.specs.Shards.{CacheView, CachePassView}
+use Rattle.flight_cache.proofs.Places.{named-append}
+use Rattle.cache_kinds.specs.Kinds.{region_meaning, mask_meaning}
+use Rattle.made_values.specs.Parts.{masks_of}
+use Rattle.mask_keys.specs.Equality.{equal_regions, equal_masks}
+use Rattle.mask_keys.specs.declared.composite_key.Part.{Part}
+use Rattle.mask_keys.specs.declared.mask_key.MaskKey.{MaskKey}
+use Rattle.mask_keys.specs.declared.region_key.RegionKey.{RegionKey}
+use Rattle.mask_model.specs.Values.{mask_value}
+use Rattle.mask_caches.specs.Adding.{Adds, HoldsAsMuch, pins_of, is_open}
+use Rattle.mask_caches.specs.Courses.{Course, Found, Filled, Failed, MadeApart, FailedApart, Unasked, unpin_steps, has_value, IsHadBy, HoldsTheLease, pins_in}
+use Rattle.mask_caches.specs.Leases.{given_steps, lease_value}
+use Rattle.mask_caches.specs.Holding.{AreAllHad, HoldsMore, all_given_steps, pinned_key, pinned_keys}
+use Rattle.mask_caches.specs.Visits.{MaskVisit, IsMaskVisit, AreMaskVisits, mask_steps, mask_unpins, steps_of_its_region, region_steps_of}
+use Rattle.mask_caches.specs.declared.lease.Lease.{Lease}
+use Rattle.mask_caches.specs.declared.lease.Lease.TheVariants.{Pinned, Own}
+use Rattle.mask_caches.proofs.Adding.{adds-none, adds-then}
+use Rattle.mask_caches.proofs.Visiting.{given-course, had-value, lease-value}
+
+module _ {M E Z : Type 0} (fonts : List FontValue) (regions cache : CacheView (Arc FontSet Z)) (tagged : (arc_value cache.tag).fonts ≡ fonts)
+    (o : CachePassView RegionKey (Arc FontSet Z)) (p : CachePassView MaskKey (Arc FontSet Z)) where
+  abbrev Leases : Type 0
+  Leases = List (Lease M MaskKey MaskValue (Arc FontSet Z))
+
+  -- the masks of these parts were had
+  pub record AreHad (done : List Part) (t : CachePassView RegionKey (Arc FontSet Z)) (s : CachePassView MaskKey (Arc FontSet Z)) (leases : List (Lease M MaskKey MaskValue (Arc FontSet Z))) : Type 0 where
+    pub visits : List MaskVisit
+    pub keys : map (λ v. v.key) visits ≡ map (λ part. part.mask) done
+    pub each : All IsMaskVisit visits
+    pub had : All (λ v. has_value v.course ≡ true) visits
+    pub outlines : Adds equal_regions region_meaning regions o t (region_steps_of regions.tag visits)
+    pub masks : Adds equal_masks mask_meaning cache p s (flat_map (mask_steps cache.tag) visits)
+    pub outlines_hold : HoldsAsMuch equal_regions region_meaning regions o t
+    pub masks_hold : HoldsMore equal_masks mask_meaning cache p s (pinned_keys leases)
+    pub given : all_given_steps leases ≡ flat_map (mask_unpins cache.tag) (reverse visits)
+    pub values : map lease_value leases ≡ masks_of fonts done
+
+  pub none-had : AreHad [] o p []
+  none-had = record {
+    visits = [];
+    keys = refl;
+    each = All-nil IsMaskVisit;
+    had = All-nil (λ v. has_value v.course ≡ true);
+    outlines = adds-none equal_regions region_meaning regions o;
+    masks = adds-none equal_masks mask_meaning cache p;
+    outlines_hold = record { pins = λ k. refl; claims = λ k. refl };
+    masks_hold = record { pins = λ k. omega arith; claims = λ k. refl };
+    given = refl;
+    values = refl;
+  }
+
+  -- what one more visit adds
+  flat-more : {X Y : Type 0} (f : X → List Y) (xs : List X) (x : X) → flat_map f (xs ++ x ∷ []) ≡ flat_map f xs ++ f x
+  flat-more f xs x = flat_map-append f xs (x ∷ []) ∙ ap (λ l. flat_map f xs ++ l) (append-nil (f x))
+
+  pins-more : (q s : CachePassView MaskKey (Arc FontSet Z)) (leases : List (Lease M MaskKey MaskValue (Arc FontSet Z))) (lease : Lease M MaskKey MaskValue (Arc FontSet Z))
+      → HoldsMore equal_masks mask_meaning cache p q (pinned_keys leases) → HoldsTheLease {E = E} equal_masks mask_meaning cache q s (Ok lease) → HoldsMore equal_masks mask_meaning cache p s (pinned_keys (leases ++ lease ∷ []))
+  pins-more q s leases (Pinned pin) more holds = record {
+    pins = λ k. let one = holds.pins k in let before = more.pins k in let places = ap (times_named equal_masks k) (flat-more pinned_key leases (Pinned pin)) ∙ named-append equal_masks k (pinned_keys leases) (pin.key ∷ []) in omega arith;
+    claims = λ k. holds.claims k ∙ more.claims k;
+  }
+  pins-more q s leases (Own value) more holds = record {
+    pins = λ k. let one = holds.pins k in let before = more.pins k in let places = ap (times_named equal_masks k) (flat-more pinned_key leases (Own value)) ∙ named-append equal_masks k (pinned_keys leases) [] in omega arith;
+    claims = λ k. holds.claims k ∙ more.claims k;
+  }
+
+  pub one-more : (done : List Part) (part : Part) (t u : CachePassView RegionKey (Arc FontSet Z)) (q s : CachePassView MaskKey (Arc FontSet Z)) (leases : List (Lease M MaskKey MaskValue (Arc FontSet Z))) (lease : Lease M MaskKey MaskValue (Arc FontSet Z))
+      → AreHad done t q leases
+      → (visit : MaskVisit) × IsMaskVisit visit × (visit.key ≡ part.mask)
+      × Adds equal_regions region_meaning regions t u (steps_of_its_region regions.tag visit)
+      × Adds equal_masks mask_meaning cache q s (mask_steps cache.tag visit)
+      × IsHadBy {E = E} mask_meaning cache.tag part.mask visit.course (Ok lease)
+      → HoldsAsMuch equal_regions region_meaning regions t u → HoldsTheLease {E = E} equal_masks mask_meaning cache q s (Ok lease)
+      → AreHad (done ++ part ∷ []) u s (leases ++ lease ∷ [])
+  one-more done part t u q s leases lease h v much holds =
+      let unpins : given_steps lease ≡ mask_unpins cache.tag v.0 = given-course mask_meaning cache part.mask v.0.course lease v.5 ∙ ap (λ k. mask_unpins cache.tag (record { key = k; course = v.0.course; region = v.0.region })) (sym v.2) in
+      record {
+        visits = h.visits ++ v.0 ∷ [];
+        keys = map-append (λ (x : MaskVisit). x.key) h.visits (v.0 ∷ []) ∙ (ap (λ l. l ++ v.0.key ∷ []) h.keys ∙ (ap (λ (k : MaskKey). map (λ (x : Part). x.mask) done ++ k ∷ []) v.2 ∙ sym (map-append (λ (x : Part). x.mask) done (part ∷ []))));
+        each = All-push IsMaskVisit h.visits v.0 h.each v.1;
+        had = All-push (λ x. has_value x.course ≡ true) h.visits v.0 h.had (had-value mask_meaning cache part.mask v.0.course lease v.5);
+        outlines = subst (λ l. Adds equal_regions region_meaning regions o u l) (sym (flat-more (steps_of_its_region regions.tag) h.visits v.0)) (adds-then equal_regions region_meaning regions o t u _ _ h.outlines v.3);
+        masks = subst (λ l. Adds equal_masks mask_meaning cache p s l) (sym (flat-more (mask_steps cache.tag) h.visits v.0)) (adds-then equal_masks mask_meaning cache p q s _ _ h.masks v.4);
+        outlines_hold = record { pins = λ k. much.pins k ∙ h.outlines_hold.pins k; claims = λ k. much.claims k ∙ h.outlines_hold.claims k };
+        masks_hold = pins-more q s leases lease h.masks_hold holds;
+        given = ap (flat_map given_steps) (reverse-append leases (lease ∷ [])) ∙ (ap (λ l. given_steps lease ++ l) h.given ∙ (ap (λ l. l ++ flat_map (mask_unpins cache.tag) (reverse h.visits)) unpins ∙ sym (ap (flat_map (mask_unpins cache.tag)) (reverse-append h.visits (v.0 ∷ [])))));
+        values = map-append lease_value leases (lease ∷ []) ∙ (ap (λ l. l ++ lease_value lease ∷ []) h.values
+            ∙ (ap (λ x. masks_of fonts done ++ x ∷ []) (lease-value mask_meaning cache part.mask v.0.course lease v.5 ∙ ap (λ fs. mask_value fs part.mask) tagged)
+            ∙ sym (map-append (λ (x : Part). mask_value fonts x.mask) done (part ∷ []))));
+      }
+
+  -- a list of visits of the masks of the first parts
+  keys-front : (done rest : List Part) (visits : List MaskVisit) → map (λ v. v.key) visits ≡ map (λ part. part.mask) done → map (λ v. v.key) visits ≡ take (length visits) (map (λ part. part.mask) (done ++ rest))
+  keys-front done rest visits keys =
+      let long : length visits ≡ length (map (λ (x : Part). x.mask) done) = sym (length-map visits (λ (v : MaskVisit). v.key)) ∙ ap length keys in
+      keys ∙ sym (ap (λ n. take n (map (λ (x : Part). x.mask) (done ++ rest))) long ∙ (ap (take (length (map (λ (x : Part). x.mask) done))) (map-append (λ (x : Part). x.mask) done rest) ∙ take-append_seam (map (λ (x : Part). x.mask) done) (map (λ (x : Part). x.mask) rest)))
+
+  -- all parts' masks were had
+  pub all-had : (parts : List Part) (t : CachePassView RegionKey (Arc FontSet Z)) (s : CachePassView MaskKey (Arc FontSet Z)) (leases : List (Lease M MaskKey MaskValue (Arc FontSet Z))) → (h : AreHad parts t s leases) → AreMaskVisits parts h.visits × AreAllHad parts h.visits
+  all-had parts t s leases h = (
+    record {
+      keys = subst (λ (l : List Part). map (λ v. v.key) h.visits ≡ take (length h.visits) (map (λ part. part.mask) l)) (append-nil parts) (keys-front parts [] h.visits h.keys);
+      each = h.each;
+      had = All-take (λ v. has_value v.course ≡ true) (length h.visits - 1) h.visits h.had;
+    },
+    record {
+      as_many = sym (length-map h.visits (λ (v : MaskVisit). v.key)) ∙ (ap length h.keys ∙ length-map parts (λ (x : Part). x.mask));
+      had = h.had;
+    },
+  )
+
+  front-of : (visits : List MaskVisit) (v : MaskVisit) → take (length (visits ++ v ∷ []) - 1) (visits ++ v ∷ []) ≡ visits
+  front-of visits v = ap (λ n. take n (visits ++ v ∷ [])) (let long = length-append visits (v ∷ []) in omega arith) ∙ take-append_seam visits (v ∷ [])
+
+  -- the next part's mask couldn't be had
+  pub one-failed : (done rest : List Part) (part : Part) (t u : CachePassView RegionKey (Arc FontSet Z)) (q s : CachePassView MaskKey (Arc FontSet Z)) (leases : List (Lease M MaskKey MaskValue (Arc FontSet Z)))
+      → (h : AreHad done t q leases) → (v : MaskVisit) → IsMaskVisit v → v.key ≡ part.mask → has_value v.course ≡ false → AreMaskVisits (done ++ part ∷ rest) (h.visits ++ v ∷ [])
+  one-failed done rest part t u q s leases h v is key none = record {
+    keys = subst (λ (l : List Part). map (λ x. x.key) (h.visits ++ v ∷ []) ≡ take (length (h.visits ++ v ∷ [])) (map (λ x. x.mask) l)) (append_assoc done (part ∷ []) rest)
+        (keys-front (done ++ part ∷ []) rest (h.visits ++ v ∷ []) (map-append (λ (x : MaskVisit). x.key) h.visits (v ∷ []) ∙ (ap (λ l. l ++ v.key ∷ []) h.keys ∙ (ap (λ (k : MaskKey). map (λ (x : Part). x.mask) done ++ k ∷ []) key ∙ sym (map-append (λ (x : Part). x.mask) done (part ∷ []))))));
+    each = All-push IsMaskVisit h.visits v h.each is;
+    had = subst (λ (l : List MaskVisit). All (λ x. has_value x.course ≡ true) l) (sym (front-of h.visits v)) h.had;
+  }
+
+  -- what is had of it is nothing: no pin to give back
+  no-pins : (key : MaskKey) (course : Course) → has_value course ≡ false → unpin_steps mask_meaning cache.tag key course ≡ []
+  no-pins key Found none = cc
+  no-pins key Filled none = cc
+  no-pins key Failed none = refl
+  no-pins key MadeApart none = cc
+  no-pins key FailedApart none = refl
+  no-pins key Unasked none = refl
+
+  pub failed-unpins : (v : MaskVisit) → has_value v.course ≡ false → mask_unpins cache.tag v ≡ []
+  failed-unpins v none = no-pins v.key v.course none

@@ -1,0 +1,38 @@
+-- The value of a region that isn't widened is that of its outline.
+use Rattle.std.proofs.Common.{◌≡◌, ℕ, zero, suc, ◌==◌, ◌&&◌, not, Bool, true, false, List, refl, sym, ap, ◌∙◌, subst}
+use Rattle.ass_num.specs.Limits.{IsRegionWithin}
+use Rattle.ass_num.specs.Regions.{RegionValue}
+use Rattle.ass_num.specs.Winding.{inside}
+use Rattle.bdf_font.specs.Fonts.{FontValue}
+use Rattle.mask_keys.specs.declared.outline_key.OutlineKey.{OutlineKey}
+use Rattle.mask_keys.specs.declared.region_key.RegionKey.{RegionKey}
+use Rattle.mask_model.specs.Outlines.{rings_of}
+use Rattle.mask_model.specs.Regions.{widened_region}
+use Rattle.mask_model.specs.Values.{outline_value, region_value}
+use Rattle.mask_model.proofs.RegionLemmas.{region_within-canonical, region_within-limit}
+use Rattle.mask_model.proofs.WidenedLemmas.{widened_by_nothing}
+use Rattle.sample_region.specs.Limits.{max_inside}
+use Rattle.mask_caches.specs.Visits.{is_widened, outline_key}
+
+zero-radii : (rx ry : ℕ) → not ((rx == 0) && (ry == 0)) ≡ false → (rx ≡ 0) × (ry ≡ 0)
+zero-radii zero zero plain = (refl, refl)
+zero-radii zero (suc ry) plain = cc
+zero-radii (suc rx) ry plain = cc
+
+pub outline-near : (fonts : List FontValue) (key : OutlineKey) → IsRegionWithin max_inside (outline_value fonts key).top (outline_value fonts key).rows
+outline-near fonts key = region_within-limit max_inside (inside (rings_of fonts key))
+
+pub unwidened : (fonts : List FontValue) (key : OutlineKey) → outline_value fonts key ≡ widened_region 0 0 (outline_value fonts key)
+unwidened fonts key = widened_by_nothing (outline_value fonts key) (region_within-canonical max_inside (inside (rings_of fonts key))) (outline-near fonts key)
+
+pub plain-value : (fonts : List FontValue) (key : RegionKey) → is_widened key ≡ false → outline_value fonts key.outline ≡ region_value fonts key
+plain-value fonts key plain =
+    let radii = zero-radii key.rx key.ry plain in
+    unwidened fonts key.outline ∙ (ap (λ (n : ℕ). widened_region n 0 (outline_value fonts key.outline)) (sym radii.0) ∙ ap (λ (n : ℕ). widened_region key.rx n (outline_value fonts key.outline)) (sym radii.1))
+
+-- the region of a key's outline, as the cache has it
+pub outline-had : (fonts : List FontValue) (key : RegionKey) (value : RegionValue) → value ≡ region_value fonts (outline_key key) → value ≡ outline_value fonts key.outline
+outline-had fonts key value is = is ∙ sym (unwidened fonts key.outline)
+
+pub outline-had-near : (fonts : List FontValue) (key : RegionKey) (value : RegionValue) → value ≡ region_value fonts (outline_key key) → IsRegionWithin max_inside value.top value.rows
+outline-had-near fonts key value is = subst (λ (r : RegionValue). IsRegionWithin max_inside r.top r.rows) (sym (outline-had fonts key value is)) (outline-near fonts key.outline)
