@@ -20,15 +20,16 @@ use Rattle.mask_keys.specs.declared.composite_key.CompositeKey.{CompositeKey}
 use Rattle.mask_keys.specs.declared.mask_key.MaskKey.{MaskKey}
 use Rattle.mask_keys.specs.declared.region_key.RegionKey.{RegionKey}
 use Rattle.mask_caches.specs.Adding.{Adds}
-use Rattle.mask_caches.specs.Courses.{Course, Found, Unasked, has_value, has_pin, is_made, course_steps, use_steps, IsHadBy, duty_steps, IsDutyOf, settled_steps, IsSettled}
+use Rattle.mask_caches.specs.Courses.{Course, Found, Unasked, has_value, has_pin, is_made, course_steps, use_steps, IsHadBy, IsLeaseOf, duty_steps, IsDutyOf, settled_steps, IsSettled}
 use Rattle.mask_caches.specs.Composing.{ThreePasses, IsComposed}
 use Rattle.mask_caches.specs.Holding.{AreAllHad}
-use Rattle.mask_caches.specs.Visits.{RegionVisit, MaskVisit, CompositeVisit, IsRegionVisit, IsMaskVisit, AreMaskVisits, is_widened, outline_key, region_steps, region_use_steps, steps_of_its_region, mask_steps, region_steps_of, mask_steps_of}
+use Rattle.mask_caches.specs.Leases.{given_steps}
+use Rattle.mask_caches.specs.Visits.{RegionVisit, MaskVisit, CompositeVisit, IsRegionVisit, IsMaskVisit, AreMaskVisits, is_widened, outline_key, widening_steps, region_steps, region_use_steps, steps_of_its_region, mask_steps, region_steps_of, mask_steps_of}
 use Rattle.mask_caches.specs.declared.caches.Caches.{Caches}
 use Rattle.mask_caches.specs.declared.lease.Lease.{Lease}
 use Rattle.mask_caches.specs.declared.lease.Lease.TheVariants.{Pinned}
 use Rattle.mask_caches.proofs.Adding.{adds-none}
-use Rattle.mask_caches.proofs.Visiting.{settled-course}
+use Rattle.mask_caches.proofs.Visiting.{had-use, had-value, refused-use, settled-course}
 
 no-visit : RegionVisit
 no-visit = record { course = Unasked; outline = Unasked }
@@ -85,6 +86,52 @@ module _ {M E Z : Type 0} (cache : CacheView (Arc FontSet Z)) (key : RegionKey) 
         record { outline = λ both has. v.4 has },
         subst (λ (b : Bool). Adds equal_regions region_meaning cache p s (course_steps region_meaning cache.tag key v.0 (if b then use_steps region_meaning cache.tag (outline_key key) inner.0 [] else []))) (sym wide) v.1,
         v.2,
+      )
+
+-- a region that is used for what stands above it, and given back
+module _ {M E Z : Type 0} (cache : CacheView (Arc FontSet Z)) (p q : CachePassView RegionKey (Arc FontSet Z)) where
+  pub outline-used : (key k : RegionKey) (r : CachePassView RegionKey (Arc FontSet Z)) (lease : Lease M RegionKey RegionValue (Arc FontSet Z)) → k ≡ outline_key key
+      → (course : Course) × Adds equal_regions region_meaning cache p q (course_steps region_meaning cache.tag k course []) × IsLeaseOf region_meaning cache.tag k course lease
+      → Adds equal_regions region_meaning cache q r (given_steps lease)
+      → (course : Course) × Adds equal_regions region_meaning cache p r (use_steps region_meaning cache.tag (outline_key key) course []) × (has_value course ≡ true)
+  outline-used key k r lease is v gives =
+      let u = subst (λ (x : RegionKey). Adds equal_regions region_meaning cache p q (course_steps region_meaning cache.tag x v.0 []) × IsLeaseOf region_meaning cache.tag x v.0 lease) is (v.1, v.2) in (
+        v.0,
+        had-use equal_regions region_laws.laws-law region_same region_meaning cache (outline_key key) v.0 [] p q r lease u.1 u.0 gives,
+        had-value equal_regions region_laws.laws-law region_same region_meaning cache (outline_key key) v.0 lease u.1,
+      )
+
+  pub outline-refused : (key k : RegionKey) → k ≡ outline_key key
+      → (course : Course) × Adds equal_regions region_meaning cache p q (course_steps region_meaning cache.tag k course []) × (has_value course ≡ false)
+      → (course : Course) × Adds equal_regions region_meaning cache p q (use_steps region_meaning cache.tag (outline_key key) course []) × Unit {0}
+  outline-refused key k is v = (
+    v.0,
+    refused-use equal_regions region_laws.laws-law region_same region_meaning cache (outline_key key) v.0 [] p q v.2
+        (subst (λ (x : RegionKey). Adds equal_regions region_meaning cache p q (course_steps region_meaning cache.tag x v.0 [])) is v.1),
+    tt,
+  )
+
+  pub region-used : (key : MaskKey) (k : RegionKey) (r : CachePassView RegionKey (Arc FontSet Z)) (lease : Lease M RegionKey RegionValue (Arc FontSet Z)) → k ≡ region_key key
+      → RegionVisited {M} {E} cache k p q q (Ok lease)
+      → Adds equal_regions region_meaning cache q r (given_steps lease)
+      → (visit : RegionVisit) × IsRegionVisit (region_key key) visit × Adds equal_regions region_meaning cache p r (region_use_steps cache.tag (region_key key) visit) × (has_value visit.course ≡ true)
+  region-used key k r lease is v gives =
+      let u = subst (λ (x : RegionKey). IsRegionVisit x v.0 × Adds equal_regions region_meaning cache p q (region_steps cache.tag x v.0) × IsLeaseOf region_meaning cache.tag x v.0.course lease) is (v.1, v.2, v.3) in (
+        v.0,
+        u.0,
+        had-use equal_regions region_laws.laws-law region_same region_meaning cache (region_key key) v.0.course (widening_steps cache.tag (region_key key) v.0) p q r lease u.2 u.1 gives,
+        had-value equal_regions region_laws.laws-law region_same region_meaning cache (region_key key) v.0.course lease u.2,
+      )
+
+  pub region-refused : (key : MaskKey) (k : RegionKey) (refused : E) → k ≡ region_key key
+      → RegionVisited {M} {E} cache k p q q (Err refused)
+      → (visit : RegionVisit) × IsRegionVisit (region_key key) visit × Adds equal_regions region_meaning cache p q (region_use_steps cache.tag (region_key key) visit) × Unit {0}
+  region-refused key k refused is v =
+      let u = subst (λ (x : RegionKey). IsRegionVisit x v.0 × Adds equal_regions region_meaning cache p q (region_steps cache.tag x v.0)) is (v.1, v.2) in (
+        v.0,
+        u.0,
+        refused-use equal_regions region_laws.laws-law region_same region_meaning cache (region_key key) v.0.course (widening_steps cache.tag (region_key key) v.0) p q v.3 u.1,
+        tt,
       )
 
 module _ {Z : Type 0} (regions : CacheView (Arc FontSet Z)) (cache : CacheView (Arc FontSet Z)) (key : MaskKey) (o t : CachePassView RegionKey (Arc FontSet Z)) (p q : CachePassView MaskKey (Arc FontSet Z)) where

@@ -16,21 +16,23 @@ use Rattle.flight_cache.proofs.Places.{named-append}
 use Rattle.cache_kinds.specs.Kinds.{region_meaning, mask_meaning}
 use Rattle.made_values.specs.Parts.{masks_of}
 use Rattle.mask_keys.specs.Equality.{equal_regions, equal_masks}
+use Rattle.mask_keys.proofs.Equal.{mask_same}
+use Rattle.mask_keys.specs.contracts.mask_key.MaskKeyEq.TheImpl.Laws as mask_laws
 use Rattle.mask_keys.specs.declared.composite_key.Part.{Part}
 use Rattle.mask_keys.specs.declared.mask_key.MaskKey.{MaskKey}
 use Rattle.mask_keys.specs.declared.region_key.RegionKey.{RegionKey}
 use Rattle.mask_model.specs.Values.{mask_value}
 use Rattle.mask_caches.specs.Adding.{Adds, HoldsAsMuch, pins_of, is_open}
-use Rattle.mask_caches.specs.Courses.{Course, Found, Filled, Failed, MadeApart, FailedApart, Unasked, unpin_steps, has_value, IsHadBy, HoldsTheLease, pins_in}
+use Rattle.mask_caches.specs.Courses.{Course, has_value, IsHadBy, HoldsTheLease, pins_in}
 use Rattle.mask_caches.specs.Leases.{given_steps, lease_value}
 use Rattle.mask_caches.specs.Holding.{AreAllHad, HoldsMore, all_given_steps, pinned_key, pinned_keys}
 use Rattle.mask_caches.specs.Visits.{MaskVisit, IsMaskVisit, AreMaskVisits, mask_steps, mask_unpins, steps_of_its_region, region_steps_of}
 use Rattle.mask_caches.specs.declared.lease.Lease.{Lease}
 use Rattle.mask_caches.specs.declared.lease.Lease.TheVariants.{Pinned, Own}
 use Rattle.mask_caches.proofs.Adding.{adds-none, adds-then}
-use Rattle.mask_caches.proofs.Visiting.{given-course, had-value, lease-value}
+use Rattle.mask_caches.proofs.Visiting.{given-course, had-value, lease-value, no-unpins}
 
-module _ {M E Z : Type 0} (fonts : List FontValue) (regions cache : CacheView (Arc FontSet Z)) (tagged : (arc_value cache.tag).fonts ≡ fonts)
+module _ {M Z : Type 0} (fonts : List FontValue) (regions cache : CacheView (Arc FontSet Z)) (tagged : (arc_value cache.tag).fonts ≡ fonts)
     (o : CachePassView RegionKey (Arc FontSet Z)) (p : CachePassView MaskKey (Arc FontSet Z)) where
   abbrev Leases : Type 0
   Leases = List (Lease M MaskKey MaskValue (Arc FontSet Z))
@@ -66,18 +68,18 @@ module _ {M E Z : Type 0} (fonts : List FontValue) (regions cache : CacheView (A
   flat-more : {X Y : Type 0} (f : X → List Y) (xs : List X) (x : X) → flat_map f (xs ++ x ∷ []) ≡ flat_map f xs ++ f x
   flat-more f xs x = flat_map-append f xs (x ∷ []) ∙ ap (λ l. flat_map f xs ++ l) (append-nil (f x))
 
-  pins-more : (q s : CachePassView MaskKey (Arc FontSet Z)) (leases : List (Lease M MaskKey MaskValue (Arc FontSet Z))) (lease : Lease M MaskKey MaskValue (Arc FontSet Z))
+  pins-more : {E : Type 0} (q s : CachePassView MaskKey (Arc FontSet Z)) (leases : List (Lease M MaskKey MaskValue (Arc FontSet Z))) (lease : Lease M MaskKey MaskValue (Arc FontSet Z))
       → HoldsMore equal_masks mask_meaning cache p q (pinned_keys leases) → HoldsTheLease {E = E} equal_masks mask_meaning cache q s (Ok lease) → HoldsMore equal_masks mask_meaning cache p s (pinned_keys (leases ++ lease ∷ []))
-  pins-more q s leases (Pinned pin) more holds = record {
+  pins-more {E} q s leases (Pinned pin) more holds = record {
     pins = λ k. let one = holds.pins k in let before = more.pins k in let places = ap (times_named equal_masks k) (flat-more pinned_key leases (Pinned pin)) ∙ named-append equal_masks k (pinned_keys leases) (pin.key ∷ []) in omega arith;
     claims = λ k. holds.claims k ∙ more.claims k;
   }
-  pins-more q s leases (Own value) more holds = record {
+  pins-more {E} q s leases (Own value) more holds = record {
     pins = λ k. let one = holds.pins k in let before = more.pins k in let places = ap (times_named equal_masks k) (flat-more pinned_key leases (Own value)) ∙ named-append equal_masks k (pinned_keys leases) [] in omega arith;
     claims = λ k. holds.claims k ∙ more.claims k;
   }
 
-  pub one-more : (done : List Part) (part : Part) (t u : CachePassView RegionKey (Arc FontSet Z)) (q s : CachePassView MaskKey (Arc FontSet Z)) (leases : List (Lease M MaskKey MaskValue (Arc FontSet Z))) (lease : Lease M MaskKey MaskValue (Arc FontSet Z))
+  pub one-more : {E : Type 0} (done : List Part) (part : Part) (t u : CachePassView RegionKey (Arc FontSet Z)) (q s : CachePassView MaskKey (Arc FontSet Z)) (leases : List (Lease M MaskKey MaskValue (Arc FontSet Z))) (lease : Lease M MaskKey MaskValue (Arc FontSet Z))
       → AreHad done t q leases
       → (visit : MaskVisit) × IsMaskVisit visit × (visit.key ≡ part.mask)
       × Adds equal_regions region_meaning regions t u (steps_of_its_region regions.tag visit)
@@ -85,20 +87,20 @@ module _ {M E Z : Type 0} (fonts : List FontValue) (regions cache : CacheView (A
       × IsHadBy {E = E} mask_meaning cache.tag part.mask visit.course (Ok lease)
       → HoldsAsMuch equal_regions region_meaning regions t u → HoldsTheLease {E = E} equal_masks mask_meaning cache q s (Ok lease)
       → AreHad (done ++ part ∷ []) u s (leases ++ lease ∷ [])
-  one-more done part t u q s leases lease h v much holds =
-      let unpins : given_steps lease ≡ mask_unpins cache.tag v.0 = given-course mask_meaning cache part.mask v.0.course lease v.5 ∙ ap (λ k. mask_unpins cache.tag (record { key = k; course = v.0.course; region = v.0.region })) (sym v.2) in
+  one-more {E} done part t u q s leases lease h v much holds =
+      let unpins : given_steps lease ≡ mask_unpins cache.tag v.0 = given-course equal_masks mask_laws.laws-law mask_same mask_meaning cache part.mask v.0.course lease v.5 ∙ ap (λ k. mask_unpins cache.tag (record { key = k; course = v.0.course; region = v.0.region })) (sym v.2) in
       record {
         visits = h.visits ++ v.0 ∷ [];
         keys = map-append (λ (x : MaskVisit). x.key) h.visits (v.0 ∷ []) ∙ (ap (λ l. l ++ v.0.key ∷ []) h.keys ∙ (ap (λ (k : MaskKey). map (λ (x : Part). x.mask) done ++ k ∷ []) v.2 ∙ sym (map-append (λ (x : Part). x.mask) done (part ∷ []))));
         each = All-push IsMaskVisit h.visits v.0 h.each v.1;
-        had = All-push (λ x. has_value x.course ≡ true) h.visits v.0 h.had (had-value mask_meaning cache part.mask v.0.course lease v.5);
+        had = All-push (λ x. has_value x.course ≡ true) h.visits v.0 h.had (had-value equal_masks mask_laws.laws-law mask_same mask_meaning cache part.mask v.0.course lease v.5);
         outlines = subst (λ l. Adds equal_regions region_meaning regions o u l) (sym (flat-more (steps_of_its_region regions.tag) h.visits v.0)) (adds-then equal_regions region_meaning regions o t u _ _ h.outlines v.3);
         masks = subst (λ l. Adds equal_masks mask_meaning cache p s l) (sym (flat-more (mask_steps cache.tag) h.visits v.0)) (adds-then equal_masks mask_meaning cache p q s _ _ h.masks v.4);
         outlines_hold = record { pins = λ k. much.pins k ∙ h.outlines_hold.pins k; claims = λ k. much.claims k ∙ h.outlines_hold.claims k };
-        masks_hold = pins-more q s leases lease h.masks_hold holds;
+        masks_hold = pins-more {E} q s leases lease h.masks_hold holds;
         given = ap (flat_map given_steps) (reverse-append leases (lease ∷ [])) ∙ (ap (λ l. given_steps lease ++ l) h.given ∙ (ap (λ l. l ++ flat_map (mask_unpins cache.tag) (reverse h.visits)) unpins ∙ sym (ap (flat_map (mask_unpins cache.tag)) (reverse-append h.visits (v.0 ∷ [])))));
         values = map-append lease_value leases (lease ∷ []) ∙ (ap (λ l. l ++ lease_value lease ∷ []) h.values
-            ∙ (ap (λ x. masks_of fonts done ++ x ∷ []) (lease-value mask_meaning cache part.mask v.0.course lease v.5 ∙ ap (λ fs. mask_value fs part.mask) tagged)
+            ∙ (ap (λ x. masks_of fonts done ++ x ∷ []) (lease-value equal_masks mask_laws.laws-law mask_same mask_meaning cache part.mask v.0.course lease v.5 ∙ ap (λ fs. mask_value fs part.mask) tagged)
             ∙ sym (map-append (λ (x : Part). mask_value fonts x.mask) done (part ∷ []))));
       }
 
@@ -135,14 +137,8 @@ module _ {M E Z : Type 0} (fonts : List FontValue) (regions cache : CacheView (A
     had = subst (λ (l : List MaskVisit). All (λ x. has_value x.course ≡ true) l) (sym (front-of h.visits v)) h.had;
   }
 
-  -- what is had of it is nothing: no pin to give back
-  no-pins : (key : MaskKey) (course : Course) → has_value course ≡ false → unpin_steps mask_meaning cache.tag key course ≡ []
-  no-pins key Found none = cc
-  no-pins key Filled none = cc
-  no-pins key Failed none = refl
-  no-pins key MadeApart none = cc
-  no-pins key FailedApart none = refl
-  no-pins key Unasked none = refl
-
-  pub failed-unpins : (v : MaskVisit) → has_value v.course ≡ false → mask_unpins cache.tag v ≡ []
-  failed-unpins v none = no-pins v.key v.course none
+  -- and nothing of it is given back
+  pub failed-given : (v : MaskVisit) (visits : List MaskVisit) → has_value v.course ≡ false → flat_map (mask_unpins cache.tag) (reverse (visits ++ v ∷ [])) ≡ flat_map (mask_unpins cache.tag) (reverse visits)
+  failed-given v visits none =
+      ap (flat_map (mask_unpins cache.tag)) (reverse-append visits (v ∷ []))
+      ∙ ap (λ (l : List (Step MaskKey MaskValue)). l ++ flat_map (mask_unpins cache.tag) (reverse visits)) (no-unpins equal_masks mask_laws.laws-law mask_same mask_meaning cache v.key v.course none)

@@ -9,7 +9,7 @@ use Rattle.flight_cache.specs.Meaning.{Meaning}
 use Rattle.flight_cache.specs.Shards.{CacheView, CachePassView, HoldsEach}
 use Rattle.flight_cache.proofs.Places.{named-append}
 use Rattle.mask_caches.specs.Adding.{Adds, pins_of, is_open}
-use Rattle.mask_caches.specs.Leases.{IsHeld, given_steps}
+use Rattle.mask_caches.specs.Leases.{HoldsLease, given_steps}
 use Rattle.mask_caches.specs.Holding.{HoldsFewer, all_given_steps, pinned_key, pinned_keys}
 use Rattle.mask_caches.specs.declared.lease.Lease.{Lease}
 use Rattle.mask_caches.specs.declared.lease.Lease.TheVariants.{Pinned, Own}
@@ -31,7 +31,7 @@ module _ {M K V T : Type 0} (eq : K → K → Bool) (laws : IsEquivalence eq) (m
     holds = record { pins = λ k. omega arith; claims = λ k. refl };
   }
 
-  one-held : (q : CachePassView K T) (lease : Lease M K V T) → ((k : K) → times_named eq k (pinned_key lease) ≤ pins_of eq meaning cache q k) → IsHeld eq meaning cache q lease
+  one-held : (q : CachePassView K T) (lease : Lease M K V T) → ((k : K) → times_named eq k (pinned_key lease) ≤ pins_of eq meaning cache q k) → HoldsLease eq meaning cache q lease
   one-held q (Pinned pin) h = let here = rw (laws.refl pin.key) at (h pin.key) in omega arith
   one-held q (Own value) h = tt
 
@@ -41,7 +41,7 @@ module _ {M K V T : Type 0} (eq : K → K → Bool) (laws : IsEquivalence eq) (m
       let parts = ap (λ (l : List (Lease M K V T)). times_named eq k (pinned_keys l)) whole ∙ (ap (times_named eq k) (flat_map-append pinned_key left (lease ∷ given)) ∙ named-append eq k (pinned_keys left) (pinned_key lease ++ pinned_keys given)) in
       omega (arith, parts, named-append eq k (pinned_key lease) (pinned_keys given))
 
-  pub released-held : (q : CachePassView K T) (before left : List (Lease M K V T)) (lease : Lease M K V T) → before ≡ left ++ lease ∷ [] → AreReleased q before → HoldsEach eq meaning cache p (pinned_keys all) → IsHeld eq meaning cache q lease
+  pub released-held : (q : CachePassView K T) (before left : List (Lease M K V T)) (lease : Lease M K V T) → before ≡ left ++ lease ∷ [] → AreReleased q before → HoldsEach eq meaning cache p (pinned_keys all) → HoldsLease eq meaning cache q lease
   released-held q before left lease popped r held =
       one-held q lease (λ k.
       let had = held k in

@@ -13,7 +13,7 @@ use Rattle.flight_cache.specs.Calls.{TicketView, PinView}
 use Rattle.flight_cache.specs.Shards.{CacheView, CachePassView}
 use Rattle.mask_caches.specs.Adding.{Adds, HoldsAsMuch, pins_of, is_open}
 use Rattle.mask_caches.specs.Courses.{Course, Found, Filled, Failed, MadeApart, FailedApart, Unasked, has_value, has_pin, is_made, fill_step, course_steps, unpin_steps, use_steps, IsLeaseOf, IsHadBy, HoldsTheLease, pins_in, duty_steps, IsDutyOf, IsNewDuty, settled_steps, IsFilled, IsSettled}
-use Rattle.mask_caches.specs.Leases.{IsHeld, given_steps, lease_value}
+use Rattle.mask_caches.specs.Leases.{HoldsLease, given_steps, lease_value}
 use Rattle.mask_caches.specs.declared.lease.Lease.{Lease}
 use Rattle.mask_caches.specs.declared.lease.Lease.TheVariants.{Pinned, Own}
 use Rattle.mask_caches.proofs.Adding.{adds-then}
@@ -23,9 +23,9 @@ reclosed : (here was after last : Bool) → (here ≡ true → was ≡ false) �
 reclosed true was after last new opens closes = closes ∙ sym (new refl)
 reclosed false was after last new opens closes = closes ∙ opens
 
-pub any-ok : {A E : Type 0} (r : Result A E) → OnOk r (Unit {0})
-any-ok (Ok a) = tt
-any-ok (Err e) = tt
+pub any-ok : {A E P : Type 0} (r : Result A E) → P → OnOk r P
+any-ok (Ok a) p = p
+any-ok (Err e) p = tt
 
 module _ {K V T : Type 0} (eq : K → K → Bool) (laws : IsEquivalence eq) (same : (a b : K) → eq a b ≡ true → a ≡ b) (meaning : Meaning K V T) (cache : CacheView T) where
   pub much-itself : (p : CachePassView K T) → HoldsAsMuch eq meaning cache p p
@@ -60,6 +60,21 @@ module _ {K V T : Type 0} (eq : K → K → Bool) (laws : IsEquivalence eq) (sam
       (λ here. ap (is_open eq meaning cache p) (same k used here) ∙ new)
       (much.claims k ∙ subst (λ (x : K). is_open eq meaning cache q k ≡ (eq k x || is_open eq meaning cache p k)) (sym is) (asks.claims k))
       closes
+
+  -- what wasn't had leaves nothing to give back
+  pub no-unpins : (key : K) (course : Course) → has_value course ≡ false → unpin_steps meaning cache.tag key course ≡ []
+  no-unpins key Found none = cc
+  no-unpins key Filled none = cc
+  no-unpins key Failed none = refl
+  no-unpins key MadeApart none = cc
+  no-unpins key FailedApart none = refl
+  no-unpins key Unasked none = refl
+
+  pub refused-use : (key : K) (course : Course) (inner : List (Step K V)) (p q : CachePassView K T) → has_value course ≡ false
+      → Adds eq meaning cache p q (course_steps meaning cache.tag key course inner) → Adds eq meaning cache p q (use_steps meaning cache.tag key course inner)
+  refused-use key course inner p q none visits =
+      subst (λ (l : List (Step K V)). Adds eq meaning cache p q (course_steps meaning cache.tag key course inner ++ l)) (sym (no-unpins key course none))
+      (subst (λ (l : List (Step K V)). Adds eq meaning cache p q l) (sym (append-nil (course_steps meaning cache.tag key course inner))) visits)
 
 module _ {M K V T : Type 0} (eq : K → K → Bool) (laws : IsEquivalence eq) (same : (a b : K) → eq a b ≡ true → a ≡ b) (meaning : Meaning K V T) (cache : CacheView T) where
   -- a hit, and want of memory at the ask
@@ -149,7 +164,7 @@ module _ {M K V T : Type 0} (eq : K → K → Bool) (laws : IsEquivalence eq) (s
   }
 
   -- a lease is held, and the pass holds as much as before once it is given back
-  pub lease-held : {E : Type 0} (p q : CachePassView K T) (lease : Lease M K V T) → HoldsTheLease {E = E} eq meaning cache p q (Ok lease) → IsHeld eq meaning cache q lease
+  pub lease-held : {E : Type 0} (p q : CachePassView K T) (lease : Lease M K V T) → HoldsTheLease {E = E} eq meaning cache p q (Ok lease) → HoldsLease eq meaning cache q lease
   lease-held p q (Pinned pin) holds = let more = rw (laws.refl pin.key) at (holds.pins pin.key) in omega arith
   lease-held p q (Own value) holds = tt
 
@@ -186,3 +201,13 @@ module _ {M K V T : Type 0} (eq : K → K → Bool) (laws : IsEquivalence eq) (s
   pub lease-value : (key : K) (course : Course) (lease : Lease M K V T) → IsLeaseOf meaning cache.tag key course lease → lease_value lease ≡ meaning.made cache.tag key
   lease-value key course (Pinned pin) is = is.2
   lease-value key course (Own value) is = is.1
+
+  pub refused-much : {E : Type 0} (p q : CachePassView K T) (refused : E) → HoldsTheLease {M = M} eq meaning cache p q (Err refused) → HoldsAsMuch eq meaning cache p q
+  refused-much p q refused holds = record { pins = λ k. let same = holds.pins k in omega arith; claims = holds.claims }
+
+  -- what was had is used and given back
+  pub had-use : (key : K) (course : Course) (inner : List (Step K V)) (p q r : CachePassView K T) (lease : Lease M K V T) → IsLeaseOf meaning cache.tag key course lease
+      → Adds eq meaning cache p q (course_steps meaning cache.tag key course inner) → Adds eq meaning cache q r (given_steps lease) → Adds eq meaning cache p r (use_steps meaning cache.tag key course inner)
+  had-use key course inner p q r lease is visits gives =
+      adds-then eq meaning cache p q r (course_steps meaning cache.tag key course inner) (unpin_steps meaning cache.tag key course) visits
+      (subst (λ (l : List (Step K V)). Adds eq meaning cache q r l) (given-course key course lease is) gives)

@@ -60,9 +60,13 @@ pub record IsCompositeVisit (key : CompositeKey) (visit : CompositeVisit) : Type
   pub had : is_made visit.course ≡ true → has_value visit.course ≡ true → All (λ v. has_value v.course ≡ true) visit.masks
 
 module _ {Z : Type 0} (fonts : Arc FontSet Z) where
+  -- the use of the region that it is widened from, if it is
+  abbrev pub widening_steps : RegionKey → RegionVisit → List (Step RegionKey RegionValue)
+  widening_steps key visit = if is_widened key then use_steps region_meaning fonts (outline_key key) visit.outline [] else []
+
   -- what a region adds to the cache of regions
   abbrev pub region_steps : RegionKey → RegionVisit → List (Step RegionKey RegionValue)
-  region_steps key visit = course_steps region_meaning fonts key visit.course (if is_widened key then use_steps region_meaning fonts (outline_key key) visit.outline [] else [])
+  region_steps key visit = course_steps region_meaning fonts key visit.course (widening_steps key visit)
 
   -- and one whose pin is given back
   abbrev pub region_use_steps : RegionKey → RegionVisit → List (Step RegionKey RegionValue)

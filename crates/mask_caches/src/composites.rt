@@ -42,12 +42,23 @@ fn shared(alloc: Global, leases: &Vec<Lease<MaskMade>>) -> Mem<Vec<Arc<Mask>>>
     Ok(shares)
 }
 
-/// The composed mask of parts, from the leases of their masks.
-fn composed(alloc: Global, parts: &[Part], leases: &Vec<Lease<MaskMade>>) -> Mem<Arc<Mask>>
-    requires count { length leases.now.items ≡ length parts.now }
-    requires masks { All IsPlaceableMask (placed_masks parts.now (map lease_value leases.now.items)) }
-    ensures { IfOk result (λ a. arc_value a ≡ summed_mask (placed_masks parts.now (map lease_value leases.now.items))) }
+/// The composed mask of parts, from the leases of their masks, where all are had.
+fn composed<G: Gate>(
+    alloc: Global,
+    parts: &[Part],
+    leases: &Vec<Lease<MaskMade>>,
+    are_all: bool,
+    gate: &G,
+) -> Mem<Arc<Mask>>
+    requires count { are_all ≡ true → length leases.now.items ≡ length parts.now }
+    requires masks { are_all ≡ true → All IsPlaceableMask (placed_masks parts.now (map lease_value leases.now.items)) }
+    ensures all { OnOk result (are_all ≡ true) }
+    ensures value { IfOk result (λ a. arc_value a ≡ summed_mask (placed_masks parts.now (map lease_value leases.now.items))) }
 {
+    if !are_all {
+        return Err(OutOfMemory);
+    }
+    gate.at(Place::BeforeMake(Kind::Composite));
     let shares = shared(alloc, leases)?;
     made_composite(alloc, parts, &shares)
 }
@@ -172,12 +183,7 @@ impl Caches {
             leases,
             are_all,
         } = self.visit_masks(rt, alloc, outlines, masks, parts, leases, gate);
-        let made = if are_all {
-            gate.at(Place::BeforeMake(Kind::Composite));
-            composed(alloc, parts, &leases)
-        } else {
-            Err(OutOfMemory)
-        };
+        let made = composed(alloc, parts, &leases, are_all, gate);
         let masks = give_all_back(&self.masks, rt, masks, leases);
         (outlines, masks, made)
     }
