@@ -31,12 +31,15 @@ use Rattle.mask_caches.specs.declared.lease.Lease.TheVariants.{Pinned}
 use Rattle.mask_caches.proofs.Adding.{adds-none}
 use Rattle.mask_caches.proofs.Visiting.{had-use, had-value, refused-use, settled-course}
 
-no-visit : RegionVisit
-no-visit = record { course = Unasked; outline = Unasked }
-
 both-true : (a b : Bool) → b ≡ false → a && b ≡ true → ⊥
 both-true true b none both = cc
 both-true false b none both = cc
+
+no-visit : RegionVisit
+no-visit = record { course = Unasked; outline = Unasked }
+
+pub no-region-visit : (key : RegionKey) → (visit : RegionVisit) × IsRegionVisit key visit
+no-region-visit key = (no-visit, record { outline = λ both value. absurd (both-true (is_widened key) false refl both) })
 
 first-true : (a b : Bool) → a ≡ false → a && b ≡ true → ⊥
 first-true true b none both = cc

@@ -1,12 +1,13 @@
 -- Visits of the masks of parts, one after another.
-use Rattle.std.proofs.Common.{◌≡◌, ℕ, ◌+◌, ◌-◌, ◌<◌, ◌≤◌, Bool, true, false, List, [], ◌∷◌, ◌++◌, length, map, take, reverse, flat_map, Result, Ok, Err, All, refl, sym, ap, ◌∙◌, subst, append_assoc, append-nil, arith}
+use Rattle.std.proofs.Common.{◌≡◌, ℕ, ◌+◌, ◌-◌, ◌<◌, ◌≤◌, Bool, true, false, List, [], ◌∷◌, ◌++◌, length, map, take, get_or, reverse, flat_map, Result, Ok, Err, All, refl, sym, ap, ◌∙◌, subst, append_assoc, append-nil, arith}
 use Rattle.std.specs.Arc.{arc_value}
 use Rattle.std.specs.declared.sync.Arc.{Arc}
 use Rattle.std.proofs.lemmas.Grind.{flat_map-append}
 use Rattle.std.proofs.Math.Seq.{take-append_seam}
-use Rattle.std.proofs.lemmas.List.{length-append, length-map, map-append, reverse-append}
+use Rattle.std.proofs.lemmas.List.{length-append, length-map, length-take-le, map-append, reverse-append, take-map, take_all, take_more}
 use Rattle.std.proofs.lemmas.List.Elements.{All-push, All-nil, All-take}
 use Rattle.ass_num.specs.Masks.{MaskValue}
+use Rattle.ass_num.specs.Regions.{RegionValue}
 use Rattle.bdf_font.specs.Fonts.{FontValue}
 use Rattle.bdf_font.specs.declared.font.FontSet.{FontSet}
 use Rattle.evict_core.specs.Machine.{Step}
@@ -32,7 +33,7 @@ use Rattle.mask_caches.specs.declared.lease.Lease.TheVariants.{Pinned, Own}
 use Rattle.mask_caches.proofs.Adding.{adds-none, adds-then}
 use Rattle.mask_caches.proofs.Visiting.{given-course, had-value, lease-value, no-unpins}
 
-module _ {M Z : Type 0} (fonts : List FontValue) (regions cache : CacheView (Arc FontSet Z)) (tagged : (arc_value cache.tag).fonts ≡ fonts)
+module _ {M Z : Type 0} (fonts : List FontValue) (regions cache : CacheView (Arc FontSet Z))
     (o : CachePassView RegionKey (Arc FontSet Z)) (p : CachePassView MaskKey (Arc FontSet Z)) where
   abbrev Leases : Type 0
   Leases = List (Lease M MaskKey MaskValue (Arc FontSet Z))
@@ -79,7 +80,8 @@ module _ {M Z : Type 0} (fonts : List FontValue) (regions cache : CacheView (Arc
     claims = λ k. holds.claims k ∙ more.claims k;
   }
 
-  pub one-more : {E : Type 0} (done : List Part) (part : Part) (t u : CachePassView RegionKey (Arc FontSet Z)) (q s : CachePassView MaskKey (Arc FontSet Z)) (leases : List (Lease M MaskKey MaskValue (Arc FontSet Z))) (lease : Lease M MaskKey MaskValue (Arc FontSet Z))
+  one-then : {E : Type 0} (done : List Part) (part : Part) (t u : CachePassView RegionKey (Arc FontSet Z)) (q s : CachePassView MaskKey (Arc FontSet Z)) (leases : List (Lease M MaskKey MaskValue (Arc FontSet Z))) (lease : Lease M MaskKey MaskValue (Arc FontSet Z))
+      → (arc_value cache.tag).fonts ≡ fonts
       → AreHad done t q leases
       → (visit : MaskVisit) × IsMaskVisit visit × (visit.key ≡ part.mask)
       × Adds equal_regions region_meaning regions t u (steps_of_its_region regions.tag visit)
@@ -87,7 +89,7 @@ module _ {M Z : Type 0} (fonts : List FontValue) (regions cache : CacheView (Arc
       × IsHadBy {E = E} mask_meaning cache.tag part.mask visit.course (Ok lease)
       → HoldsAsMuch equal_regions region_meaning regions t u → HoldsTheLease {E = E} equal_masks mask_meaning cache q s (Ok lease)
       → AreHad (done ++ part ∷ []) u s (leases ++ lease ∷ [])
-  one-more {E} done part t u q s leases lease h v much holds =
+  one-then {E} done part t u q s leases lease tagged h v much holds =
       let unpins : given_steps lease ≡ mask_unpins cache.tag v.0 = given-course equal_masks mask_laws.laws-law mask_same mask_meaning cache part.mask v.0.course lease v.5 ∙ ap (λ k. mask_unpins cache.tag (record { key = k; course = v.0.course; region = v.0.region })) (sym v.2) in
       record {
         visits = h.visits ++ v.0 ∷ [];
@@ -104,41 +106,86 @@ module _ {M Z : Type 0} (fonts : List FontValue) (regions cache : CacheView (Arc
             ∙ sym (map-append (λ (x : Part). mask_value fonts x.mask) done (part ∷ []))));
       }
 
-  -- a list of visits of the masks of the first parts
-  keys-front : (done rest : List Part) (visits : List MaskVisit) → map (λ v. v.key) visits ≡ map (λ part. part.mask) done → map (λ v. v.key) visits ≡ take (length visits) (map (λ part. part.mask) (done ++ rest))
-  keys-front done rest visits keys =
-      let long : length visits ≡ length (map (λ (x : Part). x.mask) done) = sym (length-map visits (λ (v : MaskVisit). v.key)) ∙ ap length keys in
-      keys ∙ sym (ap (λ n. take n (map (λ (x : Part). x.mask) (done ++ rest))) long ∙ (ap (take (length (map (λ (x : Part). x.mask) done))) (map-append (λ (x : Part). x.mask) done rest) ∙ take-append_seam (map (λ (x : Part). x.mask) done) (map (λ (x : Part). x.mask) rest)))
+  -- the mask of the next part was had
+  pub one-more : {E : Type 0} (parts : List Part) (n : ℕ) (part : Part) (t u : CachePassView RegionKey (Arc FontSet Z)) (q s : CachePassView MaskKey (Arc FontSet Z)) (leases after : List (Lease M MaskKey MaskValue (Arc FontSet Z))) (lease : Lease M MaskKey MaskValue (Arc FontSet Z))
+      → n < length parts → part ≡ get_or parts n part → after ≡ leases ++ lease ∷ [] → (arc_value cache.tag).fonts ≡ fonts
+      → AreHad (take n parts) t q leases
+      → (visit : MaskVisit) × IsMaskVisit visit × (visit.key ≡ part.mask)
+      × Adds equal_regions region_meaning regions t u (steps_of_its_region regions.tag visit)
+      × Adds equal_masks mask_meaning cache q s (mask_steps cache.tag visit)
+      × IsHadBy {E = E} mask_meaning cache.tag part.mask visit.course (Ok lease)
+      → HoldsAsMuch equal_regions region_meaning regions t u → HoldsTheLease {E = E} equal_masks mask_meaning cache q s (Ok lease)
+      → AreHad (take (n + 1) parts) u s after
+  one-more {E} parts n part t u q s leases after lease there is pushed tagged h v much holds =
+      subst (λ (l : List Part). AreHad l u s after) (sym (take_more parts n part there ∙ ap (λ (x : Part). take n parts ++ x ∷ []) (sym is)))
+      (subst (λ (l : List (Lease M MaskKey MaskValue (Arc FontSet Z))). AreHad (take n parts ++ part ∷ []) u s l) (sym pushed) (one-then {E} (take n parts) part t u q s leases lease tagged h v much holds))
 
-  -- all parts' masks were had
-  pub all-had : (parts : List Part) (t : CachePassView RegionKey (Arc FontSet Z)) (s : CachePassView MaskKey (Arc FontSet Z)) (leases : List (Lease M MaskKey MaskValue (Arc FontSet Z))) → (h : AreHad parts t s leases) → AreMaskVisits parts h.visits × AreAllHad parts h.visits
-  all-had parts t s leases h = (
-    record {
-      keys = subst (λ (l : List Part). map (λ v. v.key) h.visits ≡ take (length h.visits) (map (λ part. part.mask) l)) (append-nil parts) (keys-front parts [] h.visits h.keys);
-      each = h.each;
-      had = All-take (λ v. has_value v.course ≡ true) (length h.visits - 1) h.visits h.had;
-    },
-    record {
-      as_many = sym (length-map h.visits (λ (v : MaskVisit). v.key)) ∙ (ap length h.keys ∙ length-map parts (λ (x : Part). x.mask));
-      had = h.had;
-    },
-  )
-
-  front-of : (visits : List MaskVisit) (v : MaskVisit) → take (length (visits ++ v ∷ []) - 1) (visits ++ v ∷ []) ≡ visits
-  front-of visits v = ap (λ n. take n (visits ++ v ∷ [])) (let long = length-append visits (v ∷ []) in omega arith) ∙ take-append_seam visits (v ∷ [])
-
-  -- the next part's mask couldn't be had
-  pub one-failed : (done rest : List Part) (part : Part) (t u : CachePassView RegionKey (Arc FontSet Z)) (q s : CachePassView MaskKey (Arc FontSet Z)) (leases : List (Lease M MaskKey MaskValue (Arc FontSet Z)))
-      → (h : AreHad done t q leases) → (v : MaskVisit) → IsMaskVisit v → v.key ≡ part.mask → has_value v.course ≡ false → AreMaskVisits (done ++ part ∷ rest) (h.visits ++ v ∷ [])
-  one-failed done rest part t u q s leases h v is key none = record {
-    keys = subst (λ (l : List Part). map (λ x. x.key) (h.visits ++ v ∷ []) ≡ take (length (h.visits ++ v ∷ [])) (map (λ x. x.mask) l)) (append_assoc done (part ∷ []) rest)
-        (keys-front (done ++ part ∷ []) rest (h.visits ++ v ∷ []) (map-append (λ (x : MaskVisit). x.key) h.visits (v ∷ []) ∙ (ap (λ l. l ++ v.key ∷ []) h.keys ∙ (ap (λ (k : MaskKey). map (λ (x : Part). x.mask) done ++ k ∷ []) key ∙ sym (map-append (λ (x : Part). x.mask) done (part ∷ []))))));
-    each = All-push IsMaskVisit h.visits v h.each is;
-    had = subst (λ (l : List MaskVisit). All (λ x. has_value x.course ≡ true) l) (sym (front-of h.visits v)) h.had;
-  }
-
-  -- and nothing of it is given back
+  -- of what wasn't had nothing is given back
   pub failed-given : (v : MaskVisit) (visits : List MaskVisit) → has_value v.course ≡ false → flat_map (mask_unpins cache.tag) (reverse (visits ++ v ∷ [])) ≡ flat_map (mask_unpins cache.tag) (reverse visits)
   failed-given v visits none =
       ap (flat_map (mask_unpins cache.tag)) (reverse-append visits (v ∷ []))
       ∙ ap (λ (l : List (Step MaskKey MaskValue)). l ++ flat_map (mask_unpins cache.tag) (reverse visits)) (no-unpins equal_masks mask_laws.laws-law mask_same mask_meaning cache v.key v.course none)
+
+  -- visits of the masks of the first n parts
+  keys-front : (parts : List Part) (n : ℕ) (visits : List MaskVisit) → n ≤ length parts → map (λ v. v.key) visits ≡ map (λ part. part.mask) (take n parts)
+      → (length visits ≡ n) × (map (λ v. v.key) visits ≡ take (length visits) (map (λ part. part.mask) parts))
+  keys-front parts n visits few keys =
+      let long : length visits ≡ n = sym (length-map visits (λ (v : MaskVisit). v.key)) ∙ (ap length keys ∙ (length-map (take n parts) (λ (x : Part). x.mask) ∙ length-take-le n parts few)) in (
+        long,
+        keys ∙ (sym (take-map (λ (x : Part). x.mask) n parts) ∙ ap (λ (m : ℕ). take m (map (λ (x : Part). x.mask) parts)) (sym long)),
+      )
+
+  -- all parts' masks were had
+  pub all-had : (parts : List Part) (n : ℕ) (t : CachePassView RegionKey (Arc FontSet Z)) (s : CachePassView MaskKey (Arc FontSet Z)) (leases : List (Lease M MaskKey MaskValue (Arc FontSet Z))) → n ≡ length parts
+      → (h : AreHad (take n parts) t s leases) → AreMaskVisits parts h.visits × AreAllHad parts h.visits × (map lease_value leases ≡ masks_of fonts parts)
+  all-had parts n t s leases whole h =
+      let front = keys-front parts n h.visits (omega (arith, whole)) h.keys in (
+        record {
+          keys = front.1;
+          each = h.each;
+          had = All-take (λ (v : MaskVisit). has_value v.course ≡ true) (length h.visits - 1) h.visits h.had;
+        },
+        record { as_many = front.0 ∙ whole; had = h.had },
+        h.values ∙ ap (masks_of fonts) (take_all n parts (omega (arith, whole))),
+      )
+
+  front-of : (visits : List MaskVisit) (v : MaskVisit) → take (length (visits ++ v ∷ []) - 1) (visits ++ v ∷ []) ≡ visits
+  front-of visits v = ap (λ (n : ℕ). take n (visits ++ v ∷ [])) (let long = length-append visits (v ∷ []) in omega arith) ∙ take-append_seam visits (v ∷ [])
+
+  -- what visits of the first parts came to, the last of which failed
+  pub record AreRefused (parts : List Part) (t : CachePassView RegionKey (Arc FontSet Z)) (s : CachePassView MaskKey (Arc FontSet Z)) (leases : List (Lease M MaskKey MaskValue (Arc FontSet Z))) : Type 0 where
+    pub visits : List MaskVisit
+    pub are : AreMaskVisits parts visits
+    pub outlines : Adds equal_regions region_meaning regions o t (region_steps_of regions.tag visits)
+    pub masks : Adds equal_masks mask_meaning cache p s (flat_map (mask_steps cache.tag) visits)
+    pub outlines_hold : HoldsAsMuch equal_regions region_meaning regions o t
+    pub masks_hold : HoldsMore equal_masks mask_meaning cache p s (pinned_keys leases)
+    pub given : all_given_steps leases ≡ flat_map (mask_unpins cache.tag) (reverse visits)
+
+  pub one-refused : (parts : List Part) (n : ℕ) (part : Part) (t u : CachePassView RegionKey (Arc FontSet Z)) (q s : CachePassView MaskKey (Arc FontSet Z)) (leases : List (Lease M MaskKey MaskValue (Arc FontSet Z)))
+      → n < length parts → part ≡ get_or parts n part
+      → AreHad (take n parts) t q leases
+      → (visit : MaskVisit) × IsMaskVisit visit × (visit.key ≡ part.mask)
+      × Adds equal_regions region_meaning regions t u (steps_of_its_region regions.tag visit)
+      × Adds equal_masks mask_meaning cache q s (mask_steps cache.tag visit)
+      × (has_value visit.course ≡ false)
+      → HoldsAsMuch equal_regions region_meaning regions t u → HoldsAsMuch equal_masks mask_meaning cache q s
+      → AreRefused parts u s leases
+  one-refused parts n part t u q s leases there is h v much same =
+      let more : take (n + 1) parts ≡ take n parts ++ part ∷ [] = take_more parts n part there ∙ ap (λ (x : Part). take n parts ++ x ∷ []) (sym is) in
+      let keys : map (λ x. x.key) (h.visits ++ v.0 ∷ []) ≡ map (λ x. x.mask) (take (n + 1) parts) =
+      map-append (λ (x : MaskVisit). x.key) h.visits (v.0 ∷ []) ∙ (ap (λ (l : List MaskKey). l ++ v.0.key ∷ []) h.keys
+      ∙ (ap (λ (k : MaskKey). map (λ (x : Part). x.mask) (take n parts) ++ k ∷ []) v.2 ∙ (sym (map-append (λ (x : Part). x.mask) (take n parts) (part ∷ [])) ∙ ap (map (λ (x : Part). x.mask)) (sym more)))) in
+      record {
+        visits = h.visits ++ v.0 ∷ [];
+        are = record {
+          keys = (keys-front parts (n + 1) (h.visits ++ v.0 ∷ []) (omega arith) keys).1;
+          each = All-push IsMaskVisit h.visits v.0 h.each v.1;
+          had = subst (λ (l : List MaskVisit). All (λ x. has_value x.course ≡ true) l) (sym (front-of h.visits v.0)) h.had;
+        };
+        outlines = subst (λ (l : List (Step RegionKey RegionValue)). Adds equal_regions region_meaning regions o u l) (sym (flat-more (steps_of_its_region regions.tag) h.visits v.0)) (adds-then equal_regions region_meaning regions o t u _ _ h.outlines v.3);
+        masks = subst (λ (l : List (Step MaskKey MaskValue)). Adds equal_masks mask_meaning cache p s l) (sym (flat-more (mask_steps cache.tag) h.visits v.0)) (adds-then equal_masks mask_meaning cache p q s _ _ h.masks v.4);
+        outlines_hold = record { pins = λ k. much.pins k ∙ h.outlines_hold.pins k; claims = λ k. much.claims k ∙ h.outlines_hold.claims k };
+        masks_hold = record { pins = λ k. same.pins k ∙ h.masks_hold.pins k; claims = λ k. same.claims k ∙ h.masks_hold.claims k };
+        given = h.given ∙ sym (failed-given v.0 h.visits v.5);
+      }
