@@ -1,9 +1,10 @@
 -- A composed mask from the leases of its parts' masks, and what a pass holds once they are given back.
-use Rattle.std.proofs.Common.{◌≡◌, ℕ, ◌+◌, ◌≤◌, Bool, true, List, ◌++◌, length, map, reverse, flat_map, Result, Ok, Err, All, sym, ap, ◌∙◌, subst, arith}
+use Rattle.std.proofs.Common.{◌≡◌, ℕ, ◌+◌, ◌≤◌, Bool, true, List, [], ◌++◌, length, map, Result, Ok, Err, All, refl, sym, ap, ◌∙◌, subst, arith}
 use Rattle.std.specs.Result.{IfOk, OnOk}
 use Rattle.std.specs.Arc.{arc_value}
 use Rattle.std.specs.declared.sync.Arc.{Arc}
 use Rattle.std.proofs.lemmas.List.{length-map}
+use Rattle.std.proofs.lemmas.List.Elements.{All-nil}
 use Rattle.ass_num.specs.Masks.{MaskValue}
 use Rattle.bdf_font.specs.Fonts.{FontValue}
 use Rattle.bdf_font.specs.declared.font.FontSet.{FontSet}
@@ -20,14 +21,19 @@ use Rattle.mask_keys.specs.declared.mask_key.MaskKey.{MaskKey}
 use Rattle.mask_model.specs.Masks.{summed_mask}
 use Rattle.mask_model.specs.Values.{mask_value, placed_part}
 use Rattle.mask_caches.specs.Adding.{Adds, HoldsAsMuch}
+use Rattle.mask_caches.specs.Courses.{has_value}
 use Rattle.mask_caches.specs.Holding.{HoldsFewer, HoldsMore}
 use Rattle.mask_caches.specs.Leases.{lease_value}
+use Rattle.mask_caches.specs.Visits.{AreMaskVisits, IsMaskVisit}
 use Rattle.mask_caches.specs.declared.lease.Lease.{Lease}
 use Rattle.mask_caches.proofs.Adding.{adds-then}
 
 pub on-ok-then : {A E P Q : Type 0} (r : Result A E) → OnOk r P → (P → Q) → OnOk r Q
 on-ok-then (Ok a) p f = f p
 on-ok-then (Err e) p f = tt
+
+pub none-visited : (parts : List Part) → AreMaskVisits parts []
+none-visited parts = record { keys = refl; each = All-nil IsMaskVisit; had = All-nil (λ v. has_value v.course ≡ true) }
 
 module _ {M E Z : Type 0} (fonts : List FontValue) (parts : List Part) (leases : List (Lease M MaskKey MaskValue (Arc FontSet Z))) (are_all : Bool) (values : are_all ≡ true → map lease_value leases ≡ masks_of fonts parts) where
   pub as-many : are_all ≡ true → length leases ≡ length parts

@@ -1,5 +1,4 @@
 use Rattle.std.proofs.Common.{[], flat_map, reverse, refl, sym, ap, ◌∙◌}
-use Rattle.std.proofs.lemmas.List.Elements.{All-nil}
 use Rattle.std.specs.Arc.{arc_value}
 use Rattle.mask_keys.specs.Equality.{equal_masks, equal_regions}
 use Rattle.mask_keys.proofs.Equal.{mask_same, region_same}
@@ -10,12 +9,20 @@ use Rattle.cache_kinds.specs.Kinds.{mask_meaning, region_meaning}
 use Rattle.mask_caches.specs.Holding.{all_given_steps, pinned_keys}
 use Rattle.mask_caches.specs.Visits.{mask_steps, mask_unpins}
 use Rattle.mask_caches.proofs.Adding.{adds-none, adds-stays}
-use Rattle.mask_caches.proofs.Composed.{as-many, composed-value, given-back, given-then, more-held, on-ok-then, placeable}
+use Rattle.mask_caches.proofs.Composed.{as-many, composed-value, given-back, given-then, more-held, none-visited, on-ok-then, placeable}
 use Rattle.mask_caches.proofs.Visiting.{much-itself}
 use Rattle.mask_caches.proofs.caches.Caches.make_composite.Goals as goal
 
-pub visit_masks-requires : goal.visit_masks-requires
-visit_masks-requires g c = record {
+pub returns-then-is_err : goal.returns-then-is_err
+returns-then-is_err g c = record {
+  visits = ([], none-visited c.args.key.now.parts, adds-none equal_regions region_meaning c.args.self.now.outlines c.args.outlines, adds-none equal_masks mask_meaning c.args.self.now.masks c.args.masks, tt);
+  outlines = much-itself equal_regions region_laws.laws-law region_same region_meaning c.args.self.now.outlines c.args.outlines;
+  holds = much-itself equal_masks mask_laws.laws-law mask_same mask_meaning c.args.self.now.masks c.args.masks;
+  value = tt;
+}
+
+pub visit_masks-outlines-requires : goal.visit_masks-outlines-requires
+visit_masks-outlines-requires g c = record {
   outlines = c.requires.outlines;
   masks = c.requires.masks;
   parts = c.requires.key.parts;
@@ -25,34 +32,34 @@ visit_masks-requires g c = record {
 pub composed-made-requires : goal.composed-made-requires
 composed-made-requires g c =
     let fonts = (arc_value c.args.self.now.fonts).fonts in
-    let v = c.visit_masks.ensures.visits.1 in
-    let leases = c.visit_masks.result.leases.items in
+    let v = c.visit_masks-outlines.ensures.visits.1 in
+    let leases = c.visit_masks-outlines.result.leases.items in
     record {
-      count = as-many fonts c.args.key.now.parts leases c.visit_masks.result.are_all v.values;
-      masks = placeable fonts c.args.key.now.parts leases c.visit_masks.result.are_all v.values (glyph_counts fonts) c.requires.key.parts;
+      count = as-many fonts c.args.key.now.parts leases c.visit_masks-outlines.result.are_all v.values;
+      masks = placeable fonts c.args.key.now.parts leases c.visit_masks-outlines.result.are_all v.values (glyph_counts fonts) c.requires.key.parts;
     }
 
 pub give_all_back-masks-requires : goal.give_all_back-masks-requires
 give_all_back-masks-requires g c =
     let cache = c.args.self.now.masks in
-    let r = c.visit_masks.result in
+    let r = c.visit_masks-outlines.result in
     record {
-      cell = adds-stays equal_masks mask_meaning cache c.args.masks r.masks _ c.requires.masks c.visit_masks.ensures.visits.3;
-      held = more-held equal_masks mask_meaning cache c.args.masks r.masks r.masks (pinned_keys r.leases.items) c.visit_masks.ensures.holds;
+      cell = adds-stays equal_masks mask_meaning cache c.args.masks r.masks _ c.requires.masks c.visit_masks-outlines.ensures.visits.3;
+      held = more-held equal_masks mask_meaning cache c.args.masks r.masks r.masks (pinned_keys r.leases.items) c.visit_masks-outlines.ensures.holds;
     }
 
 pub returns : goal.returns
 returns g c =
     let fonts = (arc_value c.args.self.now.fonts).fonts in
     let cache = c.args.self.now.masks in
-    let r = c.visit_masks.result in
-    let v = c.visit_masks.ensures.visits in
+    let r = c.visit_masks-outlines.result in
+    let v = c.visit_masks-outlines.ensures.visits in
     let made = c.composed-made.result in
     let after = c.give_all_back-masks.result in
     record {
       visits = (v.0, v.1.are, v.2, given-then equal_masks mask_meaning cache c.args.masks r.masks after (flat_map (mask_steps cache.tag) v.0) (all_given_steps r.leases.items) (flat_map (mask_unpins cache.tag) (reverse v.0)) v.1.given v.3 c.give_all_back-masks.ensures.steps,
           on-ok-then made c.composed-made.ensures.all v.1.all);
-      outlines = c.visit_masks.ensures.outlines;
-      holds = given-back equal_masks mask_meaning cache c.args.masks r.masks after (pinned_keys r.leases.items) c.visit_masks.ensures.holds c.give_all_back-masks.ensures.holds;
+      outlines = c.visit_masks-outlines.ensures.outlines;
+      holds = given-back equal_masks mask_meaning cache c.args.masks r.masks after (pinned_keys r.leases.items) c.visit_masks-outlines.ensures.holds c.give_all_back-masks.ensures.holds;
       value = composed-value fonts c.args.key.now.parts r.leases.items r.are_all v.1.values made c.composed-made.ensures.all c.composed-made.ensures.value;
     }

@@ -37,8 +37,8 @@ loop-part-preserved g c =
       room = omega (arith, c.push_reserved.ensures.capacity, c.loop-part.invariant.room);
       outlines_of = adds-stays equal_regions region_meaning regions c.loop-part.outlines c.mask-next_outlines.result.0 _ c.loop-part.invariant.outlines_of v.3;
       masks_of = adds-stays equal_masks mask_meaning cache c.loop-part.masks c.mask-next_outlines.result.1 _ c.loop-part.invariant.masks_of v.4;
-      had = one-more (arc_value fonts).fonts regions cache c.args.outlines c.args.masks xs i c.loop-part-part-item.result c.loop-part.outlines c.mask-next_outlines.result.0 c.loop-part.masks c.mask-next_outlines.result.1
-          c.loop-part.leases.items c.push_reserved.new.self.items c.in-Ok.lease there c.loop-part-part-item.is c.push_reserved.ensures.items (ap (λ (s : FontSet). s.fonts) c.args.self.now.tags.masks_have)
+      had = one-more (arc_value fonts).fonts regions cache c.args.outlines c.args.masks xs i c.part-item.result c.loop-part.outlines c.mask-next_outlines.result.0 c.loop-part.masks c.mask-next_outlines.result.1
+          c.loop-part.leases.items c.push_reserved.new.self.items c.in-Ok.lease there c.part-item.is c.push_reserved.ensures.items (ap (λ (s : FontSet). s.fonts) c.args.self.now.tags.masks_have)
           c.loop-part.invariant.had v c.mask-next_outlines.ensures.outlines holds;
     }
 
@@ -51,9 +51,9 @@ returns-in-Err g c =
     let holds = rw c.in-Err.is at c.mask-next_outlines.ensures.holds in
     let regions = c.args.self.now.outlines in
     let cache = c.args.self.now.masks in
-    let same = refused-much equal_masks mask_laws.laws-law mask_same mask_meaning cache c.loop-part.masks c.mask-next_outlines.result.1 c.in-Err.field-0 holds in
-    let r = one-refused (arc_value c.args.self.now.fonts).fonts regions cache c.args.outlines c.args.masks xs i c.loop-part-part-item.result c.loop-part.outlines c.mask-next_outlines.result.0 c.loop-part.masks c.mask-next_outlines.result.1
-    c.loop-part.leases.items there c.loop-part-part-item.is c.loop-part.invariant.had v c.mask-next_outlines.ensures.outlines same in
+    let same = refused-much equal_masks mask_laws.laws-law mask_same mask_meaning cache c.loop-part.masks c.mask-next_outlines.result.1 _ holds in
+    let r = one-refused (arc_value c.args.self.now.fonts).fonts regions cache c.args.outlines c.args.masks xs i c.part-item.result c.loop-part.outlines c.mask-next_outlines.result.0 c.loop-part.masks c.mask-next_outlines.result.1
+    c.loop-part.leases.items there c.part-item.is c.loop-part.invariant.had v c.mask-next_outlines.ensures.outlines same in
     record {
       visits = (r.visits, record { are = r.are; given = r.given; all = λ no. cc; values = λ no. cc }, r.outlines, r.masks);
       outlines = r.outlines_hold;
