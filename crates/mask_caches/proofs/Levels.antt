@@ -92,50 +92,53 @@ module _ {M E Z : Type 0} (cache : CacheView (Arc FontSet Z)) (key : RegionKey) 
       )
 
 -- a region that is used for what stands above it, and given back
-module _ {M E Z : Type 0} (cache : CacheView (Arc FontSet Z)) (p q : CachePassView RegionKey (Arc FontSet Z)) where
-  pub outline-used : (key k : RegionKey) (r : CachePassView RegionKey (Arc FontSet Z)) (lease : Lease M RegionKey RegionValue (Arc FontSet Z)) → k ≡ outline_key key
+module _ {M Z : Type 0} (cache : CacheView (Arc FontSet Z)) (p q r : CachePassView RegionKey (Arc FontSet Z)) (k : RegionKey) (lease : Lease M RegionKey RegionValue (Arc FontSet Z)) where
+  pub outline-used : (key : RegionKey) → k ≡ outline_key key
       → (course : Course) × Adds equal_regions region_meaning cache p q (course_steps region_meaning cache.tag k course []) × IsLeaseOf region_meaning cache.tag k course lease
       → Adds equal_regions region_meaning cache q r (given_steps lease)
       → (course : Course) × Adds equal_regions region_meaning cache p r (use_steps region_meaning cache.tag (outline_key key) course []) × (has_value course ≡ true)
-  outline-used key k r lease is v gives =
-      let u = subst (λ (x : RegionKey). Adds equal_regions region_meaning cache p q (course_steps region_meaning cache.tag x v.0 []) × IsLeaseOf region_meaning cache.tag x v.0 lease) is (v.1, v.2) in (
+  outline-used key is v gives =
+      let visits = subst (λ (x : RegionKey). Adds equal_regions region_meaning cache p q (course_steps region_meaning cache.tag x v.0 [])) is v.1 in
+      let had = subst (λ (x : RegionKey). IsLeaseOf region_meaning cache.tag x v.0 lease) is v.2 in (
         v.0,
-        had-use equal_regions region_laws.laws-law region_same region_meaning cache (outline_key key) v.0 [] p q r lease u.1 u.0 gives,
-        had-value equal_regions region_laws.laws-law region_same region_meaning cache (outline_key key) v.0 lease u.1,
+        had-use equal_regions region_laws.laws-law region_same region_meaning cache (outline_key key) v.0 [] p q r lease had visits gives,
+        had-value equal_regions region_laws.laws-law region_same region_meaning cache (outline_key key) v.0 lease had,
       )
 
-  pub outline-refused : (key k : RegionKey) → k ≡ outline_key key
+  pub region-used : (key : MaskKey) → k ≡ region_key key
+      → (visit : RegionVisit) × IsRegionVisit k visit × Adds equal_regions region_meaning cache p q (region_steps cache.tag k visit) × IsLeaseOf region_meaning cache.tag k visit.course lease
+      → Adds equal_regions region_meaning cache q r (given_steps lease)
+      → (visit : RegionVisit) × IsRegionVisit (region_key key) visit × Adds equal_regions region_meaning cache p r (region_use_steps cache.tag (region_key key) visit) × (has_value visit.course ≡ true)
+  region-used key is v gives =
+      let visits = subst (λ (x : RegionKey). Adds equal_regions region_meaning cache p q (region_steps cache.tag x v.0)) is v.2 in
+      let had = subst (λ (x : RegionKey). IsLeaseOf region_meaning cache.tag x v.0.course lease) is v.3 in (
+        v.0,
+        subst (λ (x : RegionKey). IsRegionVisit x v.0) is v.1,
+        had-use equal_regions region_laws.laws-law region_same region_meaning cache (region_key key) v.0.course (widening_steps cache.tag (region_key key) v.0) p q r lease had visits gives,
+        had-value equal_regions region_laws.laws-law region_same region_meaning cache (region_key key) v.0.course lease had,
+      )
+
+module _ {Z : Type 0} (cache : CacheView (Arc FontSet Z)) (p q : CachePassView RegionKey (Arc FontSet Z)) (k : RegionKey) where
+  pub outline-refused : (key : RegionKey) → k ≡ outline_key key
       → (course : Course) × Adds equal_regions region_meaning cache p q (course_steps region_meaning cache.tag k course []) × (has_value course ≡ false)
       → (course : Course) × Adds equal_regions region_meaning cache p q (use_steps region_meaning cache.tag (outline_key key) course []) × Unit {0}
-  outline-refused key k is v = (
+  outline-refused key is v = (
     v.0,
     refused-use equal_regions region_laws.laws-law region_same region_meaning cache (outline_key key) v.0 [] p q v.2
         (subst (λ (x : RegionKey). Adds equal_regions region_meaning cache p q (course_steps region_meaning cache.tag x v.0 [])) is v.1),
     tt,
   )
 
-  pub region-used : (key : MaskKey) (k : RegionKey) (r : CachePassView RegionKey (Arc FontSet Z)) (lease : Lease M RegionKey RegionValue (Arc FontSet Z)) → k ≡ region_key key
-      → RegionVisited {M} {E} cache k p q q (Ok lease)
-      → Adds equal_regions region_meaning cache q r (given_steps lease)
-      → (visit : RegionVisit) × IsRegionVisit (region_key key) visit × Adds equal_regions region_meaning cache p r (region_use_steps cache.tag (region_key key) visit) × (has_value visit.course ≡ true)
-  region-used key k r lease is v gives =
-      let u = subst (λ (x : RegionKey). IsRegionVisit x v.0 × Adds equal_regions region_meaning cache p q (region_steps cache.tag x v.0) × IsLeaseOf region_meaning cache.tag x v.0.course lease) is (v.1, v.2, v.3) in (
-        v.0,
-        u.0,
-        had-use equal_regions region_laws.laws-law region_same region_meaning cache (region_key key) v.0.course (widening_steps cache.tag (region_key key) v.0) p q r lease u.2 u.1 gives,
-        had-value equal_regions region_laws.laws-law region_same region_meaning cache (region_key key) v.0.course lease u.2,
-      )
-
-  pub region-refused : (key : MaskKey) (k : RegionKey) (refused : E) → k ≡ region_key key
-      → RegionVisited {M} {E} cache k p q q (Err refused)
+  pub region-refused : (key : MaskKey) → k ≡ region_key key
+      → (visit : RegionVisit) × IsRegionVisit k visit × Adds equal_regions region_meaning cache p q (region_steps cache.tag k visit) × (has_value visit.course ≡ false)
       → (visit : RegionVisit) × IsRegionVisit (region_key key) visit × Adds equal_regions region_meaning cache p q (region_use_steps cache.tag (region_key key) visit) × Unit {0}
-  region-refused key k refused is v =
-      let u = subst (λ (x : RegionKey). IsRegionVisit x v.0 × Adds equal_regions region_meaning cache p q (region_steps cache.tag x v.0)) is (v.1, v.2) in (
-        v.0,
-        u.0,
-        refused-use equal_regions region_laws.laws-law region_same region_meaning cache (region_key key) v.0.course (widening_steps cache.tag (region_key key) v.0) p q v.3 u.1,
-        tt,
-      )
+  region-refused key is v = (
+    v.0,
+    subst (λ (x : RegionKey). IsRegionVisit x v.0) is v.1,
+    refused-use equal_regions region_laws.laws-law region_same region_meaning cache (region_key key) v.0.course (widening_steps cache.tag (region_key key) v.0) p q v.3
+        (subst (λ (x : RegionKey). Adds equal_regions region_meaning cache p q (region_steps cache.tag x v.0)) is v.2),
+    tt,
+  )
 
 module _ {Z : Type 0} (regions : CacheView (Arc FontSet Z)) (cache : CacheView (Arc FontSet Z)) (key : MaskKey) (o t : CachePassView RegionKey (Arc FontSet Z)) (p q : CachePassView MaskKey (Arc FontSet Z)) where
   pub found-mask : (pin : PinView MaskKey MaskValue) → Adds equal_regions region_meaning regions o t [] → Adds equal_masks mask_meaning cache p q (Ask key Hit ∷ []) → (pin.key ≡ key) × (pin.value ≡ mask_meaning.made cache.tag key)

@@ -45,7 +45,7 @@ returns-in-Ok-had g c =
     let holds = rw c.in-Ok-had.is at c.region-outlines.ensures.holds in
     let fonts = c.args.self.now.fonts in
     let cache = c.args.self.now.outlines in
-    let u = region-used cache c.args.outlines c.region-outlines.result.0 c.args.key.now c.in-Ok.region_key c.give_back.result c.in-Ok-had.lease c.in-Ok.ensures v c.give_back.ensures.steps in
+    let u = region-used cache c.args.outlines c.region-outlines.result.0 c.give_back.result c.in-Ok.region_key c.in-Ok-had.lease c.args.key.now c.in-Ok.ensures v c.give_back.ensures.steps in
     record {
       region = (u.0, u.1, u.2, any-ok c.mask_from-made.result u.3);
       holds = given-again equal_regions region_laws.laws-law region_same region_meaning cache c.args.outlines c.region-outlines.result.0 c.give_back.result c.in-Ok-had.lease holds c.give_back.ensures.steps;
@@ -59,7 +59,7 @@ returns-in-Err g c =
     let v = rw c.in-Err.is at c.region-outlines.ensures.visit in
     let holds = rw c.in-Err.is at c.region-outlines.ensures.holds in
     record {
-      region = region-refused c.args.self.now.outlines c.args.outlines c.region-outlines.result.0 c.args.key.now c.in-Ok.region_key _ c.in-Ok.ensures v;
+      region = region-refused c.args.self.now.outlines c.args.outlines c.region-outlines.result.0 c.in-Ok.region_key c.args.key.now c.in-Ok.ensures v;
       holds = refused-much equal_regions region_laws.laws-law region_same region_meaning c.args.self.now.outlines c.args.outlines c.region-outlines.result.0 _ holds;
       value = tt;
     }

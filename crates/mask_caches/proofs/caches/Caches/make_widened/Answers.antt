@@ -43,7 +43,7 @@ returns-in-Ok-had g c =
     let holds = rw c.in-Ok-had.is at c.outline-pass.ensures.holds in
     let fonts = c.args.self.now.fonts in
     let cache = c.args.self.now.outlines in
-    let u = outline-used cache c.args.pass c.outline-pass.result.0 c.args.key.now c.in-Ok.outline c.give_back.result c.in-Ok-had.lease c.in-Ok.ensures v c.give_back.ensures.steps in
+    let u = outline-used cache c.args.pass c.outline-pass.result.0 c.give_back.result c.in-Ok.outline c.in-Ok-had.lease c.args.key.now c.in-Ok.ensures v c.give_back.ensures.steps in
     record {
       outline = (u.0, u.1, any-ok c.widened_from-made.result u.2);
       holds = given-again equal_regions region_laws.laws-law region_same region_meaning cache c.args.pass c.outline-pass.result.0 c.give_back.result c.in-Ok-had.lease holds c.give_back.ensures.steps;
@@ -57,7 +57,7 @@ returns-in-Err g c =
     let v = rw c.in-Err.is at c.outline-pass.ensures.visit in
     let holds = rw c.in-Err.is at c.outline-pass.ensures.holds in
     record {
-      outline = outline-refused c.args.self.now.outlines c.args.pass c.outline-pass.result.0 c.args.key.now c.in-Ok.outline c.in-Ok.ensures v;
+      outline = outline-refused c.args.self.now.outlines c.args.pass c.outline-pass.result.0 c.in-Ok.outline c.args.key.now c.in-Ok.ensures v;
       holds = refused-much equal_regions region_laws.laws-law region_same region_meaning c.args.self.now.outlines c.args.pass c.outline-pass.result.0 _ holds;
       value = tt;
     }
