@@ -1,5 +1,5 @@
 //! Composed masks through the three caches.
-ghost use Rattle.std.specs.Prelude.{◌≡◌, ◌≤◌, true, List, length, map, flat_map, All, IfOk, OnOk, vec_capacity};
+ghost use Rattle.std.specs.Prelude.{◌≡◌, ◌≤◌, true, List, [], length, map, flat_map, All, IfOk, OnOk, vec_capacity, vec_len};
 ghost use Rattle.std.specs.Arc.{arc_value};
 ghost use Rattle.flight_cache.specs.Shards.{HoldsEach, IsCacheOf};
 ghost use Rattle.cache_kinds.specs.Kinds.{composite_meaning, mask_meaning, region_meaning};
@@ -114,7 +114,9 @@ impl Caches {
         requires outlines { IsCacheOf self.now.outlines outlines }
         requires masks { IsCacheOf self.now.masks masks }
         requires parts { All (IsValidPart (glyph_counts (arc_value self.now.fonts).fonts)) parts.now }
-        requires room { (length leases.items ≡ 0) × (length parts.now ≤ vec_capacity leases) }
+        requires empty { leases.items ≡ [] }
+        requires len { vec_len leases ≡ 0 }
+        requires room { length parts.now ≤ vec_capacity leases }
         ensures visits { (visits : List MaskVisit) × AreVisited self.now parts.now visits result
             × Adds equal_regions region_meaning self.now.outlines outlines result.outlines (region_steps_of self.now.outlines.tag visits)
             × Adds equal_masks mask_meaning self.now.masks masks result.masks (flat_map (mask_steps self.now.masks.tag) visits) }

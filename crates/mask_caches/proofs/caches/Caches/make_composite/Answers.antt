@@ -21,14 +21,6 @@ returns-then-is_err g c = record {
   value = tt;
 }
 
-pub visit_masks-outlines-requires : goal.visit_masks-outlines-requires
-visit_masks-outlines-requires g c = record {
-  outlines = c.requires.outlines;
-  masks = c.requires.masks;
-  parts = c.requires.key.parts;
-  room = (omega arith, omega arith);
-}
-
 pub composed-made-requires : goal.composed-made-requires
 composed-made-requires g c =
     let fonts = (arc_value c.args.self.now.fonts).fonts in

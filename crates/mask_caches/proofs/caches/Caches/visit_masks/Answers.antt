@@ -1,12 +1,18 @@
 use Rattle.std.proofs.Common.{◌≡◌, List, length, take, ◌++◌, [], ◌∷◌, sym, ap, ◌∙◌, subst, arith, rules}
 use Rattle.std.specs.Arc.{arc_value}
+use Rattle.std.specs.declared.sync.Arc.{Arc}
+use Rattle.std.specs.declared.alloc.Global.{Global}
+use Rattle.ass_num.specs.Masks.{MaskValue}
 use Rattle.std.proofs.lemmas.List.{take_more}
 use Rattle.bdf_font.specs.declared.font.FontSet.{FontSet}
 use Rattle.mask_keys.specs.Equality.{equal_masks, equal_regions}
 use Rattle.mask_keys.specs.Keys.{IsValidPart}
 use Rattle.mask_keys.specs.declared.composite_key.Part.{Part}
+use Rattle.mask_keys.specs.declared.mask_key.MaskKey.{MaskKey}
 use Rattle.mask_keys.proofs.Equal.{mask_same}
 use Rattle.mask_keys.specs.contracts.mask_key.MaskKeyEq.TheImpl.Laws as mask_laws
+use Rattle.cache_kinds.specs.declared.kinds.MaskMade.{MaskMade}
+use Rattle.mask_caches.specs.declared.lease.Lease.{Lease}
 use Rattle.cache_kinds.specs.Kinds.{mask_meaning, region_meaning}
 use Rattle.mask_caches.proofs.Adding.{adds-stays}
 use Rattle.mask_caches.proofs.PartVisits.{AreHad, all-had, none-had, one-more, one-refused}
@@ -15,11 +21,12 @@ use Rattle.mask_caches.proofs.caches.Caches.visit_masks.Goals as goal
 
 pub loop-part-init : goal.loop-part-init
 loop-part-init g c = record {
-  len = c.requires.room.0;
-  room = c.requires.room.1;
+  len = c.requires.len;
+  room = c.requires.room;
   outlines_of = c.requires.outlines;
   masks_of = c.requires.masks;
-  had = none-had (arc_value c.args.self.now.fonts).fonts c.args.self.now.outlines c.args.self.now.masks c.args.outlines c.args.masks;
+  had = subst (λ (l : List (Lease MaskMade MaskKey MaskValue (Arc FontSet Global))). AreHad (arc_value c.args.self.now.fonts).fonts c.args.self.now.outlines c.args.self.now.masks c.args.outlines c.args.masks [] c.args.outlines c.args.masks l) (sym c.requires.empty)
+      (none-had (arc_value c.args.self.now.fonts).fonts c.args.self.now.outlines c.args.self.now.masks c.args.outlines c.args.masks);
 }
 
 pub loop-part-preserved : goal.loop-part-preserved
