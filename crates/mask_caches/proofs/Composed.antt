@@ -35,14 +35,14 @@ on-ok-then (Err e) p f = tt
 pub none-visited : (parts : List Part) → AreMaskVisits parts []
 none-visited parts = record { keys = refl; each = All-nil IsMaskVisit; had = All-nil (λ v. has_value v.course ≡ true) }
 
-module _ {M E Z : Type 0} (fonts : List FontValue) (parts : List Part) (leases : List (Lease M MaskKey MaskValue (Arc FontSet Z))) (are_all : Bool) (values : are_all ≡ true → map lease_value leases ≡ masks_of fonts parts) where
+module _ {M Z : Type 0} (fonts : List FontValue) (parts : List Part) (leases : List (Lease M MaskKey MaskValue (Arc FontSet Z))) (are_all : Bool) (values : are_all ≡ true → map lease_value leases ≡ masks_of fonts parts) where
   pub as-many : are_all ≡ true → length leases ≡ length parts
   as-many all = sym (length-map leases lease_value) ∙ (ap length (values all) ∙ length-map parts (λ (part : Part). mask_value fonts part.mask))
 
   pub placeable : (glyphs : List ℕ) → All (IsValidPart glyphs) parts → are_all ≡ true → All IsPlaceableMask (placed_masks parts (map lease_value leases))
   placeable glyphs valid all = subst (λ (l : List MaskValue). All IsPlaceableMask (placed_masks parts l)) (sym (values all)) (parts_placeable fonts glyphs parts valid)
 
-  pub composed-value : (made : Result (Arc MaskValue Z) E) → OnOk made (are_all ≡ true) → IfOk made (λ a. arc_value a ≡ summed_mask (placed_masks parts (map lease_value leases)))
+  pub composed-value : {E : Type 0} (made : Result (Arc MaskValue Z) E) → OnOk made (are_all ≡ true) → IfOk made (λ a. arc_value a ≡ summed_mask (placed_masks parts (map lease_value leases)))
       → IfOk made (λ a. arc_value a ≡ summed_mask (map (placed_part fonts) parts))
   composed-value (Ok a) all value = value ∙ (ap (λ (l : List MaskValue). summed_mask (placed_masks parts l)) (values all) ∙ ap summed_mask (placed_are fonts parts))
   composed-value (Err e) all value = tt
