@@ -26,7 +26,7 @@ module _ {K V T : Type 0} (eq : K → K → Bool) (laws : IsEquivalence eq) (mea
   front-legal : (under : Opening T) (list : History (Entry K)) (n : ℕ) (entry : Option (Entry K)) → IsLegalUnder eq meaning under (with_entry list n entry) → IsLegal eq under.entries under.budget (steps_in meaning under list)
   front-legal under list n None legal = legal.legal
   front-legal under list n (Some e) legal =
-      legal-front eq under.entries under.budget (steps_in meaning under list) ((n, step_of meaning under e) ∷ [])
+      legal-front eq laws under.entries under.budget (steps_in meaning under list) ((n, step_of meaning under e) ∷ [])
       (subst (IsLegal eq under.entries under.budget) (steps-more meaning under list n e) legal.legal)
 
   pub closed-before : (shard : ShardView T) (p q : ShardPassView K T) (key : K) → GivesSteps eq meaning shard p q (Ask key Claim ∷ []) → has_open eq (own_steps meaning shard.tag p) key ≡ false

@@ -2,6 +2,7 @@
 use Rattle.std.proofs.Common.{◌≡◌, if◌then◌else◌, ◌&&◌, Bool, true, false, List, [], ◌∷◌, ◌++◌, length, Option, Some, None, Result, Ok, Err, All, refl, sym, ap, ◌∙◌, subst}
 use Rattle.std.specs.Result.{IfOk, OnOk}
 use Rattle.std.specs.Arc.{arc_value}
+use Rattle.std.specs.declared.alloc.Global.{Global}
 use Rattle.std.specs.declared.sync.Arc.{Arc}
 use Rattle.ass_num.specs.Masks.{MaskValue}
 use Rattle.ass_num.specs.Regions.{RegionValue}
@@ -187,7 +188,7 @@ module _ {M E Z : Type 0} (regions : CacheView (Arc FontSet Z)) (cache : CacheVi
       )
 
 -- A composed mask
-module _ {M E Z : Type 0} (caches : Caches) (key : CompositeKey) (passes after : ThreePasses (Arc FontSet Z)) where
+module _ {M E : Type 0} (caches : Caches) (key : CompositeKey) (passes after : ThreePasses (Arc FontSet Global)) where
   no-masks : CompositeVisit
   no-masks = record { course = Unasked; masks = [] }
 
@@ -197,8 +198,8 @@ module _ {M E Z : Type 0} (caches : Caches) (key : CompositeKey) (passes after :
     visit = record { course = Found; masks = [] };
     is_visit = record { masks = λ no. absurd (both-true true false refl no); all = λ no. absurd (both-true true false refl no); had = λ no. absurd (both-true true false refl no) };
     composites = asks;
-    masks = subst (λ (p : CachePassView MaskKey (Arc FontSet Z)). Adds equal_masks mask_meaning caches.masks passes.masks p []) (sym masks) (adds-none equal_masks mask_meaning caches.masks passes.masks);
-    outlines = subst (λ (p : CachePassView RegionKey (Arc FontSet Z)). Adds equal_regions region_meaning caches.outlines passes.outlines p []) (sym outlines) (adds-none equal_regions region_meaning caches.outlines passes.outlines);
+    masks = subst (λ (p : CachePassView MaskKey (Arc FontSet Global)). Adds equal_masks mask_meaning caches.masks passes.masks p []) (sym masks) (adds-none equal_masks mask_meaning caches.masks passes.masks);
+    outlines = subst (λ (p : CachePassView RegionKey (Arc FontSet Global)). Adds equal_regions region_meaning caches.outlines passes.outlines p []) (sym outlines) (adds-none equal_regions region_meaning caches.outlines passes.outlines);
     had_by = (refl, need.0, need.1);
   }
 
@@ -207,12 +208,12 @@ module _ {M E Z : Type 0} (caches : Caches) (key : CompositeKey) (passes after :
     visit = no-masks;
     is_visit = record { masks = λ no. absurd (both-true true false refl no); all = λ no. absurd (both-true true false refl no); had = λ no. absurd (both-true true false refl no) };
     composites = asks;
-    masks = subst (λ (p : CachePassView MaskKey (Arc FontSet Z)). Adds equal_masks mask_meaning caches.masks passes.masks p []) (sym masks) (adds-none equal_masks mask_meaning caches.masks passes.masks);
-    outlines = subst (λ (p : CachePassView RegionKey (Arc FontSet Z)). Adds equal_regions region_meaning caches.outlines passes.outlines p []) (sym outlines) (adds-none equal_regions region_meaning caches.outlines passes.outlines);
+    masks = subst (λ (p : CachePassView MaskKey (Arc FontSet Global)). Adds equal_masks mask_meaning caches.masks passes.masks p []) (sym masks) (adds-none equal_masks mask_meaning caches.masks passes.masks);
+    outlines = subst (λ (p : CachePassView RegionKey (Arc FontSet Global)). Adds equal_regions region_meaning caches.outlines passes.outlines p []) (sym outlines) (adds-none equal_regions region_meaning caches.outlines passes.outlines);
     had_by = refl;
   }
 
-  pub made-composite : (q : CachePassView CompositeKey (Arc FontSet Z)) (duty : Option (TicketView CompositeKey)) (made : Result (Arc MaskValue Z) E) (had : Result (Lease M CompositeKey MaskValue (Arc FontSet Z)) E)
+  pub made-composite : (q : CachePassView CompositeKey (Arc FontSet Global)) (duty : Option (TicketView CompositeKey)) (made : Result (Arc MaskValue Global) E) (had : Result (Lease M CompositeKey MaskValue (Arc FontSet Global)) E)
       → Adds equal_composites composite_meaning caches.composites passes.composites q (duty_steps composite_meaning key duty) → IsDutyOf composite_meaning key duty
       → (visits : List MaskVisit) × AreMaskVisits key.parts visits
       × Adds equal_regions region_meaning caches.outlines passes.outlines after.outlines (region_steps_of caches.outlines.tag visits)

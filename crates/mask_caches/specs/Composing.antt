@@ -1,5 +1,6 @@
 -- Public: what a call that gets a composed mask gives.
 use Rattle.std.specs.Prelude.{Result}
+use Rattle.std.specs.declared.alloc.Global.{Global}
 use Rattle.std.specs.declared.sync.Arc.{Arc}
 use Rattle.ass_num.specs.Masks.{MaskValue}
 use Rattle.bdf_font.specs.declared.font.FontSet.{FontSet}
@@ -21,7 +22,7 @@ pub record ThreePasses (T : Type 0) : Type 0 where
   pub masks : CachePassView MaskKey T
   pub composites : CachePassView CompositeKey T
 
-module _ {M E Z : Type 0} (caches : Caches) (pass : ThreePasses (Arc FontSet Z)) (key : CompositeKey) (after : ThreePasses (Arc FontSet Z)) (had : Result (Lease M CompositeKey MaskValue (Arc FontSet Z)) E) where
+module _ {M E : Type 0} (caches : Caches) (pass : ThreePasses (Arc FontSet Global)) (key : CompositeKey) (after : ThreePasses (Arc FontSet Global)) (had : Result (Lease M CompositeKey MaskValue (Arc FontSet Global)) E) where
   -- A visit of the key tells what the call adds to each cache: just these steps, each in the shard of its key. It also tells what is had of the value
   pub record IsComposed : Type 0 where
     pub visit : CompositeVisit
