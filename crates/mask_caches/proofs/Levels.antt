@@ -40,7 +40,7 @@ no-visit : RegionVisit
 no-visit = record { course = Unasked; outline = Unasked }
 
 pub no-region-visit : (key : RegionKey) → (visit : RegionVisit) × IsRegionVisit key visit
-no-region-visit key = (no-visit, record { outline = λ both value. absurd (both-true (is_widened key) false refl both) })
+no-region-visit key = (record { course = Unasked; outline = Unasked }, record { outline = λ both value. absurd (both-true (is_widened key) false refl both) })
 
 first-true : (a b : Bool) → a ≡ false → a && b ≡ true → ⊥
 first-true true b none both = cc
@@ -79,7 +79,7 @@ module _ {M E Z : Type 0} (cache : CacheView (Arc FontSet Z)) (key : RegionKey) 
   )
 
   pub widened-visit : (r s : CachePassView RegionKey (Arc FontSet Z)) (duty : Option (TicketView RegionKey)) (made : Result (Arc RegionValue Z) E) (had : Result (Lease M RegionKey RegionValue (Arc FontSet Z)) E) → is_widened key ≡ true
-      → Adds equal_regions region_meaning cache p q (duty_steps region_meaning key duty) → IsDutyOf region_meaning key duty
+      → Adds equal_regions region_meaning cache p q (duty_steps (region_meaning {Z = Z}) key duty) → IsDutyOf (region_meaning {Z = Z}) key duty
       → (course : Course) × Adds equal_regions region_meaning cache q r (use_steps region_meaning cache.tag (outline_key key) course []) × OnOk made (has_value course ≡ true)
       → Adds equal_regions region_meaning cache r s (settled_steps region_meaning cache.tag duty had) → IsSettled region_meaning cache.tag duty made had
       → IfOk made (λ a. arc_value a ≡ region_meaning.made cache.tag key)
@@ -172,7 +172,7 @@ module _ {M E Z : Type 0} (regions : CacheView (Arc FontSet Z)) (cache : CacheVi
       × IsHadBy mask_meaning cache.tag key visit.course had
 
   pub made-mask : (s : CachePassView MaskKey (Arc FontSet Z)) (duty : Option (TicketView MaskKey)) (made : Result (Arc MaskValue Z) E) (had : Result (Lease M MaskKey MaskValue (Arc FontSet Z)) E)
-      → Adds equal_masks mask_meaning cache p q (duty_steps mask_meaning key duty) → IsDutyOf mask_meaning key duty
+      → Adds equal_masks mask_meaning cache p q (duty_steps (mask_meaning {Z = Z}) key duty) → IsDutyOf (mask_meaning {Z = Z}) key duty
       → (visit : RegionVisit) × IsRegionVisit (region_key key) visit × Adds equal_regions region_meaning regions o t (region_use_steps regions.tag (region_key key) visit) × OnOk made (has_value visit.course ≡ true)
       → Adds equal_masks mask_meaning cache q s (settled_steps mask_meaning cache.tag duty had) → IsSettled mask_meaning cache.tag duty made had
       → IfOk made (λ a. arc_value a ≡ mask_meaning.made cache.tag key)
@@ -189,11 +189,8 @@ module _ {M E Z : Type 0} (regions : CacheView (Arc FontSet Z)) (cache : CacheVi
 
 -- A composed mask
 module _ {M E : Type 0} (caches : Caches) (key : CompositeKey) (passes after : ThreePasses (Arc FontSet Global)) where
-  no-masks : CompositeVisit
-  no-masks = record { course = Unasked; masks = [] }
-
   pub found-composite : (pin : PinView CompositeKey MaskValue) → Adds equal_composites composite_meaning caches.composites passes.composites after.composites (Ask key Hit ∷ [])
-      → (pin.key ≡ key) × (pin.value ≡ composite_meaning.made caches.composites.tag key) → after.masks ≡ passes.masks → after.outlines ≡ passes.outlines → IsComposed {E = E} caches passes key after (Ok (Pinned pin))
+      → (pin.key ≡ key) × (pin.value ≡ composite_meaning.made caches.composites.tag key) → after.masks ≡ passes.masks → after.outlines ≡ passes.outlines → IsComposed {M = M} {E = E} caches passes key after (Ok (Pinned pin))
   found-composite pin asks need masks outlines = record {
     visit = record { course = Found; masks = [] };
     is_visit = record { masks = λ no. absurd (both-true true false refl no); all = λ no. absurd (both-true true false refl no); had = λ no. absurd (both-true true false refl no) };
@@ -203,9 +200,9 @@ module _ {M E : Type 0} (caches : Caches) (key : CompositeKey) (passes after : T
     had_by = (refl, need.0, need.1);
   }
 
-  pub unasked-composite : (refused : E) → Adds equal_composites composite_meaning caches.composites passes.composites after.composites [] → after.masks ≡ passes.masks → after.outlines ≡ passes.outlines → IsComposed {M = M} caches passes key after (Err refused)
+  pub unasked-composite : (refused : E) → Adds equal_composites composite_meaning caches.composites passes.composites after.composites [] → after.masks ≡ passes.masks → after.outlines ≡ passes.outlines → IsComposed {M = M} {E = E} caches passes key after (Err refused)
   unasked-composite refused asks masks outlines = record {
-    visit = no-masks;
+    visit = record { course = Unasked; masks = [] };
     is_visit = record { masks = λ no. absurd (both-true true false refl no); all = λ no. absurd (both-true true false refl no); had = λ no. absurd (both-true true false refl no) };
     composites = asks;
     masks = subst (λ (p : CachePassView MaskKey (Arc FontSet Global)). Adds equal_masks mask_meaning caches.masks passes.masks p []) (sym masks) (adds-none equal_masks mask_meaning caches.masks passes.masks);
@@ -214,7 +211,7 @@ module _ {M E : Type 0} (caches : Caches) (key : CompositeKey) (passes after : T
   }
 
   pub made-composite : (q : CachePassView CompositeKey (Arc FontSet Global)) (duty : Option (TicketView CompositeKey)) (made : Result (Arc MaskValue Global) E) (had : Result (Lease M CompositeKey MaskValue (Arc FontSet Global)) E)
-      → Adds equal_composites composite_meaning caches.composites passes.composites q (duty_steps composite_meaning key duty) → IsDutyOf composite_meaning key duty
+      → Adds equal_composites composite_meaning caches.composites passes.composites q (duty_steps (composite_meaning {Z = Global}) key duty) → IsDutyOf (composite_meaning {Z = Global}) key duty
       → (visits : List MaskVisit) × AreMaskVisits key.parts visits
       × Adds equal_regions region_meaning caches.outlines passes.outlines after.outlines (region_steps_of caches.outlines.tag visits)
       × Adds equal_masks mask_meaning caches.masks passes.masks after.masks (mask_steps_of caches.masks.tag visits)

@@ -33,11 +33,31 @@ use Rattle.mask_caches.specs.declared.lease.Lease.TheVariants.{Pinned, Own}
 use Rattle.mask_caches.proofs.Adding.{adds-none, adds-then}
 use Rattle.mask_caches.proofs.Visiting.{given-course, had-value, lease-value, no-unpins}
 
+-- what one more visit adds
+flat-more : {X Y : Type 0} (f : X → List Y) (xs : List X) (x : X) → flat_map f (xs ++ x ∷ []) ≡ flat_map f xs ++ f x
+flat-more f xs x = flat_map-append f xs (x ∷ []) ∙ ap (λ l. flat_map f xs ++ l) (append-nil (f x))
+
+-- visits of the masks of the first n parts
+keys-front : (parts : List Part) (n : ℕ) (visits : List MaskVisit) → n ≤ length parts → map (λ v. v.key) visits ≡ map (λ part. part.mask) (take n parts)
+    → (length visits ≡ n) × (map (λ v. v.key) visits ≡ take (length visits) (map (λ part. part.mask) parts))
+keys-front parts n visits few keys =
+    let long : length visits ≡ n = sym (length-map visits (λ (v : MaskVisit). v.key)) ∙ (ap length keys ∙ (length-map (take n parts) (λ (x : Part). x.mask) ∙ length-take-le n parts few)) in (
+      long,
+      keys ∙ (sym (take-map (λ (x : Part). x.mask) n parts) ∙ ap (λ (m : ℕ). take m (map (λ (x : Part). x.mask) parts)) (sym long)),
+    )
+
+front-of : (visits : List MaskVisit) (v : MaskVisit) → take (length (visits ++ v ∷ []) - 1) (visits ++ v ∷ []) ≡ visits
+front-of visits v = ap (λ (n : ℕ). take n (visits ++ v ∷ [])) (let long = length-append visits (v ∷ []) in omega arith) ∙ take-append_seam visits (v ∷ [])
+
+module _ {Z : Type 0} (cache : CacheView (Arc FontSet Z)) where
+  -- of what wasn't had nothing is given back
+  pub failed-given : (v : MaskVisit) (visits : List MaskVisit) → has_value v.course ≡ false → flat_map (mask_unpins cache.tag) (reverse (visits ++ v ∷ [])) ≡ flat_map (mask_unpins cache.tag) (reverse visits)
+  failed-given v visits none =
+      ap (flat_map (mask_unpins cache.tag)) (reverse-append visits (v ∷ []))
+      ∙ ap (λ (l : List (Step MaskKey MaskValue)). l ++ flat_map (mask_unpins cache.tag) (reverse visits)) (no-unpins equal_masks mask_laws.laws-law mask_same mask_meaning cache v.key v.course none)
+
 module _ {M Z : Type 0} (fonts : List FontValue) (regions cache : CacheView (Arc FontSet Z))
     (o : CachePassView RegionKey (Arc FontSet Z)) (p : CachePassView MaskKey (Arc FontSet Z)) where
-  abbrev Leases : Type 0
-  Leases = List (Lease M MaskKey MaskValue (Arc FontSet Z))
-
   -- the masks of these parts were had
   pub record AreHad (done : List Part) (t : CachePassView RegionKey (Arc FontSet Z)) (s : CachePassView MaskKey (Arc FontSet Z)) (leases : List (Lease M MaskKey MaskValue (Arc FontSet Z))) : Type 0 where
     pub visits : List MaskVisit
@@ -64,10 +84,6 @@ module _ {M Z : Type 0} (fonts : List FontValue) (regions cache : CacheView (Arc
     given = refl;
     values = refl;
   }
-
-  -- what one more visit adds
-  flat-more : {X Y : Type 0} (f : X → List Y) (xs : List X) (x : X) → flat_map f (xs ++ x ∷ []) ≡ flat_map f xs ++ f x
-  flat-more f xs x = flat_map-append f xs (x ∷ []) ∙ ap (λ l. flat_map f xs ++ l) (append-nil (f x))
 
   pins-more : {E : Type 0} (q s : CachePassView MaskKey (Arc FontSet Z)) (leases : List (Lease M MaskKey MaskValue (Arc FontSet Z))) (lease : Lease M MaskKey MaskValue (Arc FontSet Z))
       → HoldsMore equal_masks mask_meaning cache p q (pinned_keys leases) → HoldsTheLease {E = E} equal_masks mask_meaning cache q s (Ok lease) → HoldsMore equal_masks mask_meaning cache p s (pinned_keys (leases ++ lease ∷ []))
@@ -99,7 +115,7 @@ module _ {M Z : Type 0} (fonts : List FontValue) (regions cache : CacheView (Arc
         outlines = subst (λ l. Adds equal_regions region_meaning regions o u l) (sym (flat-more (steps_of_its_region regions.tag) h.visits v.0)) (adds-then equal_regions region_meaning regions o t u _ _ h.outlines v.3);
         masks = subst (λ l. Adds equal_masks mask_meaning cache p s l) (sym (flat-more (mask_steps cache.tag) h.visits v.0)) (adds-then equal_masks mask_meaning cache p q s _ _ h.masks v.4);
         outlines_hold = record { pins = λ k. much.pins k ∙ h.outlines_hold.pins k; claims = λ k. much.claims k ∙ h.outlines_hold.claims k };
-        masks_hold = pins-more {E} q s leases lease h.masks_hold holds;
+        masks_hold = pins-more {E = E} q s leases lease h.masks_hold holds;
         given = ap (flat_map given_steps) (reverse-append leases (lease ∷ [])) ∙ (ap (λ l. given_steps lease ++ l) h.given ∙ (ap (λ l. l ++ flat_map (mask_unpins cache.tag) (reverse h.visits)) unpins ∙ sym (ap (flat_map (mask_unpins cache.tag)) (reverse-append h.visits (v.0 ∷ [])))));
         values = map-append lease_value leases (lease ∷ []) ∙ (ap (λ l. l ++ lease_value lease ∷ []) h.values
             ∙ (ap (λ x. masks_of fonts done ++ x ∷ []) (lease-value equal_masks mask_laws.laws-law mask_same mask_meaning cache part.mask v.0.course lease v.5 ∙ ap (λ fs. mask_value fs part.mask) tagged)
@@ -118,22 +134,7 @@ module _ {M Z : Type 0} (fonts : List FontValue) (regions cache : CacheView (Arc
       → AreHad (take (n + 1) parts) u s after
   one-more {E} parts n part t u q s leases after lease there is pushed tagged h v much holds =
       subst (λ (l : List Part). AreHad l u s after) (sym (take_more parts n part there ∙ ap (λ (x : Part). take n parts ++ x ∷ []) (sym is)))
-      (subst (λ (l : List (Lease M MaskKey MaskValue (Arc FontSet Z))). AreHad (take n parts ++ part ∷ []) u s l) (sym pushed) (one-then {E} (take n parts) part t u q s leases lease tagged h v much holds))
-
-  -- of what wasn't had nothing is given back
-  pub failed-given : (v : MaskVisit) (visits : List MaskVisit) → has_value v.course ≡ false → flat_map (mask_unpins cache.tag) (reverse (visits ++ v ∷ [])) ≡ flat_map (mask_unpins cache.tag) (reverse visits)
-  failed-given v visits none =
-      ap (flat_map (mask_unpins cache.tag)) (reverse-append visits (v ∷ []))
-      ∙ ap (λ (l : List (Step MaskKey MaskValue)). l ++ flat_map (mask_unpins cache.tag) (reverse visits)) (no-unpins equal_masks mask_laws.laws-law mask_same mask_meaning cache v.key v.course none)
-
-  -- visits of the masks of the first n parts
-  keys-front : (parts : List Part) (n : ℕ) (visits : List MaskVisit) → n ≤ length parts → map (λ v. v.key) visits ≡ map (λ part. part.mask) (take n parts)
-      → (length visits ≡ n) × (map (λ v. v.key) visits ≡ take (length visits) (map (λ part. part.mask) parts))
-  keys-front parts n visits few keys =
-      let long : length visits ≡ n = sym (length-map visits (λ (v : MaskVisit). v.key)) ∙ (ap length keys ∙ (length-map (take n parts) (λ (x : Part). x.mask) ∙ length-take-le n parts few)) in (
-        long,
-        keys ∙ (sym (take-map (λ (x : Part). x.mask) n parts) ∙ ap (λ (m : ℕ). take m (map (λ (x : Part). x.mask) parts)) (sym long)),
-      )
+      (subst (λ (l : List (Lease M MaskKey MaskValue (Arc FontSet Z))). AreHad (take n parts ++ part ∷ []) u s l) (sym pushed) (one-then {E = E} (take n parts) part t u q s leases lease tagged h v much holds))
 
   -- all parts' masks were had
   pub all-had : (parts : List Part) (n : ℕ) (t : CachePassView RegionKey (Arc FontSet Z)) (s : CachePassView MaskKey (Arc FontSet Z)) (leases : List (Lease M MaskKey MaskValue (Arc FontSet Z))) → n ≡ length parts
@@ -148,9 +149,6 @@ module _ {M Z : Type 0} (fonts : List FontValue) (regions cache : CacheView (Arc
         record { as_many = front.0 ∙ whole; had = h.had },
         h.values ∙ ap (masks_of fonts) (take_all n parts (omega (arith, whole))),
       )
-
-  front-of : (visits : List MaskVisit) (v : MaskVisit) → take (length (visits ++ v ∷ []) - 1) (visits ++ v ∷ []) ≡ visits
-  front-of visits v = ap (λ (n : ℕ). take n (visits ++ v ∷ [])) (let long = length-append visits (v ∷ []) in omega arith) ∙ take-append_seam visits (v ∷ [])
 
   -- what visits of the first parts came to, the last of which failed
   pub record AreRefused (parts : List Part) (t : CachePassView RegionKey (Arc FontSet Z)) (s : CachePassView MaskKey (Arc FontSet Z)) (leases : List (Lease M MaskKey MaskValue (Arc FontSet Z))) : Type 0 where
@@ -187,5 +185,5 @@ module _ {M Z : Type 0} (fonts : List FontValue) (regions cache : CacheView (Arc
         masks = subst (λ (l : List (Step MaskKey MaskValue)). Adds equal_masks mask_meaning cache p s l) (sym (flat-more (mask_steps cache.tag) h.visits v.0)) (adds-then equal_masks mask_meaning cache p q s _ _ h.masks v.4);
         outlines_hold = record { pins = λ k. much.pins k ∙ h.outlines_hold.pins k; claims = λ k. much.claims k ∙ h.outlines_hold.claims k };
         masks_hold = record { pins = λ k. same.pins k ∙ h.masks_hold.pins k; claims = λ k. same.claims k ∙ h.masks_hold.claims k };
-        given = h.given ∙ sym (failed-given v.0 h.visits v.5);
+        given = h.given ∙ sym (failed-given cache v.0 h.visits v.5);
       }

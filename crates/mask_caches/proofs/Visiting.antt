@@ -23,6 +23,9 @@ reclosed : (here was after last : Bool) → (here ≡ true → was ≡ false) �
 reclosed true was after last new opens closes = closes ∙ sym (new refl)
 reclosed false was after last new opens closes = closes ∙ opens
 
+false-true : false ≡ true → ⊥
+false-true e = cc
+
 pub any-ok : {A E P : Type 0} (r : Result A E) → P → OnOk r P
 any-ok (Ok a) p = p
 any-ok (Err e) p = tt
@@ -43,9 +46,6 @@ module _ {K V T : Type 0} (eq : K → K → Bool) (laws : IsEquivalence eq) (sam
   duty-value key (Some t) (Ok a) need value = value ∙ ap (meaning.made cache.tag) (sym need)
   duty-value key (Some t) (Err e) need value = tt
   duty-value key None made need value = tt
-
-  false-true : false ≡ true → ⊥
-  false-true e = cc
 
   apart-steps : (key : K) (inner : List (Step K V)) (p q r s : CachePassView K T) → Adds eq meaning cache p q (Ask key Crowded ∷ []) → Adds eq meaning cache q r inner → Adds eq meaning cache r s [] → Adds eq meaning cache p s (Ask key Crowded ∷ inner)
   apart-steps key inner p q r s asks made_of none =
@@ -122,7 +122,7 @@ module _ {M K V T : Type 0} (eq : K → K → Bool) (laws : IsEquivalence eq) (s
   )
   settled-course key inner p q r s None (Ok a) (Ok (Own own)) asks need made_of fills settled value lower = (
     MadeApart,
-    apart-steps key inner p q r s asks made_of fills,
+    apart-steps eq laws same meaning cache key inner p q r s asks made_of fills,
     (refl, settled ∙ value),
     refl,
     λ _. lower,
@@ -132,7 +132,7 @@ module _ {M K V T : Type 0} (eq : K → K → Bool) (laws : IsEquivalence eq) (s
   settled-course key inner p q r s None (Err e) (Ok (Own own)) asks need made_of fills settled value lower = absurd settled
   settled-course key inner p q r s None made (Err refused) asks need made_of fails settled value lower = (
     FailedApart,
-    apart-steps key inner p q r s asks made_of fails,
+    apart-steps eq laws same meaning cache key inner p q r s asks made_of fails,
     refl,
     refl,
     λ no. absurd (false-true no),
@@ -145,14 +145,14 @@ module _ {M K V T : Type 0} (eq : K → K → Bool) (laws : IsEquivalence eq) (s
       → HoldsTheLease eq meaning cache p s had
   settled-holds key p q r s (Some t) (Ok a) (Ok (Pinned pin)) asks need new much fills settled = record {
     pins = λ k. let one = asks.pins k in let two = much.pins k in let three = fills.pins k in let is = ap (λ (x : K). one_if (eq k x)) settled.0 in omega arith;
-    claims = λ k. claimed-again key k p q r s t.key asks need new much (fills.claims k);
+    claims = λ k. claimed-again eq laws same meaning cache key k p q r s t.key asks need new much (fills.claims k);
   }
   settled-holds key p q r s (Some t) (Ok a) (Ok (Own own)) asks need new much fills settled = absurd settled
   settled-holds key p q r s (Some t) (Err e) (Ok (Pinned pin)) asks need new much fills settled = absurd settled
   settled-holds key p q r s (Some t) (Err e) (Ok (Own own)) asks need new much fills settled = absurd settled
   settled-holds key p q r s (Some t) made (Err refused) asks need new much fails settled = record {
     pins = λ k. let one = asks.pins k in let two = much.pins k in let three = fails.pins k in omega arith;
-    claims = λ k. claimed-again key k p q r s t.key asks need new much (fails.claims k);
+    claims = λ k. claimed-again eq laws same meaning cache key k p q r s t.key asks need new much (fails.claims k);
   }
   settled-holds key p q r s None (Ok a) (Ok (Own own)) asks need new much fills settled = crowded-holds {own = Own own} key p q r s asks much fills (λ k. refl)
   settled-holds key p q r s None (Ok a) (Ok (Pinned pin)) asks need new much fills settled = absurd settled
@@ -180,8 +180,8 @@ module _ {M K V T : Type 0} (eq : K → K → Bool) (laws : IsEquivalence eq) (s
 
   -- the steps of giving a lease back are told by how it was come by
   pub given-course : (key : K) (course : Course) (lease : Lease M K V T) → IsLeaseOf meaning cache.tag key course lease → given_steps lease ≡ unpin_steps meaning cache.tag key course
-  given-course key Found (Pinned pin) is = ap (λ (k : K). Unpin {V = V} k ∷ []) is.1
-  given-course key Filled (Pinned pin) is = ap (λ (k : K). Unpin {V = V} k ∷ []) is.1
+  given-course key Found (Pinned pin) is = rw is.1 refl
+  given-course key Filled (Pinned pin) is = rw is.1 refl
   given-course key Failed (Pinned pin) is = let no = is.0 in cc
   given-course key MadeApart (Pinned pin) is = let no = is.0 in cc
   given-course key FailedApart (Pinned pin) is = let no = is.0 in cc

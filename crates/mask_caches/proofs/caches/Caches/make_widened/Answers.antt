@@ -52,8 +52,8 @@ returns-in-Ok-had g c =
           c.widened_from-made.ensures;
     }
 
-pub returns-in-Err : goal.returns-in-Err
-returns-in-Err g c =
+pub returns : goal.returns
+returns g c =
     let v = rw c.in-Err.is at c.outline-pass.ensures.visit in
     let holds = rw c.in-Err.is at c.outline-pass.ensures.holds in
     record {
