@@ -39,8 +39,8 @@ both-true false b none both = cc
 no-visit : RegionVisit
 no-visit = record { course = Unasked; outline = Unasked }
 
-pub no-region-visit : (key : RegionKey) → (visit : RegionVisit) × IsRegionVisit key visit
-no-region-visit key = (record { course = Unasked; outline = Unasked }, record { outline = λ both value. absurd (both-true (is_widened key) false refl both) })
+pub no-region-visit : (key : RegionKey) → IsRegionVisit key (record { course = Unasked; outline = Unasked })
+no-region-visit key = record { outline = λ both value. absurd (both-true (is_widened key) false refl both) }
 
 first-true : (a b : Bool) → a ≡ false → a && b ≡ true → ⊥
 first-true true b none both = cc

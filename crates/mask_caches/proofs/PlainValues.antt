@@ -21,10 +21,13 @@ use Rattle.region_rows.specs.Widened.{in_widened}
 use Rattle.sample_region.specs.Limits.{max_inside}
 use Rattle.mask_caches.specs.Visits.{is_widened, outline_key}
 
+true-false : true ≡ false → ⊥
+true-false e = cc
+
 zero-radii : (rx ry : ℕ) → not ((rx == 0) && (ry == 0)) ≡ false → (rx ≡ 0) × (ry ≡ 0)
 zero-radii zero zero plain = (refl, refl)
-zero-radii zero (suc ry) plain = cc
-zero-radii (suc rx) ry plain = cc
+zero-radii zero (suc ry) plain = absurd (true-false plain)
+zero-radii (suc rx) ry plain = absurd (true-false plain)
 
 pub outline-near : (fonts : List FontValue) (key : OutlineKey) → IsRegionWithin max_inside (outline_value fonts key).top (outline_value fonts key).rows
 outline-near fonts key = region_within-limit max_inside (inside (rings_of fonts key))

@@ -39,7 +39,7 @@ returns-in-Make g c =
     let q = c.ask-pass.result.0 in
     let value = region-tagged c.args.self.now.fonts cache.tag c.args.key.now c.make_outline-made.result c.args.self.now.tags.outlines_have c.make_outline-made.ensures in
     let v = settled-course equal_regions region_laws.laws-law region_same region_meaning cache c.args.key.now [] c.args.pass q q c.settle.result.0 c.in-Make.duty c.make_outline-made.result c.settle.result.1
-    asks need (adds-none equal_regions region_meaning cache q) c.settle.ensures.steps c.settle.ensures.settled value (any-ok c.make_outline-made.result tt) in
+    asks need (adds-none equal_regions region_meaning cache q) c.settle.ensures.steps c.settle.ensures.settled value (any-ok {P = Unit {0}} c.make_outline-made.result tt) in
     record {
       visit = (v.0, v.1, v.2);
       holds = settled-holds equal_regions region_laws.laws-law region_same region_meaning cache c.args.key.now c.args.pass q q c.settle.result.0 c.in-Make.duty c.make_outline-made.result c.settle.result.1
