@@ -24,7 +24,7 @@ layout() {
 
 if ! is_fresh; then
     echo "layout.sh: proving and building the program, which takes some minutes" >&2
-    (cd "$top/crates/layout_bench" && rt run) >&2
+    (cd "$top/crates/layout_bench" && rt run < stdin) >&2
 fi
 
 date -u +%Y-%m-%d

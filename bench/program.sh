@@ -1,5 +1,5 @@
 #!/usr/bin/env bash
-# Measures the program: one picture of 1920x1080, and checks of 100,000 and of 1,000,000 Dialogue lines. It makes its inputs
+# Measures the program: pictures of 1920x1080, and checks of 100,000 and of 1,000,000 Dialogue lines. It makes its inputs
 # itself, and each time is the least of RUNS runs, 20 where none are given. It takes the proved build where one is at hand. Else it
 # takes the toolchain's unproved one, which tests itself at each step and is hundreds of times as slow, and leaves out what would take
 # minutes.
@@ -42,6 +42,26 @@ text='The quick brown fox jumps over the lazy dog, 0123456789, and then sits in 
 { script 1280 720 80; lines 100000 'What the river said, nobody wrote down.'; } > "$room/100000.ass"
 { script 1280 720 80; lines 1000000 'So she said.'; } > "$room/1000000.ass"
 
+# page TEXT..: a script of 1920x1080 in the font subtitle.bdf at 3 times its height, with these texts at once
+page() {
+    printf '[Script Info]\nScriptType: v4.00+\nPlayResX: 1920\nPlayResY: 1080\nScaledBorderAndShadow: yes\n[V4+ Styles]\n'
+    printf 'Style: Default,Subtitle,48,&H00FFFFFF,&H000000FF,&H00000000,&H80000000,0,0,0,0,100,100,0,0,1,2,2,2,40,40,40,1\n[Events]\n'
+    printf 'Dialogue: 0,0:00:00.00,0:00:10.00,Default,,0,0,0,,%s\n' "$@"
+}
+
+# signs COUNT: so many placed texts with a border, a blur and a fade
+signs() {
+    local i
+    for ((i = 0; i < $1; i++)); do
+        printf '{\\pos(%d,%d)\\bord%d\\shad0\\blur3\\fad(500,500)}%s\n' $((i * 611 % 1700)) $((i * 397 % 1030)) $((i % 4 + 1)) "board $((i * 7 % 53)) stone"
+    done
+}
+
+page > "$room/empty.ass"
+page 'What the river said, nobody wrote down.' > "$room/plain.ass"
+mapfile -t boards < <(signs 200)
+page "${boards[@]}" > "$room/signs.ass"
+
 # measure NAME RUNS SCRIPT WORDS..: the least time on the processors and on the clock, and the peak memory.
 measure() {
     ASAN_OPTIONS=detect_leaks=0 python3 - "$@" << 'END'
@@ -76,6 +96,10 @@ cd "$room"
 font=$top/examples/letter.bdf
 measure 'frame 16x16' "$runs" small.ass "$program" frame --at 2000 --size 16x16 small.ass "$font"
 measure 'frame 1920x1080' "$runs" large.ass "$program" frame --at 2000 --size 1920x1080 large.ass "$font"
+subtitle=$top/examples/subtitle.bdf
+measure 'frame without a line' "$runs" empty.ass "$program" frame --at 1000 --size 1920x1080 empty.ass "$subtitle"
+measure 'frame of a bordered line' "$runs" plain.ass "$program" frame --at 1000 --size 1920x1080 plain.ass "$subtitle"
+measure 'frame of 200 signs' "$runs" signs.ass "$program" frame --at 1000 --size 1920x1080 signs.ass "$subtitle"
 measure 'check 100,000 lines' "$runs" 100000.ass "$program" check 100000.ass "$font"
 if [ "$program" != "$top/out/play_main" ]; then
     measure 'check 1,000,000 lines' $(((runs + 3) / 4)) 1000000.ass "$program" check 1000000.ass "$font"

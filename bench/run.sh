@@ -6,7 +6,7 @@ set -eu
 
 top=$(dirname -- "$(dirname -- "$(readlink -f -- "${BASH_SOURCE[0]}")")")
 kernels=$top/crates/kernel_bench/out/kernel_bench
-views=$top/crates/state_bench/out/state_bench
+views=$top/crates/layout_bench/out/layout_bench
 
 # Whether a program is there and no source of the crates that it is made of is newer.
 is_fresh() {
@@ -36,9 +36,10 @@ if ! is_fresh "$kernels" ass_num blanks region_rows sample_region outline_points
     echo "run.sh: proving and building kernel_bench, which takes some minutes" >&2
     (cd "$top/crates/kernel_bench" && rt run) >&2
 fi
-if ! is_fresh "$views" ass_num blanks ass_script ass_events drawing_path event_instants tag_arguments override_tags tag_state state_bench; then
-    echo "run.sh: proving and building state_bench, which takes some minutes" >&2
-    (cd "$top/crates/state_bench" && rt run -- '' a '' 1 0) >&2
+if ! is_fresh "$views" ass_num blanks ass_script ass_events outline_points bdf_font drawing_path event_instants tag_arguments override_tags \
+    tag_state line_layout text_layout layout_bench; then
+    echo "run.sh: proving and building layout_bench, which takes some minutes" >&2
+    (cd "$top/crates/layout_bench" && rt run -- '' a '' 1 0) >&2
 fi
 
 date -u +%Y-%m-%d

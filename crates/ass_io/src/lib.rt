@@ -12,8 +12,6 @@ mod plan;
 mod shelf;
 mod sink;
 mod std_sink;
-#[cfg(test)]
-mod tests;
 
 pub use failing_shelf::FailingShelf;
 pub use failing_sink::FailingSink;

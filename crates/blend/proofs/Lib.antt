@@ -1,4 +1,5 @@
 pub mod AreaLemmas
+pub mod BlockLemmas
 pub mod BandLemmas
 pub mod CanvasLemmas
 pub mod DrawLemmas

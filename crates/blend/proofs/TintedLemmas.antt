@@ -50,7 +50,7 @@ tinted-append tint n c (r ∷ g ∷ b ∷ s) t e =
     (more ∙ ap (λ k. tinted tint (n + 1) s ++ tinted tint k t) place)
 
 -- three bytes and the rest are the same
-cons-same : (a b c d e f : ℕ) (s t : List ℕ) → a ≡ d → b ≡ e → c ≡ f → s ≡ t → a ∷ b ∷ c ∷ s ≡ d ∷ e ∷ f ∷ t
+pub cons-same : (a b c d e f : ℕ) (s t : List ℕ) → a ≡ d → b ≡ e → c ≡ f → s ≡ t → a ∷ b ∷ c ∷ s ≡ d ∷ e ∷ f ∷ t
 cons-same a b c d e f s t p q r h = cc
 
 -- the same tints at other numbers
@@ -183,15 +183,22 @@ tinted-start tint s = sym (tinted-none (below 0 tint) 0 (length s) s (omega arit
 pub tinted-end : (tint : ℕ → Tint) (c : ℕ) (s t : List ℕ) → length s ≡ 3 * c → t ≡ tinted (below c tint) 0 s → t ≡ tinted tint 0 s
 tinted-end tint c s t len was = was ∙ tinted-shift (below c tint) tint 0 0 c s (omega arith) (λ k l. inl (below-less c tint (0 + k) (omega arith)))
 
+-- so many more pixels
+pub below-part : (f tint : ℕ → Tint) (i c at len : ℕ) (first s p : List ℕ) → at ≡ 3 * i → len ≡ 3 * c → s ≡ tinted (below i tint) 0 first → 3 * (i + c) ≤ length first
+    → p ≡ tinted f 0 (take len (drop at s)) → ((k : ℕ) → k < c → f k ≡ tint (i + k)) → put_mid at len s p ≡ tinted (below (i + c) tint) 0 first
+below-part f tint i c at len first s p at_is len_is was fits is same =
+    tinted-write f (below i tint) (below (i + c) tint) 0 i c at len first s p at_is len_is was fits is
+    (λ k l. let e : 0 + i + k ≡ i + k = omega arith in inl (rw e (same k l ∙ sym (below-less (i + c) tint (i + k) (omega arith)))))
+    (λ k l m. weightless (below i tint k) (below-past i tint k (omega arith)))
+    (λ k l m. inl (below-less i tint k (omega arith) ∙ sym (below-less (i + c) tint k (omega arith))))
+    (λ k l. inl (below-past i tint k (omega arith) ∙ sym (below-past (i + c) tint k (omega arith))))
+
 -- one more pixel
 pub below-step : (tint : ℕ → Tint) (t : Tint) (i at len : ℕ) (first s p : List ℕ) → at ≡ 3 * i → len ≡ 3 * 1 → s ≡ tinted (below i tint) 0 first → 3 * (i + 1) ≤ length first
     → p ≡ tinted (λ _. t) 0 (take len (drop at s)) → t ≡ tint i → put_mid at len s p ≡ tinted (below (i + 1) tint) 0 first
 below-step tint t i at len first s p at_is len_is was fits is same =
-    tinted-write (λ _. t) (below i tint) (below (i + 1) tint) 0 i 1 at len first s p at_is len_is was fits is
-    (λ k l. let e : 0 + i + k ≡ i = omega arith in inl (rw e (same ∙ sym (below-less (i + 1) tint i (omega arith)))))
-    (λ k l m. weightless (below i tint k) (below-past i tint k (omega arith)))
-    (λ k l m. inl (below-less i tint k (omega arith) ∙ sym (below-less (i + 1) tint k (omega arith))))
-    (λ k l. inl (below-past i tint k (omega arith) ∙ sym (below-past (i + 1) tint k (omega arith))))
+    below-part (λ _. t) tint i 1 at len first s p at_is len_is was fits is
+    (λ k l. let e : i + k ≡ i = omega arith in rw e same)
 
 -- a colour of the weight that its coverage gives
 pub tint_of-weight : (colour : Rgba) (m weight : ℕ) → weight ≡ by_255 (m * (255 - colour.a)) → (let t : Tint = record { colour = colour; weight = weight } in t) ≡ tint_of colour m

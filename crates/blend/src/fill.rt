@@ -6,7 +6,7 @@ ghost use Rattle.blend.specs.Areas.{IsAreaCovered, IsInBand, IsPart, placed_of, 
 
 use crate::area::{Area, Band};
 use crate::placed::{Placed, cover};
-use crate::span::{tint_span, tint_span_under};
+use crate::span::{solid, tint_span, tint_span_under};
 use ass_num::Rgba;
 
 /// Blends a colour into an area that the placed mask's box has.
@@ -20,10 +20,16 @@ pub fn fill(rows: &mut [u8], band: Band, area: Area, placed: Placed<'_>, colour:
         return;
     }
     let count = (area.right - area.left) as usize;
+    let solid = solid(colour);
     for j in area.top..area.bottom {
         let start = (j - band.top) as usize * band.w as usize + area.left as usize;
         let bytes = cover(placed, area.left, area.right, j);
-        tint_span(&mut rows[3 * start..3 * (start + count)], bytes, colour);
+        tint_span(
+            &mut rows[3 * start..3 * (start + count)],
+            bytes,
+            colour,
+            &solid,
+        );
     }
 }
 

@@ -141,14 +141,9 @@ fn show_counts<R: Wait + Threads + Sync + Clock + Print>(
     alloc: Global,
 ) -> Result<(), Stop> {
     let totals = run_threads(rt, alloc, &keys_apart(alloc, 10)?, 10, 1)?.totals;
-    println!(rt;
-        "claims {}, fills {}, hits {}",
-        totals.claims, totals.fills, totals.hits
-    )?;
-    println!(rt;
-        "entries {}, pinned {}, unpinned {}",
-        totals.entries, totals.pinned, totals.unpinned
-    )?;
+    let steps = [totals.claims, totals.fills, totals.hits];
+    let now = [u64::from(totals.entries), totals.pinned, totals.unpinned];
+    println!(rt; "claims, fills, hits: {steps:?}; entries, pinned, unpinned: {now:?}")?;
     Ok(())
 }
 
@@ -183,24 +178,40 @@ fn number_of(word: &String) -> Result<u32, Stop> {
     }
 }
 
-fn main(rt: HostRuntime) -> Result<(), Stop> {
-    let alloc = rt.alloc();
-    let mut words = Vec::new(alloc);
-    for word in env::args(&rt)?.skip(1) {
+/// Prints how long a reading of the clock takes.
+fn show_clock<R: Clock + Print>(rt: &R) -> Result<(), Stop> {
+    let reading = time_nothing(rt, CLOCK_READINGS).as_nanos() / u128::from(CLOCK_READINGS);
+    println!(rt; "a reading of the clock: {reading} ns")?;
+    Ok(())
+}
+
+fn measure<R: Wait + Threads + Sync + Clock + Print>(
+    rt: &R,
+    alloc: Global,
+    count: u32,
+    rounds: u32,
+) -> Result<(), Stop> {
+    show_clock(rt)?;
+    let apart = keys_apart(alloc, count)?;
+    show_times(rt, alloc, "a shard for each thread", &apart, count, rounds)?;
+    let mixed = keys_mixed(alloc, count)?;
+    show_times(rt, alloc, "keys in all shards", &mixed, count, rounds)
+}
+
+/// The words after the program's name.
+fn words_of(rt: &HostRuntime) -> io::Result<Vec<String>> {
+    let mut words = Vec::new(rt.alloc());
+    for word in env::args(rt)?.skip(1) {
         words.push(word)?;
     }
+    Ok(words)
+}
+
+fn main(rt: HostRuntime) -> Result<(), Stop> {
+    let words = words_of(&rt)?;
     match words.as_slice() {
-        [] => show_counts(&rt, alloc),
-        [count, rounds] => {
-            let count = number_of(count)?;
-            let rounds = number_of(rounds)?;
-            let reading = time_nothing(&rt, CLOCK_READINGS).as_nanos() / u128::from(CLOCK_READINGS);
-            println!(&rt; "a reading of the clock: {reading} ns")?;
-            let apart = keys_apart(alloc, count)?;
-            let mixed = keys_mixed(alloc, count)?;
-            show_times(&rt, alloc, "a shard for each thread", &apart, count, rounds)?;
-            show_times(&rt, alloc, "keys in all shards", &mixed, count, rounds)
-        }
+        [] => show_counts(&rt, rt.alloc()),
+        [count, rounds] => measure(&rt, rt.alloc(), number_of(count)?, number_of(rounds)?),
         _ => Err(Stop::UnknownWords),
     }
 }

@@ -3,6 +3,7 @@ pub mod Lists
 pub mod Nears
 pub mod NearSpans
 pub mod OneShift
+pub mod OneStand
 pub mod Orders
 pub mod Pairs
 pub mod PlacedLemmas
@@ -11,3 +12,4 @@ pub mod SettleLemmas
 pub mod Sorts
 pub mod StandLemmas
 pub mod StepLemmas
+pub mod WalkLemmas

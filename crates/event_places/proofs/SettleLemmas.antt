@@ -1,73 +1,114 @@
--- A box that is moved clear of others lies no further out than they push it.
-use Rattle.std.proofs.Common.{◌≡◌, ℕ, ◌+◌, ◌<◌, ℤ, Bool, true, false, cond, refl, List, [], ◌∷◌, ◌++◌, length, map, get_or, take, sym, ap, subst, ◌∙◌, arith}
+-- A box that is moved clear of others lies no further out than they push it; what was dropped isn't missed.
+use Rattle.std.proofs.Common.{◌≡◌, ℕ, ◌+◌, ◌-◌, ◌<◌, ◌≤◌, ℤ, ◌≤ℤ◌, Bool, true, false, List, ◌∷◌, length, get_or, sym, ap, subst, ◌∙◌, arith, ◌⊎◌, ⊎_elim, inl, inr}
+use Rattle.std.specs.Prelude.{insert, int_le}
 use Rattle.std.specs.List.{All, filter}
+use Rattle.std.specs.List.Sorted.{IsPartitionedBy, IsPermutation}
+use Rattle.std.proofs.lemmas.Bool.{cases_lt}
 use Rattle.std.proofs.lemmas.Int.{ints}
-use Rattle.std.proofs.lemmas.List.{length_push, map-append}
-use Rattle.std.proofs.lemmas.List.Elements.{All-append, All-cons, All-filter, All-map, All-nil, All-weaker, filter_more}
-use Rattle.ass_events.specs.Histories.{max_live}
-use Rattle.placement.specs.Placement.{IsBoxWithin, IsLeastShift, IsPlaceableStand, IsShift, max_box, max_height, max_moved, max_place, moved_box}
-use Rattle.placement.specs.declared.boxes.Box2.{Box2}
+use Rattle.std.proofs.lemmas.List.Edits.{get_or-insert_above, get_or-insert_at, get_or-insert_below, length-insert}
+use Rattle.std.proofs.lemmas.List.Elements.{All-cons, All-filter, All-map, All-weaker}
+use Rattle.std.proofs.lemmas.List.Kept.{AllPairs-filter}
+use Rattle.std.proofs.lemmas.List.Sorted.{All-permutation}
+use Rattle.placement.specs.Placement.{IsBoxWithin, IsLeastShift, IsPlaceableStand, IsShift, max_height, max_place}
 use Rattle.placement.specs.declared.boxes.Stand.{Stand}
-use Rattle.placement.proofs.ShiftLemmas.{IsBoxWithin-wider, least-IsWithin, moved-IsShift}
+use Rattle.placement.proofs.ShiftLemmas.{IsBoxWithin-wider, least-IsWithin}
 use Rattle.event_places.specs.Limits.{max_shift, reach}
-use Rattle.event_places.specs.Steps.{AreSettledWithin, IsSettling, boxes_in_way, is_in_way, settled_at}
+use Rattle.event_places.specs.Steps.{AreFromLowest, AreSettledWithin, IsSettling, boxes_in_way, is_in_way, settled_at}
 use Rattle.event_places.specs.declared.spans.EventSpan.{EventSpan}
-use Rattle.event_places.specs.declared.steps.Settled.{Settled}
-
--- one more that is in the way, or isn't
-map_cond : (b : Bool) (x : Settled) → map (λ (y : Settled). y.place) (cond b (x ∷ []) []) ≡ cond b (x.place ∷ []) []
-map_cond b x = elim b as (λ t. map (λ (y : Settled). y.place) (cond t (x ∷ []) []) ≡ cond t (x.place ∷ []) []) [ true ↦ refl | false ↦ refl ]
-
-pub way_more : (span : EventSpan) (settled : List Settled) (i : ℕ) (d : Settled) → i < length settled
-    → boxes_in_way span (take (i + 1) settled) ≡ boxes_in_way span (take i settled) ++ cond (is_in_way span (get_or settled i d)) ((get_or settled i d).place ∷ []) []
-way_more span settled i d lt =
-    let place = λ (y : Settled). y.place in
-    let x = get_or settled i d in
-    let rest = filter (is_in_way span) (take i settled) in
-    ap (map place) (filter_more (is_in_way span) settled i d lt)
-    ∙ (map-append place rest (cond (is_in_way span x) (x ∷ []) []) ∙ ap (λ z. map place rest ++ z) (map_cond (is_in_way span x) x))
+use Rattle.event_places.specs.declared.settled.Settled.{Settled}
 
 abbrev Within : ℕ → Settled → Type 0
 Within count x = IsBoxWithin (reach count) x.place
 
-pub way_within : (span : EventSpan) (settled : List Settled) → AreSettledWithin settled → All (IsBoxWithin (reach (length settled))) (boxes_in_way span settled)
-way_within span settled h =
-    All-map (IsBoxWithin (reach (length settled))) (λ (x : Settled). x.place) (filter (is_in_way span) settled) (All-filter (is_in_way span) (Within (length settled)) settled h)
+-- ---- the events that stay
+pub stay_within : (count : ℕ) (span : EventSpan) (settled : List Settled) → AreSettledWithin count settled → AreSettledWithin count (filter (is_in_way span) settled)
+stay_within count span settled h = All-filter (is_in_way span) (Within count) settled h
 
-pub way_moved : (span : EventSpan) (settled : List Settled) → AreSettledWithin settled → length settled < max_live → All (IsBoxWithin max_moved) (boxes_in_way span settled)
-way_moved span settled h few =
-    All-weaker (IsBoxWithin (reach (length settled))) (IsBoxWithin max_moved) (λ b k. IsBoxWithin-wider (reach (length settled)) max_moved b (omega (arith, few)) k) (boxes_in_way span settled) (way_within span settled h)
+pub stay_sorted : (span : EventSpan) (settled : List Settled) → AreFromLowest settled → AreFromLowest (filter (is_in_way span) settled)
+stay_sorted span settled h = AllPairs-filter (λ (a b : Settled). b.place.top ≤ℤ a.place.top) (is_in_way span) settled h
 
-pub boxes_wider : (boxes : List Box2) → All (IsBoxWithin max_moved) boxes → All (IsBoxWithin max_box) boxes
-boxes_wider boxes h = All-weaker (IsBoxWithin max_moved) (IsBoxWithin max_box) (λ b k. IsBoxWithin-wider max_moved max_box b (omega arith) k) boxes h
+pub settled_wider : (few many : ℕ) (settled : List Settled) → few ≤ many → AreSettledWithin few settled → AreSettledWithin many settled
+settled_wider few many settled le h = All-weaker (Within few) (Within many) (λ x k. IsBoxWithin-wider (reach few) (reach many) x.place (omega (arith, le)) k) settled h
 
-module _ (span : EventSpan) (stand : Stand) (settled : List Settled) (placeable : IsPlaceableStand stand) (within : AreSettledWithin settled) (few : length settled < max_live) (shift : ℤ)
-    (least : IsLeastShift stand.place (boxes_in_way span settled) stand.down shift) where
-  moved_reach : IsBoxWithin (reach (length settled) + max_height) (moved_box stand.down shift stand.place)
-  moved_reach =
-      least-IsWithin stand.place (boxes_in_way span settled) stand.down (reach (length settled)) max_height shift
-      (IsBoxWithin-wider max_place (reach (length settled)) stand.place (omega arith) placeable.within) (way_within span settled within) placeable.height least
+-- ---- one more
+module _ (span : EventSpan) (stand : Stand) (settled : List Settled) (placeable : IsPlaceableStand stand) (shift : ℤ) (range : IsShift max_shift shift)
+    (least : IsLeastShift stand.place (boxes_in_way span settled) stand.down shift) (new : List Settled) (members : IsPermutation (settled_at span stand shift ∷ filter (is_in_way span) settled) new) where
+  pub settling_is : IsSettling span stand settled shift new
+  settling_is =
+      let from = range.from_zero in
+      let bounded = range.bounded in
+      record { least = least; within = (omega (arith, ints, from), bounded); members = members }
 
-  pub shift_within : IsShift max_shift shift
-  shift_within =
-      let s = moved-IsShift stand.place stand.down max_place (reach (length settled) + max_height) shift least.from_zero placeable.within moved_reach in
-      let bounded = s.bounded in
-      record { from_zero = least.from_zero; bounded = omega (arith, ints, bounded, few) }
-
-  pub settling_is : (new : List Settled) → new ≡ settled ++ settled_at span stand shift ∷ [] → IsSettling span stand settled shift new
-  settling_is new is =
-      let s = shift_within in
-      let from = s.from_zero in
-      let bounded = s.bounded in
-      record { least = least; within = (omega (arith, ints, from), bounded); added = is }
-
-  pub settled_within : (new : List Settled) → new ≡ settled ++ settled_at span stand shift ∷ [] → AreSettledWithin new
-  settled_within new is =
+  pub settled_within : (count : ℕ) → AreSettledWithin count settled → AreSettledWithin (count + 1) new
+  settled_within count within =
+      let stay = stay_within count span settled within in
+      let boxes : All (IsBoxWithin (reach count)) (boxes_in_way span settled) = All-map (IsBoxWithin (reach count)) (λ (x : Settled). x.place) (filter (is_in_way span) settled) stay in
+      let out = least-IsWithin stand.place (boxes_in_way span settled) stand.down (reach count) max_height shift
+      (IsBoxWithin-wider max_place (reach count) stand.place (omega arith) placeable.within) boxes placeable.height least in
       let one = settled_at span stand shift in
-      let more = length_push settled one in
-      let count : length (settled ++ one ∷ []) ≡ length settled + 1 = omega (arith, more) in
-      let old : All (Within (length settled + 1)) settled =
-      All-weaker (Within (length settled)) (Within (length settled + 1)) (λ x k. IsBoxWithin-wider (reach (length settled)) (reach (length settled + 1)) x.place (omega arith) k) settled within in
-      let mine : Within (length settled + 1) one = IsBoxWithin-wider (reach (length settled) + max_height) (reach (length settled + 1)) one.place (omega arith) moved_reach in
-      let all : All (Within (length settled + 1)) (settled ++ one ∷ []) = All-append (Within (length settled + 1)) settled (one ∷ []) old (All-cons (Within (length settled + 1)) one [] mine (All-nil (Within (length settled + 1)))) in
-      subst AreSettledWithin (sym is) (subst (λ n. All (Within n) (settled ++ one ∷ [])) (sym count) all)
+      let mine : Within (count + 1) one = IsBoxWithin-wider (reach count + max_height) (reach (count + 1)) one.place (omega arith) out in
+      All-permutation (Within (count + 1)) (one ∷ filter (is_in_way span) settled) new members
+      (All-cons (Within (count + 1)) one (filter (is_in_way span) settled) mine (settled_wider count (count + 1) (filter (is_in_way span) settled) (omega arith) stay))
+
+-- ---- one more among boxes from the lowest to the highest
+-- what stands at a place once one more came in
+place_cases : (xs : List Settled) (i : ℕ) (y : Settled) (k : ℕ) (d : Settled) → i ≤ length xs
+    → ((k < i) × (get_or (insert xs i y) k d ≡ get_or xs k d)) ⊎ (((k ≡ i) × (get_or (insert xs i y) k d ≡ y)) ⊎ ((j : ℕ) × (i ≤ j) × (k ≡ j + 1) × (get_or (insert xs i y) k d ≡ get_or xs j d)))
+place_cases xs i y k d le =
+    ⊎_elim (λ below. inl (below, get_or-insert_below xs i y d k below le))
+    (λ above. ⊎_elim
+    (λ past. inr (inr (k - 1, omega (arith, past), omega (arith, past), ap (λ n. get_or (insert xs i y) n d) (omega (arith, past)) ∙ get_or-insert_above xs i y d (k - 1) (omega (arith, past)) le)))
+    (λ same. let is : k ≡ i = omega (arith, above, same) in inr (inl (is, ap (λ n. get_or (insert xs i y) n d) is ∙ get_or-insert_at xs i y d le)))
+    (cases_lt i k))
+    (cases_lt k i)
+
+pub sorted_insert : (settled : List Settled) (i : ℕ) (one : Settled) → AreFromLowest settled → i ≤ length settled
+    → ((k : ℕ) (d : Settled) → k < i → one.place.top ≤ℤ (get_or settled k d).place.top)
+    → ((k : ℕ) (d : Settled) → i ≤ k → k < length settled → (get_or settled k d).place.top ≤ℤ one.place.top)
+    → AreFromLowest (insert settled i one)
+sorted_insert settled i one sorted le lower higher a b d before within =
+    let R : Settled → Settled → Type 0 = λ x y. y.place.top ≤ℤ x.place.top in
+    let long : length (insert settled i one) ≡ length settled + 1 = length-insert settled i one le in
+    let both : (x y : Settled) → get_or (insert settled i one) a d ≡ x → get_or (insert settled i one) b d ≡ y → R x y → R (get_or (insert settled i one) a d) (get_or (insert settled i one) b d) =
+    λ x y p q h. subst (λ z. R z (get_or (insert settled i one) b d)) (sym p) (subst (R x) (sym q) h)
+    in
+    ⊎_elim
+    (λ p. ⊎_elim
+    (λ q. both (get_or settled a d) (get_or settled b d) p.1 q.1 (sorted a b d before (omega (arith, q.0, le))))
+    (λ r. ⊎_elim
+    (λ q. both (get_or settled a d) one p.1 q.1 (lower a d p.0))
+    (λ q. both (get_or settled a d) (get_or settled q.0 d) p.1 q.3 (sorted a q.0 d (omega (arith, p.0, q.1)) (omega (arith, q.2, within, long)))) r)
+    (place_cases settled i one b d le))
+    (λ s. ⊎_elim
+    (λ p. ⊎_elim
+    (λ q. absurd (omega (arith, p.0, q.0, before)))
+    (λ r. ⊎_elim
+    (λ q. absurd (omega (arith, p.0, q.0, before)))
+    (λ q. both one (get_or settled q.0 d) p.1 q.3 (higher q.0 d q.1 (omega (arith, q.2, within, long)))) r)
+    (place_cases settled i one b d le))
+    (λ p. ⊎_elim
+    (λ q. absurd (omega (arith, p.1, p.2, q.0, before)))
+    (λ r. ⊎_elim
+    (λ q. absurd (omega (arith, p.1, p.2, q.0, before)))
+    (λ q. both (get_or settled p.0 d) (get_or settled q.0 d) p.3 q.3 (sorted p.0 q.0 d (omega (arith, p.2, q.2, before)) (omega (arith, q.2, within, long)))) r)
+    (place_cases settled i one b d le)) s)
+    (place_cases settled i one a d le)
+
+-- ---- the place of one more
+abbrev pub begins_no_higher : ℤ → Settled → Bool
+begins_no_higher top x = int_le top x.place.top
+
+higher_too : (top : ℤ) (a b : Settled) → b.place.top ≤ℤ a.place.top → begins_no_higher top b ≡ true → begins_no_higher top a ≡ true
+higher_too top a b le passes = grind (arith, ints)
+
+pub partitioned : (settled : List Settled) (top : ℤ) → AreFromLowest settled → IsPartitionedBy (begins_no_higher top) settled
+partitioned settled top sorted i j d le lt passes =
+    ⊎_elim (λ before. higher_too top (get_or settled i d) (get_or settled j d) (sorted i j d before lt) passes)
+    (λ back. let same : j ≡ i = omega (arith, le, back) in subst (λ k. begins_no_higher top (get_or settled k d) ≡ true) same passes)
+    (cases_lt i j)
+
+pub lower_than : (top : ℤ) (x : Settled) → begins_no_higher top x ≡ true → top ≤ℤ x.place.top
+lower_than top x passes = grind (arith, ints)
+
+pub higher_than : (top : ℤ) (x : Settled) → begins_no_higher top x ≡ false → x.place.top ≤ℤ top
+higher_than top x fails = grind (arith, ints)

@@ -1,13 +1,15 @@
 -- Events that are moved one after the other stand clear of their rivals among all events.
 use Rattle.std.proofs.Common.{◌≡◌, ◌≢◌, ℕ, ◌+◌, ◌<◌, get_or, take, ℤ, pos, ◌<ℤ◌, true, false, cond, List, [], ◌∷◌, ◌++◌, length, map, refl, sym, ap, subst, ◌∙◌, arith, ◌⊎◌, ⊎_elim, inl, inr, Option, Some, None}
-use Rattle.std.specs.Prelude.{slice_get, ◌==◌}
+use Rattle.std.specs.Prelude.{slice_get, ◌==◌, if◌then◌else◌}
 use Rattle.std.specs.List.{All, Contains, filter}
-use Rattle.std.proofs.lemmas.Bool.{cases_Bool}
+use Rattle.std.specs.List.Sorted.{IsPermutation}
+use Rattle.std.proofs.lemmas.Bool.{cases_Bool, false≢true}
 use Rattle.std.proofs.lemmas.Bool.Decides.{nat_tests}
 use Rattle.std.proofs.lemmas.Int.{ints}
 use Rattle.std.proofs.lemmas.List.{take_more}
 use Rattle.std.proofs.lemmas.Option.{get_or_from_slice_get, slice_get-get_or}
-use Rattle.std.proofs.lemmas.List.Elements.{All-contains, Contains-append_left, Contains-append_right, Contains-append_cases}
+use Rattle.std.proofs.lemmas.List.Elements.{All-contains, Contains-append_left, Contains-append_right, Contains-append_cases, Contains-push, Contains-push_cases}
+use Rattle.std.proofs.lemmas.List.Sorted.{Contains-permutation, IsPermutation-sym}
 use Rattle.ass_num.specs.declared.size.Size.{Size}
 use Rattle.ass_events.specs.declared.event.Event.{Event}
 use Rattle.ass_events.specs.Histories.{HaveOwnOrders, Pairwise}
@@ -21,12 +23,12 @@ use Rattle.event_places.specs.PlacedEvents.{IsPlacedEvent, placed_places}
 use Rattle.event_places.specs.Shifts.{HasShift, IsRival, IsRivalBox, Placed}
 use Rattle.event_places.specs.Spans.{AreNearSpans, IsSpanOf, StandsBefore, event_span, span_at}
 use Rattle.event_places.specs.Stands.{HasPoint, IsStandOf}
-use Rattle.event_places.specs.Steps.{AreSteps, Next, IsAlone, IsPlacing, IsPlacingStep, Alone, Moved, boxes_in_way, is_in_way, place_in, unmoved}
+use Rattle.event_places.specs.Steps.{AreSteps, Next, IsAlone, IsPlacing, IsPlacingStep, Alone, Moved, boxes_in_way, is_in_way, settled_at, unmoved}
 use Rattle.event_places.specs.declared.placed.PlacedEvent.{PlacedEvent}
 use Rattle.event_places.specs.declared.spans.EventSpan.{EventSpan}
-use Rattle.event_places.specs.declared.steps.Settled.{Settled}
+use Rattle.event_places.specs.declared.settled.Settled.{Settled}
 use Rattle.event_places.proofs.Lists.{there_from_get, get_from_there, same_some, none_some, in_map, from_map, in_filter, from_filter, pairwise_get}
-use Rattle.event_places.proofs.Orders.{before_in_layer, before_trans, not_before_itself}
+use Rattle.event_places.proofs.Orders.{before_in_layer, before_trans, earlier_start, layer_le, not_before_itself}
 use Rattle.event_places.proofs.Pairs.{Contains-nil, Contains-head, Contains-tail, Contains-cons_cases, Pairwise-cross, Pairwise-right}
 
 -- ---- the event of a ReadOrder
@@ -46,20 +48,35 @@ same_event events i j e f orders at at' same =
     same_some e f (sym at ∙ (ap (slice_get events) place ∙ at'))
 
 -- ---- places by ReadOrder
-abbrev pub DifferSettled : Settled → Settled → Type 0
+-- An event that was moved, whether or not its box is still in the way of any.
+pub record SettledEvent : Type 0 where
+  pub span : EventSpan
+  pub stand : Stand
+  pub shift : ℤ
+
+-- what is left of it
+abbrev pub settled_of : SettledEvent → Settled
+settled_of x = settled_at x.span x.stand x.shift
+
+abbrev pub DifferSettled : SettledEvent → SettledEvent → Type 0
 DifferSettled a b = a.span.order ≢ b.span.order
 
 -- what is found of it
-abbrev entry : Settled → Stand × ℤ
+abbrev entry : SettledEvent → Stand × ℤ
 entry x = (x.stand, x.shift)
 
-place_first : (x : Settled) (xs : List Settled) (order : ℕ) → (x.span.order == order) ≡ true → place_in (x ∷ xs) order ≡ Some (entry x)
+-- the stand and the shift of the event of this ReadOrder
+abbrev pub place_in : List SettledEvent → ℕ → Option (Stand × ℤ)
+place_in [] order = None
+place_in (x ∷ settled) order = if x.span.order == order then Some (entry x) else place_in settled order
+
+place_first : (x : SettledEvent) (xs : List SettledEvent) (order : ℕ) → (x.span.order == order) ≡ true → place_in (x ∷ xs) order ≡ Some (entry x)
 place_first x xs order e = ap (λ b. cond b (Some (entry x)) (place_in xs order)) e
 
-place_later : (x : Settled) (xs : List Settled) (order : ℕ) → (x.span.order == order) ≡ false → place_in (x ∷ xs) order ≡ place_in xs order
+place_later : (x : SettledEvent) (xs : List SettledEvent) (order : ℕ) → (x.span.order == order) ≡ false → place_in (x ∷ xs) order ≡ place_in xs order
 place_later x xs order e = ap (λ b. cond b (Some (entry x)) (place_in xs order)) e
 
-place_some : (xs : List Settled) (order : ℕ) (p : Stand × ℤ) → place_in xs order ≡ Some p → (x : Settled) × Contains xs x × (x.span.order ≡ order) × (entry x ≡ p)
+place_some : (xs : List SettledEvent) (order : ℕ) (p : Stand × ℤ) → place_in xs order ≡ Some p → (x : SettledEvent) × Contains xs x × (x.span.order ≡ order) × (entry x ≡ p)
 place_some [] order p has = absurd (none_some p has)
 place_some (x ∷ xs) order p has =
     ⊎_elim
@@ -68,37 +85,68 @@ place_some (x ∷ xs) order p has =
     (λ no. let r = place_some xs order p (sym (place_later x xs order no) ∙ has) in (r.0, Contains-tail x xs r.0 r.1, r.2, r.3))
     (cases_Bool (x.span.order == order))
 
-place_of_settled : (xs : List Settled) (x : Settled) → Pairwise DifferSettled xs → Contains xs x → place_in xs x.span.order ≡ Some (entry x)
+place_of_settled : (xs : List SettledEvent) (x : SettledEvent) → Pairwise DifferSettled xs → Contains xs x → place_in xs x.span.order ≡ Some (entry x)
 place_of_settled [] x h c = absurd (Contains-nil x c)
 place_of_settled (y ∷ ys) x h c =
     ⊎_elim
-    (λ is. let same : y.span.order ≡ x.span.order = ap (λ (z : Settled). z.span.order) is in
-    place_first y ys x.span.order (grind (arith, nat_tests)) ∙ ap (λ (z : Settled). Some (entry z)) is)
+    (λ is. let same : y.span.order ≡ x.span.order = ap (λ (z : SettledEvent). z.span.order) is in
+    place_first y ys x.span.order (grind (arith, nat_tests)) ∙ ap (λ (z : SettledEvent). Some (entry z)) is)
     (λ later. let other : y.span.order ≢ x.span.order = All-contains (DifferSettled y) ys x h.0 later in
     place_later y ys x.span.order (grind (arith, nat_tests)) ∙ place_of_settled ys x h.1 later)
     (Contains-cons_cases y ys x c)
 
 -- ---- what holds behind some spans
 -- The span has its layer for itself, its event has a point, or it was settled.
-abbrev pub IsDone : ScriptValue → List Event → List EventSpan → List Settled → EventSpan → Type 0
+abbrev pub IsDone : ScriptValue → List Event → List EventSpan → List SettledEvent → EventSpan → Type 0
 IsDone script events near settled s =
-    IsAlone near s ⊎ (((e : Event) → slice_get events s.place ≡ Some e → HasPoint script e) ⊎ ((x : Settled) × Contains settled x × (x.span ≡ s)))
+    IsAlone near s ⊎ (((e : Event) → slice_get events s.place ≡ Some e → HasPoint script e) ⊎ ((x : SettledEvent) × Contains settled x × (x.span ≡ s)))
 
-pub record AreSettled (script : ScriptValue) (fonts : List FontValue) (size : Size) (events : List Event) (near spans : List EventSpan) (settled : List Settled) : Type 0 where
-  pub spanned : (x : Settled) → Contains settled x → Contains spans x.span
-  pub stood : (x : Settled) → Contains settled x → x.place ≡ moved_box x.stand.down x.shift x.stand.place
-  pub shifted : (x : Settled) (e : Event) → Contains settled x → slice_get events x.span.place ≡ Some e → HasShift script fonts size events e x.stand x.shift
+pub record AreSettled (script : ScriptValue) (fonts : List FontValue) (size : Size) (events : List Event) (near spans : List EventSpan) (settled : List SettledEvent) : Type 0 where
+  pub spanned : (x : SettledEvent) → Contains settled x → Contains spans x.span
+  pub shifted : (x : SettledEvent) (e : Event) → Contains settled x → slice_get events x.span.place ≡ Some e → HasShift script fonts size events e x.stand x.shift
   pub done : (s : EventSpan) → Contains spans s → IsDone script events near settled s
   pub differ : Pairwise DifferSettled settled
 
-pub record AreDone (script : ScriptValue) (fonts : List FontValue) (size : Size) (events : List Event) (near spans : List EventSpan) (placed : List PlacedEvent) (settled : List Settled) : Type 0 where
+-- What is kept is left of settled events, and of each one that is in the way of any span to come it is kept.
+pub record IsKept (rest : List EventSpan) (settled : List SettledEvent) (kept : List Settled) : Type 0 where
+  pub own : (k : Settled) → Contains kept k → (x : SettledEvent) × Contains settled x × (settled_of x ≡ k)
+  pub all : (x : SettledEvent) → Contains settled x → Contains kept (settled_of x) ⊎ ((r : EventSpan) → Contains rest r → is_in_way r (settled_of x) ≡ false)
+
+pub record AreDone (script : ScriptValue) (fonts : List FontValue) (size : Size) (events : List Event) (near spans rest : List EventSpan) (placed : List PlacedEvent) (kept : List Settled) : Type 0 where
+  pub settled : List SettledEvent
   pub settling : AreSettled script fonts size events near spans settled
+  pub is_kept : IsKept rest settled kept
   pub each : All (IsPlacedEvent script fonts size events) placed
   pub places : placed_places placed ≡ map (λ (s : EventSpan). s.place) spans
 
-pub done_more : (script : ScriptValue) (events : List Event) (near : List EventSpan) (settled : List Settled) (x : Settled) (s : EventSpan) → IsDone script events near settled s → IsDone script events near (settled ++ x ∷ []) s
+pub done_more : (script : ScriptValue) (events : List Event) (near : List EventSpan) (settled : List SettledEvent) (x : SettledEvent) (s : EventSpan) → IsDone script events near settled s → IsDone script events near (settled ++ x ∷ []) s
 done_more script events near settled x s d =
     ⊎_elim (λ a. inl a) (λ b. ⊎_elim (λ p. inr (inl p)) (λ q. inr (inr (q.0, Contains-append_left settled (x ∷ []) q.0 q.1, q.2))) b) d
+
+-- ---- what is in the way of a span
+way_layer : (s : EventSpan) (x : Settled) → is_in_way s x ≡ true → x.layer ≡ s.layer
+way_layer s x e = grind (arith, ints)
+
+way_end : (s : EventSpan) (x : Settled) → is_in_way s x ≡ true → s.start <ℤ x.end
+way_end s x e = grind (arith, ints)
+
+in_way : (s : EventSpan) (x : Settled) → x.layer ≡ s.layer → s.start <ℤ x.end → is_in_way s x ≡ true
+in_way s x a b = grind (arith, ints)
+
+-- What isn't in the way of a span behind its own isn't in that of a later one either.
+ended_later : (own s r : EventSpan) (x : Settled) → StandsBefore own s → StandsBefore s r → x.layer ≡ own.layer → is_in_way s x ≡ false → is_in_way r x ≡ false
+ended_later own s r x before behind layer ended =
+    ⊎_elim
+    (λ yes.
+    let a = way_layer r x yes in
+    let b = layer_le own s before in
+    let d = layer_le s r behind in
+    let same : s.layer ≡ r.layer = omega (arith, ints, a, b, d, layer) in
+    let start = earlier_start (span_at s) (span_at r) (before_in_layer s r same behind) in
+    let last = way_end r x yes in
+    absurd (false≢true (sym ended ∙ in_way s x (omega (arith, ints, a, same)) (omega (arith, ints, start, last)))))
+    (λ no. no)
+    (cases_Bool (is_in_way r x))
 
 -- ---- rivals among the spans
 module _ (events : List Event) (t : ℤ) (near : List EventSpan) (orders : HaveOwnOrders events) (are : AreNearSpans events t near) where
@@ -147,22 +195,58 @@ module _ (events : List Event) (t : ℤ) (near : List EventSpan) (orders : HaveO
     rival_not_alone : (r : EventSpan) → r.layer ≡ s.layer → StandsBefore r s → IsAlone near r → ⊥
     rival_not_alone r layer before alone = not_before_itself s (subst (λ z. StandsBefore z s) (sym (alone s here (sym layer))) before)
 
-    module _ (script : ScriptValue) (fonts : List FontValue) (size : Size) (settled : List Settled) (so : AreSettled script fonts size events near spans settled) (e : Event) (at : slice_get events s.place ≡ Some e) where
+    module _ (script : ScriptValue) (fonts : List FontValue) (size : Size) (settled : List SettledEvent) (kept : List Settled) (so : AreSettled script fonts size events near spans settled) (keep : IsKept (s ∷ rest) settled kept) where
+      -- where nothing was settled
+      pub still_kept : IsKept rest settled kept
+      still_kept = record {
+        own = keep.own;
+        all = λ x c. ⊎_elim (λ there. inl there) (λ ended. inr (λ r later. ended r (Contains-tail s rest r later))) (keep.all x c);
+      }
+
+      -- where one more was
+      pub kept_more : (stand : Stand) (shift : ℤ) (new : List Settled) → IsPermutation (settled_at s stand shift ∷ filter (is_in_way s) kept) new
+          → IsKept rest (settled ++ record { span = s; stand = stand; shift = shift } ∷ []) new
+      kept_more stand shift new members =
+          let one : SettledEvent = record { span = s; stand = stand; shift = shift } in
+          let stay = filter (is_in_way s) kept in
+          let behind = Pairwise-right StandsBefore spans (s ∷ rest) up in
+          let over : (k : Settled) → Contains (settled_of one ∷ stay) k → Contains new k = λ k c. Contains-permutation (settled_of one ∷ stay) new k members c in
+          let old : (x : SettledEvent) → Contains settled x → Contains new (settled_of x) ⊎ ((r : EventSpan) → Contains rest r → is_in_way r (settled_of x) ≡ false) =
+          λ x c.
+          ⊎_elim
+          (λ there.
+          ⊎_elim
+          (λ yes. inl (over (settled_of x) (Contains-tail (settled_of one) stay (settled_of x) (in_filter (is_in_way s) kept (settled_of x) there yes))))
+          (λ no. inr (λ r later. ended_later x.span s r (settled_of x) (gone_before x.span (so.spanned x c)) (All-contains (StandsBefore s) rest r behind.0 later) refl no))
+          (cases_Bool (is_in_way s (settled_of x))))
+          (λ ended. inr (λ r later. ended r (Contains-tail s rest r later)))
+          (keep.all x c)
+          in
+          record {
+            own = λ k c.
+                ⊎_elim
+                (λ is. (one, Contains-push settled one, is))
+                (λ there. let o = keep.own k (from_filter (is_in_way s) kept k there).0 in (o.0, Contains-append_left settled (one ∷ []) o.0 o.1, o.2))
+                (Contains-cons_cases (settled_of one) stay k (Contains-permutation new (settled_of one ∷ stay) k (IsPermutation-sym (settled_of one ∷ stay) new members) c));
+            all = λ x c.
+                ⊎_elim (λ before. old x before)
+                (λ is. inl (subst (λ (y : SettledEvent). Contains new (settled_of y)) is (over (settled_of one) (Contains-head (settled_of one) stay))))
+                (Contains-push_cases settled one x c);
+          }
+
+    module _ (script : ScriptValue) (fonts : List FontValue) (size : Size) (settled : List SettledEvent) (kept : List Settled) (so : AreSettled script fonts size events near spans settled) (keep : IsKept (s ∷ rest) settled kept) (e : Event) (at : slice_get events s.place ≡ Some e) where
       -- what was settled has an event
-      event_of : (x : Settled) → Contains settled x → IsSpanOf events x.span
+      event_of : (x : SettledEvent) → Contains settled x → IsSpanOf events x.span
       event_of x c = are.own x.span (earlier_near x.span (so.spanned x c))
 
-      order_of : (x : Settled) → (c : Contains settled x) → x.span.order ≡ (event_of x c).event.order
+      order_of : (x : SettledEvent) → (c : Contains settled x) → x.span.order ≡ (event_of x c).event.order
       order_of x c = ap (λ (z : EventSpan). z.order) (event_of x c).span
 
       -- that of a ReadOrder is the rival
-      rival_of : (x : Settled) (f : Event) → (c : Contains settled x) → IsRival events e f → x.span.order ≡ f.order → (event_of x c).event ≡ f
+      rival_of : (x : SettledEvent) (f : Event) → (c : Contains settled x) → IsRival events e f → x.span.order ≡ f.order → (event_of x c).event ≡ f
       rival_of x f c rival same =
           let place = get_from_there events f rival.listed in
           same_event events x.span.place place.0 (event_of x c).event f orders (event_of x c).stands place.1 (sym (order_of x c) ∙ same)
-
-      places_are : Event → Option (Stand × ℤ)
-      places_are f = place_in settled f.order
 
       points : (f : Event) → IsRival events e f → place_in settled f.order ≡ None → HasPoint script f
       points f rival none =
@@ -183,42 +267,35 @@ module _ (events : List Event) (t : ℤ) (near : List EventSpan) (orders : HaveO
           let first : HasShift script fonts size events f (x.0).stand (x.0).shift = subst (λ (g : Event). HasShift script fonts size events g (x.0).stand (x.0).shift) (rival_of x.0 f x.1 rival x.2) shift in
           subst (λ (p : Stand × ℤ). HasShift script fonts size events f p.0 p.1) x.3 first
 
-      way_layer : (x : Settled) → is_in_way s x ≡ true → x.span.layer ≡ s.layer
-      way_layer x e = grind (arith, ints)
-
-      way_end : (x : Settled) → is_in_way s x ≡ true → s.start <ℤ x.span.end
-      way_end x e = grind (arith, ints)
-
-      in_way : (x : Settled) → x.span.layer ≡ s.layer → s.start <ℤ x.span.end → is_in_way s x ≡ true
-      in_way x a b = grind (arith, ints)
-
-      box_rival : (box : Box2) → Contains (boxes_in_way s settled) box → IsRivalBox events (λ f. place_in settled f.order) e box
+      box_rival : (box : Box2) → Contains (boxes_in_way s kept) box → IsRivalBox events (λ f. place_in settled f.order) e box
       box_rival box c =
-          let m = from_map (λ (x : Settled). x.place) (filter (is_in_way s) settled) box c in
-          let x = m.0 in
-          let k = from_filter (is_in_way s) settled x m.1 in
-          let own = event_of x k.0 in
+          let m = from_map (λ (k : Settled). k.place) (filter (is_in_way s) kept) box c in
+          let there = from_filter (is_in_way s) kept m.0 m.1 in
+          let o = keep.own m.0 there.0 in
+          let x = o.0 in
+          let way : is_in_way s (settled_of x) ≡ true = ap (is_in_way s) o.2 ∙ there.1 in
+          let own = event_of x o.1 in
           let g = own.event in
           let mine = span_is s e here at in
-          let before : StandsBefore x.span s = gone_before x.span (so.spanned x k.0) in
-          let layer = way_layer x k.1 in
+          let before : StandsBefore x.span s = gone_before x.span (so.spanned x o.1) in
+          let layer : x.span.layer ≡ s.layer = way_layer s (settled_of x) way in
           let earlier : IsEarlier (span_at x.span) (span_at s) = before_in_layer x.span s layer before in
           let g_span : span_at x.span ≡ span_of g = ap span_at own.span in
           let e_span : span_at s ≡ span_of e = ap span_at mine in
           let comes : ComesBefore (span_of g) (span_of e) =
           subst (λ z. ComesBefore z (span_of e)) g_span (subst (ComesBefore (span_at x.span)) e_span (layer, earlier)) in
           let lasts : e.start <ℤ (span_of g).end =
-          subst (λ (z : Span). e.start <ℤ z.end) g_span (subst (λ (z : Span). z.start <ℤ x.span.end) e_span (way_end x k.1)) in
+          subst (λ (z : Span). e.start <ℤ z.end) g_span (subst (λ (z : Span). z.start <ℤ x.span.end) e_span (way_end s (settled_of x) way)) in
           record {
             rival = g;
             is_rival = record { listed = there_from_get events x.span.place g own.stands; before = comes; lasts = lasts };
             stand = x.stand;
             shift = x.shift;
-            stands = ap (place_in settled) (sym (order_of x k.0)) ∙ place_of_settled settled x so.differ k.0;
-            moved = sym m.2 ∙ so.stood x k.0;
+            stands = ap (place_in settled) (sym (order_of x o.1)) ∙ place_of_settled settled x so.differ o.1;
+            moved = sym m.2 ∙ sym (ap (λ (k : Settled). k.place) o.2);
           }
 
-      rival_box : (box : Box2) → IsRivalBox events (λ f. place_in settled f.order) e box → Contains (boxes_in_way s settled) box
+      rival_box : (box : Box2) → IsRivalBox events (λ f. place_in settled f.order) e box → Contains (boxes_in_way s kept) box
       rival_box box r =
           let x = place_some settled r.rival.order (r.stand, r.shift) r.stands in
           let own = event_of x.0 x.1 in
@@ -228,16 +305,20 @@ module _ (events : List Event) (t : ℤ) (near : List EventSpan) (orders : HaveO
           let layer : (x.0).span.layer ≡ s.layer = ap (λ (z : Span). z.layer) x_span ∙ (r.is_rival.before.0 ∙ sym (ap (λ (z : Span). z.layer) e_span)) in
           let lasts : s.start <ℤ (x.0).span.end =
           subst (λ (z : Span). s.start <ℤ z.end) (sym x_span) (subst (λ (z : Span). z.start <ℤ (span_of r.rival).end) (sym e_span) r.is_rival.lasts) in
-          let c = in_filter (is_in_way s) settled x.0 x.1 (in_way x.0 layer lasts) in
-          let place : (x.0).place ≡ box = so.stood x.0 x.1 ∙ (ap (λ (p : Stand × ℤ). moved_box (p.0).down p.1 (p.0).place) x.3 ∙ sym r.moved) in
-          subst (Contains (boxes_in_way s settled)) place (in_map (λ (y : Settled). y.place) (filter (is_in_way s) settled) x.0 c)
+          let way : is_in_way s (settled_of x.0) ≡ true = in_way s (settled_of x.0) layer lasts in
+          let place : (settled_of x.0).place ≡ box = ap (λ (p : Stand × ℤ). moved_box (p.0).down p.1 (p.0).place) x.3 ∙ sym r.moved in
+          ⊎_elim
+          (λ there. subst (Contains (boxes_in_way s kept)) place
+          (in_map (λ (k : Settled). k.place) (filter (is_in_way s) kept) (settled_of x.0) (in_filter (is_in_way s) kept (settled_of x.0) there way)))
+          (λ ended. absurd (false≢true (sym (ended s (Contains-head s rest)) ∙ way)))
+          (keep.all x.0 x.1)
 
-      pub has_shift : (stand : Stand) (shift : ℤ) → IsStandOf script fonts size e stand → IsLeastShift stand.place (boxes_in_way s settled) stand.down shift → HasShift script fonts size events e stand shift
+      pub has_shift : (stand : Stand) (shift : ℤ) → IsStandOf script fonts size e stand → IsLeastShift stand.place (boxes_in_way s kept) stand.down shift → HasShift script fonts size events e stand shift
       has_shift stand shift stands least =
-          Placed e stand (boxes_in_way s settled) (λ f. place_in settled f.order) shift stands points shifts (λ box. (box_rival box, rival_box box)) least
+          Placed e stand (boxes_in_way s kept) (λ f. place_in settled f.order) shift stands points shifts (λ box. (box_rival box, rival_box box)) least
 
       -- no other event has its ReadOrder
-      pub new_differs : (x : Settled) → Contains settled x → x.span.order ≢ s.order
+      pub new_differs : (x : SettledEvent) → Contains settled x → x.span.order ≢ s.order
       new_differs x c same =
           let own = event_of x c in
           let order : own.event.order ≡ e.order = sym (order_of x c) ∙ (same ∙ ap (λ (z : EventSpan). z.order) (span_is s e here at)) in

@@ -1,9 +1,11 @@
 -- Inner: how events are moved one after the other, each clear of those that were moved before it.
-use Rattle.std.specs.Prelude.{◌≡◌, ℕ, Bool, ◌&&◌, ◌==◌, if◌then◌else◌, int_lt, List, [], ◌∷◌, ◌++◌, Contains, All, Option, Some, None, length, map, slice_get, ℤ, pos}
-use Rattle.std.specs.List.{filter}
+use Rattle.std.specs.Prelude.{◌≡◌, ℕ, Bool, ◌&&◌, ◌-◌, int_lt, ◌≤ℤ◌, List, [], ◌∷◌, ◌++◌, Contains, All, Some, None, map, slice_get, ℤ, pos}
+use Rattle.std.specs.List.{AllPairs, filter}
+use Rattle.std.specs.List.Sorted.{IsPermutation}
 use Rattle.std.specs.Ordering.{int_eq}
 use Rattle.ass_num.specs.Limits.{IsWithin}
 use Rattle.ass_num.specs.declared.size.Size.{Size}
+use Rattle.ass_events.specs.Histories.{max_live}
 use Rattle.ass_events.specs.declared.event.Event.{Event}
 use Rattle.ass_script.specs.Scripts.{ScriptValue}
 use Rattle.bdf_font.specs.Fonts.{FontValue}
@@ -16,29 +18,40 @@ use Rattle.event_places.specs.Stands.{HasPoint, IsStandOf, down_by}
 use Rattle.event_places.specs.declared.own.OwnLayout.{OwnLayout}
 use Rattle.event_places.specs.declared.placed.PlacedEvent.{PlacedEvent}
 use Rattle.event_places.specs.declared.spans.EventSpan.{EventSpan}
-use Rattle.event_places.specs.declared.steps.Settled.{Settled}
+use Rattle.event_places.specs.declared.settled.Settled.{Settled}
 
--- the event of a span with this stand, moved by a shift
+-- what is left of the event of a span with this stand, moved by a shift: its box, and how long that is in the way
 abbrev pub settled_at : EventSpan → Stand → ℤ → Settled
-settled_at span stand shift = record { span = span; stand = stand; shift = shift; place = moved_box stand.down shift stand.place }
+settled_at span stand shift = record { layer = span.layer; end = span.end; place = moved_box stand.down shift stand.place }
 
 -- An event that was moved is in the way of another one that starts later: it is in the same layer and ends after the other's start.
 abbrev pub is_in_way : EventSpan → Settled → Bool
-is_in_way span settled = int_eq settled.span.layer span.layer && int_lt span.start settled.span.end
+is_in_way span settled = int_eq settled.layer span.layer && int_lt span.start settled.end
+
+abbrev pub settled_boxes : List Settled → List Box2
+settled_boxes settled = map (λ (x : Settled). x.place) settled
 
 -- the boxes that are in the way of an event
 abbrev pub boxes_in_way : EventSpan → List Settled → List Box2
-boxes_in_way span settled = map (λ (x : Settled). x.place) (filter (is_in_way span) settled)
+boxes_in_way span settled = settled_boxes (filter (is_in_way span) settled)
 
--- The box is moved by the least shift that clears it of those in its way.
+-- None begins lower than one before it.
+abbrev pub AreFromLowest : List Settled → Type 0
+AreFromLowest settled = AllPairs (λ a b. b.place.top ≤ℤ a.place.top) settled
+
+-- The box is moved by the least shift that clears it of those in its way. They stay, and it comes to them; no other stays.
 pub record IsSettling (span : EventSpan) (stand : Stand) (old : List Settled) (shift : ℤ) (new : List Settled) : Type 0 where
   pub least : IsLeastShift stand.place (boxes_in_way span old) stand.down shift
   pub within : IsWithin max_shift shift
-  pub added : new ≡ old ++ settled_at span stand shift ∷ []
+  pub members : IsPermutation (settled_at span stand shift ∷ filter (is_in_way span) old) new
 
 -- No box lies further out than so many can push one another.
-abbrev pub AreSettledWithin : List Settled → Type 0
-AreSettledWithin settled = All (λ (x : Settled). IsBoxWithin (reach (length settled)) x.place) settled
+abbrev pub AreSettledWithin : ℕ → List Settled → Type 0
+AreSettledWithin count settled = All (λ (x : Settled). IsBoxWithin (reach count) x.place) settled
+
+-- the most events that were moved before another one
+abbrev pub most_before : ℕ
+most_before = max_live - 1
 
 -- The span has its layer for itself.
 abbrev pub IsAlone : List EventSpan → EventSpan → Type 0
@@ -77,8 +90,3 @@ pub data AreSteps (script : ScriptValue) (fonts : List FontValue) (size : Size) 
 -- All spans were gone through.
 abbrev pub IsGoneThrough : ScriptValue → List FontValue → Size → List Event → List EventSpan → List PlacedEvent → Type 0
 IsGoneThrough script fonts size events near placed = (settled : List Settled) × AreSteps script fonts size events near near placed settled
-
--- the stand and the shift of the event of this ReadOrder
-abbrev pub place_in : List Settled → ℕ → Option (Stand × ℤ)
-place_in [] order = None
-place_in (x ∷ settled) order = if x.span.order == order then Some (x.stand, x.shift) else place_in settled order

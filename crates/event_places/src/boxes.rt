@@ -1,34 +1,79 @@
 //! How far a box is moved to stand clear of others.
 
-ghost use Rattle.std.specs.Prelude.{◌≡◌, All, IfOk};
-ghost use Rattle.std.specs.List.Sorted.{IsPermutation};
-ghost use Rattle.placement.specs.Placement.{IsBoxWithin, IsLeastShift, IsPlaceableStand, IsShift, max_moved, moved_box};
+ghost use Rattle.std.specs.Prelude.{◌≡◌, ◌-◌, ◌<◌, ◌↔◌, if◌then◌else◌, IsTrue, length};
+ghost use Rattle.placement.specs.Placement.{IsBoxWithin, IsLeastShift, IsPlaceableStand, IsShift, Meet, Overlap, max_moved, moved_box, passing};
 ghost use Rattle.event_places.specs.Limits.{max_shift};
 ghost use Rattle.event_places.specs.Stands.{down_by};
+ghost use Rattle.event_places.specs.Steps.{AreFromLowest, AreSettledWithin, settled_boxes, most_before};
 
-use ass_num::{Fix, Mem};
-use placement::{Box2, Stand, least_shift};
+use crate::settled::Settled;
+use ass_num::Fix;
+use placement::{Box2, Stand};
 
-/// Brings the boxes into the order in which a box that moves down, or up, gets to them.
-fn sort_along(boxes: &mut Vec<Box2>, down: bool) -> Mem<()>
-    ensures { IsPermutation boxes.old.items boxes.new.items }
+/// Whether two open ranges overlap.
+fn overlap(a: Fix, b: Fix, c: Fix, d: Fix) -> bool
+    ensures { IsTrue result ↔ Overlap a b c d }
 {
-    if down {
-        boxes.sort_by_key(|b| b.top)?;
-    } else {
-        boxes.sort_by_key(|b| !b.bottom)?;
-    }
-    Ok(())
+    a < b && c < d && a < d && c < b
 }
 
-/// The least shift by which the box of a stand is clear of the others, which are sorted.
-pub(crate) fn shift_clear(stand: &Stand, others: &mut Vec<Box2>) -> Mem<Fix>
-    requires stand { IsPlaceableStand stand.now }
-    requires others { All (IsBoxWithin max_moved) others.old.items }
-    ensures { IfOk result (IsLeastShift stand.now.place others.old.items stand.now.down) }
+fn meet(a: &Box2, b: &Box2) -> bool
+    ensures { IsTrue result ↔ Meet a.now b.now }
 {
-    sort_along(others, stand.down)?;
-    Ok(least_shift(&stand.place, others.as_slice(), stand.down))
+    overlap(a.left, a.right, b.left, b.right) && overlap(a.top, a.bottom, b.top, b.bottom)
+}
+
+/// The shift with which the box of a stand comes to touch another one on its far side.
+fn passing(stand: &Stand, other: &Box2) -> Fix
+    requires stand { IsPlaceableStand stand.now }
+    requires other { IsBoxWithin max_moved other.now }
+    ensures { result ≡ passing stand.now.down stand.now.place other.now }
+{
+    if stand.down {
+        other.bottom - stand.place.top
+    } else {
+        stand.place.bottom - other.top
+    }
+}
+
+/// The shift, or that past another box if it would be met.
+fn shift_past(stand: &Stand, shift: Fix, other: &Box2) -> Fix
+    requires stand { IsPlaceableStand stand.now }
+    requires shift { IsShift max_shift shift }
+    requires other { IsBoxWithin max_moved other.now }
+    ensures met { Meet (moved_box stand.now.down shift stand.now.place) other.now → result ≡ passing stand.now.down stand.now.place other.now }
+    ensures apart { (Meet (moved_box stand.now.down shift stand.now.place) other.now → ⊥) → result ≡ shift }
+{
+    if meet(&moved(stand, shift), other) {
+        passing(stand, other)
+    } else {
+        shift
+    }
+}
+
+/// Which of so many boxes, from the lowest to the highest, comes at a step of a way down, or up.
+fn on_the_way(count: usize, down: bool, step: usize) -> usize
+    requires { step < count }
+    ensures { result ≡ (if down then count - 1 - step else step) }
+{
+    if down { count - 1 - step } else { step }
+}
+
+/// The least shift by which the box of a stand is clear of boxes that lie from the lowest to the highest. One walk over them is enough:
+/// none that was passed is met again.
+pub(crate) fn shift_clear(stand: &Stand, settled: &[Settled]) -> Fix
+    requires stand { IsPlaceableStand stand.now }
+    requires within { AreSettledWithin most_before settled.now }
+    requires sorted { AreFromLowest settled.now }
+    ensures least { IsLeastShift stand.now.place (settled_boxes settled.now) stand.now.down result }
+    ensures range { IsShift max_shift result }
+{
+    let mut shift = 0;
+    for step in 0..settled.len() {
+        let next = on_the_way(settled.len(), stand.down, step);
+        shift = shift_past(stand, shift, &settled[next].place);
+    }
+    shift
 }
 
 /// The box of a stand, moved by a shift.

@@ -2,6 +2,7 @@
 
 ghost use Rattle.std.specs.Prelude.{List};
 ghost use Rattle.ass_num.specs.declared.size.Size.{Size};
+ghost use Rattle.ass_script.specs.Ranges.{IsScript};
 ghost use Rattle.ass_script.specs.Scripts.{ScriptValue};
 ghost use Rattle.bdf_font.specs.Fonts.{FontValue};
 ghost use Rattle.event_places.specs.Shifts.{HaveOneMove, HaveOneShift, HaveOneStand};
@@ -10,4 +11,9 @@ ghost use Rattle.event_places.specs.Shifts.{HaveOneMove, HaveOneShift, HaveOneSt
 pub fn one_shift()
     ensures shift { (script : ScriptValue) (fonts : List FontValue) (size : Size) → HaveOneStand script fonts size → HaveOneShift script fonts size }
     ensures moved { (script : ScriptValue) (fonts : List FontValue) (size : Size) → HaveOneStand script fonts size → HaveOneMove script fonts size }
+{}
+
+/// An event of a script has one stand at most, and none beside a point of its own.
+pub fn one_stand()
+    ensures { (script : ScriptValue) (fonts : List FontValue) (size : Size) → IsScript script → HaveOneStand script fonts size }
 {}

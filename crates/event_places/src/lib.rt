@@ -6,10 +6,11 @@ mod laws;
 mod near;
 mod own;
 mod placed;
+mod settled;
 mod spans;
 mod steps;
 mod walks;
 
-pub use laws::one_shift;
+pub use laws::{one_shift, one_stand};
 pub use own::OwnLayout;
 pub use placed::{PlacedEvent, placed_events};

@@ -1,6 +1,6 @@
 //! The events that matter at an instant, each moved clear of those before it.
 
-ghost use Rattle.std.specs.Prelude.{◌≡◌, ◌≢◌, ◌+◌, ◌-◌, ◌≤◌, ◌<◌, All, Contains, IfOk, IsTrue, length, map, slice_get, Some};
+ghost use Rattle.std.specs.Prelude.{◌≡◌, ◌≢◌, ◌+◌, ◌-◌, ◌≤◌, ◌<◌, ℕ, All, Contains, IfOk, IsTrue, length, map, slice_get, Some};
 ghost use Rattle.std.specs.Arc.{arc_value};
 ghost use Rattle.ass_num.specs.Limits.{IsFrameSize, max_text_bytes};
 ghost use Rattle.ass_events.specs.Histories.{HaveOwnOrders, Pairwise, max_live};
@@ -10,14 +10,15 @@ ghost use Rattle.ass_script.specs.Ranges.{IsScript};
 ghost use Rattle.text_layout.specs.Fonts.{IsLayoutFontSet};
 ghost use Rattle.event_places.specs.PlacedEvents.{ArePlacedEvents};
 ghost use Rattle.event_places.specs.Spans.{IsSpanOf, StandsBefore};
-ghost use Rattle.event_places.specs.Steps.{AreSettledWithin, IsAlone, IsGoneThrough, IsPlacing, IsPlacingStep, unmoved};
+ghost use Rattle.event_places.specs.Steps.{AreFromLowest, AreSettledWithin, IsAlone, IsGoneThrough, IsPlacing, IsPlacingStep, most_before, unmoved};
 ghost use Rattle.event_places.specs.declared.spans.EventSpan.{EventSpan};
 
 use crate::boxes::down_by;
 use crate::near::near_spans;
 use crate::own::{OwnLayout, own_layout, stand_of};
+use crate::settled::Settled;
 use crate::spans::EventSpan;
-use crate::steps::{Settled, settle};
+use crate::steps::settle;
 use ass_events::Event;
 use ass_num::{Fix, Mem, Size};
 use ass_script::Script;
@@ -92,11 +93,11 @@ fn place_event(
     requires event { IsEvent event.now }
     requires few { length event.now.text ≤ max_text_bytes }
     requires size { IsFrameSize size.now }
-    requires within { AreSettledWithin settled.old.items }
-    requires room { length settled.old.items < max_live }
+    requires within { AreSettledWithin most_before settled.old.items }
+    requires settled { AreFromLowest settled.old.items }
     ensures placed { IfOk result (λ one. IsPlacing script.now fonts.now.fonts size.now event.now span.now settled.old.items one settled.new.items) }
-    ensures within { IfOk result (λ one. AreSettledWithin settled.new.items) }
-    ensures count { IfOk result (λ one. length settled.new.items ≤ length settled.old.items + 1) }
+    ensures within { IfOk result (λ one. (count : ℕ) → AreSettledWithin count settled.old.items → AreSettledWithin (count + 1) settled.new.items) }
+    ensures settled { IfOk result (λ one. AreFromLowest settled.new.items) }
 {
     let view = states_at(alloc, script, event, event.start)?;
     if view.pos.is_some() {
@@ -104,7 +105,7 @@ fn place_event(
     }
     let own = own_layout(alloc, script, fonts, event, view, size)?;
     let stand = stand_of(script, event, &own, size);
-    let shift = settle(alloc, span, &stand, settled)?;
+    let shift = settle(span, &stand, settled)?;
     Ok(PlacedEvent {
         place: span.place,
         down: down_by(&stand, shift),
@@ -132,11 +133,11 @@ fn place_next(
     requires sorted { Pairwise StandsBefore near.now }
     requires index { index < length near.now }
     requires size { IsFrameSize size.now }
-    requires within { AreSettledWithin settled.old.items }
-    requires room { length settled.old.items < max_live }
+    requires within { AreSettledWithin most_before settled.old.items }
+    requires settled { AreFromLowest settled.old.items }
     ensures step { (span : EventSpan) → slice_get near.now index ≡ Some span → IfOk result (λ one. IsPlacingStep script.now fonts.now.fonts size.now (map arc_value events.now) near.now span settled.old.items one settled.new.items) }
-    ensures within { IfOk result (λ one. AreSettledWithin settled.new.items) }
-    ensures count { IfOk result (λ one. length settled.new.items ≤ length settled.old.items + 1) }
+    ensures within { IfOk result (λ one. (count : ℕ) → AreSettledWithin count settled.old.items → AreSettledWithin (count + 1) settled.new.items) }
+    ensures settled { IfOk result (λ one. AreFromLowest settled.new.items) }
 {
     let span = near[index];
     if is_alone(near, index) {

@@ -1,65 +1,41 @@
 //! Events that are moved one after the other, each clear of those before it.
 
-ghost use Rattle.std.specs.Prelude.{◌≡◌, ◌<◌, IfOk, length};
-ghost use Rattle.ass_events.specs.Histories.{max_live};
-ghost use Rattle.placement.specs.Placement.{IsPlaceableStand};
-ghost use Rattle.event_places.specs.Steps.{AreSettledWithin, IsSettling, boxes_in_way, is_in_way};
+ghost use Rattle.std.specs.Prelude.{◌≡◌, ◌+◌, ℕ, IfOk};
+ghost use Rattle.placement.specs.Placement.{IsPlaceableStand, IsShift};
+ghost use Rattle.event_places.specs.Limits.{max_shift};
+ghost use Rattle.event_places.specs.Steps.{AreFromLowest, AreSettledWithin, IsSettling, most_before, settled_at};
 
 use crate::boxes::{moved, shift_clear};
+use crate::settled::{Settled, add_settled, drop_others};
 use crate::spans::EventSpan;
 use ass_num::{Fix, Mem};
-use placement::{Box2, Stand};
-use std::alloc::Global;
+use placement::Stand;
 
-/// An event that was moved: its stand, its shift, and where its box is then.
-#[derive(Clone, Copy, Debug)]
-pub struct Settled {
-    pub span: EventSpan,
-    pub stand: Stand,
-    pub shift: Fix,
-    pub place: Box2,
-}
-
-/// Whether an event that was moved is in the way of one that starts later: in the same layer, and ending after the other's start.
-fn is_in_way(span: &EventSpan, settled: &Settled) -> bool
-    ensures { result ≡ is_in_way span.now settled.now }
-{
-    settled.span.layer == span.layer && span.start < settled.span.end
-}
-
-/// The boxes that are in the way of an event.
-fn boxes_in_way(alloc: Global, span: &EventSpan, settled: &[Settled]) -> Mem<Vec<Box2>>
-    ensures { IfOk result (λ boxes. boxes.items ≡ boxes_in_way span.now settled.now) }
-{
-    let mut boxes = Vec::new(alloc);
-    for one in settled {
-        if is_in_way(span, one) {
-            boxes.push(one.place)?;
-        }
-    }
-    Ok(boxes)
-}
-
-/// Moves an event clear of those that were moved before it: the shift is the least that does.
-pub(crate) fn settle(
-    alloc: Global,
-    span: &EventSpan,
-    stand: &Stand,
-    settled: &mut Vec<Settled>,
-) -> Mem<Fix>
+/// What is left of the event of a span with this stand, moved by a shift.
+fn settled_at(span: &EventSpan, stand: &Stand, shift: Fix) -> Settled
     requires stand { IsPlaceableStand stand.now }
-    requires within { AreSettledWithin settled.old.items }
-    requires few { length settled.old.items < max_live }
-    ensures settling { IfOk result (λ shift. IsSettling span.now stand.now settled.old.items shift settled.new.items) }
-    ensures within { IfOk result (λ shift. AreSettledWithin settled.new.items) }
+    requires shift { IsShift max_shift shift }
+    ensures { result ≡ settled_at span.now stand.now shift }
 {
-    let mut others = boxes_in_way(alloc, span, settled.as_slice())?;
-    let shift = shift_clear(stand, &mut others)?;
-    settled.push(Settled {
-        span: *span,
-        stand: *stand,
-        shift,
+    Settled {
+        layer: span.layer,
+        end: span.end,
         place: moved(stand, shift),
-    })?;
+    }
+}
+
+/// Moves an event clear of those that were moved before it: the shift is the least that does. Those that have ended are dropped, since
+/// none that starts later has to be clear of them.
+pub(crate) fn settle(span: &EventSpan, stand: &Stand, settled: &mut Vec<Settled>) -> Mem<Fix>
+    requires stand { IsPlaceableStand stand.now }
+    requires within { AreSettledWithin most_before settled.old.items }
+    requires sorted { AreFromLowest settled.old.items }
+    ensures settling { IfOk result (λ shift. IsSettling span.now stand.now settled.old.items shift settled.new.items) }
+    ensures sorted { IfOk result (λ shift. AreFromLowest settled.new.items) }
+    ensures within { IfOk result (λ shift. (count : ℕ) → AreSettledWithin count settled.old.items → AreSettledWithin (count + 1) settled.new.items) }
+{
+    drop_others(span, settled);
+    let shift = shift_clear(stand, settled.as_slice());
+    add_settled(settled, settled_at(span, stand, shift))?;
     Ok(shift)
 }

@@ -1,3 +1,5 @@
 pub mod CountLemmas
-pub mod PixelLemmas
+pub mod InputLemmas
+pub mod PictureLemmas
 pub mod RunLemmas
+pub mod WorkLemmas

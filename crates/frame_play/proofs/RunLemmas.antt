@@ -16,8 +16,8 @@ use Rattle.run_status.specs.declared.status.Status.{Status}
 use Rattle.run_status.specs.declared.status.Status.TheVariants as status
 use Rattle.run_status.specs.declared.status.What.TheVariants.{Fonts}
 use Rattle.run_status.specs.declared.status.Which.TheVariants.{Frames, Report}
-use Rattle.frame_play.specs.Outcomes.{IsEnded, IsOrFault, IsOrMemory, SuitsTask, IsStatusReadCounted, IsReported, IsImageShown, IsFramesPutCount, IsWriteCounted, out_of_memory, status_if_put, text_to_report}
-use Rattle.frame_play.specs.Outputs.{image_in, output_asked, sink_of, status_asked, status_of_image, task_status}
+use Rattle.frame_play.specs.Outcomes.{IsEnded, IsOrFault, IsOrMemory, SuitsTask, IsStatusReadCounted, IsReported, IsShown, IsFramesPutCount, IsWriteCounted, out_of_memory, status_if_put, text_to_report}
+use Rattle.frame_play.specs.Outputs.{IsFramesAsked, sink_of, status_asked}
 use Rattle.frame_play.specs.Runs.{Decides, IsJobRun, IsWorked, SinkChange, sink_change}
 use Rattle.frame_play.specs.declared.outcome.Outcome.{Outcome}
 use Rattle.frame_play.specs.declared.outcome.Outcome.TheVariants.{Ended, Found}
@@ -37,43 +37,65 @@ keeps_appended None new h = tt
 keeps_appended (Some xs) None h = h
 keeps_appended (Some xs) (Some ys) h = h ∙ append-nil xs
 
-appends_kept : (old new : Option (List ℕ)) → Keeps old new → Appends old new []
-appends_kept None new h = tt
-appends_kept (Some xs) None h = h
-appends_kept (Some xs) (Some ys) h = h ∙ sym (append-nil xs)
-
 front_by_all : (old new : Option (List ℕ)) (piece : List ℕ) → Appends old new piece → AppendsFront old new piece
 front_by_all old new piece h = (piece, [], sym (append-nil piece), h)
 
-front_by_none : (old new : Option (List ℕ)) (piece : List ℕ) → Keeps old new → AppendsFront old new piece
-front_by_none old new piece h = ([], piece, refl, appends_kept old new h)
+-- Where nothing may be all, nothing is shown.
+pub shown_none : (answer : Status) (held : Option (List ℕ)) (may : List ℕ → Type 0) → may [] → IsShown answer held held may
+shown_none status.Done held may m = ([], m, appends_none held)
+shown_none (status.NoSuchFile name) held may m = keeps held
+shown_none (status.ReadFault name) held may m = keeps held
+shown_none (status.BadScript cause) held may m = keeps held
+shown_none (status.BadFont index line cause) held may m = keeps held
+shown_none (status.WriteFault Frames) held may m = ([], m, front_by_all held held [] (appends_none held))
+shown_none (status.WriteFault Report) held may m = keeps held
+shown_none (status.TooLarge what limit) held may m = keeps held
+shown_none status.OutOfMemory held may m = inl (keeps held)
+shown_none status.NotBuilt held may m = keeps held
+shown_none (status.BadWords why) held may m = keeps held
 
--- nothing is shown of nothing
-pub shown_none : (answer : Status) (held : Option (List ℕ)) → IsImageShown answer held held []
-shown_none status.Done held = appends_none held
-shown_none (status.NoSuchFile name) held = keeps held
-shown_none (status.ReadFault name) held = keeps held
-shown_none (status.BadScript cause) held = keeps held
-shown_none (status.BadFont index line cause) held = keeps held
-shown_none (status.WriteFault Frames) held = front_by_all held held [] (appends_none held)
-shown_none (status.WriteFault Report) held = keeps held
-shown_none (status.TooLarge what limit) held = keeps held
-shown_none status.OutOfMemory held = front_by_all held held [] (appends_none held)
-shown_none status.NotBuilt held = keeps held
-shown_none (status.BadWords why) held = keeps held
+-- What was shown may be a part where memory is wanting.
+shown_front : (answer : Status) (old new : Option (List ℕ)) (may : List ℕ → Type 0) → IsShown answer old new may → IsShown status.OutOfMemory old new may
+shown_front status.Done old new may h = inr (h.0, h.1, front_by_all old new h.0 h.2)
+shown_front (status.NoSuchFile name) old new may h = inl h
+shown_front (status.ReadFault name) old new may h = inl h
+shown_front (status.BadScript cause) old new may h = inl h
+shown_front (status.BadFont index line cause) old new may h = inl h
+shown_front (status.WriteFault Frames) old new may h = inr h
+shown_front (status.WriteFault Report) old new may h = inl h
+shown_front (status.TooLarge what limit) old new may h = inl h
+shown_front status.OutOfMemory old new may h = h
+shown_front status.NotBuilt old new may h = inl h
+shown_front (status.BadWords why) old new may h = inl h
 
-shown_front : (answer : Status) (old new : Option (List ℕ)) (image : List ℕ) → IsImageShown answer old new image → AppendsFront old new image
-shown_front status.Done old new image h = front_by_all old new image h
-shown_front (status.NoSuchFile name) old new image h = front_by_none old new image h
-shown_front (status.ReadFault name) old new image h = front_by_none old new image h
-shown_front (status.BadScript cause) old new image h = front_by_none old new image h
-shown_front (status.BadFont index line cause) old new image h = front_by_none old new image h
-shown_front (status.WriteFault Frames) old new image h = h
-shown_front (status.WriteFault Report) old new image h = front_by_none old new image h
-shown_front (status.TooLarge what limit) old new image h = front_by_none old new image h
-shown_front status.OutOfMemory old new image h = h
-shown_front status.NotBuilt old new image h = front_by_none old new image h
-shown_front (status.BadWords why) old new image h = front_by_none old new image h
+-- What is shown of bytes that may be shown is so of all bytes that may be.
+pub shown_more : (answer : Status) (old new : Option (List ℕ)) (may more : List ℕ → Type 0) → ((bytes : List ℕ) → may bytes → more bytes) → IsShown answer old new may → IsShown answer old new more
+shown_more status.Done old new may more each h = (h.0, each h.0 h.1, h.2)
+shown_more (status.NoSuchFile name) old new may more each h = h
+shown_more (status.ReadFault name) old new may more each h = h
+shown_more (status.BadScript cause) old new may more each h = h
+shown_more (status.BadFont index line cause) old new may more each h = h
+shown_more (status.WriteFault Frames) old new may more each h = (h.0, each h.0 h.1, h.2)
+shown_more (status.WriteFault Report) old new may more each h = h
+shown_more (status.TooLarge what limit) old new may more each h = h
+shown_more status.OutOfMemory old new may more each (inl h) = inl h
+shown_more status.OutOfMemory old new may more each (inr h) = inr (h.0, each h.0 h.1, h.2)
+shown_more status.NotBuilt old new may more each h = h
+shown_more (status.BadWords why) old new may more each h = h
+
+-- What a put leaves is so of its piece alone.
+pub shown_whole : (old new : Option (List ℕ)) (piece : List ℕ) → Appends old new piece → IsShown status.Done old new (λ bytes. bytes ≡ piece)
+shown_whole old new piece h = (piece, refl, h)
+
+pub shown_part : (old new : Option (List ℕ)) (piece : List ℕ) → AppendsFront old new piece → IsShown (status.WriteFault Frames) old new (λ bytes. bytes ≡ piece)
+shown_part old new piece h = (piece, refl, h)
+
+pub shown_kept : (old new : Option (List ℕ)) (piece : List ℕ) → Keeps old new → IsShown status.OutOfMemory old new (λ bytes. bytes ≡ piece)
+shown_kept old new piece h = inl h
+
+-- Where memory is wanting, nothing may be shown.
+pub shown_nothing : (held : Option (List ℕ)) (may : List ℕ → Type 0) → IsShown status.OutOfMemory held held may
+shown_nothing held may = inl (keeps held)
 
 -- ---- refusals by the files
 
@@ -112,12 +134,12 @@ own_refusal Check (status.BadScript cause) h = tt
 own_refusal Check (status.BadFont index line cause) h = tt
 own_refusal Check (status.TooLarge what limit) h = tt
 own_refusal Check status.OutOfMemory h = tt
-own_refusal (Frame at size) (status.NoSuchFile other) h = tt
-own_refusal (Frame at size) (status.ReadFault other) h = tt
-own_refusal (Frame at size) (status.BadScript cause) h = tt
-own_refusal (Frame at size) (status.BadFont index line cause) h = tt
-own_refusal (Frame at size) (status.TooLarge what limit) h = tt
-own_refusal (Frame at size) status.OutOfMemory h = tt
+own_refusal (Frame frame) (status.NoSuchFile other) h = tt
+own_refusal (Frame frame) (status.ReadFault other) h = tt
+own_refusal (Frame frame) (status.BadScript cause) h = tt
+own_refusal (Frame frame) (status.BadFont index line cause) h = tt
+own_refusal (Frame frame) (status.TooLarge what limit) h = tt
+own_refusal (Frame frame) status.OutOfMemory h = tt
 own_refusal task (status.WriteFault which) h = absurd h
 own_refusal task status.NotBuilt h = absurd h
 own_refusal task (status.BadWords why) h = absurd h
@@ -129,7 +151,7 @@ refused_worked told work answer held faults read = record {
   reading = Err answer;
   read = read;
   answered = inl (inl refl);
-  shown = shown_none answer held;
+  shown = shown_none answer held (IsFramesAsked work.task (Err answer)) refl;
   text = λ done. refl;
   own = own_refusal work.task answer (read_kind told work.script work.fonts answer read);
 }
@@ -141,7 +163,7 @@ memory_worked told work held faults = elim (cases_lt 64 (length work.fonts)) [
     reading = Err (status.TooLarge Fonts 64);
     read = inr (many, refl);
     answered = inl (inr refl);
-    shown = shown_none status.OutOfMemory held;
+    shown = inl (keeps held);
     text = λ done. refl;
     own = own_refusal work.task status.OutOfMemory tt;
   }
@@ -149,7 +171,7 @@ memory_worked told work held faults = elim (cases_lt 64 (length work.fonts)) [
     reading = Err status.OutOfMemory;
     read = inl (few, inl tt);
     answered = inl (inl refl);
-    shown = shown_none status.OutOfMemory held;
+    shown = inl (keeps held);
     text = λ done. refl;
     own = own_refusal work.task status.OutOfMemory tt;
   }
@@ -176,24 +198,31 @@ answered_after task wanted (Ended before) answer own asked h = elim (ended befor
   | inl same ↦ subst (IsOrFault task wanted) (sym same) asked
   | inr memory ↦ inl (inr memory)
 ]
-answered_after (Frame at size) wanted (Found text) answer own asked ended = absurd own
+answered_after (Frame frame) wanted (Found text) answer own asked ended = absurd own
 answered_after Check wanted (Found text) answer own asked (inl (inl done)) = subst (IsOrFault Check wanted) (sym done) asked
 answered_after Check wanted (Found text) answer own asked (inl (inr memory)) = inl (inr memory)
 answered_after Check wanted (Found text) answer own (inl (inl done)) (inr fault) = inr (sym done, fault)
 answered_after Check wanted (Found text) answer own (inl (inr memory)) (inr fault) = absurd cc
 answered_after Check wanted (Found text) answer own (inr (done, other)) (inr fault) = absurd cc
 
+-- A check shows nothing.
+nothing_shown : (reading : Result Inputs Status) (bytes : List ℕ) → IsFramesAsked Check reading bytes → bytes ≡ []
+nothing_shown (Ok inputs) bytes h = h
+nothing_shown (Err other) bytes h = h
+
 shown_after : (task : Task) (reading : Result Inputs Status) (outcome : Outcome) (answer : Status) (old new : Option (List ℕ)) → SuitsTask task outcome →
-    IsEnded outcome answer → IsImageShown (status_if_put outcome) old new (output_asked task reading).frames → IsImageShown answer old new (output_asked task reading).frames
+    IsEnded outcome answer → IsShown (status_if_put outcome) old new (IsFramesAsked task reading) → IsShown answer old new (IsFramesAsked task reading)
 shown_after task reading (Ended before) answer old new own e h = elim (ended before answer e) [
-  | inl same ↦ subst (λ s. IsImageShown s old new (output_asked task reading).frames) (sym same) h
-  | inr memory ↦ subst (λ s. IsImageShown s old new (output_asked task reading).frames) (sym memory) (shown_front before old new _ h)
+  | inl same ↦ subst (λ s. IsShown s old new (IsFramesAsked task reading)) (sym same) h
+  | inr memory ↦ subst (λ s. IsShown s old new (IsFramesAsked task reading)) (sym memory) (shown_front before old new (IsFramesAsked task reading) h)
 ]
-shown_after (Frame at size) reading (Found text) answer old new own ended h = absurd own
-shown_after Check reading (Found text) answer old new own (inl (inl done)) h = subst (λ s. IsImageShown s old new (output_asked Check reading).frames) (sym done) h
-shown_after Check reading (Found text) answer old new own (inl (inr memory)) h = subst (λ s. IsImageShown s old new (output_asked Check reading).frames) (sym memory) (front_by_all old new _ h)
-shown_after Check (Ok inputs) (Found text) answer old new own (inr fault) h = subst (λ s. IsImageShown s old new []) (sym fault) (keeps_appended old new h)
-shown_after Check (Err other) (Found text) answer old new own (inr fault) h = subst (λ s. IsImageShown s old new []) (sym fault) (keeps_appended old new h)
+shown_after (Frame frame) reading (Found text) answer old new own ended h = absurd own
+shown_after Check reading (Found text) answer old new own (inl (inl done)) h = subst (λ s. IsShown s old new (IsFramesAsked Check reading)) (sym done) h
+shown_after Check reading (Found text) answer old new own (inl (inr memory)) h =
+    subst (λ s. IsShown s old new (IsFramesAsked Check reading)) (sym memory) (shown_front status.Done old new (IsFramesAsked Check reading) h)
+shown_after Check reading (Found text) answer old new own (inr fault) h =
+    let kept = keeps_appended old new (subst (Appends old new) (nothing_shown reading h.0 h.1) h.2) in
+    subst (λ s. IsShown s old new (IsFramesAsked Check reading)) (sym fault) kept
 
 -- What is to be reported counts where all is done or the report failed.
 reported_same : (answer : Status) (old new : Option (List ℕ)) (before now : ℕ) (text other : List ℕ) →
@@ -263,19 +292,11 @@ read_after (Found text) answer before now (inl (inl done)) h = subst (λ s. IsSt
 read_after (Found text) answer before now (inl (inr memory)) h = subst (λ s. IsStatusReadCounted s before now) (sym memory) (omega (arith, h))
 read_after (Found text) answer before now (inr fault) h = subst (λ s. IsStatusReadCounted s before now) (sym fault) h
 
-image_unread : (image : Option (List ℕ)) (before now : ℕ) → now ≡ before → IsStatusReadCounted (status_of_image image) before now
-image_unread None before now same = same
-image_unread (Some bytes) before now same = same
-
-task_unread : (task : Task) (inputs : Inputs) (before now : ℕ) → now ≡ before → IsStatusReadCounted (task_status task inputs) before now
-task_unread Check inputs before now same = same
-task_unread (Frame at size) inputs before now same = image_unread (image_in at size inputs.script inputs.fonts) before now same
-
 -- No task fails at a file.
-pub read_same : (task : Task) (inputs : Inputs) (answer : Status) (before now : ℕ) → now ≡ before → IsOrFault task (task_status task inputs) answer → IsStatusReadCounted answer before now
-read_same task inputs answer before now same (inl (inl wanted)) = subst (λ s. IsStatusReadCounted s before now) (sym wanted) (task_unread task inputs before now same)
-read_same task inputs answer before now same (inl (inr memory)) = subst (λ s. IsStatusReadCounted s before now) (sym memory) (omega (arith, same))
-read_same task inputs answer before now same (inr (done, fault)) = subst (λ s. IsStatusReadCounted s before now) (sym fault) same
+pub read_same : (task : Task) (answer : Status) (before now : ℕ) → now ≡ before → IsOrFault task status.Done answer → IsStatusReadCounted answer before now
+read_same task answer before now same (inl (inl wanted)) = subst (λ s. IsStatusReadCounted s before now) (sym wanted) same
+read_same task answer before now same (inl (inr memory)) = subst (λ s. IsStatusReadCounted s before now) (sym memory) (omega (arith, same))
+read_same task answer before now same (inr (done, fault)) = subst (λ s. IsStatusReadCounted s before now) (sym fault) same
 
 written_rises : (answer : Status) (before now : ℕ) → IsWriteCounted answer before now → before ≤ now
 written_rises status.Done before now h = omega (arith, h)
@@ -310,7 +331,7 @@ once_of task (status.BadFont index line cause) n h = refl
 once_of task (status.WriteFault which) n h = absurd h
 once_of task (status.TooLarge what limit) n h = refl
 once_of Check status.OutOfMemory n h = refl
-once_of (Frame at size) status.OutOfMemory n h = (omega arith, omega arith)
+once_of (Frame frame) status.OutOfMemory n h = (omega arith, omega arith)
 once_of task status.NotBuilt n h = absurd h
 once_of task (status.BadWords why) n h = absurd h
 
@@ -356,7 +377,7 @@ sink_rose : (task : Task) (answer : Status) (frames report : SinkChange) (text :
     IsReported answer report.held_before report.held_now report.faults_before report.faults_now text →
     Rose frames.faults_before frames.faults_now ⊎ Rose report.faults_before report.faults_now
 sink_rose Check answer frames report text fault written reported = inr (subst (λ s. IsReported s report.held_before report.held_now report.faults_before report.faults_now text) fault reported).1
-sink_rose (Frame at size) answer frames report text fault written reported = inl (subst (λ s. IsWriteCounted s frames.faults_before frames.faults_now) fault written).0
+sink_rose (Frame frame) answer frames report text fault written reported = inl (subst (λ s. IsWriteCounted s frames.faults_before frames.faults_now) fault written).0
 
 unfailed : (task : Task) (wanted answer : Status) → (answer ≡ status.WriteFault (sink_of task) → ⊥) → IsOrFault task wanted answer → IsOrMemory wanted answer
 unfailed task wanted answer fails (inl h) = h
@@ -382,7 +403,7 @@ decides law told work frames report before now answer run counted written stays 
       | inl found ↦
           let same = law told work.script work.fonts run.reading reading known found decided run.read read in
           let fails : answer ≡ status.WriteFault (sink_of work.task) → ⊥ = λ fault. elim (sink_rose work.task answer frames report _ fault written run.reported) [ inl rose ↦ shows rose | inr rose ↦ reports rose ] in
-          unfailed work.task (status_asked work.task reading) answer fails (subst (λ r. IsOrFault work.task (status_asked work.task r) answer) same run.answered)
-      | inr (inl (name, fault)) ↦ inr (unread work.task name answer before now stays counted (subst (λ r. IsOrFault work.task (status_asked work.task r) answer) fault run.answered))
-      | inr (inr memory) ↦ inr (wanting work.task answer (subst (λ r. IsOrFault work.task (status_asked work.task r) answer) memory run.answered))
+          unfailed work.task (status_asked reading) answer fails (subst (λ r. IsOrFault work.task (status_asked r) answer) same run.answered)
+      | inr (inl (name, fault)) ↦ inr (unread work.task name answer before now stays counted (subst (λ r. IsOrFault work.task (status_asked r) answer) fault run.answered))
+      | inr (inr memory) ↦ inr (wanting work.task answer (subst (λ r. IsOrFault work.task (status_asked r) answer) memory run.answered))
     ]

@@ -34,22 +34,22 @@ IsWriteCounted (WriteFault Frames) before now = Rose before now × (before ≤ n
 IsWriteCounted OutOfMemory before now = before ≤ now
 IsWriteCounted _ before now = now ≡ before
 
--- What the frames sink got of what it was to get: all of it, a front, or nothing.
-abbrev pub IsImageShown : Status → Option (List ℕ) → Option (List ℕ) → List ℕ → Type 0
-IsImageShown Done old new image = Appends old new image
-IsImageShown (WriteFault Frames) old new image = AppendsFront old new image
-IsImageShown OutOfMemory old new image = AppendsFront old new image
-IsImageShown _ old new image = Keeps old new
+-- What the frames sink got of bytes that it may get: all of them, a front, or nothing.
+abbrev pub IsShown : Status → Option (List ℕ) → Option (List ℕ) → (List ℕ → Type 0) → Type 0
+IsShown Done old new may = (bytes : List ℕ) × may bytes × Appends old new bytes
+IsShown (WriteFault Frames) old new may = (bytes : List ℕ) × may bytes × AppendsFront old new bytes
+IsShown OutOfMemory old new may = Keeps old new ⊎ ((bytes : List ℕ) × may bytes × AppendsFront old new bytes)
+IsShown _ old new may = Keeps old new
 
 -- How often the frames sink was asked by a task that was done whole: once for an image, and not at all by a check.
 abbrev pub IsImagePutCount : Task → ℕ → ℕ → Type 0
 IsImagePutCount Check before now = now ≡ before
-IsImagePutCount (Frame at size) before now = IsOneMore before now
+IsImagePutCount (Frame frame) before now = IsOneMore before now
 
 -- How often it was asked by a task for which memory was wanting.
 abbrev pub IsUnfinishedPutCount : Task → ℕ → ℕ → Type 0
 IsUnfinishedPutCount Check before now = now ≡ before
-IsUnfinishedPutCount (Frame at size) before now = (before ≤ now) × (now ≤ before + 1)
+IsUnfinishedPutCount (Frame frame) before now = (before ≤ now) × (now ≤ before + 1)
 
 -- How often it was asked at each status: not at all at a refusal.
 abbrev pub IsFramesPutCount : Task → Status → ℕ → ℕ → Type 0
@@ -73,7 +73,7 @@ IsReported status old new before now text = IsLineReported status old new before
 -- How often the report was asked by a task that was done whole: once for a check's report, and not at all by a picture.
 abbrev pub IsTextPutCount : Task → ℕ → ℕ → Type 0
 IsTextPutCount Check before now = IsOneMore before now
-IsTextPutCount (Frame at size) before now = now ≡ before
+IsTextPutCount (Frame frame) before now = now ≡ before
 
 -- How often it was asked at each status: once for its line. Where that put wanted memory, the line of that is put too.
 abbrev pub IsReportPutCount : Task → Status → ℕ → ℕ → Type 0
@@ -104,7 +104,7 @@ abbrev pub SuitsTask : Task → Outcome → Type 0
 SuitsTask task (Ended (WriteFault Report)) = ⊥
 SuitsTask Check (Ended (WriteFault Frames)) = ⊥
 SuitsTask Check (Ended Done) = ⊥
-SuitsTask (Frame at size) (Found text) = ⊥
+SuitsTask (Frame frame) (Found text) = ⊥
 SuitsTask _ _ = Unit {0}
 
 -- How a run ends after an outcome: as it says, or by a fault of the report or want of memory.

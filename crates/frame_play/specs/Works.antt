@@ -1,29 +1,35 @@
 -- Public: what is built of the jobs that words ask for.
-use Rattle.std.specs.Prelude.{◌≡◌, ◌⊎◌, ℕ, ℤ, pos, negsuc, List, Option, Some, None, Result, Ok, Err, option_map}
+use Rattle.std.specs.Prelude.{◌≡◌, ◌⊎◌, ℕ, ◌<◌, ◌≤◌, ℤ, pos, negsuc, List, [], ◌∷◌, length, Option, Some, None, Result, Ok, Err, option_map}
 use Rattle.ass_num.specs.Limits.{IsFrameSize, IsInstant}
 use Rattle.ass_num.specs.declared.size.Size.{Size}
+use Rattle.input_files.specs.declared.inputs.Inputs.{Inputs}
+use Rattle.play_words.specs.Limits.{max_budget}
 use Rattle.play_words.specs.Words.{job_of}
 use Rattle.play_words.specs.declared.job.Job.{Job}
 use Rattle.play_words.specs.declared.job.Job.TheVariants as job
 use Rattle.play_words.specs.declared.job.WordsFault.{WordsFault}
 use Rattle.run_status.specs.declared.status.Status.{Status}
 use Rattle.run_status.specs.declared.status.Status.TheVariants.{BadWords, NotBuilt, OutOfMemory}
+use Rattle.script_events.specs.Laws.{HasShortLines}
+use Rattle.text_layout.specs.Fonts.{IsLayoutFontSet}
+use Rattle.frame_play.specs.declared.work.FrameTask.{FrameTask}
 use Rattle.frame_play.specs.declared.work.Task.{Task}
 use Rattle.frame_play.specs.declared.work.Task.TheVariants.{Check, Frame}
 use Rattle.frame_play.specs.declared.work.Work.{Work}
 
--- the picture at an instant, which no words put below 0
-abbrev pub picture_task : ℤ → Size → Option Task
-picture_task (pos at) size = Some (Frame at size)
-picture_task (negsuc _) size = None
+-- the picture at an instant, in fonts: words put no instant below 0, and name a font at least
+abbrev pub frame_task : ℤ → Size → ℕ → List (List ℕ) → Option Task
+frame_task at size budget [] = None
+frame_task (negsuc _) size budget (font ∷ fonts) = None
+frame_task (pos at) size budget (font ∷ fonts) = Some (Frame (record { at = at; size = size; budget = budget }))
 
 abbrev pub work_with : List ℕ → List (List ℕ) → Task → Work
 work_with script fonts task = record { task = task; script = script; fonts = fonts }
 
--- the work of a job, where it is built; a picture is the same for every budget
+-- the work of a job, where it is built
 abbrev pub work_of : Job → Option Work
 work_of (job.Check script fonts) = Some (work_with script fonts Check)
-work_of (job.Frame at size budget script fonts) = option_map (work_with script fonts) (picture_task at size)
+work_of (job.Frame at size budget script fonts) = option_map (work_with script fonts) (frame_task at size budget fonts)
 work_of _ = None
 
 abbrev pub unless_unbuilt : Option Work → Result Work Status
@@ -42,7 +48,21 @@ work_asked words = work_in (job_of words)
 abbrev pub IsWorkRead : Result Work Status → Result Work Status → Type 0
 IsWorkRead asked answer = (answer ≡ asked) ⊎ (answer ≡ Err OutOfMemory)
 
--- The numbers of a task are within their limits.
-abbrev pub IsTask : Task → Type 0
-IsTask Check = Unit {0}
-IsTask (Frame at size) = IsInstant at × IsFrameSize size
+-- The numbers of a picture are within their limits.
+pub record IsFrameTask (frame : FrameTask) : Type 0 where
+  pub at : IsInstant frame.at
+  pub size : IsFrameSize frame.size
+  pub budget : frame.budget ≤ max_budget
+
+-- The numbers of a task are within their limits, and a picture has a font at least.
+abbrev pub IsTaskIn : List (List ℕ) → Task → Type 0
+IsTaskIn fonts Check = Unit {0}
+IsTaskIn fonts (Frame frame) = IsFrameTask frame × (0 < length fonts)
+
+abbrev pub IsWork : Work → Type 0
+IsWork work = IsTaskIn work.fonts work.task
+
+-- What a task needs of what is read for it: a picture has short texts to lay out, in 1 to 64 fonts.
+abbrev pub AreInputsOf : Task → Inputs → Type 0
+AreInputsOf Check inputs = Unit {0}
+AreInputsOf (Frame frame) inputs = IsFrameTask frame × HasShortLines inputs.script × IsLayoutFontSet inputs.fonts

@@ -6,8 +6,6 @@ mod picture;
 mod play;
 mod report;
 mod task;
-#[cfg(test)]
-mod tests;
 mod work;
 
 pub use play::{calm, top};

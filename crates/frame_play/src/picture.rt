@@ -1,69 +1,92 @@
-//! The image of a job.
+//! The image of a picture.
 
-ghost use Rattle.std.specs.Prelude.{◌≡◌, ◌≤◌, ◌≢◌, ℕ, [], IfOk};
-ghost use Rattle.std.specs.Option.{option_map, option_map_or};
-ghost use Rattle.ass_num.specs.Limits.{IsFrameSize, IsInstant};
+ghost use Rattle.std.specs.Prelude.{◌≡◌, ◌≤◌, ◌≢◌, ℕ, map, pos, All, IfOk, length};
+ghost use Rattle.std.specs.Arc.{arc_value};
+ghost use Rattle.ass_num.specs.Limits.{max_text_bytes};
+ghost use Rattle.ass_events.specs.Histories.{HaveOwnOrders, max_live};
+ghost use Rattle.ass_events.specs.Ranges.{IsEvent};
+ghost use Rattle.ass_events.specs.declared.event.Event.{Event};
 ghost use Rattle.ass_script.specs.Ranges.{IsScript};
-ghost use Rattle.frame_play.specs.Outcomes.{IsOrFault, IsImageShown, IsFramesPutCount, IsWriteCounted};
-ghost use Rattle.frame_play.specs.Outputs.{image_in, image_of, status_of_image};
+ghost use Rattle.picture_plan.specs.Pictures.{IsPictureAt};
+ghost use Rattle.script_events.specs.Laws.{HasShortLines};
+ghost use Rattle.text_layout.specs.Fonts.{IsLayoutFontSet};
+ghost use Rattle.frame_play.specs.Outcomes.{IsFramesPutCount, IsOrFault, IsShown, IsWriteCounted};
+ghost use Rattle.frame_play.specs.Outputs.{IsFrameImage};
+ghost use Rattle.frame_play.specs.Works.{IsFrameTask};
+ghost use Rattle.frame_play.specs.declared.work.FrameTask.{FrameTask};
 ghost use Rattle.frame_play.specs.declared.work.Task.TheVariants.{Frame};
 
+use crate::work::FrameTask;
+use alone_caches::Alone;
+use ass_events::Event;
 use ass_io::{Put, Sink};
-use ass_num::{Mem, OutOfMemory, Size};
+use ass_num::{Mem, OutOfMemory};
 use ass_script::Script;
-use bdf_font::Font;
-use plain_form::{plain_line, shown_pixels};
+use bdf_font::FontSet;
+use blend::Canvas;
+use input_files::Inputs;
+use picture_plan::plan;
 use ppm_text::ppm_bytes;
 use run_status::{Status, Which};
+use script_events::events_of;
 use std::alloc::Global;
+use std::sync::Arc;
 
-/// The image of a script with a font at an instant in milliseconds, if the script is of the plain form.
-fn image_of(
+/// The picture that events show.
+#[tactic(auto, using(crate::proofs::PictureLemmas::font_set, crate::proofs::PictureLemmas::pictured))]
+fn picture_of(
     alloc: Global,
-    at: u64,
-    size: &Size,
+    frame: &FrameTask,
     script: &Script,
-    font: &Font,
-) -> Mem<Option<Vec<u8>>>
+    fonts: Arc<FontSet>,
+    events: &[Arc<Event>],
+) -> Mem<Canvas>
+    requires frame { IsFrameTask frame.now }
     requires script { IsScript script.now }
-    requires at { IsInstant at }
-    requires size { IsFrameSize size.now }
-    ensures { IfOk result (λ image. option_map (λ bytes. bytes.items) image ≡ image_of at size.now script.now font.now) }
+    requires fonts { IsLayoutFontSet (arc_value fonts).fonts }
+    requires events { All IsEvent (map arc_value events.now) }
+    requires texts { All (λ (e : Event). length e.text ≤ max_text_bytes) (map arc_value events.now) }
+    requires few { length events.now ≤ max_live }
+    requires orders { HaveOwnOrders (map arc_value events.now) }
+    ensures picture { IfOk result (λ canvas. IsPictureAt script.now (arc_value fonts).fonts (map arc_value events.now) (pos frame.now.at) frame.now.size canvas) }
+    ensures width { IfOk result (λ canvas. canvas.w ≡ frame.now.size.w) }
+    ensures height { IfOk result (λ canvas. canvas.h ≡ frame.now.size.h) }
 {
-    match plain_line(alloc, script, font, size)? {
-        Some(line) => {
-            let pixels = shown_pixels(alloc, &line, font, at as i64, size)?;
-            let image = ppm_bytes(alloc, size, pixels.as_slice(), at as i64, 1)?;
-            Ok(Some(image))
-        }
-        None => Ok(None),
-    }
+    let plan = plan(alloc, script, &fonts, events, frame.at as i64, &frame.size)?;
+    let mut canvas = Canvas::new(alloc, &frame.size)?;
+    let mut alone = Alone::open(alloc, fonts, frame.budget)?;
+    alone.paint(alloc, &plan, &mut canvas)?;
+    Ok(canvas)
 }
 
-/// The image with a font alone.
-fn image_in(
-    alloc: Global,
-    at: u64,
-    size: &Size,
-    script: &Script,
-    fonts: &[Font],
-) -> Mem<Option<Vec<u8>>>
-    requires script { IsScript script.now }
-    requires at { IsInstant at }
-    requires size { IsFrameSize size.now }
-    ensures { IfOk result (λ image. option_map (λ bytes. bytes.items) image ≡ image_in at size.now script.now fonts.now) }
+/// The image of the picture that a script's events show in fonts.
+#[tactic(auto, using(crate::proofs::PictureLemmas::imaged))]
+fn image_of(alloc: Global, frame: &FrameTask, inputs: Inputs) -> Mem<Vec<u8>>
+    requires frame { IsFrameTask frame.now }
+    requires script { IsScript inputs.script }
+    requires short { HasShortLines inputs.script }
+    requires fonts { IsLayoutFontSet inputs.fonts }
+    ensures { IfOk result (λ image. IsFrameImage inputs.script inputs.fonts frame.now.at frame.now.size image.items) }
 {
-    match fonts {
-        [font] => image_of(alloc, at, size, script, font),
-        _ => Ok(None),
-    }
+    let Inputs { script, fonts } = inputs;
+    let fonts = Arc::new(alloc, FontSet { fonts })?;
+    let events = events_of(alloc, &script)?;
+    let canvas = picture_of(alloc, frame, &script, fonts, events.as_slice())?;
+    ppm_bytes(
+        alloc,
+        &frame.size,
+        canvas.pixels(),
+        frame.at as i64,
+        events.len(),
+    )
 }
 
 /// Puts an image to the frames sink.
+#[tactic(auto, using(crate::proofs::RunLemmas::shown_whole, crate::proofs::RunLemmas::shown_part, crate::proofs::RunLemmas::shown_kept))]
 fn put_image<F: Sink>(image: &[u8], frames: &mut F) -> Status
-    ensures answered { (at : ℕ) (size : Size) → IsOrFault (Frame at size) Status.Done result }
-    ensures shown { IsImageShown result (F.held frames.old) (F.held frames.new) image.now }
-    ensures once { (at : ℕ) (size : Size) → IsFramesPutCount (Frame at size) result (F.puts frames.old) (F.puts frames.new) }
+    ensures answered { (frame : FrameTask) → IsOrFault (Frame frame) Status.Done result }
+    ensures shown { IsShown result (F.held frames.old) (F.held frames.new) (λ bytes. bytes ≡ image.now) }
+    ensures once { (frame : FrameTask) → IsFramesPutCount (Frame frame) result (F.puts frames.old) (F.puts frames.new) }
     ensures counted { IsWriteCounted result (F.faults frames.old) (F.faults frames.new) }
     ensures own { result ≢ Status.WriteFault Which.Report }
 {
@@ -74,27 +97,20 @@ fn put_image<F: Sink>(image: &[u8], frames: &mut F) -> Status
     }
 }
 
-/// Draws the picture at an instant in milliseconds, and puts its image to the frames sink.
-pub fn draw<F: Sink>(
-    alloc: Global,
-    at: u64,
-    size: &Size,
-    script: &Script,
-    fonts: &[Font],
-    frames: &mut F,
-) -> Status
-    requires script { IsScript script.now }
-    requires at { IsInstant at }
-    requires size { IsFrameSize size.now }
-    ensures answered { IsOrFault (Frame at size.now) (status_of_image (image_in at size.now script.now fonts.now)) result }
-    ensures shown { IsImageShown result (F.held frames.old) (F.held frames.new) (option_map_or (λ image. image) (image_in at size.now script.now fonts.now) []) }
-    ensures once { IsFramesPutCount (Frame at size.now) result (F.puts frames.old) (F.puts frames.new) }
+/// Draws a picture of a script in fonts, and puts its image to the frames sink.
+pub fn draw<F: Sink>(alloc: Global, frame: &FrameTask, inputs: Inputs, frames: &mut F) -> Status
+    requires frame { IsFrameTask frame.now }
+    requires script { IsScript inputs.script }
+    requires short { HasShortLines inputs.script }
+    requires fonts { IsLayoutFontSet inputs.fonts }
+    ensures answered { IsOrFault (Frame frame.now) Status.Done result }
+    ensures shown { IsShown result (F.held frames.old) (F.held frames.new) (IsFrameImage inputs.script inputs.fonts frame.now.at frame.now.size) }
+    ensures once { IsFramesPutCount (Frame frame.now) result (F.puts frames.old) (F.puts frames.new) }
     ensures counted { IsWriteCounted result (F.faults frames.old) (F.faults frames.new) }
     ensures own { result ≢ Status.WriteFault Which.Report }
 {
-    match image_in(alloc, at, size, script, fonts) {
-        Ok(Some(image)) => put_image(image.as_slice(), frames),
-        Ok(None) => Status::NotBuilt,
+    match image_of(alloc, frame, inputs) {
+        Ok(image) => put_image(image.as_slice(), frames),
         Err(OutOfMemory) => Status::OutOfMemory,
     }
 }

@@ -2,10 +2,10 @@
 
 ghost use Rattle.std.specs.Prelude.{◌≡◌, ◌≢◌, Ok, string_bytes};
 ghost use Rattle.ass_script.specs.Ranges.{IsScript};
-ghost use Rattle.frame_play.specs.Outcomes.{IsOrFault, SuitsTask, IsStatusReadCounted, IsImageShown, IsFramesPutCount, IsWriteCounted, status_if_put, text_to_report};
-ghost use Rattle.frame_play.specs.Outputs.{output_of, task_status};
+ghost use Rattle.frame_play.specs.Outcomes.{IsFramesPutCount, IsOrFault, IsShown, IsStatusReadCounted, IsWriteCounted, SuitsTask, status_if_put, text_to_report};
+ghost use Rattle.frame_play.specs.Outputs.{IsFramesOf, report_of};
 ghost use Rattle.frame_play.specs.Runs.{IsWorked, sink_change};
-ghost use Rattle.frame_play.specs.Works.{IsTask};
+ghost use Rattle.frame_play.specs.Works.{AreInputsOf, IsTaskIn, IsWork};
 ghost use Rattle.run_status.specs.declared.status.Status.TheVariants.{Done as done_status};
 
 use crate::outcome::Outcome;
@@ -16,13 +16,14 @@ use ass_num::OutOfMemory;
 use check_report::check_report;
 use input_files::{Inputs, read_inputs};
 use run_status::Status;
+use script_events::lines_fit_their_text;
 use std::alloc::Global;
 
 /// What a check is to report.
 fn check(alloc: Global, inputs: &Inputs) -> Outcome
     requires { IsScript inputs.now.script }
-    ensures answered { IsOrFault Task.Check (task_status Task.Check inputs.now) (status_if_put result) }
-    ensures text { status_if_put result ≡ done_status → text_to_report result ≡ (output_of Task.Check inputs.now).report }
+    ensures answered { IsOrFault Task.Check done_status (status_if_put result) }
+    ensures text { status_if_put result ≡ done_status → text_to_report result ≡ report_of Task.Check inputs.now }
     ensures own { SuitsTask Task.Check result }
     ensures memory { status_if_put result ≢ done_status → result ≡ Outcome.Ended Status.OutOfMemory }
 {
@@ -33,26 +34,20 @@ fn check(alloc: Global, inputs: &Inputs) -> Outcome
 }
 
 /// Does a task with its inputs.
-fn do_task<F: Sink>(alloc: Global, task: &Task, inputs: &Inputs, frames: &mut F) -> Outcome
-    requires task { IsTask task.now }
-    requires script { IsScript inputs.now.script }
-    ensures answered { IsOrFault task.now (task_status task.now inputs.now) (status_if_put result) }
-    ensures shown { IsImageShown (status_if_put result) (F.held frames.old) (F.held frames.new) (output_of task.now inputs.now).frames }
+#[tactic(auto, using(crate::proofs::RunLemmas::shown_none))]
+fn do_task<F: Sink>(alloc: Global, task: &Task, inputs: Inputs, frames: &mut F) -> Outcome
+    requires script { IsScript inputs.script }
+    requires inputs { AreInputsOf task.now inputs }
+    ensures answered { IsOrFault task.now done_status (status_if_put result) }
+    ensures shown { IsShown (status_if_put result) (F.held frames.old) (F.held frames.new) (IsFramesOf task.now inputs) }
     ensures once { IsFramesPutCount task.now (status_if_put result) (F.puts frames.old) (F.puts frames.new) }
     ensures counted { IsWriteCounted (status_if_put result) (F.faults frames.old) (F.faults frames.new) }
-    ensures text { status_if_put result ≡ done_status → text_to_report result ≡ (output_of task.now inputs.now).report }
+    ensures text { status_if_put result ≡ done_status → text_to_report result ≡ report_of task.now inputs }
     ensures own { SuitsTask task.now result }
 {
     match task {
-        Task::Check => check(alloc, inputs),
-        Task::Frame(at, size) => Outcome::Ended(draw(
-            alloc,
-            *at,
-            size,
-            &inputs.script,
-            inputs.fonts.as_slice(),
-            frames,
-        )),
+        Task::Check => check(alloc, &inputs),
+        Task::Frame(frame) => Outcome::Ended(draw(alloc, frame, inputs, frames)),
     }
 }
 
@@ -63,14 +58,15 @@ pub fn do_work<S: Shelf, F: Sink>(
     shelf: &mut S,
     frames: &mut F,
 ) -> Outcome
-    requires { IsTask work.now.task }
+    requires { IsWork work.now }
     ensures run { IsWorked (S.told shelf.old) work.now (sink_change (F.held frames.old) (F.held frames.new) (F.faults frames.old) (F.faults frames.new)) result }
     ensures read { IsStatusReadCounted (status_if_put result) (S.faults shelf.old) (S.faults shelf.new) }
     ensures once { IsFramesPutCount work.now.task (status_if_put result) (F.puts frames.old) (F.puts frames.new) }
     ensures write { IsWriteCounted (status_if_put result) (F.faults frames.old) (F.faults frames.new) }
 {
+    lines_fit_their_text();
     match read_inputs(alloc, shelf, &work.script, work.fonts.as_slice()) {
-        Ok(inputs) => do_task(alloc, &work.task, &inputs, frames),
+        Ok(inputs) => do_task(alloc, &work.task, inputs, frames),
         Err(status) => Outcome::Ended(status),
     }
 }

@@ -1,7 +1,7 @@
 //! What is built of the jobs.
 
 ghost use Rattle.std.specs.Prelude.{◌≡◌, IfOk};
-ghost use Rattle.frame_play.specs.Works.{IsTask, IsWorkRead, picture_task, work_asked, work_of};
+ghost use Rattle.frame_play.specs.Works.{IsWork, IsWorkRead, frame_task, work_asked, work_of};
 ghost use Rattle.play_words.specs.Words.{texts};
 
 use ass_num::{Items, Size, Text};
@@ -9,13 +9,21 @@ use play_words::{Job, WordsRefusal, read_words};
 use run_status::Status;
 use std::alloc::Global;
 
+/// The picture at an instant, in milliseconds, on a frame of a size, and the bytes that each of its caches may keep.
+#[derive(Clone, Copy, Debug)]
+pub struct FrameTask {
+    pub at: u64,
+    pub size: Size,
+    pub budget: u64,
+}
+
 /// What is to be done with a script and fonts.
 #[derive(Clone, Copy, Debug)]
 pub enum Task {
     /// A report on what they hold.
     Check,
-    /// The picture at an instant, in milliseconds, on a frame of this size.
-    Frame(u64, Size),
+    /// A picture of the script in the fonts.
+    Frame(FrameTask),
 }
 
 /// A task, and the names of the files that it is about.
@@ -26,13 +34,13 @@ pub struct Work {
     pub fonts: Items<Text>,
 }
 
-/// The task of a picture at an instant.
-fn picture_task(at: i64, size: Size) -> Option<Task>
-    ensures { result ≡ picture_task at size }
+/// The task of a picture in fonts.
+fn frame_task(at: i64, size: Size, budget: u64, fonts: &[Text]) -> Option<Task>
+    ensures { result ≡ frame_task at size budget fonts.now }
 {
-    match u64::try_from(at) {
-        Ok(at) => Some(Task::Frame(at, size)),
-        Err(_) => None,
+    match (fonts, u64::try_from(at)) {
+        ([_, ..], Ok(at)) => Some(Task::Frame(FrameTask { at, size, budget })),
+        ([], _) | (_, Err(_)) => None,
     }
 }
 
@@ -46,8 +54,8 @@ pub fn work_of(job: Job) -> Option<Work>
             script,
             fonts,
         }),
-        Job::Frame(at, size, _budget, script, fonts) => {
-            let task = picture_task(at, size)?;
+        Job::Frame(at, size, budget, script, fonts) => {
+            let task = frame_task(at, size, budget, fonts.as_slice())?;
             Some(Work {
                 task,
                 script,
@@ -60,9 +68,10 @@ pub fn work_of(job: Job) -> Option<Work>
 }
 
 /// The work that the words ask for, or the status that they ask for.
+#[tactic(auto, using(crate::proofs::WorkLemmas::work_suits))]
 pub fn read_work(alloc: Global, words: &[String]) -> Result<Work, Status>
     ensures asked { IsWorkRead (work_asked (texts words.now)) result }
-    ensures task { IfOk result (λ work. IsTask work.task) }
+    ensures work { IfOk result IsWork }
 {
     match read_words(alloc, words) {
         Ok(job) => match work_of(job) {

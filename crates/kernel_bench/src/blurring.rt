@@ -5,6 +5,7 @@ ghost use Rattle.mask_blur.specs.Limits.{max_blur};
 
 use crate::laps::Laps;
 use crate::stop::Stop;
+use crate::telling::{show_bytes, tell};
 use ass_num::{Mask, is_mask};
 use mask_blur::{box_blur, soften};
 use std::alloc::Global;
@@ -35,7 +36,7 @@ fn middle(mask: &Mask) -> u8 {
     mask.bytes().get(h / 2 * w + w / 2).copied().unwrap_or(0)
 }
 
-fn measure_passes(rt: &HostRuntime, side: u16, n: u8, turns: u32) -> Result<(), Stop> {
+fn measure_passes(rt: &HostRuntime, name: &str, side: u16, n: u8, turns: u32) -> Result<(), Stop> {
     let mask = square(rt.alloc(), side, 37)?;
     let mut laps = Laps::new();
     let mut byte = 0;
@@ -45,11 +46,17 @@ fn measure_passes(rt: &HostRuntime, side: u16, n: u8, turns: u32) -> Result<(), 
         laps.add(began.elapsed(rt)?);
         byte = middle(&softened);
     }
-    println!(rt; "soften, passes {n}: middle {byte}, {laps}")?;
-    Ok(())
+    tell(
+        rt,
+        "soften",
+        name,
+        usize::from(byte),
+        "in the middle",
+        &laps,
+    )
 }
 
-fn measure_radius(rt: &HostRuntime, side: u16, r: u8, turns: u32) -> Result<(), Stop>
+fn measure_radius(rt: &HostRuntime, name: &str, side: u16, r: u8, turns: u32) -> Result<(), Stop>
     requires { r ≤ max_blur }
 {
     let mask = square(rt.alloc(), side, 37)?;
@@ -61,8 +68,7 @@ fn measure_radius(rt: &HostRuntime, side: u16, r: u8, turns: u32) -> Result<(), 
         laps.add(began.elapsed(rt)?);
         byte = middle(&blurred);
     }
-    println!(rt; "blur, radius {r}: middle {byte}, {laps}")?;
-    Ok(())
+    tell(rt, "blur", name, usize::from(byte), "in the middle", &laps)
 }
 
 /// Times 1 and 10 passes of softening, and blurs of the radii 2, 20 and 100, of a mask with sides of so many pixels.
@@ -71,19 +77,27 @@ pub fn measure(rt: &HostRuntime, side: u32, turns: u32) -> Result<(), Stop> {
         return Err(Stop::SizeOutOfRange);
     }
     let side = side as u16;
-    measure_passes(rt, side, 1, turns)?;
-    measure_passes(rt, side, 10, turns)?;
-    measure_radius(rt, side, 2, turns)?;
-    measure_radius(rt, side, 20, turns)?;
-    measure_radius(rt, side, 100, turns)
+    measure_passes(rt, "1 pass", side, 1, turns)?;
+    measure_passes(rt, "10 passes", side, 10, turns)?;
+    measure_radius(rt, "radius 2", side, 2, turns)?;
+    measure_radius(rt, "radius 20", side, 20, turns)?;
+    measure_radius(rt, "radius 100", side, 100, turns)
+}
+
+fn show_softened(rt: &HostRuntime) -> Result<(), Stop> {
+    let mask = square(rt.alloc(), 1, 0)?;
+    let softened = soften(rt.alloc(), &mask, 1)?;
+    show_bytes(rt, "softened once", softened.bytes())
+}
+
+fn show_blurred(rt: &HostRuntime) -> Result<(), Stop> {
+    let mask = square(rt.alloc(), 2, 85)?;
+    let blurred = box_blur(rt.alloc(), &mask, 1)?;
+    show_bytes(rt, "blurred by 1", blurred.bytes())
 }
 
 /// Prints a pixel softened once, and four pixels blurred with the radius 1.
 pub fn show(rt: &HostRuntime) -> Result<(), Stop> {
-    let alloc = rt.alloc();
-    let softened = soften(alloc, &square(alloc, 1, 0)?, 1)?;
-    println!(rt; "softened once: {:?}", softened.bytes())?;
-    let blurred = box_blur(alloc, &square(alloc, 2, 85)?, 1)?;
-    println!(rt; "blurred by 1: {:?}", blurred.bytes())?;
-    Ok(())
+    show_softened(rt)?;
+    show_blurred(rt)
 }

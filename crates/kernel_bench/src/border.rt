@@ -7,6 +7,7 @@ ghost use Rattle.border_region.specs.Limits.{max_radius};
 use crate::glyph::{glyph, leanings};
 use crate::laps::Laps;
 use crate::stop::Stop;
+use crate::telling::{show_numbers, tell};
 use ass_num::{Mem, Region};
 use border_region::widened;
 use sample_region::region_of;
@@ -24,6 +25,7 @@ pub fn region(alloc: Global, side: i64, lean: i64) -> Mem<Region>
 /// Times a border of so many pixels around a region.
 fn measure_border(
     rt: &HostRuntime,
+    kernel: &str,
     name: &str,
     region: &Region,
     pixels: u32,
@@ -41,28 +43,28 @@ fn measure_border(
         laps.add(began.elapsed(rt)?);
         rows = border.rows().len();
     }
-    println!(rt; "border of {pixels} pixels, {name}: {rows} rows, {laps}")?;
-    Ok(())
+    tell(rt, kernel, name, rows, "rows", &laps)
 }
 
 /// Times borders of 2 and of 20 pixels around a glyph that is so many pixels high.
 pub fn measure(rt: &HostRuntime, pixels: u32, turns: u32) -> Result<(), Stop> {
     for (name, side, lean) in leanings(pixels) {
         let region = region(rt.alloc(), side, lean)?;
-        measure_border(rt, name, &region, 2, turns)?;
-        measure_border(rt, name, &region, 20, turns)?;
+        measure_border(rt, "border of 2 pixels", name, &region, 2, turns)?;
+        measure_border(rt, "border of 20 pixels", name, &region, 20, turns)?;
     }
     Ok(())
 }
 
+fn show_border(rt: &HostRuntime, what: &str, lean: i64) -> Result<(), Stop> {
+    let region = region(rt.alloc(), 32, lean)?;
+    let border = widened(rt.alloc(), &region, 16, 8)?;
+    let counts = [border.rows().len(), border.rows().all_items().len()];
+    show_numbers(rt, what, &counts)
+}
+
 /// Prints how many rows and runs the border of a glyph of 8 pixels has, upright and turned.
 pub fn show(rt: &HostRuntime) -> Result<(), Stop> {
-    let alloc = rt.alloc();
-    for lean in [0, 5] {
-        let border = widened(alloc, &region(alloc, 32, lean)?, 16, 8)?;
-        let rows = border.rows().len();
-        let runs = border.rows().all_items().len();
-        println!(rt; "border of 8 pixels, lean {lean}: {rows} rows, {runs} runs")?;
-    }
-    Ok(())
+    show_border(rt, "border, upright", 0)?;
+    show_border(rt, "border, turned", 5)
 }

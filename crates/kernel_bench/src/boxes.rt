@@ -6,6 +6,7 @@ ghost use Rattle.placement.specs.Placement.{AreInOrder, IsPlaceableStand, IsBoxW
 
 use crate::laps::Laps;
 use crate::stop::Stop;
+use crate::telling::{show_numbers, tell};
 use ass_num::{Fix, Mem};
 use placement::{Box2, Stand, replay};
 use std::alloc::Global;
@@ -84,7 +85,13 @@ fn greatest(shifts: &[Fix]) -> Fix {
     greatest
 }
 
-fn measure_list(rt: &HostRuntime, count: u32, shown: u8, turns: u32) -> Result<(), Stop> {
+fn measure_list(
+    rt: &HostRuntime,
+    name: &str,
+    count: u32,
+    shown: u8,
+    turns: u32,
+) -> Result<(), Stop> {
     let alloc = rt.alloc();
     let stands = stands_of(alloc, count, shown)?;
     if !are_replayable(stands.as_slice()) {
@@ -98,27 +105,30 @@ fn measure_list(rt: &HostRuntime, count: u32, shown: u8, turns: u32) -> Result<(
         laps.add(began.elapsed(rt)?);
         shift = greatest(shifts.as_slice());
     }
-    println!(rt; "shift, {shown} shown at once: greatest shift {shift}, {laps}")?;
-    Ok(())
+    let shift = usize::try_from(shift).unwrap_or(0);
+    tell(rt, "shift", name, shift, "at most", &laps)
 }
 
 /// Times the replay of so many boxes, of which 1, 8 and 64 are shown at once.
 pub fn measure(rt: &HostRuntime, count: u32, turns: u32) -> Result<(), Stop> {
-    measure_list(rt, count, 1, turns)?;
-    measure_list(rt, count, 8, turns)?;
-    measure_list(rt, count, 64, turns)
+    measure_list(rt, "1 shown at once", count, 1, turns)?;
+    measure_list(rt, "8 shown at once", count, 8, turns)?;
+    measure_list(rt, "64 shown at once", count, 64, turns)
 }
 
-/// Prints the shifts of six boxes, of which 1 and 3 are shown at once.
-pub fn show(rt: &HostRuntime) -> Result<(), Stop> {
-    let alloc = rt.alloc();
-    for shown in [1, 3] {
-        let stands = stands_of(alloc, 6, shown)?;
-        if !are_replayable(stands.as_slice()) {
-            return Err(Stop::SizeOutOfRange);
-        }
-        let shifts = replay(alloc, stands.as_slice())?;
-        println!(rt; "shifts, {shown} shown at once: {shifts:?}")?;
+/// Prints the greatest shift of six boxes, of which so many are shown at once.
+fn show_list(rt: &HostRuntime, what: &str, shown: u8) -> Result<(), Stop> {
+    let stands = stands_of(rt.alloc(), 6, shown)?;
+    if !are_replayable(stands.as_slice()) {
+        return Err(Stop::SizeOutOfRange);
     }
-    Ok(())
+    let shifts = replay(rt.alloc(), stands.as_slice())?;
+    let shift = usize::try_from(greatest(shifts.as_slice())).unwrap_or(0);
+    show_numbers(rt, what, &[shift])
+}
+
+/// Prints the greatest shifts of six boxes, of which 1 and 3 are shown at once.
+pub fn show(rt: &HostRuntime) -> Result<(), Stop> {
+    show_list(rt, "greatest shift, 1 shown at once", 1)?;
+    show_list(rt, "greatest shift, 3 shown at once", 3)
 }

@@ -6,6 +6,7 @@ ghost use Rattle.ass_num.specs.Limits.{IsOutline};
 use crate::glyph::{add_dot, measure_region};
 use crate::laps::Laps;
 use crate::stop::Stop;
+use crate::telling::{show_numbers, tell};
 use ass_num::{FlatLists, Mem, Outline, Point};
 use cancelled_edges::cancelled;
 use std::alloc::Global;
@@ -61,9 +62,7 @@ fn measure_cancelled(
         laps.add(began.elapsed(rt)?);
         left = edge_count(&boundary);
     }
-    let edges = edge_count(outline);
-    println!(rt; "cancel, {name}: {left} of {edges} edges left, {laps}")?;
-    Ok(())
+    tell(rt, "cancel", name, left, "edges left", &laps)
 }
 
 /// Times the region of a chessboard, of all its edges and of those that are left.
@@ -77,10 +76,8 @@ fn measure_regions(
     let alloc = rt.alloc();
     let outline = chessboard(alloc, pixels, block, zoom)?;
     let boundary = cancelled(alloc, &outline)?;
-    let before = format!(in alloc; "zoom {zoom}, all edges")?;
-    measure_region(rt, before.as_str(), &outline, turns)?;
-    let after = format!(in alloc; "zoom {zoom}, edges left")?;
-    measure_region(rt, after.as_str(), &boundary, turns)
+    measure_region(rt, "all edges", &outline, turns)?;
+    measure_region(rt, "edges left", &boundary, turns)
 }
 
 fn measure_chessboard(
@@ -107,14 +104,17 @@ pub fn measure(rt: &HostRuntime, pixels: u32, turns: u32) -> Result<(), Stop> {
     measure_chessboard(rt, "single pixels", pixels, 1, turns)
 }
 
+fn show_edges(rt: &HostRuntime, block: u16) -> Result<(), Stop> {
+    let outline = chessboard(rt.alloc(), 20, block, 1)?;
+    let boundary = cancelled(rt.alloc(), &outline)?;
+    let counts = [edge_count(&outline), edge_count(&boundary)];
+    show_numbers(rt, "edges of 20 pixels, and those left", &counts)
+}
+
 /// Prints how many edges are left of 20 pixels: a rectangle of 5 by 4, fields of 2 by 2, and single pixels.
 pub fn show(rt: &HostRuntime) -> Result<(), Stop> {
-    let alloc = rt.alloc();
     for block in [5, 2, 1] {
-        let outline = chessboard(alloc, 20, block, 1)?;
-        let left = edge_count(&cancelled(alloc, &outline)?);
-        let edges = edge_count(&outline);
-        println!(rt; "20 pixels, fields of {block} by {block}: {left} of {edges} edges left")?;
+        show_edges(rt, block)?;
     }
     Ok(())
 }

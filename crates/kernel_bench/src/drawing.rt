@@ -2,6 +2,7 @@
 
 use crate::laps::Laps;
 use crate::stop::Stop;
+use crate::telling::{show_bytes, tell, tell_rate};
 use ass_num::{Mask, Rgba, Size, is_mask};
 use blend::{Canvas, Stencil};
 use std::alloc::Global;
@@ -54,9 +55,8 @@ fn measure_square(
         laps.add(began.elapsed(rt)?);
     }
     let first = canvas.pixels().first().copied().unwrap_or(0);
-    let rate = laps.rate(u64::from(side) * u64::from(side) * 7);
-    println!(rt; "draw, {name}: first byte {first}, {laps}, {rate} MB/s touched")?;
-    Ok(())
+    tell(rt, "draw", name, usize::from(first), "first", &laps)?;
+    tell_rate(rt, &laps, u64::from(side) * u64::from(side) * 7)
 }
 
 fn copy(canvas: &mut Canvas, bytes: &[u8]) -> Result<(), Stop> {
@@ -80,9 +80,15 @@ fn measure_copy(rt: &HostRuntime, side: u16, turns: u32) -> Result<(), Stop> {
         laps.add(began.elapsed(rt)?);
     }
     let first = canvas.pixels().first().copied().unwrap_or(0);
-    let rate = laps.rate(u64::from(side) * u64::from(side) * 6);
-    println!(rt; "copy: first byte {first}, {laps}, {rate} MB/s touched")?;
-    Ok(())
+    tell(
+        rt,
+        "copy",
+        "as many bytes",
+        usize::from(first),
+        "first",
+        &laps,
+    )?;
+    tell_rate(rt, &laps, u64::from(side) * u64::from(side) * 6)
 }
 
 /// Times squares with sides of so many pixels on a canvas of 1,920 by 1,080: opaque, half transparent, and of zero bytes.
@@ -97,13 +103,16 @@ pub fn measure(rt: &HostRuntime, side: u32, turns: u32) -> Result<(), Stop> {
     measure_copy(rt, side, turns)
 }
 
+fn show_draw(rt: &HostRuntime, value: u8, alpha: u8) -> Result<(), Stop> {
+    let mut canvas = Canvas::new(rt.alloc(), &Size { w: 2, h: 2 })?;
+    let mask = square(rt.alloc(), 2, value)?;
+    draw(&mut canvas, &mask, white(alpha));
+    show_bytes(rt, "drawn", canvas.pixels())
+}
+
 /// Prints the pixels of three canvases of 2 by 2, each after one draw.
 pub fn show(rt: &HostRuntime) -> Result<(), Stop> {
-    let alloc = rt.alloc();
-    for (value, alpha) in [(255, 0), (128, 127), (0, 0)] {
-        let mut canvas = Canvas::new(alloc, &Size { w: 2, h: 2 })?;
-        draw(&mut canvas, &square(alloc, 2, value)?, white(alpha));
-        println!(rt; "drawn {value} at alpha {alpha}: {:?}", canvas.pixels())?;
-    }
-    Ok(())
+    show_draw(rt, 255, 0)?;
+    show_draw(rt, 128, 127)?;
+    show_draw(rt, 0, 0)
 }

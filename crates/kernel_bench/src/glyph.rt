@@ -5,6 +5,7 @@ ghost use Rattle.ass_num.specs.Limits.{IsOutline, IsOutlinePoint};
 
 use crate::laps::Laps;
 use crate::stop::Stop;
+use crate::telling::{show_numbers, tell};
 use ass_num::{FlatLists, Mem, Outline, Point};
 use sample_region::region_of;
 use std::alloc::Global;
@@ -86,8 +87,7 @@ pub fn measure_region(
         laps.add(began.elapsed(rt)?);
         rows = region.rows().len();
     }
-    println!(rt; "region, {name}: {rows} rows, {laps}")?;
-    Ok(())
+    tell(rt, "region", name, rows, "rows", &laps)
 }
 
 /// A glyph that is so many pixels high, and the same glyph turned a little: what they are called, and the side and the lean of
@@ -109,14 +109,15 @@ pub fn measure(rt: &HostRuntime, pixels: u32, turns: u32) -> Result<(), Stop> {
     Ok(())
 }
 
-/// Prints how many rows and runs a glyph of 8 pixels has, upright and turned.
+fn show_region(rt: &HostRuntime, what: &str, lean: i64) -> Result<(), Stop> {
+    let outline = glyph(rt.alloc(), 32, lean)?;
+    let region = region_of(rt.alloc(), &outline)?;
+    let counts = [region.rows().len(), region.rows().all_items().len()];
+    show_numbers(rt, what, &counts)
+}
+
+/// Prints how many rows and runs the region of a glyph of 8 pixels has, upright and turned.
 pub fn show(rt: &HostRuntime) -> Result<(), Stop> {
-    let alloc = rt.alloc();
-    for lean in [0, 5] {
-        let region = region_of(alloc, &glyph(alloc, 32, lean)?)?;
-        let rows = region.rows().len();
-        let runs = region.rows().all_items().len();
-        println!(rt; "region of 8 pixels, lean {lean}: {rows} rows, {runs} runs")?;
-    }
-    Ok(())
+    show_region(rt, "region, upright", 0)?;
+    show_region(rt, "region, turned", 5)
 }

@@ -14,6 +14,7 @@ mod outlines;
 mod paragraph;
 mod reading;
 mod stop;
+mod telling;
 
 use std::{env, io};
 use stop::Stop;

@@ -2,6 +2,7 @@
 
 ghost use Rattle.std.specs.Prelude.{IfOk, ◌<◌, ◌≤◌};
 ghost use Rattle.std.specs.List.{All};
+ghost use Rattle.ass_num.specs.Limits.{IsRegionWithin, max_sample};
 ghost use Rattle.mask_cover.specs.Sums.{IsPlaceableMask};
 
 use crate::blurring::square;
@@ -9,24 +10,32 @@ use crate::border::region;
 use crate::glyph::leanings;
 use crate::laps::Laps;
 use crate::stop::Stop;
-use ass_num::Mask;
+use crate::telling::{show_numbers, tell};
+use ass_num::{Mask, Region};
 use mask_cover::{cover, sum_of};
 use std::alloc::Global;
 use std::time::Instant;
+
+/// Times the mask of a region.
+fn measure_mask(rt: &HostRuntime, name: &str, region: &Region, turns: u32) -> Result<(), Stop>
+    requires { IsRegionWithin max_sample region.now.top region.now.rows }
+{
+    let mut laps = Laps::new();
+    let mut count = 0;
+    for _ in 0..turns {
+        let began = Instant::now(rt)?;
+        let mask = cover(rt.alloc(), region, 3, 5)?;
+        laps.add(began.elapsed(rt)?);
+        count = mask.bytes().len();
+    }
+    tell(rt, "cover", name, count, "pixels", &laps)
+}
 
 /// Times the mask of a glyph that is so many pixels high.
 pub fn measure_cover(rt: &HostRuntime, pixels: u32, turns: u32) -> Result<(), Stop> {
     for (name, side, lean) in leanings(pixels) {
         let region = region(rt.alloc(), side, lean)?;
-        let mut laps = Laps::new();
-        let mut count = 0;
-        for _ in 0..turns {
-            let began = Instant::now(rt)?;
-            let mask = cover(rt.alloc(), &region, 3, 5)?;
-            laps.add(began.elapsed(rt)?);
-            count = mask.bytes().len();
-        }
-        println!(rt; "cover, {name}: {count} pixels, {laps}")?;
+        measure_mask(rt, name, &region, turns)?;
     }
     Ok(())
 }
@@ -76,17 +85,17 @@ pub fn measure_sum(rt: &HostRuntime, side: u32, turns: u32) -> Result<(), Stop> 
         laps.add(began.elapsed(rt)?);
         count = sum.bytes().len();
     }
-    println!(rt; "sum of ten squares: {count} pixels, {laps}")?;
-    Ok(())
+    tell(rt, "sum", "ten squares", count, "pixels", &laps)
+}
+
+fn show_box(rt: &HostRuntime, what: &str, mask: &Mask) -> Result<(), Stop> {
+    show_numbers(rt, what, &[mask.w() as usize, mask.h() as usize])
 }
 
 /// Prints the box of a glyph's mask, and that of a sum of squares.
 pub fn show(rt: &HostRuntime) -> Result<(), Stop> {
-    let alloc = rt.alloc();
-    let mask = cover(alloc, &region(alloc, 32, 5)?, 3, 5)?;
-    let sum = sum_of(alloc, squares(alloc, 4)?.as_slice())?;
-    let (w, h) = (mask.w(), mask.h());
-    let (sum_w, sum_h) = (sum.w(), sum.h());
-    println!(rt; "masks: {w} by {h}, a sum of {sum_w} by {sum_h}")?;
-    Ok(())
+    let region = region(rt.alloc(), 32, 5)?;
+    show_box(rt, "mask", &cover(rt.alloc(), &region, 3, 5)?)?;
+    let parts = squares(rt.alloc(), 4)?;
+    show_box(rt, "sum of masks", &sum_of(rt.alloc(), parts.as_slice())?)
 }

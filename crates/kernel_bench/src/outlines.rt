@@ -8,6 +8,7 @@ ghost use Rattle.outline_points.specs.Placing.{IsMatrix};
 use crate::laps::Laps;
 use crate::reading::{font_of, repeated};
 use crate::stop::Stop;
+use crate::telling::{show_numbers, tell};
 use ass_num::{Matrix, Path};
 use bdf_font::Font;
 use drawing_path::read_path;
@@ -66,8 +67,7 @@ fn measure_turn(
         laps.add(began.elapsed(rt)?);
         quads = outline.rings.len();
     }
-    println!(rt; "quads, {name}: {quads} quads, {laps}")?;
-    Ok(())
+    tell(rt, "quads", name, quads, "quads", &laps)
 }
 
 /// Times the outline of a glyph of so many rows of 48 set pixels, upright and turned by 30.5 degrees.
@@ -95,8 +95,7 @@ fn measure_path(rt: &HostRuntime, path: &Path, matrix: &Matrix, turns: u32) -> R
         laps.add(began.elapsed(rt)?);
         points = outline.rings.all_items().len();
     }
-    println!(rt; "drawing: {points} points, {laps}")?;
-    Ok(())
+    tell(rt, "drawing", "turned", points, "points", &laps)
 }
 
 /// Times the outline of a drawing of so many curves.
@@ -114,8 +113,6 @@ pub fn show(rt: &HostRuntime) -> Result<(), Stop> {
     }
     let glyph = quads_of(alloc, &font, 0, &matrix(0), false, false, false)?;
     let drawing = outline_of_path(alloc, &path(alloc, 3)?, &matrix(0), 0)?;
-    let quads = glyph.rings.len();
-    let points = drawing.rings.all_items().len();
-    println!(rt; "outlines: {quads} quads, {points} points")?;
-    Ok(())
+    let counts = [glyph.rings.len(), drawing.rings.all_items().len()];
+    show_numbers(rt, "quads of a glyph, points of a drawing", &counts)
 }

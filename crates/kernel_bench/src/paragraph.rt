@@ -6,6 +6,7 @@ ghost use Rattle.line_layout.specs.Breaks.{IsItemWidth, IsParagraph};
 
 use crate::laps::Laps;
 use crate::stop::Stop;
+use crate::telling::{show_numbers, tell};
 use ass_num::{Fix, Mem};
 use line_layout::choose_breaks;
 use std::alloc::Global;
@@ -79,6 +80,8 @@ fn is_paragraph(widths: &[Fix], spaces: &[usize]) -> bool
 
 fn measure_style(
     rt: &HostRuntime,
+    kernel: &str,
+    name: &str,
     paragraph: &Paragraph,
     max: Fix,
     style: u8,
@@ -97,8 +100,7 @@ fn measure_style(
         laps.add(began.elapsed(rt)?);
         breaks = places.len();
     }
-    println!(rt; "breaks, style {style}, maximum {max}: {breaks} breaks, {laps}")?;
-    Ok(())
+    tell(rt, kernel, name, breaks, "breaks", &laps)
 }
 
 /// Times the breaks of a paragraph of so many words, in styles 0 and 3, at a maximum of 0, of 1,920 pixels, of some half
@@ -106,9 +108,14 @@ fn measure_style(
 pub fn measure(rt: &HostRuntime, words: u32, turns: u32) -> Result<(), Stop> {
     let paragraph = paragraph_of(rt.alloc(), words)?;
     let half = i64::from(words) * 1_440;
-    for max in [0, 122_880, half, i64::MAX] {
-        measure_style(rt, &paragraph, max, 0, turns)?;
-        measure_style(rt, &paragraph, max, 3, turns)?;
+    for (name, max) in [
+        ("maximum 0", 0),
+        ("maximum 1,920 pixels", 122_880),
+        ("half of it on a line", half),
+        ("all of it on a line", i64::MAX),
+    ] {
+        measure_style(rt, "breaks, style 0", name, &paragraph, max, 0, turns)?;
+        measure_style(rt, "breaks, style 3", name, &paragraph, max, 3, turns)?;
     }
     Ok(())
 }
@@ -122,7 +129,7 @@ pub fn show(rt: &HostRuntime) -> Result<(), Stop> {
     }
     for style in [0, 1, 2, 3] {
         let places = choose_breaks(rt.alloc(), &widths, &spaces, 320, style)?;
-        println!(rt; "breaks in style {style}: {places:?}")?;
+        show_numbers(rt, "breaks", places.as_slice())?;
     }
     Ok(())
 }

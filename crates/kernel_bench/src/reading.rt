@@ -5,6 +5,7 @@ ghost use Rattle.bdf_font.specs.Ranges.{IsFont};
 
 use crate::laps::Laps;
 use crate::stop::Stop;
+use crate::telling::{show_numbers, tell};
 use ass_script::{Script, read_script};
 use bdf_font::{Font, read_font};
 use bstr::ByteSlice;
@@ -60,9 +61,7 @@ fn measure_walk(rt: &HostRuntime, bytes: &[u8], turns: u32) -> Result<(), Stop> 
         sum = walked(bytes);
         laps.add(began.elapsed(rt)?);
     }
-    let len = bytes.len();
-    println!(rt; "walk over the lines of {len} bytes, {sum}: {laps}")?;
-    Ok(())
+    tell(rt, "walk", "lines", sum, "as their lengths' sum", &laps)
 }
 
 /// The font of a text.
@@ -98,8 +97,7 @@ pub fn measure_font(rt: &HostRuntime, glyphs: u32, turns: u32) -> Result<(), Sto
         laps.add(began.elapsed(rt)?);
         count = font.glyphs().len();
     }
-    println!(rt; "font of {count} glyphs: {laps}")?;
-    Ok(())
+    tell(rt, "font", "glyphs", count, "read", &laps)
 }
 
 /// Times reading a script of so many plain lines, and a walk over them.
@@ -116,12 +114,12 @@ pub fn measure_script(rt: &HostRuntime, lines: u32, turns: u32) -> Result<(), St
         laps.add(began.elapsed(rt)?);
         count = script.line_count();
     }
-    println!(rt; "script of {count} lines: {laps}")?;
-    Ok(())
+    tell(rt, "script", "lines", count, "read", &laps)
 }
 
 fn measure_piece(
     rt: &HostRuntime,
+    name: &str,
     piece: &str,
     close: &str,
     count: u32,
@@ -137,9 +135,7 @@ fn measure_piece(
         laps.add(began.elapsed(rt)?);
         items = list.len();
     }
-    let len = text.len();
-    println!(rt; "text of {len} bytes, of {piece}, closed by {close:?}: {items} items, {laps}")?;
-    Ok(())
+    tell(rt, name, piece, items, "items", &laps)
 }
 
 /// Times reading texts of so many bytes that repeat ten bytes behind a `{`, which a `}` closes or nothing does.
@@ -153,8 +149,8 @@ pub fn measure_text(rt: &HostRuntime, bytes: u32, turns: u32) -> Result<(), Stop
         "\\clip(m 0,",
         "\\b1\\i1\\u1x",
     ] {
-        measure_piece(rt, piece, "", count, turns)?;
-        measure_piece(rt, piece, "}", count, turns)?;
+        measure_piece(rt, "text, open", piece, "", count, turns)?;
+        measure_piece(rt, "text, closed", piece, "}", count, turns)?;
     }
     Ok(())
 }
@@ -168,6 +164,5 @@ pub fn show(rt: &HostRuntime) -> Result<(), Stop> {
     let script = repeated(alloc, "[Events]\n", "Dialogue: x\n", 3)?;
     let lines = script_of(alloc, script.as_bytes())?.line_count();
     let items = read_text(alloc, "{\\b1}ab")?.len();
-    println!(rt; "read: {glyphs} glyphs, {lines} lines, {items} items")?;
-    Ok(())
+    show_numbers(rt, "glyphs, lines, items", &[glyphs, lines, items])
 }

@@ -5,8 +5,6 @@ mod composites;
 mod masks;
 mod outlines;
 mod paths;
-#[cfg(test)]
-mod tests;
 mod words;
 
 pub use composites::add_composite_numbers;

@@ -24,12 +24,12 @@ const MAX_BYTES: usize = 134_217_728;
 /// The most bytes that a font may have.
 const MAX_FONT_BYTES: usize = 67_108_864;
 
-/// The script of a head and a Dialogue line that ends so, from its left margin on.
-pub fn script_of(alloc: Global, head: &str, tail: &str) -> io::Result<Script>
+/// The script of a head and a Dialogue line that begins at 0, has its end at so many seconds, and ends so, from its left margin on.
+pub fn script_of(alloc: Global, head: &str, seconds: &str, tail: &str) -> io::Result<Script>
     ensures { IfOk result IsScript }
 {
     let text = format!(in alloc;
-        "{head}[Events]\nDialogue: 0,0:00:00.00,0:00:10.00,Default,,{tail}\n"
+        "{head}[Events]\nDialogue: 0,0:00:00.00,0:00:{seconds}.00,Default,,{tail}\n"
     )?;
     match read_script(alloc, text.as_bytes()) {
         Ok(script) => Ok(script),
@@ -52,14 +52,14 @@ pub fn event_of(alloc: Global, script: &Script) -> io::Result<Event>
     }
 }
 
-/// What an event shows at its start.
-pub fn view_of(alloc: Global, script: &Script, event: &Event) -> io::Result<EventView>
+/// What an event shows at an instant.
+pub fn view_of(alloc: Global, script: &Script, event: &Event, t: u16) -> io::Result<EventView>
     requires script { IsScript script.now }
     requires event { IsEvent event.now }
     requires few { length event.now.text ≤ max_text_bytes }
     ensures { IfOk result IsView }
 {
-    match states_at(alloc, script, event, 0) {
+    match states_at(alloc, script, event, i64::from(t)) {
         Ok(view) => Ok(view),
         Err(_) => Err(unreadable()),
     }
@@ -81,11 +81,14 @@ fn font_of(alloc: Global, text: &str) -> io::Result<Font>
 pub fn fonts_of(alloc: Global, first: &str, second: &str) -> io::Result<FontSet>
     ensures { IfOk result (λ set. IsLayoutFontSet set.fonts) }
 {
-    let fonts = [font_of(alloc, first)?, font_of(alloc, second)?];
-    match Vec::from_array(alloc, fonts) {
-        Ok(fonts) => Ok(FontSet {
-            fonts: Items::from_vec(fonts),
-        }),
-        Err(_) => Err(unreadable()),
-    }
+    let mut fonts = Items::new(alloc);
+    let first = font_of(alloc, first)?;
+    let second = font_of(alloc, second)?;
+    let Ok(()) = fonts.push(first) else {
+        return Err(unreadable());
+    };
+    let Ok(()) = fonts.push(second) else {
+        return Err(unreadable());
+    };
+    Ok(FontSet { fonts })
 }

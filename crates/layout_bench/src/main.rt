@@ -1,6 +1,7 @@
-//! Lays out events. Without words it prints the layouts of a few; with the words `GLYPHS BEFORE PIECE AFTER COUNT TURNS` it lays out a
-//! text of so many pieces between what stands before and after them, in a font of so many glyphs, and prints the least time of so many
-//! turns.
+//! Views and layouts of texts. Without words it reads fonts, heads of scripts and rows, and prints what the rows come to. With the
+//! words `BEFORE PIECE AFTER COUNT TURNS` it makes a text of so many pieces between what stands before and after them, and prints how
+//! many items and states its view has at half of its second, and, if there are turns, the least time of so many views. With
+//! `GLYPHS` before these words it lays the text out, in a font of so many glyphs, and prints the lines and the least time.
 #![tactic(auto)]
 
 mod inputs;
@@ -9,7 +10,7 @@ mod times;
 
 use rows::show_all;
 use std::{env, io};
-use times::measure;
+use times::{measure_layouts, measure_views};
 
 fn unreadable() -> io::Error {
     io::Error::from(io::ErrorKind::InvalidData)
@@ -31,46 +32,41 @@ fn number_of(word: &String) -> io::Result<u32> {
     }
 }
 
-/// The end of an event's line, from its left margin on: its text is a piece so many times between what stands before and after it.
-fn repeated(
-    rt: &HostRuntime,
-    before: &str,
-    piece: &str,
-    after: &str,
-    count: u32,
-) -> io::Result<String> {
+/// A piece so many times, between what stands before and after it.
+fn repeated(rt: &HostRuntime, words: [&String; 3], count: u32) -> io::Result<String> {
+    let [before, piece, after] = words;
     let mut text = String::from_str(rt.alloc(), "0,0,0,,")?;
-    text.push_str(before)?;
+    text.push_str(before.as_str())?;
     for _ in 0..count {
-        text.push_str(piece)?;
+        text.push_str(piece.as_str())?;
     }
-    text.push_str(after)?;
+    text.push_str(after.as_str())?;
     Ok(text)
 }
 
-/// Times the layout of a text of so many pieces.
-fn measure_pieces(
+fn views(rt: &HostRuntime, words: [&String; 3], count: &String, turns: &String) -> io::Result<()> {
+    let text = repeated(rt, words, number_of(count)?)?;
+    measure_views(rt, text.as_str(), number_of(turns)?)
+}
+
+fn layouts(
     rt: &HostRuntime,
     glyphs: &String,
-    text: [&str; 3],
+    words: [&String; 3],
     count: &String,
     turns: &String,
 ) -> io::Result<()> {
-    let glyphs = number_of(glyphs)?;
-    let count = number_of(count)?;
-    let turns = number_of(turns)?;
-    let [before, piece, after] = text;
-    let text = repeated(rt, before, piece, after, count)?;
-    measure(rt, glyphs, text.as_str(), turns)
+    let text = repeated(rt, words, number_of(count)?)?;
+    measure_layouts(rt, number_of(glyphs)?, text.as_str(), number_of(turns)?)
 }
 
 fn main(rt: HostRuntime) -> io::Result<()> {
     let words = words_of(&rt)?;
     match words.as_slice() {
         [] => show_all(&rt),
+        [before, piece, after, count, turns] => views(&rt, [before, piece, after], count, turns),
         [glyphs, before, piece, after, count, turns] => {
-            let text = [before.as_str(), piece.as_str(), after.as_str()];
-            measure_pieces(&rt, glyphs, text, count, turns)
+            layouts(&rt, glyphs, [before, piece, after], count, turns)
         }
         _ => Err(unreadable()),
     }

@@ -1,6 +1,7 @@
-//! The layouts of a few events, of which `stdout` has what the rules give.
+//! The layouts of a few events, which `stdin` has, and of which `stdout` has what the rules give.
 
-ghost use Rattle.ass_num.specs.Limits.{IsFrameSize};
+ghost use Rattle.std.specs.Prelude.{◌≤◌, length};
+ghost use Rattle.ass_num.specs.Limits.{IsFrameSize, max_frame_side, max_text_bytes};
 ghost use Rattle.ass_script.specs.Ranges.{IsScript, IsScriptHeader};
 ghost use Rattle.ass_events.specs.Ranges.{IsEvent};
 ghost use Rattle.override_tags.specs.Views.{IsView};
@@ -9,65 +10,13 @@ ghost use Rattle.text_layout.specs.Fonts.{IsLayoutFontSet};
 use crate::inputs::{event_of, fonts_of, script_of, view_of};
 use crate::unreadable;
 use ass_events::Event;
-use ass_num::Size;
+use ass_num::{Matrix, Size};
 use ass_script::Script;
 use bdf_font::FontSet;
 use override_tags::EventView;
 use std::alloc::Global;
 use std::io;
 use text_layout::{Laid, Line, Placed, anchor, block_corner, clip_matrix, layout};
-
-/// A script of 4 by 3 pixels, whose style has one pixel of the font in one of the script.
-const DOT_HEAD: &str = "[Script Info]\nPlayResX: 4\nPlayResY: 3\nWrapStyle: 2\n\
-    [V4+ Styles]\nStyle: Default,dot,1,&H00FFFFFF,&H000000FF,&H00000000,&H00000000,0,0,0,0,100,100,0,0,1,0,0,7,0,0,0,1\n";
-
-/// A font of one pixel.
-const DOT_FONT: &str =
-    "STARTFONT 2.1\nFONT dot\nSTARTPROPERTIES 2\nFONT_ASCENT 1\nFONT_DESCENT 0\nENDPROPERTIES\n\
-    STARTCHAR x\nENCODING 120\nDWIDTH 1 0\nBBX 1 1 0 0\nBITMAP\n80\nENDCHAR\nENDFONT\n";
-
-/// A script of 48 by 32 pixels, whose style has margins of 2, 3 and 1 pixels, and one pixel of `small` in one of the script.
-const HEAD: &str = "[Script Info]\nPlayResX: 48\nPlayResY: 32\n\
-    [V4+ Styles]\nStyle: Default,small,5,&H00FFFFFF,&H000000FF,&H00000000,&H00000000,0,0,0,0,100,100,0,0,1,0,0,2,2,3,1,1\n";
-
-/// A font of four pixels above and one below the baseline, with a glyph for all characters that it lacks. The last glyph is that of
-/// U+0301, which has no width.
-const SMALL_FONT: &str =
-    "STARTFONT 2.1\nFONT small\nSTARTPROPERTIES 3\nFONT_ASCENT 4\nFONT_DESCENT 1\nDEFAULT_CHAR 63\nENDPROPERTIES\n\
-    STARTCHAR space\nENCODING 32\nDWIDTH 2 0\nBBX 0 0 0 0\nBITMAP\nENDCHAR\n\
-    STARTCHAR question\nENCODING 63\nDWIDTH 5 0\nBBX 0 0 0 0\nBITMAP\nENDCHAR\n\
-    STARTCHAR A\nENCODING 65\nDWIDTH 4 0\nBBX 0 0 0 0\nBITMAP\nENDCHAR\n\
-    STARTCHAR e\nENCODING 101\nDWIDTH 3 0\nBBX 0 0 0 0\nBITMAP\nENDCHAR\n\
-    STARTCHAR x\nENCODING 120\nDWIDTH 3 0\nBBX 0 0 0 0\nBITMAP\nENDCHAR\n\
-    STARTCHAR acute\nENCODING 769\nDWIDTH 0 0\nBBX 0 0 0 0\nBITMAP\nENDCHAR\n\
-    ENDFONT\n";
-
-/// Events of that script, from their left margin on: texts with breaks and spaces, texts without anything in their lines, clusters,
-/// drawings, wrap styles, margins, fonts without a character, scales, and a point.
-const TAILS: [&str; 22] = [
-    "0,0,0,,x x\\Nx",
-    "0,0,0,,",
-    "0,0,0,,\\N\\N",
-    "0,0,0,,{\\fs10}A\\N{\\fs5}\\N{\\fs15}",
-    "0,0,0,,A ",
-    "0,0,0,,AAAAAAAA AAAAAA",
-    "0,0,0,,AAAAAAA\\hAAAAAA",
-    "0,0,0,,AAAAAAA\\nAAAAAA",
-    "0,0,0,,{\\q2}AAA\\nAAA",
-    "0,0,0,,{\\fsp1}e\u{301}A",
-    "0,0,0,,A{\\p1}m 0 0 l 6 0 6 7 0 7{\\p0}A",
-    "0,0,0,,{\\q0}AAAA A AAAAA AAA AA AA",
-    "0,0,0,,{\\q1}AAAA A AAAAA AAA AA AA",
-    "0,0,0,,{\\q2}AAAA A AAAAA AAA AA AA",
-    "0,0,0,,{\\q3}AAAA A AAAAA AAA AA AA",
-    "20,6,8,,A A A A A",
-    "0,0,0,,z{\\fndot\\fs1}zx",
-    "0,0,0,,{\\fscx0}A{\\fscx-50}A{\\fscx200}A{\\fscy0}\\NA",
-    "0,0,0,,{\\fscy-50}A",
-    "0,0,0,,{\\fsp-9}A{\\fsp0}A",
-    "0,0,0,,{\\pos(10,20)}A",
-    "0,0,0,,{\\fs10}A{\\fs5}A",
-];
 
 /// The items of a layout: where the pen stands before each, and how far each advances it.
 fn pens_of(alloc: Global, placed: &[Placed]) -> io::Result<String> {
@@ -138,47 +87,151 @@ fn show_event(
     }
 }
 
-/// Prints the layout of an event that ends so, in a script of this head.
-fn show(rt: &HostRuntime, head: &str, tail: &str, size: &Size) -> io::Result<()>
-    requires { IsFrameSize size.now }
+/// A number of a row, at most the longest side of a frame.
+fn number(word: &str) -> u32
+    ensures { result ≤ max_frame_side }
 {
-    let alloc = rt.alloc();
-    println!(rt; "{tail} at {} by {}", size.w, size.h)?;
-    let script = script_of(alloc, head, tail)?;
-    let event = event_of(alloc, &script)?;
-    let view = view_of(alloc, &script, &event)?;
-    let fonts = fonts_of(alloc, SMALL_FONT, DOT_FONT)?;
-    show_event(rt, &script, &fonts, &event, &view, size)
+    word.parse::<u32>().unwrap_or(0).min(4_096)
 }
 
-fn show_tails(rt: &HostRuntime) -> io::Result<()> {
-    for tail in TAILS {
-        show(rt, HEAD, tail, &Size { w: 48, h: 32 })?;
-    }
-    Ok(())
+/// Prints the layout of a script's event.
+fn show_of_script(
+    rt: &HostRuntime,
+    script: &Script,
+    fonts: &FontSet,
+    event: &Event,
+    size: &Size,
+) -> io::Result<()>
+    requires script { IsScript script.now }
+    requires fonts { IsLayoutFontSet fonts.now.fonts }
+    requires event { IsEvent event.now }
+    requires few { length event.now.text ≤ max_text_bytes }
+    requires size { IsFrameSize size.now }
+{
+    let view = view_of(rt.alloc(), script, event, 0)?;
+    show_event(rt, script, fonts, event, &view, size)
 }
 
-/// Prints a text in each alignment, at a size at which halves of odd lengths are rounded.
-fn show_aligned(rt: &HostRuntime) -> io::Result<()> {
-    for align in 1..10_u32 {
-        let tail = format!(in rt.alloc(); "1,3,1,,{{\\an{align}\\fscy50}}e\\N\\NAAA")?;
-        show(rt, HEAD, tail.as_str(), &Size { w: 43, h: 31 })?;
-    }
-    Ok(())
+/// Prints the layout of a script's first line.
+fn show_script(rt: &HostRuntime, script: &Script, fonts: &FontSet, size: &Size) -> io::Result<()>
+    requires script { IsScript script.now }
+    requires fonts { IsLayoutFontSet fonts.now.fonts }
+    requires size { IsFrameSize size.now }
+{
+    let event = event_of(rt.alloc(), script)?;
+    show_of_script(rt, script, fonts, &event, size)
 }
 
-/// Prints the matrix of a clip's drawing.
-fn show_clip(rt: &HostRuntime, scale: u32) -> io::Result<()> {
-    let script = script_of(rt.alloc(), HEAD, "0,0,0,,")?;
-    let m = clip_matrix(&script.header(), scale.min(30), &Size { w: 96, h: 32 });
+fn show_title(rt: &HostRuntime, tail: &str, size: &Size) -> io::Result<()> {
+    println!(rt; "{tail} at {} by {}", size.w, size.h)
+}
+
+/// Prints the layout of an event that ends so, in a script of this head and a frame of this size.
+fn show(rt: &HostRuntime, fonts: &FontSet, head: &str, tail: &str, size: &Size) -> io::Result<()>
+    requires fonts { IsLayoutFontSet fonts.now.fonts }
+    requires size { IsFrameSize size.now }
+{
+    show_title(rt, tail, size)?;
+    let script = script_of(rt.alloc(), head, "10", tail)?;
+    show_script(rt, &script, fonts, size)
+}
+
+/// The matrix of a clip's drawing.
+fn clip(alloc: Global, head: &str, scale: u32) -> io::Result<Matrix> {
+    let script = script_of(alloc, head, "10", "0,0,0,,")?;
+    Ok(clip_matrix(&script.header(), scale.min(30), &Size { w: 96, h: 32 }))
+}
+
+fn show_clip(rt: &HostRuntime, head: &str, scale: u32) -> io::Result<()> {
+    let m = clip(rt.alloc(), head, scale)?;
     show_numbers(rt, "clip", &[i64::from(scale), m.ux, m.uy])
 }
 
-/// Prints all rows.
+/// How many items and states an event's view has after half of a second.
+fn view_counts(alloc: Global, script: &Script, event: &Event) -> io::Result<[usize; 2]>
+    requires script { IsScript script.now }
+    requires event { IsEvent event.now }
+    requires few { length event.now.text ≤ max_text_bytes }
+{
+    let view = view_of(alloc, script, event, 500)?;
+    Ok([view.items.as_slice().len(), view.states.as_slice().len()])
+}
+
+/// The same of a script's first line.
+fn counts_of(alloc: Global, script: &Script) -> io::Result<[usize; 2]>
+    requires { IsScript script.now }
+{
+    let event = event_of(alloc, script)?;
+    view_counts(alloc, script, &event)
+}
+
+/// Prints how many items and states the view of a text has at half of its second.
+pub fn show_view(rt: &HostRuntime, tail: &str) -> io::Result<()> {
+    let script = script_of(rt.alloc(), "", "01", tail)?;
+    let [items, states] = counts_of(rt.alloc(), &script)?;
+    println!(rt; "{items} items, {states} states")
+}
+
+/// Prints a row: the layout of what ends a line, in a frame of this width and height; or the matrix of a clip of this scale, where the
+/// height is missing; or the view of what ends a line, where the width is missing too.
+fn show_row(rt: &HostRuntime, fonts: &FontSet, head: &str, row: &str) -> io::Result<()>
+    requires { IsLayoutFontSet fonts.now.fonts }
+{
+    let (numbers, tail) = row.split_once(' ').ok_or(unreadable())?;
+    match numbers.split_once('x') {
+        Some((w, h)) => {
+            let size = Size {
+                w: number(w),
+                h: number(h),
+            };
+            show(rt, fonts, head, tail, &size)
+        }
+        None if numbers == "clip" => show_clip(rt, head, number(tail)),
+        None => show_view(rt, tail),
+    }
+}
+
+/// Prints rows of scripts with this head.
+fn show_rows(rt: &HostRuntime, fonts: &FontSet, head: &str, rows: &str) -> io::Result<()>
+    requires { IsLayoutFontSet fonts.now.fonts }
+{
+    for row in rows.lines() {
+        show_row(rt, fonts, head, row)?;
+    }
+    Ok(())
+}
+
+/// Prints the rows behind two heads.
+fn show_parts(rt: &HostRuntime, fonts: &FontSet, parts: [&str; 4]) -> io::Result<()>
+    requires { IsLayoutFontSet fonts.now.fonts }
+{
+    let [head, rows, other_head, other_rows] = parts;
+    show_rows(rt, fonts, head, rows)?;
+    show_rows(rt, fonts, other_head, other_rows)
+}
+
+/// Reads two fonts and two heads of scripts with their rows, each part behind a line of two bars.
+fn parts_of(text: &str) -> [&str; 6] {
+    let mut parts = text.split("==\n");
+    [
+        parts.next().unwrap_or(""),
+        parts.next().unwrap_or(""),
+        parts.next().unwrap_or(""),
+        parts.next().unwrap_or(""),
+        parts.next().unwrap_or(""),
+        parts.next().unwrap_or(""),
+    ]
+}
+
+/// Prints all rows of a text.
+fn show_text(rt: &HostRuntime, text: &str) -> io::Result<()> {
+    let [first, second, head, rows, other_head, other_rows] = parts_of(text);
+    let fonts = fonts_of(rt.alloc(), first, second)?;
+    show_parts(rt, &fonts, [head, rows, other_head, other_rows])
+}
+
+/// Reads fonts, heads and rows, and prints all rows.
 pub fn show_all(rt: &HostRuntime) -> io::Result<()> {
-    show(rt, DOT_HEAD, "0,0,0,,x", &Size { w: 4, h: 3 })?;
-    show_tails(rt)?;
-    show_aligned(rt)?;
-    show_clip(rt, 1)?;
-    show_clip(rt, 4)
+    let text = io::read_to_string(rt.alloc(), rt.reader())?;
+    show_text(rt, text.as_str())
 }

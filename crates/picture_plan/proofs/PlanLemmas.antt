@@ -10,7 +10,8 @@ use Rattle.event_places.specs.PlacedEvents.{ArePlacedEvents}
 use Rattle.event_places.specs.Shifts.{IsMovedBy}
 use Rattle.event_places.specs.declared.placed.PlacedEvent.{PlacedEvent}
 use Rattle.mask_keys.specs.declared.plans.Draw.{Draw}
-use Rattle.picture_plan.specs.Pictures.{AddsMovedDraws, AreDraws, AreDrawsInOrder, AreEventDraws, None, Next}
+use Rattle.event_draws.specs.MovedDraws.{AddsMovedDraws}
+use Rattle.picture_plan.specs.Pictures.{AreDraws, AreDrawsInOrder, AreEventDraws, None, Next}
 use Rattle.picture_plan.specs.ShownEvents.{AreByLayer, AreShownPlaces, placed_event, event_shown, no_placed}
 use Rattle.picture_plan.specs.declared.shown.ShownEvent.{ShownEvent}
 use Rattle.picture_plan.proofs.PlacedLemmas.{are_places, near_placed, placed_moved}

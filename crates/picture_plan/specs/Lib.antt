@@ -1,11 +1,3 @@
-pub mod Limits
-pub mod Stages
-pub mod Items
-pub mod Marks
-pub mod Runs
-pub mod Clips
-pub mod Draws
-pub mod EventDraws
 pub mod Pictures
 pub mod ShownEvents
 pub mod Alike

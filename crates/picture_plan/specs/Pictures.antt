@@ -11,12 +11,7 @@ use Rattle.blend.specs.Canvases.{CanvasValue}
 use Rattle.event_places.specs.Shifts.{IsMovedBy}
 use Rattle.mask_keys.specs.declared.plans.Draw.{Draw}
 use Rattle.mask_model.specs.Pictures.{picture}
-use Rattle.override_tags.specs.declared.view.EventView.{EventView}
-use Rattle.tag_state.specs.Views.{IsViewOf}
-use Rattle.text_layout.specs.Layouts.{IsLaid}
-use Rattle.text_layout.specs.declared.laid.Laid.{Laid}
-use Rattle.picture_plan.specs.EventDraws.{event_draws}
-use Rattle.picture_plan.specs.Stages.{stage_at}
+use Rattle.event_draws.specs.MovedDraws.{AreMovedDraws}
 
 -- e is drawn before f: in a lower layer, or in the same one by ReadOrder.
 abbrev pub IsDrawnBefore : Event → Event → Type 0
@@ -26,20 +21,6 @@ IsDrawnBefore e f = (e.layer <ℤ f.layer) ⊎ ((e.layer ≡ f.layer) × (e.orde
 pub record AreShown (events : List Event) (t : ℤ) (shown : List Event) : Type 0 where
   pub members : (e : Event) → Contains shown e ↔ (Contains events e × IsShownAt (span_of e) t)
   pub sorted : Pairwise IsDrawnBefore shown
-
--- These are the draws of an event at t that is moved down by a shift: it is laid out as it shows then.
-pub record AreMovedDraws (script : ScriptValue) (fonts : List FontValue) (event : Event) (t : ℤ) (size : Size) (shift : ℤ) (draws : List Draw) : Type 0 where
-  pub view : EventView
-  pub shows : IsViewOf script event t view
-  pub laid : Laid
-  pub laid_out : IsLaid script fonts event view size laid
-  pub value : draws ≡ event_draws (stage_at script event t size view laid shift) fonts view laid
-
--- They stand behind those that there were before.
-pub record AddsMovedDraws (script : ScriptValue) (fonts : List FontValue) (event : Event) (t : ℤ) (size : Size) (shift : ℤ) (old new : List Draw) : Type 0 where
-  pub added : List Draw
-  pub whole : new ≡ old ++ added
-  pub drawn : AreMovedDraws script fonts event t size shift added
 
 -- These are the draws of one of the events at t, which stands where it is moved to.
 pub record AreEventDraws (script : ScriptValue) (fonts : List FontValue) (events : List Event) (t : ℤ) (size : Size) (event : Event) (draws : List Draw) : Type 0 where

@@ -4,9 +4,6 @@ ghost use Rattle.std.specs.Prelude.{List};
 ghost use Rattle.ass_script.specs.Scripts.{ScriptValue};
 ghost use Rattle.bdf_font.specs.Fonts.{FontValue};
 ghost use Rattle.picture_plan.specs.Pictures.{DrawsOfASet, DrawsOfNearEvents, PicturesOfASet, PicturesOfNearEvents};
-ghost use Rattle.override_tags.specs.declared.view.EventView.{EventView};
-ghost use Rattle.text_layout.specs.declared.laid.Placed.{Placed};
-ghost use Rattle.picture_plan.specs.Runs.{AreRunsOf, runs_of};
 
 /// What a set of events draws doesn't depend on the order in which they came, and so the picture doesn't.
 pub fn order_of_arrival()
@@ -18,9 +15,4 @@ pub fn order_of_arrival()
 pub fn near_events_draw()
     ensures draws { (script : ScriptValue) (fonts : List FontValue) → DrawsOfNearEvents script fonts }
     ensures picture { (script : ScriptValue) (fonts : List FontValue) → PicturesOfNearEvents script fonts }
-{}
-
-/// The runs of a line are its items, one run after the other, and none could go on.
-pub fn runs_are_maximal()
-    ensures { (view : EventView) (items : List Placed) → AreRunsOf view items (runs_of view items) }
 {}

@@ -12,7 +12,8 @@ ghost use Rattle.event_places.specs.PlacedEvents.{ArePlacedEvents, IsOwnLayout};
 ghost use Rattle.mask_keys.specs.Keys.{IsValidPlan};
 ghost use Rattle.mask_model.specs.Outlines.{glyph_counts};
 ghost use Rattle.text_layout.specs.Fonts.{IsLayoutFontSet};
-ghost use Rattle.picture_plan.specs.Pictures.{AddsMovedDraws, AreDraws};
+ghost use Rattle.event_draws.specs.MovedDraws.{AddsMovedDraws};
+ghost use Rattle.picture_plan.specs.Pictures.{AreDraws};
 ghost use Rattle.event_places.specs.declared.placed.PlacedEvent.{PlacedEvent};
 ghost use Rattle.picture_plan.specs.ShownEvents.{event_shown, no_placed, placed_event};
 

@@ -89,11 +89,14 @@ fn font_of(alloc: Global, text: &str) -> io::Result<Font>
 pub fn fonts_of(alloc: Global, first: &str, second: &str) -> io::Result<FontSet>
     ensures { IfOk result (λ set. IsLayoutFontSet set.fonts) }
 {
-    let fonts = [font_of(alloc, first)?, font_of(alloc, second)?];
-    match Vec::from_array(alloc, fonts) {
-        Ok(fonts) => Ok(FontSet {
-            fonts: Items::from_vec(fonts),
-        }),
-        Err(_) => Err(unreadable()),
-    }
+    let mut fonts = Items::new(alloc);
+    let first = font_of(alloc, first)?;
+    let second = font_of(alloc, second)?;
+    let Ok(()) = fonts.push(first) else {
+        return Err(unreadable());
+    };
+    let Ok(()) = fonts.push(second) else {
+        return Err(unreadable());
+    };
+    Ok(FontSet { fonts })
 }

@@ -13,7 +13,7 @@ use Rattle.clap.proofs.WalkLemmas.{walk_stopped}
 use Rattle.play_words.specs.Asked.{first_bad, job_for, unless_bad}
 use Rattle.play_words.specs.Commands.{command_name, commands}
 use Rattle.play_words.specs.Grammar.{is_taken, words_app}
-use Rattle.play_words.specs.Words.{FirstWordIsCommand, command_named, command_of, job_in, reading_in}
+use Rattle.play_words.specs.Words.{FirstWordIsCommand, command_named, command_asked, job_in, reading_in}
 use Rattle.play_words.specs.declared.argument.Argument.{Argument}
 use Rattle.play_words.specs.declared.command.Command.{Command}
 use Rattle.play_words.specs.declared.command.Command.TheVariants as command
@@ -27,9 +27,9 @@ use Rattle.play_words.proofs.WordsLemmas.{none_is_empty}
 
 -- a job that is read is of the command with this name
 abbrev IsOf : List ℕ → Result Job WordsFault → Type 0
-IsOf name reading = IfOk reading (λ job. command_name (command_of job) ≡ name)
+IsOf name reading = IfOk reading (λ job. command_name (command_asked job) ≡ name)
 
-of_command : (rows : List Row) (c : Command) → command_of (job_for rows c) ≡ c
+of_command : (rows : List Row) (c : Command) → command_asked (job_for rows c) ≡ c
 of_command rows command.Check = refl
 of_command rows command.Frame = refl
 of_command rows command.Play = refl
@@ -45,7 +45,7 @@ found_is p (x ∷ xs) = cases (p x) refl (found_is p xs)
     cases true e rest = e
     cases false e rest = rest
 
-unless_of : (name : List ℕ) (bad : Option Argument) (job : Job) → command_name (command_of job) ≡ name → IsOf name (unless_bad bad job)
+unless_of : (name : List ℕ) (bad : Option Argument) (job : Job) → command_name (command_asked job) ≡ name → IsOf name (unless_bad bad job)
 unless_of name None job h = h
 unless_of name (Some argument) job h = tt
 
@@ -190,11 +190,11 @@ stop word rest e =
     first_walk word rest
     (met_stop (subcommand_met names idle word) word rest (name_met word (find (answers_to word) names) (named word names names_alone)) (first_turn word rest (first_of_two (walk_fault whole.top names start (word ∷ rest)) _ e)))
 
-at_first : (word : Text) (rest : List Text) (reading : Result Job WordsFault) → IsOf word reading → IfOk reading (λ job. slice_get (word ∷ rest) 0 ≡ Some (command_name (command_of job)))
+at_first : (word : Text) (rest : List Text) (reading : Result Job WordsFault) → IsOf word reading → IfOk reading (λ job. slice_get (word ∷ rest) 0 ≡ Some (command_name (command_asked job)))
 at_first word rest (Ok job) h = ap (λ n. Some n) (sym h)
 at_first word rest (Err fault) h = tt
 
-taken : (words : List Text) → is_taken words ≡ true → IfOk (job_in (subcommand_of words_app words)) (λ job. slice_get words 0 ≡ Some (command_name (command_of job)))
+taken : (words : List Text) → is_taken words ≡ true → IfOk (job_in (subcommand_of words_app words)) (λ job. slice_get words 0 ≡ Some (command_name (command_asked job)))
 taken [] e = tt
 taken (word ∷ rest) e =
     at_first word rest (job_in (subcommand_of words_app (word ∷ rest))) (entered_of word (stop_after [] names (word ∷ rest)) (stop word rest (none_is_empty _ e)))
@@ -202,6 +202,6 @@ taken (word ∷ rest) e =
 pub first_word : FirstWordIsCommand
 first_word words = cases (is_taken words) refl
   where
-    cases : (b : Bool) → is_taken words ≡ b → IfOk (cond b (job_in (subcommand_of words_app words)) (Err Usage)) (λ job. slice_get words 0 ≡ Some (command_name (command_of job)))
+    cases : (b : Bool) → is_taken words ≡ b → IfOk (cond b (job_in (subcommand_of words_app words)) (Err Usage)) (λ job. slice_get words 0 ≡ Some (command_name (command_asked job)))
     cases true e = taken words e
     cases false e = tt

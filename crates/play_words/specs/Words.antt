@@ -49,14 +49,14 @@ abbrev pub UsageIsOfGrammar : Type 0
 UsageIsOfGrammar = (words : List (List ℕ)) → (job_of words ≡ Err Usage) ↔ (is_taken words ≡ false)
 
 -- the command that asks for the job
-abbrev pub command_of : Job → Command
-command_of (Check script fonts) = command.Check
-command_of (Frame at size budget script fonts) = command.Frame
-command_of (Play play script fonts) = command.Play
-command_of (Selftest seed events workers) = command.Selftest
-command_of (Changes from to step size budget script fonts) = command.Changes
-command_of (Write later earlier script) = command.Write
+abbrev pub command_asked : Job → Command
+command_asked (Check script fonts) = command.Check
+command_asked (Frame at size budget script fonts) = command.Frame
+command_asked (Play play script fonts) = command.Play
+command_asked (Selftest seed events workers) = command.Selftest
+command_asked (Changes from to step size budget script fonts) = command.Changes
+command_asked (Write later earlier script) = command.Write
 
 -- Words that ask for a job begin with the word that names its command.
 abbrev pub FirstWordIsCommand : Type 0
-FirstWordIsCommand = (words : List (List ℕ)) → IfOk (job_of words) (λ job. slice_get words 0 ≡ Some (command_name (command_of job)))
+FirstWordIsCommand = (words : List (List ℕ)) → IfOk (job_of words) (λ job. slice_get words 0 ≡ Some (command_name (command_asked job)))

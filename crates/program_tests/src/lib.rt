@@ -1,11 +1,13 @@
-//! Tests of the program's parts: words, plain pictures, reports.
+//! Tests of the program's parts, and of whole runs: shelves and sinks, words, pictures, reports.
 #![tactic(auto)]
 
 #[cfg(test)]
-mod plain_forms;
+mod outside;
 #[cfg(test)]
-mod plain_pictures;
+mod pictures;
 #[cfg(test)]
 mod reports;
+#[cfg(test)]
+mod runs;
 #[cfg(test)]
 mod words;

@@ -18,45 +18,40 @@ const PLAY: &str =
 a.ass b.bdf --times 2 --ahead 11 --bands 3 --budget=13 --mode live c.bdf -- --at";
 
 /// Words, and what they are refused for: `usage`, an argument, or nothing.
-const READINGS: [(&str, &str); 34] = [
-    ("", "usage"),
-    ("help", "usage"),
-    ("--version", "usage"),
-    ("check --help", "usage"),
-    ("Check a.ass f.bdf", "usage"),
-    ("check a.ass", "usage"),
-    ("check a.ass f.bdf g.bdf", ""),
-    ("check - -", ""),
-    ("check -a a.ass f.bdf", "usage"),
-    ("check -- -a a.ass", ""),
-    ("check --at 0 a.ass f.bdf", "usage"),
-    ("frame a.ass f.bdf --size 1x1 --at=0 g.bdf", ""),
-    ("frame --at 0 a.ass f.bdf", "usage"),
-    ("frame --at 0 --size 1x1 --at 0 a.ass f.bdf", "usage"),
-    ("frame --a 0 --size 1x1 a.ass f.bdf", "usage"),
-    ("frame --at 0 --size 1x1 --mode live a.ass f.bdf", "usage"),
-    ("frame --at --size 1x1 a.ass f.bdf", "usage"),
-    ("frame --at -1 --size 1x1 a.ass f.bdf", "usage"),
-    ("frame --at=-1 --size 1x1 a.ass f.bdf", "--at"),
-    ("frame --at= --size 1x1 a.ass f.bdf", "--at"),
-    ("frame --size 1x --budget x --at y a.ass f.bdf", "--at"),
-    ("frame --at 0 --size 1x1x1 a.ass f.bdf", "--size"),
-    ("frame --at 0 --size 4096x4097 a.ass f.bdf", "--size"),
-    ("frame --at 4000000000001 --size 1x1 a.ass f.bdf", "--at"),
-    ("frame --at 4000000000000 --size 1x1 a.ass f.bdf", ""),
-    ("play --from 9 --to 0 --step 1 --size 1x1 a.ass f.bdf", ""),
-    ("play --from 0 --to 9 --size 1x1 a.ass f.bdf", "usage"),
-    (
-        "changes --from 0 --to 9 --step 0 --size 1x1 a.ass f.bdf",
-        "--step",
-    ),
-    ("write --later 5 a.ass", ""),
-    ("write a.ass b.ass", "usage"),
-    ("selftest 7 100000", ""),
-    ("selftest 7 100001", "EVENTS"),
-    ("selftest y x", "SEED"),
-    ("selftest y x --workers=0", "--workers"),
-];
+const READINGS: &str = " => usage
+help => usage
+--version => usage
+check --help => usage
+Check a.ass f.bdf => usage
+check a.ass => usage
+check a.ass f.bdf g.bdf =>
+check - - =>
+check -a a.ass f.bdf => usage
+check -- -a a.ass =>
+check --at 0 a.ass f.bdf => usage
+frame a.ass f.bdf --size 1x1 --at=0 g.bdf =>
+frame --at 0 a.ass f.bdf => usage
+frame --at 0 --size 1x1 --at 0 a.ass f.bdf => usage
+frame --a 0 --size 1x1 a.ass f.bdf => usage
+frame --at 0 --size 1x1 --mode live a.ass f.bdf => usage
+frame --at --size 1x1 a.ass f.bdf => usage
+frame --at -1 --size 1x1 a.ass f.bdf => usage
+frame --at=-1 --size 1x1 a.ass f.bdf => --at
+frame --at= --size 1x1 a.ass f.bdf => --at
+frame --size 1x --budget x --at y a.ass f.bdf => --at
+frame --at 0 --size 1x1x1 a.ass f.bdf => --size
+frame --at 0 --size 4096x4097 a.ass f.bdf => --size
+frame --at 4000000000001 --size 1x1 a.ass f.bdf => --at
+frame --at 4000000000000 --size 1x1 a.ass f.bdf =>
+play --from 9 --to 0 --step 1 --size 1x1 a.ass f.bdf =>
+play --from 0 --to 9 --size 1x1 a.ass f.bdf => usage
+changes --from 0 --to 9 --step 0 --size 1x1 a.ass f.bdf => --step
+write --later 5 a.ass =>
+write a.ass b.ass => usage
+selftest 7 100000 =>
+selftest 7 100001 => EVENTS
+selftest y x => SEED
+selftest y x --workers=0 => --workers";
 
 #[test]
 fn each_option_has_its_place(rt: HostRuntime) -> Result<(), Fail> {
@@ -98,9 +93,10 @@ fn refused(alloc: Global, line: &str) -> Result<Text, OutOfMemory> {
 
 #[test]
 fn words_are_refused_as_worked_out(rt: HostRuntime) -> Result<(), Fail> {
-    for (line, wanted) in READINGS {
+    for row in READINGS.lines() {
+        let (line, wanted) = row.split_once(" =>").ok_or("no arrow")?;
         let name = refused(rt.alloc(), line)?;
-        assert_eq!(rt; name.as_str(), wanted, "{line}");
+        assert_eq!(rt; name.as_str(), wanted.trim(), "{line}");
     }
     Ok(())
 }

@@ -1,9 +1,11 @@
 //! What no clause says: that drawing gives the bytes that were worked out by hand from the rules.
 
+use crate::rows::number;
 use ass_num::{Mask, Rgba, Size, is_mask};
 use blend::{Canvas, Stencil, draw_rows};
 use std::alloc::Global;
 use std::process::Abort;
+use std::str::SplitWhitespace;
 use std::test::Fail;
 
 const WHITE: Rgba = Rgba {
@@ -46,87 +48,114 @@ fn letters(alloc: Global, pixels: &[u8]) -> Result<String, Fail> {
     Ok(text)
 }
 
+/// A white and red square of 2 x 2 pixels on 3 x 2 pixels: its corner, the edge of its colours, its clip (a rectangle, or a
+/// mask of one pixel or of none at a place, in which or out of which it is shown), and the pixels.
+const SQUARES: &str = "0 0 9 = WW.WW.
+-1 0 9 = W..W..
+2 0 9 = ..W..W
+0 -1 9 = WW....
+0 1 9 = ...WW.
+-1 -1 9 = W.....
+2 1 9 = .....W
+2 -1 9 = ..W...
+-1 1 9 = ...W..
+3 0 9 = ......
+0 -2 9 = ......
+1 0 -5 = .RR.RR
+1 0 1 = .RR.RR
+1 0 2 = .WR.WR
+0 0 9 rect in 1 0 3 1 = .W....
+0 0 9 rect out 1 0 3 1 = W..WW.
+0 0 9 rect in 2 2 1 0 = ......
+0 0 9 rect out 2 2 1 0 = WW.WW.
+0 0 9 rect in -9 -9 -1 9 = ......
+0 0 9 rect out -9 -9 9 9 = ......
+0 0 1 spot in 1 1 = ....R.
+0 0 1 spot out 1 1 = WR.W..
+0 0 9 none in 0 0 = ......
+0 0 9 none out 0 0 = WW.WW.";
+
+/// One pixel: the coverage, the colour, the clip's coverage, and the bytes.
+const PIXELS: &str = "255 255 255 255 0 in 255 = [255, 255, 255]
+128 10 200 30 128 in 255 = [3, 50, 8]
+255 9 9 9 255 in 255 = [0, 0, 0]
+200 255 255 255 0 in 100 = [78, 78, 78]
+200 255 255 255 0 out 100 = [122, 122, 122]";
+
+/// The next word's number.
+fn next(words: &mut SplitWhitespace<'_>) -> i32 {
+    i32::from(number(words.next().unwrap_or("")))
+}
+
+/// The same of a byte.
+fn next_byte(words: &mut SplitWhitespace<'_>) -> u8 {
+    words.next().unwrap_or("").parse::<u8>().unwrap_or(0)
+}
+
+/// The pixels of a row.
+fn drawn_square(alloc: Global, masks: [&Mask; 3], row: &str) -> Result<String, Fail> {
+    let [square, spot, none] = masks;
+    let mut words = row.split_whitespace();
+    let (x, y, edge) = (next(&mut words), next(&mut words), next(&mut words));
+    let kind = words.next().unwrap_or("");
+    let inverse = words.next().unwrap_or("") == "out";
+    let (a, b) = (next(&mut words), next(&mut words));
+    let stencil = match kind {
+        "rect" => Stencil::Rect(a, b, next(&mut words), next(&mut words), inverse),
+        "spot" => Stencil::Drawn(spot, a, b, inverse),
+        "none" => Stencil::Drawn(none, a, b, inverse),
+        _ => Stencil::Free,
+    };
+    let mut canvas = Canvas::new(alloc, &Size { w: 3, h: 2 })?;
+    canvas.draw(square, x, y, WHITE, RED, edge, &stencil);
+    letters(alloc, canvas.pixels())
+}
+
 #[test]
-fn images_are_drawn_as_worked_by_hand(rt: HostRuntime) -> Result<(), Fail> {
+fn squares_are_drawn_as_worked_by_hand(rt: HostRuntime) -> Result<(), Fail> {
     let alloc = rt.alloc();
     let square = even_mask(&rt, alloc, 2, 2, 255)?;
     let spot = even_mask(&rt, alloc, 1, 1, 255)?;
     let none = Mask::empty(alloc);
-    // A white and red square of 2 x 2 pixels on 3 x 2 pixels: its place, the edge of its colours, its clip.
-    for (x, y, edge, stencil, want) in [
-        (0, 0, 9, Stencil::Free, "WW.WW."),
-        (-1, 0, 9, Stencil::Free, "W..W.."),
-        (2, 0, 9, Stencil::Free, "..W..W"),
-        (0, -1, 9, Stencil::Free, "WW...."),
-        (0, 1, 9, Stencil::Free, "...WW."),
-        (-1, -1, 9, Stencil::Free, "W....."),
-        (2, 1, 9, Stencil::Free, ".....W"),
-        (2, -1, 9, Stencil::Free, "..W..."),
-        (-1, 1, 9, Stencil::Free, "...W.."),
-        (3, 0, 9, Stencil::Free, "......"),
-        (0, -2, 9, Stencil::Free, "......"),
-        (1, 0, -5, Stencil::Free, ".RR.RR"),
-        (1, 0, 1, Stencil::Free, ".RR.RR"),
-        (1, 0, 2, Stencil::Free, ".WR.WR"),
-        (0, 0, 9, Stencil::Rect(1, 0, 3, 1, false), ".W...."),
-        (0, 0, 9, Stencil::Rect(1, 0, 3, 1, true), "W..WW."),
-        (0, 0, 9, Stencil::Rect(2, 2, 1, 0, false), "......"),
-        (0, 0, 9, Stencil::Rect(2, 2, 1, 0, true), "WW.WW."),
-        (0, 0, 9, Stencil::Rect(-9, -9, -1, 9, false), "......"),
-        (0, 0, 9, Stencil::Rect(-9, -9, 9, 9, true), "......"),
-        (0, 0, 1, Stencil::Drawn(&spot, 1, 1, false), "....R."),
-        (0, 0, 1, Stencil::Drawn(&spot, 1, 1, true), "WR.W.."),
-        (0, 0, 9, Stencil::Drawn(&none, 0, 0, false), "......"),
-        (0, 0, 9, Stencil::Drawn(&none, 0, 0, true), "WW.WW."),
-    ] {
-        let mut canvas = Canvas::new(alloc, &Size { w: 3, h: 2 })?;
-        canvas.draw(&square, x, y, WHITE, RED, edge, &stencil);
-        assert_eq!(rt;
-            letters(alloc, canvas.pixels())?.as_str(),
-            want,
-            "at {x} {y}, edge {edge}"
-        );
+    for row in SQUARES.lines() {
+        let (image, wanted) = row.split_once(" = ").ok_or("no image")?;
+        let found = drawn_square(alloc, [&square, &spot, &none], image)?;
+        assert_eq!(rt; found.as_str(), wanted, "{image}");
     }
-    // One pixel: the coverage, the colour, the clip's coverage, and the bytes.
-    let tinted = Rgba {
-        r: 10,
-        g: 200,
-        b: 30,
-        a: 128,
+    Ok(())
+}
+
+/// The bytes of a row.
+fn drawn_pixel(rt: &impl Abort, alloc: Global, row: &str) -> Result<String, Fail> {
+    let mut words = row.split_whitespace();
+    let mask = even_mask(rt, alloc, 1, 1, next_byte(&mut words))?;
+    let colour = Rgba {
+        r: next_byte(&mut words),
+        g: next_byte(&mut words),
+        b: next_byte(&mut words),
+        a: next_byte(&mut words),
     };
-    for (cover, colour, clip, inverse, want) in [
-        (255, WHITE, 255, false, [255, 255, 255]),
-        (128, tinted, 255, false, [3, 50, 8]),
-        (
-            255,
-            Rgba {
-                r: 9,
-                g: 9,
-                b: 9,
-                a: 255,
-            },
-            255,
-            false,
-            [0, 0, 0],
-        ),
-        (200, WHITE, 100, false, [78, 78, 78]),
-        (200, WHITE, 100, true, [122, 122, 122]),
-    ] {
-        let mask = even_mask(&rt, alloc, 1, 1, cover)?;
-        let over = even_mask(&rt, alloc, 1, 1, clip)?;
-        let mut canvas = Canvas::new(alloc, &Size { w: 1, h: 1 })?;
-        canvas.draw(
-            &mask,
-            0,
-            0,
-            colour,
-            colour,
-            0,
-            &Stencil::Drawn(&over, 0, 0, inverse),
-        );
-        assert_eq!(rt; canvas.pixels(), want.as_slice(), "{cover} under {clip}");
+    let inverse = words.next().unwrap_or("") == "out";
+    let over = even_mask(rt, alloc, 1, 1, next_byte(&mut words))?;
+    let mut canvas = Canvas::new(alloc, &Size { w: 1, h: 1 })?;
+    let stencil = Stencil::Drawn(&over, 0, 0, inverse);
+    canvas.draw(&mask, 0, 0, colour, colour, 0, &stencil);
+    Ok(format!(in alloc; "{:?}", canvas.pixels())?)
+}
+
+#[test]
+fn pixels_are_drawn_as_worked_by_hand(rt: HostRuntime) -> Result<(), Fail> {
+    for row in PIXELS.lines() {
+        let (image, wanted) = row.split_once(" = ").ok_or("no image")?;
+        let found = drawn_pixel(&rt, rt.alloc(), image)?;
+        assert_eq!(rt; found.as_str(), wanted, "{image}");
     }
-    // One image over another, on the second row of a canvas alone.
+    Ok(())
+}
+
+#[test]
+fn one_image_over_another_on_the_second_row(rt: HostRuntime) -> Result<(), Fail> {
+    let alloc = rt.alloc();
     let half = even_mask(&rt, alloc, 1, 2, 128)?;
     let mut canvas = Canvas::new(alloc, &Size { w: 1, h: 2 })?;
     for colour in [WHITE, RED] {

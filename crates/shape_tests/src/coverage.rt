@@ -4,6 +4,7 @@ ghost use Rattle.std.specs.Prelude.{IfOk};
 ghost use Rattle.ass_num.specs.Limits.{IsWithin, max_mask_shift};
 ghost use Rattle.mask_cover.specs.Sums.{IsPlaceableMask};
 
+use crate::rows::number;
 use ass_num::{FlatLists, Mask, Mem, Region, Run, is_canonical, is_mask};
 use mask_cover::{at, cover, sum_of};
 use std::alloc::Global;
@@ -46,46 +47,36 @@ fn is(mask: Option<Mask>, x: i32, y: i32, w: u32, h: u32, bytes: &[u8]) -> bool 
         && mask.bytes() == bytes
 }
 
+/// Runs between blanks.
+fn runs_of(alloc: Global, text: &str) -> Mem<Vec<Run>> {
+    let mut runs = Vec::new(alloc);
+    for word in text.split_whitespace() {
+        if let Some((from, to)) = word.split_once("..") {
+            runs.push(Run {
+                from: i32::from(number(from)),
+                to: i32::from(number(to)),
+            })?;
+        }
+    }
+    Ok(runs)
+}
+
 /// The lower half of a square of 16 by 16 samples, of which each is widened by 16 samples on all sides.
-static LOWER: [Run; 17] = [
-    Run { from: -16, to: 32 },
-    Run { from: -15, to: 31 },
-    Run { from: -15, to: 31 },
-    Run { from: -15, to: 31 },
-    Run { from: -15, to: 31 },
-    Run { from: -15, to: 31 },
-    Run { from: -14, to: 30 },
-    Run { from: -14, to: 30 },
-    Run { from: -13, to: 29 },
-    Run { from: -13, to: 29 },
-    Run { from: -12, to: 28 },
-    Run { from: -11, to: 27 },
-    Run { from: -10, to: 26 },
-    Run { from: -9, to: 25 },
-    Run { from: -7, to: 23 },
-    Run { from: -5, to: 21 },
-    Run { from: 0, to: 16 },
-];
+const LOWER: &str =
+    "-16..32 -15..31 -15..31 -15..31 -15..31 -15..31 -14..30 -14..30 -13..29 -13..29 -12..28 -11..27 -10..26 -9..25 -7..23 -5..21 0..16";
 
 #[test]
 fn regions_cover_pixels(rt: HostRuntime) -> Result<(), Fail> {
     let alloc = rt.alloc();
-    let row = [Run { from: 0, to: 16 }];
+    let row = runs_of(alloc, "0..16")?;
     let whole = mask_of(alloc, -16, mirrored(alloc, row.as_slice(), 14)?, 0, 0)?;
     assert!(rt; is(whole, 0, -1, 1, 1, [255].as_slice()));
     let halves = mask_of(alloc, -16, mirrored(alloc, row.as_slice(), 14)?, 8, 0)?;
     assert!(rt; is(halves, 0, -1, 2, 1, [128, 128].as_slice()));
-    let widened = mask_of(alloc, -32, mirrored(alloc, LOWER.as_slice(), 14)?, 0, 0)?;
-    assert!(rt;
-        is(
-            widened,
-            -1,
-            -2,
-            3,
-            3,
-            [182, 255, 182, 255, 255, 255, 182, 255, 182].as_slice()
-        )
-    );
+    let lower = runs_of(alloc, LOWER)?;
+    let widened = mask_of(alloc, -32, mirrored(alloc, lower.as_slice(), 14)?, 0, 0)?;
+    let wanted = [182, 255, 182, 255, 255, 255, 182, 255, 182];
+    assert!(rt; is(widened, -1, -2, 3, 3, wanted.as_slice()));
     let none = mask_of(alloc, 0, FlatLists::new(alloc), 3, 4)?;
     assert!(rt; is(none, 0, 0, 0, 0, [].as_slice()));
     Ok(())

@@ -19,3 +19,5 @@ mod outlines;
 mod pictures;
 #[cfg(test)]
 mod regions;
+#[cfg(test)]
+mod rows;

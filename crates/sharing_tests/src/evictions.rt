@@ -7,19 +7,9 @@ use std::alloc::Global;
 use std::sync::Arc;
 use std::test::Fail;
 
-/// A call. An ask claims what it may. A fill or a fail is made where the key is being made.
-#[derive(Clone, Copy)]
-pub enum Call {
-    Ask(u32),
-    Fill(u32, u64),
-    Fail(u32),
-    Pin(u32),
-    Unpin(u32),
-    Limits(u32, u64),
-}
-
-#[derive(Clone, Copy, Debug, PartialEq, Eq)]
-pub enum Reply {
+/// What a call comes to. An ask claims what it may.
+#[derive(Clone, Copy, Debug)]
+enum Reply {
     Hit(u32),
     Claim,
     Flying(u32),
@@ -99,94 +89,107 @@ fn unpin(entries: &mut Entries<u32, u32>, key: u32) -> Reply {
     }
 }
 
-fn make(alloc: Global, entries: &mut Entries<u32, u32>, call: Call) -> Result<Reply, Fail> {
-    Ok(match call {
-        Call::Ask(key) => ask(entries, key)?,
-        Call::Fill(key, cost) => fill(alloc, entries, key, cost.min(1 << 32))?,
-        Call::Fail(key) => fail(entries, key),
-        Call::Pin(key) => pin(entries, key),
-        Call::Unpin(key) => unpin(entries, key),
-        Call::Limits(limit, budget) => {
-            entries.set_limits(limit.clamp(1, 65_536), budget.min(1 << 40));
-            Reply::Done
+/// Makes a call. A fill or a fail is made where the key is being made.
+fn make(
+    alloc: Global,
+    entries: &mut Entries<u32, u32>,
+    name: &str,
+    key: u32,
+    number: u64,
+) -> Result<Reply, Fail> {
+    match name {
+        "ask" => ask(entries, key),
+        "fill" => fill(alloc, entries, key, number.min(1 << 32)),
+        "fail" => Ok(fail(entries, key)),
+        "pin" => Ok(pin(entries, key)),
+        "unpin" => Ok(unpin(entries, key)),
+        _ => {
+            entries.set_limits(key.clamp(1, 65_536), number.min(1 << 40));
+            Ok(Reply::Done)
         }
-    })
+    }
 }
 
-const A: u32 = 1;
+fn number(word: Option<&str>) -> u32 {
+    match word {
+        Some(word) => word.parse::<u32>().unwrap_or(0),
+        None => 0,
+    }
+}
 
-const B: u32 = 2;
+/// Calls, with a key or two limits and a cost; and what each comes to, with the count of entries and the unpinned cost
+/// then. One pin holds a key: nobody may evict it. 65 is within 100, and isn't within 100 twice. Then two of 65 where 65
+/// is the budget: the less recent one goes. Then a smaller limit of entries: what is pinned stays above it, and nothing
+/// comes in. At last a hit makes an entry the most recent.
+const ROWS: &str = "limits 1 100 = Done 0 0
+ask 1 = Claim 1 0
+ask 1 = Flying(7) 1 0
+ask 2 = Crowded 1 0
+fill 1 65 = Done 1 0
+pin 1 = Done 1 0
+unpin 1 = Done 1 0
+unpin 1 = Done 1 65
+unpin 1 = Refused 1 65
+ask 2 = Claim 1 0
+pin 1 = Refused 1 0
+fail 2 = Done 0 0
+ask 2 = Claim 1 0
+fail 2 = Done 0 0
+limits 2 65 = Done 0 0
+ask 1 = Claim 1 0
+fill 1 65 = Done 1 0
+ask 2 = Claim 2 0
+fill 2 65 = Done 2 0
+unpin 1 = Done 2 65
+unpin 2 = Done 1 65
+ask 2 = Hit(10002) 1 0
+limits 2 0 = Done 1 0
+unpin 2 = Done 0 0
+limits 2 1000 = Done 0 0
+ask 1 = Claim 1 0
+fill 1 65 = Done 1 0
+ask 2 = Claim 2 0
+fill 2 65 = Done 2 0
+unpin 1 = Done 2 65
+limits 1 1000 = Done 1 0
+ask 3 = Crowded 1 0
+unpin 2 = Done 1 65
+ask 3 = Claim 1 0
+fill 3 65 = Done 1 0
+unpin 3 = Done 1 65
+limits 2 1000 = Done 1 65
+ask 1 = Claim 2 65
+fill 1 1 = Done 2 65
+unpin 1 = Done 2 66
+ask 3 = Hit(10003) 2 1
+unpin 3 = Done 2 66
+limits 1 1000 = Done 1 65
+ask 3 = Hit(10003) 1 0
+ask 1 = Crowded 1 0";
 
-const C: u32 = 3;
-
-// One pin holds a key: nobody may evict it. 65 is within 100, and isn't within 100 twice.
-const ROWS: [(Call, Reply, u32, u64); 45] = [
-    (Call::Limits(1, 100), Reply::Done, 0, 0),
-    (Call::Ask(A), Reply::Claim, 1, 0),
-    (Call::Ask(A), Reply::Flying(7), 1, 0),
-    (Call::Ask(B), Reply::Crowded, 1, 0),
-    (Call::Fill(A, 65), Reply::Done, 1, 0),
-    (Call::Pin(A), Reply::Done, 1, 0),
-    (Call::Unpin(A), Reply::Done, 1, 0),
-    (Call::Unpin(A), Reply::Done, 1, 65),
-    (Call::Unpin(A), Reply::Refused, 1, 65),
-    (Call::Ask(B), Reply::Claim, 1, 0),
-    (Call::Pin(A), Reply::Refused, 1, 0),
-    (Call::Fail(B), Reply::Done, 0, 0),
-    (Call::Ask(B), Reply::Claim, 1, 0),
-    (Call::Fail(B), Reply::Done, 0, 0),
-    // Two of 65 where 65 is the budget: the less recent one goes.
-    (Call::Limits(2, 65), Reply::Done, 0, 0),
-    (Call::Ask(A), Reply::Claim, 1, 0),
-    (Call::Fill(A, 65), Reply::Done, 1, 0),
-    (Call::Ask(B), Reply::Claim, 2, 0),
-    (Call::Fill(B, 65), Reply::Done, 2, 0),
-    (Call::Unpin(A), Reply::Done, 2, 65),
-    (Call::Unpin(B), Reply::Done, 1, 65),
-    (Call::Ask(B), Reply::Hit(10_002), 1, 0),
-    (Call::Limits(2, 0), Reply::Done, 1, 0),
-    (Call::Unpin(B), Reply::Done, 0, 0),
-    // A smaller limit of entries: what is pinned stays above it, and nothing comes in.
-    (Call::Limits(2, 1_000), Reply::Done, 0, 0),
-    (Call::Ask(A), Reply::Claim, 1, 0),
-    (Call::Fill(A, 65), Reply::Done, 1, 0),
-    (Call::Ask(B), Reply::Claim, 2, 0),
-    (Call::Fill(B, 65), Reply::Done, 2, 0),
-    (Call::Unpin(A), Reply::Done, 2, 65),
-    (Call::Limits(1, 1_000), Reply::Done, 1, 0),
-    (Call::Ask(C), Reply::Crowded, 1, 0),
-    (Call::Unpin(B), Reply::Done, 1, 65),
-    (Call::Ask(C), Reply::Claim, 1, 0),
-    (Call::Fill(C, 65), Reply::Done, 1, 0),
-    (Call::Unpin(C), Reply::Done, 1, 65),
-    // A hit makes an entry the most recent.
-    (Call::Limits(2, 1_000), Reply::Done, 1, 65),
-    (Call::Ask(A), Reply::Claim, 2, 65),
-    (Call::Fill(A, 1), Reply::Done, 2, 65),
-    (Call::Unpin(A), Reply::Done, 2, 66),
-    (Call::Ask(C), Reply::Hit(10_003), 2, 1),
-    (Call::Unpin(C), Reply::Done, 2, 66),
-    (Call::Limits(1, 1_000), Reply::Done, 1, 65),
-    (Call::Ask(C), Reply::Hit(10_003), 1, 0),
-    (Call::Ask(A), Reply::Crowded, 1, 0),
-];
+/// What a call of a row comes to.
+fn outcome(alloc: Global, entries: &mut Entries<u32, u32>, call: &str) -> Result<String, Fail> {
+    let mut words = call.split_whitespace();
+    let name = words.next().unwrap_or("");
+    let key = number(words.next());
+    let other = number(words.next());
+    let reply = make(alloc, entries, name, key, u64::from(other))?;
+    let totals = entries.totals();
+    Ok(format!(in alloc; "{reply:?} {} {}", totals.entries, totals.unpinned)?)
+}
 
 #[test]
 fn rows_of_calls(rt: HostRuntime) -> Result<(), Fail> {
     let alloc = rt.alloc();
     let mut entries: Entries<u32, u32> = Entries::open(alloc, 2, 100)?;
-    for (i, (call, want, count, unpinned)) in ROWS.iter().enumerate() {
-        assert_eq!(rt; make(alloc, &mut entries, *call)?, *want, "row {i}");
-        let totals = entries.totals();
-        assert_eq!(rt;
-            (totals.entries, totals.unpinned),
-            (*count, *unpinned),
-            "row {i}"
-        );
+    for row in ROWS.lines() {
+        let (call, wanted) = row.split_once(" = ").ok_or("no call")?;
+        let found = outcome(alloc, &mut entries, call)?;
+        assert_eq!(rt; found.as_str(), wanted, "{call}");
     }
     assert_eq!(rt; entries.totals().evictions, 6);
-    assert_eq!(rt; entries.pins_of(&C), Some(1));
-    let value = entries.value_of(&C)?.ok_or("no value")?;
+    assert_eq!(rt; entries.pins_of(&3), Some(1));
+    let value = entries.value_of(&3)?.ok_or("no value")?;
     assert_eq!(rt; *value, 10_003);
     Ok(())
 }

@@ -12,8 +12,6 @@ mod lines;
 mod metrics;
 mod scales;
 mod spans;
-#[cfg(test)]
-mod tests;
 
 pub use anchors::{Margins, anchor, block_corner, margins_of, wrapping_width};
 pub use ass_num::{Matrix, Point, Size};

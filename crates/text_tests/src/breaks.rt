@@ -60,46 +60,62 @@ fn breaks_of(
     Ok(Some(choose_breaks(alloc, widths, spaces, max, style)?))
 }
 
+/// How many items of 64, the maximum and the style; the spaces among them; and the places. Then a last line of spaces alone,
+/// and one of nothing; and spaces alone.
+const ROWS: &str = "9 320 0 | 1 3 5 7 = [5]
+9 320 1 | 1 3 5 7 = [5]
+9 320 2 | 1 3 5 7 = []
+9 320 3 | 1 3 5 7 = [3]
+12 320 0 | 2 5 7 10 = [2, 7]
+12 320 1 | 2 5 7 10 = [5, 10]
+12 320 3 | 2 5 7 10 = [2, 7]
+8 320 0 | 6 = [6]
+8 320 1 | 6 = [6]
+8 320 3 | 6 = [6]
+0 320 0 | = []
+0 320 1 | = []
+0 320 2 | = []
+0 320 3 | = []
+8 320 0 | 5 6 7 = [5]
+8 320 1 | 5 6 7 = [5]
+8 320 3 | 5 6 7 = [5]
+6 320 0 | 5 = [5]
+3 0 0 | 0 1 2 = [0, 1, 2]
+3 64 3 | 0 1 2 = [1]
+6 192 0 | 0 1 2 3 4 5 = [3]
+3 128 1 | 0 1 2 = [2]
+6 192 3 | 0 1 2 3 4 5 = [2]";
+
+fn numbers(alloc: Global, text: &str) -> Mem<Vec<usize>> {
+    let mut numbers = Vec::new(alloc);
+    for word in text.split_whitespace() {
+        numbers.push(usize::from(word.parse::<u16>().unwrap_or(0)))?;
+    }
+    Ok(numbers)
+}
+
+/// The places of a row.
+fn places(alloc: Global, case: &str) -> Result<String, Fail> {
+    let (sizes, spaces) = case.split_once(" |").ok_or("no spaces")?;
+    let sizes = numbers(alloc, sizes)?;
+    let spaces = numbers(alloc, spaces)?;
+    let wide = [64; 12];
+    let [count, max, style] = sizes.as_slice() else {
+        return Err("sizes".into());
+    };
+    let style = u8::try_from(*style).unwrap_or(9);
+    let widths = &wide[..wide.len().min(*count)];
+    let max = i64::try_from(*max).unwrap_or(0);
+    let places = breaks_of(alloc, widths, spaces.as_slice(), max, style)?.ok_or("a paragraph")?;
+    Ok(format!(in alloc; "{places:?}")?)
+}
+
 #[test]
 fn paragraphs_are_broken_by_style(rt: HostRuntime) -> Result<(), Fail> {
-    let alloc = rt.alloc();
-    let wide = [64; 12];
-    // How many items of 64, the spaces among them, the maximum, the style, and the places.
-    let cases: [(usize, &[usize], Fix, u8, &[usize]); 23] = [
-        (9, &[1, 3, 5, 7], 320, 0, &[5]),
-        (9, &[1, 3, 5, 7], 320, 1, &[5]),
-        (9, &[1, 3, 5, 7], 320, 2, &[]),
-        (9, &[1, 3, 5, 7], 320, 3, &[3]),
-        (12, &[2, 5, 7, 10], 320, 0, &[2, 7]),
-        (12, &[2, 5, 7, 10], 320, 1, &[5, 10]),
-        (12, &[2, 5, 7, 10], 320, 3, &[2, 7]),
-        (8, &[6], 320, 0, &[6]),
-        (8, &[6], 320, 1, &[6]),
-        (8, &[6], 320, 3, &[6]),
-        (0, &[], 320, 0, &[]),
-        (0, &[], 320, 1, &[]),
-        (0, &[], 320, 2, &[]),
-        (0, &[], 320, 3, &[]),
-        // a last line of spaces alone, and one of nothing
-        (8, &[5, 6, 7], 320, 0, &[5]),
-        (8, &[5, 6, 7], 320, 1, &[5]),
-        (8, &[5, 6, 7], 320, 3, &[5]),
-        (6, &[5], 320, 0, &[5]),
-        // spaces alone
-        (3, &[0, 1, 2], 0, 0, &[0, 1, 2]),
-        (3, &[0, 1, 2], 64, 3, &[1]),
-        (6, &[0, 1, 2, 3, 4, 5], 192, 0, &[3]),
-        (3, &[0, 1, 2], 128, 1, &[2]),
-        (6, &[0, 1, 2, 3, 4, 5], 192, 3, &[2]),
-    ];
-    for (count, spaces, max, style, want) in cases {
-        assert!(rt; count <= wide.len());
-        let found = breaks_of(alloc, &wide[..count], spaces, max, style)?.ok_or("a paragraph")?;
-        assert_eq!(rt;
-            found.as_slice(),
-            want,
-            "{count} items, style {style}, maximum {max}"
-        );
+    for row in ROWS.lines() {
+        let (case, wanted) = row.split_once(" = ").ok_or("no case")?;
+        let found = places(rt.alloc(), case)?;
+        assert_eq!(rt; found.as_str(), wanted, "{case}");
     }
     Ok(())
 }

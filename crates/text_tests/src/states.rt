@@ -68,52 +68,31 @@ fn numbers_of(state: &State) -> [i64; 6] {
     ]
 }
 
+/// A text, the milliseconds behind the event's start, how many items and states there are, and the last state's numbers.
+const LAST: &str = r"{\b1}a{\r}b @0 2 2 [1000, 0, 255, 255, 0, -1]
+{\t(0,1000,2,\fs2)}x @500 1 1 [1250, 0, 255, 255, 0, -1]
+{\1c&HFF&\1a&H80&}x @0 1 1 [1000, 0, 255, 0, 128, -1]
+{\1a&H80&\t(\1c&HFF&)}x @500 1 1 [1000, 0, 255, 127, 128, -1]
+{\b1}a{\b0}b{\b1}c{\b0}d @0 4 2 [1000, 0, 255, 255, 0, -1]
+{\p99}m 0 0\Nl 1 0{\p0\fs0}x @0 2 2 [1000, 0, 255, 255, 0, -1]";
+
+/// What is told of a text's view.
+fn told(alloc: Global, text: &str, elapsed: u16) -> Result<String, Fail> {
+    let view = view_of(alloc, text, elapsed)?;
+    let (items, states) = (view.items.as_slice().len(), view.states.as_slice().len());
+    match view.states.as_slice().last() {
+        Some(state) => Ok(format!(in alloc; "{items} {states} {:?}", numbers_of(state))?),
+        None => Ok(String::new(alloc)),
+    }
+}
+
 #[test]
 fn last_states(rt: HostRuntime) -> Result<(), Fail> {
-    for (text, elapsed, items, states, wanted) in [
-        ("{\\b1}a{\\r}b", 0, 2, 2, [1_000, 0, 255, 255, 0, -1]),
-        (
-            "{\\t(0,1000,2,\\fs2)}x",
-            500,
-            1,
-            1,
-            [1_250, 0, 255, 255, 0, -1],
-        ),
-        (
-            "{\\1c&HFF&\\1a&H80&}x",
-            0,
-            1,
-            1,
-            [1_000, 0, 255, 0, 128, -1],
-        ),
-        (
-            "{\\1a&H80&\\t(\\1c&HFF&)}x",
-            500,
-            1,
-            1,
-            [1_000, 0, 255, 127, 128, -1],
-        ),
-        (
-            "{\\b1}a{\\b0}b{\\b1}c{\\b0}d",
-            0,
-            4,
-            2,
-            [1_000, 0, 255, 255, 0, -1],
-        ),
-        (
-            "{\\p99}m 0 0\\Nl 1 0{\\p0\\fs0}x",
-            0,
-            2,
-            2,
-            [1_000, 0, 255, 255, 0, -1],
-        ),
-    ] {
-        let view = view_of(rt.alloc(), text, elapsed)?;
-        assert_eq!(rt; view.items.as_slice().len(), items);
-        assert_eq!(rt; view.states.as_slice().len(), states);
-        if let Some(state) = view.states.as_slice().last() {
-            assert_eq!(rt; numbers_of(state), wanted);
-        }
+    for row in LAST.lines() {
+        let (text, numbers) = row.split_once(" @").ok_or("no text")?;
+        let (elapsed, wanted) = numbers.split_once(' ').ok_or("no instant")?;
+        let found = told(rt.alloc(), text, elapsed.parse::<u16>().unwrap_or(0))?;
+        assert_eq!(rt; found.as_str(), wanted, "{text}");
     }
     Ok(())
 }

@@ -8,8 +8,6 @@ mod live_events;
 mod near_index;
 mod scene;
 mod spans;
-#[cfg(test)]
-mod tests;
 mod track;
 mod walks;
 

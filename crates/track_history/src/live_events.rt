@@ -9,9 +9,6 @@ ghost use Rattle.ass_events.specs.Ranges.{IsEvent, text_bytes};
 ghost use Rattle.track_history.specs.Answers.{IsFeedAnswer, fed_entry, flush_answer, flushed_entry, extended, position_of, read_orders};
 ghost use Rattle.track_history.specs.Tellings.{IsSound, Tells, events_of};
 
-#[cfg(test)]
-mod tests;
-
 use crate::answers::{Feed, Flushed};
 use crate::near_index::NearIndex;
 use crate::spans::LiveSpan;

@@ -10,9 +10,6 @@ ghost use Rattle.track_history.specs.Answers.{IsSceneOf, read_orders};
 ghost use Rattle.track_history.specs.Calls.{IsFed, IsEventFed, IsFlushed, IsTriedLook, IsTurn, StandsFor, history_of};
 ghost use Rattle.track_history.specs.Tellings.{IsSound, Tells};
 
-#[cfg(test)]
-mod tests;
-
 use crate::answers::{Feed, Flushed, LookRefusal, TrackEntry};
 use crate::live_events::LiveEvents;
 use crate::scene::Scene;

@@ -1,7 +1,8 @@
-use Rattle.std.proofs.Common.{◌≡◌, ◌∙◌, sym, rules, SFits, w64, None}
+use Rattle.std.proofs.Common.{◌≡◌, ◌+◌, ◌∙◌, sym, arith, rules, SFits, w64, None}
 use Rattle.std.proofs.lemmas.Int.{to_z-of_z}
 use Rattle.event_places.specs.Steps.{Pointed, Shifted}
 use Rattle.event_places.proofs.Lists.{none_from}
+use Rattle.event_places.proofs.SettleLemmas.{settled_wider}
 use Rattle.event_places.proofs.placed.place_event.Goals as goal
 
 pub returns-then-is_some-clause-placed : goal.returns-then-is_some-clause-placed
@@ -33,3 +34,6 @@ returns-clause-placed c =
     (Shifted stand shift own c.settle.new.settled.items
     record { view = own.view; shows = c.in_ok-own.ensures.own.shows; pointless = pointless; laid = own.laid; laid_out = c.in_ok-own.ensures.own.laid_out; value = c.stand_of-stand.ensures.value }
     c.in_ok-own.ensures.own c.in_ok-shift.ensures.settling)
+
+pub returns-then-is_some-clause-within : goal.returns-then-is_some-clause-within
+returns-then-is_some-clause-within c count h = settled_wider count (count + 1) c.args.settled.now.items (omega arith) h

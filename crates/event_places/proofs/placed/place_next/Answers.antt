@@ -1,4 +1,4 @@
-use Rattle.std.proofs.Common.{◌≡◌, ◌≤◌, ◌<◌, length, map, get_or, Some, arith}
+use Rattle.std.proofs.Common.{◌≡◌, ◌+◌, ◌≤◌, ◌<◌, length, map, get_or, Some, arith}
 use Rattle.std.specs.Arc.{arc_value}
 use Rattle.std.specs.Prelude.{slice_get}
 use Rattle.std.proofs.lemmas.List.Elements.{Contains-get_or}
@@ -6,6 +6,7 @@ use Rattle.ass_num.specs.Limits.{max_text_bytes}
 use Rattle.ass_events.specs.Ranges.{IsEvent}
 use Rattle.ass_events.specs.declared.event.Event.{Event}
 use Rattle.event_places.proofs.Lists.{all_read, place_in_list, value_read}
+use Rattle.event_places.proofs.SettleLemmas.{settled_wider}
 use Rattle.event_places.proofs.StepLemmas.{no_span, step_alone, step_moved}
 use Rattle.event_places.proofs.placed.place_next.Goals as goal
 
@@ -49,3 +50,6 @@ returns-clause-step c span at =
     let event : slice_get (map arc_value c.args.events.now) s.place ≡ Some c.deref.result.now = rw c.deref.ensures (value_read arc_value c.args.events.now s.place c.index-events-span.result within c.index-events-span.is) in
     step_moved c.args.script.now c.args.fonts.now.fonts c.args.size.now (map arc_value c.args.events.now) c.args.near.now c.args.index span c.args.settled.now.items c.in_ok-one.one c.place_event.new.settled.items
     c.deref.result.now c.requires.index at event c.in_ok-one.ensures.placed
+
+pub returns-then-is_alone-clause-within : goal.returns-then-is_alone-clause-within
+returns-then-is_alone-clause-within c count h = settled_wider count (count + 1) c.args.settled.now.items (omega arith) h

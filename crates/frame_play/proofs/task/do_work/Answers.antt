@@ -1,8 +1,15 @@
 use Rattle.std.proofs.Common.{Err, Ok, subst}
 use Rattle.input_files.specs.Inputs.{AreRead}
 use Rattle.frame_play.specs.Outcomes.{status_if_put}
+use Rattle.frame_play.proofs.InputLemmas.{inputs_suit}
 use Rattle.frame_play.proofs.RunLemmas.{read_same, refused_once, refused_worked, refused_written}
 use Rattle.frame_play.proofs.task.do_work.Goals as goal
+
+pub do_task-requires-clause-inputs : goal.do_task-requires-clause-inputs
+do_task-requires-clause-inputs g c =
+    let told = g.S.Shelf.told c.args.shelf.now in
+    inputs_suit c.lines_fit_their_text.ensures told c.args.work.now.task c.args.work.now.script c.args.work.now.fonts c.in-Ok.inputs c.requires
+    (subst (λ fonts. AreRead told c.args.work.now.script fonts (Ok c.in-Ok.inputs)) c.as_slice.ensures c.in-Ok.ensures.read) c.in-Ok.ensures.fonts
 
 pub returns-in-Err-clause-run : goal.returns-in-Err-clause-run
 returns-in-Err-clause-run g c =
@@ -36,4 +43,4 @@ returns-in-Ok-clause-run g c =
 
 pub returns-in-Ok-clause-read : goal.returns-in-Ok-clause-read
 returns-in-Ok-clause-read g c =
-    read_same c.args.work.now.task c.in-Ok.inputs (status_if_put c.do_task.result) _ _ c.in-Ok.ensures.counted c.do_task.ensures.answered
+    read_same c.args.work.now.task (status_if_put c.do_task.result) _ _ c.in-Ok.ensures.counted c.do_task.ensures.answered

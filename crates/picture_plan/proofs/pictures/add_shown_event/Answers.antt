@@ -7,7 +7,7 @@ use Rattle.std.specs.Arc.{arc_value}
 use Rattle.ass_events.specs.declared.event.Event.{Event}
 use Rattle.event_places.specs.PlacedEvents.{IsOwnLayout}
 use Rattle.event_places.specs.declared.placed.PlacedEvent.{PlacedEvent}
-use Rattle.picture_plan.specs.Pictures.{AddsMovedDraws}
+use Rattle.event_draws.specs.MovedDraws.{AddsMovedDraws}
 use Rattle.picture_plan.specs.ShownEvents.{event_shown, no_placed, placed_event}
 use Rattle.picture_plan.proofs.pictures.add_shown_event.Goals as goal
 

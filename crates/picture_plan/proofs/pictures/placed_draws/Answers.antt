@@ -4,7 +4,8 @@ use Rattle.std.proofs.lemmas.List.{length-map}
 use Rattle.std.proofs.lemmas.List.Elements.{All-nil}
 use Rattle.std.specs.Arc.{arc_value}
 use Rattle.event_places.specs.declared.placed.PlacedEvent.{PlacedEvent}
-use Rattle.picture_plan.specs.Pictures.{AddsMovedDraws, None}
+use Rattle.event_draws.specs.MovedDraws.{AddsMovedDraws}
+use Rattle.picture_plan.specs.Pictures.{None}
 use Rattle.picture_plan.specs.ShownEvents.{AreByLayer, AreShownPlaces, event_shown, no_placed}
 use Rattle.picture_plan.proofs.PlacedLemmas.{are_places, placed_own}
 use Rattle.picture_plan.proofs.PlanLemmas.{all_drawn, shown_drawn}

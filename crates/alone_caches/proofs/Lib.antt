@@ -1,0 +1,4 @@
+pub mod KeyLemmas
+pub mod PaintLemmas
+pub mod Resting
+pub mod TagLemmas

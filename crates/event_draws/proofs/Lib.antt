@@ -1,0 +1,16 @@
+pub mod Copies
+pub mod LayoutLemmas
+pub mod LineSpans
+pub mod MarkLemmas
+pub mod MaximalRuns
+pub mod PixelLemmas
+pub mod RowLemmas
+pub mod RunLemmas
+pub mod ShiftBounds
+pub mod StageLemmas
+pub mod StampLemmas
+pub mod ListAlls
+pub mod ValidMarks
+pub mod ValidDraws
+pub mod ValidEvents
+pub mod StepLemmas

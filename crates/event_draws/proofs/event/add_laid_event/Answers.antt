@@ -1,0 +1,34 @@
+use Rattle.std.proofs.Common.{◌≡◌, ap, rules, arith}
+use Rattle.std.proofs.lemmas.Grind.{common_steps}
+use Rattle.std.proofs.lemmas.Result.{on_ok_weaker}
+use Rattle.event_draws.specs.EventDraws.{event_draws}
+use Rattle.event_draws.specs.Stages.{stage_at}
+use Rattle.event_draws.specs.declared.stage.Stage.{Stage}
+use Rattle.event_draws.proofs.LayoutLemmas.{drawn_layout}
+use Rattle.event_draws.proofs.event.add_laid_event.Goals as goal
+
+pub add_event_draws-requires-clause-laid : goal.add_event_draws-requires-clause-laid
+add_event_draws-requires-clause-laid c =
+    drawn_layout c.args.script.now c.args.fonts.now.fonts c.args.event.now c.args.view.now c.args.size.now c.args.laid.now c.requires.view.wrap c.requires.laid_out
+    c.requires.within
+
+pub returns-clause-draws : goal.returns-clause-draws
+returns-clause-draws c =
+    let fonts = c.args.fonts.now.fonts in
+    let view = c.args.view.now in
+    let laid = c.args.laid.now in
+    let stands : c.of-stage.result ≡ stage_at c.args.script.now c.args.event.now c.args.t c.args.size.now view laid c.args.shift = first_of (search rules, grind (arith, common_steps)) in
+    on_ok_weaker c.add_event_draws.result
+    (λ e. record {
+      added = event_draws c.of-stage.result fonts view laid;
+      whole = e;
+      drawn =
+          record {
+            view = view;
+            shows = c.requires.shows;
+            laid = laid;
+            laid_out = c.requires.laid_out;
+            value = ap (λ (stage : Stage). event_draws stage fonts view laid) stands;
+          };
+    })
+    c.add_event_draws.ensures.draws

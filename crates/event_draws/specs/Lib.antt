@@ -1,0 +1,9 @@
+pub mod Limits
+pub mod Stages
+pub mod Items
+pub mod Marks
+pub mod Runs
+pub mod Clips
+pub mod Draws
+pub mod EventDraws
+pub mod MovedDraws

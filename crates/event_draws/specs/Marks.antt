@@ -1,0 +1,100 @@
+-- Public: what the items of a line leave on the frame: their outlines, and the pens at which these stand before they are turned.
+use Rattle.std.specs.Prelude.{ℕ, ◌||◌, Bool, false, if◌then◌else◌, List, [], Option, Some, None, option_and_then, slice_get, slice_index, slice_index_or, ℤ, pos, ◌+ℤ◌, ◌-ℤ◌, ◌*ℤ◌}
+use Rattle.std.specs.List.{filter_map, list_any, range_with_len}
+use Rattle.std.specs.Option.{option_map, option_map_or}
+use Rattle.ass_num.specs.Bitmaps.{pixel_is_set}
+use Rattle.ass_num.specs.Floor.{floor_div}
+use Rattle.ass_num.specs.Limits.{IsPointWithin}
+use Rattle.ass_num.specs.declared.geometry.Path.{Path}
+use Rattle.ass_num.specs.declared.geometry.Point.{Point}
+use Rattle.ass_num.specs.declared.geometry.Seg.{Seg}
+use Rattle.bdf_font.specs.Fonts.{FontValue, glyph_of}
+use Rattle.bdf_font.specs.declared.glyphs.FontGlyph.{FontGlyph}
+use Rattle.mask_keys.specs.declared.outline_key.OutlineKey.{OutlineKey}
+use Rattle.mask_keys.specs.declared.outline_key.OutlineKey.TheVariants.{Glyph, Drawing}
+use Rattle.outline_points.specs.Drawings.{path_unit}
+use Rattle.override_tags.specs.declared.view.EventView.{EventView}
+use Rattle.override_tags.specs.declared.view.ShownKind.{ShownKind}
+use Rattle.override_tags.specs.declared.view.ShownKind.TheVariants as shown
+use Rattle.override_tags.specs.declared.view.State.{State}
+use Rattle.text_layout.specs.Extents.{drawn_extent}
+use Rattle.text_layout.specs.Fonts.{font_numbers}
+use Rattle.text_layout.specs.Kinds.{char_of}
+use Rattle.text_layout.specs.Metrics.{no_font}
+use Rattle.text_layout.specs.Scales.{drawing_matrix, text_matrix}
+use Rattle.text_layout.specs.declared.laid.Line.{Line}
+use Rattle.text_layout.specs.declared.laid.Placed.{Placed}
+use Rattle.event_draws.specs.Items.{shown_of, state_of}
+use Rattle.event_draws.specs.Limits.{max_block_pen}
+use Rattle.event_draws.specs.declared.marks.Mark.{Mark}
+use Rattle.event_draws.specs.declared.stage.Stage.{Stage}
+
+-- whether a row of a glyph has a set pixel
+abbrev pub row_has_pixels : FontGlyph → ℕ → Bool
+row_has_pixels glyph j = list_any (λ i. pixel_is_set glyph.w glyph.bits i j) (range_with_len 0 glyph.w)
+
+-- whether a glyph has one
+abbrev pub has_pixels : FontGlyph → Bool
+has_pixels glyph = list_any (row_has_pixels glyph) (range_with_len 0 glyph.h)
+
+-- A glyph leaves something where a pixel of it is set, or where the state draws bars.
+abbrev pub is_marked : State → FontGlyph → Bool
+is_marked state glyph = (state.underline || state.strikeout) || has_pixels glyph
+
+-- the outline of the glyph at a place of a font
+abbrev pub glyph_outline : Stage → State → ℕ → FontValue → ℕ → Option OutlineKey
+glyph_outline stage state number font place =
+    if option_map_or (is_marked state) (slice_get font.glyphs place) false
+    then Some (Glyph number place (text_matrix stage.header font state stage.size) state.bold state.underline state.strikeout)
+    else None
+
+-- the outline of a character in a font; none without a glyph
+abbrev pub font_outline : Stage → State → ℕ → FontValue → ℕ → Option OutlineKey
+font_outline stage state number font c = option_and_then (glyph_outline stage state number font) (glyph_of font c)
+
+-- the outline of a character in the font of its state, by the fonts' names
+abbrev pub char_outline : Stage → List FontValue → List (List ℕ) → State → ℕ → Option OutlineKey
+char_outline stage fonts names state c =
+    let number = slice_index (font_numbers fonts names) state.font in
+    font_outline stage state number (slice_index_or fonts number no_font) c
+
+-- where the pen of a character of a line stands
+abbrev pub pen_on : Stage → Line → Placed → Point
+pen_on stage line placed = record { x = stage.corner.x +ℤ placed.x; y = stage.corner.y +ℤ line.baseline }
+
+abbrev pub point_above : Point → ℤ → Point
+point_above p height = record { x = p.x; y = p.y -ℤ height }
+
+-- how far down a drawing of a state is moved under a matrix
+abbrev pub drawing_shift : State → ℤ → ℤ
+drawing_shift state uy = floor_div (state.offset *ℤ uy) (pos path_unit)
+
+-- the mark of a drawing: its lower edge stands on the baseline; none without vertices
+abbrev pub drawing_mark : Stage → State → Point → Path → List Seg → Option Mark
+drawing_mark stage state pen path [] = None
+drawing_mark stage state pen path segs =
+    let m = drawing_matrix stage.header state stage.size in
+    Some (record { outline = Drawing path m (drawing_shift state m.uy); pen = point_above pen (drawn_extent m segs).ascent })
+
+-- the mark of a character, if it leaves any
+abbrev pub char_mark : Stage → List FontValue → List (List ℕ) → State → Point → ℕ → Option Mark
+char_mark stage fonts names state pen c = option_map (λ (key : OutlineKey). record { outline = key; pen = pen }) (char_outline stage fonts names state c)
+
+-- the mark of what is shown at a pen
+abbrev pub mark_by : Stage → List FontValue → EventView → State → Point → ShownKind → Option Mark
+mark_by stage fonts view state pen (shown.Drawing path) = drawing_mark stage state pen path path.segs
+mark_by stage fonts view state pen kind = option_and_then (char_mark stage fonts view.names state pen) (char_of view.wrap kind)
+
+-- the mark of an item of a line
+abbrev pub mark_of : Stage → List FontValue → EventView → Line → Placed → Option Mark
+mark_of stage fonts view line placed = mark_by stage fonts view (state_of view placed) (pen_on stage line placed) (shown_of view placed).kind
+
+-- the marks of some items of a line, in order
+abbrev pub marks_of : Stage → List FontValue → EventView → Line → List Placed → List Mark
+marks_of stage fonts view line items = filter_map (mark_of stage fonts view line) items
+
+-- ---- ranges
+
+-- a mark whose pen lies where it may
+abbrev pub IsMark : Mark → Type 0
+IsMark mark = IsPointWithin max_block_pen mark.pen

@@ -1,0 +1,370 @@
+//! What the items of a line leave on the frame: their outlines, and the pens at which these stand.
+
+ghost use Rattle.std.specs.Prelude.{◌≡◌, ◌<◌, ◌≤◌, ◌+◌, ◌++◌, length, All, IfOk, IfSome, OnOk, slice_index};
+ghost use Rattle.ass_num.specs.Limits.{IsHeldNumber, IsPointWithin, IsWithin};
+ghost use Rattle.std.specs.Option.{option_to_list};
+ghost use Rattle.ass_num.specs.Bitmaps.{pixel_is_set};
+ghost use Rattle.ass_num.specs.Paths.{IsPath};
+ghost use Rattle.bdf_font.specs.Ranges.{IsFont, IsGlyph};
+ghost use Rattle.outline_points.specs.Limits.{max_length};
+ghost use Rattle.outline_points.specs.Placing.{IsScale};
+ghost use Rattle.override_tags.specs.Views.{IsShownItem, IsShownKind, IsState, IsView};
+ghost use Rattle.text_layout.specs.Anchors.{IsBlockSide};
+ghost use Rattle.text_layout.specs.Fonts.{IsLayoutFontSet, font_numbers};
+ghost use Rattle.text_layout.specs.Limits.{max_block};
+ghost use Rattle.event_draws.specs.Items.{IsBlockItem, shown_of, state_of};
+ghost use Rattle.event_draws.specs.Limits.{max_block_pen, max_block_corner};
+ghost use Rattle.event_draws.specs.Marks as rule;
+ghost use Rattle.event_draws.specs.Stages.{IsStage};
+
+use crate::clip::path_copy;
+use crate::lengths::{difference, sum};
+use crate::stage::Stage;
+use ass_num::{Fix, Items, Mem, Path, Point, div_floor};
+use bdf_font::{Font, FontGlyph, FontSet, find_font, glyph};
+use mask_keys::{OutlineKey, Shared};
+use outline_points::pixel_is_set;
+use override_tags::{EventView, Shown, ShownKind, State};
+use std::alloc::Global;
+use text_layout::{Line, Placed, char_of, drawing_matrix, drawn_extent, text_matrix};
+
+/// An outline, and its pen before turning, in 1/64 pixel of the frame.
+#[derive(Debug, Drop)]
+pub(crate) struct Mark {
+    pub outline: OutlineKey,
+    pub pen: Point,
+}
+
+/// Whether the pixel of a glyph in column i and row j is set.
+fn is_set(glyph: &FontGlyph, i: u32, j: u32) -> bool
+    requires glyph { IsGlyph glyph.now }
+    requires column { i < glyph.now.w }
+    requires row { j < glyph.now.h }
+    ensures { result ≡ pixel_is_set glyph.now.w glyph.now.bits i j }
+{
+    pixel_is_set(glyph.bits.as_slice(), glyph.w, i, j)
+}
+
+/// Whether a pixel of row j of a glyph is set.
+fn row_has_pixels(glyph: &FontGlyph, j: u32) -> bool
+    requires glyph { IsGlyph glyph.now }
+    requires row { j < glyph.now.h }
+    ensures { result ≡ rule.row_has_pixels glyph.now j }
+{
+    for i in 0..glyph.w {
+        if is_set(glyph, i, j) {
+            return true;
+        }
+    }
+    false
+}
+
+/// Whether a pixel of a glyph is set.
+fn has_pixels(glyph: &FontGlyph) -> bool
+    requires { IsGlyph glyph.now }
+    ensures { result ≡ rule.has_pixels glyph.now }
+{
+    for j in 0..glyph.h {
+        if row_has_pixels(glyph, j) {
+            return true;
+        }
+    }
+    false
+}
+
+/// Whether a glyph leaves something: a pixel of it is set, or the state draws bars.
+fn is_marked(state: &State, glyph: &FontGlyph) -> bool
+    requires { IsGlyph glyph.now }
+    ensures { result ≡ rule.is_marked state.now glyph.now }
+{
+    state.underline || state.strikeout || has_pixels(glyph)
+}
+
+/// The outline of the glyph at a place of a font, if it leaves anything.
+fn glyph_outline(
+    stage: &Stage,
+    state: &State,
+    number: u32,
+    font: &Font,
+    place: u32,
+) -> Option<OutlineKey>
+    requires stage { IsStage stage.now }
+    requires state { IsState (state.now.font + 1) state.now }
+    requires font { IsFont font.now }
+    requires place { place < length font.now.glyphs }
+    ensures { result ≡ rule.glyph_outline stage.now state.now number font.now place }
+{
+    if is_marked(state, &font.glyphs()[place as usize]) {
+        return Some(OutlineKey::Glyph {
+            font: number,
+            glyph: place,
+            m: text_matrix(&stage.header, font, state, &stage.size),
+            bold: state.bold,
+            underline: state.underline,
+            strikeout: state.strikeout,
+        });
+    }
+    None
+}
+
+/// The outline of a character in a font, if it leaves anything.
+fn font_outline(
+    stage: &Stage,
+    state: &State,
+    number: u32,
+    font: &Font,
+    c: char,
+) -> Option<OutlineKey>
+    requires stage { IsStage stage.now }
+    requires state { IsState (state.now.font + 1) state.now }
+    requires font { IsFont font.now }
+    ensures { result ≡ rule.font_outline stage.now state.now number font.now c }
+{
+    match glyph(font, c) {
+        Some(place) => glyph_outline(stage, state, number, font, place),
+        None => None,
+    }
+}
+
+/// The place of the font of a state.
+fn font_of(fonts: &FontSet, view: &EventView, state: &State) -> u32
+    requires fonts { IsLayoutFontSet fonts.now.fonts }
+    requires state { state.now.font < length view.now.names }
+    ensures value { result ≡ slice_index (font_numbers fonts.now.fonts view.now.names) state.now.font }
+    ensures within { result < length fonts.now.fonts }
+{
+    find_font(fonts, view.names.as_slice()[state.font as usize].as_str())
+}
+
+/// The outline of a character in the font of its state, if it leaves anything.
+fn char_outline(
+    stage: &Stage,
+    fonts: &FontSet,
+    view: &EventView,
+    state: &State,
+    c: char,
+) -> Option<OutlineKey>
+    requires stage { IsStage stage.now }
+    requires fonts { IsLayoutFontSet fonts.now.fonts }
+    requires state { IsState (length view.now.names) state.now }
+    ensures { result ≡ rule.char_outline stage.now fonts.now.fonts view.now.names state.now c }
+{
+    let number = font_of(fonts, view, state);
+    let font = &fonts.fonts.as_slice()[number as usize];
+    font_outline(stage, state, number, font, c)
+}
+
+/// How far down a drawing of a state lies under a matrix of this scale.
+fn scaled_offset(state: &State, uy: i64) -> i128
+    requires offset { IsHeldNumber state.now.offset }
+    requires scale { IsScale uy }
+    ensures value { result ≡ rule.drawing_shift state.now uy }
+    ensures within { IsWithin max_length result }
+{
+    div_floor(i128::from(state.offset) * i128::from(uy), 65_536_000)
+}
+
+/// The same as a length.
+fn drawing_shift(state: &State, uy: i64) -> Fix
+    requires offset { IsHeldNumber state.now.offset }
+    requires scale { IsScale uy }
+    ensures value { result ≡ rule.drawing_shift state.now uy }
+    ensures within { IsWithin max_length result }
+{
+    scaled_offset(state, uy) as Fix
+}
+
+/// A point, moved up.
+fn raised(p: Point, height: Fix) -> Point
+    requires point { IsPointWithin (max_block_corner + max_block) p }
+    requires height { IsBlockSide height }
+    ensures value { result ≡ rule.point_above p height }
+    ensures within { IsPointWithin max_block_pen result }
+{
+    Point {
+        x: p.x,
+        y: difference(p.y, height),
+    }
+}
+
+/// The mark of a drawing, if it has vertices. Its pen stands as high above the baseline as the drawing is (Aegisub tag reference,
+/// "\p", "\pbo").
+fn drawing_mark(
+    alloc: Global,
+    stage: &Stage,
+    state: &State,
+    pen: Point,
+    path: &Path,
+) -> Mem<Option<Mark>>
+    requires stage { IsStage stage.now }
+    requires state { IsState (state.now.font + 1) state.now }
+    requires pen { IsPointWithin (max_block_corner + max_block) pen }
+    requires path { IsPath path.now.segs }
+    ensures value { IfOk result (λ mark. mark ≡ rule.drawing_mark stage.now state.now pen path.now path.now.segs) }
+    ensures range { IfOk result (λ mark. IfSome mark rule.IsMark) }
+{
+    if path.segs.is_empty() {
+        return Ok(None);
+    }
+    let m = drawing_matrix(&stage.header, state, &stage.size);
+    let extent = drawn_extent(alloc, path, &m)?;
+    let outline = OutlineKey::Drawing {
+        path: Shared::new(alloc, path_copy(alloc, path)?)?,
+        m,
+        shift: drawing_shift(state, m.uy),
+    };
+    Ok(Some(Mark {
+        outline,
+        pen: raised(pen, extent.ascent),
+    }))
+}
+
+/// The mark of a character, if it leaves any.
+fn char_mark(
+    stage: &Stage,
+    fonts: &FontSet,
+    view: &EventView,
+    state: &State,
+    pen: Point,
+    c: char,
+) -> Option<Mark>
+    requires stage { IsStage stage.now }
+    requires fonts { IsLayoutFontSet fonts.now.fonts }
+    requires state { IsState (length view.now.names) state.now }
+    requires pen { IsPointWithin (max_block_corner + max_block) pen }
+    ensures value { result ≡ rule.char_mark stage.now fonts.now.fonts view.now.names state.now pen c }
+    ensures range { IfSome result rule.IsMark }
+{
+    match char_outline(stage, fonts, view, state, c) {
+        Some(outline) => Some(Mark { outline, pen }),
+        None => None,
+    }
+}
+
+/// The mark of what is shown in a state at a pen, if it leaves any.
+fn mark_by(
+    alloc: Global,
+    stage: &Stage,
+    fonts: &FontSet,
+    view: &EventView,
+    state: &State,
+    pen: Point,
+    shown: &Shown,
+) -> Mem<Option<Mark>>
+    requires stage { IsStage stage.now }
+    requires fonts { IsLayoutFontSet fonts.now.fonts }
+    requires state { IsState (length view.now.names) state.now }
+    requires pen { IsPointWithin (max_block_corner + max_block) pen }
+    requires shown { IsShownKind shown.now.kind }
+    ensures value { IfOk result (λ mark. mark ≡ rule.mark_by stage.now fonts.now.fonts view.now state.now pen shown.now.kind) }
+    ensures range { IfOk result (λ mark. IfSome mark rule.IsMark) }
+{
+    if let ShownKind::Drawing(path) = &shown.kind {
+        return drawing_mark(alloc, stage, state, pen, path);
+    }
+    match char_of(shown, view.wrap) {
+        Some(c) => Ok(char_mark(stage, fonts, view, state, pen, c)),
+        None => Ok(None),
+    }
+}
+
+/// Where the pen of a character of a line stands.
+fn pen_on(stage: &Stage, line: &Line, placed: &Placed) -> Point
+    requires corner { IsPointWithin max_block_corner stage.now.corner }
+    requires x { IsBlockSide placed.now.x }
+    requires baseline { IsBlockSide line.now.baseline }
+    ensures value { result ≡ rule.pen_on stage.now line.now placed.now }
+    ensures within { IsPointWithin (max_block_corner + max_block) result }
+{
+    Point {
+        x: sum(stage.corner.x, placed.x),
+        y: sum(stage.corner.y, line.baseline),
+    }
+}
+
+/// What an item of a line shows.
+pub(crate) fn shown_of<'a>(view: &'a EventView, placed: &Placed) -> &'a Shown
+    requires view { IsView view.now }
+    requires item { placed.now.item < length view.now.items }
+    ensures value { result.now ≡ shown_of view.now placed.now }
+    ensures range { IsShownItem (length view.now.states) result.now }
+{
+    &view.items.as_slice()[placed.item]
+}
+
+/// The state of an item of a line.
+pub(crate) fn state_of<'a>(view: &'a EventView, placed: &Placed) -> &'a State
+    requires view { IsView view.now }
+    requires item { placed.now.item < length view.now.items }
+    ensures value { result.now ≡ state_of view.now placed.now }
+    ensures range { IsState (length view.now.names) result.now }
+{
+    &view.states.as_slice()[shown_of(view, placed).state as usize]
+}
+
+/// The mark of an item of a line, if it leaves any.
+fn mark_of(
+    alloc: Global,
+    stage: &Stage,
+    fonts: &FontSet,
+    view: &EventView,
+    line: &Line,
+    placed: &Placed,
+) -> Mem<Option<Mark>>
+    requires stage { IsStage stage.now }
+    requires fonts { IsLayoutFontSet fonts.now.fonts }
+    requires view { IsView view.now }
+    requires baseline { IsBlockSide line.now.baseline }
+    requires item { IsBlockItem (length view.now.items) placed.now }
+    ensures value { IfOk result (λ mark. mark ≡ rule.mark_of stage.now fonts.now.fonts view.now line.now placed.now) }
+    ensures range { IfOk result (λ mark. IfSome mark rule.IsMark) }
+{
+    let state = state_of(view, placed);
+    let pen = pen_on(stage, line, placed);
+    mark_by(
+        alloc,
+        stage,
+        fonts,
+        view,
+        state,
+        pen,
+        shown_of(view, placed),
+    )
+}
+
+/// Adds a mark, if there is one.
+fn push_mark(marks: &mut Items<Mark>, mark: Option<Mark>) -> Mem<()>
+    ensures { OnOk result (marks.new ≡ marks.old ++ option_to_list mark) }
+{
+    match mark {
+        Some(mark) => marks.push(mark),
+        None => Ok(()),
+    }
+}
+
+/// The marks of some items of a line, in order.
+pub(crate) fn marks_of(
+    alloc: Global,
+    stage: &Stage,
+    fonts: &FontSet,
+    view: &EventView,
+    line: &Line,
+    items: &[Placed],
+) -> Mem<Items<Mark>>
+    requires stage { IsStage stage.now }
+    requires fonts { IsLayoutFontSet fonts.now.fonts }
+    requires view { IsView view.now }
+    requires baseline { IsBlockSide line.now.baseline }
+    requires items { All (IsBlockItem (length view.now.items)) items.now }
+    ensures value { IfOk result (λ marks. marks ≡ rule.marks_of stage.now fonts.now.fonts view.now line.now items.now) }
+    ensures range { IfOk result (λ marks. All rule.IsMark marks) }
+{
+    let mut marks = Items::new(alloc);
+    for placed in items {
+        push_mark(
+            &mut marks,
+            mark_of(alloc, stage, fonts, view, line, placed)?,
+        )?;
+    }
+    Ok(marks)
+}

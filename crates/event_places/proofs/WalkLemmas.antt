@@ -1,0 +1,188 @@
+-- A walk over boxes that lie from the lowest to the highest: one that was passed isn't met again.
+use Rattle.std.proofs.Common.{◌≡◌, ℕ, ◌+◌, ◌-◌, ◌<◌, ℤ, pos, ◌≤ℤ◌, ◌<ℤ◌, Bool, true, false, cond, List, length, get_or, refl, sym, ap, subst, ◌∙◌, arith, ◌⊎◌, ⊎_elim, inl, inr}
+use Rattle.std.specs.List.{All, Contains}
+use Rattle.std.proofs.lemmas.Bool.{cases_lt}
+use Rattle.std.proofs.lemmas.Int.{ints}
+use Rattle.std.proofs.lemmas.List.{get_or_default}
+use Rattle.std.proofs.lemmas.List.Elements.{All-contains, All-map, Contains-get_or}
+use Rattle.placement.specs.Placement.{IsBoxWithin, IsClear, IsLeastShift, IsPlaceableStand, IsShift, Meet, Overlap, max_moved, max_place, moved_box, passing}
+use Rattle.placement.specs.declared.boxes.Box2.{Box2}
+use Rattle.placement.specs.declared.boxes.Stand.{Stand}
+use Rattle.placement.proofs.ShiftLemmas.{IsBoxWithin-wider, passing-later, passing-least}
+use Rattle.event_places.specs.Limits.{max_shift, reach}
+use Rattle.event_places.specs.Steps.{AreFromLowest, AreSettledWithin, settled_boxes, most_before}
+use Rattle.event_places.specs.declared.settled.Settled.{Settled}
+use Rattle.event_places.proofs.Lists.{in_map}
+use Rattle.event_places.proofs.Orders.{int_three}
+
+-- which of so many boxes comes at a step of a way down, or up
+abbrev pub way : ℕ → Bool → ℕ → ℕ
+way count down step = cond down (count - 1 - step) step
+
+-- past a box
+past_is_clear : (down : Bool) (b other : Box2) → Meet (moved_box down (passing down b other) b) other → ⊥
+past_is_clear true b other m = let h = m.1.2 in omega (arith, ints, h)
+past_is_clear false b other m = let h = m.1.3 in omega (arith, ints, h)
+
+-- in the order of a way
+abbrev InOrder : Bool → Box2 → Box2 → Type 0
+InOrder true o other = o.top ≤ℤ other.top
+InOrder false o other = other.top ≤ℤ o.top
+
+-- what was clear of an earlier box is so past a later one
+stays_clear : (down : Bool) (b o other : Box2) (s : ℤ) → InOrder down o other → (Meet (moved_box down s b) o → ⊥) → Meet (moved_box down s b) other
+    → Meet (moved_box down (passing down b other) b) o → ⊥
+stays_clear true b o other s le clear met again =
+    let later = passing-later true b other s met in
+    let a = again.1.0 in
+    let e = again.1.2 in
+    let h = met.1.3 in
+    clear (again.0, (omega (arith, ints, a), again.1.1, omega (arith, ints, later, e), omega (arith, ints, le, h)))
+stays_clear false b o other s le clear met again = let h = again.1.3 in omega (arith, ints, le, h)
+
+in_order : (settled : List Settled) (down : Bool) (j step : ℕ) (d : Settled) → AreFromLowest settled → j < step → step < length settled
+    → InOrder down (get_or settled (way (length settled) down j) d).place (get_or settled (way (length settled) down step) d).place
+in_order settled true j step d sorted before within = sorted (length settled - 1 - step) (length settled - 1 - j) d (omega arith) (omega arith)
+in_order settled false j step d sorted before within = sorted j step d before within
+
+pub way_within : (count : ℕ) (down : Bool) (step : ℕ) → step < count → way count down step < count
+way_within count true step within = omega arith
+way_within count false step within = within
+
+-- each place comes at a step
+way_back : (count : ℕ) (down : Bool) (k : ℕ) → k < count → (step : ℕ) × (step < count) × (way count down step ≡ k)
+way_back count true k within = (count - 1 - k, omega arith, omega arith)
+way_back count false k within = (k, within, refl)
+
+passing_range : (stand : Stand) (other : Box2) (s : ℤ) → IsPlaceableStand stand → IsBoxWithin max_moved other → IsShift max_shift s
+    → Meet (moved_box stand.down s stand.place) other → IsShift max_shift (passing stand.down stand.place other)
+passing_range stand other s placeable within range met = passing_within stand.down stand.place other s placeable.within within range met
+  where
+    passing_within : (down : Bool) (b other : Box2) (s : ℤ) → IsBoxWithin max_place b → IsBoxWithin max_moved other → IsShift max_shift s
+        → Meet (moved_box down s b) other → IsShift max_shift (passing down b other)
+    passing_within true b other s p q range met =
+        let later = passing-later true b other s met in
+        let z = range.from_zero in
+        let u = q.bottom.1 in
+        let v = p.top.0 in
+        record { from_zero = omega (arith, ints, z, later); bounded = omega (arith, ints, u, v) }
+    passing_within false b other s p q range met =
+        let later = passing-later false b other s met in
+        let z = range.from_zero in
+        let u = p.bottom.1 in
+        let v = q.top.0 in
+        record { from_zero = omega (arith, ints, z, later); bounded = omega (arith, ints, u, v) }
+
+-- After so many steps no shift that is clear of all is less, and the boxes passed are clear.
+pub record Walked (stand : Stand) (settled : List Settled) (shift : ℤ) (step : ℕ) : Type 0 where
+  pub range : IsShift max_shift shift
+  pub least : (t : ℤ) → pos 0 ≤ℤ t → IsClear stand.place (settled_boxes settled) stand.down t → shift ≤ℤ t
+  pub clear : (j : ℕ) (d : Settled) → j < step → Meet (moved_box stand.down shift stand.place) (get_or settled (way (length settled) stand.down j) d).place → ⊥
+
+pub walked_none : (stand : Stand) (settled : List Settled) → Walked stand settled (pos 0) 0
+walked_none stand settled = record {
+  range = record { from_zero = omega (arith, ints); bounded = omega (arith, ints) };
+  least = λ t from clear. from;
+  clear = λ j d lt met. absurd (omega (arith, lt));
+}
+
+pub other_within : (settled : List Settled) (place : ℕ) (d : Settled) → AreSettledWithin most_before settled → place < length settled → IsBoxWithin max_moved (get_or settled place d).place
+other_within settled place d within lt = IsBoxWithin-wider (reach most_before) max_moved (get_or settled place d).place (omega arith) (within place d lt)
+
+below_or_here : (j step : ℕ) → j < step + 1 → (j < step) ⊎ (j ≡ step)
+below_or_here j step lt = ⊎_elim (λ l. inl l) (λ le. inr (omega (arith, lt, le))) (cases_lt j step)
+
+module _ (stand : Stand) (settled : List Settled) (shift : ℤ) (step : ℕ) (other : Settled) (placeable : IsPlaceableStand stand) (within : AreSettledWithin most_before settled) (sorted : AreFromLowest settled)
+    (lt : step < length settled) (is : (d : Settled) → get_or settled (way (length settled) stand.down step) d ≡ other) (walked : Walked stand settled shift step) where
+  here : way (length settled) stand.down step < length settled
+  here = way_within (length settled) stand.down step lt
+
+  other_near : IsBoxWithin max_moved other.place
+  other_near = subst (λ (x : Settled). IsBoxWithin max_moved x.place) (is other) (other_within settled (way (length settled) stand.down step) other within here)
+
+  no_less : (t : ℤ) → pos 0 ≤ℤ t → IsClear stand.place (settled_boxes settled) stand.down t → Meet (moved_box stand.down t stand.place) other.place → ⊥
+  no_less t from clear =
+      let there = subst (Contains settled) (is other) (Contains-get_or settled (way (length settled) stand.down step) other here) in
+      All-contains (λ o. Meet (moved_box stand.down t stand.place) o → ⊥) (settled_boxes settled) other.place clear (in_map (λ (x : Settled). x.place) settled other there)
+
+  pub walked_met : Meet (moved_box stand.down shift stand.place) other.place → Walked stand settled (passing stand.down stand.place other.place) (step + 1)
+  walked_met met = record {
+    range = passing_range stand other.place shift placeable other_near walked.range met;
+    least = λ t from clear. passing-least stand.down stand.place other.place shift t met (walked.least t from clear) (no_less t from clear);
+    clear = λ j d below again.
+        ⊎_elim
+        (λ before. stays_clear stand.down stand.place (get_or settled (way (length settled) stand.down j) d).place other.place shift
+        (subst (λ (x : Settled). InOrder stand.down (get_or settled (way (length settled) stand.down j) d).place x.place) (is d) (in_order settled stand.down j step d sorted before lt))
+        (walked.clear j d before) met again)
+        (λ same. past_is_clear stand.down stand.place other.place
+        (subst (λ (x : Settled). Meet (moved_box stand.down (passing stand.down stand.place other.place) stand.place) x.place) (is d)
+        (subst (λ i. Meet (moved_box stand.down (passing stand.down stand.place other.place) stand.place) (get_or settled (way (length settled) stand.down i) d).place) same again)))
+        (below_or_here j step below);
+  }
+
+  pub walked_apart : (Meet (moved_box stand.down shift stand.place) other.place → ⊥) → Walked stand settled shift (step + 1)
+  walked_apart apart = record {
+    range = walked.range;
+    least = walked.least;
+    clear = λ j d below again.
+        ⊎_elim (λ before. walked.clear j d before again)
+        (λ same. apart
+        (subst (λ (x : Settled). Meet (moved_box stand.down shift stand.place) x.place) (is d)
+        (subst (λ i. Meet (moved_box stand.down shift stand.place) (get_or settled (way (length settled) stand.down i) d).place) same again)))
+        (below_or_here j step below);
+  }
+
+-- after all steps
+pub walked_all : (stand : Stand) (settled : List Settled) (shift : ℤ) (step : ℕ) → step ≡ length settled → Walked stand settled shift step → IsLeastShift stand.place (settled_boxes settled) stand.down shift
+walked_all stand settled shift step all walked =
+    let P : Box2 → Type 0 = λ other. Meet (moved_box stand.down shift stand.place) other → ⊥ in
+    let clear : All (λ (x : Settled). P x.place) settled =
+    λ k d lt met.
+    let back = way_back (length settled) stand.down k lt in
+    walked.clear back.0 d (omega (arith, back.1, all)) (subst (λ i. Meet (moved_box stand.down shift stand.place) (get_or settled i d).place) (sym back.2) met)
+    in
+    record {
+      from_zero = walked.range.from_zero;
+      clear = All-map P (λ (x : Settled). x.place) settled clear;
+      least = walked.least;
+    }
+
+-- ---- one step
+both : {A B : Type 0} → A ⊎ (A → ⊥) → B ⊎ (B → ⊥) → (A × B) ⊎ (A × B → ⊥)
+both a b = ⊎_elim (λ x. ⊎_elim (λ y. inl (x, y)) (λ n. inr (λ p. n p.1)) b) (λ n. inr (λ p. n p.0)) a
+
+less_or : (x y : ℤ) → (x <ℤ y) ⊎ ((x <ℤ y) → ⊥)
+less_or x y = ⊎_elim (λ l. inl l) (λ r. inr (λ l. ⊎_elim (λ same. omega (arith, ints, l, same)) (λ more. omega (arith, ints, l, more)) r)) (int_three x y)
+
+overlap_or : (a b c d : ℤ) → Overlap a b c d ⊎ (Overlap a b c d → ⊥)
+overlap_or a b c d =
+    ⊎_elim
+    (λ p. ⊎_elim
+    (λ q. ⊎_elim
+    (λ r. ⊎_elim (λ s. inl (p, q, r, s)) (λ n. inr (λ o. n o.3)) (less_or c b))
+    (λ n. inr (λ o. n o.2)) (less_or a d))
+    (λ n. inr (λ o. n o.1)) (less_or c d))
+    (λ n. inr (λ o. n o.0)) (less_or a b)
+
+meet_or : (a b : Box2) → Meet a b ⊎ (Meet a b → ⊥)
+meet_or a b = both (overlap_or a.left a.right b.left b.right) (overlap_or a.top a.bottom b.top b.bottom)
+
+-- a box that a read past the end would give
+abbrev pub no_settled : Settled
+no_settled = record { layer = pos 0; end = pos 0; place = record { left = pos 0; top = pos 0; right = pos 0; bottom = pos 0 } }
+
+pub walked_more : (stand : Stand) (settled : List Settled) (shift : ℤ) (step : ℕ) (place : ℕ) (next : ℤ) → IsPlaceableStand stand → AreSettledWithin most_before settled → AreFromLowest settled
+    → step < length settled → place ≡ way (length settled) stand.down step → Walked stand settled shift step
+    → (Meet (moved_box stand.down shift stand.place) (get_or settled place no_settled).place → next ≡ passing stand.down stand.place (get_or settled place no_settled).place)
+    → ((Meet (moved_box stand.down shift stand.place) (get_or settled place no_settled).place → ⊥) → next ≡ shift)
+    → Walked stand settled next (step + 1)
+walked_more stand settled shift step place next placeable within sorted lt is walked met apart =
+    let other = get_or settled place no_settled in
+    let here = way_within (length settled) stand.down step lt in
+    let same : (d : Settled) → get_or settled (way (length settled) stand.down step) d ≡ other =
+    λ d. get_or_default settled (way (length settled) stand.down step) d no_settled here ∙ ap (λ i. get_or settled i no_settled) (sym is)
+    in
+    ⊎_elim
+    (λ m. subst (λ z. Walked stand settled z (step + 1)) (sym (met m)) (walked_met stand settled shift step other placeable within sorted lt same walked m))
+    (λ n. subst (λ z. Walked stand settled z (step + 1)) (sym (apart n)) (walked_apart stand settled shift step other placeable within sorted lt same walked n))
+    (meet_or (moved_box stand.down shift stand.place) other.place)

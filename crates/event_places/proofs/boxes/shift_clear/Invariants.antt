@@ -1,0 +1,5 @@
+use Rattle.event_places.proofs.WalkLemmas.{Walked}
+use Rattle.event_places.proofs.boxes.shift_clear.Given as goal
+
+abbrev pub invariant-loop-step : goal.invariant-loop-step
+invariant-loop-step l = Walked l.stand l.settled l.shift l.step

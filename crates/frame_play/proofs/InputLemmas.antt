@@ -1,0 +1,45 @@
+-- What is read for a task is what the task needs.
+use Rattle.std.proofs.Common.{◌≡◌, inl, inr, ℕ, ◌≤◌, List, length, All, Some, None, Result, Ok, Err, ap, sym, arith}
+use Rattle.std.proofs.lemmas.List.Elements.{All-weaker}
+use Rattle.ass_io.specs.Fetched.{Held, Told}
+use Rattle.ass_script.specs.Scripts.{ScriptValue, script_of}
+use Rattle.ass_script.specs.declared.refusal.ScriptRefusal.{ScriptRefusal}
+use Rattle.bdf_font.specs.Ranges.{IsFont}
+use Rattle.input_files.specs.Causes.{script_status, with_status}
+use Rattle.input_files.specs.Files.{AsksScript}
+use Rattle.input_files.specs.Inputs.{AreRead, IsScriptRead}
+use Rattle.input_files.specs.declared.inputs.Inputs.{Inputs}
+use Rattle.run_status.specs.declared.status.Status.{Status}
+use Rattle.script_events.specs.Laws.{HasShortLines, LinesFitTheirText}
+use Rattle.frame_play.specs.Works.{AreInputsOf, IsTaskIn}
+use Rattle.frame_play.specs.declared.work.Task.{Task}
+use Rattle.frame_play.specs.declared.work.Task.TheVariants.{Check, Frame}
+
+abbrev script_or : ScriptValue → Result ScriptValue Status → ScriptValue
+script_or otherwise (Ok script) = script
+script_or otherwise (Err status) = otherwise
+
+script_in : (answer : Result ScriptValue ScriptRefusal) (script : ScriptValue) → Ok script ≡ with_status script_status answer → answer ≡ Ok script
+script_in (Ok other) script e = let same : other ≡ script = sym (ap (script_or script) e) in ap (λ (s : ScriptValue). Ok s) same
+script_in (Err refusal) script e = absurd cc
+
+held_short : LinesFitTheirText → (name : List ℕ) (held : Held) (script : ScriptValue) → AsksScript name held (Ok script) → HasShortLines script
+held_short fit name None script e = absurd cc
+held_short fit name (Some bytes) script (inl (small, e)) =
+    All-weaker (λ (line : List ℕ). length line ≤ length bytes) (λ (line : List ℕ). length line ≤ 134217728) (λ line l. omega (arith, l, small)) script.lines
+    (fit bytes script (script_in (script_of bytes) script e))
+held_short fit name (Some bytes) script (inr (large, e)) = absurd cc
+
+short_lines : LinesFitTheirText → (told : List ℕ → Told) (name : List ℕ) (script : ScriptValue) → IsScriptRead told name (Ok script) → HasShortLines script
+short_lines fit told name script read = held_short fit name read.0 script read.2
+
+-- A picture's script has short lines, and there are from 1 to 64 fonts.
+pub inputs_suit : LinesFitTheirText → (told : List ℕ → Told) (task : Task) (script : List ℕ) (fonts : List (List ℕ)) (inputs : Inputs) →
+    IsTaskIn fonts task → AreRead told script fonts (Ok inputs) → All IsFont inputs.fonts → AreInputsOf task inputs
+inputs_suit fit told Check script fonts inputs suits read each = tt
+inputs_suit fit told (Frame frame) script fonts inputs suits (inr (many, e)) each = absurd cc
+inputs_suit fit told (Frame frame) script fonts inputs suits (inl (few, read)) each = (
+  suits.0,
+  short_lines fit told script inputs.script read.0,
+  record { some = omega (arith, suits.1, read.1.0); few = omega (arith, few, read.1.0); each = each },
+)

@@ -1,0 +1,9 @@
+use Rattle.std.proofs.Common.{subst, sym}
+use Rattle.frame_play.specs.Outcomes.{IsShown}
+use Rattle.frame_play.specs.Outputs.{IsFramesOf}
+use Rattle.frame_play.specs.declared.work.Task.{Task}
+use Rattle.frame_play.proofs.task.do_task.Goals as goal
+
+pub returns-in-Frame-clause-shown : goal.returns-in-Frame-clause-shown
+returns-in-Frame-clause-shown g c =
+    subst (λ (task : Task). IsShown c.draw.result (g.F.Sink.held c.args.frames.now) (g.F.Sink.held c.draw.new.frames) (IsFramesOf task c.args.inputs)) (sym c.in-Frame.is) c.draw.ensures.shown

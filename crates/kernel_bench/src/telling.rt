@@ -1,0 +1,36 @@
+//! What the program prints. Each printed number makes a function dear to prove, so all lines are printed here.
+
+use crate::laps::Laps;
+use crate::stop::Stop;
+
+/// Prints what was measured and of what input, how much came of it, and how long the turns took.
+pub fn tell(
+    rt: &HostRuntime,
+    kernel: &str,
+    input: &str,
+    count: usize,
+    unit: &str,
+    laps: &Laps,
+) -> Result<(), Stop> {
+    println!(rt; "{kernel}, {input}: {count} {unit}, {laps}")?;
+    Ok(())
+}
+
+/// Prints how many megabytes a second the shortest turn touches, of so many bytes a turn.
+pub fn tell_rate(rt: &HostRuntime, laps: &Laps, bytes: u64) -> Result<(), Stop> {
+    let rate = laps.rate(bytes);
+    println!(rt; "  {rate} MB/s touched")?;
+    Ok(())
+}
+
+/// Prints numbers behind what they are.
+pub fn show_numbers(rt: &HostRuntime, what: &str, numbers: &[usize]) -> Result<(), Stop> {
+    println!(rt; "{what}: {numbers:?}")?;
+    Ok(())
+}
+
+/// Prints bytes behind what they are.
+pub fn show_bytes(rt: &HostRuntime, what: &str, bytes: &[u8]) -> Result<(), Stop> {
+    println!(rt; "{what}: {bytes:?}")?;
+    Ok(())
+}

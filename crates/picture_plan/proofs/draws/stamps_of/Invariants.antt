@@ -1,6 +1,0 @@
-use Rattle.std.proofs.Common.{◌≡◌, take}
-use Rattle.picture_plan.specs.Draws.{stamps_of}
-use Rattle.picture_plan.proofs.draws.stamps_of.Given as goal
-
-abbrev pub invariant-loop-mark : goal.invariant-loop-mark
-invariant-loop-mark l = l.stamps.items ≡ stamps_of l.stage l.making (take l.mark-index l.marks)

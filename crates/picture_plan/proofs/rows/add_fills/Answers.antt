@@ -1,8 +1,0 @@
-use Rattle.picture_plan.specs.EventDraws.{row_fills}
-use Rattle.picture_plan.proofs.RowLemmas.{added_more}
-use Rattle.picture_plan.proofs.rows.add_fills.Goals as goal
-
-pub loop-row-preserved : goal.loop-row-preserved
-loop-row-preserved c =
-    added_more (row_fills c.args.stage.now c.args.clip.now) c.args.draws.now c.loop-row.draws c.add_row_fills.new.draws c.args.rows.now c.loop-row.row-index c.row-item.result c.loop-row-test.true
-    c.row-item.is c.loop-row.invariant c.in_ok-add_row_fills.ensures

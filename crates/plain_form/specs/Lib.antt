@@ -1,2 +1,0 @@
-pub mod Drawables
-pub mod Forms

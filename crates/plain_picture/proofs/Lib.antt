@@ -1,4 +1,0 @@
-pub mod BoxLemmas
-pub mod FillLemmas
-pub mod LineLemmas
-pub mod SquareLemmas

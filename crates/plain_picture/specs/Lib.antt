@@ -1,3 +1,0 @@
-pub mod Pencils
-pub mod Pictures
-pub mod Squares

@@ -1,0 +1,2 @@
+pub mod GivenEvents
+pub mod LineLengths

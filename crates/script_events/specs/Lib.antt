@@ -1,0 +1,2 @@
+pub mod ScriptEvents
+pub mod Laws

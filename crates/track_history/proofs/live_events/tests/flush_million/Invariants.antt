@@ -1,5 +1,0 @@
-use Rattle.track_history.specs.Tellings.{IsSound}
-use Rattle.track_history.proofs.live_events.tests.flush_million.Given as goal
-
-abbrev pub invariant-loop-i : goal.invariant-loop-i
-invariant-loop-i l = IsSound l.live

@@ -1,5 +1,0 @@
-use Rattle.turn_cell.specs.Passes.{IsOf}
-use Rattle.track_history.proofs.track.tests.feed_thousand.Given as goal
-
-abbrev pub invariant-loop-i : goal.invariant-loop-i
-invariant-loop-i g l = IsOf l.track l.mine
