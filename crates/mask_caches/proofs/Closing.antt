@@ -1,14 +1,14 @@
 -- A claim is given only of a key of which the pass has none open.
-use Rattle.std.proofs.Common.{◌≡◌, ℕ, Bool, true, false, List, [], ◌∷◌, ◌++◌, map, Option, Some, None, refl, sym, ap, ◌∙◌, subst}
+use Rattle.std.proofs.Common.{◌≡◌, ℕ, Bool, true, false, List, [], ◌∷◌, map, Option, Some, None, refl, sym, ap, ◌∙◌, subst}
 use Rattle.std.specs.Cmp.{IsEquivalence}
 use Rattle.std.proofs.lemmas.List.{append-nil}
-use Rattle.turn_cell.specs.History.{History, entry_list, entries_of, with_entry}
+use Rattle.turn_cell.specs.History.{History, entries_of, with_entry}
 use Rattle.turn_cell.specs.Passes.{mine}
 use Rattle.evict_core.specs.Machine.{State, Status, Flying, Ready, Step, Answer, Claim, Ask, maker_in, status_of, answer_at}
 use Rattle.evict_core.specs.History.{IsLegal, has_open}
 use Rattle.evict_core.proofs.FillLaws.{legal-front}
 use Rattle.evict_core.proofs.PinLaws as pin
-use Rattle.flight_cache.specs.Meaning.{Meaning, shard_of}
+use Rattle.flight_cache.specs.Meaning.{Meaning}
 use Rattle.flight_cache.specs.Histories.{step_of, steps_in, IsLegalUnder, left_by}
 use Rattle.flight_cache.specs.Calls.{ShardView, ShardPassView, GivesSteps, own_steps}
 use Rattle.flight_cache.specs.declared.kept.Opening.{Opening}

@@ -1,5 +1,5 @@
 -- A composed mask from the leases of its parts' masks, and what a pass holds once they are given back.
-use Rattle.std.proofs.Common.{◌≡◌, ℕ, ◌+◌, ◌≤◌, Bool, true, List, [], ◌++◌, length, map, Result, Ok, Err, All, refl, sym, ap, ◌∙◌, subst, arith}
+use Rattle.std.proofs.Common.{◌≡◌, ℕ, Bool, true, List, [], ◌++◌, length, map, Result, Ok, Err, All, refl, sym, ap, ◌∙◌, subst, arith}
 use Rattle.std.specs.Result.{IfOk, OnOk}
 use Rattle.std.specs.Arc.{arc_value}
 use Rattle.std.specs.declared.sync.Arc.{Arc}
@@ -9,7 +9,6 @@ use Rattle.ass_num.specs.Masks.{MaskValue}
 use Rattle.bdf_font.specs.Fonts.{FontValue}
 use Rattle.bdf_font.specs.declared.font.FontSet.{FontSet}
 use Rattle.evict_core.specs.Machine.{Step}
-use Rattle.evict_core.specs.History.{times_named}
 use Rattle.flight_cache.specs.Meaning.{Meaning}
 use Rattle.flight_cache.specs.Shards.{CacheView, CachePassView, HoldsEach}
 use Rattle.made_values.specs.Parts.{masks_of, placed_masks}

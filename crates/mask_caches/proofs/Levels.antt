@@ -1,5 +1,5 @@
 -- Visits of regions, masks and composed masks, from what their parts come to.
-use Rattle.std.proofs.Common.{◌≡◌, if◌then◌else◌, ◌&&◌, Bool, true, false, List, [], ◌∷◌, ◌++◌, length, Option, Some, None, Result, Ok, Err, All, refl, sym, ap, ◌∙◌, subst}
+use Rattle.std.proofs.Common.{◌≡◌, if◌then◌else◌, ◌&&◌, Bool, true, false, List, [], ◌∷◌, Option, Result, Ok, Err, refl, sym, subst}
 use Rattle.std.specs.Result.{IfOk, OnOk}
 use Rattle.std.specs.Arc.{arc_value}
 use Rattle.std.specs.declared.alloc.Global.{Global}
@@ -25,7 +25,7 @@ use Rattle.mask_caches.specs.Courses.{Course, Found, Unasked, has_value, has_pin
 use Rattle.mask_caches.specs.Composing.{ThreePasses, IsComposed}
 use Rattle.mask_caches.specs.Holding.{AreAllHad}
 use Rattle.mask_caches.specs.Leases.{given_steps}
-use Rattle.mask_caches.specs.Visits.{RegionVisit, MaskVisit, CompositeVisit, IsRegionVisit, IsMaskVisit, AreMaskVisits, is_widened, outline_key, widening_steps, region_steps, region_use_steps, steps_of_its_region, mask_steps, region_steps_of, mask_steps_of}
+use Rattle.mask_caches.specs.Visits.{RegionVisit, MaskVisit, IsRegionVisit, IsMaskVisit, AreMaskVisits, is_widened, outline_key, widening_steps, region_steps, region_use_steps, steps_of_its_region, mask_steps, region_steps_of, mask_steps_of}
 use Rattle.mask_caches.specs.declared.caches.Caches.{Caches}
 use Rattle.mask_caches.specs.declared.lease.Lease.{Lease}
 use Rattle.mask_caches.specs.declared.lease.Lease.TheVariants.{Pinned}

@@ -1,5 +1,5 @@
 -- Visits of the masks of parts, one after another.
-use Rattle.std.proofs.Common.{◌≡◌, ℕ, ◌+◌, ◌-◌, ◌<◌, ◌≤◌, Bool, true, false, List, [], ◌∷◌, ◌++◌, length, map, take, get_or, reverse, flat_map, Result, Ok, Err, All, refl, sym, ap, ◌∙◌, subst, append_assoc, append-nil, arith}
+use Rattle.std.proofs.Common.{◌≡◌, ℕ, ◌+◌, ◌-◌, ◌<◌, ◌≤◌, true, false, List, [], ◌∷◌, ◌++◌, length, map, take, get_or, reverse, flat_map, Ok, All, refl, sym, ap, ◌∙◌, subst, append-nil, arith}
 use Rattle.std.specs.Arc.{arc_value}
 use Rattle.std.specs.declared.sync.Arc.{Arc}
 use Rattle.std.proofs.lemmas.Grind.{flat_map-append}
@@ -11,7 +11,7 @@ use Rattle.ass_num.specs.Regions.{RegionValue}
 use Rattle.bdf_font.specs.Fonts.{FontValue}
 use Rattle.bdf_font.specs.declared.font.FontSet.{FontSet}
 use Rattle.evict_core.specs.Machine.{Step}
-use Rattle.evict_core.specs.History.{times_named, one_if}
+use Rattle.evict_core.specs.History.{times_named}
 use Rattle.flight_cache.specs.Shards.{CacheView, CachePassView}
 use Rattle.flight_cache.proofs.Places.{named-append}
 use Rattle.cache_kinds.specs.Kinds.{region_meaning, mask_meaning}
@@ -23,8 +23,8 @@ use Rattle.mask_keys.specs.declared.composite_key.Part.{Part}
 use Rattle.mask_keys.specs.declared.mask_key.MaskKey.{MaskKey}
 use Rattle.mask_keys.specs.declared.region_key.RegionKey.{RegionKey}
 use Rattle.mask_model.specs.Values.{mask_value}
-use Rattle.mask_caches.specs.Adding.{Adds, HoldsAsMuch, pins_of, is_open}
-use Rattle.mask_caches.specs.Courses.{Course, has_value, IsHadBy, HoldsTheLease, pins_in}
+use Rattle.mask_caches.specs.Adding.{Adds, HoldsAsMuch}
+use Rattle.mask_caches.specs.Courses.{has_value, IsLeaseOf, HoldsTheLease}
 use Rattle.mask_caches.specs.Leases.{given_steps, lease_value}
 use Rattle.mask_caches.specs.Holding.{AreAllHad, HoldsMore, all_given_steps, pinned_key, pinned_keys}
 use Rattle.mask_caches.specs.Visits.{MaskVisit, IsMaskVisit, AreMaskVisits, mask_steps, mask_unpins, steps_of_its_region, region_steps_of}
@@ -102,7 +102,7 @@ module _ {M Z : Type 0} (fonts : List FontValue) (regions cache : CacheView (Arc
       → (visit : MaskVisit) × IsMaskVisit visit × (visit.key ≡ part.mask)
       × Adds equal_regions region_meaning regions t u (steps_of_its_region regions.tag visit)
       × Adds equal_masks mask_meaning cache q s (mask_steps cache.tag visit)
-      × IsHadBy {E = E} mask_meaning cache.tag part.mask visit.course (Ok lease)
+      × IsLeaseOf mask_meaning cache.tag part.mask visit.course lease
       → HoldsAsMuch equal_regions region_meaning regions t u → HoldsTheLease {E = E} equal_masks mask_meaning cache q s (Ok lease)
       → AreHad (done ++ part ∷ []) u s (leases ++ lease ∷ [])
   one-then {E} done part t u q s leases lease tagged h v much holds =
@@ -129,7 +129,7 @@ module _ {M Z : Type 0} (fonts : List FontValue) (regions cache : CacheView (Arc
       → (visit : MaskVisit) × IsMaskVisit visit × (visit.key ≡ part.mask)
       × Adds equal_regions region_meaning regions t u (steps_of_its_region regions.tag visit)
       × Adds equal_masks mask_meaning cache q s (mask_steps cache.tag visit)
-      × IsHadBy {E = E} mask_meaning cache.tag part.mask visit.course (Ok lease)
+      × IsLeaseOf mask_meaning cache.tag part.mask visit.course lease
       → HoldsAsMuch equal_regions region_meaning regions t u → HoldsTheLease {E = E} equal_masks mask_meaning cache q s (Ok lease)
       → AreHad (take (n + 1) parts) u s after
   one-more {E} parts n part t u q s leases after lease there is pushed tagged h v much holds =

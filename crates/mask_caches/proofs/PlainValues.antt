@@ -1,5 +1,6 @@
 -- The value of a region that isn't widened is that of its outline; and what is made of a region.
-use Rattle.std.proofs.Common.{◌≡◌, ℕ, zero, suc, ◌==◌, ◌&&◌, not, Bool, true, false, List, Result, Ok, Err, refl, sym, ap, ◌∙◌, subst}
+use Rattle.std.proofs.Common.{◌≡◌, ℕ, ◌==◌, ◌&&◌, not, Bool, true, false, List, Result, refl, sym, ap, ◌∙◌, subst}
+use Rattle.std.proofs.lemmas.Bool.{eqb-true}
 use Rattle.std.specs.Result.{IfOk}
 use Rattle.std.specs.Arc.{arc_value}
 use Rattle.std.specs.declared.sync.Arc.{Arc}
@@ -25,9 +26,12 @@ true-false : true ≡ false → ⊥
 true-false e = cc
 
 zero-radii : (rx ry : ℕ) → not ((rx == 0) && (ry == 0)) ≡ false → (rx ≡ 0) × (ry ≡ 0)
-zero-radii zero zero plain = (refl, refl)
-zero-radii zero (suc ry) plain = absurd (true-false plain)
-zero-radii (suc rx) ry plain = absurd (true-false plain)
+zero-radii rx ry plain = by (rx == 0) (ry == 0) refl refl plain
+  where
+    by : (a b : Bool) → (rx == 0) ≡ a → (ry == 0) ≡ b → not (a && b) ≡ false → (rx ≡ 0) × (ry ≡ 0)
+    by true true is same plain = (eqb-true rx 0 is, eqb-true ry 0 same)
+    by true false is same plain = absurd (true-false plain)
+    by false b is same plain = absurd (true-false plain)
 
 pub outline-near : (fonts : List FontValue) (key : OutlineKey) → IsRegionWithin max_inside (outline_value fonts key).top (outline_value fonts key).rows
 outline-near fonts key = region_within-limit max_inside (inside (rings_of fonts key))

@@ -1,5 +1,5 @@
 -- The three passes go together after calls that neither split nor join.
-use Rattle.std.proofs.Common.{◌≡◌, ℕ, sym, ◌∙◌}
+use Rattle.std.proofs.Common.{sym, ◌∙◌}
 use Rattle.flight_cache.specs.Shards.{CachePassView}
 use Rattle.flight_cache.specs.Laws.{IsLater}
 use Rattle.mask_caches.specs.Together.{AreTogether}

@@ -1,18 +1,18 @@
 -- A key's value through a cache: the ask, what it is made of, and settling; and giving it back.
-use Rattle.std.proofs.Common.{◌≡◌, ℕ, ◌+◌, ◌≤◌, ◌&&◌, ◌||◌, not, Bool, true, false, List, [], ◌∷◌, ◌++◌, Option, Some, None, Result, Ok, Err, refl, sym, ap, ◌∙◌, subst, arith}
+use Rattle.std.proofs.Common.{◌≡◌, ◌&&◌, ◌||◌, not, Bool, true, false, List, [], ◌∷◌, ◌++◌, Option, Some, None, Result, Ok, Err, refl, sym, ap, ◌∙◌, subst, arith}
 use Rattle.std.proofs.lemmas.List.{append-nil}
 use Rattle.std.specs.Option.{IfSome}
 use Rattle.std.specs.Result.{IfOk, OnOk}
 use Rattle.std.specs.Cmp.{IsEquivalence}
 use Rattle.std.specs.Arc.{arc_value}
 use Rattle.std.specs.declared.sync.Arc.{Arc}
-use Rattle.evict_core.specs.Machine.{Step, Hit, Claim, Crowded, Ask, Fill, Fail, Unpin}
+use Rattle.evict_core.specs.Machine.{Step, Hit, Claim, Crowded, Ask, Fail}
 use Rattle.evict_core.specs.History.{one_if}
 use Rattle.flight_cache.specs.Meaning.{Meaning}
 use Rattle.flight_cache.specs.Calls.{TicketView, PinView}
 use Rattle.flight_cache.specs.Shards.{CacheView, CachePassView}
-use Rattle.mask_caches.specs.Adding.{Adds, HoldsAsMuch, pins_of, is_open}
-use Rattle.mask_caches.specs.Courses.{Course, Found, Filled, Failed, MadeApart, FailedApart, Unasked, has_value, has_pin, is_made, fill_step, course_steps, unpin_steps, use_steps, IsLeaseOf, IsHadBy, HoldsTheLease, pins_in, duty_steps, IsDutyOf, IsNewDuty, settled_steps, IsFilled, IsSettled}
+use Rattle.mask_caches.specs.Adding.{Adds, HoldsAsMuch, is_open}
+use Rattle.mask_caches.specs.Courses.{Course, Found, Filled, Failed, MadeApart, FailedApart, Unasked, has_value, is_made, fill_step, course_steps, unpin_steps, use_steps, IsLeaseOf, IsHadBy, HoldsTheLease, pins_in, duty_steps, IsDutyOf, IsNewDuty, settled_steps, IsSettled}
 use Rattle.mask_caches.specs.Leases.{HoldsLease, given_steps, lease_value}
 use Rattle.mask_caches.specs.declared.lease.Lease.{Lease}
 use Rattle.mask_caches.specs.declared.lease.Lease.TheVariants.{Pinned, Own}
@@ -23,7 +23,7 @@ reclosed : (here was after last : Bool) → (here ≡ true → was ≡ false) �
 reclosed true was after last new opens closes = closes ∙ sym (new refl)
 reclosed false was after last new opens closes = closes ∙ opens
 
-false-true : false ≡ true → ⊥
+pub false-true : false ≡ true → ⊥
 false-true e = cc
 
 pub any-ok : {A E P : Type 0} (r : Result A E) → P → OnOk r P

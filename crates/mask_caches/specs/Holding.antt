@@ -1,7 +1,6 @@
 -- Inner: leases of masks that are held together.
 use Rattle.std.specs.Prelude.{◌≡◌, ◌+◌, Bool, true, List, [], ◌∷◌, length, map, reverse, flat_map, All}
 use Rattle.std.specs.Arc.{arc_value}
-use Rattle.bdf_font.specs.Fonts.{FontValue}
 use Rattle.evict_core.specs.Machine.{Step}
 use Rattle.evict_core.specs.History.{times_named}
 use Rattle.flight_cache.specs.Meaning.{Meaning}

@@ -1,4 +1,4 @@
-use Rattle.std.proofs.Common.{◌≡◌, List, length, map, Result, All, sym, ap, ◌∙◌, subst}
+use Rattle.std.proofs.Common.{◌≡◌, List, length, map, All, sym, ap, ◌∙◌, subst}
 use Rattle.std.specs.Result.{IfOk}
 use Rattle.std.specs.Arc.{arc_value}
 use Rattle.std.proofs.lemmas.List.{length-map}

@@ -2,7 +2,7 @@ use Rattle.cache_kinds.specs.Kinds.{mask_meaning}
 use Rattle.mask_keys.specs.Equality.{equal_masks}
 use Rattle.mask_keys.specs.contracts.mask_key.MaskKeyEq.TheImpl.Laws as mask_laws
 use Rattle.mask_caches.proofs.Adding.{adds-stays}
-use Rattle.mask_caches.proofs.Releasing.{released-all, released-held, released-more, released-none}
+use Rattle.mask_caches.proofs.Releasing.{released-held, released-more, released-none}
 use Rattle.mask_caches.proofs.composites.give_all_back.Goals as goal
 
 pub loop-lease-init : goal.loop-lease-init

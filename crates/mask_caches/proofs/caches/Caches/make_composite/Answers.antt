@@ -55,8 +55,13 @@ returns g c =
     let same = c.as_slice-parts.ensures in
     let after = c.give_all_back-masks.result in
     record {
-      visits = (v.0, subst (λ (l : List Part). AreMaskVisits l v.0) same v.1.are, v.2, given-then equal_masks mask_meaning cache c.args.masks r.masks after (flat_map (mask_steps cache.tag) v.0) (all_given_steps r.leases.items) (flat_map (mask_unpins cache.tag) (reverse v.0)) v.1.given v.3 c.give_all_back-masks.ensures.steps,
-          on-ok-then made c.composed-made.ensures.all (λ yes. subst (λ (l : List Part). AreAllHad l v.0) same (v.1.all yes)));
+      visits = (
+        v.0,
+        subst (λ (l : List Part). AreMaskVisits l v.0) same v.1.are,
+        v.2,
+        given-then equal_masks mask_meaning cache c.args.masks r.masks after (flat_map (mask_steps cache.tag) v.0) (all_given_steps r.leases.items) (flat_map (mask_unpins cache.tag) (reverse v.0)) v.1.given v.3 c.give_all_back-masks.ensures.steps,
+        on-ok-then made c.composed-made.ensures.all (λ yes. subst (λ (l : List Part). AreAllHad l v.0) same (v.1.all yes)),
+      );
       outlines = c.visit_masks-outlines.ensures.outlines;
       holds = given-back equal_masks mask_meaning cache c.args.masks r.masks after (pinned_keys r.leases.items) c.visit_masks-outlines.ensures.holds c.give_all_back-masks.ensures.holds;
       value = subst (λ (l : List Part). IfOk made (λ a. arc_value a ≡ summed_mask (map (placed_part fonts) l))) same (composed-value fonts c.as_slice-parts.result.now r.leases.items r.are_all v.1.values made c.composed-made.ensures.all c.composed-made.ensures.value);

@@ -1,4 +1,4 @@
-use Rattle.std.proofs.Common.{ap, ◌∙◌, refl}
+use Rattle.std.proofs.Common.{◌≡◌, true, ap, ◌∙◌}
 use Rattle.std.specs.Arc.{arc_value}
 use Rattle.mask_keys.specs.Equality.{equal_regions}
 use Rattle.mask_keys.specs.Keys.{region_key}
@@ -7,7 +7,7 @@ use Rattle.mask_keys.proofs.Equal.{region_same}
 use Rattle.mask_keys.specs.contracts.region_key.RegionKeyEq.TheImpl.Laws as region_laws
 use Rattle.mask_model.specs.Values.{region_value}
 use Rattle.cache_kinds.specs.Kinds.{region_meaning}
-use Rattle.mask_caches.specs.Courses.{Unasked}
+use Rattle.mask_caches.specs.Courses.{Unasked, has_value}
 use Rattle.mask_caches.proofs.Adding.{adds-none, adds-stays}
 use Rattle.mask_caches.proofs.Levels.{no-region-visit, region-refused, region-used}
 use Rattle.mask_caches.proofs.PlainValues.{mask-made, region-near}
@@ -48,7 +48,7 @@ returns-in-Ok-had g c =
     let cache = c.args.self.now.outlines in
     let u = region-used cache c.args.outlines c.region-outlines.result.0 c.give_back.result c.in-Ok.region_key c.in-Ok-had.lease c.args.key.now c.in-Ok.ensures v c.give_back.ensures.steps in
     record {
-      region = (u.0, u.1, u.2, any-ok c.mask_from-made.result u.3);
+      region = (u.0, u.1, u.2, any-ok {P = has_value u.0.course ≡ true} c.mask_from-made.result u.3);
       holds = given-again equal_regions region_laws.laws-law region_same region_meaning cache c.args.outlines c.region-outlines.result.0 c.give_back.result c.in-Ok-had.lease holds c.give_back.ensures.steps;
       value = mask-made (arc_value fonts).fonts c.args.key.now c.value.result.now c.mask_from-made.result
           (c.value.ensures ∙ (region-of-fonts fonts cache.tag c.args.self.now.tags.outlines_have v.0.course c.in-Ok.region_key c.in-Ok-had.lease v.3 ∙ ap (λ (k : RegionKey). region_value (arc_value fonts).fonts k) c.in-Ok.ensures))

@@ -1,4 +1,4 @@
-use Rattle.std.proofs.Common.{ap, ◌∙◌, refl}
+use Rattle.std.proofs.Common.{◌≡◌, true, ap, ◌∙◌}
 use Rattle.std.specs.Arc.{arc_value}
 use Rattle.mask_keys.specs.Equality.{equal_regions}
 use Rattle.mask_keys.specs.declared.region_key.RegionKey.{RegionKey}
@@ -6,7 +6,7 @@ use Rattle.mask_keys.proofs.Equal.{region_same}
 use Rattle.mask_keys.specs.contracts.region_key.RegionKeyEq.TheImpl.Laws as region_laws
 use Rattle.mask_model.specs.Values.{region_value}
 use Rattle.cache_kinds.specs.Kinds.{region_meaning}
-use Rattle.mask_caches.specs.Courses.{Unasked}
+use Rattle.mask_caches.specs.Courses.{Unasked, has_value}
 use Rattle.mask_caches.proofs.Adding.{adds-none, adds-stays}
 use Rattle.mask_caches.proofs.Levels.{outline-refused, outline-used}
 use Rattle.mask_caches.proofs.PlainValues.{outline-had-near, widened-made}
@@ -45,7 +45,7 @@ returns-in-Ok-had g c =
     let cache = c.args.self.now.outlines in
     let u = outline-used cache c.args.pass c.outline-pass.result.0 c.give_back.result c.in-Ok.outline c.in-Ok-had.lease c.args.key.now c.in-Ok.ensures v c.give_back.ensures.steps in
     record {
-      outline = (u.0, u.1, any-ok c.widened_from-made.result u.2);
+      outline = (u.0, u.1, any-ok {P = has_value u.0 ≡ true} c.widened_from-made.result u.2);
       holds = given-again equal_regions region_laws.laws-law region_same region_meaning cache c.args.pass c.outline-pass.result.0 c.give_back.result c.in-Ok-had.lease holds c.give_back.ensures.steps;
       value = widened-made (arc_value fonts).fonts c.args.key.now c.value.result.now c.widened_from-made.result
           (c.value.ensures ∙ (region-of-fonts fonts cache.tag c.args.self.now.tags.outlines_have v.0 c.in-Ok.outline c.in-Ok-had.lease v.2 ∙ ap (λ (k : RegionKey). region_value (arc_value fonts).fonts k) c.in-Ok.ensures))

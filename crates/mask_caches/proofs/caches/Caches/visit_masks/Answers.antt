@@ -1,22 +1,22 @@
-use Rattle.std.proofs.Common.{◌≡◌, ◌<◌, List, length, take, ◌++◌, [], ◌∷◌, sym, ap, ◌∙◌, subst, arith, rules}
+use Rattle.std.proofs.Common.{◌≡◌, ◌<◌, List, length, map, [], sym, ap, subst, arith, rules}
 use Rattle.std.specs.Arc.{arc_value}
 use Rattle.std.specs.declared.sync.Arc.{Arc}
 use Rattle.std.specs.declared.alloc.Global.{Global}
 use Rattle.ass_num.specs.Masks.{MaskValue}
-use Rattle.std.proofs.lemmas.List.{take_more}
 use Rattle.bdf_font.specs.declared.font.FontSet.{FontSet}
 use Rattle.mask_keys.specs.Equality.{equal_masks, equal_regions}
-use Rattle.mask_keys.specs.Keys.{IsValidPart}
-use Rattle.mask_keys.specs.declared.composite_key.Part.{Part}
 use Rattle.mask_keys.specs.declared.mask_key.MaskKey.{MaskKey}
 use Rattle.mask_keys.proofs.Equal.{mask_same}
 use Rattle.mask_keys.specs.contracts.mask_key.MaskKeyEq.TheImpl.Laws as mask_laws
 use Rattle.cache_kinds.specs.declared.kinds.MaskMade.{MaskMade}
 use Rattle.mask_caches.specs.declared.lease.Lease.{Lease}
 use Rattle.cache_kinds.specs.Kinds.{mask_meaning, region_meaning}
+use Rattle.made_values.specs.Parts.{masks_of}
+use Rattle.mask_caches.specs.Holding.{AreAllHad}
+use Rattle.mask_caches.specs.Leases.{lease_value}
 use Rattle.mask_caches.proofs.Adding.{adds-stays}
 use Rattle.mask_caches.proofs.PartVisits.{AreHad, all-had, none-had, one-more, one-refused}
-use Rattle.mask_caches.proofs.Visiting.{refused-much}
+use Rattle.mask_caches.proofs.Visiting.{false-true, refused-much}
 use Rattle.mask_caches.proofs.caches.Caches.visit_masks.Goals as goal
 
 pub loop-part-init : goal.loop-part-init
@@ -62,7 +62,7 @@ returns-in-Err g c =
     let r = one-refused (arc_value c.args.self.now.fonts).fonts regions cache c.args.outlines c.args.masks xs i c.part-item.result c.loop-part.outlines c.mask-next_outlines.result.0 c.loop-part.masks c.mask-next_outlines.result.1
     c.loop-part.leases.items there c.part-item.is c.loop-part.invariant.had v c.mask-next_outlines.ensures.outlines same in
     record {
-      visits = (r.visits, record { are = r.are; given = r.given; all = λ no. cc; values = λ no. cc }, r.outlines, r.masks);
+      visits = (r.visits, record { are = r.are; given = r.given; all = λ no. absurd {A = AreAllHad xs r.visits} (false-true no); values = λ no. absurd {A = map lease_value c.loop-part.leases.items ≡ masks_of (arc_value c.args.self.now.fonts).fonts xs} (false-true no) }, r.outlines, r.masks);
       outlines = r.outlines_hold;
       holds = r.masks_hold;
     }
