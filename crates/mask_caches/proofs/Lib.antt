@@ -1,2 +1,11 @@
 pub mod Adding
+pub mod Closing
+pub mod Composed
+pub mod Levels
 pub mod Opening
+pub mod PartVisits
+pub mod PlainValues
+pub mod Releasing
+pub mod Staying
+pub mod Tagged
+pub mod Visiting

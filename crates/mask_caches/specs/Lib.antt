@@ -1,4 +1,9 @@
 pub mod Adding
 pub mod Caches
+pub mod Composing
+pub mod Courses
+pub mod Holding
 pub mod Leases
+pub mod Threes
 pub mod Together
+pub mod Visits

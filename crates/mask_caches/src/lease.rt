@@ -1,9 +1,11 @@
 //! What a caller has of a value.
-ghost use Rattle.std.specs.Prelude.{◌≡◌, false};
+ghost use Rattle.std.specs.Prelude.{◌≡◌, false, IfOk};
+ghost use Rattle.std.specs.Arc.{arc_value};
 ghost use Rattle.flight_cache.specs.Shards.{IsCacheOf};
 ghost use Rattle.mask_caches.specs.Adding.{Adds};
 ghost use Rattle.mask_caches.specs.Leases.{HoldsLease, given_steps, is_pinned, lease_value};
 
+use ass_num::Mem;
 use flight_cache::{Cache, CachePass, Made, Pin};
 use std::sync::{Arc, Wait};
 
@@ -21,6 +23,16 @@ impl<M: Made> Lease<M> {
         match self {
             Lease::Pinned(pin) => pin.value(),
             Lease::Own(value) => value,
+        }
+    }
+
+    // The value, shared with the lease.
+    pub(crate) fn share(&self) -> Mem<Arc<M::Value>>
+        ensures { IfOk result (λ a. arc_value a ≡ lease_value self.now) }
+    {
+        match self {
+            Lease::Pinned(pin) => pin.share(),
+            Lease::Own(value) => Ok(Arc::try_clone(value)?),
         }
     }
 }

@@ -3,8 +3,12 @@
 
 mod caches;
 mod calls;
+mod composites;
 mod lease;
+mod lending;
+mod masks;
 mod passes;
+mod regions;
 
 pub use caches::Caches;
 pub use lease::Lease;

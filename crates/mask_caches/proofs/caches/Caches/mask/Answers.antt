@@ -1,0 +1,61 @@
+use Rattle.mask_keys.specs.Equality.{equal_masks, equal_regions}
+use Rattle.mask_keys.proofs.Equal.{mask_same, region_same}
+use Rattle.mask_keys.specs.contracts.mask_key.MaskKeyEq.TheImpl.Laws as mask_laws
+use Rattle.mask_keys.specs.contracts.region_key.RegionKeyEq.TheImpl.Laws as region_laws
+use Rattle.cache_kinds.specs.Kinds.{mask_meaning, region_meaning}
+use Rattle.mask_caches.proofs.Adding.{adds-none, adds-stays}
+use Rattle.mask_caches.proofs.Tagged.{mask-cost, mask-tagged}
+use Rattle.mask_caches.proofs.Levels.{found-mask, made-mask, unasked-mask}
+use Rattle.mask_caches.proofs.Visiting.{duty-open, duty-value, found-holds, much-itself, settled-holds, unasked-holds}
+use Rattle.mask_caches.proofs.caches.Caches.mask.Goals as goal
+
+pub returns-in-Had : goal.returns-in-Had
+returns-in-Had g c =
+    let asks = rw c.in-Had.is at c.ask-masks.ensures.steps in
+    let need = rw c.in-Had.is at c.ask-masks.ensures.need in
+    record {
+      visit = found-mask c.args.self.now.outlines c.args.self.now.masks c.args.key.now c.args.outlines c.args.outlines c.args.masks c.ask-masks.result.0 c.in-Had.pin (adds-none equal_regions region_meaning c.args.self.now.outlines c.args.outlines) asks need;
+      outlines = much-itself equal_regions region_laws.laws-law region_same region_meaning c.args.self.now.outlines c.args.outlines;
+      holds = found-holds equal_masks mask_laws.laws-law mask_same mask_meaning c.args.self.now.masks c.args.key.now c.args.masks c.ask-masks.result.0 c.in-Had.pin asks need;
+    }
+
+pub settle-masks-requires : goal.settle-masks-requires
+settle-masks-requires g c =
+    let asks = rw c.in-Make.is at c.ask-masks.ensures.steps in
+    let need = rw c.in-Make.is at c.ask-masks.ensures.need in
+    let made = c.make_mask-outlines.result.1 in
+    let q = c.ask-masks.result.0 in
+    record {
+      cell = adds-stays equal_masks mask_meaning c.args.self.now.masks c.args.masks q _ c.requires.masks asks;
+      claimed = duty-open equal_masks mask_laws.laws-law mask_same mask_meaning c.args.self.now.masks c.args.key.now c.args.masks q q c.in-Make.duty asks need (much-itself equal_masks mask_laws.laws-law mask_same mask_meaning c.args.self.now.masks q);
+      value = duty-value equal_masks mask_laws.laws-law mask_same mask_meaning c.args.self.now.masks c.args.key.now c.in-Make.duty made need
+          (mask-tagged c.args.self.now.fonts c.args.self.now.masks.tag c.args.key.now made c.args.self.now.tags.masks_have c.make_mask-outlines.ensures.value);
+      cost = mask-cost made;
+    }
+
+pub returns-in-Make : goal.returns-in-Make
+returns-in-Make g c =
+    let asks = rw c.in-Make.is at c.ask-masks.ensures.steps in
+    let need = rw c.in-Make.is at c.ask-masks.ensures.need in
+    let new = rw c.in-Make.is at c.ask-masks.ensures.new in
+    let cache = c.args.self.now.masks in
+    let q = c.ask-masks.result.0 in
+    let made = c.make_mask-outlines.result.1 in
+    let had = c.settle-masks.result.1 in
+    record {
+      visit = made-mask c.args.self.now.outlines cache c.args.key.now c.args.outlines c.make_mask-outlines.result.0 c.args.masks q c.settle-masks.result.0 c.in-Make.duty made had
+          asks need c.make_mask-outlines.ensures.region c.settle-masks.ensures.steps c.settle-masks.ensures.settled
+          (mask-tagged c.args.self.now.fonts cache.tag c.args.key.now made c.args.self.now.tags.masks_have c.make_mask-outlines.ensures.value);
+      outlines = c.make_mask-outlines.ensures.holds;
+      holds = settled-holds equal_masks mask_laws.laws-law mask_same mask_meaning cache c.args.key.now c.args.masks q q c.settle-masks.result.0 c.in-Make.duty made had
+          asks need new (much-itself equal_masks mask_laws.laws-law mask_same mask_meaning cache q) c.settle-masks.ensures.steps c.settle-masks.ensures.settled;
+    }
+
+pub returns-in-OutOfMemory : goal.returns-in-OutOfMemory
+returns-in-OutOfMemory g c =
+    let asks = rw c.in-OutOfMemory.is at c.ask-masks.ensures.steps in
+    record {
+      visit = unasked-mask c.args.self.now.outlines c.args.self.now.masks c.args.key.now c.args.outlines c.args.outlines c.args.masks c.ask-masks.result.0 (adds-none equal_regions region_meaning c.args.self.now.outlines c.args.outlines) asks;
+      outlines = much-itself equal_regions region_laws.laws-law region_same region_meaning c.args.self.now.outlines c.args.outlines;
+      holds = unasked-holds equal_masks mask_laws.laws-law mask_same mask_meaning c.args.self.now.masks c.args.masks c.ask-masks.result.0 _ asks;
+    }

@@ -1,0 +1,15 @@
+use Rattle.std.proofs.Common.{◌≡◌, ◌≤◌, length, take, vec_len}
+use Rattle.std.specs.Vec.{vec_capacity}
+use Rattle.std.specs.Arc.{arc_value}
+use Rattle.flight_cache.specs.Shards.{IsCacheOf}
+use Rattle.mask_caches.proofs.PartVisits.{AreHad}
+use Rattle.mask_caches.proofs.caches.Caches.visit_masks.Given as goal
+
+abbrev pub invariant-loop-part : goal.invariant-loop-part
+invariant-loop-part g l = record {
+  len : vec_len l.leases ≡ l.part-index;
+  room : length l.parts ≤ vec_capacity l.leases;
+  outlines_of : IsCacheOf l.self.outlines l.outlines;
+  masks_of : IsCacheOf l.self.masks l.masks;
+  had : AreHad (arc_value l.self.fonts).fonts l.self.outlines l.self.masks l.fn.outlines l.fn.masks (take l.part-index l.parts) l.outlines l.masks l.leases.items;
+}

@@ -1,0 +1,288 @@
+//! Composed masks through the three caches.
+ghost use Rattle.std.specs.Prelude.{◌≡◌, ◌≤◌, true, List, [], length, map, flat_map, All, IfOk, OnOk, vec_capacity, vec_len};
+ghost use Rattle.std.specs.Arc.{arc_value};
+ghost use Rattle.flight_cache.specs.Shards.{HoldsEach, IsCacheOf};
+ghost use Rattle.cache_kinds.specs.Kinds.{composite_meaning, mask_meaning, region_meaning};
+ghost use Rattle.made_values.specs.Parts.{placed_masks};
+ghost use Rattle.mask_cover.specs.Sums.{IsPlaceableMask};
+ghost use Rattle.mask_keys.specs.Equality.{equal_composites, equal_masks, equal_regions};
+ghost use Rattle.mask_keys.specs.Keys.{IsValidComposite, IsValidPart};
+ghost use Rattle.mask_model.specs.Masks.{summed_mask};
+ghost use Rattle.mask_model.specs.Outlines.{glyph_counts};
+ghost use Rattle.mask_model.specs.Values.{composite_value};
+ghost use Rattle.mask_caches.specs.Adding.{Adds, HoldsAsMuch};
+ghost use Rattle.mask_caches.specs.Caches.{IsPassOf};
+ghost use Rattle.mask_caches.specs.Composing.{HoldsJustTheLease, IsComposed};
+ghost use Rattle.mask_caches.specs.Threes.{three, three_of};
+ghost use Rattle.mask_caches.specs.Holding.{AreAllHad, AreVisited, HoldsFewer, HoldsMore, all_given_steps, pinned_keys};
+ghost use Rattle.mask_caches.specs.Leases.{lease_value};
+ghost use Rattle.mask_caches.specs.Visits.{AreMaskVisits, MaskVisit, mask_steps, mask_steps_of, region_steps_of};
+
+use crate::caches::Caches;
+use crate::lease::{Lease, give_back};
+use crate::lending::{Need, ask, settle};
+use crate::passes::CachesPass;
+use ass_io::{Gate, Kind, Place};
+use ass_num::{Mask, Mem, OutOfMemory};
+use cache_kinds::{CompositeMade, MaskMade, OutlineMade};
+use flight_cache::{Cache, CachePass};
+use made_values::made_composite;
+use mask_keys::{CompositeKey, Part};
+use std::alloc::Global;
+use std::sync::{Arc, Wait};
+
+/// The values of leases, each shared with its lease.
+fn shared(alloc: Global, leases: &Vec<Lease<MaskMade>>) -> Mem<Vec<Arc<Mask>>>
+    ensures { IfOk result (λ shares. map arc_value shares.items ≡ map lease_value leases.now.items) }
+{
+    let mut shares = Vec::new(alloc);
+    for lease in leases {
+        shares.push(lease.share()?)?;
+    }
+    Ok(shares)
+}
+
+/// The composed mask of parts, from the leases of their masks, where all are had.
+fn composed<G: Gate>(
+    alloc: Global,
+    parts: &[Part],
+    leases: &Vec<Lease<MaskMade>>,
+    are_all: bool,
+    gate: &G,
+) -> Mem<Arc<Mask>>
+    requires count { are_all ≡ true → length leases.now.items ≡ length parts.now }
+    requires masks { are_all ≡ true → All IsPlaceableMask (placed_masks parts.now (map lease_value leases.now.items)) }
+    ensures all { OnOk result (are_all ≡ true) }
+    ensures value { IfOk result (λ a. arc_value a ≡ summed_mask (placed_masks parts.now (map lease_value leases.now.items))) }
+{
+    if !are_all {
+        return Err(OutOfMemory);
+    }
+    gate.at(Place::BeforeMake(Kind::Composite));
+    let shares = shared(alloc, leases)?;
+    made_composite(alloc, parts, &shares)
+}
+
+/// Gives leases back, the last one first.
+fn give_all_back<R: Wait>(
+    cache: &Cache<MaskMade>,
+    rt: &R,
+    pass: CachePass<MaskMade>,
+    leases: Vec<Lease<MaskMade>>,
+) -> CachePass<MaskMade>
+    requires cell { IsCacheOf cache.now pass }
+    requires held { HoldsEach equal_masks mask_meaning cache.now pass (pinned_keys leases.items) }
+    ensures steps { Adds equal_masks mask_meaning cache.now pass result (all_given_steps leases.items) }
+    ensures holds { HoldsFewer equal_masks mask_meaning cache.now pass result (pinned_keys leases.items) }
+{
+    let mut leases = leases;
+    let mut pass = pass;
+    while let Some(lease) = leases.pop() {
+        pass = give_back(cache, rt, pass, lease);
+    }
+    leases.destroy_empty();
+    pass
+}
+
+/// What is had of the masks of parts, and whether all were.
+struct Masks {
+    outlines: CachePass<OutlineMade>,
+    masks: CachePass<MaskMade>,
+    leases: Vec<Lease<MaskMade>>,
+    are_all: bool,
+}
+
+/// The passes of the three caches, of whatever numbers.
+struct Passes {
+    outlines: CachePass<OutlineMade>,
+    masks: CachePass<MaskMade>,
+    composites: CachePass<CompositeMade>,
+}
+
+impl Caches {
+    // The masks of parts through their cache, in the order of the parts, until one can't be had. There is room for the leases.
+    fn visit_masks<R: Wait, G: Gate>(
+        &self,
+        rt: &R,
+        alloc: Global,
+        outlines: CachePass<OutlineMade>,
+        masks: CachePass<MaskMade>,
+        parts: &[Part],
+        leases: Vec<Lease<MaskMade>>,
+        gate: &G,
+    ) -> Masks
+        requires outlines { IsCacheOf self.now.outlines outlines }
+        requires masks { IsCacheOf self.now.masks masks }
+        requires parts { All (IsValidPart (glyph_counts (arc_value self.now.fonts).fonts)) parts.now }
+        requires empty { leases.items ≡ [] }
+        requires len { vec_len leases ≡ 0 }
+        requires room { length parts.now ≤ vec_capacity leases }
+        ensures visits { (visits : List MaskVisit) × AreVisited self.now parts.now visits result
+            × Adds equal_regions region_meaning self.now.outlines outlines result.outlines (region_steps_of self.now.outlines.tag visits)
+            × Adds equal_masks mask_meaning self.now.masks masks result.masks (flat_map (mask_steps self.now.masks.tag) visits) }
+        ensures outlines { HoldsAsMuch equal_regions region_meaning self.now.outlines outlines result.outlines }
+        ensures holds { HoldsMore equal_masks mask_meaning self.now.masks masks result.masks (pinned_keys result.leases.items) }
+    {
+        let mut outlines = outlines;
+        let mut masks = masks;
+        let mut leases = leases;
+        for part in parts {
+            let (next_outlines, next_masks, had) = self.mask(
+                rt, alloc, outlines, masks, &part.mask, gate,
+            );
+            outlines = next_outlines;
+            masks = next_masks;
+            match had {
+                Ok(lease) => leases.push_reserved(lease),
+                Err(_) => {
+                    return Masks {
+                        outlines,
+                        masks,
+                        leases,
+                        are_all: false,
+                    };
+                }
+            }
+        }
+        Masks {
+            outlines,
+            masks,
+            leases,
+            are_all: true,
+        }
+    }
+
+    // The composed mask of a key, from the masks of its parts, which are had through their cache.
+    fn make_composite<R: Wait, G: Gate>(
+        &self,
+        rt: &R,
+        alloc: Global,
+        outlines: CachePass<OutlineMade>,
+        masks: CachePass<MaskMade>,
+        key: &CompositeKey,
+        gate: &G,
+    ) -> (CachePass<OutlineMade>, CachePass<MaskMade>, Mem<Arc<Mask>>)
+        requires outlines { IsCacheOf self.now.outlines outlines }
+        requires masks { IsCacheOf self.now.masks masks }
+        requires key { IsValidComposite (glyph_counts (arc_value self.now.fonts).fonts) key.now }
+        ensures visits { (visits : List MaskVisit) × AreMaskVisits key.now.parts visits
+            × Adds equal_regions region_meaning self.now.outlines outlines result.0 (region_steps_of self.now.outlines.tag visits)
+            × Adds equal_masks mask_meaning self.now.masks masks result.1 (mask_steps_of self.now.masks.tag visits)
+            × OnOk result.2 (AreAllHad key.now.parts visits) }
+        ensures outlines { HoldsAsMuch equal_regions region_meaning self.now.outlines outlines result.0 }
+        ensures holds { HoldsAsMuch equal_masks mask_meaning self.now.masks masks result.1 }
+        ensures value { IfOk result.2 (λ a. arc_value a ≡ composite_value (arc_value self.now.fonts).fonts key.now) }
+    {
+        let parts = key.parts.as_slice();
+        let mut leases = Vec::new(alloc);
+        if leases.reserve(parts.len()).is_err() {
+            leases.destroy_empty();
+            return (outlines, masks, Err(OutOfMemory));
+        }
+        let Masks {
+            outlines,
+            masks,
+            leases,
+            are_all,
+        } = self.visit_masks(rt, alloc, outlines, masks, parts, leases, gate);
+        let made = composed(alloc, parts, &leases, are_all, gate);
+        let masks = give_all_back(&self.masks, rt, masks, leases);
+        (outlines, masks, made)
+    }
+
+    // What `composite` does, on the passes themselves.
+    fn visit_composite<R: Wait, G: Gate>(
+        &self,
+        rt: &R,
+        alloc: Global,
+        passes: Passes,
+        key: &CompositeKey,
+        gate: &G,
+    ) -> (Passes, Mem<Lease<CompositeMade>>)
+        requires outlines { IsCacheOf self.now.outlines passes.outlines }
+        requires masks { IsCacheOf self.now.masks passes.masks }
+        requires composites { IsCacheOf self.now.composites passes.composites }
+        requires key { IsValidComposite (glyph_counts (arc_value self.now.fonts).fonts) key.now }
+        ensures composed { IsComposed self.now (three passes) key.now (three result.0) result.1 }
+        ensures holds { HoldsJustTheLease self.now (three passes) key.now (three result.0) result.1 }
+    {
+        let Passes {
+            outlines,
+            masks,
+            composites,
+        } = passes;
+        let (composites, need) = ask(&self.composites, rt, alloc, composites, key);
+        match need {
+            Need::Had(pin) => {
+                let passes = Passes {
+                    outlines,
+                    masks,
+                    composites,
+                };
+                (passes, Ok(Lease::Pinned(pin)))
+            }
+            Need::Make(duty) => {
+                let (outlines, masks, made) = self.make_composite(
+                    rt, alloc, outlines, masks, key, gate,
+                );
+                let (composites, had) = settle(&self.composites, rt, composites, duty, made);
+                let passes = Passes {
+                    outlines,
+                    masks,
+                    composites,
+                };
+                (passes, had)
+            }
+            Need::OutOfMemory => {
+                let passes = Passes {
+                    outlines,
+                    masks,
+                    composites,
+                };
+                (passes, Err(OutOfMemory))
+            }
+        }
+    }
+
+    /// A lease of the key's composed mask. What isn't there is made: the call asks for the mask of each part in their
+    /// order, for each missing mask its region, and for a missing widened region that of its outline. What the cache has
+    /// no room for is made apart, and is the caller's own. Waits while another thread makes what it asks for; at most one
+    /// making in each cache, of each of these four kinds, is under way in this call.
+    pub fn composite<R: Wait, G: Gate>(
+        &self,
+        rt: &R,
+        alloc: Global,
+        pass: CachesPass,
+        key: &CompositeKey,
+        gate: &G,
+    ) -> (CachesPass, Mem<Lease<CompositeMade>>)
+        requires pass { IsPassOf self.now pass }
+        requires key { IsValidComposite (glyph_counts (arc_value self.now.fonts).fonts) key.now }
+        ensures composed { IsComposed self.now (three_of pass) key.now (three_of result.0) result.1 }
+        ensures value { IfOk result.1 (λ lease. lease_value lease ≡ composite_value (arc_value self.now.fonts).fonts key.now) }
+        ensures holds { HoldsJustTheLease self.now (three_of pass) key.now (three_of result.0) result.1 }
+    {
+        let CachesPass {
+            outlines,
+            masks,
+            composites,
+        } = pass;
+        let passes = Passes {
+            outlines,
+            masks,
+            composites,
+        };
+        let (passes, had) = self.visit_composite(rt, alloc, passes, key, gate);
+        let Passes {
+            outlines,
+            masks,
+            composites,
+        } = passes;
+        let pass = CachesPass {
+            outlines,
+            masks,
+            composites,
+        };
+        (pass, had)
+    }
+}
