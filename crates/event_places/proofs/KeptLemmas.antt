@@ -1,15 +1,16 @@
 -- What is known of the boxes that are kept stays so as they come and go. A stand that covers one that was tried needn't try less.
-use Rattle.std.proofs.Common.{◌≡◌, ℕ, ◌<◌, ℤ, pos, ◌+ℤ◌, ◌≤ℤ◌, ◌<ℤ◌, Bool, true, false, cond, List, [], ◌∷◌, get_or, refl, sym, ap, subst, ◌∙◌, arith}
+use Rattle.std.proofs.Common.{◌≡◌, ℕ, ◌+◌, ◌<◌, ℤ, pos, ◌+ℤ◌, ◌≤ℤ◌, ◌<ℤ◌, Bool, true, false, cond, List, [], ◌∷◌, ◌++◌, length, get_or, take, refl, sym, ap, subst, ◌∙◌, arith}
 use Rattle.std.specs.List.{All, Contains, filter}
 use Rattle.std.specs.List.Sorted.{IsPermutation}
 use Rattle.std.proofs.lemmas.Int.{ints}
-use Rattle.std.proofs.lemmas.List.Elements.{All-cons, All-contains, All-filter, All-head, All-map, All-tail, All-weaker, Contains-get_or, filter_passes}
+use Rattle.std.proofs.lemmas.List.{take_more}
+use Rattle.std.proofs.lemmas.List.Elements.{All-cons, All-contains, All-filter, All-head, All-map, All-push, All-tail, All-weaker, Contains-get_or, filter_passes}
 use Rattle.std.proofs.lemmas.List.Sorted.{All-permutation, Contains-permutation}
-use Rattle.placement.specs.Placement.{IsClear, IsLeastShift, IsPlaceableStand, IsShift, Meet, max_height, moved_box}
+use Rattle.placement.specs.Placement.{IsClear, IsPlaceableStand, IsShift, Meet, max_height, moved_box}
 use Rattle.placement.specs.declared.boxes.Box2.{Box2}
 use Rattle.placement.specs.declared.boxes.Stand.{Stand}
 use Rattle.event_places.specs.Limits.{max_shift}
-use Rattle.event_places.specs.Steps.{AreFromLowest, AreKept, AreNoHigher, Covers, CoversBox, IsClearFrom, is_in_way, settled_at, settled_boxes}
+use Rattle.event_places.specs.Steps.{AreFromLowest, AreKept, AreNoHigher, Covers, CoversBox, IsClearFrom, all_stay, is_in_way, settled_at, settled_boxes}
 use Rattle.event_places.specs.declared.kept.Kept.{Kept}
 use Rattle.event_places.specs.declared.settled.Settled.{Settled}
 use Rattle.event_places.specs.declared.spans.EventSpan.{EventSpan}
@@ -23,10 +24,30 @@ filter_all p [] h = refl
 filter_all p (x ∷ xs) h =
     ap (λ b. cond b (x ∷ filter p xs) (filter p xs)) (All-head (λ x. p x ≡ true) x xs h) ∙ ap (λ z. x ∷ z) (filter_all p xs (All-tail (λ x. p x ≡ true) x xs h))
 
-pub all_stay : (kept : Kept) (span : EventSpan) → AreKept kept → span.layer ≡ kept.layer → span.start <ℤ kept.first_end → filter (is_in_way span) kept.boxes.items ≡ kept.boxes.items
-all_stay kept span are layer start =
-    filter_all (is_in_way span) kept.boxes.items
-    (λ k d lt. let last = are.last k d lt in in_way span (get_or kept.boxes.items k d) (are.layer k d lt ∙ sym layer) (omega (arith, ints, last, start)))
+stays_layer : (span : EventSpan) (kept : Kept) → all_stay span kept ≡ true → kept.layer ≡ span.layer
+stays_layer span kept stays = grind (arith, ints)
+
+stays_end : (span : EventSpan) (kept : Kept) → all_stay span kept ≡ true → span.start <ℤ kept.first_end
+stays_end span kept stays = grind (arith, ints)
+
+pub all_stayed : (kept : Kept) (span : EventSpan) → AreKept kept → all_stay span kept ≡ true → (kept.boxes.items ≡ filter (is_in_way span) kept.boxes.items) × (kept.layer ≡ span.layer)
+all_stayed kept span are stays =
+    let layer = stays_layer span kept stays in
+    let start = stays_end span kept stays in (
+      sym
+          (filter_all (is_in_way span) kept.boxes.items
+          (λ k d lt. let last = are.last k d lt in in_way span (get_or kept.boxes.items k d) (are.layer k d lt ∙ layer) (omega (arith, ints, last, start)))),
+      layer,
+    )
+
+-- the earliest end, with one more
+pub ends_more : (first next : ℤ) (settled : List Settled) (k : ℕ) (x : Settled) → k < length settled → x ≡ get_or settled k x → next ≤ℤ first → next ≤ℤ x.end
+    → All (λ (x : Settled). first ≤ℤ x.end) (take k settled) → All (λ (x : Settled). next ≤ℤ x.end) (take (k + 1) settled)
+ends_more first next settled k x lt is before mine old =
+    let Last : ℤ → Settled → Type 0 = λ z x. z ≤ℤ x.end in
+    let wider : All (Last next) (take k settled) = All-weaker (Last first) (Last next) (λ x h. omega (arith, ints, h, before)) (take k settled) old in
+    let more : take (k + 1) settled ≡ take k settled ++ x ∷ [] = take_more settled k x lt ∙ ap (λ z. take k settled ++ z ∷ []) (sym is) in
+    subst (All (Last next)) (sym more) (All-push (Last next) (take k settled) x wider mine)
 
 from_zero : IsShift max_shift (pos 0)
 from_zero = record { from_zero = omega (arith, ints); bounded = omega (arith, ints) }
@@ -63,40 +84,32 @@ tried_again old new are boxes layer last highest tried shift bound = record {
   bound = bound;
 }
 
--- nothing is known of a stand that is new
-pub tried_first : (stand : Stand) (boxes : List Box2) (shift : ℤ) → shift ≡ pos 0 → IsShift max_shift shift × IsClearFrom shift stand boxes
-tried_first stand boxes shift none = (subst (IsShift max_shift) (sym none) from_zero, (λ t from clear. subst (λ z. z ≤ℤ t) (sym none) from))
-
 -- ---- a stand that covers another one
 meet_wider : (down : Bool) (a b o : Box2) (t : ℤ) → CoversBox a b → Meet (moved_box down t b) o → Meet (moved_box down t a) o
 meet_wider true a b o t c m =
-    let left = c.0 in
-    let top = c.1 in
-    let right = c.2 in
-    let bottom = c.3 in
-    let x = m.0 in
-    let y = m.1 in
-    let xa = x.0 in
-    let xc = x.2 in
-    let xd = x.3 in
-    let ya = y.0 in
-    let yc = y.2 in
-    let yd = y.3 in
-    ((omega (arith, ints, left, right, xa), x.1, omega (arith, ints, left, xc), omega (arith, ints, right, xd)), (omega (arith, ints, top, bottom, ya), y.1, omega (arith, ints, top, yc), omega (arith, ints, bottom, yd)))
+    let left = c.0.0 in
+    let right = c.0.1 in
+    let top = c.1.0 in
+    let bottom = c.1.1 in
+    let across = m.0.0 in
+    let from_left = m.0.2 in
+    let to_right = m.0.3 in
+    let inside = m.1.0 in
+    let from_top = m.1.2 in
+    let to_bottom = m.1.3 in
+    ((omega (arith, ints, left, right, across), m.0.1, omega (arith, ints, left, from_left), omega (arith, ints, right, to_right)), (omega (arith, ints, top, bottom, inside), m.1.1, omega (arith, ints, top, from_top), omega (arith, ints, bottom, to_bottom)))
 meet_wider false a b o t c m =
-    let left = c.0 in
-    let top = c.1 in
-    let right = c.2 in
-    let bottom = c.3 in
-    let x = m.0 in
-    let y = m.1 in
-    let xa = x.0 in
-    let xc = x.2 in
-    let xd = x.3 in
-    let ya = y.0 in
-    let yc = y.2 in
-    let yd = y.3 in
-    ((omega (arith, ints, left, right, xa), x.1, omega (arith, ints, left, xc), omega (arith, ints, right, xd)), (omega (arith, ints, top, bottom, ya), y.1, omega (arith, ints, top, yc), omega (arith, ints, bottom, yd)))
+    let left = c.0.0 in
+    let right = c.0.1 in
+    let top = c.1.0 in
+    let bottom = c.1.1 in
+    let across = m.0.0 in
+    let from_left = m.0.2 in
+    let to_right = m.0.3 in
+    let inside = m.1.0 in
+    let from_top = m.1.2 in
+    let to_bottom = m.1.3 in
+    ((omega (arith, ints, left, right, across), m.0.1, omega (arith, ints, left, from_left), omega (arith, ints, right, to_right)), (omega (arith, ints, top, bottom, inside), m.1.1, omega (arith, ints, top, from_top), omega (arith, ints, bottom, to_bottom)))
 
 pub covered_bound : (a b : Stand) (boxes : List Box2) (shift : ℤ) → Covers a b → IsClearFrom shift b boxes → IsClearFrom shift a boxes
 covered_bound a b boxes shift covers bound t from clear =

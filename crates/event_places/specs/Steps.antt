@@ -62,12 +62,20 @@ AreNoHigher highest settled = All (λ (x : Settled). x.place.bottom ≤ℤ (x.pl
 abbrev pub IsClearFrom : ℤ → Stand → List Box2 → Type 0
 IsClearFrom shift stand boxes = (other : ℤ) → pos 0 ≤ℤ other → IsClear stand.place boxes stand.down other → shift ≤ℤ other
 
+-- The range from `a` to `b` covers the one from `c` to `d`.
+abbrev pub CoversRange : ℤ → ℤ → ℤ → ℤ → Type 0
+CoversRange a b c d = (a ≤ℤ c) × (d ≤ℤ b)
+
 abbrev pub CoversBox : Box2 → Box2 → Type 0
-CoversBox a b = (a.left ≤ℤ b.left) × (a.top ≤ℤ b.top) × (b.right ≤ℤ a.right) × (b.bottom ≤ℤ a.bottom)
+CoversBox a b = CoversRange a.left a.right b.left b.right × CoversRange a.top a.bottom b.top b.bottom
 
 -- A stand gives way as another one does, and covers its box.
 abbrev pub Covers : Stand → Stand → Type 0
 Covers a b = (a.down ≡ b.down) × CoversBox a.place b.place
+
+-- whether all boxes are sure to be in the way of an event
+abbrev pub all_stay : EventSpan → Kept → Bool
+all_stay span kept = int_eq kept.layer span.layer && int_lt span.start kept.first_end
 
 -- What is known of the boxes that are kept.
 pub record AreKept (kept : Kept) : Type 0 where

@@ -4,7 +4,7 @@ ghost use Rattle.std.specs.Prelude.{◌≡◌, ◌-◌, ◌<◌, ◌≤◌, ◌�
 ghost use Rattle.placement.specs.Placement.{IsBoxWithin, IsLeastShift, IsPlaceableStand, IsShift, Meet, Overlap, max_height, max_moved, moved_box, passing};
 ghost use Rattle.event_places.specs.Limits.{max_shift};
 ghost use Rattle.event_places.specs.Stands.{down_by};
-ghost use Rattle.event_places.specs.Steps.{AreFromLowest, AreNoHigher, AreSettledWithin, Covers, CoversBox, IsClearFrom, most_before, settled_boxes};
+ghost use Rattle.event_places.specs.Steps.{AreFromLowest, AreNoHigher, AreSettledWithin, Covers, CoversBox, CoversRange, IsClearFrom, most_before, settled_boxes};
 ghost use Rattle.event_places.specs.declared.settled.Settled.{Settled};
 
 use crate::settled::{Settled, place_among};
@@ -99,11 +99,17 @@ pub(crate) fn shift_clear(stand: &Stand, settled: &[Settled], highest: Fix, from
     shift
 }
 
-/// Whether a box covers another one.
+/// Whether one range covers another one.
+fn covers_range(a: Fix, b: Fix, c: Fix, d: Fix) -> bool
+    ensures { IsTrue result ↔ CoversRange a b c d }
+{
+    a <= c && d <= b
+}
+
 fn covers_box(a: &Box2, b: &Box2) -> bool
     ensures { IsTrue result ↔ CoversBox a.now b.now }
 {
-    a.left <= b.left && a.top <= b.top && b.right <= a.right && b.bottom <= a.bottom
+    covers_range(a.left, a.right, b.left, b.right) && covers_range(a.top, a.bottom, b.top, b.bottom)
 }
 
 /// Whether a stand gives way as another one does, and covers its box.

@@ -1,10 +1,10 @@
 //! The boxes that may still be in the way of an event to come, and what is known of all of them.
 
-ghost use Rattle.std.specs.Prelude.{◌≡◌, ◌+ℤ◌, ◌≤ℤ◌, ◌∷◌, [], All, IsTrue, OnOk, filter};
+ghost use Rattle.std.specs.Prelude.{◌≡◌, ◌+ℤ◌, ◌≤ℤ◌, ◌∷◌, [], All, OnOk, filter};
 ghost use Rattle.std.specs.List.Sorted.{IsPermutation};
 ghost use Rattle.placement.specs.Placement.{IsPlaceableStand, IsShift, max_height};
 ghost use Rattle.event_places.specs.Limits.{max_shift};
-ghost use Rattle.event_places.specs.Steps.{AreKept, AreSettledWithin, Covers, IsClearFrom, is_in_way, most_before, settled_at, settled_boxes};
+ghost use Rattle.event_places.specs.Steps.{AreKept, AreSettledWithin, Covers, IsClearFrom, all_stay, is_in_way, most_before, settled_at, settled_boxes};
 ghost use Rattle.event_places.specs.declared.settled.Settled.{Settled};
 
 use crate::boxes::{covers, moved, shift_clear};
@@ -42,15 +42,25 @@ fn settled_at(span: &EventSpan, stand: &Stand, shift: Fix) -> Settled
     }
 }
 
+/// The end of an event that was moved, or this instant if that is earlier.
+fn earlier(first: i64, settled: &Settled) -> i64
+    ensures first { result ≤ℤ first }
+    ensures end { result ≤ℤ settled.now.end }
+{
+    if settled.end < first {
+        settled.end
+    } else {
+        first
+    }
+}
+
 /// An instant before which none of these ends.
 fn first_end(settled: &[Settled]) -> i64
     ensures { All (λ (x : Settled). result ≤ℤ x.end) settled.now }
 {
     let mut first = i64::MAX;
     for one in settled {
-        if one.end < first {
-            first = one.end;
-        }
+        first = earlier(first, one);
     }
     first
 }
@@ -95,10 +105,9 @@ impl Kept {
 
     /// Whether all are sure to be in the way of an event.
     fn all_stay(&self, span: &EventSpan) -> bool
-        requires { AreKept self.now }
-        ensures { IsTrue result → filter (is_in_way span.now) self.now.boxes.items ≡ self.now.boxes.items }
+        ensures { result ≡ all_stay span.now self.now }
     {
-        span.layer == self.layer && span.start < self.first_end
+        self.layer == span.layer && span.start < self.first_end
     }
 
     /// Drops the events that aren't in the way of one: those that have ended, and those of other layers.
@@ -144,12 +153,7 @@ impl Kept {
         ensures bound { IsClearFrom result stand.now (settled_boxes self.old.boxes.items) }
     {
         self.try_covered(stand);
-        self.shift = shift_clear(
-            &self.tried,
-            self.boxes.as_slice(),
-            self.highest,
-            self.shift,
-        );
+        self.shift = shift_clear(&self.tried, self.boxes.as_slice(), self.highest, self.shift);
         self.shift
     }
 

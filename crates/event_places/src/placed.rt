@@ -143,15 +143,7 @@ fn place_next(
     if is_alone(near, index) {
         return Ok(unmoved(span.place));
     }
-    let one = place_event(
-        alloc,
-        script,
-        fonts,
-        &events[span.place],
-        &span,
-        size,
-        kept,
-    )?;
+    let one = place_event(alloc, script, fonts, &events[span.place], &span, size, kept)?;
     Ok(one)
 }
 
@@ -178,16 +170,7 @@ fn place_all(
     let mut placed = Vec::with_capacity(alloc, near.len())?;
     let mut kept = Kept::new(alloc);
     for index in 0..near.len() {
-        let one = place_next(
-            alloc,
-            script,
-            fonts,
-            events,
-            near,
-            index,
-            size,
-            &mut kept,
-        )?;
+        let one = place_next(alloc, script, fonts, events, near, index, size, &mut kept)?;
         placed.push(one)?;
     }
     Ok(placed)

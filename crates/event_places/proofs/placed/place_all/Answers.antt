@@ -6,8 +6,11 @@ use Rattle.event_places.proofs.StepLemmas.{steps_more}
 use Rattle.event_places.proofs.placed.place_all.Goals as goal
 
 pub loop-index-init : goal.loop-index-init
-loop-index-init c =
-    rw (c.in_ok-placed.ensures.items, c.new-kept.ensures.none) (record { steps = First; within = λ k d lt. absurd (omega (arith, lt)); known = c.new-kept.ensures.kept })
+loop-index-init c = record {
+  steps = rw (c.in_ok-placed.ensures.items, c.new-kept.ensures.none) First;
+  within = rw c.new-kept.ensures.none (λ k d lt. absurd (omega (arith, lt)));
+  known = c.new-kept.ensures.kept;
+}
 
 pub loop-index-preserved : goal.loop-index-preserved
 loop-index-preserved c =
