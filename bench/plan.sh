@@ -11,7 +11,7 @@ is_fresh() {
     local crate
     [ -x "$program" ] || return 1
     for crate in ass_num blanks ass_script ass_events outline_points bdf_font drawing_path event_instants tag_arguments override_tags \
-        tag_state line_layout text_layout placement mask_keys mask_model draw_numbers event_draws event_places picture_plan plan_bench; do
+        tag_state line_layout text_layout placement mask_keys mask_model draw_numbers event_draws event_places picture_plan script_events plan_bench; do
         [ -z "$(find "$top/crates/$crate/src" -newer "$program" -print -quit)" ] || return 1
     done
 }

@@ -1,7 +1,6 @@
 //! What a check reports of a script and its fonts.
 #![tactic(auto)]
 
-mod fields;
 mod report;
 
 pub use report::check_report;

@@ -4,11 +4,11 @@ ghost use Rattle.std.specs.Prelude.{◌≡◌, ◌++◌, ◌<◌, length, IfOk, 
 ghost use Rattle.ass_events.specs.Events.{line_fault};
 ghost use Rattle.check_report.specs.Reports.{check_text, font_report, font_reports, head_lines, malformed_line, malformed_lines};
 
-use crate::fields::field_name;
 use ass_events::line_fault;
 use ass_num::Mem;
 use ass_script::{EventField, Script};
 use bdf_font::Font;
+use run_status::field_name;
 use std::alloc::Global;
 
 /// The lines on the script's resolution, styles and Dialogue lines.

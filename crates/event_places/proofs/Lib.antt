@@ -1,4 +1,5 @@
 pub mod AloneLemmas
+pub mod KeptLemmas
 pub mod Lists
 pub mod Nears
 pub mod NearSpans

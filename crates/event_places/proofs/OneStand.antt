@@ -1,6 +1,6 @@
 -- An event has one stand: what it shows at its start is the same in each view of it but for the numbers of states and names, and so is
 -- its layout.
-use Rattle.std.proofs.Common.{◌≡◌, ℕ, zero, suc, ◌-◌, ◌<◌, ◌≤◌, ℤ, pos, Bool, true, false, List, [], ◌∷◌, ◌++◌, length, map, refl, sym, ap, subst, ◌∙◌, arith, ◌⊎◌, inl, inr, Option, Some, None, cond}
+use Rattle.std.proofs.Common.{◌≡◌, ℕ, zero, suc, ◌-◌, ◌<◌, ◌≤◌, ℤ, pos, Bool, false, List, [], ◌∷◌, ◌++◌, length, map, refl, sym, ap, subst, ◌∙◌, arith, ◌⊎◌, inl, inr, Option, Some, None, cond}
 use Rattle.std.specs.Prelude.{slice_get, slice_index, slice_index_or, slice_range, ◌==◌, is_some}
 use Rattle.std.specs.List.{All, zip}
 use Rattle.std.specs.Option.{option_map, option_map_or}
@@ -14,7 +14,6 @@ use Rattle.ass_num.specs.declared.size.Size.{Size}
 use Rattle.ass_events.specs.declared.event.Event.{Event}
 use Rattle.ass_script.specs.Ranges.{IsScript}
 use Rattle.ass_script.specs.Scripts.{ScriptValue}
-use Rattle.ass_script.specs.declared.script.Header.{Header}
 use Rattle.bdf_font.specs.Fonts.{FontValue, font_named}
 use Rattle.drawing_path.specs.Paths.{IsPathOf}
 use Rattle.drawing_path.proofs.LawLemmas.{one_path}

@@ -1,5 +1,5 @@
 -- A box that is moved clear of others lies no further out than they push it; what was dropped isn't missed.
-use Rattle.std.proofs.Common.{◌≡◌, ℕ, ◌+◌, ◌-◌, ◌<◌, ◌≤◌, ℤ, ◌≤ℤ◌, Bool, true, false, List, ◌∷◌, length, get_or, sym, ap, subst, ◌∙◌, arith, ◌⊎◌, ⊎_elim, inl, inr}
+use Rattle.std.proofs.Common.{◌≡◌, ℕ, ◌+◌, ◌-◌, ◌<◌, ◌≤◌, ℤ, ◌<ℤ◌, ◌≤ℤ◌, Bool, true, false, List, ◌∷◌, length, get_or, sym, ap, subst, ◌∙◌, arith, ◌⊎◌, ⊎_elim, inl, inr}
 use Rattle.std.specs.Prelude.{insert, int_le}
 use Rattle.std.specs.List.{All, filter}
 use Rattle.std.specs.List.Sorted.{IsPartitionedBy, IsPermutation}
@@ -19,6 +19,16 @@ use Rattle.event_places.specs.declared.settled.Settled.{Settled}
 
 abbrev Within : ℕ → Settled → Type 0
 Within count x = IsBoxWithin (reach count) x.place
+
+-- ---- what is in the way of an event
+pub way_layer : (s : EventSpan) (x : Settled) → is_in_way s x ≡ true → x.layer ≡ s.layer
+way_layer s x e = grind (arith, ints)
+
+pub way_end : (s : EventSpan) (x : Settled) → is_in_way s x ≡ true → s.start <ℤ x.end
+way_end s x e = grind (arith, ints)
+
+pub in_way : (s : EventSpan) (x : Settled) → x.layer ≡ s.layer → s.start <ℤ x.end → is_in_way s x ≡ true
+in_way s x a b = grind (arith, ints)
 
 -- ---- the events that stay
 pub stay_within : (count : ℕ) (span : EventSpan) (settled : List Settled) → AreSettledWithin count settled → AreSettledWithin count (filter (is_in_way span) settled)

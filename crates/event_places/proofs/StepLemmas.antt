@@ -29,6 +29,7 @@ use Rattle.event_places.specs.declared.spans.EventSpan.{EventSpan}
 use Rattle.event_places.specs.declared.settled.Settled.{Settled}
 use Rattle.event_places.proofs.Lists.{there_from_get, get_from_there, same_some, none_some, in_map, from_map, in_filter, from_filter, pairwise_get}
 use Rattle.event_places.proofs.Orders.{before_in_layer, before_trans, earlier_start, layer_le, not_before_itself}
+use Rattle.event_places.proofs.SettleLemmas.{in_way, way_end, way_layer}
 use Rattle.event_places.proofs.Pairs.{Contains-nil, Contains-head, Contains-tail, Contains-cons_cases, Pairwise-cross, Pairwise-right}
 
 -- ---- the event of a ReadOrder
@@ -124,15 +125,6 @@ done_more script events near settled x s d =
     ⊎_elim (λ a. inl a) (λ b. ⊎_elim (λ p. inr (inl p)) (λ q. inr (inr (q.0, Contains-append_left settled (x ∷ []) q.0 q.1, q.2))) b) d
 
 -- ---- what is in the way of a span
-way_layer : (s : EventSpan) (x : Settled) → is_in_way s x ≡ true → x.layer ≡ s.layer
-way_layer s x e = grind (arith, ints)
-
-way_end : (s : EventSpan) (x : Settled) → is_in_way s x ≡ true → s.start <ℤ x.end
-way_end s x e = grind (arith, ints)
-
-in_way : (s : EventSpan) (x : Settled) → x.layer ≡ s.layer → s.start <ℤ x.end → is_in_way s x ≡ true
-in_way s x a b = grind (arith, ints)
-
 -- What isn't in the way of a span behind its own isn't in that of a later one either.
 ended_later : (own s r : EventSpan) (x : Settled) → StandsBefore own s → StandsBefore s r → x.layer ≡ own.layer → is_in_way s x ≡ false → is_in_way r x ≡ false
 ended_later own s r x before behind layer ended =

@@ -1,5 +1,5 @@
 -- A walk over boxes that lie from the lowest to the highest: one that was passed isn't met again.
-use Rattle.std.proofs.Common.{◌≡◌, ℕ, ◌+◌, ◌-◌, ◌<◌, ℤ, pos, ◌≤ℤ◌, ◌<ℤ◌, Bool, true, false, cond, List, length, get_or, refl, sym, ap, subst, ◌∙◌, arith, ◌⊎◌, ⊎_elim, inl, inr}
+use Rattle.std.proofs.Common.{◌≡◌, ℕ, ◌+◌, ◌-◌, ◌<◌, ℤ, pos, ◌+ℤ◌, ◌-ℤ◌, ◌≤ℤ◌, ◌<ℤ◌, ◌≤◌, Bool, true, false, cond, List, length, get_or, refl, sym, ap, subst, ◌∙◌, arith, ◌⊎◌, ⊎_elim, inl, inr}
 use Rattle.std.specs.List.{All, Contains}
 use Rattle.std.proofs.lemmas.Bool.{cases_lt}
 use Rattle.std.proofs.lemmas.Int.{ints}
@@ -10,7 +10,7 @@ use Rattle.placement.specs.declared.boxes.Box2.{Box2}
 use Rattle.placement.specs.declared.boxes.Stand.{Stand}
 use Rattle.placement.proofs.ShiftLemmas.{IsBoxWithin-wider, passing-later, passing-least}
 use Rattle.event_places.specs.Limits.{max_shift, reach}
-use Rattle.event_places.specs.Steps.{AreFromLowest, AreSettledWithin, settled_boxes, most_before}
+use Rattle.event_places.specs.Steps.{AreFromLowest, AreNoHigher, AreSettledWithin, IsClearFrom, settled_boxes, most_before}
 use Rattle.event_places.specs.declared.settled.Settled.{Settled}
 use Rattle.event_places.proofs.Lists.{in_map}
 use Rattle.event_places.proofs.Orders.{int_three}
@@ -79,12 +79,42 @@ pub record Walked (stand : Stand) (settled : List Settled) (shift : ℤ) (step :
   pub least : (t : ℤ) → pos 0 ≤ℤ t → IsClear stand.place (settled_boxes settled) stand.down t → shift ≤ℤ t
   pub clear : (j : ℕ) (d : Settled) → j < step → Meet (moved_box stand.down shift stand.place) (get_or settled (way (length settled) stand.down j) d).place → ⊥
 
-pub walked_none : (stand : Stand) (settled : List Settled) → Walked stand settled (pos 0) 0
-walked_none stand settled = record {
-  range = record { from_zero = omega (arith, ints); bounded = omega (arith, ints) };
-  least = λ t from clear. from;
-  clear = λ j d lt met. absurd (omega (arith, lt));
-}
+pub walked_from : (stand : Stand) (settled : List Settled) (shift : ℤ) (step : ℕ) → IsShift max_shift shift → IsClearFrom shift stand (settled_boxes settled)
+    → ((j : ℕ) (d : Settled) → j < step → Meet (moved_box stand.down shift stand.place) (get_or settled (way (length settled) stand.down j) d).place → ⊥)
+    → Walked stand settled shift step
+walked_from stand settled shift step range bound apart = record { range = range; least = bound; clear = apart }
+
+-- ---- where a walk begins
+up_passed : (b : Box2) (settled : List Settled) (shift top : ℤ) (place : ℕ) → top ≡ (b.bottom -ℤ shift) → ((k : ℕ) (d : Settled) → k < place → top ≤ℤ (get_or settled k d).place.top)
+    → (j : ℕ) (d : Settled) → j < place → Meet (moved_box false shift b) (get_or settled j d).place → ⊥
+up_passed b settled shift top place is lower j d lt met =
+    let low = lower j d lt in
+    let h = met.1.3 in
+    omega (arith, ints, is, low, h)
+
+down_passed : (b : Box2) (settled : List Settled) (highest shift top : ℤ) (place : ℕ) → top ≡ ((b.top +ℤ shift) -ℤ highest) → AreNoHigher highest settled
+    → ((k : ℕ) (d : Settled) → place ≤ k → k < length settled → (get_or settled k d).place.top ≤ℤ top)
+    → (j : ℕ) (d : Settled) → j < length settled - place → Meet (moved_box true shift b) (get_or settled (length settled - 1 - j) d).place → ⊥
+down_passed b settled highest shift top place is high upper j d lt met =
+    let k = length settled - 1 - j in
+    let up = upper k d (omega (arith, lt)) (omega (arith, lt)) in
+    let low = high k d (omega (arith, lt)) in
+    let h = met.1.2 in
+    omega (arith, ints, is, up, low, h)
+
+pub passed_up : (stand : Stand) (settled : List Settled) (shift top : ℤ) (place : ℕ) → stand.down ≡ false → top ≡ (stand.place.bottom -ℤ shift)
+    → ((k : ℕ) (d : Settled) → k < place → top ≤ℤ (get_or settled k d).place.top)
+    → (j : ℕ) (d : Settled) → j < place → Meet (moved_box stand.down shift stand.place) (get_or settled (way (length settled) stand.down j) d).place → ⊥
+passed_up stand settled shift top place way_up is lower =
+    subst (λ down. (j : ℕ) (d : Settled) → j < place → Meet (moved_box down shift stand.place) (get_or settled (way (length settled) down j) d).place → ⊥) (sym way_up)
+    (up_passed stand.place settled shift top place is lower)
+
+pub passed_down : (stand : Stand) (settled : List Settled) (highest shift top : ℤ) (place : ℕ) → stand.down ≡ true → top ≡ ((stand.place.top +ℤ shift) -ℤ highest) → AreNoHigher highest settled
+    → ((k : ℕ) (d : Settled) → place ≤ k → k < length settled → (get_or settled k d).place.top ≤ℤ top)
+    → (j : ℕ) (d : Settled) → j < length settled - place → Meet (moved_box stand.down shift stand.place) (get_or settled (way (length settled) stand.down j) d).place → ⊥
+passed_down stand settled highest shift top place way_down is high upper =
+    subst (λ down. (j : ℕ) (d : Settled) → j < length settled - place → Meet (moved_box down shift stand.place) (get_or settled (way (length settled) down j) d).place → ⊥) (sym way_down)
+    (down_passed stand.place settled highest shift top place is high upper)
 
 pub other_within : (settled : List Settled) (place : ℕ) (d : Settled) → AreSettledWithin most_before settled → place < length settled → IsBoxWithin max_moved (get_or settled place d).place
 other_within settled place d within lt = IsBoxWithin-wider (reach most_before) max_moved (get_or settled place d).place (omega arith) (within place d lt)

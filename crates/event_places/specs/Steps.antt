@@ -1,5 +1,5 @@
 -- Inner: how events are moved one after the other, each clear of those that were moved before it.
-use Rattle.std.specs.Prelude.{◌≡◌, ℕ, Bool, ◌&&◌, ◌-◌, int_lt, ◌≤ℤ◌, List, [], ◌∷◌, ◌++◌, Contains, All, Some, None, map, slice_get, ℤ, pos}
+use Rattle.std.specs.Prelude.{◌≡◌, ℕ, Bool, ◌&&◌, ◌-◌, ◌+ℤ◌, int_lt, ◌≤ℤ◌, List, [], ◌∷◌, ◌++◌, Contains, All, Some, None, map, slice_get, ℤ, pos}
 use Rattle.std.specs.List.{AllPairs, filter}
 use Rattle.std.specs.List.Sorted.{IsPermutation}
 use Rattle.std.specs.Ordering.{int_eq}
@@ -9,12 +9,13 @@ use Rattle.ass_events.specs.Histories.{max_live}
 use Rattle.ass_events.specs.declared.event.Event.{Event}
 use Rattle.ass_script.specs.Scripts.{ScriptValue}
 use Rattle.bdf_font.specs.Fonts.{FontValue}
-use Rattle.placement.specs.Placement.{IsBoxWithin, IsLeastShift, moved_box}
+use Rattle.placement.specs.Placement.{IsBoxWithin, IsClear, IsLeastShift, IsPlaceableStand, IsShift, max_height, moved_box}
 use Rattle.placement.specs.declared.boxes.Box2.{Box2}
 use Rattle.placement.specs.declared.boxes.Stand.{Stand}
 use Rattle.event_places.specs.Limits.{max_shift, reach}
 use Rattle.event_places.specs.PlacedEvents.{IsOwnLayout}
 use Rattle.event_places.specs.Stands.{HasPoint, IsStandOf, down_by}
+use Rattle.event_places.specs.declared.kept.Kept.{Kept}
 use Rattle.event_places.specs.declared.own.OwnLayout.{OwnLayout}
 use Rattle.event_places.specs.declared.placed.PlacedEvent.{PlacedEvent}
 use Rattle.event_places.specs.declared.spans.EventSpan.{EventSpan}
@@ -52,6 +53,40 @@ AreSettledWithin count settled = All (λ (x : Settled). IsBoxWithin (reach count
 -- the most events that were moved before another one
 abbrev pub most_before : ℕ
 most_before = max_live - 1
+
+-- None is higher than this.
+abbrev pub AreNoHigher : ℤ → List Settled → Type 0
+AreNoHigher highest settled = All (λ (x : Settled). x.place.bottom ≤ℤ (x.place.top +ℤ highest)) settled
+
+-- No shift from 0 on that is less keeps the box of the stand clear of the boxes.
+abbrev pub IsClearFrom : ℤ → Stand → List Box2 → Type 0
+IsClearFrom shift stand boxes = (other : ℤ) → pos 0 ≤ℤ other → IsClear stand.place boxes stand.down other → shift ≤ℤ other
+
+-- The range from `a` to `b` covers the one from `c` to `d`.
+abbrev pub CoversRange : ℤ → ℤ → ℤ → ℤ → Type 0
+CoversRange a b c d = (a ≤ℤ c) × (d ≤ℤ b)
+
+abbrev pub CoversBox : Box2 → Box2 → Type 0
+CoversBox a b = CoversRange a.left a.right b.left b.right × CoversRange a.top a.bottom b.top b.bottom
+
+-- A stand gives way as another one does, and covers its box.
+abbrev pub Covers : Stand → Stand → Type 0
+Covers a b = (a.down ≡ b.down) × CoversBox a.place b.place
+
+-- whether all boxes are sure to be in the way of an event
+abbrev pub all_stay : EventSpan → Kept → Bool
+all_stay span kept = int_eq kept.layer span.layer && int_lt span.start kept.first_end
+
+-- What is known of the boxes that are kept.
+pub record AreKept (kept : Kept) : Type 0 where
+  pub sorted : AreFromLowest kept.boxes.items
+  pub layer : All (λ (x : Settled). x.layer ≡ kept.layer) kept.boxes.items
+  pub last : All (λ (x : Settled). kept.first_end ≤ℤ x.end) kept.boxes.items
+  pub high : AreNoHigher kept.highest kept.boxes.items
+  pub highest : IsShift max_height kept.highest
+  pub tried : IsPlaceableStand kept.tried
+  pub shift : IsShift max_shift kept.shift
+  pub bound : IsClearFrom kept.shift kept.tried (settled_boxes kept.boxes.items)
 
 -- The span has its layer for itself.
 abbrev pub IsAlone : List EventSpan → EventSpan → Type 0

@@ -1,12 +1,13 @@
 //! How far a box is moved to stand clear of others.
 
-ghost use Rattle.std.specs.Prelude.{◌≡◌, ◌-◌, ◌<◌, ◌↔◌, if◌then◌else◌, IsTrue, length};
-ghost use Rattle.placement.specs.Placement.{IsBoxWithin, IsLeastShift, IsPlaceableStand, IsShift, Meet, Overlap, max_moved, moved_box, passing};
+ghost use Rattle.std.specs.Prelude.{◌≡◌, ◌-◌, ◌<◌, ◌≤◌, ◌≤ℤ◌, ◌↔◌, ℕ, if◌then◌else◌, IsTrue, length, slice_index_or};
+ghost use Rattle.placement.specs.Placement.{IsBoxWithin, IsLeastShift, IsPlaceableStand, IsShift, Meet, Overlap, max_height, max_moved, moved_box, passing};
 ghost use Rattle.event_places.specs.Limits.{max_shift};
 ghost use Rattle.event_places.specs.Stands.{down_by};
-ghost use Rattle.event_places.specs.Steps.{AreFromLowest, AreSettledWithin, settled_boxes, most_before};
+ghost use Rattle.event_places.specs.Steps.{AreFromLowest, AreNoHigher, AreSettledWithin, Covers, CoversBox, CoversRange, IsClearFrom, most_before, settled_boxes};
+ghost use Rattle.event_places.specs.declared.settled.Settled.{Settled};
 
-use crate::settled::Settled;
+use crate::settled::{Settled, place_among};
 use ass_num::Fix;
 use placement::{Box2, Stand};
 
@@ -59,21 +60,63 @@ fn on_the_way(count: usize, down: bool, step: usize) -> usize
     if down { count - 1 - step } else { step }
 }
 
-/// The least shift by which the box of a stand is clear of boxes that lie from the lowest to the highest. One walk over them is enough:
-/// none that was passed is met again.
-pub(crate) fn shift_clear(stand: &Stand, settled: &[Settled]) -> Fix
+/// How many boxes on its way the box of a stand has passed, moved by a shift. Of one on its way down those are counted of which it is
+/// known by their upper edges, since none is higher than this.
+fn passed(stand: &Stand, settled: &[Settled], highest: Fix, shift: Fix) -> usize
+    requires stand { IsPlaceableStand stand.now }
+    requires sorted { AreFromLowest settled.now }
+    requires high { AreNoHigher highest settled.now }
+    requires highest { IsShift max_height highest }
+    requires shift { IsShift max_shift shift }
+    ensures within { result ≤ length settled.now }
+    ensures apart { (j : ℕ) (d : Settled) → j < result → Meet (moved_box stand.now.down shift stand.now.place) (slice_index_or settled.now (if stand.now.down then length settled.now - 1 - j else j) d).place → ⊥ }
+{
+    if stand.down {
+        settled.len() - place_among(settled, stand.place.top + shift - highest)
+    } else {
+        place_among(settled, stand.place.bottom - shift)
+    }
+}
+
+/// The least shift by which the box of a stand is clear of boxes that lie from the lowest to the highest, where it is known that it isn't
+/// less than this one. One walk over them is enough: none that was passed is met again.
+pub(crate) fn shift_clear(stand: &Stand, settled: &[Settled], highest: Fix, from: Fix) -> Fix
     requires stand { IsPlaceableStand stand.now }
     requires within { AreSettledWithin most_before settled.now }
     requires sorted { AreFromLowest settled.now }
+    requires high { AreNoHigher highest settled.now }
+    requires highest { IsShift max_height highest }
+    requires from { IsShift max_shift from }
+    requires known { IsClearFrom from stand.now (settled_boxes settled.now) }
     ensures least { IsLeastShift stand.now.place (settled_boxes settled.now) stand.now.down result }
     ensures range { IsShift max_shift result }
 {
-    let mut shift = 0;
-    for step in 0..settled.len() {
+    let mut shift = from;
+    for step in passed(stand, settled, highest, from)..settled.len() {
         let next = on_the_way(settled.len(), stand.down, step);
         shift = shift_past(stand, shift, &settled[next].place);
     }
     shift
+}
+
+/// Whether one range covers another one.
+fn covers_range(a: Fix, b: Fix, c: Fix, d: Fix) -> bool
+    ensures { IsTrue result ↔ CoversRange a b c d }
+{
+    a <= c && d <= b
+}
+
+fn covers_box(a: &Box2, b: &Box2) -> bool
+    ensures { IsTrue result ↔ CoversBox a.now b.now }
+{
+    covers_range(a.left, a.right, b.left, b.right) && covers_range(a.top, a.bottom, b.top, b.bottom)
+}
+
+/// Whether a stand gives way as another one does, and covers its box.
+pub(crate) fn covers(a: &Stand, b: &Stand) -> bool
+    ensures { IsTrue result → Covers a.now b.now }
+{
+    a.down == b.down && covers_box(&a.place, &b.place)
 }
 
 /// The box of a stand, moved by a shift.

@@ -2,6 +2,7 @@
 #![tactic(auto)]
 
 mod boxes;
+mod kept;
 mod laws;
 mod near;
 mod own;

@@ -10,13 +10,13 @@ ghost use Rattle.ass_script.specs.Ranges.{IsScript};
 ghost use Rattle.text_layout.specs.Fonts.{IsLayoutFontSet};
 ghost use Rattle.event_places.specs.PlacedEvents.{ArePlacedEvents};
 ghost use Rattle.event_places.specs.Spans.{IsSpanOf, StandsBefore};
-ghost use Rattle.event_places.specs.Steps.{AreFromLowest, AreSettledWithin, IsAlone, IsGoneThrough, IsPlacing, IsPlacingStep, most_before, unmoved};
+ghost use Rattle.event_places.specs.Steps.{AreKept, AreSettledWithin, IsAlone, IsGoneThrough, IsPlacing, IsPlacingStep, most_before, unmoved};
 ghost use Rattle.event_places.specs.declared.spans.EventSpan.{EventSpan};
 
 use crate::boxes::down_by;
+use crate::kept::Kept;
 use crate::near::near_spans;
 use crate::own::{OwnLayout, own_layout, stand_of};
-use crate::settled::Settled;
 use crate::spans::EventSpan;
 use crate::steps::settle;
 use ass_events::Event;
@@ -86,18 +86,18 @@ fn place_event(
     event: &Event,
     span: &EventSpan,
     size: &Size,
-    settled: &mut Vec<Settled>,
+    kept: &mut Kept,
 ) -> Mem<PlacedEvent>
     requires script { IsScript script.now }
     requires fonts { IsLayoutFontSet fonts.now.fonts }
     requires event { IsEvent event.now }
     requires few { length event.now.text ≤ max_text_bytes }
     requires size { IsFrameSize size.now }
-    requires within { AreSettledWithin most_before settled.old.items }
-    requires settled { AreFromLowest settled.old.items }
-    ensures placed { IfOk result (λ one. IsPlacing script.now fonts.now.fonts size.now event.now span.now settled.old.items one settled.new.items) }
-    ensures within { IfOk result (λ one. (count : ℕ) → AreSettledWithin count settled.old.items → AreSettledWithin (count + 1) settled.new.items) }
-    ensures settled { IfOk result (λ one. AreFromLowest settled.new.items) }
+    requires within { AreSettledWithin most_before kept.old.boxes.items }
+    requires kept { AreKept kept.old }
+    ensures placed { IfOk result (λ one. IsPlacing script.now fonts.now.fonts size.now event.now span.now kept.old.boxes.items one kept.new.boxes.items) }
+    ensures within { IfOk result (λ one. (count : ℕ) → AreSettledWithin count kept.old.boxes.items → AreSettledWithin (count + 1) kept.new.boxes.items) }
+    ensures kept { IfOk result (λ one. AreKept kept.new) }
 {
     let view = states_at(alloc, script, event, event.start)?;
     if view.pos.is_some() {
@@ -105,7 +105,7 @@ fn place_event(
     }
     let own = own_layout(alloc, script, fonts, event, view, size)?;
     let stand = stand_of(script, event, &own, size);
-    let shift = settle(span, &stand, settled)?;
+    let shift = settle(span, &stand, kept)?;
     Ok(PlacedEvent {
         place: span.place,
         down: down_by(&stand, shift),
@@ -122,7 +122,7 @@ fn place_next(
     near: &[EventSpan],
     index: usize,
     size: &Size,
-    settled: &mut Vec<Settled>,
+    kept: &mut Kept,
 ) -> Mem<PlacedEvent>
     requires script { IsScript script.now }
     requires fonts { IsLayoutFontSet fonts.now.fonts }
@@ -133,25 +133,17 @@ fn place_next(
     requires sorted { Pairwise StandsBefore near.now }
     requires index { index < length near.now }
     requires size { IsFrameSize size.now }
-    requires within { AreSettledWithin most_before settled.old.items }
-    requires settled { AreFromLowest settled.old.items }
-    ensures step { (span : EventSpan) → slice_get near.now index ≡ Some span → IfOk result (λ one. IsPlacingStep script.now fonts.now.fonts size.now (map arc_value events.now) near.now span settled.old.items one settled.new.items) }
-    ensures within { IfOk result (λ one. (count : ℕ) → AreSettledWithin count settled.old.items → AreSettledWithin (count + 1) settled.new.items) }
-    ensures settled { IfOk result (λ one. AreFromLowest settled.new.items) }
+    requires within { AreSettledWithin most_before kept.old.boxes.items }
+    requires kept { AreKept kept.old }
+    ensures step { (span : EventSpan) → slice_get near.now index ≡ Some span → IfOk result (λ one. IsPlacingStep script.now fonts.now.fonts size.now (map arc_value events.now) near.now span kept.old.boxes.items one kept.new.boxes.items) }
+    ensures within { IfOk result (λ one. (count : ℕ) → AreSettledWithin count kept.old.boxes.items → AreSettledWithin (count + 1) kept.new.boxes.items) }
+    ensures kept { IfOk result (λ one. AreKept kept.new) }
 {
     let span = near[index];
     if is_alone(near, index) {
         return Ok(unmoved(span.place));
     }
-    let one = place_event(
-        alloc,
-        script,
-        fonts,
-        &events[span.place],
-        &span,
-        size,
-        settled,
-    )?;
+    let one = place_event(alloc, script, fonts, &events[span.place], &span, size, kept)?;
     Ok(one)
 }
 
@@ -176,18 +168,9 @@ fn place_all(
     ensures { IfOk result (λ placed. IsGoneThrough script.now fonts.now.fonts size.now (map arc_value events.now) near.now placed.items) }
 {
     let mut placed = Vec::with_capacity(alloc, near.len())?;
-    let mut settled = Vec::new(alloc);
+    let mut kept = Kept::new(alloc);
     for index in 0..near.len() {
-        let one = place_next(
-            alloc,
-            script,
-            fonts,
-            events,
-            near,
-            index,
-            size,
-            &mut settled,
-        )?;
+        let one = place_next(alloc, script, fonts, events, near, index, size, &mut kept)?;
         placed.push(one)?;
     }
     Ok(placed)

@@ -1,6 +1,6 @@
 //! What is left of events that were moved: their boxes, from the lowest to the highest.
 
-ghost use Rattle.std.specs.Prelude.{◌≡◌, ◌<◌, ◌≤◌, ◌≤ℤ◌, ◌∷◌, ℕ, OnOk, filter, length, slice_index_or};
+ghost use Rattle.std.specs.Prelude.{◌≡◌, ◌<◌, ◌≤◌, ◌≤ℤ◌, ◌∷◌, ℕ, OnOk, length, slice_index_or};
 ghost use Rattle.std.specs.List.Sorted.{IsPermutation};
 ghost use Rattle.event_places.specs.Steps.{AreFromLowest, is_in_way};
 ghost use Rattle.event_places.specs.declared.settled.Settled.{Settled};
@@ -18,21 +18,14 @@ pub struct Settled {
 }
 
 /// Whether an event that was moved is in the way of one that starts later: in the same layer, and ending after the other's start.
-fn is_in_way(span: &EventSpan, settled: &Settled) -> bool
+pub(crate) fn is_in_way(span: &EventSpan, settled: &Settled) -> bool
     ensures { result ≡ is_in_way span.now settled.now }
 {
     settled.layer == span.layer && span.start < settled.end
 }
 
-/// Drops the events that aren't in the way of one: those that have ended, and those of other layers.
-pub(crate) fn drop_others(span: &EventSpan, settled: &mut Vec<Settled>)
-    ensures { settled.new.items ≡ filter (is_in_way span.now) settled.old.items }
-{
-    settled.retain(|one| is_in_way(span, one));
-}
-
 /// Where a box with this upper edge comes among boxes that lie from the lowest to the highest: behind those that begin no higher.
-fn place_among(settled: &[Settled], top: Fix) -> usize
+pub(crate) fn place_among(settled: &[Settled], top: Fix) -> usize
     requires sorted { AreFromLowest settled.now }
     ensures within { result ≤ length settled.now }
     ensures lower { (k : ℕ) (d : Settled) → k < result → top ≤ℤ (slice_index_or settled.now k d).place.top }

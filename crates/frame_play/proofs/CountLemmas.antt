@@ -31,6 +31,7 @@ shown_may task (status.TooLarge what limit) before now own h = same_may task bef
 shown_may task status.OutOfMemory before now own h = h
 shown_may task status.NotBuilt before now own h = same_may task before now h
 shown_may task (status.BadWords why) before now own h = same_may task before now h
+shown_may task (status.Unwritable order field) before now own h = same_may task before now h
 
 -- The frames sink isn't asked again at the end.
 pub shown_once_after : (task : Task) (outcome : Outcome) (answer : Status) (before now : ℕ) → SuitsTask task outcome → IsEnded outcome answer →
@@ -66,6 +67,7 @@ ended_put task (status.TooLarge what limit) answer before now own e h = put_by t
 ended_put task status.OutOfMemory answer before now own e h = put_by task status.OutOfMemory answer before now (λ p. p) (λ p. p) e h
 ended_put task status.NotBuilt answer before now own e h = put_by task status.NotBuilt answer before now (λ p. p) (λ p. p) e h
 ended_put task (status.BadWords why) answer before now own e h = put_by task (status.BadWords why) answer before now (λ p. p) (λ p. p) e h
+ended_put task (status.Unwritable order field) answer before now own e h = put_by task (status.Unwritable order field) answer before now (λ p. p) (λ p. p) e h
 
 -- What is reported is put once.
 pub reported_once_after : (task : Task) (outcome : Outcome) (answer : Status) (before now : ℕ) → SuitsTask task outcome → IsEnded outcome answer →

@@ -53,6 +53,7 @@ shown_none (status.TooLarge what limit) held may m = keeps held
 shown_none status.OutOfMemory held may m = inl (keeps held)
 shown_none status.NotBuilt held may m = keeps held
 shown_none (status.BadWords why) held may m = keeps held
+shown_none (status.Unwritable order field) held may m = keeps held
 
 -- What was shown may be a part where memory is wanting.
 shown_front : (answer : Status) (old new : Option (List ℕ)) (may : List ℕ → Type 0) → IsShown answer old new may → IsShown status.OutOfMemory old new may
@@ -67,6 +68,7 @@ shown_front (status.TooLarge what limit) old new may h = inl h
 shown_front status.OutOfMemory old new may h = h
 shown_front status.NotBuilt old new may h = inl h
 shown_front (status.BadWords why) old new may h = inl h
+shown_front (status.Unwritable order field) old new may h = inl h
 
 -- What is shown of bytes that may be shown is so of all bytes that may be.
 pub shown_more : (answer : Status) (old new : Option (List ℕ)) (may more : List ℕ → Type 0) → ((bytes : List ℕ) → may bytes → more bytes) → IsShown answer old new may → IsShown answer old new more
@@ -82,6 +84,7 @@ shown_more status.OutOfMemory old new may more each (inl h) = inl h
 shown_more status.OutOfMemory old new may more each (inr h) = inr (h.0, each h.0 h.1, h.2)
 shown_more status.NotBuilt old new may more each h = h
 shown_more (status.BadWords why) old new may more each h = h
+shown_more (status.Unwritable order field) old new may more each h = h
 
 -- What a put leaves is so of its piece alone.
 pub shown_whole : (old new : Option (List ℕ)) (piece : List ℕ) → Appends old new piece → IsShown status.Done old new (λ bytes. bytes ≡ piece)
@@ -105,6 +108,7 @@ IsRefusal status.Done = ⊥
 IsRefusal (status.WriteFault which) = ⊥
 IsRefusal status.NotBuilt = ⊥
 IsRefusal (status.BadWords why) = ⊥
+IsRefusal (status.Unwritable order field) = ⊥
 IsRefusal _ = Unit {0}
 
 answered_kind : {Value : Type 0} (asks : Asks Value) (told : Told) (name : List ℕ) (answer : Status) → IsAnswered asks told name (Err answer) → IsRefusal answer
@@ -118,6 +122,7 @@ answered_kind asks told name (status.TooLarge what limit) h = tt
 answered_kind asks told name status.OutOfMemory h = tt
 answered_kind asks told name status.NotBuilt h = h
 answered_kind asks told name (status.BadWords why) h = h
+answered_kind asks told name (status.Unwritable order field) h = h
 
 read_kind : (told : List ℕ → Told) (script : List ℕ) (fonts : List (List ℕ)) (answer : Status) → AreRead told script fonts (Err answer) → IsRefusal answer
 read_kind told script fonts answer (inl (few, inl h)) = answered_kind (AsksScript script) (told script) script answer h
@@ -143,6 +148,7 @@ own_refusal (Frame frame) status.OutOfMemory h = tt
 own_refusal task (status.WriteFault which) h = absurd h
 own_refusal task status.NotBuilt h = absurd h
 own_refusal task (status.BadWords why) h = absurd h
+own_refusal task (status.Unwritable order field) h = absurd h
 
 -- A job whose files are refused.
 pub refused_worked : (told : List ℕ → Told) (work : Work) (answer : Status) (held : Option (List ℕ)) (faults : ℕ) →
@@ -191,6 +197,7 @@ ended (status.TooLarge what limit) answer h = h
 ended status.OutOfMemory answer h = h
 ended status.NotBuilt answer h = h
 ended (status.BadWords why) answer h = h
+ended (status.Unwritable order field) answer h = h
 
 answered_after : (task : Task) (wanted : Status) (outcome : Outcome) (answer : Status) → SuitsTask task outcome →
     IsOrFault task wanted (status_if_put outcome) → IsEnded outcome answer → IsOrFault task wanted answer
@@ -239,6 +246,7 @@ reported_same (status.TooLarge what limit) old new before now text other d f h =
 reported_same status.OutOfMemory old new before now text other d f h = h
 reported_same status.NotBuilt old new before now text other d f h = h
 reported_same (status.BadWords why) old new before now text other d f h = h
+reported_same (status.Unwritable order field) old new before now text other d f h = h
 
 done_before : (task : Task) (outcome : Outcome) (answer : Status) → SuitsTask task outcome → IsEnded outcome answer → answer ≡ status.Done → status_if_put outcome ≡ status.Done
 done_before task (Ended before) answer own e done = elim (ended before answer e) [
@@ -282,6 +290,7 @@ read_rises (status.TooLarge what limit) before now h = omega (arith, h)
 read_rises status.OutOfMemory before now h = h
 read_rises status.NotBuilt before now h = omega (arith, h)
 read_rises (status.BadWords why) before now h = omega (arith, h)
+read_rises (status.Unwritable order field) before now h = omega (arith, h)
 
 pub read_after : (outcome : Outcome) (answer : Status) (before now : ℕ) → IsEnded outcome answer → IsStatusReadCounted (status_if_put outcome) before now → IsStatusReadCounted answer before now
 read_after (Ended s) answer before now e h = elim (ended s answer e) [
@@ -310,6 +319,7 @@ written_rises (status.TooLarge what limit) before now h = omega (arith, h)
 written_rises status.OutOfMemory before now h = h
 written_rises status.NotBuilt before now h = omega (arith, h)
 written_rises (status.BadWords why) before now h = omega (arith, h)
+written_rises (status.Unwritable order field) before now h = omega (arith, h)
 
 pub written_after : (outcome : Outcome) (answer : Status) (before now : ℕ) → IsEnded outcome answer → IsWriteCounted (status_if_put outcome) before now → IsWriteCounted answer before now
 written_after (Ended s) answer before now e h = elim (ended s answer e) [
@@ -334,6 +344,7 @@ once_of Check status.OutOfMemory n h = refl
 once_of (Frame frame) status.OutOfMemory n h = (omega arith, omega arith)
 once_of task status.NotBuilt n h = absurd h
 once_of task (status.BadWords why) n h = absurd h
+once_of task (status.Unwritable order field) n h = absurd h
 
 written_of : (answer : Status) (n : ℕ) → IsRefusal answer → IsWriteCounted answer n n
 written_of status.Done n h = absurd h
@@ -346,6 +357,7 @@ written_of (status.TooLarge what limit) n h = refl
 written_of status.OutOfMemory n h = omega arith
 written_of status.NotBuilt n h = absurd h
 written_of (status.BadWords why) n h = absurd h
+written_of (status.Unwritable order field) n h = absurd h
 
 pub refused_once : (told : List ℕ → Told) (work : Work) (answer : Status) (n : ℕ) → AreRead told work.script work.fonts (Err answer) → IsFramesPutCount work.task answer n n
 refused_once told work answer n read = once_of work.task answer n (read_kind told work.script work.fonts answer read)
@@ -370,6 +382,7 @@ fault_or_decided (Err (status.TooLarge what limit)) = inl tt
 fault_or_decided (Err status.OutOfMemory) = inr (inr refl)
 fault_or_decided (Err status.NotBuilt) = inl tt
 fault_or_decided (Err (status.BadWords why)) = inl tt
+fault_or_decided (Err (status.Unwritable order field)) = inl tt
 
 -- The task's sink fails only where its count rises.
 sink_rose : (task : Task) (answer : Status) (frames report : SinkChange) (text : List ℕ) → answer ≡ status.WriteFault (sink_of task) →

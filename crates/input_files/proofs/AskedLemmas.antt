@@ -59,3 +59,4 @@ refused asks name told (status.TooLarge what limit) h = kept asks name told _ h
 refused asks name told status.OutOfMemory h = h
 refused asks name told status.NotBuilt h = h
 refused asks name told (status.BadWords why) h = h
+refused asks name told (status.Unwritable order field) h = h

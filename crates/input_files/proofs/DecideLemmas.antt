@@ -32,6 +32,7 @@ asked asks held name (Err (status.TooLarge what limit)) decided h = asked_by ask
 asked asks held name (Err status.OutOfMemory) decided h = absurd decided
 asked asks held name (Err status.NotBuilt) decided h = absurd h
 asked asks held name (Err (status.BadWords why)) decided h = absurd h
+asked asks held name (Err (status.Unwritable order field)) decided h = absurd h
 
 -- One answer is asked for at most.
 abbrev AsksOne : {Value : Type 0} → Asks Value → Type 0

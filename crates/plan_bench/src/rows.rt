@@ -3,11 +3,12 @@
 ghost use Rattle.text_layout.specs.Fonts.{IsLayoutFontSet};
 
 use crate::draws::show_draw;
-use crate::inputs::{events_of, fonts_of, script_of};
+use crate::inputs::{fonts_of, script_of};
 use crate::unreadable;
 use ass_num::Size;
 use bdf_font::FontSet;
 use picture_plan::plan;
+use script_events::events_of;
 use std::alloc::Global;
 use std::io;
 
@@ -29,7 +30,9 @@ fn show_plan(rt: &HostRuntime, fonts: &FontSet, head: &str, t: u16, lines: &str)
     let alloc = rt.alloc();
     let text = script_text(alloc, head, lines)?;
     let script = script_of(alloc, text.as_str())?;
-    let events = events_of(alloc, &script)?;
+    let Ok(events) = events_of(alloc, &script) else {
+        return Err(unreadable());
+    };
     let size = Size { w: 48, h: 32 };
     let Ok(made) = plan(
         alloc,

@@ -9,13 +9,14 @@ ghost use Rattle.ass_events.specs.Ranges.{IsEvent};
 ghost use Rattle.ass_events.specs.declared.event.Event.{Event};
 ghost use Rattle.text_layout.specs.Fonts.{IsLayoutFontSet};
 
-use crate::inputs::{events_of, fonts_of, script_of};
+use crate::inputs::{fonts_of, script_of};
 use crate::unreadable;
 use ass_events::Event;
 use ass_num::Size;
 use ass_script::Script;
 use bdf_font::FontSet;
 use picture_plan::plan;
+use script_events::events_of;
 use std::alloc::Global;
 use std::io;
 use std::sync::Arc;
@@ -131,7 +132,9 @@ pub fn measure(rt: &HostRuntime, text: &str, count: u32, gap: u32, turns: u32) -
     let alloc = rt.alloc();
     let text = script_text(alloc, text, count, gap)?;
     let script = script_of(alloc, text.as_str())?;
-    let events = events_of(alloc, &script)?;
+    let Ok(events) = events_of(alloc, &script) else {
+        return Err(unreadable());
+    };
     let font = font_text(alloc)?;
     let fonts = fonts_of(alloc, font.as_str(), "STARTFONT 2.1\nENDFONT\n")?;
     show_least(

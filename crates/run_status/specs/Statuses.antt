@@ -1,15 +1,17 @@
 -- Public: the line and the exit status of each status (docs/PROGRAM.md).
 use Rattle.std.specs.Prelude.{ℕ, List, [], ◌++◌, codes, decimal}
+use Rattle.ass_script.specs.declared.script.EventField.{EventField}
 use Rattle.bdf_font.specs.declared.cause.FontCause.{FontCause}
 use Rattle.bdf_font.specs.declared.cause.FontCause.TheVariants.{NoStart, BadNumber, BadRow, Misplaced, NoEnd}
 use Rattle.play_words.specs.declared.job.WordsFault.{WordsFault}
 use Rattle.play_words.specs.declared.job.WordsFault.TheVariants.{Usage, Value}
+use Rattle.run_status.specs.Fields.{field_name}
 use Rattle.run_status.specs.declared.status.BadScript.{BadScript}
 use Rattle.run_status.specs.declared.status.BadScript.TheVariants.{NotUtf8, NoEvents}
 use Rattle.run_status.specs.declared.status.Status.{Status}
 use Rattle.run_status.specs.declared.status.Status.TheVariants as status
 use Rattle.run_status.specs.declared.status.What.{What}
-use Rattle.run_status.specs.declared.status.What.TheVariants.{Bytes, Lines, Styles, Glyphs, Fonts}
+use Rattle.run_status.specs.declared.status.What.TheVariants as what
 use Rattle.run_status.specs.declared.status.Which.{Which}
 use Rattle.run_status.specs.declared.status.Which.TheVariants.{Frames, Report}
 
@@ -21,11 +23,12 @@ cause_text Misplaced = codes "misplaced"
 cause_text NoEnd = codes "no end"
 
 abbrev pub what_text : What → List ℕ
-what_text Bytes = codes "bytes"
-what_text Lines = codes "lines"
-what_text Styles = codes "styles"
-what_text Glyphs = codes "glyphs"
-what_text Fonts = codes "fonts"
+what_text what.Bytes = codes "bytes"
+what_text what.Lines = codes "lines"
+what_text what.Styles = codes "styles"
+what_text what.Glyphs = codes "glyphs"
+what_text what.Fonts = codes "fonts"
+what_text what.Frames = codes "frames"
 
 abbrev pub sink_text : Which → List ℕ
 sink_text Frames = codes "frames"
@@ -45,6 +48,9 @@ bad_font_line index line cause = codes "bad font " ++ decimal index ++ codes " l
 abbrev pub limit_line : List ℕ → ℕ → List ℕ
 limit_line what limit = codes "too large: " ++ what ++ codes " passes " ++ decimal limit ++ codes "\n"
 
+abbrev pub unwritable_line : ℕ → EventField → List ℕ
+unwritable_line order field = codes "unwritable " ++ decimal order ++ codes " " ++ field_name field ++ codes "\n"
+
 -- what the report says of a status; of a job that was done whole it says nothing
 abbrev pub status_line : Status → List ℕ
 status_line status.Done = []
@@ -57,6 +63,7 @@ status_line (status.WriteFault which) = codes "write fault: " ++ sink_text which
 status_line (status.TooLarge what limit) = limit_line (what_text what) limit
 status_line status.OutOfMemory = codes "out of memory\n"
 status_line status.NotBuilt = codes "not built\n"
+status_line (status.Unwritable order field) = unwritable_line order field
 
 -- the exit status of the program
 abbrev pub exit_status_of : Status → ℕ
@@ -70,3 +77,4 @@ exit_status_of (status.WriteFault _) = 7
 exit_status_of (status.TooLarge _ _) = 8
 exit_status_of status.OutOfMemory = 9
 exit_status_of status.NotBuilt = 10
+exit_status_of (status.Unwritable _ _) = 11

@@ -1,10 +1,12 @@
 //! How a run of the program ended.
 
 ghost use Rattle.std.specs.Prelude.{◌≡◌, IfOk, string_bytes};
-ghost use Rattle.run_status.specs.Statuses.{cause_text, bad_font_line, limit_line, what_text, words_line};
+ghost use Rattle.run_status.specs.Statuses.{bad_font_line, cause_text, limit_line, unwritable_line, what_text, words_line};
 ghost use Rattle.run_status.specs.declared.status.Status.TheVariants.{OutOfMemory as memory_status};
 
+use crate::fields::field_name;
 use ass_num::{Mem, OutOfMemory, Text};
+use ass_script::EventField;
 use bdf_font::FontCause;
 use play_words::WordsFault;
 use std::alloc::Global;
@@ -31,6 +33,8 @@ pub enum What {
     Glyphs,
     /// The fonts of a job.
     Fonts,
+    /// The pictures that a job looks at.
+    Frames,
 }
 
 /// Why a script isn't read.
@@ -66,6 +70,8 @@ pub enum Status {
     OutOfMemory,
     /// What is asked for isn't built so far: exit status 10.
     NotBuilt,
+    /// The event with this ReadOrder can't be written again, and this field of it is why: exit status 11.
+    Unwritable(u32, EventField),
 }
 
 impl From<OutOfMemory> for Status {
@@ -99,6 +105,7 @@ fn what_text(what: What) -> &'static str
         What::Styles => "styles",
         What::Glyphs => "glyphs",
         What::Fonts => "fonts",
+        What::Frames => "frames",
     }
 }
 
@@ -114,6 +121,14 @@ fn limit_line(alloc: Global, what: &str, limit: usize) -> Mem<String>
     ensures { IfOk result (λ text. string_bytes text ≡ limit_line what.now limit) }
 {
     Ok(format!(in alloc; "too large: {what} passes {limit}\n")?)
+}
+
+/// The line of the report on an event that can't be written.
+fn unwritable_line(alloc: Global, order: u32, field: EventField) -> Mem<String>
+    ensures { IfOk result (λ text. string_bytes text ≡ unwritable_line order field) }
+{
+    let name = field_name(field);
+    Ok(format!(in alloc; "unwritable {order} {name}\n")?)
 }
 
 /// The line of the report on words that ask for no job.
@@ -180,6 +195,7 @@ impl Status {
             Status::TooLarge(_, _) => 8,
             Status::OutOfMemory => 9,
             Status::NotBuilt => 10,
+            Status::Unwritable(_, _) => 11,
         }
     }
 
@@ -209,6 +225,7 @@ impl Status {
             Status::TooLarge(what, limit) => limit_line(alloc, what_text(*what), *limit),
             Status::OutOfMemory => Ok(String::from_str(alloc, "out of memory\n")?),
             Status::NotBuilt => Ok(String::from_str(alloc, "not built\n")?),
+            Status::Unwritable(order, field) => unwritable_line(alloc, *order, *field),
         }
     }
 }

@@ -31,9 +31,9 @@ returns-clause-placed c =
     let fs : SFits w64 shift = search rules in
     let pointless : own.view.pos ≡ None = rw c.in_ok-own.ensures.view (none_from c.in_ok-view.view.pos (sym c.is_some.ensures ∙ c.if-is_some.false)) in
     rw (to_z-of_z w64 c.down_by.result fd, c.down_by.ensures, to_z-of_z w64 shift fs)
-    (Shifted stand shift own c.settle.new.settled.items
+    (Shifted stand shift own c.settle.new.kept.boxes.items
     record { view = own.view; shows = c.in_ok-own.ensures.own.shows; pointless = pointless; laid = own.laid; laid_out = c.in_ok-own.ensures.own.laid_out; value = c.stand_of-stand.ensures.value }
     c.in_ok-own.ensures.own c.in_ok-shift.ensures.settling)
 
 pub returns-then-is_some-clause-within : goal.returns-then-is_some-clause-within
-returns-then-is_some-clause-within c count h = settled_wider count (count + 1) c.args.settled.now.items (omega arith) h
+returns-then-is_some-clause-within c count h = settled_wider count (count + 1) c.args.kept.now.boxes.items (omega arith) h

@@ -1,7 +1,7 @@
 //! The names of the fields of event lines.
 
 ghost use Rattle.std.specs.Prelude.{◌≡◌};
-ghost use Rattle.check_report.specs.Reports.{field_name};
+ghost use Rattle.run_status.specs.Fields.{field_name};
 
 use ass_script::EventField;
 
