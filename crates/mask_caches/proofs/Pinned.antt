@@ -40,4 +40,4 @@ module _ {X Y : Type 0} (f : X → Y) (all left before : List X) (x : X) (given 
       ∙ (ap (λ (l : List Y). l ++ reverse given) (sym (map-append f left (x ∷ [])) ∙ ap (map f) (sym taken)) ∙ are))
 
 pub all-moved : {X Y : Type 0} (f : X → Y) (all left : List X) (given : List Y) → left ≡ [] → map f left ++ reverse given ≡ map f all → reverse given ≡ map f all
-all-moved f all left given none are = ap (λ (l : List X). map f l ++ reverse given) (sym none) ∙ are
+all-moved {X} {Y} f all left given none are = ap (λ (l : List X). map f l ++ reverse given) (sym none) ∙ are

@@ -1,5 +1,7 @@
-use Rattle.std.proofs.Common.{refl, ap, ◌∙◌, arith}
+use Rattle.std.proofs.Common.{refl, sym, ◌∙◌, arith}
 use Rattle.turn_cell.proofs.Passes.{Follows_same}
+use Rattle.flight_cache.specs.Pinning.{GivesNothing}
+use Rattle.flight_cache.proofs.Claiming.{on-ok}
 use Rattle.cache_kinds.specs.Kinds.{composite_meaning, mask_meaning, region_meaning}
 use Rattle.mask_keys.specs.Equality.{equal_composites, equal_masks, equal_regions}
 use Rattle.mask_keys.proofs.Equal.{composite_same}
@@ -13,7 +15,7 @@ use Rattle.mask_caches.proofs.caches.Caches.try_composites.Goals as goal
 pub returns-then-is_err : goal.returns-then-is_err
 returns-then-is_err c =
     let p = c.args.pass.composites in
-    let same = record { first = Follows_same p.first; second = Follows_same p.second; third = Follows_same p.third; fourth = Follows_same p.fourth } in
+    let same : GivesNothing p p = record { first = Follows_same p.first; second = Follows_same p.second; third = Follows_same p.third; fourth = Follows_same p.fourth } in
     record {
       pinned = tt;
       refused = same;
@@ -34,7 +36,8 @@ invariant_of-pass c =
 pub leases_of-requires-clause-room : goal.leases_of-requires-clause-room
 leases_of-requires-clause-room c =
     let pinned = rw c.in-Ok.is at c.try_pin_all-composites.ensures.pinned in
-    omega (arith, pin-each c.args.keys.now.items c.in-Ok.pins.items pinned.keys_are)
+    let room = on-ok c.reserve.result _ (sym c.is_err.ensures.value ∙ c.if-is_err.false) c.reserve.ensures.ok in
+    omega (arith, room, c.len.ensures, c.new-leases.ensures.len, pin-each c.args.keys.now.items c.in-Ok.pins.items pinned.keys_are)
 
 pub returns-in-Ok : goal.returns-in-Ok
 returns-in-Ok c =
