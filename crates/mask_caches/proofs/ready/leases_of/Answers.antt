@@ -1,7 +1,7 @@
 use Rattle.std.proofs.Common.{◌≡◌, ◌∷◌, [], ◌++◌, length, map, reverse, sym, ap, ◌∙◌, subst, append-nil, arith}
 use Rattle.std.proofs.lemmas.List.{length-append}
 use Rattle.mask_caches.specs.declared.lease.Lease.TheVariants.{Pinned}
-use Rattle.mask_caches.proofs.Pinned.{all-moved, one-moved}
+use Rattle.mask_caches.proofs.Pinned.{one-moved}
 use Rattle.mask_caches.proofs.ready.leases_of.Goals as goal
 
 pub loop-pin-init : goal.loop-pin-init

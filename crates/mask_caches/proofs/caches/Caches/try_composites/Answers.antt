@@ -28,10 +28,12 @@ returns-then-is_err c =
 pub invariant_of-pass : goal.invariant_of-pass
 invariant_of-pass c =
     let cache = c.args.self.now.composites in
-    record { together = together-later c.args.pass.outlines c.args.pass.outlines c.args.pass.masks c.args.pass.masks c.args.pass.composites c.try_pin_all-composites.result.0
-        c.args.pass.together (later-itself equal_regions region_meaning c.args.self.now.outlines c.args.pass.outlines) (later-itself equal_masks mask_meaning c.args.self.now.masks c.args.pass.masks)
-        (tried-later equal_composites composite_meaning cache c.args.pass.composites c.try_pin_all-composites.result.0 composite_laws.laws-law composite_same c.numbered.ensures c.args.keys.now.items
-        (λ pins. pins.items) c.try_pin_all-composites.result.1 c.try_pin_all-composites.ensures.pinned c.try_pin_all-composites.ensures.nothing) }
+    record {
+      together = together-later c.args.pass.outlines c.args.pass.outlines c.args.pass.masks c.args.pass.masks c.args.pass.composites c.try_pin_all-composites.result.0
+          c.args.pass.together (later-itself equal_regions region_meaning c.args.self.now.outlines c.args.pass.outlines) (later-itself equal_masks mask_meaning c.args.self.now.masks c.args.pass.masks)
+          (tried-later equal_composites composite_meaning cache c.args.pass.composites c.try_pin_all-composites.result.0 composite_laws.laws-law composite_same c.numbered.ensures c.args.keys.now.items
+          (λ pins. pins.items) c.try_pin_all-composites.result.1 c.try_pin_all-composites.ensures.pinned c.try_pin_all-composites.ensures.nothing);
+    }
 
 pub leases_of-requires-clause-room : goal.leases_of-requires-clause-room
 leases_of-requires-clause-room c =
