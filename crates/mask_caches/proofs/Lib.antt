@@ -4,6 +4,7 @@ pub mod Composed
 pub mod Levels
 pub mod Opening
 pub mod PartVisits
+pub mod Pinned
 pub mod PlainValues
 pub mod Releasing
 pub mod Staying

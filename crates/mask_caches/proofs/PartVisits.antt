@@ -23,10 +23,10 @@ use Rattle.mask_keys.specs.declared.composite_key.Part.{Part}
 use Rattle.mask_keys.specs.declared.mask_key.MaskKey.{MaskKey}
 use Rattle.mask_keys.specs.declared.region_key.RegionKey.{RegionKey}
 use Rattle.mask_model.specs.Values.{mask_value}
-use Rattle.mask_caches.specs.Adding.{Adds, HoldsAsMuch}
+use Rattle.mask_caches.specs.Adding.{Adds, HoldsAsMuch, HoldsMore}
 use Rattle.mask_caches.specs.Courses.{has_value, IsLeaseOf, HoldsTheLease}
 use Rattle.mask_caches.specs.Leases.{given_steps, lease_value}
-use Rattle.mask_caches.specs.Holding.{AreAllHad, HoldsMore, all_given_steps, pinned_key, pinned_keys}
+use Rattle.mask_caches.specs.Holding.{AreAllHad, all_given_steps, pinned_key, pinned_keys}
 use Rattle.mask_caches.specs.Visits.{MaskVisit, IsMaskVisit, AreMaskVisits, mask_steps, mask_unpins, steps_of_its_region, region_steps_of}
 use Rattle.mask_caches.specs.declared.lease.Lease.{Lease}
 use Rattle.mask_caches.specs.declared.lease.Lease.TheVariants.{Pinned, Own}

@@ -8,9 +8,9 @@ use Rattle.evict_core.specs.History.{times_named}
 use Rattle.flight_cache.specs.Meaning.{Meaning}
 use Rattle.flight_cache.specs.Shards.{CacheView, CachePassView, HoldsEach}
 use Rattle.flight_cache.proofs.Places.{named-append}
-use Rattle.mask_caches.specs.Adding.{Adds, pins_of, is_open}
+use Rattle.mask_caches.specs.Adding.{Adds, pins_of, is_open, HoldsFewer}
 use Rattle.mask_caches.specs.Leases.{HoldsLease, given_steps}
-use Rattle.mask_caches.specs.Holding.{HoldsFewer, all_given_steps, pinned_key, pinned_keys}
+use Rattle.mask_caches.specs.Holding.{all_given_steps, pinned_key, pinned_keys}
 use Rattle.mask_caches.specs.declared.lease.Lease.{Lease}
 use Rattle.mask_caches.specs.declared.lease.Lease.TheVariants.{Pinned, Own}
 use Rattle.mask_caches.proofs.Adding.{adds-none, adds-then}

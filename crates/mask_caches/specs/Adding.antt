@@ -1,7 +1,7 @@
 -- Public: what calls in a row add to a cache: their steps in each shard, and what becomes of pins and claims.
 use Rattle.std.specs.Prelude.{◌≡◌, ℕ, ◌+◌, ◌==◌, Bool, List, ◌++◌, filter}
 use Rattle.evict_core.specs.Machine.{Step, Ask, PinAll, Fill, Fail, Unpin, Limits}
-use Rattle.evict_core.specs.History.{pins_taken, pins_given, pins_left, is_open_in, has_open}
+use Rattle.evict_core.specs.History.{times_named, pins_taken, pins_given, pins_left, is_open_in, has_open}
 use Rattle.flight_cache.specs.Meaning.{Meaning, shard_of, shard_count}
 use Rattle.flight_cache.specs.Calls.{ShardView, ShardPassView, own_steps}
 use Rattle.flight_cache.specs.Shards.{CacheView, CachePassView, at}
@@ -48,3 +48,14 @@ module _ {K V T : Type 0} (eq : K → K → Bool) (meaning : Meaning K V T) (cac
   pub record HoldsAsMuch (pass after : CachePassView K T) : Type 0 where
     pub pins : (key : K) → pins_of after key ≡ pins_of pass key
     pub claims : (key : K) → is_open after key ≡ is_open pass key
+
+module _ {K V T : Type 0} (eq : K → K → Bool) (meaning : Meaning K V T) (cache : CacheView T) (pass after : CachePassView K T) (keys : List K) where
+  -- the pass holds a pin more for each place of these keys, and has the same claims open
+  pub record HoldsMore : Type 0 where
+    pub pins : (key : K) → pins_of eq meaning cache after key ≡ pins_of eq meaning cache pass key + times_named eq key keys
+    pub claims : (key : K) → is_open eq meaning cache after key ≡ is_open eq meaning cache pass key
+
+  -- or one less
+  pub record HoldsFewer : Type 0 where
+    pub pins : (key : K) → pins_of eq meaning cache after key + times_named eq key keys ≡ pins_of eq meaning cache pass key
+    pub claims : (key : K) → is_open eq meaning cache after key ≡ is_open eq meaning cache pass key

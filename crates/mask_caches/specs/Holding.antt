@@ -1,13 +1,9 @@
 -- Inner: leases of masks that are held together.
-use Rattle.std.specs.Prelude.{◌≡◌, ◌+◌, Bool, true, List, [], ◌∷◌, length, map, reverse, flat_map, All}
+use Rattle.std.specs.Prelude.{◌≡◌, true, List, [], ◌∷◌, length, map, reverse, flat_map, All}
 use Rattle.std.specs.Arc.{arc_value}
 use Rattle.evict_core.specs.Machine.{Step}
-use Rattle.evict_core.specs.History.{times_named}
-use Rattle.flight_cache.specs.Meaning.{Meaning}
-use Rattle.flight_cache.specs.Shards.{CacheView, CachePassView}
 use Rattle.made_values.specs.Parts.{masks_of}
 use Rattle.mask_keys.specs.declared.composite_key.Part.{Part}
-use Rattle.mask_caches.specs.Adding.{pins_of, is_open}
 use Rattle.mask_caches.specs.Courses.{has_value}
 use Rattle.mask_caches.specs.Leases.{given_steps, lease_value}
 use Rattle.mask_caches.specs.Visits.{MaskVisit, AreMaskVisits, mask_unpins}
@@ -28,17 +24,6 @@ module _ {M K V T : Type 0} where
   -- the steps of giving leases back, the last one first
   abbrev pub all_given_steps : List (Lease M K V T) → List (Step K V)
   all_given_steps leases = flat_map given_steps (reverse leases)
-
-module _ {K V T : Type 0} (eq : K → K → Bool) (meaning : Meaning K V T) (cache : CacheView T) (pass after : CachePassView K T) (keys : List K) where
-  -- the pass holds a pin more for each place of these keys, and has the same claims open
-  pub record HoldsMore : Type 0 where
-    pub pins : (key : K) → pins_of eq meaning cache after key ≡ pins_of eq meaning cache pass key + times_named eq key keys
-    pub claims : (key : K) → is_open eq meaning cache after key ≡ is_open eq meaning cache pass key
-
-  -- or one less
-  pub record HoldsFewer : Type 0 where
-    pub pins : (key : K) → pins_of eq meaning cache after key + times_named eq key keys ≡ pins_of eq meaning cache pass key
-    pub claims : (key : K) → is_open eq meaning cache after key ≡ is_open eq meaning cache pass key
 
 -- there is a visit for each part, and its mask was had
 pub record AreAllHad (parts : List Part) (visits : List MaskVisit) : Type 0 where

@@ -4,6 +4,7 @@ pub mod Composing
 pub mod Courses
 pub mod Holding
 pub mod Leases
+pub mod Pinning
 pub mod Threes
 pub mod Together
 pub mod Visits

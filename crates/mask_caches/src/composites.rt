@@ -10,11 +10,11 @@ ghost use Rattle.mask_keys.specs.Keys.{IsValidComposite, IsValidPart};
 ghost use Rattle.mask_model.specs.Masks.{summed_mask};
 ghost use Rattle.mask_model.specs.Outlines.{glyph_counts};
 ghost use Rattle.mask_model.specs.Values.{composite_value};
-ghost use Rattle.mask_caches.specs.Adding.{Adds, HoldsAsMuch};
+ghost use Rattle.mask_caches.specs.Adding.{Adds, HoldsAsMuch, HoldsFewer, HoldsMore};
 ghost use Rattle.mask_caches.specs.Caches.{IsPassOf};
 ghost use Rattle.mask_caches.specs.Composing.{HoldsJustTheLease, IsComposed};
 ghost use Rattle.mask_caches.specs.Threes.{three, three_of};
-ghost use Rattle.mask_caches.specs.Holding.{AreAllHad, AreVisited, HoldsFewer, HoldsMore, all_given_steps, pinned_keys};
+ghost use Rattle.mask_caches.specs.Holding.{AreAllHad, AreVisited, all_given_steps, pinned_keys};
 ghost use Rattle.mask_caches.specs.Leases.{lease_value};
 ghost use Rattle.mask_caches.specs.Visits.{AreMaskVisits, MaskVisit, mask_steps, mask_steps_of, region_steps_of};
 

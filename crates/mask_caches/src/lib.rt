@@ -8,6 +8,7 @@ mod lease;
 mod lending;
 mod masks;
 mod passes;
+mod ready;
 mod regions;
 
 pub use caches::Caches;

@@ -1,0 +1,72 @@
+use Rattle.std.proofs.Common.{refl, sym, ◌∙◌, arith}
+use Rattle.turn_cell.proofs.Passes.{Follows_same}
+use Rattle.flight_cache.specs.Pinning.{GivesNothing}
+use Rattle.flight_cache.proofs.Claiming.{on-ok}
+use Rattle.cache_kinds.specs.Kinds.{composite_meaning, mask_meaning, region_meaning}
+use Rattle.mask_keys.specs.Equality.{equal_composites, equal_masks, equal_regions}
+use Rattle.mask_keys.proofs.Equal.{composite_same}
+use Rattle.mask_keys.specs.contracts.composite_key.CompositeKeyEq.TheImpl.Laws as composite_laws
+use Rattle.mask_caches.proofs.Adding.{later-itself}
+use Rattle.mask_caches.proofs.Pinned.{nothing-much, pin-each, pinned-more, tried-later}
+use Rattle.mask_caches.proofs.Staying.{together-later}
+use Rattle.mask_caches.proofs.Visiting.{much-itself}
+use Rattle.mask_caches.proofs.caches.Caches.try_composites.Goals as goal
+
+pub returns-then-is_err : goal.returns-then-is_err
+returns-then-is_err c =
+    let p = c.args.pass.composites in
+    let same : GivesNothing p p = record { first = Follows_same p.first; second = Follows_same p.second; third = Follows_same p.third; fourth = Follows_same p.fourth } in
+    record {
+      pinned = tt;
+      refused = same;
+      nothing = same;
+      holds = much-itself equal_composites composite_laws.laws-law composite_same composite_meaning c.args.self.now.composites p;
+      masks = refl;
+      outlines = refl;
+    }
+
+pub invariant_of-pass : goal.invariant_of-pass
+invariant_of-pass c =
+    let cache = c.args.self.now.composites in
+    record {
+      together = together-later c.args.pass.outlines c.args.pass.outlines c.args.pass.masks c.args.pass.masks c.args.pass.composites c.try_pin_all-composites.result.0
+          c.args.pass.together (later-itself equal_regions region_meaning c.args.self.now.outlines c.args.pass.outlines) (later-itself equal_masks mask_meaning c.args.self.now.masks c.args.pass.masks)
+          (tried-later equal_composites composite_meaning cache c.args.pass.composites c.try_pin_all-composites.result.0 composite_laws.laws-law composite_same c.numbered.ensures c.args.keys.now.items
+          (λ pins. pins.items) c.try_pin_all-composites.result.1 c.try_pin_all-composites.ensures.pinned c.try_pin_all-composites.ensures.nothing);
+    }
+
+pub leases_of-requires-clause-room : goal.leases_of-requires-clause-room
+leases_of-requires-clause-room c =
+    let pinned = rw c.in-Ok.is at c.try_pin_all-composites.ensures.pinned in
+    let room = on-ok c.reserve.result _ (sym c.is_err.ensures.value ∙ c.if-is_err.false) c.reserve.ensures.ok in
+    omega (arith, room, c.len.ensures, c.new-leases.ensures.len, pin-each c.args.keys.now.items c.in-Ok.pins.items pinned.keys_are)
+
+pub returns-in-Ok : goal.returns-in-Ok
+returns-in-Ok c =
+    let pinned = rw c.in-Ok.is at c.try_pin_all-composites.ensures.pinned in
+    record {
+      pinned = record {
+        pins = c.in-Ok.pins.items;
+        are = c.leases_of.ensures;
+        pinned = pinned;
+        holds = pinned-more equal_composites composite_meaning c.args.self.now.composites c.args.pass.composites c.try_pin_all-composites.result.0 composite_laws.laws-law composite_same c.numbered.ensures c.args.keys.now.items c.in-Ok.pins.items pinned;
+      };
+      refused = tt;
+      nothing = tt;
+      holds = tt;
+      masks = refl;
+      outlines = refl;
+    }
+
+pub returns-in-Err : goal.returns-in-Err
+returns-in-Err c =
+    let refused = rw c.in-Err.is at c.try_pin_all-composites.ensures.refused in
+    let nothing = rw c.in-Err.is at c.try_pin_all-composites.ensures.nothing in
+    record {
+      pinned = tt;
+      refused = refused;
+      nothing = nothing;
+      holds = nothing-much equal_composites composite_meaning c.args.self.now.composites c.args.pass.composites c.try_pin_all-composites.result.0 nothing;
+      masks = refl;
+      outlines = refl;
+    }
