@@ -48,8 +48,9 @@ pub record IsViewBy (script : ScriptValue) (event : Event) (elapsed : ℤ) (item
   pub fade : pos view.fade ≡ unwrap_or (first_of (fade_said event.duration elapsed) items) (pos 0)
   pub clip : view.clip ≡ clip_at script.header (past_all event.duration elapsed [] items)
 
--- What an event shows at an instant.
+-- What an event shows at an instant. Each name of a font has one number, so states that look the same are the same
 pub record IsViewOf (script : ScriptValue) (event : Event) (t : ℤ) (view : EventView) : Type 0 where
   pub items : List Item
   pub reading : IsTextReading event.text items
   pub shown : IsViewBy script event (elapsed_at event t) items view
+  pub once : AreOnce view.names

@@ -5,7 +5,7 @@ ghost use Rattle.ass_num.specs.Limits.{IsWithin, max_instant, max_text_bytes};
 ghost use Rattle.ass_script.specs.Ranges.{IsScript};
 ghost use Rattle.ass_events.specs.Ranges.{IsEvent};
 ghost use Rattle.override_tags.specs.Views.{IsView};
-ghost use Rattle.tag_state.specs.Views.{AreOnce, IsViewOf};
+ghost use Rattle.tag_state.specs.Views.{IsViewOf};
 
 use crate::choices::said_of;
 use crate::pen::Pen;
@@ -24,7 +24,6 @@ pub fn states_at(alloc: Global, script: &Script, event: &Event, t: i64) -> Mem<E
     requires few { length event.now.text ≤ max_text_bytes }
     requires instant { IsWithin max_instant t }
     ensures view { IfOk result (IsViewOf script.now event.now t) }
-    ensures names { IfOk result (λ view. AreOnce view.names) }
     ensures range { IfOk result IsView }
 {
     let elapsed = t - event.start;

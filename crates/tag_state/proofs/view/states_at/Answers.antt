@@ -68,10 +68,8 @@ returns-clause-view c = record {
   items = c.in_ok-items.items.items;
   reading = (let Q : List ℕ → Type 0 = λ z. AreItems 0 z c.in_ok-items.items.items in subst Q c.as_str.ensures c.in_ok-items.ensures.reading);
   shown = (shown c).1;
+  once = names_once c.args.script.now c.walk.new.pen.fonts (shown c).0.behind.fonts;
 }
-
-pub returns-clause-names : goal.returns-clause-names
-returns-clause-names c = names_once c.args.script.now c.walk.new.pen.fonts (shown c).0.behind.fonts
 
 pub returns-clause-range : goal.returns-clause-range
 returns-clause-range c =
