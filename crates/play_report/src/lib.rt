@@ -4,6 +4,8 @@
 mod digest;
 mod report;
 mod summary;
+#[cfg(test)]
+mod tests;
 
 pub use digest::digest_after;
 pub use report::{PlayReport, report_text};
