@@ -22,7 +22,7 @@ TIMEFORMAT='  the whole run: %U s and %S s on the processor, for itself and for 
 
 measure() {
     printf '\n%s %s\n' "$1" "$2"
-    { time "$kernels" "$@" | sed 's/^/  /'; } 2>&1
+    { time "$kernels" "$@" 2>&1 | sed 's/^/  /'; } 2>&1
 }
 
 # Measures the views of a text that is so many pieces between what stands before and after them.

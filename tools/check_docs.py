@@ -11,7 +11,7 @@ It looks at these things, and ends with a line `N passed, M failed`:
   names     each function, clause and definition that docs/PROMISES.md names in its second column exists
   words     each name of code in any page exists somewhere in the repository
   crates    docs/ARCHITECTURE.md and docs/PROMISES.md have each crate of crates.txt, with what it stands on
-  quoted    the program in README.md stands in a test, line by line
+  quoted    the program in README.md stands in a test or in worked_answers, line by line
   links     each link between pages leads to a file
   widths    no line of a page is longer than 120 columns, but for tables and pictures
   unsafe    docs/TRUST.md has a link to each file that has an unsafe call
@@ -341,7 +341,7 @@ def quoted(score):
     tests = set()
     for at, _, files in os.walk(os.path.join(TOP, "crates")):
         for file in files:
-            if "tests" in os.path.join(at, file) and file.endswith(".rt"):
+            if re.search("tests|worked_answers", at) and file.endswith(".rt"):
                 with open(os.path.join(at, file), encoding="utf-8") as f:
                     tests.update(line.strip() for line in f)
     for block in re.findall(r"```rust\n(.*?)```", read("README.md"), re.S):

@@ -9,7 +9,7 @@ use Rattle.ass_num.specs.Limits.{IsRunWithin, max_sample}
 use Rattle.ass_num.specs.Regions.{RegionValue, in_runs, member, row_at}
 use Rattle.ass_num.specs.declared.region.Run.{Run}
 use Rattle.region_rows.proofs.JoinLemmas.{member_above, member_below}
-use Rattle.border_region.specs.Frontier.{AreChanges, AreNear, IsFrontier, change_key, is_seen}
+use Rattle.border_region.specs.Frontier.{AreChanges, AreRowsNear, IsFrontier, change_key, is_seen}
 use Rattle.border_region.specs.Keys.{AreAscending, key_at}
 use Rattle.border_region.specs.Widths.{Covers}
 
@@ -67,7 +67,7 @@ IsLikeBefore region i j = member region.top region.rows i j ≡ member region.to
 pub record HasChanged (region : RegionValue) (j : ℤ) (found : List ℤ) : Type 0 where
   pub ascends : AreAscending found
   pub below : (n : ℕ) → n < length found → key_at found n <ℤ j
-  pub near : AreNear found
+  pub near : AreRowsNear found
   pub complete : (k i : ℤ) → k <ℤ j → IsLikeBefore region i k ⊎ Found found k
 
 pub changed_none : (region : RegionValue) → HasChanged region region.top []
@@ -118,7 +118,7 @@ pub key_ascends : (region : RegionValue) (upwards : Bool) (rows : List ℤ) → 
 key_ascends region true rows all m n l h = let a = all.ascends (length rows - 1 - n) (length rows - 1 - m) (omega arith) (omega arith) in omega (arith, ints)
 key_ascends region false rows all m n l h = all.ascends m n l h
 
-pub key_near : (upwards : Bool) (rows : List ℤ) → AreNear rows → (n : ℕ) → n < length rows → (neg_ℤ (pos max_key) ≤ℤ change_key upwards rows n) × (change_key upwards rows n ≤ℤ pos max_key)
+pub key_near : (upwards : Bool) (rows : List ℤ) → AreRowsNear rows → (n : ℕ) → n < length rows → (neg_ℤ (pos max_key) ≤ℤ change_key upwards rows n) × (change_key upwards rows n ≤ℤ pos max_key)
 key_near true rows near n h =
     let a = near (length rows - 1 - n) (omega arith) in
     let a0 = a.0 in

@@ -21,13 +21,13 @@ pub record IsFrontier (region : RegionValue) (upwards : Bool) (keys : List ℤ) 
   pub complete : (key i : ℤ) → is_seen region upwards key i ≡ true → (is_seen region upwards (key -ℤ pos 1) i ≡ true) ⊎ ((n : ℕ) × (n < length keys) × (key_at keys n ≡ key))
 
 -- the rows lie within reach of a region's samples
-abbrev pub AreNear : List ℤ → Type 0
-AreNear rows = (n : ℕ) → n < length rows → (neg_ℤ (pos max_sample) ≤ℤ key_at rows n) × (key_at rows n ≤ℤ pos (max_sample + 1))
+abbrev pub AreRowsNear : List ℤ → Type 0
+AreRowsNear rows = (n : ℕ) → n < length rows → (neg_ℤ (pos max_sample) ≤ℤ key_at rows n) × (key_at rows n ≤ℤ pos (max_sample + 1))
 
 -- Each row that hasn't the samples of the row before it is one of the ascending rows.
 pub record AreChanges (region : RegionValue) (rows : List ℤ) : Type 0 where
   pub ascends : AreAscending rows
-  pub near : AreNear rows
+  pub near : AreRowsNear rows
   pub complete : (j i : ℤ) → (member region.top region.rows i j ≡ member region.top region.rows i (j -ℤ pos 1)) ⊎ ((n : ℕ) × (n < length rows) × (key_at rows n ≡ j))
 
 -- the n-th key at which a row is one of these, or the row before it is where the rows are taken upwards

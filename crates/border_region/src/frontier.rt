@@ -4,7 +4,7 @@ ghost use Rattle.std.specs.Prelude.{◌≡◌, ℤ, pos, ◌≤ℤ◌, ◌<◌, 
 ghost use Rattle.border_region.specs.Limits.{max_seen};
 ghost use Rattle.ass_num.specs.Limits.{IsRegionWithin, IsRunWithin, max_sample};
 ghost use Rattle.ass_num.specs.Regions.{ascend, in_runs};
-ghost use Rattle.border_region.specs.Frontier.{AreChanges, AreNear, IsFrontier, change_key, is_seen, row_of_key};
+ghost use Rattle.border_region.specs.Frontier.{AreChanges, AreRowsNear, IsFrontier, change_key, is_seen, row_of_key};
 
 use crate::wide_rows::covers_row;
 use ass_num::{Mem, Region, Run};
@@ -49,7 +49,7 @@ pub fn changes(alloc: Global, region: &Region) -> Mem<Vec<i32>>
 /// The key at which the n-th change is met.
 fn change_key(changes: &[i32], upwards: bool, n: usize) -> i32
     requires within { n < length changes.now }
-    requires near { AreNear changes.now }
+    requires near { AreRowsNear changes.now }
     ensures { result ≡ change_key upwards changes.now n }
 {
     if upwards {

@@ -10,7 +10,7 @@ use Rattle.placement.specs.Placement.{IsClear, IsPlaceableStand, IsShift, Meet, 
 use Rattle.placement.specs.declared.boxes.Box2.{Box2}
 use Rattle.placement.specs.declared.boxes.Stand.{Stand}
 use Rattle.event_places.specs.Limits.{max_shift}
-use Rattle.event_places.specs.Steps.{AreFromLowest, AreKept, AreNoHigher, Covers, CoversBox, IsClearFrom, all_stay, is_in_way, settled_at, settled_boxes}
+use Rattle.event_places.specs.Steps.{AreFromLowest, AreKeptBoxes, AreNoHigher, CoversBox, CoversStand, IsClearFrom, all_stay, is_in_way, settled_at, settled_boxes}
 use Rattle.event_places.specs.declared.kept.Kept.{Kept}
 use Rattle.event_places.specs.declared.settled.Settled.{Settled}
 use Rattle.event_places.specs.declared.spans.EventSpan.{EventSpan}
@@ -30,7 +30,7 @@ stays_layer span kept stays = grind (arith, ints)
 stays_end : (span : EventSpan) (kept : Kept) → all_stay span kept ≡ true → span.start <ℤ kept.first_end
 stays_end span kept stays = grind (arith, ints)
 
-pub all_stayed : (kept : Kept) (span : EventSpan) → AreKept kept → all_stay span kept ≡ true → (kept.boxes.items ≡ filter (is_in_way span) kept.boxes.items) × (kept.layer ≡ span.layer)
+pub all_stayed : (kept : Kept) (span : EventSpan) → AreKeptBoxes kept → all_stay span kept ≡ true → (kept.boxes.items ≡ filter (is_in_way span) kept.boxes.items) × (kept.layer ≡ span.layer)
 all_stayed kept span are stays =
     let layer = stays_layer span kept stays in
     let start = stays_end span kept stays in (
@@ -52,8 +52,8 @@ ends_more first next settled k x lt is before mine old =
 from_zero : IsShift max_shift (pos 0)
 from_zero = record { from_zero = omega (arith, ints); bounded = omega (arith, ints) }
 
-pub dropped : (old new : Kept) (span : EventSpan) → AreKept old → new.boxes.items ≡ filter (is_in_way span) old.boxes.items → new.layer ≡ span.layer
-    → All (λ (x : Settled). new.first_end ≤ℤ x.end) new.boxes.items → new.highest ≡ old.highest → new.tried ≡ old.tried → new.shift ≡ pos 0 → AreKept new
+pub dropped : (old new : Kept) (span : EventSpan) → AreKeptBoxes old → new.boxes.items ≡ filter (is_in_way span) old.boxes.items → new.layer ≡ span.layer
+    → All (λ (x : Settled). new.first_end ≤ℤ x.end) new.boxes.items → new.highest ≡ old.highest → new.tried ≡ old.tried → new.shift ≡ pos 0 → AreKeptBoxes new
 dropped old new span are boxes layer last highest tried shift =
     let all : (P : Settled → Type 0) → All P (filter (is_in_way span) old.boxes.items) → All P new.boxes.items = λ P h. subst (All P) (sym boxes) h in
     let InLayer : Settled → Type 0 = λ x. x.layer ≡ new.layer in
@@ -71,8 +71,8 @@ dropped old new span are boxes layer last highest tried shift =
     }
 
 -- ---- another stand is tried, or more is known of it
-pub tried_again : (old new : Kept) → AreKept old → new.boxes.items ≡ old.boxes.items → new.layer ≡ old.layer → new.first_end ≡ old.first_end → new.highest ≡ old.highest
-    → IsPlaceableStand new.tried → IsShift max_shift new.shift → IsClearFrom new.shift new.tried (settled_boxes new.boxes.items) → AreKept new
+pub tried_again : (old new : Kept) → AreKeptBoxes old → new.boxes.items ≡ old.boxes.items → new.layer ≡ old.layer → new.first_end ≡ old.first_end → new.highest ≡ old.highest
+    → IsPlaceableStand new.tried → IsShift max_shift new.shift → IsClearFrom new.shift new.tried (settled_boxes new.boxes.items) → AreKeptBoxes new
 tried_again old new are boxes layer last highest tried shift bound = record {
   sorted = subst AreFromLowest (sym boxes) are.sorted;
   layer = subst (λ z. All (λ (x : Settled). x.layer ≡ z) new.boxes.items) (sym layer) (subst (All (λ (x : Settled). x.layer ≡ old.layer)) (sym boxes) are.layer);
@@ -111,7 +111,7 @@ meet_wider false a b o t c m =
     let to_bottom = m.1.3 in
     ((omega (arith, ints, left, right, across), m.0.1, omega (arith, ints, left, from_left), omega (arith, ints, right, to_right)), (omega (arith, ints, top, bottom, inside), m.1.1, omega (arith, ints, top, from_top), omega (arith, ints, bottom, to_bottom)))
 
-pub covered_bound : (a b : Stand) (boxes : List Box2) (shift : ℤ) → Covers a b → IsClearFrom shift b boxes → IsClearFrom shift a boxes
+pub covered_bound : (a b : Stand) (boxes : List Box2) (shift : ℤ) → CoversStand a b → IsClearFrom shift b boxes → IsClearFrom shift a boxes
 covered_bound a b boxes shift covers bound t from clear =
     let Apart : Stand → Box2 → Type 0 = λ s o. Meet (moved_box s.down t s.place) o → ⊥ in
     bound t from
@@ -131,10 +131,10 @@ moved_low : (down : Bool) (b : Box2) (shift highest : ℤ) → b.bottom ≤ℤ (
 moved_low true b shift highest low = omega (arith, ints, low)
 moved_low false b shift highest low = omega (arith, ints, low)
 
-pub one_more : (old new : Kept) (span : EventSpan) (stand : Stand) (shift : ℤ) → AreKept old → old.layer ≡ span.layer
+pub one_more : (old new : Kept) (span : EventSpan) (stand : Stand) (shift : ℤ) → AreKeptBoxes old → old.layer ≡ span.layer
     → IsPermutation (settled_at span stand shift ∷ old.boxes.items) new.boxes.items → AreFromLowest new.boxes.items → new.layer ≡ old.layer
     → new.first_end ≤ℤ old.first_end → new.first_end ≤ℤ span.end → old.highest ≤ℤ new.highest → stand.place.bottom ≤ℤ (stand.place.top +ℤ new.highest) → IsShift max_height new.highest
-    → new.tried ≡ old.tried → new.shift ≡ old.shift → AreKept new
+    → new.tried ≡ old.tried → new.shift ≡ old.shift → AreKeptBoxes new
 one_more old new span stand shift are layer members sorted same_layer old_last last old_high low highest tried shift_same =
     let one = settled_at span stand shift in
     let olds = old.boxes.items in

@@ -70,15 +70,15 @@ abbrev pub CoversBox : Box2 → Box2 → Type 0
 CoversBox a b = CoversRange a.left a.right b.left b.right × CoversRange a.top a.bottom b.top b.bottom
 
 -- A stand gives way as another one does, and covers its box.
-abbrev pub Covers : Stand → Stand → Type 0
-Covers a b = (a.down ≡ b.down) × CoversBox a.place b.place
+abbrev pub CoversStand : Stand → Stand → Type 0
+CoversStand a b = (a.down ≡ b.down) × CoversBox a.place b.place
 
 -- whether all boxes are sure to be in the way of an event
 abbrev pub all_stay : EventSpan → Kept → Bool
 all_stay span kept = int_eq kept.layer span.layer && int_lt span.start kept.first_end
 
 -- What is known of the boxes that are kept.
-pub record AreKept (kept : Kept) : Type 0 where
+pub record AreKeptBoxes (kept : Kept) : Type 0 where
   pub sorted : AreFromLowest kept.boxes.items
   pub layer : All (λ (x : Settled). x.layer ≡ kept.layer) kept.boxes.items
   pub last : All (λ (x : Settled). kept.first_end ≤ℤ x.end) kept.boxes.items

@@ -4,7 +4,7 @@ ghost use Rattle.std.specs.Prelude.{◌≡◌, ◌-◌, ◌<◌, ◌≤◌, ◌�
 ghost use Rattle.placement.specs.Placement.{IsBoxWithin, IsLeastShift, IsPlaceableStand, IsShift, Meet, Overlap, max_height, max_moved, moved_box, passing};
 ghost use Rattle.event_places.specs.Limits.{max_shift};
 ghost use Rattle.event_places.specs.Stands.{down_by};
-ghost use Rattle.event_places.specs.Steps.{AreFromLowest, AreNoHigher, AreSettledWithin, Covers, CoversBox, CoversRange, IsClearFrom, most_before, settled_boxes};
+ghost use Rattle.event_places.specs.Steps.{AreFromLowest, AreNoHigher, AreSettledWithin, CoversBox, CoversRange, CoversStand, IsClearFrom, most_before, settled_boxes};
 ghost use Rattle.event_places.specs.declared.settled.Settled.{Settled};
 
 use crate::settled::{Settled, place_among};
@@ -114,7 +114,7 @@ fn covers_box(a: &Box2, b: &Box2) -> bool
 
 /// Whether a stand gives way as another one does, and covers its box.
 pub(crate) fn covers(a: &Stand, b: &Stand) -> bool
-    ensures { IsTrue result → Covers a.now b.now }
+    ensures { IsTrue result → CoversStand a.now b.now }
 {
     a.down == b.down && covers_box(&a.place, &b.place)
 }

@@ -4,7 +4,7 @@ ghost use Rattle.std.specs.Prelude.{◌≡◌, ◌+ℤ◌, ◌≤ℤ◌, ◌∷�
 ghost use Rattle.std.specs.List.Sorted.{IsPermutation};
 ghost use Rattle.placement.specs.Placement.{IsPlaceableStand, IsShift, max_height};
 ghost use Rattle.event_places.specs.Limits.{max_shift};
-ghost use Rattle.event_places.specs.Steps.{AreKept, AreSettledWithin, Covers, IsClearFrom, all_stay, is_in_way, most_before, settled_at, settled_boxes};
+ghost use Rattle.event_places.specs.Steps.{AreKeptBoxes, AreSettledWithin, CoversStand, IsClearFrom, all_stay, is_in_way, most_before, settled_at, settled_boxes};
 ghost use Rattle.event_places.specs.declared.settled.Settled.{Settled};
 
 use crate::boxes::{covers, moved, shift_clear};
@@ -80,7 +80,7 @@ fn higher(highest: Fix, stand: &Stand) -> Fix
 impl Kept {
     pub(crate) fn new(alloc: Global) -> Kept
         ensures none { result.boxes.items ≡ [] }
-        ensures kept { AreKept result }
+        ensures kept { AreKeptBoxes result }
     {
         let nowhere = Box2 {
             left: 0,
@@ -112,10 +112,10 @@ impl Kept {
 
     /// Drops the events that aren't in the way of one: those that have ended, and those of other layers.
     pub(crate) fn drop_others(&mut self, span: &EventSpan)
-        requires { AreKept self.old }
+        requires { AreKeptBoxes self.old }
         ensures boxes { self.new.boxes.items ≡ filter (is_in_way span.now) self.old.boxes.items }
         ensures layer { self.new.layer ≡ span.now.layer }
-        ensures kept { AreKept self.new }
+        ensures kept { AreKeptBoxes self.new }
     {
         if self.all_stay(span) {
             return;
@@ -128,12 +128,12 @@ impl Kept {
 
     /// Takes a stand as the one that is tried, unless it covers that.
     fn try_covered(&mut self, stand: &Stand)
-        requires kept { AreKept self.old }
+        requires kept { AreKeptBoxes self.old }
         requires stand { IsPlaceableStand stand.now }
         ensures boxes { self.new.boxes.items ≡ self.old.boxes.items }
         ensures layer { self.new.layer ≡ self.old.layer }
-        ensures kept { AreKept self.new }
-        ensures covers { Covers stand.now self.new.tried }
+        ensures kept { AreKeptBoxes self.new }
+        ensures covers { CoversStand stand.now self.new.tried }
     {
         if !covers(stand, &self.tried) {
             self.tried = *stand;
@@ -143,12 +143,12 @@ impl Kept {
 
     /// A shift below which the box of a stand isn't clear.
     pub(crate) fn bound_for(&mut self, stand: &Stand) -> Fix
-        requires kept { AreKept self.old }
+        requires kept { AreKeptBoxes self.old }
         requires within { AreSettledWithin most_before self.old.boxes.items }
         requires stand { IsPlaceableStand stand.now }
         ensures boxes { self.new.boxes.items ≡ self.old.boxes.items }
         ensures layer { self.new.layer ≡ self.old.layer }
-        ensures kept { AreKept self.new }
+        ensures kept { AreKeptBoxes self.new }
         ensures range { IsShift max_shift result }
         ensures bound { IsClearFrom result stand.now (settled_boxes self.old.boxes.items) }
     {
@@ -159,12 +159,12 @@ impl Kept {
 
     /// Adds the box of one more event of their layer, moved by a shift.
     pub(crate) fn add(&mut self, span: &EventSpan, stand: &Stand, shift: Fix) -> Mem<()>
-        requires kept { AreKept self.old }
+        requires kept { AreKeptBoxes self.old }
         requires layer { self.old.layer ≡ span.now.layer }
         requires stand { IsPlaceableStand stand.now }
         requires shift { IsShift max_shift shift }
         ensures members { OnOk result (IsPermutation (settled_at span.now stand.now shift ∷ self.old.boxes.items) self.new.boxes.items) }
-        ensures kept { OnOk result (AreKept self.new) }
+        ensures kept { OnOk result (AreKeptBoxes self.new) }
     {
         add_settled(&mut self.boxes, settled_at(span, stand, shift))?;
         self.first_end = self.first_end.min(span.end);

@@ -10,7 +10,7 @@ ghost use Rattle.ass_script.specs.Ranges.{IsScript};
 ghost use Rattle.text_layout.specs.Fonts.{IsLayoutFontSet};
 ghost use Rattle.event_places.specs.PlacedEvents.{ArePlacedEvents};
 ghost use Rattle.event_places.specs.Spans.{IsSpanOf, StandsBefore};
-ghost use Rattle.event_places.specs.Steps.{AreKept, AreSettledWithin, IsAlone, IsGoneThrough, IsPlacing, IsPlacingStep, most_before, unmoved};
+ghost use Rattle.event_places.specs.Steps.{AreKeptBoxes, AreSettledWithin, IsAlone, IsGoneThrough, IsPlacing, IsPlacingStep, most_before, unmoved};
 ghost use Rattle.event_places.specs.declared.spans.EventSpan.{EventSpan};
 
 use crate::boxes::down_by;
@@ -94,10 +94,10 @@ fn place_event(
     requires few { length event.now.text ≤ max_text_bytes }
     requires size { IsFrameSize size.now }
     requires within { AreSettledWithin most_before kept.old.boxes.items }
-    requires kept { AreKept kept.old }
+    requires kept { AreKeptBoxes kept.old }
     ensures placed { IfOk result (λ one. IsPlacing script.now fonts.now.fonts size.now event.now span.now kept.old.boxes.items one kept.new.boxes.items) }
     ensures within { IfOk result (λ one. (count : ℕ) → AreSettledWithin count kept.old.boxes.items → AreSettledWithin (count + 1) kept.new.boxes.items) }
-    ensures kept { IfOk result (λ one. AreKept kept.new) }
+    ensures kept { IfOk result (λ one. AreKeptBoxes kept.new) }
 {
     let view = states_at(alloc, script, event, event.start)?;
     if view.pos.is_some() {
@@ -134,10 +134,10 @@ fn place_next(
     requires index { index < length near.now }
     requires size { IsFrameSize size.now }
     requires within { AreSettledWithin most_before kept.old.boxes.items }
-    requires kept { AreKept kept.old }
+    requires kept { AreKeptBoxes kept.old }
     ensures step { (span : EventSpan) → slice_get near.now index ≡ Some span → IfOk result (λ one. IsPlacingStep script.now fonts.now.fonts size.now (map arc_value events.now) near.now span kept.old.boxes.items one kept.new.boxes.items) }
     ensures within { IfOk result (λ one. (count : ℕ) → AreSettledWithin count kept.old.boxes.items → AreSettledWithin (count + 1) kept.new.boxes.items) }
-    ensures kept { IfOk result (λ one. AreKept kept.new) }
+    ensures kept { IfOk result (λ one. AreKeptBoxes kept.new) }
 {
     let span = near[index];
     if is_alone(near, index) {

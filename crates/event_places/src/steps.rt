@@ -2,7 +2,7 @@
 
 ghost use Rattle.std.specs.Prelude.{◌+◌, ℕ, IfOk};
 ghost use Rattle.placement.specs.Placement.{IsPlaceableStand};
-ghost use Rattle.event_places.specs.Steps.{AreKept, AreSettledWithin, IsSettling, most_before};
+ghost use Rattle.event_places.specs.Steps.{AreKeptBoxes, AreSettledWithin, IsSettling, most_before};
 
 use crate::boxes::shift_clear;
 use crate::kept::Kept;
@@ -15,9 +15,9 @@ use placement::Stand;
 pub(crate) fn settle(span: &EventSpan, stand: &Stand, kept: &mut Kept) -> Mem<Fix>
     requires stand { IsPlaceableStand stand.now }
     requires within { AreSettledWithin most_before kept.old.boxes.items }
-    requires kept { AreKept kept.old }
+    requires kept { AreKeptBoxes kept.old }
     ensures settling { IfOk result (λ shift. IsSettling span.now stand.now kept.old.boxes.items shift kept.new.boxes.items) }
-    ensures kept { IfOk result (λ shift. AreKept kept.new) }
+    ensures kept { IfOk result (λ shift. AreKeptBoxes kept.new) }
     ensures within { IfOk result (λ shift. (count : ℕ) → AreSettledWithin count kept.old.boxes.items → AreSettledWithin (count + 1) kept.new.boxes.items) }
 {
     kept.drop_others(span);

@@ -1,2 +1,3 @@
 pub mod FigureLemmas
 pub mod QuadLemmas
+pub mod RunLemmas

@@ -36,3 +36,7 @@ pub got : {X : Type 0} (xs : List X) (i : ℕ) (g d : X) → slice_get xs i ≡ 
 got [] i g d is = cc
 got (x ∷ xs) zero g d is = cc
 got (x ∷ xs) (suc i) g d is = got xs i g d is
+
+pub same_rings : (m n : Matrix) (bold strong underline strikeout : Bool) (ascent up : ℤ) (glyph g : FontGlyph) → m ≡ n → bold ≡ strong → ascent ≡ up → glyph ≡ g
+    → rings_of_glyph m bold underline strikeout ascent glyph ≡ rings_of_glyph n strong underline strikeout up g
+same_rings m n bold strong underline strikeout ascent up glyph g a b c d = rw (a, b, c, d) refl

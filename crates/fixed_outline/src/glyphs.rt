@@ -18,12 +18,25 @@ use std::alloc::Global;
 
 /// How the rings of a glyph are made.
 #[derive(Clone, Copy)]
-struct Style {
-    matrix: Matrix,
-    turn: Turn,
-    bold: bool,
+pub struct Style {
+    pub matrix: Matrix,
+    pub turn: Turn,
+    pub bold: bool,
     ghost is_matrix: { IsMatrix matrix },
     ghost same_turn: { turn.angle ≡ matrix.turn },
+}
+
+/// The style of a matrix.
+pub fn style_of(m: &Matrix, bold: bool) -> Style
+    requires { IsMatrix m.now }
+    ensures matrix { result.matrix ≡ m.now }
+    ensures bold { result.bold ≡ bold }
+{
+    Style {
+        matrix: *m,
+        turn: Turn::new(m.turn),
+        bold,
+    }
 }
 
 /// The quads of a set pixel whose upper left corner is (a, b).
@@ -43,7 +56,7 @@ fn add_pixel(style: &Style, a: i64, b: i64, rings: &mut FlatLists<Point>) -> Mem
 }
 
 /// A rectangle of the bitmap's plane.
-fn add_quad(
+pub fn add_quad(
     style: &Style,
     left: i64,
     top: i64,
@@ -63,7 +76,7 @@ fn add_quad(
 }
 
 /// The left edge of column i of a glyph.
-fn column_left(glyph: &FontGlyph, i: u32) -> i64
+pub fn column_left(glyph: &FontGlyph, i: u32) -> i64
     requires glyph { IsGlyph glyph.now }
     requires column { i < glyph.now.w }
     ensures value { result ≡ glyph.now.x +ℤ pos i }
@@ -73,7 +86,7 @@ fn column_left(glyph: &FontGlyph, i: u32) -> i64
 }
 
 /// The upper edge of row j of a glyph.
-fn row_top(glyph: &FontGlyph, j: u32) -> i64
+pub fn row_top(glyph: &FontGlyph, j: u32) -> i64
     requires glyph { IsGlyph glyph.now }
     requires row { j < glyph.now.h }
     ensures value { result ≡ neg_ℤ ((glyph.now.y +ℤ pos glyph.now.h) -ℤ pos j) }
@@ -83,7 +96,7 @@ fn row_top(glyph: &FontGlyph, j: u32) -> i64
 }
 
 /// Whether the pixel in column i and row j of a glyph is set.
-fn is_set(glyph: &FontGlyph, i: u32, j: u32) -> bool
+pub fn is_set(glyph: &FontGlyph, i: u32, j: u32) -> bool
     requires glyph { IsGlyph glyph.now }
     requires column { i < glyph.now.w }
     requires row { j < glyph.now.h }
@@ -139,7 +152,7 @@ fn add_rows(style: &Style, glyph: &FontGlyph, rings: &mut FlatLists<Point>) -> M
 }
 
 /// A bar one pixel high, if there is one.
-fn add_bar(
+pub fn add_bar(
     style: &Style,
     wanted: bool,
     advance: i64,
@@ -159,7 +172,7 @@ fn add_bar(
 }
 
 /// The upper edge of the strikeout.
-fn strikeout_top(ascent: i32) -> i64
+pub fn strikeout_top(ascent: i32) -> i64
     requires least { pos 0 ≤ℤ ascent }
     requires most { ascent ≤ℤ pos max_ascent }
     ensures value { result ≡ strikeout_top ascent }
@@ -232,11 +245,7 @@ pub fn quads_of(
     ensures value { IfOk result (λ o. (g : _) → slice_get font.now.glyphs glyph ≡ Some g → o.rings ≡ rings_of_glyph m.now bold underline strikeout font.now.ascent g) }
     ensures within { IfOk result (λ o. IsOutline o.rings) }
 {
-    let style = Style {
-        matrix: *m,
-        turn: Turn::new(m.turn),
-        bold,
-    };
+    let style = style_of(m, bold);
     let glyph = &font.glyphs()[glyph as usize];
     let rings = rings_of_glyph(alloc, &style, underline, strikeout, font.ascent(), glyph)?;
     Ok(Outline { rings })

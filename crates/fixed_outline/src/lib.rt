@@ -4,6 +4,7 @@
 mod boxes;
 mod drawings;
 mod glyphs;
+mod runs;
 
 pub use ass_num::Matrix;
 pub use boxes::box_outline;
@@ -11,3 +12,4 @@ pub use cancelled_edges::cancelled;
 pub use drawings::outline_of_path;
 pub use glyphs::quads_of;
 pub use outline_points::turned;
+pub use runs::runs_of;

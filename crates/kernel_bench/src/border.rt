@@ -7,7 +7,7 @@ ghost use Rattle.border_region.specs.Limits.{max_radius};
 use crate::glyph::{glyph, leanings};
 use crate::laps::Laps;
 use crate::stop::Stop;
-use crate::telling::{show_numbers, tell};
+use crate::telling::tell;
 use ass_num::{Mem, Region};
 use border_region::widened;
 use sample_region::region_of;
@@ -54,17 +54,4 @@ pub fn measure(rt: &HostRuntime, pixels: u32, turns: u32) -> Result<(), Stop> {
         measure_border(rt, "border of 20 pixels", name, &region, 20, turns)?;
     }
     Ok(())
-}
-
-fn show_border(rt: &HostRuntime, what: &str, lean: i64) -> Result<(), Stop> {
-    let region = region(rt.alloc(), 32, lean)?;
-    let border = widened(rt.alloc(), &region, 16, 8)?;
-    let counts = [border.rows().len(), border.rows().all_items().len()];
-    show_numbers(rt, what, &counts)
-}
-
-/// Prints how many rows and runs the border of a glyph of 8 pixels has, upright and turned.
-pub fn show(rt: &HostRuntime) -> Result<(), Stop> {
-    show_border(rt, "border, upright", 0)?;
-    show_border(rt, "border, turned", 5)
 }

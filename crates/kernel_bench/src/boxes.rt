@@ -6,7 +6,7 @@ ghost use Rattle.placement.specs.Placement.{AreInOrder, IsPlaceableStand, IsBoxW
 
 use crate::laps::Laps;
 use crate::stop::Stop;
-use crate::telling::{show_numbers, tell};
+use crate::telling::tell;
 use ass_num::{Fix, Mem};
 use placement::{Box2, Stand, replay};
 use std::alloc::Global;
@@ -114,21 +114,4 @@ pub fn measure(rt: &HostRuntime, count: u32, turns: u32) -> Result<(), Stop> {
     measure_list(rt, "1 shown at once", count, 1, turns)?;
     measure_list(rt, "8 shown at once", count, 8, turns)?;
     measure_list(rt, "64 shown at once", count, 64, turns)
-}
-
-/// Prints the greatest shift of six boxes, of which so many are shown at once.
-fn show_list(rt: &HostRuntime, what: &str, shown: u8) -> Result<(), Stop> {
-    let stands = stands_of(rt.alloc(), 6, shown)?;
-    if !are_replayable(stands.as_slice()) {
-        return Err(Stop::SizeOutOfRange);
-    }
-    let shifts = replay(rt.alloc(), stands.as_slice())?;
-    let shift = usize::try_from(greatest(shifts.as_slice())).unwrap_or(0);
-    show_numbers(rt, what, &[shift])
-}
-
-/// Prints the greatest shifts of six boxes, of which 1 and 3 are shown at once.
-pub fn show(rt: &HostRuntime) -> Result<(), Stop> {
-    show_list(rt, "greatest shift, 1 shown at once", 1)?;
-    show_list(rt, "greatest shift, 3 shown at once", 3)
 }

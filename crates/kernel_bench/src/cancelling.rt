@@ -6,7 +6,7 @@ ghost use Rattle.ass_num.specs.Limits.{IsOutline};
 use crate::glyph::{add_dot, measure_region};
 use crate::laps::Laps;
 use crate::stop::Stop;
-use crate::telling::{show_numbers, tell};
+use crate::telling::tell;
 use ass_num::{FlatLists, Mem, Outline, Point};
 use cancelled_edges::cancelled;
 use std::alloc::Global;
@@ -102,19 +102,4 @@ pub fn measure(rt: &HostRuntime, pixels: u32, turns: u32) -> Result<(), Stop> {
     measure_chessboard(rt, "rectangle", pixels, u16::MAX, turns)?;
     measure_chessboard(rt, "fields of 4 by 4", pixels, 4, turns)?;
     measure_chessboard(rt, "single pixels", pixels, 1, turns)
-}
-
-fn show_edges(rt: &HostRuntime, block: u16) -> Result<(), Stop> {
-    let outline = chessboard(rt.alloc(), 20, block, 1)?;
-    let boundary = cancelled(rt.alloc(), &outline)?;
-    let counts = [edge_count(&outline), edge_count(&boundary)];
-    show_numbers(rt, "edges of 20 pixels, and those left", &counts)
-}
-
-/// Prints how many edges are left of 20 pixels: a rectangle of 5 by 4, fields of 2 by 2, and single pixels.
-pub fn show(rt: &HostRuntime) -> Result<(), Stop> {
-    for block in [5, 2, 1] {
-        show_edges(rt, block)?;
-    }
-    Ok(())
 }

@@ -2,7 +2,7 @@
 
 use crate::laps::Laps;
 use crate::stop::Stop;
-use crate::telling::{show_bytes, tell, tell_rate};
+use crate::telling::{tell, tell_rate};
 use ass_num::{Mask, Rgba, Size, is_mask};
 use blend::{Canvas, Stencil};
 use std::alloc::Global;
@@ -101,18 +101,4 @@ pub fn measure(rt: &HostRuntime, side: u32, turns: u32) -> Result<(), Stop> {
     measure_square(rt, "half transparent", side, 255, 127, turns)?;
     measure_square(rt, "zero bytes", side, 0, 0, turns)?;
     measure_copy(rt, side, turns)
-}
-
-fn show_draw(rt: &HostRuntime, value: u8, alpha: u8) -> Result<(), Stop> {
-    let mut canvas = Canvas::new(rt.alloc(), &Size { w: 2, h: 2 })?;
-    let mask = square(rt.alloc(), 2, value)?;
-    draw(&mut canvas, &mask, white(alpha));
-    show_bytes(rt, "drawn", canvas.pixels())
-}
-
-/// Prints the pixels of three canvases of 2 by 2, each after one draw.
-pub fn show(rt: &HostRuntime) -> Result<(), Stop> {
-    show_draw(rt, 255, 0)?;
-    show_draw(rt, 128, 127)?;
-    show_draw(rt, 0, 0)
 }

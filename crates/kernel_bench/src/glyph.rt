@@ -5,7 +5,7 @@ ghost use Rattle.ass_num.specs.Limits.{IsOutline, IsOutlinePoint};
 
 use crate::laps::Laps;
 use crate::stop::Stop;
-use crate::telling::{show_numbers, tell};
+use crate::telling::tell;
 use ass_num::{FlatLists, Mem, Outline, Point};
 use sample_region::region_of;
 use std::alloc::Global;
@@ -107,17 +107,4 @@ pub fn measure(rt: &HostRuntime, pixels: u32, turns: u32) -> Result<(), Stop> {
         measure_region(rt, name, &outline, turns)?;
     }
     Ok(())
-}
-
-fn show_region(rt: &HostRuntime, what: &str, lean: i64) -> Result<(), Stop> {
-    let outline = glyph(rt.alloc(), 32, lean)?;
-    let region = region_of(rt.alloc(), &outline)?;
-    let counts = [region.rows().len(), region.rows().all_items().len()];
-    show_numbers(rt, what, &counts)
-}
-
-/// Prints how many rows and runs the region of a glyph of 8 pixels has, upright and turned.
-pub fn show(rt: &HostRuntime) -> Result<(), Stop> {
-    show_region(rt, "region, upright", 0)?;
-    show_region(rt, "region, turned", 5)
 }

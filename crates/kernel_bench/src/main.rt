@@ -1,5 +1,5 @@
-//! Measures the kernels. Without words it runs a small case of each and prints what came of it; with the words
-//! `KERNEL SIZE TURNS` it makes an input of that size and prints how long a turn takes.
+//! Measures the kernels. With the words `KERNEL SIZE TURNS` it makes an input of that size, prints what comes of it, and
+//! to standard error how long a turn takes. Without words it takes one turn of each kernel on a small input.
 #![tactic(auto)]
 
 mod blurring;
@@ -35,19 +35,6 @@ fn number_of(word: &String) -> Result<u32, Stop> {
     }
 }
 
-fn show_all(rt: &HostRuntime) -> Result<(), Stop> {
-    outlines::show(rt)?;
-    glyph::show(rt)?;
-    cancelling::show(rt)?;
-    border::show(rt)?;
-    masks::show(rt)?;
-    blurring::show(rt)?;
-    boxes::show(rt)?;
-    paragraph::show(rt)?;
-    drawing::show(rt)?;
-    reading::show(rt)
-}
-
 fn measure(rt: &HostRuntime, kernel: &str, size: u32, turns: u32) -> Result<(), Stop> {
     match kernel {
         "quads" => outlines::measure_glyph(rt, size, turns),
@@ -68,10 +55,35 @@ fn measure(rt: &HostRuntime, kernel: &str, size: u32, turns: u32) -> Result<(), 
     }
 }
 
+/// Small inputs.
+const SMALL: [(&str, u32); 14] = [
+    ("quads", 2),
+    ("drawing", 3),
+    ("region", 8),
+    ("cancel", 4),
+    ("border", 8),
+    ("cover", 8),
+    ("sum", 4),
+    ("blur", 8),
+    ("shift", 6),
+    ("breaks", 9),
+    ("draw", 2),
+    ("font", 2),
+    ("script", 3),
+    ("text", 100),
+];
+
+fn measure_small(rt: &HostRuntime) -> Result<(), Stop> {
+    for (kernel, size) in SMALL {
+        measure(rt, kernel, size, 1)?;
+    }
+    blurring::show(rt)
+}
+
 fn main(rt: HostRuntime) -> Result<(), Stop> {
     let words = words_of(&rt)?;
     match words.as_slice() {
-        [] => show_all(&rt),
+        [] => measure_small(&rt),
         [kernel, size, turns] => {
             measure(&rt, kernel.as_str(), number_of(size)?, number_of(turns)?)
         }

@@ -10,7 +10,7 @@ use crate::border::region;
 use crate::glyph::leanings;
 use crate::laps::Laps;
 use crate::stop::Stop;
-use crate::telling::{show_numbers, tell};
+use crate::telling::tell;
 use ass_num::{Mask, Region};
 use mask_cover::{cover, sum_of};
 use std::alloc::Global;
@@ -86,16 +86,4 @@ pub fn measure_sum(rt: &HostRuntime, side: u32, turns: u32) -> Result<(), Stop> 
         count = sum.bytes().len();
     }
     tell(rt, "sum", "ten squares", count, "pixels", &laps)
-}
-
-fn show_box(rt: &HostRuntime, what: &str, mask: &Mask) -> Result<(), Stop> {
-    show_numbers(rt, what, &[mask.w() as usize, mask.h() as usize])
-}
-
-/// Prints the box of a glyph's mask, and that of a sum of squares.
-pub fn show(rt: &HostRuntime) -> Result<(), Stop> {
-    let region = region(rt.alloc(), 32, 5)?;
-    show_box(rt, "mask", &cover(rt.alloc(), &region, 3, 5)?)?;
-    let parts = squares(rt.alloc(), 4)?;
-    show_box(rt, "sum of masks", &sum_of(rt.alloc(), parts.as_slice())?)
 }

@@ -8,7 +8,7 @@ ghost use Rattle.outline_points.specs.Placing.{IsMatrix};
 use crate::laps::Laps;
 use crate::reading::{font_of, repeated};
 use crate::stop::Stop;
-use crate::telling::{show_numbers, tell};
+use crate::telling::tell;
 use ass_num::{Matrix, Path};
 use bdf_font::Font;
 use drawing_path::read_path;
@@ -102,17 +102,4 @@ fn measure_path(rt: &HostRuntime, path: &Path, matrix: &Matrix, turns: u32) -> R
 pub fn measure_drawing(rt: &HostRuntime, curves: u32, turns: u32) -> Result<(), Stop> {
     let path = path(rt.alloc(), curves)?;
     measure_path(rt, &path, &matrix(30_500), turns)
-}
-
-/// Prints how many quads a glyph of 2 rows has, and how many points a drawing of 3 curves.
-pub fn show(rt: &HostRuntime) -> Result<(), Stop> {
-    let alloc = rt.alloc();
-    let font = font(alloc, 2)?;
-    if font.glyphs().is_empty() {
-        return Err(Stop::SizeOutOfRange);
-    }
-    let glyph = quads_of(alloc, &font, 0, &matrix(0), false, false, false)?;
-    let drawing = outline_of_path(alloc, &path(alloc, 3)?, &matrix(0), 0)?;
-    let counts = [glyph.rings.len(), drawing.rings.all_items().len()];
-    show_numbers(rt, "quads of a glyph, points of a drawing", &counts)
 }

@@ -6,7 +6,7 @@ ghost use Rattle.line_layout.specs.Breaks.{IsItemWidth, IsParagraph};
 
 use crate::laps::Laps;
 use crate::stop::Stop;
-use crate::telling::{show_numbers, tell};
+use crate::telling::tell;
 use ass_num::{Fix, Mem};
 use line_layout::choose_breaks;
 use std::alloc::Global;
@@ -116,20 +116,6 @@ pub fn measure(rt: &HostRuntime, words: u32, turns: u32) -> Result<(), Stop> {
     ] {
         measure_style(rt, "breaks, style 0", name, &paragraph, max, 0, turns)?;
         measure_style(rt, "breaks, style 3", name, &paragraph, max, 3, turns)?;
-    }
-    Ok(())
-}
-
-/// Prints the breaks of nine words of 64 with spaces between them, in each style.
-pub fn show(rt: &HostRuntime) -> Result<(), Stop> {
-    let widths = [64; 9];
-    let spaces = [1, 3, 5, 7];
-    if !is_paragraph(&widths, &spaces) {
-        return Err(Stop::SizeOutOfRange);
-    }
-    for style in [0, 1, 2, 3] {
-        let places = choose_breaks(rt.alloc(), &widths, &spaces, 320, style)?;
-        show_numbers(rt, "breaks", places.as_slice())?;
     }
     Ok(())
 }

@@ -5,7 +5,7 @@ ghost use Rattle.bdf_font.specs.Ranges.{IsFont};
 
 use crate::laps::Laps;
 use crate::stop::Stop;
-use crate::telling::{show_numbers, tell};
+use crate::telling::tell;
 use ass_script::{Script, read_script};
 use bdf_font::{Font, read_font};
 use bstr::ByteSlice;
@@ -153,16 +153,4 @@ pub fn measure_text(rt: &HostRuntime, bytes: u32, turns: u32) -> Result<(), Stop
         measure_piece(rt, "text, closed", piece, "}", count, turns)?;
     }
     Ok(())
-}
-
-/// Prints what a small font, script and text come to.
-pub fn show(rt: &HostRuntime) -> Result<(), Stop> {
-    let alloc = rt.alloc();
-    let font = font_text(alloc, 2)?;
-    let bytes = font.as_bytes();
-    let glyphs = font_of(alloc, bytes)?.glyphs().len();
-    let script = repeated(alloc, "[Events]\n", "Dialogue: x\n", 3)?;
-    let lines = script_of(alloc, script.as_bytes())?.line_count();
-    let items = read_text(alloc, "{\\b1}ab")?.len();
-    show_numbers(rt, "glyphs, lines, items", &[glyphs, lines, items])
 }

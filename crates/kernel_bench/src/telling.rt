@@ -3,7 +3,7 @@
 use crate::laps::Laps;
 use crate::stop::Stop;
 
-/// Prints what was measured and of what input, how much came of it, and how long the turns took.
+/// Prints what was measured, of what input, and how much came of it; and to standard error how long the turns took.
 pub fn tell(
     rt: &HostRuntime,
     kernel: &str,
@@ -12,20 +12,15 @@ pub fn tell(
     unit: &str,
     laps: &Laps,
 ) -> Result<(), Stop> {
-    println!(rt; "{kernel}, {input}: {count} {unit}, {laps}")?;
+    println!(rt; "{kernel}, {input}: {count} {unit}")?;
+    eprintln!(rt; "  {laps}")?;
     Ok(())
 }
 
 /// Prints how many megabytes a second the shortest turn touches, of so many bytes a turn.
 pub fn tell_rate(rt: &HostRuntime, laps: &Laps, bytes: u64) -> Result<(), Stop> {
     let rate = laps.rate(bytes);
-    println!(rt; "  {rate} MB/s touched")?;
-    Ok(())
-}
-
-/// Prints numbers behind what they are.
-pub fn show_numbers(rt: &HostRuntime, what: &str, numbers: &[usize]) -> Result<(), Stop> {
-    println!(rt; "{what}: {numbers:?}")?;
+    eprintln!(rt; "  {rate} MB/s touched")?;
     Ok(())
 }
 

@@ -6,6 +6,7 @@ use Rattle.ass_num.specs.Limits.{IsMaskWithin, IsRegionWithin, max_sample, max_m
 use Rattle.ass_num.specs.Masks.{MaskValue, is_mask}
 use Rattle.ass_num.specs.Regions.{RegionValue, is_canonical, member}
 use Rattle.ass_num.specs.Winding.{inside, winding}
+use Rattle.ass_num.specs.declared.geometry.Outline.{Outline}
 use Rattle.ass_num.specs.declared.geometry.Point.{Point}
 use Rattle.ass_num.proofs.MaskLemmas.{mask_wider}
 use Rattle.mask_blur.specs.Blur.{IsBlurred}
@@ -22,15 +23,20 @@ use Rattle.mask_model.proofs.ValueLemmas.{covered_is, softened_is, blurred_is}
 
 -- ---- regions
 
+-- an outline with the winding numbers of rings that are the wanted ones
+pub same_winding : {E : Type 0} (answer : Result Outline E) (rings wanted : List (List Point)) → rings ≡ wanted
+    → IfOk answer (λ o. (i j : ℤ) → winding o.rings i j ≡ winding rings i j) → IfOk answer (λ o. (i j : ℤ) → winding o.rings i j ≡ winding wanted i j)
+same_winding (Ok o) rings wanted e same = λ i j. same i j ∙ ap (λ z. winding z i j) e
+same_winding (Err f) rings wanted e same = same
+
 -- rings with the winding numbers of the wanted ones have their region
-pub outline_answer : {E : Type 0} (answer : Result RegionValue E) (simple rings wanted : List (List Point)) → ((i j : ℤ) → winding simple i j ≡ winding rings i j) → rings ≡ wanted
-    → IfOk answer (λ r. (i j : ℤ) → member r.top r.rows i j ≡ inside simple i j) → IfOk answer (λ r. is_canonical r.top r.rows ≡ true)
+pub outline_answer : {E : Type 0} (answer : Result RegionValue E) (rings wanted : List (List Point)) → ((i j : ℤ) → winding rings i j ≡ winding wanted i j)
+    → IfOk answer (λ r. (i j : ℤ) → member r.top r.rows i j ≡ inside rings i j) → IfOk answer (λ r. is_canonical r.top r.rows ≡ true)
     → IfOk answer (λ r. (limit : ℕ) → max_inside ≤ limit → IsRegionWithin limit r.top r.rows)
     → IfOk answer (λ r. r ≡ outline_region wanted)
-outline_answer (Ok r) simple rings wanted windings e samples canonical within =
-    region_is max_inside (inside wanted) r canonical (within max_inside (omega arith))
-    (λ i j. samples i j ∙ ap (λ z. not (int_eq z (pos 0))) (windings i j) ∙ ap (λ z. inside z i j) e)
-outline_answer (Err e) simple rings wanted windings f samples canonical within = samples
+outline_answer (Ok r) rings wanted windings samples canonical within =
+    region_is max_inside (inside wanted) r canonical (within max_inside (omega arith)) (λ i j. samples i j ∙ ap (λ z. not (int_eq z (pos 0))) (windings i j))
+outline_answer (Err e) rings wanted windings samples canonical within = samples
 
 pub region_near : {E : Type 0} (answer : Result RegionValue E) → IfOk answer (λ r. (limit : ℕ) → max_inside ≤ limit → IsRegionWithin limit r.top r.rows) → IfOk answer (λ r. IsRegionWithin max_inside r.top r.rows)
 region_near (Ok r) within = within max_inside (omega arith)

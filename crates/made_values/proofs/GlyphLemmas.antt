@@ -1,10 +1,11 @@
 -- The rings of a glyph that the fonts have.
-use Rattle.std.proofs.Common.{◌≡◌, ℕ, ◌<◌, Bool, List, length, get_or, Some, refl, sym, ap, ◌∙◌, inl, inr, arith, IfOk, Result, Ok, Err}
+use Rattle.std.proofs.Common.{◌≡◌, ℕ, ◌<◌, Bool, List, length, get_or, Some, refl, subst, sym, ap, ◌∙◌, inl, inr, arith, IfOk, Result, Ok, Err}
 use Rattle.std.specs.Prelude.{slice_get}
 use Rattle.std.proofs.lemmas.List.{get_or-map, length-map}
 use Rattle.std.proofs.lemmas.Option.{slice_get_cases, slice_get_read}
 use Rattle.ass_num.specs.declared.geometry.Matrix.{Matrix}
 use Rattle.ass_num.specs.declared.geometry.Outline.{Outline}
+use Rattle.ass_num.specs.declared.geometry.Point.{Point}
 use Rattle.bdf_font.specs.Fonts.{FontValue}
 use Rattle.bdf_font.specs.GlyphRings.{rings_of_glyph}
 use Rattle.bdf_font.specs.declared.glyphs.FontGlyph.{FontGlyph}
@@ -24,14 +25,13 @@ font_found fonts read at glyph font m e f valid =
     (slice_get_read fonts (length fonts) at font refl here is, omega (arith, glyphs, own))
 
 module _ (m : Matrix) (bold underline strikeout : Bool) where
-  pub glyph_rings_found : {E : Type 0} (answer : Result Outline E) (fonts : List FontValue) (at glyph : ℕ) (font : FontValue) → slice_get fonts at ≡ Some font → glyph < length font.glyphs
-      → IfOk answer (λ o. (g : FontGlyph) → slice_get font.glyphs glyph ≡ Some g → o.rings ≡ rings_of_glyph m bold underline strikeout font.ascent g)
-      → IfOk answer (λ o. o.rings ≡ found_font_rings m bold underline strikeout glyph (slice_get fonts at))
-  glyph_rings_found (Ok o) fonts at glyph font found within has = elim (slice_get_cases font.glyphs glyph).1 [
+  -- what an answer's outline has to do with the rings of a glyph that is there, it has to do with those that the fonts have
+  pub glyph_rings_found : {E : Type 0} (P : Outline → List (List Point) → Type 0) (answer : Result Outline E) (fonts : List FontValue) (at glyph : ℕ) (font : FontValue) → slice_get fonts at ≡ Some font → glyph < length font.glyphs
+      → IfOk answer (λ o. (g : FontGlyph) → slice_get font.glyphs glyph ≡ Some g → P o (rings_of_glyph m bold underline strikeout font.ascent g))
+      → IfOk answer (λ o. P o (found_font_rings m bold underline strikeout glyph (slice_get fonts at)))
+  glyph_rings_found P (Ok o) fonts at glyph font found within has = elim (slice_get_cases font.glyphs glyph).1 [
     | inl g ↦
-        has g.0 g.2
-        ∙ sym (ap (found_glyph_rings m bold underline strikeout font.ascent) g.2)
-        ∙ sym (ap (found_font_rings m bold underline strikeout glyph) found)
+        subst (P o) (sym (ap (found_font_rings m bold underline strikeout glyph) found ∙ ap (found_glyph_rings m bold underline strikeout font.ascent) g.2)) (has g.0 g.2)
     | inr past ↦ let l = past.0 in absurd (omega arith)
   ]
-  glyph_rings_found (Err e) fonts at glyph font found within has = has
+  glyph_rings_found P (Err e) fonts at glyph font found within has = has

@@ -11,7 +11,7 @@ ghost use Rattle.mask_model.specs.Values.{outline_value};
 use ass_num::{Mem, Outline, Region};
 use bdf_font::FontSet;
 use cancelled_edges::cancelled;
-use fixed_outline::{box_outline, outline_of_path, quads_of};
+use fixed_outline::{box_outline, outline_of_path, quads_of, runs_of};
 use mask_keys::OutlineKey;
 use sample_region::region_of;
 use std::alloc::Global;
@@ -64,6 +64,31 @@ fn simpler(alloc: Global, outline: Outline, coarse: bool) -> Mem<Outline>
     Ok(outline)
 }
 
+/// An outline with the winding numbers of a key's rings. A glyph that isn't turned needs no quads.
+fn winding_outline(alloc: Global, fonts: &FontSet, key: &OutlineKey) -> Mem<Outline>
+    requires fonts { IsFontSet fonts.now.fonts }
+    requires key { IsValidOutline (glyph_counts fonts.now.fonts) key.now }
+    ensures winding { IfOk result (λ o. (i j : ℤ) → winding o.rings i j ≡ winding (rings_of fonts.now.fonts key.now) i j) }
+    ensures within { IfOk result (λ o. IsOutline o.rings) }
+{
+    if let OutlineKey::Glyph {
+        font,
+        glyph,
+        m,
+        bold,
+        underline,
+        strikeout,
+    } = key
+    {
+        if m.turn == 0 {
+            let font = &fonts.fonts.as_slice()[*font as usize];
+            return runs_of(alloc, font, *glyph, m, *bold, *underline, *strikeout);
+        }
+    }
+    let outline = outline_of(alloc, fonts, key)?;
+    simpler(alloc, outline, is_coarse(key))
+}
+
 /// The region of an outline's key: the samples inside the glyph, the drawing or the box.
 pub fn made_outline(alloc: Global, fonts: &FontSet, key: &OutlineKey) -> Mem<Region>
     requires fonts { IsFontSet fonts.now.fonts }
@@ -71,7 +96,6 @@ pub fn made_outline(alloc: Global, fonts: &FontSet, key: &OutlineKey) -> Mem<Reg
     ensures value { IfOk result (λ r. r ≡ outline_value fonts.now.fonts key.now) }
     ensures within { IfOk result (λ r. IsRegionWithin max_inside r.top r.rows) }
 {
-    let outline = outline_of(alloc, fonts, key)?;
-    let simple = simpler(alloc, outline, is_coarse(key))?;
-    region_of(alloc, &simple)
+    let outline = winding_outline(alloc, fonts, key)?;
+    region_of(alloc, &outline)
 }

@@ -12,7 +12,7 @@ use Rattle.flight_cache.specs.Meaning.{Meaning}
 use Rattle.flight_cache.specs.Calls.{TicketView, PinView}
 use Rattle.flight_cache.specs.Shards.{CacheView, CachePassView}
 use Rattle.mask_caches.specs.Adding.{Adds, HoldsAsMuch, is_open}
-use Rattle.mask_caches.specs.Courses.{Course, Found, Filled, Failed, MadeApart, FailedApart, Unasked, has_value, is_made, fill_step, course_steps, unpin_steps, use_steps, IsLeaseOf, IsHadBy, HoldsTheLease, pins_in, duty_steps, IsDutyOf, IsNewDuty, settled_steps, IsSettled}
+use Rattle.mask_caches.specs.Courses.{Course, Found, Filled, Failed, MadeApart, FailedApart, Unasked, has_value, is_made, fill_step, course_steps, unpin_steps, use_steps, IsLeaseOf, IsHadBy, HoldsTheLease, lease_pins, duty_steps, IsDutyOf, IsNewDuty, settled_steps, IsSettled}
 use Rattle.mask_caches.specs.Leases.{HoldsLease, given_steps, lease_value}
 use Rattle.mask_caches.specs.declared.lease.Lease.{Lease}
 use Rattle.mask_caches.specs.declared.lease.Lease.TheVariants.{Pinned, Own}
@@ -88,7 +88,7 @@ module _ {M K V T : Type 0} (eq : K → K → Bool) (laws : IsEquivalence eq) (s
   pub unasked-holds : {E : Type 0} (p q : CachePassView K T) (refused : E) → Adds eq meaning cache p q [] → HoldsTheLease {M = M} eq meaning cache p q (Err refused)
   unasked-holds p q refused asks = record { pins = λ k. let more = asks.pins k in omega arith; claims = λ k. asks.claims k }
 
-  crowded-holds : {E : Type 0} {own : Lease M K V T} (key : K) (p q r s : CachePassView K T) → Adds eq meaning cache p q (Ask key Crowded ∷ []) → HoldsAsMuch eq meaning cache q r → Adds eq meaning cache r s [] → (pins_in_none : (k : K) → pins_in {E = E} eq k (Ok own) ≡ 0)
+  crowded-holds : {E : Type 0} {own : Lease M K V T} (key : K) (p q r s : CachePassView K T) → Adds eq meaning cache p q (Ask key Crowded ∷ []) → HoldsAsMuch eq meaning cache q r → Adds eq meaning cache r s [] → (pins_in_none : (k : K) → lease_pins {E = E} eq k (Ok own) ≡ 0)
       → HoldsTheLease {E = E} eq meaning cache p s (Ok own)
   crowded-holds key p q r s asks much none zero_pins = record {
     pins = λ k. let one = asks.pins k in let two = much.pins k in let three = none.pins k in omega (arith, zero_pins k);

@@ -87,14 +87,14 @@ module _ {K V T : Type 0} (meaning : Meaning K V T) (tag : T) where
   IsHadBy key course (Err refused) = has_value course ≡ false
 
 -- the pins of the key that a lease is
-abbrev pub pins_in : {M K V T E : Type 0} → (K → K → Bool) → K → Result (Lease M K V T) E → ℕ
-pins_in eq key (Ok (Pinned pin)) = one_if (eq key pin.key)
-pins_in eq key (Ok (Own value)) = 0
-pins_in eq key (Err refused) = 0
+abbrev pub lease_pins : {M K V T E : Type 0} → (K → K → Bool) → K → Result (Lease M K V T) E → ℕ
+lease_pins eq key (Ok (Pinned pin)) = one_if (eq key pin.key)
+lease_pins eq key (Ok (Own value)) = 0
+lease_pins eq key (Err refused) = 0
 
 -- the pass holds just the pin of the lease more, if that is one, and has the same claims open
 pub record HoldsTheLease {M K V T E : Type 0} (eq : K → K → Bool) (meaning : Meaning K V T) (cache : CacheView T) (pass after : CachePassView K T) (had : Result (Lease M K V T) E) : Type 0 where
-  pub pins : (key : K) → pins_of eq meaning cache after key ≡ pins_of eq meaning cache pass key + pins_in eq key had
+  pub pins : (key : K) → pins_of eq meaning cache after key ≡ pins_of eq meaning cache pass key + lease_pins eq key had
   pub claims : (key : K) → is_open eq meaning cache after key ≡ is_open eq meaning cache pass key
 
 module _ {K V T : Type 0} (meaning : Meaning K V T) where
@@ -146,14 +146,14 @@ module _ {M K V T : Type 0} (meaning : Meaning K V T) (tag : T) where
   settled_steps None had = []
 
   -- what is had of a ticket's key is a pin of its value
-  abbrev pub IsFilled : {E : Type 0} → K → Result (Lease M K V T) E → Type 0
-  IsFilled key (Ok (Pinned pin)) = (pin.key ≡ key) × (pin.value ≡ meaning.made tag key)
-  IsFilled key (Ok (Own value)) = ⊥
-  IsFilled key (Err refused) = Unit {0}
+  abbrev pub IsFilledLease : {E : Type 0} → K → Result (Lease M K V T) E → Type 0
+  IsFilledLease key (Ok (Pinned pin)) = (pin.key ≡ key) × (pin.value ≡ meaning.made tag key)
+  IsFilledLease key (Ok (Own value)) = ⊥
+  IsFilledLease key (Err refused) = Unit {0}
 
   -- nothing is had where nothing was made
   abbrev pub IsSettledTicket : {E Z : Type 0} → K → Result (Arc V Z) E → Result (Lease M K V T) E → Type 0
-  IsSettledTicket key (Ok value) had = IsFilled key had
+  IsSettledTicket key (Ok value) had = IsFilledLease key had
   IsSettledTicket key (Err refused) (Ok lease) = ⊥
   IsSettledTicket key (Err refused) (Err again) = Unit {0}
 

@@ -4,7 +4,7 @@ ghost use Rattle.std.specs.Arc.{arc_value};
 ghost use Rattle.evict_core.specs.Machine.{Fail, max_cost};
 ghost use Rattle.flight_cache.specs.Shards.{IsCacheOf};
 ghost use Rattle.mask_caches.specs.Adding.{Adds, is_open};
-ghost use Rattle.mask_caches.specs.Courses.{IsFilled, IsNeedOf, IsNewClaim, IsOwnOf, IsSettled, IsSettledTicket, asked_steps, settled_steps};
+ghost use Rattle.mask_caches.specs.Courses.{IsFilledLease, IsNeedOf, IsNewClaim, IsOwnOf, IsSettled, IsSettledTicket, asked_steps, settled_steps};
 
 use crate::lease::Lease;
 use ass_num::{Mem, OutOfMemory};
@@ -56,7 +56,7 @@ fn fill<M: Made, R: Wait>(
     requires value { arc_value kept ≡ M.meaning.made cache.now.tag ticket.key }
     requires cost { M.meaning.cost (arc_value kept) ≤ max_cost }
     ensures steps { Adds M.Key.eq M.meaning cache.now pass result.0 (settled_steps M.meaning cache.now.tag (Some ticket) result.1) }
-    ensures settled { IsFilled M.meaning cache.now.tag ticket.key result.1 }
+    ensures settled { IsFilledLease M.meaning cache.now.tag ticket.key result.1 }
 {
     match Arc::try_clone(&kept) {
         Ok(pinned) => {

@@ -4,8 +4,8 @@ use Rattle.made_values.proofs.outlines.made_outline.Goals as goal
 
 pub returns-clause-value : goal.returns-clause-value
 returns-clause-value c =
-    outline_answer c.region_of.result c.in_ok-simple.simple.rings c.in_ok-outline.outline.rings (rings_of c.args.fonts.now.fonts c.args.key.now)
-    c.in_ok-simple.ensures.winding c.in_ok-outline.ensures.rings c.region_of.ensures.samples c.region_of.ensures.canonical c.region_of.ensures.within
+    outline_answer c.region_of.result c.in_ok-outline.outline.rings (rings_of c.args.fonts.now.fonts c.args.key.now)
+    c.in_ok-outline.ensures.winding c.region_of.ensures.samples c.region_of.ensures.canonical c.region_of.ensures.within
 
 pub returns-clause-within : goal.returns-clause-within
 returns-clause-within c = region_near c.region_of.result c.region_of.ensures.within

@@ -1,0 +1,13 @@
+use Rattle.std.proofs.Common.{◌≡◌, ℕ, ◌-◌, ◌<◌, ◌≤◌, false}
+use Rattle.ass_num.specs.Bitmaps.{pixel_is_set}
+use Rattle.fixed_outline.proofs.runs.run_start.Given as goal
+
+abbrev pub invariant-loop-i : goal.invariant-loop-i
+invariant-loop-i l = record {
+  ordered : l.from ≤ l.i;
+  within : l.i ≤ l.glyph.w;
+  clear : (k : ℕ) → l.from ≤ k → k < l.i → pixel_is_set l.glyph.w l.glyph.bits k l.j ≡ false;
+}
+
+abbrev pub decreases-loop-i : goal.decreases-loop-i
+decreases-loop-i l = l.glyph.w - l.i
