@@ -1,6 +1,8 @@
 pub mod Adding
+pub mod Cells
 pub mod Closing
 pub mod Composed
+pub mod Holding
 pub mod Levels
 pub mod Opening
 pub mod PartVisits

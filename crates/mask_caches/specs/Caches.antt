@@ -5,10 +5,11 @@ use Rattle.evict_core.specs.Asked.{totals_of}
 use Rattle.evict_core.specs.declared.counts.Totals.{Totals}
 use Rattle.flight_cache.specs.Meaning.{Meaning}
 use Rattle.flight_cache.specs.Histories.{left_by}
-use Rattle.flight_cache.specs.Shards.{CacheView, CachePassView, IsCacheOf, AreShardsOf, EachHasGivenBack, EachGaveAsMuch, EachBegins, EachIsBelow, EachExtends, HasLimits, HasNothing, each, both, sum_of_totals}
+use Rattle.flight_cache.specs.Shards.{CacheView, CachePassView, IsCacheOf, AreShardsOf, EachHasGivenBack, EachIsLegal, EachGaveAsMuch, EachBegins, EachIsBelow, EachExtends, HasLimits, HasNothing, each, both, sum_of_totals}
 use Rattle.mask_keys.specs.Equality.{equal_regions, equal_masks, equal_composites}
 use Rattle.cache_kinds.specs.Kinds.{region_meaning, mask_meaning, composite_meaning}
 use Rattle.cache_kinds.specs.Limits.{entry_limit}
+use Rattle.mask_caches.specs.Adding.{HoldsAsMuch}
 use Rattle.mask_caches.specs.declared.caches.Caches.{Caches}
 use Rattle.mask_caches.specs.declared.passes.CachesPass.{CachesPass}
 
@@ -29,6 +30,24 @@ pub record HasAllGivenBack (caches : Caches) (pass : CachesPass) : Type 0 where
   pub outlines : EachHasGivenBack equal_regions region_meaning caches.outlines.shards pass.outlines
   pub masks : EachHasGivenBack equal_masks mask_meaning caches.masks.shards pass.masks
   pub composites : EachHasGivenBack equal_composites composite_meaning caches.composites.shards pass.composites
+
+-- the pass holds in each cache what it held before, and has open what it had before
+pub record HoldsAsBefore (caches : Caches) (pass after : CachesPass) : Type 0 where
+  pub outlines : HoldsAsMuch equal_regions region_meaning caches.outlines pass.outlines after.outlines
+  pub masks : HoldsAsMuch equal_masks mask_meaning caches.masks pass.masks after.masks
+  pub composites : HoldsAsMuch equal_composites composite_meaning caches.composites pass.composites after.composites
+
+-- what the pass has seen of each shard is legal
+pub record AreLegal (caches : Caches) (pass : CachesPass) : Type 0 where
+  pub outlines : EachIsLegal equal_regions region_meaning caches.outlines.shards pass.outlines
+  pub masks : EachIsLegal equal_masks mask_meaning caches.masks.shards pass.masks
+  pub composites : EachIsLegal equal_composites composite_meaning caches.composites.shards pass.composites
+
+-- the shards of each cache have their numbers, and its tag
+pub record AreNumbered (caches : Caches) : Type 0 where
+  pub outlines : AreShardsOf caches.outlines.tag caches.outlines.shards
+  pub masks : AreShardsOf caches.masks.tag caches.masks.shards
+  pub composites : AreShardsOf caches.composites.tag caches.composites.shards
 
 -- a new cache: its shards have their numbers, its tag and their parts of the limits, and the pass is the first one
 pub record IsNewCache {K T : Type 0} (cache : CacheView T) (pass : CachePassView K T) (budget : ℕ) : Type 0 where

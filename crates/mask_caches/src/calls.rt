@@ -8,7 +8,7 @@ ghost use Rattle.mask_keys.specs.Equality.{equal_composites, equal_masks, equal_
 ghost use Rattle.mask_model.specs.Outlines.{IsFontSet};
 ghost use Rattle.mask_caches.specs.Adding.{Adds};
 ghost use Rattle.mask_caches.specs.Leases.{HoldsLease, given_steps, is_pinned};
-ghost use Rattle.mask_caches.specs.Caches.{AreNew, HasAllGivenBack, IsNewCache, AreJoined, IsPassOf, IsSamePass, IsSplit, IsSplitIn, all_totals};
+ghost use Rattle.mask_caches.specs.Caches.{AreJoined, AreLegal, AreNew, AreNumbered, HasAllGivenBack, HoldsAsBefore, IsNewCache, IsPassOf, IsSamePass, IsSplit, IsSplitIn, all_totals};
 ghost use Rattle.cache_kinds.specs.Limits.{entry_limit};
 
 use crate::caches::Caches;
@@ -55,6 +55,7 @@ impl Caches {
         ensures fonts { IfOk result (λ r. arc_value r.0.fonts ≡ arc_value fonts) }
         ensures new { IfOk result (λ r. AreNew r.0 r.1 budget) }
         ensures pass { IfOk result (λ r. IsPassOf r.0 r.1) }
+        ensures given { IfOk result (λ r. HasAllGivenBack r.0 r.1) }
     {
         let of_outlines = Arc::try_clone(&fonts)?;
         let of_masks = Arc::try_clone(&fonts)?;
@@ -87,9 +88,11 @@ impl Caches {
     pub fn set_budgets<R: Wait>(&self, rt: &R, pass: CachesPass, budget: u64) -> CachesPass
         requires pass { IsPassOf self.now pass }
         requires budget { budget ≤ max_budget }
+        ensures pass { IsPassOf self.now result }
         ensures outlines { EachGives equal_regions region_meaning self.now.outlines.shards pass.outlines result.outlines (λ n. Limits (part (entry_limit budget) n) (part budget n) ∷ []) }
         ensures masks { EachGives equal_masks mask_meaning self.now.masks.shards pass.masks result.masks (λ n. Limits (part (entry_limit budget) n) (part budget n) ∷ []) }
         ensures composites { EachGives equal_composites composite_meaning self.now.composites.shards pass.composites result.composites (λ n. Limits (part (entry_limit budget) n) (part budget n) ∷ []) }
+        ensures holds { HoldsAsBefore self.now pass result }
     {
         let CachesPass {
             outlines,
@@ -110,11 +113,13 @@ impl Caches {
     /// The totals of the outlines, the masks and the composed masks, in this order.
     pub fn totals<R: Wait>(&self, rt: &R, pass: CachesPass) -> (CachesPass, [Totals; 3])
         requires { IsPassOf self.now pass }
+        ensures pass { IsPassOf self.now result.0 }
         ensures outlines { EachGives equal_regions region_meaning self.now.outlines.shards pass.outlines result.0.outlines (λ n. []) }
         ensures masks { EachGives equal_masks mask_meaning self.now.masks.shards pass.masks result.0.masks (λ n. []) }
         ensures composites { EachGives equal_composites composite_meaning self.now.composites.shards pass.composites result.0.composites (λ n. []) }
         ensures totals { result.1 ≡ all_totals self.now result.0 }
         ensures budgets { All (λ t. t.unpinned ≤ t.budget) result.1 }
+        ensures holds { HoldsAsBefore self.now pass result.0 }
     {
         let CachesPass {
             outlines,
@@ -143,6 +148,7 @@ impl Caches {
     ) -> CachesPass
         requires pass { IsPassOf self.now pass }
         requires held { HoldsLease equal_composites composite_meaning self.now.composites pass.composites lease }
+        ensures pass { IsPassOf self.now result }
         ensures composites { Adds equal_composites composite_meaning self.now.composites pass.composites result.composites (given_steps lease) }
         ensures own { is_pinned lease ≡ false → result.composites ≡ pass.composites }
         ensures masks { result.masks ≡ pass.masks }
@@ -166,6 +172,8 @@ impl Caches {
         requires pass { IsPassOf self.now pass }
         requires first { pass.outlines.first.number ≡ 0 }
         ensures passes { IfOk result (λ r. IsSplit self.now pass r.0 r.1) }
+        ensures cells { IfOk result (λ r. IsPassOf self.now r.0 × IsPassOf self.now r.1) }
+        ensures given { IfOk result (λ r. HasAllGivenBack self.now r.1) }
         ensures room { OnOk result (pass.outlines.first.next < u32.MAX) }
         ensures refused { IfErr result (λ p. (pass.outlines.first.next ≡ u32.MAX) × IsSamePass pass p) }
     {
@@ -207,7 +215,8 @@ impl Caches {
         requires passes { IsPassOf self.now pass × IsPassOf self.now other }
         requires first { pass.outlines.first.number ≡ 0 }
         requires given { HasAllGivenBack self.now other }
-        ensures { AreJoined self.now pass other result }
+        ensures joined { AreJoined self.now pass other result }
+        ensures pass { IsPassOf self.now result }
     {
         let CachesPass {
             outlines,
@@ -248,5 +257,19 @@ impl Caches {
         outlines.close(outlines_pass);
         masks.close(masks_pass);
         composites.close(composites_pass);
+    }
+    /// What the pass has seen of each shard is legal, and the shards have their numbers. It does nothing: its contract is
+    /// the law.
+    pub fn legal(&self, pass: &CachesPass)
+        requires { IsPassOf self.now pass.now }
+        ensures legal { AreLegal self.now pass.now }
+        ensures numbered { AreNumbered self.now }
+    {
+        self.outlines.legal(&pass.outlines);
+        self.masks.legal(&pass.masks);
+        self.composites.legal(&pass.composites);
+        self.outlines.numbered();
+        self.masks.numbered();
+        self.composites.numbered();
     }
 }

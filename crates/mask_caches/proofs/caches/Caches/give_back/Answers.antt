@@ -1,0 +1,11 @@
+use Rattle.cache_kinds.specs.Kinds.{composite_meaning}
+use Rattle.mask_keys.specs.Equality.{equal_composites}
+use Rattle.mask_caches.proofs.Adding.{adds-stays}
+use Rattle.mask_caches.proofs.caches.Caches.give_back.Goals as goal
+
+pub returns-clause-pass : goal.returns-clause-pass
+returns-clause-pass g c = record {
+  outlines = c.requires.pass.outlines;
+  masks = c.requires.pass.masks;
+  composites = adds-stays equal_composites composite_meaning c.args.self.now.composites c.args.pass.composites c.give_back-composites.result _ c.requires.pass.composites c.give_back-composites.ensures.steps;
+}
