@@ -7,7 +7,7 @@ ghost use Rattle.mask_keys.specs.Keys.{HasMaskRanges, max_blur_radius};
 ghost use Rattle.mask_model.specs.Outlines.{IsFontSet, glyph_counts};
 ghost use Rattle.sample_region.specs.Limits.{max_inside};
 
-use crate::glyphs::{COUNT, Line, RADIUS, edge_part, fill_part, fonts, outline_key};
+use crate::glyphs::{COUNT, Letters, Line, RADIUS, edge_part, fill_part, fonts, outline_key};
 use crate::layer::Layer;
 use crate::stop::Stop;
 use crate::times::{Stage, Stages};
@@ -132,11 +132,11 @@ fn composites(
 }
 
 /// Times so many turns.
-pub fn measure(rt: &HostRuntime, line: Line, turns: u8) -> Result<(), Stop> {
+pub fn measure(rt: &HostRuntime, letters: Letters, line: Line, turns: u8) -> Result<(), Stop> {
     if line.blur > 100 {
         return Err(Stop::BlurOutOfRange);
     }
-    let fonts = fonts(rt.alloc())?;
+    let fonts = fonts(rt.alloc(), letters)?;
     let mut stages = Stages::new();
     for _ in 0..turns {
         let _made = composites(rt, &fonts, line, &mut stages)?;
@@ -180,7 +180,7 @@ fn show_mask(rt: &HostRuntime, mask: &Mask) -> Result<(), Stop> {
 
 /// Makes a small line once, and prints what came of it.
 pub fn show(rt: &HostRuntime) -> Result<(), Stop> {
-    let fonts = fonts(rt.alloc())?;
+    let fonts = fonts(rt.alloc(), Letters::Strokes)?;
     let line = Line { pixels: 8, blur: 1 };
     let (fill, edge) = composites(rt, &fonts, line, &mut Stages::new())?;
     show_mask(rt, &fill)?;

@@ -1,6 +1,6 @@
 //! Measures what it costs to make all values of a line of text. Without words it makes a small line once and prints what
-//! came of it; with the words `PIXELS BLUR TURNS` it prints how long each stage takes for a line of that height, with a
-//! border of two pixels and that blur.
+//! came of it; with the words `LETTERS PIXELS BLUR TURNS` it prints how long each stage takes for a line of that height,
+//! with a border of two pixels and that blur. The letters are `strokes` or `fields`.
 #![tactic(auto)]
 
 mod glyphs;
@@ -9,7 +9,7 @@ mod line;
 mod stop;
 mod times;
 
-use glyphs::Line;
+use glyphs::{Letters, Line};
 use std::{env, io};
 use stop::Stop;
 
@@ -29,16 +29,25 @@ fn number_of(word: &String) -> Result<u8, Stop> {
     }
 }
 
+fn letters_of(word: &String) -> Result<Letters, Stop> {
+    match word.as_str() {
+        "strokes" => Ok(Letters::Strokes),
+        "fields" => Ok(Letters::Fields),
+        _ => Err(Stop::UnknownWords),
+    }
+}
+
 fn main(rt: HostRuntime) -> Result<(), Stop> {
     let words = words_of(&rt)?;
     match words.as_slice() {
         [] => line::show(&rt),
-        [pixels, blur, turns] => {
+        [letters, pixels, blur, turns] => {
+            let letters = letters_of(letters)?;
             let line = Line {
                 pixels: number_of(pixels)?,
                 blur: number_of(blur)?,
             };
-            line::measure(&rt, line, number_of(turns)?)
+            line::measure(&rt, letters, line, number_of(turns)?)
         }
         _ => Err(Stop::UnknownWords),
     }
