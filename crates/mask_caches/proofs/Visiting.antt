@@ -168,6 +168,10 @@ module _ {M K V T : Type 0} (eq : K → K → Bool) (laws : IsEquivalence eq) (s
   lease-held p q (Pinned pin) holds = let more = rw (laws.refl pin.key) at (holds.pins pin.key) in omega arith
   lease-held p q (Own value) holds = tt
 
+  pub had-held : {E : Type 0} (p q : CachePassView K T) (had : Result (Lease M K V T) E) → HoldsTheLease eq meaning cache p q had → IfOk had (HoldsLease eq meaning cache q)
+  had-held p q (Ok lease) holds = lease-held p q lease holds
+  had-held p q (Err refused) holds = tt
+
   pub given-again : {E : Type 0} (p q r : CachePassView K T) (lease : Lease M K V T) → HoldsTheLease {E = E} eq meaning cache p q (Ok lease) → Adds eq meaning cache q r (given_steps lease) → HoldsAsMuch eq meaning cache p r
   given-again p q r (Pinned pin) holds gives = record {
     pins = λ k. let more = holds.pins k in let less = gives.pins k in omega arith;

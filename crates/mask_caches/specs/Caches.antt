@@ -37,6 +37,10 @@ pub record HoldsAsBefore (caches : Caches) (pass after : CachesPass) : Type 0 wh
   pub masks : HoldsAsMuch equal_masks mask_meaning caches.masks pass.masks after.masks
   pub composites : HoldsAsMuch equal_composites composite_meaning caches.composites pass.composites after.composites
 
+-- the pass holds nothing where it holds what one did that held nothing
+abbrev pub HoldsNothingAgain : Caches → CachesPass → Type 0
+HoldsNothingAgain caches after = (pass : CachesPass) → HasAllGivenBack caches pass → HoldsAsBefore caches pass after → HasAllGivenBack caches after
+
 -- what the pass has seen of each shard is legal
 pub record AreLegal (caches : Caches) (pass : CachesPass) : Type 0 where
   pub outlines : EachIsLegal equal_regions region_meaning caches.outlines.shards pass.outlines

@@ -8,7 +8,7 @@ ghost use Rattle.mask_keys.specs.Equality.{equal_composites, equal_masks, equal_
 ghost use Rattle.mask_model.specs.Outlines.{IsFontSet};
 ghost use Rattle.mask_caches.specs.Adding.{Adds};
 ghost use Rattle.mask_caches.specs.Leases.{HoldsLease, given_steps, is_pinned};
-ghost use Rattle.mask_caches.specs.Caches.{AreJoined, AreLegal, AreNew, AreNumbered, HasAllGivenBack, HoldsAsBefore, IsNewCache, IsPassOf, IsSamePass, IsSplit, IsSplitIn, all_totals};
+ghost use Rattle.mask_caches.specs.Caches.{AreJoined, AreLegal, AreNew, AreNumbered, HasAllGivenBack, HoldsAsBefore, HoldsNothingAgain, IsNewCache, IsPassOf, IsSamePass, IsSplit, IsSplitIn, all_totals};
 ghost use Rattle.cache_kinds.specs.Limits.{entry_limit};
 
 use crate::caches::Caches;
@@ -258,12 +258,14 @@ impl Caches {
         masks.close(masks_pass);
         composites.close(composites_pass);
     }
-    /// What the pass has seen of each shard is legal, and the shards have their numbers. It does nothing: its contract is
-    /// the law.
+
+    /// What the pass has seen of each shard is legal, the shards have their numbers, and the pass holds nothing if it holds
+    /// what one did that held nothing. It does nothing: its contract is the law.
     pub fn legal(&self, pass: &CachesPass)
         requires { IsPassOf self.now pass.now }
         ensures legal { AreLegal self.now pass.now }
         ensures numbered { AreNumbered self.now }
+        ensures nothing { HoldsNothingAgain self.now pass.now }
     {
         self.outlines.legal(&pass.outlines);
         self.masks.legal(&pass.masks);

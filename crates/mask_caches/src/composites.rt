@@ -15,7 +15,7 @@ ghost use Rattle.mask_caches.specs.Caches.{IsPassOf};
 ghost use Rattle.mask_caches.specs.Composing.{HoldsJustTheLease, IsComposed};
 ghost use Rattle.mask_caches.specs.Threes.{three, three_of};
 ghost use Rattle.mask_caches.specs.Holding.{AreAllHad, AreVisited, all_given_steps, pinned_keys};
-ghost use Rattle.mask_caches.specs.Leases.{lease_value};
+ghost use Rattle.mask_caches.specs.Leases.{HoldsLease, lease_value};
 ghost use Rattle.mask_caches.specs.Visits.{AreMaskVisits, MaskVisit, mask_steps, mask_steps_of, region_steps_of};
 
 use crate::caches::Caches;
@@ -261,6 +261,8 @@ impl Caches {
         ensures composed { IsComposed self.now (three_of pass) key.now (three_of result.0) result.1 }
         ensures value { IfOk result.1 (λ lease. lease_value lease ≡ composite_value (arc_value self.now.fonts).fonts key.now) }
         ensures holds { HoldsJustTheLease self.now (three_of pass) key.now (three_of result.0) result.1 }
+        ensures pass { IsPassOf self.now result.0 }
+        ensures held { IfOk result.1 (HoldsLease equal_composites composite_meaning self.now.composites result.0.composites) }
     {
         let CachesPass {
             outlines,

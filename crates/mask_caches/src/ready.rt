@@ -52,6 +52,7 @@ impl Caches {
         ensures holds { IfErr result.1 (λ refusal. HoldsAsMuch equal_composites composite_meaning self.now.composites pass.composites result.0.composites) }
         ensures masks { result.0.masks ≡ pass.masks }
         ensures outlines { result.0.outlines ≡ pass.outlines }
+        ensures pass { IsPassOf self.now result.0 }
     {
         let mut leases = Vec::new(alloc);
         if leases.reserve(keys.len()).is_err() {

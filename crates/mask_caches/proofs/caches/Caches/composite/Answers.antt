@@ -1,5 +1,11 @@
+use Rattle.cache_kinds.specs.Kinds.{composite_meaning, mask_meaning, region_meaning}
+use Rattle.mask_keys.specs.Equality.{equal_composites, equal_masks, equal_regions}
+use Rattle.mask_keys.proofs.Equal.{composite_same}
+use Rattle.mask_keys.specs.contracts.composite_key.CompositeKeyEq.TheImpl.Laws as composite_laws
+use Rattle.mask_caches.proofs.Adding.{adds-stays}
 use Rattle.mask_caches.proofs.Staying.{together-later}
 use Rattle.mask_caches.proofs.Tagged.{composite-of-fonts}
+use Rattle.mask_caches.proofs.Visiting.{had-held}
 use Rattle.mask_caches.proofs.caches.Caches.composite.Goals as goal
 
 pub invariant_of-pass : goal.invariant_of-pass
@@ -14,3 +20,16 @@ pub returns-clause-value : goal.returns-clause-value
 returns-clause-value g c =
     let t = c.visit_composite-passes.ensures.composed in
     composite-of-fonts c.args.self.now.fonts c.args.self.now.composites.tag c.args.self.now.tags.composites_have t.visit.course c.args.key.now c.visit_composite-passes.result.1 t.had_by
+
+pub returns-clause-pass : goal.returns-clause-pass
+returns-clause-pass g c =
+    let t = c.visit_composite-passes.ensures.composed in
+    record {
+      outlines = adds-stays equal_regions region_meaning c.args.self.now.outlines c.args.pass.outlines c.visit_composite-passes.result.0.outlines _ c.requires.pass.outlines t.outlines;
+      masks = adds-stays equal_masks mask_meaning c.args.self.now.masks c.args.pass.masks c.visit_composite-passes.result.0.masks _ c.requires.pass.masks t.masks;
+      composites = adds-stays equal_composites composite_meaning c.args.self.now.composites c.args.pass.composites c.visit_composite-passes.result.0.composites _ c.requires.pass.composites t.composites;
+    }
+
+pub returns-clause-held : goal.returns-clause-held
+returns-clause-held g c =
+    had-held equal_composites composite_laws.laws-law composite_same composite_meaning c.args.self.now.composites c.args.pass.composites c.visit_composite-passes.result.0.composites c.visit_composite-passes.result.1 c.visit_composite-passes.ensures.holds.composites

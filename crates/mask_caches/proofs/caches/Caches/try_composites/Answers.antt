@@ -2,6 +2,7 @@ use Rattle.std.proofs.Common.{refl, sym, ◌∙◌, arith}
 use Rattle.turn_cell.proofs.Passes.{Follows_same}
 use Rattle.flight_cache.specs.Pinning.{GivesNothing}
 use Rattle.flight_cache.proofs.Claiming.{on-ok}
+use Rattle.flight_cache.proofs.Rows.{stays_of_cache}
 use Rattle.cache_kinds.specs.Kinds.{composite_meaning, mask_meaning, region_meaning}
 use Rattle.mask_keys.specs.Equality.{equal_composites, equal_masks, equal_regions}
 use Rattle.mask_keys.proofs.Equal.{composite_same}
@@ -23,6 +24,7 @@ returns-then-is_err c =
       holds = much-itself equal_composites composite_laws.laws-law composite_same composite_meaning c.args.self.now.composites p;
       masks = refl;
       outlines = refl;
+      pass = c.requires;
     }
 
 pub invariant_of-pass : goal.invariant_of-pass
@@ -56,6 +58,13 @@ returns-in-Ok c =
       holds = tt;
       masks = refl;
       outlines = refl;
+      pass = record {
+        outlines = c.requires.outlines;
+        masks = c.requires.masks;
+        composites = stays_of_cache c.args.self.now.composites c.args.pass.composites c.try_pin_all-composites.result.0 c.requires.composites
+            (tried-later equal_composites composite_meaning c.args.self.now.composites c.args.pass.composites c.try_pin_all-composites.result.0 composite_laws.laws-law composite_same c.numbered.ensures c.args.keys.now.items
+            (λ pins. pins.items) c.try_pin_all-composites.result.1 c.try_pin_all-composites.ensures.pinned c.try_pin_all-composites.ensures.nothing);
+      };
     }
 
 pub returns-in-Err : goal.returns-in-Err
@@ -69,4 +78,11 @@ returns-in-Err c =
       holds = nothing-much equal_composites composite_meaning c.args.self.now.composites c.args.pass.composites c.try_pin_all-composites.result.0 nothing;
       masks = refl;
       outlines = refl;
+      pass = record {
+        outlines = c.requires.outlines;
+        masks = c.requires.masks;
+        composites = stays_of_cache c.args.self.now.composites c.args.pass.composites c.try_pin_all-composites.result.0 c.requires.composites
+            (tried-later equal_composites composite_meaning c.args.self.now.composites c.args.pass.composites c.try_pin_all-composites.result.0 composite_laws.laws-law composite_same c.numbered.ensures c.args.keys.now.items
+            (λ pins. pins.items) c.try_pin_all-composites.result.1 c.try_pin_all-composites.ensures.pinned c.try_pin_all-composites.ensures.nothing);
+      };
     }
