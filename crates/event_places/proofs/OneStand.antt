@@ -92,7 +92,7 @@ module _ (text : List ℕ) (duration elapsed : ℤ) where
   looks_of (looks.seen before i kind items rest level shows are) = inr (inl (kind, rest, level, shows, are, refl))
   looks_of (looks.drawn before i slice items path rest level all behind is are) = inr (inr (slice, items, path, rest, level, all, behind, is, are, refl, refl))
 
-  one_looks : {before : List Effect} {items : List Item} {a : List Look} → AreLooks text duration elapsed before items a → (b : List Look) → AreLooks text duration elapsed before items b → a ≡ b
+  pub one_looks : {before : List Effect} {items : List Item} {a : List Look} → AreLooks text duration elapsed before items a → (b : List Look) → AreLooks text duration elapsed before items b → a ≡ b
   one_looks (looks.none before) b second = sym (looks_of second)
   one_looks (looks.unseen before i items a hidden rest) b second = elim (looks_of second) [
     | inl m ↦ one_looks rest b m.1
@@ -135,7 +135,7 @@ module _ (script : ScriptValue) (own : List ℕ) (fonts : List FontValue) (size 
       ∙ (ap (λ (z : Bool). M (record b { italic = z; draw = a.draw })) italic
       ∙ ap (λ (z : ℕ). M (record b { draw = z })) draw)))))
 
-  number_of : (names : List (List ℕ)) (state : State) (name : List ℕ) → slice_get names state.font ≡ Some name → slice_index (font_numbers fonts names) state.font ≡ font_named name fonts
+  pub number_of : (names : List (List ℕ)) (state : State) (name : List ℕ) → slice_get names state.font ≡ Some name → slice_index (font_numbers fonts names) state.font ≡ font_named name fonts
   number_of names state name is =
       let f = λ (n : List ℕ). font_named n fonts in
       get_or_from_slice_get (map f names) state.font (f name) 0 (slice_get-map f names state.font ∙ ap (option_map f) is)
@@ -264,7 +264,7 @@ same_stand script event v w laid size align place =
     ∙ ap (λ (z : Option (ℤ × ℤ)). stand_of script event (record w { pos = z }) laid size) place
 
 module _ (script : ScriptValue) (fonts : List FontValue) (size : Size) (sound : IsScript script) where
-  view_wrap : (event : Event) (view : EventView) → IsViewOf script event event.start view → view.wrap ≤ 3
+  pub view_wrap : (event : Event) (view : EventView) → IsViewOf script event event.start view → view.wrap ≤ 3
   view_wrap event view h =
       let effects = past_held event.duration (elapsed_at event event.start) [] h.items (All-nil IsHeldEffect) (items_held h.reading) in
       subst (λ (z : ℕ). z ≤ 3) (sym h.shown.wrap) (wrap_held script.header.wrap _ sound.header.wrap effects)

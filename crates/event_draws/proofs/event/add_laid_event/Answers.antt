@@ -1,11 +1,18 @@
-use Rattle.std.proofs.Common.{◌≡◌, ap, rules, arith}
+use Rattle.std.proofs.Common.{◌≡◌, ℕ, List, length, All, ap, rules, arith}
 use Rattle.std.proofs.lemmas.Grind.{common_steps}
+use Rattle.std.proofs.lemmas.List.Elements.{All-weaker}
 use Rattle.std.proofs.lemmas.Result.{on_ok_weaker}
+use Rattle.override_tags.specs.Views.{IsState}
+use Rattle.override_tags.specs.declared.view.State.{State}
 use Rattle.event_draws.specs.EventDraws.{event_draws}
+use Rattle.event_draws.specs.MovedDraws.{HaveFourColours}
 use Rattle.event_draws.specs.Stages.{stage_at}
 use Rattle.event_draws.specs.declared.stage.Stage.{Stage}
 use Rattle.event_draws.proofs.LayoutLemmas.{drawn_layout}
 use Rattle.event_draws.proofs.event.add_laid_event.Goals as goal
+
+four_colours : (names : ℕ) (states : List State) → All (IsState names) states → HaveFourColours states
+four_colours names states h = All-weaker (IsState names) (λ (state : State). length state.colours ≡ 4) (λ state k. k.colours) states h
 
 pub add_event_draws-requires-clause-laid : goal.add_event_draws-requires-clause-laid
 add_event_draws-requires-clause-laid c =
@@ -26,6 +33,7 @@ returns-clause-draws c =
           record {
             view = view;
             shows = c.requires.shows;
+            colours = four_colours (length view.names) view.states c.requires.view.states;
             laid = laid;
             laid_out = c.requires.laid_out;
             value = ap (λ (stage : Stage). event_draws stage fonts view laid) stands;
