@@ -1,4 +1,4 @@
--- Inner: leases of masks that are held together.
+-- Public: leases of masks that are held together.
 use Rattle.std.specs.Prelude.{◌≡◌, true, List, [], ◌∷◌, length, map, reverse, flat_map, All}
 use Rattle.std.specs.Arc.{arc_value}
 use Rattle.evict_core.specs.Machine.{Step}

@@ -1,0 +1,5 @@
+pub mod GivenLeases
+pub mod Held
+pub mod KnownShards
+pub mod Pictures
+pub mod Together

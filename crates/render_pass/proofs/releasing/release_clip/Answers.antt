@@ -1,0 +1,42 @@
+use Rattle.std.proofs.Common.{[], ◌∷◌}
+use Rattle.frame_paint.specs.Frames.{MaskLease, leases_of_clip}
+use Rattle.render_pass.specs.Holding.{HoldsLeases}
+use Rattle.render_pass.proofs.GivenLeases.{gives-fewer, gives-none, gives-one, lease-held}
+use Rattle.render_pass.proofs.releasing.release_clip.Goals as goal
+
+pub give_back-requires-clause-held : goal.give_back-requires-clause-held
+give_back-requires-clause-held g c = lease-held c.args.caches.now c.args.pass c.in-Drawn.lease (rw c.in-Drawn.is at c.requires.held)
+
+pub returns-in-Free : goal.returns-in-Free
+returns-in-Free g c =
+    let none = gives-none c.args.caches.now c.args.pass in
+    rw c.in-Free.is (record {
+      pass = c.requires.pass;
+      composites = none.composites;
+      masks = none.masks;
+      outlines = none.outlines;
+      holds = gives-fewer c.args.caches.now c.args.pass c.args.pass [] none;
+    })
+
+pub returns-in-Rect : goal.returns-in-Rect
+returns-in-Rect g c =
+    let none = gives-none c.args.caches.now c.args.pass in
+    rw c.in-Rect.is (record {
+      pass = c.requires.pass;
+      composites = none.composites;
+      masks = none.masks;
+      outlines = none.outlines;
+      holds = gives-fewer c.args.caches.now c.args.pass c.args.pass [] none;
+    })
+
+pub returns-in-Drawn : goal.returns-in-Drawn
+returns-in-Drawn g c =
+    let f = c.give_back.ensures in
+    let one = gives-one c.args.caches.now c.args.pass c.give_back.result c.in-Drawn.lease f.composites f.masks f.outlines in
+    rw c.in-Drawn.is (record {
+      pass = f.pass;
+      composites = one.composites;
+      masks = one.masks;
+      outlines = one.outlines;
+      holds = gives-fewer c.args.caches.now c.args.pass c.give_back.result (c.in-Drawn.lease ∷ []) one;
+    })

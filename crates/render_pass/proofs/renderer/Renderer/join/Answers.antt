@@ -1,0 +1,14 @@
+use Rattle.std.proofs.Common.{refl, subst}
+use Rattle.render_pass.specs.Passes.{RenderView}
+use Rattle.render_pass.proofs.Together.{joined-of, joined-together}
+use Rattle.render_pass.proofs.renderer.Renderer.join.Goals as goal
+
+pub returns : goal.returns
+returns c =
+    let e = c.join-track.ensures in let f = c.join-caches.ensures in
+    let of = rw (← c.self.view_is, ← c.pass.view_is) at c.requires.passes.0 in
+    rw (← c.self.view_is, ← c.pass.view_is, ← c.other.view_is) (record {
+      is_of = record { track = joined-of c.self.inside.track c.pass.inside.track c.other.inside.track c.join-track.result of.track e.pass; caches = f.pass };
+      track = record { is = e.pass; begins = e.begins.0; begins_other = e.begins.1; own = e.mine; itself = e.itself };
+      caches = f.joined;
+    })

@@ -1,0 +1,19 @@
+-- Public: frames of histories.
+use Rattle.std.specs.Prelude.{◌≡◌, ℤ, List, length}
+use Rattle.ass_events.specs.Histories.{Entry, live}
+use Rattle.ass_num.specs.declared.size.Size.{Size}
+use Rattle.ass_script.specs.Scripts.{ScriptValue}
+use Rattle.bdf_font.specs.Fonts.{FontValue}
+use Rattle.frame_paint.specs.Frames.{ShowsDraws}
+use Rattle.frame_paint.specs.declared.frames.Frame.{Frame}
+use Rattle.mask_keys.specs.declared.plans.Draw.{Draw}
+use Rattle.picture_plan.specs.Pictures.{AreDraws}
+
+-- The frame shows the whole history at t: how many entries the history has, the instant and the size, and the draws of what is live of it, each with the masks of its keys.
+pub record IsFrame (script : ScriptValue) (fonts : List FontValue) (history : List Entry) (t : ℤ) (size : Size) (frame : Frame) : Type 0 where
+  pub n : frame.n ≡ length history
+  pub instant : frame.t ≡ t
+  pub size_is : frame.size ≡ size
+  pub draws : List Draw
+  pub are_draws : AreDraws script fonts (live history) t size draws
+  pub images : ShowsDraws fonts draws frame

@@ -1,0 +1,5 @@
+pub mod Frames
+pub mod Passes
+pub mod Holding
+pub mod Keeping
+pub mod OneHistory

@@ -1,0 +1,14 @@
+//! The renderer: frames for many threads, each the picture of one history of a track, with masks from shared caches. docs/HEADLINE.md
+//! says what is promised of a frame.
+#![tactic(auto)]
+
+mod calls;
+mod keeping;
+pub mod laws;
+mod passes;
+mod releasing;
+mod renderer;
+
+pub use frame_paint::{ClipImage, Frame, Image, paint, paint_bands};
+pub use passes::RenderPass;
+pub use renderer::Renderer;

@@ -1,0 +1,3 @@
+pub mod Aheads
+pub mod Firsts
+pub mod Warming

@@ -1,0 +1,5 @@
+//! Tests of warming the caches.
+#![tactic(auto)]
+
+#[cfg(test)]
+mod warmed;
