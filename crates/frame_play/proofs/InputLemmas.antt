@@ -1,9 +1,10 @@
 -- What is read for a task is what the task needs.
-use Rattle.std.proofs.Common.{◌≡◌, inl, inr, ℕ, ◌≤◌, List, length, All, Some, None, Result, Ok, Err, ap, sym, arith}
+use Rattle.std.proofs.Common.{◌≡◌, inl, inr, ℕ, ◌<◌, ◌≤◌, List, length, All, Some, None, Result, Ok, Err, ap, sym, arith}
 use Rattle.std.proofs.lemmas.List.Elements.{All-weaker}
 use Rattle.ass_io.specs.Fetched.{Held, Told}
 use Rattle.ass_script.specs.Scripts.{ScriptValue, script_of}
 use Rattle.ass_script.specs.declared.refusal.ScriptRefusal.{ScriptRefusal}
+use Rattle.bdf_font.specs.Limits.{max_fonts}
 use Rattle.bdf_font.specs.Ranges.{IsFont}
 use Rattle.input_files.specs.Causes.{script_status, with_status}
 use Rattle.input_files.specs.Files.{AsksScript}
@@ -11,9 +12,10 @@ use Rattle.input_files.specs.Inputs.{AreRead, IsScriptRead}
 use Rattle.input_files.specs.declared.inputs.Inputs.{Inputs}
 use Rattle.run_status.specs.declared.status.Status.{Status}
 use Rattle.script_events.specs.Laws.{HasShortLines, LinesFitTheirText}
+use Rattle.text_layout.specs.Fonts.{IsLayoutFontSet}
 use Rattle.frame_play.specs.Works.{AreInputsOf, IsTaskIn}
 use Rattle.frame_play.specs.declared.work.Task.{Task}
-use Rattle.frame_play.specs.declared.work.Task.TheVariants.{Check, Frame}
+use Rattle.frame_play.specs.declared.work.Task.TheVariants.{Changes, Check, Frame, Write}
 
 abbrev script_or : ScriptValue → Result ScriptValue Status → ScriptValue
 script_or otherwise (Ok script) = script
@@ -33,13 +35,18 @@ held_short fit name (Some bytes) script (inr (large, e)) = absurd cc
 short_lines : LinesFitTheirText → (told : List ℕ → Told) (name : List ℕ) (script : ScriptValue) → IsScriptRead told name (Ok script) → HasShortLines script
 short_lines fit told name script read = held_short fit name read.0 script read.2
 
--- A picture's script has short lines, and there are from 1 to 64 fonts.
+font_set : (names : List (List ℕ)) (inputs : Inputs) → 0 < length names → length names ≤ max_fonts → length inputs.fonts ≡ length names → All IsFont inputs.fonts → IsLayoutFontSet inputs.fonts
+font_set names inputs some few count each = record { some = omega (arith, some, count); few = omega (arith, few, count); each = each }
+
+-- A script's lines are short, and a picture has from 1 to 64 fonts.
 pub inputs_suit : LinesFitTheirText → (told : List ℕ → Told) (task : Task) (script : List ℕ) (fonts : List (List ℕ)) (inputs : Inputs) →
     IsTaskIn fonts task → AreRead told script fonts (Ok inputs) → All IsFont inputs.fonts → AreInputsOf task inputs
 inputs_suit fit told Check script fonts inputs suits read each = tt
 inputs_suit fit told (Frame frame) script fonts inputs suits (inr (many, e)) each = absurd cc
-inputs_suit fit told (Frame frame) script fonts inputs suits (inl (few, read)) each = (
-  suits.0,
-  short_lines fit told script inputs.script read.0,
-  record { some = omega (arith, suits.1, read.1.0); few = omega (arith, few, read.1.0); each = each },
-)
+inputs_suit fit told (Frame frame) script fonts inputs suits (inl (few, read)) each =
+    (suits.0, short_lines fit told script inputs.script read.0, font_set fonts inputs suits.1 few read.1.0 each)
+inputs_suit fit told (Changes changes) script fonts inputs suits (inr (many, e)) each = absurd cc
+inputs_suit fit told (Changes changes) script fonts inputs suits (inl (few, read)) each =
+    (suits.0, short_lines fit told script inputs.script read.0, font_set fonts inputs suits.1 few read.1.0 each)
+inputs_suit fit told (Write write) script fonts inputs suits (inr (many, e)) each = absurd cc
+inputs_suit fit told (Write write) script fonts inputs suits (inl (few, read)) each = (suits, short_lines fit told script inputs.script read.0)

@@ -1,5 +1,5 @@
 -- From the draws of a picture to its image.
-use Rattle.std.proofs.Common.{◌≡◌, ℕ, ℤ, pos, List, [], ◌∷◌, length, fold, ap, refl, ◌∙◌, subst}
+use Rattle.std.proofs.Common.{◌≡◌, ℕ, ℤ, pos, List, length, fold, ap, ◌∙◌, subst}
 use Rattle.ass_num.specs.declared.size.Size.{Size}
 use Rattle.ass_script.specs.Scripts.{ScriptValue}
 use Rattle.ass_events.specs.declared.event.Event.{Event}
@@ -12,19 +12,12 @@ use Rattle.picture_plan.specs.Pictures.{AreDraws, IsPictureAt}
 use Rattle.ppm_text.specs.Images.{image_bytes}
 use Rattle.script_events.specs.ScriptEvents.{line_events}
 use Rattle.text_layout.specs.Fonts.{IsLayoutFontSet}
+use Rattle.change_report.proofs.PictureLemmas.{drawn_height, drawn_width}
 use Rattle.frame_play.specs.Outputs.{IsFrameImage}
 
 -- fonts that texts are laid out in may be named by keys
 pub font_set : (fonts : List FontValue) → IsLayoutFontSet fonts → IsFontSet fonts
 font_set fonts h = record { few = h.few; whole = h.each }
-
-drawn_width : (fonts : List FontValue) (canvas : CanvasValue) (draws : List Draw) → (fold (with_draw fonts) canvas draws).w ≡ canvas.w
-drawn_width fonts canvas [] = refl
-drawn_width fonts canvas (draw ∷ draws) = drawn_width fonts (with_draw fonts canvas draw) draws
-
-drawn_height : (fonts : List FontValue) (canvas : CanvasValue) (draws : List Draw) → (fold (with_draw fonts) canvas draws).h ≡ canvas.h
-drawn_height fonts canvas [] = refl
-drawn_height fonts canvas (draw ∷ draws) = drawn_height fonts (with_draw fonts canvas draw) draws
 
 -- what is painted on black has the frame's size
 pub painted_width : (fonts : List FontValue) (size : Size) (draws : List Draw) (old new : CanvasValue) → old ≡ black size.w size.h → new ≡ fold (with_draw fonts) old draws → new.w ≡ size.w

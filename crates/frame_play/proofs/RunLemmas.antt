@@ -11,20 +11,23 @@ use Rattle.input_files.specs.Laws.{FilesDecide, IsReadDecided}
 use Rattle.input_files.specs.declared.inputs.Inputs.{Inputs}
 use Rattle.frame_play.specs.declared.work.Work.{Work}
 use Rattle.frame_play.specs.declared.work.Task.{Task}
-use Rattle.frame_play.specs.declared.work.Task.TheVariants.{Check, Frame}
+use Rattle.frame_play.specs.declared.work.Task.TheVariants.{Changes, Check, Frame, Write}
 use Rattle.run_status.specs.declared.status.Status.{Status}
 use Rattle.run_status.specs.declared.status.Status.TheVariants as status
 use Rattle.run_status.specs.declared.status.What.TheVariants.{Fonts}
+use Rattle.run_status.specs.declared.status.Which.{Which}
 use Rattle.run_status.specs.declared.status.Which.TheVariants.{Frames, Report}
-use Rattle.frame_play.specs.Outcomes.{IsEnded, IsOrFault, IsOrMemory, SuitsTask, IsStatusReadCounted, IsReported, IsShown, IsFramesPutCount, IsWriteCounted, out_of_memory, status_if_put, text_to_report}
-use Rattle.frame_play.specs.Outputs.{IsFramesAsked, sink_of, status_asked}
+use Rattle.track_write.specs.declared.refusal.WriteRefusal.{WriteRefusal}
+use Rattle.track_write.specs.declared.refusal.WriteRefusal.TheVariants.{OutOfMemory, Unwritable}
+use Rattle.frame_play.specs.Outcomes.{IsEnded, IsOrFault, IsOrMemory, SuitsSink, IsStatusReadCounted, IsReported, IsShown, IsFramesPutCount, IsWriteCounted, out_of_memory, status_if_put, text_to_report}
+use Rattle.frame_play.specs.Outputs.{IsFramesAsked, IsReportAsked, rewritten, sink_of, status_asked, status_of, written_status}
 use Rattle.frame_play.specs.Runs.{Decides, IsJobRun, IsWorked, SinkChange, sink_change}
 use Rattle.frame_play.specs.declared.outcome.Outcome.{Outcome}
 use Rattle.frame_play.specs.declared.outcome.Outcome.TheVariants.{Ended, Found}
 
 -- ---- what sinks got
 
-keeps : (held : Option (List ℕ)) → Keeps held held
+pub keeps : (held : Option (List ℕ)) → Keeps held held
 keeps None = tt
 keeps (Some bytes) = refl
 
@@ -96,6 +99,22 @@ shown_part old new piece h = (piece, refl, h)
 pub shown_kept : (old new : Option (List ℕ)) (piece : List ℕ) → Keeps old new → IsShown status.OutOfMemory old new (λ bytes. bytes ≡ piece)
 shown_kept old new piece h = inl h
 
+-- The same of the report.
+pub told_whole : (old new : Option (List ℕ)) (before now : ℕ) (text : List ℕ) → Appends old new text → now ≡ before → IsReported status.Done old new before now (λ t. t ≡ text)
+told_whole old new before now text h same = (text, refl, h, same)
+
+pub told_part : (old new : Option (List ℕ)) (before now : ℕ) (text : List ℕ) → AppendsFront old new text → Rose before now → before ≤ now → IsReported (status.WriteFault Report) old new before now (λ t. t ≡ text)
+told_part old new before now text h rose rises = (text, refl, h, rose, rises)
+
+pub told_nothing : (held : Option (List ℕ)) (faults : ℕ) → IsReported status.Done held held faults faults (λ t. t ≡ [])
+told_nothing held faults = ([], refl, appends_none held, refl)
+
+-- Of words that ask for no work the report gets nothing but a line.
+pub other_reported : (outcome : Outcome) (status answer : Status) (old new : Option (List ℕ)) (before now : ℕ) → (outcome ≡ Ended status) ⊎ (outcome ≡ out_of_memory) →
+    IsReported answer old new before now (λ text. text ≡ text_to_report outcome) → IsReported answer old new before now (λ text. text ≡ [])
+other_reported outcome status answer old new before now (inl is) h = subst (λ (o : Outcome). IsReported answer old new before now (λ text. text ≡ text_to_report o)) is h
+other_reported outcome status answer old new before now (inr is) h = subst (λ (o : Outcome). IsReported answer old new before now (λ text. text ≡ text_to_report o)) is h
+
 -- Where memory is wanting, nothing may be shown.
 pub shown_nothing : (held : Option (List ℕ)) (may : List ℕ → Type 0) → IsShown status.OutOfMemory held held may
 shown_nothing held may = inl (keeps held)
@@ -131,24 +150,24 @@ read_kind told script fonts answer (inl (few, inr (read, first, (before, within,
     answered_kind (AsksFont (length before) name) (told name) name answer (h [])
 read_kind told script fonts answer (inr (many, e)) = let same : answer ≡ status.TooLarge Fonts 64 = cc in subst IsRefusal (sym same) tt
 
-own_refusal : (task : Task) (answer : Status) → IsRefusal answer → SuitsTask task (Ended answer)
-own_refusal task status.Done h = absurd h
-own_refusal Check (status.NoSuchFile other) h = tt
-own_refusal Check (status.ReadFault other) h = tt
-own_refusal Check (status.BadScript cause) h = tt
-own_refusal Check (status.BadFont index line cause) h = tt
-own_refusal Check (status.TooLarge what limit) h = tt
-own_refusal Check status.OutOfMemory h = tt
-own_refusal (Frame frame) (status.NoSuchFile other) h = tt
-own_refusal (Frame frame) (status.ReadFault other) h = tt
-own_refusal (Frame frame) (status.BadScript cause) h = tt
-own_refusal (Frame frame) (status.BadFont index line cause) h = tt
-own_refusal (Frame frame) (status.TooLarge what limit) h = tt
-own_refusal (Frame frame) status.OutOfMemory h = tt
-own_refusal task (status.WriteFault which) h = absurd h
-own_refusal task status.NotBuilt h = absurd h
-own_refusal task (status.BadWords why) h = absurd h
-own_refusal task (status.Unwritable order field) h = absurd h
+own_refusal : (sink : Which) (answer : Status) → IsRefusal answer → SuitsSink sink (Ended answer)
+own_refusal sink status.Done h = absurd h
+own_refusal Report (status.NoSuchFile other) h = tt
+own_refusal Report (status.ReadFault other) h = tt
+own_refusal Report (status.BadScript cause) h = tt
+own_refusal Report (status.BadFont index line cause) h = tt
+own_refusal Report (status.TooLarge what limit) h = tt
+own_refusal Report status.OutOfMemory h = tt
+own_refusal Frames (status.NoSuchFile other) h = tt
+own_refusal Frames (status.ReadFault other) h = tt
+own_refusal Frames (status.BadScript cause) h = tt
+own_refusal Frames (status.BadFont index line cause) h = tt
+own_refusal Frames (status.TooLarge what limit) h = tt
+own_refusal Frames status.OutOfMemory h = tt
+own_refusal sink (status.WriteFault which) h = absurd h
+own_refusal sink status.NotBuilt h = absurd h
+own_refusal sink (status.BadWords why) h = absurd h
+own_refusal sink (status.Unwritable order field) h = absurd h
 
 -- A job whose files are refused.
 pub refused_worked : (told : List ℕ → Told) (work : Work) (answer : Status) (held : Option (List ℕ)) (faults : ℕ) →
@@ -159,7 +178,7 @@ refused_worked told work answer held faults read = record {
   answered = inl (inl refl);
   shown = shown_none answer held (IsFramesAsked work.task (Err answer)) refl;
   text = λ done. refl;
-  own = own_refusal work.task answer (read_kind told work.script work.fonts answer read);
+  own = own_refusal (sink_of work.task) answer (read_kind told work.script work.fonts answer read);
 }
 
 -- A job for which memory was wanting before its files were read.
@@ -171,7 +190,7 @@ memory_worked told work held faults = elim (cases_lt 64 (length work.fonts)) [
     answered = inl (inr refl);
     shown = inl (keeps held);
     text = λ done. refl;
-    own = own_refusal work.task status.OutOfMemory tt;
+    own = own_refusal (sink_of work.task) status.OutOfMemory tt;
   }
   | inr few ↦ record {
     reading = Err status.OutOfMemory;
@@ -179,7 +198,7 @@ memory_worked told work held faults = elim (cases_lt 64 (length work.fonts)) [
     answered = inl (inl refl);
     shown = inl (keeps held);
     text = λ done. refl;
-    own = own_refusal work.task status.OutOfMemory tt;
+    own = own_refusal (sink_of work.task) status.OutOfMemory tt;
   }
 ]
 
@@ -199,82 +218,84 @@ ended status.NotBuilt answer h = h
 ended (status.BadWords why) answer h = h
 ended (status.Unwritable order field) answer h = h
 
-answered_after : (task : Task) (wanted : Status) (outcome : Outcome) (answer : Status) → SuitsTask task outcome →
-    IsOrFault task wanted (status_if_put outcome) → IsEnded outcome answer → IsOrFault task wanted answer
-answered_after task wanted (Ended before) answer own asked h = elim (ended before answer h) [
-  | inl same ↦ subst (IsOrFault task wanted) (sym same) asked
+answered_after : (sink : Which) (wanted : Status) (outcome : Outcome) (answer : Status) → SuitsSink sink outcome →
+    IsOrFault sink wanted (status_if_put outcome) → IsEnded outcome answer → IsOrFault sink wanted answer
+answered_after sink wanted (Ended before) answer own asked h = elim (ended before answer h) [
+  | inl same ↦ subst (IsOrFault sink wanted) (sym same) asked
   | inr memory ↦ inl (inr memory)
 ]
-answered_after (Frame frame) wanted (Found text) answer own asked ended = absurd own
-answered_after Check wanted (Found text) answer own asked (inl (inl done)) = subst (IsOrFault Check wanted) (sym done) asked
-answered_after Check wanted (Found text) answer own asked (inl (inr memory)) = inl (inr memory)
-answered_after Check wanted (Found text) answer own (inl (inl done)) (inr fault) = inr (sym done, fault)
-answered_after Check wanted (Found text) answer own (inl (inr memory)) (inr fault) = absurd cc
-answered_after Check wanted (Found text) answer own (inr (done, other)) (inr fault) = absurd cc
+answered_after Frames wanted (Found text) answer own asked ended = absurd own
+answered_after Report wanted (Found text) answer own asked (inl (inl done)) = subst (IsOrFault Report wanted) (sym done) asked
+answered_after Report wanted (Found text) answer own asked (inl (inr memory)) = inl (inr memory)
+answered_after Report wanted (Found text) answer own (inl (inl done)) (inr fault) = inr (sym done, fault)
+answered_after Report wanted (Found text) answer own (inl (inr memory)) (inr fault) = absurd cc
+answered_after Report wanted (Found text) answer own (inr (done, other)) (inr fault) = absurd cc
 
--- A check shows nothing.
-nothing_shown : (reading : Result Inputs Status) (bytes : List ℕ) → IsFramesAsked Check reading bytes → bytes ≡ []
-nothing_shown (Ok inputs) bytes h = h
-nothing_shown (Err other) bytes h = h
+-- A task for the report shows nothing.
+nothing_shown : (task : Task) (reading : Result Inputs Status) → sink_of task ≡ Report → (bytes : List ℕ) → IsFramesAsked task reading bytes → bytes ≡ []
+nothing_shown task (Err other) own bytes h = h
+nothing_shown Check (Ok inputs) own bytes h = h
+nothing_shown (Changes changes) (Ok inputs) own bytes h = h
+nothing_shown (Frame frame) (Ok inputs) own bytes h = absurd cc
+nothing_shown (Write write) (Ok inputs) own bytes h = absurd cc
 
-shown_after : (task : Task) (reading : Result Inputs Status) (outcome : Outcome) (answer : Status) (old new : Option (List ℕ)) → SuitsTask task outcome →
-    IsEnded outcome answer → IsShown (status_if_put outcome) old new (IsFramesAsked task reading) → IsShown answer old new (IsFramesAsked task reading)
-shown_after task reading (Ended before) answer old new own e h = elim (ended before answer e) [
-  | inl same ↦ subst (λ s. IsShown s old new (IsFramesAsked task reading)) (sym same) h
-  | inr memory ↦ subst (λ s. IsShown s old new (IsFramesAsked task reading)) (sym memory) (shown_front before old new (IsFramesAsked task reading) h)
+shown_after : (sink : Which) (may : List ℕ → Type 0) (outcome : Outcome) (answer : Status) (old new : Option (List ℕ)) → (sink ≡ Report → (bytes : List ℕ) → may bytes → bytes ≡ []) →
+    SuitsSink sink outcome → IsEnded outcome answer → IsShown (status_if_put outcome) old new may → IsShown answer old new may
+shown_after sink may (Ended before) answer old new none own e h = elim (ended before answer e) [
+  | inl same ↦ subst (λ s. IsShown s old new may) (sym same) h
+  | inr memory ↦ subst (λ s. IsShown s old new may) (sym memory) (shown_front before old new may h)
 ]
-shown_after (Frame frame) reading (Found text) answer old new own ended h = absurd own
-shown_after Check reading (Found text) answer old new own (inl (inl done)) h = subst (λ s. IsShown s old new (IsFramesAsked Check reading)) (sym done) h
-shown_after Check reading (Found text) answer old new own (inl (inr memory)) h =
-    subst (λ s. IsShown s old new (IsFramesAsked Check reading)) (sym memory) (shown_front status.Done old new (IsFramesAsked Check reading) h)
-shown_after Check reading (Found text) answer old new own (inr fault) h =
-    let kept = keeps_appended old new (subst (Appends old new) (nothing_shown reading h.0 h.1) h.2) in
-    subst (λ s. IsShown s old new (IsFramesAsked Check reading)) (sym fault) kept
+shown_after Frames may (Found text) answer old new none own ended h = absurd own
+shown_after Report may (Found text) answer old new none own (inl (inl done)) h = subst (λ s. IsShown s old new may) (sym done) h
+shown_after Report may (Found text) answer old new none own (inl (inr memory)) h = subst (λ s. IsShown s old new may) (sym memory) (shown_front status.Done old new may h)
+shown_after Report may (Found text) answer old new none own (inr fault) h =
+    let kept = keeps_appended old new (subst (Appends old new) (none refl h.0 h.1) h.2) in
+    subst (λ s. IsShown s old new may) (sym fault) kept
 
--- What is to be reported counts where all is done or the report failed.
-reported_same : (answer : Status) (old new : Option (List ℕ)) (before now : ℕ) (text other : List ℕ) →
-    (answer ≡ status.Done → text ≡ other) → (answer ≡ status.WriteFault Report → text ≡ other) →
-    IsReported answer old new before now text → IsReported answer old new before now other
-reported_same status.Done old new before now text other d f h = subst (λ t. IsReported status.Done old new before now t) (d refl) h
-reported_same (status.NoSuchFile name) old new before now text other d f h = h
-reported_same (status.ReadFault name) old new before now text other d f h = h
-reported_same (status.BadScript cause) old new before now text other d f h = h
-reported_same (status.BadFont index line cause) old new before now text other d f h = h
-reported_same (status.WriteFault Frames) old new before now text other d f h = h
-reported_same (status.WriteFault Report) old new before now text other d f h = subst (λ t. IsReported (status.WriteFault Report) old new before now t) (f refl) h
-reported_same (status.TooLarge what limit) old new before now text other d f h = h
-reported_same status.OutOfMemory old new before now text other d f h = h
-reported_same status.NotBuilt old new before now text other d f h = h
-reported_same (status.BadWords why) old new before now text other d f h = h
-reported_same (status.Unwritable order field) old new before now text other d f h = h
+-- What was reported counts where all is done or the report failed; it may be reported then.
+reported_as : (answer : Status) (old new : Option (List ℕ)) (before now : ℕ) (text : List ℕ) (may : List ℕ → Type 0) →
+    (answer ≡ status.Done → may text) → (answer ≡ status.WriteFault Report → may text) →
+    IsReported answer old new before now (λ t. t ≡ text) → IsReported answer old new before now may
+reported_as status.Done old new before now text may d f h = (text, d refl, subst (λ t. Appends old new t) h.1 h.2, h.3)
+reported_as (status.NoSuchFile name) old new before now text may d f h = h
+reported_as (status.ReadFault name) old new before now text may d f h = h
+reported_as (status.BadScript cause) old new before now text may d f h = h
+reported_as (status.BadFont index line cause) old new before now text may d f h = h
+reported_as (status.WriteFault Frames) old new before now text may d f h = h
+reported_as (status.WriteFault Report) old new before now text may d f h = (text, f refl, subst (λ t. AppendsFront old new t) h.1 h.2, h.3, h.4)
+reported_as (status.TooLarge what limit) old new before now text may d f h = h
+reported_as status.OutOfMemory old new before now text may d f h = h
+reported_as status.NotBuilt old new before now text may d f h = h
+reported_as (status.BadWords why) old new before now text may d f h = h
+reported_as (status.Unwritable order field) old new before now text may d f h = h
 
-done_before : (task : Task) (outcome : Outcome) (answer : Status) → SuitsTask task outcome → IsEnded outcome answer → answer ≡ status.Done → status_if_put outcome ≡ status.Done
-done_before task (Ended before) answer own e done = elim (ended before answer e) [
+done_before : (outcome : Outcome) (answer : Status) → IsEnded outcome answer → answer ≡ status.Done → status_if_put outcome ≡ status.Done
+done_before (Ended before) answer e done = elim (ended before answer e) [
   | inl same ↦ sym same ∙ done
   | inr memory ↦ absurd cc
 ]
-done_before task (Found text) answer own e done = refl
+done_before (Found text) answer e done = refl
 
-found_before : (task : Task) (outcome : Outcome) (answer : Status) → SuitsTask task outcome → IsEnded outcome answer → answer ≡ status.WriteFault Report → status_if_put outcome ≡ status.Done
-found_before task (Ended before) answer own e fault = elim (ended before answer e) [
-  | inl same ↦ let equal : before ≡ status.WriteFault Report = cc in absurd (subst (λ s. SuitsTask task (Ended s)) equal own)
+found_before : (sink : Which) (outcome : Outcome) (answer : Status) → SuitsSink sink outcome → IsEnded outcome answer → answer ≡ status.WriteFault Report → status_if_put outcome ≡ status.Done
+found_before sink (Ended before) answer own e fault = elim (ended before answer e) [
+  | inl same ↦ let equal : before ≡ status.WriteFault Report = cc in absurd (subst (λ s. SuitsSink sink (Ended s)) equal own)
   | inr memory ↦ absurd cc
 ]
-found_before task (Found text) answer own e fault = refl
+found_before sink (Found text) answer own e fault = refl
 
 -- A job and what is reported of it are a run.
 pub run_after : (told : List ℕ → Told) (work : Work) (frames report : SinkChange) (outcome : Outcome) (answer : Status) →
     IsWorked told work frames outcome → IsEnded outcome answer →
-    IsReported answer report.held_before report.held_now report.faults_before report.faults_now (text_to_report outcome) →
+    IsReported answer report.held_before report.held_now report.faults_before report.faults_now (λ text. text ≡ text_to_report outcome) →
     IsJobRun told work frames report answer
 run_after told work frames report outcome answer worked ended reported = record {
   reading = worked.reading;
   read = worked.read;
-  answered = answered_after work.task _ outcome answer worked.own worked.answered ended;
-  shown = shown_after work.task worked.reading outcome answer _ _ worked.own ended worked.shown;
-  reported = reported_same answer _ _ _ _ _ _
-      (λ done. worked.text (done_before work.task outcome answer worked.own ended done))
-      (λ fault. worked.text (found_before work.task outcome answer worked.own ended fault)) reported;
+  answered = answered_after (sink_of work.task) _ outcome answer worked.own worked.answered ended;
+  shown = shown_after (sink_of work.task) (IsFramesAsked work.task worked.reading) outcome answer _ _ (nothing_shown work.task worked.reading) worked.own ended worked.shown;
+  reported = reported_as answer _ _ _ _ (text_to_report outcome) (IsReportAsked work.task worked.reading)
+      (λ done. worked.text (done_before outcome answer ended done))
+      (λ fault. worked.text (found_before (sink_of work.task) outcome answer worked.own ended fault)) reported;
 }
 
 -- ---- the counts
@@ -301,11 +322,22 @@ read_after (Found text) answer before now (inl (inl done)) h = subst (λ s. IsSt
 read_after (Found text) answer before now (inl (inr memory)) h = subst (λ s. IsStatusReadCounted s before now) (sym memory) (omega (arith, h))
 read_after (Found text) answer before now (inr fault) h = subst (λ s. IsStatusReadCounted s before now) (sym fault) h
 
+written_read : (text : Result (List ℕ) WriteRefusal) (before now : ℕ) → now ≡ before → IsStatusReadCounted (written_status text) before now
+written_read (Ok text) before now same = same
+written_read (Err (Unwritable order field)) before now same = same
+written_read (Err OutOfMemory) before now same = omega (arith, same)
+
+own_read : (task : Task) (inputs : Inputs) (before now : ℕ) → now ≡ before → IsStatusReadCounted (status_of task inputs) before now
+own_read Check inputs before now same = same
+own_read (Frame frame) inputs before now same = same
+own_read (Changes changes) inputs before now same = same
+own_read (Write write) inputs before now same = written_read (rewritten write inputs.script) before now same
+
 -- No task fails at a file.
-pub read_same : (task : Task) (answer : Status) (before now : ℕ) → now ≡ before → IsOrFault task status.Done answer → IsStatusReadCounted answer before now
-read_same task answer before now same (inl (inl wanted)) = subst (λ s. IsStatusReadCounted s before now) (sym wanted) same
-read_same task answer before now same (inl (inr memory)) = subst (λ s. IsStatusReadCounted s before now) (sym memory) (omega (arith, same))
-read_same task answer before now same (inr (done, fault)) = subst (λ s. IsStatusReadCounted s before now) (sym fault) same
+pub read_same : (task : Task) (inputs : Inputs) (answer : Status) (before now : ℕ) → now ≡ before → IsOrFault (sink_of task) (status_of task inputs) answer → IsStatusReadCounted answer before now
+read_same task inputs answer before now same (inl (inl wanted)) = subst (λ s. IsStatusReadCounted s before now) (sym wanted) (own_read task inputs before now same)
+read_same task inputs answer before now same (inl (inr memory)) = subst (λ s. IsStatusReadCounted s before now) (sym memory) (omega (arith, same))
+read_same task inputs answer before now same (inr (done, fault)) = subst (λ s. IsStatusReadCounted s before now) (sym fault) same
 
 written_rises : (answer : Status) (before now : ℕ) → IsWriteCounted answer before now → before ≤ now
 written_rises status.Done before now h = omega (arith, h)
@@ -332,19 +364,19 @@ written_after (Found text) answer before now (inr fault) h = subst (λ s. IsWrit
 
 -- ---- refusals leave the frames sink
 
-once_of : (task : Task) (answer : Status) (n : ℕ) → IsRefusal answer → IsFramesPutCount task answer n n
-once_of task status.Done n h = absurd h
-once_of task (status.NoSuchFile name) n h = refl
-once_of task (status.ReadFault name) n h = refl
-once_of task (status.BadScript cause) n h = refl
-once_of task (status.BadFont index line cause) n h = refl
-once_of task (status.WriteFault which) n h = absurd h
-once_of task (status.TooLarge what limit) n h = refl
-once_of Check status.OutOfMemory n h = refl
-once_of (Frame frame) status.OutOfMemory n h = (omega arith, omega arith)
-once_of task status.NotBuilt n h = absurd h
-once_of task (status.BadWords why) n h = absurd h
-once_of task (status.Unwritable order field) n h = absurd h
+once_of : (sink : Which) (answer : Status) (n : ℕ) → IsRefusal answer → IsFramesPutCount sink answer n n
+once_of sink status.Done n h = absurd h
+once_of sink (status.NoSuchFile name) n h = refl
+once_of sink (status.ReadFault name) n h = refl
+once_of sink (status.BadScript cause) n h = refl
+once_of sink (status.BadFont index line cause) n h = refl
+once_of sink (status.WriteFault which) n h = absurd h
+once_of sink (status.TooLarge what limit) n h = refl
+once_of Report status.OutOfMemory n h = refl
+once_of Frames status.OutOfMemory n h = (omega arith, omega arith)
+once_of sink status.NotBuilt n h = absurd h
+once_of sink (status.BadWords why) n h = absurd h
+once_of sink (status.Unwritable order field) n h = absurd h
 
 written_of : (answer : Status) (n : ℕ) → IsRefusal answer → IsWriteCounted answer n n
 written_of status.Done n h = absurd h
@@ -359,8 +391,8 @@ written_of status.NotBuilt n h = absurd h
 written_of (status.BadWords why) n h = absurd h
 written_of (status.Unwritable order field) n h = absurd h
 
-pub refused_once : (told : List ℕ → Told) (work : Work) (answer : Status) (n : ℕ) → AreRead told work.script work.fonts (Err answer) → IsFramesPutCount work.task answer n n
-refused_once told work answer n read = once_of work.task answer n (read_kind told work.script work.fonts answer read)
+pub refused_once : (told : List ℕ → Told) (work : Work) (answer : Status) (n : ℕ) → AreRead told work.script work.fonts (Err answer) → IsFramesPutCount (sink_of work.task) answer n n
+refused_once told work answer n read = once_of (sink_of work.task) answer n (read_kind told work.script work.fonts answer read)
 
 pub refused_written : (told : List ℕ → Told) (work : Work) (answer : Status) (n : ℕ) → AreRead told work.script work.fonts (Err answer) → IsWriteCounted answer n n
 refused_written told work answer n read = written_of answer n (read_kind told work.script work.fonts answer read)
@@ -384,39 +416,40 @@ fault_or_decided (Err status.NotBuilt) = inl tt
 fault_or_decided (Err (status.BadWords why)) = inl tt
 fault_or_decided (Err (status.Unwritable order field)) = inl tt
 
--- The task's sink fails only where its count rises.
-sink_rose : (task : Task) (answer : Status) (frames report : SinkChange) (text : List ℕ) → answer ≡ status.WriteFault (sink_of task) →
+-- A task's sink fails only where its count rises.
+sink_rose : (sink : Which) (answer : Status) (frames report : SinkChange) (may : List ℕ → Type 0) → answer ≡ status.WriteFault sink →
     IsWriteCounted answer frames.faults_before frames.faults_now →
-    IsReported answer report.held_before report.held_now report.faults_before report.faults_now text →
+    IsReported answer report.held_before report.held_now report.faults_before report.faults_now may →
     Rose frames.faults_before frames.faults_now ⊎ Rose report.faults_before report.faults_now
-sink_rose Check answer frames report text fault written reported = inr (subst (λ s. IsReported s report.held_before report.held_now report.faults_before report.faults_now text) fault reported).1
-sink_rose (Frame frame) answer frames report text fault written reported = inl (subst (λ s. IsWriteCounted s frames.faults_before frames.faults_now) fault written).0
+sink_rose Report answer frames report may fault written reported = inr (subst (λ s. IsReported s report.held_before report.held_now report.faults_before report.faults_now may) fault reported).3
+sink_rose Frames answer frames report may fault written reported = inl (subst (λ s. IsWriteCounted s frames.faults_before frames.faults_now) fault written).0
 
-unfailed : (task : Task) (wanted answer : Status) → (answer ≡ status.WriteFault (sink_of task) → ⊥) → IsOrFault task wanted answer → IsOrMemory wanted answer
-unfailed task wanted answer fails (inl h) = h
-unfailed task wanted answer fails (inr (done, fault)) = absurd (fails fault)
+unfailed : (sink : Which) (wanted answer : Status) → (answer ≡ status.WriteFault sink → ⊥) → IsOrFault sink wanted answer → IsOrMemory wanted answer
+unfailed sink wanted answer fails (inl h) = h
+unfailed sink wanted answer fails (inr (done, fault)) = absurd (fails fault)
 
-unread : (task : Task) (name : List ℕ) (answer : Status) (before now : ℕ) → (Rose before now → ⊥) → IsStatusReadCounted answer before now →
-    IsOrFault task (status.ReadFault name) answer → answer ≡ status.OutOfMemory
-unread task name answer before now stays counted (inl (inl same)) = absurd (stays (subst (λ s. IsStatusReadCounted s before now) same counted).0)
-unread task name answer before now stays counted (inl (inr memory)) = memory
-unread task name answer before now stays counted (inr (done, fault)) = absurd cc
+unread : (sink : Which) (name : List ℕ) (answer : Status) (before now : ℕ) → (Rose before now → ⊥) → IsStatusReadCounted answer before now →
+    IsOrFault sink (status.ReadFault name) answer → answer ≡ status.OutOfMemory
+unread sink name answer before now stays counted (inl (inl same)) = absurd (stays (subst (λ s. IsStatusReadCounted s before now) same counted).0)
+unread sink name answer before now stays counted (inl (inr memory)) = memory
+unread sink name answer before now stays counted (inr (done, fault)) = absurd cc
 
-wanting : (task : Task) (answer : Status) → IsOrFault task status.OutOfMemory answer → answer ≡ status.OutOfMemory
-wanting task answer (inl (inl memory)) = memory
-wanting task answer (inl (inr memory)) = memory
-wanting task answer (inr (done, fault)) = absurd cc
+wanting : (sink : Which) (answer : Status) → IsOrFault sink status.OutOfMemory answer → answer ≡ status.OutOfMemory
+wanting sink answer (inl (inl memory)) = memory
+wanting sink answer (inl (inr memory)) = memory
+wanting sink answer (inr (done, fault)) = absurd cc
 
 -- Files that are told decide a run without a fault.
 pub decides : FilesDecide → (told : List ℕ → Told) (work : Work) (frames report : SinkChange) (before now : ℕ) (answer : Status) →
     IsJobRun told work frames report answer → IsStatusReadCounted answer before now → IsWriteCounted answer frames.faults_before frames.faults_now →
     (Rose before now → ⊥) → (Rose frames.faults_before frames.faults_now → ⊥) → (Rose report.faults_before report.faults_now → ⊥) → Decides told work answer
 decides law told work frames report before now answer run counted written stays shows reports = λ reading known read decided.
+    let sink = sink_of work.task in
     elim (fault_or_decided run.reading) [
       | inl found ↦
           let same = law told work.script work.fonts run.reading reading known found decided run.read read in
-          let fails : answer ≡ status.WriteFault (sink_of work.task) → ⊥ = λ fault. elim (sink_rose work.task answer frames report _ fault written run.reported) [ inl rose ↦ shows rose | inr rose ↦ reports rose ] in
-          unfailed work.task (status_asked reading) answer fails (subst (λ r. IsOrFault work.task (status_asked r) answer) same run.answered)
-      | inr (inl (name, fault)) ↦ inr (unread work.task name answer before now stays counted (subst (λ r. IsOrFault work.task (status_asked r) answer) fault run.answered))
-      | inr (inr memory) ↦ inr (wanting work.task answer (subst (λ r. IsOrFault work.task (status_asked r) answer) memory run.answered))
+          let fails : answer ≡ status.WriteFault sink → ⊥ = λ fault. elim (sink_rose sink answer frames report _ fault written run.reported) [ inl rose ↦ shows rose | inr rose ↦ reports rose ] in
+          unfailed sink (status_asked work.task reading) answer fails (subst (λ r. IsOrFault sink (status_asked work.task r) answer) same run.answered)
+      | inr (inl (name, fault)) ↦ inr (unread sink name answer before now stays counted (subst (λ r. IsOrFault sink (status_asked work.task r) answer) fault run.answered))
+      | inr (inr memory) ↦ inr (wanting sink answer (subst (λ r. IsOrFault sink (status_asked work.task r) answer) memory run.answered))
     ]

@@ -4,13 +4,11 @@ use Rattle.std.specs.Io.KnownBytes.{Appends, Keeps}
 use Rattle.ass_num.specs.Causes.{Rose}
 use Rattle.ass_io.specs.Counts.{IsOneMore}
 use Rattle.ass_io.specs.Written.{AppendsFront}
-use Rattle.frame_play.specs.declared.work.Task.{Task}
-use Rattle.frame_play.specs.declared.work.Task.TheVariants.{Check, Frame}
 use Rattle.run_status.specs.Statuses.{status_line}
 use Rattle.run_status.specs.declared.status.Status.{Status}
 use Rattle.run_status.specs.declared.status.Status.TheVariants.{Done, ReadFault, WriteFault, OutOfMemory}
+use Rattle.run_status.specs.declared.status.Which.{Which}
 use Rattle.run_status.specs.declared.status.Which.TheVariants.{Frames, Report}
-use Rattle.frame_play.specs.Outputs.{sink_of}
 use Rattle.frame_play.specs.declared.outcome.Outcome.{Outcome}
 use Rattle.frame_play.specs.declared.outcome.Outcome.TheVariants.{Ended, Found}
 
@@ -18,9 +16,9 @@ use Rattle.frame_play.specs.declared.outcome.Outcome.TheVariants.{Ended, Found}
 abbrev pub IsOrMemory : Status → Status → Type 0
 IsOrMemory wanted answer = (answer ≡ wanted) ⊎ (answer ≡ OutOfMemory)
 
--- The answer is this one; want of memory may come in its place, and a fault of the task's sink in the place of `Done`.
-abbrev pub IsOrFault : Task → Status → Status → Type 0
-IsOrFault task wanted answer = IsOrMemory wanted answer ⊎ ((wanted ≡ Done) × (answer ≡ WriteFault (sink_of task)))
+-- The answer of a task for a sink is this one; want of memory may come in its place, and a fault of that sink in the place of `Done`.
+abbrev pub IsOrFault : Which → Status → Status → Type 0
+IsOrFault sink wanted answer = IsOrMemory wanted answer ⊎ ((wanted ≡ Done) × (answer ≡ WriteFault sink))
 
 -- The shelf's count rose at a fault of reading. At want of memory it may have risen, and at any other status it is as it was.
 abbrev pub IsStatusReadCounted : Status → ℕ → ℕ → Type 0
@@ -41,45 +39,45 @@ IsShown (WriteFault Frames) old new may = (bytes : List ℕ) × may bytes × App
 IsShown OutOfMemory old new may = Keeps old new ⊎ ((bytes : List ℕ) × may bytes × AppendsFront old new bytes)
 IsShown _ old new may = Keeps old new
 
--- How often the frames sink was asked by a task that was done whole: once for an image, and not at all by a check.
-abbrev pub IsImagePutCount : Task → ℕ → ℕ → Type 0
-IsImagePutCount Check before now = now ≡ before
-IsImagePutCount (Frame frame) before now = IsOneMore before now
+-- How often the frames sink was asked by a task that was done whole: once where the task is for it, and else not at all.
+abbrev pub IsWholePutCount : Which → ℕ → ℕ → Type 0
+IsWholePutCount Frames before now = IsOneMore before now
+IsWholePutCount Report before now = now ≡ before
 
 -- How often it was asked by a task for which memory was wanting.
-abbrev pub IsUnfinishedPutCount : Task → ℕ → ℕ → Type 0
-IsUnfinishedPutCount Check before now = now ≡ before
-IsUnfinishedPutCount (Frame frame) before now = (before ≤ now) × (now ≤ before + 1)
+abbrev pub IsUnfinishedPutCount : Which → ℕ → ℕ → Type 0
+IsUnfinishedPutCount Frames before now = (before ≤ now) × (now ≤ before + 1)
+IsUnfinishedPutCount Report before now = now ≡ before
 
--- How often it was asked at each status: not at all at a refusal.
-abbrev pub IsFramesPutCount : Task → Status → ℕ → ℕ → Type 0
-IsFramesPutCount task Done before now = IsImagePutCount task before now
-IsFramesPutCount task (WriteFault Frames) before now = IsOneMore before now
-IsFramesPutCount task OutOfMemory before now = IsUnfinishedPutCount task before now
-IsFramesPutCount task _ before now = now ≡ before
+-- How often it was asked at each status by a task for a sink: not at all at a refusal.
+abbrev pub IsFramesPutCount : Which → Status → ℕ → ℕ → Type 0
+IsFramesPutCount sink Done before now = IsWholePutCount sink before now
+IsFramesPutCount sink (WriteFault Frames) before now = IsOneMore before now
+IsFramesPutCount sink OutOfMemory before now = IsUnfinishedPutCount sink before now
+IsFramesPutCount sink _ before now = now ≡ before
 
 -- The report got the line of the status, or a front of it where its count rose.
 abbrev pub IsLineReported : Status → Option (List ℕ) → Option (List ℕ) → ℕ → ℕ → Type 0
 IsLineReported status old new before now =
     (Appends old new (status_line status) × (now ≡ before)) ⊎ (AppendsFront old new (status_line status) × Rose before now)
 
--- What the report got: of a job that was done whole what was to be reported, of a fault of the report a front of that, and of any other status its line. At want of memory a front of its line may be all.
-abbrev pub IsReported : Status → Option (List ℕ) → Option (List ℕ) → ℕ → ℕ → List ℕ → Type 0
-IsReported Done old new before now text = Appends old new text × (now ≡ before)
-IsReported (WriteFault Report) old new before now text = AppendsFront old new text × Rose before now × (before ≤ now)
-IsReported OutOfMemory old new before now text = AppendsFront old new (status_line OutOfMemory) × (before ≤ now)
-IsReported status old new before now text = IsLineReported status old new before now
+-- What the report got: of a job that was done whole a text that it may get, of a fault of the report a front of that, and of any other status its line. At want of memory a front of its line may be all.
+abbrev pub IsReported : Status → Option (List ℕ) → Option (List ℕ) → ℕ → ℕ → (List ℕ → Type 0) → Type 0
+IsReported Done old new before now may = (text : List ℕ) × may text × Appends old new text × (now ≡ before)
+IsReported (WriteFault Report) old new before now may = (text : List ℕ) × may text × AppendsFront old new text × Rose before now × (before ≤ now)
+IsReported OutOfMemory old new before now may = AppendsFront old new (status_line OutOfMemory) × (before ≤ now)
+IsReported status old new before now may = IsLineReported status old new before now
 
--- How often the report was asked by a task that was done whole: once for a check's report, and not at all by a picture.
-abbrev pub IsTextPutCount : Task → ℕ → ℕ → Type 0
-IsTextPutCount Check before now = IsOneMore before now
-IsTextPutCount (Frame frame) before now = now ≡ before
+-- How often the report was asked by a task that was done whole: once where the task is for it, and else not at all.
+abbrev pub IsTextPutCount : Which → ℕ → ℕ → Type 0
+IsTextPutCount Frames before now = now ≡ before
+IsTextPutCount Report before now = IsOneMore before now
 
--- How often it was asked at each status: once for its line. Where that put wanted memory, the line of that is put too.
-abbrev pub IsReportPutCount : Task → Status → ℕ → ℕ → Type 0
-IsReportPutCount task Done before now = IsTextPutCount task before now
-IsReportPutCount task OutOfMemory before now = Rose before now × (before ≤ now) × (now ≤ before + 2)
-IsReportPutCount task _ before now = IsOneMore before now
+-- How often it was asked at each status by a task for a sink: once for its line. Where that put wanted memory, the line of that is put too.
+abbrev pub IsReportPutCount : Which → Status → ℕ → ℕ → Type 0
+IsReportPutCount sink Done before now = IsTextPutCount sink before now
+IsReportPutCount sink OutOfMemory before now = Rose before now × (before ≤ now) × (now ≤ before + 2)
+IsReportPutCount sink _ before now = IsOneMore before now
 
 abbrev pub out_of_memory : Outcome
 out_of_memory = Ended OutOfMemory
@@ -99,13 +97,13 @@ abbrev pub IsReportable : Outcome → Type 0
 IsReportable (Ended (WriteFault Report)) = ⊥
 IsReportable _ = Unit {0}
 
--- A check alone has found something to report where it was done whole, and no task has failed at another's sink.
-abbrev pub SuitsTask : Task → Outcome → Type 0
-SuitsTask task (Ended (WriteFault Report)) = ⊥
-SuitsTask Check (Ended (WriteFault Frames)) = ⊥
-SuitsTask Check (Ended Done) = ⊥
-SuitsTask (Frame frame) (Found text) = ⊥
-SuitsTask _ _ = Unit {0}
+-- A task for the report has found something to report where it was done whole, any other has put it to the frames sink, and none has failed at another's sink.
+abbrev pub SuitsSink : Which → Outcome → Type 0
+SuitsSink sink (Ended (WriteFault Report)) = ⊥
+SuitsSink Report (Ended (WriteFault Frames)) = ⊥
+SuitsSink Report (Ended Done) = ⊥
+SuitsSink Frames (Found text) = ⊥
+SuitsSink _ _ = Unit {0}
 
 -- How a run ends after an outcome: as it says, or by a fault of the report or want of memory.
 abbrev pub IsEnded : Outcome → Status → Type 0

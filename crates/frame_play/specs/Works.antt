@@ -1,7 +1,11 @@
 -- Public: what is built of the jobs that words ask for.
-use Rattle.std.specs.Prelude.{◌≡◌, ◌⊎◌, ℕ, ◌<◌, ◌≤◌, ℤ, pos, negsuc, List, [], ◌∷◌, length, Option, Some, None, Result, Ok, Err, option_map}
+use Rattle.std.specs.Prelude.{◌≡◌, ◌⊎◌, Bool, true, ◌&&◌, if◌then◌else◌, ℕ, ◌<◌, ◌≤◌, nat_le, nat_lt, ℤ, pos, negsuc, List, [], ◌∷◌, length, Option, Some, None, Result, Ok, Err, option_map}
+use Rattle.std.specs.Int.RustNames.{unsigned_abs}
+use Rattle.ass_events.specs.Events.{is_time}
 use Rattle.ass_num.specs.Limits.{IsFrameSize, IsInstant}
 use Rattle.ass_num.specs.declared.size.Size.{Size}
+use Rattle.bdf_font.specs.Limits.{max_fonts}
+use Rattle.change_report.specs.Instants.{AreInstants, instant_count}
 use Rattle.input_files.specs.declared.inputs.Inputs.{Inputs}
 use Rattle.play_words.specs.Limits.{max_budget}
 use Rattle.play_words.specs.Words.{job_of}
@@ -9,19 +13,31 @@ use Rattle.play_words.specs.declared.job.Job.{Job}
 use Rattle.play_words.specs.declared.job.Job.TheVariants as job
 use Rattle.play_words.specs.declared.job.WordsFault.{WordsFault}
 use Rattle.run_status.specs.declared.status.Status.{Status}
-use Rattle.run_status.specs.declared.status.Status.TheVariants.{BadWords, NotBuilt, OutOfMemory}
+use Rattle.run_status.specs.declared.status.Status.TheVariants.{BadWords, NotBuilt, OutOfMemory, TooLarge}
+use Rattle.run_status.specs.declared.status.What.TheVariants.{Frames}
 use Rattle.script_events.specs.Laws.{HasShortLines}
 use Rattle.text_layout.specs.Fonts.{IsLayoutFontSet}
+use Rattle.frame_play.specs.declared.work.ChangesTask.{ChangesTask}
 use Rattle.frame_play.specs.declared.work.FrameTask.{FrameTask}
 use Rattle.frame_play.specs.declared.work.Task.{Task}
-use Rattle.frame_play.specs.declared.work.Task.TheVariants.{Check, Frame}
+use Rattle.frame_play.specs.declared.work.Task.TheVariants.{Changes, Check, Frame, Write}
 use Rattle.frame_play.specs.declared.work.Work.{Work}
+use Rattle.frame_play.specs.declared.work.WriteTask.{WriteTask}
 
 -- the picture at an instant, in fonts: words put no instant below 0, and name a font at least
 abbrev pub frame_task : ℤ → Size → ℕ → List (List ℕ) → Option Task
 frame_task at size budget [] = None
 frame_task (negsuc _) size budget (font ∷ fonts) = None
 frame_task (pos at) size budget (font ∷ fonts) = Some (Frame (record { at = at; size = size; budget = budget }))
+
+-- the report on what changes from picture to picture, in fonts, of which words name one at least; no instant of theirs is below 0
+abbrev pub changes_task : ℤ → ℤ → ℤ → Size → ℕ → List (List ℕ) → Option Task
+changes_task from to step size budget [] = None
+changes_task from to step size budget (font ∷ fonts) = Some (Changes (record {
+  instants = record { from = unsigned_abs from; to = unsigned_abs to; step = unsigned_abs step };
+  size = size;
+  budget = budget;
+}))
 
 abbrev pub work_with : List ℕ → List (List ℕ) → Task → Work
 work_with script fonts task = record { task = task; script = script; fonts = fonts }
@@ -30,11 +46,29 @@ work_with script fonts task = record { task = task; script = script; fonts = fon
 abbrev pub work_of : Job → Option Work
 work_of (job.Check script fonts) = Some (work_with script fonts Check)
 work_of (job.Frame at size budget script fonts) = option_map (work_with script fonts) (frame_task at size budget fonts)
+work_of (job.Changes from to step size budget script fonts) = option_map (work_with script fonts) (changes_task from to step size budget fonts)
+work_of (job.Write later earlier script) = Some (work_with script [] (Write (record { later = later; earlier = earlier })))
 work_of _ = None
+
+-- the most pictures that a task compares
+abbrev pub max_frames : ℕ
+max_frames = 1000000
+
+-- how many pictures a task compares
+abbrev pub compared : Task → ℕ
+compared (Changes changes) = instant_count changes.instants
+compared _ = 0
+
+-- whether it compares too many; too many fonts are told before
+abbrev pub is_too_long : Work → Bool
+is_too_long work = nat_le (length work.fonts) max_fonts && nat_lt max_frames (compared work.task)
+
+abbrev pub limited : Work → Result Work Status
+limited work = if is_too_long work then Err (TooLarge Frames max_frames) else Ok work
 
 abbrev pub unless_unbuilt : Option Work → Result Work Status
 unless_unbuilt None = Err NotBuilt
-unless_unbuilt (Some work) = Ok work
+unless_unbuilt (Some work) = limited work
 
 abbrev pub work_in : Result Job WordsFault → Result Work Status
 work_in (Err fault) = Err (BadWords fault)
@@ -54,15 +88,30 @@ pub record IsFrameTask (frame : FrameTask) : Type 0 where
   pub size : IsFrameSize frame.size
   pub budget : frame.budget ≤ max_budget
 
+-- Events may be that much later and that much earlier.
+pub record IsWriteTask (write : WriteTask) : Type 0 where
+  pub later : is_time write.later ≡ true
+  pub earlier : is_time write.earlier ≡ true
+
+-- The numbers of a report on changes are within their limits.
+pub record IsChangesTask (changes : ChangesTask) : Type 0 where
+  pub instants : AreInstants changes.instants
+  pub size : IsFrameSize changes.size
+  pub budget : changes.budget ≤ max_budget
+
 -- The numbers of a task are within their limits, and a picture has a font at least.
 abbrev pub IsTaskIn : List (List ℕ) → Task → Type 0
 IsTaskIn fonts Check = Unit {0}
 IsTaskIn fonts (Frame frame) = IsFrameTask frame × (0 < length fonts)
+IsTaskIn fonts (Changes changes) = IsChangesTask changes × (0 < length fonts)
+IsTaskIn fonts (Write write) = IsWriteTask write
 
 abbrev pub IsWork : Work → Type 0
 IsWork work = IsTaskIn work.fonts work.task
 
--- What a task needs of what is read for it: a picture has short texts to lay out, in 1 to 64 fonts.
+-- What a task needs of what is read for it: events have short texts, and a picture is laid out in 1 to 64 fonts.
 abbrev pub AreInputsOf : Task → Inputs → Type 0
 AreInputsOf Check inputs = Unit {0}
 AreInputsOf (Frame frame) inputs = IsFrameTask frame × HasShortLines inputs.script × IsLayoutFontSet inputs.fonts
+AreInputsOf (Changes changes) inputs = IsChangesTask changes × HasShortLines inputs.script × IsLayoutFontSet inputs.fonts
+AreInputsOf (Write write) inputs = IsWriteTask write × HasShortLines inputs.script

@@ -13,13 +13,13 @@ ghost use Rattle.text_layout.specs.Fonts.{IsLayoutFontSet};
 ghost use Rattle.frame_play.specs.Outcomes.{IsFramesPutCount, IsOrFault, IsShown, IsWriteCounted};
 ghost use Rattle.frame_play.specs.Outputs.{IsFrameImage};
 ghost use Rattle.frame_play.specs.Works.{IsFrameTask};
-ghost use Rattle.frame_play.specs.declared.work.FrameTask.{FrameTask};
-ghost use Rattle.frame_play.specs.declared.work.Task.TheVariants.{Frame};
+ghost use Rattle.run_status.specs.declared.status.Status.TheVariants.{Done as done_status};
 
+use crate::shown::show;
 use crate::work::FrameTask;
 use alone_caches::Alone;
 use ass_events::Event;
-use ass_io::{Put, Sink};
+use ass_io::Sink;
 use ass_num::{Mem, OutOfMemory};
 use ass_script::Script;
 use bdf_font::FontSet;
@@ -81,36 +81,20 @@ fn image_of(alloc: Global, frame: &FrameTask, inputs: Inputs) -> Mem<Vec<u8>>
     )
 }
 
-/// Puts an image to the frames sink.
-#[tactic(auto, using(crate::proofs::RunLemmas::shown_whole, crate::proofs::RunLemmas::shown_part, crate::proofs::RunLemmas::shown_kept))]
-fn put_image<F: Sink>(image: &[u8], frames: &mut F) -> Status
-    ensures answered { (frame : FrameTask) → IsOrFault (Frame frame) Status.Done result }
-    ensures shown { IsShown result (F.held frames.old) (F.held frames.new) (λ bytes. bytes ≡ image.now) }
-    ensures once { (frame : FrameTask) → IsFramesPutCount (Frame frame) result (F.puts frames.old) (F.puts frames.new) }
-    ensures counted { IsWriteCounted result (F.faults frames.old) (F.faults frames.new) }
-    ensures own { result ≢ Status.WriteFault Which.Report }
-{
-    match frames.put(image) {
-        Put::Done => Status::Done,
-        Put::Failed => Status::WriteFault(Which::Frames),
-        Put::OutOfMemory => Status::OutOfMemory,
-    }
-}
-
 /// Draws a picture of a script in fonts, and puts its image to the frames sink.
 pub fn draw<F: Sink>(alloc: Global, frame: &FrameTask, inputs: Inputs, frames: &mut F) -> Status
     requires frame { IsFrameTask frame.now }
     requires script { IsScript inputs.script }
     requires short { HasShortLines inputs.script }
     requires fonts { IsLayoutFontSet inputs.fonts }
-    ensures answered { IsOrFault (Frame frame.now) Status.Done result }
+    ensures answered { IsOrFault Which.Frames done_status result }
     ensures shown { IsShown result (F.held frames.old) (F.held frames.new) (IsFrameImage inputs.script inputs.fonts frame.now.at frame.now.size) }
-    ensures once { IsFramesPutCount (Frame frame.now) result (F.puts frames.old) (F.puts frames.new) }
+    ensures once { IsFramesPutCount Which.Frames result (F.puts frames.old) (F.puts frames.new) }
     ensures counted { IsWriteCounted result (F.faults frames.old) (F.faults frames.new) }
     ensures own { result ≢ Status.WriteFault Which.Report }
 {
     match image_of(alloc, frame, inputs) {
-        Ok(image) => put_image(image.as_slice(), frames),
+        Ok(image) => show(image.as_slice(), frames),
         Err(OutOfMemory) => Status::OutOfMemory,
     }
 }

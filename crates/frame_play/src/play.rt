@@ -4,6 +4,7 @@ ghost use Rattle.std.specs.Prelude.{◌≡◌, ◌⊎◌, [], IsSomeAnd};
 ghost use Rattle.ass_num.specs.Causes.{Rose};
 ghost use Rattle.frame_play.specs.Outcomes.{IsOrMemory, IsStatusReadCounted, IsFinishPutCount, IsReportable, IsReported, IsReportPutCount};
 ghost use Rattle.frame_play.specs.Outcomes.{IsFramesPutCount, IsWriteCounted, out_of_memory, status_if_put};
+ghost use Rattle.frame_play.specs.Outputs.{sink_of};
 ghost use Rattle.frame_play.specs.Runs.{Decides, IsJobRun, IsWorked, sink_change};
 ghost use Rattle.frame_play.specs.Works.{work_asked};
 ghost use Rattle.play_words.specs.Words.{texts};
@@ -33,7 +34,7 @@ pub fn top<S: Shelf, F: Sink, R: Sink, G: Gate + Sync>(
     ensures other_shelf { (status : Status) → work_asked (texts words.now) ≡ Err status → shelf.new ≡ shelf.old }
     ensures other_frames { (status : Status) → work_asked (texts words.now) ≡ Err status → frames.new ≡ frames.old }
     ensures other_report { (status : Status) → work_asked (texts words.now) ≡ Err status → IsReported result (R.held report.old) (R.held report.new)
-        (R.faults report.old) (R.faults report.new) [] }
+        (R.faults report.old) (R.faults report.new) (λ text. text ≡ []) }
     ensures other_once { (status : Status) → work_asked (texts words.now) ≡ Err status → IsFinishPutCount (Outcome.Ended status) result (R.puts report.old) (R.puts report.new) }
 
     // The files are read in order, and what they hold asks for the answer and for what both sinks get.
@@ -54,9 +55,9 @@ pub fn top<S: Shelf, F: Sink, R: Sink, G: Gate + Sync>(
 
     // Each sink gets what it gets by one put.
     ensures shown_once { (work : Work) → work_asked (texts words.now) ≡ Ok work
-        → IsFramesPutCount work.task result (F.puts frames.old) (F.puts frames.new) }
+        → IsFramesPutCount (sink_of work.task) result (F.puts frames.old) (F.puts frames.new) }
     ensures reported_once { (work : Work) → work_asked (texts words.now) ≡ Ok work
-        → IsReportPutCount work.task result (R.puts report.old) (R.puts report.new) }
+        → IsReportPutCount (sink_of work.task) result (R.puts report.old) (R.puts report.new) }
 {
     match calm(alloc, words, shelf, frames, report) {
         Some(status) => status,
@@ -64,7 +65,7 @@ pub fn top<S: Shelf, F: Sink, R: Sink, G: Gate + Sync>(
     }
 }
 
-/// Does a `check` or a `frame` as far as they are built, and refuses all other words. It waits for nobody, and answers a status always.
+/// Does a `check`, a `frame`, a `changes` or a `write`, and refuses all other words. It waits for nobody, and answers a status always.
 pub fn calm<S: Shelf, F: Sink, R: Sink>(
     alloc: Global,
     words: &[String],
@@ -77,7 +78,7 @@ pub fn calm<S: Shelf, F: Sink, R: Sink>(
     ensures other_shelf { (status : Status) → work_asked (texts words.now) ≡ Err status → shelf.new ≡ shelf.old }
     ensures other_frames { (status : Status) → work_asked (texts words.now) ≡ Err status → frames.new ≡ frames.old }
     ensures other_report { (status : Status) → work_asked (texts words.now) ≡ Err status → IsSomeAnd result (λ status. IsReported status (R.held report.old) (R.held report.new)
-        (R.faults report.old) (R.faults report.new) []) }
+        (R.faults report.old) (R.faults report.new) (λ text. text ≡ [])) }
     ensures other_once { (status : Status) → work_asked (texts words.now) ≡ Err status → IsSomeAnd result (λ answer. IsFinishPutCount (Outcome.Ended status) answer (R.puts report.old) (R.puts report.new)) }
 
     // The files are read in order, and what they hold asks for the answer and for what both sinks get.
@@ -98,9 +99,9 @@ pub fn calm<S: Shelf, F: Sink, R: Sink>(
 
     // Each sink gets what it gets by one put.
     ensures shown_once { (work : Work) → work_asked (texts words.now) ≡ Ok work
-        → IsSomeAnd result (λ status. IsFramesPutCount work.task status (F.puts frames.old) (F.puts frames.new)) }
+        → IsSomeAnd result (λ status. IsFramesPutCount (sink_of work.task) status (F.puts frames.old) (F.puts frames.new)) }
     ensures reported_once { (work : Work) → work_asked (texts words.now) ≡ Ok work
-        → IsSomeAnd result (λ status. IsReportPutCount work.task status (R.puts report.old) (R.puts report.new)) }
+        → IsSomeAnd result (λ status. IsReportPutCount (sink_of work.task) status (R.puts report.old) (R.puts report.new)) }
 {
     files_decide();
     let outcome = do_words(alloc, words, shelf, frames);
@@ -121,7 +122,7 @@ fn do_words<S: Shelf, F: Sink>(
         (sink_change (F.held frames.old) (F.held frames.new) (F.faults frames.old) (F.faults frames.new)) result }
     ensures read { IsStatusReadCounted (status_if_put result) (S.faults shelf.old) (S.faults shelf.new) }
     ensures once { (work : Work) → work_asked (texts words.now) ≡ Ok work
-        → IsFramesPutCount work.task (status_if_put result) (F.puts frames.old) (F.puts frames.new) }
+        → IsFramesPutCount (sink_of work.task) (status_if_put result) (F.puts frames.old) (F.puts frames.new) }
     ensures write { IsWriteCounted (status_if_put result) (F.faults frames.old) (F.faults frames.new) }
     ensures reportable { IsReportable result }
 {

@@ -15,11 +15,12 @@ use std::alloc::Global;
 /// Puts what is to be reported of an outcome, and answers how the run ended: the report of a check, or the line of a status
 /// that isn't `Done`. Where memory is wanting for the line or for its put, want of memory is answered in its place, and its
 /// line is put.
+#[tactic(auto, using(crate::proofs::RunLemmas::told_whole, crate::proofs::RunLemmas::told_part, crate::proofs::RunLemmas::told_nothing))]
 pub fn finish<R: Sink>(alloc: Global, outcome: Outcome, report: &mut R) -> Status
     requires { IsReportable outcome }
     ensures answer { IsEnded outcome result }
     ensures report { IsReported result (R.held report.old) (R.held report.new)
-        (R.faults report.old) (R.faults report.new) (text_to_report outcome) }
+        (R.faults report.old) (R.faults report.new) (λ text. text ≡ text_to_report outcome) }
     ensures once { IsFinishPutCount outcome result (R.puts report.old) (R.puts report.new) }
 {
     match outcome {

@@ -2,29 +2,31 @@
 
 ghost use Rattle.std.specs.Prelude.{◌≡◌, ◌≢◌, Ok, string_bytes};
 ghost use Rattle.ass_script.specs.Ranges.{IsScript};
-ghost use Rattle.frame_play.specs.Outcomes.{IsFramesPutCount, IsOrFault, IsShown, IsStatusReadCounted, IsWriteCounted, SuitsTask, status_if_put, text_to_report};
-ghost use Rattle.frame_play.specs.Outputs.{IsFramesOf, report_of};
+ghost use Rattle.frame_play.specs.Outcomes.{IsFramesPutCount, IsOrFault, IsShown, IsStatusReadCounted, IsWriteCounted, SuitsSink, status_if_put, text_to_report};
+ghost use Rattle.frame_play.specs.Outputs.{IsFramesOf, IsReportOf, sink_of, status_of};
 ghost use Rattle.frame_play.specs.Runs.{IsWorked, sink_change};
 ghost use Rattle.frame_play.specs.Works.{AreInputsOf, IsTaskIn, IsWork};
 ghost use Rattle.run_status.specs.declared.status.Status.TheVariants.{Done as done_status};
 
+use crate::changes::compare;
 use crate::outcome::Outcome;
 use crate::picture::draw;
+use crate::rewrite::rewrite;
 use crate::work::{Task, Work};
 use ass_io::{Shelf, Sink};
 use ass_num::OutOfMemory;
 use check_report::check_report;
 use input_files::{Inputs, read_inputs};
-use run_status::Status;
+use run_status::{Status, Which};
 use script_events::lines_fit_their_text;
 use std::alloc::Global;
 
 /// What a check is to report.
 fn check(alloc: Global, inputs: &Inputs) -> Outcome
     requires { IsScript inputs.now.script }
-    ensures answered { IsOrFault Task.Check done_status (status_if_put result) }
-    ensures text { status_if_put result ≡ done_status → text_to_report result ≡ report_of Task.Check inputs.now }
-    ensures own { SuitsTask Task.Check result }
+    ensures answered { IsOrFault Which.Report done_status (status_if_put result) }
+    ensures text { status_if_put result ≡ done_status → IsReportOf Task.Check inputs.now (text_to_report result) }
+    ensures own { SuitsSink Which.Report result }
     ensures memory { status_if_put result ≢ done_status → result ≡ Outcome.Ended Status.OutOfMemory }
 {
     match check_report(alloc, &inputs.script, inputs.fonts.as_slice()) {
@@ -38,16 +40,18 @@ fn check(alloc: Global, inputs: &Inputs) -> Outcome
 fn do_task<F: Sink>(alloc: Global, task: &Task, inputs: Inputs, frames: &mut F) -> Outcome
     requires script { IsScript inputs.script }
     requires inputs { AreInputsOf task.now inputs }
-    ensures answered { IsOrFault task.now done_status (status_if_put result) }
+    ensures answered { IsOrFault (sink_of task.now) (status_of task.now inputs) (status_if_put result) }
     ensures shown { IsShown (status_if_put result) (F.held frames.old) (F.held frames.new) (IsFramesOf task.now inputs) }
-    ensures once { IsFramesPutCount task.now (status_if_put result) (F.puts frames.old) (F.puts frames.new) }
+    ensures once { IsFramesPutCount (sink_of task.now) (status_if_put result) (F.puts frames.old) (F.puts frames.new) }
     ensures counted { IsWriteCounted (status_if_put result) (F.faults frames.old) (F.faults frames.new) }
-    ensures text { status_if_put result ≡ done_status → text_to_report result ≡ report_of task.now inputs }
-    ensures own { SuitsTask task.now result }
+    ensures text { status_if_put result ≡ done_status → IsReportOf task.now inputs (text_to_report result) }
+    ensures own { SuitsSink (sink_of task.now) result }
 {
     match task {
         Task::Check => check(alloc, &inputs),
         Task::Frame(frame) => Outcome::Ended(draw(alloc, frame, inputs, frames)),
+        Task::Changes(changes) => compare(alloc, changes, inputs),
+        Task::Write(write) => Outcome::Ended(rewrite(alloc, write, &inputs.script, frames)),
     }
 }
 
@@ -61,7 +65,7 @@ pub fn do_work<S: Shelf, F: Sink>(
     requires { IsWork work.now }
     ensures run { IsWorked (S.told shelf.old) work.now (sink_change (F.held frames.old) (F.held frames.new) (F.faults frames.old) (F.faults frames.new)) result }
     ensures read { IsStatusReadCounted (status_if_put result) (S.faults shelf.old) (S.faults shelf.new) }
-    ensures once { IsFramesPutCount work.now.task (status_if_put result) (F.puts frames.old) (F.puts frames.new) }
+    ensures once { IsFramesPutCount (sink_of work.now.task) (status_if_put result) (F.puts frames.old) (F.puts frames.new) }
     ensures write { IsWriteCounted (status_if_put result) (F.faults frames.old) (F.faults frames.new) }
 {
     lines_fit_their_text();

@@ -1,13 +1,18 @@
 //! What is built of the jobs.
 
 ghost use Rattle.std.specs.Prelude.{◌≡◌, IfOk};
-ghost use Rattle.frame_play.specs.Works.{IsWork, IsWorkRead, frame_task, work_asked, work_of};
+ghost use Rattle.frame_play.specs.Works.{IsWork, IsWorkRead, changes_task, compared, frame_task, limited, work_asked, work_of};
 ghost use Rattle.play_words.specs.Words.{texts};
 
 use ass_num::{Items, Size, Text};
+use change_report::Instants;
+use input_files::MAX_FONTS;
 use play_words::{Job, WordsRefusal, read_words};
-use run_status::Status;
+use run_status::{Status, What};
 use std::alloc::Global;
+
+/// The most pictures that a task compares.
+const MAX_FRAMES: usize = 1_000_000;
 
 /// The picture at an instant, in milliseconds, on a frame of a size, and the bytes that each of its caches may keep.
 #[derive(Clone, Copy, Debug)]
@@ -17,6 +22,21 @@ pub struct FrameTask {
     pub budget: u64,
 }
 
+/// The pictures at instants on a frame of a size, and the bytes that each of the caches may keep.
+#[derive(Clone, Copy, Debug)]
+pub struct ChangesTask {
+    pub instants: Instants,
+    pub size: Size,
+    pub budget: u64,
+}
+
+/// How many milliseconds later, and then earlier, events are to be written.
+#[derive(Clone, Copy, Debug)]
+pub struct WriteTask {
+    pub later: i64,
+    pub earlier: i64,
+}
+
 /// What is to be done with a script and fonts.
 #[derive(Clone, Copy, Debug)]
 pub enum Task {
@@ -24,6 +44,10 @@ pub enum Task {
     Check,
     /// A picture of the script in the fonts.
     Frame(FrameTask),
+    /// A report on what changes from picture to picture.
+    Changes(ChangesTask),
+    /// The script written again.
+    Write(WriteTask),
 }
 
 /// A task, and the names of the files that it is about.
@@ -44,8 +68,33 @@ fn frame_task(at: i64, size: Size, budget: u64, fonts: &[Text]) -> Option<Task>
     }
 }
 
+/// The task of a report on what changes from picture to picture, in fonts.
+fn changes_task(
+    from: i64,
+    to: i64,
+    step: i64,
+    size: Size,
+    budget: u64,
+    fonts: &[Text],
+) -> Option<Task>
+    ensures { result ≡ changes_task from to step size budget fonts.now }
+{
+    match fonts {
+        [] => None,
+        [_, ..] => Some(Task::Changes(ChangesTask {
+            instants: Instants {
+                from: from.unsigned_abs(),
+                to: to.unsigned_abs(),
+                step: step.unsigned_abs(),
+            },
+            size,
+            budget,
+        })),
+    }
+}
+
 /// The work of a job, where it is built.
-pub fn work_of(job: Job) -> Option<Work>
+pub fn work_of(alloc: Global, job: Job) -> Option<Work>
     ensures { result ≡ work_of job }
 {
     match job {
@@ -62,9 +111,44 @@ pub fn work_of(job: Job) -> Option<Work>
                 fonts,
             })
         }
+        Job::Write(later, earlier, script) => Some(Work {
+            task: Task::Write(WriteTask { later, earlier }),
+            script,
+            fonts: Items::new(alloc),
+        }),
+        Job::Changes(from, to, step, size, budget, script, fonts) => {
+            let task = changes_task(from, to, step, size, budget, fonts.as_slice())?;
+            Some(Work {
+                task,
+                script,
+                fonts,
+            })
+        }
         Job::Play(_, _, _) | Job::Selftest(_, _, _) => None,
-        Job::Changes(_, _, _, _, _, _, _) | Job::Write(_, _, _) => None,
     }
+}
+
+/// How many pictures the task of some work compares.
+fn compared(work: &Work) -> u64
+    requires { IsWork work.now }
+    ensures { result ≡ compared work.now.task }
+{
+    match &work.task {
+        Task::Changes(changes) => changes.instants.count(),
+        Task::Check | Task::Frame(_) | Task::Write(_) => 0,
+    }
+}
+
+/// The work, unless it compares too many pictures. Too many fonts are told first, when they are read.
+fn limited(work: Work) -> Result<Work, Status>
+    requires { IsWork work }
+    ensures limited { result ≡ limited work }
+    ensures work { IfOk result IsWork }
+{
+    if work.fonts.len() <= MAX_FONTS && compared(&work) > MAX_FRAMES as u64 {
+        return Err(Status::TooLarge(What::Frames, MAX_FRAMES));
+    }
+    Ok(work)
 }
 
 /// The work that the words ask for, or the status that they ask for.
@@ -74,8 +158,8 @@ pub fn read_work(alloc: Global, words: &[String]) -> Result<Work, Status>
     ensures work { IfOk result IsWork }
 {
     match read_words(alloc, words) {
-        Ok(job) => match work_of(job) {
-            Some(work) => Ok(work),
+        Ok(job) => match work_of(alloc, job) {
+            Some(work) => limited(work),
             None => Err(Status::NotBuilt),
         },
         Err(WordsRefusal::BadWords(fault)) => Err(Status::BadWords(fault)),

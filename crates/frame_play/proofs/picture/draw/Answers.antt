@@ -3,16 +3,10 @@ use Rattle.frame_play.specs.Outputs.{IsFrameImage}
 use Rattle.frame_play.proofs.RunLemmas.{shown_more, shown_nothing}
 use Rattle.frame_play.proofs.picture.draw.Goals as goal
 
-pub returns-in-Ok-clause-answered : goal.returns-in-Ok-clause-answered
-returns-in-Ok-clause-answered g c = c.put_image.ensures.answered c.args.frame.now
-
-pub returns-in-Ok-clause-once : goal.returns-in-Ok-clause-once
-returns-in-Ok-clause-once g c = c.put_image.ensures.once c.args.frame.now
-
 pub returns-in-Ok-clause-shown : goal.returns-in-Ok-clause-shown
 returns-in-Ok-clause-shown g c =
     let may = IsFrameImage c.args.inputs.script c.args.inputs.fonts c.args.frame.now.at c.args.frame.now.size in
-    shown_more c.put_image.result _ _ _ may (λ bytes is. subst may (sym is) (subst may (sym c.as_slice.ensures.value) c.in-Ok.ensures)) c.put_image.ensures.shown
+    shown_more c.show.result _ _ _ may (λ bytes is. subst may (sym is) (subst may (sym c.as_slice.ensures.value) c.in-Ok.ensures)) c.show.ensures.shown
 
 pub returns-in-Err-clause-shown : goal.returns-in-Err-clause-shown
 returns-in-Err-clause-shown g c = shown_nothing _ _

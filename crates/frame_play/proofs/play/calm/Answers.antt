@@ -1,6 +1,11 @@
+use Rattle.frame_play.specs.Outputs.{sink_of}
 use Rattle.frame_play.proofs.CountLemmas.{reported_once_after, shown_once_after}
-use Rattle.frame_play.proofs.RunLemmas.{decides, read_after, run_after, written_after}
+use Rattle.frame_play.proofs.RunLemmas.{decides, other_reported, read_after, run_after, written_after}
 use Rattle.frame_play.proofs.play.calm.Goals as goal
+
+pub returns-clause-other_report : goal.returns-clause-other_report
+returns-clause-other_report g c = λ why asked.
+    other_reported c.do_words-outcome.result why c.finish.result _ _ _ _ (c.do_words-outcome.ensures.other_words why asked) c.finish.ensures.report
 
 pub returns-clause-run : goal.returns-clause-run
 returns-clause-run g c = λ work asked.
@@ -17,9 +22,9 @@ returns-clause-decided g c = λ work asked stays shows reports.
 pub returns-clause-shown_once : goal.returns-clause-shown_once
 returns-clause-shown_once g c = λ work asked.
     let worked = c.do_words-outcome.ensures.run work asked in
-    shown_once_after work.task c.do_words-outcome.result c.finish.result _ _ worked.own c.finish.ensures.answer (c.do_words-outcome.ensures.once work asked)
+    shown_once_after (sink_of work.task) c.do_words-outcome.result c.finish.result _ _ worked.own c.finish.ensures.answer (c.do_words-outcome.ensures.once work asked)
 
 pub returns-clause-reported_once : goal.returns-clause-reported_once
 returns-clause-reported_once g c = λ work asked.
     let worked = c.do_words-outcome.ensures.run work asked in
-    reported_once_after work.task c.do_words-outcome.result c.finish.result _ _ worked.own c.finish.ensures.answer c.finish.ensures.once
+    reported_once_after (sink_of work.task) c.do_words-outcome.result c.finish.result _ _ worked.own c.finish.ensures.answer c.finish.ensures.once

@@ -7,3 +7,7 @@ use Rattle.frame_play.proofs.task.do_task.Goals as goal
 pub returns-in-Frame-clause-shown : goal.returns-in-Frame-clause-shown
 returns-in-Frame-clause-shown g c =
     subst (λ (task : Task). IsShown c.draw.result (g.F.Sink.held c.args.frames.now) (g.F.Sink.held c.draw.new.frames) (IsFramesOf task c.args.inputs)) (sym c.in-Frame.is) c.draw.ensures.shown
+
+pub returns-in-Write-clause-shown : goal.returns-in-Write-clause-shown
+returns-in-Write-clause-shown g c =
+    subst (λ (task : Task). IsShown c.rewrite.result (g.F.Sink.held c.args.frames.now) (g.F.Sink.held c.rewrite.new.frames) (IsFramesOf task c.args.inputs)) (sym c.in-Write.is) c.rewrite.ensures.shown

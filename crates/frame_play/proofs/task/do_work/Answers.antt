@@ -43,4 +43,4 @@ returns-in-Ok-clause-run g c =
 
 pub returns-in-Ok-clause-read : goal.returns-in-Ok-clause-read
 returns-in-Ok-clause-read g c =
-    read_same c.args.work.now.task (status_if_put c.do_task.result) _ _ c.in-Ok.ensures.counted c.do_task.ensures.answered
+    read_same c.args.work.now.task c.in-Ok.inputs (status_if_put c.do_task.result) _ _ c.in-Ok.ensures.counted c.do_task.ensures.answered

@@ -1,0 +1,3 @@
+pub mod InstantLemmas
+pub mod LineLemmas
+pub mod PictureLemmas

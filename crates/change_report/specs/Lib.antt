@@ -1,0 +1,4 @@
+pub mod Instants
+pub mod Lines
+pub mod Reports
+pub mod Laws
