@@ -1,6 +1,5 @@
 //! Painting by several threads at once, each a band of rows.
 ghost use Rattle.std.specs.Prelude.{◌≡◌, ℕ, ◌<◌, ◌≤◌, ◌+◌, ◌*◌, fold, length, IfOk};
-ghost use Rattle.std.specs.Thread.{IsSync};
 ghost use Rattle.ass_num.specs.Limits.{IsFrameSize};
 ghost use Rattle.blend.specs.Bands.{painted_all};
 ghost use Rattle.blend.specs.Canvases.{drawn};

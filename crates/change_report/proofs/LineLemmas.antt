@@ -1,11 +1,11 @@
 -- From what two pictures are to the line on them, and from lines to a report.
-use Rattle.std.proofs.Common.{◌≡◌, ◌≢◌, ◌↔◌, ℕ, ◌+◌, pos, List, [], ◌++◌, Option, Some, None, ap, refl, sym, subst, arith}
+use Rattle.std.proofs.Common.{◌≡◌, ◌↔◌, ℕ, ◌+◌, pos, List, [], ◌++◌, Option, Some, None, ap, refl, sym, subst, arith}
 use Rattle.std.specs.Prelude.{IfSome}
 use Rattle.ass_num.specs.declared.size.Size.{Size}
 use Rattle.ass_events.specs.declared.event.Event.{Event}
 use Rattle.ass_script.specs.Scripts.{ScriptValue}
 use Rattle.bdf_font.specs.Fonts.{FontValue}
-use Rattle.frame_change.specs.Changes.{DiffersAt, HasChanges, IsChange, IsInBox, IsLeastChanged}
+use Rattle.frame_change.specs.Changes.{DiffersAt, HasChanges, IsChange, IsLeastChanged}
 use Rattle.frame_change.specs.declared.kinds.ChangeKind.{ChangeKind}
 use Rattle.frame_change.specs.declared.kinds.ChangeKind.TheVariants.{Same, Moved, Other}
 use Rattle.frame_change.specs.declared.pixels.Changed.{Changed}

@@ -20,7 +20,7 @@ use Rattle.run_status.specs.declared.status.Which.TheVariants.{Frames, Report}
 use Rattle.track_write.specs.declared.refusal.WriteRefusal.{WriteRefusal}
 use Rattle.track_write.specs.declared.refusal.WriteRefusal.TheVariants.{OutOfMemory, Unwritable}
 use Rattle.frame_play.specs.Outcomes.{IsEnded, IsOrFault, IsOrMemory, SuitsSink, IsStatusReadCounted, IsReported, IsShown, IsFramesPutCount, IsWriteCounted, out_of_memory, status_if_put, text_to_report}
-use Rattle.frame_play.specs.Outputs.{IsFramesAsked, IsReportAsked, rewritten, sink_of, status_asked, status_of, written_status}
+use Rattle.frame_play.specs.Outputs.{IsFramesAsked, IsReportAsked, rewritten, sink_of, status_asked, task_status, written_status}
 use Rattle.frame_play.specs.Runs.{Decides, IsJobRun, IsWorked, SinkChange, sink_change}
 use Rattle.frame_play.specs.declared.outcome.Outcome.{Outcome}
 use Rattle.frame_play.specs.declared.outcome.Outcome.TheVariants.{Ended, Found}
@@ -327,14 +327,14 @@ written_read (Ok text) before now same = same
 written_read (Err (Unwritable order field)) before now same = same
 written_read (Err OutOfMemory) before now same = omega (arith, same)
 
-own_read : (task : Task) (inputs : Inputs) (before now : ℕ) → now ≡ before → IsStatusReadCounted (status_of task inputs) before now
+own_read : (task : Task) (inputs : Inputs) (before now : ℕ) → now ≡ before → IsStatusReadCounted (task_status task inputs) before now
 own_read Check inputs before now same = same
 own_read (Frame frame) inputs before now same = same
 own_read (Changes changes) inputs before now same = same
 own_read (Write write) inputs before now same = written_read (rewritten write inputs.script) before now same
 
 -- No task fails at a file.
-pub read_same : (task : Task) (inputs : Inputs) (answer : Status) (before now : ℕ) → now ≡ before → IsOrFault (sink_of task) (status_of task inputs) answer → IsStatusReadCounted answer before now
+pub read_same : (task : Task) (inputs : Inputs) (answer : Status) (before now : ℕ) → now ≡ before → IsOrFault (sink_of task) (task_status task inputs) answer → IsStatusReadCounted answer before now
 read_same task inputs answer before now same (inl (inl wanted)) = subst (λ s. IsStatusReadCounted s before now) (sym wanted) (own_read task inputs before now same)
 read_same task inputs answer before now same (inl (inr memory)) = subst (λ s. IsStatusReadCounted s before now) (sym memory) (omega (arith, same))
 read_same task inputs answer before now same (inr (done, fault)) = subst (λ s. IsStatusReadCounted s before now) (sym fault) same

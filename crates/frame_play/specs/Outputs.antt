@@ -44,9 +44,9 @@ written_status (Err (Unwritable order field)) = status.Unwritable order field
 written_status (Err OutOfMemory) = status.OutOfMemory
 
 -- the status that a task with its inputs asks for
-abbrev pub status_of : Task → Inputs → Status
-status_of (Write write) inputs = written_status (rewritten write inputs.script)
-status_of _ inputs = status.Done
+abbrev pub task_status : Task → Inputs → Status
+task_status (Write write) inputs = written_status (rewritten write inputs.script)
+task_status _ inputs = status.Done
 
 -- What a task may put to the frames sink: a report nothing, a picture its image, whatever the budget, and a script that is written again its text.
 abbrev pub IsFramesOf : Task → Inputs → List ℕ → Type 0
@@ -72,7 +72,7 @@ sink_of (Write write) = sink.Frames
 -- the status that an answer about the inputs asks for
 abbrev pub status_asked : Task → Result Inputs Status → Status
 status_asked task (Err refusal) = refusal
-status_asked task (Ok inputs) = status_of task inputs
+status_asked task (Ok inputs) = task_status task inputs
 
 -- what may be put to the frames sink after it
 abbrev pub IsFramesAsked : Task → Result Inputs Status → List ℕ → Type 0

@@ -3,7 +3,7 @@
 ghost use Rattle.std.specs.Prelude.{◌≡◌, ◌≢◌, Ok, string_bytes};
 ghost use Rattle.ass_script.specs.Ranges.{IsScript};
 ghost use Rattle.frame_play.specs.Outcomes.{IsFramesPutCount, IsOrFault, IsShown, IsStatusReadCounted, IsWriteCounted, SuitsSink, status_if_put, text_to_report};
-ghost use Rattle.frame_play.specs.Outputs.{IsFramesOf, IsReportOf, sink_of, status_of};
+ghost use Rattle.frame_play.specs.Outputs.{IsFramesOf, IsReportOf, sink_of, task_status};
 ghost use Rattle.frame_play.specs.Runs.{IsWorked, sink_change};
 ghost use Rattle.frame_play.specs.Works.{AreInputsOf, IsTaskIn, IsWork};
 ghost use Rattle.run_status.specs.declared.status.Status.TheVariants.{Done as done_status};
@@ -40,7 +40,7 @@ fn check(alloc: Global, inputs: &Inputs) -> Outcome
 fn do_task<F: Sink>(alloc: Global, task: &Task, inputs: Inputs, frames: &mut F) -> Outcome
     requires script { IsScript inputs.script }
     requires inputs { AreInputsOf task.now inputs }
-    ensures answered { IsOrFault (sink_of task.now) (status_of task.now inputs) (status_if_put result) }
+    ensures answered { IsOrFault (sink_of task.now) (task_status task.now inputs) (status_if_put result) }
     ensures shown { IsShown (status_if_put result) (F.held frames.old) (F.held frames.new) (IsFramesOf task.now inputs) }
     ensures once { IsFramesPutCount (sink_of task.now) (status_if_put result) (F.puts frames.old) (F.puts frames.new) }
     ensures counted { IsWriteCounted (status_if_put result) (F.faults frames.old) (F.faults frames.new) }

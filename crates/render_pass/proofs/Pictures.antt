@@ -1,5 +1,5 @@
 -- Frames are pictures.
-use Rattle.std.proofs.Common.{◌≡◌, ℕ, ℤ, List, [], ◌∷◌, ◌++◌, length, Option, Some, None, refl, sym, ap, ◌∙◌, subst, append-nil}
+use Rattle.std.proofs.Common.{◌≡◌, ℕ, ℤ, List, [], ◌++◌, Option, Some, None, refl, sym, ap, ◌∙◌, append-nil}
 use Rattle.std.specs.Prelude.{option_map}
 use Rattle.std.proofs.lemmas.List.{length-map}
 use Rattle.ass_events.specs.Histories.{Entry, live}
@@ -15,12 +15,12 @@ use Rattle.track_history.specs.Calls.{IsTurn, TrackView, history_of}
 use Rattle.track_history.specs.declared.answers.TrackEntry.{TrackEntry}
 use Rattle.frame_paint.proofs.Pictures.{canvas-picture}
 use Rattle.frame_paint.specs.Frames.{canvas_of}
-use Rattle.render_pass.specs.Frames.{IsFrame}
+use Rattle.render_pass.specs.Frames.{IsFrameOf}
 use Rattle.render_pass.specs.OneHistory.{ShowsOneHistory}
 use Rattle.render_pass.specs.Passes.{RenderView, RendererView}
 use Rattle.frame_paint.specs.declared.frames.Frame.{Frame}
 
-pub frame-picture : (script : ScriptValue) (fonts : List FontValue) (history : List Entry) (t : ℤ) (size : Size) (frame : Frame) → IsFrame script fonts history t size frame
+pub frame-picture : (script : ScriptValue) (fonts : List FontValue) (history : List Entry) (t : ℤ) (size : Size) (frame : Frame) → IsFrameOf script fonts history t size frame
     → IsPictureAt script fonts (live history) t size (canvas_of frame)
 frame-picture script fonts history t size frame f = record {
   draws = f.draws;
@@ -39,7 +39,7 @@ own-same p q given none f =
     ∙ (f.mine ∙ (ap (λ (l : List TrackEntry). mine p ++ l) none ∙ append-nil (mine p)))
 
 pub frame-history : (renderer : RendererView) (pass after : RenderView) (t : ℤ) (size : Size) (frame : Frame) → IsTurn pass.track after.track None
-    → IsFrame renderer.script renderer.fonts (history_of after.track.seen) t size frame → ShowsOneHistory renderer pass after t size frame
+    → IsFrameOf renderer.script renderer.fonts (history_of after.track.seen) t size frame → ShowsOneHistory renderer pass after t size frame
 frame-history renderer pass after t size frame turn f = record {
   n = f.n ∙ length-map after.track.seen (λ (pair : ℕ × TrackEntry). entry_of pair.1);
   instant = f.instant;

@@ -10,7 +10,7 @@ use Rattle.mask_keys.specs.declared.plans.Draw.{Draw}
 use Rattle.picture_plan.specs.Pictures.{AreDraws}
 
 -- The frame shows the whole history at t: how many entries the history has, the instant and the size, and the draws of what is live of it, each with the masks of its keys.
-pub record IsFrame (script : ScriptValue) (fonts : List FontValue) (history : List Entry) (t : ℤ) (size : Size) (frame : Frame) : Type 0 where
+pub record IsFrameOf (script : ScriptValue) (fonts : List FontValue) (history : List Entry) (t : ℤ) (size : Size) (frame : Frame) : Type 0 where
   pub n : frame.n ≡ length history
   pub instant : frame.t ≡ t
   pub size_is : frame.size ≡ size

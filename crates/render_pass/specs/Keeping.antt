@@ -1,5 +1,5 @@
 -- Public: what holds of all that a pass has seen of the caches' shards.
-use Rattle.std.specs.Prelude.{◌≡◌, ◌≤◌, ℕ, Bool, List, [], ◌∷◌, ◌++◌}
+use Rattle.std.specs.Prelude.{◌≡◌, ◌≤◌, ℕ, Bool, [], ◌∷◌, ◌++◌}
 use Rattle.cache_kinds.specs.Kinds.{composite_meaning, mask_meaning, region_meaning}
 use Rattle.evict_core.specs.History.{replay}
 use Rattle.evict_core.specs.Laws.{IsEvictedWithin}
@@ -23,7 +23,7 @@ module _ {K V T : Type 0} (eq : K → K → Bool) (meaning : Meaning K V T) wher
         → IsEvictedWithin eq (replay eq shard.tag.entries shard.tag.budget (before ++ (m, Fill key c v) ∷ [])) between key
 
   -- so it is with each shard of a cache
-  pub record AreKept (cache : CacheView T) (pass : CachePassView K T) : Type 0 where
+  pub record AreShardsKept (cache : CacheView T) (pass : CachePassView K T) : Type 0 where
     pub first : IsKept cache.shards.first pass.first
     pub second : IsKept cache.shards.second pass.second
     pub third : IsKept cache.shards.third pass.third
@@ -32,6 +32,6 @@ module _ {K V T : Type 0} (eq : K → K → Bool) (meaning : Meaning K V T) wher
 -- So it is with the twelve shards, which have their numbers.
 pub record CachesAreKept (renderer : RendererView) (pass : RenderView) : Type 0 where
   pub numbered : AreNumbered renderer.caches
-  pub outlines : AreKept equal_regions region_meaning renderer.caches.outlines pass.caches.outlines
-  pub masks : AreKept equal_masks mask_meaning renderer.caches.masks pass.caches.masks
-  pub composites : AreKept equal_composites composite_meaning renderer.caches.composites pass.caches.composites
+  pub outlines : AreShardsKept equal_regions region_meaning renderer.caches.outlines pass.caches.outlines
+  pub masks : AreShardsKept equal_masks mask_meaning renderer.caches.masks pass.caches.masks
+  pub composites : AreShardsKept equal_composites composite_meaning renderer.caches.composites pass.caches.composites

@@ -3,3 +3,5 @@ pub mod Passes
 pub mod Holding
 pub mod Keeping
 pub mod OneHistory
+pub mod Leasing
+pub mod Rendering

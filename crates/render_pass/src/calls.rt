@@ -19,7 +19,6 @@ ghost use Rattle.frame_paint.specs.Frames.{leases_of};
 ghost use Rattle.render_pass.specs.Holding.{HoldsFrame, HoldsFrameFewer, HoldsTheSame};
 ghost use Rattle.render_pass.specs.Passes.{HoldsNothing, IsFirstPass, IsNewRenderer, IsPassOfRenderer, IsRenderJoined, IsRenderSplit, IsUnchanged};
 
-use frame_paint::Frame;
 use crate::passes::RenderPass;
 use crate::releasing::release_images;
 use crate::renderer::Renderer;
@@ -27,6 +26,7 @@ use ass_num::{Items, Mem, OutOfMemory};
 use ass_script::Script;
 use bdf_font::FontSet;
 use evict_core::Totals;
+use frame_paint::Frame;
 use mask_caches::Caches;
 use std::alloc::Global;
 use std::sync::{Arc, Wait};

@@ -7,7 +7,7 @@ ghost use Rattle.bdf_font.specs.Fonts.{FontValue};
 ghost use Rattle.picture_plan.specs.Pictures.{IsPictureAt};
 ghost use Rattle.track_history.specs.Calls.{IsTurn, history_of};
 ghost use Rattle.frame_paint.specs.Frames.{canvas_of};
-ghost use Rattle.render_pass.specs.Frames.{IsFrame};
+ghost use Rattle.render_pass.specs.Frames.{IsFrameOf};
 ghost use Rattle.render_pass.specs.Holding.{HoldsFrame, HoldsFrameFewer, HoldsFrameMore, HoldsTheSame};
 ghost use Rattle.render_pass.specs.Keeping.{CachesAreKept};
 ghost use Rattle.render_pass.specs.OneHistory.{ShowsOneHistory};
@@ -16,10 +16,10 @@ ghost use Rattle.frame_paint.specs.declared.frames.Frame.{Frame};
 
 /// A frame of a history shows the picture of what is live of it. One of all that a pass has seen after a turn shows the one history.
 pub fn frames_are_pictures()
-    ensures picture { (script : ScriptValue) (fonts : List FontValue) (history : List Entry) (t : ℤ) (size : Size) (frame : Frame) → IsFrame script fonts history t size frame
+    ensures picture { (script : ScriptValue) (fonts : List FontValue) (history : List Entry) (t : ℤ) (size : Size) (frame : Frame) → IsFrameOf script fonts history t size frame
         → IsPictureAt script fonts (live history) t size (canvas_of frame) }
     ensures turn { (renderer : RendererView) (pass after : RenderView) (t : ℤ) (size : Size) (frame : Frame) → IsTurn pass.track after.track None
-        → IsFrame renderer.script renderer.fonts (history_of after.track.seen) t size frame → ShowsOneHistory renderer pass after t size frame }
+        → IsFrameOf renderer.script renderer.fonts (history_of after.track.seen) t size frame → ShowsOneHistory renderer pass after t size frame }
 {}
 
 /// A pass that has a frame holds its pins, and holds what it did before once it has released it. A pass that holds as much as one that

@@ -3,11 +3,13 @@
 #![tactic(auto)]
 
 mod calls;
+mod images;
 mod keeping;
 pub mod laws;
 mod passes;
 mod releasing;
 mod renderer;
+mod rendering;
 
 pub use frame_paint::{ClipImage, Frame, Image, paint, paint_bands};
 pub use passes::RenderPass;

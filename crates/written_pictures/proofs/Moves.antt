@@ -1,5 +1,5 @@
 -- Two lists of events with the same looks at the same moments, in scripts with the same header and styles, show the same.
-use Rattle.std.proofs.Common.{◌≡◌, inl, inr, ℕ, zero, suc, ◌<◌, List, [], ◌∷◌, ◌++◌, get_or, length, map, All, Contains, Option, Some, None, ℤ, ◌+ℤ◌, ◌<ℤ◌, refl, sym, ap, ◌∙◌, subst, arith}
+use Rattle.std.proofs.Common.{◌≡◌, inl, inr, ℕ, zero, suc, ◌<◌, List, [], ◌∷◌, get_or, length, map, All, Contains, Option, Some, None, ℤ, ◌+ℤ◌, refl, sym, ap, ◌∙◌, subst, arith}
 use Rattle.std.specs.Option.{option_map}
 use Rattle.std.proofs.lemmas.Bool.{cases_lt}
 use Rattle.std.proofs.lemmas.Int.{ints}
@@ -232,11 +232,10 @@ module _ (by : ℤ) (a b : List Event) (from : Event → Event) (h : Corresponds
   sorted_forth [] all sorted = tt
   sorted_forth (g ∷ now) all sorted =
       let first = All-head (Contains b) g now all in
-      let others = All-tail (Contains b) g now all in
-      (
+      let others = All-tail (Contains b) g now all in (
         λ k d inside.
-        let f = get_or now k d in
-        drawn_forth g f first (others k d inside) (subst (IsDrawnBefore (from g)) (get_or-map from now k d (from d) inside) (sorted.0 k (from d) (omega (arith, inside, length-map now from)))),
+            let f = get_or now k d in
+            drawn_forth g f first (others k d inside) (subst (IsDrawnBefore (from g)) (get_or-map from now k d (from d) inside) (sorted.0 k (from d) (omega (arith, inside, length-map now from)))),
         sorted_forth now others sorted.1,
       )
 
@@ -244,8 +243,8 @@ module _ (by : ℤ) (a b : List Event) (from : Event → Event) (h : Corresponds
   shown_now t now all are = record {
     members = λ g. (
       λ c.
-      let listed = All-contains (Contains b) now g all c in
-      (listed, shown_forth g t listed ((are.members (from g)).0 (among_map from now g c)).1),
+          let listed = All-contains (Contains b) now g all c in
+          (listed, shown_forth g t listed ((are.members (from g)).0 (among_map from now g c)).1),
       λ p. found_back now g all p.0 ((are.members (from g)).1 (h.listed g p.0, shown_back g t p.0 p.1)),
     );
     sorted = sorted_forth now all are.sorted;

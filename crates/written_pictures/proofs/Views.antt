@@ -1,5 +1,5 @@
 -- What an event shows depends on how long it has been shown, and on the header and the styles of its script.
-use Rattle.std.proofs.Common.{◌≡◌, ℕ, ◌-◌, ◌<◌, List, [], ◌∷◌, length, Some, ℤ, ◌+ℤ◌, ◌-ℤ◌, nat_le, refl, sym, ap, ◌∙◌, subst, arith}
+use Rattle.std.proofs.Common.{◌≡◌, ℕ, ◌-◌, List, [], ◌∷◌, length, Some, ℤ, ◌+ℤ◌, nat_le, refl, sym, ap, ◌∙◌, subst, arith}
 use Rattle.std.proofs.lemmas.Int.{ints}
 use Rattle.ass_num.specs.declared.size.Size.{Size}
 use Rattle.ass_script.specs.Scripts.{ScriptValue}
@@ -23,7 +23,7 @@ use Rattle.event_draws.specs.EventDraws.{event_draws}
 use Rattle.event_draws.specs.MovedDraws.{AreMovedDraws}
 use Rattle.event_draws.specs.Stages.{stage_at}
 use Rattle.event_draws.specs.declared.stage.Stage.{Stage}
-use Rattle.event_places.specs.Stands.{HasPoint, IsStandOf, box_at, corner_of, least_top_align, stand_of}
+use Rattle.event_places.specs.Stands.{HasPoint, IsStandOf, box_at, corner_of, least_top_align}
 
 -- the script with other lines
 abbrev pub with_lines : ScriptValue → List EventField → List (List ℕ) → ScriptValue
@@ -117,6 +117,7 @@ module _ (script : ScriptValue) (format : List EventField) (lines : List (List �
     drawn_later fonts t size shift draws are = record {
       view = are.view;
       shows = view_of t are.view are.shows;
+      colours = are.colours;
       laid = are.laid;
       laid_out = are.laid_out;
       value = are.value ∙ ap (λ elapsed. event_draws (at_moment (stage_at script event t size are.view are.laid shift) elapsed) fonts are.view are.laid) (same_elapsed t);

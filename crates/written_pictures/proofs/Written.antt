@@ -1,29 +1,25 @@
 -- Pictures of written scripts and of shifted events.
-use Rattle.std.proofs.Common.{◌≡◌, ◌⊎◌, inl, inr, ℕ, zero, suc, ◌+◌, ◌<◌, ◌≤◌, List, [], ◌∷◌, ◌++◌, length, map, get_or, slice_get, slice_index_or, All, Contains, Option, Some, None, Result, Ok, Err, ℤ, pos, neg_ℤ, ◌+ℤ◌, ◌-ℤ◌, refl, sym, ap, ◌∙◌, subst, arith}
+use Rattle.std.proofs.Common.{◌≡◌, inl, inr, ℕ, zero, suc, ◌+◌, ◌<◌, ◌≤◌, List, [], ◌∷◌, ◌++◌, length, map, get_or, All, Contains, Option, Some, None, Result, Ok, Err, ℤ, pos, ◌+ℤ◌, ◌-ℤ◌, sym, ap, ◌∙◌, subst, arith}
 use Rattle.std.specs.Option.{option_map_or}
 use Rattle.std.proofs.lemmas.Bool.{cases_lt}
 use Rattle.std.proofs.lemmas.Int.{ints}
-use Rattle.std.proofs.lemmas.List.{get_or-map, get_or_default, length-map}
+use Rattle.std.proofs.lemmas.List.{get_or_default, length-map}
 use Rattle.std.proofs.lemmas.List.Elements.{All-contains, Contains-append_left, Contains-append_right, Contains-get_or}
 use Rattle.std.proofs.lemmas.Option.{slice_get-get_or}
-use Rattle.ass_num.specs.declared.size.Size.{Size}
 use Rattle.ass_script.specs.Fields.{usual_event_fields}
 use Rattle.ass_script.specs.Scripts.{ScriptValue}
 use Rattle.ass_script.specs.declared.lines.Version.TheVariants.{V4Plus}
 use Rattle.ass_script.specs.declared.script.EventField.TheVariants as field
 use Rattle.ass_events.specs.Events.{event_of_line}
-use Rattle.ass_events.specs.Histories.{Pairwise}
 use Rattle.ass_events.specs.Ranges.{IsEvent}
 use Rattle.ass_events.specs.declared.event.Event.{Event}
-use Rattle.bdf_font.specs.Fonts.{FontValue}
-use Rattle.blend.specs.Canvases.{CanvasValue}
 use Rattle.picture_plan.specs.Pictures.{IsPictureAt}
 use Rattle.picture_plan.proofs.ShownLemmas.{at_pairwise}
-use Rattle.script_events.specs.ScriptEvents.{event_given, first_events, line_events}
+use Rattle.script_events.specs.ScriptEvents.{first_events, line_events}
 use Rattle.script_events.proofs.GivenEvents.{accepted, all_events}
 use Rattle.track_write.specs.Laws.{EventsAreReadBack, ScriptsAreReadBack, script_read}
 use Rattle.track_write.specs.Rows.{spoken}
-use Rattle.track_write.specs.Shifts.{first_outside, later_event, shifted}
+use Rattle.track_write.specs.Shifts.{first_outside, later_event}
 use Rattle.track_write.specs.Texts.{written}
 use Rattle.track_write.specs.declared.refusal.WriteRefusal.TheVariants.{Unwritable}
 use Rattle.written_pictures.specs.Laws.{HaveAscendingOrders, PicturesAreReadBack, PicturesAreShifted}
@@ -45,12 +41,12 @@ shift_corresponds : (by : ℤ) (events : List Event) → Corresponds by events (
 unfolding earlier_event
 shift_corresponds by events = record {
   listed = λ g c.
-  let x = among_back (later_event by) events g c in
-  subst (Contains events) (sym (unmoved by x.0) ∙ ap (earlier_event by) x.2) x.1;
+      let x = among_back (later_event by) events g c in
+      subst (Contains events) (sym (unmoved by x.0) ∙ ap (earlier_event by) x.2) x.1;
   onto = λ e c. (later_event by e, among_map (later_event by) events e c, unmoved by e);
   alike = λ g c.
-  let same : g.start ≡ (g.start -ℤ by) +ℤ by = omega (arith, ints) in
-  ap (λ (start : ℤ). record g { start = start }) same;
+      let same : g.start ≡ (g.start -ℤ by) +ℤ by = omega (arith, ints) in
+      ap (λ (start : ℤ). record g { start = start }) same;
   forth = λ f g cf cg less. less;
   back = λ f g cf cg less. less;
 }
@@ -66,7 +62,7 @@ pub pictures_are_shifted : PicturesAreShifted
 pictures_are_shifted script fonts later earlier events moved t size canvas is picture =
     let by = later -ℤ earlier in
     let all : map (later_event by) events ≡ moved =
-        ok_inside (λ order. Unwritable order field.Start) (first_outside by events) (map (later_event by) events) moved is in
+    ok_inside (λ order. Unwritable order field.Start) (first_outside by events) (map (later_event by) events) moved is in
     subst (λ list. IsPictureAt script fonts list (t +ℤ by) size canvas) all
     (picture_forth by events (map (later_event by) events) (earlier_event by) (shift_corresponds by events) script script.format script.lines fonts t size canvas picture)
 
@@ -130,10 +126,10 @@ module _ (script : ScriptValue) (events : List Event) (each : All IsEvent events
   read_corresponds = record {
     listed = λ g c. Contains-get_or events g.order g (is_numbered g c).0;
     onto = λ e c.
-    let k = c.0 in
-    let g = numbered k (get_or events k e) in
-    let lines : length events ≡ length (map spoken events) = sym (length-map events spoken) in
-    (g, subst (λ n. Contains (first_events (script_read script events) n) g) lines (has_front (length events) k e (omega arith) c.1), get_or_default events k g e c.1 ∙ c.2);
+        let k = c.0 in
+        let g = numbered k (get_or events k e) in
+        let lines : length events ≡ length (map spoken events) = sym (length-map events spoken) in
+        (g, subst (λ n. Contains (first_events (script_read script events) n) g) lines (has_front (length events) k e (omega arith) c.1), get_or_default events k g e c.1 ∙ c.2);
     alike = λ g c. (is_numbered g c).1;
     forth = λ f g cf cg less. elim (cases_lt f.order g.order) [
       | inl small ↦ small
@@ -142,7 +138,7 @@ module _ (script : ScriptValue) (events : List Event) (each : All IsEvent events
         | inr same ↦
             let orders : f.order ≡ g.order = omega (arith, rest, same) in
             let one : (get_or events f.order f).order ≡ (get_or events g.order g).order =
-                ap (λ n. (get_or events n f).order) orders ∙ ap (λ (x : Event). x.order) (get_or_default events g.order f g (is_numbered g cg).0) in
+            ap (λ n. (get_or events n f).order) orders ∙ ap (λ (x : Event). x.order) (get_or_default events g.order f g (is_numbered g cg).0) in
             absurd (omega (arith, less, one))
       ]
     ];
@@ -152,11 +148,10 @@ module _ (script : ScriptValue) (events : List Event) (each : All IsEvent events
 pub pictures_are_read_back : ScriptsAreReadBack → EventsAreReadBack → PicturesAreReadBack
 pictures_are_read_back scripts law script fonts events bytes t size canvas spelled each ascend few is picture =
     let read = script_read script events in
-    let now : t +ℤ pos 0 ≡ t = omega (arith, ints) in
-    (
+    let now : t +ℤ pos 0 ≡ t = omega (arith, ints) in (
       read,
       scripts script events bytes spelled each few is,
       subst (λ instant. IsPictureAt read fonts (line_events read) instant size canvas) now
-      (picture_forth (pos 0) events (line_events read) (event_at script events each ascend bytes is law) (read_corresponds script events each ascend bytes is law)
-      script (usual_event_fields V4Plus) (map spoken events) fonts t size canvas picture),
+          (picture_forth (pos 0) events (line_events read) (event_at script events each ascend bytes is law) (read_corresponds script events each ascend bytes is law)
+          script (usual_event_fields V4Plus) (map spoken events) fonts t size canvas picture),
     )

@@ -1,4 +1,4 @@
-use Rattle.std.proofs.Common.{◌≡◌, ◌∙◌, ℕ, List, map, pos, string_bytes, subst, arith}
+use Rattle.std.proofs.Common.{◌≡◌, ◌∙◌, map, pos, string_bytes, subst, arith}
 use Rattle.std.specs.Arc.{arc_value}
 use Rattle.bdf_font.specs.declared.font.FontSet.{FontSet}
 use Rattle.mask_model.specs.Pictures.{picture}

@@ -1,4 +1,4 @@
-use Rattle.std.proofs.Common.{◌≡◌, ◌∙◌, ℕ, Vec, Global, Ok, ap, subst, sym}
+use Rattle.std.proofs.Common.{◌∙◌, ℕ, Vec, Global, Ok, ap, sym}
 use Rattle.frame_play.specs.Outputs.{rewritten}
 use Rattle.frame_play.proofs.RewriteLemmas.{said_refusal, said_text}
 use Rattle.frame_play.proofs.RunLemmas.{keeps, shown_more, shown_nothing}

@@ -1,6 +1,4 @@
 use Rattle.std.proofs.Common.{[], ◌∷◌}
-use Rattle.frame_paint.specs.Frames.{MaskLease, leases_of_clip}
-use Rattle.render_pass.specs.Holding.{HoldsLeases}
 use Rattle.render_pass.proofs.GivenLeases.{gives-fewer, gives-none, gives-one, lease-held}
 use Rattle.render_pass.proofs.releasing.release_clip.Goals as goal
 

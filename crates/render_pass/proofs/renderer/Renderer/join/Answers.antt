@@ -1,6 +1,4 @@
-use Rattle.std.proofs.Common.{refl, subst}
-use Rattle.render_pass.specs.Passes.{RenderView}
-use Rattle.render_pass.proofs.Together.{joined-of, joined-together}
+use Rattle.render_pass.proofs.Together.{joined-of}
 use Rattle.render_pass.proofs.renderer.Renderer.join.Goals as goal
 
 pub returns : goal.returns

@@ -4,7 +4,6 @@ use Rattle.mask_keys.specs.contracts.composite_key.CompositeKeyEq.TheImpl.Laws a
 use Rattle.mask_keys.specs.contracts.mask_key.MaskKeyEq.TheImpl.Laws as mask_laws
 use Rattle.mask_keys.specs.contracts.region_key.RegionKeyEq.TheImpl.Laws as region_laws
 use Rattle.render_pass.proofs.KnownShards.{shards-kept}
-use Rattle.render_pass.specs.Keeping.{CachesAreKept}
 use Rattle.render_pass.proofs.renderer.Renderer.kept.Goals as goal
 
 pub returns : goal.returns

@@ -1,8 +1,4 @@
-use Rattle.std.proofs.Common.{ap, refl, subst, sym, ◌∙◌, List}
-use Rattle.flight_cache.specs.Shards.{CachePassView}
-use Rattle.frame_paint.specs.Frames.{leases_of}
-use Rattle.render_pass.specs.Holding.{HoldsLeases}
-use Rattle.frame_paint.specs.declared.frames.Image.{Image}
+use Rattle.std.proofs.Common.{ap, refl, ◌∙◌}
 use Rattle.render_pass.proofs.renderer.Renderer.release.Goals as goal
 
 pub release_images-caches-requires-clause-held : goal.release_images-caches-requires-clause-held

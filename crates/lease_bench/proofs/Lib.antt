@@ -1,0 +1,3 @@
+pub mod Fontless
+pub mod Held
+pub mod Lent

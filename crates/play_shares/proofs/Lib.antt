@@ -1,0 +1,3 @@
+pub mod FeederLines
+pub mod Parts
+pub mod InstantLemmas

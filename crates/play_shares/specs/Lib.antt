@@ -1,0 +1,4 @@
+pub mod Limits
+pub mod Instants
+pub mod Batches
+pub mod Rounds

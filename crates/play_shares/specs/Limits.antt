@@ -1,0 +1,12 @@
+-- Public: the limits of a play.
+use Rattle.std.specs.Prelude.{ℕ, ◌+◌, ◌*◌}
+use Rattle.ass_script.specs.Limits.{max_lines}
+use Rattle.play_words.specs.Limits.{max_batch}
+
+-- the most images, over all times
+abbrev pub max_frames : ℕ
+max_frames = 1000000
+
+-- the most places among the lines of a feeder that its batches reach, in as many rounds as there may be lines
+abbrev pub max_places : ℕ
+max_places = (max_lines + 1) * max_batch

@@ -1,0 +1,60 @@
+-- Images that are lent draw by draw.
+use Rattle.std.proofs.Common.{◌≡◌, ℕ, ◌+◌, ◌<◌, List, [], ◌∷◌, ◌++◌, length, map, take, drop, get_or, refl, sym, ap, ◌∙◌, subst, append-nil}
+use Rattle.std.proofs.lemmas.Grind.{flat_map-append}
+use Rattle.std.proofs.lemmas.List.{map-append, map_more, take-append-drop, take_more}
+use Rattle.bdf_font.specs.Fonts.{FontValue}
+use Rattle.blend.specs.Blending as blend
+use Rattle.mask_keys.specs.declared.composite_key.CompositeKey.{CompositeKey}
+use Rattle.mask_keys.specs.declared.plans.Draw.{Draw}
+use Rattle.mask_model.specs.Pictures.{image_of_draw}
+use Rattle.mask_caches.specs.Caches.{IsPassOf}
+use Rattle.mask_caches.specs.declared.caches.Caches.{Caches}
+use Rattle.mask_caches.specs.declared.passes.CachesPass.{CachesPass}
+use Rattle.frame_paint.specs.Frames.{MaskLease, image_shown, leases_of, leases_of_image}
+use Rattle.warm_ahead.specs.Firsts.{draw_keys, plan_keys}
+use Rattle.render_pass.specs.Leasing.{IsLent, IsUnlent}
+use Rattle.frame_paint.specs.declared.frames.Image.{Image}
+use Rattle.render_pass.proofs.Leasing.{lent-none, lent-then, unlent-front, unlent-then}
+use Rattle.render_pass.proofs.GivenLeases.{GivesLeases, images-leases}
+
+-- the images are those of the draws, with what was had of their keys
+pub record AreLent (caches : Caches) (fonts : List FontValue) (p q : CachesPass) (draws : List Draw) (images : List Image) : Type 0 where
+  pub lent : IsLent caches p q (plan_keys draws) (leases_of images)
+  pub shown : map image_shown images ≡ map (image_of_draw fonts) draws
+
+keys-more : (draws : List Draw) (i : ℕ) (draw : Draw) → i < length draws → draw ≡ get_or draws i draw → plan_keys (take (i + 1) draws) ≡ plan_keys (take i draws) ++ draw_keys draw
+keys-more draws i draw below is =
+    ap plan_keys (take_more draws i draw below)
+    ∙ (flat_map-append draw_keys (take i draws) (get_or draws i draw ∷ [])
+    ∙ (ap (λ (l : List CompositeKey). plan_keys (take i draws) ++ l) (append-nil (draw_keys (get_or draws i draw)))
+    ∙ ap (λ (d : Draw). plan_keys (take i draws) ++ draw_keys d) (sym is)))
+
+keys-cut : (draws : List Draw) (i : ℕ) → plan_keys draws ≡ plan_keys (take i draws) ++ plan_keys (drop i draws)
+keys-cut draws i = ap plan_keys (sym (take-append-drop i draws)) ∙ flat_map-append draw_keys (take i draws) (drop i draws)
+
+module _ (caches : Caches) (fonts : List FontValue) (p : CachesPass) (draws : List Draw) where
+  pub images-none : IsPassOf caches p → AreLent caches fonts p p (take 0 draws) []
+  images-none of = record { lent = lent-none caches p of; shown = refl }
+
+  pub images-more : (q r : CachesPass) (i : ℕ) (draw : Draw) (images after : List Image) (image : Image) → i < length draws → draw ≡ get_or draws i draw → after ≡ images ++ image ∷ [] → AreLent caches fonts p q (take i draws) images
+      → IsLent caches q r (draw_keys draw) (leases_of_image image) → image_shown image ≡ image_of_draw fonts draw → AreLent caches fonts p r (take (i + 1) draws) after
+  images-more q r i draw images after image below is pushed had lent shown = record {
+    lent =
+        subst (λ (l : List MaskLease). IsLent caches p r (plan_keys (take (i + 1) draws)) l) (sym (ap leases_of pushed ∙ images-leases images image))
+        (subst (λ (l : List CompositeKey). IsLent caches p r l (leases_of images ++ leases_of_image image)) (sym (keys-more draws i draw below is))
+        (lent-then caches p q r (plan_keys (take i draws)) (draw_keys draw) (leases_of images) (leases_of_image image) had.lent lent));
+    shown =
+        ap (map image_shown) pushed
+        ∙ (map-append image_shown images (image ∷ [])
+        ∙ (ap (λ (l : List blend.Image). l ++ image_shown image ∷ []) had.shown
+        ∙ (ap (λ (z : blend.Image). map (image_of_draw fonts) (take i draws) ++ z ∷ []) (shown ∙ ap (image_of_draw fonts) is) ∙ sym (map_more (image_of_draw fonts) draws i draw below))));
+  }
+
+  -- a draw's image wasn't lent, and those before it are given back
+  pub images-refused : (q r s : CachesPass) (i : ℕ) (draw : Draw) (images : List Image) → i < length draws → draw ≡ get_or draws i draw → AreLent caches fonts p q (take i draws) images → IsUnlent caches q r (draw_keys draw)
+      → IsPassOf caches s → GivesLeases caches r s (leases_of images) → IsUnlent caches p s (plan_keys draws)
+  images-refused q r s i draw images below is had refused of back =
+      subst (λ (l : List CompositeKey). IsUnlent caches p s l) (sym (keys-cut draws (i + 1)))
+      (unlent-front caches p s (plan_keys (take (i + 1) draws)) (plan_keys (drop (i + 1) draws))
+      (subst (λ (l : List CompositeKey). IsUnlent caches p s l) (sym (keys-more draws i draw below is))
+      (unlent-then caches p q r s (plan_keys (take i draws)) (draw_keys draw) (leases_of images) had.lent refused of back)))

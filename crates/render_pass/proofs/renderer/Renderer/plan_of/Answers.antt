@@ -1,0 +1,17 @@
+use Rattle.std.proofs.Common.{rules, to_z-of_z, w64}
+use Rattle.std.specs.Arc.{arc_value}
+use Rattle.std.specs.Int.RustNames.{FitsSigned}
+use Rattle.render_pass.proofs.Framed.{scene-few, scene-orders, scene-plan}
+use Rattle.render_pass.proofs.renderer.Renderer.plan_of.Goals as goal
+
+pub plan-requires-clause-few : goal.plan-requires-clause-few
+plan-requires-clause-few c = let s = c.requires.scene in rw c.as_slice.ensures (scene-few s.0 c.args.scene.now.t c.args.scene.now s.2 s.1)
+
+pub plan-requires-clause-orders : goal.plan-requires-clause-orders
+plan-requires-clause-orders c = let s = c.requires.scene in rw c.as_slice.ensures (scene-orders s.0 c.args.scene.now.t c.args.scene.now s.2 s.1)
+
+pub returns-clause-draws : goal.returns-clause-draws
+returns-clause-draws c = λ history h.
+    let fits : FitsSigned w64 c.args.scene.now.t = search rules in
+    let are = rw (c.deref.ensures, c.deref-2.ensures, c.as_slice.ensures, to_z-of_z fits) at c.plan.ensures.draws in
+    rw (← c.self.view_is) (scene-plan history c.args.scene.now.t c.args.scene.now h (arc_value c.self.inside.script) (arc_value c.self.inside.fonts).fonts c.args.size.now c.plan.result are)

@@ -1,5 +1,0 @@
-//! Tests of warming the caches.
-#![tactic(auto)]
-
-#[cfg(test)]
-mod warmed;
