@@ -22,14 +22,14 @@ pub record AreLent (caches : Caches) (fonts : List FontValue) (p q : CachesPass)
   pub lent : IsLent caches p q (plan_keys draws) (leases_of images)
   pub shown : map image_shown images ≡ map (image_of_draw fonts) draws
 
-keys-more : (draws : List Draw) (i : ℕ) (draw : Draw) → i < length draws → draw ≡ get_or draws i draw → plan_keys (take (i + 1) draws) ≡ plan_keys (take i draws) ++ draw_keys draw
+pub keys-more : (draws : List Draw) (i : ℕ) (draw : Draw) → i < length draws → draw ≡ get_or draws i draw → plan_keys (take (i + 1) draws) ≡ plan_keys (take i draws) ++ draw_keys draw
 keys-more draws i draw below is =
     ap plan_keys (take_more draws i draw below)
     ∙ (flat_map-append draw_keys (take i draws) (get_or draws i draw ∷ [])
     ∙ (ap (λ (l : List CompositeKey). plan_keys (take i draws) ++ l) (append-nil (draw_keys (get_or draws i draw)))
     ∙ ap (λ (d : Draw). plan_keys (take i draws) ++ draw_keys d) (sym is)))
 
-keys-cut : (draws : List Draw) (i : ℕ) → plan_keys draws ≡ plan_keys (take i draws) ++ plan_keys (drop i draws)
+pub keys-cut : (draws : List Draw) (i : ℕ) → plan_keys draws ≡ plan_keys (take i draws) ++ plan_keys (drop i draws)
 keys-cut draws i = ap plan_keys (sym (take-append-drop i draws)) ∙ flat_map-append draw_keys (take i draws) (drop i draws)
 
 module _ (caches : Caches) (fonts : List FontValue) (p : CachesPass) (draws : List Draw) where

@@ -5,4 +5,7 @@ pub mod KnownShards
 pub mod Leasing
 pub mod Lending
 pub mod Pictures
+pub mod ReadyImages
 pub mod Together
+pub mod Tried
+pub mod Warmed

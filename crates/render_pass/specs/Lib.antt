@@ -5,3 +5,5 @@ pub mod Keeping
 pub mod OneHistory
 pub mod Leasing
 pub mod Rendering
+pub mod Trying
+pub mod Warming

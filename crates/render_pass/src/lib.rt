@@ -7,10 +7,14 @@ mod images;
 mod keeping;
 pub mod laws;
 mod passes;
+mod readied;
 mod releasing;
 mod renderer;
 mod rendering;
+mod trying;
+mod warming;
 
 pub use frame_paint::{ClipImage, Frame, Image, paint, paint_bands};
 pub use passes::RenderPass;
 pub use renderer::Renderer;
+pub use trying::{Again, TryRefusal};
