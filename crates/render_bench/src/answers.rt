@@ -3,7 +3,7 @@
 ghost use Rattle.ass_num.specs.Limits.{IsFrameSize};
 ghost use Rattle.render_pass.specs.Passes.{IsFirstPass, IsPassOfRenderer};
 
-use crate::inputs::open;
+use crate::inputs::{BUDGET, open};
 use crate::unreadable;
 use ass_io::OpenGate;
 use ass_num::Size;
@@ -79,6 +79,59 @@ fn show_frame<R: Wait + AllocGlobal + Print>(
     (renderer.release(rt, pass, frame), said)
 }
 
+/// Asks for a frame without waiting and without making a mask, and prints it, or why there is none.
+fn show_try<R: Wait + AllocGlobal + Print>(
+    rt: &R,
+    renderer: &Renderer,
+    pass: RenderPass,
+) -> (RenderPass, io::Result<()>)
+    requires pass { IsPassOfRenderer renderer.now pass }
+    requires first { IsFirstPass pass }
+    ensures pass { IsPassOfRenderer renderer.now result.0 }
+    ensures first { IsFirstPass result.0 }
+{
+    let size = Size { w: 4, h: 3 };
+    let (pass, frame) = renderer.try_frame(rt.alloc(), pass, 5_000, &size);
+    match frame {
+        Ok(frame) => {
+            let said = show_painted(rt, &frame);
+            laws::frames_are_given_back();
+            (renderer.release(rt, pass, frame), said)
+        }
+        Err(refusal) => (pass, println!(rt; "{refusal:?}")),
+    }
+}
+
+/// Lets go of all that the caches keep.
+fn empty_caches<R: Wait>(rt: &R, renderer: &Renderer, pass: RenderPass) -> RenderPass
+    requires pass { IsPassOfRenderer renderer.now pass }
+    requires first { IsFirstPass pass }
+    ensures pass { IsPassOfRenderer renderer.now result }
+    ensures first { IsFirstPass result }
+{
+    let pass = renderer.set_limits(rt, pass, 0);
+    renderer.set_limits(rt, pass, BUDGET)
+}
+
+/// Makes the masks of two instants ahead of time, and prints how many.
+fn show_warm<R: Wait + AllocGlobal + Print>(
+    rt: &R,
+    renderer: &Renderer,
+    pass: RenderPass,
+) -> (RenderPass, io::Result<()>)
+    requires pass { IsPassOfRenderer renderer.now pass }
+    requires first { IsFirstPass pass }
+    ensures pass { IsPassOfRenderer renderer.now result.0 }
+    ensures first { IsFirstPass result.0 }
+{
+    let size = Size { w: 4, h: 3 };
+    let (pass, warmed) = renderer.warm(rt, rt.alloc(), pass, &[5_000, 6_000], &size, &OpenGate);
+    let Ok(count) = warmed else {
+        return (pass, Err(unreadable()));
+    };
+    (pass, println!(rt; "warmed {count}"))
+}
+
 /// Prints the totals of the caches of regions, of masks and of composed masks.
 fn show_totals<R: Wait + AllocGlobal + Print>(
     rt: &R,
@@ -114,16 +167,41 @@ fn show_event<R: Wait + AllocGlobal + Print>(
     (pass, [a, b, c, d, e, f])
 }
 
+/// Prints a try before a mask is made, what making it ahead comes to, a try behind that, and the totals.
+fn show_ahead<R: Wait + AllocGlobal + Print>(
+    rt: &R,
+    renderer: &Renderer,
+    pass: RenderPass,
+) -> (RenderPass, [io::Result<()>; 5])
+    requires pass { IsPassOfRenderer renderer.now pass }
+    requires first { IsFirstPass pass }
+    ensures pass { IsPassOfRenderer renderer.now result.0 }
+    ensures first { IsFirstPass result.0 }
+{
+    let (pass, a) = show_feed(rt, renderer, pass);
+    let pass = empty_caches(rt, renderer, pass);
+    let (pass, b) = show_try(rt, renderer, pass);
+    let (pass, c) = show_warm(rt, renderer, pass);
+    let (pass, d) = show_try(rt, renderer, pass);
+    let (pass, e) = show_totals(rt, renderer, pass);
+    (pass, [a, b, c, d, e])
+}
+
 /// Prints what a renderer answers.
 pub fn show_answers<R: Wait + AllocGlobal + Print>(rt: &R) -> io::Result<()> {
     let (renderer, pass) = open(rt.alloc(), SCRIPT)?;
     let (pass, said) = show_event(rt, &renderer, pass);
     let (pass, flushed) = show_flush(rt, &renderer, pass);
     let (pass, empty) = show_frame(rt, &renderer, pass);
+    let (pass, ahead) = show_ahead(rt, &renderer, pass);
     renderer.close(pass);
     for said in said {
         said?;
     }
     flushed?;
-    empty
+    empty?;
+    for said in ahead {
+        said?;
+    }
+    Ok(())
 }

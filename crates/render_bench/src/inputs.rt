@@ -22,7 +22,7 @@ const DOT: &str = "STARTFONT 2.1\nFONT dot\nFONTBOUNDINGBOX 1 1 0 0\n\
     STARTCHAR x\nENCODING 120\nDWIDTH 1 0\nBBX 1 1 0 0\nBITMAP\n80\nENDCHAR\nENDFONT\n";
 
 /// What each of the three caches may keep, in bytes.
-const BUDGET: u64 = 100_000_000;
+pub const BUDGET: u64 = 100_000_000;
 
 fn script_of(alloc: Global, text: &str) -> io::Result<Script>
     requires { length text.now ≤ max_text_bytes }
