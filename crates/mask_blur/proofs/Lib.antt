@@ -9,3 +9,4 @@ pub mod SoftenedLemmas
 pub mod GrowthLemmas
 pub mod AlikeLemmas
 pub mod BlurLemmas
+pub mod TileLemmas

@@ -1,6 +1,6 @@
 -- A list after a write to a part of it.
-use Rattle.std.proofs.Common.{◌≡◌, ℕ, ◌+◌, ◌-◌, ◌<◌, ◌≤◌, List, length, get_or, take, drop, ap, ◌∙◌, rules}
-use Rattle.std.proofs.lemmas.List.{length-drop, take_rest, places}
+use Rattle.std.proofs.Common.{◌≡◌, ℕ, ◌+◌, ◌-◌, ◌<◌, ◌≤◌, List, length, get_or, take, drop, rules}
+use Rattle.std.proofs.lemmas.List.{places}
 use Rattle.std.proofs.lemmas.List.Edits.{length-between}
 use borrow.Rule.Slice.PartMut.{put_mid}
 
@@ -15,10 +15,6 @@ put_behind a n t xs ys fits count behind = search (rules, places)
 
 pub length-put : (a n : ℕ) (xs ys : List ℕ) → a + n ≤ length xs → length ys ≡ n → length (put_mid a n xs ys) ≡ length xs
 length-put a n xs ys fits count = search (rules, places)
-
--- the part of a list from place i on
-pub length_rest : (i : ℕ) (xs : List ℕ) → length (take (length xs - i) (drop i xs)) ≡ length xs - i
-length_rest i xs = ap length (take_rest xs i) ∙ length-drop i xs
 
 -- the part of a list from place a to place e
 pub length_part : (a e : ℕ) (xs : List ℕ) → e ≤ length xs → length (take (e - a) (drop a xs)) ≡ e - a

@@ -1,10 +1,10 @@
 -- Pictures that bytes show.
-use Rattle.std.proofs.Common.{◌≡◌, ℕ, ◌+◌, ◌*◌, ◌<◌, ◌≤◌, ℤ, pos, ◌+ℤ◌, ◌-ℤ◌, ◌≤ℤ◌, List, length, get_or, refl, ap, subst, ◌∙◌, ⊎_elim, arith}
+use Rattle.std.proofs.Common.{◌≡◌, ℕ, ◌+◌, ◌*◌, ◌<◌, ◌≤◌, ℤ, pos, ◌+ℤ◌, ◌-ℤ◌, ◌≤ℤ◌, List, length, get_or, ap, subst, ◌∙◌, ⊎_elim, arith}
 use Rattle.std.proofs.lemmas.Bool.{cases_lt}
 use Rattle.std.proofs.lemmas.Int.{ints}
 use Rattle.std.proofs.lemmas.Nat.{mul-le}
 use borrow.Rule.Slice.PartMut.{put_mid}
-use Rattle.mask_blur.specs.Blur.{along_rows, along_columns}
+use Rattle.mask_blur.specs.Blur.{along_columns}
 use Rattle.mask_blur.specs.Lines.{Lays}
 use Rattle.mask_blur.specs.Shown.{HasMaskRows, IsBoxed, Shows}
 use Rattle.mask_blur.specs.Softening.{neighbour_sum, softer}
@@ -59,15 +59,6 @@ softer_boxed f x y w h none = record {
         let below = row (v +ℤ pos 1) (omega (arith, ints), omega (arith, ints)) in
         omega (arith, above, middle, below)
 
-pub along_rows_boxed : (r : ℕ) (f : ℤ → ℤ → ℕ) (x y : ℤ) (w h : ℕ) → IsBoxed f x y w h → IsBoxed (along_rows r f) (x -ℤ pos r) y (w + 2 * r) h
-along_rows_boxed r f x y w h none = record {
-  rows = λ v. smoothed_beside r (λ u. f u v) x w (none.rows v);
-  columns = λ u. record {
-    before = λ v out. smoothed_zero r (λ i. f i v) u (λ k l. (none.columns ((u -ℤ pos r) +ℤ pos k)).before v out);
-    behind = λ v out. smoothed_zero r (λ i. f i v) u (λ k l. (none.columns ((u -ℤ pos r) +ℤ pos k)).behind v out);
-  };
-}
-
 pub along_columns_boxed : (r : ℕ) (f : ℤ → ℤ → ℕ) (x y : ℤ) (w h : ℕ) → IsBoxed f x y w h → IsBoxed (along_columns r f) x (y -ℤ pos r) w (h + 2 * r)
 along_columns_boxed r f x y w h none = record {
   rows = λ v. record {
@@ -92,13 +83,3 @@ shows_at f x y s t w h m n bytes shows a b c d =
     let two = subst (λ (z : ℤ). Shows f s z w h bytes) b one in
     let three = subst (λ (k : ℕ). Shows f s t k h bytes) c two in
     subst (λ (k : ℕ). Shows f s t m k bytes) d three
-
--- three passes along rows
-pub along_rows_thrice_boxed : (r : ℕ) (f : ℤ → ℤ → ℕ) (x y : ℤ) (w h : ℕ) → IsBoxed f x y w h
-    → IsBoxed (along_rows r (along_rows r (along_rows r f))) (x -ℤ pos (3 * r)) y (w + 6 * r) h
-along_rows_thrice_boxed r f x y w h boxed =
-    let once = along_rows_boxed r f x y w h boxed in
-    let twice = along_rows_boxed r (along_rows r f) (x -ℤ pos r) y (w + 2 * r) h once in
-    let thrice = along_rows_boxed r (along_rows r (along_rows r f)) ((x -ℤ pos r) -ℤ pos r) y (w + 2 * r + 2 * r) h twice in
-    boxed_at (along_rows r (along_rows r (along_rows r f))) (((x -ℤ pos r) -ℤ pos r) -ℤ pos r) y (x -ℤ pos (3 * r)) y (w + 2 * r + 2 * r + 2 * r) h (w + 6 * r) h thrice
-    (omega (arith, ints)) refl (omega arith) refl

@@ -26,13 +26,14 @@ fn blurred_bytes(alloc: Global, bytes: &[u8], w: usize, h: usize, means: &Means)
 {
     let r = means.radius();
     let width = w + 6 * r;
-    let zeros = vec![in alloc; 0u8; width]?;
-    let mut sums = vec![in alloc; 0u16; width]?;
+    let zeros = vec![in alloc; 0u8; width + h]?;
+    let mut sums = vec![in alloc; 0u16; width + h]?;
     let mut spare = vec![in alloc; 0u8; width * (h + 4 * r)]?;
     let mut blurred = vec![in alloc; 0u8; width * (h + 6 * r)]?;
     let (to, between) = (blurred.as_mut_slice(), spare.as_mut_slice());
-    blur_rows(alloc, between, bytes, w, h, means)?;
-    blur_columns_thrice(to, between, sums.as_mut_slice(), zeros.as_slice(), h, means);
+    let (zeros, sums) = (zeros.as_slice(), sums.as_mut_slice());
+    blur_rows(to, between, &mut sums[..h], &zeros[..h], bytes, w, means);
+    blur_columns_thrice(to, between, &mut sums[..width], &zeros[..width], h, means);
     Ok(blurred)
 }
 

@@ -9,6 +9,8 @@ mod lines;
 mod means;
 mod rows;
 mod softening;
+mod tiles;
+mod transposing;
 mod weights;
 
 pub use blur::box_blur;

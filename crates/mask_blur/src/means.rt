@@ -1,27 +1,46 @@
 //! Means of bytes, without a division.
 
-ghost use Rattle.std.specs.Prelude.{◌≡◌, ◌≤◌, ◌+◌, ◌*◌, ◌/◌, ◌^◌};
+ghost use Rattle.std.specs.Prelude.{◌≡◌, ◌≤◌, ◌<◌, ◌+◌, ◌*◌};
 ghost use Rattle.mask_blur.specs.Blur.{mean};
 ghost use Rattle.mask_blur.specs.Limits.{max_blur};
+ghost use Rattle.mask_blur.specs.Scales.{mean_shift, mean_factor};
+
+/// By how many bits more than 16 a product is shifted: so many that the factor has 16 bits, and the quotient is exact.
+fn shift_of(radius: u32) -> u32
+    ensures { result ≡ mean_shift radius }
+{
+    match radius {
+        0..=14 => 1,
+        15..=35 => 4,
+        36..=76 => 6,
+        _ => 7,
+    }
+}
 
 /// Rounded means of 2 * radius + 1 bytes.
 #[derive(Clone, Copy)]
 pub struct Means {
-    radius: u32,
-    /// 2^24 over the number of bytes, rounded up.
-    factor: u32,
+    radius: u16,
+    /// 2^(16 + shift) over the number of bytes, rounded up.
+    factor: u16,
+    shift: u32,
+    ghost some: { 0 < radius },
     ghost small: { radius ≤ max_blur },
-    ghost exact: { factor ≡ (2 ^ 24 + 2 * radius) / (2 * radius + 1) },
+    ghost shifts: { shift ≡ mean_shift radius },
+    ghost exact: { factor ≡ mean_factor radius },
 }
 
 impl Means {
     pub fn new(radius: u32) -> Means
-        requires { radius ≤ max_blur }
+        requires some { 0 < radius }
+        requires small { radius ≤ max_blur }
         ensures { result.radius ≡ radius }
     {
+        let shift = shift_of(radius);
         Means {
-            radius,
-            factor: ((1 << 24) + 2 * radius) / (2 * radius + 1),
+            radius: radius as u16,
+            factor: (((1 << (16 + shift)) + 2 * radius) / (2 * radius + 1)) as u16,
+            shift,
         }
     }
 
@@ -29,7 +48,7 @@ impl Means {
         ensures value { result ≡ self.now.radius }
         ensures small { result ≤ max_blur }
     {
-        self.radius as usize
+        usize::from(self.radius)
     }
 
     /// The mean of bytes with this sum.
@@ -37,6 +56,7 @@ impl Means {
         requires { sum ≤ 255 * (2 * self.now.radius + 1) }
         ensures { result ≡ mean self.now.radius sum }
     {
-        (((u32::from(sum) + self.radius) * self.factor) >> 24) as u8
+        let product = u32::from(sum + self.radius) * u32::from(self.factor);
+        ((product >> 16) as u16 >> self.shift) as u8
     }
 }

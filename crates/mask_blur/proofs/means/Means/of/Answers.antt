@@ -1,23 +1,21 @@
-use Rattle.std.proofs.Common.{◌≡◌, ◌+◌, ◌*◌, ap, arith}
-use Rattle.mask_blur.proofs.MeanLemmas.{mean_scaled, mean-below}
+use Rattle.std.proofs.Common.{◌≡◌, ◌+◌, ◌*◌, ◌/◌, ◌^◌, ap, ◌∙◌, arith}
+use Rattle.mask_blur.specs.Blur.{mean}
+use Rattle.mask_blur.specs.Scales.{mean_factor}
+use Rattle.mask_blur.proofs.MeanLemmas.{mean_shifted, mean-below}
 use Rattle.mask_blur.proofs.means.Means.of.Goals as goal
 
-pub overflow_mul-result : goal.overflow_mul-result
-overflow_mul-result c =
+pub overflow_cast-result-3 : goal.overflow_cast-result-3
+overflow_cast-result-3 c =
     let s = c.args.self.now in
-    let both = mean_scaled s.radius c.args.sum s.factor s.small s.exact c.requires in
-    let same : (c.from.result + s.radius) * s.factor ≡ (c.args.sum + s.radius) * s.factor = ap (λ n. (n + s.radius) * s.factor) c.from.ensures in
-    omega (arith, both.0, same)
-
-pub overflow_cast-result : goal.overflow_cast-result
-overflow_cast-result c =
-    let s = c.args.self.now in
-    let both = mean_scaled s.radius c.args.sum s.factor s.small s.exact c.requires in
-    let same : (c.from.result + s.radius) * s.factor ≡ (c.args.sum + s.radius) * s.factor = ap (λ n. (n + s.radius) * s.factor) c.from.ensures in
-    omega (arith, both.1, same, mean-below s.radius c.args.sum c.requires)
+    let r = s.radius in
+    let product : c.from.result * c.from-2.result ≡ (c.args.sum + r) * mean_factor r = ap (λ z. z * c.from-2.result) c.from.ensures ∙ ap (λ z. (c.args.sum + r) * z) (c.from-2.ensures ∙ s.exact) in
+    let is : c.from.result * c.from-2.result / 65536 / 2 ^ s.shift ≡ mean r c.args.sum =
+    ap (λ z. z / 65536 / 2 ^ s.shift) product ∙ (ap (λ z. (c.args.sum + r) * mean_factor r / 65536 / 2 ^ z) s.shifts ∙ mean_shifted r c.args.sum s.some s.small c.requires) in
+    omega (arith, is, mean-below r c.args.sum c.requires)
 
 pub returns : goal.returns
 returns c =
     let s = c.args.self.now in
-    let both = mean_scaled s.radius c.args.sum s.factor s.small s.exact c.requires in
-    rw c.from.ensures both.1
+    let r = s.radius in
+    let product : c.from.result * c.from-2.result ≡ (c.args.sum + r) * mean_factor r = ap (λ z. z * c.from-2.result) c.from.ensures ∙ ap (λ z. (c.args.sum + r) * z) (c.from-2.ensures ∙ s.exact) in
+    ap (λ z. z / 65536 / 2 ^ s.shift) product ∙ (ap (λ z. (c.args.sum + r) * mean_factor r / 65536 / 2 ^ z) s.shifts ∙ mean_shifted r c.args.sum s.some s.small c.requires)
