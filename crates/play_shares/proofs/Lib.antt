@@ -1,3 +1,4 @@
 pub mod FeederLines
 pub mod Parts
 pub mod InstantLemmas
+pub mod AllOffers

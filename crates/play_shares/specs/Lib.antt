@@ -2,3 +2,4 @@ pub mod Limits
 pub mod Instants
 pub mod Batches
 pub mod Rounds
+pub mod Offers

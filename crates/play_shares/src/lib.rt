@@ -3,10 +3,12 @@
 
 mod batches;
 mod instants;
+mod laws;
 mod rounds;
 #[cfg(test)]
 mod tests;
 
 pub use batches::offers;
 pub use instants::{ahead_instants, instant_at, instant_count};
+pub use laws::all_lines_are_offered;
 pub use rounds::{feeding_rounds, has_too_many_frames, image_rounds};

@@ -1,0 +1,42 @@
+-- Public: the images of a play.
+use Rattle.std.specs.Prelude.{◌≡◌, ℕ, ◌+◌, ◌*◌, ◌/◌, ◌≤◌, ℤ, List, length, take}
+use Rattle.ass_events.specs.Histories.{Entry, live}
+use Rattle.blend.specs.Canvases.{CanvasValue}
+use Rattle.picture_plan.specs.Pictures.{IsPictureAt}
+use Rattle.play_shares.specs.Instants.{play_instant}
+use Rattle.play_words.specs.declared.job.Mode.{Mode}
+use Rattle.play_words.specs.declared.job.Mode.TheVariants.{Live, Settled}
+use Rattle.ppm_text.specs.Images.{image_bytes}
+use Rattle.script_events.specs.ScriptEvents.{line_events}
+use Rattle.play_model.specs.Plays.{PlayView, good_before, good_count}
+
+-- The bytes are the image of what a history shows at t; its comment counts the history's entries.
+pub record IsImageOf (play : PlayView) (history : List Entry) (t : ℤ) (bytes : List ℕ) : Type 0 where
+  pub canvas : CanvasValue
+  pub is_picture : IsPictureAt play.script play.fonts (live history) t play.job.size canvas
+  pub value : bytes ≡ image_bytes play.job.size.w play.job.size.h canvas.bytes t (length history)
+
+-- how many entries stand before those of time q
+abbrev pub entries_before : PlayView → ℕ → ℕ
+entries_before play q = q * (good_count play + 1)
+
+-- How many entries the image at place i of time q may show: live, at least what the rounds before its own fed, and at most what its own did too; settled, all of the time.
+abbrev pub IsCountAt : PlayView → ℕ → ℕ → Mode → ℕ → Type 0
+IsCountAt play q i Live n =
+    (entries_before play q + good_before play (i / play.job.renderers) ≤ n) × (n ≤ entries_before play q + good_before play (i / play.job.renderers + 1))
+IsCountAt play q i Settled n = n ≡ entries_before play q + good_count play
+
+-- The bytes are the image at place i of time q: that of the first so many entries of the history at its instant.
+pub record IsImageAt (play : PlayView) (history : List Entry) (q i : ℕ) (bytes : List ℕ) : Type 0 where
+  pub n : ℕ
+  pub within : n ≤ length history
+  pub count : IsCountAt play q i play.job.mode n
+  pub image : IsImageOf play (take n history) (play_instant play.job i) bytes
+
+-- ---- settled
+
+-- The bytes are the image of what all events of the script show at the instant of place i, with the comment of time q: a function of the files and of the job's instants and size.
+pub record IsSettledImage (play : PlayView) (q i : ℕ) (bytes : List ℕ) : Type 0 where
+  pub canvas : CanvasValue
+  pub is_picture : IsPictureAt play.script play.fonts (line_events play.script) (play_instant play.job i) play.job.size canvas
+  pub value : bytes ≡ image_bytes play.job.size.w play.job.size.h canvas.bytes (play_instant play.job i) (q * (length (line_events play.script) + 1) + length (line_events play.script))
