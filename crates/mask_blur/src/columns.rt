@@ -18,10 +18,12 @@ fn slide(to: &mut [u8], sums: &mut [u16], entering: &[u8], leaving: &[u8], means
         → slice_index sums.new k + slice_index leaving.now k ≡ slice_index sums.old k + slice_index entering.now k }
     ensures means { (k : ℕ) → k < length to.old → slice_index to.new k ≡ mean means.now.radius (slice_index sums.new k) }
 {
+    // a copy: what lies behind a reference would be read again after each write
+    let own = *means;
     for k in 0..to.len() {
         let sum = sums[k] + u16::from(entering[k]) - u16::from(leaving[k]);
         sums[k] = sum;
-        to[k] = means.of(sum);
+        to[k] = own.of(sum);
     }
 }
 

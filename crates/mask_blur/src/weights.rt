@@ -19,18 +19,15 @@ fn weigh_rows(sums: &mut [u16], above: &[u8], middle: &[u8], below: &[u8])
     }
 }
 
-/// The 16ths of the sums of three neighbours with the weights 1 2 1. Three slices of one list: a compiler that knew it would go on by single sums.
-#[inline(never)]
-fn weigh_row(row: &mut [u8], left: &[u16], middle: &[u16], right: &[u16])
-    requires left { length left.now ≡ length row.old }
-    requires middle { length middle.now ≡ length row.old }
-    requires right { length right.now ≡ length row.old }
-    requires small { (k : ℕ) → k < length row.old → slice_index left.now k + 2 * slice_index middle.now k + slice_index right.now k ≤ 4080 }
+/// The 16ths of the sums of three neighbours with the weights 1 2 1.
+fn weigh_row(row: &mut [u8], sums: &[u16])
+    requires room { length row.old + 2 ≤ length sums.now }
+    requires small { (k : ℕ) → slice_index sums.now k ≤ 1020 }
     ensures { (k : ℕ) → k < length row.old
-        → slice_index row.new k ≡ (slice_index left.now k + 2 * slice_index middle.now k + slice_index right.now k + 8) / 16 }
+        → slice_index row.new k ≡ (slice_index sums.now k + 2 * slice_index sums.now (k + 1) + slice_index sums.now (k + 2) + 8) / 16 }
 {
     for k in 0..row.len() {
-        row[k] = ((left[k] + 2 * middle[k] + right[k] + 8) / 16) as u8;
+        row[k] = ((sums[k] + 2 * sums[k + 1] + sums[k + 2] + 8) / 16) as u8;
     }
 }
 
@@ -49,6 +46,5 @@ pub fn soften_row(row: &mut [u8], sums: &mut [u16], above: &[u8], middle: &[u8],
         → Lays (λ u. softer f u y) (x -ℤ pos 1) row.new }
 {
     weigh_rows(sums, above, middle, below);
-    let (w, sums) = (row.len(), &sums[..]);
-    weigh_row(row, &sums[..w], &sums[1..w + 1], &sums[2..w + 2]);
+    weigh_row(row, sums);
 }
