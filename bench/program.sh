@@ -42,21 +42,7 @@ text='The quick brown fox jumps over the lazy dog, 0123456789, and then sits in 
 { script 1280 720 80; lines 100000 'What the river said, nobody wrote down.'; } > "$room/100000.ass"
 { script 1280 720 80; lines 1000000 'So she said.'; } > "$room/1000000.ass"
 
-# page TEXT..: a script of 1920x1080 in the font subtitle.bdf at 3 times its height, with these texts at once
-page() {
-    printf '[Script Info]\nScriptType: v4.00+\nPlayResX: 1920\nPlayResY: 1080\nScaledBorderAndShadow: yes\n[V4+ Styles]\n'
-    printf 'Style: Default,Subtitle,48,&H00FFFFFF,&H000000FF,&H00000000,&H80000000,0,0,0,0,100,100,0,0,1,2,2,2,40,40,40,1\n[Events]\n'
-    printf 'Dialogue: 0,0:00:00.00,0:00:10.00,Default,,0,0,0,,%s\n' "$@"
-}
-
-# signs COUNT: so many placed texts with a border, a blur and a fade
-signs() {
-    local i
-    for ((i = 0; i < $1; i++)); do
-        printf '{\\pos(%d,%d)\\bord%d\\shad0\\blur3\\fad(500,500)}%s\n' $((i * 611 % 1700)) $((i * 397 % 1030)) $((i % 4 + 1)) "board $((i * 7 % 53)) stone"
-    done
-}
-
+. "$top/bench/pages.sh"
 page > "$room/empty.ass"
 page 'What the river said, nobody wrote down.' > "$room/plain.ass"
 mapfile -t boards < <(signs 200)

@@ -1,14 +1,30 @@
-//! Renders frames. Without words it prints what a renderer of a small script answers; with the words `TEXT COUNT TURNS`, where the text
-//! is of `x` and blanks, it prints how long a frame of so many lines takes whose masks are in the caches, and how long one with its
-//! painting, in a picture of 1,920 by 1,080: the least of so many turns.
+//! Renders frames. Without words it prints what a renderer of a small script answers, and what threads have that feed and render at
+//! once. With the words `SCRIPT FONT FROM STEP TURNS THREADS BANDS` it prints how long frames of the script's lines take, in a picture
+//! of 1,920 by 1,080: the first time, again, and painted in so many bands; the least of one, and the time of all. Each of the threads
+//! has so many turns; the frames are so many milliseconds apart, from an instant on.
 #![tactic(auto)]
 
+ghost use Rattle.std.specs.Prelude.{IfOk};
+ghost use Rattle.std.specs.Arc.{arc_value};
+ghost use Rattle.ass_script.specs.Ranges.{IsScript};
+ghost use Rattle.text_layout.specs.Fonts.{IsLayoutFontSet};
+
 mod answers;
+mod crowd;
+mod feeds;
+mod frames;
+mod held;
 mod inputs;
+mod tasks;
 mod times;
+mod workers;
 
 use answers::show_answers;
-use std::{env, io};
+use crowd::show_threads;
+use inputs::{Source, font_of, source_of};
+use std::io::Read;
+use std::{env, fs, io};
+use tasks::Laps;
 use times::measure;
 
 /// What can't be read, isn't known, or is too much.
@@ -25,18 +41,43 @@ fn words_of(rt: &HostRuntime) -> io::Result<Vec<String>> {
     Ok(words)
 }
 
-fn number_of(word: &String) -> io::Result<u32> {
-    match word.as_str().parse::<u32>() {
-        Ok(number) => Ok(number),
-        Err(_) => Err(unreadable()),
-    }
+/// The number of a word, 0 where it is none.
+fn number_of(word: &String) -> u32 {
+    word.as_str().parse::<u32>().unwrap_or(0)
+}
+
+/// What a file holds.
+fn bytes_of(rt: &HostRuntime, name: &String) -> io::Result<Vec<u8>> {
+    let mut bytes = Vec::new(rt.alloc());
+    fs::open(rt, name.as_str())?.read_to_end(&mut bytes)?;
+    Ok(bytes)
+}
+
+/// The script of a file, with the font of another.
+fn files_of(rt: &HostRuntime, script: &String, font: &String) -> io::Result<Source>
+    ensures script { IfOk result (λ s. IsScript (arc_value s.script)) }
+    ensures fonts { IfOk result (λ s. IsLayoutFontSet (arc_value s.fonts).fonts) }
+{
+    let bytes = bytes_of(rt, font)?;
+    let font = font_of(rt.alloc(), bytes.as_slice())?;
+    let bytes = bytes_of(rt, script)?;
+    source_of(rt.alloc(), bytes.as_slice(), font)
 }
 
 fn main(rt: HostRuntime) -> io::Result<()> {
     let words = words_of(&rt)?;
     match words.as_slice() {
-        [] => show_answers(&rt),
-        [text, count, turns] => measure(&rt, text.as_str(), number_of(count)?, number_of(turns)?),
+        [] => show_answers(&rt).and(show_threads(&rt)),
+        [script, font, from, step, turns, threads, bands] => {
+            let laps = Laps {
+                from: number_of(from),
+                step: number_of(step),
+                turns: number_of(turns),
+                threads: number_of(threads),
+                bands: number_of(bands),
+            };
+            measure(&rt, &files_of(&rt, script, font)?, laps)
+        }
         _ => Err(unreadable()),
     }
 }
