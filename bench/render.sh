@@ -1,6 +1,6 @@
 #!/usr/bin/env bash
-# Measures frames of a renderer, on the machine at hand: of one line, of 200 signs, by one thread and by four, and of
-# short and long tracks. It makes its inputs itself. The program is proved and built first where that is needed.
+# Measures frames of a renderer, on the machine at hand: of one line, of many at once, of 200 signs, by one thread and by
+# four, in bands, and of short and long tracks. It makes its inputs itself. The program is proved and built first where that is needed.
 set -eu
 
 top=$(dirname -- "$(dirname -- "$(readlink -f -- "${BASH_SOURCE[0]}")")")

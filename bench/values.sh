@@ -26,8 +26,8 @@ date -u +%Y-%m-%d
 printf '%s processors: %s\n' "$(nproc)" "$(sed -n 's/^model name.*: //p' /proc/cpuinfo | head -n 1)"
 printf 'load before: %s\n' "$(cut -d ' ' -f 1-3 /proc/loadavg)"
 
-# lines of 48 and of 24 pixels, without and with a blur, and two of glyphs in fields
-for line in 'strokes 48 0' 'strokes 48 2' 'strokes 24 0' 'strokes 24 2' 'fields 48 0' 'fields 16 0'; do
+# lines of 48 and of 24 pixels, without and with a blur, and three of glyphs in fields
+for line in 'strokes 48 0' 'strokes 48 2' 'strokes 24 0' 'strokes 24 2' 'fields 48 0' 'fields 16 0' 'fields 16 2'; do
     printf '\n%s\n' "$line"
     # shellcheck disable=SC2086
     "$program" $line 200

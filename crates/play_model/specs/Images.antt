@@ -20,7 +20,7 @@ pub record IsImageOf (play : PlayView) (history : List Entry) (t : ℤ) (bytes :
 abbrev pub entries_before : PlayView → ℕ → ℕ
 entries_before play q = q * (good_count play + 1)
 
--- How many entries the image at place i of time q may show: live, at least what the rounds before its own fed, and at most what its own did too; settled, all of the time.
+-- How many entries the image at place i of time q may be of: live, at least as many as the rounds before its own fed, and at most as many as its own did too; settled, all of the time.
 abbrev pub IsCountAt : PlayView → ℕ → ℕ → Mode → ℕ → Type 0
 IsCountAt play q i Live n =
     (entries_before play q + good_before play (i / play.job.renderers) ≤ n) × (n ≤ entries_before play q + good_before play (i / play.job.renderers + 1))
@@ -35,7 +35,7 @@ pub record IsImageAt (play : PlayView) (history : List Entry) (q i : ℕ) (bytes
 
 -- ---- settled
 
--- The bytes are the image of what all events of the script show at the instant of place i, with the comment of time q: a function of the files and of the job's instants and size.
+-- The bytes are the image of what all events of the script show at the instant of place i, with the comment of time q. There is one picture of these events.
 pub record IsSettledImage (play : PlayView) (q i : ℕ) (bytes : List ℕ) : Type 0 where
   pub canvas : CanvasValue
   pub is_picture : IsPictureAt play.script play.fonts (line_events play.script) (play_instant play.job i) play.job.size canvas

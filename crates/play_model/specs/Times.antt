@@ -50,7 +50,7 @@ StoppedTimesAreFronts =
     → AreFirstAt play (history_before times ++ last) (length times) next → length next ≤ instant_count play.job
     → IsFrontOfPlay play (flat_map (λ image. image) images ++ take cut (flat_map (λ image. image) next))
 
--- The image of a renderer in a round: live, at least what was fed before the round, and at most what was fed in it too.
+-- The image of a renderer in a round: live, of at least as many entries as were fed before the round, and of at most as many as in it too.
 abbrev pub RoundsBoundImages : Type 0
 RoundsBoundImages =
     (play : PlayView) (q round renderer n : ℕ) → renderer < play.job.renderers

@@ -11,7 +11,7 @@ pub fn settled_plays_are_fixed()
     ensures { SettledPlaysAreFixed }
 {}
 
-/// A live image shows no more than its time has, and all of that once all lines were fed in rounds before its own.
+/// A live image is of no more entries than its time has, and of all of them once all lines were fed in rounds before its own.
 pub fn live_counts_are_bounded()
     ensures { LiveCountsAreBounded }
 {}
@@ -44,7 +44,7 @@ pub fn times_follow()
     ensures stopped { StoppedTimesAreFronts }
 {}
 
-/// A live image shows what was fed before its round, and at most what was fed in it too.
+/// A live image is of at least as many entries as the rounds before its own fed, and of at most as many as they and its own did.
 pub fn rounds_bound_images()
     ensures { RoundsBoundImages }
 {}
