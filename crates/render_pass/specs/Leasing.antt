@@ -18,7 +18,7 @@ use Rattle.warm_ahead.specs.Warming.{KeyVisit, visit_mask_steps, visit_region_st
 use Rattle.frame_paint.specs.Frames.{MaskLease}
 use Rattle.render_pass.specs.Holding.{HoldsLeasesMore}
 
--- the keys in their order, all or as far as the mask of each but the last was had
+-- the keys in their order, all or the first of them, where the mask of each but the last was had
 pub record AreKeyVisits (keys : List CompositeKey) (visits : List KeyVisit) : Type 0 where
   pub keys_are : map (λ (v : KeyVisit). v.key) visits ≡ take (length visits) keys
   pub each : All (λ (v : KeyVisit). IsCompositeVisit v.key v.visit) visits

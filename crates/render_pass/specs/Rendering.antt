@@ -27,7 +27,7 @@ module _ (renderer : RendererView) (pass after : CachesPass) (events : List Even
     pub shown : map image_shown images ≡ map (image_of_draw renderer.fonts) draws
     pub lent : IsLent renderer.caches pass after (plan_keys draws) (leases_of images)
 
-  -- Memory was wanting. No key was asked for, or those of the draws as far as one wasn't had, and what was had was given back.
+  -- Memory was wanting. No key was asked for, or those of the draws, all or as far as one wasn't had, and what was had was given back.
   pub record AreDrawsUnlent : Type 0 where
     pub of : IsPassOf renderer.caches after
     pub holds : HoldsAsBefore renderer.caches pass after
@@ -46,7 +46,7 @@ module _ (renderer : RendererView) (pass after : RenderView) (t : ℤ) (size : S
     pub is_frame : IsFrameOf renderer.script renderer.fonts (history_of after.track.seen) t size frame
     pub leased : AreLeased renderer.caches pass.caches after.caches (plan_keys is_frame.draws) (leases_of frame.images)
 
-  -- Memory was wanting. The turn of the track was taken. No key was asked for, or those of the draws as far as one wasn't had, and what was had was given back.
+  -- Memory was wanting. The turn of the track was taken. No key was asked for, or those of the draws, all or as far as one wasn't had, and what was had was given back.
   pub record IsUnrendered : Type 0 where
     pub turn : IsTurn pass.track after.track None
     pub unleased : (after.caches ≡ pass.caches)
