@@ -89,7 +89,7 @@ def marks(score, reach):
 
 def trusted(reach):
     """The table of the definitions that `top` reaches."""
-    reached = reach.closure(("top", node) for node in reach.of_call("frame_play", ("play",), "top"))
+    reached = reach.closure(("top", node) for node in reach.of_call("play_command", ("run",), "top"))
     files = spec_marks.files_of(reached)
     order = list(crates_of())
     rows = ["| File | Lines | What it defines |", "|---|---|---|"]
@@ -156,15 +156,15 @@ def trust(score, reach):
         write(path, parts[0] + right + parts[2])
         parts = parts[0], right, parts[2]
     score.check(parts[1] == right, path, "doesn't quote the contract of top as it stands")
-    for item in reach.crates["frame_play"].files[("play",)]:
+    for item in reach.crates["play_command"].files[("run",)]:
         if item.kind == "fn" and item.name == "top":
             for _, name, _ in item.clauses:
                 score.check(f"`{name}`" in parts[2], path, f"doesn't say what the clause {name} says")
 
 
 def contract_of_top():
-    """The head and the clauses of `top`, as play.rt has them."""
-    text = read("crates/frame_play/src/play.rt")
+    """The head and the clauses of `top`, as run.rt has them."""
+    text = read("crates/play_command/src/run.rt")
     at = text.index("pub fn top<")
     return "```rust\n" + text[at:text.index("\n{", at) + 1] + "```\n"
 

@@ -2,6 +2,7 @@
 use Rattle.std.proofs.Common.{◌≡◌, inl, inr, ℕ, ◌<◌, ◌≤◌, List, length, All, Some, None, Result, Ok, Err, ap, sym, arith}
 use Rattle.std.proofs.lemmas.List.Elements.{All-weaker}
 use Rattle.ass_io.specs.Fetched.{Held, Told}
+use Rattle.ass_num.specs.Limits.{max_file_bytes, max_text_bytes}
 use Rattle.ass_script.specs.Scripts.{ScriptValue, script_of}
 use Rattle.ass_script.specs.declared.refusal.ScriptRefusal.{ScriptRefusal}
 use Rattle.bdf_font.specs.Limits.{max_fonts}
@@ -25,17 +26,24 @@ script_in : (answer : Result ScriptValue ScriptRefusal) (script : ScriptValue) �
 script_in (Ok other) script e = let same : other ≡ script = sym (ap (script_or script) e) in ap (λ (s : ScriptValue). Ok s) same
 script_in (Err refusal) script e = absurd cc
 
-held_short : LinesFitTheirText → (name : List ℕ) (held : Held) (script : ScriptValue) → AsksScript name held (Ok script) → HasShortLines script
-held_short fit name None script e = absurd cc
-held_short fit name (Some bytes) script (inl (small, e)) =
-    All-weaker (λ (line : List ℕ). length line ≤ length bytes) (λ (line : List ℕ). length line ≤ 134217728) (λ line l. omega (arith, l, small)) script.lines
+-- No line of a script is longer than a file may be.
+pub held_lines : LinesFitTheirText → (name : List ℕ) (held : Held) (script : ScriptValue) → AsksScript name held (Ok script) → All (λ line. length line ≤ max_file_bytes) script.lines
+held_lines fit name None script e = absurd cc
+held_lines fit name (Some bytes) script (inl (small, e)) =
+    All-weaker (λ (line : List ℕ). length line ≤ length bytes) (λ (line : List ℕ). length line ≤ max_file_bytes) (λ line l. omega (arith, l, small)) script.lines
     (fit bytes script (script_in (script_of bytes) script e))
-held_short fit name (Some bytes) script (inr (large, e)) = absurd cc
+held_lines fit name (Some bytes) script (inr (large, e)) = absurd cc
 
-short_lines : LinesFitTheirText → (told : List ℕ → Told) (name : List ℕ) (script : ScriptValue) → IsScriptRead told name (Ok script) → HasShortLines script
-short_lines fit told name script read = held_short fit name read.0 script read.2
+pub file_lines : LinesFitTheirText → (told : List ℕ → Told) (name : List ℕ) (script : ScriptValue) → IsScriptRead told name (Ok script) → All (λ line. length line ≤ max_file_bytes) script.lines
+file_lines fit told name script read = held_lines fit name read.0 script read.2
 
-font_set : (names : List (List ℕ)) (inputs : Inputs) → 0 < length names → length names ≤ max_fonts → length inputs.fonts ≡ length names → All IsFont inputs.fonts → IsLayoutFontSet inputs.fonts
+-- A script that is read has short lines.
+pub short_lines : LinesFitTheirText → (told : List ℕ → Told) (name : List ℕ) (script : ScriptValue) → IsScriptRead told name (Ok script) → HasShortLines script
+short_lines fit told name script read =
+    All-weaker (λ (line : List ℕ). length line ≤ max_file_bytes) (λ (line : List ℕ). length line ≤ max_text_bytes) (λ line l. omega (arith, l)) script.lines (file_lines fit told name script read)
+
+-- As many fonts as there are names are from 1 to 64.
+pub font_set : (names : List (List ℕ)) (inputs : Inputs) → 0 < length names → length names ≤ max_fonts → length inputs.fonts ≡ length names → All IsFont inputs.fonts → IsLayoutFontSet inputs.fonts
 font_set names inputs some few count each = record { some = omega (arith, some, count); few = omega (arith, few, count); each = each }
 
 -- A script's lines are short, and a picture has from 1 to 64 fonts.

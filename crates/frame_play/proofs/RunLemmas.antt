@@ -1,10 +1,13 @@
 -- How the parts of a run make the whole.
-use Rattle.std.proofs.Common.{◌≡◌, ◌⊎◌, inl, inr, ℕ, ◌≤◌, List, [], length, slice_index_or, Option, Some, None, Result, Ok, Err, refl, sym, subst, ◌∙◌, append-nil, arith}
+use Rattle.std.proofs.Common.{◌≡◌, ◌⊎◌, inl, inr, ℕ, ◌≤◌, List, [], ◌++◌, length, slice_index_or, Option, Some, None, Result, Ok, Err, refl, sym, ap, subst, ◌∙◌, append-nil, arith}
 use Rattle.std.specs.Io.KnownBytes.{Appends, Keeps}
+use Rattle.std.proofs.KnownBytes.{Keeps-trans}
 use Rattle.std.proofs.lemmas.Bool.{cases_lt}
 use Rattle.ass_num.specs.Causes.{Rose}
 use Rattle.ass_io.specs.Fetched.{Told}
-use Rattle.ass_io.specs.Written.{AppendsFront}
+use Rattle.ass_io.specs.Written.{AppendsFront, IsPut, IsPutCounted}
+use Rattle.ass_io.specs.declared.sink.Put.{Put}
+use Rattle.ass_io.specs.declared.sink.Put.TheVariants as put
 use Rattle.input_files.specs.Files.{Asks, AsksFont, AsksScript, IsAnswered}
 use Rattle.input_files.specs.Inputs.{AreRead}
 use Rattle.input_files.specs.Laws.{FilesDecide, IsReadDecided}
@@ -12,6 +15,7 @@ use Rattle.input_files.specs.declared.inputs.Inputs.{Inputs}
 use Rattle.frame_play.specs.declared.work.Work.{Work}
 use Rattle.frame_play.specs.declared.work.Task.{Task}
 use Rattle.frame_play.specs.declared.work.Task.TheVariants.{Changes, Check, Frame, Write}
+use Rattle.run_status.specs.Statuses.{status_line}
 use Rattle.run_status.specs.declared.status.Status.{Status}
 use Rattle.run_status.specs.declared.status.Status.TheVariants as status
 use Rattle.run_status.specs.declared.status.What.TheVariants.{Fonts}
@@ -19,7 +23,7 @@ use Rattle.run_status.specs.declared.status.Which.{Which}
 use Rattle.run_status.specs.declared.status.Which.TheVariants.{Frames, Report}
 use Rattle.track_write.specs.declared.refusal.WriteRefusal.{WriteRefusal}
 use Rattle.track_write.specs.declared.refusal.WriteRefusal.TheVariants.{OutOfMemory, Unwritable}
-use Rattle.frame_play.specs.Outcomes.{IsEnded, IsOrFault, IsOrMemory, SuitsSink, IsStatusReadCounted, IsReported, IsShown, IsFramesPutCount, IsWriteCounted, out_of_memory, status_if_put, text_to_report}
+use Rattle.frame_play.specs.Outcomes.{IsEnded, IsOrFault, IsOrMemory, SuitsSink, IsStatusReadCounted, IsMemoryReported, IsReported, IsShown, IsFramesPutCount, IsWriteCounted, out_of_memory, status_if_put, text_to_report}
 use Rattle.frame_play.specs.Outputs.{IsFramesAsked, IsReportAsked, rewritten, sink_of, status_asked, task_status, written_status}
 use Rattle.frame_play.specs.Runs.{Decides, IsJobRun, IsWorked, SinkChange, sink_change}
 use Rattle.frame_play.specs.declared.outcome.Outcome.{Outcome}
@@ -31,7 +35,7 @@ pub keeps : (held : Option (List ℕ)) → Keeps held held
 keeps None = tt
 keeps (Some bytes) = refl
 
-appends_none : (held : Option (List ℕ)) → Appends held held []
+pub appends_none : (held : Option (List ℕ)) → Appends held held []
 appends_none None = tt
 appends_none (Some bytes) = sym (append-nil bytes)
 
@@ -54,7 +58,6 @@ shown_none (status.WriteFault Frames) held may m = ([], m, front_by_all held hel
 shown_none (status.WriteFault Report) held may m = keeps held
 shown_none (status.TooLarge what limit) held may m = keeps held
 shown_none status.OutOfMemory held may m = inl (keeps held)
-shown_none status.NotBuilt held may m = keeps held
 shown_none (status.BadWords why) held may m = keeps held
 shown_none (status.Unwritable order field) held may m = keeps held
 
@@ -69,7 +72,6 @@ shown_front (status.WriteFault Frames) old new may h = inr h
 shown_front (status.WriteFault Report) old new may h = inl h
 shown_front (status.TooLarge what limit) old new may h = inl h
 shown_front status.OutOfMemory old new may h = h
-shown_front status.NotBuilt old new may h = inl h
 shown_front (status.BadWords why) old new may h = inl h
 shown_front (status.Unwritable order field) old new may h = inl h
 
@@ -85,7 +87,6 @@ shown_more (status.WriteFault Report) old new may more each h = h
 shown_more (status.TooLarge what limit) old new may more each h = h
 shown_more status.OutOfMemory old new may more each (inl h) = inl h
 shown_more status.OutOfMemory old new may more each (inr h) = inr (h.0, each h.0 h.1, h.2)
-shown_more status.NotBuilt old new may more each h = h
 shown_more (status.BadWords why) old new may more each h = h
 shown_more (status.Unwritable order field) old new may more each h = h
 
@@ -109,11 +110,42 @@ told_part old new before now text h rose rises = (text, refl, h, rose, rises)
 pub told_nothing : (held : Option (List ℕ)) (faults : ℕ) → IsReported status.Done held held faults faults (λ t. t ≡ [])
 told_nothing held faults = ([], refl, appends_none held, refl)
 
--- Of words that ask for no work the report gets nothing but a line.
-pub other_reported : (outcome : Outcome) (status answer : Status) (old new : Option (List ℕ)) (before now : ℕ) → (outcome ≡ Ended status) ⊎ (outcome ≡ out_of_memory) →
+-- What is put where memory is wanting.
+pub memory_told : (answer : Put) (old new : Option (List ℕ)) (before now : ℕ) → IsPut answer old new (status_line status.OutOfMemory) → IsPutCounted answer before now → IsMemoryReported old new before now
+memory_told put.Done old new before now h same = inl (h, same)
+memory_told put.Failed old new before now h rose = inr (inl (h, rose.0, rose.1))
+memory_told put.OutOfMemory old new before now h same = inr (inr (h, same))
+
+kept_appends : (old mid new : Option (List ℕ)) (piece : List ℕ) → Keeps old mid → Appends mid new piece → Appends old new piece
+kept_appends None mid new piece k a = tt
+kept_appends (Some xs) None new piece k a = absurd k
+kept_appends (Some xs) (Some ys) None piece k a = absurd a
+kept_appends (Some xs) (Some ys) (Some zs) piece k a = a ∙ ap (λ l. l ++ piece) k
+
+-- It's so too behind a put that wanted memory.
+pub memory_behind : (old mid new : Option (List ℕ)) (before between now : ℕ) → Keeps old mid → between ≡ before → IsMemoryReported mid new between now → IsMemoryReported old new before now
+memory_behind old mid new before between now k same (inl (h, e)) = inl (kept_appends old mid new (status_line status.OutOfMemory) k h, e ∙ same)
+memory_behind old mid new before between now k same (inr (inl ((front, rest, split, h), rose, le))) =
+    inr (inl ((front, rest, split, kept_appends old mid new front k h), subst (λ n. Rose n now) same rose, omega (arith, same, le)))
+memory_behind old mid new before between now k same (inr (inr (h, e))) = inr (inr (Keeps-trans old mid new k h, e ∙ same))
+
+-- Words that ask for no work have nothing to report.
+nothing_to_report : (asked : Result (Option Work) Status) (outcome : Outcome) → ((why : Status) → asked ≡ Err why → (outcome ≡ Ended why) ⊎ (outcome ≡ out_of_memory)) →
+    (asked ≡ Ok None → outcome ≡ out_of_memory) → ((work : Work) → asked ≡ Ok (Some work) → ⊥) → text_to_report outcome ≡ []
+nothing_to_report (Err why) outcome other left none = elim (other why refl) [
+  | inl is ↦ ap text_to_report is
+  | inr is ↦ ap text_to_report is
+]
+nothing_to_report (Ok None) outcome other left none = ap text_to_report (left refl)
+nothing_to_report (Ok (Some work)) outcome other left none = absurd (none work refl)
+
+-- Of such words the report gets nothing but a line.
+pub other_reported : (asked : Result (Option Work) Status) (outcome : Outcome) (answer : Status) (old new : Option (List ℕ)) (before now : ℕ) →
+    ((why : Status) → asked ≡ Err why → (outcome ≡ Ended why) ⊎ (outcome ≡ out_of_memory)) → (asked ≡ Ok None → outcome ≡ out_of_memory) →
+    ((work : Work) → asked ≡ Ok (Some work) → ⊥) →
     IsReported answer old new before now (λ text. text ≡ text_to_report outcome) → IsReported answer old new before now (λ text. text ≡ [])
-other_reported outcome status answer old new before now (inl is) h = subst (λ (o : Outcome). IsReported answer old new before now (λ text. text ≡ text_to_report o)) is h
-other_reported outcome status answer old new before now (inr is) h = subst (λ (o : Outcome). IsReported answer old new before now (λ text. text ≡ text_to_report o)) is h
+other_reported asked outcome answer old new before now other left none h =
+    subst (λ (t : List ℕ). IsReported answer old new before now (λ text. text ≡ t)) (nothing_to_report asked outcome other left none) h
 
 -- Where memory is wanting, nothing may be shown.
 pub shown_nothing : (held : Option (List ℕ)) (may : List ℕ → Type 0) → IsShown status.OutOfMemory held held may
@@ -122,10 +154,9 @@ shown_nothing held may = inl (keeps held)
 -- ---- refusals by the files
 
 -- The status says why a file isn't read.
-abbrev IsRefusal : Status → Type 0
+abbrev pub IsRefusal : Status → Type 0
 IsRefusal status.Done = ⊥
 IsRefusal (status.WriteFault which) = ⊥
-IsRefusal status.NotBuilt = ⊥
 IsRefusal (status.BadWords why) = ⊥
 IsRefusal (status.Unwritable order field) = ⊥
 IsRefusal _ = Unit {0}
@@ -139,11 +170,10 @@ answered_kind asks told name (status.BadFont index line cause) h = tt
 answered_kind asks told name (status.WriteFault which) h = h
 answered_kind asks told name (status.TooLarge what limit) h = tt
 answered_kind asks told name status.OutOfMemory h = tt
-answered_kind asks told name status.NotBuilt h = h
 answered_kind asks told name (status.BadWords why) h = h
 answered_kind asks told name (status.Unwritable order field) h = h
 
-read_kind : (told : List ℕ → Told) (script : List ℕ) (fonts : List (List ℕ)) (answer : Status) → AreRead told script fonts (Err answer) → IsRefusal answer
+pub read_kind : (told : List ℕ → Told) (script : List ℕ) (fonts : List (List ℕ)) (answer : Status) → AreRead told script fonts (Err answer) → IsRefusal answer
 read_kind told script fonts answer (inl (few, inl h)) = answered_kind (AsksScript script) (told script) script answer h
 read_kind told script fonts answer (inl (few, inr (read, first, (before, within, are, h)))) =
     let name = slice_index_or fonts (length before) [] in
@@ -165,7 +195,6 @@ own_refusal Frames (status.BadFont index line cause) h = tt
 own_refusal Frames (status.TooLarge what limit) h = tt
 own_refusal Frames status.OutOfMemory h = tt
 own_refusal sink (status.WriteFault which) h = absurd h
-own_refusal sink status.NotBuilt h = absurd h
 own_refusal sink (status.BadWords why) h = absurd h
 own_refusal sink (status.Unwritable order field) h = absurd h
 
@@ -214,11 +243,10 @@ ended (status.BadFont index line cause) answer h = h
 ended (status.WriteFault which) answer h = h
 ended (status.TooLarge what limit) answer h = h
 ended status.OutOfMemory answer h = h
-ended status.NotBuilt answer h = h
 ended (status.BadWords why) answer h = h
 ended (status.Unwritable order field) answer h = h
 
-answered_after : (sink : Which) (wanted : Status) (outcome : Outcome) (answer : Status) → SuitsSink sink outcome →
+pub answered_after : (sink : Which) (wanted : Status) (outcome : Outcome) (answer : Status) → SuitsSink sink outcome →
     IsOrFault sink wanted (status_if_put outcome) → IsEnded outcome answer → IsOrFault sink wanted answer
 answered_after sink wanted (Ended before) answer own asked h = elim (ended before answer h) [
   | inl same ↦ subst (IsOrFault sink wanted) (sym same) asked
@@ -253,7 +281,7 @@ shown_after Report may (Found text) answer old new none own (inr fault) h =
     subst (λ s. IsShown s old new may) (sym fault) kept
 
 -- What was reported counts where all is done or the report failed; it may be reported then.
-reported_as : (answer : Status) (old new : Option (List ℕ)) (before now : ℕ) (text : List ℕ) (may : List ℕ → Type 0) →
+pub reported_as : (answer : Status) (old new : Option (List ℕ)) (before now : ℕ) (text : List ℕ) (may : List ℕ → Type 0) →
     (answer ≡ status.Done → may text) → (answer ≡ status.WriteFault Report → may text) →
     IsReported answer old new before now (λ t. t ≡ text) → IsReported answer old new before now may
 reported_as status.Done old new before now text may d f h = (text, d refl, subst (λ t. Appends old new t) h.1 h.2, h.3)
@@ -265,18 +293,17 @@ reported_as (status.WriteFault Frames) old new before now text may d f h = h
 reported_as (status.WriteFault Report) old new before now text may d f h = (text, f refl, subst (λ t. AppendsFront old new t) h.1 h.2, h.3, h.4)
 reported_as (status.TooLarge what limit) old new before now text may d f h = h
 reported_as status.OutOfMemory old new before now text may d f h = h
-reported_as status.NotBuilt old new before now text may d f h = h
 reported_as (status.BadWords why) old new before now text may d f h = h
 reported_as (status.Unwritable order field) old new before now text may d f h = h
 
-done_before : (outcome : Outcome) (answer : Status) → IsEnded outcome answer → answer ≡ status.Done → status_if_put outcome ≡ status.Done
+pub done_before : (outcome : Outcome) (answer : Status) → IsEnded outcome answer → answer ≡ status.Done → status_if_put outcome ≡ status.Done
 done_before (Ended before) answer e done = elim (ended before answer e) [
   | inl same ↦ sym same ∙ done
   | inr memory ↦ absurd cc
 ]
 done_before (Found text) answer e done = refl
 
-found_before : (sink : Which) (outcome : Outcome) (answer : Status) → SuitsSink sink outcome → IsEnded outcome answer → answer ≡ status.WriteFault Report → status_if_put outcome ≡ status.Done
+pub found_before : (sink : Which) (outcome : Outcome) (answer : Status) → SuitsSink sink outcome → IsEnded outcome answer → answer ≡ status.WriteFault Report → status_if_put outcome ≡ status.Done
 found_before sink (Ended before) answer own e fault = elim (ended before answer e) [
   | inl same ↦ let equal : before ≡ status.WriteFault Report = cc in absurd (subst (λ s. SuitsSink sink (Ended s)) equal own)
   | inr memory ↦ absurd cc
@@ -309,7 +336,6 @@ read_rises (status.BadFont index line cause) before now h = omega (arith, h)
 read_rises (status.WriteFault which) before now h = omega (arith, h)
 read_rises (status.TooLarge what limit) before now h = omega (arith, h)
 read_rises status.OutOfMemory before now h = h
-read_rises status.NotBuilt before now h = omega (arith, h)
 read_rises (status.BadWords why) before now h = omega (arith, h)
 read_rises (status.Unwritable order field) before now h = omega (arith, h)
 
@@ -349,7 +375,6 @@ written_rises (status.WriteFault Frames) before now h = h.1
 written_rises (status.WriteFault Report) before now h = omega (arith, h)
 written_rises (status.TooLarge what limit) before now h = omega (arith, h)
 written_rises status.OutOfMemory before now h = h
-written_rises status.NotBuilt before now h = omega (arith, h)
 written_rises (status.BadWords why) before now h = omega (arith, h)
 written_rises (status.Unwritable order field) before now h = omega (arith, h)
 
@@ -374,7 +399,6 @@ once_of sink (status.WriteFault which) n h = absurd h
 once_of sink (status.TooLarge what limit) n h = refl
 once_of Report status.OutOfMemory n h = refl
 once_of Frames status.OutOfMemory n h = (omega arith, omega arith)
-once_of sink status.NotBuilt n h = absurd h
 once_of sink (status.BadWords why) n h = absurd h
 once_of sink (status.Unwritable order field) n h = absurd h
 
@@ -387,7 +411,6 @@ written_of (status.BadFont index line cause) n h = refl
 written_of (status.WriteFault which) n h = absurd h
 written_of (status.TooLarge what limit) n h = refl
 written_of status.OutOfMemory n h = omega arith
-written_of status.NotBuilt n h = absurd h
 written_of (status.BadWords why) n h = absurd h
 written_of (status.Unwritable order field) n h = absurd h
 
@@ -399,10 +422,10 @@ refused_written told work answer n read = written_of answer n (read_kind told wo
 
 -- ---- what the files decide
 
-abbrev IsFault : Result Inputs Status → Type 0
+abbrev pub IsFault : Result Inputs Status → Type 0
 IsFault reading = ((name : List ℕ) × (reading ≡ Err (status.ReadFault name))) ⊎ (reading ≡ Err status.OutOfMemory)
 
-fault_or_decided : (reading : Result Inputs Status) → IsReadDecided reading ⊎ IsFault reading
+pub fault_or_decided : (reading : Result Inputs Status) → IsReadDecided reading ⊎ IsFault reading
 fault_or_decided (Ok inputs) = inl tt
 fault_or_decided (Err status.Done) = inl tt
 fault_or_decided (Err (status.NoSuchFile name)) = inl tt
@@ -412,7 +435,6 @@ fault_or_decided (Err (status.BadFont index line cause)) = inl tt
 fault_or_decided (Err (status.WriteFault which)) = inl tt
 fault_or_decided (Err (status.TooLarge what limit)) = inl tt
 fault_or_decided (Err status.OutOfMemory) = inr (inr refl)
-fault_or_decided (Err status.NotBuilt) = inl tt
 fault_or_decided (Err (status.BadWords why)) = inl tt
 fault_or_decided (Err (status.Unwritable order field)) = inl tt
 

@@ -61,11 +61,17 @@ abbrev pub IsLineReported : Status → Option (List ℕ) → Option (List ℕ) �
 IsLineReported status old new before now =
     (Appends old new (status_line status) × (now ≡ before)) ⊎ (AppendsFront old new (status_line status) × Rose before now)
 
--- What the report got: of a job that was done whole a text that it may get, of a fault of the report a front of that, and of any other status its line. At want of memory a front of its line may be all.
+-- Where memory was wanting, the report got the line of that, or a front of it where its count rose, or nothing where that put wanted memory too.
+abbrev pub IsMemoryReported : Option (List ℕ) → Option (List ℕ) → ℕ → ℕ → Type 0
+IsMemoryReported old new before now =
+    (Appends old new (status_line OutOfMemory) × (now ≡ before)) ⊎ (AppendsFront old new (status_line OutOfMemory) × Rose before now × (before ≤ now))
+    ⊎ (Keeps old new × (now ≡ before))
+
+-- What the report got: of a job that was done whole a text that it may get, of a fault of the report a front of that, and of any other status its line.
 abbrev pub IsReported : Status → Option (List ℕ) → Option (List ℕ) → ℕ → ℕ → (List ℕ → Type 0) → Type 0
 IsReported Done old new before now may = (text : List ℕ) × may text × Appends old new text × (now ≡ before)
 IsReported (WriteFault Report) old new before now may = (text : List ℕ) × may text × AppendsFront old new text × Rose before now × (before ≤ now)
-IsReported OutOfMemory old new before now may = AppendsFront old new (status_line OutOfMemory) × (before ≤ now)
+IsReported OutOfMemory old new before now may = IsMemoryReported old new before now
 IsReported status old new before now may = IsLineReported status old new before now
 
 -- How often the report was asked by a task that was done whole: once where the task is for it, and else not at all.

@@ -1,4 +1,4 @@
--- Public: what is built of the jobs that words ask for.
+-- Public: the work that words ask for, as far as it waits for nobody.
 use Rattle.std.specs.Prelude.{◌≡◌, ◌⊎◌, Bool, true, ◌&&◌, if◌then◌else◌, ℕ, ◌<◌, ◌≤◌, nat_le, nat_lt, ℤ, pos, negsuc, List, [], ◌∷◌, length, Option, Some, None, Result, Ok, Err, option_map}
 use Rattle.std.specs.Int.RustNames.{unsigned_abs}
 use Rattle.ass_events.specs.Events.{is_time}
@@ -12,8 +12,9 @@ use Rattle.play_words.specs.Words.{job_of}
 use Rattle.play_words.specs.declared.job.Job.{Job}
 use Rattle.play_words.specs.declared.job.Job.TheVariants as job
 use Rattle.play_words.specs.declared.job.WordsFault.{WordsFault}
+use Rattle.play_words.specs.declared.job.WordsFault.TheVariants.{Usage}
 use Rattle.run_status.specs.declared.status.Status.{Status}
-use Rattle.run_status.specs.declared.status.Status.TheVariants.{BadWords, NotBuilt, OutOfMemory, TooLarge}
+use Rattle.run_status.specs.declared.status.Status.TheVariants.{BadWords, OutOfMemory, TooLarge}
 use Rattle.run_status.specs.declared.status.What.TheVariants.{Frames}
 use Rattle.script_events.specs.Laws.{HasShortLines}
 use Rattle.text_layout.specs.Fonts.{IsLayoutFontSet}
@@ -42,7 +43,7 @@ changes_task from to step size budget (font ∷ fonts) = Some (Changes (record {
 abbrev pub work_with : List ℕ → List (List ℕ) → Task → Work
 work_with script fonts task = record { task = task; script = script; fonts = fonts }
 
--- the work of a job, where it is built
+-- the work of a job that waits for nobody, where words can ask for it
 abbrev pub work_of : Job → Option Work
 work_of (job.Check script fonts) = Some (work_with script fonts Check)
 work_of (job.Frame at size budget script fonts) = option_map (work_with script fonts) (frame_task at size budget fonts)
@@ -63,23 +64,26 @@ compared _ = 0
 abbrev pub is_too_long : Work → Bool
 is_too_long work = nat_le (length work.fonts) max_fonts && nat_lt max_frames (compared work.task)
 
-abbrev pub limited : Work → Result Work Status
-limited work = if is_too_long work then Err (TooLarge Frames max_frames) else Ok work
+abbrev pub limited : Work → Result (Option Work) Status
+limited work = if is_too_long work then Err (TooLarge Frames max_frames) else Ok (Some work)
 
-abbrev pub unless_unbuilt : Option Work → Result Work Status
-unless_unbuilt None = Err NotBuilt
-unless_unbuilt (Some work) = limited work
+abbrev pub limited_in : Option Work → Result (Option Work) Status
+limited_in None = Err (BadWords Usage)
+limited_in (Some work) = limited work
 
-abbrev pub work_in : Result Job WordsFault → Result Work Status
+-- in a play and in a selftest threads wait for one another
+abbrev pub work_in : Result Job WordsFault → Result (Option Work) Status
 work_in (Err fault) = Err (BadWords fault)
-work_in (Ok job) = unless_unbuilt (work_of job)
+work_in (Ok (job.Play play script fonts)) = Ok None
+work_in (Ok (job.Selftest seed events workers)) = Ok None
+work_in (Ok job) = limited_in (work_of job)
 
--- the work that the words of a run ask for, or the status that they ask for
-abbrev pub work_asked : List (List ℕ) → Result Work Status
+-- the work that the words of a run ask for, none where that is a play or a selftest, or the status that they ask for
+abbrev pub work_asked : List (List ℕ) → Result (Option Work) Status
 work_asked words = work_in (job_of words)
 
 -- The answer is what is asked for, or memory was wanting.
-abbrev pub IsWorkRead : Result Work Status → Result Work Status → Type 0
+abbrev pub IsWorkRead : Result (Option Work) Status → Result (Option Work) Status → Type 0
 IsWorkRead asked answer = (answer ≡ asked) ⊎ (answer ≡ Err OutOfMemory)
 
 -- The numbers of a picture are within their limits.

@@ -1,4 +1,4 @@
-//! From the words to what both sinks get: the calls that the program makes.
+//! From the words to what both sinks get, of the jobs that wait for nobody.
 #![tactic(auto)]
 
 mod changes;
@@ -11,6 +11,7 @@ mod shown;
 mod task;
 mod work;
 
-pub use play::{calm, top};
-pub use report::give_up;
+pub use outcome::Outcome;
+pub use play::calm;
+pub use report::{finish, give_up};
 pub use run_status::{BadScript, Status, What, Which};

@@ -1,10 +1,8 @@
 //! What the report gets.
 
-ghost use Rattle.std.specs.Prelude.{◌≡◌, ◌≤◌};
+ghost use Rattle.std.specs.Prelude.{◌≡◌};
 ghost use Rattle.ass_io.specs.Counts.{IsOneMore};
-ghost use Rattle.ass_io.specs.Written.{AppendsFront};
-ghost use Rattle.frame_play.specs.Outcomes.{IsEnded, IsReportable, IsReported, IsFinishPutCount, text_to_report};
-ghost use Rattle.run_status.specs.Statuses.{status_line};
+ghost use Rattle.frame_play.specs.Outcomes.{IsEnded, IsFinishPutCount, IsMemoryReported, IsReportable, IsReported, text_to_report};
 
 use crate::outcome::Outcome;
 use ass_io::{Put, Sink};
@@ -15,7 +13,7 @@ use std::alloc::Global;
 /// Puts what is to be reported of an outcome, and answers how the run ended: the report of a check, or the line of a status
 /// that isn't `Done`. Where memory is wanting for the line or for its put, want of memory is answered in its place, and its
 /// line is put.
-#[tactic(auto, using(crate::proofs::RunLemmas::told_whole, crate::proofs::RunLemmas::told_part, crate::proofs::RunLemmas::told_nothing))]
+#[tactic(auto, using(crate::proofs::RunLemmas::told_whole, crate::proofs::RunLemmas::told_part, crate::proofs::RunLemmas::told_nothing, crate::proofs::RunLemmas::memory_behind))]
 pub fn finish<R: Sink>(alloc: Global, outcome: Outcome, report: &mut R) -> Status
     requires { IsReportable outcome }
     ensures answer { IsEnded outcome result }
@@ -41,11 +39,11 @@ pub fn finish<R: Sink>(alloc: Global, outcome: Outcome, report: &mut R) -> Statu
     }
 }
 
-/// Puts the line of a want of memory, or a front of it. It takes no memory.
+/// Puts the line of a want of memory. It takes no memory.
+#[tactic(auto, using(crate::proofs::RunLemmas::memory_told))]
 pub fn give_up<R: Sink>(report: &mut R) -> Status
     ensures answer { result ≡ Status.OutOfMemory }
-    ensures report { AppendsFront (R.held report.old) (R.held report.new) (status_line Status.OutOfMemory) }
-    ensures counted { R.faults report.old ≤ R.faults report.new }
+    ensures report { IsMemoryReported (R.held report.old) (R.held report.new) (R.faults report.old) (R.faults report.new) }
     ensures once { IsOneMore (R.puts report.old) (R.puts report.new) }
 {
     match report.put(b"out of memory\n") {

@@ -1,13 +1,14 @@
-//! What is built of the jobs.
+//! The work that words ask for.
 
-ghost use Rattle.std.specs.Prelude.{◌≡◌, IfOk};
-ghost use Rattle.frame_play.specs.Works.{IsWork, IsWorkRead, changes_task, compared, frame_task, limited, work_asked, work_of};
+ghost use Rattle.std.specs.Prelude.{◌≡◌, IfOk, IfSome, Ok};
+ghost use Rattle.frame_play.specs.Works.{IsWork, IsWorkRead, changes_task, compared, frame_task, limited, work_asked, work_in, work_of};
+ghost use Rattle.play_words.specs.Jobs.{IsJob};
 ghost use Rattle.play_words.specs.Words.{texts};
 
 use ass_num::{Items, Size, Text};
 use change_report::Instants;
 use input_files::MAX_FONTS;
-use play_words::{Job, WordsRefusal, read_words};
+use play_words::{Job, WordsFault, WordsRefusal, read_words};
 use run_status::{Status, What};
 use std::alloc::Global;
 
@@ -93,7 +94,7 @@ fn changes_task(
     }
 }
 
-/// The work of a job, where it is built.
+/// The work of a job that waits for nobody, where words can ask for it.
 pub fn work_of(alloc: Global, job: Job) -> Option<Work>
     ensures { result ≡ work_of job }
 {
@@ -140,28 +141,41 @@ fn compared(work: &Work) -> u64
 }
 
 /// The work, unless it compares too many pictures. Too many fonts are told first, when they are read.
-fn limited(work: Work) -> Result<Work, Status>
+fn limited(work: Work) -> Result<Option<Work>, Status>
     requires { IsWork work }
     ensures limited { result ≡ limited work }
-    ensures work { IfOk result IsWork }
+    ensures work { IfOk result (λ work. IfSome work IsWork) }
 {
     if work.fonts.len() <= MAX_FONTS && compared(&work) > MAX_FRAMES as u64 {
         return Err(Status::TooLarge(What::Frames, MAX_FRAMES));
     }
-    Ok(work)
+    Ok(Some(work))
 }
 
-/// The work that the words ask for, or the status that they ask for.
+/// The work of a job, none where threads wait for one another in it, or the status that it asks for.
 #[tactic(auto, using(crate::proofs::WorkLemmas::work_suits))]
-pub fn read_work(alloc: Global, words: &[String]) -> Result<Work, Status>
+fn work_in(alloc: Global, job: Job) -> Result<Option<Work>, Status>
+    requires { IsJob job }
+    ensures asked { result ≡ work_in (Ok job) }
+    ensures work { IfOk result (λ work. IfSome work IsWork) }
+{
+    if let Job::Play(_, _, _) | Job::Selftest(_, _, _) = &job {
+        return Ok(None);
+    }
+    match work_of(alloc, job) {
+        Some(work) => limited(work),
+        // Words name a font, so this doesn't come.
+        None => Err(Status::BadWords(WordsFault::Usage)),
+    }
+}
+
+/// The work that the words ask for, none where threads wait for one another in it, or the status that they ask for.
+pub fn read_work(alloc: Global, words: &[String]) -> Result<Option<Work>, Status>
     ensures asked { IsWorkRead (work_asked (texts words.now)) result }
-    ensures work { IfOk result IsWork }
+    ensures work { IfOk result (λ work. IfSome work IsWork) }
 {
     match read_words(alloc, words) {
-        Ok(job) => match work_of(alloc, job) {
-            Some(work) => limited(work),
-            None => Err(Status::NotBuilt),
-        },
+        Ok(job) => work_in(alloc, job),
         Err(WordsRefusal::BadWords(fault)) => Err(Status::BadWords(fault)),
         Err(WordsRefusal::OutOfMemory) => Err(Status::OutOfMemory),
     }

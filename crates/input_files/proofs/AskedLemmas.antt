@@ -57,6 +57,5 @@ refused asks name told (status.BadFont index line cause) h = kept asks name told
 refused asks name told (status.WriteFault which) h = h
 refused asks name told (status.TooLarge what limit) h = kept asks name told _ h
 refused asks name told status.OutOfMemory h = h
-refused asks name told status.NotBuilt h = h
 refused asks name told (status.BadWords why) h = h
 refused asks name told (status.Unwritable order field) h = h

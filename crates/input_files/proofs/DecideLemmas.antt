@@ -30,7 +30,6 @@ asked asks held name (Err (status.BadFont index line cause)) decided h = asked_b
 asked asks held name (Err (status.WriteFault which)) decided h = absurd h
 asked asks held name (Err (status.TooLarge what limit)) decided h = asked_by asks held _ h
 asked asks held name (Err status.OutOfMemory) decided h = absurd decided
-asked asks held name (Err status.NotBuilt) decided h = absurd h
 asked asks held name (Err (status.BadWords why)) decided h = absurd h
 asked asks held name (Err (status.Unwritable order field)) decided h = absurd h
 

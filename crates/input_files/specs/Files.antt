@@ -9,7 +9,7 @@ use Rattle.bdf_font.specs.Grammar.{IsFontAnswer}
 use Rattle.bdf_font.specs.Lines.{text_lines}
 use Rattle.bdf_font.specs.declared.cause.FontRefusal.{FontRefusal}
 use Rattle.run_status.specs.declared.status.Status.{Status}
-use Rattle.run_status.specs.declared.status.Status.TheVariants.{BadWords, Done, NoSuchFile, NotBuilt, OutOfMemory, ReadFault, TooLarge, Unwritable, WriteFault}
+use Rattle.run_status.specs.declared.status.Status.TheVariants.{BadWords, Done, NoSuchFile, OutOfMemory, ReadFault, TooLarge, Unwritable, WriteFault}
 use Rattle.run_status.specs.declared.status.What.TheVariants.{Bytes}
 use Rattle.input_files.specs.Causes.{script_status, font_status, with_status}
 
@@ -40,13 +40,12 @@ AsksFont index = AsksOf (FontAsked index)
 abbrev pub IsAskedFor : {Value : Type 0} → Asks Value → Told → Result Value Status → Type 0
 IsAskedFor asks told answer = (held : Held) × IfTold told (λ known. known ≡ held) × asks held answer
 
--- What reading a file answers: a fault of this name, want of memory, or what the name holds asks for. Nothing is done or written, nothing is unbuilt, and neither words nor events are looked at.
+-- What reading a file answers: a fault of this name, want of memory, or what the name holds asks for. Nothing is done or written, and neither words nor events are looked at.
 abbrev pub IsAnswered : {Value : Type 0} → Asks Value → Told → List ℕ → Result Value Status → Type 0
 IsAnswered asks told name (Err (ReadFault other)) = other ≡ name
 IsAnswered asks told name (Err OutOfMemory) = Unit {0}
 IsAnswered asks told name (Err Done) = ⊥
 IsAnswered asks told name (Err (WriteFault _)) = ⊥
-IsAnswered asks told name (Err NotBuilt) = ⊥
 IsAnswered asks told name (Err (BadWords _)) = ⊥
 IsAnswered asks told name (Err (Unwritable _ _)) = ⊥
 IsAnswered asks told name answer = IsAskedFor asks told answer

@@ -1,8 +1,13 @@
 //! The program: it makes the real shelf, sinks and gate, and calls `top` with the words.
 #![tactic(auto)]
 
+mod progress;
+
+use crate::progress::CountedSink;
 use ass_io::{FileShelf, OpenGate, StdSink};
-use frame_play::{give_up, top};
+use frame_play::give_up;
+use play_command::top;
+use std::io::IsTerminal;
 use std::process::ExitCode;
 use std::{env, io};
 
@@ -26,7 +31,9 @@ fn main(rt: HostRuntime) -> ExitCode {
         Err(_) => Vec::new(rt.alloc()),
     };
     let mut shelf = FileShelf::new(rt);
-    let mut frames = StdSink::new(rt.stdout());
+    let stderr = rt.stderr();
+    let is_watched = stderr.is_terminal();
+    let mut frames = CountedSink::new(StdSink::new(rt.stdout()), stderr, is_watched);
     let status = top(
         &rt,
         rt.alloc(),

@@ -1,7 +1,10 @@
 -- Public: the images of a play.
-use Rattle.std.specs.Prelude.{◌≡◌, ℕ, ◌+◌, ◌*◌, ◌/◌, ◌≤◌, ℤ, List, length, take}
+use Rattle.std.specs.Prelude.{◌≡◌, ℕ, ◌+◌, ◌*◌, ◌/◌, ◌≤◌, ℤ, List, length, map, sum_by, take}
 use Rattle.ass_events.specs.Histories.{Entry, live}
 use Rattle.blend.specs.Canvases.{CanvasValue}
+use Rattle.mask_keys.specs.declared.plans.Clip.{Clip}
+use Rattle.mask_keys.specs.declared.plans.Clip.TheVariants.{Free, Rect, Drawn}
+use Rattle.mask_keys.specs.declared.plans.Draw.{Draw}
 use Rattle.picture_plan.specs.Pictures.{IsPictureAt}
 use Rattle.play_shares.specs.Instants.{play_instant}
 use Rattle.play_words.specs.declared.job.Mode.{Mode}
@@ -32,6 +35,39 @@ pub record IsImageAt (play : PlayView) (history : List Entry) (q i : ℕ) (bytes
   pub within : n ≤ length history
   pub count : IsCountAt play q i play.job.mode n
   pub image : IsImageOf play (take n history) (play_instant play.job i) bytes
+
+-- ---- composed masks
+
+-- a drawn clip has one
+abbrev pub clip_masks : Clip → ℕ
+clip_masks Free = 0
+clip_masks (Rect x1 y1 x2 y2 inverse) = 0
+clip_masks (Drawn key x y inverse) = 1
+
+-- How many composed masks draws need: one for each, and one more for each drawn clip.
+abbrev pub masks_needed : List Draw → ℕ
+masks_needed draws = sum_by (λ draw. 1 + clip_masks draw.clip) draws
+
+-- those that the picture of an image needs
+abbrev pub needed_by : {play : PlayView} {history : List Entry} {t : ℤ} {bytes : List ℕ} → IsImageOf play history t bytes → ℕ
+needed_by image = masks_needed image.is_picture.draws
+
+-- an image that was shown: its bytes, and how many composed masks its picture needs
+pub record ShownImage : Type 0 where
+  pub bytes : List ℕ
+  pub masks : ℕ
+
+-- It is the image at place i of time q.
+pub record IsShownImage (play : PlayView) (history : List Entry) (q i : ℕ) (image : ShownImage) : Type 0 where
+  pub is : IsImageAt play history q i image.bytes
+  pub masks_are : image.masks ≡ needed_by is.image
+
+abbrev pub shown_pieces : List ShownImage → List (List ℕ)
+shown_pieces images = map (λ image. image.bytes) images
+
+-- the composed masks of all of them
+abbrev pub all_masks : List ShownImage → ℕ
+all_masks images = sum_by (λ image. image.masks) images
 
 -- ---- settled
 

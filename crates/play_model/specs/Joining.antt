@@ -1,4 +1,4 @@
--- Inner: the first pass of a cell and those that are split off it and joined again.
+-- Public: the first pass of a cell and those that are split off it and joined again.
 use Rattle.std.specs.Prelude.{◌≡◌, ℕ, ◌+◌, ◌<◌, List, Contains}
 use Rattle.turn_cell.specs.History.{IsPrefix}
 use Rattle.turn_cell.specs.Passes.{Extends, PassView, mine, new_pass}

@@ -4,7 +4,7 @@ use Rattle.std.specs.List.{flat_map}
 use Rattle.ass_events.specs.Histories.{Entry}
 use Rattle.play_shares.specs.Instants.{frame_count, instant_count}
 use Rattle.play_words.specs.declared.job.Mode.TheVariants.{Settled}
-use Rattle.play_model.specs.Images.{IsImageAt, IsSettledImage}
+use Rattle.play_model.specs.Images.{IsImageAt, IsSettledImage, IsShownImage, ShownImage}
 use Rattle.play_model.specs.Plays.{IsFedTo, IsPlayable, IsTimeOf, PlayView, history_of_times}
 
 -- ---- what was written so far
@@ -14,6 +14,12 @@ abbrev pub AreImages : PlayView → List Entry → List (List ℕ) → Type 0
 AreImages play history images =
     (q i : ℕ) (d : List ℕ) → i < instant_count play.job → q * instant_count play.job + i < length images
     → IsImageAt play history q i (slice_index_or images (q * instant_count play.job + i) d)
+
+-- So are these, each with the number of its composed masks.
+abbrev pub AreShownImages : PlayView → List Entry → List ShownImage → Type 0
+AreShownImages play history images =
+    (q i : ℕ) (d : ShownImage) → i < instant_count play.job → q * instant_count play.job + i < length images
+    → IsShownImage play history q i (slice_index_or images (q * instant_count play.job + i) d)
 
 -- Times that were played whole, fewer than all, and a part of the next: of each feeder's events those of its first batches, which may be none or all.
 pub record IsPlayedSoFar (play : PlayView) (history : List Entry) : Type 0 where

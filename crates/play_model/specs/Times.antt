@@ -4,8 +4,8 @@ use Rattle.std.specs.List.{flat_map}
 use Rattle.ass_events.specs.Histories.{Entry, Flush, flushes_of, live}
 use Rattle.play_shares.specs.Instants.{instant_count}
 use Rattle.play_words.specs.declared.job.Mode.TheVariants.{Live}
-use Rattle.play_model.specs.Images.{IsCountAt, IsImageAt, entries_before}
-use Rattle.play_model.specs.Outputs.{AreImages, IsFrontOfPlay}
+use Rattle.play_model.specs.Images.{IsCountAt, IsImageAt, IsShownImage, ShownImage, entries_before, shown_pieces}
+use Rattle.play_model.specs.Outputs.{AreImages, AreShownImages, IsFrontOfPlay}
 use Rattle.play_model.specs.Plays.{IsFedTo, IsTimeOf, PlayView, good_before, history_of_times}
 
 -- what stands before the time that comes behind these
@@ -40,6 +40,30 @@ ImagesFollow =
     → AreImages play (history_of_times times) images → length images ≡ length times * instant_count play.job
     → AreFirstAt play (history_before times ++ last) (length times) next → length next ≤ instant_count play.job
     → AreImages play (history_of_times (times ++ last ∷ [])) (images ++ next)
+
+-- ---- images with the numbers of their composed masks
+
+-- Such an image is that of its time, whatever comes behind the history.
+abbrev pub ShownImagesStay : Type 0
+ShownImagesStay = (play : PlayView) (history more : List Entry) (q i : ℕ) (image : ShownImage) → IsShownImage play history q i image → IsShownImage play (history ++ more) q i image
+
+-- these are images of the first places of time q, one for each
+abbrev pub AreFirstShown : PlayView → List Entry → ℕ → List ShownImage → Type 0
+AreFirstShown play history q images = (i : ℕ) (d : ShownImage) → i < length images → IsShownImage play history q i (slice_index_or images i d)
+
+-- Those of whole times, and behind them those of the first places of the next.
+abbrev pub ShownImagesFollow : Type 0
+ShownImagesFollow =
+    (play : PlayView) (times : List (List Entry)) (last : List Entry) (images next : List ShownImage)
+    → AreShownImages play (history_of_times times) images → length images ≡ length times * instant_count play.job
+    → AreFirstShown play (history_before times ++ last) (length times) next → length next ≤ instant_count play.job
+    → AreShownImages play (history_of_times (times ++ last ∷ [])) (images ++ next)
+
+-- Their bytes are images.
+abbrev pub ShownImagesAreImages : Type 0
+ShownImagesAreImages = (play : PlayView) (history : List Entry) (images : List ShownImage) → AreShownImages play history images → AreImages play history (shown_pieces images)
+
+-- ---- how a time ends
 
 -- What was written before a play stopped in a time.
 abbrev pub StoppedTimesAreFronts : Type 0

@@ -3,7 +3,7 @@
 ghost use Rattle.std.specs.Prelude.{[]};
 ghost use Rattle.play_model.specs.Outputs.{SettledPlaysAreFixed};
 ghost use Rattle.play_model.specs.Plays.{IsFedTo, PlayView};
-ghost use Rattle.play_model.specs.Times.{ImagesFollow, ImagesStay, RoundsBoundImages, StoppedTimesAreFronts, TimesEndInFlushes, TimesFollow};
+ghost use Rattle.play_model.specs.Times.{ImagesFollow, ImagesStay, RoundsBoundImages, ShownImagesAreImages, ShownImagesFollow, ShownImagesStay, StoppedTimesAreFronts, TimesEndInFlushes, TimesFollow};
 ghost use Rattle.play_model.specs.Rounds.{AllRoundsFeedAll, GoodLinesHaveAllEvents, LinesHaveShortChunks, LiveCountsAreBounded, RoundsAreCounted, RoundsFeedOn, TimesHaveAllEvents};
 
 /// The images of a settled play are those of all events of the script, whoever fed and drew them, and in whatever rounds.
@@ -42,6 +42,13 @@ pub fn times_follow()
     ensures stays { ImagesStay }
     ensures images { ImagesFollow }
     ensures stopped { StoppedTimesAreFronts }
+{}
+
+/// So do images with the numbers of their composed masks.
+pub fn shown_images_follow()
+    ensures stays { ShownImagesStay }
+    ensures follow { ShownImagesFollow }
+    ensures are { ShownImagesAreImages }
 {}
 
 /// A live image is of at least as many entries as the rounds before its own fed, and of at most as many as they and its own did.

@@ -62,7 +62,6 @@ status_line (status.BadFont index line cause) = bad_font_line index line (cause_
 status_line (status.WriteFault which) = codes "write fault: " ++ sink_text which ++ codes "\n"
 status_line (status.TooLarge what limit) = limit_line (what_text what) limit
 status_line status.OutOfMemory = codes "out of memory\n"
-status_line status.NotBuilt = codes "not built\n"
 status_line (status.Unwritable order field) = unwritable_line order field
 
 -- the exit status of the program
@@ -76,5 +75,4 @@ exit_status_of (status.BadFont _ _ _) = 6
 exit_status_of (status.WriteFault _) = 7
 exit_status_of (status.TooLarge _ _) = 8
 exit_status_of status.OutOfMemory = 9
-exit_status_of status.NotBuilt = 10
 exit_status_of (status.Unwritable _ _) = 11

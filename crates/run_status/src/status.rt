@@ -68,8 +68,6 @@ pub enum Status {
     TooLarge(What, usize),
     /// Memory was wanting: exit status 9.
     OutOfMemory,
-    /// What is asked for isn't built so far: exit status 10.
-    NotBuilt,
     /// The event with this ReadOrder can't be written again, and this field of it is why: exit status 11.
     Unwritable(u32, EventField),
 }
@@ -194,7 +192,6 @@ impl Status {
             Status::WriteFault(_) => 7,
             Status::TooLarge(_, _) => 8,
             Status::OutOfMemory => 9,
-            Status::NotBuilt => 10,
             Status::Unwritable(_, _) => 11,
         }
     }
@@ -224,7 +221,6 @@ impl Status {
             }
             Status::TooLarge(what, limit) => limit_line(alloc, what_text(*what), *limit),
             Status::OutOfMemory => Ok(String::from_str(alloc, "out of memory\n")?),
-            Status::NotBuilt => Ok(String::from_str(alloc, "not built\n")?),
             Status::Unwritable(order, field) => unwritable_line(alloc, *order, *field),
         }
     }

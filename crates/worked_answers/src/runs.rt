@@ -4,7 +4,7 @@ use crate::scripts::long_script;
 use crate::telling::{numbers, shown};
 use ass_io::{FailingShelf, FailingSink, FileShelf, MemoryShelf, MemorySink, OpenGate, Rt, Shelf};
 use bstr::BStr;
-use frame_play::top;
+use play_command::top;
 use play_words::read_words;
 use std::alloc::{AllocError, Global};
 use std::fs;

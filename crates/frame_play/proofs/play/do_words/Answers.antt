@@ -1,4 +1,4 @@
-use Rattle.std.proofs.Common.{◌≡◌, ◌∙◌, inl, inr, Err, Ok, Result, subst, sym}
+use Rattle.std.proofs.Common.{◌≡◌, ◌∙◌, inl, inr, Err, Ok, Option, Result, Some, subst, sym}
 use Rattle.run_status.specs.declared.status.Status.{Status}
 use Rattle.run_status.specs.declared.status.Status.TheVariants.{OutOfMemory}
 use Rattle.play_words.specs.Words.{texts}
@@ -10,8 +10,8 @@ use Rattle.frame_play.proofs.RunLemmas.{memory_worked}
 use Rattle.frame_play.proofs.play.do_words.Goals as goal
 
 -- Where words ask for work, want of memory alone comes in its place.
-memory_alone : (asked : Result Work Status) (why : Status) (work : Work) → IsWorkRead asked (Err why) → asked ≡ Ok work → why ≡ OutOfMemory
-memory_alone asked why work (inl same) e = let equal : Err why ≡ Ok work = same ∙ e in absurd cc
+memory_alone : (asked : Result (Option Work) Status) (why : Status) (work : Work) → IsWorkRead asked (Err why) → asked ≡ Ok (Some work) → why ≡ OutOfMemory
+memory_alone asked why work (inl same) e = let equal : Err why ≡ Ok (Some work) = same ∙ e in absurd cc
 memory_alone asked why work (inr memory) e = cc
 
 pub returns-in-Err-clause-run : goal.returns-in-Err-clause-run

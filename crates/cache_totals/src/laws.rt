@@ -1,0 +1,23 @@
+//! Laws of totals. Each function does nothing: its contract is the law.
+ghost use Rattle.cache_totals.specs.Laws.{CachesBalance, CachesCountAsks, CompositesCountAsks, ShardsBalance, ShardsCountAsks, ThreeBalance};
+
+use flight_cache::Made;
+
+/// Where every number gave back all that it took in a shard, each claim was filled or failed, and what was evicted had been
+/// filled. Each ask was a hit, a claim or crowded, and a pin of several keys is an ask for each.
+pub fn totals_of_shards<M: Made>()
+    ensures balance { ShardsBalance M.Key.eq M.meaning }
+    ensures asks { ShardsCountAsks M.Key.eq M.meaning }
+{}
+
+/// The same of the sums of a cache's four shards.
+pub fn totals_of_caches<M: Made>()
+    ensures balance { CachesBalance M.Key.eq M.meaning }
+    ensures asks { CachesCountAsks M.Key.eq M.meaning }
+{}
+
+/// The same of the caches of regions, of masks and of composed masks.
+pub fn totals_of_three()
+    ensures balance { ThreeBalance }
+    ensures asks { CompositesCountAsks }
+{}

@@ -1,0 +1,4 @@
+pub mod ReadLemmas
+pub mod PlayLemmas
+pub mod SelftestLemmas
+pub mod RunLemmas

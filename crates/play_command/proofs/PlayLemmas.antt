@@ -1,0 +1,151 @@
+-- From the end of a play to what is to be reported of it.
+use Rattle.std.proofs.Common.{◌≡◌, inl, inr, ℕ, Bool, true, false, cond, List, [], ◌∷◌, Option, Some, None, Ok, Err, refl, sym, subst, arith}
+use Rattle.std.specs.Prelude.{IfSome}
+use Rattle.ass_io.specs.Fetched.{Told}
+use Rattle.frame_play.proofs.RunLemmas.{IsRefusal, keeps, read_kind}
+use Rattle.frame_play.specs.Outcomes.{IsReportable, IsStatusReadCounted, IsWriteCounted, status_if_put}
+use Rattle.frame_play.specs.Runs.{sink_change}
+use Rattle.frame_play.specs.declared.outcome.Outcome.{Outcome}
+use Rattle.frame_play.specs.declared.outcome.Outcome.TheVariants.{Ended, Found}
+use Rattle.input_files.specs.Files.{IsAnswerReadCounted}
+use Rattle.input_files.specs.declared.inputs.Inputs.{Inputs}
+use Rattle.play_model.specs.Plays.{IsPlayable, PlayView}
+use Rattle.play_rounds.specs.Outputs.{IsPlayed}
+use Rattle.play_rounds.specs.declared.ends.PlayEnd.{PlayEnd}
+use Rattle.play_rounds.specs.declared.ends.PlayEnd.TheVariants as play_end
+use Rattle.play_shares.specs.Limits.{max_frames}
+use Rattle.play_words.specs.declared.job.PlayJob.{PlayJob}
+use Rattle.run_status.specs.declared.status.Status.{Status}
+use Rattle.run_status.specs.declared.status.Status.TheVariants as status
+use Rattle.run_status.specs.declared.status.What.TheVariants.{Frames as images}
+use Rattle.play_command.specs.PlayRuns.{AreReadUnless, IsPlayPutCount, IsPlayRead, has_too_many, play_refusal, view_of}
+use Rattle.play_command.specs.Working.{IsPlayShown, IsPlayWorked, IsSpoken, IsToldOf}
+
+-- ---- what is shown
+
+shown : (play : PlayView) (end : PlayEnd) (outcome : Outcome) (held held' : Option (List ℕ)) (faults faults' puts puts' : ℕ) →
+    IsPlayed play end held held' faults faults' puts puts' → IsToldOf end outcome → IsPlayShown play (sink_change held held' faults faults') outcome
+shown play (play_end.Done report) (Found text) held held' faults faults' puts puts' h told =
+    (h.0, record { report = report; whole = h.1; value = told }, h.2)
+shown play (play_end.Done report) (Ended why) held held' faults faults' puts puts' h told =
+    subst (λ (o : Outcome). IsPlayShown play (sink_change held held' faults faults') o) (sym told)
+    (h.0, inr (_, record { report = report; whole = h.1; value = refl }), h.2)
+shown play play_end.WriteFault outcome held held' faults faults' puts puts' h told =
+    subst (λ (o : Outcome). IsPlayShown play (sink_change held held' faults faults') o) (sym told) (h.0, h.1, h.2.0)
+shown play play_end.OutOfMemory outcome held held' faults faults' puts puts' h told =
+    subst (λ (o : Outcome). IsPlayShown play (sink_change held held' faults faults') o) (sym told) (h.0, inl h.1, h.2.0)
+
+-- How often the frames sink was asked.
+puts_of : (play : PlayView) (inputs : Inputs) (end : PlayEnd) (outcome : Outcome) (held held' : Option (List ℕ)) (faults faults' puts puts' : ℕ) →
+    IsPlayed play end held held' faults faults' puts puts' → IsToldOf end outcome → IsPlayPutCount play.job (Ok inputs) (status_if_put outcome) puts puts'
+puts_of play inputs (play_end.Done report) (Found text) held held' faults faults' puts puts' h told = h.4
+puts_of play inputs (play_end.Done report) (Ended why) held held' faults faults' puts puts' h told =
+    subst (λ (o : Outcome). IsPlayPutCount play.job (Ok inputs) (status_if_put o) puts puts') (sym told) (h.4.1, h.4.2)
+puts_of play inputs play_end.WriteFault outcome held held' faults faults' puts puts' h told =
+    subst (λ (o : Outcome). IsPlayPutCount play.job (Ok inputs) (status_if_put o) puts puts') (sym told) (h.2.2, h.2.3)
+puts_of play inputs play_end.OutOfMemory outcome held held' faults faults' puts puts' h told =
+    subst (λ (o : Outcome). IsPlayPutCount play.job (Ok inputs) (status_if_put o) puts puts') (sym told) (h.2.2, h.2.3)
+
+-- A play with what was read for it.
+pub played : (told : List ℕ → Told) (job : PlayJob) (script : List ℕ) (fonts : List (List ℕ)) (inputs : Inputs) (end : PlayEnd) (outcome : Outcome)
+    (held held' : Option (List ℕ)) (faults faults' puts puts' : ℕ) → IsPlayRead told job script fonts (Ok inputs) → IsPlayable (view_of job inputs) →
+    IsPlayed (view_of job inputs) end held held' faults faults' puts puts' → IsToldOf end outcome →
+    IsPlayWorked told job script fonts (sink_change held held' faults faults') puts puts' outcome
+played told job script fonts inputs end outcome held held' faults faults' puts puts' read playable h tells = record {
+  reading = Ok inputs;
+  read = read;
+  shown = (playable, shown (view_of job inputs) end outcome held held' faults faults' puts puts' h tells);
+  puts = puts_of (view_of job inputs) inputs end outcome held held' faults faults' puts puts' h tells;
+}
+
+-- A play whose files are refused.
+pub refused : (told : List ℕ → Told) (job : PlayJob) (script : List ℕ) (fonts : List (List ℕ)) (why : Status) (held : Option (List ℕ)) (faults puts : ℕ) →
+    IsPlayRead told job script fonts (Err why) → IsPlayWorked told job script fonts (sink_change held held faults faults) puts puts (Ended why)
+refused told job script fonts why held faults puts read = record { reading = Err why; read = read; shown = (inl refl, keeps held); puts = refl }
+
+-- ---- counts
+
+pub faults_of : (play : PlayView) (end : PlayEnd) (outcome : Outcome) (held held' : Option (List ℕ)) (faults faults' puts puts' : ℕ) →
+    IsPlayed play end held held' faults faults' puts puts' → IsToldOf end outcome → IsWriteCounted (status_if_put outcome) faults faults'
+faults_of play (play_end.Done report) (Found text) held held' faults faults' puts puts' h told = h.3
+faults_of play (play_end.Done report) (Ended why) held held' faults faults' puts puts' h told =
+    subst (λ (o : Outcome). IsWriteCounted (status_if_put o) faults faults') (sym told) (let same : faults' ≡ faults = h.3 in omega arith)
+faults_of play play_end.WriteFault outcome held held' faults faults' puts puts' h told =
+    subst (λ (o : Outcome). IsWriteCounted (status_if_put o) faults faults') (sym told) h.2.1
+faults_of play play_end.OutOfMemory outcome held held' faults faults' puts puts' h told =
+    subst (λ (o : Outcome). IsWriteCounted (status_if_put o) faults faults') (sym told) (let same : faults' ≡ faults = h.2.1 in omega arith)
+
+-- No file was refused in a play, and the report didn't fail yet.
+pub read_of : (end : PlayEnd) (outcome : Outcome) (before now : ℕ) → IsToldOf end outcome → now ≡ before → IsStatusReadCounted (status_if_put outcome) before now
+read_of (play_end.Done report) (Found text) before now told same = same
+read_of (play_end.Done report) (Ended why) before now told same = subst (λ (o : Outcome). IsStatusReadCounted (status_if_put o) before now) (sym told) (omega (arith, same))
+read_of play_end.WriteFault outcome before now told same = subst (λ (o : Outcome). IsStatusReadCounted (status_if_put o) before now) (sym told) same
+read_of play_end.OutOfMemory outcome before now told same = subst (λ (o : Outcome). IsStatusReadCounted (status_if_put o) before now) (sym told) (omega (arith, same))
+
+pub told_kind : (end : PlayEnd) (outcome : Outcome) → IsToldOf end outcome → IsReportable outcome × IsSpoken outcome
+told_kind (play_end.Done report) (Found text) told = (tt, tt)
+told_kind (play_end.Done report) (Ended why) told = subst (λ (o : Outcome). IsReportable o × IsSpoken o) (sym told) (tt, tt)
+told_kind play_end.WriteFault outcome told = subst (λ (o : Outcome). IsReportable o × IsSpoken o) (sym told) (tt, tt)
+told_kind play_end.OutOfMemory outcome told = subst (λ (o : Outcome). IsReportable o × IsSpoken o) (sym told) (tt, tt)
+
+-- ---- files that are refused
+
+-- Nothing was done, and no sink failed.
+abbrev pub IsFileWhy : Status → Type 0
+IsFileWhy status.Done = ⊥
+IsFileWhy (status.WriteFault which) = ⊥
+IsFileWhy _ = Unit {0}
+
+file_why : (why : Status) → IsRefusal why → IsFileWhy why
+file_why status.Done h = absurd h
+file_why (status.BadWords fault) h = tt
+file_why (status.NoSuchFile name) h = tt
+file_why (status.ReadFault name) h = tt
+file_why (status.BadScript cause) h = tt
+file_why (status.BadFont index line cause) h = tt
+file_why (status.WriteFault which) h = absurd h
+file_why (status.TooLarge what limit) h = tt
+file_why status.OutOfMemory h = tt
+file_why (status.Unwritable order field) h = tt
+
+many_or_read : (b : Bool) → IfSome (cond b (Some (status.TooLarge images max_frames)) None) IsFileWhy
+many_or_read true = tt
+many_or_read false = tt
+
+refusal_why : (job : PlayJob) (fonts : List (List ℕ)) → IfSome (play_refusal job fonts) IsFileWhy
+refusal_why job [] = tt
+refusal_why job (font ∷ fonts) = many_or_read (has_too_many job (font ∷ fonts))
+
+why_unless : (refusal : Option Status) (told : List ℕ → Told) (script : List ℕ) (fonts : List (List ℕ)) (why : Status) → IfSome refusal IsFileWhy →
+    AreReadUnless refusal told script fonts (Err why) → IsFileWhy why
+why_unless (Some asked) told script fonts why is read = let same : why ≡ asked = cc in subst IsFileWhy (sym same) is
+why_unless None told script fonts why is read = file_why why (read_kind told script fonts why read)
+
+-- Why the files of a play are refused.
+pub play_why : (told : List ℕ → Told) (job : PlayJob) (script : List ℕ) (fonts : List (List ℕ)) (why : Status) → IsPlayRead told job script fonts (Err why) → IsFileWhy why
+play_why told job script fonts why read = why_unless (play_refusal job fonts) told script fonts why (refusal_why job fonts) read
+
+-- Then no sink was asked.
+pub why_kind : (why : Status) (n : ℕ) → IsFileWhy why → IsWriteCounted why n n × IsReportable (Ended why) × IsSpoken (Ended why)
+why_kind status.Done n h = absurd h
+why_kind (status.BadWords fault) n h = (refl, tt, tt)
+why_kind (status.NoSuchFile name) n h = (refl, tt, tt)
+why_kind (status.ReadFault name) n h = (refl, tt, tt)
+why_kind (status.BadScript cause) n h = (refl, tt, tt)
+why_kind (status.BadFont index line cause) n h = (refl, tt, tt)
+why_kind (status.WriteFault which) n h = absurd h
+why_kind (status.TooLarge what limit) n h = (refl, tt, tt)
+why_kind status.OutOfMemory n h = (omega arith, tt, tt)
+why_kind (status.Unwritable order field) n h = (refl, tt, tt)
+
+pub why_read : (why : Status) (before now : ℕ) → IsAnswerReadCounted {Value = Inputs} (Err why) before now → IsStatusReadCounted why before now
+why_read status.Done before now h = h
+why_read (status.BadWords fault) before now h = h
+why_read (status.NoSuchFile name) before now h = h
+why_read (status.ReadFault name) before now h = h
+why_read (status.BadScript cause) before now h = h
+why_read (status.BadFont index line cause) before now h = h
+why_read (status.WriteFault which) before now h = h
+why_read (status.TooLarge what limit) before now h = h
+why_read status.OutOfMemory before now h = omega (arith, h)
+why_read (status.Unwritable order field) before now h = h

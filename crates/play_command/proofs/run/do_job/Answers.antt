@@ -1,0 +1,52 @@
+use Rattle.std.proofs.Common.{◌∙◌, rules, subst, sym}
+use Rattle.frame_play.specs.Runs.{sink_change}
+use Rattle.play_words.specs.Jobs.{IsJob, IsPlay}
+use Rattle.play_words.specs.declared.job.Job.{Job}
+use Rattle.play_words.specs.declared.job.Job.TheVariants.{Selftest}
+use Rattle.play_command.proofs.RunLemmas.{not_selftest}
+use Rattle.play_command.proofs.SelftestLemmas.{worked_kind}
+use Rattle.play_command.specs.Working.{IsJobWorked, IsPlayWorked}
+use Rattle.play_command.proofs.run.do_job.Goals as goal
+
+pub play_files-requires : goal.play_files-requires
+play_files-requires g c =
+    let within : IsPlay c.in-Play.play = subst IsJob c.in-Play.is c.requires.within in
+    search (rules, within)
+
+pub do_selftest-requires : goal.do_selftest-requires
+do_selftest-requires g c =
+    let within : IsJob (Selftest c.in-Selftest.seed c.in-Selftest.events c.in-Selftest.workers) = subst IsJob c.in-Selftest.is c.requires.within in
+    search (rules, within)
+
+pub returns-in-Play-clause-worked : goal.returns-in-Play-clause-worked
+returns-in-Play-clause-worked g c =
+    let told = g.S.Shelf.told c.args.shelf.now in
+    let old = c.args.frames.now in
+    let new = c.play_files.new.frames in
+    let change = sink_change (g.F.Sink.held old) (g.F.Sink.held new) (g.F.Sink.faults old) (g.F.Sink.faults new) in
+    subst (λ (job : Job). IsJobWorked told job change (g.F.Sink.puts old) (g.F.Sink.puts new) c.play_files.result) (sym c.in-Play.is)
+    (subst (λ fonts. IsPlayWorked told c.in-Play.play c.in-Play.script fonts change (g.F.Sink.puts old) (g.F.Sink.puts new) c.play_files.result) c.as_slice-fonts.ensures c.play_files.ensures.run)
+
+pub returns-in-Play-clause-selftest_shelf : goal.returns-in-Play-clause-selftest_shelf
+returns-in-Play-clause-selftest_shelf g c = λ seed events workers is. absurd (not_selftest _ _ _ seed events workers (sym c.in-Play.is ∙ is))
+
+pub returns-in-Play-clause-selftest_frames : goal.returns-in-Play-clause-selftest_frames
+returns-in-Play-clause-selftest_frames g c = λ seed events workers is. absurd (not_selftest _ _ _ seed events workers (sym c.in-Play.is ∙ is))
+
+pub returns-in-Selftest-clause-worked : goal.returns-in-Selftest-clause-worked
+returns-in-Selftest-clause-worked g c =
+    let frames = c.args.frames.now in
+    let change = sink_change (g.F.Sink.held frames) (g.F.Sink.held frames) (g.F.Sink.faults frames) (g.F.Sink.faults frames) in
+    subst (λ (job : Job). IsJobWorked (g.S.Shelf.told c.args.shelf.now) job change (g.F.Sink.puts frames) (g.F.Sink.puts frames) c.do_selftest.result) (sym c.in-Selftest.is) c.do_selftest.ensures
+
+pub returns-in-Selftest-clause-read : goal.returns-in-Selftest-clause-read
+returns-in-Selftest-clause-read g c = (worked_kind c.in-Selftest.seed c.in-Selftest.events c.do_selftest.result _ 0 c.do_selftest.ensures).0
+
+pub returns-in-Selftest-clause-write : goal.returns-in-Selftest-clause-write
+returns-in-Selftest-clause-write g c = (worked_kind c.in-Selftest.seed c.in-Selftest.events c.do_selftest.result 0 _ c.do_selftest.ensures).1
+
+pub returns-in-Selftest-clause-reportable : goal.returns-in-Selftest-clause-reportable
+returns-in-Selftest-clause-reportable g c = (worked_kind c.in-Selftest.seed c.in-Selftest.events c.do_selftest.result 0 0 c.do_selftest.ensures).2
+
+pub returns-in-Selftest-clause-spoken : goal.returns-in-Selftest-clause-spoken
+returns-in-Selftest-clause-spoken g c = (worked_kind c.in-Selftest.seed c.in-Selftest.events c.do_selftest.result 0 0 c.do_selftest.ensures).3

@@ -1,0 +1,30 @@
+use Rattle.std.proofs.Common.{subst}
+use Rattle.frame_play.specs.Runs.{sink_change}
+use Rattle.play_words.specs.Words.{job_of, texts}
+use Rattle.play_words.specs.declared.job.Job.{Job}
+use Rattle.play_words.specs.declared.job.Job.TheVariants.{Selftest}
+use Rattle.play_command.proofs.RunLemmas.{job_left, job_wanting, same_job}
+use Rattle.play_command.specs.Working.{IsJobWorked}
+use Rattle.play_command.proofs.run.do_shared.Goals as goal
+
+pub do_job-requires-clause-shared : goal.do_job-requires-clause-shared
+do_job-requires-clause-shared g c κs within = job_left (texts c.args.words.now) c.in-Ok.job c.in-Ok.ensures.read c.requires
+
+pub returns-in-Ok-clause-worked : goal.returns-in-Ok-clause-worked
+returns-in-Ok-clause-worked g c = λ job asked.
+    let old = c.args.frames.now in
+    let new = c.do_job.new.frames in
+    let change = sink_change (g.F.Sink.held old) (g.F.Sink.held new) (g.F.Sink.faults old) (g.F.Sink.faults new) in
+    subst (λ (it : Job). IsJobWorked (g.S.Shelf.told c.args.shelf.now) it change (g.F.Sink.puts old) (g.F.Sink.puts new) c.do_job.result)
+    (same_job (job_of (texts c.args.words.now)) c.in-Ok.job job c.in-Ok.ensures.read asked) c.do_job.ensures.worked
+
+pub returns-in-Ok-clause-selftest_shelf : goal.returns-in-Ok-clause-selftest_shelf
+returns-in-Ok-clause-selftest_shelf g c = λ seed events workers asked.
+    c.do_job.ensures.selftest_shelf seed events workers (same_job (job_of (texts c.args.words.now)) c.in-Ok.job (Selftest seed events workers) c.in-Ok.ensures.read asked)
+
+pub returns-in-Ok-clause-selftest_frames : goal.returns-in-Ok-clause-selftest_frames
+returns-in-Ok-clause-selftest_frames g c = λ seed events workers asked.
+    c.do_job.ensures.selftest_frames seed events workers (same_job (job_of (texts c.args.words.now)) c.in-Ok.job (Selftest seed events workers) c.in-Ok.ensures.read asked)
+
+pub returns-in-Err-clause-worked : goal.returns-in-Err-clause-worked
+returns-in-Err-clause-worked g c = λ job asked. job_wanting _ job _ _ _ (job_left (texts c.args.words.now) job asked c.requires)

@@ -1,0 +1,18 @@
+use Rattle.std.proofs.Common.{rules, subst}
+use Rattle.play_command.specs.Working.{IsSummedOf}
+use Rattle.play_command.proofs.SelftestLemmas.{inputs_playable, played_out, refused}
+use Rattle.play_command.proofs.selftest.do_selftest.Goals as goal
+
+pub play_with-end-requires : goal.play_with-end-requires
+play_with-end-requires g c =
+    let playable = inputs_playable c.args.seed c.args.events c.args.workers c.in-Ok.inputs c.selftest_job-job.result c.selftest_job-job.ensures c.requires c.in-Ok.ensures.inputs in
+    search (rules, playable)
+
+pub returns-in-Ok : goal.returns-in-Ok
+returns-in-Ok g c =
+    played_out c.args.seed c.args.events c.args.workers c.in-Ok.inputs c.selftest_job-job.result _ _ _ _ _ _ c.play_with-end.result c.summed.result
+    c.requires c.in-Ok.ensures.read c.in-Ok.ensures.inputs c.selftest_job-job.ensures c.new-images.ensures.bytes c.play_with-end.ensures
+    (subst (λ images. IsSummedOf c.args.seed c.args.events images c.play_with-end.result c.summed.result) c.bytes.ensures c.summed.ensures)
+
+pub returns-in-Err : goal.returns-in-Err
+returns-in-Err g c = refused c.args.seed c.args.events c.in-Err.status c.in-Err.ensures.read

@@ -1,0 +1,3 @@
+pub mod PlayRuns
+pub mod SelftestRuns
+pub mod Working

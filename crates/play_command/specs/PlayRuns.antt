@@ -1,0 +1,100 @@
+-- Public: a whole run of a play.
+use Rattle.std.specs.Prelude.{◌≡◌, ◌⊎◌, Bool, ◌&&◌, if◌then◌else◌, nat_le, nat_lt, ℕ, ◌+◌, ◌≤◌, List, [], length, Option, Some, None, Result, Ok, Err}
+use Rattle.std.specs.Io.KnownBytes.{Appends, Keeps}
+use Rattle.ass_io.specs.Fetched.{Told}
+use Rattle.ass_io.specs.Written.{AppendsFront}
+use Rattle.ass_num.specs.Causes.{Rose}
+use Rattle.bdf_font.specs.Limits.{max_fonts}
+use Rattle.frame_play.specs.Outcomes.{IsLineReported, IsMemoryReported, IsOrMemory, IsReported}
+use Rattle.frame_play.specs.Runs.{SinkChange}
+use Rattle.input_files.specs.Inputs.{AreRead}
+use Rattle.input_files.specs.Laws.{AreTold, IsReadDecided}
+use Rattle.input_files.specs.declared.inputs.Inputs.{Inputs}
+use Rattle.play_model.specs.Outputs.{IsFrontOfPlay}
+use Rattle.play_model.specs.Plays.{IsPlayable, PlayView}
+use Rattle.play_report.specs.Reports.{report_text}
+use Rattle.play_report.specs.declared.report.PlayReport.{PlayReport}
+use Rattle.play_rounds.specs.Outputs.{IsMoreBy, IsWholePlay}
+use Rattle.play_shares.specs.Instants.{frame_count}
+use Rattle.play_shares.specs.Limits.{max_frames}
+use Rattle.play_words.specs.declared.job.PlayJob.{PlayJob}
+use Rattle.play_words.specs.declared.job.WordsFault.TheVariants.{Usage}
+use Rattle.run_status.specs.declared.status.Status.{Status}
+use Rattle.run_status.specs.declared.status.Status.TheVariants.{BadWords, Done, OutOfMemory, TooLarge, WriteFault}
+use Rattle.run_status.specs.declared.status.What.TheVariants.{Frames as images}
+use Rattle.run_status.specs.declared.status.Which.TheVariants.{Frames, Report}
+
+-- a job with what was read for it
+abbrev pub view_of : PlayJob → Inputs → PlayView
+view_of job inputs = record { job = job; script = inputs.script; fonts = inputs.fonts }
+
+-- whether a play has too many images; too many fonts are told before
+abbrev pub has_too_many : PlayJob → List (List ℕ) → Bool
+has_too_many job fonts = nat_le (length fonts) max_fonts && nat_lt max_frames (frame_count job)
+
+-- why a play is refused before any file is fetched: it has too many images, or no font, which words always name
+abbrev pub play_refusal : PlayJob → List (List ℕ) → Option Status
+play_refusal job [] = Some (BadWords Usage)
+play_refusal job fonts = if has_too_many job fonts then Some (TooLarge images max_frames) else None
+
+abbrev pub AreReadUnless : Option Status → (List ℕ → Told) → List ℕ → List (List ℕ) → Result Inputs Status → Type 0
+AreReadUnless (Some refusal) told script fonts answer = answer ≡ Err refusal
+AreReadUnless None told script fonts answer = AreRead told script fonts answer
+
+-- What reading the files of a play answers.
+abbrev pub IsPlayRead : (List ℕ → Told) → PlayJob → List ℕ → List (List ℕ) → Result Inputs Status → Type 0
+IsPlayRead told job script fonts answer = AreReadUnless (play_refusal job fonts) told script fonts answer
+
+-- A play that was whole: what it puts to the frames sink, and its report.
+pub record IsPlayOutput (play : PlayView) (bytes text : List ℕ) : Type 0 where
+  pub report : PlayReport
+  pub whole : IsWholePlay play bytes report
+  pub value : text ≡ report_text report
+
+-- What the sinks got of a play at each status: all; a front of what may be shown; all that is shown, and a front of the report; or a front of both.
+abbrev pub IsPlayPut : PlayView → SinkChange → SinkChange → Status → Type 0
+IsPlayPut play frames report Done =
+    (bytes text : List ℕ) × IsPlayOutput play bytes text × Appends frames.held_before frames.held_now bytes
+    × Appends report.held_before report.held_now text × (report.faults_now ≡ report.faults_before)
+IsPlayPut play frames report (WriteFault Frames) =
+    (bytes : List ℕ) × IsFrontOfPlay play bytes × Appends frames.held_before frames.held_now bytes
+    × IsLineReported (WriteFault Frames) report.held_before report.held_now report.faults_before report.faults_now
+IsPlayPut play frames report (WriteFault Report) =
+    (bytes text : List ℕ) × IsPlayOutput play bytes text × Appends frames.held_before frames.held_now bytes
+    × AppendsFront report.held_before report.held_now text × Rose report.faults_before report.faults_now × (report.faults_before ≤ report.faults_now)
+IsPlayPut play frames report OutOfMemory =
+    (bytes : List ℕ) × (IsFrontOfPlay play bytes ⊎ ((text : List ℕ) × IsPlayOutput play bytes text)) × Appends frames.held_before frames.held_now bytes
+    × IsMemoryReported report.held_before report.held_now report.faults_before report.faults_now
+IsPlayPut play frames report _ = ⊥
+
+-- What they got after an answer about the files. A play whose files are read is within its limits.
+abbrev pub IsPlayAsked : PlayJob → Result Inputs Status → SinkChange → SinkChange → Status → Type 0
+IsPlayAsked job (Err refusal) frames report status =
+    IsOrMemory refusal status × Keeps frames.held_before frames.held_now
+    × IsReported status report.held_before report.held_now report.faults_before report.faults_now (λ text. text ≡ [])
+IsPlayAsked job (Ok inputs) frames report status = IsPlayable (view_of job inputs) × IsPlayPut (view_of job inputs) frames report status
+
+-- How often the frames sink was asked after it: not at all where the files are refused, once for each image of a whole play, and else for each at most.
+abbrev pub IsPlayPutCount : PlayJob → Result Inputs Status → Status → ℕ → ℕ → Type 0
+IsPlayPutCount job (Err refusal) status before now = now ≡ before
+IsPlayPutCount job (Ok inputs) Done before now = IsMoreBy (frame_count job) before now
+IsPlayPutCount job (Ok inputs) (WriteFault Report) before now = IsMoreBy (frame_count job) before now
+IsPlayPutCount job (Ok inputs) _ before now = (before ≤ now) × (now ≤ before + frame_count job)
+
+-- A run of a play. Its files are read with one answer, as far as it is told what they hold; that answer asks for the status, for what the sinks may get, and for how often the frames sink is asked.
+pub record IsPlayRun (told : List ℕ → Told) (job : PlayJob) (script : List ℕ) (fonts : List (List ℕ)) (frames report : SinkChange) (puts_before puts_now : ℕ) (status : Status) : Type 0 where
+  pub reading : Result Inputs Status
+  pub read : IsPlayRead told job script fonts reading
+  pub asked : IsPlayAsked job reading frames report status
+  pub puts : IsPlayPutCount job reading status puts_before puts_now
+
+-- the status that an answer about the files asks for
+abbrev pub status_read : {Value : Type 0} → Result Value Status → Status
+status_read (Ok value) = Done
+status_read (Err refusal) = refusal
+
+-- Files that are all told of decide a run where no fault came: the answer that their reading asks for, or want of memory.
+abbrev pub DecidesPlay : (List ℕ → Told) → PlayJob → List ℕ → List (List ℕ) → Status → Type 0
+DecidesPlay told job script fonts status =
+    (reading : Result Inputs Status) → AreTold told script fonts → IsPlayRead told job script fonts reading → IsReadDecided reading
+    → IsOrMemory (status_read reading) status

@@ -1,0 +1,91 @@
+-- Public: a whole run of a selftest.
+use Rattle.std.specs.Prelude.{◌≡◌, ◌⊎◌, ℕ, ◌*◌, ◌<◌, pos, List, [], ◌∷◌, length, Some, Result, Ok, Err, slice_index_or, flat_map}
+use Rattle.ass_script.specs.Ranges.{IsScript}
+use Rattle.ass_script.specs.Scripts.{ScriptValue}
+use Rattle.bdf_font.specs.Fonts.{FontValue}
+use Rattle.frame_play.specs.Outcomes.{IsOrFault, IsOrMemory, IsReported}
+use Rattle.frame_play.specs.Runs.{SinkChange}
+use Rattle.generated_script.specs.Generated.{generated}
+use Rattle.generated_script.specs.Grid.{grid_font}
+use Rattle.input_files.specs.Files.{AsksScript}
+use Rattle.input_files.specs.Laws.{IsReadDecided}
+use Rattle.play_model.specs.Images.{IsSettledImage}
+use Rattle.play_model.specs.Plays.{PlayView}
+use Rattle.play_report.specs.Digests.{digest_after}
+use Rattle.play_report.specs.Reports.{summary_text}
+use Rattle.play_report.specs.declared.report.PlayReport.{PlayReport}
+use Rattle.play_words.specs.declared.job.Mode.TheVariants.{Settled}
+use Rattle.play_words.specs.declared.job.PlayJob.{PlayJob}
+use Rattle.run_status.specs.declared.status.Status.{Status}
+use Rattle.run_status.specs.declared.status.Status.TheVariants.{OutOfMemory}
+use Rattle.run_status.specs.declared.status.Which.TheVariants.{Report}
+use Rattle.script_events.specs.ScriptEvents.{line_events}
+use Rattle.play_command.specs.PlayRuns.{status_read}
+
+-- how many images a selftest makes
+abbrev pub image_count : ℕ
+image_count = 20
+
+-- What is played: instants over the time in which the events begin, with as many feeders and renderers as workers.
+abbrev pub selftest_job : ℕ → ℕ → PlayJob
+selftest_job events workers = record {
+  from = pos 0;
+  to = pos (image_count * (5 * events));
+  step = pos (5 * events);
+  size = record { w = 320; h = 180 };
+  feeders = workers;
+  renderers = workers;
+  batch = 16;
+  again = 0;
+  times = 1;
+  ahead = 0;
+  bands = 1;
+  budget = 1048576;
+  mode = Settled;
+}
+
+abbrev pub selftest_fonts : List FontValue
+selftest_fonts = grid_font ∷ []
+
+abbrev pub selftest_play : ScriptValue → ℕ → ℕ → PlayView
+selftest_play script events workers = record { job = selftest_job events workers; script = script; fonts = selftest_fonts }
+
+-- the ReadOrders that a play accepted at its first time
+abbrev pub first_of_times : List (List ℕ) → List ℕ
+first_of_times [] = []
+first_of_times (orders ∷ times) = orders
+
+abbrev pub accepted_first : PlayReport → List ℕ
+accepted_first report = first_of_times report.accepted
+
+-- The report of a selftest: the digest of its images, each of what all events of the script show. It is that of one worker.
+pub record IsSelftestText (script : ScriptValue) (seed events : ℕ) (text : List ℕ) : Type 0 where
+  pub sound : IsScript script
+  pub pieces : List (List ℕ)
+  pub many : length pieces ≡ image_count
+  pub each : (i : ℕ) (d : List ℕ) → i < image_count → IsSettledImage (selftest_play script events 1) 0 i (slice_index_or pieces i d)
+  pub value : text ≡ summary_text seed events (length (line_events script)) image_count (digest_after 0 (flat_map (λ piece. piece) pieces))
+
+abbrev pub IsSelftestReport : ℕ → ℕ → Result ScriptValue Status → List ℕ → Type 0
+IsSelftestReport seed events (Err refusal) text = text ≡ []
+IsSelftestReport seed events (Ok script) text = IsSelftestText script seed events text
+
+-- What reading bytes as a script answers: what a file asks for that holds them, or want of memory.
+abbrev pub IsScriptIn : List ℕ → Result ScriptValue Status → Type 0
+IsScriptIn bytes reading = AsksScript [] (Some bytes) reading ⊎ (reading ≡ Err OutOfMemory)
+
+-- What reading the generated script answers.
+abbrev pub IsSelftestRead : ℕ → ℕ → Result ScriptValue Status → Type 0
+IsSelftestRead seed events reading = IsScriptIn (generated seed events) reading
+
+-- A run of a selftest. Its script is read as a file that holds the generated one; that asks for the status and for the report, in which no number of workers is.
+pub record IsSelftestRun (seed events : ℕ) (report : SinkChange) (status : Status) : Type 0 where
+  pub reading : Result ScriptValue Status
+  pub read : IsSelftestRead seed events reading
+  pub answered : IsOrFault Report (status_read reading) status
+  pub reported : IsReported status report.held_before report.held_now report.faults_before report.faults_now (IsSelftestReport seed events reading)
+
+-- The generated script decides a run where the report didn't fail: what its reading asks for, or want of memory.
+abbrev pub DecidesSelftest : ℕ → ℕ → Status → Type 0
+DecidesSelftest seed events status =
+    (reading : Result ScriptValue Status) → IsSelftestRead seed events reading → IsReadDecided reading → IsOrMemory (status_read reading) status

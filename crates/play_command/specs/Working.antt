@@ -1,0 +1,104 @@
+-- Inner: plays and selftests up to what is to be reported of them.
+use Rattle.std.specs.Prelude.{◌≡◌, ◌⊎◌, ℕ, ◌≤◌, List, All, length, Result, Ok, Err, string_bytes}
+use Rattle.std.specs.Io.KnownBytes.{Appends, Keeps}
+use Rattle.ass_io.specs.Fetched.{Told}
+use Rattle.ass_num.specs.Limits.{max_file_bytes}
+use Rattle.ass_script.specs.Ranges.{IsScript}
+use Rattle.ass_script.specs.Scripts.{ScriptValue}
+use Rattle.frame_play.specs.Outcomes.{IsOrFault, SuitsSink, out_of_memory, status_if_put, text_to_report}
+use Rattle.frame_play.specs.Runs.{SinkChange}
+use Rattle.frame_play.specs.declared.outcome.Outcome.{Outcome}
+use Rattle.frame_play.specs.declared.outcome.Outcome.TheVariants.{Ended, Found}
+use Rattle.input_files.specs.declared.inputs.Inputs.{Inputs}
+use Rattle.play_model.specs.Outputs.{IsFrontOfPlay}
+use Rattle.play_model.specs.Plays.{IsPlayable, PlayView}
+use Rattle.play_report.specs.Digests.{digest_after}
+use Rattle.play_report.specs.Reports.{report_text, summary_text}
+use Rattle.play_rounds.specs.declared.ends.PlayEnd.{PlayEnd}
+use Rattle.play_rounds.specs.declared.ends.PlayEnd.TheVariants as play_end
+use Rattle.play_words.specs.declared.job.Job.{Job}
+use Rattle.play_words.specs.declared.job.Job.TheVariants.{Play, Selftest}
+use Rattle.play_words.specs.declared.job.PlayJob.{PlayJob}
+use Rattle.run_status.specs.declared.status.Status.{Status}
+use Rattle.run_status.specs.declared.status.Status.TheVariants.{Done, OutOfMemory, WriteFault}
+use Rattle.run_status.specs.declared.status.Which.TheVariants.{Frames, Report}
+use Rattle.text_layout.specs.Fonts.{IsLayoutFontSet}
+use Rattle.play_command.specs.PlayRuns.{IsPlayOutput, IsPlayPutCount, IsPlayRead, status_read, view_of}
+use Rattle.play_command.specs.SelftestRuns.{IsSelftestRead, IsSelftestReport, accepted_first, selftest_fonts}
+
+-- There is something to report: a text, or the line of a status.
+abbrev pub IsSpoken : Outcome → Type 0
+IsSpoken (Ended Done) = ⊥
+IsSpoken outcome = Unit {0}
+
+-- What is to be reported of a play that ended so.
+abbrev pub IsToldOf : PlayEnd → Outcome → Type 0
+IsToldOf (play_end.Done report) (Found text) = string_bytes text ≡ report_text report
+IsToldOf (play_end.Done report) outcome = outcome ≡ out_of_memory
+IsToldOf play_end.WriteFault outcome = outcome ≡ Ended (WriteFault Frames)
+IsToldOf play_end.OutOfMemory outcome = outcome ≡ out_of_memory
+
+-- What the frames sink got of a play that came so far.
+abbrev pub IsPlayShown : PlayView → SinkChange → Outcome → Type 0
+IsPlayShown play frames (Found text) =
+    (bytes : List ℕ) × IsPlayOutput play bytes (string_bytes text) × Appends frames.held_before frames.held_now bytes
+IsPlayShown play frames (Ended (WriteFault Frames)) = (bytes : List ℕ) × IsFrontOfPlay play bytes × Appends frames.held_before frames.held_now bytes
+IsPlayShown play frames (Ended OutOfMemory) =
+    (bytes : List ℕ) × (IsFrontOfPlay play bytes ⊎ ((text : List ℕ) × IsPlayOutput play bytes text)) × Appends frames.held_before frames.held_now bytes
+IsPlayShown play frames _ = ⊥
+
+abbrev pub IsShownAfter : PlayJob → Result Inputs Status → SinkChange → Outcome → Type 0
+IsShownAfter job (Err refusal) frames outcome = ((outcome ≡ Ended refusal) ⊎ (outcome ≡ out_of_memory)) × Keeps frames.held_before frames.held_now
+IsShownAfter job (Ok inputs) frames outcome = IsPlayable (view_of job inputs) × IsPlayShown (view_of job inputs) frames outcome
+
+-- A play before anything is reported.
+pub record IsPlayWorked (told : List ℕ → Told) (job : PlayJob) (script : List ℕ) (fonts : List (List ℕ)) (frames : SinkChange) (puts_before puts_now : ℕ) (outcome : Outcome) : Type 0 where
+  pub reading : Result Inputs Status
+  pub read : IsPlayRead told job script fonts reading
+  pub shown : IsShownAfter job reading frames outcome
+  pub puts : IsPlayPutCount job reading (status_if_put outcome) puts_before puts_now
+
+-- the script of what was read
+abbrev pub script_alone : Result Inputs Status → Result ScriptValue Status
+script_alone (Ok inputs) = Ok inputs.script
+script_alone (Err refusal) = Err refusal
+
+-- The script came to these inputs with the font of a selftest, or memory was wanting.
+abbrev pub IsWithFont : ScriptValue → Result Inputs Status → Type 0
+IsWithFont script (Ok inputs) = (inputs.script ≡ script) × (inputs.fonts ≡ selftest_fonts) × IsLayoutFontSet inputs.fonts
+IsWithFont script (Err refusal) = refusal ≡ OutOfMemory
+
+-- What a selftest works on.
+pub record AreSelftestInputs (inputs : Inputs) : Type 0 where
+  pub script : IsScript inputs.script
+  pub short : All (λ line. length line ≤ max_file_bytes) inputs.script.lines
+  pub fonts : inputs.fonts ≡ selftest_fonts
+  pub few_fonts : IsLayoutFontSet inputs.fonts
+
+-- What is to be reported of a selftest whose play ended so and put these images.
+abbrev pub IsSummedOf : ℕ → ℕ → List ℕ → PlayEnd → Outcome → Type 0
+IsSummedOf seed events images (play_end.Done report) (Found text) =
+    string_bytes text ≡ summary_text seed events (length (accepted_first report)) report.frames (digest_after 0 images)
+IsSummedOf seed events images (play_end.Done report) outcome = outcome ≡ out_of_memory
+IsSummedOf seed events images play_end.WriteFault outcome = outcome ≡ out_of_memory
+IsSummedOf seed events images play_end.OutOfMemory outcome = outcome ≡ out_of_memory
+
+-- A selftest before anything is reported.
+pub record IsSelftestWorked (seed events : ℕ) (outcome : Outcome) : Type 0 where
+  pub reading : Result ScriptValue Status
+  pub read : IsSelftestRead seed events reading
+  pub answered : IsOrFault Report (status_read reading) (status_if_put outcome)
+  pub text : status_if_put outcome ≡ Done → IsSelftestReport seed events reading (text_to_report outcome)
+  pub own : SuitsSink Report outcome
+
+-- Threads wait for one another in the job.
+abbrev pub IsShared : Job → Type 0
+IsShared (Play play script fonts) = Unit {0}
+IsShared (Selftest seed events workers) = Unit {0}
+IsShared _ = ⊥
+
+-- Such a job before anything is reported.
+abbrev pub IsJobWorked : (List ℕ → Told) → Job → SinkChange → ℕ → ℕ → Outcome → Type 0
+IsJobWorked told (Play play script fonts) frames puts_before puts_now outcome = IsPlayWorked told play script fonts frames puts_before puts_now outcome
+IsJobWorked told (Selftest seed events workers) frames puts_before puts_now outcome = IsSelftestWorked seed events outcome
+IsJobWorked told _ frames puts_before puts_now outcome = ⊥

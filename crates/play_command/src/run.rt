@@ -1,0 +1,162 @@
+//! The call that the program makes.
+
+ghost use Rattle.std.specs.Prelude.{◌≡◌, ◌≢◌, ◌⊎◌, [], ℕ, List, None, Ok, Some};
+ghost use Rattle.ass_num.specs.Causes.{Rose};
+ghost use Rattle.frame_play.specs.Outcomes.{IsFinishPutCount, IsFramesPutCount, IsOrMemory, IsReportPutCount, IsReportable, IsReported};
+ghost use Rattle.frame_play.specs.Outcomes.{IsStatusReadCounted, IsWriteCounted, out_of_memory, status_if_put};
+ghost use Rattle.frame_play.specs.Outputs.{sink_of};
+ghost use Rattle.frame_play.specs.Runs.{Decides, IsJobRun, sink_change};
+ghost use Rattle.frame_play.specs.Works.{work_asked};
+ghost use Rattle.frame_play.specs.declared.work.Work.{Work};
+ghost use Rattle.play_command.specs.PlayRuns.{DecidesPlay, IsPlayRun};
+ghost use Rattle.play_command.specs.SelftestRuns.{DecidesSelftest, IsSelftestRun};
+ghost use Rattle.play_command.specs.Working.{IsJobWorked, IsShared, IsSpoken};
+ghost use Rattle.play_words.specs.Jobs.{IsJob};
+ghost use Rattle.play_words.specs.Words.{job_of, texts};
+ghost use Rattle.play_words.specs.declared.job.Job.TheVariants.{Play as a_play, Selftest as a_selftest};
+ghost use Rattle.play_words.specs.declared.job.PlayJob.{PlayJob};
+ghost use Rattle.run_status.specs.declared.status.Which.TheVariants.{Report as the_report};
+
+use crate::playing::play_files;
+use crate::selftest::do_selftest;
+use ass_io::{Gate, Rt, Shelf, Sink};
+use frame_play::{Outcome, calm, finish};
+use input_files::files_decide;
+use play_words::{Job, read_words};
+use run_status::Status;
+use std::alloc::Global;
+
+/// Does a job in which threads wait for one another, up to what is to be reported of it.
+fn do_job<S: Shelf, F: Sink, G: Gate + Sync>(
+    rt: &impl Rt,
+    alloc: Global,
+    job: Job,
+    shelf: &mut S,
+    frames: &mut F,
+    gate: &G,
+) -> Outcome
+    requires within { IsJob job }
+    requires shared { IsShared job }
+    ensures worked { IsJobWorked (S.told shelf.old) job (sink_change (F.held frames.old) (F.held frames.new) (F.faults frames.old) (F.faults frames.new))
+        (F.puts frames.old) (F.puts frames.new) result }
+    ensures selftest_shelf { (seed events workers : ℕ) → job ≡ a_selftest seed events workers → shelf.new ≡ shelf.old }
+    ensures selftest_frames { (seed events workers : ℕ) → job ≡ a_selftest seed events workers → frames.new ≡ frames.old }
+    ensures read { IsStatusReadCounted (status_if_put result) (S.faults shelf.old) (S.faults shelf.new) }
+    ensures write { IsWriteCounted (status_if_put result) (F.faults frames.old) (F.faults frames.new) }
+    ensures reportable { IsReportable result }
+    ensures spoken { IsSpoken result }
+{
+    match job {
+        Job::Play(play, script, fonts) => {
+            let fonts = fonts.as_slice();
+            play_files(rt, alloc, play, &script, fonts, shelf, frames, gate)
+        }
+        Job::Selftest(seed, events, workers) => {
+            do_selftest(rt, alloc, seed, events, workers, gate)
+        }
+        Job::Check(_, _) => unreachable!(),
+        Job::Frame(_, _, _, _, _) => unreachable!(),
+        Job::Changes(_, _, _, _, _, _, _) => unreachable!(),
+        Job::Write(_, _, _) => unreachable!(),
+    }
+}
+
+/// Does the play or the selftest of the words, up to what is to be reported of it.
+fn do_shared<S: Shelf, F: Sink, G: Gate + Sync>(
+    rt: &impl Rt,
+    alloc: Global,
+    words: &[String],
+    shelf: &mut S,
+    frames: &mut F,
+    gate: &G,
+) -> Outcome
+    requires { work_asked (texts words.now) ≡ Ok None }
+    ensures worked { (job : Job) → job_of (texts words.now) ≡ Ok job
+        → IsJobWorked (S.told shelf.old) job (sink_change (F.held frames.old) (F.held frames.new) (F.faults frames.old) (F.faults frames.new))
+        (F.puts frames.old) (F.puts frames.new) result }
+    ensures selftest_shelf { (seed events workers : ℕ) → job_of (texts words.now) ≡ Ok (a_selftest seed events workers) → shelf.new ≡ shelf.old }
+    ensures selftest_frames { (seed events workers : ℕ) → job_of (texts words.now) ≡ Ok (a_selftest seed events workers) → frames.new ≡ frames.old }
+    ensures read { IsStatusReadCounted (status_if_put result) (S.faults shelf.old) (S.faults shelf.new) }
+    ensures write { IsWriteCounted (status_if_put result) (F.faults frames.old) (F.faults frames.new) }
+    ensures reportable { IsReportable result }
+    ensures spoken { IsSpoken result }
+{
+    match read_words(alloc, words) {
+        Ok(job) => do_job(rt, alloc, job, shelf, frames, gate),
+        // Words that ask for no job don't come here.
+        Err(_refusal) => Outcome::Ended(Status::OutOfMemory),
+    }
+}
+
+/// Does the job of the words: `calm` does what waits for nobody, and a play and a selftest are done here, by threads.
+pub fn top<S: Shelf, F: Sink, R: Sink, G: Gate + Sync>(
+    rt: &impl Rt,
+    alloc: Global,
+    words: &[String],
+    shelf: &mut S,
+    frames: &mut F,
+    report: &mut R,
+    gate: &G,
+) -> Status
+    // Words that ask for no job are refused, before any file is fetched, and nothing is shown.
+    ensures other_words { (status : Status) → work_asked (texts words.now) ≡ Err status → IsOrMemory status result }
+    ensures other_shelf { (status : Status) → work_asked (texts words.now) ≡ Err status → shelf.new ≡ shelf.old }
+    ensures other_frames { (status : Status) → work_asked (texts words.now) ≡ Err status → frames.new ≡ frames.old }
+    ensures other_report { (status : Status) → work_asked (texts words.now) ≡ Err status → IsReported result (R.held report.old) (R.held report.new)
+        (R.faults report.old) (R.faults report.new) (λ text. text ≡ []) }
+    ensures other_once { (status : Status) → work_asked (texts words.now) ≡ Err status → IsFinishPutCount (Outcome.Ended status) result (R.puts report.old) (R.puts report.new) }
+
+    // The files are read in order, and what they hold asks for the answer and for what both sinks get.
+    ensures run { (work : Work) → work_asked (texts words.now) ≡ Ok (Some work) → IsJobRun (S.told shelf.old) work
+        (sink_change (F.held frames.old) (F.held frames.new) (F.faults frames.old) (F.faults frames.new))
+        (sink_change (R.held report.old) (R.held report.new) (R.faults report.old) (R.faults report.new)) result }
+
+    // Where all files are told and no count of faults rose, they decide the answer.
+    ensures decided { (work : Work) → work_asked (texts words.now) ≡ Ok (Some work)
+        → (Rose (S.faults shelf.old) (S.faults shelf.new) → ⊥)
+        → (Rose (F.faults frames.old) (F.faults frames.new) → ⊥)
+        → (Rose (R.faults report.old) (R.faults report.new) → ⊥)
+        → Decides (S.told shelf.old) work result }
+
+    // Each sink gets what it gets by one put.
+    ensures shown_once { (work : Work) → work_asked (texts words.now) ≡ Ok (Some work)
+        → IsFramesPutCount (sink_of work.task) result (F.puts frames.old) (F.puts frames.new) }
+    ensures reported_once { (work : Work) → work_asked (texts words.now) ≡ Ok (Some work)
+        → IsReportPutCount (sink_of work.task) result (R.puts report.old) (R.puts report.new) }
+
+    // So it is with a play, of which each image is one put.
+    ensures play { (job : PlayJob) (script : List ℕ) (fonts : List (List ℕ)) → job_of (texts words.now) ≡ Ok (a_play job script fonts)
+        → IsPlayRun (S.told shelf.old) job script fonts
+        (sink_change (F.held frames.old) (F.held frames.new) (F.faults frames.old) (F.faults frames.new))
+        (sink_change (R.held report.old) (R.held report.new) (R.faults report.old) (R.faults report.new))
+        (F.puts frames.old) (F.puts frames.new) result }
+    ensures play_decided { (job : PlayJob) (script : List ℕ) (fonts : List (List ℕ)) → job_of (texts words.now) ≡ Ok (a_play job script fonts)
+        → (Rose (S.faults shelf.old) (S.faults shelf.new) → ⊥)
+        → (Rose (F.faults frames.old) (F.faults frames.new) → ⊥)
+        → (Rose (R.faults report.old) (R.faults report.new) → ⊥)
+        → DecidesPlay (S.told shelf.old) job script fonts result }
+
+    // The report of a selftest is decided by its words but for their workers. It fetches and shows nothing.
+    ensures selftest { (seed events workers : ℕ) → job_of (texts words.now) ≡ Ok (a_selftest seed events workers)
+        → IsSelftestRun seed events (sink_change (R.held report.old) (R.held report.new) (R.faults report.old) (R.faults report.new)) result }
+    ensures selftest_decided { (seed events workers : ℕ) → job_of (texts words.now) ≡ Ok (a_selftest seed events workers)
+        → (Rose (R.faults report.old) (R.faults report.new) → ⊥) → DecidesSelftest seed events result }
+    ensures selftest_shelf { (seed events workers : ℕ) → job_of (texts words.now) ≡ Ok (a_selftest seed events workers) → shelf.new ≡ shelf.old }
+    ensures selftest_frames { (seed events workers : ℕ) → job_of (texts words.now) ≡ Ok (a_selftest seed events workers) → frames.new ≡ frames.old }
+
+    // What either has to report is put once.
+    ensures told_once { work_asked (texts words.now) ≡ Ok None → IsReportPutCount the_report result (R.puts report.old) (R.puts report.new) }
+
+    // A fault is answered only where its object's count rose.
+    ensures read { IsStatusReadCounted result (S.faults shelf.old) (S.faults shelf.new) }
+    ensures write { IsWriteCounted result (F.faults frames.old) (F.faults frames.new) }
+{
+    files_decide();
+    match calm(alloc, words, shelf, frames, report) {
+        Some(status) => status,
+        None => {
+            let outcome = do_shared(rt, alloc, words, shelf, frames, gate);
+            finish(alloc, outcome, report)
+        }
+    }
+}

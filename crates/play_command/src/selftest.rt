@@ -1,0 +1,109 @@
+//! A selftest, up to what is to be reported of it.
+
+ghost use Rattle.std.specs.Prelude.{◌≡◌, ◌≤◌, IfOk, length, string_bytes};
+ghost use Rattle.play_command.specs.SelftestRuns.{accepted_first, selftest_job};
+ghost use Rattle.play_command.specs.Working.{IsSelftestWorked, IsSummedOf};
+ghost use Rattle.play_report.specs.Digests.{digest_after};
+ghost use Rattle.play_report.specs.Reports.{summary_text};
+ghost use Rattle.play_words.specs.Jobs.{IsJob};
+ghost use Rattle.play_words.specs.Limits.{max_events};
+ghost use Rattle.play_words.specs.declared.job.Job.TheVariants.{Selftest};
+
+use crate::playing::play_with;
+use crate::reading::selftest_inputs;
+use ass_io::{Gate, MemorySink, Rt};
+use ass_num::{Mem, OutOfMemory, Size};
+use frame_play::Outcome;
+use play_report::{PlayReport, digest_after, summary_text};
+use play_rounds::PlayEnd;
+use play_words::{Mode, PlayJob};
+use run_status::Status;
+use std::alloc::Global;
+
+/// How many images a selftest makes.
+const IMAGE_COUNT: i64 = 20;
+
+/// What is played: instants over the time in which the events begin.
+fn selftest_job(events: u32, workers: u32) -> PlayJob
+    requires { events ≤ max_events }
+    ensures { result ≡ selftest_job events workers }
+{
+    let step = 5 * i64::from(events);
+    PlayJob {
+        from: 0,
+        to: IMAGE_COUNT * step,
+        step,
+        size: Size { w: 320, h: 180 },
+        feeders: workers,
+        renderers: workers,
+        batch: 16,
+        again: 0,
+        times: 1,
+        ahead: 0,
+        bands: 1,
+        budget: 1_048_576,
+        mode: Mode::Settled,
+    }
+}
+
+/// How many events were accepted.
+fn accepted_count(report: &PlayReport) -> usize
+    ensures { result ≡ length (accepted_first report.now) }
+{
+    match report.accepted.as_slice() {
+        [orders, ..] => orders.len(),
+        [] => 0,
+    }
+}
+
+/// The summary of a selftest, of its play's report and of its images.
+fn summary_of(
+    alloc: Global,
+    seed: u32,
+    events: u32,
+    report: &PlayReport,
+    images: &[u8],
+) -> Mem<String>
+    ensures { IfOk result (λ text. string_bytes text ≡ summary_text seed events (length (accepted_first report.now)) report.now.frames (digest_after 0 images.now)) }
+{
+    let digest = digest_after(0, images);
+    let accepted = accepted_count(report);
+    summary_text(alloc, seed, events, accepted, report.frames, digest)
+}
+
+/// What is to be reported of a selftest whose play ended so and put these images. A sink in memory fails for want of memory alone.
+fn summed(alloc: Global, seed: u32, events: u32, end: PlayEnd, images: &[u8]) -> Outcome
+    ensures { IsSummedOf seed events images.now end result }
+{
+    match end {
+        PlayEnd::Done(report) => match summary_of(alloc, seed, events, &report, images) {
+            Ok(text) => Outcome::Found(text),
+            Err(OutOfMemory) => Outcome::Ended(Status::OutOfMemory),
+        },
+        PlayEnd::WriteFault => Outcome::Ended(Status::OutOfMemory),
+        PlayEnd::OutOfMemory => Outcome::Ended(Status::OutOfMemory),
+    }
+}
+
+/// Plays a generated script, and digests the images.
+pub fn do_selftest<G: Gate + Sync>(
+    rt: &impl Rt,
+    alloc: Global,
+    seed: u32,
+    events: u32,
+    workers: u32,
+    gate: &G,
+) -> Outcome
+    requires { IsJob (Selftest seed events workers) }
+    ensures { IsSelftestWorked seed events result }
+{
+    match selftest_inputs(alloc, seed, events) {
+        Ok(inputs) => {
+            let job = selftest_job(events, workers);
+            let mut images = MemorySink::new(alloc);
+            let end = play_with(rt, alloc, job, inputs, &mut images, gate);
+            summed(alloc, seed, events, end, images.bytes())
+        }
+        Err(status) => Outcome::Ended(status),
+    }
+}

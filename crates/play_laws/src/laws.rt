@@ -1,0 +1,20 @@
+//! Laws of plays. The functions do nothing: their contracts are the laws.
+
+ghost use Rattle.play_laws.specs.Agreement.{SelftestsAgree, SettledPlaysAgree};
+
+use picture_laws::one_picture;
+
+/// Two settled plays of the same script and fonts, at the same instants, as often and of the same size, put the same bytes: no number
+/// of feeders, renderers, lines of a batch, lines offered again, instants warmed ahead, bands or bytes of a budget changes one.
+pub fn settled_plays_agree()
+    ensures { SettledPlaysAgree }
+{
+    one_picture();
+}
+
+/// A seed and a number of events have one report, whatever the number of workers.
+pub fn selftests_agree()
+    ensures { SelftestsAgree }
+{
+    one_picture();
+}

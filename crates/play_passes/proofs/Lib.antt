@@ -1,0 +1,10 @@
+pub mod Shards
+pub mod Splits
+pub mod Hands
+pub mod Takes
+pub mod ShardRounds
+pub mod CacheRounds
+pub mod CacheAsks
+pub mod WholeRounds
+pub mod Told
+pub mod Turns

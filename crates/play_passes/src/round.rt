@@ -1,0 +1,146 @@
+//! One round.
+
+ghost use Rattle.std.specs.Prelude.{◌≡◌, ℕ, ◌+◌, ◌<◌, ◌≤◌, length, All, slice_index_or};
+ghost use Rattle.render_pass.specs.Holding.{HoldsTheSame};
+ghost use Rattle.render_pass.specs.Passes.{HoldsNothing, IsFirstPass, IsPassOfRenderer, IsRenderJoined, IsRenderSplit, RenderView};
+ghost use Rattle.play_workers.specs.Limits.{max_rounds};
+ghost use Rattle.play_workers.specs.Parts.{HasNoPass, HasPass, HasWorked};
+ghost use Rattle.play_workers.specs.Roles.{IsRoleOf};
+ghost use Rattle.play_workers.specs.Stages.{IsPlayStage};
+ghost use Rattle.play_workers.specs.declared.worker.Worker.{Worker};
+ghost use Rattle.play_passes.specs.Passes.{AreRendersJoined, AreRendersSplit, ExtendsItself, HasIdlePass, IsHome};
+ghost use Rattle.play_passes.specs.Rounds.{AreHandedOut, IsRound, roles_of};
+
+use ass_io::Gate;
+use play_workers::{Stage, Worker};
+use render_pass::laws::frames_are_given_back;
+use render_pass::{RenderPass, Renderer};
+use std::alloc::Global;
+use std::sync::Wait;
+use std::thread::{Threads, for_each_mut};
+
+/// All workers do their parts at once, each with a pass of its own. Then all passes are joined again.
+pub fn play_round<R: Threads + Wait + Sync, G: Gate + Sync>(
+    rt: &R,
+    alloc: Global,
+    stage: &Stage,
+    round: usize,
+    first: RenderPass,
+    workers: &mut [Worker],
+    gate: &G,
+) -> RenderPass
+    requires stage { IsPlayStage stage.now }
+    requires home { IsHome stage.now.renderer first }
+    requires room { first.track.next + length workers.old ≤ u32.MAX }
+    requires idle { All HasNoPass workers.old }
+    requires small { round ≤ max_rounds }
+    requires some { 0 < length workers.old }
+    requires roles { All (λ (w : Worker). IsRoleOf stage.now.job w.role) workers.old }
+    ensures home { IsHome stage.now.renderer result }
+    ensures drawn { result.track.next ≡ first.track.next + length workers.old }
+    ensures idle { All HasNoPass workers.new }
+    ensures roles { roles_of workers.new ≡ roles_of workers.old }
+    ensures round { IsRound stage.now round first workers.new result }
+{
+    let first = hand_out(&stage.renderer, first, workers);
+    work_all(rt, alloc, stage, round, workers, gate);
+    take_back(&stage.renderer, first, workers)
+}
+
+/// Gives each worker a pass that is split off the first one.
+fn hand_out(renderer: &Renderer, first: RenderPass, workers: &mut [Worker]) -> RenderPass
+    requires pass { IsPassOfRenderer renderer.now first }
+    requires first { IsFirstPass first }
+    requires room { first.track.next + length workers.old ≤ u32.MAX }
+    requires idle { All HasNoPass workers.old }
+    ensures pass { IsPassOfRenderer renderer.now result }
+    ensures first { IsFirstPass result }
+    ensures have { (i : ℕ) (d : Worker) → i < length workers.old → HasPass renderer.now (slice_index_or workers.new i d) }
+    ensures passes { (passes : ℕ → RenderView) → AreHandedOut passes workers.new → AreRendersSplit renderer.now first (length workers.old) passes result }
+    ensures roles { (i : ℕ) (d : Worker) → i < length workers.old → (slice_index_or workers.new i d).role ≡ (slice_index_or workers.old i d).role }
+{
+    let mut first = first;
+    for worker in workers.iter_mut() {
+        let (kept, new) = split(renderer, first);
+        first = kept;
+        let before = worker.pass.replace(new);
+        let None = before else { unreachable!() };
+    }
+    first
+}
+
+/// Splits a pass off. There is a number left, so it isn't refused.
+fn split(renderer: &Renderer, first: RenderPass) -> (RenderPass, RenderPass)
+    requires pass { IsPassOfRenderer renderer.now first }
+    requires first { IsFirstPass first }
+    requires room { first.track.next < u32.MAX }
+    ensures { IsRenderSplit renderer.now first result.0 result.1 }
+{
+    match renderer.split(first) {
+        Ok(two) => two,
+        Err(_) => unreachable!(),
+    }
+}
+
+/// Each worker does its part in a thread of its own.
+fn work_all<R: Threads + Wait + Sync, G: Gate + Sync>(
+    rt: &R,
+    alloc: Global,
+    stage: &Stage,
+    round: usize,
+    workers: &mut [Worker],
+    gate: &G,
+)
+    requires some { 0 < length workers.old }
+    requires stage { IsPlayStage stage.now }
+    requires small { round ≤ max_rounds }
+    requires passes { All (HasPass stage.now.renderer) workers.old }
+    requires roles { All (λ (w : Worker). IsRoleOf stage.now.job w.role) workers.old }
+    ensures { (i : ℕ) (d : Worker) → i < length workers.old
+        → HasWorked stage.now round (slice_index_or workers.old i d) (slice_index_or workers.new i d) }
+{
+    let threads = workers.len();
+    for_each_mut(
+        rt,
+        workers,
+        threads,
+        &|_number: usize, worker: &mut Worker|
+            requires { HasPass stage.now.renderer worker.old × IsPlayStage stage.now × (round ≤ max_rounds) × IsRoleOf stage.now.job worker.old.role }
+        { worker.work(rt, alloc, stage, round, gate) },
+    );
+}
+
+/// Joins a pass that holds as much as one that holds nothing into the first one.
+fn join(renderer: &Renderer, first: RenderPass, pass: RenderPass) -> RenderPass
+    requires passes { IsPassOfRenderer renderer.now first × IsPassOfRenderer renderer.now pass }
+    requires first { IsFirstPass first }
+    requires idle { (begun : RenderView) × HoldsNothing renderer.now begun × HoldsTheSame renderer.now begun pass }
+    ensures joined { IsRenderJoined renderer.now first pass result }
+    ensures nothing { HoldsNothing renderer.now pass }
+{
+    renderer.kept(&pass);
+    frames_are_given_back();
+    renderer.join(first, pass)
+}
+
+/// Joins the workers' passes into the first one.
+fn take_back(renderer: &Renderer, first: RenderPass, workers: &mut [Worker]) -> RenderPass
+    requires pass { IsPassOfRenderer renderer.now first }
+    requires first { IsFirstPass first }
+    requires itself { ExtendsItself first }
+    requires passes { All (HasIdlePass renderer.now) workers.old }
+    ensures pass { IsPassOfRenderer renderer.now result }
+    ensures idle { All HasNoPass workers.new }
+    ensures joined { (passes : ℕ → RenderView) → AreHandedOut passes workers.old → AreRendersJoined renderer.now first (length workers.old) passes result }
+    ensures stay { (i : ℕ) (d : Worker) → i < length workers.old
+        → ((slice_index_or workers.new i d).role ≡ (slice_index_or workers.old i d).role) × ((slice_index_or workers.new i d).outcome ≡ (slice_index_or workers.old i d).outcome) }
+{
+    let mut first = first;
+    for worker in workers.iter_mut() {
+        let Some(pass) = worker.pass.take() else {
+            unreachable!()
+        };
+        first = join(renderer, first, pass);
+    }
+    first
+}

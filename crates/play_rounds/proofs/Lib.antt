@@ -1,0 +1,14 @@
+pub mod Crews
+pub mod Sums
+pub mod Walks
+pub mod FedRounds
+pub mod ShiftRounds
+pub mod Puts
+pub mod Few
+pub mod Plays
+pub mod TimesOn
+pub mod BeginTimes
+pub mod TimesMore
+pub mod AllTimes
+pub mod Whole
+pub mod Bounds

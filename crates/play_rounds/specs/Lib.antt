@@ -1,0 +1,5 @@
+pub mod Limits
+pub mod Shifts
+pub mod Playing
+pub mod Outputs
+pub mod Times

@@ -1,0 +1,59 @@
+//! What came of a round.
+
+ghost use Rattle.std.specs.Prelude.{◌≡◌, ◌≤◌, ◌↔◌, sum_by, All, IsTrue};
+ghost use Rattle.std.specs.List.{flat_map};
+ghost use Rattle.play_workers.specs.Parts.{IsFine, image_by, told_repeats};
+ghost use Rattle.play_workers.specs.declared.worker.Worker.{Worker};
+ghost use Rattle.play_rounds.specs.Outputs.{ArePut};
+
+use ass_io::{Put, Sink};
+use play_workers::{Outcome, Worker};
+
+/// Whether memory was wanting nowhere.
+pub fn are_fine(workers: &[Worker]) -> bool
+    ensures { IsTrue result ↔ All (λ (w : Worker). IsFine w.outcome) workers.now }
+{
+    for worker in workers {
+        if !worker.outcome.is_fine() {
+            return false;
+        }
+    }
+    true
+}
+
+/// How many events that were offered in a round were there already.
+pub fn count_repeated(workers: &[Worker]) -> usize
+    requires { sum_by (λ (w : Worker). told_repeats w.outcome) workers.now ≤ u32.MAX }
+    ensures { result ≡ sum_by (λ (w : Worker). told_repeats w.outcome) workers.now }
+{
+    let mut count = 0;
+    for worker in workers {
+        count += worker.outcome.repeated();
+    }
+    count
+}
+
+/// Puts the images of a round, in the order of the workers, each by one put.
+pub fn put_images<F: Sink>(workers: &[Worker], frames: &mut F) -> Put
+    ensures { ArePut (flat_map (λ (w : Worker). image_by w.outcome) workers.now) result (F.held frames.old) (F.held frames.new)
+        (F.faults frames.old) (F.faults frames.new) (F.puts frames.old) (F.puts frames.new) }
+{
+    for worker in workers {
+        match put_image(&worker.outcome, frames) {
+            Put::Done => {}
+            other => return other,
+        }
+    }
+    Put::Done
+}
+
+/// Puts the image of an outcome, if it has one.
+fn put_image<F: Sink>(outcome: &Outcome, frames: &mut F) -> Put
+    ensures { ArePut (image_by outcome.now) result (F.held frames.old) (F.held frames.new)
+        (F.faults frames.old) (F.faults frames.new) (F.puts frames.old) (F.puts frames.new) }
+{
+    match outcome {
+        Outcome::Shown(image) => frames.put(image.as_slice()),
+        Outcome::Idle | Outcome::Fed(_) | Outcome::OutOfMemory => Put::Done,
+    }
+}

@@ -1,0 +1,13 @@
+//! The rounds of a play: its shifts, its times, and the whole. Images are written in the order of their instants. docs/PLAYS.md has the
+//! rules.
+#![tactic(auto)]
+
+mod ends;
+mod gather;
+mod rounds;
+mod shift;
+mod times;
+mod whole_play;
+
+pub use ends::PlayEnd;
+pub use whole_play::play;

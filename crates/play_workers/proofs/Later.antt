@@ -1,0 +1,99 @@
+-- A pass after its part is a later one in each shard.
+use Rattle.std.proofs.Common.{◌≡◌, ℕ, ℤ, List, [], Result, Ok, Err, sym, subst, ⊎_elim}
+use Rattle.ass_num.specs.declared.size.Size.{Size}
+use Rattle.cache_kinds.specs.Kinds.{composite_meaning}
+use Rattle.cache_totals.specs.Balance.{AreLater}
+use Rattle.evict_core.specs.Machine.{Step}
+use Rattle.flight_cache.specs.Laws.{IsLater}
+use Rattle.flight_cache.specs.Shards.{CachePassView}
+use Rattle.flight_cache.proofs.Rows.{later_is_later}
+use Rattle.frame_paint.specs.declared.frames.Frame.{Frame}
+use Rattle.ass_num.specs.Masks.{MaskValue}
+use Rattle.mask_caches.specs.Adding.{Adds}
+use Rattle.mask_caches.specs.declared.caches.Caches.{Caches}
+use Rattle.mask_caches.specs.declared.passes.CachesPass.{CachesPass}
+use Rattle.mask_keys.specs.Equality.{equal_composites}
+use Rattle.mask_keys.specs.declared.composite_key.CompositeKey.{CompositeKey}
+use Rattle.render_pass.specs.Leasing.{AddsVisits}
+use Rattle.render_pass.specs.Passes.{RenderView, RendererView}
+use Rattle.render_pass.specs.Rendering.{IsRendered}
+use Rattle.render_pass.specs.Trying.{AddsNothing, IsTried}
+use Rattle.render_pass.specs.Warming.{IsColdAt, IsWarmed, Refused, Unplanned}
+use Rattle.render_pass.specs.declared.trying.Again.TheVariants as again
+use Rattle.render_pass.specs.declared.trying.TryRefusal.{TryRefusal}
+use Rattle.render_pass.specs.declared.trying.TryRefusal.TheVariants.{Again, OutOfMemory}
+use Rattle.turn_cell.proofs.Passes.{Follows_same}
+use Rattle.warm_ahead.specs.Warming.{AddsWarming, KeyVisit}
+use Rattle.play_workers.proofs.Asked.{pinned_later}
+
+later_none : {K T : Type 0} (pass : CachePassView K T) → IsLater pass pass
+later_none pass = record { first = ([], Follows_same pass.first); second = ([], Follows_same pass.second); third = ([], Follows_same pass.third); fourth = ([], Follows_same pass.fourth) }
+
+later_same : {K T : Type 0} (pass after : CachePassView K T) → after ≡ pass → IsLater pass after
+later_same pass after same = subst (IsLater pass) (sym same) (later_none pass)
+
+pub caches_same : (pass after : CachesPass) → after ≡ pass → AreLater pass after
+caches_same pass after same = subst (AreLater pass) (sym same) record {
+  outlines = later_none pass.outlines;
+  masks = later_none pass.masks;
+  composites = later_none pass.composites;
+}
+
+pub caches_then : (pass mid after : CachesPass) → AreLater pass mid → AreLater mid after → AreLater pass after
+caches_then pass mid after one two = record {
+  outlines = later_is_later pass.outlines mid.outlines after.outlines one.outlines two.outlines;
+  masks = later_is_later pass.masks mid.masks after.masks one.masks two.masks;
+  composites = later_is_later pass.composites mid.composites after.composites one.composites two.composites;
+}
+
+-- the other two caches are as they were
+composites_later : (pass after : CachesPass) → after.masks ≡ pass.masks → after.outlines ≡ pass.outlines → IsLater pass.composites after.composites → AreLater pass after
+composites_later pass after masks outlines later = record {
+  outlines = later_same pass.outlines after.outlines outlines;
+  masks = later_same pass.masks after.masks masks;
+  composites = later;
+}
+
+nothing_later : (renderer : RendererView) (pass after : CachesPass) → AddsNothing renderer pass after → AreLater pass after
+nothing_later renderer pass after h = composites_later pass after h.others.masks h.others.outlines
+    record { first = ([], h.nothing.first); second = ([], h.nothing.second); third = ([], h.nothing.third); fourth = ([], h.nothing.fourth) }
+
+visits_later : (caches : Caches) (pass after : CachesPass) (visits : List KeyVisit) (given : List (Step CompositeKey MaskValue)) → AddsVisits caches pass after visits given → AreLater pass after
+visits_later caches pass after visits given adds = record { outlines = adds.outlines.later; masks = adds.masks.later; composites = adds.composites.later }
+
+warming_later : (caches : Caches) (pass after : CachesPass) (visits : List KeyVisit) → AddsWarming caches pass after visits → AreLater pass after
+warming_later caches pass after visits adds = record { outlines = adds.outlines.later; masks = adds.masks.later; composites = adds.composites.later }
+
+-- ---- calls of a renderer
+
+pub tried_later : (renderer : RendererView) (pass after : RenderView) (t : ℤ) (size : Size) (answer : Result Frame TryRefusal) → IsTried renderer pass after t size answer → AreLater pass.caches after.caches
+tried_later renderer pass after t size (Ok frame) h =
+    composites_later pass.caches after.caches h.others.masks h.others.outlines (pinned_later equal_composites composite_meaning renderer.caches.composites pass.caches.composites after.caches.composites _ h.pinned.pins h.pinned.pinned)
+tried_later renderer pass after t size (Err (Again (again.Track word))) h = caches_same pass.caches after.caches h.1.caches
+tried_later renderer pass after t size (Err (Again (again.Cache word))) h = nothing_later renderer pass.caches after.caches h.refused.nothing
+tried_later renderer pass after t size (Err (Again (again.NotReady place))) h = nothing_later renderer pass.caches after.caches h.refused.nothing
+tried_later renderer pass after t size (Err (Again (again.PinsFull place))) h = nothing_later renderer pass.caches after.caches h.refused.nothing
+tried_later renderer pass after t size (Err OutOfMemory) h = nothing_later renderer pass.caches after.caches h.nothing
+
+pub rendered_later : {E : Type 0} (renderer : RendererView) (pass after : RenderView) (t : ℤ) (size : Size) (answer : Result Frame E) → IsRendered renderer pass after t size answer → AreLater pass.caches after.caches
+rendered_later renderer pass after t size (Ok frame) h = visits_later renderer.caches pass.caches after.caches h.leased.visits [] h.leased.adds
+rendered_later renderer pass after t size (Err refused) h = ⊎_elim
+    (λ same. caches_same pass.caches after.caches same)
+    (λ asked. visits_later renderer.caches pass.caches after.caches asked.2.visits _ asked.2.adds)
+    h.unleased
+
+pub released_later : (renderer : RendererView) (pass after : RenderView) (steps : List (Step CompositeKey MaskValue)) → Adds equal_composites composite_meaning renderer.caches.composites pass.caches.composites after.caches.composites steps
+    → after.caches.masks ≡ pass.caches.masks → after.caches.outlines ≡ pass.caches.outlines → AreLater pass.caches after.caches
+released_later renderer pass after steps adds masks outlines = composites_later pass.caches after.caches masks outlines adds.later
+
+pub warmed_later : {E : Type 0} (renderer : RendererView) (pass after : RenderView) (instants : List ℤ) (size : Size) (answer : Result ℕ E) → IsWarmed renderer pass after instants size answer → AreLater pass.caches after.caches
+warmed_later renderer pass after instants size (Ok count) h = warming_later renderer.caches pass.caches after.caches _ h.2.warmed.adds
+warmed_later renderer pass after instants size (Err refused) h = cold h
+  where
+    cold : IsColdAt renderer pass after instants size → AreLater pass.caches after.caches
+    cold (Unplanned none) = record {
+      outlines = later_same pass.caches.outlines after.caches.outlines none.caches.outlines;
+      masks = later_same pass.caches.masks after.caches.masks none.caches.masks;
+      composites = later_same pass.caches.composites after.caches.composites none.caches.composites;
+    }
+    cold (Refused plans n few warmed) = warming_later renderer.caches pass.caches after.caches _ warmed.warmed.adds

@@ -1,0 +1,11 @@
+pub mod Alive
+pub mod Answered
+pub mod Offered
+pub mod Faults
+pub mod Shared
+pub mod Painted
+pub mod Asked
+pub mod Later
+pub mod AskedFrames
+pub mod Parted
+pub mod Fed

@@ -1,0 +1,35 @@
+-- Public: the composed masks that a pass asks for.
+use Rattle.std.specs.Prelude.{◌≡◌, ℕ, ◌+◌, ◌≤◌, ℤ, List}
+use Rattle.ass_events.specs.Histories.{Entry}
+use Rattle.ass_num.specs.declared.size.Size.{Size}
+use Rattle.cache_kinds.specs.Kinds.{composite_meaning}
+use Rattle.cache_totals.specs.Asks.{own_asks, seen_asks}
+use Rattle.frame_paint.specs.declared.frames.Frame.{Frame}
+use Rattle.mask_keys.specs.declared.plans.Draw.{Draw}
+use Rattle.render_pass.specs.Frames.{IsFrameOf}
+use Rattle.render_pass.specs.Passes.{RenderView, RendererView}
+use Rattle.play_model.specs.Images.{IsImageOf, masks_needed, needed_by}
+use Rattle.play_model.specs.Plays.{PlayView}
+
+-- how many composed masks a pass has asked for
+abbrev pub masks_asked : RendererView → RenderView → ℕ
+masks_asked renderer pass = own_asks composite_meaning renderer.caches.composites pass.caches.composites
+
+-- how many were asked for in all that it has seen
+abbrev pub masks_seen : RendererView → RenderView → ℕ
+masks_seen renderer pass = seen_asks composite_meaning renderer.caches.composites pass.caches.composites
+
+-- It is a frame of the history, and the pass asked for each of its masks.
+pub record IsFrameAsked (renderer : RendererView) (pass after : RenderView) (history : List Entry) (t : ℤ) (size : Size) (frame : Frame) : Type 0 where
+  pub is : IsFrameOf renderer.script renderer.fonts history t size frame
+  pub asked : masks_asked renderer pass + masks_needed is.draws ≤ masks_asked renderer after
+
+-- It is the image of these draws.
+pub record IsImageOfDraws (play : PlayView) (history : List Entry) (t : ℤ) (draws : List Draw) (bytes : List ℕ) : Type 0 where
+  pub is : IsImageOf play history t bytes
+  pub needed : needed_by is ≡ masks_needed draws
+
+-- It is the image of what the history shows at t, and the pass asked for each mask of its picture.
+pub record IsImageAsked (play : PlayView) (renderer : RendererView) (pass after : RenderView) (history : List Entry) (t : ℤ) (bytes : List ℕ) : Type 0 where
+  pub is : IsImageOf play history t bytes
+  pub asked : masks_asked renderer pass + needed_by is ≤ masks_asked renderer after

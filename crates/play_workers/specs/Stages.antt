@@ -1,0 +1,20 @@
+-- Public: what all workers of a play share.
+use Rattle.std.specs.Prelude.{◌≡◌, ℕ, ◌+◌, ◌*◌}
+use Rattle.std.specs.Arc.{arc_value}
+use Rattle.play_model.specs.Plays.{IsPlayable, PlayView, good_flags}
+use Rattle.play_workers.specs.declared.stage.Stage.{Stage}
+
+-- what is played on a stage
+abbrev pub play_on : Stage → PlayView
+play_on stage = record { job = stage.job; script = arc_value stage.script; fonts = stage.renderer.fonts }
+
+-- Everything is within its limits, the renderer has the script, and of each line it is known whether it gives an event.
+pub record IsPlayStage (stage : Stage) : Type 0 where
+  pub playable : IsPlayable (play_on stage)
+  pub same_script : stage.renderer.script ≡ arc_value stage.script
+  pub good : stage.good ≡ good_flags (arc_value stage.script)
+
+module _ (stage : Stage) where
+  -- the place of the instant that a painter has in a round
+  abbrev pub instant_place : ℕ → ℕ → ℕ
+  instant_place round painter = round * stage.job.renderers + painter

@@ -1,0 +1,91 @@
+//! What a renderer does in a round.
+
+ghost use Rattle.std.specs.Prelude.{◌≡◌, ℤ, List, [], IfOk};
+ghost use Rattle.ass_events.specs.Histories.{Entry};
+ghost use Rattle.ass_num.specs.Limits.{IsWithin, max_instant};
+ghost use Rattle.cache_totals.specs.Balance.{AreLater};
+ghost use Rattle.render_pass.specs.Frames.{IsFrameOf};
+ghost use Rattle.render_pass.specs.Holding.{HoldsJustTheFrame, HoldsTheSame};
+ghost use Rattle.render_pass.specs.Passes.{IsPassOfRenderer};
+ghost use Rattle.track_history.specs.Calls.{history_of};
+ghost use Rattle.turn_cell.specs.Passes.{Follows};
+ghost use Rattle.play_workers.specs.Asks.{IsFrameAsked, IsImageAsked, IsImageOfDraws};
+ghost use Rattle.play_workers.specs.Stages.{IsPlayStage, play_on};
+
+use crate::stage::Stage;
+use ass_io::{Gate, Place};
+use ass_num::{Mem, OutOfMemory};
+use ppm_text::ppm_bytes;
+use render_pass::{Frame, RenderPass, TryRefusal, paint_bands};
+use std::alloc::Global;
+use std::sync::Wait;
+use std::thread::Threads;
+
+/// A frame: tried first, and rendered where the try had none.
+fn frame_at<R: Wait, G: Gate>(
+    rt: &R,
+    alloc: Global,
+    stage: &Stage,
+    t: i64,
+    pass: RenderPass,
+    gate: &G,
+) -> (RenderPass, Mem<Frame>)
+    requires stage { IsPlayStage stage.now }
+    requires instant { IsWithin max_instant t }
+    requires pass { IsPassOfRenderer stage.now.renderer pass }
+    ensures pass { IsPassOfRenderer stage.now.renderer result.0 }
+    ensures track { Follows pass.track result.0.track [] }
+    ensures later { AreLater pass.caches result.0.caches }
+    ensures frame { IfOk result.1 (IsFrameAsked stage.now.renderer pass result.0 (history_of result.0.track.seen) t stage.now.job.size) }
+    ensures holds { HoldsJustTheFrame stage.now.renderer pass result.0 result.1 }
+{
+    stage.renderer.kept(&pass);
+    let size = &stage.job.size;
+    let (pass, tried) = stage.renderer.try_frame(alloc, pass, t, size);
+    match tried {
+        Ok(frame) => (pass, Ok(frame)),
+        Err(TryRefusal::Again(_)) => stage.renderer.frame(rt, alloc, pass, t, size, gate),
+        Err(TryRefusal::OutOfMemory) => (pass, Err(OutOfMemory)),
+    }
+}
+
+/// The image of a frame.
+fn image_of<R: Threads + Sync>(rt: &R, alloc: Global, stage: &Stage, frame: &Frame) -> Mem<Vec<u8>>
+    requires stage { IsPlayStage stage.now }
+    requires size { frame.now.size ≡ stage.now.job.size }
+    ensures { (history : List Entry) (t : ℤ) → (is : IsFrameOf stage.now.renderer.script stage.now.renderer.fonts history t stage.now.job.size frame.now)
+        → IfOk result (λ image. IsImageOfDraws (play_on stage.now) history t is.draws image.items) }
+{
+    let canvas = paint_bands(rt, alloc, frame, stage.job.bands)?;
+    ppm_bytes(alloc, &frame.size, canvas.pixels(), frame.t, frame.n)
+}
+
+/// The image of an instant.
+pub fn paint_part<R: Threads + Wait + Sync, G: Gate>(
+    rt: &R,
+    alloc: Global,
+    stage: &Stage,
+    t: i64,
+    pass: RenderPass,
+    gate: &G,
+) -> (RenderPass, Mem<Vec<u8>>)
+    requires stage { IsPlayStage stage.now }
+    requires instant { IsWithin max_instant t }
+    requires pass { IsPassOfRenderer stage.now.renderer pass }
+    ensures pass { IsPassOfRenderer stage.now.renderer result.0 }
+    ensures track { Follows pass.track result.0.track [] }
+    ensures later { AreLater pass.caches result.0.caches }
+    ensures image { IfOk result.1 (λ image. IsImageAsked (play_on stage.now) stage.now.renderer pass result.0 (history_of result.0.track.seen) t image.items) }
+    ensures holds { HoldsTheSame stage.now.renderer pass result.0 }
+{
+    let (pass, frame) = frame_at(rt, alloc, stage, t, pass, gate);
+    match frame {
+        Ok(frame) => {
+            let image = image_of(rt, alloc, stage, &frame);
+            let pass = stage.renderer.release(rt, pass, frame);
+            gate.at(Place::AfterFrame(t));
+            (pass, image)
+        }
+        Err(refused) => (pass, Err(refused)),
+    }
+}

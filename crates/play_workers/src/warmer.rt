@@ -1,0 +1,45 @@
+//! What the worker does that warms ahead.
+
+ghost use Rattle.std.specs.Prelude.{◌≤◌, []};
+ghost use Rattle.cache_totals.specs.Balance.{AreLater};
+ghost use Rattle.play_shares.specs.Limits.{max_frames};
+ghost use Rattle.render_pass.specs.Holding.{HoldsTheSame};
+ghost use Rattle.render_pass.specs.Passes.{IsPassOfRenderer};
+ghost use Rattle.turn_cell.specs.Passes.{Follows};
+ghost use Rattle.play_workers.specs.Stages.{IsPlayStage};
+
+use crate::stage::Stage;
+use ass_io::Gate;
+use ass_num::Mem;
+use play_shares::ahead_instants;
+use render_pass::RenderPass;
+use std::alloc::Global;
+use std::sync::Wait;
+
+/// Makes the masks of the instants that come after those of a round.
+pub fn warm_part<R: Wait, G: Gate>(
+    rt: &R,
+    alloc: Global,
+    stage: &Stage,
+    round: usize,
+    pass: RenderPass,
+    gate: &G,
+) -> (RenderPass, Mem<usize>)
+    requires stage { IsPlayStage stage.now }
+    requires small { round ≤ max_frames }
+    requires pass { IsPassOfRenderer stage.now.renderer pass }
+    ensures pass { IsPassOfRenderer stage.now.renderer result.0 }
+    ensures track { Follows pass.track result.0.track [] }
+    ensures later { AreLater pass.caches result.0.caches }
+    ensures holds { HoldsTheSame stage.now.renderer pass result.0 }
+{
+    match ahead_instants(alloc, &stage.job, round as u64) {
+        Ok(ahead) => {
+            let size = &stage.job.size;
+            stage
+                .renderer
+                .warm(rt, alloc, pass, ahead.as_slice(), size, gate)
+        }
+        Err(refused) => (pass, Err(refused)),
+    }
+}
