@@ -58,6 +58,7 @@ pub struct Merge {
 }
 
 impl Merge {
+    /// Nothing merged yet.
     pub fn new(alloc: Global) -> Merge {
         Merge {
             runs: Vec::new(alloc),

@@ -48,6 +48,7 @@ impl Block {
         Block { spans, first, last }
     }
 
+    /// Whether the block takes no further span.
     pub fn is_full(&self) -> bool {
         self.spans.len() >= MOST
     }

@@ -16,6 +16,7 @@ pub struct Walk {
 }
 
 impl Walk {
+    /// The walk at the instant `t`, in milliseconds, that has found nothing yet.
     pub fn new(alloc: Global, t: i64) -> Walk
         ensures { walk_of result ≡ first_walk t }
     {
