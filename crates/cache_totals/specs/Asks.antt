@@ -40,6 +40,6 @@ module _ {K V T : Type 0} (meaning : Meaning K V T) where
   abbrev pub seen_asks : CacheView T → CachePassView K T → ℕ
   seen_asks cache pass = sum_of_four (both (λ shard own. asks_of (all_steps shard.tag own.seen)) cache.shards pass)
 
--- So many keys or more were asked for: each was a hit, a claim or crowded. A count stands at its last value once it reaches it.
+-- The hits, the claims and what was crowded are together at least so many asks. A count stands at its last value once it reaches it.
 abbrev pub HasAsks : ℕ → Totals → Type 0
 HasAsks asks totals = min asks last_count ≤ totals.hits + totals.claims + totals.crowded

@@ -4,7 +4,8 @@ ghost use Rattle.cache_totals.specs.Laws.{CachesBalance, CachesCountAsks, Compos
 use flight_cache::Made;
 
 /// Where every number gave back all that it took in a shard, each claim was filled or failed, and what was evicted had been
-/// filled. Each ask was a hit, a claim or crowded, and a pin of several keys is an ask for each.
+/// filled. The hits, the claims and the crowded asks together are at least the asks, where a pin of several keys is an ask
+/// for each.
 pub fn totals_of_shards<M: Made>()
     ensures balance { ShardsBalance M.Key.eq M.meaning }
     ensures asks { ShardsCountAsks M.Key.eq M.meaning }
@@ -16,7 +17,7 @@ pub fn totals_of_caches<M: Made>()
     ensures asks { CachesCountAsks M.Key.eq M.meaning }
 {}
 
-/// The same of the caches of regions, of masks and of composed masks.
+/// The balance of each of the three caches, and the asks of that of composed masks.
 pub fn totals_of_three()
     ensures balance { ThreeBalance }
     ensures asks { CompositesCountAsks }

@@ -10,8 +10,8 @@ use ass_num::OutOfMemory;
 use run_status::{Status, Which};
 use std::alloc::Global;
 
-/// Puts what is to be reported of an outcome, and answers how the run ended: the report of a check, or the line of a status
-/// that isn't `Done`. Where memory is wanting for the line or for its put, want of memory is answered in its place, and its
+/// Puts what is to be reported of an outcome, and answers how the run ended: what was found, or the line of a status that
+/// isn't `Done`. Where memory is wanting for the line or for its put, want of memory is answered in its place, and its
 /// line is put.
 #[tactic(auto, using(crate::proofs::RunLemmas::told_whole, crate::proofs::RunLemmas::told_part, crate::proofs::RunLemmas::told_nothing, crate::proofs::RunLemmas::memory_behind))]
 pub fn finish<R: Sink>(alloc: Global, outcome: Outcome, report: &mut R) -> Status

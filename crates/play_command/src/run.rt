@@ -83,7 +83,7 @@ fn do_shared<S: Shelf, F: Sink, G: Gate + Sync>(
 {
     match read_words(alloc, words) {
         Ok(job) => do_job(rt, alloc, job, shelf, frames, gate),
-        // Words that ask for no job don't come here.
+        // Words that ask for no job don't come here, so memory was wanting for them.
         Err(_refusal) => Outcome::Ended(Status::OutOfMemory),
     }
 }

@@ -19,7 +19,7 @@ masks_asked renderer pass = own_asks composite_meaning renderer.caches.composite
 abbrev pub masks_seen : RendererView → RenderView → ℕ
 masks_seen renderer pass = seen_asks composite_meaning renderer.caches.composites pass.caches.composites
 
--- It is a frame of the history, and the pass asked for each of its masks.
+-- It is a frame of the history, and the pass asked for at least as many composed masks as its draws need.
 pub record IsFrameAsked (renderer : RendererView) (pass after : RenderView) (history : List Entry) (t : ℤ) (size : Size) (frame : Frame) : Type 0 where
   pub is : IsFrameOf renderer.script renderer.fonts history t size frame
   pub asked : masks_asked renderer pass + masks_needed is.draws ≤ masks_asked renderer after
@@ -29,7 +29,7 @@ pub record IsImageOfDraws (play : PlayView) (history : List Entry) (t : ℤ) (dr
   pub is : IsImageOf play history t bytes
   pub needed : needed_by is ≡ masks_needed draws
 
--- It is the image of what the history shows at t, and the pass asked for each mask of its picture.
+-- It is the image of what the history shows at t, and the pass asked for at least as many composed masks as its picture needs.
 pub record IsImageAsked (play : PlayView) (renderer : RendererView) (pass after : RenderView) (history : List Entry) (t : ℤ) (bytes : List ℕ) : Type 0 where
   pub is : IsImageOf play history t bytes
   pub asked : masks_asked renderer pass + needed_by is ≤ masks_asked renderer after

@@ -40,7 +40,7 @@ module _ (stage : Stage) where
 
   -- ---- what came of a part
 
-  -- What came of the part of a worker in a round: a feeder may be through, and so may a painter; the image shows all that the pass has seen then, and each mask of its picture was asked for.
+  -- What came of the part of a worker in a round: a feeder may be through, and so may a painter; the image shows all that the pass has seen then, and at least as many composed masks were asked for as its picture needs.
   abbrev pub IsOutcome : ℕ → Role → RenderView → RenderView → List Entry → Outcome → Type 0
   IsOutcome round (Feeder f) pass after given (Fed repeated) = IsFedPart round f pass after given repeated
   IsOutcome round (Feeder f) pass after given OutOfMemory = IsFedInPart round f pass after given
