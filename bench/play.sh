@@ -1,10 +1,12 @@
 #!/usr/bin/env bash
 # Measures plays of the proved program: frames a second of settled plays of 200 signs by 1, 2 and 4 renderers, memory of plays of
-# many images, and selftests. Each time is the least of RUNS runs, 3 where none are given.
+# many images, and selftests. Each time is the least of RUNS runs, and each peak the greatest. play.sh [RUNS [PART]]: 3 runs and all
+# parts where none are given; the parts are speed, memory and selftest.
 set -eu
 
 top=$(dirname -- "$(dirname -- "$(readlink -f -- "${BASH_SOURCE[0]}")")")
 runs=${1:-3}
+part=${2:-}
 program=$top/crates/play_main/out/play_main
 [ -x "$program" ] || { echo "no proved program stands in $program: see README" >&2; exit 1; }
 room=$(mktemp -d)
@@ -12,13 +14,13 @@ trap 'rm -rf "$room"' EXIT
 . "$top/bench/pages.sh"
 mapfile -t boards < <(signs 200)
 page "${boards[@]}" > "$room/signs.ass"
-talk 10000 > "$room/talk.ass"
+talk 40000 > "$room/talk.ass"
 
 date -u +%Y-%m-%d
 printf '%s processors: %s\n' "$(nproc)" "$(sed -n 's/^model name.*: //p' /proc/cpuinfo | head -n 1)"
 printf 'load before: %s\n' "$(cut -d ' ' -f 1-3 /proc/loadavg)"
 
-# measure NAME FRAMES WORDS..: the least time on the clock and the processors, frames a second, and the least peak
+# measure NAME FRAMES WORDS..: the least time on the clock and the processors, frames a second, and the greatest peak
 measure() {
     python3 - "$runs" "$@" << 'END'
 import os, subprocess, sys, time
@@ -37,24 +39,35 @@ def run():
 found = [run() for _ in range(runs)]
 clock, used = min(it[0] for it in found), min(it[1] for it in found)
 speed = f", {frames / clock:.1f} frames a second" if frames else ""
-print(f"{name}: {clock:.2f} s on the clock, {used:.2f} s on the processors{speed}, peak {min(it[2] for it in found) / 1024:.0f} MiB", flush=True)
+print(f"{name}: {clock:.2f} s on the clock, {used:.2f} s on the processors{speed}, peak {max(it[2] for it in found) / 1024:.0f} MiB", flush=True)
 END
+}
+
+# asked NAME: whether this part is to be measured
+asked() {
+    [ -z "$part" ] || [ "$part" = "$1" ]
 }
 
 cd "$room"
 font=$top/examples/subtitle.bdf
-for renderers in 1 2 4; do
-    measure "200 signs, 250 frames of 1920x1080, $renderers renderers" 250 \
-        "$program" play --mode settled --from 0 --to 10000 --step 40 --size 1920x1080 --renderers "$renderers" signs.ass "$font"
-done
-for budget in 1048576 16777216 ''; do
-    for count in 1000 10000; do
-        measure "a line a second, $count frames of 640x360, 4 renderers, budget ${budget:-by default}" "$count" \
-            "$program" play --mode settled --from 0 --to $((count * 1000)) --step 1000 --size 640x360 --renderers 4 ${budget:+--budget "$budget"} talk.ass "$font"
+if asked speed; then
+    for renderers in 1 2 4; do
+        measure "200 signs, 250 frames of 1920x1080, $renderers renderers" 250 \
+            "$program" play --mode settled --from 0 --to 10000 --step 40 --size 1920x1080 --renderers "$renderers" signs.ass "$font"
     done
-done
-for workers in 1 4; do
-    measure "selftest of 20,000 events, $workers workers" 0 "$program" selftest --workers "$workers" 7 20000
-done
+fi
+if asked memory; then
+    for budget in 1048576 16777216 ''; do
+        for count in 1000 10000 20000 40000; do
+            measure "a line a second, $count frames of 640x360, 4 renderers, budget ${budget:-by default}" "$count" \
+                "$program" play --mode settled --from 0 --to $((count * 1000)) --step 1000 --size 640x360 --renderers 4 ${budget:+--budget "$budget"} talk.ass "$font"
+        done
+    done
+fi
+if asked selftest; then
+    for workers in 1 4; do
+        measure "selftest of 20,000 events, $workers workers" 0 "$program" selftest --workers "$workers" 7 20000
+    done
+fi
 
 printf 'load after: %s\n' "$(cut -d ' ' -f 1-3 /proc/loadavg)"

@@ -1,7 +1,10 @@
 #!/usr/bin/env bash
 # Refuses memory to the program: each allocation of a run alone, and then each one with all behind it. Every run has to be done as ever, or
 # to answer `out of memory` with a front of the same images. The runs are a `frame`, a `play` of two lines by two feeders and two
-# renderers, and a `selftest` of 20 events. It takes the proved build, and a C compiler.
+# renderers, and a `selftest` of 20 events. It takes the proved build, a C compiler and Python.
+#
+# refusals.sh [JOB [FROM [TO]]]: all of them, or one job alone, or its allocations from FROM on, up to TO. JOBS runs stand side by side,
+# as many as there are processors where that isn't set.
 set -eu
 
 top=$(dirname -- "$(dirname -- "$(readlink -f -- "${BASH_SOURCE[0]}")")")
@@ -78,62 +81,67 @@ int posix_memalign(void **place, size_t align, size_t size) {
 END
 cc -O1 -shared -fPIC -o "$room/refuse.so" "$room/refuse.c" -ldl
 
-# refuse FROM TO WORDS..: the exit status
-refuse() {
-    local from=$1 to=$2
-    shift 2
-    REFUSE_COUNT=$room/count REFUSE_FROM=$from REFUSE_TO=$to LD_PRELOAD=$room/refuse.so \
-        "$program" "$@" > "$room/frames" 2> "$room/report"
-}
-
-# is_front FILE OF: whether a file is a front of another
-is_front() {
-    cmp -s -n "$(stat -c %s "$1")" "$1" "$2"
-}
-
-# same_report: whether the report is the same, but for the counts of the caches and the order of what was accepted
-same_report() {
-    cmp -s <(sed -e 's/^\(accepted\|outline\|mask\|composite\) .*/\1/' "$room/report") \
-        <(sed -e 's/^\(accepted\|outline\|mask\|composite\) .*/\1/' "$room/said")
-}
-
-# judge WHERE STATUS
-judge() {
-    if [ "$2" = 0 ] && cmp -s "$room/frames" "$room/whole" && same_report; then
-        return
-    fi
-    if [ "$2" = 9 ] && is_front "$room/frames" "$room/whole" && is_front "$room/report" "$room/line"; then
-        wanting=$((wanting + 1))
-        return
-    fi
-    echo "refusals: $1: status $2"
-    failed=$((failed + 1))
-}
-
-# all NAME WORDS..
+# all NAME WORDS..: every allocation of these words, or those from `from` up to `to`
 all() {
-    local name=$1 n status count
-    shift
-    refuse 0 0 "$@"
-    count=$(cat "$room/count")
-    cp "$room/frames" "$room/whole"
-    cp "$room/report" "$room/said"
-    wanting=0
-    for ((n = 1; n <= count; n++)); do
-        refuse "$n" "$n" "$@" && status=0 || status=$?
-        judge "$name, allocation $n" "$status"
-        refuse "$n" 1000000000 "$@" && status=0 || status=$?
-        judge "$name, allocations from $n on" "$status"
-    done
-    echo "$name: $count allocations, $((2 * count)) runs, $wanting out of memory"
+    [ -z "$job" ] || [ "$job" = "$1" ] || return 0
+    python3 - "$room" "$program" "$from" "$to" "$jobs" "$@" <<'END' || failed=1
+import os, re, subprocess, sys
+from concurrent.futures import ThreadPoolExecutor
+
+room, program, first, last, jobs, name, *words = sys.argv[1:]
+LINE = b"out of memory\n"
+ON = 1_000_000_000
+
+def run(start, end, counted=None):
+    """The exit status, the frames and the report of a run whose allocations from one to the other are refused."""
+    env = dict(os.environ, LD_PRELOAD=f"{room}/refuse.so", REFUSE_FROM=str(start), REFUSE_TO=str(end))
+    if counted:
+        env["REFUSE_COUNT"] = counted
+    ran = subprocess.run([program, *words], env=env, capture_output=True, timeout=120)
+    return ran.returncode, ran.stdout, ran.stderr
+
+def same(report):
+    """What is the same in each report: the counts of the caches differ from run to run, and the order of what was accepted."""
+    return re.sub(rb"(?m)^(accepted|outline|mask|composite) .*", rb"\1", report)
+
+def judge(start, end):
+    """Whether a run was out of memory, or what is wrong with it."""
+    where = f"allocation {start}" if start == end else f"allocations from {start} on"
+    try:
+        status, frames, report = run(start, end)
+    except subprocess.TimeoutExpired:
+        return f"refusals: {name}, {where}: no end within two minutes"
+    if status == 0 and frames == whole and same(report) == same(said):
+        return False
+    if status == 9 and whole.startswith(frames) and LINE.startswith(report):
+        return True
+    return f"refusals: {name}, {where}: status {status}, {len(frames)} of {len(whole)} bytes of frames, report {report[:80]!r}"
+
+status, whole, said = run(0, 0, f"{room}/count")
+if status:
+    sys.exit(f"refusals: {name}: status {status} where nothing is refused")
+with open(f"{room}/count") as file:
+    count = int(file.read())
+begin, end = int(first or 1), min(int(last or count), count)
+asked = [it for n in range(begin, end + 1) for it in ((n, n), (n, ON))]
+with ThreadPoolExecutor(int(jobs)) as pool:
+    found = list(pool.map(lambda it: judge(*it), asked))
+wrong = [it for it in found if isinstance(it, str)]
+for it in wrong:
+    print(it)
+print(f"{name}: {count} allocations, {begin} to {end} refused in {len(asked)} runs: {found.count(True)} out of memory, {len(wrong)} failed", flush=True)
+sys.exit(bool(wrong))
+END
 }
 
 cd "$top/examples"
-printf 'out of memory\n' > "$room/line"
 { cat row.ass; grep '^Dialogue:' row.ass; } > "$room/two.ass"
+job=${1:-}
+from=${2:-}
+to=${3:-}
+jobs=${JOBS:-$(nproc)}
 failed=0
 all frame frame --at 0 --size 4x3 row.ass dot.bdf
 all play play --from 0 --to 2 --step 1 --size 4x3 --feeders 2 --renderers 2 --batch 1 --ahead 1 --bands 2 "$room/two.ass" dot.bdf
 all selftest selftest --workers 2 7 20
-echo "failed: $failed"
-[ "$failed" = 0 ]
+exit "$failed"
