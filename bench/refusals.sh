@@ -104,6 +104,10 @@ def same(report):
     """What is the same in each report: the counts of the caches differ from run to run, and the order of what was accepted."""
     return re.sub(rb"(?m)^(accepted|outline|mask|composite) .*", rb"\1", report)
 
+def is_balanced(report):
+    """Whether each claim that the caches counted was filled or failed."""
+    return all(int(it[0]) == int(it[1]) + int(it[2]) for it in re.findall(rb"claims (\d+) fills (\d+) fails (\d+)", report))
+
 def judge(start, end):
     """Whether a run was out of memory, or what is wrong with it."""
     where = f"allocation {start}" if start == end else f"allocations from {start} on"
@@ -111,7 +115,7 @@ def judge(start, end):
         status, frames, report = run(start, end)
     except subprocess.TimeoutExpired:
         return f"refusals: {name}, {where}: no end within two minutes"
-    if status == 0 and frames == whole and same(report) == same(said):
+    if status == 0 and frames == whole and same(report) == same(said) and is_balanced(report):
         return False
     if status == 9 and whole.startswith(frames) and LINE.startswith(report):
         return True
