@@ -1,4 +1,4 @@
-use Rattle.std.proofs.Common.{◌≡◌, ℕ, ◌+◌, ◌-◌, ◌*◌, ◌/◌, ◌<◌, ◌≤◌, pos, ◌+ℤ◌, ◌-ℤ◌, length, get_or, ap, refl, ◌∙◌, sym, arith, rules}
+use Rattle.std.proofs.Common.{◌≡◌, ℕ, ◌+◌, ◌-◌, ◌*◌, ◌/◌, ◌<◌, ◌≤◌, pos, ◌+ℤ◌, ◌-ℤ◌, length, get_or, ap, refl, ◌∙◌, arith, rules}
 use Rattle.std.proofs.lemmas.Nat.{mul-le}
 use Rattle.ass_num.specs.Coverage.{sum_from}
 use Rattle.ass_num.specs.Masks.{MaskValue, value_at}
@@ -15,8 +15,8 @@ pub loop-k-init : goal.loop-k-init
 loop-k-init c = λ f x y shows.
     let filled = c.fill.ensures.after (λ y e. e) in (
       (λ i h.
-      let none = sums_none (f (x +ℤ pos i)) y c.args.h (2 * c.args.means.now.radius + 1) (shows.outside.columns (x +ℤ pos i)) in
-      omega (arith, filled_with c.fill.new.self _ _ filled i (omega (arith, h)), c.radius-r.ensures.value, none)),
+          let none = sums_none (f (x +ℤ pos i)) y c.args.h (2 * c.args.means.now.radius + 1) (shows.outside.columns (x +ℤ pos i)) in
+          omega (arith, filled_with c.fill.new.self _ _ filled i (omega (arith, h)), c.radius-r.ensures.value, none)),
       rows_none (along_columns c.args.means.now.radius f) x (y -ℤ pos c.args.means.now.radius) (length c.args.zeros.now) c.args.to.now,
     )
 
