@@ -1,18 +1,16 @@
 -- The script of a selftest is read, so that a selftest is done.
-use Rattle.std.proofs.Common.{◌≡◌, ◌⊎◌, ◌∙◌, ℕ, ◌<◌, ◌≤◌, List, length, map, Result, Ok, Err, IfOk, inl, inr, ap, subst, arith}
+use Rattle.std.proofs.Common.{◌≡◌, ◌⊎◌, ◌∙◌, ℕ, ◌≤◌, List, length, Result, Ok, Err, IfOk, inl, inr, ap, subst, arith}
 use Rattle.std.specs.Io.KnownBytes.{Appends}
-use Rattle.std.specs.List.{flat_map, range_with_len}
+use Rattle.std.specs.List.{flat_map}
 use Rattle.std.proofs.lemmas.List.FromFn.{length-map-range_with_len}
 use Rattle.ass_num.specs.Limits.{max_file_bytes}
-use Rattle.ass_script.specs.Limits.{max_lines}
 use Rattle.ass_script.specs.Scripts.{ScriptValue, script_of}
 use Rattle.frame_play.specs.Outcomes.{IsOrFault}
-use Rattle.frame_play.specs.Runs.{SinkChange}
 use Rattle.generated_laws.specs.Laws.{GeneratedLinesGiveEvents, GeneratedScriptsAreRead, GeneratedScriptsFit, generated_event}
 use Rattle.generated_script.specs.Generated.{generated}
 use Rattle.input_files.specs.Causes.{script_status, with_status}
 use Rattle.play_command.specs.PlayRuns.{status_read}
-use Rattle.play_command.specs.SelftestRuns.{IsSelftestRead, IsSelftestReport, IsSelftestRun, IsSelftestText, image_count}
+use Rattle.play_command.specs.SelftestRuns.{IsSelftestRead, IsSelftestReport, IsSelftestText, image_count}
 use Rattle.play_laws.specs.Selftests.{SelftestsAcceptAll, SelftestsAreDone}
 use Rattle.play_report.specs.Digests.{digest_after}
 use Rattle.play_report.specs.Reports.{summary_text}
