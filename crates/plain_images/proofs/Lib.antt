@@ -4,3 +4,4 @@ pub mod ListingLemmas
 pub mod PaintLemmas
 pub mod PaneLemmas
 pub mod TintLemmas
+pub mod ChangeLemmas

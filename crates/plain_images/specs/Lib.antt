@@ -1,3 +1,4 @@
+pub mod Changes
 pub mod Cutting
 pub mod Listing
 pub mod Panes

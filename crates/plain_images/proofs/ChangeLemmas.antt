@@ -1,0 +1,55 @@
+-- Lists of plain images that are the same, or the same but for their places.
+use Rattle.std.proofs.Common.{◌≡◌, ℕ, ◌+◌, ◌<◌, List, [], ◌∷◌, ◌++◌, length, get_or, take, map, pos, refl, sym, ap, ◌∙◌, arith}
+use Rattle.std.proofs.lemmas.List.{get_or-map, map_more}
+use Rattle.ass_num.specs.declared.colour.Rgba.{Rgba}
+use Rattle.plain_images.specs.declared.plain.PlainImage.{PlainImage}
+use Rattle.plain_images.specs.Changes.{plain_place, unplaced_plain}
+
+-- ---- lists that are alike under a function
+
+pub alike_at : {A B : Type 0} (f : A → B) (xs ys : List A) (i : ℕ) (d : A) → map f xs ≡ map f ys → i < length xs → i < length ys → f (get_or xs i d) ≡ f (get_or ys i d)
+alike_at {A} {B} f xs ys i d e in_xs in_ys = sym (get_or-map f xs i d (f d) in_xs) ∙ ap (λ (z : List B). get_or z i (f d)) e ∙ get_or-map f ys i d (f d) in_ys
+
+pub alike_more : {A B : Type 0} (f : A → B) (xs ys : List A) (i : ℕ) (d : A) → i < length xs → i < length ys → map f (take i xs) ≡ map f (take i ys)
+    → f (get_or xs i d) ≡ f (get_or ys i d) → map f (take (i + 1) xs) ≡ map f (take (i + 1) ys)
+alike_more f xs ys i d in_xs in_ys before here = map_more f xs i d in_xs ∙ (λ j. before j ++ here j ∷ []) ∙ sym (map_more f ys i d in_ys)
+
+-- ---- plain images
+
+-- all but the places is the same
+pub unplaced_same : (a b : PlainImage) → a.colour ≡ b.colour → a.mask.w ≡ b.mask.w → a.mask.h ≡ b.mask.h → a.mask.bytes ≡ b.mask.bytes → unplaced_plain a ≡ unplaced_plain b
+unplaced_same a b colour w h bytes = λ i. record { mask = record { x = pos 0; y = pos 0; w = w i; h = h i; bytes = bytes i }; colour = colour i }
+
+-- and with the places all is
+one_plain : (a b : PlainImage) → unplaced_plain a ≡ unplaced_plain b → plain_place a ≡ plain_place b → a ≡ b
+one_plain a b same place =
+    let x = ap (λ p. p.0) place in
+    let y = ap (λ p. p.1) place in
+    let w = ap (λ (p : PlainImage). p.mask.w) same in
+    let h = ap (λ (p : PlainImage). p.mask.h) same in
+    let bytes = ap (λ (p : PlainImage). p.mask.bytes) same in
+    let colour = ap (λ (p : PlainImage). p.colour) same in
+    λ i. record { mask = record { x = x i; y = y i; w = w i; h = h i; bytes = bytes i }; colour = colour i }
+
+first_of_list : {A : Type 0} → A → List A → A
+first_of_list d [] = d
+first_of_list d (x ∷ xs) = x
+
+rest_of_list : {A : Type 0} → List A → List A
+rest_of_list [] = []
+rest_of_list (x ∷ xs) = xs
+
+pub one_list : (xs ys : List PlainImage) → map unplaced_plain xs ≡ map unplaced_plain ys → map plain_place xs ≡ map plain_place ys → xs ≡ ys
+one_list [] [] same places = refl
+one_list [] (b ∷ ys) same places = absurd (nothing same)
+  where
+    nothing : map unplaced_plain [] ≡ unplaced_plain b ∷ map unplaced_plain ys → ⊥
+    nothing e = let n : 0 ≡ length (map unplaced_plain ys) + 1 = ap length e in omega arith
+one_list (a ∷ xs) [] same places = absurd (nothing same)
+  where
+    nothing : unplaced_plain a ∷ map unplaced_plain xs ≡ map unplaced_plain [] → ⊥
+    nothing e = let n : length (map unplaced_plain xs) + 1 ≡ 0 = ap length e in omega arith
+one_list (a ∷ xs) (b ∷ ys) same places =
+    let first = one_plain a b (ap (first_of_list (unplaced_plain a)) same) (ap (first_of_list (plain_place a)) places) in
+    let rest = one_list xs ys (ap rest_of_list same) (ap rest_of_list places) in
+    λ i. first i ∷ rest i
