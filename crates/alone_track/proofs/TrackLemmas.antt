@@ -1,11 +1,12 @@
 -- What feeding and flushing a track comes to.
-use Rattle.std.proofs.Common.{◌≡◌, ◌≢◌, ℕ, ◌+◌, ◌<◌, ◌≤◌, List, [], ◌∷◌, ◌++◌, length, get_or, map, take, drop, refl, sym, ap, subst, ◌∙◌, arith}
+use Rattle.std.proofs.Common.{◌≡◌, ◌≢◌, ℕ, ◌+◌, ◌<◌, ◌≤◌, if◌then◌else◌, List, [], ◌∷◌, ◌++◌, length, get_or, map, take, drop, refl, sym, ap, subst, ◌∙◌, arith}
+use Rattle.std.specs.Prelude.{nat_le}
 use Rattle.std.specs.List.{All, fold}
 use Rattle.std.proofs.lemmas.List.{get_or-map, length-map, length_push, map_more, take-append-drop, map-append}
 use Rattle.std.proofs.lemmas.List.Elements.{All-get_or, All-weaker}
 use Rattle.std.proofs.lemmas.List.Sums.{fold-append}
 use Rattle.ass_num.specs.Limits.{max_text_bytes}
-use Rattle.ass_events.specs.Histories.{Entry, Chunk, Flush, live, flushes_of}
+use Rattle.ass_events.specs.Histories.{Entry, Chunk, Flush, live, flushes_of, max_flushes}
 use Rattle.ass_events.specs.Ranges.{IsEvent}
 use Rattle.ass_events.specs.declared.event.Event.{Event}
 use Rattle.track_history.specs.Answers.{IsFeedAnswer, answer_by, extended, fed_entry, flush_answer, flushed_entry, position_of}
@@ -47,9 +48,10 @@ chunk_flushes (Flush ∷ history) event = ap (λ n. n + 1) (chunk_flushes histor
 told_after : (kept later : LiveEvents) (history : List Entry) (event : Event) (answer : Feed) → Tells kept history
     → Tells later (extended history (fed_entry event answer)) → track_of later ≡ after_offer (track_of kept) event answer
 told_after kept later history event (Accepted place) was now =
+    let entries : later.entries ≡ kept.entries + 1 = omega (arith, now.entries, was.entries, length_push history (Chunk event)) in
     same_track (track_of later) (after_offer (track_of kept) event (Accepted place))
     (now.events ∙ (live-chunk history event ∙ ap (λ (es : List Event). es ++ event ∷ []) (sym was.events)))
-    (omega (arith, now.entries, was.entries, length_push history (Chunk event)))
+    entries
     (now.flushes ∙ (chunk_flushes history event ∙ sym was.flushes))
 told_after kept later history event (Repeated place) was now = told_alike kept later history was now
 told_after kept later history event (Malformed field place) was now = told_alike kept later history was now
@@ -89,14 +91,15 @@ one_flush (Flush ∷ history) = ap (λ n. n + 1) (one_flush history)
 flushed_track : (kept later : LiveEvents) (history : List Entry) (answer : Flushed) → Tells kept history
     → Tells later (extended history (flushed_entry answer)) → track_of later ≡ after_flush (track_of kept) answer
 flushed_track kept later history (Done place) was now =
-    same_track (track_of later) (after_flush (track_of kept) (Done place))
-    (now.events ∙ live-flush history)
-    (omega (arith, now.entries, was.entries, length_push history Flush))
-    (omega (arith, now.flushes, was.flushes, one_flush history))
+    let entries : later.entries ≡ kept.entries + 1 = omega (arith, now.entries, was.entries, length_push history Flush) in
+    let flushes : later.flushes ≡ kept.flushes + 1 = omega (arith, now.flushes, was.flushes, one_flush history) in
+    same_track (track_of later) (after_flush (track_of kept) (Done place)) (now.events ∙ live-flush history) entries flushes
 flushed_track kept later history (TooMany most) was now = told_alike kept later history was now
 
 flush_told : (kept : LiveEvents) (history : List Entry) → Tells kept history → flush_answer history ≡ alone_flush_answer (track_of kept)
-flush_told kept history was = rw (was.flushes, was.entries) refl
+flush_told kept history was =
+    sym (ap (λ (n : ℕ). if nat_le max_flushes n then TooMany max_flushes else Done kept.entries) was.flushes
+    ∙ ap (λ (n : ℕ). if nat_le max_flushes (flushes_of history) then TooMany max_flushes else Done n) was.entries)
 
 pub flushed_alone : (track : AloneTrackView) (kept later : LiveEvents) (answer : Flushed) → track_of kept ≡ track → HasHistory kept
     → ((history : List Entry) → Tells kept history → answer ≡ flush_answer history)

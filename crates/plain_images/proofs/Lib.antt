@@ -4,4 +4,3 @@ pub mod ListingLemmas
 pub mod PaintLemmas
 pub mod PaneLemmas
 pub mod TintLemmas
-pub mod ChangeLemmas

@@ -1,4 +1,3 @@
-pub mod Changes
 pub mod Cutting
 pub mod Listing
 pub mod Panes

@@ -1,9 +1,7 @@
 //! The images of a frame as plain ones: each a mask that lies in the frame, of one colour, hidden nowhere.
 #![tactic(auto)]
 
-pub mod changes;
 mod cutting;
-pub mod fonts;
 mod laws;
 mod listing;
 mod panes;

@@ -41,14 +41,8 @@ rest_of_list (x ∷ xs) = xs
 
 pub one_list : (xs ys : List PlainImage) → map unplaced_plain xs ≡ map unplaced_plain ys → map plain_place xs ≡ map plain_place ys → xs ≡ ys
 one_list [] [] same places = refl
-one_list [] (b ∷ ys) same places = absurd (nothing same)
-  where
-    nothing : map unplaced_plain [] ≡ unplaced_plain b ∷ map unplaced_plain ys → ⊥
-    nothing e = let n : 0 ≡ length (map unplaced_plain ys) + 1 = ap length e in omega arith
-one_list (a ∷ xs) [] same places = absurd (nothing same)
-  where
-    nothing : unplaced_plain a ∷ map unplaced_plain xs ≡ map unplaced_plain [] → ⊥
-    nothing e = let n : length (map unplaced_plain xs) + 1 ≡ 0 = ap length e in omega arith
+one_list [] (b ∷ ys) same places = let none : [] ≡ unplaced_plain b ∷ map unplaced_plain ys = same in absurd cc
+one_list (a ∷ xs) [] same places = let none : unplaced_plain a ∷ map unplaced_plain xs ≡ [] = same in absurd cc
 one_list (a ∷ xs) (b ∷ ys) same places =
     let first = one_plain a b (ap (first_of_list (unplaced_plain a)) same) (ap (first_of_list (plain_place a)) places) in
     let rest = one_list xs ys (ap rest_of_list same) (ap rest_of_list places) in

@@ -8,23 +8,39 @@ use ass_num::{Items, Mem};
 use bdf_font::{Font, FontGlyph, FontSet};
 use std::alloc::Global;
 
-/// The same glyphs.
-fn glyphs_copy(alloc: Global, glyphs: &[FontGlyph]) -> Mem<Items<FontGlyph>>
-    ensures { IfOk result (λ copy. copy ≡ glyphs.now) }
-{
-    let mut copy = Vec::with_capacity(alloc, glyphs.len())?;
-    for glyph in glyphs {
-        copy.push(glyph.clone()?)?;
-    }
-    Ok(Items::from_vec(copy))
-}
-
 /// The same bytes.
 fn bytes_copy(alloc: Global, bytes: &[u8]) -> Mem<Items<u8>>
     ensures { IfOk result (λ copy. copy ≡ bytes.now) }
 {
     let mut copy = Vec::with_capacity(alloc, bytes.len())?;
     copy.extend_from_slice(bytes)?;
+    Ok(Items::from_vec(copy))
+}
+
+/// The same glyph.
+fn glyph_copy(alloc: Global, glyph: &FontGlyph) -> Mem<FontGlyph>
+    ensures { IfOk result (λ copy. copy ≡ glyph.now) }
+{
+    let bits = bytes_copy(alloc, glyph.bits.as_slice())?;
+    Ok(FontGlyph {
+        code: glyph.code,
+        advance: glyph.advance,
+        w: glyph.w,
+        h: glyph.h,
+        x: glyph.x,
+        y: glyph.y,
+        bits,
+    })
+}
+
+/// The same glyphs.
+fn glyphs_copy(alloc: Global, glyphs: &[FontGlyph]) -> Mem<Items<FontGlyph>>
+    ensures { IfOk result (λ copy. copy ≡ glyphs.now) }
+{
+    let mut copy = Vec::with_capacity(alloc, glyphs.len())?;
+    for glyph in glyphs {
+        copy.push(glyph_copy(alloc, glyph)?)?;
+    }
     Ok(Items::from_vec(copy))
 }
 
@@ -50,7 +66,7 @@ pub(crate) fn with_font(alloc: Global, set: &FontSet, font: Font) -> Mem<FontSet
     requires { All IsFont set.now.fonts }
     ensures { IfOk result (λ more. more.fonts ≡ set.now.fonts ++ font ∷ []) }
 {
-    let mut fonts = Vec::with_capacity(alloc, set.fonts.len() + 1)?;
+    let mut fonts = Vec::new(alloc);
     for one in set.fonts.as_slice() {
         fonts.push(font_copy(alloc, one)?)?;
     }

@@ -1,9 +1,9 @@
 use Rattle.std.proofs.Common.{sym, ap, ◌∙◌, arith}
 use Rattle.std.proofs.lemmas.Bool.{false≢true}
 use Rattle.std.proofs.lemmas.List.{get_or_default}
-use Rattle.plain_images.specs.Changes.{plain_place}
-use Rattle.plain_images.proofs.ChangeLemmas.{alike_at}
-use Rattle.plain_images.proofs.changes.have_same_places.Goals as goal
+use Rattle.player.specs.Changes.{plain_place}
+use Rattle.player.proofs.ChangeLemmas.{alike_at}
+use Rattle.player.proofs.changes.have_same_places.Goals as goal
 
 pub returns-then-not-has_same_place : goal.returns-then-not-has_same_place
 returns-then-not-has_same_place c =

@@ -1,9 +1,9 @@
 use Rattle.std.proofs.Common.{sym, ap, ◌∙◌, arith}
 use Rattle.std.proofs.lemmas.Bool.{false≢true}
 use Rattle.std.proofs.lemmas.List.{get_or_default}
-use Rattle.plain_images.specs.Changes.{unplaced_plain}
-use Rattle.plain_images.proofs.ChangeLemmas.{alike_at}
-use Rattle.plain_images.proofs.changes.are_same_plains_but_moved.Goals as goal
+use Rattle.player.specs.Changes.{unplaced_plain}
+use Rattle.player.proofs.ChangeLemmas.{alike_at}
+use Rattle.player.proofs.changes.are_same_plains_but_moved.Goals as goal
 
 pub returns-then-not-is_same_plain_but_moved : goal.returns-then-not-is_same_plain_but_moved
 returns-then-not-is_same_plain_but_moved c =
