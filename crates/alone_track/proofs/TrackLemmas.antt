@@ -1,16 +1,19 @@
 -- What feeding and flushing a track comes to.
-use Rattle.std.proofs.Common.{◌≡◌, ◌≢◌, ℕ, ◌+◌, ◌<◌, ◌≤◌, if◌then◌else◌, List, [], ◌∷◌, ◌++◌, length, get_or, map, take, drop, refl, sym, ap, subst, ◌∙◌, arith}
+use Rattle.std.proofs.Common.{◌≡◌, ◌≢◌, ℕ, ℤ, Result, ◌+◌, ◌<◌, ◌≤◌, if◌then◌else◌, List, [], ◌∷◌, ◌++◌, length, get_or, map, take, drop, refl, sym, ap, subst, ◌∙◌, arith}
 use Rattle.std.specs.Prelude.{nat_le}
 use Rattle.std.specs.List.{All, fold}
+use Rattle.std.specs.Result.{IfOk}
+use Rattle.std.proofs.lemmas.Result.{IfOk-weaker}
 use Rattle.std.proofs.lemmas.List.{get_or-map, length-map, length_push, map_more, take-append-drop, map-append}
 use Rattle.std.proofs.lemmas.List.Elements.{All-get_or, All-weaker}
 use Rattle.std.proofs.lemmas.List.Sums.{fold-append}
 use Rattle.ass_num.specs.Limits.{max_text_bytes}
-use Rattle.ass_events.specs.Histories.{Entry, Chunk, Flush, live, flushes_of, max_flushes}
+use Rattle.ass_events.specs.Histories.{Entry, Chunk, Flush, HaveOwnOrders, IsHistory, live, flushes_of, max_flushes, max_live}
+use Rattle.ass_events.specs.NearEvents.{AreNear, span_of}
 use Rattle.ass_events.specs.Ranges.{IsEvent}
 use Rattle.ass_events.specs.declared.event.Event.{Event}
 use Rattle.track_history.specs.Answers.{IsFeedAnswer, answer_by, extended, fed_entry, flush_answer, flushed_entry, position_of}
-use Rattle.track_history.specs.ShortEvents.{IsShortEvent}
+use Rattle.track_history.specs.ShortEvents.{HaveShortEvents, IsShortEvent}
 use Rattle.track_history.specs.Tellings.{IsSound, Tells, events_of}
 use Rattle.track_history.specs.declared.answers.Feed.{Feed}
 use Rattle.track_history.specs.declared.answers.Feed.TheVariants.{Accepted, Repeated, Malformed, Full, OutOfMemory}
@@ -149,8 +152,38 @@ none_offered events old after same = record { front = []; back = events; is = re
 
 -- ---- what is near
 
-pub short_are_events : (events : List Event) → All IsShortEvent events → All IsEvent events
+short_are_events : (events : List Event) → All IsShortEvent events → All IsEvent events
 short_are_events events short = All-weaker IsShortEvent IsEvent (λ e is. is.is_event) events short
 
-pub short_have_texts : (events : List Event) → All IsShortEvent events → All (λ (e : Event). length e.text ≤ max_text_bytes) events
+short_have_texts : (events : List Event) → All IsShortEvent events → All (λ (e : Event). length e.text ≤ max_text_bytes) events
 short_have_texts events short = All-weaker IsShortEvent (λ (e : Event). length e.text ≤ max_text_bytes) (λ e is. omega (arith, is.texts)) events short
+
+near_told : (kept : LiveEvents) (history : List Entry) (near : List Event) (t : ℤ) → Tells kept history → AreNear span_of (events_of kept) t near → AreNear span_of (live history) t near
+near_told kept history near t tells are = subst (λ (events : List Event). AreNear span_of events t near) tells.events are
+
+module _ {A E : Type 0} (value : A → Event) (r : Result (List A) E) (kept : LiveEvents) (history : List Entry) (t : ℤ) (tells : Tells kept history)
+    (are : IfOk r (λ near. AreNear span_of (events_of kept) t (map value near))) where
+  near_short : ((entries : List Entry) (near : List Event) (u : ℤ) → HaveShortEvents entries → AreNear span_of (live entries) u near → All IsShortEvent near)
+      → IfOk r (λ near. All IsShortEvent (map value near))
+  near_short law = IfOk-weaker r (λ near. AreNear span_of (events_of kept) t (map value near)) (λ near. All IsShortEvent (map value near))
+      (λ near is. law history (map value near) t tells.short (near_told kept history (map value near) t tells is)) are
+
+  pub near_each : ((entries : List Entry) (near : List Event) (u : ℤ) → HaveShortEvents entries → AreNear span_of (live entries) u near → All IsShortEvent near)
+      → IfOk r (λ near. All IsEvent (map value near))
+  near_each law = IfOk-weaker r (λ near. All IsShortEvent (map value near)) (λ near. All IsEvent (map value near)) (λ near is. short_are_events (map value near) is) (near_short law)
+
+  pub near_texts : ((entries : List Entry) (near : List Event) (u : ℤ) → HaveShortEvents entries → AreNear span_of (live entries) u near → All IsShortEvent near)
+      → IfOk r (λ near. All (λ (e : Event). length e.text ≤ max_text_bytes) (map value near))
+  near_texts law =
+      IfOk-weaker r (λ near. All IsShortEvent (map value near)) (λ near. All (λ (e : Event). length e.text ≤ max_text_bytes) (map value near))
+      (λ near is. short_have_texts (map value near) is) (near_short law)
+
+  pub near_few : ((entries : List Entry) (near : List Event) (u : ℤ) → IsHistory entries → AreNear span_of (live entries) u near → length near ≤ max_live)
+      → IfOk r (λ near. length near ≤ max_live)
+  near_few law = IfOk-weaker r (λ near. AreNear span_of (events_of kept) t (map value near)) (λ near. length near ≤ max_live)
+      (λ near is. omega (arith, law history (map value near) t tells.legal (near_told kept history (map value near) t tells is), length-map near value)) are
+
+  pub near_orders : ((entries : List Entry) (near : List Event) (u : ℤ) → IsHistory entries → AreNear span_of (live entries) u near → HaveOwnOrders near)
+      → IfOk r (λ near. HaveOwnOrders (map value near))
+  near_orders law = IfOk-weaker r (λ near. AreNear span_of (events_of kept) t (map value near)) (λ near. HaveOwnOrders (map value near))
+      (λ near is. law history (map value near) t tells.legal (near_told kept history (map value near) t tells is)) are

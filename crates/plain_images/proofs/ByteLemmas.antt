@@ -1,17 +1,16 @@
 -- Bytes that are added row by row, and masks that are made of them.
-use Rattle.std.proofs.Common.{◌≡◌, ℕ, ◌+◌, ◌-◌, ◌*◌, ◌<◌, ◌≤◌, ℤ, pos, ◌+ℤ◌, ◌-ℤ◌, Bool, true, false, ◌==◌, List, [], ◌∷◌, ◌++◌, length, get_or, take, drop, slice_index, refl, sym, ap, ◌∙◌, ⊎_elim, arith, length-append}
+use Rattle.std.proofs.Common.{◌≡◌, ℕ, ◌+◌, ◌-◌, ◌*◌, ◌<◌, ◌≤◌, ℤ, pos, ◌-ℤ◌, true, false, ◌==◌, List, [], ◌∷◌, ◌++◌, length, get_or, slice_index, refl, sym, ◌∙◌, ⊎_elim, arith, length-append}
 use Rattle.std.proofs.lemmas.Bool.{cases_lt}
 use Rattle.std.proofs.lemmas.Bool.Decides.{nat_tests}
 use Rattle.std.proofs.lemmas.Int.{ints}
 use Rattle.std.proofs.lemmas.List.{get_or_append_left, get_or-append-add}
-use Rattle.std.proofs.lemmas.Nat.{mul-add-lt}
 use Rattle.std.proofs.Math.Seq.{get_or-append_seam}
 use Rattle.ass_num.specs.Masks.{MaskValue, is_mask, value_at}
 use Rattle.ass_num.proofs.MaskLemmas.{cell_below, value_inside}
 use Rattle.blend.specs.Blending.{StencilValue}
 use Rattle.blend.proofs.AreaLemmas.{IsPlace, place}
 use Rattle.plain_images.specs.Cutting.{AddsBytes, AreRowsOf, IsCutOf, IsCuttable, IsRowCovered, stencilled_at}
-use Rattle.plain_images.specs.Panes.{HasSides, box_pane, in_pane}
+use Rattle.plain_images.specs.Panes.{box_pane}
 use Rattle.plain_images.specs.declared.panes.Pane.{Pane}
 use Rattle.plain_images.proofs.PaneLemmas.{bounds, has}
 

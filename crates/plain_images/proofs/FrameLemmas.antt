@@ -1,13 +1,13 @@
 -- Plain images have pixels, and lie in the frame.
-use Rattle.std.proofs.Common.{◌≡◌, ℕ, ◌<◌, ℤ, pos, ◌+ℤ◌, ◌≤ℤ◌, ◌<ℤ◌, Bool, true, false, List, [], ◌∷◌, ◌++◌, refl, arith}
+use Rattle.std.proofs.Common.{◌≡◌, ℤ, Bool, true, false, List, [], ◌∷◌, ◌++◌, refl, arith}
 use Rattle.std.specs.List.{AllByRecursion}
 use Rattle.std.proofs.lemmas.Int.{ints}
 use Rattle.std.proofs.lemmas.List.Elements.{All-from_recursion}
 use Rattle.ass_num.specs.declared.colour.Rgba.{Rgba}
 use Rattle.ass_num.specs.declared.size.Size.{Size}
-use Rattle.blend.specs.Blending.{Image, StencilValue, Free, Rect, Drawn}
-use Rattle.plain_images.specs.Panes.{HasSides, IsPartOf, is_empty_pane, frame_pane, box_pane, both_panes, pane_before, pane_from, panes_around}
-use Rattle.plain_images.specs.PlainImages.{ArePanesOf, ArePlainImages, IsPaneOf, LiesInFrame, PlainImagesLieInTheFrame, coloured_panes, image_pane, in_colour, stencil_panes}
+use Rattle.blend.specs.Blending.{Image}
+use Rattle.plain_images.specs.Panes.{HasSides, IsPartOf, is_empty_pane, frame_pane, box_pane, pane_before, pane_from}
+use Rattle.plain_images.specs.PlainImages.{ArePanesOf, ArePlainImages, IsPaneOf, LiesInFrame, PlainImagesLieInTheFrame, coloured_panes, image_pane, in_colour}
 use Rattle.plain_images.specs.PlainImages as plain
 use Rattle.plain_images.specs.declared.panes.Pane.{Pane}
 use Rattle.plain_images.specs.declared.plain.PlainImage.{PlainImage}

@@ -6,11 +6,10 @@ use Rattle.ass_num.specs.Masks.{MaskValue}
 use Rattle.ass_num.specs.Limits.{IsFrameSize}
 use Rattle.ass_num.specs.declared.colour.Rgba.{Rgba}
 use Rattle.ass_num.specs.declared.size.Size.{Size}
-use Rattle.blend.proofs.AreaLemmas.{and-second}
 use Rattle.blend.specs.Blending.{Image, StencilValue, Free, Rect, Drawn, in_rect, stencilled}
 use Rattle.plain_images.specs.Cutting.{IsCutOf, IsCuttable}
 use Rattle.plain_images.specs.Listing.{AddsPanes, image_in, mask_stencil, rect_stencil}
-use Rattle.plain_images.specs.Panes.{HasSides, IsPartOf, both_panes, box_pane, frame_pane, in_pane, is_empty_pane, pane_before, pane_from, panes_around, panes_beside}
+use Rattle.plain_images.specs.Panes.{IsPartOf, both_panes, box_pane, frame_pane, in_pane, is_empty_pane, pane_before, pane_from, panes_around, panes_beside}
 use Rattle.plain_images.specs.PlainImages.{ArePanesOf, ArePlainOf, IsPaneOf, image_pane, in_colour, shown_at, stencil_panes}
 use Rattle.plain_images.specs.declared.panes.Pane.{Pane}
 use Rattle.plain_images.specs.declared.plain.PlainImage.{PlainImage}

@@ -1,23 +1,23 @@
 -- Plain images make the picture of the images that they are of, and lie in the frame.
-use Rattle.std.proofs.Common.{◌≡◌, ℕ, ◌+◌, ◌*◌, ◌/◌, ◌%◌, ◌<◌, ◌≤◌, ◌⊎◌, ℤ, pos, ◌+ℤ◌, ◌-ℤ◌, ◌≤ℤ◌, ◌<ℤ◌, int_le, int_lt, Bool, true, false, not, ◌&&◌, if◌then◌else◌, List, [], ◌∷◌, ◌++◌, length, map, fold, refl, sym, ap, ◌∙◌, inl, inr, ⊎_elim, arith, append-nil}
+use Rattle.std.proofs.Common.{◌≡◌, ℕ, ◌+◌, ◌*◌, ◌/◌, ◌%◌, ◌<◌, ◌≤◌, ◌⊎◌, ℤ, pos, ◌-ℤ◌, int_lt, Bool, true, false, ◌&&◌, if◌then◌else◌, List, [], ◌∷◌, ◌++◌, length, refl, sym, ap, ◌∙◌, inl, inr, ⊎_elim, arith, append-nil}
 use Rattle.std.proofs.lemmas.Int.{ints}
 use Rattle.std.proofs.lemmas.Bool.{cases_lt, true≢false}
 use Rattle.std.proofs.lemmas.Nat.{mod_below, div_below}
 use Rattle.ass_num.specs.Coverage.{moved_value}
-use Rattle.ass_num.specs.Masks.{MaskValue, value_at}
+use Rattle.ass_num.specs.Masks.{value_at}
 use Rattle.ass_num.specs.declared.colour.Rgba.{Rgba}
 use Rattle.ass_num.specs.declared.size.Size.{Size}
 use Rattle.ass_num.proofs.MaskLemmas.{value_beside, value_over}
-use Rattle.blend.specs.Blending.{Tint, Image, stencilled, tint_of, tint_at, tinted, by_number}
+use Rattle.blend.specs.Blending.{Tint, Image, stencilled, tint_of, tint_at, by_number}
 use Rattle.blend.specs.Canvases.{CanvasValue, drawn}
 use Rattle.blend.proofs.AreaLemmas.{moved_value-outside}
 use Rattle.blend.proofs.TintedLemmas.{length-tinted, tint_of-none}
-use Rattle.plain_images.specs.Panes.{in_pane, is_empty_pane, frame_pane, box_pane, both_panes, pane_before, pane_from}
-use Rattle.plain_images.specs.PlainImages.{ArePanesOf, ArePlainImages, ArePlainOf, IsPaneOf, PlainImagesMakeThePicture, coloured_panes, image_of_plain, image_pane, in_colour, shown_at, stencil_panes, with_plain_images}
+use Rattle.plain_images.specs.Panes.{in_pane, is_empty_pane, frame_pane, box_pane, pane_before, pane_from}
+use Rattle.plain_images.specs.PlainImages.{ArePanesOf, ArePlainOf, IsPaneOf, PlainImagesMakeThePicture, coloured_panes, image_of_plain, image_pane, in_colour, shown_at, stencil_panes, with_plain_images}
 use Rattle.plain_images.specs.PlainImages as plain
 use Rattle.plain_images.specs.declared.panes.Pane.{Pane}
 use Rattle.plain_images.specs.declared.plain.PlainImage.{PlainImage}
-use Rattle.plain_images.proofs.PaneLemmas.{Cover, Miss, empty_lacks, has, in_both, lacks, out_of, stencil_cover, stencil_miss}
+use Rattle.plain_images.proofs.PaneLemmas.{Cover, Miss, empty_lacks, has, in_both, out_of, stencil_cover, stencil_miss}
 use Rattle.plain_images.proofs.TintLemmas.{AreClear, AreJoined, tinted_all, tinted_all-joined}
 
 -- ---- coloured panes at a pixel

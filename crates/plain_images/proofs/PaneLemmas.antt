@@ -1,10 +1,9 @@
 -- Which of the panes of an image has a pixel: one of them, or none where nothing of the image shows there.
-use Rattle.std.proofs.Common.{◌≡◌, ℕ, ◌+◌, ◌-◌, ◌*◌, ◌<◌, ◌≤◌, ◌⊎◌, ℤ, pos, ◌+ℤ◌, ◌-ℤ◌, ◌≤ℤ◌, ◌<ℤ◌, int_le, int_lt, Bool, true, false, not, ◌&&◌, ◌||◌, if◌then◌else◌, List, [], ◌∷◌, ◌++◌, map, refl, sym, ap, ◌∙◌, inl, inr, ⊎_elim, arith}
+use Rattle.std.proofs.Common.{◌≡◌, ℕ, ◌-◌, ◌<◌, ◌≤◌, ◌⊎◌, ℤ, pos, ◌≤ℤ◌, ◌<ℤ◌, int_le, int_lt, Bool, true, false, ◌&&◌, if◌then◌else◌, List, [], ◌∷◌, refl, sym, ◌∙◌, inl, inr, arith}
 use Rattle.std.proofs.lemmas.Int.{ints}
 use Rattle.std.proofs.lemmas.Bool.{true≢false}
 use Rattle.std.specs.Int.{int_min, int_max}
-use Rattle.ass_num.specs.Coverage.{moved_value}
-use Rattle.blend.specs.Blending.{StencilValue, Free, Rect, Drawn, in_rect, stencilled, by_255}
+use Rattle.blend.specs.Blending.{StencilValue, Free, Rect, Drawn, in_rect, stencilled}
 use Rattle.blend.proofs.AreaLemmas.{IsBetween, between-rect, moved_value-outside}
 use Rattle.blend.proofs.TintedLemmas.{by_255-none}
 use Rattle.plain_images.specs.Panes.{HasSides, IsPartOf, in_pane, is_empty_pane, box_pane, both_panes, panes_around, panes_beside}

@@ -1,5 +1,5 @@
 -- Tints one after the other, of which at most one has a weight at each pixel.
-use Rattle.std.proofs.Common.{◌≡◌, ℕ, suc, ◌+◌, ◌-◌, ◌*◌, ◌<◌, ◌≤◌, ◌⊎◌, List, [], ◌∷◌, length, refl, sym, ap, ◌∙◌, inl, inr, arith}
+use Rattle.std.proofs.Common.{◌≡◌, ℕ, ◌+◌, ◌-◌, ◌*◌, ◌<◌, ◌≤◌, ◌⊎◌, List, [], ◌∷◌, length, refl, sym, ap, ◌∙◌, inl, inr, arith}
 use Rattle.ass_num.specs.declared.colour.Rgba.{Rgba}
 use Rattle.blend.specs.Blending.{Tint, blended, tinted}
 use Rattle.blend.proofs.TintedLemmas.{IsSame, blended-none, cons-same}

@@ -1,7 +1,6 @@
 -- Lists of plain images that are the same, or the same but for their places.
-use Rattle.std.proofs.Common.{◌≡◌, ℕ, ◌+◌, ◌<◌, List, [], ◌∷◌, ◌++◌, length, get_or, take, map, pos, refl, sym, ap, ◌∙◌, arith}
+use Rattle.std.proofs.Common.{◌≡◌, ℕ, ◌+◌, ◌<◌, List, [], ◌∷◌, ◌++◌, length, get_or, take, map, pos, refl, sym, ap, ◌∙◌}
 use Rattle.std.proofs.lemmas.List.{get_or-map, map_more}
-use Rattle.ass_num.specs.declared.colour.Rgba.{Rgba}
 use Rattle.plain_images.specs.declared.plain.PlainImage.{PlainImage}
 use Rattle.player.specs.Changes.{plain_place, unplaced_plain}
 

@@ -1,4 +1,4 @@
-use Rattle.std.proofs.Common.{◌≡◌, w32, to_z, of_z}
+use Rattle.std.proofs.Common.{◌≡◌, w32}
 use Rattle.std.proofs.lemmas.Int.{to_z-of_z}
 use Rattle.blend.specs.Blending.{Image}
 use Rattle.blend.specs.Stencils.{stencil_value}
