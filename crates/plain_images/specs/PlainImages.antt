@@ -1,5 +1,5 @@
 -- Public: images as plain ones: each a mask that lies in the frame, of one colour, hidden nowhere.
-use Rattle.std.specs.Prelude.{◌≡◌, ℕ, ℤ, pos, ◌+ℤ◌, ◌≤ℤ◌, ◌*◌, ◌<◌, true, false, not, List, [], ◌∷◌, ◌++◌, length, map, fold, All}
+use Rattle.std.specs.Prelude.{◌≡◌, ℕ, pos, ◌+ℤ◌, ◌≤ℤ◌, ◌*◌, ◌<◌, true, false, not, List, [], ◌∷◌, ◌++◌, length, map, fold, All}
 use Rattle.std.specs.List.{filter}
 use Rattle.ass_num.specs.Coverage.{moved_value}
 use Rattle.ass_num.specs.Masks.{is_mask, value_at}

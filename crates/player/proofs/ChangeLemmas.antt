@@ -1,6 +1,6 @@
 -- Lists of plain images that are the same, or the same but for their places.
-use Rattle.std.proofs.Common.{◌≡◌, ℕ, ◌+◌, ◌<◌, List, [], ◌∷◌, ◌++◌, length, get_or, take, map, pos, refl, sym, ap, ◌∙◌}
-use Rattle.std.proofs.lemmas.List.{get_or-map, map_more}
+use Rattle.std.proofs.Common.{◌≡◌, ℕ, ◌<◌, List, [], ◌∷◌, length, get_or, map, refl, sym, ap, ◌∙◌}
+use Rattle.std.proofs.lemmas.List.{get_or-map}
 use Rattle.plain_images.specs.declared.plain.PlainImage.{PlainImage}
 use Rattle.player.specs.Changes.{plain_place, unplaced_plain}
 
@@ -9,17 +9,9 @@ use Rattle.player.specs.Changes.{plain_place, unplaced_plain}
 pub alike_at : {A B : Type 0} (f : A → B) (xs ys : List A) (i : ℕ) (d : A) → map f xs ≡ map f ys → i < length xs → i < length ys → f (get_or xs i d) ≡ f (get_or ys i d)
 alike_at {A} {B} f xs ys i d e in_xs in_ys = sym (get_or-map f xs i d (f d) in_xs) ∙ ap (λ (z : List B). get_or z i (f d)) e ∙ get_or-map f ys i d (f d) in_ys
 
-pub alike_more : {A B : Type 0} (f : A → B) (xs ys : List A) (i : ℕ) (d : A) → i < length xs → i < length ys → map f (take i xs) ≡ map f (take i ys)
-    → f (get_or xs i d) ≡ f (get_or ys i d) → map f (take (i + 1) xs) ≡ map f (take (i + 1) ys)
-alike_more f xs ys i d in_xs in_ys before here = map_more f xs i d in_xs ∙ (λ j. before j ++ here j ∷ []) ∙ sym (map_more f ys i d in_ys)
-
 -- ---- plain images
 
--- all but the places is the same
-pub unplaced_same : (a b : PlainImage) → a.colour ≡ b.colour → a.mask.w ≡ b.mask.w → a.mask.h ≡ b.mask.h → a.mask.bytes ≡ b.mask.bytes → unplaced_plain a ≡ unplaced_plain b
-unplaced_same a b colour w h bytes = λ i. record { mask = record { x = pos 0; y = pos 0; w = w i; h = h i; bytes = bytes i }; colour = colour i }
-
--- and with the places all is
+-- with the places all is the same
 one_plain : (a b : PlainImage) → unplaced_plain a ≡ unplaced_plain b → plain_place a ≡ plain_place b → a ≡ b
 one_plain a b same place =
     let x = ap (λ p. p.0) place in
@@ -30,11 +22,11 @@ one_plain a b same place =
     let colour = ap (λ (p : PlainImage). p.colour) same in
     λ i. record { mask = record { x = x i; y = y i; w = w i; h = h i; bytes = bytes i }; colour = colour i }
 
-first_of_list : {A : Type 0} → A → List A → A
+abbrev first_of_list : {A : Type 0} → A → List A → A
 first_of_list d [] = d
 first_of_list d (x ∷ xs) = x
 
-rest_of_list : {A : Type 0} → List A → List A
+abbrev rest_of_list : {A : Type 0} → List A → List A
 rest_of_list [] = []
 rest_of_list (x ∷ xs) = xs
 

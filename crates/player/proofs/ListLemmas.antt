@@ -49,15 +49,6 @@ listed_picture script fonts events t size draws images law are plain = record {
   value = law size (black size.w size.h) (map (image_of_draw fonts) draws) images refl refl (length-replicate (3 * (size.w * size.h)) 0) plain ∙ sym (picture_is fonts size draws (black size.w size.h));
 }
 
--- the draws of the events, painted on black, are their picture
-pub drawn_picture : (script : ScriptValue) (fonts : List FontValue) (events : List Event) (t : ℤ) (size : Size) (draws : List Draw) (old new : CanvasValue)
-    → AreDraws script fonts events t size draws → old ≡ black size.w size.h → new ≡ fold (with_draw fonts) old draws → IsPictureAt script fonts events t size new
-drawn_picture script fonts events t size draws old new are blank painted = record {
-  draws = draws;
-  are_draws = are;
-  value = painted ∙ ap (λ (c : CanvasValue). fold (with_draw fonts) c draws) blank;
-}
-
 -- drawing keeps the size of a canvas
 pub kept_width : (fonts : List FontValue) (draws : List Draw) (canvas : CanvasValue) → (fold (with_draw fonts) canvas draws).w ≡ canvas.w
 kept_width fonts [] canvas = refl

@@ -11,7 +11,7 @@ use std::marker::Model;
 use std::sync::Arc;
 
 /// What the images that were listed last are of.
-#[derive(Debug, Drop)]
+#[derive(Drop)]
 pub(crate) struct Listed {
     pub size: Size,
     pub plan: Plan,
