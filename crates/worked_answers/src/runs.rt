@@ -121,12 +121,7 @@ pub fn over_text(lent: &impl Rt, rt: &HostRuntime, question: &str) -> Result<Str
 }
 
 /// A run over a script and two fonts.
-fn over_script(
-    lent: &impl Rt,
-    rt: &HostRuntime,
-    line: &str,
-    script: &[u8],
-) -> Result<Ran, Fail> {
+fn over_script(lent: &impl Rt, rt: &HostRuntime, line: &str, script: &[u8]) -> Result<Ran, Fail> {
     let mut shelf = shelf_of(rt, script)?;
     run(lent, rt.alloc(), line, &mut shelf, [0, 0])
 }
@@ -135,7 +130,8 @@ fn over_script(
 fn is_kept(lent: &impl Rt, rt: &HostRuntime, ran: &Ran) -> Result<bool, Fail> {
     let again = over_script(lent, rt, "write a.ass", ran.frames.bytes())?;
     let told = ran_told(rt.alloc(), ran)?;
-    Ok(told.as_str() == ran_told(rt.alloc(), &again)?.as_str())
+    let told_again = ran_told(rt.alloc(), &again)?;
+    Ok(told.as_str() == told_again.as_str())
 }
 
 /// What comes of writing a script, and whether the text gives itself when it is written again: the words, a bar, and the
