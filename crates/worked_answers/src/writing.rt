@@ -53,7 +53,8 @@ fn events_of(alloc: Global, text: &str) -> Result<Vec<Arc<Event>>, Fail>
 {
     let mut events = Vec::new(alloc);
     for part in text.split('/') {
-        add_event(&mut events, event_said(alloc, part)?)?;
+        let event = event_said(alloc, part)?;
+        add_event(&mut events, event)?;
     }
     Ok(events)
 }
