@@ -91,18 +91,58 @@ pub fn long_check(lent: &impl Rt, rt: &HostRuntime, count: &str) -> Result<Strin
     ran_told(alloc, &ran)
 }
 
-/// A shelf of two fonts, and of the script `a.ass` with this text in its one line.
-fn shelf_with(rt: &HostRuntime, text: &str) -> Result<MemoryShelf, Fail> {
+/// A shelf of two fonts and the script `a.ass`.
+fn shelf_of(rt: &HostRuntime, script: &[u8]) -> Result<MemoryShelf, Fail> {
     let alloc = rt.alloc();
     let mut shelf = MemoryShelf::new(alloc);
-    let mut script = fs::read_to_string(rt, "head.ass")?;
-    script.push_str(text)?;
-    shelf.add(alloc, "a.ass", script.as_bytes())?;
+    shelf.add(alloc, "a.ass", script)?;
     for font in ["dot.bdf", "wide.bdf"] {
         let bytes = fs::read(rt, font)?;
         shelf.add(alloc, font, bytes.as_slice())?;
     }
     Ok(shelf)
+}
+
+/// A shelf of two fonts, and of the script `a.ass` with this text in its one line.
+fn shelf_with(rt: &HostRuntime, text: &str) -> Result<MemoryShelf, Fail> {
+    let mut script = fs::read_to_string(rt, "head.ass")?;
+    script.push_str(text)?;
+    shelf_of(rt, script.as_bytes())
+}
+
+/// A run over a script with one text: the words, a bar, and the text, whose lines end at bars.
+pub fn over_text(lent: &impl Rt, rt: &HostRuntime, question: &str) -> Result<String, Fail> {
+    let alloc = rt.alloc();
+    let (line, text) = question.split_once(" |").ok_or("no text")?;
+    let text = text.replace(alloc, "|", "\n")?;
+    let mut shelf = shelf_with(rt, text.as_str())?;
+    let ran = run(lent, alloc, line, &mut shelf, [0, 0])?;
+    ran_told(alloc, &ran)
+}
+
+/// A run over a script and two fonts.
+fn over_script(lent: &impl Rt, rt: &HostRuntime, line: &str, script: &[u8]) -> Result<Ran, Fail> {
+    let mut shelf = shelf_of(rt, script)?;
+    run(lent, rt.alloc(), line, &mut shelf, [0, 0])
+}
+
+/// Whether a text that was written gives itself when it is written again.
+fn is_kept(lent: &impl Rt, rt: &HostRuntime, ran: &Ran) -> Result<bool, Fail> {
+    let again = over_script(lent, rt, "write a.ass", ran.frames.bytes())?;
+    let told = ran_told(rt.alloc(), ran)?;
+    let told_again = ran_told(rt.alloc(), &again)?;
+    Ok(told.as_str() == told_again.as_str())
+}
+
+/// What comes of writing a script, and whether the text gives itself when it is written again: the words, a bar, and the
+/// script, whose lines end at bars.
+pub fn written(lent: &impl Rt, rt: &HostRuntime, question: &str) -> Result<String, Fail> {
+    let (line, text) = question.split_once(" |").ok_or("no script")?;
+    let text = text.replace(rt.alloc(), "|", "\n")?;
+    let ran = over_script(lent, rt, line, text.as_str().as_bytes())?;
+    let kept = is_kept(lent, rt, &ran)?;
+    let (report, image) = (BStr::new(ran.report.bytes()), BStr::new(ran.frames.bytes()));
+    shown(rt.alloc(), &(ran.exit, report, image, kept))
 }
 
 /// A run over files in memory: the numbers of the fetch, the put of an image and the put of a report that fail, a bar, and
