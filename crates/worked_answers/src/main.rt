@@ -71,8 +71,10 @@ fn call_answer(alloc: Global, table: &str, question: &str) -> Result<String, Fai
 fn answer(lent: &impl Rt, rt: &HostRuntime, table: &str, question: &str) -> Result<String, Fail> {
     match table {
         "runs" => runs::over_files(lent, rt, question),
-        "changes" => runs::over_text(lent, rt, question),
-        "written" => runs::written(lent, rt, question),
+        "digests" => runs::digest(lent, rt, question),
+        "changes" => runs::over_text(lent, rt, "head.ass", question),
+        "styled_changes" => runs::over_text(lent, rt, "styled.ass", question),
+        "written" => runs::written(lent, rt.alloc(), question),
         "faults" => runs::with_faults(lent, rt, question),
         "pictures" => runs::picture(lent, rt, question),
         "long_checks" => runs::long_check(lent, rt, question),
