@@ -47,10 +47,10 @@ for renderers in 1 2 4; do
     measure "200 signs, 250 frames of 1920x1080, $renderers renderers" 250 \
         "$program" play --mode settled --from 0 --to 10000 --step 40 --size 1920x1080 --renderers "$renderers" signs.ass "$font"
 done
-for budget in 1048576 16777216; do
+for budget in 1048576 16777216 ''; do
     for count in 1000 10000; do
-        measure "a line a second, $count frames of 640x360, 4 renderers, budget $budget" "$count" \
-            "$program" play --mode settled --from 0 --to $((count * 1000)) --step 1000 --size 640x360 --renderers 4 --budget "$budget" talk.ass "$font"
+        measure "a line a second, $count frames of 640x360, 4 renderers, budget ${budget:-by default}" "$count" \
+            "$program" play --mode settled --from 0 --to $((count * 1000)) --step 1000 --size 640x360 --renderers 4 ${budget:+--budget "$budget"} talk.ass "$font"
     done
 done
 for workers in 1 4; do

@@ -90,8 +90,8 @@ impl Alone {
         Ok(masks)
     }
 
-    /// The composed mask of a key.
-    pub(crate) fn composite(&mut self, alloc: Global, key: &CompositeKey) -> Mem<Arc<Mask>>
+    /// The composed mask of a key that is valid. What the caches haven't is made, and kept as far as the budget goes.
+    pub fn composite(&mut self, alloc: Global, key: &CompositeKey) -> Mem<Arc<Mask>>
         requires { IsValidComposite (glyph_counts self.old.fonts) key.now }
         ensures value { IfOk result (λ a. arc_value a ≡ composite_value self.old.fonts key.now) }
         ensures fonts { self.new.fonts ≡ self.old.fonts }
