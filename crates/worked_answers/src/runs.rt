@@ -134,16 +134,14 @@ fn over_script(lent: &impl Rt, alloc: Global, line: &str, script: &[u8]) -> Resu
     run(lent, alloc, line, &mut shelf, [0, 0])
 }
 
-/// Whether a text that was written is written again as the same bytes.
+/// Whether a text was written, and is written again as the same bytes.
 fn is_kept(lent: &impl Rt, alloc: Global, ran: &Ran) -> Result<bool, Fail> {
     let again = over_script(lent, alloc, "write a.ass", ran.frames.bytes())?;
-    let told = ran_told(alloc, ran)?;
-    let told_again = ran_told(alloc, &again)?;
-    Ok(told.as_str() == told_again.as_str())
+    Ok(ran.exit == 0 && again.exit == 0 && again.frames.bytes() == ran.frames.bytes())
 }
 
-/// What comes of writing a script, and whether the text is written again as the same bytes: the words, a bar, and the
-/// script, whose lines end at bars.
+/// What comes of writing a script, and whether what was written is written again as the same bytes: the words, a bar,
+/// and the script, whose lines end at bars.
 pub fn written(lent: &impl Rt, alloc: Global, question: &str) -> Result<String, Fail> {
     let (line, text) = question.split_once(" |").ok_or("no script")?;
     let text = text.replace(alloc, "|", "\n")?;
