@@ -72,6 +72,7 @@ fn answer(lent: &impl Rt, rt: &HostRuntime, table: &str, question: &str) -> Resu
     match table {
         "runs" => runs::over_files(lent, rt, question),
         "digests" => runs::digest(lent, rt, question),
+        "plays" => runs::over_text(lent, rt, "head.ass", question),
         "changes" => runs::over_text(lent, rt, "head.ass", question),
         "styled_changes" => runs::over_text(lent, rt, "styled.ass", question),
         "written" => runs::written(lent, rt.alloc(), question),
