@@ -20,19 +20,20 @@ sums_next g y k width =
     let enters : ((y +ℤ pos k) -ℤ pos width) +ℤ pos width ≡ (y +ℤ pos k) -ℤ pos 0 = omega (arith, ints) in
     omega (arith, sum_from-next g ((y +ℤ pos k) -ℤ pos width) width, ap (λ z. sum_from g z width) next, ap g enters)
 
-pub column_step : (g : ℤ → ℕ) (y : ℤ) (k width sum enters leaves : ℕ) → sum ≡ sum_from g ((y +ℤ pos k) -ℤ pos width) width
+pub column_step : (g : ℤ → ℕ) (y : ℤ) (k width more sum enters leaves : ℕ) → sum ≡ sum_from g ((y +ℤ pos k) -ℤ pos width) width + more
     → enters ≡ g ((y +ℤ pos k) -ℤ pos 0) → leaves ≡ g ((y +ℤ pos k) -ℤ pos width)
-    → sum_from g ((y +ℤ pos (k + 1)) -ℤ pos width) width + leaves ≡ sum + enters
-column_step g y k width sum enters leaves is e l = omega (arith, sums_next g y k width)
+    → sum_from g ((y +ℤ pos (k + 1)) -ℤ pos width) width + more + leaves ≡ sum + enters
+column_step g y k width more sum enters leaves is e l = omega (arith, sums_next g y k width)
 
--- a running sum of bytes is small, before and after a step
-pub column_bounds : (m : MaskValue) (i k width sum enters leaves : ℕ) → ((j : ℕ) → get_or m.bytes j 0 < 256)
-    → sum ≡ sum_from (value_at m (pos 0 +ℤ pos i)) ((pos 0 +ℤ pos k) -ℤ pos width) width
-    → enters ≡ value_at m (pos 0 +ℤ pos i) ((pos 0 +ℤ pos k) -ℤ pos 0) → leaves ≡ value_at m (pos 0 +ℤ pos i) ((pos 0 +ℤ pos k) -ℤ pos width)
-    → (leaves ≤ sum + enters) × (sum + enters ≤ 255 * width + leaves)
-column_bounds m i k width sum enters leaves bytes is e l =
+-- a running sum of bytes with the radius in it is small, before and after a step
+pub column_bounds : (m : MaskValue) (i k r sum enters leaves : ℕ) → ((j : ℕ) → get_or m.bytes j 0 < 256)
+    → sum ≡ sum_from (value_at m (pos 0 +ℤ pos i)) ((pos 0 +ℤ pos k) -ℤ pos (2 * r + 1)) (2 * r + 1) + r
+    → enters ≡ value_at m (pos 0 +ℤ pos i) ((pos 0 +ℤ pos k) -ℤ pos 0) → leaves ≡ value_at m (pos 0 +ℤ pos i) ((pos 0 +ℤ pos k) -ℤ pos (2 * r + 1))
+    → (leaves ≤ sum + enters) × (sum + enters < 256 * (2 * r + 1) + leaves)
+column_bounds m i k r sum enters leaves bytes is e l =
     let g = value_at m (pos 0 +ℤ pos i) in
-    let step = column_step g (pos 0) k width sum enters leaves is e l in
+    let width = 2 * r + 1 in
+    let step = column_step g (pos 0) k width r sum enters leaves is e l in
     let small = sum_from-bound g ((pos 0 +ℤ pos (k + 1)) -ℤ pos width) width 255 (λ j h. value_most m (pos 0 +ℤ pos i) (((pos 0 +ℤ pos (k + 1)) -ℤ pos width) +ℤ pos j) 255 (λ n. let byte = bytes n in omega (arith, byte))) in
     (omega (arith, step), omega (arith, step, small))
 

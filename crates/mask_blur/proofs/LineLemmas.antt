@@ -1,8 +1,7 @@
 -- Sums and means along lines.
-use Rattle.std.proofs.Common.{◌≡◌, ℕ, ◌+◌, ◌*◌, ◌<◌, ◌≤◌, ℤ, pos, ◌+ℤ◌, ◌-ℤ◌, List, length, get_or, replicate, ap, ◌∙◌, ⊎_elim, arith}
-use Rattle.std.proofs.lemmas.Bool.{cases_lt}
+use Rattle.std.proofs.Common.{◌≡◌, ℕ, ◌+◌, ◌*◌, ◌<◌, ℤ, pos, ◌+ℤ◌, ◌-ℤ◌, List, length, get_or, replicate, ap, ◌∙◌, arith}
 use Rattle.std.proofs.lemmas.Int.{ints}
-use Rattle.std.proofs.lemmas.List.{get_or_past, get_or-replicate, length-replicate}
+use Rattle.std.proofs.lemmas.List.{get_or-replicate, length-replicate}
 use Rattle.mask_blur.specs.Blur.{mean, smoothed}
 use Rattle.mask_blur.specs.Lines.{IsZeroBeside}
 use Rattle.ass_num.proofs.SumLemmas.{sum_from-zero}
@@ -19,9 +18,8 @@ smoothed_beside r f at n none = record {
   behind = λ i out. smoothed_zero r f i (λ k h. none.behind ((i -ℤ pos r) +ℤ pos k) (omega (arith, ints)));
 }
 
--- what a fill with 0 leaves
-pub replicate_zero : (xs : List ℕ) (n : ℕ) → xs ≡ replicate n 0 → (k : ℕ) → get_or xs k 0 ≡ 0
-replicate_zero xs n is k = ⊎_elim
-    (λ (within : k < n). rw is (get_or-replicate n k 0 0 within))
-    (λ (past : n ≤ k). get_or_past xs k 0 (omega (arith, ap length is, length-replicate {A = ℕ} n 0)))
-    (cases_lt k n)
+-- what a fill leaves
+pub filled_with : (xs : List ℕ) (n v : ℕ) → xs ≡ replicate n v → (k : ℕ) → k < length xs → get_or xs k 0 ≡ v
+filled_with xs n v is k within =
+    let below : k < n = omega (arith, within, ap length is, length-replicate {A = ℕ} n v) in
+    rw is (get_or-replicate n k v 0 below)

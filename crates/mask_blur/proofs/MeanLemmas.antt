@@ -21,15 +21,11 @@ scaled n d m q t e p n_is rest product little small =
 pub mean-zero : (r : ℕ) → mean r 0 ≡ 0
 mean-zero r = quotient_is (0 + r) (2 * r + 1) 0 r (omega arith) (omega arith)
 
-pub mean-below : (r sum : ℕ) → sum ≤ 255 * (2 * r + 1) → mean r sum ≤ 255
-mean-below r sum h =
-    let n = sum + r in
-    let d = 2 * r + 1 in
-    let split : n / d * d + n % d ≡ n = div-add-mod' n d in
-    below split (cases_lt 255 (n / d))
+pub quotient_below : (r n : ℕ) → n < 256 * (2 * r + 1) → n / (2 * r + 1) ≤ 255
+quotient_below r n h = below (div-add-mod' n (2 * r + 1)) (cases_lt 255 (n / (2 * r + 1)))
   where
-    below : (sum + r) / (2 * r + 1) * (2 * r + 1) + (sum + r) % (2 * r + 1) ≡ sum + r → (255 < (sum + r) / (2 * r + 1)) ⊎ ((sum + r) / (2 * r + 1) ≤ 255) → (sum + r) / (2 * r + 1) ≤ 255
-    below split (inl above) = let more : 256 * (2 * r + 1) ≤ (sum + r) / (2 * r + 1) * (2 * r + 1) = mul-le 256 (2 * r + 1) ((sum + r) / (2 * r + 1)) (2 * r + 1) (omega arith) (omega arith) in absurd (omega arith)
+    below : n / (2 * r + 1) * (2 * r + 1) + n % (2 * r + 1) ≡ n → (255 < n / (2 * r + 1)) ⊎ (n / (2 * r + 1) ≤ 255) → n / (2 * r + 1) ≤ 255
+    below split (inl above) = let more : 256 * (2 * r + 1) ≤ n / (2 * r + 1) * (2 * r + 1) = mul-le 256 (2 * r + 1) (n / (2 * r + 1)) (2 * r + 1) (omega arith) (omega arith) in absurd (omega arith)
     below split (inr fine) = fine
 
 -- the factor has 16 bits, and is little too much
@@ -56,17 +52,16 @@ factor_fine r some small =
     let parts : (p ≤ d * m) × (256 * (d * m - p) < m) × (m < 65536) = (leb-true p (d * m) first.0, ltb-true (256 * (d * m - p)) m second.0, ltb-true m 65536 second.1) in
     rw same at parts
 
-pub mean_scaled : (r sum : ℕ) → 0 < r → r ≤ 100 → sum ≤ 255 * (2 * r + 1)
-    → (mean r sum * 2 ^ (16 + mean_shift r) ≤ (sum + r) * mean_factor r) × ((sum + r) * mean_factor r < mean r sum * 2 ^ (16 + mean_shift r) + 2 ^ (16 + mean_shift r))
-mean_scaled r sum some small most =
-    let n = sum + r in
+pub quotient_scaled : (r n : ℕ) → 0 < r → r ≤ 100 → n < 256 * (2 * r + 1)
+    → (n / (2 * r + 1) * 2 ^ (16 + mean_shift r) ≤ n * mean_factor r) × (n * mean_factor r < n / (2 * r + 1) * 2 ^ (16 + mean_shift r) + 2 ^ (16 + mean_shift r))
+quotient_scaled r n some small most =
     let d = 2 * r + 1 in
     let m = mean_factor r in
     let p = 2 ^ (16 + mean_shift r) in
     let fine = factor_fine r some small in
     let split : n / d * d + n % d ≡ n = div-add-mod' n d in
     let rest : n % d < d = mod_below n d (omega arith) in
-    let low = mean-below r sum most in
+    let low = quotient_below r n most in
     scaled n d m (n / d) (n % d) (d * m - p) p (omega (arith, split)) rest (omega (arith, fine.0)) fine.1 low
 
 shift_cases : (r : ℕ) → (mean_shift r ≡ 1) ⊎ ((mean_shift r ≡ 4) ⊎ ((mean_shift r ≡ 6) ⊎ (mean_shift r ≡ 7)))
@@ -95,8 +90,8 @@ shifted_by s q n (inr (inl b)) low high = rw b (omega (arith, rw b at low, rw b 
 shifted_by s q n (inr (inr (inl c))) low high = rw c (omega (arith, rw c at low, rw c at high))
 shifted_by s q n (inr (inr (inr d))) low high = rw d (omega (arith, rw d at low, rw d at high))
 
--- the product, shifted, is the mean
-pub mean_shifted : (r sum : ℕ) → 0 < r → r ≤ 100 → sum ≤ 255 * (2 * r + 1) → (sum + r) * mean_factor r / 65536 / 2 ^ mean_shift r ≡ mean r sum
-mean_shifted r sum some small most =
-    let both = mean_scaled r sum some small most in
-    shifted_by (mean_shift r) (mean r sum) ((sum + r) * mean_factor r) (shift_cases r) both.0 both.1
+-- the product, shifted, is the quotient
+pub quotient_shifted : (r n : ℕ) → 0 < r → r ≤ 100 → n < 256 * (2 * r + 1) → n * mean_factor r / 65536 / 2 ^ mean_shift r ≡ n / (2 * r + 1)
+quotient_shifted r n some small most =
+    let both = quotient_scaled r n some small most in
+    shifted_by (mean_shift r) (n / (2 * r + 1)) (n * mean_factor r) (shift_cases r) both.0 both.1

@@ -1,22 +1,22 @@
 //! Blurring along columns.
 
-ghost use Rattle.std.specs.Prelude.{◌≡◌, ℕ, ℤ, pos, ◌≤◌, ◌<◌, ◌+◌, ◌*◌, ◌-ℤ◌, ◌^◌, length, slice_index};
-ghost use Rattle.mask_blur.specs.Blur.{mean, along_columns};
+ghost use Rattle.std.specs.Prelude.{◌≡◌, ℕ, ℤ, pos, ◌≤◌, ◌<◌, ◌+◌, ◌*◌, ◌/◌, ◌-ℤ◌, ◌^◌, length, slice_index};
+ghost use Rattle.mask_blur.specs.Blur.{along_columns};
 ghost use Rattle.mask_blur.specs.Shown.{Shows};
 
 use crate::means::Means;
 use crate::rows::row_or_zeros;
 
-/// Moves the columns' sums down by a row, and writes their means.
+/// Moves the columns' sums, which have the radius in them, down by a row, and writes their means.
 fn slide(to: &mut [u8], sums: &mut [u16], entering: &[u8], leaving: &[u8], means: &Means)
     requires sums { length sums.old ≡ length to.old }
     requires entering { length entering.now ≡ length to.old }
     requires leaving { length leaving.now ≡ length to.old }
     requires window { (k : ℕ) → k < length to.old → (slice_index leaving.now k ≤ slice_index sums.old k + slice_index entering.now k)
-        × (slice_index sums.old k + slice_index entering.now k ≤ 255 * (2 * means.now.radius + 1) + slice_index leaving.now k) }
+        × (slice_index sums.old k + slice_index entering.now k < 256 * (2 * means.now.radius + 1) + slice_index leaving.now k) }
     ensures sums { (k : ℕ) → k < length to.old
         → slice_index sums.new k + slice_index leaving.now k ≡ slice_index sums.old k + slice_index entering.now k }
-    ensures means { (k : ℕ) → k < length to.old → slice_index to.new k ≡ mean means.now.radius (slice_index sums.new k) }
+    ensures means { (k : ℕ) → k < length to.old → slice_index to.new k ≡ slice_index sums.new k / (2 * means.now.radius + 1) }
 {
     // a copy: what lies behind a reference would be read again after each write
     let own = *means;
@@ -39,7 +39,7 @@ fn blur_columns(to: &mut [u8], sums: &mut [u16], from: &[u8], zeros: &[u8], h: u
 {
     let w = zeros.len();
     let r = means.radius();
-    sums.fill(0);
+    sums.fill(r as u16);
     for k in 0..h + 2 * r {
         let entering = row_or_zeros(from, zeros, h, k, 0);
         let leaving = row_or_zeros(from, zeros, h, k, 2 * r + 1);

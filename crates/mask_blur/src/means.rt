@@ -1,7 +1,6 @@
 //! Means of bytes, without a division.
 
-ghost use Rattle.std.specs.Prelude.{◌≡◌, ◌≤◌, ◌<◌, ◌+◌, ◌*◌};
-ghost use Rattle.mask_blur.specs.Blur.{mean};
+ghost use Rattle.std.specs.Prelude.{◌≡◌, ◌≤◌, ◌<◌, ◌+◌, ◌*◌, ◌/◌};
 ghost use Rattle.mask_blur.specs.Limits.{max_blur};
 ghost use Rattle.mask_blur.specs.Scales.{mean_shift, mean_factor};
 
@@ -51,12 +50,12 @@ impl Means {
         usize::from(self.radius)
     }
 
-    /// The mean of bytes with this sum.
+    /// The mean of bytes, by their sum with the radius in it.
     pub fn of(&self, sum: u16) -> u8
-        requires { sum ≤ 255 * (2 * self.now.radius + 1) }
-        ensures { result ≡ mean self.now.radius sum }
+        requires { sum < 256 * (2 * self.now.radius + 1) }
+        ensures { result ≡ sum / (2 * self.now.radius + 1) }
     {
-        let product = u32::from(sum + self.radius) * u32::from(self.factor);
+        let product = u32::from(sum) * u32::from(self.factor);
         ((product >> 16) as u16 >> self.shift) as u8
     }
 }

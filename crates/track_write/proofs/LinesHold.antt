@@ -4,7 +4,7 @@ use Rattle.std.specs.Prelude.{codes}
 use Rattle.std.specs.Fmt.{decimal, signed_decimal}
 use Rattle.std.specs.Cmp.{signed_Decides}
 use Rattle.std.specs.Int.RustNames.{unsigned_abs}
-use Rattle.std.specs.List.{All, list_all}
+use Rattle.std.specs.List.{All, AllPass, list_all}
 use Rattle.std.specs.Str.{IsUtf8}
 use Rattle.std.proofs.lemmas.Bool.Decides.{nat_tests}
 use Rattle.std.proofs.lemmas.Fmt.{decimal_nonempty}
@@ -35,8 +35,11 @@ use Rattle.track_write.proofs.LineCuts.{IsLine, AreLines, last_of_two, EachField
 use Rattle.track_write.proofs.Tokens.{AreTokens, no_line_feed, tokens_utf8, token_no_return, decimal_tokens, signed_tokens, milli_tokens, colour_tokens, flag_tokens, time_tokens}
 
 -- a byte of plain lines
-abbrev is_plain : ℕ → Bool
+abbrev pub is_plain : ℕ → Bool
 is_plain c = ltb c 128 && not (eqb c 10)
+
+abbrev pub ArePlain : List ℕ → Type 0
+ArePlain text = AllPass is_plain text
 
 plain_no_feed : (c : ℕ) → is_plain c ≡ true → is_line_feed c ≡ false
 plain_no_feed c e = grind (arith, nat_tests)
@@ -44,21 +47,28 @@ plain_no_feed c e = grind (arith, nat_tests)
 plain_ascii : (c : ℕ) → is_plain c ≡ true → c < 128
 plain_ascii c e = grind (arith, nat_tests)
 
-plain_fed : (line : List ℕ) → list_all is_plain line ≡ true → All (λ c. is_line_feed c ≡ false) line
-plain_fed line e = All-weaker (λ c. is_plain c ≡ true) (λ c. is_line_feed c ≡ false) plain_no_feed line (AllPass-from_list_all is_plain line e)
+pub plain_fed : (line : List ℕ) → ArePlain line → All (λ c. is_line_feed c ≡ false) line
+plain_fed line plain = All-weaker (λ c. is_plain c ≡ true) (λ c. is_line_feed c ≡ false) plain_no_feed line plain
 
-plain_utf8 : (line : List ℕ) → list_all is_plain line ≡ true → IsUtf8 line
-plain_utf8 line e = IsUtf8-from_ascii line (IsAscii-from_all line (All-weaker (λ c. is_plain c ≡ true) (λ c. c < 128) plain_ascii line (AllPass-from_list_all is_plain line e)))
+pub plain_utf8 : (line : List ℕ) → ArePlain line → IsUtf8 line
+plain_utf8 line plain = IsUtf8-from_ascii line (IsAscii-from_all line (All-weaker (λ c. is_plain c ≡ true) (λ c. c < 128) plain_ascii line plain))
 
-plain_line : (line : List ℕ) → list_all is_plain line ≡ true → eqb (get_or line (length line - 1) 0) 13 ≡ false → IsLine line
-plain_line line e last = record { no_line_feed = plain_fed line e; last = last; utf8 = plain_utf8 line e }
+pub plain_stands : (line : List ℕ) → ArePlain line → eqb (get_or line (length line - 1) 0) 13 ≡ false → IsLine line
+plain_stands line plain last = record { no_line_feed = plain_fed line plain; last = last; utf8 = plain_utf8 line plain }
+
+-- a text whose bytes are known
+pub known_plain : (text : List ℕ) → list_all is_plain text ≡ true → ArePlain text
+known_plain text e = AllPass-from_list_all is_plain text e
+
+pub plain_line : (line : List ℕ) → list_all is_plain line ≡ true → eqb (get_or line (length line - 1) 0) 13 ≡ false → IsLine line
+plain_line line e last = plain_stands line (known_plain line e) last
 
 -- a plain key and what stands behind it
 behind_key : (key value : List ℕ) → list_all is_plain key ≡ true → All (λ c. is_line_feed c ≡ false) value → IsUtf8 value → 0 < length value → eqb (get_or value (length value - 1) 0) 13 ≡ false → IsLine (key ++ value)
 behind_key key value e fed utf8 some last = record {
-  no_line_feed = All-append (λ c. is_line_feed c ≡ false) key value (plain_fed key e) fed;
+  no_line_feed = All-append (λ c. is_line_feed c ≡ false) key value (plain_fed key (known_plain key e)) fed;
   last = ap (λ c. eqb c 13) (last_of_two key value some) ∙ last;
-  utf8 = IsUtf8-append key value (plain_utf8 key e) utf8;
+  utf8 = IsUtf8-append key value (plain_utf8 key (known_plain key e)) utf8;
 }
 
 tokens_last : (text : List ℕ) → AreTokens text → 0 < length text → eqb (get_or text (length text - 1) 0) 13 ≡ false
@@ -207,7 +217,7 @@ module _ (s : Style) (is : IsStyle s) (spelled : IsSpelledStyle s) where
                       (
                         margin_whole s.margin_v is.margin_v,
                         (
-                          (plain_fed (codes "1") refl, plain_utf8 (codes "1") refl),
+                          (plain_fed (codes "1") (known_plain (codes "1") refl), plain_utf8 (codes "1") (known_plain (codes "1") refl)),
                           tt,
                         ),
                       ),

@@ -36,17 +36,17 @@ use Rattle.track_write.proofs.StyleReads.{style_read}
 
 -- ---- one line on
 
-on : (text : List ℕ) (texts : List (List ℕ)) (s : Section) (k : Key) (value : List ℕ) (r next : Reading) → r.section ≡ s → line_in s text ≡ said k value → keyed_step k value r ≡ next → walked (text ∷ texts) r ≡ walked texts next
+pub on : (text : List ℕ) (texts : List (List ℕ)) (s : Section) (k : Key) (value : List ℕ) (r next : Reading) → r.section ≡ s → line_in s text ≡ said k value → keyed_step k value r ≡ next → walked (text ∷ texts) r ≡ walked texts next
 unfolding walked
 on text texts s k value r next at line does =
     ap (walked texts) (ap (λ z. keyed_step (line_in z text).key (line_in z text).value r) at ∙ ap (λ l. keyed_step l.key l.value r) line ∙ does)
 
-walked_append : (texts more : List (List ℕ)) (r : Reading) → walked (texts ++ more) r ≡ walked more (walked texts r)
+pub walked_append : (texts more : List (List ℕ)) (r : Reading) → walked (texts ++ more) r ≡ walked more (walked texts r)
 unfolding walked
 walked_append [] more r = refl
 walked_append (text ∷ texts) more r = walked_append texts more (line_step text r)
 
-walked_none : (r : Reading) → walked [] r ≡ r
+pub walked_none : (r : Reading) → walked [] r ≡ r
 unfolding walked
 walked_none r = refl
 
@@ -143,20 +143,24 @@ with_events h styles texts = record {
   refusal = None;
 }
 
-one_event : (h : HeaderLines) (styles : List Style) (before : List (List ℕ)) (event : Event) (texts : List (List ℕ)) → length before < max_lines →
-    walked (dialogue_line event ∷ texts) (with_events h styles before) ≡ walked texts (with_events h styles (before ++ spoken event ∷ []))
-one_event h styles before event texts few =
-    let room : leb max_lines (length before) ≡ false = grind (arith, nat_tests) in
-    on (dialogue_line event) texts section.Events _ _ (with_events h styles before) (with_events h styles (before ++ spoken event ∷ [])) refl (dialogue_said (row (event_fields event)))
-    (ap (λ b. cond b (record (with_events h styles before) { refusal = Some (refusal.TooManyLines max_lines) }) (with_events h styles (before ++ spoken event ∷ []))) room)
+-- in the events of a script, where this stands behind the Dialogues so far
+abbrev pub in_events : Reading → List (List ℕ) → Reading
+in_events r said = record r { section = section.Events; lines = said; refusal = None }
 
-all_events : (h : HeaderLines) (styles : List Style) (before : List (List ℕ)) (events : List Event) → length before + length events ≤ max_lines →
-    walked (map dialogue_line events) (with_events h styles before) ≡ with_events h styles (before ++ map spoken events)
-all_events h styles before [] few = walked_none (with_events h styles before) ∙ ap (with_events h styles) (sym (append-nil before))
-all_events h styles before (event ∷ events) few =
-    one_event h styles before event (map dialogue_line events) (omega arith)
-    ∙ all_events h styles (before ++ spoken event ∷ []) events (omega (arith, length-append before (spoken event ∷ [])))
-    ∙ ap (with_events h styles) (append_assoc before (spoken event ∷ []) (map spoken events))
+one_dialogue : (r : Reading) (before : List (List ℕ)) (value : List ℕ) (texts : List (List ℕ)) → length before < max_lines →
+    walked ((codes "Dialogue: " ++ value) ∷ texts) (in_events r before) ≡ walked texts (in_events r (before ++ (32 ∷ value) ∷ []))
+one_dialogue r before value texts few =
+    let room : leb max_lines (length before) ≡ false = grind (arith, nat_tests) in
+    on (codes "Dialogue: " ++ value) texts section.Events _ _ (in_events r before) (in_events r (before ++ (32 ∷ value) ∷ [])) refl (dialogue_said value)
+    (ap (λ b. cond b (record (in_events r before) { refusal = Some (refusal.TooManyLines max_lines) }) (in_events r (before ++ (32 ∷ value) ∷ []))) room)
+
+pub all_dialogues : {Item : Type 0} (value : Item → List ℕ) (r : Reading) (before : List (List ℕ)) (items : List Item) → length before + length items ≤ max_lines →
+    walked (map (λ item. codes "Dialogue: " ++ value item) items) (in_events r before) ≡ in_events r (before ++ map (λ item. 32 ∷ value item) items)
+all_dialogues value r before [] few = walked_none (in_events r before) ∙ ap (in_events r) (sym (append-nil before))
+all_dialogues value r before (item ∷ items) few =
+    one_dialogue r before (value item) (map (λ item. codes "Dialogue: " ++ value item) items) (omega arith)
+    ∙ all_dialogues value r (before ++ (32 ∷ value item) ∷ []) items (omega (arith, length-append before ((32 ∷ value item) ∷ [])))
+    ∙ ap (in_events r) (append_assoc before ((32 ∷ value item) ∷ []) (map (λ item. 32 ∷ value item) items))
 
 -- ---- the Formats
 
@@ -185,7 +189,7 @@ module _ (script : ScriptValue) (events : List Event) (is : IsSpelledScript scri
       on (codes "[Events]") _ (section.Styles V4Plus) _ _ (with_styles header script.styles) (record (with_events header script.styles []) { format = None }) refl events_heading refl
       ∙ on event_format_line _ section.Events _ _ _ (with_events header script.styles []) refl (event_format_said (drop 8 event_format_line))
       (ap (λ f. cond (ends_in_text f) (record (with_events header script.styles []) { format = Some f }) (record (with_events header script.styles []) { format = None })) event_fields_are)
-      ∙ all_events header script.styles [] events (omega arith)
+      ∙ all_dialogues (λ event. row (event_fields event)) (with_events header script.styles []) [] events (omega arith)
 
   pub script_walked : made_script (walked (script_lines script events) no_script_lines) ≡ Ok (record { header = script.header; styles = script.styles; format = usual_event_fields V4Plus; lines = map spoken events })
   script_walked =

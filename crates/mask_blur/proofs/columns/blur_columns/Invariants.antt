@@ -6,5 +6,5 @@ use Rattle.mask_blur.proofs.columns.blur_columns.Given as goal
 
 abbrev pub invariant-loop-k : goal.invariant-loop-k
 invariant-loop-k l = (f : ℤ → ℤ → ℕ) (x y : ℤ) → Shows f x y (length l.zeros) l.h l.from
-    → ((i : ℕ) → i < length l.zeros → get_or l.sums i 0 ≡ sum_from (f (x +ℤ pos i)) ((y +ℤ pos l.k) -ℤ pos (2 * l.means.radius + 1)) (2 * l.means.radius + 1))
+    → ((i : ℕ) → i < length l.zeros → get_or l.sums i 0 ≡ sum_from (f (x +ℤ pos i)) ((y +ℤ pos l.k) -ℤ pos (2 * l.means.radius + 1)) (2 * l.means.radius + 1) + l.means.radius)
     × HasMaskRows (along_columns l.means.radius f) x (y -ℤ pos l.means.radius) (length l.zeros) l.k l.to
