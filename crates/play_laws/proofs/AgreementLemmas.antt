@@ -32,35 +32,38 @@ abbrev pub Law : Type 0
 Law = (script : ScriptValue) (fonts : List FontValue) → IsScript script → HaveOnePicture script fonts
 
 -- The bytes are the image of what all events of a script show.
-abbrev IsAt : ScriptValue → List FontValue → Size → ℤ → ℕ → List ℕ → Type 0
+abbrev pub IsAt : ScriptValue → List FontValue → Size → ℤ → ℕ → List ℕ → Type 0
 IsAt script fonts size t q bytes =
     (canvas : CanvasValue) × IsPictureAt script fonts (line_events script) t size canvas
     × (bytes ≡ image_bytes size.w size.h canvas.bytes t (q * (length (line_events script) + 1) + length (line_events script)))
 
-one_image : Law → (script : ScriptValue) (fonts : List FontValue) (size : Size) (t : ℤ) (q : ℕ) (x y : List ℕ) → IsScript script → IsAt script fonts size t q x → IsAt script fonts size t q y → x ≡ y
+pub one_image : Law → (script : ScriptValue) (fonts : List FontValue) (size : Size) (t : ℤ) (q : ℕ) (x y : List ℕ) → IsScript script → IsAt script fonts size t q x → IsAt script fonts size t q y → x ≡ y
 one_image law script fonts size t q x y sound a b =
     a.2
     ∙ ap (λ (c : CanvasValue). image_bytes size.w size.h c.bytes t (q * (length (line_events script) + 1) + length (line_events script))) (law script fonts sound (line_events script) t size a.0 b.0 a.1 b.1)
     ∙ sym b.2
 
-at_place : (play : PlayView) (q i : ℕ) (bytes : List ℕ) → IsSettledImage play q i bytes → IsAt play.script play.fonts play.job.size (play_instant play.job i) q bytes
+pub at_place : (play : PlayView) (q i : ℕ) (bytes : List ℕ) → IsSettledImage play q i bytes → IsAt play.script play.fonts play.job.size (play_instant play.job i) q bytes
 at_place play q i bytes h = (h.canvas, h.is_picture, h.value)
 
 module _ (one other : PlayView) (alike : PlayAlike one other) where
-  same_count : instant_count one.job ≡ instant_count other.job
-  same_count = rw (alike.from, alike.to, alike.step) refl
+  pub same_count : instant_count one.job ≡ instant_count other.job
+  same_count = rw (alike.jobs.from, alike.jobs.to, alike.jobs.step) refl
+
+  pub same_frames : frame_count one.job ≡ frame_count other.job
+  same_frames = ap (λ t. t * instant_count one.job) alike.jobs.times ∙ ap (λ c. other.job.times * c) same_count
 
   same_instant : (i : ℕ) → play_instant one.job i ≡ play_instant other.job i
-  same_instant i = rw (alike.from, alike.step) refl
+  same_instant i = rw (alike.jobs.from, alike.jobs.step) refl
 
-  moved : (q i : ℕ) (bytes : List ℕ) → IsAt other.script other.fonts other.job.size (play_instant other.job i) q bytes → IsAt one.script one.fonts one.job.size (play_instant one.job i) q bytes
+  pub moved : (q i : ℕ) (bytes : List ℕ) → IsAt other.script other.fonts other.job.size (play_instant other.job i) q bytes → IsAt one.script one.fonts one.job.size (play_instant one.job i) q bytes
   moved q i bytes h =
       subst (λ (s : ScriptValue). IsAt s one.fonts one.job.size (play_instant one.job i) q bytes) (sym alike.script)
       (subst (λ (f : List FontValue). IsAt other.script f one.job.size (play_instant one.job i) q bytes) (sym alike.fonts)
-      (subst (λ (z : Size). IsAt other.script other.fonts z (play_instant one.job i) q bytes) (sym alike.size)
+      (subst (λ (z : Size). IsAt other.script other.fonts z (play_instant one.job i) q bytes) (sym alike.jobs.size)
       (subst (λ (t : ℤ). IsAt other.script other.fonts other.job.size t q bytes) (sym (same_instant i)) h)))
 
-positive : (t n k : ℕ) → k < t * n → 0 < n
+pub positive : (t n k : ℕ) → k < t * n → 0 < n
 positive t zero k lt = absurd (omega (arith, lt))
 positive t (suc n) k lt = omega arith
 
@@ -75,7 +78,7 @@ module _ (law : Law) (one other : PlayView) (times more : List (List Entry)) (a 
       let place : q * instant_count other.job + i ≡ k = ap (λ c. q * c + i) (sym same) ∙ split in
       let x = subst (λ p. IsSettledImage one q i (slice_index_or shown.images p d)) split (settled_image one times a playable settled shown q i d small few) in
       let y = subst (λ p. IsSettledImage other q i (slice_index_or seen.images p d)) place
-      (settled_image other more b fits too seen q i d (subst (λ c. i < c) same small) (subst (λ t. q < t) alike.times few)) in
+      (settled_image other more b fits too seen q i d (subst (λ c. i < c) same small) (subst (λ t. q < t) alike.jobs.times few)) in
       one_image law one.script one.fonts one.job.size (play_instant one.job i) q _ _ playable.script (at_place one q i _ x) (moved one other alike q i _ (at_place other q i _ y))
 
   image_of : (k : ℕ) (d : List ℕ) → k < frame_count one.job → slice_index_or shown.images k d ≡ slice_index_or seen.images k d
@@ -84,11 +87,8 @@ module _ (law : Law) (one other : PlayView) (times more : List (List Entry)) (a 
       image_at (k / count) (k % count) k d split (mod_below k count (positive one.job.times count k lt))
       (lt_of_mul-lt-mul_right count {m = k / count} {n = one.job.times} (omega (arith, split, lt)))
 
-  same_frames : frame_count one.job ≡ frame_count other.job
-  same_frames = ap (λ t. t * count) alike.times ∙ ap (λ c. other.job.times * c) (same_count one other alike)
-
   all_images : shown.images ≡ seen.images
-  all_images = same_lists shown.images seen.images (shown.all ∙ same_frames ∙ sym seen.all) (λ k d lt. image_of k d (subst (λ n. k < n) shown.all lt))
+  all_images = same_lists shown.images seen.images (shown.all ∙ same_frames one other alike ∙ sym seen.all) (λ k d lt. image_of k d (subst (λ n. k < n) shown.all lt))
 
   pub plays_agree : a ≡ b
   plays_agree = shown.value ∙ ap (λ images. flat_map (λ (image : List ℕ). image) images) all_images ∙ sym seen.value

@@ -1,28 +1,54 @@
 -- Public: plays that put the same bytes.
-use Rattle.std.specs.Prelude.{◌≡◌, ℕ, List, Result}
+use Rattle.std.specs.Prelude.{◌≡◌, ℕ, List, ◌++◌, Result}
+use Rattle.std.specs.Io.KnownBytes.{Appends}
 use Rattle.ass_events.specs.Histories.{Entry}
+use Rattle.ass_io.specs.Fetched.{Told}
 use Rattle.ass_script.specs.Scripts.{ScriptValue}
-use Rattle.input_files.specs.Laws.{IsReadDecided}
+use Rattle.frame_play.specs.Runs.{SinkChange}
+use Rattle.input_files.specs.Laws.{AreTold, IsReadDecided}
+use Rattle.play_command.specs.PlayRuns.{IsPlayRun}
 use Rattle.play_command.specs.SelftestRuns.{IsSelftestRead, IsSelftestReport}
 use Rattle.play_model.specs.Outputs.{IsShownPlay}
 use Rattle.play_model.specs.Plays.{IsPlayable, PlayView}
 use Rattle.play_words.specs.declared.job.Mode.TheVariants.{Settled}
+use Rattle.play_words.specs.declared.job.PlayJob.{PlayJob}
 use Rattle.run_status.specs.declared.status.Status.{Status}
+use Rattle.run_status.specs.declared.status.Status.TheVariants.{Done}
 
--- The plays are of the same script and fonts, at the same instants, as often and of the same size. All else may differ.
+-- The jobs are of the same instants, as often and of the same size. All else may differ.
+pub record JobsAlike (one other : PlayJob) : Type 0 where
+  pub from : one.from ≡ other.from
+  pub to : one.to ≡ other.to
+  pub step : one.step ≡ other.step
+  pub times : one.times ≡ other.times
+  pub size : one.size ≡ other.size
+
+-- The plays are of the same script and fonts, by such jobs.
 pub record PlayAlike (one other : PlayView) : Type 0 where
   pub script : one.script ≡ other.script
   pub fonts : one.fonts ≡ other.fonts
-  pub from : one.job.from ≡ other.job.from
-  pub to : one.job.to ≡ other.job.to
-  pub step : one.job.step ≡ other.job.step
-  pub times : one.job.times ≡ other.job.times
-  pub size : one.job.size ≡ other.job.size
+  pub jobs : JobsAlike one.job other.job
 
 abbrev pub SettledPlaysAgree : Type 0
 SettledPlaysAgree =
     (one other : PlayView) (times more : List (List Entry)) (a b : List ℕ) → IsPlayable one → IsPlayable other → PlayAlike one other
     → one.job.mode ≡ Settled → other.job.mode ≡ Settled → IsShownPlay one times a → IsShownPlay other more b → a ≡ b
+
+-- Two settled runs over the same files, of which it is told what they hold, by such jobs: where both are done, both sinks got the same bytes.
+abbrev pub SettledRunsAgree : Type 0
+SettledRunsAgree =
+    (told : List ℕ → Told) (script : List ℕ) (fonts : List (List ℕ)) (one other : PlayJob) (frames report more said : SinkChange) (before now begun ended : ℕ)
+    → AreTold told script fonts → JobsAlike one other → one.mode ≡ Settled → other.mode ≡ Settled
+    → IsPlayRun told one script fonts frames report before now Done → IsPlayRun told other script fonts more said begun ended Done
+    → (bytes : List ℕ) × Appends frames.held_before frames.held_now bytes × Appends more.held_before more.held_now bytes
+
+-- What a settled run over such files has put before it ended in any way is a front of what each one puts that is done.
+abbrev pub EarlyRunsAgree : Type 0
+EarlyRunsAgree =
+    (told : List ℕ → Told) (script : List ℕ) (fonts : List (List ℕ)) (one other : PlayJob) (frames report more said : SinkChange) (before now begun ended : ℕ) (status : Status)
+    → AreTold told script fonts → JobsAlike one other → one.mode ≡ Settled → other.mode ≡ Settled
+    → IsPlayRun told one script fonts frames report before now status → IsPlayRun told other script fonts more said begun ended Done
+    → (front rest : List ℕ) × Appends frames.held_before frames.held_now front × Appends more.held_before more.held_now (front ++ rest)
 
 -- A seed and a number of events have one report, of all readings of the generated script for which memory sufficed.
 abbrev pub SelftestsAgree : Type 0

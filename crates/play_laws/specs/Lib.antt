@@ -1,1 +1,5 @@
 pub mod Agreement
+pub mod Completeness
+pub mod Counts
+pub mod Fronts
+pub mod Selftests

@@ -1,7 +1,13 @@
 //! Laws of plays. The functions do nothing: their contracts are the laws.
 
-ghost use Rattle.play_laws.specs.Agreement.{SelftestsAgree, SettledPlaysAgree};
+ghost use Rattle.play_laws.specs.Agreement.{EarlyRunsAgree, SelftestsAgree, SettledPlaysAgree, SettledRunsAgree};
+ghost use Rattle.play_laws.specs.Completeness.{PlaysAreDone};
+ghost use Rattle.play_laws.specs.Counts.{FedLinesAreCounted, RepeatsAreCounted};
+ghost use Rattle.play_laws.specs.Fronts.{FrontsAreOfPlays, FrontsGoOn, SettledFrontsAgree};
+ghost use Rattle.play_laws.specs.Selftests.{SelftestsAcceptAll, SelftestsAreDone};
 
+use generated_laws::generated_scripts_are_read;
+use input_files::files_decide;
 use picture_laws::one_picture;
 
 /// Two settled plays of the same script and fonts, at the same instants, as often and of the same size, put the same bytes: no number
@@ -12,9 +18,54 @@ pub fn settled_plays_agree()
     one_picture();
 }
 
+/// So do two settled runs over the same files that are both done, where it is told what the files hold. One that ends in any other way
+/// has put a front of that.
+pub fn settled_runs_agree()
+    ensures done { SettledRunsAgree }
+    ensures early { EarlyRunsAgree }
+{
+    one_picture();
+    files_decide();
+}
+
 /// A seed and a number of events have one report, whatever the number of workers.
 pub fn selftests_agree()
     ensures { SelftestsAgree }
 {
     one_picture();
 }
+
+/// A selftest is done, but for want of memory and a fault of its report: its script is never refused. Where it is done, its
+/// report says that each event was accepted.
+pub fn selftests_are_done()
+    ensures done { SelftestsAreDone }
+    ensures report { SelftestsAcceptAll }
+{
+    generated_scripts_are_read();
+}
+
+/// A play whose files are right is done, but for faults and want of memory.
+pub fn plays_are_done()
+    ensures { PlaysAreDone }
+{}
+
+/// What a play that ended early has written is a front of the images of as many whole times as it was to be played. Where there
+/// are pictures, it is a front of what a whole play puts.
+pub fn fronts_go_on()
+    ensures times { FrontsGoOn }
+    ensures plays { FrontsAreOfPlays }
+{}
+
+/// What a settled play that ended early has written is a front of what a whole one puts that is of the same script and fonts, at the
+/// same instants, as often and of the same size.
+pub fn settled_fronts_agree()
+    ensures { SettledFrontsAgree }
+{
+    one_picture();
+}
+
+/// By the numbers of lines: how many events the rounds before one feed, and how many are repeated in a time.
+pub fn rounds_are_counted()
+    ensures fed { FedLinesAreCounted }
+    ensures repeated { RepeatsAreCounted }
+{}

@@ -1,0 +1,6 @@
+pub mod ByteLemmas
+pub mod FrameLemmas
+pub mod ListingLemmas
+pub mod PaintLemmas
+pub mod PaneLemmas
+pub mod TintLemmas

@@ -1,0 +1,12 @@
+mod Holdings
+mod Shards
+mod Standing
+mod Looks
+mod Telling
+mod Replying
+mod Seeing
+mod Feeding
+mod Holding
+mod Recording
+mod Fronts
+mod Arrivals

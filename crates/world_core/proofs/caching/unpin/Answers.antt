@@ -1,0 +1,33 @@
+use Rattle.std.proofs.Common.{None, refl, sym}
+use Rattle.actor_caches.specs.Caches.{ActorCachesView, unpinned_at}
+use Rattle.actor_caches.specs.Holdings.{holding_place}
+use Rattle.actor_caches.specs.declared.holding.Holding.{Holding}
+use Rattle.world_keys.specs.Keys.{equal_world_keys}
+use Rattle.world_core.specs.Tellings.{AreWorldCaches, WorldTag}
+use Rattle.world_keys.specs.declared.keys.WorldKey.{WorldKey}
+use Rattle.world_keys.specs.declared.keys.WorldValue.{WorldValue}
+use Rattle.world_core.proofs.Holdings.{at-kept, at-made, at-none, done-found, done-none}
+use Rattle.world_core.proofs.Shards.{caches-unpinned}
+use Rattle.world_core.proofs.caching.unpin.Goals as goal
+
+pub unpin-requires : goal.unpin-requires
+unpin-requires c = rw c.pins.ensures at c.in-Some.ensures.within
+
+pub returns-clause-reply : goal.returns-clause-reply
+returns-clause-reply c = done-found (holding_place c.args.actor c.args.i c.args.caches.now.pins) c.in-Some.place (rw c.pins.ensures at (sym c.in-Some.ensures.place))
+
+pub returns-clause-state : goal.returns-clause-state
+returns-clause-state c =
+    at-made c.args.caches.now.pins (unpinned_at equal_world_keys) (holding_place c.args.actor c.args.i c.args.caches.now.pins) c.args.caches.now c.unpin.new.self c.in-Some.place (rw c.pins.ensures at c.in-Some.ensures.within) c.unpin.ensures
+    (rw c.pins.ensures at (sym c.in-Some.ensures.place))
+
+pub returns-clause-caches : goal.returns-clause-caches
+returns-clause-caches c =
+    at-kept c.args.caches.now.pins (unpinned_at equal_world_keys) None c.args.caches.now c.unpin.new.self c.in-Some.place (rw c.pins.ensures at c.in-Some.ensures.within) c.unpin.ensures
+    (λ (s : ActorCachesView WorldKey WorldValue WorldTag). AreWorldCaches c.args.fonts.now s) (λ (h : Holding WorldKey). caches-unpinned c.args.fonts.now c.args.caches.now c.requires c.in-Some.place h)
+
+pub returns-in_default-clause-reply : goal.returns-in_default-clause-reply
+returns-in_default-clause-reply c = done-none (holding_place c.args.actor c.args.i c.args.caches.now.pins) (rw c.pins.ensures at (sym c.in_default.ensures.place))
+
+pub returns-in_default-clause-state : goal.returns-in_default-clause-state
+returns-in_default-clause-state c = at-none c.args.caches.now.pins (unpinned_at equal_world_keys) (holding_place c.args.actor c.args.i c.args.caches.now.pins) c.args.caches.now c.args.caches.now (rw c.pins.ensures at (sym c.in_default.ensures.place)) refl

@@ -1,0 +1,99 @@
+-- Public: the histories of the shards, as the steps make them.
+use Rattle.std.specs.Prelude.{◌≡◌, ℕ, ◌+◌, true, List, [], ◌∷◌, ◌++◌, All, Option, Some, None, slice_get, slice_index_or}
+use Rattle.bdf_font.specs.Fonts.{FontValue}
+use Rattle.turn_cell.specs.History.{History}
+use Rattle.evict_core.specs.History.{replay}
+use Rattle.evict_core.specs.Laws.{IsEvictedWithin, IsLostWithin}
+use Rattle.evict_core.specs.Machine as machine
+use Rattle.flight_cache.specs.Meaning.{Meaning}
+use Rattle.flight_cache.specs.Shards.{part}
+use Rattle.cache_kinds.specs.Limits.{entry_limit}
+use Rattle.actor_caches.specs.Caches.{answer_in}
+use Rattle.actor_caches.specs.Histories.{ask_in_shard, entry_in_shard}
+use Rattle.actor_caches.specs.Holdings.{holding_place}
+use Rattle.actor_caches.specs.Laws.{StandFor}
+use Rattle.actor_caches.specs.declared.holding.Holding.{Holding}
+use Rattle.world_keys.specs.Keys.{equal_world_keys, first_shard}
+use Rattle.world_core.specs.States.{WorldState, opening_world}
+use Rattle.world_core.specs.Steps.{after_step, after_steps, held_key}
+use Rattle.world_core.specs.Tellings.{IsValidStep}
+use Rattle.world_keys.specs.declared.keys.WorldKey.{WorldKey}
+use Rattle.world_keys.specs.declared.keys.WorldKey.TheVariants as key
+use Rattle.world_keys.specs.declared.keys.WorldValue.{WorldValue}
+use Rattle.world_core.specs.declared.steps.Step.{Step}
+use Rattle.world_core.specs.declared.steps.Step.TheVariants.{Feed, Flush, Look, AskOutline, AskMask, AskComposite, Fill, Fail, Unpin, Limits, Show}
+
+-- a history of each shard
+abbrev pub ShardHistories : Type 0
+ShardHistories = ℕ → History (machine.Step WorldKey WorldValue)
+
+-- with the step of who has this ticket or pin
+abbrev pub with_own_step : (Holding WorldKey → machine.Step WorldKey WorldValue) → Option (Holding WorldKey) → ShardHistories → ShardHistories
+with_own_step make None histories = histories
+with_own_step make (Some h) histories = entry_in_shard histories h.shard (h.actor, make h)
+
+abbrev pub with_step_at : (Holding WorldKey → machine.Step WorldKey WorldValue) → List (Holding WorldKey) → Option ℕ → ShardHistories → ShardHistories
+with_step_at make hs None histories = histories
+with_step_at make hs (Some place) histories = with_own_step make (slice_get hs place) histories
+
+module _ {T : Type 0} (meaning : Meaning WorldKey WorldValue T) where
+  -- with an actor's ask
+  abbrev pub with_ask : WorldState T → ℕ → WorldKey → ShardHistories → ShardHistories
+  with_ask s actor k histories = ask_in_shard histories (held_key actor k) (answer_in equal_world_keys (held_key actor k) s.caches)
+
+  -- the fill of a ticket's key
+  abbrev pub fill_of : WorldState T → Holding WorldKey → machine.Step WorldKey WorldValue
+  fill_of s h = let value = meaning.made s.caches.tag h.key in machine.Fill h.key (meaning.cost value) value
+
+  -- with what a step made in that state is in the shards' histories
+  abbrev pub with_step_of : WorldState T → Step → ShardHistories → ShardHistories
+  with_step_of s (Feed actor chunk) histories = histories
+  with_step_of s (Flush actor) histories = histories
+  with_step_of s (Look actor instant size) histories = histories
+  with_step_of s (AskOutline actor k) histories = with_ask s actor (key.Outline k) histories
+  with_step_of s (AskMask actor k) histories = with_ask s actor (key.Mask k) histories
+  with_step_of s (AskComposite actor k) histories = with_ask s actor (key.Composite k) histories
+  with_step_of s (Fill actor i) histories = with_step_at (fill_of s) s.caches.tickets (holding_place actor i s.caches.tickets) histories
+  with_step_of s (Fail actor i) histories = with_step_at (λ h. machine.Fail h.key) s.caches.tickets (holding_place actor i s.caches.tickets) histories
+  with_step_of s (Unpin actor i) histories = with_step_at (λ h. machine.Unpin h.key) s.caches.pins (holding_place actor i s.caches.pins) histories
+  with_step_of s (Limits kind shard entries budget) histories = entry_in_shard histories (first_shard kind + shard) (0, machine.Limits entries budget)
+  with_step_of s (Show actor) histories = histories
+
+  -- the same for steps, each in the state that the steps before it made
+  abbrev pub with_steps_of : WorldState T → List Step → ShardHistories → ShardHistories
+  with_steps_of s [] histories = histories
+  with_steps_of s (step ∷ steps) histories = with_steps_of (after_step meaning s step) steps (with_step_of s step histories)
+
+-- the limits of the shards of a new world: of each kind four, each with its part
+abbrev pub kind_limits : ℕ → List (ℕ × ℕ)
+kind_limits budget = (part (entry_limit budget) 0, part budget 0) ∷ (part (entry_limit budget) 1, part budget 1) ∷ (part (entry_limit budget) 2, part budget 2) ∷ (part (entry_limit budget) 3, part budget 3) ∷ []
+
+abbrev pub opening_limits : ℕ → ℕ → ℕ × ℕ
+opening_limits budget n = slice_index_or (kind_limits budget ++ (kind_limits budget ++ kind_limits budget)) n (0, 0)
+
+-- After each list of steps from a new world the shards stand for the histories that these steps made
+abbrev pub StepsMakeHistories : {T : Type 0} → Meaning WorldKey WorldValue T → Type 0
+StepsMakeHistories {T} meaning =
+    (tag : T) (fonts : List FontValue) (budget : ℕ) (steps : List Step) → All (IsValidStep fonts) steps
+    → StandFor equal_world_keys meaning (after_steps meaning (opening_world tag budget) steps).caches (opening_limits budget) (with_steps_of meaning (opening_world tag budget) steps (λ _. []))
+
+module _ {T : Type 0} (meaning : Meaning WorldKey WorldValue T) where
+  -- the history of a shard after these steps from a new world
+  abbrev pub shard_history : T → ℕ → List Step → ℕ → History (machine.Step WorldKey WorldValue)
+  shard_history tag budget steps n = with_steps_of meaning (opening_world tag budget) steps (λ _. []) n
+
+  -- between two claims of a key in it, by whichever actors, stands its fail or an eviction of it
+  abbrev pub StepsClaimOnce : Type 0
+  StepsClaimOnce = (tag : T) (fonts : List FontValue) (budget : ℕ) (steps : List Step) → All (IsValidStep fonts) steps
+      → (n : ℕ) (before between after : History (machine.Step WorldKey WorldValue)) (actor other : ℕ) (k again : WorldKey)
+      → shard_history tag budget steps n ≡ before ++ (actor, machine.Ask k machine.Claim) ∷ (between ++ (other, machine.Ask again machine.Claim) ∷ after)
+      → equal_world_keys k again ≡ true
+      → IsLostWithin equal_world_keys (replay equal_world_keys (opening_limits budget n).0 (opening_limits budget n).1 (before ++ (actor, machine.Ask k machine.Claim) ∷ [])) between k
+
+  -- and between two fills an eviction
+  abbrev pub StepsFillOnce : Type 0
+  StepsFillOnce = (tag : T) (fonts : List FontValue) (budget : ℕ) (steps : List Step) → All (IsValidStep fonts) steps
+      → (n : ℕ) (before between after : History (machine.Step WorldKey WorldValue)) (actor other : ℕ) (k again : WorldKey) (c d : ℕ) (v w : WorldValue)
+      → shard_history tag budget steps n ≡ before ++ (actor, machine.Fill k c v) ∷ (between ++ (other, machine.Fill again d w) ∷ after)
+      → equal_world_keys k again ≡ true
+      → IsEvictedWithin equal_world_keys (replay equal_world_keys (opening_limits budget n).0 (opening_limits budget n).1 (before ++ (actor, machine.Fill k c v) ∷ [])) between k
