@@ -1,4 +1,3 @@
-use Rattle.std.proofs.Common.{rules}
 use Rattle.world_core.specs.States.{opening_world}
 use Rattle.world_answers.proofs.moves.replies_of.Goals as goal
 
