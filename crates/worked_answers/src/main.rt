@@ -16,6 +16,7 @@ mod shifts;
 mod states;
 mod tags;
 mod telling;
+mod writing;
 
 use ass_io::Rt;
 use std::alloc::Global;
@@ -61,6 +62,7 @@ fn call_answer(alloc: Global, table: &str, question: &str) -> Result<String, Fai
         "edges" => edges::left(alloc, question),
         "regions" => regions::regions(alloc, question),
         "borders" => regions::border(alloc, question),
+        "event_lines" => writing::told(alloc, question),
         _ => text_answer(alloc, table, question),
     }
 }
@@ -69,6 +71,11 @@ fn call_answer(alloc: Global, table: &str, question: &str) -> Result<String, Fai
 fn answer(lent: &impl Rt, rt: &HostRuntime, table: &str, question: &str) -> Result<String, Fail> {
     match table {
         "runs" => runs::over_files(lent, rt, question),
+        "digests" => runs::digest(lent, rt, question),
+        "plays" => runs::over_text(lent, rt, "head.ass", question),
+        "changes" => runs::over_text(lent, rt, "head.ass", question),
+        "styled_changes" => runs::over_text(lent, rt, "styled.ass", question),
+        "written" => runs::written(lent, rt.alloc(), question),
         "faults" => runs::with_faults(lent, rt, question),
         "pictures" => runs::picture(lent, rt, question),
         "long_checks" => runs::long_check(lent, rt, question),

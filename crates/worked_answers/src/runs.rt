@@ -5,6 +5,7 @@ use crate::telling::{numbers, shown};
 use ass_io::{FailingShelf, FailingSink, FileShelf, MemoryShelf, MemorySink, OpenGate, Rt, Shelf};
 use bstr::BStr;
 use play_command::top;
+use play_report::digest_after;
 use play_words::read_words;
 use std::alloc::{AllocError, Global};
 use std::fs;
@@ -72,6 +73,12 @@ pub fn over_files(lent: &impl Rt, rt: &HostRuntime, line: &str) -> Result<String
     ran_told(rt.alloc(), &ran)
 }
 
+/// The exit status of a run over real files, and the digest of its images.
+pub fn digest(lent: &impl Rt, rt: &HostRuntime, line: &str) -> Result<String, Fail> {
+    let ran = run(lent, rt.alloc(), line, &mut FileShelf::new(*rt), [0, 0])?;
+    shown(rt.alloc(), &(ran.exit, digest_after(0, ran.frames.bytes())))
+}
+
 /// The exit status of a run over real files, how long the image is, and three bytes of it: their place, and the words.
 pub fn pixel(lent: &impl Rt, rt: &HostRuntime, question: &str) -> Result<String, Fail> {
     let (place, line) = question.split_once(' ').ok_or("no place")?;
@@ -91,18 +98,57 @@ pub fn long_check(lent: &impl Rt, rt: &HostRuntime, count: &str) -> Result<Strin
     ran_told(alloc, &ran)
 }
 
-/// A shelf of two fonts, and of the script `a.ass` with this text in its one line.
-fn shelf_with(rt: &HostRuntime, text: &str) -> Result<MemoryShelf, Fail> {
+/// A shelf of three fonts, and of the script `a.ass`, which a file begins and a text ends.
+fn shelf_with(rt: &HostRuntime, head: &str, text: &str) -> Result<MemoryShelf, Fail> {
     let alloc = rt.alloc();
     let mut shelf = MemoryShelf::new(alloc);
-    let mut script = fs::read_to_string(rt, "head.ass")?;
+    let mut script = fs::read_to_string(rt, head)?;
     script.push_str(text)?;
     shelf.add(alloc, "a.ass", script.as_bytes())?;
-    for font in ["dot.bdf", "wide.bdf"] {
+    for font in ["dot.bdf", "wide.bdf", "small.bdf"] {
         let bytes = fs::read(rt, font)?;
         shelf.add(alloc, font, bytes.as_slice())?;
     }
     Ok(shelf)
+}
+
+/// A run over a script that a file begins: the words, a bar, and the rest of the script, whose lines end at bars.
+pub fn over_text(
+    lent: &impl Rt,
+    rt: &HostRuntime,
+    head: &str,
+    question: &str,
+) -> Result<String, Fail> {
+    let alloc = rt.alloc();
+    let (line, text) = question.split_once(" |").ok_or("no text")?;
+    let text = text.replace(alloc, "|", "\n")?;
+    let mut shelf = shelf_with(rt, head, text.as_str())?;
+    let ran = run(lent, alloc, line, &mut shelf, [0, 0])?;
+    ran_told(alloc, &ran)
+}
+
+/// A run over a script alone.
+fn over_script(lent: &impl Rt, alloc: Global, line: &str, script: &[u8]) -> Result<Ran, Fail> {
+    let mut shelf = MemoryShelf::new(alloc);
+    shelf.add(alloc, "a.ass", script)?;
+    run(lent, alloc, line, &mut shelf, [0, 0])
+}
+
+/// Whether a text was written, and is written again as the same bytes.
+fn is_kept(lent: &impl Rt, alloc: Global, ran: &Ran) -> Result<bool, Fail> {
+    let again = over_script(lent, alloc, "write a.ass", ran.frames.bytes())?;
+    Ok(ran.exit == 0 && again.exit == 0 && again.frames.bytes() == ran.frames.bytes())
+}
+
+/// What comes of writing a script, and whether what was written is written again as the same bytes: the words, a bar,
+/// and the script, whose lines end at bars.
+pub fn written(lent: &impl Rt, alloc: Global, question: &str) -> Result<String, Fail> {
+    let (line, text) = question.split_once(" |").ok_or("no script")?;
+    let text = text.replace(alloc, "|", "\n")?;
+    let ran = over_script(lent, alloc, line, text.as_str().as_bytes())?;
+    let kept = is_kept(lent, alloc, &ran)?;
+    let (report, image) = (BStr::new(ran.report.bytes()), BStr::new(ran.frames.bytes()));
+    shown(alloc, &(ran.exit, report, image, kept))
 }
 
 /// A run over files in memory: the numbers of the fetch, the put of an image and the put of a report that fail, a bar, and
@@ -113,7 +159,7 @@ pub fn with_faults(lent: &impl Rt, rt: &HostRuntime, question: &str) -> Result<S
     match numbers(alloc, fails)?.as_slice() {
         [fetch, image, told] => {
             let fetches = vec![in alloc; fetch.unsigned_abs()]?;
-            let mut shelf = FailingShelf::new(shelf_with(rt, "x")?, fetches);
+            let mut shelf = FailingShelf::new(shelf_with(rt, "head.ass", "x")?, fetches);
             let puts = [image.unsigned_abs(), told.unsigned_abs()];
             let ran = run(lent, rt.alloc(), line, &mut shelf, puts)?;
             ran_told(alloc, &ran)
@@ -132,7 +178,7 @@ pub fn picture(lent: &impl Rt, rt: &HostRuntime, question: &str) -> Result<Strin
         lent,
         alloc,
         line.as_str(),
-        &mut shelf_with(rt, text.as_str())?,
+        &mut shelf_with(rt, "head.ass", text.as_str())?,
         [0, 0],
     )?;
     let image = ran.frames.bytes();
