@@ -1,0 +1,153 @@
+//! Steps at random.
+ghost use Rattle.std.specs.Prelude.{◌≤◌};
+ghost use Rattle.evict_core.specs.Machine.{max_budget};
+ghost use Rattle.world_answers.specs.Given.{AreInputs};
+
+use crate::inputs::Inputs;
+use crate::lines::{dot_inputs, lines_of};
+use crate::moves::{Act, replies_of};
+use crate::watch::Watch;
+use std::alloc::{AllocError, Global};
+use std::test::Fail;
+use world_core::Reply;
+
+// How many steps are made.
+const COUNT: u32 = 1_000;
+
+// The numbers that decide the steps.
+#[derive(Drop)]
+struct Dice {
+    state: u32,
+}
+
+impl Dice {
+    fn roll(&mut self) -> u16 {
+        self.state = self.state.wrapping_mul(1_103_515_245).wrapping_add(12_345);
+        (self.state / 65_536) as u16
+    }
+}
+
+// What an actor asks for, by a number.
+fn ask_of(sort: u16, n: u16) -> Act {
+    let key = usize::from(n % 8);
+    match sort {
+        0 => Act::Outline(key),
+        1 => Act::Mask(key),
+        _ => Act::Composite(key),
+    }
+}
+
+// What an actor does, by a sort and a number.
+fn act_of(sort: u16, n: u16) -> Act {
+    match sort {
+        0 => Act::Flush,
+        1..=4 => Act::Feed(usize::from(n % 6)),
+        5..=7 => Act::Look(n % 6 * 10),
+        8..=13 => Act::Fill(usize::from(n % 2)),
+        14 => Act::Fail(usize::from(n % 2)),
+        15..=22 => Act::Unpin(usize::from(n % 4)),
+        23..=26 => Act::Show,
+        27..=38 => ask_of(sort % 8, n),
+        _ => Act::Limits(n),
+    }
+}
+
+// The steps of four actors by a seed, with new limits only where they are to be set.
+fn moves_of(alloc: Global, seed: u32, limited: bool) -> Result<Vec<(u32, Act)>, AllocError> {
+    let sorts = if limited { 44 } else { 39 };
+    let mut dice = Dice { state: seed };
+    let mut moves = Vec::new(alloc);
+    for _ in 0..COUNT {
+        let actor = u32::from(dice.roll() % 4);
+        let sort = dice.roll() % sorts;
+        moves.push((actor, act_of(sort, dice.roll())))?;
+    }
+    Ok(moves)
+}
+
+fn is_idle(reply: &Reply) -> bool {
+    matches!(reply, Reply::Idle)
+}
+
+// The steps that weren't idle.
+fn without_idle(
+    alloc: Global,
+    moves: &[(u32, Act)],
+    replies: &[Reply],
+) -> Result<Vec<(u32, Act)>, AllocError> {
+    let mut kept = Vec::new(alloc);
+    for (one, reply) in moves.iter().zip(replies) {
+        if !is_idle(reply) {
+            kept.push(*one)?;
+        }
+    }
+    Ok(kept)
+}
+
+// The replies that aren't idle, each in a line.
+fn told(alloc: Global, replies: &[Reply]) -> Result<String, Fail> {
+    let mut lines = String::new(alloc);
+    for reply in replies {
+        if !is_idle(reply) {
+            let line = format!(in alloc; "{reply:?}\n")?;
+            lines.push_str(line.as_str())?;
+        }
+    }
+    Ok(lines)
+}
+
+fn watched(alloc: Global, moves: &[(u32, Act)], replies: &[Reply]) -> Result<Watch, Fail> {
+    let mut watch = Watch::new(alloc);
+    for ((actor, act), reply) in moves.iter().zip(replies) {
+        watch.add(alloc, *actor, *act, reply)?;
+    }
+    Ok(watch)
+}
+
+fn show_watch(rt: &HostRuntime, watch: &Watch) -> Result<(), Fail> {
+    let Watch {
+        shown,
+        wrong,
+        flying,
+        crowded,
+        ..
+    } = watch;
+    println!(rt;
+        "  {flying} flying, {crowded} crowded, {shown} shown, {wrong} of them others than without caches"
+    )?;
+    Ok(())
+}
+
+// Makes steps by a seed, and those of them that aren't idle again in a new world.
+fn play(
+    rt: &HostRuntime,
+    inputs: &Inputs,
+    seed: u32,
+    limited: bool,
+    budget: u64,
+) -> Result<(), Fail>
+    requires inputs { AreInputs inputs.now }
+    requires budget { budget ≤ max_budget }
+{
+    let alloc = rt.alloc();
+    let moves = moves_of(alloc, seed, limited)?;
+    let replies = replies_of(alloc, inputs, budget, moves.as_slice())?;
+    let kept = without_idle(alloc, moves.as_slice(), replies.as_slice())?;
+    let others = replies_of(alloc, inputs, budget, kept.as_slice())?;
+    let same = told(alloc, replies.as_slice())? == told(alloc, others.as_slice())?;
+    let idle = moves.len().saturating_sub(kept.len());
+    println!(rt; "seed {seed}, budget {budget}: {idle} idle, the same without them: {same}")?;
+    let watch = watched(alloc, moves.as_slice(), replies.as_slice())?;
+    show_watch(rt, &watch)
+}
+
+/// Plays with no budget, with room for 16 entries, and with ample room; and once more where shards get other limits.
+pub fn show(rt: &HostRuntime) -> Result<(), Fail> {
+    let alloc = rt.alloc();
+    let lines = lines_of(alloc, &[0, 1, 2, 3, 4, 5])?;
+    let inputs = dot_inputs(alloc, lines.as_str(), 25)?;
+    play(rt, &inputs, 7, false, 0)?;
+    play(rt, &inputs, 7, false, 16_384)?;
+    play(rt, &inputs, 7, false, 67_108_864)?;
+    play(rt, &inputs, 8, true, 16_384)
+}

@@ -1,0 +1,61 @@
+//! Pictures of events that came in three orders.
+
+use crate::inputs::{Inputs, inputs_of};
+use crate::moves::{Act, replies_of};
+use crate::plain::picture;
+use ass_num::Size;
+use generated_script::{generated, grid_font};
+use std::alloc::{AllocError, Global};
+use std::test::Fail;
+use world_core::Reply;
+
+// How many events there are.
+const COUNT: usize = 50;
+
+// The instant that is shown, in milliseconds.
+const AT: u16 = 2_000;
+
+// Feeds each event once, in steps of so many: a number that has no factor in common with their count. Then looks, has all masks and shows them.
+fn moves_in(alloc: Global, step: usize, keys: usize) -> Result<Vec<(u32, Act)>, AllocError> {
+    let mut moves = Vec::new(alloc);
+    for n in 0..COUNT {
+        let i = n.wrapping_mul(step) % COUNT;
+        moves.push(((n % 4) as u32, Act::Feed(i)))?;
+    }
+    moves.push((0, Act::Look(AT)))?;
+    for i in 0..keys {
+        moves.push((0, Act::Composite(i)))?;
+        moves.push((0, Act::Fill(0)))?;
+    }
+    moves.push((0, Act::Show))?;
+    Ok(moves)
+}
+
+// Prints what the last reply shows, beside the picture that is wanted.
+fn show_last(rt: &HostRuntime, step: usize, replies: &[Reply], wanted: &[u8]) -> Result<(), Fail> {
+    match replies.last() {
+        Some(Reply::Shown(seen, pixels)) => {
+            let same = pixels.as_slice() == wanted;
+            println!(rt; "in steps of {step}: {seen} seen, as without caches: {same}")?;
+        }
+        _ => println!(rt; "in steps of {step}: nothing shown")?,
+    }
+    Ok(())
+}
+
+/// Prints, for each order, whether the picture is the one without caches of the script's events.
+pub fn show(rt: &HostRuntime) -> Result<(), Fail> {
+    let alloc = rt.alloc();
+    let text = generated(alloc, 7, COUNT as u32)?;
+    let size = Size { w: 320, h: 180 };
+    let inputs = inputs_of(alloc, text.as_slice(), grid_font(alloc)?, size, AT)?;
+    let wanted = picture(alloc, &inputs, AT)?;
+    let (masks, lit) = (inputs.keys.len(), wanted.iter().any(|byte| *byte != 0));
+    println!(rt; "{masks} masks, some pixels aren't black: {lit}")?;
+    for step in [1, 7, 49] {
+        let moves = moves_in(alloc, step, masks)?;
+        let replies = replies_of(alloc, &inputs, 67_108_864, moves.as_slice())?;
+        show_last(rt, step, replies.as_slice(), wanted.as_slice())?;
+    }
+    Ok(())
+}

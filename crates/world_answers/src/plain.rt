@@ -1,0 +1,32 @@
+//! Pictures that are made without caches.
+ghost use Rattle.mask_keys.specs.Keys.{IsValidPlan};
+ghost use Rattle.mask_model.specs.Outlines.{glyph_counts};
+ghost use Rattle.world_answers.specs.Given.{AreInputs, fonts_in};
+
+use crate::inputs::{Inputs, plan_at};
+use alone_caches::Alone;
+use blend::Canvas;
+use mask_keys::Plan;
+use std::alloc::Global;
+use std::sync::Arc;
+use std::test::Fail;
+
+// The bytes of a plan's pixels. Nothing of it is kept.
+fn painted(alloc: Global, inputs: &Inputs, plan: &Plan) -> Result<Vec<u8>, Fail>
+    requires inputs { AreInputs inputs.now }
+    requires plan { IsValidPlan (glyph_counts (fonts_in inputs.now)) plan.now.draws }
+{
+    let fonts = Arc::try_clone(&inputs.fonts)?;
+    let mut alone = Alone::open(alloc, fonts, 0)?;
+    let mut canvas = Canvas::new(alloc, &inputs.size)?;
+    alone.paint(alloc, plan, &mut canvas)?;
+    Ok(Vec::from_slice(alloc, canvas.pixels())?)
+}
+
+/// The bytes of the pixels of the script's picture at an instant in milliseconds.
+pub fn picture(alloc: Global, inputs: &Inputs, t: u16) -> Result<Vec<u8>, Fail>
+    requires { AreInputs inputs.now }
+{
+    let plan = plan_at(alloc, &inputs.script, &inputs.fonts, &inputs.size, t)?;
+    painted(alloc, inputs, &plan)
+}
