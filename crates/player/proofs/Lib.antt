@@ -1,3 +1,0 @@
-pub mod ChangeLemmas
-pub mod ListLemmas
-pub mod PlayerLemmas
