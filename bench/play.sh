@@ -12,6 +12,8 @@ program=$top/crates/play_main/out/play_main
 room=$(mktemp -d)
 trap 'rm -rf "$room"' EXIT
 . "$top/bench/pages.sh"
+# as the wrapper vimalorua sets them
+export MALLOC_MMAP_THRESHOLD_=33554432 MALLOC_TRIM_THRESHOLD_=1073741824 MALLOC_TOP_PAD_=33554432
 mapfile -t boards < <(signs 200)
 page "${boards[@]}" > "$room/signs.ass"
 talk 40000 > "$room/talk.ass"
