@@ -10,7 +10,7 @@ use Rattle.render_pass.specs.Passes.{RenderView}
 use Rattle.track_history.specs.Calls.{history_of}
 use Rattle.play_shares.specs.Instants.{instant_count, play_instant}
 use Rattle.play_shares.specs.Renderers.{first_place, images_in, share_begins, share_ends}
-use Rattle.play_shares.proofs.RoundPlaces.{live_place, round_ends}
+use Rattle.play_shares.proofs.RoundPlaces.{first_begins, live_place, round_ends, within_share}
 use Rattle.turn_cell.specs.History.{IsPrefix}
 use Rattle.turn_cell.proofs.Histories.{IsPrefix_trans}
 use Rattle.play_words.specs.declared.job.Mode.{Mode}
@@ -114,7 +114,7 @@ module _ (stage : Stage) (round : ℕ) (first : RenderView) (workers : List Work
         many,
         λ k d within.
             let own : k < share_ends stage.job round p - share_begins stage.job round p = subst (λ (n : ℕ). k < n) many within in
-            shown_at i lt (base + p * each + k) (slice_index_or painted.images k d) (λ live. live_place stage.job round p k live inside (omega (arith, own))) unlike (painted.each k d own),
+            shown_at i lt (base + p * each + k) (slice_index_or painted.images k d) (λ live. live_place stage.job round p k live inside (within_share (base + p * each) each (instant_count stage.job) k own)) unlike (painted.each k d own),
       )
 
   -- what a worker of a fine round leaves
@@ -149,9 +149,8 @@ module _ (stage : Stage) (round : ℕ) (first : RenderView) (workers : List Work
       subst (λ (h : List Entry). AreFirstImages play h q (min base (instant_count stage.job)) images) (append_assoc old fresh new)
       (images_later play (old ++ fresh) new q (min base (instant_count stage.job)) images
       (subst (λ (h : List Entry). AreFirstImages play h q (min base (instant_count stage.job)) images) r.is are)) in
-      let zeroth : base ≡ base + 0 * each = omega arith in
       let begun = images_renamed play whole q (min base (instant_count stage.job)) (min (base + 0 * each) (instant_count stage.job)) images
-      (ap (λ (n : ℕ). min n (instant_count stage.job)) zeroth) later in
+      (ap (λ (n : ℕ). min n (instant_count stage.job)) (first_begins base each)) later in
       let some : 0 < stage.job.renderers = (let least = r.is_stage.playable.job.renderers.0 in omega (arith, least)) in
       let all = all_shown play whole q base each asks_by workers 0 images (subst (ArePaintersFrom 0) (sym r.crew) (crew_paints stage.job shift)) (all_left unlike) begun in (
         all.0,
