@@ -62,6 +62,9 @@ one_place first row own p n k rows is one lt = omega (arith, rows, is, one, lt)
 pub within_share : (a e c k : ℕ) → k < min (a + e) c - a → k < e
 within_share a e c k lt = omega (arith, lt)
 
+pub inside_all : (place a c end : ℕ) → place < end → end ≡ min a c → place < c
+inside_all place a c end lt is = omega (arith, lt, is)
+
 pub all_reached : (n m c : ℕ) → c ≤ m → m ≤ n → min n c ≡ c
 all_reached n m c enough more = omega (arith, enough, more)
 

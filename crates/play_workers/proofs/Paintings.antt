@@ -1,7 +1,8 @@
 -- The images that a painter makes one after another.
-use Rattle.std.proofs.Common.{◌≡◌, ℕ, ◌+◌, ◌<◌, ◌≤◌, ℤ, List, [], ◌∷◌, ◌++◌, length, Err, Result, refl, sym, ap, subst, ◌∙◌, arith, length-append}
+use Rattle.std.proofs.Common.{◌≡◌, ℕ, ◌+◌, ◌<◌, ◌≤◌, ℤ, List, [], ◌∷◌, ◌++◌, length, Ok, Err, Result, true, true≢false, refl, sym, ap, subst, ◌∙◌, arith, length-append}
 use Rattle.std.specs.Global.{Vec}
 use Rattle.std.specs.List.{slice_index_or}
+use Rattle.std.specs.Result.{IfOk, is_ok}
 use Rattle.std.proofs.lemmas.List.{get_or_append_left, map-append}
 use Rattle.std.proofs.lemmas.List.Sums.{sum_by-append}
 use Rattle.std.proofs.Math.Seq.{get_or-append_seam}
@@ -16,7 +17,7 @@ use Rattle.turn_cell.specs.Passes.{Follows}
 use Rattle.turn_cell.proofs.Histories.{IsPrefix_same, IsPrefix_trans}
 use Rattle.turn_cell.proofs.Passes.{Follows_same, Follows_trans}
 use Rattle.play_shares.specs.Instants.{play_instant}
-use Rattle.play_model.specs.Images.{ShownImage, needed_by, shown_pieces}
+use Rattle.play_model.specs.Images.{ShownImage, needed_by}
 use Rattle.play_model.specs.Plays.{PlayView}
 use Rattle.play_workers.specs.Asks.{AreImagesAsked, IsImageAsked, IsImageBetween}
 use Rattle.play_workers.specs.Parts.{painted_bytes}
@@ -61,7 +62,7 @@ module _ (play : PlayView) (renderer : RendererView) (pass : RenderView) (first 
     }
 
     -- an image more
-    pub painted_more : (count : ℕ) (images next : List (Vec ℕ)) (image : Vec ℕ) → AreImagesAsked play renderer pass mid first count (painted_bytes images)
+    painted_more : (count : ℕ) (images next : List (Vec ℕ)) (image : Vec ℕ) → AreImagesAsked play renderer pass mid first count (painted_bytes images)
         → IsImageAsked play renderer mid after (history_of after.track.seen) (play_instant play.job (first + count)) image.items → next ≡ images ++ image ∷ []
         → AreImagesAsked play renderer pass after first (count + 1) (painted_bytes next)
     painted_more count images next image are is pushed =
@@ -91,3 +92,10 @@ module _ (play : PlayView) (renderer : RendererView) (pass : RenderView) (first 
               (seen_more (play_instant play.job (first + i)) (slice_index_or are.images i d) (are.each i d (omega (arith, lt, ne)))));
           asked = omega (arith, masks, before, asked);
         }
+
+    -- an image more, if it was made
+    pub painted_with : {E : Type 0} (count : ℕ) (images next : List (Vec ℕ)) (image : Result (Vec ℕ) E) → AreImagesAsked play renderer pass mid first count (painted_bytes images)
+        → IfOk image (λ made. IsImageAsked play renderer mid after (history_of after.track.seen) (play_instant play.job (first + count)) made.items) → is_ok image ≡ true
+        → IfOk image (λ made. next ≡ images ++ made ∷ []) → AreImagesAsked play renderer pass after first (count + 1) (painted_bytes next)
+    painted_with count images next (Ok made) are asked ok pushed = painted_more count images next made are asked pushed
+    painted_with count images next (Err refused) are asked ok pushed = absurd (true≢false (sym ok))

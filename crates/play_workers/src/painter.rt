@@ -1,6 +1,7 @@
 //! What a renderer does in a round.
 
-ghost use Rattle.std.specs.Prelude.{◌≡◌, ◌<◌, ◌≤◌, ℤ, List, [], IfOk};
+ghost use Rattle.std.specs.Prelude.{◌≡◌, ◌<◌, ◌≤◌, ◌∷◌, ◌++◌, ℤ, List, [], true, IfOk, OnOk};
+ghost use Rattle.std.specs.Result.{is_ok};
 ghost use Rattle.ass_events.specs.Histories.{Entry};
 ghost use Rattle.ass_num.specs.Limits.{IsWithin, max_instant};
 ghost use Rattle.cache_totals.specs.Balance.{AreLater};
@@ -119,6 +120,14 @@ fn image_at<R: Threads + Wait + Sync, G: Gate>(
     paint_instant(rt, alloc, stage, t, pass, gate)
 }
 
+/// Adds an image, where it was made.
+fn add_image(images: &mut Items<Vec<u8>>, image: Mem<Vec<u8>>) -> Mem<()>
+    ensures made { OnOk result (is_ok image ≡ true) }
+    ensures added { OnOk result (IfOk image (λ made. images.new ≡ images.old ++ made ∷ [])) }
+{
+    images.push(image?)
+}
+
 /// The images of a renderer's instants of a round, one after another.
 pub fn paint_part<R: Threads + Wait + Sync, G: Gate>(
     rt: &R,
@@ -146,13 +155,9 @@ pub fn paint_part<R: Threads + Wait + Sync, G: Gate>(
     for place in first..end {
         let (next, image) = image_at(rt, alloc, stage, place, pass, gate);
         pass = next;
-        match image {
-            Ok(image) => {
-                if let Err(refused) = images.push(image) {
-                    return (pass, Err(refused));
-                }
-            }
-            Err(refused) => return (pass, Err(refused)),
+        let added = add_image(&mut images, image);
+        if let Err(refused) = added {
+            return (pass, Err(refused));
         }
     }
     (pass, Ok(images))
