@@ -109,14 +109,14 @@ module _ (play : PlayJob) where
     pub round_ends : 0 < play.renderers → min (first_place play round + play.renderers * images_in play round) (instant_count play) ≡ min (first_place play (round + 1)) (instant_count play)
     round_ends some = dite (dec_le left (images_each play))
         (λ last.
-            let own : play.renderers * images_in play round ≡ left * play.renderers =
-            ap (λ (n : ℕ). play.renderers * n) (least_left left (images_each play) last) ∙ mul_comm play.renderers left in
-            ends_last (first_place play round) (first_place play (round + 1)) (play.renderers * images_in play round) (play.renderers * images_each play) (instant_count play) next_place
-            (mul-le play.renderers (images_in play round) play.renderers (images_each play) (le_refl play.renderers) (least_few left (images_each play)))
-            (reaches (first_place play round) (instant_count play) (play.renderers * images_in play round) (left * play.renderers) (ceil_enough (instant_count play - first_place play round) play.renderers some) own))
+        let own : play.renderers * images_in play round ≡ left * play.renderers =
+        ap (λ (n : ℕ). play.renderers * n) (least_left left (images_each play) last) ∙ mul_comm play.renderers left in
+        ends_last (first_place play round) (first_place play (round + 1)) (play.renderers * images_in play round) (play.renderers * images_each play) (instant_count play) next_place
+        (mul-le play.renderers (images_in play round) play.renderers (images_each play) (le_refl play.renderers) (least_few left (images_each play)))
+        (reaches (first_place play round) (instant_count play) (play.renderers * images_in play round) (left * play.renderers) (ceil_enough (instant_count play - first_place play round) play.renderers some) own))
         (λ no.
-            ends_full (first_place play round) (first_place play (round + 1)) (play.renderers * images_in play round) (play.renderers * images_each play) (instant_count play) next_place
-            (ap (λ (n : ℕ). play.renderers * n) (least_right left (images_each play) (lt_of_not-le no))))
+        ends_full (first_place play round) (first_place play (round + 1)) (play.renderers * images_in play round) (play.renderers * images_each play) (instant_count play) next_place
+        (ap (λ (n : ℕ). play.renderers * n) (least_right left (images_each play) (lt_of_not-le no))))
 
     -- live, a renderer has the place of the round and its number
     pub live_place : (p k : ℕ) → play.mode ≡ Live → p < play.renderers → k < images_in play round → (first_place play round + p * images_in play round + k) / play.renderers ≡ round
