@@ -1,0 +1,15 @@
+//! What a player needs for one thread: a script, fonts, the live events of a track and caches; pictures, and lists of plain images.
+#![tactic(auto)]
+
+mod changes;
+mod drawing;
+mod feeding;
+mod fonts;
+mod images;
+mod listing;
+mod opening;
+mod player;
+#[cfg(test)]
+mod tests;
+
+pub use player::Player;
