@@ -64,9 +64,8 @@ fn blur_strip(to: &mut [u8], from: &[u8], w: usize, h: usize, at: usize, means: 
     for k in 0..h + 2 * r {
         let entering = part_or_zeros(from, w, h, k, 0, at);
         let leaving = part_or_zeros(from, w, h, k, 2 * r + 1, at);
-        let mut row = [0; 16];
-        slide(&mut row, &mut sums, &entering, &leaving, &own);
-        to[k * w + at..k * w + at + 16].copy_from_slice(&row);
+        let start = k * w + at;
+        slide(&mut to[start..start + 16], &mut sums, &entering, &leaving, &own);
     }
 }
 

@@ -36,6 +36,9 @@ pub fn part_or_zeros(bytes: &[u8], w: usize, h: usize, k: usize, skip: usize, at
         return part;
     }
     let start = (k - skip) * w + at;
-    part.copy_from_slice(&bytes[start..start + 16]);
+    // one by one: a copy of slices would test whether they overlap
+    for i in 0..16 {
+        part[i] = bytes[start + i];
+    }
     part
 }
