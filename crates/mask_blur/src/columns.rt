@@ -65,7 +65,13 @@ fn blur_strip(to: &mut [u8], from: &[u8], w: usize, h: usize, at: usize, means: 
         let entering = part_or_zeros(from, w, h, k, 0, at);
         let leaving = part_or_zeros(from, w, h, k, 2 * r + 1, at);
         let start = k * w + at;
-        slide(&mut to[start..start + 16], &mut sums, &entering, &leaving, &own);
+        slide(
+            &mut to[start..start + 16],
+            &mut sums,
+            &entering,
+            &leaving,
+            &own,
+        );
     }
 }
 

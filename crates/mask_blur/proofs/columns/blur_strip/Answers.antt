@@ -1,4 +1,4 @@
-use Rattle.std.proofs.Common.{◌≡◌, ℕ, ◌+◌, ◌-◌, ◌*◌, ◌/◌, ◌<◌, ◌≤◌, pos, ◌+ℤ◌, ◌-ℤ◌, length, get_or, ap, refl, ◌∙◌, inl, inr, arith, rules}
+use Rattle.std.proofs.Common.{◌≡◌, ℕ, ◌+◌, ◌*◌, ◌/◌, ◌<◌, ◌≤◌, pos, ◌+ℤ◌, ◌-ℤ◌, length, get_or, ap, refl, ◌∙◌, inl, inr, arith, rules}
 use Rattle.std.proofs.lemmas.List.{get_or-replicate}
 use Rattle.std.proofs.lemmas.Nat.{mul-le}
 use Rattle.ass_num.specs.Coverage.{sum_from}
@@ -12,12 +12,15 @@ use Rattle.mask_blur.proofs.TileLemmas.{strip-put}
 use Rattle.mask_blur.proofs.columns.blur_strip.Goals as goal
 
 pub loop-k-init : goal.loop-k-init
-loop-k-init c = (refl, λ f x y shows. (
-  (λ b h.
-  let none = sums_none (f (x +ℤ pos (c.args.at + b))) y c.args.h (2 * c.args.means.now.radius + 1) (shows.outside.columns (x +ℤ pos (c.args.at + b))) in
-  get_or-replicate 16 b c.radius-r.result 0 h ∙ (c.radius-r.ensures.value ∙ omega (arith, none))),
-  λ j i i_less known. elim known [ inl t ↦ absurd (omega (arith, t.0)) | inr o ↦ o ],
-))
+loop-k-init c = (
+  refl,
+  λ f x y shows. (
+    (λ b h.
+        let none = sums_none (f (x +ℤ pos (c.args.at + b))) y c.args.h (2 * c.args.means.now.radius + 1) (shows.outside.columns (x +ℤ pos (c.args.at + b))) in
+        get_or-replicate 16 b c.radius-r.result 0 h ∙ (c.radius-r.ensures.value ∙ omega (arith, none))),
+    λ j i i_less known. elim known [ inl t ↦ absurd (omega (arith, t.0)) | inr o ↦ o ],
+  ),
+)
 
 pub slice_bounds-slide-end : goal.slice_bounds-slide-end
 slice_bounds-slide-end c =
@@ -61,16 +64,16 @@ loop-k-preserved c =
     let long : length row ≡ 16 = c.slide.auto.to ∙ (length_part (k * w + at) (k * w + at + 16) c.loop-k.to fits ∙ omega arith) in (
       c.slide.auto.sums ∙ count,
       λ f x y shows.
-      let sums = λ (b : ℕ) (h : b < 16).
-      let last = leaves.ensures f x y shows b h ∙ ap (λ n. f (x +ℤ pos (at + b)) ((y +ℤ pos k) -ℤ pos (2 * n + 1))) c.radius-r.ensures.value in
-      let step = column_step (f (x +ℤ pos (at + b))) y k (2 * r + 1) r (get_or c.loop-k.sums b 0) (get_or enters.result b 0) (get_or leaves.result b 0)
-      ((c.loop-k.invariant.1 f x y shows).0 b h) (enters.ensures f x y shows b h) last in
-      let is : get_or c.slide.new.sums b 0 ≡ sum_from (f (x +ℤ pos (at + b))) ((y +ℤ pos (k + 1)) -ℤ pos (2 * r + 1)) (2 * r + 1) + r = omega (arith, step, c.slide.ensures.sums b (omega (arith, c.slide.auto.to, long, h))) in is in (
-        sums,
-        λ j i i_less known.
-        strip-put (λ u v. along_columns r f (x +ℤ pos v) ((y -ℤ pos r) +ℤ pos u)) w at k _ c.args.to.now c.loop-k.to row c.requires.columns fits long (omega arith)
-        (λ b h. c.slide.ensures.means b (omega (arith, c.slide.auto.to, long, h)) ∙ ap (λ z. z / (2 * r + 1)) (sums b h) ∙ column_mean r (f (x +ℤ pos (at + b))) y k)
-        (λ u v v_less was. (c.loop-k.invariant.1 f x y shows).1 u v v_less was)
-        j i i_less known,
-      ),
+          let sums = λ (b : ℕ) (h : b < 16).
+          let last = leaves.ensures f x y shows b h ∙ ap (λ n. f (x +ℤ pos (at + b)) ((y +ℤ pos k) -ℤ pos (2 * n + 1))) c.radius-r.ensures.value in
+          let step = column_step (f (x +ℤ pos (at + b))) y k (2 * r + 1) r (get_or c.loop-k.sums b 0) (get_or enters.result b 0) (get_or leaves.result b 0)
+          ((c.loop-k.invariant.1 f x y shows).0 b h) (enters.ensures f x y shows b h) last in
+          let is : get_or c.slide.new.sums b 0 ≡ sum_from (f (x +ℤ pos (at + b))) ((y +ℤ pos (k + 1)) -ℤ pos (2 * r + 1)) (2 * r + 1) + r = omega (arith, step, c.slide.ensures.sums b (omega (arith, c.slide.auto.to, long, h))) in is in (
+            sums,
+            λ j i i_less known.
+                strip-put (λ u v. along_columns r f (x +ℤ pos v) ((y -ℤ pos r) +ℤ pos u)) w at k _ c.args.to.now c.loop-k.to row c.requires.columns fits long (omega arith)
+                (λ b h. c.slide.ensures.means b (omega (arith, c.slide.auto.to, long, h)) ∙ ap (λ z. z / (2 * r + 1)) (sums b h) ∙ column_mean r (f (x +ℤ pos (at + b))) y k)
+                (λ u v v_less was. (c.loop-k.invariant.1 f x y shows).1 u v v_less was)
+                j i i_less known,
+          ),
     )

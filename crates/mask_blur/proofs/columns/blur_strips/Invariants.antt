@@ -1,4 +1,4 @@
-use Rattle.std.proofs.Common.{◌≡◌, ℕ, ◌+◌, ◌*◌, ◌<◌, ℤ, pos, ◌-ℤ◌}
+use Rattle.std.proofs.Common.{ℕ, ◌+◌, ◌*◌, ◌<◌, ℤ, pos, ◌-ℤ◌}
 use Rattle.mask_blur.specs.Blur.{along_columns}
 use Rattle.mask_blur.specs.Shown.{Shows, IsCellAt}
 use Rattle.mask_blur.proofs.columns.blur_strips.Given as goal
