@@ -9,7 +9,5 @@ mod images;
 mod listing;
 mod opening;
 mod player;
-#[cfg(test)]
-mod tests;
 
 pub use player::Player;
