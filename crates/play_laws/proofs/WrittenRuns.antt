@@ -28,7 +28,7 @@ use Rattle.written_pictures.specs.Laws.{AreReadLater, ReadScriptsAreReadLater}
 -- ---- the script that was read
 
 spelled_in : (answer : Result ScriptValue ScriptRefusal) (script : ScriptValue) → Ok script ≡ with_status script_status answer → answer ≡ Ok script
-spelled_in (Ok other) script e = cc
+spelled_in (Ok other) script e = let same : other ≡ script = cc in ap (λ (s : ScriptValue). Ok s) same
 spelled_in (Err refusal) script e = absurd cc
 
 -- some bytes spell it

@@ -1,5 +1,5 @@
 -- A script that is written again with its own events at other instants.
-use Rattle.std.proofs.Common.{◌≡◌, ℕ, zero, suc, ◌+◌, ◌<◌, ◌≤◌, Bool, true, false, cond, List, [], ◌∷◌, ◌++◌, length, map, All, Option, Some, None, Result, Ok, Err, ℤ, ◌-ℤ◌, refl, sym, ap, ◌∙◌, subst, arith, append-nil}
+use Rattle.std.proofs.Common.{◌≡◌, ℕ, zero, suc, ◌+◌, ◌<◌, ◌≤◌, Bool, true, false, cond, List, [], ◌∷◌, ◌++◌, length, map, All, Option, Some, None, Result, Ok, Err, ℤ, ◌+ℤ◌, ◌-ℤ◌, refl, sym, ap, ◌∙◌, subst, arith, append-nil}
 use Rattle.std.specs.Option.{option_map_or}
 use Rattle.std.specs.Prelude.{slice_index_or}
 use Rattle.std.proofs.lemmas.List.{length-map}
@@ -26,13 +26,17 @@ use Rattle.written_pictures.proofs.Written.{ok_inside, pictures_are_shifted, rea
 
 -- ---- the events of lines
 
+abbrev order_said : Result Event ChunkRefusal → ℕ
+order_said (Ok event) = event.order
+order_said (Err refusal) = 0
+
 -- an event of a line has its place
 line_place : (script : ScriptValue) (i : ℕ) (event : Event) → event_of_line script i ≡ Ok event → event.order ≡ i
 unfolding line_event
 line_place script i event e = cases (examined (columns_of script.format (slice_index_or script.lines i [])) no_fields) e
   where
     cases : (fields : Result FieldValues ChunkRefusal) → line_made i fields ≡ Ok event → event.order ≡ i
-    cases (Ok fields) e = cc
+    cases (Ok fields) e = sym (ap order_said e)
     cases (Err refusal) e = absurd cc
 
 abbrev IsBefore : ℕ → Event → Type 0
@@ -50,7 +54,7 @@ ascending script (suc n) =
     cases : (answer : Result Event ChunkRefusal) → event_of_line script n ≡ answer → HaveAscendingOrders (first_events script n) → HaveAscendingOrders (first_events script n ++ event_given answer)
     cases (Ok e) is before =
         let place = line_place script n e is in
-        Pairwise-push (λ e f. e.order < f.order) (first_events script n) e before
+        Pairwise-push (λ (e f : Event). e.order < f.order) (first_events script n) e before
         (All-weaker (IsBefore n) (λ (f : Event). f.order < e.order) (λ f below. omega (arith, below, place)) (first_events script n) (all_before script n))
     cases (Err refusal) is before = subst HaveAscendingOrders (sym (append-nil (first_events script n))) before
 
@@ -96,7 +100,7 @@ scripts_are_read_later scripts law script later earlier moved bytes spelled is_m
       script_read script moved,
       scripts script moved bytes spelled each (omega (arith, ap length same, length-map events (later_event by), are.few)) is_written,
       λ fonts t size canvas picture.
-      read_shows law script fonts moved bytes _ size canvas each ascend is_written (pictures_are_shifted script fonts later earlier events moved t size canvas is_moved picture),
+      read_shows law script fonts moved bytes (t +ℤ by) size canvas each ascend is_written (pictures_are_shifted script fonts later earlier events moved t size canvas is_moved picture),
     )
 
 pub read_scripts_are_spelled : TextsSpellScripts → StylesAreSpelled → ReadScriptsAreSpelled
