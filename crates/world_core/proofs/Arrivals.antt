@@ -34,9 +34,9 @@ live-all history (e ∷ es) new =
     live-all (after history e) es (subst HaveOwnOrders (sym again) new.0, subst (λ (z : List Event). length z ≤ max_live) (sym again) new.1) ∙ again
 
 -- what is in one of two lists is in one of two others
-module _ (xs ys as bs : List Event) (e : Event) where
-  moved : (Contains xs e → Contains ys e) → (Contains as e → Contains bs e) → Contains (xs ++ as) e → Contains (ys ++ bs) e
-  moved old new here = ⊎_elim (λ before. Contains-append_left ys bs e (old before)) (λ after. Contains-append_right ys bs e (new after)) (Contains-append_cases xs as e here)
+module _ (xs ys new old : List Event) (e : Event) where
+  moved : (Contains xs e → Contains ys e) → (Contains new e → Contains old e) → Contains (xs ++ new) e → Contains (ys ++ old) e
+  moved first second here = ⊎_elim (λ one. Contains-append_left ys old e (first one)) (λ two. Contains-append_right ys old e (second two)) (Contains-append_cases xs new e here)
 
 pub live-in-any-order : LiveInAnyOrder
 live-in-any-order history other a b lives same first second e =
