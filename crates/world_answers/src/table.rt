@@ -4,12 +4,11 @@ use crate::lines::dot_inputs;
 use crate::moves::{Act, replies_of};
 use std::alloc::Global;
 use std::io;
-use std::str::SplitWhitespace;
 use std::test::Fail;
 
 /// A dot, and one with a border.
 const LINES: &str = "Dialogue: 0,0:00:00.00,0:00:10.00,Default,,0,0,0,,x\n\
-    Dialogue: 0,0:00:00.00,0:00:10.00,Default,,0,0,0,,{\\bord1}x\n";
+    Dialogue: 0,0:00:00.00,0:00:10.00,Default,,0,0,0,,{\\bord4}x\n";
 
 fn number(word: Option<&str>) -> u16 {
     match word {
@@ -44,25 +43,18 @@ fn cache_act(name: &str, n: u16) -> Option<Act> {
     }
 }
 
-// The limits of a shard: its kind, its place there, its entries and its budget.
-fn limits_act(words: &mut SplitWhitespace, kind: u16) -> Act {
-    let shard = number(words.next());
-    let entries = number(words.next());
-    Act::Limits(kind, shard, entries, number(words.next()))
-}
-
-// The step of a row: an actor, a word and numbers.
+// The step of a row: an actor, a word and up to four numbers. New limits have a shard's kind, its place there, its entries and its budget.
 fn row_move(row: &str) -> (u32, Act) {
     let mut words = row.split_whitespace();
     let actor = u32::from(number(words.next()));
     let name = words.next().unwrap_or("");
     let n = number(words.next());
+    let shard = number(words.next());
+    let entries = number(words.next());
+    let budget = number(words.next());
     let act = match track_act(name, n) {
         Some(act) => act,
-        None => match cache_act(name, n) {
-            Some(act) => act,
-            None => limits_act(&mut words, n),
-        },
+        None => cache_act(name, n).unwrap_or(Act::Limits(n, shard, entries, budget)),
     };
     (actor, act)
 }

@@ -63,17 +63,17 @@ fed-one history (Ok event) rest = refl
 fed-one history (Err refusal) rest = refl
 
 fed-step : (s : WorldState WorldTag) (x : Step) (rest : List Event) → IsNoFlush x → after_all (after_step world_meaning s x).history rest ≡ after_all s.history (step_events x ++ rest)
-fed-step s (step.Feed actor chunk) rest no = fed-one s.history (event_of chunk.bytes chunk.start chunk.duration) rest
-fed-step s (step.Flush actor) rest no = absurd no
-fed-step s (step.Look actor instant size) rest no = refl
-fed-step s (step.AskOutline actor k) rest no = refl
-fed-step s (step.AskMask actor k) rest no = refl
-fed-step s (step.AskComposite actor k) rest no = refl
-fed-step s (step.Fill actor i) rest no = refl
-fed-step s (step.Fail actor i) rest no = refl
-fed-step s (step.Unpin actor i) rest no = refl
-fed-step s (step.Limits kind shard entries budget) rest no = refl
-fed-step s (step.Show actor) rest no = refl
+fed-step s (step.Feed actor chunk) rest unflushed = fed-one s.history (event_of chunk.bytes chunk.start chunk.duration) rest
+fed-step s (step.Flush actor) rest unflushed = absurd unflushed
+fed-step s (step.Look actor instant size) rest unflushed = refl
+fed-step s (step.AskOutline actor k) rest unflushed = refl
+fed-step s (step.AskMask actor k) rest unflushed = refl
+fed-step s (step.AskComposite actor k) rest unflushed = refl
+fed-step s (step.Fill actor i) rest unflushed = refl
+fed-step s (step.Fail actor i) rest unflushed = refl
+fed-step s (step.Unpin actor i) rest unflushed = refl
+fed-step s (step.Limits kind shard entries budget) rest unflushed = refl
+fed-step s (step.Show actor) rest unflushed = refl
 
 fed-all : (xs : List Step) (s : WorldState WorldTag) → All IsNoFlush xs → (after_steps world_meaning s xs).history ≡ after_all s.history (events_fed xs)
 fed-all [] s none = refl
@@ -82,22 +82,22 @@ fed-all (x ∷ xs) s none = fed-all xs (after_step world_meaning s x) (All-tail 
 -- ---- the look that is shown
 
 look-stays-one : (s : WorldState WorldTag) (actor : ℕ) (x : Step) → IsNoLookOf actor x → (after_step world_meaning s x).looks actor ≡ s.looks actor
-look-stays-one s actor (step.Look other instant size) no = ap (λ (b : Bool). cond b (Some (record { history = s.history; instant = instant; size = size })) (s.looks actor)) (ne_eqb other actor no)
-look-stays-one s actor (step.Feed other chunk) no = refl
-look-stays-one s actor (step.Flush other) no = refl
-look-stays-one s actor (step.AskOutline other k) no = refl
-look-stays-one s actor (step.AskMask other k) no = refl
-look-stays-one s actor (step.AskComposite other k) no = refl
-look-stays-one s actor (step.Fill other i) no = refl
-look-stays-one s actor (step.Fail other i) no = refl
-look-stays-one s actor (step.Unpin other i) no = refl
-look-stays-one s actor (step.Limits kind shard entries budget) no = refl
-look-stays-one s actor (step.Show other) no = refl
+look-stays-one s actor (step.Look other instant size) unlooked = ap (λ (b : Bool). cond b (Some (record { history = s.history; instant = instant; size = size })) (s.looks actor)) (ne_eqb other actor unlooked)
+look-stays-one s actor (step.Feed other chunk) unlooked = refl
+look-stays-one s actor (step.Flush other) unlooked = refl
+look-stays-one s actor (step.AskOutline other k) unlooked = refl
+look-stays-one s actor (step.AskMask other k) unlooked = refl
+look-stays-one s actor (step.AskComposite other k) unlooked = refl
+look-stays-one s actor (step.Fill other i) unlooked = refl
+look-stays-one s actor (step.Fail other i) unlooked = refl
+look-stays-one s actor (step.Unpin other i) unlooked = refl
+look-stays-one s actor (step.Limits kind shard entries budget) unlooked = refl
+look-stays-one s actor (step.Show other) unlooked = refl
 
 look-stays : (xs : List Step) (s : WorldState WorldTag) (actor : ℕ) → All (IsNoLookOf actor) xs → (after_steps world_meaning s xs).looks actor ≡ s.looks actor
-look-stays [] s actor no = refl
-look-stays (x ∷ xs) s actor no =
-    look-stays xs (after_step world_meaning s x) actor (All-tail (IsNoLookOf actor) x xs no) ∙ look-stays-one s actor x (All-head (IsNoLookOf actor) x xs no)
+look-stays [] s actor unlooked = refl
+look-stays (x ∷ xs) s actor unlooked =
+    look-stays xs (after_step world_meaning s x) actor (All-tail (IsNoLookOf actor) x xs unlooked) ∙ look-stays-one s actor x (All-head (IsNoLookOf actor) x xs unlooked)
 
 module _ (script : ScriptValue) (fonts : List FontValue) (s : WorldState WorldTag) (steps : List Step) (replies : List Reply) (a : ShowsLook script fonts s steps replies) where
   -- the states before the look, after it, and when it is shown
@@ -150,6 +150,6 @@ runs-show-the-same script fonts sound s t steps others replies answers a b same 
     (looking-told script fonts s steps replies a) (looking-told script fonts t others answers b) same instant size
 
 pub orders-show-the-same : (script : ScriptValue) (fonts : List FontValue) → IsScript script → OrdersShowTheSame script fonts
-orders-show-the-same script fonts sound s t steps others replies answers a b lives fed none no new news instant size =
-    alike-by script fonts sound s t steps others replies answers a b (after_all s.history (events_fed a.before)) (after_all t.history (events_fed b.before)) (fed-all a.before s none) (fed-all b.before t no)
+orders-show-the-same script fonts sound s t steps others replies answers a b lives fed first second new news instant size =
+    alike-by script fonts sound s t steps others replies answers a b (after_all s.history (events_fed a.before)) (after_all t.history (events_fed b.before)) (fed-all a.before s first) (fed-all b.before t second)
     (live-in-any-order s.history t.history (events_fed a.before) (events_fed b.before) lives fed new news) instant size
