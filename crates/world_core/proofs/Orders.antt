@@ -11,11 +11,12 @@ use Rattle.ass_script.specs.Ranges.{IsScript}
 use Rattle.ass_script.specs.Scripts.{ScriptValue}
 use Rattle.bdf_font.specs.Fonts.{FontValue}
 use Rattle.picture_plan.specs.Pictures.{HaveSameEvents}
+use Rattle.script_events.specs.ScriptEvents.{event_given}
 use Rattle.track_history.proofs.Histories.{fed_after, flushed_after}
 use Rattle.track_history.specs.Answers.{extended}
 use Rattle.world_keys.specs.Keys.{world_meaning}
 use Rattle.world_core.specs.Laws.{after_all}
-use Rattle.world_core.specs.Orders.{IsNoFlush, IsNoLookOf, OrdersShowTheSame, RepliesTellHistory, RunsShowTheSame, ShowsLook, chunk_events, done_flush_entry, events_fed, fed_chunk_entry, history_told, step_events, told_entry}
+use Rattle.world_core.specs.Orders.{IsNoFlush, IsNoLookOf, OrdersShowTheSame, RepliesTellHistory, RunsShowTheSame, ShowsLook, done_flush_entry, events_fed, fed_chunk_entry, history_told, step_events, told_entry}
 use Rattle.world_core.specs.Replies.{AreReplies, IsFedReply, IsPictureShown, IsReply, IsShowReply}
 use Rattle.world_core.specs.States.{LookState, WorldState}
 use Rattle.world_core.specs.Steps.{after_chunk, after_step, after_steps}
@@ -58,7 +59,7 @@ module _ (script : ScriptValue) (fonts : List FontValue) where
 
 -- ---- the events that are fed
 
-fed-one : (history : List Entry) (chunk : Result Event ChunkRefusal) (rest : List Event) → after_all (after_chunk history chunk) rest ≡ after_all history (chunk_events chunk ++ rest)
+fed-one : (history : List Entry) (chunk : Result Event ChunkRefusal) (rest : List Event) → after_all (after_chunk history chunk) rest ≡ after_all history (event_given chunk ++ rest)
 fed-one history (Ok event) rest = refl
 fed-one history (Err refusal) rest = refl
 

@@ -1,5 +1,5 @@
 -- Public: what is shown in a run of steps doesn't tell in which order the chunks came, nor what else came between them.
-use Rattle.std.specs.Prelude.{◌≡◌, ◌≢◌, ℕ, ℤ, List, [], ◌∷◌, ◌++◌, length, All, Option, None, Result, Ok, Err}
+use Rattle.std.specs.Prelude.{◌≡◌, ◌≢◌, ℕ, ℤ, List, [], ◌∷◌, ◌++◌, length, All, Option, None, Result}
 use Rattle.ass_num.specs.declared.size.Size.{Size}
 use Rattle.ass_script.specs.Scripts.{ScriptValue}
 use Rattle.ass_events.specs.Events.{event_of}
@@ -8,6 +8,7 @@ use Rattle.ass_events.specs.declared.event.ChunkRefusal.{ChunkRefusal}
 use Rattle.ass_events.specs.declared.event.Event.{Event}
 use Rattle.bdf_font.specs.Fonts.{FontValue}
 use Rattle.picture_plan.specs.Pictures.{HaveSameEvents}
+use Rattle.script_events.specs.ScriptEvents.{event_given}
 use Rattle.track_history.specs.Answers.{chunk_entry, extended, flushed_entry}
 use Rattle.world_keys.specs.Keys.{world_meaning}
 use Rattle.world_core.specs.Laws.{AreNewTo}
@@ -69,13 +70,9 @@ history_told history (x ∷ xs) (r ∷ rs) = history_told (extended history (tol
 
 -- ---- what the steps are
 
--- the event of a chunk, where it gives one
-abbrev pub chunk_events : Result Event ChunkRefusal → List Event
-chunk_events (Ok event) = event ∷ []
-chunk_events (Err refusal) = []
-
+-- the event of the chunk that a step feeds, where it gives one
 abbrev pub step_events : Step → List Event
-step_events (step.Feed actor chunk) = chunk_events (event_of chunk.bytes chunk.start chunk.duration)
+step_events (step.Feed actor chunk) = event_given (event_of chunk.bytes chunk.start chunk.duration)
 step_events (step.Flush actor) = []
 step_events (step.Look actor instant size) = []
 step_events (step.AskOutline actor k) = []
