@@ -26,11 +26,6 @@ impl Laps {
         self.least = self.least.min(nanos);
         self.sum = self.sum.saturating_add(nanos);
     }
-
-    /// How many megabytes a second the shortest turn touches, of so many bytes a turn.
-    pub fn rate(&self, bytes: u64) -> u128 {
-        u128::from(bytes) * 1_000 / self.least.max(1)
-    }
 }
 
 impl fmt::Display for Laps {
