@@ -139,7 +139,8 @@ fn show_times<R: Wait + Threads + Sync + Clock + Print>(
     rounds: u32,
 ) -> Result<(), Stop> {
     let outcome = run_threads(rt, alloc, keys, rounds, LAPS)?;
-    let visits = (4 * u128::from(count) * u128::from(rounds)).max(1);
+    let all = (4 * u128::from(count)).max(1);
+    let visits = (all * u128::from(rounds)).max(1);
     let one = outcome.one.as_nanos();
     let four = outcome.four.as_nanos().max(1);
     let times = 100 * one / four;

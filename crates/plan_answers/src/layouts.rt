@@ -160,7 +160,7 @@ fn show_row(rt: &HostRuntime, fonts: &FontSet, head: &str, row: &str) -> io::Res
     }
 }
 
-/// Prints rows of scripts with this head: one character, breaks and spaces, texts without anything in their lines, clusters, a drawing,
+/// Prints rows of scripts with this head: breaks and spaces, texts without anything in their lines, clusters, a drawing,
 /// each wrap style on a text of three lines, margins, missing glyphs, scales of 0 and below, and each alignment where halves are odd.
 pub fn show_layouts(rt: &HostRuntime, fonts: &FontSet, head: &str, rows: &str) -> io::Result<()>
     requires { IsLayoutFontSet fonts.now.fonts }
