@@ -12,6 +12,7 @@ pub struct Laps {
 }
 
 impl Laps {
+    /// No turns yet.
     pub fn new() -> Laps {
         Laps {
             turns: 0,
@@ -20,6 +21,7 @@ impl Laps {
         }
     }
 
+    /// Adds a turn that took so long.
     pub fn add(&mut self, spent: Duration) {
         let nanos = spent.as_nanos();
         self.turns = self.turns.saturating_add(1);
