@@ -7,8 +7,8 @@ use Rattle.play_workers.specs.Stages.{play_on}
 use Rattle.play_workers.proofs.Parted.{instant_fits_frame, instant_is, instant_not_gone}
 use Rattle.play_workers.proofs.painter.image_at.Goals as goal
 
-pub unreachable-in-None : goal.unreachable-in-None
-unreachable-in-None g c = instant_not_gone c.args.stage.now c.requires.stage c.args.place c.requires.place c.in-None.ensures
+pub unreachable-requires : goal.unreachable-requires
+unreachable-requires g c = instant_not_gone c.args.stage.now c.requires.stage c.args.place c.requires.place c.in-None.ensures
 
 pub paint_instant-requires-clause-instant : goal.paint_instant-requires-clause-instant
 paint_instant-requires-clause-instant g c =
