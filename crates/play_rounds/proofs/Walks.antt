@@ -42,12 +42,12 @@ module _ (play : PlayView) where
         many = omega (arith, long, both);
         each = λ i d lt. dite (dec_le n i)
             (λ past.
-                let here : n + (i - n) ≡ i = omega (arith, past) in
-                subst (λ (z : ℕ). IsShownImage play history q z (slice_index_or (images ++ next) i d)) here
-                (subst (IsShownImage play history q (n + (i - n))) (sym (get_or-append_right images next n i d long past)) (more (i - n) d (omega (arith, lt, past)))))
+            let here : n + (i - n) ≡ i = omega (arith, past) in
+            subst (λ (z : ℕ). IsShownImage play history q z (slice_index_or (images ++ next) i d)) here
+            (subst (IsShownImage play history q (n + (i - n))) (sym (get_or-append_right images next n i d long past)) (more (i - n) d (omega (arith, lt, past)))))
             (λ no.
-                let before : i < n = lt_of_not-le no in
-                subst (IsShownImage play history q i) (sym (get_or_append_left images next d i (omega (arith, before, long)))) (are.each i d before));
+            let before : i < n = lt_of_not-le no in
+            subst (IsShownImage play history q i) (sym (get_or_append_left images next d i (omega (arith, before, long)))) (are.each i d before));
       }
 
   -- Behind some images come more, with these bytes: so many are the first of time q then, and the new ones need no more than so many composed masks.
