@@ -43,9 +43,9 @@ module _ (world now : World) (s : WorldState WorldTag) (t : TellsWorld world s) 
   run-of-first steps valid i below tells laws =
       run-of (take i steps) (All-take (IsValidStep (arc_value world.fonts).fonts) i steps valid) tells
       (λ k within.
-        let many : length (take i steps) ≡ i = length-take-le i steps (omega (arith, below)) in
-        let least : k ≤ i = omega (arith, within, many) in
-        subst (λ (xs : List Step). KeepsLaws world_meaning (after_steps world_meaning s xs).caches) (sym (take-take k i steps least)) (laws k least))
+      let many : length (take i steps) ≡ i = length-take-le i steps (omega (arith, below)) in
+      let least : k ≤ i = omega (arith, within, many) in
+      subst (λ (xs : List Step). KeepsLaws world_meaning (after_steps world_meaning s xs).caches) (sym (take-take k i steps least)) (laws k least))
 
 module _ (script : ScriptValue) (fonts : List FontValue) where
   module _ (s : WorldState WorldTag) (begins : BeginsWithLooks s) (actor n : ℕ) (pixels : List ℕ) where
@@ -55,7 +55,7 @@ module _ (script : ScriptValue) (fonts : List FontValue) where
         let picture : IsPictureShown script fonts s.caches actor look n pixels = shown in
         let front = begins actor look is in
         let seen : take n s.history ≡ look.history =
-            ap (λ (m : ℕ). take m s.history) picture.seen_is ∙ (ap (λ (h : List Entry). take (length look.history) h) (sym front.1) ∙ take-append_seam look.history front.0) in
+        ap (λ (m : ℕ). take m s.history) picture.seen_is ∙ (ap (λ (h : List Entry). take (length look.history) h) (sym front.1) ∙ take-append_seam look.history front.0) in
         record {
           look = look;
           last = is;
@@ -68,7 +68,7 @@ module _ (script : ScriptValue) (fonts : List FontValue) where
   pictures-of-first s steps replies begins are before later told rest actor n pixels steps_are replies_are same =
       let now = after_steps world_meaning s before in
       let parted : AreReplies script fonts world_meaning s (before ++ Show actor ∷ later) (told ++ Shown n pixels ∷ rest) =
-          subst (λ (rs : List Reply). AreReplies script fonts world_meaning s (before ++ Show actor ∷ later) rs) replies_are
-          (subst (λ (xs : List Step). AreReplies script fonts world_meaning s xs replies) steps_are are) in
+      subst (λ (rs : List Reply). AreReplies script fonts world_meaning s (before ++ Show actor ∷ later) rs) replies_are
+      (subst (λ (xs : List Step). AreReplies script fonts world_meaning s xs replies) steps_are are) in
       let parts = replies-apart script fonts before (Show actor ∷ later) s told (Shown n pixels ∷ rest) same parted in
       shown-of-first now (looks-kept world_meaning before s begins) actor n pixels (now.looks actor) refl parts.1.0
