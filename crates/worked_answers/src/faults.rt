@@ -14,10 +14,11 @@ fn add_file(rt: &HostRuntime, shelf: &mut MemoryShelf, name: &str) -> Result<(),
 
 /// The files that runs name, in memory, where the fetch of this number fails; 0 is none.
 fn shelf_of(rt: &HostRuntime, fail: u64) -> Result<FailingShelf, Fail> {
-    let mut shelf = MemoryShelf::new(rt.alloc());
+    let alloc = rt.alloc();
+    let fails = vec![in alloc; fail]?;
+    let mut shelf = MemoryShelf::new(alloc);
     add_file(rt, &mut shelf, "row.ass")?;
     add_file(rt, &mut shelf, "dot.bdf")?;
-    let fails = vec![in rt.alloc(); fail]?;
     Ok(FailingShelf::new(shelf, fails))
 }
 

@@ -21,7 +21,7 @@ pub fn number(word: &str) -> i64 {
 
 /// The first eight numbers between blanks; 0 where there are fewer.
 pub fn numbers(text: &str) -> [i64; 8] {
-    let mut numbers = [0; 8];
+    let mut numbers = [0i64; 8];
     let mut count = 0usize;
     for word in text.split_whitespace() {
         if count < 8 {
