@@ -42,13 +42,7 @@ fn ascend(spaces: &[usize]) -> bool
     true
 }
 
-fn breaks_of(
-    alloc: Global,
-    widths: &[Fix],
-    spaces: &[usize],
-    max: Fix,
-    style: u8,
-) -> Mem<String> {
+fn breaks_of(alloc: Global, widths: &[Fix], spaces: &[usize], max: Fix, style: u8) -> Mem<String> {
     if widths.len() > 134_217_728
         || !are_narrow(widths)
         || !are_within(spaces, widths.len())

@@ -37,7 +37,10 @@ fn power_of(alloc: Global, question: &str) -> Mem<String> {
 /// Where a movement from (0, 0) to (10, -20.001) has come to: its begin, its end, the duration and the instant.
 fn place(alloc: Global, question: &str) -> Mem<String> {
     let [t1, t2, duration, t, _, _, _, _] = numbers(question);
-    shown(alloc, &move_at(&[0, 0, 10_000, -20_001], t1, t2, duration, t))
+    shown(
+        alloc,
+        &move_at(&[0, 0, 10_000, -20_001], t1, t2, duration, t),
+    )
 }
 
 /// The alpha of a fade: its three alphas, its four times and the instant.

@@ -43,7 +43,10 @@ pub fn style(alloc: Global, question: &str) -> Mem<String> {
     let (name, text) = parted(question, "|");
     let text = lines(alloc, text)?;
     match read_script(alloc, text.as_str().as_bytes()) {
-        Ok(script) => shown(alloc, &(find_style(&script, name), script.style_named(name))),
+        Ok(script) => shown(
+            alloc,
+            &(find_style(&script, name), script.style_named(name)),
+        ),
         Err(refusal) => shown(alloc, &refusal),
     }
 }
