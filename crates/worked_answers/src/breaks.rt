@@ -4,10 +4,11 @@ ghost use Rattle.std.specs.Prelude.{◌<◌, ◌≤◌, ◌+◌, ℕ, IsTrue, le
 ghost use Rattle.std.specs.List.{All};
 ghost use Rattle.line_layout.specs.Breaks.{IsItemWidth};
 
-use crate::telling::{numbers, parted, shown};
+use crate::telling::shown;
 use ass_num::{Fix, Mem};
 use line_layout::choose_breaks;
 use std::alloc::Global;
+use std::test::Fail;
 
 fn are_narrow(widths: &[Fix]) -> bool
     ensures { IsTrue result → All IsItemWidth widths.now }
@@ -42,35 +43,44 @@ fn ascend(spaces: &[usize]) -> bool
     true
 }
 
-fn breaks_of(alloc: Global, widths: &[Fix], spaces: &[usize], max: Fix, style: u8) -> Mem<String> {
+fn breaks_of(
+    alloc: Global,
+    widths: &[Fix],
+    spaces: &[usize],
+    max: Fix,
+    style: u8,
+) -> Mem<Option<Vec<usize>>> {
     if widths.len() > 134_217_728
         || !are_narrow(widths)
         || !are_within(spaces, widths.len())
         || !ascend(spaces)
         || style > 3
     {
-        return shown(alloc, &"no paragraph");
+        return Ok(None);
     }
-    let places = choose_breaks(alloc, widths, spaces, max, style)?;
-    shown(alloc, &places.as_slice())
+    Ok(Some(choose_breaks(alloc, widths, spaces, max, style)?))
 }
 
-fn places_of(alloc: Global, text: &str) -> Mem<Vec<usize>> {
-    let mut places = Vec::new(alloc);
+fn small_numbers(alloc: Global, text: &str) -> Mem<Vec<usize>> {
+    let mut numbers = Vec::new(alloc);
     for word in text.split_whitespace() {
-        places.push(usize::from(word.parse::<u16>().unwrap_or(0)))?;
+        numbers.push(usize::from(word.parse::<u16>().unwrap_or(0)))?;
     }
-    Ok(places)
+    Ok(numbers)
 }
 
 /// The breaks of so many items of 64, under a maximum, in a style; behind a bar the spaces among the items.
-pub fn places(alloc: Global, question: &str) -> Mem<String> {
-    let (sizes, spaces) = parted(question, " |");
-    let [count, max, style, _, _, _, _, _] = numbers(sizes);
-    let spaces = places_of(alloc, spaces)?;
-    let count = usize::try_from(count).unwrap_or(0);
-    let style = u8::try_from(style).unwrap_or(9);
+pub fn places(alloc: Global, question: &str) -> Result<String, Fail> {
+    let (sizes, spaces) = question.split_once(" |").ok_or("no spaces")?;
+    let sizes = small_numbers(alloc, sizes)?;
+    let spaces = small_numbers(alloc, spaces)?;
     let wide = [64; 12];
-    let widths = &wide[..wide.len().min(count)];
-    breaks_of(alloc, widths, spaces.as_slice(), max, style)
+    let [count, max, style] = sizes.as_slice() else {
+        return Err("no sizes".into());
+    };
+    let style = u8::try_from(*style).unwrap_or(9);
+    let widths = &wide[..wide.len().min(*count)];
+    let max = i64::try_from(*max).unwrap_or(0);
+    let places = breaks_of(alloc, widths, spaces.as_slice(), max, style)?;
+    shown(alloc, &places.ok_or("no paragraph")?.as_slice())
 }

@@ -7,6 +7,7 @@ use crate::telling::{numbers, shown};
 use ass_num::{Fix, Mem};
 use placement::{Box2, Stand, replay};
 use std::alloc::Global;
+use std::test::Fail;
 
 fn is_small(b: &Box2) -> bool
     ensures { IsTrue result → IsBoxWithin (2 ^ 20) b.now }
@@ -44,40 +45,43 @@ fn in_order(list: &[Stand]) -> bool
 }
 
 /// A stand: its start, its end, its box, and 1 where it moves down.
-fn stand_of(text: &str) -> Stand {
-    let [start, end, left, top, right, bottom, down, _] = numbers(text);
-    Stand {
-        start,
-        end,
-        place: Box2 {
-            left,
-            top,
-            right,
-            bottom,
-        },
-        down: down == 1,
+fn stand_of(alloc: Global, text: &str) -> Result<Stand, Fail> {
+    match numbers(alloc, text)?.as_slice() {
+        [start, end, left, top, right, bottom, down] => Ok(Stand {
+            start: *start,
+            end: *end,
+            place: Box2 {
+                left: *left,
+                top: *top,
+                right: *right,
+                bottom: *bottom,
+            },
+            down: *down == 1,
+        }),
+        _ => Err("no stand".into()),
     }
 }
 
 /// Stands between slashes.
-fn stands_of(alloc: Global, text: &str) -> Mem<Vec<Stand>> {
+fn stands_of(alloc: Global, text: &str) -> Result<Vec<Stand>, Fail> {
     let mut stands = Vec::new(alloc);
     for part in text.split('/') {
-        stands.push(stand_of(part))?;
+        stands.push(stand_of(alloc, part)?)?;
     }
     Ok(stands)
 }
 
-fn shifts_of(alloc: Global, list: &[Stand]) -> Mem<String> {
+fn shifts_of(alloc: Global, list: &[Stand]) -> Mem<Option<Vec<Fix>>> {
     if list.len() <= 1_000_000 && list.iter().all(|s| is_placeable(s)) && in_order(list) {
-        let shifts = replay(alloc, list)?;
-        return shown(alloc, &shifts.as_slice());
+        Ok(Some(replay(alloc, list)?))
+    } else {
+        Ok(None)
     }
-    shown(alloc, &"no list of stands")
 }
 
 /// The shifts of stands between slashes.
-pub fn shifts(alloc: Global, question: &str) -> Mem<String> {
+pub fn shifts(alloc: Global, question: &str) -> Result<String, Fail> {
     let stands = stands_of(alloc, question)?;
-    shifts_of(alloc, stands.as_slice())
+    let shifts = shifts_of(alloc, stands.as_slice())?;
+    shown(alloc, &shifts.ok_or("no list of stands")?.as_slice())
 }
