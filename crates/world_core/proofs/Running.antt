@@ -47,6 +47,9 @@ module _ (world now : World) (s : WorldState WorldTag) (t : TellsWorld world s) 
       let least : k ≤ i = omega (arith, within, many) in
       subst (λ (xs : List Step). KeepsLaws world_meaning (after_steps world_meaning s xs).caches) (sym (take-take k i steps least)) (laws k least))
 
+never-idle : (n : ℕ) (pixels : List ℕ) → Shown n pixels ≡ Idle → ⊥
+never-idle n pixels e = cc
+
 module _ (script : ScriptValue) (fonts : List FontValue) where
   module _ (s : WorldState WorldTag) (begins : BeginsWithLooks s) (actor n : ℕ) (pixels : List ℕ) where
     -- what the look saw are the first n entries
@@ -65,7 +68,7 @@ module _ (script : ScriptValue) (fonts : List FontValue) where
     }
 
     shown-of-first : (o : Option LookState) → s.looks actor ≡ o → IsShowReply script fonts s.caches actor o (Shown n pixels) → IsPictureOfFirst script fonts s actor n pixels
-    shown-of-first None is shown = let wrong : Shown n pixels ≡ Idle = shown in cc
+    shown-of-first None is shown = absurd (never-idle n pixels shown)
     shown-of-first (Some look) is shown = pictured look is shown
 
   pub pictures-of-first : (s : WorldState WorldTag) (steps : List Step) (replies : List Reply) → BeginsWithLooks s → AreReplies script fonts world_meaning s steps replies → ShowPicturesOfFirst script fonts s steps replies
