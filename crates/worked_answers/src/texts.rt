@@ -1,0 +1,58 @@
+//! Runs over scripts that stand in rows: each is written to the file `a.ass`.
+
+use crate::runs::{Ran, over_files, ran_told};
+use crate::scripts::long_script;
+use crate::telling::{lines, parted, shown};
+use ass_io::Rt;
+use bstr::BStr;
+use std::fs;
+use std::test::Fail;
+
+/// Writes a script, which a file begins, and which ends with lines that end at bars.
+fn write_script(rt: &HostRuntime, head: &str, text: &str) -> Result<(), Fail> {
+    let text = lines(rt.alloc(), text)?;
+    let mut script = fs::read_to_string(rt, head)?;
+    script.push_str(text.as_str())?;
+    fs::write(rt, "a.ass", script.as_str())?;
+    Ok(())
+}
+
+/// A run over a script that a file begins: the words, a bar, and the rest of the script.
+fn over_text(lent: &impl Rt, rt: &HostRuntime, head: &str, question: &str) -> Result<Ran, Fail> {
+    let (line, text) = parted(question, " |");
+    write_script(rt, head, text)?;
+    Ok(over_files(lent, rt, line)?)
+}
+
+pub fn told(lent: &impl Rt, rt: &HostRuntime, head: &str, question: &str) -> Result<String, Fail> {
+    let ran = over_text(lent, rt, head, question)?;
+    Ok(ran_told(rt.alloc(), &ran)?)
+}
+
+/// Whether what was written is written again as the same bytes.
+fn is_kept(lent: &impl Rt, rt: &HostRuntime, ran: &Ran) -> Result<bool, Fail> {
+    fs::write(rt, "a.ass", ran.frames.bytes())?;
+    let again = over_files(lent, rt, "write a.ass")?;
+    Ok(again.exit == 0 && again.frames.bytes() == ran.frames.bytes())
+}
+
+/// What comes of writing a script, and whether what was written is written again as the same bytes.
+pub fn written(lent: &impl Rt, rt: &HostRuntime, question: &str) -> Result<String, Fail> {
+    let ran = over_text(lent, rt, "none.ass", question)?;
+    let kept = is_kept(lent, rt, &ran)?;
+    let (report, image) = (BStr::new(ran.report.bytes()), BStr::new(ran.frames.bytes()));
+    Ok(shown(rt.alloc(), &(ran.exit, report, image, kept))?)
+}
+
+fn write_lines(rt: &HostRuntime, count: &str) -> Result<(), Fail> {
+    let script = long_script(rt.alloc(), count)?;
+    fs::write(rt, "a.ass", script.as_str())?;
+    Ok(())
+}
+
+/// A check of a script of so many lines.
+pub fn long_check(lent: &impl Rt, rt: &HostRuntime, count: &str) -> Result<String, Fail> {
+    write_lines(rt, count)?;
+    let ran = over_files(lent, rt, "check a.ass dot.bdf")?;
+    Ok(ran_told(rt.alloc(), &ran)?)
+}
