@@ -1,10 +1,10 @@
 -- Pictures whose bytes are 0 all around.
-use Rattle.std.proofs.Common.{◌≡◌, ℕ, ◌+◌, ◌-◌, ◌*◌, ◌/◌, ◌<◌, ◌≤◌, ◌⊎◌, inl, inr, ℤ, pos, ◌+ℤ◌, ◌-ℤ◌, ◌<ℤ◌, ◌≤ℤ◌, List, length, get_or, take, refl, sym, ap, ◌∙◌, arith}
+use Rattle.std.proofs.Common.{◌≡◌, ℕ, ◌+◌, ◌-◌, ◌*◌, ◌/◌, ◌<◌, ◌≤◌, ◌⊎◌, inl, inr, ℤ, pos, ◌+ℤ◌, ◌-ℤ◌, ◌<ℤ◌, ◌≤ℤ◌, List, length, get_or, take, replicate, refl, sym, ap, ◌∙◌, arith}
 use Rattle.std.proofs.lemmas.Bool.{cases_lt}
 use Rattle.std.proofs.lemmas.Int.{ints, by_lt_z}
-use Rattle.std.proofs.lemmas.List.{get_or-take}
+use Rattle.std.proofs.lemmas.List.{get_or-take, get_or-replicate}
 use Rattle.std.proofs.lemmas.Nat.{mul-le}
-use Rattle.mask_blur.specs.Frames.{IsInFrame, IsFramed}
+use Rattle.mask_blur.specs.Frames.{IsInFrame, IsFramed, IsSoftenedTo}
 use Rattle.mask_blur.specs.Shown.{IsBoxed, Shows}
 use Rattle.mask_blur.specs.Softening.{neighbour_sum, softer}
 use Rattle.mask_blur.proofs.GrowthLemmas.{place_of}
@@ -221,7 +221,7 @@ shown_widely f x y w h n bytes before to shows zeros put = record {
     same a b a_less b_less =
         let column : x +ℤ pos b ≡ (x -ℤ pos n) +ℤ pos (n + b) = omega (arith, ints) in
         let row : y +ℤ pos a ≡ (y -ℤ pos n) +ℤ pos (n + a) = omega (arith, ints) in
-        rw (← column, ← row) (shows.inside.cells b a b_less a_less)
+        shows.inside.cells b a b_less a_less ∙ (ap (λ u. f u (y +ℤ pos a)) column ∙ ap (λ v. f ((x -ℤ pos n) +ℤ pos (n + b)) v) row)
     zero : (i j : ℕ) → f ((x -ℤ pos n) +ℤ pos i) ((y -ℤ pos n) +ℤ pos j) ≡ 0 → get_or before (j * (w + 2 * n) + i) 0 ≡ f ((x -ℤ pos n) +ℤ pos i) ((y -ℤ pos n) +ℤ pos j)
     zero i j none = zeros (j * (w + 2 * n) + i) ∙ sym none
     place : (i j : ℕ) → ((n ≤ j) × (j < n + h) × (n ≤ i) × (i < n + w)) ⊎ (get_or before (j * (w + 2 * n) + i) 0 ≡ f ((x -ℤ pos n) +ℤ pos i) ((y -ℤ pos n) +ℤ pos j))
@@ -245,9 +245,27 @@ pub framed_value : (f : ℤ → ℤ → ℕ) (x y : ℤ) (w h n : ℕ) (bytes to
 framed_value f x y w h n bytes to shows wide i j i_less j_less place =
     let u = (x -ℤ pos n) +ℤ pos i in
     let v = (y -ℤ pos n) +ℤ pos j in
-    wide.inside.cells i j i_less j_less ∙ elim place [
+    let none : f u v ≡ 0 = elim place [
       | inl left ↦ (shows.outside.rows v).before u (omega (arith, ints, left))
       | inr (inl right) ↦ (shows.outside.rows v).behind u (omega (arith, ints, right))
       | inr (inr (inl above)) ↦ (shows.outside.columns u).before v (omega (arith, ints, above))
       | inr (inr (inr below)) ↦ (shows.outside.columns u).behind v (omega (arith, ints, below))
-    ]
+    ] in
+    wide.inside.cells i j i_less j_less ∙ none
+
+-- where a pass over 16 columns begins
+pub softened_start_row : (w h m at k : ℕ) (from to : List ℕ) → k ≡ m → IsFramed w h (m + 1) from
+    → IsSoftenedTo w h m at k from to to (replicate 16 0) (replicate 16 8)
+softened_start_row w h m at k from to is framed = record {
+  cells = λ f x y shows j i i_less known. elim known [ inl t ↦ absurd (omega (arith, is, t.0, t.1)) | inr o ↦ o ];
+  last_sums = λ f x y shows b l. omega (arith, get_or-replicate 16 b 0 0 l, none f x y shows (x +ℤ pos (at + b)) (y +ℤ pos k) (omega (arith, ints, is)));
+  both_sums = λ f x y shows b l. omega (
+    arith,
+    get_or-replicate 16 b 8 0 l,
+    none f x y shows (x +ℤ pos (at + b)) (y +ℤ pos k) (omega (arith, ints, is)),
+    none f x y shows (x +ℤ pos (at + b)) ((y +ℤ pos k) -ℤ pos 1) (omega (arith, ints, is)),
+  );
+}
+  where
+    none : (f : ℤ → ℤ → ℕ) (x y : ℤ) → Shows f x y w h from → (u v : ℤ) → v <ℤ (y +ℤ pos (m + 1)) → neighbour_sum (λ t. f t v) u ≡ 0
+    none f x y shows u v above = sum_above f x y w h (m + 1) from shows framed u v above

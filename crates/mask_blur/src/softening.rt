@@ -94,7 +94,7 @@ fn softened_rows(alloc: Global, bytes: &[u8], w: usize, h: usize, n: usize) -> M
     Ok(now)
 }
 
-/// The bytes of `h` rows of `w` bytes, softened `n` times. One pass needs no frame, and strips are 16 columns wide.
+/// The bytes of `h` rows of `w` bytes, softened `n` times: along strips, which are 16 columns wide, or row by row.
 fn softened_bytes(alloc: Global, bytes: &[u8], w: usize, h: usize, n: usize) -> Mem<Vec<u8>>
     requires count { length bytes.now ≡ w * h }
     requires passes { 0 < n }
@@ -104,7 +104,7 @@ fn softened_bytes(alloc: Global, bytes: &[u8], w: usize, h: usize, n: usize) -> 
     ensures softened { IfOk result (λ v. (f : ℤ → ℤ → ℕ) (x y : ℤ) → Shows f x y w h bytes.now
         → Shows (softened n f) (x -ℤ pos n) (y -ℤ pos n) (w + 2 * n) (h + 2 * n) v.items) }
 {
-    if n == 1 || w < 14 {
+    if w < 14 {
         softened_rows(alloc, bytes, w, h, n)
     } else {
         softened_strips(alloc, bytes, w, h, n)

@@ -1,7 +1,7 @@
 //! Softening along strips of 16 columns.
 
-ghost use Rattle.std.specs.Prelude.{◌≡◌, ℕ, ℤ, pos, ◌≤◌, ◌<◌, ◌+◌, ◌*◌, ◌/◌, ◌^◌, ◌-ℤ◌, ◌⊎◌, length, slice_index, IfOk};
-ghost use Rattle.mask_blur.specs.Frames.{IsFramed};
+ghost use Rattle.std.specs.Prelude.{◌≡◌, ℕ, ℤ, pos, ◌≤◌, ◌<◌, ◌+◌, ◌*◌, ◌/◌, ◌^◌, ◌-ℤ◌, ◌⊎◌, List, length, slice_index, IfOk};
+ghost use Rattle.mask_blur.specs.Frames.{IsFramed, IsSoftenedTo};
 ghost use Rattle.mask_blur.specs.Shown.{Shows, IsCellAt};
 ghost use Rattle.mask_blur.specs.Softening.{softer, softened};
 
@@ -34,7 +34,28 @@ fn soften_part(to: &mut [u8], last: &mut [u16], both: &mut [u16], left: &[u8], m
     }
 }
 
-/// One pass over 16 columns from column `at` on of `h` rows of `w` bytes, but for the frame of `m`.
+/// Row `k` of a pass over 16 columns from column `at` on.
+fn soften_step(to: &mut [u8], from: &[u8], last: &mut [u16], both: &mut [u16], w: usize, k: usize, at: usize)
+    requires columns { at + 16 ≤ w }
+    requires from { (k + 3) * w ≤ length from.now }
+    requires to { (k + 1) * w ≤ length to.old }
+    requires last { length last.old ≡ 16 }
+    requires both { length both.old ≡ 16 }
+    requires last_small { (b : ℕ) → b < 16 → slice_index last.old b ≤ 1020 }
+    requires both_small { (b : ℕ) → b < 16 → slice_index both.old b ≤ 2048 }
+    ensures last_small { (b : ℕ) → b < 16 → slice_index last.new b ≤ 1020 }
+    ensures both_small { (b : ℕ) → b < 16 → slice_index both.new b ≤ 2048 }
+    ensures softened { (h m : ℕ) (before : List ℕ) → IsFramed w h (m + 1) from.now → m ≤ k → k + 2 < h
+        → IsSoftenedTo w h m at k from.now before to.old last.old both.old → IsSoftenedTo w h m at (k + 1) from.now before to.new last.new both.new }
+{
+    let start = k * w + at;
+    let left = part_at(from, start + w - 1);
+    let middle = part_at(from, start + w);
+    let right = part_at(from, start + w + 1);
+    soften_part(&mut to[start..start + 16], last, both, &left, &middle, &right);
+}
+
+/// One pass over 16 columns from column `at` on of `h` rows of `w` bytes, but for the frame of `m`. Two rows a turn spare copies of the sums.
 fn soften_strip(to: &mut [u8], from: &[u8], w: usize, h: usize, m: usize, at: usize)
     requires height { 2 * m + 4 ≤ h }
     requires columns { at + 16 ≤ w }
@@ -46,12 +67,14 @@ fn soften_strip(to: &mut [u8], from: &[u8], w: usize, h: usize, m: usize, at: us
 {
     let mut last = [0u16; 16];
     let mut both = [8u16; 16];
-    for k in m..h - m - 2 {
-        let start = k * w + at;
-        let left = part_at(from, start + w - 1);
-        let middle = part_at(from, start + w);
-        let right = part_at(from, start + w + 1);
-        soften_part(&mut to[start..start + 16], &mut last, &mut both, &left, &middle, &right);
+    let rows = h - 2 * m - 2;
+    for q in 0..rows / 2 {
+        let k = m + 2 * q;
+        soften_step(to, from, &mut last, &mut both, w, k, at);
+        soften_step(to, from, &mut last, &mut both, w, k + 1, at);
+    }
+    if rows % 2 == 1 {
+        soften_step(to, from, &mut last, &mut both, w, m + rows - 1, at);
     }
 }
 
