@@ -1,5 +1,5 @@
 -- Pictures whose bytes are 0 all around.
-use Rattle.std.proofs.Common.{◌≡◌, ℕ, ◌+◌, ◌-◌, ◌*◌, ◌/◌, ◌<◌, ◌≤◌, ◌⊎◌, inl, inr, ℤ, pos, ◌+ℤ◌, ◌-ℤ◌, ◌<ℤ◌, ◌≤ℤ◌, List, length, get_or, take, replicate, refl, sym, ap, ◌∙◌, arith}
+use Rattle.std.proofs.Common.{◌≡◌, ℕ, ◌+◌, ◌-◌, ◌*◌, ◌/◌, ◌<◌, ◌≤◌, ◌⊎◌, inl, inr, ℤ, pos, ◌+ℤ◌, ◌-ℤ◌, ◌<ℤ◌, ◌≤ℤ◌, List, get_or, take, replicate, refl, sym, ap, ◌∙◌, arith}
 use Rattle.std.proofs.lemmas.Bool.{cases_lt}
 use Rattle.std.proofs.lemmas.Int.{ints, by_lt_z}
 use Rattle.std.proofs.lemmas.List.{get_or-take, get_or-replicate}
@@ -9,6 +9,13 @@ use Rattle.mask_blur.specs.Shown.{IsBoxed, Shows}
 use Rattle.mask_blur.specs.Softening.{neighbour_sum, softer}
 use Rattle.mask_blur.proofs.GrowthLemmas.{place_of}
 use Rattle.mask_blur.proofs.ShownLemmas.{softer_boxed}
+
+-- what holds at each of four sides
+by_side : {A B C D P : Type 0} → A ⊎ B ⊎ C ⊎ D → (A → P) → (B → P) → (C → P) → (D → P) → P
+by_side (inl p) a b c d = a p
+by_side (inr (inl p)) a b c d = b p
+by_side (inr (inr (inl p))) a b c d = c p
+by_side (inr (inr (inr p))) a b c d = d p
 
 -- where a frame of the plane lies
 abbrev pub IsOutward : (x y : ℤ) (w h m : ℕ) (u v : ℤ) → Type 0
@@ -34,12 +41,11 @@ framed_zero f x y w h m bytes shows framed u v out =
         let j = row.0 in
         let i_less : i < w = omega (arith, ints, column.1) in
         let j_less : j < h = omega (arith, ints, row.1) in
-        let there : IsInFrame w h m i j = elim out [
-          | inl a ↦ inl (omega (arith, ints, column.1))
-          | inr (inl a) ↦ inr (inl (omega (arith, ints, column.1)))
-          | inr (inr (inl a)) ↦ inr (inr (inl (omega (arith, ints, row.1))))
-          | inr (inr (inr a)) ↦ inr (inr (inr (omega (arith, ints, row.1))))
-        ] in
+        let there : IsInFrame w h m i j = by_side out
+        (λ (a : u <ℤ (x +ℤ pos m)). inl (omega (arith, ints, column.1)))
+        (λ (a : (x +ℤ pos w) ≤ℤ (u +ℤ pos m)). inr (inl (omega (arith, ints, column.1))))
+        (λ (a : v <ℤ (y +ℤ pos m)). inr (inr (inl (omega (arith, ints, row.1)))))
+        (λ (a : (y +ℤ pos h) ≤ℤ (v +ℤ pos (m + 2))). inr (inr (inr (omega (arith, ints, row.1))))) in
         rw (column.1, row.1) (sym (shows.inside.cells i j i_less j_less) ∙ framed i j i_less j_less there)
 
 framed_boxed : (f : ℤ → ℤ → ℕ) (x y : ℤ) (w h m : ℕ) (bytes : List ℕ) → Shows f x y w h bytes → IsFramed w h m bytes
@@ -62,12 +68,11 @@ pub softer_zero : (f : ℤ → ℤ → ℕ) (x y : ℤ) (w h m : ℕ) (bytes : L
     → Shows f x y w h bytes → IsFramed w h (m + 1) bytes → (u v : ℤ) → IsOutward x y w h m u v → softer f u v ≡ 0
 softer_zero f x y w h m bytes wide high shows framed u v out =
     let boxed = softer_boxed f (x +ℤ pos (m + 1)) (y +ℤ pos (m + 1)) (w - 2 * (m + 1)) (h - (2 * (m + 1) + 2)) (framed_boxed f x y w h (m + 1) bytes shows framed) in
-    elim out [
-      | inl a ↦ (boxed.rows v).before u (omega (arith, ints, a))
-      | inr (inl a) ↦ (boxed.rows v).behind u (omega (arith, ints, a, wide))
-      | inr (inr (inl a)) ↦ (boxed.columns u).before v (omega (arith, ints, a))
-      | inr (inr (inr a)) ↦ (boxed.columns u).behind v (omega (arith, ints, a, high))
-    ]
+    by_side out
+    (λ (a : u <ℤ (x +ℤ pos m)). (boxed.rows v).before u (omega (arith, ints)))
+    (λ (a : (x +ℤ pos w) ≤ℤ (u +ℤ pos m)). (boxed.rows v).behind u (omega (arith, ints)))
+    (λ (a : v <ℤ (y +ℤ pos m)). (boxed.columns u).before v (omega (arith, ints)))
+    (λ (a : (y +ℤ pos h) ≤ℤ (v +ℤ pos (m + 2))). (boxed.columns u).behind v (omega (arith, ints)))
 
 -- the softer picture is 0 outside the box
 pub softer_within : (f : ℤ → ℤ → ℕ) (x y : ℤ) (w h m : ℕ) (bytes : List ℕ) → 2 * (m + 1) ≤ w → 2 * m + 4 ≤ h
@@ -87,12 +92,11 @@ softer_within f x y w h m bytes wide high shows framed =
 
 -- a place of the frame lies outward
 pub outward : (x y : ℤ) (w h m i j : ℕ) → IsInFrame w h m i j → IsOutward x y w h m (x +ℤ pos i) (y +ℤ pos j)
-outward x y w h m i j place = elim place [
-  | inl a ↦ inl (omega (arith, ints, a))
-  | inr (inl a) ↦ inr (inl (omega (arith, ints, a)))
-  | inr (inr (inl a)) ↦ inr (inr (inl (omega (arith, ints, a))))
-  | inr (inr (inr a)) ↦ inr (inr (inr (omega (arith, ints, a))))
-]
+outward x y w h m i j place = by_side place
+    (λ (a : i < m). inl (omega (arith, ints)))
+    (λ (a : w ≤ i + m). inr (inl (omega (arith, ints))))
+    (λ (a : j < m). inr (inr (inl (omega (arith, ints)))))
+    (λ (a : h ≤ j + m + 2). inr (inr (inr (omega (arith, ints)))))
 
 -- a wider frame
 pub framed_more : (w h m n : ℕ) (bytes : List ℕ) → m ≤ n → IsFramed w h n bytes → IsFramed w h m bytes
@@ -185,8 +189,8 @@ shows_cut f x y w h n bytes count shows framed =
     record {
       inside = record {
         cells = λ i j i_less j_less.
-        let rows : (j + 1) * w ≤ h * w = mul-le (j + 1) w h w (omega arith) (omega arith) in
-        get_or-take n bytes (j * w + i) 0 (omega (arith, rows, count)) ∙ shows.inside.cells i j i_less (omega arith);
+            let rows : (j + 1) * w ≤ h * w = mul-le (j + 1) w h w (omega arith) (omega arith) in
+            get_or-take n bytes (j * w + i) 0 (omega (arith, rows, count)) ∙ shows.inside.cells i j i_less (omega arith);
       };
       outside = record {
         rows = shows.outside.rows;
@@ -222,8 +226,10 @@ shown_widely f x y w h n bytes before to shows zeros put = record {
         let column : x +ℤ pos b ≡ (x -ℤ pos n) +ℤ pos (n + b) = omega (arith, ints) in
         let row : y +ℤ pos a ≡ (y -ℤ pos n) +ℤ pos (n + a) = omega (arith, ints) in
         shows.inside.cells b a b_less a_less ∙ (ap (λ u. f u (y +ℤ pos a)) column ∙ ap (λ v. f ((x -ℤ pos n) +ℤ pos (n + b)) v) row)
+
     zero : (i j : ℕ) → f ((x -ℤ pos n) +ℤ pos i) ((y -ℤ pos n) +ℤ pos j) ≡ 0 → get_or before (j * (w + 2 * n) + i) 0 ≡ f ((x -ℤ pos n) +ℤ pos i) ((y -ℤ pos n) +ℤ pos j)
     zero i j none = zeros (j * (w + 2 * n) + i) ∙ sym none
+
     place : (i j : ℕ) → ((n ≤ j) × (j < n + h) × (n ≤ i) × (i < n + w)) ⊎ (get_or before (j * (w + 2 * n) + i) 0 ≡ f ((x -ℤ pos n) +ℤ pos i) ((y -ℤ pos n) +ℤ pos j))
     place i j = elim (cases_lt j n) [
       | inl above ↦ inr (zero i j ((shows.outside.columns ((x -ℤ pos n) +ℤ pos i)).before ((y -ℤ pos n) +ℤ pos j) (omega (arith, ints, above))))
@@ -258,10 +264,10 @@ pub softened_start_row : (w h m at k : ℕ) (from to : List ℕ) → k ≡ m →
     → IsSoftenedTo w h m at k from to to (replicate 16 0) (replicate 16 8)
 softened_start_row w h m at k from to is framed = record {
   cells = λ f x y shows j i i_less known. elim known [ inl t ↦ absurd (omega (arith, is, t.0, t.1)) | inr o ↦ o ];
-  last_sums = λ f x y shows b l. omega (arith, get_or-replicate 16 b 0 0 l, none f x y shows (x +ℤ pos (at + b)) (y +ℤ pos k) (omega (arith, ints, is)));
+  last_sums = λ f x y shows b l. omega (arith, get_or-replicate {A = ℕ} 16 b 0 0 l, none f x y shows (x +ℤ pos (at + b)) (y +ℤ pos k) (omega (arith, ints, is)));
   both_sums = λ f x y shows b l. omega (
     arith,
-    get_or-replicate 16 b 8 0 l,
+    get_or-replicate {A = ℕ} 16 b 8 0 l,
     none f x y shows (x +ℤ pos (at + b)) (y +ℤ pos k) (omega (arith, ints, is)),
     none f x y shows (x +ℤ pos (at + b)) ((y +ℤ pos k) -ℤ pos 1) (omega (arith, ints, is)),
   );

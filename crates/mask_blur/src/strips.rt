@@ -12,7 +12,14 @@ use std::mem::swap;
 
 /// A part of a row, by the sums 1 2 1 of the row above and, with 8 in them, those of the row above that one and of this one. The sums move down by a row;
 /// those that enter are of three parts of the row below, beside one another.
-fn soften_part(to: &mut [u8], last: &mut [u16], both: &mut [u16], left: &[u8], middle: &[u8], right: &[u8])
+fn soften_part(
+    to: &mut [u8],
+    last: &mut [u16],
+    both: &mut [u16],
+    left: &[u8],
+    middle: &[u8],
+    right: &[u8],
+)
     requires last { length last.old ≡ length to.old }
     requires both { length both.old ≡ length to.old }
     requires left { length left.now ≡ length to.old }
@@ -35,7 +42,15 @@ fn soften_part(to: &mut [u8], last: &mut [u16], both: &mut [u16], left: &[u8], m
 }
 
 /// Row `k` of a pass over 16 columns from column `at` on.
-fn soften_step(to: &mut [u8], from: &[u8], last: &mut [u16], both: &mut [u16], w: usize, k: usize, at: usize)
+fn soften_step(
+    to: &mut [u8],
+    from: &[u8],
+    last: &mut [u16],
+    both: &mut [u16],
+    w: usize,
+    k: usize,
+    at: usize,
+)
     requires columns { at + 16 ≤ w }
     requires from { (k + 3) * w ≤ length from.now }
     requires to { (k + 1) * w ≤ length to.old }
@@ -52,7 +67,14 @@ fn soften_step(to: &mut [u8], from: &[u8], last: &mut [u16], both: &mut [u16], w
     let left = part_at(from, start + w - 1);
     let middle = part_at(from, start + w);
     let right = part_at(from, start + w + 1);
-    soften_part(&mut to[start..start + 16], last, both, &left, &middle, &right);
+    soften_part(
+        &mut to[start..start + 16],
+        last,
+        both,
+        &left,
+        &middle,
+        &right,
+    );
 }
 
 /// One pass over 16 columns from column `at` on of `h` rows of `w` bytes, but for the frame of `m`. Two rows a turn spare copies of the sums.

@@ -1,5 +1,4 @@
-use Rattle.std.proofs.Common.{◌≡◌, ℕ, ◌+◌, ◌-◌, ◌*◌, ◌<◌, ◌≤◌, ◌⊎◌, pos, ◌+ℤ◌, ◌-ℤ◌, inl, inr, refl, sym, length, get_or, ap, ◌∙◌, arith}
-use Rattle.std.proofs.lemmas.Int.{ints}
+use Rattle.std.proofs.Common.{◌≡◌, ◌+◌, ◌*◌, ◌≤◌, pos, inl, inr, refl, length, get_or, ap, ◌∙◌, arith}
 use Rattle.std.proofs.lemmas.List.Edits.{get_or-between}
 use Rattle.std.proofs.lemmas.Nat.{mul-le}
 use Rattle.ass_num.specs.Masks.{MaskValue, value_at}
@@ -29,9 +28,9 @@ loop-k-preserved c =
     let long : length row ≡ w = ap length c.copy_from_slice.ensures.after ∙ (length_part (k * w) (k * w + w) bytes there ∙ omega arith) in (
       length-put start _ c.loop-k.to row (omega (arith, fits)) (omega (arith, long)) ∙ c.loop-k.invariant.0,
       λ g is u v v_less known.
-      block-put g wide n n k w _ c.args.to.now c.loop-k.to row (omega arith) fits long (omega arith)
-      (λ b less. ap (λ xs. get_or xs b 0) c.copy_from_slice.ensures.after ∙ (get_or-between bytes (k * w) (k * w + w) b 0 (omega (arith, less)) ∙ is k b (omega arith) less))
-      (c.loop-k.invariant.1 g is) u v v_less known,
+          block-put g wide n n k w _ c.args.to.now c.loop-k.to row (omega arith) fits long (omega arith)
+          (λ b less. ap (λ xs. get_or xs b 0) c.copy_from_slice.ensures.after ∙ (get_or-between bytes (k * w) (k * w + w) b 0 (omega (arith, less)) ∙ is k b (omega arith) less))
+          (c.loop-k.invariant.1 g is) u v v_less known,
     )
 
 pub returns-clause-framed : goal.returns-clause-framed

@@ -1,4 +1,4 @@
-use Rattle.std.proofs.Common.{◌≡◌, ℕ, ◌+◌, ◌-◌, ◌*◌, ◌/◌, ◌<◌, ◌≤◌, pos, ◌+ℤ◌, length, sym, ◌∙◌, inl, inr, arith}
+use Rattle.std.proofs.Common.{◌+◌, ◌-◌, ◌*◌, ◌<◌, ◌≤◌, ◌⊎◌, pos, ◌+ℤ◌, sym, ◌∙◌, inl, inr, arith}
 use Rattle.std.proofs.lemmas.Bool.{cases_lt}
 use Rattle.ass_num.specs.Masks.{MaskValue, value_at}
 use Rattle.mask_blur.specs.Frames.{IsInFrame}
@@ -42,9 +42,9 @@ returns-clause-softer c = λ f x y shows.
     record {
       inside = record {
         cells = λ i j i_less j_less.
-        let place : (i < w - m - 16 + 16) ⊎ (w ≤ i + m) ⊎ (j < m) ⊎ (h ≤ j + m + 2) = elim (cases_lt (i + m) w) [ inl less ↦ inl (omega (arith, less, c.requires.columns)) | inr far ↦ inr (inl far) ] in
-        c.soften_strip-2.ensures f x y shows j i i_less
-        (strip_more w h m (w - m - 16) i j place
+            let place : (i < w - m - 16 + 16) ⊎ (w ≤ i + m) ⊎ (j < m) ⊎ (h ≤ j + m + 2) = elim (cases_lt (i + m) w) [ inl less ↦ inl (omega (arith, less, c.requires.columns)) | inr far ↦ inr (inl far) ] in
+            c.soften_strip-2.ensures f x y shows j i i_less
+            (strip_more w h m (w - m - 16) i j place
             (λ known. c.loop-q.invariant f x y shows j i i_less j_less (elim known [ inl less ↦ inl (omega (arith, less, c.requires.columns)) | inr side ↦ inr side ])));
       };
       outside = softer_within f x y w h m c.args.from.now (omega (arith, c.requires.columns)) c.requires.height shows c.requires.framed;

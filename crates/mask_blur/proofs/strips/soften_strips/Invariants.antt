@@ -1,4 +1,4 @@
-use Rattle.std.proofs.Common.{◌≡◌, ℕ, ◌+◌, ◌*◌, ◌<◌, ◌≤◌, ◌⊎◌, ℤ}
+use Rattle.std.proofs.Common.{ℕ, ◌+◌, ◌*◌, ◌<◌, ◌≤◌, ◌⊎◌, ℤ}
 use Rattle.mask_blur.specs.Shown.{Shows, IsCellAt}
 use Rattle.mask_blur.specs.Softening.{softer}
 use Rattle.mask_blur.proofs.strips.soften_strips.Given as goal
