@@ -13,6 +13,7 @@ fn font_told(alloc: Global, font: &Font) -> Mem<String> {
     shown(alloc, &(head, font.glyphs().first(), places))
 }
 
+/// What a font is read as, or why it is refused.
 pub fn told(alloc: Global, text: &str) -> Mem<String> {
     let text = text.replace(alloc, "/", "\n")?;
     if text.as_str().len() > 10_000 {

@@ -49,6 +49,7 @@ fn fade(alloc: Global, question: &str) -> Mem<String> {
     shown(alloc, &fade_at(&[a, b, c, t1, t2, t3, t4], t))
 }
 
+/// What a table of numbers asks of a text.
 pub fn told(alloc: Global, table: &str, question: &str) -> Mem<String> {
     match table {
         "millis" => shown(alloc, &read_milli(question.as_bytes())),

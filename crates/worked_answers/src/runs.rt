@@ -81,6 +81,7 @@ pub fn ran_told(alloc: Global, ran: &Ran) -> Mem<String> {
     shown(alloc, &(ran.exit, report, image))
 }
 
+/// What comes of a run over real files.
 pub fn told(lent: &impl Rt, rt: &HostRuntime, line: &str) -> Mem<String> {
     let ran = over_files(lent, rt, line)?;
     ran_told(rt.alloc(), &ran)

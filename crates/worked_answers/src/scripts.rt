@@ -11,6 +11,7 @@ fn script_told(alloc: Global, script: &Script) -> Mem<String> {
     shown(alloc, &(script.header(), counts, script.format()))
 }
 
+/// What a script is read as, or why it is refused.
 pub fn told(alloc: Global, text: &str) -> Mem<String> {
     let text = lines(alloc, text)?;
     match read_script(alloc, text.as_str().as_bytes()) {

@@ -24,6 +24,7 @@ fn over_text(lent: &impl Rt, rt: &HostRuntime, head: &str, question: &str) -> Re
     Ok(over_files(lent, rt, line)?)
 }
 
+/// What comes of a run over a script that a file begins.
 pub fn told(lent: &impl Rt, rt: &HostRuntime, head: &str, question: &str) -> Result<String, Fail> {
     let ran = over_text(lent, rt, head, question)?;
     Ok(ran_told(rt.alloc(), &ran)?)
