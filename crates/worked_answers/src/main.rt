@@ -9,6 +9,7 @@ mod events;
 mod faults;
 mod fonts;
 mod numbers;
+mod plains;
 mod regions;
 mod reports;
 mod rings;
@@ -52,6 +53,7 @@ fn call_answer(alloc: Global, table: &str, question: &str) -> Mem<String> {
         "edges" => edges::left(alloc, question),
         "regions" => regions::regions(alloc, question),
         "borders" => regions::border(alloc, question),
+        "plains" => plains::told(alloc, question),
         "generated" => reports::script(alloc, question),
         "reports" => reports::report(alloc, question),
         _ => text_answer(alloc, table, question),
