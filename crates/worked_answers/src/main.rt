@@ -82,25 +82,43 @@ fn answer(lent: &impl Rt, rt: &HostRuntime, table: &str, question: &str) -> Resu
     }
 }
 
-/// Prints the answer of a row, where it isn't the row's own.
-fn ask(lent: &impl Rt, rt: &HostRuntime, table: &str, row: &str) -> Result<(), Fail> {
-    let (question, wanted) = row.split_once(" => ").ok_or("no answer")?;
-    let found = answer(lent, rt, table, question)?;
-    if found.as_str() != wanted {
-        println!(rt; "{table}: {question} => {found}")?;
-    }
+/// Prints a question and its answer.
+fn tell(rt: &HostRuntime, table: &str, question: &str, found: &str) -> Result<(), Fail> {
+    println!(rt; "{table}: {question} => {found}")?;
     Ok(())
 }
 
-fn ask_all(lent: &impl Rt, rt: &HostRuntime, table: &str) -> Result<(), Fail> {
-    let rows = fs::read_to_string(rt, table)?;
+/// Prints the answer of a row, where it isn't the row's own.
+fn ask(lent: &impl Rt, rt: &HostRuntime, table: &str, row: &str) -> Result<(), Fail> {
+    let Some((question, wanted)) = row.split_once(" => ") else {
+        return tell(rt, table, row, "no answer");
+    };
+    let found = answer(lent, rt, table, question)?;
+    if found.as_str() == wanted {
+        return Ok(());
+    }
+    tell(rt, table, question, found.as_str())
+}
+
+/// Asks each row: how many there are.
+fn ask_rows(lent: &impl Rt, rt: &HostRuntime, table: &str, rows: &str) -> Result<u32, Fail> {
     let mut count = 0u32;
     for row in rows.lines() {
         ask(lent, rt, table, row)?;
         count = count.saturating_add(1);
     }
+    Ok(count)
+}
+
+fn tell_count(rt: &HostRuntime, table: &str, count: u32) -> Result<(), Fail> {
     println!(rt; "{table}: {count}")?;
     Ok(())
+}
+
+fn ask_all(lent: &impl Rt, rt: &HostRuntime, table: &str) -> Result<(), Fail> {
+    let rows = fs::read_to_string(rt, table)?;
+    let count = ask_rows(lent, rt, table, rows.as_str())?;
+    tell_count(rt, table, count)
 }
 
 fn main(rt: HostRuntime) -> Result<(), Fail> {

@@ -4,17 +4,29 @@ use crate::runs::{Ran, over_files, ran_told};
 use crate::scripts::long_script;
 use crate::telling::{lines, parted, shown};
 use ass_io::Rt;
+use ass_num::Mem;
 use bstr::BStr;
+use std::alloc::Global;
 use std::fs;
 use std::test::Fail;
 
+/// Writes the file of a script.
+fn write_file(rt: &HostRuntime, bytes: &[u8]) -> Result<(), Fail> {
+    fs::write(rt, "a.ass", bytes)?;
+    Ok(())
+}
+
+/// Adds lines that end at bars.
+fn add_lines(alloc: Global, text: &str, script: &mut String) -> Mem<()> {
+    let text = lines(alloc, text)?;
+    Ok(script.push_str(text.as_str())?)
+}
+
 /// Writes a script, which a file begins, and which ends with lines that end at bars.
 fn write_script(rt: &HostRuntime, head: &str, text: &str) -> Result<(), Fail> {
-    let text = lines(rt.alloc(), text)?;
     let mut script = fs::read_to_string(rt, head)?;
-    script.push_str(text.as_str())?;
-    fs::write(rt, "a.ass", script.as_str())?;
-    Ok(())
+    add_lines(rt.alloc(), text, &mut script)?;
+    write_file(rt, script.as_bytes())
 }
 
 /// A run over a script that a file begins: the words, a bar, and the rest of the script.
@@ -30,25 +42,29 @@ pub fn told(lent: &impl Rt, rt: &HostRuntime, head: &str, question: &str) -> Res
     Ok(ran_told(rt.alloc(), &ran)?)
 }
 
-/// Whether what was written is written again as the same bytes.
-fn is_kept(lent: &impl Rt, rt: &HostRuntime, ran: &Ran) -> Result<bool, Fail> {
-    fs::write(rt, "a.ass", ran.frames.bytes())?;
+/// Whether a run was done, and wrote these bytes.
+fn wrote(ran: &Ran, bytes: &[u8]) -> bool {
+    ran.exit == 0 && ran.frames.bytes() == bytes
+}
+
+/// Whether bytes are a script that is written again as the same bytes.
+fn is_kept(lent: &impl Rt, rt: &HostRuntime, bytes: &[u8]) -> Result<bool, Fail> {
+    write_file(rt, bytes)?;
     let again = over_files(lent, rt, "write a.ass")?;
-    Ok(again.exit == 0 && again.frames.bytes() == ran.frames.bytes())
+    Ok(wrote(&again, bytes))
 }
 
 /// What comes of writing a script, and whether what was written is written again as the same bytes.
 pub fn written(lent: &impl Rt, rt: &HostRuntime, question: &str) -> Result<String, Fail> {
     let ran = over_text(lent, rt, "none.ass", question)?;
-    let kept = is_kept(lent, rt, &ran)?;
+    let kept = is_kept(lent, rt, ran.frames.bytes())?;
     let (report, image) = (BStr::new(ran.report.bytes()), BStr::new(ran.frames.bytes()));
     Ok(shown(rt.alloc(), &(ran.exit, report, image, kept))?)
 }
 
 fn write_lines(rt: &HostRuntime, count: &str) -> Result<(), Fail> {
     let script = long_script(rt.alloc(), count)?;
-    fs::write(rt, "a.ass", script.as_str())?;
-    Ok(())
+    write_file(rt, script.as_bytes())
 }
 
 /// A check of a script of so many lines.
