@@ -4,7 +4,7 @@ ghost use Rattle.evict_core.specs.Machine.{max_budget};
 ghost use Rattle.world_answers.specs.Given.{AreInputs};
 
 use crate::inputs::Inputs;
-use crate::lines::{dot_inputs, lines_of};
+use crate::lines::{crowd_of, dot_inputs};
 use crate::moves::{Act, replies_of};
 use crate::watch::Watch;
 use std::alloc::{AllocError, Global};
@@ -27,9 +27,17 @@ impl Dice {
     }
 }
 
-// What an actor asks for, by a number.
+// The key that an actor asks for: each third is one of the others, beside the lines' own eight.
+fn key_of(n: u16) -> usize {
+    if n % 3 == 0 {
+        usize::from(8 + n / 3 % 24)
+    } else {
+        usize::from(n / 3 % 8)
+    }
+}
+
 fn ask_of(sort: u16, n: u16) -> Act {
-    let key = usize::from(n % 8);
+    let key = key_of(n);
     match sort {
         0 => Act::Outline(key),
         1 => Act::Mask(key),
@@ -48,7 +56,7 @@ fn act_of(sort: u16, n: u16) -> Act {
         15..=22 => Act::Unpin(usize::from(n % 4)),
         23..=26 => Act::Show,
         27..=38 => ask_of(sort % 8, n),
-        _ => Act::Limits(n),
+        _ => Act::Limits(n % 3, n / 3 % 4, n / 12 % 4, n % 256),
     }
 }
 
@@ -105,16 +113,13 @@ fn watched(alloc: Global, moves: &[(u32, Act)], replies: &[Reply]) -> Result<Wat
 }
 
 fn show_watch(rt: &HostRuntime, watch: &Watch) -> Result<(), Fail> {
-    let Watch {
-        shown,
-        wrong,
-        flying,
-        crowded,
-        ..
-    } = watch;
-    println!(rt;
-        "  {flying} flying, {crowded} crowded, {shown} shown, {wrong} of them others than without caches"
-    )?;
+    let flying = watch.flying > 0;
+    let crowded = watch.crowded > 0;
+    let evicted = watch.evicted > 0;
+    println!(rt; "  some flying: {flying}, crowded: {crowded}, evicted: {evicted}")?;
+    let shown = watch.shown > 0;
+    let wrong = watch.wrong;
+    println!(rt; "  some shown: {shown}, others than without caches: {wrong}")?;
     Ok(())
 }
 
@@ -135,8 +140,8 @@ fn play(
     let kept = without_idle(alloc, moves.as_slice(), replies.as_slice())?;
     let others = replies_of(alloc, inputs, budget, kept.as_slice())?;
     let same = told(alloc, replies.as_slice())? == told(alloc, others.as_slice())?;
-    let idle = moves.len().saturating_sub(kept.len());
-    println!(rt; "seed {seed}, budget {budget}: {idle} idle, the same without them: {same}")?;
+    let idle = kept.len() < moves.len();
+    println!(rt; "seed {seed}, budget {budget}: some idle: {idle}, the same without them: {same}")?;
     let watch = watched(alloc, moves.as_slice(), replies.as_slice())?;
     show_watch(rt, &watch)
 }
@@ -144,7 +149,7 @@ fn play(
 /// Plays with no budget, with room for 16 entries, and with ample room; and once more where shards get other limits.
 pub fn show(rt: &HostRuntime) -> Result<(), Fail> {
     let alloc = rt.alloc();
-    let lines = lines_of(alloc, &[0, 1, 2, 3, 4, 5])?;
+    let lines = crowd_of(alloc)?;
     let inputs = dot_inputs(alloc, lines.as_str(), 25)?;
     play(rt, &inputs, 7, false, 0)?;
     play(rt, &inputs, 7, false, 16_384)?;

@@ -39,6 +39,22 @@ pub fn dot_inputs(alloc: Global, lines: &str, t: u16) -> Result<Inputs, Fail>
     inputs_of(alloc, text.as_bytes(), font, Size { w: 4, h: 3 }, t)
 }
 
+// How many other lines there are.
+const OTHERS: u32 = 24;
+
+/// All lines, and others, which dots of other widths show at the instant of 25 milliseconds: their keys are in the way of those of the lines.
+pub fn crowd_of(alloc: Global) -> Result<String, Fail> {
+    let mut lines = lines_of(alloc, &[0, 1, 2, 3, 4, 5])?;
+    for i in 0..OTHERS {
+        let width = i.wrapping_mul(3).wrapping_add(10);
+        let line = format!(in alloc;
+            "Dialogue: 2,0:00:00.02,0:00:00.03,Default,,0,0,0,,{{\\pos(0,0)\\fscx{width}}}x\n"
+        )?;
+        lines.push_str(line.as_str())?;
+    }
+    Ok(lines)
+}
+
 /// Those of the lines whose numbers are wanted, in order.
 pub fn lines_of(alloc: Global, wanted: &[usize]) -> Result<String, Fail> {
     let mut lines = String::new(alloc);

@@ -19,6 +19,8 @@ pub struct Watch {
     pub wrong: u32,
     pub flying: u32,
     pub crowded: u32,
+    hit: Vec<(usize, usize)>,
+    pub evicted: u32,
 }
 
 // The lines that came after the last flush.
@@ -33,6 +35,16 @@ fn live_lines(alloc: Global, entries: &[Option<usize>]) -> Result<Vec<usize>, Al
     Ok(lines)
 }
 
+// The kind and the place of the key that an act asks for.
+fn asked_key(act: Act) -> Option<(usize, usize)> {
+    match act {
+        Act::Outline(i) => Some((0, i)),
+        Act::Mask(i) => Some((1, i)),
+        Act::Composite(i) => Some((2, i)),
+        _ => None,
+    }
+}
+
 impl Watch {
     /// Nothing came yet.
     pub fn new(alloc: Global) -> Watch {
@@ -43,6 +55,8 @@ impl Watch {
             wrong: 0,
             flying: 0,
             crowded: 0,
+            hit: Vec::new(alloc),
+            evicted: 0,
         }
     }
 
@@ -61,6 +75,21 @@ impl Watch {
         self.shown = self.shown.saturating_add(1);
         if !right {
             self.wrong = self.wrong.saturating_add(1);
+        }
+    }
+
+    fn add_hit(&mut self, act: Act) -> Result<(), AllocError> {
+        if let Some(key) = asked_key(act) {
+            self.hit.push(key)?;
+        }
+        Ok(())
+    }
+
+    fn add_claim(&mut self, act: Act) {
+        if let Some(key) = asked_key(act) {
+            if self.hit.contains(&key) {
+                self.evicted = self.evicted.saturating_add(1);
+            }
         }
     }
 
@@ -86,6 +115,8 @@ impl Watch {
     pub fn add(&mut self, alloc: Global, actor: u32, act: Act, reply: &Reply) -> Result<(), Fail> {
         match reply {
             Reply::Flushed(Flushed::Done(_)) => self.entries.push(None)?,
+            Reply::Hit => self.add_hit(act)?,
+            Reply::Claim => self.add_claim(act),
             Reply::Flying(_) => self.flying = self.flying.saturating_add(1),
             Reply::Crowded => self.crowded = self.crowded.saturating_add(1),
             Reply::Shown(n, pixels) => {
