@@ -180,8 +180,8 @@ fn play(
 /// Plays with no budget, with room for 16 entries, and with ample room; and once more where shards get other limits.
 pub fn show(rt: &HostRuntime) -> Result<(), Fail> {
     let inputs = crowd_inputs(rt.alloc())?;
-    play(rt, &inputs, 7, false, 0)?;
-    play(rt, &inputs, 7, false, 16_384)?;
-    play(rt, &inputs, 7, false, 67_108_864)?;
+    play(rt, &inputs, 20, false, 0)?;
+    play(rt, &inputs, 20, false, 16_384)?;
+    play(rt, &inputs, 20, false, 67_108_864)?;
     play(rt, &inputs, 8, true, 16_384)
 }

@@ -18,13 +18,13 @@ struct Asks {
     evicted: bool,
 }
 
-/// The lines and the flushes that came so far, and of each actor how many of them its last look saw, at which instant; how
-/// many pictures were shown, and how many of them were others than without caches; and what asks came to.
+/// The lines and the flushes that came so far, and of each actor how many of them its last look saw, at which instant; whether
+/// some picture wasn't black, and how many pictures were others than without caches; and what asks came to.
 #[derive(Drop)]
 pub struct Watch {
     entries: Vec<Option<usize>>,
     looks: BTreeMap<u32, (usize, u16)>,
-    shown: u32,
+    lit: bool,
     wrong: u32,
     asks: Asks,
 }
@@ -90,7 +90,7 @@ impl Watch {
         Watch {
             entries: Vec::new(alloc),
             looks: BTreeMap::new(alloc),
-            shown: 0,
+            lit: false,
             wrong: 0,
             asks,
         }
@@ -104,8 +104,10 @@ impl Watch {
         Ok(n == seen && pixels == wanted.as_slice())
     }
 
-    fn add_shown(&mut self, right: bool) {
-        self.shown = self.shown.saturating_add(1);
+    fn add_shown(&mut self, pixels: &[u8], right: bool) {
+        if pixels.iter().any(|byte| *byte != 0) {
+            self.lit = true;
+        }
         if !right {
             self.wrong = self.wrong.saturating_add(1);
         }
@@ -142,7 +144,7 @@ impl Watch {
             Reply::Flushed(Flushed::Done(_)) => self.entries.push(None)?,
             Reply::Shown(n, pixels) => {
                 let right = self.is_right(alloc, actor, *n, pixels.as_slice())?;
-                self.add_shown(right);
+                self.add_shown(pixels.as_slice(), right);
             }
             _ => self.add_told(actor, act, reply)?,
         }
@@ -157,12 +159,12 @@ impl Watch {
         Ok(())
     }
 
-    /// Prints what asks came to, and whether all pictures were right.
+    /// Prints what asks came to, and what was shown.
     pub fn show(&self, rt: &HostRuntime) -> Result<(), Fail> {
         self.show_asks(rt)?;
-        let shown = self.shown > 0;
+        let lit = self.lit;
         let wrong = self.wrong;
-        println!(rt; "  some shown: {shown}, others than without caches: {wrong}")?;
+        println!(rt; "  some shown not black: {lit}, not as without caches: {wrong}")?;
         Ok(())
     }
 }
