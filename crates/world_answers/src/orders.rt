@@ -4,7 +4,7 @@ ghost use Rattle.world_answers.specs.Given.{AreInputs};
 
 use crate::inputs::{Inputs, inputs_of};
 use crate::moves::{Act, replies_of};
-use crate::plain::picture;
+use crate::plain::{is_lit, picture};
 use ass_num::Size;
 use generated_script::{generated, grid_font};
 use std::alloc::{AllocError, Global};
@@ -72,7 +72,7 @@ fn generated_inputs(alloc: Global) -> Result<Inputs, Fail>
 pub fn show(rt: &HostRuntime) -> Result<(), Fail> {
     let inputs = generated_inputs(rt.alloc())?;
     let wanted = picture(rt.alloc(), &inputs, AT)?;
-    let (masks, lit) = (inputs.keys.len(), wanted.iter().any(|byte| *byte != 0));
+    let (masks, lit) = (inputs.keys.len(), is_lit(wanted.as_slice()));
     println!(rt; "{masks} masks, some pixels aren't black: {lit}")?;
     for step in [1, 7, 49] {
         show_order(rt, &inputs, step, wanted.as_slice())?;

@@ -38,3 +38,8 @@ pub fn picture(alloc: Global, inputs: &Inputs, t: u16) -> Result<Vec<u8>, Fail>
     let plan = plan_at(alloc, &inputs.script, &inputs.fonts, &inputs.size, t)?;
     painted(alloc, inputs, &plan)
 }
+
+/// Whether some pixel isn't black.
+pub fn is_lit(pixels: &[u8]) -> bool {
+    pixels.iter().any(|byte| *byte != 0)
+}

@@ -64,7 +64,10 @@ fn move_of(row: &str) -> Option<(u32, Act)> {
         number(words.next()),
         number(words.next()),
     ];
-    act_of(name, numbers).map(|act| (actor, act))
+    match act_of(name, numbers) {
+        Some(act) => Some((actor, act)),
+        None => None,
+    }
 }
 
 fn moves_of(alloc: Global, text: &str) -> Result<Vec<(u32, Act)>, Fail> {

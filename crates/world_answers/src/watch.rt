@@ -2,7 +2,7 @@
 
 use crate::lines::{dot_inputs, lines_of};
 use crate::moves::Act;
-use crate::plain::picture;
+use crate::plain::{is_lit, picture};
 use std::alloc::{AllocError, Global};
 use std::collections::BTreeMap;
 use std::test::Fail;
@@ -105,7 +105,7 @@ impl Watch {
     }
 
     fn add_shown(&mut self, pixels: &[u8], right: bool) {
-        if pixels.iter().any(|byte| *byte != 0) {
+        if is_lit(pixels) {
             self.lit = true;
         }
         if !right {
