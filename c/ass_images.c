@@ -60,7 +60,8 @@ static int32_t copy_list(vimalorua *handle, ass_images *images, size_t count, si
     return status;
 }
 
-int32_t ass_images_render(vimalorua *handle, ass_images *images, int64_t ms, uint32_t w, uint32_t h, int32_t *change, ASS_Image **list) {
+int32_t ass_images_render(vimalorua *handle, ass_images *images, int64_t ms, uint32_t w, uint32_t h, int32_t *change,
+                          ASS_Image **list) {
     size_t count = 0, bytes = 0;
     int32_t listed = VIMALORUA_OTHER_LIST;
     *list = NULL;

@@ -1,4 +1,5 @@
-/* Draws frames of a script in fonts, from one instant on, by a step, before another, as PPM images one behind the other:
+/* Draws frames of a script in fonts, from one instant on, by a step, before another, as PPM images one behind the
+ * other:
  *
  *   demo FROM TO STEP WxH SCRIPT FONT.. > frames.ppm
  *
@@ -20,8 +21,9 @@ static int draw_frame(vimalorua *handle, int64_t ms, uint32_t w, uint32_t h, uin
 int main(int argc, char **argv) {
     unsigned w, h;
     long long from, to, step;
-    if (argc < 7 || sscanf(argv[1], "%lld", &from) != 1 || sscanf(argv[2], "%lld", &to) != 1 || sscanf(argv[3], "%lld", &step) != 1 ||
-        step < 1 || sscanf(argv[4], "%ux%u", &w, &h) != 2 || w > 4096 || h > 4096) {
+    if (argc < 7 || sscanf(argv[1], "%lld", &from) != 1 || sscanf(argv[2], "%lld", &to) != 1 ||
+        sscanf(argv[3], "%lld", &step) != 1 || step < 1 || sscanf(argv[4], "%ux%u", &w, &h) != 2 || w > 4096 ||
+        h > 4096) {
         fprintf(stderr, "demo FROM TO STEP WxH SCRIPT FONT.. > frames.ppm\n");
         return 2;
     }

@@ -1,4 +1,5 @@
-/* The three functions by which the library gets its memory, over the C library's. A program may link others in their place. */
+/* The three functions by which the library gets its memory, over the C library's. A program may link others in their
+ * place. */
 #include <stdbool.h>
 #include <stddef.h>
 #include <stdlib.h>

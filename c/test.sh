@@ -1,6 +1,7 @@
 #!/usr/bin/env bash
-# Tests the library from C: the demo's frames beside those of `./vimalorua frame`, pictures beside their lists, by one thread and by four in
-# turn, every status, and every call for memory refused; plainly, and under the sanitizers where the compiler has them.
+# Tests the library from C: the demo's frames beside those of `./vimalorua frame`, pictures beside their lists, by one
+# thread and by four in turn, every status, and every call for memory refused; plainly, and under the sanitizers where
+# the compiler has them.
 #
 #   c/test.sh [ARCHIVE]     without it the archive that c/build.sh made
 set -euo pipefail
@@ -29,7 +30,8 @@ compile() { # KIND OBJECT FILE WORDS..
     local flags='-O2'
     [ "$1" = plain ] || flags="-g -O1 $sanitizers -fno-sanitize-recover=all"
     # shellcheck disable=SC2086
-    "$cc" $flags -std=c11 -D_POSIX_C_SOURCE=200809L -pedantic -Wall -Wextra -Wconversion -Werror "${@:4}" -c -o "$work/$1/$2" "$here/$3"
+    "$cc" $flags -std=c11 -D_POSIX_C_SOURCE=200809L -pedantic -Wall -Wextra -Wconversion -Werror "${@:4}" \
+        -c -o "$work/$1/$2" "$here/$3"
 }
 
 link() { # KIND PROGRAM OBJECT..
@@ -59,15 +61,52 @@ build() { # KIND
     link "$1" demo demo.o files.o heap.o
 }
 
+# The frames that the program draws, once for both kinds.
+wanted() { # FROM TO STEP WxH SCRIPT FONT
+    local ms into
+    into=$work/wanted-$(basename "$5").ppm
+    [ ! -f "$into" ] || return 0
+    for ((ms = $1; ms < $2; ms += $3)); do
+        "$top/vimalorua" frame --at "$ms" --size "$4" "${@:5}"
+    done > "$into"
+}
+
 # The demo's frames beside the program's, and pictures beside their lists.
 frames() { # KIND FROM TO STEP WxH SCRIPT FONT
-    local ms
+    wanted "${@:2}"
     "$work/$1/demo" "${@:2}" > "$work/demo.ppm"
-    for ((ms = $2; ms < $3; ms += $4)); do
-        "$top/vimalorua" frame --at "$ms" --size "$5" "${@:6}"
-    done > "$work/frame.ppm"
-    cmp "$work/demo.ppm" "$work/frame.ppm"
+    cmp "$work/demo.ppm" "$work/wanted-$(basename "$6").ppm"
     "$work/$1/pictures" "${@:2}"
+}
+
+# The lines of docs/EMBEDDING-C.md, in a program.
+from_page() {
+    # shellcheck disable=SC2016
+    sed -n '/^```c$/,/^```$/{/^```/d;p}' "$top/docs/EMBEDDING-C.md" > "$work/page.c"
+    cat >> "$work/page.c" << 'END'
+
+#include "files.h"
+#include <stdio.h>
+#include <stdlib.h>
+
+int main(int argc, char **argv) {
+    static uint8_t rgb[3 * 1280 * 720];
+    size_t script_len = 0, font_len = 0;
+    uint8_t *script = argc < 3 ? NULL : read_file(argv[1], &script_len);
+    uint8_t *font = argc < 3 ? NULL : read_file(argv[2], &font_len);
+    if (script == NULL || font == NULL || draw(script, script_len, font, font_len, 2500, rgb) != VIMALORUA_DONE)
+        return 1;
+    printf("P6\n1280 720\n255\n");
+    fwrite(rgb, 1, sizeof rgb, stdout);
+    free(script);
+    free(font);
+    return 0;
+}
+END
+    "$cc" -Wall -Wextra -Werror -I"$here" -o "$work/page" "$work/page.c" "$here"/{files,rattle_heap}.c "$archive"
+    "$work/page" "$top/examples/dialogue.ass" "$top/examples/subtitle.bdf" > "$work/page.ppm"
+    "$work/plain/demo" 2500 2501 1 1280x720 "$top/examples/dialogue.ass" "$top/examples/subtitle.bdf" > "$work/demo.ppm"
+    cmp "$work/page.ppm" "$work/demo.ppm"
 }
 
 # The header from C++, in a program that is linked.
@@ -95,12 +134,14 @@ for kind in $kinds; do
     build "$kind"
     "$work/$kind/errors"
     frames "$kind" 0 1 1 4x3 "$top/examples/row.ass" "$top/examples/dot.bdf"
-    frames "$kind" 0 2000 500 320x180 "$top/examples/hello.ass" "$top/examples/letter.bdf"
+    frames "$kind" 0 2000 1000 320x180 "$top/examples/hello.ass" "$top/examples/letter.bdf"
     for script in dialogue karaoke signs; do
-        frames "$kind" 1000 4000 500 320x180 "$top/examples/$script.ass" "$top/examples/subtitle.bdf"
+        frames "$kind" 1000 5000 1500 320x180 "$top/examples/$script.ass" "$top/examples/subtitle.bdf"
     done
     echo "test.sh: $kind passed"
 done
+from_page
+echo 'test.sh: the lines of docs/EMBEDDING-C.md passed'
 if command -v "${CXX:-c++}" > "$work/log"; then
     from_cxx "${CXX:-c++}"
     echo 'test.sh: C++ passed'

@@ -115,8 +115,8 @@ void ass_set_cache_limits(ASS_Renderer *renderer, int glyph_max, int bitmap_max_
     renderer->budget = bitmap_max_size > 0 ? (uint64_t)bitmap_max_size << 20 : DEFAULT_BUDGET;
 }
 
-void ass_set_fonts(ASS_Renderer *renderer, const char *default_font, const char *default_family, int provider, const char *config,
-                   int update) {
+void ass_set_fonts(ASS_Renderer *renderer, const char *default_font, const char *default_family, int provider,
+                   const char *config, int update) {
     size_t len = 0;
     (void)default_family;
     (void)provider;
@@ -193,7 +193,8 @@ void ass_process_chunk(ASS_Track *track, const char *data, int size, long long s
     size_t place = 0;
     if (track->handle == NULL || size < 0)
         return;
-    int32_t status = vimalorua_feed(track->handle, (const uint8_t *)data, (size_t)size, start, duration, &field, &place);
+    int32_t status =
+        vimalorua_feed(track->handle, (const uint8_t *)data, (size_t)size, start, duration, &field, &place);
     if (status != VIMALORUA_REPEATED && is_done(track->library, "a chunk", status))
         track->n_events++;
 }
@@ -212,7 +213,8 @@ static void make_ready(ASS_Renderer *renderer, ASS_Track *track) {
         const struct font *font = &library->fonts[track->fonts];
         is_done(library, "a font", vimalorua_add_font(track->handle, font->bytes, font->len, &place));
     }
-    if (track->budget != renderer->budget && is_done(library, "a budget", vimalorua_set_budget(track->handle, renderer->budget)))
+    if (track->budget != renderer->budget &&
+        is_done(library, "a budget", vimalorua_set_budget(track->handle, renderer->budget)))
         track->budget = renderer->budget;
 }
 

@@ -1,5 +1,5 @@
-/* Each status once, and each call for memory refused in turn. VIMALORUA_CLOSED alone can't come where the header is kept to. The heap and
- * ass_images.c are compiled as refusing.h says. */
+/* Each status once, and each call for memory refused in turn. VIMALORUA_CLOSED alone can't come where the header is
+ * kept to. The heap and ass_images.c are compiled as refusing.h says. */
 #include "../ass_images.h"
 #include "refusing.h"
 #include <limits.h>
@@ -13,9 +13,10 @@ static const char script[] = "[Script Info]\nPlayResX: 16\nPlayResY: 12\n[V4+ St
                              "Dialogue: 0,0:00:00.00,0:00:01.00,Default,,0,0,0,,{\\pos(4,8)}a\n";
 
 /* A font of one glyph, 8 by 8 pixels. */
-static const char font[] = "STARTFONT 2.1\nFONT dot\nSIZE 8 75 75\nFONTBOUNDINGBOX 8 8 0 0\nSTARTPROPERTIES 2\nFONT_ASCENT 8\n"
-                           "FONT_DESCENT 0\nENDPROPERTIES\nCHARS 1\nSTARTCHAR a\nENCODING 97\nSWIDTH 500 0\nDWIDTH 8 0\nBBX 8 8 0 0\n"
-                           "BITMAP\nFF\n81\n81\n81\n81\n81\n81\nFF\nENDCHAR\nENDFONT\n";
+static const char font[] =
+    "STARTFONT 2.1\nFONT dot\nSIZE 8 75 75\nFONTBOUNDINGBOX 8 8 0 0\nSTARTPROPERTIES 2\nFONT_ASCENT 8\n"
+    "FONT_DESCENT 0\nENDPROPERTIES\nCHARS 1\nSTARTCHAR a\nENCODING 97\nSWIDTH 500 0\nDWIDTH 8 0\nBBX 8 8 0 0\n"
+    "BITMAP\nFF\n81\n81\n81\n81\n81\n81\nFF\nENDCHAR\nENDFONT\n";
 
 static const char chunk[] = "7,1,Default,,0,0,0,,{\\fs4\\bord0\\shad0\\move(4,8,14,8)}a";
 
@@ -99,10 +100,12 @@ static void adding_fonts(void) {
 }
 
 /* Feeds a chunk that is refused. */
-static void refused_feed(vimalorua *handle, const char *bytes, int64_t start, int64_t duration, uint32_t which, size_t at) {
+static void refused_feed(vimalorua *handle, const char *bytes, int64_t start, int64_t duration, uint32_t which,
+                         size_t at) {
     uint32_t field = 77;
     size_t place = 77;
-    WANT(vimalorua_feed(handle, (const uint8_t *)bytes, strlen(bytes), start, duration, &field, &place), VIMALORUA_MALFORMED);
+    WANT(vimalorua_feed(handle, (const uint8_t *)bytes, strlen(bytes), start, duration, &field, &place),
+         VIMALORUA_MALFORMED);
     WANT(field, which);
     WANT(place, at);
 }
@@ -209,7 +212,8 @@ static char *repeated(const char *front, const char *middle, size_t count, const
     return text;
 }
 
-static void many_lines(const char *front, const char *middle, size_t count, const char *back, int32_t wanted, size_t most) {
+static void many_lines(const char *front, const char *middle, size_t count, const char *back, int32_t wanted,
+                       size_t most) {
     vimalorua *handle = NULL;
     size_t place = 77, len = 0;
     char *bytes = repeated(front, middle, count, back, &len);
@@ -220,8 +224,9 @@ static void many_lines(const char *front, const char *middle, size_t count, cons
 }
 
 static void many_glyphs(void) {
-    static const char head[] = "STARTFONT 2.1\nFONT dot\nSIZE 8 75 75\nFONTBOUNDINGBOX 8 8 0 0\nSTARTPROPERTIES 2\nFONT_ASCENT 8\n"
-                               "FONT_DESCENT 0\nENDPROPERTIES\nCHARS 131073\n";
+    static const char head[] =
+        "STARTFONT 2.1\nFONT dot\nSIZE 8 75 75\nFONTBOUNDINGBOX 8 8 0 0\nSTARTPROPERTIES 2\nFONT_ASCENT 8\n"
+        "FONT_DESCENT 0\nENDPROPERTIES\nCHARS 131073\n";
     static const char glyph[] = "STARTCHAR a\nENCODING -1\nSWIDTH 500 0\nDWIDTH 8 0\nBBX 0 0 0 0\nBITMAP\nENDCHAR\n";
     vimalorua *handle = opened();
     size_t place = 77, len = 0;
@@ -253,25 +258,26 @@ static void many_events(void) {
 static void limits(void) {
     many_lines("[Events]\n", "Dialogue: 0\n", 1000000, "", VIMALORUA_DONE, 0);
     many_lines("[Events]\n", "Dialogue: 0\n", 1000001, "", VIMALORUA_MANY_LINES, 1000000);
-    many_lines("[V4+ Styles]\nFormat: Name, Fontname\n", "Style: a,b\n", 10001, "[Events]\n", VIMALORUA_MANY_STYLES, 10000);
+    many_lines("[V4+ Styles]\nFormat: Name, Fontname\n", "Style: a,b\n", 10001, "[Events]\n", VIMALORUA_MANY_STYLES,
+               10000);
     many_glyphs();
     many_events();
 }
 
 /* Calls again where memory was refused, and wants that nothing had changed. Nothing is refused the second time. */
-#define AGAIN(call, unchanged)                     \
-    do {                                           \
-        int32_t status = (call);                   \
-        if (status == VIMALORUA_OUT_OF_MEMORY) {   \
-            refused = 1;                           \
-            WANT(unchanged, 1);                    \
-            status = (call);                       \
-        }                                          \
-        WANT(status, VIMALORUA_DONE);              \
+#define AGAIN(call, unchanged)                   \
+    do {                                         \
+        int32_t status = (call);                 \
+        if (status == VIMALORUA_OUT_OF_MEMORY) { \
+            refused = 1;                         \
+            WANT(unchanged, 1);                  \
+            status = (call);                     \
+        }                                        \
+        WANT(status, VIMALORUA_DONE);            \
     } while (0)
 
-/* A whole use of a handle, in which the call for memory after `n` others is refused: does one come? The picture is the same, and no block
- * is left. */
+/* A whole use of a handle, in which the call for memory after `n` others is refused: does one come? The picture is the
+ * same, and no block is left. */
 static int with_refusal(long n, const uint8_t *wanted) {
     static const uint8_t untouched[COUNT] = {0};
     int refused = 0;

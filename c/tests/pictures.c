@@ -1,5 +1,5 @@
-/* Frames, drawn and blended from their lists: both give the same bytes, each image lies in the frame, and the change that is told is the
- * one between the lists; by one thread, and then by four in turn.
+/* Frames, drawn and blended from their lists: both give the same bytes, each image lies in the frame, and the change
+ * that is told is the one between the lists; by one thread, and then by four in turn.
  *
  *   pictures FROM TO STEP WxH SCRIPT FONT.. */
 #include "../ass_images.h"
@@ -65,7 +65,8 @@ static void free_list(struct list *list) {
 }
 
 static int is_same_but_moved(const ASS_Image *a, const ASS_Image *b) {
-    return a->w == b->w && a->h == b->h && a->color == b->color && memcmp(a->bitmap, b->bitmap, (size_t)a->stride * (size_t)a->h) == 0;
+    return a->w == b->w && a->h == b->h && a->color == b->color &&
+           memcmp(a->bitmap, b->bitmap, (size_t)a->stride * (size_t)a->h) == 0;
 }
 
 static int32_t change_between(const struct list *a, const struct list *b) {
@@ -93,8 +94,8 @@ struct frames {
 static void look_at_nodes(const struct frames *frames, const struct list *list, long long ms) {
     for (size_t i = 0; i < list->count; i++) {
         const ASS_Image *node = &list->nodes[i];
-        if (node->w < 1 || node->h < 1 || node->dst_x < 0 || node->dst_y < 0 || (uint32_t)(node->dst_x + node->w) > frames->w ||
-            (uint32_t)(node->dst_y + node->h) > frames->h)
+        if (node->w < 1 || node->h < 1 || node->dst_x < 0 || node->dst_y < 0 ||
+            (uint32_t)(node->dst_x + node->w) > frames->w || (uint32_t)(node->dst_y + node->h) > frames->h)
             fail("an image lies outside of the frame", ms);
     }
 }

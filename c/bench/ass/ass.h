@@ -1,6 +1,6 @@
-/* The calls of libass's interface that a bench of it makes, over this library, so that one program measures both. It is no whole libass:
- * fonts are BDF files, given to ass_set_fonts or ass_add_font, and what isn't built is passed over. What fails is told to the callback of
- * ass_set_message_cb, at level 1. */
+/* The calls of libass's interface that a bench of it makes, over this library, so that one program measures both. It is
+ * no whole libass: fonts are BDF files, given to ass_set_fonts or ass_add_font, and what isn't built is passed over.
+ * What fails is told to the callback of ass_set_message_cb, at level 1. */
 #ifndef VIMALORUA_ASS_H
 #define VIMALORUA_ASS_H
 #include "../../ass_images.h"
@@ -26,7 +26,8 @@ enum { ASS_FONTPROVIDER_NONE = 0 };
 int ass_library_version(void);
 ASS_Library *ass_library_init(void);
 void ass_library_done(ASS_Library *library);
-void ass_set_message_cb(ASS_Library *library, void (*call)(int level, const char *format, va_list args, void *data), void *data);
+void ass_set_message_cb(ASS_Library *library, void (*call)(int level, const char *format, va_list args, void *data),
+                        void *data);
 void ass_add_font(ASS_Library *library, const char *name, const char *data, int size);
 
 ASS_Renderer *ass_renderer_init(ASS_Library *library);
@@ -37,8 +38,8 @@ void ass_set_storage_size(ASS_Renderer *renderer, int w, int h);
 /* bitmap_max_size is in MiB, for each of the three caches; 0 is 64. */
 void ass_set_cache_limits(ASS_Renderer *renderer, int glyph_max, int bitmap_max_size);
 
-void ass_set_fonts(ASS_Renderer *renderer, const char *default_font, const char *default_family, int provider, const char *config,
-                   int update);
+void ass_set_fonts(ASS_Renderer *renderer, const char *default_font, const char *default_family, int provider,
+                   const char *config, int update);
 
 ASS_Track *ass_new_track(ASS_Library *library);
 void ass_free_track(ASS_Track *track);
