@@ -123,3 +123,16 @@ tile-start xs w i j a b less =
     let row : (16 * b + a) / 16 ≡ b = omega arith in
     let place : j * w + i + (16 * b + a) / 16 * w + (16 * b + a) % 16 ≡ (j + b) * w + (i + a) = omega (arith, ap (λ z. z * w) row) in
     ap (λ z. get_or xs z 0) place
+
+-- sixteen bytes of a row more, in the columns from `at` on
+pub strip-put : (f : ℕ → ℕ → ℕ) (w at k n : ℕ) (before to row : List ℕ) → at + 16 ≤ w → k * w + at + 16 ≤ length to → length row ≡ 16 → n ≡ 16
+    → ((b : ℕ) → b < 16 → get_or row b 0 ≡ f k (at + b))
+    → ((u v : ℕ) → v < w → ((u < k) × (at ≤ v) × (v < at + 16)) ⊎ (get_or before (u * w + v) 0 ≡ f u v) → get_or to (u * w + v) 0 ≡ f u v)
+    → (u v : ℕ) → v < w → ((u < k + 1) × (at ≤ v) × (v < at + 16)) ⊎ (get_or before (u * w + v) 0 ≡ f u v)
+    → get_or (put_mid (k * w + at) n to row) (u * w + v) 0 ≡ f u v
+strip-put f w at k n before to row inside fits wide many is was u v v_less known =
+    let same : 0 + k ≡ k = omega arith in
+    let put = tile-put f w 0 at k n before to row inside (rw same fits) wide many (rw same is)
+    (λ p q q_less p_known. was p q q_less (elim p_known [ inl t ↦ inl (omega (arith, t.1), t.2, t.3) | inr o ↦ inr o ]))
+    u v v_less (elim known [ inl t ↦ inl (omega arith, omega (arith, t.0), t.1, t.2) | inr o ↦ inr o ]) in
+    rw same at put

@@ -15,3 +15,7 @@ pub record IsBoxed (f : ℤ → ℤ → ℕ) (x y : ℤ) (w h : ℕ) : Type 0 wh
 pub record Shows (f : ℤ → ℤ → ℕ) (x y : ℤ) (w h : ℕ) (bytes : List ℕ) : Type 0 where
   pub inside : HasMaskRows f x y w h bytes
   pub outside : IsBoxed f x y w h
+
+-- Place (i, j) of rows of w bytes has the value that lies so far from (x, y).
+abbrev pub IsCellAt : (f : ℤ → ℤ → ℕ) (x y : ℤ) (w : ℕ) (bytes : List ℕ) (i j : ℕ) → Type 0
+IsCellAt f x y w bytes i j = slice_index bytes (j * w + i) ≡ f (x +ℤ pos i) (y +ℤ pos j)

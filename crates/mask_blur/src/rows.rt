@@ -23,3 +23,22 @@ pub fn row_or_zeros<'a>(
     let start = (k - skip) * zeros.len();
     &bytes[start..start + zeros.len()]
 }
+
+/// Sixteen bytes, from place `at` on, of row `k - skip` of `h` rows of `w` bytes, or zeros where there is no such row.
+pub fn part_or_zeros(bytes: &[u8], w: usize, h: usize, k: usize, skip: usize, at: usize) -> [u8; 16]
+    requires rows { h * w ≤ length bytes.now }
+    requires columns { at + 16 ≤ w }
+    ensures { (f : ℤ → ℤ → ℕ) (x y : ℤ) → Shows f x y w h bytes.now
+        → (i : ℕ) → i < 16 → slice_index result i ≡ f (x +ℤ pos (at + i)) ((y +ℤ pos k) -ℤ pos skip) }
+{
+    let mut part = [0; 16];
+    if k < skip || h <= k - skip {
+        return part;
+    }
+    let start = (k - skip) * w + at;
+    // one by one: a copy of slices would test whether they overlap
+    for i in 0..16 {
+        part[i] = bytes[start + i];
+    }
+    part
+}

@@ -2,7 +2,7 @@ use Rattle.std.proofs.Common.{◌≡◌, ℕ, ◌+◌, ◌*◌, ◌<◌, ℤ, po
 use Rattle.ass_num.specs.Coverage.{sum_from}
 use Rattle.mask_blur.specs.Blur.{along_columns}
 use Rattle.mask_blur.specs.Shown.{Shows, HasMaskRows}
-use Rattle.mask_blur.proofs.columns.blur_columns.Given as goal
+use Rattle.mask_blur.proofs.columns.blur_few.Given as goal
 
 abbrev pub invariant-loop-k : goal.invariant-loop-k
 invariant-loop-k l = (f : ℤ → ℤ → ℕ) (x y : ℤ) → Shows f x y (length l.zeros) l.h l.from

@@ -9,7 +9,7 @@ use Rattle.mask_blur.proofs.MaskLemmas.{mask_shows}
 use Rattle.mask_blur.proofs.LineLemmas.{filled_with}
 use Rattle.mask_blur.proofs.PutLemmas.{length_part}
 use Rattle.mask_blur.proofs.ShownLemmas.{rows_none, rows_more, along_columns_boxed}
-use Rattle.mask_blur.proofs.columns.blur_columns.Goals as goal
+use Rattle.mask_blur.proofs.columns.blur_few.Goals as goal
 
 pub loop-k-init : goal.loop-k-init
 loop-k-init c = λ f x y shows.

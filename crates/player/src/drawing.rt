@@ -1,0 +1,46 @@
+//! Pictures.
+
+ghost use Rattle.std.specs.Prelude.{◌≡◌, ◌<◌, length, IfOk};
+ghost use Rattle.ass_num.specs.Limits.{IsFrameSize, IsWithin, max_instant};
+ghost use Rattle.mask_keys.specs.Keys.{IsValidPlan};
+ghost use Rattle.mask_model.specs.Outlines.{glyph_counts};
+ghost use Rattle.picture_plan.specs.Pictures.{AreDraws, IsPictureAt};
+
+use crate::player::Player;
+use ass_num::{Mem, Size};
+use blend::Canvas;
+use mask_keys::Plan;
+use picture_plan::{near_events_draw, plan};
+use std::alloc::Global;
+
+impl Player {
+    /// The draws of what the live events show at an instant.
+    pub(crate) fn plan_at(&self, alloc: Global, t: i64, size: &Size) -> Mem<Plan>
+        requires fonts { 0 < length self.now.fonts }
+        requires instant { IsWithin max_instant t }
+        requires size { IsFrameSize size.now }
+        ensures draws { IfOk result (λ plan. AreDraws self.now.script self.now.fonts self.now.track.events t size.now plan.draws) }
+        ensures valid { IfOk result (λ plan. IsValidPlan (glyph_counts self.now.fonts) plan.draws) }
+    {
+        near_events_draw();
+        let near = self.track.near(alloc, t)?;
+        plan(alloc, &self.script, &self.fonts, near.as_slice(), t, size)
+    }
+
+    /// The picture that the live events show at an instant, in milliseconds, in a frame of a size. Whatever the caches keep
+    /// and whatever was drawn before, it is the same.
+    pub fn draw(&mut self, alloc: Global, t: i64, size: &Size) -> Mem<Canvas>
+        requires fonts { 0 < length self.old.fonts }
+        requires instant { IsWithin max_instant t }
+        requires size { IsFrameSize size.now }
+        ensures picture { IfOk result (IsPictureAt self.old.script self.old.fonts self.old.track.events t size.now) }
+        ensures width { IfOk result (λ canvas. canvas.w ≡ size.now.w) }
+        ensures height { IfOk result (λ canvas. canvas.h ≡ size.now.h) }
+        ensures same { self.new ≡ self.old }
+    {
+        let plan = self.plan_at(alloc, t, size)?;
+        let mut canvas = Canvas::new(alloc, size)?;
+        self.alone.paint(alloc, &plan, &mut canvas)?;
+        Ok(canvas)
+    }
+}

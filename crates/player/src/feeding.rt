@@ -1,0 +1,51 @@
+//! What a player's track is fed, and flushing it.
+
+ghost use Rattle.std.specs.Prelude.{◌≡◌, ◌≤◌, length, fold, OnOk, OnErr};
+ghost use Rattle.alone_track.specs.Feeding.{AreFrontOffered, IsChunkOffered, IsFlushedAlone, with_offer};
+ghost use Rattle.ass_events.specs.Events.{event_of};
+ghost use Rattle.ass_num.specs.Limits.{max_text_bytes};
+ghost use Rattle.script_events.specs.ScriptEvents.{line_events};
+
+use crate::player::Player;
+use ass_num::Mem;
+use std::alloc::Global;
+use track_history::{Feed, Flushed};
+
+impl Player {
+    /// Offers the event of a chunk, with its time in milliseconds beside it (`ass_process_chunk` in libass `ass.h`). Only
+    /// `Accepted` changes anything: the event is the last of the live ones then. A chunk has at most 134,217,728 bytes.
+    pub fn feed(&mut self, alloc: Global, chunk: &[u8], start: i64, duration: i64) -> Feed
+        requires { length chunk.now ≤ max_text_bytes }
+        ensures fed { IsChunkOffered (event_of chunk.now start duration) self.old.track self.new.track result }
+        ensures same { self.new ≡ record self.old { track = self.new.track } }
+    {
+        self.track.feed(alloc, chunk, start, duration)
+    }
+
+    /// Offers the events of the script's Dialogue lines, in order: each has the place of its line as its ReadOrder
+    /// (`ass_read_memory` in libass `ass.h`). Lines that give no event are passed over. For want of memory some of the
+    /// events were offered, from the first on.
+    pub fn feed_lines(&mut self, alloc: Global) -> Mem<()>
+        ensures ok { OnOk result (self.new.track ≡ fold with_offer self.old.track (line_events self.old.script)) }
+        ensures err { OnErr result (AreFrontOffered (line_events self.old.script) self.old.track self.new.track) }
+        ensures same { self.new ≡ record self.old { track = self.new.track } }
+    {
+        self.track.feed_lines(alloc, &self.script)
+    }
+
+    /// Drops all live events, unless there were a million flushes (`ass_flush_events` in libass `ass.h`). It takes no
+    /// memory.
+    pub fn flush(&mut self) -> Flushed
+        ensures flushed { IsFlushedAlone self.old.track self.new.track result }
+        ensures same { self.new ≡ record self.old { track = self.new.track } }
+    {
+        self.track.flush()
+    }
+
+    /// How many entries the track's history has.
+    pub fn entries(&self) -> usize
+        ensures { result ≡ self.now.track.entries }
+    {
+        self.track.entries()
+    }
+}

@@ -1,0 +1,104 @@
+//! Opening a player, its fonts and its budget.
+
+ghost use Rattle.std.specs.Prelude.{◌≡◌, ◌≤◌, ◌<◌, ◌∷◌, ◌++◌, [], length, Ok, Err, IfOk, IfErr, OnOk, OnErr};
+ghost use Rattle.ass_num.specs.Limits.{max_file_bytes};
+ghost use Rattle.ass_script.specs.Ranges.{IsScript};
+ghost use Rattle.ass_script.specs.Scripts.{IsScriptAnswer, ScriptValue, script_of};
+ghost use Rattle.bdf_font.specs.Limits.{max_fonts};
+ghost use Rattle.bdf_font.specs.Ranges.{IsFont};
+ghost use Rattle.evict_core.specs.Machine.{max_budget};
+ghost use Rattle.player.specs.Players.{new_player};
+ghost use Rattle.script_events.specs.Laws.{HasShortLines};
+
+use crate::fonts::with_font;
+use crate::player::Player;
+use alone_caches::Alone;
+use alone_track::AloneTrack;
+use ass_num::{Items, Mem};
+use ass_script::{Script, ScriptRefusal, read_script};
+use bdf_font::{Font, FontSet};
+use script_events::lines_fit_their_text;
+use std::alloc::Global;
+use std::sync::Arc;
+
+impl Player {
+    /// A player of the script that bytes spell, at most 67,108,864 of them, without fonts and without events: the script's
+    /// own lines aren't fed yet (`ass_read_memory` in libass `ass.h`). Each of its three caches gets the whole budget, at
+    /// most 2^40.
+    pub fn open(alloc: Global, bytes: &[u8], budget: u64) -> Result<Player, ScriptRefusal>
+        requires bytes { length bytes.now ≤ max_file_bytes }
+        requires budget { budget ≤ max_budget }
+        ensures opened { IfOk result (λ player. (script : ScriptValue) × (script_of bytes.now ≡ Ok script) × (player ≡ new_player script budget)) }
+        ensures refused { IfErr result (λ refusal. IsScriptAnswer (Err refusal) (script_of bytes.now)) }
+    {
+        lines_fit_their_text();
+        let script = match read_script(alloc, bytes) {
+            Ok(script) => script,
+            Err(refusal) => return Err(refusal),
+        };
+        match Player::of_script(alloc, script, budget) {
+            Ok(player) => Ok(player),
+            Err(_) => Err(ScriptRefusal::OutOfMemory),
+        }
+    }
+
+    /// The same of a script that was read.
+    pub fn of_script(alloc: Global, script: Script, budget: u64) -> Mem<Player>
+        requires script { IsScript script }
+        requires short { HasShortLines script }
+        requires budget { budget ≤ max_budget }
+        ensures { IfOk result (λ player. player ≡ new_player script budget) }
+    {
+        let none = FontSet {
+            fonts: Items::new(alloc),
+        };
+        let fonts = Arc::new(alloc, none)?;
+        let shared = Arc::try_clone(&fonts)?;
+        let alone = Alone::open(alloc, shared, budget)?;
+        Ok(Player {
+            script,
+            fonts,
+            track: AloneTrack::new(alloc),
+            alone,
+            budget,
+            listed: None,
+            images: Vec::new(alloc),
+            bytes: 0,
+        })
+    }
+
+    /// How many fonts it has.
+    pub fn font_count(&self) -> usize
+        ensures { result ≡ length self.now.fonts }
+    {
+        self.fonts.fonts.len()
+    }
+
+    /// Puts a font behind the others, of which there are at most 63 (`ass_add_font` in libass `ass.h`). What the caches had
+    /// is dropped. An `Err` changes nothing.
+    pub fn add_font(&mut self, alloc: Global, font: Font) -> Mem<()>
+        requires font { IsFont font }
+        requires few { length self.old.fonts < max_fonts }
+        ensures ok { OnOk result (self.new ≡ record self.old { fonts = self.old.fonts ++ font ∷ [] }) }
+        ensures err { OnErr result (self.new ≡ self.old) }
+    {
+        let more = with_font(alloc, &self.fonts, font)?;
+        let fonts = Arc::new(alloc, more)?;
+        let shared = Arc::try_clone(&fonts)?;
+        let alone = Alone::open(alloc, shared, self.budget)?;
+        self.fonts = fonts;
+        self.alone = alone;
+        self.listed = None;
+        Ok(())
+    }
+
+    /// A new budget for each cache, at most 2^40 (`ass_set_cache_limits` in libass `ass.h`). As few entries are evicted as
+    /// it wants.
+    pub fn set_budget(&mut self, budget: u64)
+        requires { budget ≤ max_budget }
+        ensures { self.new ≡ record self.old { budget = budget } }
+    {
+        self.alone.set_budget(budget);
+        self.budget = budget;
+    }
+}
