@@ -6,3 +6,4 @@ pub mod MoreImages
 pub mod RunLemmas
 pub mod SettledFronts
 pub mod SelftestEnds
+pub mod WrittenRuns

@@ -54,7 +54,7 @@ refused_in (Ok inputs) = None
 refused_in (Err why) = Some why
 
 module _ (told : List ℕ → Told) (script : List ℕ) (fonts : List (List ℕ)) where
-  read_not_done : AreRead told script fonts (Err Done) → ⊥
+  pub read_not_done : AreRead told script fonts (Err Done) → ⊥
   read_not_done (inr (many, e)) = cc
   read_not_done (inl (few, inl asked)) = asked
   read_not_done (inl (few, inr (read, is, failed))) = failed.3 []

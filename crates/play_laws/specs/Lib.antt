@@ -3,3 +3,4 @@ pub mod Completeness
 pub mod Counts
 pub mod Fronts
 pub mod Selftests
+pub mod Writing

@@ -5,10 +5,12 @@ ghost use Rattle.play_laws.specs.Completeness.{PlaysAreDone};
 ghost use Rattle.play_laws.specs.Counts.{FedLinesAreCounted, RepeatsAreCounted};
 ghost use Rattle.play_laws.specs.Fronts.{FrontsAreOfPlays, FrontsGoOn, SettledFrontsAgree};
 ghost use Rattle.play_laws.specs.Selftests.{SelftestsAcceptAll, SelftestsAreDone};
+ghost use Rattle.play_laws.specs.Writing.{WrittenRunsShowTheSame};
 
 use generated_laws::generated_scripts_are_read;
 use input_files::files_decide;
 use picture_laws::one_picture;
+use written_pictures::rewritten_scripts_show_the_same;
 
 /// Two settled plays of the same script and fonts, at the same instants, as often and of the same size, put the same bytes: no number
 /// of feeders, renderers, lines of a batch, lines offered again, instants warmed ahead, bands or bytes of a budget changes one.
@@ -69,3 +71,11 @@ pub fn rounds_are_counted()
     ensures fed { FedLinesAreCounted }
     ensures repeated { RepeatsAreCounted }
 {}
+
+/// What a command `write` that is done has put is read as a script. It shows, at each instant that is so much later and so much
+/// earlier, what the script of the command shows at the old one, in whatever fonts and on a frame of whatever size.
+pub fn written_runs_show_the_same()
+    ensures { WrittenRunsShowTheSame }
+{
+    rewritten_scripts_show_the_same();
+}

@@ -1,10 +1,11 @@
 //! The laws that settled plays of the same files agree, and selftests of the same script; that a play whose files are right is
-//! done, and a selftest; that an early end is a front of whole times; and how many events rounds feed and repeat.
+//! done, and a selftest; that an early end is a front of whole times; how many events rounds feed and repeat; and what a
+//! script shows that was written again.
 #![tactic(auto)]
 
 mod laws;
 
 pub use laws::{
     fronts_go_on, plays_are_done, rounds_are_counted, selftests_agree, selftests_are_done,
-    settled_fronts_agree, settled_plays_agree, settled_runs_agree,
+    settled_fronts_agree, settled_plays_agree, settled_runs_agree, written_runs_show_the_same,
 };

@@ -1,3 +1,4 @@
 pub mod Views
 pub mod Moves
 pub mod Written
+pub mod Rewritten

@@ -6,6 +6,7 @@ use Rattle.std.proofs.lemmas.Int.{ints}
 use Rattle.std.proofs.lemmas.List.{get_or_default, length-map}
 use Rattle.std.proofs.lemmas.List.Elements.{All-contains, Contains-append_left, Contains-append_right, Contains-get_or}
 use Rattle.std.proofs.lemmas.Option.{slice_get-get_or}
+use Rattle.ass_num.specs.declared.size.Size.{Size}
 use Rattle.ass_script.specs.Fields.{usual_event_fields}
 use Rattle.ass_script.specs.Scripts.{ScriptValue}
 use Rattle.ass_script.specs.declared.lines.Version.TheVariants.{V4Plus}
@@ -13,6 +14,8 @@ use Rattle.ass_script.specs.declared.script.EventField.TheVariants as field
 use Rattle.ass_events.specs.Events.{event_of_line}
 use Rattle.ass_events.specs.Ranges.{IsEvent}
 use Rattle.ass_events.specs.declared.event.Event.{Event}
+use Rattle.bdf_font.specs.Fonts.{FontValue}
+use Rattle.blend.specs.Canvases.{CanvasValue}
 use Rattle.picture_plan.specs.Pictures.{IsPictureAt}
 use Rattle.picture_plan.proofs.ShownLemmas.{at_pairwise}
 use Rattle.script_events.specs.ScriptEvents.{first_events, line_events}
@@ -51,7 +54,7 @@ shift_corresponds by events = record {
   back = λ f g cf cg less. less;
 }
 
-ok_inside : {Value Cause : Type 0} (refusal : ℕ → Cause) (o : Option ℕ) (value other : Value) → option_map_or (λ order. Err (refusal order)) o (Ok value) ≡ Ok other → value ≡ other
+pub ok_inside : {Value Cause : Type 0} (refusal : ℕ → Cause) (o : Option ℕ) (value other : Value) → option_map_or (λ order. Err (refusal order)) o (Ok value) ≡ Ok other → value ≡ other
 ok_inside refusal None value other is = cc
 ok_inside refusal (Some order) value other is = absurd cc
 
@@ -145,13 +148,16 @@ module _ (script : ScriptValue) (events : List Event) (each : All IsEvent events
     back = λ f g cf cg less. under f.order g.order f g less (is_numbered g cg).0;
   }
 
+pub read_shows : EventsAreReadBack → (script : ScriptValue) (fonts : List FontValue) (events : List Event) (bytes : List ℕ) (t : ℤ) (size : Size) (canvas : CanvasValue)
+    → All IsEvent events → HaveAscendingOrders events → written script events ≡ Ok bytes → IsPictureAt script fonts events t size canvas
+    → IsPictureAt (script_read script events) fonts (line_events (script_read script events)) t size canvas
+read_shows law script fonts events bytes t size canvas each ascend is picture =
+    let read = script_read script events in
+    let now : t +ℤ pos 0 ≡ t = omega (arith, ints) in
+    subst (λ instant. IsPictureAt read fonts (line_events read) instant size canvas) now
+    (picture_forth (pos 0) events (line_events read) (event_at script events each ascend bytes is law) (read_corresponds script events each ascend bytes is law)
+    script (usual_event_fields V4Plus) (map spoken events) fonts t size canvas picture)
+
 pub pictures_are_read_back : ScriptsAreReadBack → EventsAreReadBack → PicturesAreReadBack
 pictures_are_read_back scripts law script fonts events bytes t size canvas spelled each ascend few is picture =
-    let read = script_read script events in
-    let now : t +ℤ pos 0 ≡ t = omega (arith, ints) in (
-      read,
-      scripts script events bytes spelled each few is,
-      subst (λ instant. IsPictureAt read fonts (line_events read) instant size canvas) now
-          (picture_forth (pos 0) events (line_events read) (event_at script events each ascend bytes is law) (read_corresponds script events each ascend bytes is law)
-          script (usual_event_fields V4Plus) (map spoken events) fonts t size canvas picture),
-    )
+    (script_read script events, scripts script events bytes spelled each few is, read_shows law script fonts events bytes t size canvas each ascend is picture)

@@ -1,0 +1,75 @@
+-- What a command `write` that is done has put.
+use Rattle.std.proofs.Common.{◌≡◌, ◌∙◌, inl, inr, refl, sym, ap, subst, ℕ, List, Some, None, Result, Ok, Err, ◌-ℤ◌}
+use Rattle.std.specs.Io.KnownBytes.{Appends}
+use Rattle.ass_events.specs.declared.event.Event.{Event}
+use Rattle.ass_io.specs.Fetched.{Held, Told}
+use Rattle.ass_script.specs.Scripts.{ScriptValue, script_of}
+use Rattle.ass_script.specs.declared.refusal.ScriptRefusal.{ScriptRefusal}
+use Rattle.frame_play.specs.Outcomes.{IsOrFault}
+use Rattle.frame_play.specs.Outputs.{IsFramesAsked, rewritten, sink_of, status_asked, written_with}
+use Rattle.frame_play.specs.Runs.{SinkChange}
+use Rattle.frame_play.specs.declared.work.Task.{Task}
+use Rattle.frame_play.specs.declared.work.Task.TheVariants.{Write}
+use Rattle.frame_play.specs.declared.work.WriteTask.{WriteTask}
+use Rattle.input_files.specs.Causes.{script_status, with_status}
+use Rattle.input_files.specs.Files.{AsksScript}
+use Rattle.input_files.specs.Inputs.{AreRead, IsScriptRead}
+use Rattle.input_files.specs.declared.inputs.Inputs.{Inputs}
+use Rattle.play_laws.proofs.RunLemmas.{read_not_done}
+use Rattle.play_laws.specs.Writing.{IsWrittenLater, WrittenRunsShowTheSame}
+use Rattle.run_status.specs.declared.status.Status.{Status}
+use Rattle.run_status.specs.declared.status.Status.TheVariants.{Done}
+use Rattle.script_events.specs.ScriptEvents.{line_events}
+use Rattle.track_write.specs.Shifts.{shifted}
+use Rattle.track_write.specs.Texts.{written}
+use Rattle.track_write.specs.declared.refusal.WriteRefusal.{WriteRefusal}
+use Rattle.written_pictures.specs.Laws.{AreReadLater, ReadScriptsAreReadLater}
+
+-- ---- the script that was read
+
+spelled_in : (answer : Result ScriptValue ScriptRefusal) (script : ScriptValue) → Ok script ≡ with_status script_status answer → answer ≡ Ok script
+spelled_in (Ok other) script e = let same : other ≡ script = cc in ap (λ (s : ScriptValue). Ok s) same
+spelled_in (Err refusal) script e = absurd cc
+
+-- some bytes spell it
+has_source : (name : List ℕ) (held : Held) (script : ScriptValue) → AsksScript name held (Ok script) → (source : List ℕ) × (script_of source ≡ Ok script)
+has_source name None script e = absurd cc
+has_source name (Some bytes) script (inl (small, e)) = (bytes, spelled_in (script_of bytes) script e)
+has_source name (Some bytes) script (inr (large, e)) = absurd cc
+
+script_is_read : (told : List ℕ → Told) (script : List ℕ) (fonts : List (List ℕ)) (inputs : Inputs) → AreRead told script fonts (Ok inputs) → IsScriptRead told script (Ok inputs.script)
+script_is_read told script fonts inputs (inl (few, read)) = read.0
+script_is_read told script fonts inputs (inr (many, e)) = absurd cc
+
+-- ---- what was put
+
+abbrev IsMovedAnd : ScriptValue → List ℕ → Result (List Event) WriteRefusal → Type 0
+IsMovedAnd script bytes answer = (moved : List Event) × (answer ≡ Ok moved) × (written script moved ≡ Ok bytes)
+
+moved_and : (script : ScriptValue) (bytes : List ℕ) (answer : Result (List Event) WriteRefusal) → written_with script answer ≡ Ok bytes → IsMovedAnd script bytes answer
+moved_and script bytes (Ok moved) e = (moved, refl, e)
+moved_and script bytes (Err refusal) e = absurd cc
+
+module _ (law : ReadScriptsAreReadLater) (told : List ℕ → Told) (name : List ℕ) (fonts : List (List ℕ)) (write : WriteTask) (frames : SinkChange) where
+  read_later : (script : ScriptValue) (bytes : List ℕ) → IsScriptRead told name (Ok script) → rewritten write script ≡ Ok bytes → AreReadLater (write.later -ℤ write.earlier) script bytes
+  read_later script bytes is_read is =
+      let source = has_source name is_read.0 script is_read.2 in
+      let both = moved_and script bytes (shifted write.later write.earlier (line_events script)) is in
+      law source.0 script write.later write.earlier both.0 bytes source.1 both.1 both.2
+
+  put_after : (reading : Result Inputs Status) (bytes : List ℕ) → AreRead told name fonts reading → IsOrFault (sink_of (Write write)) (status_asked (Write write) reading) Done
+      → IsFramesAsked (Write write) reading bytes → Appends frames.held_before frames.held_now bytes → IsWrittenLater told name write frames
+  put_after (Ok inputs) bytes read answered asked put =
+      let is_read = script_is_read told name fonts inputs read in
+      record { script = inputs.script; is_read = is_read; bytes = bytes; put = put; shows = read_later inputs.script bytes is_read asked }
+  put_after (Err refusal) bytes read (inl (inl is)) asked put =
+      absurd (read_not_done told name fonts (subst (λ (status : Status). AreRead told name fonts (Err status)) (sym is) read))
+  put_after (Err refusal) bytes read (inl (inr memory)) asked put = absurd cc
+  put_after (Err refusal) bytes read (inr (is, fault)) asked put = absurd cc
+
+pub written_runs : ReadScriptsAreReadLater → WrittenRunsShowTheSame
+written_runs law told work write frames report is run =
+    let asked : IsFramesAsked (Write write) run.reading run.shown.0 = subst (λ (task : Task). IsFramesAsked task run.reading run.shown.0) is run.shown.1 in
+    let answered : IsOrFault (sink_of (Write write)) (status_asked (Write write) run.reading) Done =
+    subst (λ (task : Task). IsOrFault (sink_of task) (status_asked task run.reading) Done) is run.answered in
+    put_after law told work.script work.fonts write frames run.reading run.shown.0 run.read answered asked run.shown.2

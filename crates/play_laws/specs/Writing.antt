@@ -1,0 +1,26 @@
+-- Public: what a command `write` that is done has put.
+use Rattle.std.specs.Prelude.{◌≡◌, List, ℕ, Ok, ◌-ℤ◌}
+use Rattle.std.specs.Io.KnownBytes.{Appends}
+use Rattle.ass_io.specs.Fetched.{Told}
+use Rattle.ass_script.specs.Scripts.{ScriptValue}
+use Rattle.frame_play.specs.Runs.{IsJobRun, SinkChange}
+use Rattle.frame_play.specs.declared.work.Task.TheVariants.{Write}
+use Rattle.frame_play.specs.declared.work.Work.{Work}
+use Rattle.frame_play.specs.declared.work.WriteTask.{WriteTask}
+use Rattle.input_files.specs.Inputs.{IsScriptRead}
+use Rattle.run_status.specs.declared.status.Status.TheVariants.{Done}
+use Rattle.written_pictures.specs.Laws.{AreReadLater}
+
+-- The script of the name was read, and the frames sink got a text that is read as a script: at each instant, so much later and so much earlier, it shows what the first one shows at the old one.
+pub record IsWrittenLater (told : List ℕ → Told) (name : List ℕ) (write : WriteTask) (frames : SinkChange) : Type 0 where
+  pub script : ScriptValue
+  pub is_read : IsScriptRead told name (Ok script)
+  pub bytes : List ℕ
+  pub put : Appends frames.held_before frames.held_now bytes
+  pub shows : AreReadLater (write.later -ℤ write.earlier) script bytes
+
+-- So does each run of such a command that is done.
+abbrev pub WrittenRunsShowTheSame : Type 0
+WrittenRunsShowTheSame =
+    (told : List ℕ → Told) (work : Work) (write : WriteTask) (frames report : SinkChange)
+    → work.task ≡ Write write → IsJobRun told work frames report Done → IsWrittenLater told work.script write frames

@@ -1,0 +1,4 @@
+pub mod NumberRanges
+pub mod StyleRanges
+pub mod TextCuts
+pub mod ReadScripts
