@@ -50,6 +50,10 @@ IsCall IsBad call status old new =
 abbrev pub IsNewHandle : List ℕ → ℕ → Handle → Type 0
 IsNewHandle bytes budget handle = (script : ScriptValue) × (script_of bytes ≡ Ok script) × (handle.value.player ≡ Some (new_player script budget))
 
+-- Why no handle is opened of bytes: memory is wanting, or they spell no script.
+abbrev pub IsScriptTold : List ℕ → Told → Type 0
+IsScriptTold bytes answer = (answer ≡ told out_of_memory_status 0) ⊎ ((refusal : ScriptRefusal) × (script_of bytes ≡ Err refusal) × (answer ≡ script_told refusal))
+
 pub record IsOpened (bytes : List ℕ) (budget : ℕ) (status : ℤ) (place : ℕ) : Type 0 where
   pub bad : (status ≡ bad_call_status) ↔ ((max_file_bytes < length bytes) ⊎ (max_budget < budget))
   pub opened : status ≡ done_status → (script : ScriptValue) × (script_of bytes ≡ Ok script)

@@ -6,7 +6,7 @@ ghost use Rattle.vimalorua_c.specs.Calls.{AreLinesFed, IsCall, IsChunkFed, IsFlu
 
 use crate::handle::Handle;
 use crate::status::{
-    BAD_CALL, CLOSED, DONE, OUT_OF_MEMORY, fed_field, feed_told, flush_told, told,
+    BAD_CALL, CLOSED, DONE, OUT_OF_MEMORY, fed_field, feed_told, flush_told, told_at,
 };
 use crate::taking::{put_back, take};
 use std::alloc::Global;
@@ -67,7 +67,7 @@ pub extern "C" fn vimalorua_feed(
             *field = fed_field(answer);
             feed_told(answer)
         }
-        None => told(CLOSED, 0),
+        None => told_at(CLOSED, 0),
     };
     put_back(handle, kept);
     *place = told.place;
@@ -86,7 +86,7 @@ pub extern "C" fn vimalorua_flush(alloc: Global, handle: &mut Handle, place: &mu
     let mut kept = kept;
     let told = match &mut kept.player {
         Some(player) => flush_told(player.flush()),
-        None => told(CLOSED, 0),
+        None => told_at(CLOSED, 0),
     };
     put_back(handle, kept);
     *place = told.place;

@@ -11,5 +11,3 @@ mod parts;
 mod ranges;
 mod status;
 mod taking;
-#[cfg(test)]
-mod tests;

@@ -1,16 +1,14 @@
 //! Opening and closing handles, their fonts and their budget.
 
-ghost use Rattle.std.specs.Prelude.{◌≡◌, ◌≢◌, ◌⊎◌, ◌≤◌, ◌<◌, length, Err, IfOk, IfErr};
+ghost use Rattle.std.specs.Prelude.{◌≡◌, ◌≢◌, ◌≤◌, ◌<◌, length, IfOk, IfErr};
 ghost use Rattle.ass_num.specs.Limits.{max_file_bytes};
-ghost use Rattle.ass_script.specs.Scripts.{script_of};
-ghost use Rattle.ass_script.specs.declared.refusal.ScriptRefusal.{ScriptRefusal};
 ghost use Rattle.evict_core.specs.Machine.{max_budget};
-ghost use Rattle.vimalorua_c.specs.Calls.{IsBudgetSet, IsCall, IsFontAdded, IsLongFile, IsNewHandle, IsOpened};
+ghost use Rattle.vimalorua_c.specs.Calls.{IsBudgetSet, IsCall, IsFontAdded, IsLongFile, IsNewHandle, IsOpened, IsScriptTold};
 ghost use Rattle.vimalorua_c.specs.Statuses as rule;
 
 use crate::handle::Handle;
 use crate::status::{
-    BAD_CALL, CLOSED, DONE, MANY_FONTS, OUT_OF_MEMORY, Told, font_told, script_told, told,
+    BAD_CALL, CLOSED, DONE, MANY_FONTS, OUT_OF_MEMORY, Told, font_told, script_told, told_at,
 };
 use crate::taking::{handle_of, put_back, take};
 use bdf_font::read_font;
@@ -37,21 +35,20 @@ pub(crate) fn opened(alloc: Global, script: &[u8], budget: u64) -> Result<Box<Ha
     requires script { length script.now ≤ max_file_bytes }
     requires budget { budget ≤ max_budget }
     ensures opened { IfOk result (λ handle. IsNewHandle script.now budget handle.value) }
-    ensures refused { IfErr result (λ t. (t ≡ rule.told rule.out_of_memory_status 0)
-        ⊎ ((refusal : ScriptRefusal) × (script_of script.now ≡ Err refusal) × (t ≡ rule.script_told refusal))) }
+    ensures refused { IfErr result (IsScriptTold script.now) }
 {
     let player = match Player::open(alloc, script, budget) {
         Ok(player) => player,
         Err(refusal) => return Err(script_told(refusal)),
     };
     let Ok(handle) = handle_of(alloc, Some(player)) else {
-        return Err(told(OUT_OF_MEMORY, 0));
+        return Err(told_at(OUT_OF_MEMORY, 0));
     };
     match Box::new(alloc, handle) {
         Ok(handle) => Ok(handle),
         Err(failed) => {
             drop(failed.value.into_box());
-            Err(told(OUT_OF_MEMORY, 0))
+            Err(told_at(OUT_OF_MEMORY, 0))
         }
     }
 }
@@ -91,15 +88,15 @@ fn font_added(alloc: Global, player: &mut Player, font: &[u8]) -> Told
 {
     let count = player.font_count();
     if count >= MAX_FONTS {
-        return told(MANY_FONTS, MAX_FONTS);
+        return told_at(MANY_FONTS, MAX_FONTS);
     }
     let font = match read_font(alloc, font) {
         Ok(font) => font,
         Err(refusal) => return font_told(refusal),
     };
     match player.add_font(alloc, font) {
-        Ok(()) => told(DONE, count),
-        Err(_) => told(OUT_OF_MEMORY, 0),
+        Ok(()) => told_at(DONE, count),
+        Err(_) => told_at(OUT_OF_MEMORY, 0),
     }
 }
 
@@ -123,7 +120,7 @@ pub extern "C" fn vimalorua_add_font(
     let mut kept = kept;
     let told = match &mut kept.player {
         Some(player) => font_added(alloc, player, font),
-        None => told(CLOSED, 0),
+        None => told_at(CLOSED, 0),
     };
     put_back(handle, kept);
     *place = told.place;

@@ -48,7 +48,7 @@ pub struct Told {
 }
 
 /// A status with its place.
-pub fn told(status: i32, place: usize) -> Told
+pub fn told_at(status: i32, place: usize) -> Told
     ensures { result ≡ record { status = status; place = place } }
 {
     Told { status, place }
@@ -59,11 +59,11 @@ pub fn script_told(refusal: ScriptRefusal) -> Told
     ensures { result ≡ rule.script_told refusal }
 {
     match refusal {
-        ScriptRefusal::NotUtf8(front) => told(NOT_UTF8, front),
-        ScriptRefusal::NoEvents => told(NO_EVENTS, 0),
-        ScriptRefusal::TooManyLines(most) => told(MANY_LINES, most),
-        ScriptRefusal::TooManyStyles(most) => told(MANY_STYLES, most),
-        ScriptRefusal::OutOfMemory => told(OUT_OF_MEMORY, 0),
+        ScriptRefusal::NotUtf8(front) => told_at(NOT_UTF8, front),
+        ScriptRefusal::NoEvents => told_at(NO_EVENTS, 0),
+        ScriptRefusal::TooManyLines(most) => told_at(MANY_LINES, most),
+        ScriptRefusal::TooManyStyles(most) => told_at(MANY_STYLES, most),
+        ScriptRefusal::OutOfMemory => told_at(OUT_OF_MEMORY, 0),
     }
 }
 
@@ -72,9 +72,9 @@ pub fn font_told(refusal: FontRefusal) -> Told
     ensures { result ≡ rule.font_told refusal }
 {
     match refusal {
-        FontRefusal::BadFont(line, _) => told(BAD_FONT, line),
-        FontRefusal::TooLarge(most) => told(LARGE_FONT, most),
-        FontRefusal::OutOfMemory => told(OUT_OF_MEMORY, 0),
+        FontRefusal::BadFont(line, _) => told_at(BAD_FONT, line),
+        FontRefusal::TooLarge(most) => told_at(LARGE_FONT, most),
+        FontRefusal::OutOfMemory => told_at(OUT_OF_MEMORY, 0),
     }
 }
 
@@ -83,11 +83,11 @@ pub fn feed_told(answer: Feed) -> Told
     ensures { result ≡ rule.feed_told answer }
 {
     match answer {
-        Feed::Accepted(entry) => told(DONE, entry),
-        Feed::Repeated(entry) => told(REPEATED, entry),
-        Feed::Malformed(_, byte) => told(MALFORMED, byte),
-        Feed::Full(most) => told(FULL, most),
-        Feed::OutOfMemory => told(OUT_OF_MEMORY, 0),
+        Feed::Accepted(entry) => told_at(DONE, entry),
+        Feed::Repeated(entry) => told_at(REPEATED, entry),
+        Feed::Malformed(_, byte) => told_at(MALFORMED, byte),
+        Feed::Full(most) => told_at(FULL, most),
+        Feed::OutOfMemory => told_at(OUT_OF_MEMORY, 0),
     }
 }
 
@@ -128,8 +128,8 @@ pub fn flush_told(answer: Flushed) -> Told
     ensures { result ≡ rule.flush_told answer }
 {
     match answer {
-        Flushed::Done(entry) => told(DONE, entry),
-        Flushed::TooMany(most) => told(MANY_FLUSHES, most),
+        Flushed::Done(entry) => told_at(DONE, entry),
+        Flushed::TooMany(most) => told_at(MANY_FLUSHES, most),
     }
 }
 

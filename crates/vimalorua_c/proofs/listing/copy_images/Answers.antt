@@ -23,6 +23,6 @@ loop-i-preserved c =
       bytes = c.put_bytes.ensures.count ∙ kept.bytes;
       place = c.put_bytes.ensures.next ∙ (ap (λ n. n + length image.mask.bytes) kept.place ∙ sym (bytes_more images i image below is));
       numbers_are = take_more_set c.loop-i.numbers i c.numbers_of.result (omega (arith, kept.count, below))
-      ∙ ((λ j. kept.numbers_are j ++ (c.numbers_of.ensures ∙ ap (image_numbers image) kept.place) j ∷ []) ∙ sym (numbers_more images i image below is));
+          ∙ ((λ j. kept.numbers_are j ++ (c.numbers_of.ensures ∙ ap (image_numbers image) kept.place) j ∷ []) ∙ sym (numbers_more images i image below is));
       masks_are = c.put_bytes.ensures.front ∙ (ap (λ bs. bs ++ image.mask.bytes) kept.masks_are ∙ sym (masks_more images i image below is));
     }
