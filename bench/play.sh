@@ -1,7 +1,8 @@
 #!/usr/bin/env bash
-# Measures plays of the proved program: frames a second of settled plays of 200 signs by 1, 2 and 4 renderers, memory of plays of
-# many images, and selftests. Each time is the least of RUNS runs, and each peak the greatest. play.sh [RUNS [PART]]: 3 runs and all
-# parts where none are given; the parts are speed, memory and selftest.
+# Measures plays of the proved program: frames a second of settled plays of 200 signs by 1, 2 and 4 renderers, and in 4 bands; of one
+# line and of many, small and large, and of short and long scripts; memory of plays of many images, and selftests. Each time is the least
+# of RUNS runs, and each peak the greatest. play.sh [RUNS [PART]]: 3 runs and all parts where none are given; the parts are speed, lines,
+# memory and selftest.
 set -eu
 
 top=$(dirname -- "$(dirname -- "$(readlink -f -- "${BASH_SOURCE[0]}")")")
@@ -12,9 +13,16 @@ program=$top/crates/play_main/out/play_main
 room=$(mktemp -d)
 trap 'rm -rf "$room"' EXIT
 . "$top/bench/pages.sh"
+# as the wrapper vimalorua sets them
+export MALLOC_MMAP_THRESHOLD_=33554432 MALLOC_TRIM_THRESHOLD_=1073741824 MALLOC_TOP_PAD_=33554432
 mapfile -t boards < <(signs 200)
 page "${boards[@]}" > "$room/signs.ass"
 talk 40000 > "$room/talk.ass"
+talk 200 > "$room/short.ass"
+page 'What the river said, nobody wrote down.' > "$room/line.ass"
+mapfile -t lines < <(yes 'So she said.' | head -n 1000)
+page "${lines[@]:0:50}" > "$room/50.ass"
+page "${lines[@]}" > "$room/1000.ass"
 
 date -u +%Y-%m-%d
 printf '%s processors: %s\n' "$(nproc)" "$(sed -n 's/^model name.*: //p' /proc/cpuinfo | head -n 1)"
@@ -55,6 +63,26 @@ if asked speed; then
         measure "200 signs, 250 frames of 1920x1080, $renderers renderers" 250 \
             "$program" play --mode settled --from 0 --to 10000 --step 40 --size 1920x1080 --renderers "$renderers" signs.ass "$font"
     done
+    measure "200 signs, 250 frames of 1920x1080, 1 renderer in 4 bands" 250 \
+        "$program" play --mode settled --from 0 --to 10000 --step 40 --size 1920x1080 --bands 4 signs.ass "$font"
+fi
+
+# plays NAME SCRIPT FROM COUNT SIZE BATCH: so many frames by one renderer, a millisecond apart
+plays() {
+    measure "$1, $4 frames of $5" "$4" "$program" play --mode settled --from "$3" --to $(($3 + $4)) --step 1 --size "$5" --batch "$6" "$2" "$font"
+}
+
+if asked lines; then
+    for size in '16x16 1000' '1920x1080 16'; do
+        # shellcheck disable=SC2086
+        plays 'one line' line.ass 5000 1000 $size
+        # shellcheck disable=SC2086
+        plays '50 lines' 50.ass 5000 200 $size
+        # shellcheck disable=SC2086
+        plays '1,000 lines' 1000.ass 5000 20 $size
+    done
+    plays '200 lines one after the other' short.ass 100000 20000 16x16 1000
+    plays '40,000 lines one after the other' talk.ass 100000 20000 16x16 1000
 fi
 if asked memory; then
     for budget in 1048576 16777216 ''; do

@@ -2,7 +2,7 @@
 ghost use Rattle.std.specs.Prelude.{◌≡◌, ◌<◌, ◌≤◌, Some, length, slice_get, IfOk, IfSome, OnOk, OnErr, option_map};
 ghost use Rattle.std.specs.Arc.{arc_value};
 ghost use Rattle.evict_core.specs.Machine.{max_entries, max_budget, max_cost, status_of};
-ghost use Rattle.evict_core.specs.Asked.{ready_value, totals_of};
+ghost use Rattle.evict_core.specs.Asked.{ready_value};
 ghost use Rattle.actor_caches.specs.Caches.{no_shards, shard_in, with_shard, asked, filled, failed, unpinned_at, with_limits};
 ghost use Rattle.actor_caches.specs.Answers.{IsActorAnswer};
 ghost use Rattle.actor_caches.specs.Laws.{HaveHistories};
@@ -11,7 +11,7 @@ ghost use Rattle.actor_caches.specs.declared.holding.Holding.{Holding};
 use crate::answer::ActorAnswer;
 use crate::holding::Holding;
 use ass_num::{Mem, OutOfMemory};
-use evict_core::{Ask, Entries, Totals};
+use evict_core::{Ask, Entries};
 use flight_cache::Made;
 use std::alloc::Global;
 use std::marker::Model;
@@ -179,14 +179,6 @@ impl<M: Made> ActorCaches<M> {
         ensures made { IfOk result (λ o. IfSome o (λ v. arc_value v ≡ M.meaning.made self.now.tag key.now)) }
     {
         self.shards[shard].value_of(key)
-    }
-
-    /// The counts and sums of a shard.
-    pub fn totals(&self, shard: usize) -> Totals
-        requires { shard < length self.now.shards }
-        ensures { result ≡ totals_of (shard_in self.now shard) }
-    {
-        self.shards[shard].totals()
     }
 
     /// What holds after all steps that were made: the caches stand for legal histories of their shards.

@@ -1,15 +1,12 @@
-//! Measures visits of a shared cache: an ask, mostly a hit, and the pin given back. Without words it lets four threads
-//! visit a few keys and prints the counts. With the words `KEYS ROUNDS` it prints how long a visit takes one thread, how
-//! long the ask of it alone, and what four threads do at once, each of which visits so many keys of its own in so many
-//! rounds.
+//! Measures visits of a shared cache: an ask, mostly a hit, and the pin given back. Without words it lets threads visit a few keys, and
+//! want one key at once, and prints the counts. With the words `KEYS ROUNDS` it prints how long a visit takes one thread, and what four
+//! threads do at once, each of which visits so many keys of its own in so many rounds.
 #![tactic(auto)]
 
+mod contests;
 mod orders;
 mod stop;
-#[cfg(test)]
-mod tests;
 mod visits;
-mod watch;
 mod workers;
 
 ghost use Rattle.std.specs.Prelude.{◌==◌};
@@ -17,6 +14,7 @@ ghost use Rattle.flight_cache.specs.Shards.{IsCacheOf, GivesBack};
 ghost use Rattle.cache_bench.specs.Doubled.{doubled};
 
 use ass_num::Mem;
+use contests::{fail_before_another, visit_one_key};
 use evict_core::Totals;
 use flight_cache::{Cache, CachePass};
 use orders::{Keys, keys_apart, keys_mixed};
@@ -26,8 +24,7 @@ use std::thread::Threads;
 use std::time::{Clock, Duration, Instant};
 use std::{env, io};
 use stop::Stop;
-use visits::{Doubled, visit_keys, visit_round};
-use watch::{Timer, time_nothing};
+use visits::{Doubled, visit_keys};
 use workers::{lend_four, rejoin_four, work_by_four};
 
 // So many entries that no shard is full.
@@ -39,16 +36,13 @@ const BUDGET: u64 = 1_000_000;
 // So often a time is taken. The least one counts.
 const LAPS: u32 = 200;
 
-// So often the clock is read to tell what that takes.
-const CLOCK_READINGS: u32 = 100_000;
-
-/// What a run came to: the least time that one thread took for all visits, for the asks among them alone, that four
-/// threads took for all visits, and the counts.
+/// What a run came to: the least time that one thread took for all visits, that four threads took for them, how many of
+/// their last visits found a value, and the counts.
 #[derive(Drop)]
 struct Outcome {
     one: Duration,
-    asks: Duration,
     four: Duration,
+    found: u32,
     totals: Totals,
 }
 
@@ -69,25 +63,6 @@ fn visit_all<R: Wait>(
     let (pass, _) = visit_keys(rt, alloc, cache, pass, &keys.third, rounds);
     let (pass, _) = visit_keys(rt, alloc, cache, pass, &keys.fourth, rounds);
     pass
-}
-
-/// All four threads' visits once, by one, and how long their asks took by the clock.
-fn time_asks<R: Wait + Clock>(
-    rt: &R,
-    alloc: Global,
-    cache: &Cache<Doubled>,
-    pass: CachePass<Doubled>,
-    keys: &Keys,
-) -> (CachePass<Doubled>, Duration)
-    requires { IsCacheOf cache.now pass }
-    ensures { GivesBack (◌==◌) doubled cache.now pass result.0 }
-{
-    let mut timer = Timer::new(rt);
-    let (pass, _) = visit_round(rt, alloc, cache, pass, &keys.first, &mut timer);
-    let (pass, _) = visit_round(rt, alloc, cache, pass, &keys.second, &mut timer);
-    let (pass, _) = visit_round(rt, alloc, cache, pass, &keys.third, &mut timer);
-    let (pass, _) = visit_round(rt, alloc, cache, pass, &keys.fourth, &mut timer);
-    (pass, timer.spent())
 }
 
 fn since<R: Clock>(rt: &R, began: io::Result<Instant>) -> Duration {
@@ -112,39 +87,47 @@ fn run_threads<R: Wait + Threads + Sync + Clock>(
     let (pass, mut four) = lend_four(&cache, pass);
     let mut pass = visit_all(rt, alloc, &cache, pass, keys, 1);
     let mut by_one = Duration::MAX;
-    let mut asks = Duration::MAX;
     let mut by_four = Duration::MAX;
     for _ in 0..laps {
         let began = Instant::now(rt);
         pass = visit_all(rt, alloc, &cache, pass, keys, rounds);
         by_one = by_one.min(since(rt, began));
-        let (next, spent) = time_asks(rt, alloc, &cache, pass, keys);
-        pass = next;
-        asks = asks.min(spent);
         let began = Instant::now(rt);
         work_by_four(rt, alloc, &cache, &mut four, keys, rounds);
         by_four = by_four.min(since(rt, began));
     }
-    let (pass, _) = rejoin_four(&cache, pass, four);
+    let (pass, found) = rejoin_four(&cache, pass, four);
     let (pass, totals) = cache.totals(rt, pass);
     cache.close(pass);
     Ok(Outcome {
         one: by_one,
-        asks,
         four: by_four,
+        found,
         totals,
     })
 }
 
+/// Prints how many visits found a value, and what the cache counted.
+fn show_totals<R: Print>(rt: &R, name: &str, found: u32, totals: &Totals) -> Result<(), Stop> {
+    let steps = [totals.claims, totals.fills, totals.fails, totals.hits];
+    let now = [u64::from(totals.entries), totals.pinned, totals.unpinned];
+    println!(rt;
+        "{name}: {found} found; claims, fills, fails, hits: {steps:?}; entries, pinned, unpinned: {now:?}"
+    )?;
+    Ok(())
+}
+
+/// Prints what threads make of a few keys.
 fn show_counts<R: Wait + Threads + Sync + Clock + Print>(
     rt: &R,
     alloc: Global,
 ) -> Result<(), Stop> {
-    let totals = run_threads(rt, alloc, &keys_apart(alloc, 10)?, 10, 1)?.totals;
-    let steps = [totals.claims, totals.fills, totals.hits];
-    let now = [u64::from(totals.entries), totals.pinned, totals.unpinned];
-    println!(rt; "claims, fills, hits: {steps:?}; entries, pinned, unpinned: {now:?}")?;
-    Ok(())
+    let outcome = run_threads(rt, alloc, &keys_apart(alloc, 10)?, 10, 1)?;
+    show_totals(rt, "four threads", outcome.found, &outcome.totals)?;
+    let (found, totals) = fail_before_another(rt, alloc)?;
+    show_totals(rt, "behind a failed making", found, &totals)?;
+    let (found, totals) = visit_one_key(rt, alloc)?;
+    show_totals(rt, "eight threads for one key", found, &totals)
 }
 
 fn show_times<R: Wait + Threads + Sync + Clock + Print>(
@@ -162,9 +145,8 @@ fn show_times<R: Wait + Threads + Sync + Clock + Print>(
     let four = outcome.four.as_nanos().max(1);
     let times = 100 * one / four;
     println!(rt;
-        "{name}: {} ns a visit by one thread, {} ns its ask by the clock; by four at once {}.{:02} times as many visits",
+        "{name}: {} ns a visit by one thread; by four at once {}.{:02} times as many visits",
         one / visits,
-        outcome.asks.as_nanos() / all,
         times / 100,
         times % 100
     )?;
@@ -178,20 +160,12 @@ fn number_of(word: &String) -> Result<u32, Stop> {
     }
 }
 
-/// Prints how long a reading of the clock takes.
-fn show_clock<R: Clock + Print>(rt: &R) -> Result<(), Stop> {
-    let reading = time_nothing(rt, CLOCK_READINGS).as_nanos() / u128::from(CLOCK_READINGS);
-    println!(rt; "a reading of the clock: {reading} ns")?;
-    Ok(())
-}
-
 fn measure<R: Wait + Threads + Sync + Clock + Print>(
     rt: &R,
     alloc: Global,
     count: u32,
     rounds: u32,
 ) -> Result<(), Stop> {
-    show_clock(rt)?;
     let apart = keys_apart(alloc, count)?;
     show_times(rt, alloc, "a shard for each thread", &apart, count, rounds)?;
     let mixed = keys_mixed(alloc, count)?;

@@ -4,7 +4,6 @@ ghost use Rattle.std.specs.Arc.{arc_value};
 ghost use Rattle.flight_cache.specs.Shards.{IsCacheOf, GivesBack};
 ghost use Rattle.cache_bench.specs.Doubled.{doubled};
 
-use crate::watch::{Unwatched, Watch};
 use ass_num::Mem;
 use flight_cache::{Asked, Cache, CachePass, Made, ShardSum};
 use std::alloc::Global;
@@ -50,20 +49,17 @@ fn make(alloc: Global, key: u32) -> Mem<(Arc<u64>, Arc<u64>)>
 }
 
 /// Asks for the key, makes its value where nobody has, and gives the pin back. Tells whether there was a value.
-fn visit<R: Wait, W: Watch>(
+fn visit<R: Wait>(
     rt: &R,
     alloc: Global,
     cache: &Cache<Doubled>,
     pass: CachePass<Doubled>,
     key: u32,
-    watch: &mut W,
 ) -> (CachePass<Doubled>, bool)
     requires { IsCacheOf cache.now pass }
     ensures { GivesBack (◌==◌) doubled cache.now pass result.0 }
 {
-    watch.begin();
     let (pass, asked) = cache.ask(rt, alloc, pass, &key);
-    watch.end();
     match asked {
         Asked::Hit(pin) => {
             let pass = cache.unpin(rt, pass, pin);
@@ -98,21 +94,20 @@ pub fn visit_keys<R: Wait>(
     let mut waiting = pass;
     let mut found = 0u32;
     for _ in 0..rounds {
-        let (pass, more) = visit_round(rt, alloc, cache, waiting, keys, &mut Unwatched);
+        let (pass, more) = visit_round(rt, alloc, cache, waiting, keys);
         waiting = pass;
         found = found.saturating_add(more);
     }
     (waiting, found)
 }
 
-/// Visits of the keys in their order, with each ask watched. Tells how many found a value.
-pub fn visit_round<R: Wait, W: Watch>(
+/// Visits of the keys in their order. Tells how many found a value.
+fn visit_round<R: Wait>(
     rt: &R,
     alloc: Global,
     cache: &Cache<Doubled>,
     pass: CachePass<Doubled>,
     keys: &Vec<u32>,
-    watch: &mut W,
 ) -> (CachePass<Doubled>, u32)
     requires { IsCacheOf cache.now pass }
     ensures { GivesBack (◌==◌) doubled cache.now pass result.0 }
@@ -120,7 +115,7 @@ pub fn visit_round<R: Wait, W: Watch>(
     let mut waiting = pass;
     let mut found = 0u32;
     for key in keys {
-        let (pass, has_value) = visit(rt, alloc, cache, waiting, *key, watch);
+        let (pass, has_value) = visit(rt, alloc, cache, waiting, *key);
         waiting = pass;
         if has_value {
             found = found.saturating_add(1);

@@ -11,15 +11,15 @@ use mask_blur::{box_blur, soften};
 use std::alloc::Global;
 use std::time::Instant;
 
-/// A square mask at the origin, whose bytes grow by `step` from one to the next, without what is above 255.
-pub fn square(alloc: Global, side: u16, step: u8) -> Result<Mask, Stop>
+/// A square mask at the origin, whose bytes grow from `first` on by `step` from one to the next, without what is above 255.
+pub fn square(alloc: Global, side: u16, first: u8, step: u8) -> Result<Mask, Stop>
     ensures x { IfOk result (λ mask. mask.x ≡ pos 0) }
     ensures y { IfOk result (λ mask. mask.y ≡ pos 0) }
     ensures w { IfOk result (λ mask. mask.w ≡ side) }
     ensures h { IfOk result (λ mask. mask.h ≡ side) }
 {
     let mut bytes = vec![in alloc; 0u8; side as usize * side as usize]?;
-    let mut byte: u8 = 255;
+    let mut byte = first;
     for place in bytes.iter_mut() {
         *place = byte;
         byte = byte.wrapping_add(step);
@@ -37,7 +37,7 @@ fn middle(mask: &Mask) -> u8 {
 }
 
 fn measure_passes(rt: &HostRuntime, name: &str, side: u16, n: u8, turns: u32) -> Result<(), Stop> {
-    let mask = square(rt.alloc(), side, 37)?;
+    let mask = square(rt.alloc(), side, 255, 37)?;
     let mut laps = Laps::new();
     let mut byte = 0;
     for _ in 0..turns {
@@ -59,7 +59,7 @@ fn measure_passes(rt: &HostRuntime, name: &str, side: u16, n: u8, turns: u32) ->
 fn measure_radius(rt: &HostRuntime, name: &str, side: u16, r: u8, turns: u32) -> Result<(), Stop>
     requires { r ≤ max_blur }
 {
-    let mask = square(rt.alloc(), side, 37)?;
+    let mask = square(rt.alloc(), side, 255, 37)?;
     let mut laps = Laps::new();
     let mut byte = 0;
     for _ in 0..turns {
@@ -85,13 +85,13 @@ pub fn measure(rt: &HostRuntime, side: u32, turns: u32) -> Result<(), Stop> {
 }
 
 fn show_softened(rt: &HostRuntime) -> Result<(), Stop> {
-    let mask = square(rt.alloc(), 1, 0)?;
+    let mask = square(rt.alloc(), 1, 255, 0)?;
     let softened = soften(rt.alloc(), &mask, 1)?;
     show_bytes(rt, "softened once", softened.bytes())
 }
 
 fn show_blurred(rt: &HostRuntime) -> Result<(), Stop> {
-    let mask = square(rt.alloc(), 2, 85)?;
+    let mask = square(rt.alloc(), 2, 255, 85)?;
     let blurred = box_blur(rt.alloc(), &mask, 1)?;
     show_bytes(rt, "blurred by 1", blurred.bytes())
 }

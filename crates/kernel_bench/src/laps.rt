@@ -12,6 +12,7 @@ pub struct Laps {
 }
 
 impl Laps {
+    /// No turns yet.
     pub fn new() -> Laps {
         Laps {
             turns: 0,
@@ -20,16 +21,12 @@ impl Laps {
         }
     }
 
+    /// Adds a turn that took so long.
     pub fn add(&mut self, spent: Duration) {
         let nanos = spent.as_nanos();
         self.turns = self.turns.saturating_add(1);
         self.least = self.least.min(nanos);
         self.sum = self.sum.saturating_add(nanos);
-    }
-
-    /// How many megabytes a second the shortest turn touches, of so many bytes a turn.
-    pub fn rate(&self, bytes: u64) -> u128 {
-        u128::from(bytes) * 1_000 / self.least.max(1)
     }
 }
 

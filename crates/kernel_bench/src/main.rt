@@ -11,8 +11,6 @@ mod glyph;
 mod laps;
 mod masks;
 mod outlines;
-mod paragraph;
-mod reading;
 mod stop;
 mod telling;
 
@@ -37,7 +35,7 @@ fn number_of(word: &String) -> Result<u32, Stop> {
 
 fn measure(rt: &HostRuntime, kernel: &str, size: u32, turns: u32) -> Result<(), Stop> {
     match kernel {
-        "quads" => outlines::measure_glyph(rt, size, turns),
+        "outline" => outlines::measure_glyph(rt, size, turns),
         "drawing" => outlines::measure_drawing(rt, size, turns),
         "region" => glyph::measure(rt, size, turns),
         "cancel" => cancelling::measure(rt, size, turns),
@@ -46,18 +44,14 @@ fn measure(rt: &HostRuntime, kernel: &str, size: u32, turns: u32) -> Result<(), 
         "sum" => masks::measure_sum(rt, size, turns),
         "blur" => blurring::measure(rt, size, turns),
         "shift" => boxes::measure(rt, size, turns),
-        "breaks" => paragraph::measure(rt, size, turns),
         "draw" => drawing::measure(rt, size, turns),
-        "font" => reading::measure_font(rt, size, turns),
-        "script" => reading::measure_script(rt, size, turns),
-        "text" => reading::measure_text(rt, size, turns),
         _ => Err(Stop::UnknownWords),
     }
 }
 
 /// Small inputs.
-const SMALL: [(&str, u32); 14] = [
-    ("quads", 2),
+const SMALL: [(&str, u32); 10] = [
+    ("outline", 2),
     ("drawing", 3),
     ("region", 8),
     ("cancel", 4),
@@ -66,11 +60,7 @@ const SMALL: [(&str, u32); 14] = [
     ("sum", 4),
     ("blur", 8),
     ("shift", 6),
-    ("breaks", 9),
     ("draw", 2),
-    ("font", 2),
-    ("script", 3),
-    ("text", 100),
 ];
 
 fn measure_small(rt: &HostRuntime) -> Result<(), Stop> {

@@ -53,7 +53,7 @@ fn part(alloc: Global, side: u16, k: u8) -> Result<(Mask, i32, i32), Stop>
     ensures { IfOk result IsPlaceableMask }
 {
     Ok((
-        square(alloc, side, 1)?,
+        square(alloc, side, 255, 1)?,
         i32::from(k) * i32::from(side / 2),
         0,
     ))

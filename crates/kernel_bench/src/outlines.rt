@@ -1,30 +1,55 @@
 //! Outlines of a font's glyph and of a drawing.
 
-ghost use Rattle.std.specs.Prelude.{◌<◌, length, IfOk};
+ghost use Rattle.std.specs.Prelude.{◌≡◌, ◌<◌, length, pos, IfOk};
 ghost use Rattle.ass_num.specs.Paths.{IsPath};
 ghost use Rattle.bdf_font.specs.Ranges.{IsFont};
 ghost use Rattle.outline_points.specs.Placing.{IsMatrix};
 
 use crate::laps::Laps;
-use crate::reading::{font_of, repeated};
 use crate::stop::Stop;
 use crate::telling::tell;
 use ass_num::{Matrix, Path};
-use bdf_font::Font;
+use bdf_font::{Font, read_font};
 use drawing_path::read_path;
-use fixed_outline::{outline_of_path, quads_of};
+use fixed_outline::{outline_of_path, quads_of, runs_of};
 use std::alloc::Global;
 use std::time::Instant;
 
+/// The most bytes that a font may have.
+const MAX_BYTES: usize = 67_108_864;
+
 /// A bitmap's pixel, and a script's unit, is a pixel; and the same under a turn.
 fn matrix(turn: i64) -> Matrix
-    ensures { IsMatrix result }
+    ensures matrix { IsMatrix result }
+    ensures turn { result.turn ≡ turn }
 {
     Matrix {
         ux: 4_194_304,
         uy: 4_194_304,
         italic: false,
         turn,
+    }
+}
+
+/// A text that repeats a piece behind a head.
+fn repeated(alloc: Global, head: &str, piece: &str, count: u32) -> Result<String, Stop> {
+    let mut text = String::from_str(alloc, head)?;
+    for _ in 0..count {
+        text.push_str(piece)?;
+    }
+    Ok(text)
+}
+
+/// The font of a text.
+fn font_of(alloc: Global, text: &str) -> Result<Font, Stop>
+    ensures { IfOk result IsFont }
+{
+    if text.len() > MAX_BYTES {
+        return Err(Stop::SizeOutOfRange);
+    }
+    match read_font(alloc, text.as_bytes()) {
+        Ok(font) => Ok(font),
+        Err(_) => Err(Stop::SizeOutOfRange),
     }
 }
 
@@ -37,7 +62,7 @@ fn font(alloc: Global, rows: u8) -> Result<Font, Stop>
     )?;
     let mut text = repeated(alloc, head.as_str(), "FFFFFFFFFFFF\n", u32::from(rows))?;
     text.push_str("ENDCHAR\nENDFONT\n")?;
-    font_of(alloc, text.as_bytes())
+    font_of(alloc, text.as_str())
 }
 
 /// A path of so many curves.
@@ -48,13 +73,24 @@ fn path(alloc: Global, curves: u32) -> Result<Path, Stop>
     Ok(read_path(alloc, text.as_str())?)
 }
 
-fn measure_turn(
-    rt: &HostRuntime,
-    name: &str,
-    font: &Font,
-    matrix: &Matrix,
-    turns: u32,
-) -> Result<(), Stop>
+fn measure_runs(rt: &HostRuntime, font: &Font, matrix: &Matrix, turns: u32) -> Result<(), Stop>
+    requires font { IsFont font.now }
+    requires glyph { 0 < length font.now.glyphs }
+    requires matrix { IsMatrix matrix.now }
+    requires upright { matrix.now.turn ≡ pos 0 }
+{
+    let mut laps = Laps::new();
+    let mut runs = 0;
+    for _ in 0..turns {
+        let began = Instant::now(rt)?;
+        let outline = runs_of(rt.alloc(), font, 0, matrix, false, false, false)?;
+        laps.add(began.elapsed(rt)?);
+        runs = outline.rings.len();
+    }
+    tell(rt, "outline", "upright", runs, "runs", &laps)
+}
+
+fn measure_quads(rt: &HostRuntime, font: &Font, matrix: &Matrix, turns: u32) -> Result<(), Stop>
     requires font { IsFont font.now }
     requires glyph { 0 < length font.now.glyphs }
     requires matrix { IsMatrix matrix.now }
@@ -67,7 +103,7 @@ fn measure_turn(
         laps.add(began.elapsed(rt)?);
         quads = outline.rings.len();
     }
-    tell(rt, "quads", name, quads, "quads", &laps)
+    tell(rt, "outline", "turned", quads, "quads", &laps)
 }
 
 /// Times the outline of a glyph of so many rows of 48 set pixels, upright and turned by 30.5 degrees.
@@ -79,8 +115,8 @@ pub fn measure_glyph(rt: &HostRuntime, rows: u32, turns: u32) -> Result<(), Stop
     if font.glyphs().is_empty() {
         return Err(Stop::SizeOutOfRange);
     }
-    measure_turn(rt, "upright", &font, &matrix(0), turns)?;
-    measure_turn(rt, "turned", &font, &matrix(30_500), turns)
+    measure_runs(rt, &font, &matrix(0), turns)?;
+    measure_quads(rt, &font, &matrix(30_500), turns)
 }
 
 fn measure_path(rt: &HostRuntime, path: &Path, matrix: &Matrix, turns: u32) -> Result<(), Stop>

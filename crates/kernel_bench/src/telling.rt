@@ -17,13 +17,6 @@ pub fn tell(
     Ok(())
 }
 
-/// Prints how many megabytes a second the shortest turn touches, of so many bytes a turn.
-pub fn tell_rate(rt: &HostRuntime, laps: &Laps, bytes: u64) -> Result<(), Stop> {
-    let rate = laps.rate(bytes);
-    eprintln!(rt; "  {rate} MB/s touched")?;
-    Ok(())
-}
-
 /// Prints bytes behind what they are.
 pub fn show_bytes(rt: &HostRuntime, what: &str, bytes: &[u8]) -> Result<(), Stop> {
     println!(rt; "{what}: {bytes:?}")?;

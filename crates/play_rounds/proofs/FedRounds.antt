@@ -41,19 +41,19 @@ module _ (stage : Stage) (round : ℕ) (pass after : RenderView) where
   fed_by : (f : ℕ) (given : List Entry) (outcome : Outcome) → IsFine outcome → IsOutcome stage round (Feeder f) pass after given outcome → IsFedPart stage round f pass after given (told_repeats outcome)
   fed_by f given Idle fine came = absurd came
   fed_by f given (Fed repeated) fine came = came
-  fed_by f given (Shown image) fine came = absurd came
+  fed_by f given (Shown images) fine came = absurd came
   fed_by f given OutOfMemory fine came = absurd fine
 
   -- others give nothing, and repeat nothing
   fed_none : (role : Role) (given : List Entry) (outcome : Outcome) → FeedsNothing role → IsFine outcome → IsOutcome stage round role pass after given outcome → (given ≡ []) × (told_repeats outcome ≡ 0)
   fed_none (Feeder f) given outcome unlike fine came = absurd unlike
-  fed_none (Painter p) given Idle unlike fine came = (came.0, refl)
+  fed_none (Painter p) given Idle unlike fine came = absurd came
   fed_none (Painter p) given (Fed repeated) unlike fine came = absurd came
-  fed_none (Painter p) given (Shown image) unlike fine came = (came.0, refl)
+  fed_none (Painter p) given (Shown images) unlike fine came = (came.0, refl)
   fed_none (Painter p) given OutOfMemory unlike fine came = absurd fine
   fed_none Warmer given Idle unlike fine came = (came, refl)
   fed_none Warmer given (Fed repeated) unlike fine came = absurd came
-  fed_none Warmer given (Shown image) unlike fine came = absurd came
+  fed_none Warmer given (Shown images) unlike fine came = absurd came
   fed_none Warmer given OutOfMemory unlike fine came = absurd fine
 
 AreFedTwice_later : (before after more : List Entry) (again batch : List Event) (given : List Entry) (repeated : ℕ) → AreFedTwice before again batch after given repeated

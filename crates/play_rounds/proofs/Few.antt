@@ -95,15 +95,15 @@ module _ (stage : Stage) (is_stage : IsPlayStage stage) (round : ℕ) (pass afte
       let batch = batch_events_few (play_on stage) round f in
       let a = is_stage.playable.job.again in let b = is_stage.playable.job.batch.1 in let is = two.repeated_are in
       omega (arith, first, second, again, batch, a, b, is)
-  told_few (Feeder f) (Shown image) came = absurd came
+  told_few (Feeder f) (Shown images) came = absurd came
   told_few (Feeder f) OutOfMemory came = omega arith
-  told_few (Painter p) Idle came = omega arith
+  told_few (Painter p) Idle came = absurd came
   told_few (Painter p) (Fed repeated) came = absurd came
-  told_few (Painter p) (Shown image) came = omega arith
+  told_few (Painter p) (Shown images) came = omega arith
   told_few (Painter p) OutOfMemory came = omega arith
   told_few Warmer Idle came = omega arith
   told_few Warmer (Fed repeated) came = absurd came
-  told_few Warmer (Shown image) came = absurd came
+  told_few Warmer (Shown images) came = absurd came
   told_few Warmer OutOfMemory came = omega arith
 
 pub round_few : (stage : Stage) (round : ℕ) (first : RenderView) (workers : List Worker) (after : RenderView) → IsPlayStage stage → IsRound stage round first workers after → length workers ≤ max_crew

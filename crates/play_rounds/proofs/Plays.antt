@@ -7,8 +7,9 @@ use Rattle.ass_events.specs.Histories.{Entry}
 use Rattle.render_pass.specs.Passes.{RenderView}
 use Rattle.track_history.specs.Calls.{history_of}
 use Rattle.play_shares.specs.Instants.{instant_count}
+use Rattle.play_words.specs.declared.job.PlayJob.{PlayJob}
 use Rattle.play_model.specs.Plays.{PlayView, all_feeding}
-use Rattle.play_workers.specs.Parts.{image_by, told_repeats}
+use Rattle.play_workers.specs.Parts.{images_by, told_repeats}
 use Rattle.play_workers.specs.Stages.{IsPlayStage, play_on}
 use Rattle.play_workers.specs.declared.stage.Stage.{Stage}
 use Rattle.play_workers.specs.declared.worker.Role.{Role}
@@ -27,14 +28,14 @@ use Rattle.play_rounds.specs.declared.shift.Shift.TheVariants.{Both, Feed, Paint
 use Rattle.play_rounds.proofs.Puts.{cut_fewer, joined, length-pieces, nothing_cut, nothing_shown, shown, shown-append, shown_cut, shown_then}
 use Rattle.play_rounds.proofs.ShiftRounds.{AllFine, shift_on}
 
-images_within : (shift : Shift) (renderers all round : ℕ) → images_before shift renderers all round ≤ all
-images_within Both renderers all round = omega arith
-images_within Feed renderers all round = omega arith
-images_within Paint renderers all round = omega arith
+images_within : (shift : Shift) (job : PlayJob) (round : ℕ) → images_before shift job round ≤ instant_count job
+images_within Both job round = omega arith
+images_within Feed job round = omega arith
+images_within Paint job round = omega arith
 
 module _ (play : PlayView) (old : List Entry) (q : ℕ) (shift : Shift) (round : ℕ) (history : List Entry) (repeated : ℕ) (images : List ShownImage) where
   pub images_few : IsShiftPlayed play old q shift round history repeated images → length images ≤ instant_count play.job
-  images_few played = let most = images_within shift play.job.renderers (instant_count play.job) round in let many = played.images_are.many in omega (arith, most, many)
+  images_few played = let most = images_within shift play.job round in let many = played.images_are.many in omega (arith, most, many)
 
   -- a shift that stops after so many rounds
   stopped_at : IsShiftPlayed play old q shift round history repeated images → (cut : ℕ) (bytes : List ℕ) → bytes ≡ take cut (shown images) → IsShiftStopped play old q bytes
@@ -45,7 +46,7 @@ module _ (play : PlayView) (old : List Entry) (q : ℕ) (shift : Shift) (round :
     images = images;
     few = images_few played;
     are = subst (λ (n : ℕ). AreFirstImages play (old ++ played.fresh) q n images) (sym played.images_are.many)
-        (subst (λ (h : List Entry). AreFirstImages play h q (images_before shift play.job.renderers (instant_count play.job) round) images) played.is played.images_are);
+        (subst (λ (h : List Entry). AreFirstImages play h q (images_before shift play.job round) images) played.is played.images_are);
     cut = cut;
     value = is;
   }
@@ -64,7 +65,7 @@ stopped_in play old q shift round history repeated images next cut played =
 module _ (h h' : Option (List ℕ)) (f f' p p' : ℕ) (stage : Stage) (round : ℕ) (first : RenderView) (workers : List Worker) (after : RenderView) (roles : List Role)
     (is_stage : IsPlayStage stage) (home : IsHome stage.renderer first) (one : IsRound stage round first workers after) (same : roles_of workers ≡ roles) where
   abbrev pieces : List (List ℕ)
-  pieces = flat_map (λ (w : Worker). image_by w.outcome) workers
+  pieces = flat_map (λ (w : Worker). images_by w.outcome) workers
 
   pub round_plays : AllFine workers → AreWritten pieces h h' f f' p p'
       → PlaysOn (play_on stage) roles round (round + 1) (history_of first.track.seen) (history_of after.track.seen) (sum_by (λ (w : Worker). told_repeats w.outcome) workers) (λ next. AreImagesWritten next h h' f f' p p' (masks_seen stage.renderer first) (masks_seen stage.renderer after))

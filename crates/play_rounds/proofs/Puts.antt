@@ -1,6 +1,7 @@
 -- Puts, one after another.
 use Rattle.std.proofs.Common.{◌≡◌, ℕ, ◌+◌, ◌<◌, ◌≤◌, List, [], ◌∷◌, ◌++◌, length, take, drop, min, Option, None, Some, refl, sym, ap, subst, ◌∙◌, arith, append-nil, length-append}
 use Rattle.std.specs.Io.KnownBytes.{Appends, Keeps}
+use Rattle.std.specs.Global.{Vec}
 use Rattle.std.specs.List.{flat_map, slice_index_or}
 use Rattle.std.proofs.KnownBytes.{Appends-nil, Appends-trans}
 use Rattle.std.proofs.Math.Seq.{take-append-add, take-append_seam}
@@ -12,6 +13,7 @@ use Rattle.ass_io.specs.Written.{IsPut, IsPutCounted}
 use Rattle.ass_io.specs.declared.sink.Put.{Put}
 use Rattle.ass_io.specs.declared.sink.Put.TheVariants as put
 use Rattle.play_model.specs.Images.{ShownImage, shown_pieces}
+use Rattle.play_workers.specs.Parts.{painted_bytes}
 use Rattle.play_rounds.specs.Outputs.{AreCutOff, ArePut, AreImagesWritten, AreWritten, IsCutOff, IsMoreBy, IsStopCounted}
 use Rattle.play_rounds.specs.declared.ends.Stop.{Stop}
 use Rattle.play_rounds.specs.declared.ends.Stop.TheVariants as stop
@@ -150,3 +152,12 @@ module _ {X : Type 0} (g : X → List (List ℕ)) (xs : List X) (i : ℕ) (x : X
 
     pub flat_ended : (result : Put) → (result ≡ put.Done → ⊥) → ArePut (g x) result h' h'' f' f'' p' p'' → ArePut (flat_map g xs) result h h'' f f'' p p''
     flat_ended result unlike one = subst (λ (z : List (List ℕ)). ArePut z result h h'' f f'' p p'') (sym flat_whole) (put_ends h h' h'' f f' f'' p p' p'' result (flat_map g (take i xs)) (g x) (flat_map g (drop (i + 1) xs)) unlike written one)
+
+-- ---- the images of one worker
+
+abbrev pub one_piece : Vec ℕ → List (List ℕ)
+one_piece image = image.items ∷ []
+
+pub pieces_each : (images : List (Vec ℕ)) → flat_map one_piece images ≡ painted_bytes images
+pieces_each [] = refl
+pieces_each (image ∷ images) = ap (λ z. image.items ∷ z) (pieces_each images)

@@ -3,8 +3,10 @@ use Rattle.std.proofs.Common.{◌≡◌, ℕ, ◌+◌, ◌-◌, ◌*◌, ◌<◌
 use Rattle.std.specs.Arc.{arc_value}
 use Rattle.ass_events.specs.Histories.{Entry, live}
 use Rattle.play_shares.specs.Instants.{instant_count}
+use Rattle.play_shares.specs.Renderers.{first_place, images_each}
 use Rattle.play_shares.specs.Rounds.{image_rounds}
 use Rattle.play_shares.proofs.InstantLemmas.{ceil_enough}
+use Rattle.play_shares.proofs.RoundPlaces.{all_reached, none_before, some_images}
 use Rattle.play_words.specs.declared.job.Mode.{Mode}
 use Rattle.play_words.specs.declared.job.Mode.TheVariants.{Live, Settled}
 use Rattle.std.proofs.lemmas.Nat.{mul-le}
@@ -39,7 +41,7 @@ module _ (play : PlayView) where
     is = sym (append-nil history);
     fed = nothing_fed play;
     repeated_are = refl;
-    images_are = images_renamed play history q 0 (min (0 * play.job.renderers) (instant_count play.job)) [] (omega arith) (no_images play history q);
+    images_are = images_renamed play history q 0 (min (first_place play.job 0) (instant_count play.job)) [] (none_before play.job) (no_images play history q);
   }
 
   feed_begins : (history : List Entry) (q : ℕ) → play.job.mode ≡ Settled → live history ≡ [] → length history ≡ entries_before play q → IsShiftPlayed play history q Feed 0 history 0 []
@@ -64,7 +66,7 @@ module _ (play : PlayView) where
     is = played.is;
     fed = played.fed;
     repeated_are = refl;
-    images_are = images_renamed play history q 0 (min (0 * play.job.renderers) (instant_count play.job)) [] (omega arith) (no_images play history q);
+    images_are = images_renamed play history q 0 (min (first_place play.job 0) (instant_count play.job)) [] (none_before play.job) (no_images play history q);
   }
 
   -- ---- how a time ends
@@ -73,11 +75,12 @@ module _ (play : PlayView) where
     some_renderer : 0 < play.job.renderers
     some_renderer = let least = playable.job.renderers.0 in omega (arith, least)
 
-    all_made : (rounds : ℕ) → image_rounds play.job ≤ rounds → min (rounds * play.job.renderers) (instant_count play.job) ≡ instant_count play.job
+    all_made : (rounds : ℕ) → image_rounds play.job ≤ rounds → min (first_place play.job rounds) (instant_count play.job) ≡ instant_count play.job
     all_made rounds late =
-        let enough = ceil_enough (instant_count play.job) play.job.renderers some_renderer in
-        let more : image_rounds play.job * play.job.renderers ≤ rounds * play.job.renderers = mul-le (image_rounds play.job) play.job.renderers rounds play.job.renderers late (omega arith) in
-        omega (arith, enough, more)
+        let all : ℕ = play.job.renderers * images_each play.job in
+        let enough = ceil_enough (instant_count play.job) all (some_images play.job some_renderer) in
+        let more : image_rounds play.job * all ≤ rounds * all = mul-le (image_rounds play.job) all rounds all late (le_refl all) in
+        all_reached (first_place play.job rounds) (image_rounds play.job * all) (instant_count play.job) enough more
 
     live_ends : (old : List Entry) (q rounds : ℕ) (history : List Entry) (repeated : ℕ) (images : List ShownImage) → all_feeding play ≤ rounds → image_rounds play.job ≤ rounds
         → IsShiftPlayed play old q Both rounds history repeated images → IsTimePlayed play old q history repeated images
@@ -88,7 +91,7 @@ module _ (play : PlayView) where
       fed = played.fed;
       is = played.is;
       repeated_are = played.repeated_are ∙ repeats_all play playable rounds fed;
-      images_are = images_renamed play history q (min (rounds * play.job.renderers) (instant_count play.job)) (instant_count play.job) images (all_made rounds made) played.images_are;
+      images_are = images_renamed play history q (min (first_place play.job rounds) (instant_count play.job)) (instant_count play.job) images (all_made rounds made) played.images_are;
     }
 
     paint_ends : (old : List Entry) (q rounds : ℕ) (history : List Entry) (repeated more : ℕ) (images : List ShownImage) → image_rounds play.job ≤ rounds
@@ -100,7 +103,7 @@ module _ (play : PlayView) where
       fed = played.fed;
       is = played.is;
       repeated_are = let none = played.repeated_are in let all = repeats_all play playable (all_feeding play) (le_refl (all_feeding play)) in omega (arith, none, were, all);
-      images_are = images_renamed play history q (min (rounds * play.job.renderers) (instant_count play.job)) (instant_count play.job) images (all_made rounds made) played.images_are;
+      images_are = images_renamed play history q (min (first_place play.job rounds) (instant_count play.job)) (instant_count play.job) images (all_made rounds made) played.images_are;
     }
 
 -- ---- a time

@@ -1,8 +1,10 @@
 -- Inner: what was played of a shift.
-use Rattle.std.specs.Prelude.{◌≡◌, ℕ, ◌+◌, ◌-◌, ◌*◌, ◌<◌, ◌≤◌, List, [], ◌++◌, length, take, min, slice_index_or}
+use Rattle.std.specs.Prelude.{◌≡◌, ℕ, ◌+◌, ◌-◌, ◌<◌, ◌≤◌, List, [], ◌++◌, length, take, min, slice_index_or}
 use Rattle.std.specs.List.{flat_map}
 use Rattle.ass_events.specs.Histories.{Entry, live}
 use Rattle.play_shares.specs.Instants.{instant_count}
+use Rattle.play_shares.specs.Renderers.{first_place}
+use Rattle.play_words.specs.declared.job.PlayJob.{PlayJob}
 use Rattle.play_model.specs.Images.{IsShownImage, ShownImage, entries_before, shown_pieces}
 use Rattle.play_model.specs.Plays.{IsFedTo, PlayView, all_feeding, repeated_before}
 use Rattle.play_workers.specs.declared.worker.Role.{Role}
@@ -16,11 +18,11 @@ fed_before Both all round = round
 fed_before Feed all round = round
 fed_before Paint all round = all
 
--- how many images are made before it, of so many
-abbrev pub images_before : Shift → ℕ → ℕ → ℕ → ℕ
-images_before Both renderers all round = min (round * renderers) all
-images_before Feed renderers all round = 0
-images_before Paint renderers all round = min (round * renderers) all
+-- how many images are made before it
+abbrev pub images_before : Shift → PlayJob → ℕ → ℕ
+images_before Both job round = min (first_place job round) (instant_count job)
+images_before Feed job round = 0
+images_before Paint job round = min (first_place job round) (instant_count job)
 
 -- how many events are offered once more before it
 abbrev pub repeats_before : PlayView → Shift → ℕ → ℕ
@@ -42,7 +44,7 @@ pub record IsShiftPlayed (play : PlayView) (old : List Entry) (q : ℕ) (shift :
   pub is : history ≡ old ++ fresh
   pub fed : IsFedTo play (fed_before shift (all_feeding play) rounds) fresh
   pub repeated_are : repeated ≡ repeats_before play shift rounds
-  pub images_are : AreFirstImages play history q (images_before shift play.job.renderers (instant_count play.job) rounds) images
+  pub images_are : AreFirstImages play history q (images_before shift play.job rounds) images
 
 -- A shift ended early: so many rounds were fed whole, and the first images of time q and a front of the next were written, all of that history.
 pub record IsShiftStopped (play : PlayView) (old : List Entry) (q : ℕ) (bytes : List ℕ) : Type 0 where

@@ -2,7 +2,7 @@
 
 ghost use Rattle.std.specs.Prelude.{◌≡◌, ◌≤◌, ◌↔◌, sum_by, All, IsTrue};
 ghost use Rattle.std.specs.List.{flat_map};
-ghost use Rattle.play_workers.specs.Parts.{IsFine, image_by, told_repeats};
+ghost use Rattle.play_workers.specs.Parts.{IsFine, images_by, painted_bytes, told_repeats};
 ghost use Rattle.play_workers.specs.declared.worker.Worker.{Worker};
 ghost use Rattle.play_rounds.specs.Outputs.{ArePut};
 
@@ -35,11 +35,11 @@ pub fn count_repeated(workers: &[Worker]) -> usize
 
 /// Puts the images of a round, in the order of the workers, each by one put.
 pub fn put_images<F: Sink>(workers: &[Worker], frames: &mut F) -> Put
-    ensures { ArePut (flat_map (λ (w : Worker). image_by w.outcome) workers.now) result (F.held frames.old) (F.held frames.new)
+    ensures { ArePut (flat_map (λ (w : Worker). images_by w.outcome) workers.now) result (F.held frames.old) (F.held frames.new)
         (F.faults frames.old) (F.faults frames.new) (F.puts frames.old) (F.puts frames.new) }
 {
     for worker in workers {
-        match put_image(&worker.outcome, frames) {
+        match put_outcome(&worker.outcome, frames) {
             Put::Done => {}
             other => return other,
         }
@@ -47,13 +47,27 @@ pub fn put_images<F: Sink>(workers: &[Worker], frames: &mut F) -> Put
     Put::Done
 }
 
-/// Puts the image of an outcome, if it has one.
-fn put_image<F: Sink>(outcome: &Outcome, frames: &mut F) -> Put
-    ensures { ArePut (image_by outcome.now) result (F.held frames.old) (F.held frames.new)
+/// Puts the images of an outcome, if it has some.
+fn put_outcome<F: Sink>(outcome: &Outcome, frames: &mut F) -> Put
+    ensures { ArePut (images_by outcome.now) result (F.held frames.old) (F.held frames.new)
         (F.faults frames.old) (F.faults frames.new) (F.puts frames.old) (F.puts frames.new) }
 {
     match outcome {
-        Outcome::Shown(image) => frames.put(image.as_slice()),
+        Outcome::Shown(images) => put_each(images.as_slice(), frames),
         Outcome::Idle | Outcome::Fed(_) | Outcome::OutOfMemory => Put::Done,
     }
+}
+
+/// Puts images in order, each by one put.
+fn put_each<F: Sink>(images: &[Vec<u8>], frames: &mut F) -> Put
+    ensures { ArePut (painted_bytes images.now) result (F.held frames.old) (F.held frames.new)
+        (F.faults frames.old) (F.faults frames.new) (F.puts frames.old) (F.puts frames.new) }
+{
+    for image in images {
+        match frames.put(image.as_slice()) {
+            Put::Done => {}
+            other => return other,
+        }
+    }
+    Put::Done
 }

@@ -20,6 +20,6 @@ instants play = map (play_instant play) (range_with_len 0 (instant_count play))
 abbrev pub frame_count : PlayJob → ℕ
 frame_count play = play.times * instant_count play
 
--- the instants that are warmed while the images of a round are made: those behind the round's, which has one for each renderer
+-- the instants that are warmed while the images of a round are made: those behind the round's, which has one for each renderer then
 abbrev pub ahead_instants : PlayJob → ℕ → List ℤ
 ahead_instants play round = take play.ahead (drop ((round + 1) * play.renderers) (instants play))

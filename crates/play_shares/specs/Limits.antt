@@ -10,3 +10,11 @@ max_frames = 1000000
 -- the most places among the lines of a feeder that its batches reach, in as many rounds as there may be lines
 abbrev pub max_places : ℕ
 max_places = (max_lines + 1) * max_batch
+
+-- the most pixels of the images that a renderer makes in a round, where it makes more than one: 24 MiB of bytes
+abbrev pub max_round_pixels : ℕ
+max_round_pixels = 8388608
+
+-- the most images that a renderer makes in a round
+abbrev pub max_round_images : ℕ
+max_round_images = 8

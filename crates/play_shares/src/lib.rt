@@ -4,6 +4,7 @@
 mod batches;
 mod instants;
 mod laws;
+mod renderers;
 mod rounds;
 #[cfg(test)]
 mod tests;
@@ -11,4 +12,5 @@ mod tests;
 pub use batches::offers;
 pub use instants::{ahead_instants, instant_at, instant_count};
 pub use laws::all_lines_are_offered;
+pub use renderers::{share_begins, share_ends};
 pub use rounds::{feeding_rounds, has_too_many_frames, image_rounds};

@@ -8,4 +8,5 @@ pub mod Asked
 pub mod Later
 pub mod AskedFrames
 pub mod Parted
+pub mod Paintings
 pub mod Fed

@@ -1,5 +1,5 @@
 -- Public: the composed masks that a pass asks for.
-use Rattle.std.specs.Prelude.{◌≡◌, ℕ, ◌+◌, ◌≤◌, ℤ, List}
+use Rattle.std.specs.Prelude.{◌≡◌, ℕ, ◌+◌, ◌<◌, ◌≤◌, ℤ, List, length, slice_index_or}
 use Rattle.ass_events.specs.Histories.{Entry}
 use Rattle.ass_num.specs.declared.size.Size.{Size}
 use Rattle.cache_kinds.specs.Kinds.{composite_meaning}
@@ -8,7 +8,10 @@ use Rattle.frame_paint.specs.declared.frames.Frame.{Frame}
 use Rattle.mask_keys.specs.declared.plans.Draw.{Draw}
 use Rattle.render_pass.specs.Frames.{IsFrameOf}
 use Rattle.render_pass.specs.Passes.{RenderView, RendererView}
-use Rattle.play_model.specs.Images.{IsImageOf, masks_needed, needed_by}
+use Rattle.track_history.specs.Calls.{history_of}
+use Rattle.turn_cell.specs.History.{IsPrefix}
+use Rattle.play_shares.specs.Instants.{play_instant}
+use Rattle.play_model.specs.Images.{IsImageOf, ShownImage, all_masks, masks_needed, needed_by, shown_pieces}
 use Rattle.play_model.specs.Plays.{PlayView}
 
 -- how many composed masks a pass has asked for
@@ -33,3 +36,19 @@ pub record IsImageOfDraws (play : PlayView) (history : List Entry) (t : ℤ) (dr
 pub record IsImageAsked (play : PlayView) (renderer : RendererView) (pass after : RenderView) (history : List Entry) (t : ℤ) (bytes : List ℕ) : Type 0 where
   pub is : IsImageOf play history t bytes
   pub asked : masks_asked renderer pass + needed_by is ≤ masks_asked renderer after
+
+-- The image shows at t a history that goes on from what one pass had seen and that another one has seen.
+pub record IsImageBetween (play : PlayView) (pass after : RenderView) (t : ℤ) (image : ShownImage) : Type 0 where
+  pub history : List Entry
+  pub begins : IsPrefix (history_of pass.track.seen) history
+  pub within : IsPrefix history (history_of after.track.seen)
+  pub is : IsImageOf play history t image.bytes
+  pub masks_are : image.masks ≡ needed_by is
+
+-- These are the images of so many instants from a place on, in order, each of what a pass had seen that was between the two. It asked for at least as many composed masks as their pictures need.
+pub record AreImagesAsked (play : PlayView) (renderer : RendererView) (pass after : RenderView) (first count : ℕ) (pieces : List (List ℕ)) : Type 0 where
+  pub images : List ShownImage
+  pub pieces_are : shown_pieces images ≡ pieces
+  pub many : length images ≡ count
+  pub each : (i : ℕ) (d : ShownImage) → i < count → IsImageBetween play pass after (play_instant play.job (first + i)) (slice_index_or images i d)
+  pub asked : masks_asked renderer pass + all_masks images ≤ masks_asked renderer after

@@ -1,8 +1,9 @@
 -- Public: what comes of the part of a worker in a round.
-use Rattle.std.specs.Prelude.{◌≡◌, ℕ, ◌+◌, ◌<◌, ◌≤◌, List, [], ◌∷◌, ◌++◌, map, Some, None, Result, Ok, Err}
+use Rattle.std.specs.Prelude.{◌≡◌, ℕ, ◌-◌, List, [], ◌++◌, map, Some, None, Result, Ok, Err}
+use Rattle.std.specs.Global.{Vec}
 use Rattle.ass_events.specs.Histories.{Entry, live}
 use Rattle.cache_totals.specs.Balance.{AreLater}
-use Rattle.play_shares.specs.Instants.{instant_count, play_instant}
+use Rattle.play_shares.specs.Renderers.{share_begins, share_ends}
 use Rattle.render_pass.specs.Holding.{HoldsTheSame}
 use Rattle.render_pass.specs.Passes.{IsPassOfRenderer, RenderView, RendererView}
 use Rattle.track_history.specs.Answers.{entry_of}
@@ -10,17 +11,20 @@ use Rattle.track_history.specs.Calls.{history_of}
 use Rattle.track_history.specs.declared.answers.TrackEntry.{TrackEntry}
 use Rattle.turn_cell.specs.Passes.{Follows}
 use Rattle.play_model.specs.Feeding.{AreFedTwice}
-use Rattle.play_model.specs.Images.{IsImageOf, needed_by}
 use Rattle.play_model.specs.Plays.{events_again, events_in}
-use Rattle.play_workers.specs.Asks.{masks_asked}
+use Rattle.play_workers.specs.Asks.{AreImagesAsked}
 use Rattle.play_workers.specs.Offers.{IsFrontOffered}
-use Rattle.play_workers.specs.Stages.{instant_place, play_on}
+use Rattle.play_workers.specs.Stages.{play_on}
 use Rattle.play_workers.specs.declared.stage.Stage.{Stage}
 use Rattle.play_workers.specs.declared.worker.Outcome.{Outcome}
 use Rattle.play_workers.specs.declared.worker.Outcome.TheVariants.{Idle, Fed, Shown, OutOfMemory}
 use Rattle.play_workers.specs.declared.worker.Role.{Role}
 use Rattle.play_workers.specs.declared.worker.Role.TheVariants.{Feeder, Painter, Warmer}
 use Rattle.play_workers.specs.declared.worker.Worker.{Worker}
+
+-- the bytes of images
+abbrev pub painted_bytes : List (Vec ℕ) → List (List ℕ)
+painted_bytes images = map (λ (image : Vec ℕ). image.items) images
 
 module _ (stage : Stage) where
   -- A feeder did its part, whatever dead history it found before.
@@ -40,15 +44,16 @@ module _ (stage : Stage) where
 
   -- ---- what came of a part
 
-  -- What came of the part of a worker in a round: a feeder may be through, and so may a painter; the image shows all that the pass has seen then, and at least as many composed masks were asked for as its picture needs.
+  -- These are the images that a painter makes in a round.
+  abbrev pub ArePainted : ℕ → ℕ → RenderView → RenderView → List (Vec ℕ) → Type 0
+  ArePainted round p pass after images =
+      AreImagesAsked (play_on stage) stage.renderer pass after (share_begins stage.job round p) (share_ends stage.job round p - share_begins stage.job round p) (painted_bytes images)
+
+  -- What came of the part of a worker in a round: a feeder may be through; a painter has the images of its instants of the round, if it has some, each of all that its pass had seen then, and asked for at least as many composed masks as their pictures need.
   abbrev pub IsOutcome : ℕ → Role → RenderView → RenderView → List Entry → Outcome → Type 0
   IsOutcome round (Feeder f) pass after given (Fed repeated) = IsFedPart round f pass after given repeated
   IsOutcome round (Feeder f) pass after given OutOfMemory = IsFedInPart round f pass after given
-  IsOutcome round (Painter p) pass after given Idle = (given ≡ []) × (instant_count stage.job ≤ instant_place stage round p)
-  IsOutcome round (Painter p) pass after given (Shown image) =
-      (given ≡ []) × (instant_place stage round p < instant_count stage.job)
-      × (shown : IsImageOf (play_on stage) (history_of after.track.seen) (play_instant stage.job (instant_place stage round p)) image.items)
-      × (masks_asked stage.renderer pass + needed_by shown ≤ masks_asked stage.renderer after)
+  IsOutcome round (Painter p) pass after given (Shown images) = (given ≡ []) × ArePainted round p pass after images
   IsOutcome round (Painter p) pass after given OutOfMemory = given ≡ []
   IsOutcome round Warmer pass after given Idle = given ≡ []
   IsOutcome round Warmer pass after given OutOfMemory = given ≡ []
@@ -66,20 +71,20 @@ module _ (stage : Stage) where
 abbrev pub IsFine : Outcome → Type 0
 IsFine Idle = Unit {0}
 IsFine (Fed repeated) = Unit {0}
-IsFine (Shown image) = Unit {0}
+IsFine (Shown images) = Unit {0}
 IsFine OutOfMemory = ⊥
 
 abbrev pub told_repeats : Outcome → ℕ
 told_repeats Idle = 0
 told_repeats (Fed repeated) = repeated
-told_repeats (Shown image) = 0
+told_repeats (Shown images) = 0
 told_repeats OutOfMemory = 0
 
-abbrev pub image_by : Outcome → List (List ℕ)
-image_by Idle = []
-image_by (Fed repeated) = []
-image_by (Shown image) = image.items ∷ []
-image_by OutOfMemory = []
+abbrev pub images_by : Outcome → List (List ℕ)
+images_by Idle = []
+images_by (Fed repeated) = []
+images_by (Shown images) = painted_bytes images
+images_by OutOfMemory = []
 
 -- ---- workers
 

@@ -1,5 +1,5 @@
 -- Public: what all workers of a play share.
-use Rattle.std.specs.Prelude.{◌≡◌, ℕ, ◌+◌, ◌*◌}
+use Rattle.std.specs.Prelude.{◌≡◌}
 use Rattle.std.specs.Arc.{arc_value}
 use Rattle.play_model.specs.Plays.{IsPlayable, PlayView, good_flags}
 use Rattle.play_workers.specs.declared.stage.Stage.{Stage}
@@ -13,8 +13,3 @@ pub record IsPlayStage (stage : Stage) : Type 0 where
   pub playable : IsPlayable (play_on stage)
   pub same_script : stage.renderer.script ≡ arc_value stage.script
   pub good : stage.good ≡ good_flags (arc_value stage.script)
-
-module _ (stage : Stage) where
-  -- the place of the instant that a painter has in a round
-  abbrev pub instant_place : ℕ → ℕ → ℕ
-  instant_place round painter = round * stage.job.renderers + painter

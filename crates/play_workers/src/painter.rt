@@ -1,6 +1,7 @@
 //! What a renderer does in a round.
 
-ghost use Rattle.std.specs.Prelude.{◌≡◌, ℤ, List, [], IfOk};
+ghost use Rattle.std.specs.Prelude.{◌≡◌, ◌<◌, ◌≤◌, ◌∷◌, ◌++◌, ℤ, List, [], true, IfOk, OnOk};
+ghost use Rattle.std.specs.Result.{is_ok};
 ghost use Rattle.ass_events.specs.Histories.{Entry};
 ghost use Rattle.ass_num.specs.Limits.{IsWithin, max_instant};
 ghost use Rattle.cache_totals.specs.Balance.{AreLater};
@@ -9,12 +10,16 @@ ghost use Rattle.render_pass.specs.Holding.{HoldsJustTheFrame, HoldsTheSame};
 ghost use Rattle.render_pass.specs.Passes.{IsPassOfRenderer};
 ghost use Rattle.track_history.specs.Calls.{history_of};
 ghost use Rattle.turn_cell.specs.Passes.{Follows};
+ghost use Rattle.play_shares.specs.Instants.{instant_count, play_instant};
 ghost use Rattle.play_workers.specs.Asks.{IsFrameAsked, IsImageAsked, IsImageOfDraws};
+ghost use Rattle.play_workers.specs.Limits.{max_rounds};
+ghost use Rattle.play_workers.specs.Parts.{ArePainted};
 ghost use Rattle.play_workers.specs.Stages.{IsPlayStage, play_on};
 
 use crate::stage::Stage;
 use ass_io::{Gate, Place};
-use ass_num::{Mem, OutOfMemory};
+use ass_num::{Items, Mem, OutOfMemory};
+use play_shares::{instant_at, share_begins, share_ends};
 use ppm_text::ppm_bytes;
 use render_pass::{Frame, RenderPass, TryRefusal, paint_bands};
 use std::alloc::Global;
@@ -61,7 +66,7 @@ fn image_of<R: Threads + Sync>(rt: &R, alloc: Global, stage: &Stage, frame: &Fra
 }
 
 /// The image of an instant.
-pub fn paint_part<R: Threads + Wait + Sync, G: Gate>(
+fn paint_instant<R: Threads + Wait + Sync, G: Gate>(
     rt: &R,
     alloc: Global,
     stage: &Stage,
@@ -88,4 +93,72 @@ pub fn paint_part<R: Threads + Wait + Sync, G: Gate>(
         }
         Err(refused) => (pass, Err(refused)),
     }
+}
+
+/// The image of the instant at a place.
+fn image_at<R: Threads + Wait + Sync, G: Gate>(
+    rt: &R,
+    alloc: Global,
+    stage: &Stage,
+    place: u64,
+    pass: RenderPass,
+    gate: &G,
+) -> (RenderPass, Mem<Vec<u8>>)
+    requires stage { IsPlayStage stage.now }
+    requires place { place < instant_count stage.now.job }
+    requires pass { IsPassOfRenderer stage.now.renderer pass }
+    ensures pass { IsPassOfRenderer stage.now.renderer result.0 }
+    ensures track { Follows pass.track result.0.track [] }
+    ensures later { AreLater pass.caches result.0.caches }
+    ensures image { IfOk result.1 (λ image. IsImageAsked (play_on stage.now) stage.now.renderer pass result.0 (history_of result.0.track.seen) (play_instant stage.now.job place) image.items) }
+    ensures holds { HoldsTheSame stage.now.renderer pass result.0 }
+{
+    let t = match instant_at(&stage.job, place) {
+        Some(t) => t,
+        None => unreachable!(),
+    };
+    paint_instant(rt, alloc, stage, t, pass, gate)
+}
+
+/// Adds an image, where it was made.
+fn add_image(images: &mut Items<Vec<u8>>, image: Mem<Vec<u8>>) -> Mem<()>
+    ensures made { OnOk result (is_ok image ≡ true) }
+    ensures added { OnOk result (IfOk image (λ made. images.new ≡ images.old ++ made ∷ [])) }
+{
+    images.push(image?)
+}
+
+/// The images of a renderer's instants of a round, one after another.
+pub fn paint_part<R: Threads + Wait + Sync, G: Gate>(
+    rt: &R,
+    alloc: Global,
+    stage: &Stage,
+    round: usize,
+    painter: usize,
+    pass: RenderPass,
+    gate: &G,
+) -> (RenderPass, Mem<Items<Vec<u8>>>)
+    requires stage { IsPlayStage stage.now }
+    requires small { round ≤ max_rounds }
+    requires painter { painter < stage.now.job.renderers }
+    requires pass { IsPassOfRenderer stage.now.renderer pass }
+    ensures pass { IsPassOfRenderer stage.now.renderer result.0 }
+    ensures track { Follows pass.track result.0.track [] }
+    ensures later { AreLater pass.caches result.0.caches }
+    ensures images { IfOk result.1 (ArePainted stage.now round painter pass result.0) }
+    ensures holds { HoldsTheSame stage.now.renderer pass result.0 }
+{
+    let first = share_begins(&stage.job, round as u64, painter as u64);
+    let end = share_ends(&stage.job, round as u64, painter as u64);
+    let mut images = Items::new(alloc);
+    let mut pass = pass;
+    for place in first..end {
+        let (next, image) = image_at(rt, alloc, stage, place, pass, gate);
+        pass = next;
+        let added = add_image(&mut images, image);
+        if let Err(refused) = added {
+            return (pass, Err(refused));
+        }
+    }
+    (pass, Ok(images))
 }

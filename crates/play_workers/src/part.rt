@@ -13,7 +13,6 @@ use crate::stage::Stage;
 use crate::warmer::warm_part;
 use crate::worker::{Outcome, Role};
 use ass_io::Gate;
-use play_shares::instant_at;
 use render_pass::RenderPass;
 use std::alloc::Global;
 use std::sync::Wait;
@@ -58,14 +57,9 @@ fn painter_part<R: Threads + Wait + Sync, G: Gate>(
     requires pass { IsPassOfRenderer stage.now.renderer pass }
     ensures { IsDone stage.now round (Role.Painter painter) pass result.0 result.1 }
 {
-    let place = round * stage.job.renderers as usize + painter;
-    let t = match instant_at(&stage.job, place as u64) {
-        Some(t) => t,
-        None => return (pass, Outcome::Idle),
-    };
-    let (pass, image) = paint_part(rt, alloc, stage, t, pass, gate);
-    match image {
-        Ok(image) => (pass, Outcome::Shown(image)),
+    let (pass, images) = paint_part(rt, alloc, stage, round, painter, pass, gate);
+    match images {
+        Ok(images) => (pass, Outcome::Shown(images)),
         Err(_) => (pass, Outcome::OutOfMemory),
     }
 }

@@ -10,7 +10,7 @@ ghost use Rattle.play_workers.specs.declared.worker.Worker.{Worker};
 use crate::part::do_part;
 use crate::stage::Stage;
 use ass_io::Gate;
-use ass_num::{Mem, OutOfMemory};
+use ass_num::{Items, Mem, OutOfMemory};
 use render_pass::RenderPass;
 use std::alloc::{AllocFailed, Global};
 use std::sync::Wait;
@@ -34,8 +34,8 @@ pub enum Outcome {
     Idle,
     /// So many events that were offered were there already.
     Fed(usize),
-    /// An image.
-    Shown(Vec<u8>),
+    /// Images, in order.
+    Shown(Items<Vec<u8>>),
     OutOfMemory,
 }
 

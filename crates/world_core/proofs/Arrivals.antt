@@ -33,13 +33,15 @@ live-all history (e ∷ es) new =
     let again : live (after history e) ++ es ≡ lives ++ e ∷ es = ap (λ (z : List Event). z ++ es) one ∙ append_assoc lives (e ∷ []) es in
     live-all (after history e) es (subst HaveOwnOrders (sym again) new.0, subst (λ (z : List Event). length z ≤ max_live) (sym again) new.1) ∙ again
 
-moved : (lives a b : List Event) (e : Event) → (Contains a e → Contains b e) → Contains (lives ++ a) e → Contains (lives ++ b) e
-moved lives a b e into here = ⊎_elim (λ before. Contains-append_left lives b e before) (λ new. Contains-append_right lives b e (into new)) (Contains-append_cases lives a e here)
+-- what is in one of two lists is in one of two others
+module _ (xs ys new old : List Event) (e : Event) where
+  moved : (Contains xs e → Contains ys e) → (Contains new e → Contains old e) → Contains (xs ++ new) e → Contains (ys ++ old) e
+  moved first second here = ⊎_elim (λ one. Contains-append_left ys old e (first one)) (λ two. Contains-append_right ys old e (second two)) (Contains-append_cases xs new e here)
 
 pub live-in-any-order : LiveInAnyOrder
-live-in-any-order history a b same first second e =
+live-in-any-order history other a b lives same first second e =
     let one = live-all history a first in
-    let two = live-all history b second in (
-      λ here. subst (λ (z : List Event). Contains z e) (sym two) (moved (live history) a b e (same e).0 (subst (λ (z : List Event). Contains z e) one here)),
-      λ here. subst (λ (z : List Event). Contains z e) (sym one) (moved (live history) b a e (same e).1 (subst (λ (z : List Event). Contains z e) two here)),
+    let two = live-all other b second in (
+      λ here. subst (λ (z : List Event). Contains z e) (sym two) (moved (live history) (live other) a b e (lives e).0 (same e).0 (subst (λ (z : List Event). Contains z e) one here)),
+      λ here. subst (λ (z : List Event). Contains z e) (sym one) (moved (live other) (live history) b a e (lives e).1 (same e).1 (subst (λ (z : List Event). Contains z e) two here)),
     )

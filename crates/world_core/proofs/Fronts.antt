@@ -10,7 +10,7 @@ use Rattle.turn_cell.proofs.Histories.{IsPrefix-append, IsPrefix_same, IsPrefix_
 use Rattle.turn_cell.specs.History.{IsPrefix}
 use Rattle.world_keys.specs.declared.keys.WorldKey.{WorldKey}
 use Rattle.world_keys.specs.declared.keys.WorldValue.{WorldValue}
-use Rattle.world_core.specs.Laws.{BeginsWithLooks, StepsKeepLooks}
+use Rattle.world_core.specs.Records.{BeginsWithLooks}
 use Rattle.world_core.specs.States.{LookState, WorldState, opening_world}
 use Rattle.world_core.specs.Steps.{after_chunk, after_step, after_steps}
 use Rattle.world_core.specs.declared.steps.Step.{Step}
@@ -61,9 +61,9 @@ module _ {T : Type 0} (meaning : Meaning WorldKey WorldValue T) where
   looks-after s (step.Limits kind shard entries budget) begins = begins
   looks-after s (step.Show actor) begins = begins
 
-  looks-kept : (steps : List Step) (s : WorldState T) → BeginsWithLooks s → BeginsWithLooks (after_steps meaning s steps)
+  pub looks-kept : (steps : List Step) (s : WorldState T) → BeginsWithLooks s → BeginsWithLooks (after_steps meaning s steps)
   looks-kept [] s begins = begins
   looks-kept (x ∷ xs) s begins = looks-kept xs (after_step meaning s x) (looks-after s x begins)
 
-  pub steps-keep-looks : StepsKeepLooks meaning
-  steps-keep-looks tag budget steps = looks-kept steps (opening_world tag budget) (λ actor look is. no-look look [] is)
+pub opening-looks : {T : Type 0} (tag : T) (budget : ℕ) → BeginsWithLooks (opening_world tag budget)
+opening-looks tag budget = λ actor look is. no-look look [] is

@@ -10,3 +10,5 @@ mod Holding
 mod Recording
 mod Fronts
 mod Arrivals
+mod Running
+mod Orders

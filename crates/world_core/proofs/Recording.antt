@@ -10,13 +10,14 @@ use Rattle.evict_core.proofs.FillLaws.{claims-once, fills-once}
 use Rattle.evict_core.specs.History.{IsLegal}
 use Rattle.evict_core.specs.Machine as machine
 use Rattle.flight_cache.specs.Meaning.{Meaning, shard_count}
-use Rattle.turn_cell.specs.History.{History}
 use Rattle.actor_caches.specs.Caches.{ActorCachesView, answer_in, after_answer, filled, failed, unpinned_at}
 use Rattle.actor_caches.specs.Holdings.{holding_place}
 use Rattle.actor_caches.specs.Laws.{StandFor}
 use Rattle.actor_caches.specs.declared.holding.Holding.{Holding}
 use Rattle.actor_caches.proofs.Owned.{opened-stand, asked-stand, filled-stand, failed-stand, unpinned-stand, limited-stand}
-use Rattle.world_core.specs.Histories.{ShardHistories, kind_limits, with_own_step, with_step_at, fill_of, with_step_of, with_steps_of, opening_limits, StepsClaimOnce, StepsFillOnce, StepsMakeHistories}
+use Rattle.world_core.specs.Histories.{ShardHistories, ShardHistory, kind_limits, with_own_step, with_step_at, fill_of, with_step_of, with_steps_of, opening_limits}
+use Rattle.world_core.specs.Records.{BeginsWithLooks, IsRecorded, StepsAreRecorded}
+use Rattle.world_core.proofs.Fronts.{looks-kept, opening-looks}
 use Rattle.world_keys.specs.Keys.{equal_world_keys, first_shard, key_kind, world_shard, world_shards}
 use Rattle.world_core.specs.States.{WorldState, opening_world}
 use Rattle.world_core.specs.Steps.{after_step, after_steps, at_holding, at_place, held_key}
@@ -116,18 +117,26 @@ module _ {T : Type 0} (meaning : Meaning WorldKey WorldValue T) where
       steps-stand fonts limits steps (after_step meaning s step) (with_step_of meaning s step histories)
       (step-stands fonts s limits histories stand all step (All-head (IsValidStep fonts) step steps valid)) (shards-after s step ∙ all) (All-tail (IsValidStep fonts) step steps valid)
 
-  pub steps-make-histories : StepsMakeHistories meaning
-  steps-make-histories tag fonts budget steps valid =
-      steps-stand fonts _ steps (opening_world tag budget) (λ _. []) (opened-stand equal_world_keys key_laws.laws-law meaning tag (kind_limits budget ++ (kind_limits budget ++ kind_limits budget))) refl valid
+  -- ---- what is recorded
 
-  pub steps-claim-once : StepsClaimOnce meaning
-  steps-claim-once tag fonts budget steps valid n before between after actor other k again is same =
-      let stand = steps-make-histories tag fonts budget steps valid in
-      let limits = opening_limits budget n in
-      claims-once equal_world_keys key_laws.laws-law limits.0 limits.1 before between after actor other k again (subst (λ (h : History (machine.Step WorldKey WorldValue)). IsLegal equal_world_keys limits.0 limits.1 h) is (stand.legal n)) same
+  recorded-so : (s : WorldState T) (limits : ℕ → ℕ × ℕ) (histories : ShardHistories) → StandFor equal_world_keys meaning s.caches limits histories → BeginsWithLooks s → IsRecorded meaning s limits histories
+  recorded-so s limits histories stand looks = record {
+    stand = stand;
+    claims = λ n before between after actor other k again is same.
+        claims-once equal_world_keys key_laws.laws-law (limits n).0 (limits n).1 before between after actor other k again (subst (λ (h : ShardHistory). IsLegal equal_world_keys (limits n).0 (limits n).1 h) is (stand.legal n)) same;
+    fills = λ n before between after actor other k again c d v w is same.
+        fills-once equal_world_keys key_laws.laws-law (limits n).0 (limits n).1 before between after actor other k again c d v w (subst (λ (h : ShardHistory). IsLegal equal_world_keys (limits n).0 (limits n).1 h) is (stand.legal n)) same;
+    looks = looks;
+  }
 
-  pub steps-fill-once : StepsFillOnce meaning
-  steps-fill-once tag fonts budget steps valid n before between after actor other k again c d v w is same =
-      let stand = steps-make-histories tag fonts budget steps valid in
-      let limits = opening_limits budget n in
-      fills-once equal_world_keys key_laws.laws-law limits.0 limits.1 before between after actor other k again c d v w (subst (λ (h : History (machine.Step WorldKey WorldValue)). IsLegal equal_world_keys limits.0 limits.1 h) is (stand.legal n)) same
+  pub steps-recorded : (fonts : List FontValue) (steps : List Step) (s : WorldState T) (limits : ℕ → ℕ × ℕ) (histories : ShardHistories) → All (IsValidStep fonts) steps → length s.caches.shards ≡ world_shards
+      → IsRecorded meaning s limits histories → IsRecorded meaning (after_steps meaning s steps) limits (with_steps_of meaning s steps histories)
+  steps-recorded fonts steps s limits histories valid all before =
+      recorded-so (after_steps meaning s steps) limits (with_steps_of meaning s steps histories) (steps-stand fonts limits steps s histories before.stand all valid) (looks-kept meaning steps s before.looks)
+
+  pub opening-recorded : (tag : T) (budget : ℕ) → IsRecorded meaning (opening_world tag budget) (opening_limits budget) (λ _. [])
+  opening-recorded tag budget =
+      recorded-so (opening_world tag budget) (opening_limits budget) (λ _. []) (opened-stand equal_world_keys key_laws.laws-law meaning tag (kind_limits budget ++ (kind_limits budget ++ kind_limits budget))) (opening-looks tag budget)
+
+  pub steps-are-recorded : StepsAreRecorded meaning
+  steps-are-recorded tag fonts budget steps valid = steps-recorded fonts steps (opening_world tag budget) (opening_limits budget) (λ _. []) valid refl (opening-recorded tag budget)

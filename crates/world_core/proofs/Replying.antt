@@ -29,6 +29,16 @@ module _ (script : ScriptValue) (fonts : List FontValue) where
   replies-push s (y ∷ ys) [] x r are is = absurd are
   replies-push s (y ∷ ys) (q ∷ qs) x r are is = (are.0, replies-push (after_step world_meaning s y) ys qs x r are.1 is)
 
+  -- the replies to a front of the steps, and those to the rest
+  pub replies-apart : (xs ys : List Step) (s : WorldState WorldTag) (told rest : List Reply) → length told ≡ length xs → AreReplies script fonts world_meaning s (xs ++ ys) (told ++ rest)
+      → AreReplies script fonts world_meaning s xs told × AreReplies script fonts world_meaning (after_steps world_meaning s xs) ys rest
+  replies-apart [] ys s [] rest same are = (tt, are)
+  replies-apart [] ys s (r ∷ rs) rest same are = absurd (omega (arith, same))
+  replies-apart (x ∷ xs) ys s [] rest same are = absurd (omega (arith, same))
+  replies-apart (x ∷ xs) ys s (r ∷ rs) rest same are =
+      let later : length rs ≡ length xs = omega (arith, same) in
+      let parts = replies-apart xs ys (after_step world_meaning s x) rs rest later are.1 in ((are.0, parts.0), parts.1)
+
   module _ (s : WorldState WorldTag) (steps : List Step) (i : ℕ) (step : Step) (below : i < length steps) (is : step ≡ get_or steps i step) where
     -- the state after one step more
     pub steps-more : after_steps world_meaning s (take (i + 1) steps) ≡ after_step world_meaning (after_steps world_meaning s (take i steps)) step

@@ -1,9 +1,6 @@
 -- Public: the histories of the shards, as the steps make them.
-use Rattle.std.specs.Prelude.{◌≡◌, ℕ, ◌+◌, true, List, [], ◌∷◌, ◌++◌, All, Option, Some, None, slice_get, slice_index_or}
-use Rattle.bdf_font.specs.Fonts.{FontValue}
+use Rattle.std.specs.Prelude.{ℕ, ◌+◌, List, [], ◌∷◌, ◌++◌, Option, Some, None, slice_get, slice_index_or}
 use Rattle.turn_cell.specs.History.{History}
-use Rattle.evict_core.specs.History.{replay}
-use Rattle.evict_core.specs.Laws.{IsEvictedWithin, IsLostWithin}
 use Rattle.evict_core.specs.Machine as machine
 use Rattle.flight_cache.specs.Meaning.{Meaning}
 use Rattle.flight_cache.specs.Shards.{part}
@@ -11,21 +8,22 @@ use Rattle.cache_kinds.specs.Limits.{entry_limit}
 use Rattle.actor_caches.specs.Caches.{answer_in}
 use Rattle.actor_caches.specs.Histories.{ask_in_shard, entry_in_shard}
 use Rattle.actor_caches.specs.Holdings.{holding_place}
-use Rattle.actor_caches.specs.Laws.{StandFor}
 use Rattle.actor_caches.specs.declared.holding.Holding.{Holding}
 use Rattle.world_keys.specs.Keys.{equal_world_keys, first_shard}
-use Rattle.world_core.specs.States.{WorldState, opening_world}
-use Rattle.world_core.specs.Steps.{after_step, after_steps, held_key}
-use Rattle.world_core.specs.Tellings.{IsValidStep}
+use Rattle.world_core.specs.States.{WorldState}
+use Rattle.world_core.specs.Steps.{after_step, held_key}
 use Rattle.world_keys.specs.declared.keys.WorldKey.{WorldKey}
 use Rattle.world_keys.specs.declared.keys.WorldKey.TheVariants as key
 use Rattle.world_keys.specs.declared.keys.WorldValue.{WorldValue}
 use Rattle.world_core.specs.declared.steps.Step.{Step}
 use Rattle.world_core.specs.declared.steps.Step.TheVariants.{Feed, Flush, Look, AskOutline, AskMask, AskComposite, Fill, Fail, Unpin, Limits, Show}
 
--- a history of each shard
+-- the history of one shard, and one of each
+abbrev pub ShardHistory : Type 0
+ShardHistory = History (machine.Step WorldKey WorldValue)
+
 abbrev pub ShardHistories : Type 0
-ShardHistories = ℕ → History (machine.Step WorldKey WorldValue)
+ShardHistories = ℕ → ShardHistory
 
 -- with the step of who has this ticket or pin
 abbrev pub with_own_step : (Holding WorldKey → machine.Step WorldKey WorldValue) → Option (Holding WorldKey) → ShardHistories → ShardHistories
@@ -70,30 +68,3 @@ kind_limits budget = (part (entry_limit budget) 0, part budget 0) ∷ (part (ent
 
 abbrev pub opening_limits : ℕ → ℕ → ℕ × ℕ
 opening_limits budget n = slice_index_or (kind_limits budget ++ (kind_limits budget ++ kind_limits budget)) n (0, 0)
-
--- After each list of steps from a new world the shards stand for the histories that these steps made
-abbrev pub StepsMakeHistories : {T : Type 0} → Meaning WorldKey WorldValue T → Type 0
-StepsMakeHistories {T} meaning =
-    (tag : T) (fonts : List FontValue) (budget : ℕ) (steps : List Step) → All (IsValidStep fonts) steps
-    → StandFor equal_world_keys meaning (after_steps meaning (opening_world tag budget) steps).caches (opening_limits budget) (with_steps_of meaning (opening_world tag budget) steps (λ _. []))
-
-module _ {T : Type 0} (meaning : Meaning WorldKey WorldValue T) where
-  -- the history of a shard after these steps from a new world
-  abbrev pub shard_history : T → ℕ → List Step → ℕ → History (machine.Step WorldKey WorldValue)
-  shard_history tag budget steps n = with_steps_of meaning (opening_world tag budget) steps (λ _. []) n
-
-  -- between two claims of a key in it, by whichever actors, stands its fail or an eviction of it
-  abbrev pub StepsClaimOnce : Type 0
-  StepsClaimOnce = (tag : T) (fonts : List FontValue) (budget : ℕ) (steps : List Step) → All (IsValidStep fonts) steps
-      → (n : ℕ) (before between after : History (machine.Step WorldKey WorldValue)) (actor other : ℕ) (k again : WorldKey)
-      → shard_history tag budget steps n ≡ before ++ (actor, machine.Ask k machine.Claim) ∷ (between ++ (other, machine.Ask again machine.Claim) ∷ after)
-      → equal_world_keys k again ≡ true
-      → IsLostWithin equal_world_keys (replay equal_world_keys (opening_limits budget n).0 (opening_limits budget n).1 (before ++ (actor, machine.Ask k machine.Claim) ∷ [])) between k
-
-  -- and between two fills an eviction
-  abbrev pub StepsFillOnce : Type 0
-  StepsFillOnce = (tag : T) (fonts : List FontValue) (budget : ℕ) (steps : List Step) → All (IsValidStep fonts) steps
-      → (n : ℕ) (before between after : History (machine.Step WorldKey WorldValue)) (actor other : ℕ) (k again : WorldKey) (c d : ℕ) (v w : WorldValue)
-      → shard_history tag budget steps n ≡ before ++ (actor, machine.Fill k c v) ∷ (between ++ (other, machine.Fill again d w) ∷ after)
-      → equal_world_keys k again ≡ true
-      → IsEvictedWithin equal_world_keys (replay equal_world_keys (opening_limits budget n).0 (opening_limits budget n).1 (before ++ (actor, machine.Fill k c v) ∷ [])) between k

@@ -8,14 +8,13 @@ use Rattle.evict_core.specs.Asked.{ready_value}
 use Rattle.evict_core.specs.History.{one_if}
 use Rattle.evict_core.specs.Machine.{has_idle, maker_in, pins_in, status_of, unpinned}
 use Rattle.flight_cache.specs.Meaning.{Meaning}
-use Rattle.turn_cell.specs.History.{IsPrefix}
 use Rattle.picture_plan.specs.Pictures.{HaveSameEvents}
 use Rattle.actor_caches.specs.Caches.{ActorCachesView, shard_in}
 use Rattle.actor_caches.specs.Holdings.{count_all, count_held}
 use Rattle.actor_caches.specs.Laws.{HaveHistories}
 use Rattle.world_keys.specs.Keys.{equal_world_keys}
 use Rattle.world_core.specs.Replies.{IsPictureShown}
-use Rattle.world_core.specs.States.{LookState, WorldState, opening_world}
+use Rattle.world_core.specs.States.{LookState, WorldState}
 use Rattle.world_core.specs.Steps.{after_steps}
 use Rattle.world_core.specs.Tellings.{WorldTag}
 use Rattle.world_keys.specs.declared.keys.WorldKey.{WorldKey}
@@ -39,14 +38,6 @@ module _ {T : Type 0} (meaning : Meaning WorldKey WorldValue T) where
   abbrev pub KeepsLawsFor : WorldState T → List Step → ℕ → Type 0
   KeepsLawsFor s steps k = KeepsLaws (after_steps meaning s (take k steps)).caches
 
--- the history begins with what each actor's last look saw
-abbrev pub BeginsWithLooks : {T : Type 0} → WorldState T → Type 0
-BeginsWithLooks s = (actor : ℕ) (look : LookState) → s.looks actor ≡ Some look → IsPrefix look.history s.history
-
--- so it does after each list of steps from a new world
-abbrev pub StepsKeepLooks : {T : Type 0} → Meaning WorldKey WorldValue T → Type 0
-StepsKeepLooks {T} meaning = (tag : T) (budget : ℕ) (steps : List Step) → BeginsWithLooks (after_steps meaning (opening_world tag budget) steps)
-
 -- the history after these events were offered, one after another
 abbrev pub after_all : List Entry → List Event → List Entry
 after_all history events = fold after history events
@@ -55,9 +46,10 @@ after_all history events = fold after history events
 abbrev pub AreNewTo : List Entry → List Event → Type 0
 AreNewTo history events = HaveOwnOrders (live history ++ events) × (length (live history ++ events) ≤ max_live)
 
--- in whatever order such events are offered, the same events are live then
+-- in whatever order such events are offered where the same events are live, the same are live then
 abbrev pub LiveInAnyOrder : Type 0
-LiveInAnyOrder = (history : List Entry) (a b : List Event) → HaveSameEvents a b → AreNewTo history a → AreNewTo history b → HaveSameEvents (live (after_all history a)) (live (after_all history b))
+LiveInAnyOrder = (history other : List Entry) (a b : List Event) → HaveSameEvents (live history) (live other) → HaveSameEvents a b → AreNewTo history a → AreNewTo other b
+    → HaveSameEvents (live (after_all history a)) (live (after_all other b))
 
 -- two looks at the same events, at the same instant and in the same size
 pub record SeeTheSame (a b : LookState) : Type 0 where

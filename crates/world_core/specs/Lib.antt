@@ -1,7 +1,10 @@
 pub mod States
 pub mod Steps
 pub mod Histories
+pub mod Records
 pub mod Replies
 pub mod Tellings
 pub mod Laws
+pub mod Runs
+pub mod Orders
 pub mod Made

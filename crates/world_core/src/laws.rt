@@ -3,9 +3,10 @@ ghost use Rattle.std.specs.Prelude.{List};
 ghost use Rattle.ass_script.specs.Ranges.{IsScript};
 ghost use Rattle.ass_script.specs.Scripts.{ScriptValue};
 ghost use Rattle.bdf_font.specs.Fonts.{FontValue};
-ghost use Rattle.world_core.specs.Histories.{StepsClaimOnce, StepsFillOnce, StepsMakeHistories};
 ghost use Rattle.world_keys.specs.Keys.{world_meaning};
-ghost use Rattle.world_core.specs.Laws.{LiveInAnyOrder, ShowTheSame, StepsKeepLooks};
+ghost use Rattle.world_core.specs.Laws.{LiveInAnyOrder, ShowTheSame};
+ghost use Rattle.world_core.specs.Orders.{OrdersShowTheSame, RepliesTellHistory, RunsShowTheSame};
+ghost use Rattle.world_core.specs.Records.{StepsAreRecorded};
 ghost use Rattle.world_core.specs.Tellings.{WorldTag};
 
 /// The order in which chunks came isn't seen: in whatever order new events are offered, the same are live then, and two looks that saw the
@@ -15,20 +16,17 @@ pub fn order_of_arrival()
     ensures shown { (script : ScriptValue) (fonts : List FontValue) → IsScript script → ShowTheSame script fonts }
 {}
 
-/// What an actor's last look saw are the first entries of the history that there is after whatever steps.
-pub fn looks()
-    ensures { StepsKeepLooks {T = WorldTag} world_meaning }
+/// The same of whole runs of steps: the replies tell the track's history, and where they tell of the same live events before two looks, the same
+/// is shown at the same instant and size. So it is where the same new events are fed in two orders, with whatever other steps between.
+pub fn order_of_steps()
+    ensures told { (script : ScriptValue) (fonts : List FontValue) → RepliesTellHistory script fonts }
+    ensures shown { (script : ScriptValue) (fonts : List FontValue) → IsScript script → RunsShowTheSame script fonts }
+    ensures orders { (script : ScriptValue) (fonts : List FontValue) → IsScript script → OrdersShowTheSame script fonts }
 {}
 
-/// Which histories the shards have: none in a new world, and after each list of steps those that these steps made, each by its
-/// actor. So the laws of legal histories are laws of the steps.
-pub fn histories()
-    ensures { StepsMakeHistories {T = WorldTag} world_meaning }
-{}
-
-/// The single-fill law of the steps: a key is claimed again only after its fail or its eviction, and filled again only after its
-/// eviction, whoever does it.
-pub fn single_fill()
-    ensures claims { StepsClaimOnce {T = WorldTag} world_meaning }
-    ensures fills { StepsFillOnce {T = WorldTag} world_meaning }
+/// What is recorded after each list of steps from a new world. The shards' histories are those that these steps made, each by its
+/// actor; so no key is filled or claimed twice in its shard without an eviction, or the claim's fail, between. And what an actor's last look saw are the
+/// first entries of the track's history.
+pub fn records()
+    ensures { StepsAreRecorded {T = WorldTag} world_meaning }
 {}

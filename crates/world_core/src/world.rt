@@ -1,5 +1,5 @@
 //! The world: what it is, and its steps.
-ghost use Rattle.std.specs.Prelude.{◌≡◌, ◌≤◌, ◌<◌, ℕ, All, IfErr, IfOk, length, take};
+ghost use Rattle.std.specs.Prelude.{◌≡◌, ◌≤◌, ◌<◌, ℕ, All, IfErr, IfOk, [], length, take};
 ghost use Rattle.std.specs.Arc.{arc_value};
 ghost use Rattle.ass_events.specs.Events.{event_of};
 ghost use Rattle.ass_events.specs.Histories.{flushed};
@@ -13,10 +13,13 @@ ghost use Rattle.text_layout.specs.Fonts.{IsLayoutFontSet};
 ghost use Rattle.track_history.specs.Answers.{flush_answer};
 ghost use Rattle.actor_caches.specs.Caches.{asked};
 ghost use Rattle.world_keys.specs.Keys.{IsValidWorldKey, equal_world_keys, world_meaning};
-ghost use Rattle.world_core.specs.Laws.{KeepsLaws, KeepsLawsFor};
+ghost use Rattle.world_core.specs.Histories.{opening_limits};
+ghost use Rattle.world_core.specs.Laws.{KeepsLaws};
 ghost use Rattle.world_core.specs.Made.{IsMade, IsMadeBy};
+ghost use Rattle.world_core.specs.Records.{BeginsWithLooks, IsRecorded};
+ghost use Rattle.world_core.specs.Runs.{IsRunOf, ShowPicturesOfFirst};
 ghost use Rattle.world_core.specs.States.{LookState, WorldState, opening_world, with_look};
-ghost use Rattle.world_core.specs.Steps.{after_chunk, after_step, after_steps, held_key};
+ghost use Rattle.world_core.specs.Steps.{after_chunk, after_step, held_key};
 ghost use Rattle.world_core.specs.Replies.{AreReplies, IsAskReply, IsFedReply, IsLookReply, IsReply, IsShowReply};
 ghost use Rattle.world_core.specs.Tellings.{IsValidStep, IsWorld, TellsLook, TellsWorld, WorldTag};
 ghost use Rattle.world_core.specs.declared.steps.Reply.TheVariants as reply;
@@ -58,6 +61,7 @@ pub fn open(alloc: Global, script: Arc<Script>, fonts: Arc<FontSet>, budget: u64
     ensures script { IfOk result (λ w. w.script ≡ script) }
     ensures fonts { IfOk result (λ w. w.fonts ≡ fonts) }
     ensures state { IfOk result (λ w. TellsWorld w (opening_world fonts budget)) }
+    ensures recorded { IfOk result (λ _. IsRecorded world_meaning (opening_world fonts budget) (opening_limits budget) (λ _. [])) }
 {
     let caches = open_caches(alloc, &fonts, budget)?;
     let track = LiveEvents::new(alloc);
@@ -89,18 +93,19 @@ pub fn one_step(alloc: Global, mut world: World, step: &Step) -> Result<(World, 
     }
 }
 
-/// Steps, one after another, and their replies. Want of memory gives back the world after the steps that were done.
+/// Steps, one after another, and their replies. After each step the laws hold, and what is shown is the picture without caches of the
+/// first entries of the track's history. Want of memory gives back the world after the steps that were done.
 pub fn run(alloc: Global, mut world: World, steps: &[Step]) -> Result<(World, Vec<Reply>), World>
     requires told { IsWorld world }
     requires steps { All (IsValidStep (arc_value world.fonts).fonts) steps.now }
     ensures script { IfOk result (λ r. r.0.script ≡ world.script) }
     ensures fonts { IfOk result (λ r. r.0.fonts ≡ world.fonts) }
-    ensures state { (s : WorldState WorldTag) → TellsWorld world s → IfOk result (λ r. TellsWorld r.0 (after_steps world_meaning s steps.now)) }
+    ensures state { (s : WorldState WorldTag) → TellsWorld world s → IfOk result (λ r. IsRunOf s steps.now r.0) }
     ensures replies { (s : WorldState WorldTag) → TellsWorld world s
         → IfOk result (λ r. AreReplies (arc_value world.script) (arc_value world.fonts).fonts world_meaning s steps.now r.1.items) }
-    ensures laws { (s : WorldState WorldTag) → TellsWorld world s → IfOk result (λ _. (k : ℕ) → k ≤ length steps.now → KeepsLawsFor world_meaning s steps.now k) }
-    ensures err { (s : WorldState WorldTag) → TellsWorld world s
-        → IfErr result (λ w. (k : ℕ) × (k < length steps.now) × TellsWorld w (after_steps world_meaning s (take k steps.now))) }
+    ensures shown { (s : WorldState WorldTag) → TellsWorld world s → BeginsWithLooks s
+        → IfOk result (λ r. ShowPicturesOfFirst (arc_value world.script) (arc_value world.fonts).fonts s steps.now r.1.items) }
+    ensures err { (s : WorldState WorldTag) → TellsWorld world s → IfErr result (λ w. (k : ℕ) × (k < length steps.now) × IsRunOf s (take k steps.now) w) }
     ensures inputs { IfErr result (λ w. (w.script ≡ world.script) × (w.fonts ≡ world.fonts)) }
 {
     world.keep_laws();

@@ -1,11 +1,10 @@
 -- A script that is written again with its own events at other instants.
-use Rattle.std.proofs.Common.{◌≡◌, ℕ, zero, suc, ◌+◌, ◌<◌, ◌≤◌, Bool, true, false, cond, List, [], ◌∷◌, ◌++◌, length, map, All, Option, Some, None, Result, Ok, Err, ℤ, ◌+ℤ◌, ◌-ℤ◌, refl, sym, ap, ◌∙◌, subst, arith, append-nil}
+use Rattle.std.proofs.Common.{◌≡◌, ℕ, zero, suc, ◌+◌, ◌<◌, Bool, true, false, cond, List, [], ◌∷◌, ◌++◌, length, map, All, Option, Some, None, Result, Ok, Err, ℤ, ◌+ℤ◌, ◌-ℤ◌, refl, sym, ap, subst, arith, append-nil}
 use Rattle.std.specs.Option.{option_map_or}
 use Rattle.std.specs.Prelude.{slice_index_or}
 use Rattle.std.proofs.lemmas.List.{length-map}
 use Rattle.std.proofs.lemmas.List.Elements.{All-cons, All-head, All-map, All-nil, All-tail, All-weaker}
-use Rattle.ass_script.specs.Ranges.{IsScript}
-use Rattle.ass_script.specs.Scripts.{ScriptValue, script_of}
+use Rattle.ass_script.specs.Scripts.{ScriptValue}
 use Rattle.ass_script.specs.declared.script.EventField.TheVariants as field
 use Rattle.ass_events.specs.Events.{event_of_line, is_time, line_event, line_made}
 use Rattle.ass_events.specs.Fields.{FieldValues, columns_of, examined, no_fields}
@@ -100,7 +99,7 @@ scripts_are_read_later scripts law script later earlier moved bytes spelled is_m
       script_read script moved,
       scripts script moved bytes spelled each (omega (arith, ap length same, length-map events (later_event by), are.few)) is_written,
       λ fonts t size canvas picture.
-      read_shows law script fonts moved bytes (t +ℤ by) size canvas each ascend is_written (pictures_are_shifted script fonts later earlier events moved t size canvas is_moved picture),
+          read_shows law script fonts moved bytes (t +ℤ by) size canvas each ascend is_written (pictures_are_shifted script fonts later earlier events moved t size canvas is_moved picture),
     )
 
 pub read_scripts_are_spelled : TextsSpellScripts → StylesAreSpelled → ReadScriptsAreSpelled

@@ -1,0 +1,46 @@
+use Rattle.std.proofs.Common.{◌==◌, [], ◌∷◌}
+use Rattle.std.specs.Cmp.{nat_eq_equiv}
+use Rattle.evict_core.specs.Machine.{Ask, Hit, Claim}
+use Rattle.flight_cache.proofs.Visits.{call-stays, hit-held, claim-open, after-hit, after-fail, after-crowded, after-nothing}
+use Rattle.cache_bench.specs.Doubled.{doubled}
+use Rattle.cache_bench.proofs.contests.claim_and_fail.Goals as goal
+
+pub unpin-requires-clause-cell : goal.unpin-requires-clause-cell
+unpin-requires-clause-cell g c =
+    let asked = rw c.in-Hit.is at c.ask-pass.ensures.asked in
+    call-stays (◌==◌) nat_eq_equiv doubled c.args.cache.now c.args.key c.args.pass c.ask-pass.result.0 (Ask c.args.key Hit ∷ []) c.requires (asked.0, c.ask-pass.ensures.others)
+
+pub unpin-requires-clause-held : goal.unpin-requires-clause-held
+unpin-requires-clause-held g c =
+    let asked = rw c.in-Hit.is at c.ask-pass.ensures.asked in
+    hit-held (◌==◌) nat_eq_equiv doubled c.args.cache.now c.args.key c.in-Hit.pin.key c.args.pass c.ask-pass.result.0 asked.1 (asked.0, c.ask-pass.ensures.others)
+
+pub returns-in-Hit : goal.returns-in-Hit
+returns-in-Hit g c =
+    let asked = rw c.in-Hit.is at c.ask-pass.ensures.asked in
+    after-hit (◌==◌) nat_eq_equiv doubled c.args.cache.now c.args.key c.in-Hit.pin.key c.args.pass c.ask-pass.result.0 c.unpin.result asked.1 c.requires (asked.0, c.ask-pass.ensures.others) (c.unpin.ensures.unpin, c.unpin.ensures.others)
+
+pub fail-requires-clause-cell : goal.fail-requires-clause-cell
+fail-requires-clause-cell g c =
+    let asked = rw c.in-Claim.is at c.ask-pass.ensures.asked in
+    call-stays (◌==◌) nat_eq_equiv doubled c.args.cache.now c.args.key c.args.pass c.ask-pass.result.0 (Ask c.args.key Claim ∷ []) c.requires (asked.0, c.ask-pass.ensures.others)
+
+pub fail-requires-clause-open : goal.fail-requires-clause-open
+fail-requires-clause-open g c =
+    let asked = rw c.in-Claim.is at c.ask-pass.ensures.asked in
+    claim-open (◌==◌) nat_eq_equiv doubled c.args.cache.now c.args.key c.in-Claim.ticket.key c.args.pass c.ask-pass.result.0 asked.1 (asked.0, c.ask-pass.ensures.others)
+
+pub returns-in-Claim : goal.returns-in-Claim
+returns-in-Claim g c =
+    let asked = rw c.in-Claim.is at c.ask-pass.ensures.asked in
+    after-fail (◌==◌) nat_eq_equiv doubled c.args.cache.now c.args.key c.in-Claim.ticket.key c.args.pass c.ask-pass.result.0 c.fail.result asked.1 c.requires (asked.0, c.ask-pass.ensures.others) (c.fail.ensures.fail, c.fail.ensures.others)
+
+pub returns-in-Crowded : goal.returns-in-Crowded
+returns-in-Crowded g c =
+    let asked = rw c.in-Crowded.is at c.ask-pass.ensures.asked in
+    after-crowded (◌==◌) nat_eq_equiv doubled c.args.cache.now c.args.key c.args.pass c.ask-pass.result.0 c.requires (asked, c.ask-pass.ensures.others)
+
+pub returns-in-OutOfMemory : goal.returns-in-OutOfMemory
+returns-in-OutOfMemory g c =
+    let asked = rw c.in-OutOfMemory.is at c.ask-pass.ensures.asked in
+    after-nothing (◌==◌) nat_eq_equiv doubled c.args.cache.now c.args.key c.args.pass c.ask-pass.result.0 c.requires asked c.ask-pass.ensures.others

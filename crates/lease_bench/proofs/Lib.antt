@@ -1,3 +1,0 @@
-pub mod Fontless
-pub mod Held
-pub mod Lent

@@ -1,0 +1,20 @@
+//! Rows of numbers.
+
+use std::alloc::Global;
+use std::io;
+
+/// Numbers behind a head.
+pub fn numbers_text(alloc: Global, head: &str, numbers: &[i64]) -> io::Result<String> {
+    let mut text = String::from_str(alloc, head)?;
+    for number in numbers {
+        let digits = format!(in alloc; " {number}")?;
+        text.push_str(digits.as_str())?;
+    }
+    Ok(text)
+}
+
+/// Prints a head and numbers.
+pub fn show_numbers(rt: &HostRuntime, head: &str, numbers: &[i64]) -> io::Result<()> {
+    let text = numbers_text(rt.alloc(), head, numbers)?;
+    println!(rt; "{text}")
+}
