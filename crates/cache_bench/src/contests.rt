@@ -140,20 +140,14 @@ fn one_key(alloc: Global) -> Mem<Keys> {
     })
 }
 
-/// Eight threads visit one key: how many found a value, and the counts.
+/// Four threads visit one key: how many found a value, and the counts.
 pub fn visit_one_key<R: Wait + Threads + Sync>(rt: &R, alloc: Global) -> Mem<(u32, Totals)> {
     let keys = one_key(alloc)?;
     let (cache, pass) = Cache::open(alloc, (), ENTRIES, BUDGET)?;
-    let (pass, mut left) = lend_four(&cache, pass);
-    let (pass, mut right) = lend_four(&cache, pass);
-    join_mut(
-        rt,
-        &mut || work_by_four(rt, alloc, &cache, &mut left, &keys, 1),
-        &mut || work_by_four(rt, alloc, &cache, &mut right, &keys, 1),
-    );
-    let (pass, one) = rejoin_four(&cache, pass, left);
-    let (pass, other) = rejoin_four(&cache, pass, right);
+    let (pass, mut four) = lend_four(&cache, pass);
+    work_by_four(rt, alloc, &cache, &mut four, &keys, 1);
+    let (pass, found) = rejoin_four(&cache, pass, four);
     let (pass, totals) = cache.totals(rt, pass);
     cache.close(pass);
-    Ok((one.saturating_add(other), totals))
+    Ok((found, totals))
 }

@@ -127,7 +127,7 @@ fn show_counts<R: Wait + Threads + Sync + Clock + Print>(
     let (found, totals) = fail_before_another(rt, alloc)?;
     show_totals(rt, "behind a failed making", found, &totals)?;
     let (found, totals) = visit_one_key(rt, alloc)?;
-    show_totals(rt, "eight threads for one key", found, &totals)
+    show_totals(rt, "four threads for one key", found, &totals)
 }
 
 fn show_times<R: Wait + Threads + Sync + Clock + Print>(

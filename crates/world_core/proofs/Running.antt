@@ -49,20 +49,24 @@ module _ (world now : World) (s : WorldState WorldTag) (t : TellsWorld world s) 
 
 module _ (script : ScriptValue) (fonts : List FontValue) where
   module _ (s : WorldState WorldTag) (begins : BeginsWithLooks s) (actor n : ℕ) (pixels : List ℕ) where
+    -- what the look saw are the first n entries
+    first-seen : (look : LookState) → s.looks actor ≡ Some look → n ≡ length look.history → take n s.history ≡ look.history
+    first-seen look is seen =
+        let front = begins actor look is in
+        ap (λ (m : ℕ). take m s.history) seen ∙ (ap (λ (h : List Entry). take (length look.history) h) (sym front.1) ∙ take-append_seam look.history front.0)
+
+    pictured : (look : LookState) → s.looks actor ≡ Some look → IsPictureShown script fonts s.caches actor look n pixels → IsPictureOfFirst script fonts s actor n pixels
+    pictured look is shown = record {
+      look = look;
+      last = is;
+      draws = shown.draws;
+      are_draws = subst (λ (h : List Entry). AreDraws script fonts (live h) look.instant look.size shown.draws) (sym (first-seen look is shown.seen_is)) shown.are_draws;
+      pixels_are = shown.bytes_are;
+    }
+
     shown-of-first : (o : Option LookState) → s.looks actor ≡ o → IsShowReply script fonts s.caches actor o (Shown n pixels) → IsPictureOfFirst script fonts s actor n pixels
     shown-of-first None is shown = let wrong : Shown n pixels ≡ Idle = shown in cc
-    shown-of-first (Some look) is shown =
-        let picture : IsPictureShown script fonts s.caches actor look n pixels = shown in
-        let front = begins actor look is in
-        let seen : take n s.history ≡ look.history =
-        ap (λ (m : ℕ). take m s.history) picture.seen_is ∙ (ap (λ (h : List Entry). take (length look.history) h) (sym front.1) ∙ take-append_seam look.history front.0) in
-        record {
-          look = look;
-          last = is;
-          draws = picture.draws;
-          are_draws = subst (λ (h : List Entry). AreDraws script fonts (live h) look.instant look.size picture.draws) (sym seen) picture.are_draws;
-          pixels_are = picture.bytes_are;
-        }
+    shown-of-first (Some look) is shown = pictured look is shown
 
   pub pictures-of-first : (s : WorldState WorldTag) (steps : List Step) (replies : List Reply) → BeginsWithLooks s → AreReplies script fonts world_meaning s steps replies → ShowPicturesOfFirst script fonts s steps replies
   pictures-of-first s steps replies begins are before later told rest actor n pixels steps_are replies_are same =
