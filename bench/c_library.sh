@@ -10,6 +10,8 @@
 #   LIBASS    the compiler's words for libass, else those of pkg-config
 #   FONT      a BDF file, else examples/subtitle.bdf; libass gets it as TrueType, one square for each set pixel
 #   ROWS      the names of some workloads, else all
+#   EVERY     a number: only one frame of so many is drawn, for a trial; else each
+#   PICTURES  a folder for the last frame of each workload by each side, else none
 set -euo pipefail
 
 top=$(dirname -- "$(dirname -- "$(readlink -f -- "${BASH_SOURCE[0]}")")")
@@ -71,13 +73,30 @@ inputs() {
 
 # One run of a workload by one side.
 render() { # SIDE NAME SCRIPT FONT SIZE FROM TO STEP OPTION..
-    "$room/$1" render "$room/$3.ass" --font "$room/$4.$1" --size "$5" --from "$6" --to "$7" --step "$8" --cpu-clock \
-        "${@:9}" >> "$room/said.$1.$2"
+    local picture=()
+    [ -z "${PICTURES:-}" ] || picture=(--ppm "$PICTURES/$2.$1.ppm")
+    "$room/$1" render "$room/$3.ass" --font "$room/$4.$1" --size "$5" --from "$6" --to "$7" \
+        --step $(($8 * ${EVERY:-1})) --cpu-clock "${picture[@]}" "${@:9}" >> "$room/said.$1.$2"
 }
 
 # What lines read: render the first of two modes, and feed the second.
 read_lines() { # SIDE MODE SCRIPT
     "$room/$1" "$2" "$room/$3.ass" --runs 3 --cpu-clock >> "$room/said.$1.$2-$3"
+}
+
+# What a side had to do, as it told itself.
+work_of() { # SIDE NAME
+    grep -E '^(size|track_events|frames[12]|fed|events|script_lines) ' "$room/said.$1.$2" | sort -u
+}
+
+# Names each workload at which the two had other work.
+other_work() {
+    local file name
+    [ "$sides" != here ] || return 0
+    for file in "$room"/said.here.*; do
+        name=${file#"$room/said.here."}
+        cmp -s <(work_of here "$name") <(work_of libass "$name") || echo "$name: the two had other events or frames"
+    done
 }
 
 # The least of a key's values, divided, with so many decimals.
@@ -163,3 +182,4 @@ cell signs-resized resize_there_first 1000 1
 cell signs-resized resize_back_first 1000 1
 printf '\n\n'
 [ -n "${ROWS:-}" ] || line_table
+other_work

@@ -79,15 +79,25 @@ frames() { # KIND FROM TO STEP WxH SCRIPT FONT
     "$work/$1/pictures" "${@:2}"
 }
 
-# The lines of docs/EMBEDDING-C.md, in a program.
-from_page() {
-    # shellcheck disable=SC2016
-    sed -n '/^```c$/,/^```$/{/^```/d;p}' "$top/docs/EMBEDDING-C.md" > "$work/page.c"
-    cat >> "$work/page.c" << 'END'
+# The blocks of docs/EMBEDDING-C.md that are written in a language, or in none.
+blocks() { # LANGUAGE
+    awk -v fence="\`\`\`$1" '/^```/ { inside = !inside; wanted = inside && $0 == fence; next } wanted' \
+        "$top/docs/EMBEDDING-C.md"
+}
 
-#include "files.h"
-#include <stdio.h>
-#include <stdlib.h>
+# The page's ten lines, in a program, and its commands, as they stand there: at the top of a folder in which c/build.sh
+# only names the archive.
+from_page() {
+    local page=$work/page
+    mkdir -p "$page/c"
+    ln -s "$top/examples" "$page/examples"
+    ln -s "$here"/*.c "$here"/*.h "$page/c"
+    printf '#!/bin/sh\necho "%s"\n' "$archive" > "$page/c/build.sh"
+    chmod +x "$page/c/build.sh"
+    blocks c > "$page/yours.c"
+    cat >> "$page/yours.c" << 'END'
+
+#include "files.c"
 
 int main(int argc, char **argv) {
     static uint8_t rgb[3 * 1280 * 720];
@@ -103,10 +113,15 @@ int main(int argc, char **argv) {
     return 0;
 }
 END
-    "$cc" -Wall -Wextra -Werror -I"$here" -o "$work/page" "$work/page.c" "$here"/{files,rattle_heap}.c "$archive"
-    "$work/page" "$top/examples/dialogue.ass" "$top/examples/subtitle.bdf" > "$work/page.ppm"
-    "$work/plain/demo" 2500 2501 1 1280x720 "$top/examples/dialogue.ass" "$top/examples/subtitle.bdf" > "$work/demo.ppm"
-    cmp "$work/page.ppm" "$work/demo.ppm"
+    "$cc" -Wall -Wextra -Werror -I"$here" -c -o "$page/yours.o" "$page/yours.c"
+    (
+        cd "$page"
+        blocks '' > commands
+        sh -e commands
+        ./yours examples/dialogue.ass examples/subtitle.bdf > yours.ppm
+        "$work/plain/demo" 2500 2501 1 1280x720 examples/dialogue.ass examples/subtitle.bdf > demo.ppm
+        cmp yours.ppm demo.ppm
+    )
 }
 
 # The header from C++, in a program that is linked.
@@ -141,7 +156,7 @@ for kind in $kinds; do
     echo "test.sh: $kind passed"
 done
 from_page
-echo 'test.sh: the lines of docs/EMBEDDING-C.md passed'
+echo 'test.sh: the lines and commands of docs/EMBEDDING-C.md passed'
 if command -v "${CXX:-c++}" > "$work/log"; then
     from_cxx "${CXX:-c++}"
     echo 'test.sh: C++ passed'
