@@ -61,6 +61,21 @@ build() { # KIND
     link "$1" demo demo.o files.o heap.o
 }
 
+# The archive asks for memory and copies of it alone, gives the header's calls alone, and can stand in a shared library.
+archive_alone() {
+    local others
+    others=$(nm -g "$archive" | awk 'NF > 1 { print $NF }' | sort -u |
+        grep -vxE 'mem(cpy|move|set|cmp)|bcmp|rattle_(alloc|realloc|dealloc)|vimalorua_[a-z0-9_]+' || :)
+    if [ -n "$others" ]; then
+        printf 'test.sh: other names in the archive:\n%s\n' "$others" >&2
+        return 1
+    fi
+    sed -n 's/^\(u*int32_t\|void\) \(vimalorua_[a-z0-9_]*\)(.*/\2/p' "$here/vimalorua.h" | sort > "$work/declared"
+    nm -g "$archive" | awk '$2 == "T" { print $3 }' | sort > "$work/given"
+    diff "$work/declared" "$work/given"
+    "$cc" -shared -fPIC -o "$work/shared.so" -Wl,--whole-archive "$archive" -Wl,--no-whole-archive "$here/rattle_heap.c"
+}
+
 # The frames that the program draws, once for both kinds.
 wanted() { # FROM TO STEP WxH SCRIPT FONT
     local ms into
@@ -145,6 +160,7 @@ END
     "$work/plain/calls"
 }
 
+archive_alone
 for kind in $kinds; do
     build "$kind"
     "$work/$kind/errors"
