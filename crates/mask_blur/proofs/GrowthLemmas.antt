@@ -14,7 +14,7 @@ use Rattle.mask_blur.proofs.MaskLemmas.{mask_shows}
 use Rattle.mask_blur.proofs.ShownLemmas.{shows_at}
 
 -- how far u lies behind x
-place_of : (u x d : ℤ) → u -ℤ x ≡ d → x ≤ℤ u → (i : ℕ) × (u ≡ x +ℤ pos i)
+pub place_of : (u x d : ℤ) → u -ℤ x ≡ d → x ≤ℤ u → (i : ℕ) × (u ≡ x +ℤ pos i)
 place_of u x (pos i) is behind = (i, omega (arith, ints))
 place_of u x (negsuc i) is behind = absurd (omega (arith, ints))
 

@@ -10,3 +10,4 @@ pub mod GrowthLemmas
 pub mod AlikeLemmas
 pub mod BlurLemmas
 pub mod TileLemmas
+pub mod FrameLemmas

@@ -25,6 +25,14 @@ softened_more f x y w h k bytes shows =
     shows_at (softened (k + 1) f) ((x -ℤ pos k) -ℤ pos 1) ((y -ℤ pos k) -ℤ pos 1) (x -ℤ pos (k + 1)) (y -ℤ pos (k + 1)) (w + 2 * k + 2) (h + 2 * k + 2) (w + 2 * (k + 1)) (h + 2 * (k + 1)) bytes there
     (omega (arith, ints)) (omega (arith, ints)) (omega arith) (omega arith)
 
+-- the same in a box that stays
+pub softened_start : (f : ℤ → ℤ → ℕ) (x y : ℤ) (w h : ℕ) (bytes : List ℕ) → Shows f x y w h bytes → Shows (softened 0 f) x y w h bytes
+unfolding softened
+softened_start f x y w h bytes shows = shows
+
+pub softened_step : (f : ℤ → ℤ → ℕ) (x y : ℤ) (w h k : ℕ) (bytes : List ℕ) → Shows (softer (softened k f)) x y w h bytes → Shows (softened (k + 1) f) x y w h bytes
+softened_step f x y w h k bytes shows = subst (λ (g : ℤ → ℤ → ℕ). Shows g x y w h bytes) (softened_next f k) shows
+
 softened_first : (f : ℤ → ℤ → ℕ) (k : ℕ) → softened k (softer f) ≡ softened (suc k) f
 unfolding softened
 softened_first f zero = refl

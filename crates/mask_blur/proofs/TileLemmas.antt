@@ -63,13 +63,13 @@ tile-more xs tile row w start i n long few wide taken was k below = elim (cases_
       ap (λ z. get_or (put_mid (16 * i) n tile row) z 0) at ∙ (put_inside (16 * i) n (k - 16 * i) tile row (omega arith) (omega arith) ∙ (taken (k - 16 * i) (omega arith) ∙ ap (λ z. get_or xs z 0) place))
 ]
 
--- sixteen bytes more of a tile that is put
-pub tile-put : (f : ℕ → ℕ → ℕ) (h i j a n : ℕ) (before to row : List ℕ) → j + 16 ≤ h → (i + a) * h + j + 16 ≤ length to → length row ≡ 16 → n ≡ 16
-    → ((b : ℕ) → b < 16 → get_or row b 0 ≡ f (i + a) (j + b))
-    → ((u v : ℕ) → v < h → ((i ≤ u) × (u < i + a) × (j ≤ v) × (v < j + 16)) ⊎ (get_or before (u * h + v) 0 ≡ f u v) → get_or to (u * h + v) 0 ≡ f u v)
-    → (u v : ℕ) → v < h → ((i ≤ u) × (u < i + (a + 1)) × (j ≤ v) × (v < j + 16)) ⊎ (get_or before (u * h + v) 0 ≡ f u v)
+-- a row more of a block that is put
+pub block-put : (f : ℕ → ℕ → ℕ) (h i j a c n : ℕ) (before to row : List ℕ) → j + c ≤ h → (i + a) * h + j + c ≤ length to → length row ≡ c → n ≡ c
+    → ((b : ℕ) → b < c → get_or row b 0 ≡ f (i + a) (j + b))
+    → ((u v : ℕ) → v < h → ((i ≤ u) × (u < i + a) × (j ≤ v) × (v < j + c)) ⊎ (get_or before (u * h + v) 0 ≡ f u v) → get_or to (u * h + v) 0 ≡ f u v)
+    → (u v : ℕ) → v < h → ((i ≤ u) × (u < i + (a + 1)) × (j ≤ v) × (v < j + c)) ⊎ (get_or before (u * h + v) 0 ≡ f u v)
     → get_or (put_mid ((i + a) * h + j) n to row) (u * h + v) 0 ≡ f u v
-tile-put f h i j a n before to row inside fits wide many is was u v v_less known =
+block-put f h i j a c n before to row inside fits wide many is was u v v_less known =
     let start = (i + a) * h + j in
     elim (cases_lt u (i + a)) [
       | inl above ↦
@@ -84,7 +84,7 @@ tile-put f h i j a n before to row inside fits wide many is was u v v_less known
             let at : u * h ≡ (i + a) * h = ap (λ z. z * h) row_is in
             elim (cases_lt v j) [
               | inl left ↦ put_below start n (u * h + v) to row (omega (arith, at)) (omega arith) ∙ was u v v_less (elim known [ inl t ↦ absurd (omega (arith, t.2)) | inr o ↦ inr o ])
-              | inr right ↦ elim (cases_lt v (j + 16)) [
+              | inr right ↦ elim (cases_lt v (j + c)) [
                 | inl within ↦
                     let place : u * h + v ≡ start + (v - j) = omega (arith, at) in
                     let column : j + (v - j) ≡ v = omega arith in
@@ -94,6 +94,14 @@ tile-put f h i j a n before to row inside fits wide many is was u v v_less known
             ]
       ]
     ]
+
+-- sixteen bytes more of a tile that is put
+pub tile-put : (f : ℕ → ℕ → ℕ) (h i j a n : ℕ) (before to row : List ℕ) → j + 16 ≤ h → (i + a) * h + j + 16 ≤ length to → length row ≡ 16 → n ≡ 16
+    → ((b : ℕ) → b < 16 → get_or row b 0 ≡ f (i + a) (j + b))
+    → ((u v : ℕ) → v < h → ((i ≤ u) × (u < i + a) × (j ≤ v) × (v < j + 16)) ⊎ (get_or before (u * h + v) 0 ≡ f u v) → get_or to (u * h + v) 0 ≡ f u v)
+    → (u v : ℕ) → v < h → ((i ≤ u) × (u < i + (a + 1)) × (j ≤ v) × (v < j + 16)) ⊎ (get_or before (u * h + v) 0 ≡ f u v)
+    → get_or (put_mid ((i + a) * h + j) n to row) (u * h + v) 0 ≡ f u v
+tile-put f h i j a n before to row = block-put f h i j a 16 n before to row
 
 -- a whole row more
 pub row-put : (g : ℕ → ℕ → ℕ) (h u n : ℕ) (to row : List ℕ) → length row ≡ h → u * h + h ≤ length to

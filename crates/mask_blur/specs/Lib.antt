@@ -1,4 +1,5 @@
 pub mod Blur
+pub mod Frames
 pub mod Growth
 pub mod Limits
 pub mod Lines

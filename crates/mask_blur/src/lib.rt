@@ -9,6 +9,7 @@ mod lines;
 mod means;
 mod rows;
 mod softening;
+mod strips;
 mod tiles;
 mod transposing;
 mod weights;

@@ -24,6 +24,19 @@ pub fn row_or_zeros<'a>(
     &bytes[start..start + zeros.len()]
 }
 
+/// Sixteen bytes from place `start` on.
+pub fn part_at(bytes: &[u8], start: usize) -> [u8; 16]
+    requires { start + 16 ≤ length bytes.now }
+    ensures { (i : ℕ) → i < 16 → slice_index result i ≡ slice_index bytes.now (start + i) }
+{
+    let mut part = [0; 16];
+    // one by one: a copy of slices would test whether they overlap
+    for i in 0..16 {
+        part[i] = bytes[start + i];
+    }
+    part
+}
+
 /// Sixteen bytes, from place `at` on, of row `k - skip` of `h` rows of `w` bytes, or zeros where there is no such row.
 pub fn part_or_zeros(bytes: &[u8], w: usize, h: usize, k: usize, skip: usize, at: usize) -> [u8; 16]
     requires rows { h * w ≤ length bytes.now }
@@ -31,14 +44,8 @@ pub fn part_or_zeros(bytes: &[u8], w: usize, h: usize, k: usize, skip: usize, at
     ensures { (f : ℤ → ℤ → ℕ) (x y : ℤ) → Shows f x y w h bytes.now
         → (i : ℕ) → i < 16 → slice_index result i ≡ f (x +ℤ pos (at + i)) ((y +ℤ pos k) -ℤ pos skip) }
 {
-    let mut part = [0; 16];
     if k < skip || h <= k - skip {
-        return part;
+        return [0; 16];
     }
-    let start = (k - skip) * w + at;
-    // one by one: a copy of slices would test whether they overlap
-    for i in 0..16 {
-        part[i] = bytes[start + i];
-    }
-    part
+    part_at(bytes, (k - skip) * w + at)
 }

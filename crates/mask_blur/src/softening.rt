@@ -8,6 +8,7 @@ ghost use Rattle.mask_blur.specs.Softening.{softer, softened, IsSoftened};
 
 use crate::copies::{copy_of, grown};
 use crate::rows::row_or_zeros;
+use crate::strips::softened_strips;
 use crate::weights::soften_row;
 use ass_num::{Mask, Mem};
 use std::alloc::Global;
@@ -71,8 +72,8 @@ fn soften_on(
     }
 }
 
-/// The bytes of `h` rows of `w` bytes, softened `n` times.
-fn softened_bytes(alloc: Global, bytes: &[u8], w: usize, h: usize, n: usize) -> Mem<Vec<u8>>
+/// The bytes of `h` rows of `w` bytes, softened `n` times, row by row.
+fn softened_rows(alloc: Global, bytes: &[u8], w: usize, h: usize, n: usize) -> Mem<Vec<u8>>
     requires count { length bytes.now ≡ w * h }
     requires passes { 0 < n }
     requires width { w + 2 * n < 2 ^ 32 }
@@ -91,6 +92,23 @@ fn softened_bytes(alloc: Global, bytes: &[u8], w: usize, h: usize, n: usize) -> 
     soften_once(now.as_mut_slice(), sums, bytes, &zeros[..w], h);
     soften_on(&mut now, &mut next, sums, zeros, w + 2, h + 2, n - 1);
     Ok(now)
+}
+
+/// The bytes of `h` rows of `w` bytes, softened `n` times: along strips, which are 16 columns wide, or row by row.
+fn softened_bytes(alloc: Global, bytes: &[u8], w: usize, h: usize, n: usize) -> Mem<Vec<u8>>
+    requires count { length bytes.now ≡ w * h }
+    requires passes { 0 < n }
+    requires width { w + 2 * n < 2 ^ 32 }
+    requires height { h + 2 * n < 2 ^ 32 }
+    ensures count { IfOk result (λ v. length v.items ≡ (w + 2 * n) * (h + 2 * n)) }
+    ensures softened { IfOk result (λ v. (f : ℤ → ℤ → ℕ) (x y : ℤ) → Shows f x y w h bytes.now
+        → Shows (softened n f) (x -ℤ pos n) (y -ℤ pos n) (w + 2 * n) (h + 2 * n) v.items) }
+{
+    if w < 14 {
+        softened_rows(alloc, bytes, w, h, n)
+    } else {
+        softened_strips(alloc, bytes, w, h, n)
+    }
 }
 
 /// The mask, softened `n` times: in each pass every pixel becomes the mean of the nine pixels around it, with the weights 1 2 1, 2 4 2, 1 2 1,

@@ -1,6 +1,8 @@
-//! Tests of the values of keys and of their shards, by rows that were worked out apart.
+//! Tests of the values of keys and of their shards, by rows that were worked out apart, and of a player.
 #![tactic(auto)]
 
+#[cfg(test)]
+mod players;
 #[cfg(test)]
 mod shards;
 #[cfg(test)]

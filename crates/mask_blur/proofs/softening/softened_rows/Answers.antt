@@ -3,7 +3,7 @@ use Rattle.std.proofs.lemmas.List.{length-take-le, take_at}
 use Rattle.mask_blur.specs.Shown.{Shows}
 use Rattle.mask_blur.specs.Softening.{softer}
 use Rattle.mask_blur.proofs.SoftenedLemmas.{softened_rest}
-use Rattle.mask_blur.proofs.softening.softened_bytes.Goals as goal
+use Rattle.mask_blur.proofs.softening.softened_rows.Goals as goal
 
 pub returns-clause-softened : goal.returns-clause-softened
 returns-clause-softened c = λ f x y shows.

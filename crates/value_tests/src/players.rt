@@ -1,0 +1,94 @@
+//! A player of a small script: each call once, and each finds its memory.
+
+ghost use Rattle.ass_num.specs.Limits.{IsWithin, max_instant};
+
+use ass_num::Size;
+use bdf_font::read_font;
+use frame_change::ChangeKind;
+use player::Player;
+use std::alloc::Global;
+use std::test::Fail;
+use track_history::{Feed, Flushed};
+
+const SCRIPT: &[u8] =
+    b"[Script Info]\nPlayResX: 16\nPlayResY: 12\n[Events]\nDialogue: 0,0:00:00.00,0:00:01.00,,,0,0,0,,{\\pos(4,8)}a\n";
+
+/// A glyph of 2 by 2 pixels.
+const FONT: &[u8] =
+    b"STARTFONT 2.1\nFONTBOUNDINGBOX 8 8 0 0\nSTARTCHAR a\nENCODING 97\nBBX 2 2 0 0\nBITMAP\nC0\nC0\nENDCHAR\nENDFONT\n";
+
+/// Ten pixels to the right in a second.
+const CHUNK: &[u8] = b"7,1,,,0,0,0,,{\\fs8\\bord0\\shad0\\move(2,8,12,8)}a";
+
+const FRAME: Size = Size { w: 16, h: 12 };
+
+/// The script's player, without a font.
+fn opened(alloc: Global) -> Result<Player, Fail> {
+    if SCRIPT.len() > 1_000 {
+        return Err("the script is long".into());
+    }
+    match Player::open(alloc, SCRIPT, 1_048_576) {
+        Ok(player) => Ok(player),
+        Err(_) => Err("it is no script".into()),
+    }
+}
+
+fn adds_a_font(alloc: Global, player: &mut Player) -> bool {
+    if FONT.len() > 1_000 || player.font_count() > 0 {
+        return false;
+    }
+    match read_font(alloc, FONT) {
+        Ok(font) => player.add_font(alloc, font).is_ok(),
+        Err(_) => false,
+    }
+}
+
+/// Whether the script's line and a chunk from 1000 ms on become events.
+fn feeds(alloc: Global, player: &mut Player) -> bool {
+    if CHUNK.len() > 1_000 || player.feed_lines(alloc).is_err() {
+        return false;
+    }
+    player.feed(alloc, CHUNK, 1_000, 1_000) == Feed::Accepted(1)
+}
+
+/// Whether the list of an instant differs so from the one before.
+fn lists(alloc: Global, player: &mut Player, t: i64, change: ChangeKind) -> bool
+    requires { IsWithin max_instant t }
+{
+    if player.font_count() == 0 {
+        return false;
+    }
+    match player.images(alloc, t, &FRAME) {
+        Ok(kind) => kind == change,
+        Err(_) => false,
+    }
+}
+
+/// How many bytes the picture of a second has, where nothing is kept.
+fn drawn(alloc: Global, player: &mut Player) -> usize {
+    player.set_budget(0);
+    if player.font_count() == 0 {
+        return 0;
+    }
+    match player.draw(alloc, 1_000, &FRAME) {
+        Ok(canvas) => canvas.pixels().len(),
+        Err(_) => 0,
+    }
+}
+
+#[test]
+fn each_call_of_a_player(rt: HostRuntime) -> Result<(), Fail> {
+    let alloc = rt.alloc();
+    let mut player = opened(alloc)?;
+    assert!(rt; adds_a_font(alloc, &mut player));
+    assert!(rt; feeds(alloc, &mut player));
+    assert!(rt; lists(alloc, &mut player, 500, ChangeKind::Other));
+    assert!(rt; lists(alloc, &mut player, 1_000, ChangeKind::Other));
+    assert!(rt; lists(alloc, &mut player, 1_500, ChangeKind::Moved));
+    assert_eq!(rt; player.listed_images().len(), 1);
+    assert_eq!(rt; player.listed_bytes(), 4);
+    assert_eq!(rt; drawn(alloc, &mut player), 576);
+    assert_eq!(rt; player.flush(), Flushed::Done(2));
+    assert_eq!(rt; player.entries(), 3);
+    Ok(())
+}
