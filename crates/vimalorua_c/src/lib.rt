@@ -1,4 +1,4 @@
-//! The library for C: calls of a player behind a handle. docs/EMBEDDING.md explains them, and c/vimalorua.h declares them.
+//! The library for C: calls of a player behind a handle. docs/EMBEDDING-C.md explains them, and c/vimalorua.h declares them.
 #![tactic(auto)]
 
 pub mod drawing;
