@@ -63,6 +63,8 @@ build() {
 
 inputs() {
     python3 "$peer/gen.py" all "$room"
+    # The bench looks through the rest of a script for each of its lines.
+    python3 "$peer/gen.py" tagged --lines 20000 > "$room/tagged.ass"
     python3 "$peer/gen.py" grid.bdf > "$room/grid.here"
     cp "$font" "$room/letters.here"
     if [ "$sides" != here ]; then
