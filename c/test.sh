@@ -61,11 +61,11 @@ build() { # KIND
     link "$1" demo demo.o files.o heap.o
 }
 
-# The archive asks for memory and copies of it alone, gives the header's calls alone, and can stand in a shared library.
+# The archive asks for what docs/EMBEDDING-C.md names, gives the header's calls alone, and can stand in a shared library.
 archive_alone() {
     local others
     others=$(nm -g "$archive" | awk 'NF > 1 { print $NF }' | sort -u |
-        grep -vxE 'mem(cpy|move|set|cmp)|bcmp|rattle_(alloc|realloc|dealloc)|vimalorua_[a-z0-9_]+' || :)
+        grep -vxE 'mem(cpy|move|set)|__u?(div|mod)ti3|rattle_(alloc|realloc|dealloc)|vimalorua_[a-z0-9_]+' || :)
     if [ -n "$others" ]; then
         printf 'test.sh: other names in the archive:\n%s\n' "$others" >&2
         return 1
