@@ -4,7 +4,7 @@
 #
 #   bench/c_library.sh ASSBENCH.C [RUNS]
 #
-# ASSBENCH.C is a bench that makes libass's calls. Beside it lie gen.py and bdf2ttf.py, which make its scripts and fonts.
+# ASSBENCH.C is a bench that makes libass's calls. Beside it are gen.py and bdf2ttf.py, which make scripts and fonts.
 # From the environment:
 #   ARCHIVE   the library, else the one that c/build.sh makes
 #   LIBASS    the compiler's words for libass, else those of pkg-config

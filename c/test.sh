@@ -61,7 +61,7 @@ build() { # KIND
     link "$1" demo demo.o files.o heap.o
 }
 
-# The archive asks for what docs/EMBEDDING-C.md names, gives the header's calls alone, and can stand in a shared library.
+# The archive asks for what docs/EMBEDDING-C.md names, gives the header's calls, and can stand in a shared library.
 archive_alone() {
     local others
     others=$(nm -g "$archive" | awk 'NF > 1 { print $NF }' | sort -u |
