@@ -76,13 +76,23 @@ archive_alone() {
     "$cc" -shared -fPIC -o "$work/shared.so" -Wl,--whole-archive "$archive" -Wl,--no-whole-archive "$here/rattle_heap.c"
 }
 
+# An image without the second line of its head, which is a comment.
+no_comment() {
+    local magic comment
+    IFS= read -r magic
+    IFS= read -r comment
+    [[ $comment == '# t='* ]]
+    echo "$magic"
+    cat
+}
+
 # The frames that the program draws, once for both kinds.
 wanted() { # FROM TO STEP WxH SCRIPT FONT
     local ms into
     into=$work/wanted-$(basename "$5").ppm
     [ ! -f "$into" ] || return 0
     for ((ms = $1; ms < $2; ms += $3)); do
-        "$top/vimalorua" frame --at "$ms" --size "$4" "${@:5}"
+        "$top/vimalorua" frame --at "$ms" --size "$4" "${@:5}" 2> "$work/log" | no_comment
     done > "$into"
 }
 
