@@ -92,7 +92,10 @@ wanted() { # FROM TO STEP WxH SCRIPT FONT
     into=$work/wanted-$(basename "$5").ppm
     [ ! -f "$into" ] || return 0
     for ((ms = $1; ms < $2; ms += $3)); do
-        "$top/vimalorua" frame --at "$ms" --size "$4" "${@:5}" 2> "$work/log" | no_comment
+        "$top/vimalorua" frame --at "$ms" --size "$4" "${@:5}" 2> "$work/log" | no_comment || {
+            cat "$work/log" >&2
+            return 1
+        }
     done > "$into"
 }
 
