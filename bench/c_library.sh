@@ -68,8 +68,8 @@ inputs() {
     python3 "$peer/gen.py" grid.bdf > "$room/grid.here"
     cp "$font" "$room/letters.here"
     if [ "$sides" != here ]; then
-        python3 "$peer/bdf2ttf.py" "$room/letters.here" "$room/letters.libass"
-        python3 "$peer/bdf2ttf.py" "$room/grid.here" "$room/grid.libass"
+        python3 "$peer/bdf2ttf.py" "$room/letters.here" "$room/letters.libass" > "$room/log"
+        python3 "$peer/bdf2ttf.py" "$room/grid.here" "$room/grid.libass" > "$room/log"
     fi
 }
 
