@@ -15,6 +15,7 @@ trap 'rm -rf "$room"' EXIT
 . "$top/bench/pages.sh"
 # as the wrapper vimalorua sets them
 export MALLOC_MMAP_THRESHOLD_=33554432 MALLOC_TRIM_THRESHOLD_=1073741824 MALLOC_TOP_PAD_=33554432
+export GLIBC_TUNABLES=glibc.malloc.hugetlb=1
 mapfile -t boards < <(signs 200)
 page "${boards[@]}" > "$room/signs.ass"
 talk 40000 > "$room/talk.ass"

@@ -124,7 +124,7 @@ pub fn top<S: Shelf, F: Sink, R: Sink, G: Gate + Sync>(
     ensures reported_once { (work : Work) → work_asked (texts words.now) ≡ Ok (Some work)
         → IsReportPutCount (sink_of work.task) result (R.puts report.old) (R.puts report.new) }
 
-    // So it is with a play, of which each image is one put.
+    // So it is with a play, which puts as often as it has images.
     ensures play { (job : PlayJob) (script : List ℕ) (fonts : List (List ℕ)) → job_of (texts words.now) ≡ Ok (a_play job script fonts)
         → IsPlayRun (S.told shelf.old) job script fonts
         (sink_change (F.held frames.old) (F.held frames.new) (F.faults frames.old) (F.faults frames.new))

@@ -18,6 +18,7 @@ pub struct CountedSink<S: Sink + Drop, W: Write + Drop> {
 }
 
 impl<S: Sink + Drop, W: Write + Drop> CountedSink<S, W> {
+    /// A sink that has taken nothing yet.
     pub fn new(sink: S, told: W, is_watched: bool) -> CountedSink<S, W> {
         CountedSink {
             sink,

@@ -19,7 +19,7 @@ use Rattle.play_model.specs.Images.{IsCountAt, IsImageOf, IsShownImage, ShownIma
 use Rattle.play_model.specs.Interleavings.{sum_below}
 use Rattle.play_model.specs.Plays.{IsPlayable, PlayView, all_feeding, good_before}
 use Rattle.play_model.proofs.Rounds.{fed_long, good_all}
-use Rattle.play_workers.specs.Asks.{IsImageBetween, masks_asked}
+use Rattle.play_workers.specs.Asks.{masks_asked}
 use Rattle.play_workers.specs.Parts.{ArePainted, IsFine, IsOutcome, images_by, painted_bytes, told_repeats}
 use Rattle.play_workers.specs.Roles.{IsRoleOf}
 use Rattle.play_workers.specs.Stages.{IsPlayStage, play_on}
@@ -29,6 +29,7 @@ use Rattle.play_workers.specs.declared.worker.Outcome.TheVariants.{Idle, Fed, Sh
 use Rattle.play_workers.specs.declared.worker.Role.{Role}
 use Rattle.play_workers.specs.declared.worker.Role.TheVariants.{Feeder, Painter, Warmer}
 use Rattle.play_workers.specs.declared.worker.Worker.{Worker}
+use Rattle.play_workers.proofs.Paintings.{IsImageBetween, image_between}
 use Rattle.play_passes.specs.Passes.{IsHome}
 use Rattle.play_passes.specs.Rounds.{IsRound, roles_of}
 use Rattle.play_passes.proofs.Told.{shown_ends, told_begun}
@@ -114,7 +115,8 @@ module _ (stage : Stage) (round : ℕ) (first : RenderView) (workers : List Work
         many,
         λ k d within.
             let own : k < share_ends stage.job round p - share_begins stage.job round p = subst (λ (n : ℕ). k < n) many within in
-            shown_at i lt (base + p * each + k) (slice_index_or painted.images k d) (λ live. live_place stage.job round p k live inside (within_share (base + p * each) each (instant_count stage.job) k own)) unlike (painted.each k d own),
+            shown_at i lt (base + p * each + k) (slice_index_or painted.images k d) (λ live. live_place stage.job round p k live inside (within_share (base + p * each) each (instant_count stage.job) k own)) unlike
+            (image_between play stage.renderer (r.one.begun i) (r.one.passes i) (share_begins stage.job round p) (share_ends stage.job round p - share_begins stage.job round p) (painted_bytes images) painted k d own),
       )
 
   -- what a worker of a fine round leaves

@@ -26,7 +26,7 @@ use Rattle.play_rounds.specs.declared.ends.Stop.TheVariants as stop
 abbrev pub IsMoreBy : ℕ → ℕ → ℕ → Type 0
 IsMoreBy count before now = (min (before + count) (2 ^ 64 - 1) ≤ now) × (before ≤ now) × (now ≤ before + count)
 
--- The sink got these pieces whole, each by one put.
+-- The sink got these pieces whole, by as many puts as there are.
 abbrev pub AreWritten : List (List ℕ) → Option (List ℕ) → Option (List ℕ) → ℕ → ℕ → ℕ → ℕ → Type 0
 AreWritten pieces held held' faults faults' puts puts' =
     Appends held held' (flat_map (λ piece. piece) pieces) × (faults' ≡ faults) × IsMoreBy (length pieces) puts puts'
@@ -46,13 +46,13 @@ abbrev pub AreCutOff : Stop → List (List ℕ) → Option (List ℕ) → Option
 AreCutOff stop pieces held held' faults faults' puts puts' =
     (cut : ℕ) × IsCutOff stop (length pieces) (take cut (flat_map (λ piece. piece) pieces)) held held' faults faults' puts puts'
 
--- The sink got pieces one after another, each by one put: all of them, or a front.
+-- The sink got pieces one after another: all of them by as many puts, or a front.
 abbrev pub ArePut : List (List ℕ) → Put → Option (List ℕ) → Option (List ℕ) → ℕ → ℕ → ℕ → ℕ → Type 0
 ArePut pieces put.Done held held' faults faults' puts puts' = AreWritten pieces held held' faults faults' puts puts'
 ArePut pieces put.Failed held held' faults faults' puts puts' = AreCutOff stop.WriteFault pieces held held' faults faults' puts puts'
 ArePut pieces put.OutOfMemory held held' faults faults' puts puts' = AreCutOff stop.OutOfMemory pieces held held' faults faults' puts puts'
 
--- The sink got these images whole, each by one put. So many composed masks were asked for before and after: what the images need was.
+-- The sink got these images whole, by as many puts as there are. So many composed masks were asked for before and after: what the images need was.
 abbrev pub AreImagesWritten : List ShownImage → Option (List ℕ) → Option (List ℕ) → ℕ → ℕ → ℕ → ℕ → ℕ → ℕ → Type 0
 AreImagesWritten images held held' faults faults' puts puts' asked asked' =
     AreWritten (shown_pieces images) held held' faults faults' puts puts' × (asked + all_masks images ≤ asked')
@@ -84,7 +84,7 @@ abbrev pub IsStopped : PlayView → Stop → Option (List ℕ) → Option (List 
 IsStopped play stop held held' faults faults' puts puts' =
     (bytes : List ℕ) × IsFrontOfPlay play bytes × IsCutOff stop (frame_count play.job) bytes held held' faults faults' puts puts'
 
--- How a play ended, and what the sink of its images got: each image by one put.
+-- How a play ended, and what the sink of its images got: all images by as many puts, or a front.
 abbrev pub IsPlayed : PlayView → PlayEnd → Option (List ℕ) → Option (List ℕ) → ℕ → ℕ → ℕ → ℕ → Type 0
 IsPlayed play (Done report) held held' faults faults' puts puts' =
     (bytes : List ℕ) × IsWholePlay play bytes report × Appends held held' bytes × (faults' ≡ faults) × IsMoreBy (frame_count play.job) puts puts'

@@ -33,7 +33,7 @@ pub fn count_repeated(workers: &[Worker]) -> usize
     count
 }
 
-/// Puts the images of a round, in the order of the workers, each by one put.
+/// Puts the images of a round, in the order of the workers, by as many puts as there are.
 pub fn put_images<F: Sink>(workers: &[Worker], frames: &mut F) -> Put
     ensures { ArePut (flat_map (λ (w : Worker). images_by w.outcome) workers.now) result (F.held frames.old) (F.held frames.new)
         (F.faults frames.old) (F.faults frames.new) (F.puts frames.old) (F.puts frames.new) }
@@ -58,7 +58,7 @@ fn put_outcome<F: Sink>(outcome: &Outcome, frames: &mut F) -> Put
     }
 }
 
-/// Puts images in order, each by one put.
+/// Puts images in order, by as many puts as there are.
 fn put_each<F: Sink>(images: &[Vec<u8>], frames: &mut F) -> Put
     ensures { ArePut (painted_bytes images.now) result (F.held frames.old) (F.held frames.new)
         (F.faults frames.old) (F.faults frames.new) (F.puts frames.old) (F.puts frames.new) }

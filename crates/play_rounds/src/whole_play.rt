@@ -94,8 +94,8 @@ fn end_of(stage: &Stage, played: Result<Played, Stop>, totals: [Totals; 3]) -> P
     }
 }
 
-/// Plays a job with its script and its fonts, and writes the images of each time, each by one put, in the order of their
-/// instants.
+/// Plays a job with its script and its fonts, and writes the images of each time, in the order of their instants, by as
+/// many puts as there are.
 pub fn play<R: Threads + Wait + Sync, F: Sink, G: Gate + Sync>(
     rt: &R,
     alloc: Global,

@@ -11,9 +11,9 @@ max_frames = 1000000
 abbrev pub max_places : ℕ
 max_places = (max_lines + 1) * max_batch
 
--- the most pixels of the images that a renderer makes in a round, where it makes more than one: 24 MiB of bytes
+-- the most pixels of the images that a renderer makes in a round, where it makes more than one: 48 MiB of bytes
 abbrev pub max_round_pixels : ℕ
-max_round_pixels = 8388608
+max_round_pixels = 16777216
 
 -- the most images that a renderer makes in a round
 abbrev pub max_round_images : ℕ

@@ -10,7 +10,7 @@ use ass_num::Size;
 use play_words::{Mode, PlayJob};
 
 /// The most pixels of the images that a renderer makes in a round, where it makes more than one.
-pub const MAX_ROUND_PIXELS: u64 = 8_388_608;
+pub const MAX_ROUND_PIXELS: u64 = 16_777_216;
 
 /// The most images that a renderer makes in a round.
 pub const MAX_ROUND_IMAGES: u64 = 8;

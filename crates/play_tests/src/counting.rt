@@ -12,6 +12,7 @@ pub struct Makings {
 }
 
 impl Makings {
+    /// Nothing was begun yet.
     pub fn new() -> Makings {
         Makings {
             outlines: AtomicU64::new(0),

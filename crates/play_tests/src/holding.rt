@@ -29,6 +29,7 @@ pub struct HoldingGate {
 }
 
 impl HoldingGate {
+    /// Nothing was held yet.
     pub fn new() -> HoldingGate {
         HoldingGate {
             making: AtomicBool::new(false),

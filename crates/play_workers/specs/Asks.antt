@@ -1,5 +1,5 @@
 -- Public: the composed masks that a pass asks for.
-use Rattle.std.specs.Prelude.{◌≡◌, ℕ, ◌+◌, ◌<◌, ◌≤◌, ℤ, List, length, slice_index_or}
+use Rattle.std.specs.Prelude.{◌≡◌, ℕ, ◌+◌, ◌≤◌, ℤ, List, [], ◌∷◌, length}
 use Rattle.ass_events.specs.Histories.{Entry}
 use Rattle.ass_num.specs.declared.size.Size.{Size}
 use Rattle.cache_kinds.specs.Kinds.{composite_meaning}
@@ -37,18 +37,22 @@ pub record IsImageAsked (play : PlayView) (renderer : RendererView) (pass after 
   pub is : IsImageOf play history t bytes
   pub asked : masks_asked renderer pass + needed_by is ≤ masks_asked renderer after
 
--- The image shows at t a history that goes on from what one pass had seen and that another one has seen.
-pub record IsImageBetween (play : PlayView) (pass after : RenderView) (t : ℤ) (image : ShownImage) : Type 0 where
-  pub history : List Entry
-  pub begins : IsPrefix (history_of pass.track.seen) history
-  pub within : IsPrefix history (history_of after.track.seen)
+-- The image shows at t a history that goes on from another one.
+pub record IsNextImage (play : PlayView) (before history : List Entry) (t : ℤ) (image : ShownImage) : Type 0 where
+  pub goes_on : IsPrefix before history
   pub is : IsImageOf play history t image.bytes
   pub masks_are : image.masks ≡ needed_by is
 
--- These are the images of so many instants from a place on, in order, each of what a pass had seen that was between the two. It asked for at least as many composed masks as their pictures need.
+-- These are the images of the instants from a place on, in order. The history of each goes on from that of the image before it, the first one's from `before`, and the last image shows all of `seen`.
+abbrev pub AreImagesInTurn : PlayView → ℕ → List Entry → List Entry → List ShownImage → Type 0
+AreImagesInTurn play place before seen [] = seen ≡ before
+AreImagesInTurn play place before seen (image ∷ images) =
+    (history : List Entry) × IsNextImage play before history (play_instant play.job place) image × AreImagesInTurn play (place + 1) history seen images
+
+-- These are the images of so many instants from a place on, in order, each of what the pass had seen when it was made, and the last one of all that it has seen then. It asked for at least as many composed masks as their pictures need.
 pub record AreImagesAsked (play : PlayView) (renderer : RendererView) (pass after : RenderView) (first count : ℕ) (pieces : List (List ℕ)) : Type 0 where
   pub images : List ShownImage
   pub pieces_are : shown_pieces images ≡ pieces
   pub many : length images ≡ count
-  pub each : (i : ℕ) (d : ShownImage) → i < count → IsImageBetween play pass after (play_instant play.job (first + i)) (slice_index_or images i d)
+  pub in_turn : AreImagesInTurn play first (history_of pass.track.seen) (history_of after.track.seen) images
   pub asked : masks_asked renderer pass + all_masks images ≤ masks_asked renderer after

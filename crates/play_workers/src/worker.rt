@@ -87,6 +87,8 @@ impl Worker {
         let Some(pass) = self.pass.take() else {
             unreachable!()
         };
+        // The images of the round before are let go first, so that their memory serves those of this one.
+        self.outcome = Outcome::Idle;
         let (pass, outcome) = do_part(rt, alloc, stage, round, self.role, pass, gate);
         self.outcome = outcome;
         let before = self.pass.replace(pass);

@@ -55,7 +55,7 @@ loop-place-preserved g c =
       holds = all.holds;
       last = omega (arith, inside);
       images = subst (λ (n : ℕ). AreImagesAsked play stage.renderer c.args.pass after first n (painted_bytes c.add_image-added.new.images)) more
-          (painted_with play stage.renderer c.args.pass first before after so_far one (place - first) c.loop-place.images c.add_image-added.new.images c.image_at-next.result.1 kept.images asked
+          (painted_with play stage.renderer c.args.pass first before after one (place - first) c.loop-place.images c.add_image-added.new.images c.image_at-next.result.1 kept.images asked
           (rw c.in_default.is at adds.made) (rw c.in_default.is at adds.added));
     }
 
