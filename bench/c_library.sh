@@ -4,12 +4,14 @@
 #
 #   bench/c_library.sh ASSBENCH.C [RUNS]
 #
-# ASSBENCH.C is a bench that makes libass's calls. Beside it lie gen.py and bdf2ttf.py, which make its scripts and fonts.
+# ASSBENCH.C is a bench that makes libass's calls. Beside it are gen.py and bdf2ttf.py, which make scripts and fonts.
 # From the environment:
 #   ARCHIVE   the library, else the one that c/build.sh makes
 #   LIBASS    the compiler's words for libass, else those of pkg-config
 #   FONT      a BDF file, else examples/subtitle.bdf; libass gets it as TrueType, one square for each set pixel
 #   ROWS      the names of some workloads, else all
+#   EVERY     a number: only one frame of so many is drawn, for a trial; else each
+#   PICTURES  a folder for the last frame of each workload by each side, else none
 set -euo pipefail
 
 top=$(dirname -- "$(dirname -- "$(readlink -f -- "${BASH_SOURCE[0]}")")")
@@ -61,23 +63,42 @@ build() {
 
 inputs() {
     python3 "$peer/gen.py" all "$room"
+    # The bench looks through the rest of a script for each of its lines.
+    python3 "$peer/gen.py" tagged --lines 20000 > "$room/tagged.ass"
     python3 "$peer/gen.py" grid.bdf > "$room/grid.here"
     cp "$font" "$room/letters.here"
     if [ "$sides" != here ]; then
-        python3 "$peer/bdf2ttf.py" "$room/letters.here" "$room/letters.libass"
-        python3 "$peer/bdf2ttf.py" "$room/grid.here" "$room/grid.libass"
+        python3 "$peer/bdf2ttf.py" "$room/letters.here" "$room/letters.libass" > "$room/log"
+        python3 "$peer/bdf2ttf.py" "$room/grid.here" "$room/grid.libass" > "$room/log"
     fi
 }
 
 # One run of a workload by one side.
 render() { # SIDE NAME SCRIPT FONT SIZE FROM TO STEP OPTION..
-    "$room/$1" render "$room/$3.ass" --font "$room/$4.$1" --size "$5" --from "$6" --to "$7" --step "$8" --cpu-clock \
-        "${@:9}" >> "$room/said.$1.$2"
+    local picture=()
+    [ -z "${PICTURES:-}" ] || picture=(--ppm "$PICTURES/$2.$1.ppm")
+    "$room/$1" render "$room/$3.ass" --font "$room/$4.$1" --size "$5" --from "$6" --to "$7" \
+        --step $(($8 * ${EVERY:-1})) --cpu-clock "${picture[@]}" "${@:9}" >> "$room/said.$1.$2"
 }
 
 # What lines read: render the first of two modes, and feed the second.
 read_lines() { # SIDE MODE SCRIPT
     "$room/$1" "$2" "$room/$3.ass" --runs 3 --cpu-clock >> "$room/said.$1.$2-$3"
+}
+
+# What a side had to do, as it told itself.
+work_of() { # SIDE NAME
+    grep -E '^(size|track_events|frames[12]|fed|events|script_lines) ' "$room/said.$1.$2" | sort -u
+}
+
+# Names each workload at which the two had other work.
+other_work() {
+    local file name
+    [ "$sides" != here ] || return 0
+    for file in "$room"/said.here.*; do
+        name=${file#"$room/said.here."}
+        cmp -s <(work_of here "$name") <(work_of libass "$name") || echo "$name: the two had other events or frames"
+    done
 }
 
 # The least of a key's values, divided, with so many decimals.
@@ -163,3 +184,4 @@ cell signs-resized resize_there_first 1000 1
 cell signs-resized resize_back_first 1000 1
 printf '\n\n'
 [ -n "${ROWS:-}" ] || line_table
+other_work

@@ -64,14 +64,13 @@ int32_t ass_images_render(vimalorua *handle, ass_images *images, int64_t ms, uin
                           ASS_Image **list) {
     size_t count = 0, bytes = 0;
     int32_t listed = VIMALORUA_OTHER_LIST;
+    int missed = images->missed, has_nodes = images->nodes != NULL && !missed;
     *list = NULL;
     if (change != NULL)
         *change = VIMALORUA_OTHER_LIST;
     int32_t status = vimalorua_images(handle, ms, w, h, &listed, &count, &bytes);
-    if (status != VIMALORUA_DONE)
-        return status;
-    int missed = images->missed;
-    status = copy_list(handle, images, count, bytes);
+    if (status == VIMALORUA_DONE && !(has_nodes && listed == VIMALORUA_SAME))
+        status = copy_list(handle, images, count, bytes);
     images->missed = status != VIMALORUA_DONE;
     if (status != VIMALORUA_DONE)
         return status;

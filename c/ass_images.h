@@ -26,13 +26,15 @@ typedef struct ass_images {
     unsigned char *masks;
     ASS_Image *nodes;
     size_t count, bytes; /* how much room there is */
-    int missed;          /* a list was kept that no nodes were made of */
+    int missed;          /* the call before gave no list */
 } ass_images;
 
 /* Lists a frame as vimalorua_images does, and makes nodes of it: *list is the first, the lowest, or null where nothing
- * is shown. *change is as there, against the nodes before; `change` may be null. The nodes and their bitmaps are those
- * of `images`, and stay until the next call with it or ass_images_free. Statuses are those of vimalorua_images; on any
- * but VIMALORUA_DONE *list is null and *change is 2. */
+ * is shown. *change is as there, against the nodes before; behind a call that failed it is 2. `change` may be null. The
+ * nodes and their bitmaps are those of `images`, are only read, and stay until the next call with it or
+ * ass_images_free. A handle that is listed so is listed by no other call.
+ *
+ * Statuses are those of vimalorua_images; on any but VIMALORUA_DONE *list is null and *change is 2. */
 int32_t ass_images_render(vimalorua *handle, ass_images *images, int64_t ms, uint32_t w, uint32_t h, int32_t *change,
                           ASS_Image **list);
 

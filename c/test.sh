@@ -61,13 +61,41 @@ build() { # KIND
     link "$1" demo demo.o files.o heap.o
 }
 
+# The archive asks for what docs/EMBEDDING-C.md names, gives the header's calls, and can stand in a shared library.
+archive_alone() {
+    local others
+    others=$(nm -g "$archive" | awk 'NF > 1 { print $NF }' | sort -u |
+        grep -vxE 'mem(cpy|move|set)|__u?(div|mod)ti3|rattle_(alloc|realloc|dealloc)|vimalorua_[a-z0-9_]+' || :)
+    if [ -n "$others" ]; then
+        printf 'test.sh: other names in the archive:\n%s\n' "$others" >&2
+        return 1
+    fi
+    sed -n 's/^\(u*int32_t\|void\) \(vimalorua_[a-z0-9_]*\)(.*/\2/p' "$here/vimalorua.h" | sort > "$work/declared"
+    nm -g "$archive" | awk '$2 == "T" { print $3 }' | sort > "$work/given"
+    diff "$work/declared" "$work/given"
+    "$cc" -shared -fPIC -o "$work/shared.so" -Wl,--whole-archive "$archive" -Wl,--no-whole-archive "$here/rattle_heap.c"
+}
+
+# An image without the second line of its head, which is a comment.
+no_comment() {
+    local magic comment
+    IFS= read -r magic
+    IFS= read -r comment
+    [[ $comment == '# t='* ]]
+    echo "$magic"
+    cat
+}
+
 # The frames that the program draws, once for both kinds.
 wanted() { # FROM TO STEP WxH SCRIPT FONT
     local ms into
     into=$work/wanted-$(basename "$5").ppm
     [ ! -f "$into" ] || return 0
     for ((ms = $1; ms < $2; ms += $3)); do
-        "$top/vimalorua" frame --at "$ms" --size "$4" "${@:5}"
+        "$top/vimalorua" frame --at "$ms" --size "$4" "${@:5}" 2> "$work/log" | no_comment || {
+            cat "$work/log" >&2
+            return 1
+        }
     done > "$into"
 }
 
@@ -79,15 +107,25 @@ frames() { # KIND FROM TO STEP WxH SCRIPT FONT
     "$work/$1/pictures" "${@:2}"
 }
 
-# The lines of docs/EMBEDDING-C.md, in a program.
-from_page() {
-    # shellcheck disable=SC2016
-    sed -n '/^```c$/,/^```$/{/^```/d;p}' "$top/docs/EMBEDDING-C.md" > "$work/page.c"
-    cat >> "$work/page.c" << 'END'
+# The blocks of docs/EMBEDDING-C.md that are written in a language, or in none.
+blocks() { # LANGUAGE
+    awk -v fence="\`\`\`$1" '/^```/ { inside = !inside; wanted = inside && $0 == fence; next } wanted' \
+        "$top/docs/EMBEDDING-C.md"
+}
 
-#include "files.h"
-#include <stdio.h>
-#include <stdlib.h>
+# The page's ten lines, in a program, and its commands, as they stand there: at the top of a folder in which c/build.sh
+# only names the archive.
+from_page() {
+    local page=$work/page
+    mkdir -p "$page/c"
+    ln -s "$top/examples" "$page/examples"
+    ln -s "$here"/*.c "$here"/*.h "$page/c"
+    printf '#!/bin/sh\necho "%s"\n' "$archive" > "$page/c/build.sh"
+    chmod +x "$page/c/build.sh"
+    blocks c > "$page/yours.c"
+    cat >> "$page/yours.c" << 'END'
+
+#include "files.c"
 
 int main(int argc, char **argv) {
     static uint8_t rgb[3 * 1280 * 720];
@@ -103,10 +141,15 @@ int main(int argc, char **argv) {
     return 0;
 }
 END
-    "$cc" -Wall -Wextra -Werror -I"$here" -o "$work/page" "$work/page.c" "$here"/{files,rattle_heap}.c "$archive"
-    "$work/page" "$top/examples/dialogue.ass" "$top/examples/subtitle.bdf" > "$work/page.ppm"
-    "$work/plain/demo" 2500 2501 1 1280x720 "$top/examples/dialogue.ass" "$top/examples/subtitle.bdf" > "$work/demo.ppm"
-    cmp "$work/page.ppm" "$work/demo.ppm"
+    "$cc" -Wall -Wextra -Werror -I"$here" -c -o "$page/yours.o" "$page/yours.c"
+    (
+        cd "$page"
+        blocks '' > commands
+        sh -e commands
+        ./yours examples/dialogue.ass examples/subtitle.bdf > yours.ppm
+        "$work/plain/demo" 2500 2501 1 1280x720 examples/dialogue.ass examples/subtitle.bdf > demo.ppm
+        cmp yours.ppm demo.ppm
+    )
 }
 
 # The header from C++, in a program that is linked.
@@ -130,6 +173,7 @@ END
     "$work/plain/calls"
 }
 
+archive_alone
 for kind in $kinds; do
     build "$kind"
     "$work/$kind/errors"
@@ -141,7 +185,7 @@ for kind in $kinds; do
     echo "test.sh: $kind passed"
 done
 from_page
-echo 'test.sh: the lines of docs/EMBEDDING-C.md passed'
+echo 'test.sh: the lines and commands of docs/EMBEDDING-C.md passed'
 if command -v "${CXX:-c++}" > "$work/log"; then
     from_cxx "${CXX:-c++}"
     echo 'test.sh: C++ passed'

@@ -53,14 +53,15 @@ enum {
     VIMALORUA_MANY_FONTS = 8,    /* *place: the most fonts, 64 */
     VIMALORUA_NO_FONT = 9,       /* nothing is drawn before a font was added */
     VIMALORUA_REPEATED = 10,     /* *place: the entry of the live event that has this ReadOrder */
-    VIMALORUA_MALFORMED = 11,    /* *field: the first field that can't be read; *place: the byte at which it begins */
+    VIMALORUA_MALFORMED = 11,    /* *field: the first field that can't be read or is missing; *place: where it begins */
     VIMALORUA_FULL = 12,         /* *place: the most live events, 1,000,000 */
     VIMALORUA_MANY_FLUSHES = 13, /* *place: the most flushes, 1,000,000 */
     VIMALORUA_BAD_CALL = 14,     /* a number or a length is out of its range */
     VIMALORUA_CLOSED = 15        /* nothing is behind the handle; it doesn't come where this page is kept to */
 };
 
-/* The fields of an event, as VIMALORUA_MALFORMED names them. Of a chunk, END and OTHER are never named. */
+/* The fields of an event, as VIMALORUA_MALFORMED names them. Of a chunk, END and OTHER are never named. A place is one
+ * of the chunk's bytes, from 0; that of a missing field is the chunk's length. */
 enum {
     VIMALORUA_READ_ORDER = 1,
     VIMALORUA_LAYER = 2,
@@ -164,7 +165,7 @@ int32_t vimalorua_images(vimalorua *handle, int64_t ms, uint32_t w, uint32_t h, 
                          size_t *bytes) VIMALORUA_NO_NULLS;
 
 /* Copies the list that is kept into just as many images, and just as many bytes for their masks, one image's behind the
- * other's, as vimalorua_images told.
+ * other's, as vimalorua_images told. It may be copied again: only a vimalorua_images that is DONE changes it.
  *
  * DONE. OUT_OF_MEMORY, BAD_CALL, CLOSED: what the pointers have stays. */
 int32_t vimalorua_copy_images(vimalorua *handle, vimalorua_image *images, size_t count, uint8_t *masks,

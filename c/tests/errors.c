@@ -127,10 +127,13 @@ static void feeding(void) {
     WANT(place, 1);
     refused_feed(handle, "x,0,Default,,0,0,0,,a", 0, 1, VIMALORUA_READ_ORDER, 0);
     refused_feed(handle, "8,x,Default,,0,0,0,,a", 0, 1, VIMALORUA_LAYER, 2);
+    refused_feed(handle, "8,0", 0, 1, VIMALORUA_STYLE, 3);
+    refused_feed(handle, "8,0,Default", 0, 1, VIMALORUA_NAME, 11);
     refused_feed(handle, "8,0,Default,,x,0,0,,a", 0, 1, VIMALORUA_MARGIN_L, 13);
     refused_feed(handle, "8,0,Default,,0,x,0,,a", 0, 1, VIMALORUA_MARGIN_R, 15);
     refused_feed(handle, "8,0,Default,,0,0,x,,a", 0, 1, VIMALORUA_MARGIN_V, 17);
     refused_feed(handle, "8,0,Default,,0,0,0", 0, 1, VIMALORUA_EFFECT, 18);
+    refused_feed(handle, "8,0,Default,,0,0,0,", 0, 1, VIMALORUA_TEXT, 19);
     refused_feed(handle, "8,0,Default,,0,0,0,,\xff", 0, 1, VIMALORUA_UTF8, 20);
     refused_feed(handle, "8,0,Default,,0,0,0,,a", -1, 1, VIMALORUA_START, 21);
     refused_feed(handle, "8,0,Default,,0,0,0,,a", INT64_MAX, 1, VIMALORUA_START, 21);
@@ -307,6 +310,9 @@ static int with_refusal(long n, const uint8_t *wanted) {
     AGAIN(ass_images_render(handle, &images, 1500, W, H, &change, &list), list == NULL);
     WANT(change, VIMALORUA_OTHER_LIST);
     WANT(list != NULL, 1);
+    int before = refused;
+    AGAIN(ass_images_render(handle, &images, 1500, W, H, &change, &list), list == NULL);
+    WANT(change, refused != before ? VIMALORUA_OTHER_LIST : VIMALORUA_SAME);
     AGAIN(vimalorua_flush(handle, &place), 1);
     WANT(place, 2);
     allowed = -1;

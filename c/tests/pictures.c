@@ -131,24 +131,33 @@ static void by_one_thread(struct frames *frames) {
 static void *in_turn(void *data) {
     struct frames *frames = data;
     uint8_t *drawn = need(malloc(frames->len + 1)), *wanted = frames->wanted;
+    size_t count = 0, bytes = 0;
+    int32_t change = -1;
     for (long long ms = frames->from; ms < frames->to; ms += frames->step, wanted += frames->len) {
         pthread_mutex_lock(&frames->lock);
         if (vimalorua_draw(frames->handle, ms, frames->w, frames->h, drawn, frames->len) != VIMALORUA_DONE ||
             memcmp(drawn, wanted, frames->len) != 0)
             fail("threads in turn draw another picture", ms);
+        if (vimalorua_images(frames->handle, ms, frames->w, frames->h, &change, &count, &bytes) != VIMALORUA_DONE)
+            fail("threads in turn list nothing", ms);
         pthread_mutex_unlock(&frames->lock);
     }
     free(drawn);
     return NULL;
 }
 
+/* Each has a stack of 64 KiB. */
 static void by_four_threads(struct frames *frames) {
     pthread_t threads[4];
+    pthread_attr_t small;
+    if (pthread_attr_init(&small) != 0 || pthread_attr_setstacksize(&small, 65536) != 0)
+        exit(3);
     for (int i = 0; i < 4; i++)
-        if (pthread_create(&threads[i], NULL, in_turn, frames) != 0)
+        if (pthread_create(&threads[i], &small, in_turn, frames) != 0)
             exit(3);
     for (int i = 0; i < 4; i++)
         pthread_join(threads[i], NULL);
+    pthread_attr_destroy(&small);
 }
 
 int main(int argc, char **argv) {
