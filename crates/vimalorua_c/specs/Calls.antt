@@ -31,18 +31,18 @@ use Rattle.vimalorua_c.specs.declared.status.Told.{Told}
 
 -- ---- all calls
 
--- Where there is a player the call was made of it, and there is one then. Where there is none the handle is closed.
-abbrev pub IsMadeOf : (PlayerView → PlayerView → Type 0) → ℤ → Option PlayerView → Option PlayerView → Type 0
-IsMadeOf call status (Some old) (Some new) = call old new
-IsMadeOf call status None None = status ≡ closed_status
-IsMadeOf call status (Some old) None = ⊥
-IsMadeOf call status None (Some new) = ⊥
+-- Where there is a player the call was made of it, and there is one then. Where there is none the handle is closed, and nothing is told.
+abbrev pub IsMadeOf : Type 0 → (PlayerView → PlayerView → Type 0) → ℤ → Option PlayerView → Option PlayerView → Type 0
+IsMadeOf IsUntold call status (Some old) (Some new) = call old new
+IsMadeOf IsUntold call status None None = (status ≡ closed_status) × IsUntold
+IsMadeOf IsUntold call status (Some old) None = ⊥
+IsMadeOf IsUntold call status None (Some new) = ⊥
 
--- A call of a handle: a bad one changes nothing, nor does one for which memory was wanting before it was made.
-abbrev pub IsCall : Type 0 → (PlayerView → PlayerView → Type 0) → ℤ → Kept → Kept → Type 0
-IsCall IsBad call status old new =
-    (IsBad × (status ≡ bad_call_status) × (new ≡ old))
-    ⊎ ((IsBad → ⊥) × (((status ≡ out_of_memory_status) × (new ≡ old)) ⊎ IsMadeOf call status old.player new.player))
+-- A call of a handle: a bad one changes and tells nothing, nor does one for which memory was wanting before it was made.
+abbrev pub IsCall : Type 0 → Type 0 → (PlayerView → PlayerView → Type 0) → ℤ → Kept → Kept → Type 0
+IsCall IsBad IsUntold call status old new =
+    (IsBad × (status ≡ bad_call_status) × (new ≡ old) × IsUntold)
+    ⊎ ((IsBad → ⊥) × (((status ≡ out_of_memory_status) × (new ≡ old) × IsUntold) ⊎ IsMadeOf IsUntold call status old.player new.player))
 
 -- ---- opening
 
@@ -56,7 +56,8 @@ IsScriptTold bytes answer = (answer ≡ told out_of_memory_status 0) ⊎ ((refus
 
 pub record IsOpened (bytes : List ℕ) (budget : ℕ) (status : ℤ) (place : ℕ) : Type 0 where
   pub bad : (status ≡ bad_call_status) ↔ ((max_file_bytes < length bytes) ⊎ (max_budget < budget))
-  pub opened : status ≡ done_status → (script : ScriptValue) × (script_of bytes ≡ Ok script)
+  pub opened : status ≡ done_status → (script : ScriptValue) × (script_of bytes ≡ Ok script) × (place ≡ 0)
+  pub untold : (status ≡ bad_call_status) ⊎ (status ≡ out_of_memory_status) → place ≡ 0
   pub refused : status ≢ done_status → status ≢ bad_call_status → status ≢ out_of_memory_status
       → (refusal : ScriptRefusal) × (script_of bytes ≡ Err refusal) × (script_told refusal ≡ told status place)
 
@@ -116,13 +117,13 @@ pub record IsDrawn (at : ℤ) (size : Size) (before after : List ℕ) (status : 
   pub others : status ≢ done_status → status ≢ no_font_status → status ≡ out_of_memory_status
 
 -- The images were listed; or there is no font, or memory was wanting, and the player stays as it is.
-pub record AreImagesTold (at : ℤ) (size : Size) (status change : ℤ) (count bytes : ℕ) (old new : PlayerView) : Type 0 where
+pub record AreImagesTold (at : ℤ) (size : Size) (status before change : ℤ) (count bytes : ℕ) (old new : PlayerView) : Type 0 where
   pub fonts : (status ≡ no_font_status) ↔ (old.fonts ≡ [])
   pub picture : status ≡ done_status → IsPictureAt old.script old.fonts old.track.events at size (with_plain_images (black size.w size.h) new.images)
   pub frame : status ≡ done_status → All (LiesInFrame size) new.images
   pub list : status ≡ done_status → IsListOf old.script old.fonts old.track.events at size new.images
   pub changed : status ≡ done_status → (kind : ChangeKind) × IsListChange kind old.images new.images × (change ≡ change_number kind)
-  pub else_same : status ≢ done_status → new ≡ old
+  pub else_same : status ≢ done_status → (new ≡ old) × (change ≡ before)
   pub only_images : new ≡ record old { images = new.images }
   pub count_is : count ≡ length new.images
   pub bytes_is : bytes ≡ mask_bytes new.images

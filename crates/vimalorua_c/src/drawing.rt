@@ -1,9 +1,8 @@
 //! Drawing into the caller's bytes.
 
-ghost use Rattle.std.specs.Prelude.{◌≡◌, ◌≢◌, ◌*◌, length};
+ghost use Rattle.std.specs.Prelude.{◌≡◌, ◌*◌, length};
 ghost use Rattle.ass_num.specs.Limits.{IsFrameSize, IsWithin, max_instant};
 ghost use Rattle.vimalorua_c.specs.Calls.{IsBadDraw, IsCall, IsDrawn};
-ghost use Rattle.vimalorua_c.specs.Statuses.{done_status};
 
 use crate::handle::Handle;
 use crate::ranges::may_be_shown;
@@ -40,8 +39,7 @@ pub extern "C" fn vimalorua_draw(
     h: u32,
     out: &mut [u8],
 ) -> i32
-    ensures call { IsCall (IsBadDraw at (record { w = w; h = h }) out.old) (IsDrawn at (record { w = w; h = h }) out.old out.new result) result handle.old.value handle.new.value }
-    ensures else_same { result ≢ done_status → out.new ≡ out.old }
+    ensures { IsCall (IsBadDraw at (record { w = w; h = h }) out.old) (out.new ≡ out.old) (IsDrawn at (record { w = w; h = h }) out.old out.new result) result handle.old.value handle.new.value }
 {
     let size = Size { w, h };
     if !may_be_shown(at, &size) || out.len() != 3 * (w as usize * h as usize) {

@@ -1,6 +1,6 @@
 //! Feeding and flushing.
 
-ghost use Rattle.std.specs.Prelude.{◌<◌, length};
+ghost use Rattle.std.specs.Prelude.{◌≡◌, ◌<◌, length};
 ghost use Rattle.ass_num.specs.Limits.{max_text_bytes};
 ghost use Rattle.vimalorua_c.specs.Calls.{AreLinesFed, IsCall, IsChunkFed, IsFlushTold};
 
@@ -17,7 +17,7 @@ const MAX_CHUNK_BYTES: usize = 134_217_728;
 /// Offers the events of the script's own lines, and tells how many entries the track's history has then.
 #[unsafe(no_mangle)]
 pub extern "C" fn vimalorua_feed_lines(alloc: Global, handle: &mut Handle, place: &mut usize) -> i32
-    ensures { IsCall ⊥ (AreLinesFed result place.new) result handle.old.value handle.new.value }
+    ensures { IsCall ⊥ (place.new ≡ 0) (AreLinesFed result place.new) result handle.old.value handle.new.value }
 {
     *place = 0;
     let Ok(kept) = take(alloc, handle) else {
@@ -50,7 +50,7 @@ pub extern "C" fn vimalorua_feed(
     field: &mut u32,
     place: &mut usize,
 ) -> i32
-    ensures { IsCall (max_text_bytes < length chunk.now) (IsChunkFed chunk.now start duration result field.new place.new) result handle.old.value handle.new.value }
+    ensures { IsCall (max_text_bytes < length chunk.now) ((field.new ≡ 0) × (place.new ≡ 0)) (IsChunkFed chunk.now start duration result field.new place.new) result handle.old.value handle.new.value }
 {
     *field = 0;
     *place = 0;
@@ -77,7 +77,7 @@ pub extern "C" fn vimalorua_feed(
 /// Drops all live events, and tells the flush's entry.
 #[unsafe(no_mangle)]
 pub extern "C" fn vimalorua_flush(alloc: Global, handle: &mut Handle, place: &mut usize) -> i32
-    ensures { IsCall ⊥ (IsFlushTold result place.new) result handle.old.value handle.new.value }
+    ensures { IsCall ⊥ (place.new ≡ 0) (IsFlushTold result place.new) result handle.old.value handle.new.value }
 {
     *place = 0;
     let Ok(kept) = take(alloc, handle) else {

@@ -1,12 +1,11 @@
 //! Images of one colour each, copied into the caller's arrays.
 
-ghost use Rattle.std.specs.Prelude.{◌≡◌, ◌≢◌, ◌≤◌, ◌+◌, ◌++◌, length, take, flat_map};
+ghost use Rattle.std.specs.Prelude.{◌≡◌, ◌≤◌, ◌+◌, ◌++◌, length, take, flat_map};
 ghost use Rattle.ass_num.specs.Limits.{IsFrameSize, IsWithin, max_instant};
 ghost use Rattle.plain_images.specs.declared.plain.PlainImage.{PlainImage};
 ghost use Rattle.player.specs.Players.{mask_bytes};
 ghost use Rattle.vimalorua_c.specs.Calls as rule;
 ghost use Rattle.vimalorua_c.specs.Calls.{AreImagesCopied, AreImagesTold, IsBeyond, IsCall};
-ghost use Rattle.vimalorua_c.specs.Statuses.{done_status};
 
 use crate::handle::Handle;
 use crate::ranges::may_be_shown;
@@ -79,7 +78,7 @@ fn copy_images(images: &[PlainImage], numbers: &mut [ImageNumbers], masks: &mut 
 fn listed(alloc: Global, player: &mut Player, at: i64, size: &Size, change: &mut i32) -> i32
     requires instant { IsWithin max_instant at }
     requires size { IsFrameSize size.now }
-    ensures { AreImagesTold at size.now result change.new (length player.new.images) (mask_bytes player.new.images) player.old player.new }
+    ensures { AreImagesTold at size.now result change.old change.new (length player.new.images) (mask_bytes player.new.images) player.old player.new }
 {
     if player.font_count() == 0 {
         return NO_FONT;
@@ -106,7 +105,7 @@ pub extern "C" fn vimalorua_images(
     count: &mut usize,
     bytes: &mut usize,
 ) -> i32
-    ensures { IsCall (IsBeyond at (record { w = w; h = h })) (AreImagesTold at (record { w = w; h = h }) result change.new count.new bytes.new) result handle.old.value handle.new.value }
+    ensures { IsCall (IsBeyond at (record { w = w; h = h })) ((change.new ≡ change.old) × (count.new ≡ count.old) × (bytes.new ≡ bytes.old)) (AreImagesTold at (record { w = w; h = h }) result change.old change.new count.new bytes.new) result handle.old.value handle.new.value }
 {
     let size = Size { w, h };
     if !may_be_shown(at, &size) {
@@ -138,9 +137,7 @@ pub extern "C" fn vimalorua_copy_images(
     images: &mut [ImageNumbers],
     masks: &mut [u8],
 ) -> i32
-    ensures call { IsCall ⊥ (AreImagesCopied images.old images.new masks.old masks.new result) result handle.old.value handle.new.value }
-    ensures else_numbers { result ≢ done_status → images.new ≡ images.old }
-    ensures else_masks { result ≢ done_status → masks.new ≡ masks.old }
+    ensures { IsCall ⊥ ((images.new ≡ images.old) × (masks.new ≡ masks.old)) (AreImagesCopied images.old images.new masks.old masks.new result) result handle.old.value handle.new.value }
 {
     let Ok(kept) = take(alloc, handle) else {
         return OUT_OF_MEMORY;

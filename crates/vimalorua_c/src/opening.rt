@@ -108,7 +108,7 @@ pub extern "C" fn vimalorua_add_font(
     font: &[u8],
     place: &mut usize,
 ) -> i32
-    ensures { IsCall (IsLongFile font.now) (IsFontAdded font.now (rule.told result place.new)) result handle.old.value handle.new.value }
+    ensures { IsCall (IsLongFile font.now) (place.new ≡ 0) (IsFontAdded font.now (rule.told result place.new)) result handle.old.value handle.new.value }
 {
     *place = 0;
     if font.len() > MAX_FILE_BYTES {
@@ -130,7 +130,7 @@ pub extern "C" fn vimalorua_add_font(
 /// Sets the budget of each cache.
 #[unsafe(no_mangle)]
 pub extern "C" fn vimalorua_set_budget(alloc: Global, handle: &mut Handle, budget: u64) -> i32
-    ensures { IsCall (max_budget < budget) (IsBudgetSet budget result) result handle.old.value handle.new.value }
+    ensures { IsCall (max_budget < budget) (Unit {0}) (IsBudgetSet budget result) result handle.old.value handle.new.value }
 {
     if budget > MAX_BUDGET {
         return BAD_CALL;
