@@ -92,8 +92,8 @@ then_later renderer pass after t size answer h =
     (rendered_later renderer (record pass { caches = h.0 }) after t size answer h.3)
 
 pub soon_later : {E : Type 0} (renderer : RendererView) (pass after : RenderView) (t : ℤ) (size : Size) (answer : Result Frame E) → IsTriedThenRendered renderer pass after t size answer → AreLater pass.caches after.caches
-soon_later renderer pass after t size (Ok frame) h = ⊎_elim (λ tried. tried_later renderer pass after t size frame tried) (λ then. then_later renderer pass after t size (Ok frame) then) h
-soon_later renderer pass after t size (Err wanting) h = then_later renderer pass after t size (Err wanting) h
+soon_later {E} renderer pass after t size (Ok frame) h = ⊎_elim (λ tried. tried_later renderer pass after t size frame tried) (λ then. then_later {E = E} renderer pass after t size (Ok frame) then) h
+soon_later {E} renderer pass after t size (Err wanting) h = then_later {E = E} renderer pass after t size (Err wanting) h
 
 pub released_later : (renderer : RendererView) (pass after : RenderView) (steps : List (Step CompositeKey MaskValue)) → Adds equal_composites composite_meaning renderer.caches.composites pass.caches.composites after.caches.composites steps
     → after.caches.masks ≡ pass.caches.masks → after.caches.outlines ≡ pass.caches.outlines → AreLater pass.caches after.caches

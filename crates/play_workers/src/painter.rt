@@ -46,7 +46,9 @@ fn frame_at<R: Wait, G: Gate>(
 {
     stage.renderer.kept(&pass);
     let size = &stage.job.size;
-    stage.renderer.try_then_frame(rt, alloc, pass, t, size, gate)
+    stage
+        .renderer
+        .try_then_frame(rt, alloc, pass, t, size, gate)
 }
 
 /// The image of a frame.
