@@ -5,8 +5,6 @@ mod draws;
 mod font;
 mod lines;
 mod script;
-#[cfg(test)]
-mod tests;
 
 pub use font::grid_font;
 pub use script::generated;

@@ -6,8 +6,6 @@ mod laws;
 mod listing;
 mod panes;
 mod plain;
-#[cfg(test)]
-mod tests;
 
 pub use laws::plain_images_make_the_picture;
 pub use listing::plain_images_of;

@@ -4,8 +4,6 @@
 mod digest;
 mod report;
 mod summary;
-#[cfg(test)]
-mod tests;
 
 pub use digest::digest_after;
 pub use report::{PlayReport, report_text};

@@ -4,11 +4,10 @@ ghost use Rattle.std.specs.Prelude.{◌<◌, ◌≤◌, ◌+◌, ℕ, IsTrue, le
 ghost use Rattle.std.specs.List.{All};
 ghost use Rattle.line_layout.specs.Breaks.{IsItemWidth};
 
-use crate::telling::shown;
+use crate::telling::{numbers, parted, shown};
 use ass_num::{Fix, Mem};
 use line_layout::choose_breaks;
 use std::alloc::Global;
-use std::test::Fail;
 
 fn are_narrow(widths: &[Fix]) -> bool
     ensures { IsTrue result → All IsItemWidth widths.now }
@@ -43,44 +42,35 @@ fn ascend(spaces: &[usize]) -> bool
     true
 }
 
-fn breaks_of(
-    alloc: Global,
-    widths: &[Fix],
-    spaces: &[usize],
-    max: Fix,
-    style: u8,
-) -> Mem<Option<Vec<usize>>> {
+fn breaks_of(alloc: Global, widths: &[Fix], spaces: &[usize], max: Fix, style: u8) -> Mem<String> {
     if widths.len() > 134_217_728
         || !are_narrow(widths)
         || !are_within(spaces, widths.len())
         || !ascend(spaces)
         || style > 3
     {
-        return Ok(None);
+        return shown(alloc, &"no paragraph");
     }
-    Ok(Some(choose_breaks(alloc, widths, spaces, max, style)?))
+    let places = choose_breaks(alloc, widths, spaces, max, style)?;
+    shown(alloc, &places.as_slice())
 }
 
-fn small_numbers(alloc: Global, text: &str) -> Mem<Vec<usize>> {
-    let mut numbers = Vec::new(alloc);
+fn places_of(alloc: Global, text: &str) -> Mem<Vec<usize>> {
+    let mut places = Vec::new(alloc);
     for word in text.split_whitespace() {
-        numbers.push(usize::from(word.parse::<u16>().unwrap_or(0)))?;
+        places.push(usize::from(word.parse::<u16>().unwrap_or(0)))?;
     }
-    Ok(numbers)
+    Ok(places)
 }
 
 /// The breaks of so many items of 64, under a maximum, in a style; behind a bar the spaces among the items.
-pub fn places(alloc: Global, question: &str) -> Result<String, Fail> {
-    let (sizes, spaces) = question.split_once(" |").ok_or("no spaces")?;
-    let sizes = small_numbers(alloc, sizes)?;
-    let spaces = small_numbers(alloc, spaces)?;
+pub fn places(alloc: Global, question: &str) -> Mem<String> {
+    let (sizes, spaces) = parted(question, " |");
+    let [count, max, style, _, _, _, _, _] = numbers(sizes);
+    let spaces = places_of(alloc, spaces)?;
+    let count = usize::try_from(count).unwrap_or(0);
+    let style = u8::try_from(style).unwrap_or(9);
     let wide = [64; 12];
-    let [count, max, style] = sizes.as_slice() else {
-        return Err("no sizes".into());
-    };
-    let style = u8::try_from(*style).unwrap_or(9);
-    let widths = &wide[..wide.len().min(*count)];
-    let max = i64::try_from(*max).unwrap_or(0);
-    let places = breaks_of(alloc, widths, spaces.as_slice(), max, style)?;
-    shown(alloc, &places.ok_or("no paragraph")?.as_slice())
+    let widths = &wide[..wide.len().min(count)];
+    breaks_of(alloc, widths, spaces.as_slice(), max, style)
 }

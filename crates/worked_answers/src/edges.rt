@@ -2,10 +2,9 @@
 
 use crate::rings::outline_of;
 use crate::telling::shown;
-use ass_num::{Mem, Point};
+use ass_num::{Mem, Outline, Point};
 use cancelled_edges::cancelled;
 use std::alloc::Global;
-use std::test::Fail;
 
 /// Adds each edge of a ring.
 fn add_edges(ring: &[Point], edges: &mut Vec<(i64, i64, i64, i64)>) -> Mem<()> {
@@ -20,13 +19,18 @@ fn add_edges(ring: &[Point], edges: &mut Vec<(i64, i64, i64, i64)>) -> Mem<()> {
     Ok(())
 }
 
-/// What is left of rings.
-pub fn left(alloc: Global, rings: &str) -> Result<String, Fail> {
-    let outline = cancelled(alloc, &outline_of(alloc, rings)?)?;
+fn edges_told(alloc: Global, outline: &Outline) -> Mem<String> {
     let mut edges = Vec::new(alloc);
     for k in 0..outline.rings.len() {
         add_edges(outline.rings.get(k), &mut edges)?;
     }
     edges.sort_unstable();
     shown(alloc, &edges.as_slice())
+}
+
+/// What is left of rings.
+pub fn left(alloc: Global, rings: &str) -> Mem<String> {
+    let rings = outline_of(alloc, rings)?;
+    let left = cancelled(alloc, &rings)?;
+    edges_told(alloc, &left)
 }

@@ -1,23 +1,23 @@
 //! Fonts, and each way of leaving the format. A line of a font ends at a slash or at a carriage return, written `\r/`.
 
 use crate::telling::shown;
-use ass_num::Items;
-use bdf_font::{Font, FontRefusal, find_font, glyph, read_font};
+use ass_num::{Items, Mem};
+use bdf_font::{Font, glyph, read_font};
 use std::alloc::Global;
-use std::test::Fail;
 
 /// The font's name, ascent, descent and default code, the first glyph, and the places of `A` and `B`.
-fn font_told(alloc: Global, font: &Font) -> Result<String, Fail> {
+fn font_told(alloc: Global, font: &Font) -> Mem<String> {
     let name = str::from_utf8(font.name()).unwrap_or("?");
     let head = (name, font.ascent(), font.descent(), font.default_char());
     let places = (glyph(font, 'A'), glyph(font, 'B'));
     shown(alloc, &(head, font.glyphs().first(), places))
 }
 
-pub fn told(alloc: Global, text: &str) -> Result<String, Fail> {
+/// What a font is read as, or why it is refused.
+pub fn told(alloc: Global, text: &str) -> Mem<String> {
     let text = text.replace(alloc, "/", "\n")?;
     if text.as_str().len() > 10_000 {
-        return Err("too long".into());
+        return shown(alloc, &"too long");
     }
     match read_font(alloc, text.as_str().as_bytes()) {
         Ok(font) => font_told(alloc, &font),

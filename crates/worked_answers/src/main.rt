@@ -1,14 +1,17 @@
 //! Asks the crates what the rows of tables ask, and prints each answer that isn't the row's, and how many rows each table
-//! has. The words name the tables, each a file; a row is a question, ` => ` and its answer.
+//! has. The words name the tables, each a file; a row is a question, ` => ` and its answer. The table `runs` comes before
+//! those whose rows have scripts: these write the file `a.ass`, which no file of `runs` is.
 #![tactic(auto)]
 
 mod breaks;
 mod edges;
 mod events;
+mod faults;
 mod fonts;
-mod instants;
 mod numbers;
+mod plains;
 mod regions;
+mod reports;
 mod rings;
 mod runs;
 mod scripts;
@@ -16,29 +19,17 @@ mod shifts;
 mod states;
 mod tags;
 mod telling;
+mod texts;
 mod writing;
 
 use ass_io::Rt;
+use ass_num::Mem;
 use std::alloc::Global;
 use std::test::Fail;
 use std::{env, fs};
 
-fn number_answer(alloc: Global, table: &str, question: &str) -> Result<String, Fail> {
-    match table {
-        "millis" => numbers::milli(alloc, question),
-        "wholes" => numbers::whole(alloc, question),
-        "colours" => numbers::colours(alloc, question),
-        "times" => numbers::time(alloc, question),
-        "jobs" => runs::job(alloc, question),
-        "turns" => numbers::turn(alloc, question),
-        "powers" => numbers::power_of(alloc, question),
-        "moves" => instants::place(alloc, question),
-        "fades" => instants::fade(alloc, question),
-        _ => Err("no such table".into()),
-    }
-}
-
-fn text_answer(alloc: Global, table: &str, question: &str) -> Result<String, Fail> {
+/// The answer of what reads texts and chunks.
+fn text_answer(alloc: Global, table: &str, question: &str) -> Mem<String> {
     match table {
         "fonts" => fonts::told(alloc, question),
         "scripts" => scripts::told(alloc, question),
@@ -49,60 +40,87 @@ fn text_answer(alloc: Global, table: &str, question: &str) -> Result<String, Fai
         "drawings" => tags::drawing(alloc, question),
         "texts" => tags::items(alloc, question),
         "tags" => tags::tags(alloc, question),
-        "states" => states::last_state(alloc, question),
-        "views" => states::view(alloc, question),
-        _ => number_answer(alloc, table, question),
+        _ => numbers::told(alloc, table, question),
     }
 }
 
-fn call_answer(alloc: Global, table: &str, question: &str) -> Result<String, Fail> {
+/// The answer of what has states, places or shapes, or is generated or reported.
+fn call_answer(alloc: Global, table: &str, question: &str) -> Mem<String> {
     match table {
+        "states" | "views" => states::told(alloc, table, question),
         "breaks" => breaks::places(alloc, question),
         "shifts" => shifts::shifts(alloc, question),
         "edges" => edges::left(alloc, question),
         "regions" => regions::regions(alloc, question),
         "borders" => regions::border(alloc, question),
-        "event_lines" => writing::told(alloc, question),
+        "plains" => plains::told(alloc, question),
+        "generated" => reports::script(alloc, question),
+        "reports" => reports::report(alloc, question),
         _ => text_answer(alloc, table, question),
     }
 }
 
-/// The answer to a question of a table; one of a whole run reads files.
-fn answer(lent: &impl Rt, rt: &HostRuntime, table: &str, question: &str) -> Result<String, Fail> {
+/// The answer of a run over the files that lie here.
+fn file_answer(lent: &impl Rt, rt: &HostRuntime, table: &str, question: &str) -> Mem<String> {
     match table {
-        "runs" => runs::over_files(lent, rt, question),
+        "runs" => runs::told(lent, rt, question),
         "digests" => runs::digest(lent, rt, question),
-        "plays" => runs::over_text(lent, rt, "head.ass", question),
-        "changes" => runs::over_text(lent, rt, "head.ass", question),
-        "styled_changes" => runs::over_text(lent, rt, "styled.ass", question),
-        "written" => runs::written(lent, rt.alloc(), question),
-        "faults" => runs::with_faults(lent, rt, question),
-        "pictures" => runs::picture(lent, rt, question),
-        "long_checks" => runs::long_check(lent, rt, question),
         "image_bytes" => runs::pixel(lent, rt, question),
+        "jobs" => runs::job(rt.alloc(), question),
         _ => call_answer(rt.alloc(), table, question),
     }
 }
 
-/// Prints the answer of a row, where it isn't the row's own.
-fn ask(lent: &impl Rt, rt: &HostRuntime, table: &str, row: &str) -> Result<(), Fail> {
-    let (question, wanted) = row.split_once(" => ").ok_or("no answer")?;
-    let found = answer(lent, rt, table, question)?;
-    if found.as_str() != wanted {
-        println!(rt; "{table}: {question} => {found}")?;
+/// The answer to a question of a table.
+fn answer(lent: &impl Rt, rt: &HostRuntime, table: &str, question: &str) -> Result<String, Fail> {
+    match table {
+        "plays" | "changes" | "pictures" => texts::told(lent, rt, "head.ass", question),
+        "styled_changes" => texts::told(lent, rt, "styled.ass", question),
+        "written" => texts::written(lent, rt, question),
+        "long_checks" => texts::long_check(lent, rt, question),
+        "faults" => faults::told(lent, rt, question),
+        "event_lines" => writing::told(rt.alloc(), question),
+        _ => Ok(file_answer(lent, rt, table, question)?),
     }
+}
+
+/// Prints a question and its answer.
+fn tell(rt: &HostRuntime, table: &str, question: &str, found: &str) -> Result<(), Fail> {
+    println!(rt; "{table}: {question} => {found}")?;
     Ok(())
 }
 
-fn ask_all(lent: &impl Rt, rt: &HostRuntime, table: &str) -> Result<(), Fail> {
-    let rows = fs::read_to_string(rt, table)?;
+/// Prints the answer of a row, where it isn't the row's own.
+fn ask(lent: &impl Rt, rt: &HostRuntime, table: &str, row: &str) -> Result<(), Fail> {
+    let Some((question, wanted)) = row.split_once(" => ") else {
+        return tell(rt, table, row, "no answer");
+    };
+    let found = answer(lent, rt, table, question)?;
+    if found.as_str() == wanted {
+        return Ok(());
+    }
+    tell(rt, table, question, found.as_str())
+}
+
+/// Asks each row: how many there are.
+fn ask_rows(lent: &impl Rt, rt: &HostRuntime, table: &str, rows: &str) -> Result<u32, Fail> {
     let mut count = 0u32;
     for row in rows.lines() {
         ask(lent, rt, table, row)?;
         count = count.saturating_add(1);
     }
+    Ok(count)
+}
+
+fn tell_count(rt: &HostRuntime, table: &str, count: u32) -> Result<(), Fail> {
     println!(rt; "{table}: {count}")?;
     Ok(())
+}
+
+fn ask_all(lent: &impl Rt, rt: &HostRuntime, table: &str) -> Result<(), Fail> {
+    let rows = fs::read_to_string(rt, table)?;
+    let count = ask_rows(lent, rt, table, rows.as_str())?;
+    tell_count(rt, table, count)
 }
 
 fn main(rt: HostRuntime) -> Result<(), Fail> {

@@ -32,6 +32,7 @@ fn add_ring(alloc: Global, ring: &str, rings: &mut FlatLists<Point>) -> Mem<()>
     Ok(())
 }
 
+/// The outline of rings.
 pub fn outline_of(alloc: Global, text: &str) -> Mem<Outline>
     ensures { IfOk result (λ outline. IsOutline outline.rings) }
 {

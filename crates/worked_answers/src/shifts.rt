@@ -7,7 +7,6 @@ use crate::telling::{numbers, shown};
 use ass_num::{Fix, Mem};
 use placement::{Box2, Stand, replay};
 use std::alloc::Global;
-use std::test::Fail;
 
 fn is_small(b: &Box2) -> bool
     ensures { IsTrue result → IsBoxWithin (2 ^ 20) b.now }
@@ -45,43 +44,40 @@ fn in_order(list: &[Stand]) -> bool
 }
 
 /// A stand: its start, its end, its box, and 1 where it moves down.
-fn stand_of(alloc: Global, text: &str) -> Result<Stand, Fail> {
-    match numbers(alloc, text)?.as_slice() {
-        [start, end, left, top, right, bottom, down] => Ok(Stand {
-            start: *start,
-            end: *end,
-            place: Box2 {
-                left: *left,
-                top: *top,
-                right: *right,
-                bottom: *bottom,
-            },
-            down: *down == 1,
-        }),
-        _ => Err("no stand".into()),
+fn stand_of(text: &str) -> Stand {
+    let [start, end, left, top, right, bottom, down, _] = numbers(text);
+    Stand {
+        start,
+        end,
+        place: Box2 {
+            left,
+            top,
+            right,
+            bottom,
+        },
+        down: down == 1,
     }
 }
 
 /// Stands between slashes.
-fn stands_of(alloc: Global, text: &str) -> Result<Vec<Stand>, Fail> {
+fn stands_of(alloc: Global, text: &str) -> Mem<Vec<Stand>> {
     let mut stands = Vec::new(alloc);
     for part in text.split('/') {
-        stands.push(stand_of(alloc, part)?)?;
+        stands.push(stand_of(part))?;
     }
     Ok(stands)
 }
 
-fn shifts_of(alloc: Global, list: &[Stand]) -> Mem<Option<Vec<Fix>>> {
+fn shifts_of(alloc: Global, list: &[Stand]) -> Mem<String> {
     if list.len() <= 1_000_000 && list.iter().all(|s| is_placeable(s)) && in_order(list) {
-        Ok(Some(replay(alloc, list)?))
-    } else {
-        Ok(None)
+        let shifts = replay(alloc, list)?;
+        return shown(alloc, &shifts.as_slice());
     }
+    shown(alloc, &"no list of stands")
 }
 
 /// The shifts of stands between slashes.
-pub fn shifts(alloc: Global, question: &str) -> Result<String, Fail> {
+pub fn shifts(alloc: Global, question: &str) -> Mem<String> {
     let stands = stands_of(alloc, question)?;
-    let shifts = shifts_of(alloc, stands.as_slice())?;
-    shown(alloc, &shifts.ok_or("no list of stands")?.as_slice())
+    shifts_of(alloc, stands.as_slice())
 }

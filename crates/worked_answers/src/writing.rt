@@ -4,10 +4,10 @@ ghost use Rattle.std.specs.Prelude.{IfOk, OnOk, All, map};
 ghost use Rattle.std.specs.Arc.{arc_value};
 ghost use Rattle.ass_events.specs.Ranges.{IsEvent};
 
-use crate::telling::shown;
+use crate::telling::{lines, number, parted, shown};
 use ass_events::{Event, read_chunk};
 use ass_num::Mem;
-use ass_script::read_script;
+use ass_script::{Script, read_script};
 use bstr::BStr;
 use std::alloc::Global;
 use std::sync::Arc;
@@ -31,11 +31,10 @@ fn event_of(alloc: Global, chunk: &str, start: i64, duration: i64) -> Result<Arc
 fn event_said(alloc: Global, text: &str) -> Result<Arc<Event>, Fail>
     ensures { IfOk result (λ event. IsEvent event.value) }
 {
-    let (start, rest) = text.split_once(' ').ok_or("no start")?;
-    let (duration, chunk) = rest.split_once(' ').ok_or("no duration")?;
-    let (start, duration) = (start.parse::<i64>()?, duration.parse::<i64>()?);
-    let chunk = chunk.replace(alloc, "|", "\n")?;
-    event_of(alloc, chunk.as_str(), start, duration)
+    let (start, rest) = parted(text, " ");
+    let (duration, chunk) = parted(rest, " ");
+    let chunk = lines(alloc, chunk)?;
+    event_of(alloc, chunk.as_str(), number(start), number(duration))
 }
 
 fn add_event(events: &mut Vec<Arc<Event>>, event: Arc<Event>) -> Mem<()>
@@ -59,12 +58,19 @@ fn events_of(alloc: Global, text: &str) -> Result<Vec<Arc<Event>>, Fail>
     Ok(events)
 }
 
+/// The text of a script that has these events, or why it isn't written.
+fn text_told(alloc: Global, script: &Script, events: &[Arc<Event>]) -> Mem<String>
+    requires { All IsEvent (map arc_value events.now) }
+{
+    match script_text(alloc, script, events) {
+        Ok(text) => shown(alloc, &BStr::new(text.as_slice())),
+        Err(refusal) => shown(alloc, &refusal),
+    }
+}
+
 /// The text of a script without styles that has the events between slashes, or why it isn't written.
 pub fn told(alloc: Global, question: &str) -> Result<String, Fail> {
     let script = read_script(alloc, "[Events]".as_bytes())?;
     let events = events_of(alloc, question)?;
-    match script_text(alloc, &script, events.as_slice()) {
-        Ok(text) => shown(alloc, &BStr::new(text.as_slice())),
-        Err(refusal) => shown(alloc, &refusal),
-    }
+    Ok(text_told(alloc, &script, events.as_slice())?)
 }
