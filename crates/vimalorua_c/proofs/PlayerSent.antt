@@ -28,19 +28,35 @@ alone_send : IsSend alone.the_row
 alone_send =
     view_send _ _ _ _ _ (recorded_send alone_inside.the_field.row _ _ alone_inside.the_type.to_one (struct_send (shape alone_inside.the_type) (
       arc_send _ _ _ font_set_send global_send font_set_sync global_sync the_frees,
-      (search (sendable, snapshot_send, entries_send, region_key_send, region_send, region_sync) depth 30 fits 10000,
-      (search (sendable, snapshot_send, entries_send, mask_key_send, mask_send, mask_sync) depth 30 fits 10000,
-      (search (sendable, snapshot_send, entries_send, composite_key_send, mask_send, mask_sync) depth 30 fits 10000, tt))),
+      (
+        search (sendable, snapshot_send, entries_send, region_key_send, region_send, region_sync) depth 30 fits 10000,
+        (
+          search (sendable, snapshot_send, entries_send, mask_key_send, mask_send, mask_sync) depth 30 fits 10000,
+          (search (sendable, snapshot_send, entries_send, composite_key_send, mask_send, mask_sync) depth 30 fits 10000, tt),
+        ),
+      ),
     )))
 
 player_send : IsSend player.the_row
 player_send =
     view_send _ _ _ _ _ (recorded_send player_inside.the_field.row _ _ player_inside.the_type.to_one (struct_send (shape player_inside.the_type) (
       script_send,
-      (arc_send _ _ _ font_set_send global_send font_set_sync global_sync the_frees,
-      (track_send, (alone_send, (search sendable,
-      (search (sendable, option_send, listed_send) depth 10,
-      (search (sendable, vec_send, plain_image_send, global_send, the_frees) depth 10, (search sendable, tt)))))))
+      (
+        arc_send _ _ _ font_set_send global_send font_set_sync global_sync the_frees,
+        (
+          track_send,
+          (
+            alone_send,
+            (
+              search sendable,
+              (
+                search (sendable, option_send, listed_send) depth 10,
+                (search (sendable, vec_send, plain_image_send, global_send, the_frees) depth 10, (search sendable, tt)),
+              ),
+            ),
+          ),
+        ),
+      ),
     )))
 
 pub kept_send : IsSend kept.the_row

@@ -1,8 +1,8 @@
 -- Public: what the calls of a handle answer, and what they do to the player behind it.
-use Rattle.std.specs.Prelude.{◌≡◌, ◌≢◌, ◌↔◌, ◌⊎◌, ℕ, ◌*◌, ◌+◌, ◌<◌, ◌≤◌, ℤ, pos, neg_ℤ, ◌<ℤ◌, List, [], ◌∷◌, ◌++◌, length, All, flat_map, fold, Option, Some, None, Result, Ok, Err}
+use Rattle.std.specs.Prelude.{◌≡◌, ◌≢◌, ◌↔◌, ◌⊎◌, ℕ, ◌*◌, ◌+◌, ◌<◌, ◌≤◌, ℤ, pos, neg_ℤ, ◌<ℤ◌, List, [], ◌∷◌, ◌++◌, length, All, flat_map, fold, Option, Some, None, Ok, Err}
 use Rattle.alone_track.specs.Feeding.{AreFrontOffered, IsChunkOffered, IsFlushedAlone, with_offer}
 use Rattle.ass_events.specs.Events.{event_of}
-use Rattle.ass_num.specs.Limits.{max_file_bytes, max_frame_side, max_instant, max_text_bytes}
+use Rattle.ass_num.specs.Limits.{max_file_bytes, max_frame_side, max_instant}
 use Rattle.ass_num.specs.declared.size.Size.{Size}
 use Rattle.ass_script.specs.Scripts.{ScriptValue, script_of}
 use Rattle.ass_script.specs.declared.refusal.ScriptRefusal.{ScriptRefusal}

@@ -1,4 +1,4 @@
-use Rattle.std.proofs.Common.{◌≡◌, ℕ, ◌+◌, ◌<◌, List, [], ◌∷◌, ◌++◌, length, take, sym, ap, ◌∙◌, length-set, arith}
+use Rattle.std.proofs.Common.{ℕ, ◌+◌, ◌<◌, List, [], ◌∷◌, ◌++◌, length, take, sym, ap, ◌∙◌, length-set, arith}
 use Rattle.std.proofs.lemmas.List.{take_more_set}
 use Rattle.plain_images.specs.declared.plain.PlainImage.{PlainImage}
 use Rattle.vimalorua_c.specs.Calls.{image_numbers}
