@@ -6,7 +6,7 @@ pub mod Leasing
 pub mod Lending
 pub mod Pictures
 pub mod ReadyImages
-pub mod Soon
 pub mod Together
 pub mod Tried
+pub mod TriedFirst
 pub mod Warmed

@@ -24,8 +24,8 @@ module _ (renderer : RendererView) (pass after : CachesPass) (events : List Even
 
   -- The images are the draws of these events, each with pins of its keys, had all at once, or with what was lent of them.
   abbrev pub AreImagesSoon : {E : Type 0} → Result (List Image) E → Type 0
-  AreImagesSoon (Ok images) = AreDrawsPinned renderer pass after events t size images ⊎ AreImagesLentThen (Ok images)
-  AreImagesSoon (Err refused) = AreImagesLentThen (Err refused)
+  AreImagesSoon {E} (Ok images) = AreDrawsPinned renderer pass after events t size images ⊎ AreImagesLentThen {E = E} (Ok images)
+  AreImagesSoon {E} (Err refused) = AreImagesLentThen {E = E} (Err refused)
 
 -- ---- frames
 
@@ -39,5 +39,5 @@ module _ (renderer : RendererView) (pass after : RenderView) (t : ℤ) (size : S
 
   -- The frame has pins of the keys of its draws, had all at once, or it is rendered.
   abbrev pub IsTriedThenRendered : {E : Type 0} → Result Frame E → Type 0
-  IsTriedThenRendered (Ok frame) = IsTriedFrame renderer pass after t size frame ⊎ IsRenderedThen (Ok frame)
-  IsTriedThenRendered (Err refused) = IsRenderedThen (Err refused)
+  IsTriedThenRendered {E} (Ok frame) = IsTriedFrame renderer pass after t size frame ⊎ IsRenderedThen {E = E} (Ok frame)
+  IsTriedThenRendered {E} (Err refused) = IsRenderedThen {E = E} (Err refused)

@@ -8,7 +8,7 @@ use Rattle.frame_paint.specs.Frames.{image_shown}
 use Rattle.warm_ahead.specs.Firsts.{plan_keys}
 use Rattle.render_pass.specs.Passes.{RendererView}
 use Rattle.render_pass.specs.Trying.{AreDrawsPinned, AreImagesRefused}
-use Rattle.render_pass.proofs.Soon.{lent-soon, wanting-soon}
+use Rattle.render_pass.proofs.TriedFirst.{lent-soon, wanting-soon}
 use Rattle.render_pass.proofs.Tried.{pinned-images, pinned-values, refused-images}
 use Rattle.render_pass.proofs.renderer.Renderer.images_soon.Goals as goal
 

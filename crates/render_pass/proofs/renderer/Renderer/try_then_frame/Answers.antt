@@ -7,7 +7,7 @@ use Rattle.render_pass.specs.Passes.{RenderView}
 use Rattle.render_pass.specs.Holding.{HoldsTheSame}
 use Rattle.render_pass.specs.Soon.{AreImagesSoon, IsTriedThenRendered}
 use Rattle.render_pass.proofs.Framed.{scene-itself}
-use Rattle.render_pass.proofs.Soon.{frame-soon, frame-wanting, wanting-soon}
+use Rattle.render_pass.proofs.TriedFirst.{frame-soon, frame-wanting, wanting-soon}
 use Rattle.render_pass.proofs.Together.{pass_of}
 use Rattle.render_pass.proofs.renderer.Renderer.try_then_frame.Goals as goal
 
@@ -18,8 +18,8 @@ returns-in-Ok-images g c =
     let of = rw (← c.pass.view_is) at c.requires.pass in
     let scene = rw (c.in-Ok.is, to_z-of_z c.ranges.t) at c.look-track.ensures.scene in
     let had = rw c.in-Ok-images.is at c.images_soon-caches.ensures history (scene-itself history c.args.t c.in-Ok.scene scene) in
-    let f = frame-soon {OutOfMemory} renderer c.pass.inside.track later old new c.args.t size of c.in-Ok.scene images c.look-track.ensures.turn scene
-    (subst (λ (t : ℤ). AreImagesSoon {OutOfMemory} renderer old new (live history) t size (Ok images)) scene.instant had) in
+    let f = frame-soon {E = OutOfMemory} renderer c.pass.inside.track later old new c.args.t size of c.in-Ok.scene images c.look-track.ensures.turn scene
+    (subst (λ (t : ℤ). AreImagesSoon {E = OutOfMemory} renderer old new (live history) t size (Ok images)) scene.instant had) in
     rw (← c.pass.view_is, to_z-of_z c.ranges.t) (record { pass = f.pass; history = f.history; rendered = f.rendered OutOfMemory; holds = f.holds })
 
 pub returns-in-Ok : goal.returns-in-Ok

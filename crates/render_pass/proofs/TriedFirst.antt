@@ -58,10 +58,10 @@ module _ (renderer : RendererView) (track later : TrackView) (old new : CachesPa
   pub record IsFrameSoon (frame : Frame) : Type 0 where
     pub pass : IsPassOfRenderer renderer (pass_of later new)
     pub history : ShowsOneHistory renderer (pass_of track old) (pass_of later new) t size frame
-    pub rendered : (E : Type 0) → IsTriedThenRendered {E} renderer (pass_of track old) (pass_of later new) t size (Ok frame)
+    pub rendered : (E : Type 0) → IsTriedThenRendered {E = E} renderer (pass_of track old) (pass_of later new) t size (Ok frame)
     pub holds : HoldsFrameMore renderer (pass_of track old) (pass_of later new) frame
 
-  pub frame-soon : {E : Type 0} (scene : Scene) (images : List Image) → IsTurn track later None → IsSceneOf (history_of later.seen) t scene → AreImagesSoon {E} renderer old new (live (history_of later.seen)) t size (Ok images)
+  pub frame-soon : {E : Type 0} (scene : Scene) (images : List Image) → IsTurn track later None → IsSceneOf (history_of later.seen) t scene → AreImagesSoon {E = E} renderer old new (live (history_of later.seen)) t size (Ok images)
       → IsFrameSoon (record { n = scene.n; t = t; size = size; images = images })
   frame-soon {E} scene images turn shown (inl pinned) =
       let f = frame-tried renderer track later old new t size of scene images turn shown pinned in
