@@ -2,6 +2,7 @@
 use Rattle.std.proofs.Common.{◌≡◌, ◌⊎◌, ℤ, List, None, Result, Ok, Err, inl, inr, refl, ◌∙◌, arith}
 use Rattle.ass_events.specs.Histories.{live}
 use Rattle.ass_events.specs.declared.event.Event.{Event}
+use Rattle.ass_num.specs.declared.memory.OutOfMemory.{OutOfMemory}
 use Rattle.ass_num.specs.declared.size.Size.{Size}
 use Rattle.cache_kinds.specs.Kinds.{mask_meaning, region_meaning}
 use Rattle.flight_cache.specs.declared.pinning.PinRefusal.{PinRefusal}
@@ -40,10 +41,10 @@ leases-behind caches p q r leases f g = record {
 
 module _ (renderer : RendererView) (p : CachesPass) (events : List Event) (t : ℤ) (size : Size) (of : IsPassOf renderer.caches p) where
   -- memory was wanting, and no key was asked for
-  pub wanting-unlent : AreDrawsUnlent renderer p p events t size
+  wanting-unlent : AreDrawsUnlent renderer p p events t size
   wanting-unlent = record { of = of; holds = before-itself renderer.caches p; unleased = inl refl }
 
-  pub wanting-soon : {E : Type 0} (wanting : E) → AreImagesSoon renderer p p events t size (Err wanting)
+  pub wanting-soon : (wanting : OutOfMemory) → AreImagesSoon renderer p p events t size (Err wanting)
   wanting-soon wanting = (p, refused.OutOfMemory, nothing-itself renderer p of, wanting-unlent)
 
 -- what was lent behind a refusal
@@ -58,15 +59,15 @@ module _ (renderer : RendererView) (track later : TrackView) (old new : CachesPa
   pub record IsFrameSoon (frame : Frame) : Type 0 where
     pub pass : IsPassOfRenderer renderer (pass_of later new)
     pub history : ShowsOneHistory renderer (pass_of track old) (pass_of later new) t size frame
-    pub rendered : (E : Type 0) → IsTriedThenRendered {E = E} renderer (pass_of track old) (pass_of later new) t size (Ok frame)
+    pub rendered : IsTriedThenRendered renderer (pass_of track old) (pass_of later new) t size {E = OutOfMemory} (Ok frame)
     pub holds : HoldsFrameMore renderer (pass_of track old) (pass_of later new) frame
 
-  pub frame-soon : {E : Type 0} (scene : Scene) (images : List Image) → IsTurn track later None → IsSceneOf (history_of later.seen) t scene → AreImagesSoon {E = E} renderer old new (live (history_of later.seen)) t size (Ok images)
+  pub frame-soon : (scene : Scene) (images : List Image) → IsTurn track later None → IsSceneOf (history_of later.seen) t scene → AreImagesSoon renderer old new (live (history_of later.seen)) t size {E = OutOfMemory} (Ok images)
       → IsFrameSoon (record { n = scene.n; t = t; size = size; images = images })
-  frame-soon {E} scene images turn shown (inl pinned) =
+  frame-soon scene images turn shown (inl pinned) =
       let f = frame-tried renderer track later old new t size of scene images turn shown pinned in
-      record { pass = f.pass; history = f.history; rendered = λ E. inl f.tried; holds = f.holds }
-  frame-soon {E} scene images turn shown (inr h) =
+      record { pass = f.pass; history = f.history; rendered = inl f.tried; holds = f.holds }
+  frame-soon scene images turn shown (inr h) =
       let frame : Frame = record { n = scene.n; t = t; size = size; images = images } in
       let nothing = refused-nothing renderer old h.0 (live (history_of later.seen)) t size h.1 h.2 in
       let between : IsPassOfRenderer renderer (pass_of track h.0) = record { track = of.track; caches = nothing.of } in
@@ -74,21 +75,21 @@ module _ (renderer : RendererView) (track later : TrackView) (old new : CachesPa
       record {
         pass = f.of;
         history = frame-history renderer (pass_of track old) (pass_of later new) t size frame turn f.rendered.is_frame;
-        rendered = λ E. inr (h.0, h.1, h.2, f.rendered);
+        rendered = inr (h.0, h.1, h.2, f.rendered);
         holds = leases-behind renderer.caches old h.0 new (leases_of images) (nothing-holds renderer old h.0 nothing) f.holds;
       }
 
   -- what a call that wants memory makes of it
-  pub record IsFrameWanting : Type 0 where
+  pub record IsFrameWanting (wanting : OutOfMemory) : Type 0 where
     pub pass : IsPassOfRenderer renderer (pass_of later new)
-    pub rendered : (E : Type 0) (wanting : E) → IsTriedThenRendered renderer (pass_of track old) (pass_of later new) t size (Err wanting)
+    pub rendered : IsTriedThenRendered renderer (pass_of track old) (pass_of later new) t size (Err wanting)
     pub holds : HoldsTheSame renderer (pass_of track old) (pass_of later new)
 
-  pub frame-wanting : {E : Type 0} (wanting : E) → IsTurn track later None → AreImagesSoon renderer old new (live (history_of later.seen)) t size (Err wanting) → IsFrameWanting
-  frame-wanting {E} wanting turn h =
+  pub frame-wanting : (wanting : OutOfMemory) → IsTurn track later None → AreImagesSoon renderer old new (live (history_of later.seen)) t size (Err wanting) → IsFrameWanting wanting
+  frame-wanting wanting turn h =
       let nothing = refused-nothing renderer old h.0 (live (history_of later.seen)) t size h.1 h.2 in
       record {
         pass = record { track = turn-of renderer track later None of.track turn; caches = h.3.of };
-        rendered = λ E w. (h.0, h.1, h.2, record { turn = turn; unleased = h.3.unleased });
+        rendered = (h.0, h.1, h.2, record { turn = turn; unleased = h.3.unleased });
         holds = before-then renderer.caches old h.0 new (nothing-holds renderer old h.0 nothing) h.3.holds;
       }

@@ -18,9 +18,9 @@ returns-in-Ok-images g c =
     let of = rw (← c.pass.view_is) at c.requires.pass in
     let scene = rw (c.in-Ok.is, to_z-of_z c.ranges.t) at c.look-track.ensures.scene in
     let had = rw c.in-Ok-images.is at c.images_soon-caches.ensures history (scene-itself history c.args.t c.in-Ok.scene scene) in
-    let f = frame-soon {E = OutOfMemory} renderer c.pass.inside.track later old new c.args.t size of c.in-Ok.scene images c.look-track.ensures.turn scene
-    (subst (λ (t : ℤ). AreImagesSoon {E = OutOfMemory} renderer old new (live history) t size (Ok images)) scene.instant had) in
-    rw (← c.pass.view_is, to_z-of_z c.ranges.t) (record { pass = f.pass; history = f.history; rendered = f.rendered OutOfMemory; holds = f.holds })
+    let f = frame-soon renderer c.pass.inside.track later old new c.args.t size of c.in-Ok.scene images c.look-track.ensures.turn scene
+    (subst (λ (t : ℤ). AreImagesSoon renderer old new (live history) t size {E = OutOfMemory} (Ok images)) scene.instant had) in
+    rw (← c.pass.view_is, to_z-of_z c.ranges.t) (record { pass = f.pass; history = f.history; rendered = f.rendered; holds = f.holds })
 
 pub returns-in-Ok : goal.returns-in-Ok
 returns-in-Ok g c =
@@ -34,7 +34,7 @@ returns-in-Ok g c =
     record {
       pass = f.pass;
       history = tt;
-      rendered = subst (λ (v : RenderView). IsTriedThenRendered renderer v (pass_of later new) c.args.t size (Err wanting)) c.pass.view_is (f.rendered OutOfMemory wanting);
+      rendered = subst (λ (v : RenderView). IsTriedThenRendered renderer v (pass_of later new) c.args.t size (Err wanting)) c.pass.view_is f.rendered;
       holds = subst (λ (v : RenderView). HoldsTheSame renderer v (pass_of later new)) c.pass.view_is f.holds;
     }
 
@@ -48,6 +48,6 @@ returns g c =
     record {
       pass = f.pass;
       history = tt;
-      rendered = subst (λ (v : RenderView). IsTriedThenRendered renderer v (pass_of later caches) c.args.t size (Err wanting)) c.pass.view_is (f.rendered OutOfMemory wanting);
+      rendered = subst (λ (v : RenderView). IsTriedThenRendered renderer v (pass_of later caches) c.args.t size (Err wanting)) c.pass.view_is f.rendered;
       holds = subst (λ (v : RenderView). HoldsTheSame renderer v (pass_of later caches)) c.pass.view_is f.holds;
     }
