@@ -1,11 +1,10 @@
 -- What a call that tries for a frame and else renders it gives.
-use Rattle.std.proofs.Common.{◌≡◌, ◌⊎◌, ℤ, List, None, Result, Ok, Err, inl, inr, refl, ◌∙◌, arith}
+use Rattle.std.proofs.Common.{ℤ, List, None, Result, Ok, Err, inl, inr, refl, ◌∙◌, arith}
 use Rattle.ass_events.specs.Histories.{live}
 use Rattle.ass_events.specs.declared.event.Event.{Event}
 use Rattle.ass_num.specs.declared.memory.OutOfMemory.{OutOfMemory}
 use Rattle.ass_num.specs.declared.size.Size.{Size}
 use Rattle.cache_kinds.specs.Kinds.{mask_meaning, region_meaning}
-use Rattle.flight_cache.specs.declared.pinning.PinRefusal.{PinRefusal}
 use Rattle.flight_cache.specs.declared.pinning.PinRefusal.TheVariants as refused
 use Rattle.mask_keys.specs.Equality.{equal_masks, equal_regions}
 use Rattle.mask_caches.specs.Caches.{HoldsAsBefore, IsPassOf}
