@@ -4,7 +4,7 @@ ghost use Rattle.evict_core.specs.Machine.{max_budget};
 ghost use Rattle.world_answers.specs.Given.{AreInputs};
 
 use crate::inputs::Inputs;
-use crate::lines::{dot_inputs, lines_of};
+use crate::lines::crowd_inputs;
 use crate::moves::{Act, replies_of};
 use crate::watch::Watch;
 use std::alloc::{AllocError, Global};
@@ -27,9 +27,17 @@ impl Dice {
     }
 }
 
-// What an actor asks for, by a number.
+// The key that an actor asks for: each third is one of the others, beside the lines' own eight.
+fn key_of(n: u16) -> usize {
+    if n % 3 == 0 {
+        usize::from(8 + n / 3 % 24)
+    } else {
+        usize::from(n / 3 % 8)
+    }
+}
+
 fn ask_of(sort: u16, n: u16) -> Act {
-    let key = usize::from(n % 8);
+    let key = key_of(n);
     match sort {
         0 => Act::Outline(key),
         1 => Act::Mask(key),
@@ -48,7 +56,7 @@ fn act_of(sort: u16, n: u16) -> Act {
         15..=22 => Act::Unpin(usize::from(n % 4)),
         23..=26 => Act::Show,
         27..=38 => ask_of(sort % 8, n),
-        _ => Act::Limits(n),
+        _ => Act::Limits(n % 3, n / 3 % 4, n / 12 % 4, n % 256),
     }
 }
 
@@ -96,6 +104,39 @@ fn told(alloc: Global, replies: &[Reply]) -> Result<String, Fail> {
     Ok(lines)
 }
 
+// What is told in a new world where these steps alone are made.
+fn told_of(
+    alloc: Global,
+    inputs: &Inputs,
+    budget: u64,
+    moves: &[(u32, Act)],
+) -> Result<String, Fail>
+    requires inputs { AreInputs inputs.now }
+    requires budget { budget ≤ max_budget }
+{
+    let replies = replies_of(alloc, inputs, budget, moves)?;
+    told(alloc, replies.as_slice())
+}
+
+// Prints whether steps were idle, and whether the others are answered the same without them.
+fn show_idle(
+    rt: &HostRuntime,
+    inputs: &Inputs,
+    budget: u64,
+    moves: &[(u32, Act)],
+    replies: &[Reply],
+) -> Result<(), Fail>
+    requires inputs { AreInputs inputs.now }
+    requires budget { budget ≤ max_budget }
+{
+    let kept = without_idle(rt.alloc(), moves, replies)?;
+    let others = told_of(rt.alloc(), inputs, budget, kept.as_slice())?;
+    let same = told(rt.alloc(), replies)? == others;
+    let idle = kept.len() < moves.len();
+    println!(rt; "  some idle: {idle}, the same without them: {same}")?;
+    Ok(())
+}
+
 fn watched(alloc: Global, moves: &[(u32, Act)], replies: &[Reply]) -> Result<Watch, Fail> {
     let mut watch = Watch::new(alloc);
     for ((actor, act), reply) in moves.iter().zip(replies) {
@@ -104,18 +145,20 @@ fn watched(alloc: Global, moves: &[(u32, Act)], replies: &[Reply]) -> Result<Wat
     Ok(watch)
 }
 
-fn show_watch(rt: &HostRuntime, watch: &Watch) -> Result<(), Fail> {
-    let Watch {
-        shown,
-        wrong,
-        flying,
-        crowded,
-        ..
-    } = watch;
-    println!(rt;
-        "  {flying} flying, {crowded} crowded, {shown} shown, {wrong} of them others than without caches"
-    )?;
-    Ok(())
+// Prints what came of the steps.
+fn show_replies(
+    rt: &HostRuntime,
+    inputs: &Inputs,
+    budget: u64,
+    moves: &[(u32, Act)],
+) -> Result<(), Fail>
+    requires inputs { AreInputs inputs.now }
+    requires budget { budget ≤ max_budget }
+{
+    let replies = replies_of(rt.alloc(), inputs, budget, moves)?;
+    show_idle(rt, inputs, budget, moves, replies.as_slice())?;
+    let watch = watched(rt.alloc(), moves, replies.as_slice())?;
+    watch.show(rt)
 }
 
 // Makes steps by a seed, and those of them that aren't idle again in a new world.
@@ -129,25 +172,16 @@ fn play(
     requires inputs { AreInputs inputs.now }
     requires budget { budget ≤ max_budget }
 {
-    let alloc = rt.alloc();
-    let moves = moves_of(alloc, seed, limited)?;
-    let replies = replies_of(alloc, inputs, budget, moves.as_slice())?;
-    let kept = without_idle(alloc, moves.as_slice(), replies.as_slice())?;
-    let others = replies_of(alloc, inputs, budget, kept.as_slice())?;
-    let same = told(alloc, replies.as_slice())? == told(alloc, others.as_slice())?;
-    let idle = moves.len().saturating_sub(kept.len());
-    println!(rt; "seed {seed}, budget {budget}: {idle} idle, the same without them: {same}")?;
-    let watch = watched(alloc, moves.as_slice(), replies.as_slice())?;
-    show_watch(rt, &watch)
+    println!(rt; "seed {seed}, budget {budget}:")?;
+    let moves = moves_of(rt.alloc(), seed, limited)?;
+    show_replies(rt, inputs, budget, moves.as_slice())
 }
 
 /// Plays with no budget, with room for 16 entries, and with ample room; and once more where shards get other limits.
 pub fn show(rt: &HostRuntime) -> Result<(), Fail> {
-    let alloc = rt.alloc();
-    let lines = lines_of(alloc, &[0, 1, 2, 3, 4, 5])?;
-    let inputs = dot_inputs(alloc, lines.as_str(), 25)?;
-    play(rt, &inputs, 7, false, 0)?;
-    play(rt, &inputs, 7, false, 16_384)?;
-    play(rt, &inputs, 7, false, 67_108_864)?;
+    let inputs = crowd_inputs(rt.alloc())?;
+    play(rt, &inputs, 20, false, 0)?;
+    play(rt, &inputs, 20, false, 16_384)?;
+    play(rt, &inputs, 20, false, 67_108_864)?;
     play(rt, &inputs, 8, true, 16_384)
 }

@@ -46,6 +46,14 @@ fn script_of(alloc: Global, text: &[u8]) -> Result<Script, Fail>
     }
 }
 
+fn shared_script(alloc: Global, text: &[u8]) -> Result<Arc<Script>, Fail>
+    ensures script { IfOk result (λ script. IsScript (arc_value script)) }
+    ensures short { IfOk result (λ script. HasShortLines (arc_value script)) }
+{
+    let script = script_of(alloc, text)?;
+    Ok(Arc::new(alloc, script)?)
+}
+
 fn fonts_of(alloc: Global, font: Font) -> Result<Arc<FontSet>, Fail>
     requires { IsFont font }
     ensures { IfOk result (λ set. IsLayoutFontSet (arc_value set).fonts) }
@@ -117,16 +125,32 @@ fn keys_of(alloc: Global, fonts: &FontSet, draws: &[Draw]) -> Result<Vec<Composi
     Ok(keys)
 }
 
+fn keys_at(
+    alloc: Global,
+    script: &Script,
+    fonts: &FontSet,
+    size: &Size,
+    t: u16,
+) -> Result<Vec<CompositeKey>, Fail>
+    requires script { IsScript script.now }
+    requires short { HasShortLines script.now }
+    requires fonts { IsLayoutFontSet fonts.now.fonts }
+    requires size { IsFrameSize size.now }
+    ensures { IfOk result (λ keys. All (IsValidComposite (glyph_counts fonts.now.fonts)) keys.items) }
+{
+    let plan = plan_at(alloc, script, fonts, size, t)?;
+    keys_of(alloc, fonts, plan.draws.as_slice())
+}
+
 /// A script with one font, and the keys of what it draws at an instant, in the order of the draws.
 pub fn inputs_of(alloc: Global, text: &[u8], font: Font, size: Size, t: u16) -> Result<Inputs, Fail>
     requires font { IsFont font }
     requires size { IsFrameSize size }
     ensures { IfOk result AreInputs }
 {
-    let script = Arc::new(alloc, script_of(alloc, text)?)?;
+    let script = shared_script(alloc, text)?;
     let fonts = fonts_of(alloc, font)?;
-    let plan = plan_at(alloc, &script, &fonts, &size, t)?;
-    let keys = keys_of(alloc, &fonts, plan.draws.as_slice())?;
+    let keys = keys_at(alloc, &script, &fonts, &size, t)?;
     Ok(Inputs {
         script,
         fonts,

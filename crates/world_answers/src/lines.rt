@@ -39,6 +39,35 @@ pub fn dot_inputs(alloc: Global, lines: &str, t: u16) -> Result<Inputs, Fail>
     inputs_of(alloc, text.as_bytes(), font, Size { w: 4, h: 3 }, t)
 }
 
+// How many other lines there are.
+const OTHERS: u32 = 24;
+
+// Adds a line that shows a dot of such a width, in percent, at the instant of 25 milliseconds.
+fn add_other(lines: &mut String, alloc: Global, width: u32) -> Result<(), Fail> {
+    let line = format!(in alloc;
+        "Dialogue: 2,0:00:00.02,0:00:00.03,Default,,0,0,0,,{{\\pos(0,0)\\fscx{width}}}x\n"
+    )?;
+    lines.push_str(line.as_str())?;
+    Ok(())
+}
+
+// All lines and the others.
+fn crowd_of(alloc: Global) -> Result<String, Fail> {
+    let mut lines = lines_of(alloc, &[0, 1, 2, 3, 4, 5])?;
+    for i in 0..OTHERS {
+        add_other(&mut lines, alloc, i.wrapping_mul(3).wrapping_add(10))?;
+    }
+    Ok(lines)
+}
+
+/// A script of all lines and of others, whose keys are in the way of those of the lines; and the keys of what all of them draw.
+pub fn crowd_inputs(alloc: Global) -> Result<Inputs, Fail>
+    ensures { IfOk result AreInputs }
+{
+    let lines = crowd_of(alloc)?;
+    dot_inputs(alloc, lines.as_str(), 25)
+}
+
 /// Those of the lines whose numbers are wanted, in order.
 pub fn lines_of(alloc: Global, wanted: &[usize]) -> Result<String, Fail> {
     let mut lines = String::new(alloc);

@@ -36,8 +36,8 @@ pub enum Act {
     Fill(usize),
     Fail(usize),
     Unpin(usize),
-    /// Gives some shard few entries and a small budget. The number says which, and how small.
-    Limits(u16),
+    /// Gives a shard of a kind so many entries and such a budget.
+    Limits(u16, u16, u16, u16),
     Show,
 }
 
@@ -113,18 +113,17 @@ fn short_step(alloc: Global, inputs: &Inputs, actor: u32) -> Result<Step, Fail>
     ))
 }
 
-fn limits_step(inputs: &Inputs, n: u16) -> Step
+fn limits_step(inputs: &Inputs, kind: u16, shard: u16, entries: u16, budget: u16) -> Step
     ensures { IsValidStep (fonts_in inputs.now) result }
 {
     let _ = inputs;
-    let kind = match n % 3 {
+    let kind = match kind {
         0 => Kind::Outline,
         1 => Kind::Mask,
         _ => Kind::Composite,
     };
-    let shard = u32::from(n / 3 % 4);
-    let entries = 1 + u32::from(n % 2);
-    Step::Limits(kind, shard, entries, 64 * u64::from(n % 4))
+    let entries = u32::from(entries.clamp(1, 16));
+    Step::Limits(kind, u32::from(shard % 4), entries, u64::from(budget))
 }
 
 // The steps that name a key or bytes.
@@ -152,7 +151,9 @@ fn step_of(alloc: Global, inputs: &Inputs, actor: u32, act: Act) -> Result<Step,
         Act::Fill(i) => Ok(Step::Fill(actor, i)),
         Act::Fail(i) => Ok(Step::Fail(actor, i)),
         Act::Unpin(i) => Ok(Step::Unpin(actor, i)),
-        Act::Limits(n) => Ok(limits_step(inputs, n)),
+        Act::Limits(kind, shard, entries, budget) => {
+            Ok(limits_step(inputs, kind, shard, entries, budget))
+        }
         Act::Show => Ok(Step::Show(actor)),
         _ => given_step(alloc, inputs, actor, act),
     }

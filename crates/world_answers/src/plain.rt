@@ -11,15 +11,23 @@ use std::alloc::Global;
 use std::sync::Arc;
 use std::test::Fail;
 
-// The bytes of a plan's pixels. Nothing of it is kept.
-fn painted(alloc: Global, inputs: &Inputs, plan: &Plan) -> Result<Vec<u8>, Fail>
+// Paints a plan. Nothing of it is kept.
+fn paint(alloc: Global, inputs: &Inputs, plan: &Plan, canvas: &mut Canvas) -> Result<(), Fail>
     requires inputs { AreInputs inputs.now }
     requires plan { IsValidPlan (glyph_counts (fonts_in inputs.now)) plan.now.draws }
 {
     let fonts = Arc::try_clone(&inputs.fonts)?;
     let mut alone = Alone::open(alloc, fonts, 0)?;
+    Ok(alone.paint(alloc, plan, canvas)?)
+}
+
+// The bytes of a plan's pixels.
+fn painted(alloc: Global, inputs: &Inputs, plan: &Plan) -> Result<Vec<u8>, Fail>
+    requires inputs { AreInputs inputs.now }
+    requires plan { IsValidPlan (glyph_counts (fonts_in inputs.now)) plan.now.draws }
+{
     let mut canvas = Canvas::new(alloc, &inputs.size)?;
-    alone.paint(alloc, plan, &mut canvas)?;
+    paint(alloc, inputs, plan, &mut canvas)?;
     Ok(Vec::from_slice(alloc, canvas.pixels())?)
 }
 
@@ -29,4 +37,9 @@ pub fn picture(alloc: Global, inputs: &Inputs, t: u16) -> Result<Vec<u8>, Fail>
 {
     let plan = plan_at(alloc, &inputs.script, &inputs.fonts, &inputs.size, t)?;
     painted(alloc, inputs, &plan)
+}
+
+/// Whether some pixel isn't black.
+pub fn is_lit(pixels: &[u8]) -> bool {
+    pixels.iter().any(|byte| *byte != 0)
 }
