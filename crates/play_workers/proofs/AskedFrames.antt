@@ -1,5 +1,5 @@
 -- Frames and images whose composed masks were asked for.
-use Rattle.std.proofs.Common.{Global, Vec, ℕ, ◌+◌, ◌≤◌, ℤ, List, Result, Ok, Err, arith}
+use Rattle.std.proofs.Common.{Global, Vec, ℕ, ◌+◌, ◌≤◌, ℤ, List, Result, Ok, Err, ⊎_elim, arith}
 use Rattle.std.specs.Result.{IfOk}
 use Rattle.ass_events.specs.Histories.{Entry}
 use Rattle.ass_num.specs.declared.size.Size.{Size}
@@ -11,7 +11,8 @@ use Rattle.mask_caches.specs.Caches.{AreNumbered}
 use Rattle.mask_keys.specs.Equality.{equal_composites}
 use Rattle.mask_keys.specs.declared.plans.Draw.{Draw}
 use Rattle.render_pass.specs.Passes.{RenderView, RendererView}
-use Rattle.render_pass.specs.Rendering.{IsRendered, IsRenderedFrame}
+use Rattle.render_pass.specs.Rendering.{IsRenderedFrame}
+use Rattle.render_pass.specs.Soon.{IsTriedThenRendered}
 use Rattle.render_pass.specs.Trying.{IsTriedFrame}
 use Rattle.track_history.specs.Calls.{history_of}
 use Rattle.warm_ahead.specs.Firsts.{plan_keys}
@@ -19,13 +20,14 @@ use Rattle.play_model.specs.Images.{masks_needed}
 use Rattle.play_model.specs.Plays.{PlayView}
 use Rattle.play_workers.specs.Asks.{IsFrameAsked, IsImageAsked, IsImageOfDraws, masks_asked}
 use Rattle.play_workers.proofs.Asked.{keys_needed, pinned_asks, visits_added, visits_ask}
+use Rattle.play_workers.proofs.Later.{refused_later}
 
 -- later passes have asked for no fewer
 pub asked_later : (renderer : RendererView) (pass after : RenderView) → AreLater pass.caches after.caches → masks_asked renderer pass ≤ masks_asked renderer after
 asked_later renderer pass after later = later_asks composite_meaning renderer.caches.composites pass.caches.composites after.caches.composites later.composites
 
 module _ (renderer : RendererView) (t : ℤ) (size : Size) (frame : Frame) where
-  pub tried_frame : (pass after : RenderView) → AreNumbered renderer.caches → IsTriedFrame renderer pass after t size frame → IsFrameAsked renderer pass after (history_of after.track.seen) t size frame
+  tried_frame : (pass after : RenderView) → AreNumbered renderer.caches → IsTriedFrame renderer pass after t size frame → IsFrameAsked renderer pass after (history_of after.track.seen) t size frame
   tried_frame pass after numbered h = record {
     is = h.is_frame;
     asked =
@@ -35,7 +37,7 @@ module _ (renderer : RendererView) (t : ℤ) (size : Size) (frame : Frame) where
   }
 
   -- behind a try
-  pub rendered_frame : (pass tried after : RenderView) → AreLater pass.caches tried.caches → IsRenderedFrame renderer tried after t size frame → IsFrameAsked renderer pass after (history_of after.track.seen) t size frame
+  rendered_frame : (pass tried after : RenderView) → AreLater pass.caches tried.caches → IsRenderedFrame renderer tried after t size frame → IsFrameAsked renderer pass after (history_of after.track.seen) t size frame
   rendered_frame pass tried after later h = record {
     is = h.is_frame;
     asked =
@@ -47,10 +49,13 @@ module _ (renderer : RendererView) (t : ℤ) (size : Size) (frame : Frame) where
         omega (arith, keys, before, many, asks, added);
   }
 
-pub rendered_after : {E : Type 0} (renderer : RendererView) (t : ℤ) (size : Size) (pass tried after : RenderView) (answer : Result Frame E) → AreLater pass.caches tried.caches → IsRendered renderer tried after t size answer
+pub soon_asked : {E : Type 0} (renderer : RendererView) (pass after : RenderView) (t : ℤ) (size : Size) (answer : Result Frame E) → AreNumbered renderer.caches → IsTriedThenRendered renderer pass after t size answer
     → IfOk answer (IsFrameAsked renderer pass after (history_of after.track.seen) t size)
-rendered_after renderer t size pass tried after (Ok frame) later h = rendered_frame renderer t size frame pass tried after later h
-rendered_after renderer t size pass tried after (Err refused) later h = tt
+soon_asked renderer pass after t size (Ok frame) numbered h = ⊎_elim
+    (λ tried. tried_frame renderer t size frame pass after numbered tried)
+    (λ then. rendered_frame renderer t size frame pass (record pass { caches = then.0 }) after (refused_later renderer pass.caches then.0 _ t size then.1 then.2) then.3)
+    h
+soon_asked renderer pass after t size (Err refused) numbered h = tt
 
 -- the image of a frame, whatever is given back behind it
 pub image_asked : {E : Type 0} (play : PlayView) (renderer : RendererView) (pass framed after : RenderView) (history : List Entry) (t : ℤ) (draws : List Draw) (result : Result (Vec ℕ Global) E)

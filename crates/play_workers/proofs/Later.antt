@@ -1,11 +1,14 @@
 -- A pass after its part is a later one in each shard.
 use Rattle.std.proofs.Common.{◌≡◌, ℕ, ℤ, List, [], Result, Ok, Err, sym, subst, ⊎_elim}
+use Rattle.ass_events.specs.declared.event.Event.{Event}
 use Rattle.ass_num.specs.declared.size.Size.{Size}
 use Rattle.cache_kinds.specs.Kinds.{composite_meaning}
 use Rattle.cache_totals.specs.Balance.{AreLater}
 use Rattle.evict_core.specs.Machine.{Step}
 use Rattle.flight_cache.specs.Laws.{IsLater}
 use Rattle.flight_cache.specs.Shards.{CachePassView}
+use Rattle.flight_cache.specs.declared.pinning.PinRefusal.{PinRefusal}
+use Rattle.flight_cache.specs.declared.pinning.PinRefusal.TheVariants as refused
 use Rattle.flight_cache.proofs.Rows.{later_is_later}
 use Rattle.frame_paint.specs.declared.frames.Frame.{Frame}
 use Rattle.ass_num.specs.Masks.{MaskValue}
@@ -17,11 +20,9 @@ use Rattle.mask_keys.specs.declared.composite_key.CompositeKey.{CompositeKey}
 use Rattle.render_pass.specs.Leasing.{AddsVisits}
 use Rattle.render_pass.specs.Passes.{RenderView, RendererView}
 use Rattle.render_pass.specs.Rendering.{IsRendered}
-use Rattle.render_pass.specs.Trying.{AddsNothing, IsTried}
+use Rattle.render_pass.specs.Soon.{IsRenderedThen, IsTriedThenRendered}
+use Rattle.render_pass.specs.Trying.{AddsNothing, AreImagesRefused, IsTriedFrame}
 use Rattle.render_pass.specs.Warming.{IsColdAt, IsWarmed, Refused, Unplanned}
-use Rattle.render_pass.specs.declared.trying.Again.TheVariants as again
-use Rattle.render_pass.specs.declared.trying.TryRefusal.{TryRefusal}
-use Rattle.render_pass.specs.declared.trying.TryRefusal.TheVariants.{Again, OutOfMemory}
 use Rattle.turn_cell.proofs.Passes.{Follows_same}
 use Rattle.warm_ahead.specs.Warming.{AddsWarming, KeyVisit}
 use Rattle.play_workers.proofs.Asked.{pinned_later}
@@ -66,21 +67,33 @@ warming_later caches pass after visits adds = record { outlines = adds.outlines.
 
 -- ---- calls of a renderer
 
-pub tried_later : (renderer : RendererView) (pass after : RenderView) (t : ℤ) (size : Size) (answer : Result Frame TryRefusal) → IsTried renderer pass after t size answer → AreLater pass.caches after.caches
-tried_later renderer pass after t size (Ok frame) h =
+tried_later : (renderer : RendererView) (pass after : RenderView) (t : ℤ) (size : Size) (frame : Frame) → IsTriedFrame renderer pass after t size frame → AreLater pass.caches after.caches
+tried_later renderer pass after t size frame h =
     composites_later pass.caches after.caches h.others.masks h.others.outlines (pinned_later equal_composites composite_meaning renderer.caches.composites pass.caches.composites after.caches.composites _ h.pinned.pins h.pinned.pinned)
-tried_later renderer pass after t size (Err (Again (again.Track word))) h = caches_same pass.caches after.caches h.1.caches
-tried_later renderer pass after t size (Err (Again (again.Cache word))) h = nothing_later renderer pass.caches after.caches h.refused.nothing
-tried_later renderer pass after t size (Err (Again (again.NotReady place))) h = nothing_later renderer pass.caches after.caches h.refused.nothing
-tried_later renderer pass after t size (Err (Again (again.PinsFull place))) h = nothing_later renderer pass.caches after.caches h.refused.nothing
-tried_later renderer pass after t size (Err OutOfMemory) h = nothing_later renderer pass.caches after.caches h.nothing
 
-pub rendered_later : {E : Type 0} (renderer : RendererView) (pass after : RenderView) (t : ℤ) (size : Size) (answer : Result Frame E) → IsRendered renderer pass after t size answer → AreLater pass.caches after.caches
+pub refused_later : (renderer : RendererView) (pass after : CachesPass) (events : List Event) (t : ℤ) (size : Size) (refusal : PinRefusal) → AreImagesRefused renderer pass after events t size refusal → AreLater pass after
+refused_later renderer pass after events t size (refused.TurnOut word) h = nothing_later renderer pass after h.nothing
+refused_later renderer pass after events t size (refused.NotReady place) h = nothing_later renderer pass after h.nothing
+refused_later renderer pass after events t size (refused.PinsFull place) h = nothing_later renderer pass after h.nothing
+refused_later renderer pass after events t size refused.OutOfMemory h = nothing_later renderer pass after h
+
+rendered_later : {E : Type 0} (renderer : RendererView) (pass after : RenderView) (t : ℤ) (size : Size) (answer : Result Frame E) → IsRendered renderer pass after t size answer → AreLater pass.caches after.caches
 rendered_later renderer pass after t size (Ok frame) h = visits_later renderer.caches pass.caches after.caches h.leased.visits [] h.leased.adds
-rendered_later renderer pass after t size (Err refused) h = ⊎_elim
+rendered_later renderer pass after t size (Err wanting) h = ⊎_elim
     (λ same. caches_same pass.caches after.caches same)
     (λ asked. visits_later renderer.caches pass.caches after.caches asked.2.visits _ asked.2.adds)
     h.unleased
+
+-- behind a refusal
+then_later : {E : Type 0} (renderer : RendererView) (pass after : RenderView) (t : ℤ) (size : Size) (answer : Result Frame E) → IsRenderedThen renderer pass after t size answer → AreLater pass.caches after.caches
+then_later renderer pass after t size answer h =
+    caches_then pass.caches h.0 after.caches
+    (refused_later renderer pass.caches h.0 _ t size h.1 h.2)
+    (rendered_later renderer (record pass { caches = h.0 }) after t size answer h.3)
+
+pub soon_later : {E : Type 0} (renderer : RendererView) (pass after : RenderView) (t : ℤ) (size : Size) (answer : Result Frame E) → IsTriedThenRendered renderer pass after t size answer → AreLater pass.caches after.caches
+soon_later {E} renderer pass after t size (Ok frame) h = ⊎_elim (λ tried. tried_later renderer pass after t size frame tried) (λ then. then_later {E = E} renderer pass after t size (Ok frame) then) h
+soon_later {E} renderer pass after t size (Err wanting) h = then_later {E = E} renderer pass after t size (Err wanting) h
 
 pub released_later : (renderer : RendererView) (pass after : RenderView) (steps : List (Step CompositeKey MaskValue)) → Adds equal_composites composite_meaning renderer.caches.composites pass.caches.composites after.caches.composites steps
     → after.caches.masks ≡ pass.caches.masks → after.caches.outlines ≡ pass.caches.outlines → AreLater pass.caches after.caches

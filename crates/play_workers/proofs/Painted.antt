@@ -1,5 +1,5 @@
 -- Frames that are tried first, and their images.
-use Rattle.std.proofs.Common.{Global, Vec, ◌≡◌, ℕ, ◌+◌, ◌*◌, ℤ, List, [], ◌∷◌, fold, map, refl, sym, ap, subst, ◌∙◌, arith, None, Result, Ok, Err}
+use Rattle.std.proofs.Common.{Global, Vec, ◌≡◌, ℕ, ◌*◌, ℤ, List, [], ◌∷◌, fold, map, refl, sym, ap, subst, ◌∙◌, None, Result, Ok, Err, ⊎_elim}
 use Rattle.std.specs.Result.{IfOk}
 use Rattle.ass_events.specs.Histories.{Entry, live}
 use Rattle.ass_num.specs.declared.size.Size.{Size}
@@ -9,28 +9,21 @@ use Rattle.blend.specs.Canvases.{CanvasValue, black, drawn}
 use Rattle.frame_paint.proofs.Pictures.{canvas-picture}
 use Rattle.frame_paint.specs.Frames.{canvas_of, image_shown}
 use Rattle.frame_paint.specs.declared.frames.Frame.{Frame}
-use Rattle.mask_caches.proofs.Holding.{much-itself, much-then}
 use Rattle.mask_caches.specs.Caches.{HoldsAsBefore}
-use Rattle.mask_keys.specs.Equality.{equal_composites, equal_masks, equal_regions}
-use Rattle.cache_kinds.specs.Kinds.{composite_meaning, mask_meaning, region_meaning}
 use Rattle.mask_model.specs.Pictures.{picture}
 use Rattle.picture_plan.specs.Pictures.{AreDraws}
 use Rattle.ppm_text.specs.Images.{image_bytes}
 use Rattle.render_pass.specs.Frames.{IsFrameOf}
-use Rattle.render_pass.specs.Holding.{HoldsFrameMore, HoldsJustTheFrame, HoldsTheSame}
+use Rattle.render_pass.specs.Holding.{HoldsTheSame}
 use Rattle.render_pass.specs.Passes.{RenderView, RendererView}
-use Rattle.render_pass.specs.Rendering.{IsRendered}
-use Rattle.render_pass.specs.Trying.{IsTried}
+use Rattle.render_pass.specs.Soon.{IsTriedThenRendered}
 use Rattle.render_pass.specs.Warming.{IsColdAt, IsWarmed, Refused, Unplanned}
-use Rattle.render_pass.specs.declared.trying.Again.TheVariants as again
-use Rattle.render_pass.specs.declared.trying.TryRefusal.{TryRefusal}
-use Rattle.render_pass.specs.declared.trying.TryRefusal.TheVariants.{Again, OutOfMemory}
+use Rattle.render_pass.proofs.Held.{before-itself}
 use Rattle.track_history.proofs.LawLemmas.{turn_follows}
 use Rattle.track_history.specs.Answers.{entry_of}
 use Rattle.track_history.specs.Calls.{IsTurn, TrackView}
 use Rattle.track_history.specs.declared.answers.TrackEntry.{TrackEntry}
 use Rattle.turn_cell.specs.Passes.{Follows}
-use Rattle.turn_cell.proofs.Passes.{Follows_tries}
 use Rattle.play_model.specs.Plays.{PlayView}
 use Rattle.play_workers.specs.Asks.{IsImageOfDraws}
 
@@ -45,17 +38,9 @@ turn_follows_none pass after turn =
     let gives = turn_follows pass after None turn in
     subst (Follows pass after) (nothing_given gives.0 gives.1) gives.2
 
-pub tried_follows : (renderer : RendererView) (pass after : RenderView) (t : ℤ) (size : Size) (answer : Result Frame TryRefusal) → IsTried renderer pass after t size answer → Follows pass.track after.track []
-tried_follows renderer pass after t size (Ok frame) h = turn_follows_none pass.track after.track h.turn
-tried_follows renderer pass after t size (Err (Again (again.Track word))) h = Follows_tries pass.track after.track (pass.track.lost + 1) (omega arith) h.1.track
-tried_follows renderer pass after t size (Err (Again (again.Cache word))) h = turn_follows_none pass.track after.track h.turn
-tried_follows renderer pass after t size (Err (Again (again.NotReady place))) h = turn_follows_none pass.track after.track h.turn
-tried_follows renderer pass after t size (Err (Again (again.PinsFull place))) h = turn_follows_none pass.track after.track h.turn
-tried_follows renderer pass after t size (Err OutOfMemory) h = turn_follows_none pass.track after.track h.turn
-
-pub rendered_follows : {E : Type 0} (renderer : RendererView) (pass after : RenderView) (t : ℤ) (size : Size) (answer : Result Frame E) → IsRendered renderer pass after t size answer → Follows pass.track after.track []
-rendered_follows renderer pass after t size (Ok frame) h = turn_follows_none pass.track after.track h.turn
-rendered_follows renderer pass after t size (Err refused) h = turn_follows_none pass.track after.track h.turn
+pub soon_follows : {E : Type 0} (renderer : RendererView) (pass after : RenderView) (t : ℤ) (size : Size) (answer : Result Frame E) → IsTriedThenRendered renderer pass after t size answer → Follows pass.track after.track []
+soon_follows renderer pass after t size (Ok frame) h = ⊎_elim (λ tried. turn_follows_none pass.track after.track tried.turn) (λ then. turn_follows_none pass.track after.track then.3.turn) h
+soon_follows renderer pass after t size (Err refused) h = turn_follows_none pass.track after.track h.3.turn
 
 pub warmed_follows : {E : Type 0} (renderer : RendererView) (pass after : RenderView) (instants : List ℤ) (size : Size) (answer : Result ℕ E) → IsWarmed renderer pass after instants size answer → Follows pass.track after.track []
 warmed_follows renderer pass after instants size (Ok count) h = h.2.track
@@ -68,28 +53,7 @@ warmed_follows renderer pass after instants size (Err refused) h = cold h
 -- ---- what is held
 
 pub holds_itself : (renderer : RendererView) (pass after : RenderView) → after.caches ≡ pass.caches → HoldsTheSame renderer pass after
-holds_itself renderer pass after same = subst (HoldsAsBefore renderer.caches pass.caches) (sym same) record {
-  outlines = much-itself equal_regions region_meaning renderer.caches.outlines pass.caches.outlines;
-  masks = much-itself equal_masks mask_meaning renderer.caches.masks pass.caches.masks;
-  composites = much-itself equal_composites composite_meaning renderer.caches.composites pass.caches.composites;
-}
-
-module _ (renderer : RendererView) (pass tried after : RenderView) (first : HoldsTheSame renderer pass tried) where
-  frame_more : (frame : Frame) → HoldsFrameMore renderer tried after frame → HoldsFrameMore renderer pass after frame
-  frame_more frame more = record {
-    composites = record { pins = λ k. let one = first.composites.pins k in let two = more.composites.pins k in omega (arith, one, two); claims = λ k. more.composites.claims k ∙ first.composites.claims k };
-    masks = much-then equal_masks mask_meaning renderer.caches.masks pass.caches.masks tried.caches.masks after.caches.masks first.masks more.masks;
-    outlines = much-then equal_regions region_meaning renderer.caches.outlines pass.caches.outlines tried.caches.outlines after.caches.outlines first.outlines more.outlines;
-  }
-
-  -- what a call holds that comes behind one that held nothing more
-  pub holds_then : {E : Type 0} (answer : Result Frame E) → HoldsJustTheFrame renderer tried after answer → HoldsJustTheFrame renderer pass after answer
-  holds_then (Ok frame) more = frame_more frame more
-  holds_then (Err refused) same = record {
-    outlines = much-then equal_regions region_meaning renderer.caches.outlines pass.caches.outlines tried.caches.outlines after.caches.outlines first.outlines same.outlines;
-    masks = much-then equal_masks mask_meaning renderer.caches.masks pass.caches.masks tried.caches.masks after.caches.masks first.masks same.masks;
-    composites = much-then equal_composites composite_meaning renderer.caches.composites pass.caches.composites tried.caches.composites after.caches.composites first.composites same.composites;
-  }
+holds_itself renderer pass after same = subst (HoldsAsBefore renderer.caches pass.caches) (sym same) (before-itself renderer.caches pass.caches)
 
 -- ---- images
 

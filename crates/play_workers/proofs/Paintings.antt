@@ -1,5 +1,5 @@
 -- The images that a painter makes one after another.
-use Rattle.std.proofs.Common.{◌≡◌, ℕ, zero, suc, ◌+◌, ◌<◌, ◌≤◌, ℤ, List, [], ◌∷◌, ◌++◌, length, Ok, Err, Result, true, true≢false, refl, sym, ap, subst, ◌∙◌, arith, length-append}
+use Rattle.std.proofs.Common.{◌≡◌, ℕ, zero, suc, ◌+◌, ◌<◌, ℤ, List, [], ◌∷◌, ◌++◌, length, Ok, Err, Result, true, true≢false, refl, sym, ap, subst, ◌∙◌, arith, length-append}
 use Rattle.std.specs.Global.{Vec}
 use Rattle.std.specs.List.{slice_index_or}
 use Rattle.std.specs.Result.{IfOk, is_ok}
@@ -7,9 +7,9 @@ use Rattle.std.proofs.lemmas.List.{map-append}
 use Rattle.std.proofs.lemmas.List.Sums.{sum_by-append}
 use Rattle.ass_events.specs.Histories.{Entry}
 use Rattle.cache_totals.specs.Balance.{AreLater}
-use Rattle.frame_paint.specs.declared.frames.Frame.{Frame}
 use Rattle.render_pass.specs.Holding.{HoldsTheSame}
 use Rattle.render_pass.specs.Passes.{IsPassOfRenderer, RenderView, RendererView}
+use Rattle.render_pass.proofs.Held.{before-then}
 use Rattle.track_history.specs.Calls.{history_of}
 use Rattle.turn_cell.specs.History.{IsPrefix}
 use Rattle.turn_cell.specs.Passes.{Follows}
@@ -22,7 +22,7 @@ use Rattle.play_workers.specs.Asks.{AreImagesAsked, AreImagesInTurn, IsImageAske
 use Rattle.play_workers.specs.Parts.{painted_bytes}
 use Rattle.play_workers.proofs.Answered.{history-prefix}
 use Rattle.play_workers.proofs.Later.{caches_same, caches_then}
-use Rattle.play_workers.proofs.Painted.{holds_itself, holds_then}
+use Rattle.play_workers.proofs.Painted.{holds_itself}
 
 -- The pass is one of the renderer and goes on from the other; it gave the track nothing, and holds what that one held.
 pub record GoesOn (renderer : RendererView) (pass after : RenderView) : Type 0 where
@@ -36,14 +36,12 @@ module _ (renderer : RendererView) where
   goes_itself pass of = record { of = of; track = Follows_same pass.track; later = caches_same pass.caches pass.caches refl; holds = holds_itself renderer pass pass refl }
 
   pub goes_then : (pass mid after : RenderView) → GoesOn renderer pass mid → GoesOn renderer mid after → GoesOn renderer pass after
-  goes_then pass mid after one two =
-      let refused : Result Frame (Unit {0}) = Err tt in
-      record {
-        of = two.of;
-        track = Follows_trans pass.track mid.track after.track [] [] one.track two.track;
-        later = caches_then pass.caches mid.caches after.caches one.later two.later;
-        holds = holds_then renderer pass mid after one.holds refused two.holds;
-      }
+  goes_then pass mid after one two = record {
+    of = two.of;
+    track = Follows_trans pass.track mid.track after.track [] [] one.track two.track;
+    later = caches_then pass.caches mid.caches after.caches one.later two.later;
+    holds = before-then renderer.caches pass.caches mid.caches after.caches one.holds two.holds;
+  }
 
 -- The image shows at t a history that goes on from what one pass had seen and that another one has seen.
 pub record IsImageBetween (play : PlayView) (pass after : RenderView) (t : ℤ) (image : ShownImage) : Type 0 where

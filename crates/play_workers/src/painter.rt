@@ -18,10 +18,10 @@ ghost use Rattle.play_workers.specs.Stages.{IsPlayStage, play_on};
 
 use crate::stage::Stage;
 use ass_io::{Gate, Place};
-use ass_num::{Items, Mem, OutOfMemory};
+use ass_num::{Items, Mem};
 use play_shares::{instant_at, share_begins, share_ends};
 use ppm_text::ppm_bytes;
-use render_pass::{Frame, RenderPass, TryRefusal, paint_bands};
+use render_pass::{Frame, RenderPass, paint_bands};
 use std::alloc::Global;
 use std::sync::Wait;
 use std::thread::Threads;
@@ -46,12 +46,9 @@ fn frame_at<R: Wait, G: Gate>(
 {
     stage.renderer.kept(&pass);
     let size = &stage.job.size;
-    let (pass, tried) = stage.renderer.try_frame(alloc, pass, t, size);
-    match tried {
-        Ok(frame) => (pass, Ok(frame)),
-        Err(TryRefusal::Again(_)) => stage.renderer.frame(rt, alloc, pass, t, size, gate),
-        Err(TryRefusal::OutOfMemory) => (pass, Err(OutOfMemory)),
-    }
+    stage
+        .renderer
+        .try_then_frame(rt, alloc, pass, t, size, gate)
 }
 
 /// The image of a frame.

@@ -8,4 +8,5 @@ pub mod Pictures
 pub mod ReadyImages
 pub mod Together
 pub mod Tried
+pub mod TriedFirst
 pub mod Warmed

@@ -6,4 +6,5 @@ pub mod OneHistory
 pub mod Leasing
 pub mod Rendering
 pub mod Trying
+pub mod Soon
 pub mod Warming

@@ -11,6 +11,7 @@ mod readied;
 mod releasing;
 mod renderer;
 mod rendering;
+mod soon;
 mod trying;
 mod warming;
 

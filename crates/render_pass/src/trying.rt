@@ -3,6 +3,8 @@ ghost use Rattle.std.specs.Prelude.{◌≡◌, ◌≤◌, List, [], length, IfOk
 ghost use Rattle.ass_events.specs.Histories.{Entry, IsHistory, live};
 ghost use Rattle.ass_num.specs.Limits.{IsFrameSize, IsWithin, max_instant};
 ghost use Rattle.mask_caches.specs.Caches.{IsPassOf};
+ghost use Rattle.mask_keys.specs.Keys.{IsValidPlan};
+ghost use Rattle.mask_model.specs.Outlines.{glyph_counts};
 ghost use Rattle.picture_plan.specs.Pictures.{AreDraws};
 ghost use Rattle.track_history.specs.Answers.{IsSceneOf};
 ghost use Rattle.warm_ahead.specs.Firsts.{plan_keys};
@@ -43,10 +45,10 @@ pub enum TryRefusal {
 }
 
 /// What is taken memory for before masks are pinned: the draws, their keys, and room for their images.
-struct Readied {
-    plan: Plan,
-    keys: Vec<CompositeKey>,
-    room: Vec<Image>,
+pub(crate) struct Readied {
+    pub plan: Plan,
+    pub keys: Vec<CompositeKey>,
+    pub room: Vec<Image>,
 }
 
 /// A refusal of the track.
@@ -73,12 +75,13 @@ fn of_caches(refusal: PinRefusal) -> TryRefusal
 
 impl Renderer {
     /// What a scene shows, with memory for it.
-    fn readied(&self, alloc: Global, scene: &Scene, size: &Size) -> Mem<Readied>
+    pub(crate) fn readied(&self, alloc: Global, scene: &Scene, size: &Size) -> Mem<Readied>
         requires scene { (history : List Entry) × IsHistory history × IsSceneOf history scene.now.t scene.now }
         requires instant { IsWithin max_instant scene.now.t }
         requires size { IsFrameSize size.now }
         ensures draws { (history : List Entry) → IsSceneOf history scene.now.t scene.now
             → IfOk result (λ r. AreDraws self.now.script self.now.fonts (live history) scene.now.t size.now r.plan.draws) }
+        ensures valid { IfOk result (λ r. IsValidPlan (glyph_counts self.now.fonts) r.plan.draws) }
         ensures keys { IfOk result (λ r. r.keys.items ≡ plan_keys r.plan.draws) }
         ensures empty { IfOk result (λ r. r.room.items ≡ []) }
         ensures len { IfOk result (λ r. vec_len r.room ≡ 0) }

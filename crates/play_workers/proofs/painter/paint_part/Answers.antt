@@ -1,9 +1,8 @@
-use Rattle.std.proofs.Common.{[], ◌≡◌, ◌+◌, ◌-◌, ◌<◌, ◌≤◌, ℕ, ap, arith, subst, sym, ◌∙◌}
+use Rattle.std.proofs.Common.{[], ◌≡◌, ◌+◌, ◌-◌, ◌<◌, ◌≤◌, ℕ, ap, arith, subst, ◌∙◌}
 use Rattle.std.specs.Result.{IfOk}
 use Rattle.play_shares.specs.Instants.{instant_count, play_instant}
 use Rattle.play_shares.specs.Renderers.{images_in, share_begins, share_ends}
 use Rattle.play_shares.proofs.RoundPlaces.{inside_all}
-use Rattle.render_pass.specs.Passes.{RenderView}
 use Rattle.track_history.specs.Calls.{history_of}
 use Rattle.turn_cell.proofs.Passes.{Follows_trans}
 use Rattle.play_workers.specs.Asks.{AreImagesAsked, IsImageAsked}

@@ -1,0 +1,95 @@
+-- What a call that tries for a frame and else renders it gives.
+use Rattle.std.proofs.Common.{◌≡◌, ◌⊎◌, ℤ, List, None, Result, Ok, Err, inl, inr, refl, ◌∙◌, arith}
+use Rattle.ass_events.specs.Histories.{live}
+use Rattle.ass_events.specs.declared.event.Event.{Event}
+use Rattle.ass_num.specs.declared.memory.OutOfMemory.{OutOfMemory}
+use Rattle.ass_num.specs.declared.size.Size.{Size}
+use Rattle.cache_kinds.specs.Kinds.{mask_meaning, region_meaning}
+use Rattle.flight_cache.specs.declared.pinning.PinRefusal.{PinRefusal}
+use Rattle.flight_cache.specs.declared.pinning.PinRefusal.TheVariants as refused
+use Rattle.mask_keys.specs.Equality.{equal_masks, equal_regions}
+use Rattle.mask_caches.specs.Caches.{HoldsAsBefore, IsPassOf}
+use Rattle.mask_caches.specs.declared.caches.Caches.{Caches}
+use Rattle.mask_caches.specs.declared.passes.CachesPass.{CachesPass}
+use Rattle.mask_caches.proofs.Holding.{much-then}
+use Rattle.track_history.specs.Answers.{IsSceneOf}
+use Rattle.track_history.specs.Calls.{IsTurn, TrackView, history_of}
+use Rattle.track_history.specs.declared.scene.Scene.{Scene}
+use Rattle.frame_paint.specs.Frames.{MaskLease, leases_of}
+use Rattle.frame_paint.specs.declared.frames.Frame.{Frame}
+use Rattle.frame_paint.specs.declared.frames.Image.{Image}
+use Rattle.render_pass.specs.Holding.{HoldsFrameMore, HoldsLeasesMore, HoldsTheSame}
+use Rattle.render_pass.specs.OneHistory.{ShowsOneHistory}
+use Rattle.render_pass.specs.Passes.{IsPassOfRenderer, RendererView}
+use Rattle.render_pass.specs.Rendering.{AreDrawsUnlent}
+use Rattle.render_pass.specs.Soon.{AreImagesLentThen, AreImagesSoon, IsTriedThenRendered}
+use Rattle.render_pass.proofs.Framed.{framed}
+use Rattle.render_pass.proofs.Held.{before-itself, before-then}
+use Rattle.render_pass.proofs.Pictures.{frame-history}
+use Rattle.render_pass.proofs.Together.{pass_of, turn-of}
+use Rattle.render_pass.proofs.Tried.{frame-tried, nothing-holds, nothing-itself, refused-nothing}
+
+-- what is held more behind calls that hold as much
+pub leases-behind : (caches : Caches) (p q r : CachesPass) (leases : List MaskLease) → HoldsAsBefore caches p q → HoldsLeasesMore caches q r leases → HoldsLeasesMore caches p r leases
+leases-behind caches p q r leases f g = record {
+  composites = record { pins = λ k. let one = f.composites.pins k in let two = g.composites.pins k in omega arith; claims = λ k. g.composites.claims k ∙ f.composites.claims k };
+  masks = much-then equal_masks mask_meaning caches.masks p.masks q.masks r.masks f.masks g.masks;
+  outlines = much-then equal_regions region_meaning caches.outlines p.outlines q.outlines r.outlines f.outlines g.outlines;
+}
+
+-- ---- images
+
+module _ (renderer : RendererView) (p : CachesPass) (events : List Event) (t : ℤ) (size : Size) (of : IsPassOf renderer.caches p) where
+  -- memory was wanting, and no key was asked for
+  wanting-unlent : AreDrawsUnlent renderer p p events t size
+  wanting-unlent = record { of = of; holds = before-itself renderer.caches p; unleased = inl refl }
+
+  pub wanting-soon : (wanting : OutOfMemory) → AreImagesSoon renderer p p events t size (Err wanting)
+  wanting-soon wanting = (p, refused.OutOfMemory, nothing-itself renderer p of, wanting-unlent)
+
+-- what was lent behind a refusal
+pub lent-soon : {E : Type 0} (renderer : RendererView) (old new : CachesPass) (events : List Event) (t : ℤ) (size : Size) (had : Result (List Image) E) → AreImagesLentThen renderer old new events t size had → AreImagesSoon renderer old new events t size had
+lent-soon renderer old new events t size (Ok images) h = inr h
+lent-soon renderer old new events t size (Err wanting) h = h
+
+-- ---- frames
+
+module _ (renderer : RendererView) (track later : TrackView) (old new : CachesPass) (t : ℤ) (size : Size) (of : IsPassOfRenderer renderer (pass_of track old)) where
+  -- what a call that has this frame makes of a pass
+  pub record IsFrameSoon (frame : Frame) : Type 0 where
+    pub pass : IsPassOfRenderer renderer (pass_of later new)
+    pub history : ShowsOneHistory renderer (pass_of track old) (pass_of later new) t size frame
+    pub rendered : IsTriedThenRendered renderer (pass_of track old) (pass_of later new) t size {E = OutOfMemory} (Ok frame)
+    pub holds : HoldsFrameMore renderer (pass_of track old) (pass_of later new) frame
+
+  pub frame-soon : (scene : Scene) (images : List Image) → IsTurn track later None → IsSceneOf (history_of later.seen) t scene → AreImagesSoon renderer old new (live (history_of later.seen)) t size {E = OutOfMemory} (Ok images)
+      → IsFrameSoon (record { n = scene.n; t = t; size = size; images = images })
+  frame-soon scene images turn shown (inl pinned) =
+      let f = frame-tried renderer track later old new t size of scene images turn shown pinned in
+      record { pass = f.pass; history = f.history; rendered = inl f.tried; holds = f.holds }
+  frame-soon scene images turn shown (inr h) =
+      let frame : Frame = record { n = scene.n; t = t; size = size; images = images } in
+      let nothing = refused-nothing renderer old h.0 (live (history_of later.seen)) t size h.1 h.2 in
+      let between : IsPassOfRenderer renderer (pass_of track h.0) = record { track = of.track; caches = nothing.of } in
+      let f = framed renderer track later h.0 new t size scene images between turn shown h.3 in
+      record {
+        pass = f.of;
+        history = frame-history renderer (pass_of track old) (pass_of later new) t size frame turn f.rendered.is_frame;
+        rendered = inr (h.0, h.1, h.2, f.rendered);
+        holds = leases-behind renderer.caches old h.0 new (leases_of images) (nothing-holds renderer old h.0 nothing) f.holds;
+      }
+
+  -- what a call that wants memory makes of it
+  pub record IsFrameWanting (wanting : OutOfMemory) : Type 0 where
+    pub pass : IsPassOfRenderer renderer (pass_of later new)
+    pub rendered : IsTriedThenRendered renderer (pass_of track old) (pass_of later new) t size (Err wanting)
+    pub holds : HoldsTheSame renderer (pass_of track old) (pass_of later new)
+
+  pub frame-wanting : (wanting : OutOfMemory) → IsTurn track later None → AreImagesSoon renderer old new (live (history_of later.seen)) t size (Err wanting) → IsFrameWanting wanting
+  frame-wanting wanting turn h =
+      let nothing = refused-nothing renderer old h.0 (live (history_of later.seen)) t size h.1 h.2 in
+      record {
+        pass = record { track = turn-of renderer track later None of.track turn; caches = h.3.of };
+        rendered = (h.0, h.1, h.2, record { turn = turn; unleased = h.3.unleased });
+        holds = before-then renderer.caches old h.0 new (nothing-holds renderer old h.0 nothing) h.3.holds;
+      }
