@@ -2,6 +2,8 @@
 ghost use Rattle.std.specs.Prelude.{◌≤◌};
 ghost use Rattle.evict_core.specs.Machine.{max_cost};
 
+use crate::rows::{add_other, call_of, name_of, numbers, shown};
+use ass_num::Mem;
 use evict_core::{Ask, Entries};
 use std::alloc::Global;
 use std::sync::Arc;
@@ -29,28 +31,30 @@ fn reply_of(answer: Ask<u32>) -> Reply {
     }
 }
 
-fn ask(entries: &mut Entries<u32, u32>, key: u32) -> Result<Reply, Fail> {
+fn ask(entries: &mut Entries<u32, u32>, key: u32) -> Reply {
     match entries.ask(&key) {
-        Ask::Claimable => {
-            entries.claim(key, 7)?;
-            Ok(Reply::Claim)
-        }
-        answer => Ok(reply_of(answer)),
+        Ask::Claimable => match entries.claim(key, 7) {
+            Ok(()) => Reply::Claim,
+            Err(_) => Reply::OutOfMemory,
+        },
+        answer => reply_of(answer),
     }
 }
 
 // The value of a key is its number and ten thousand more.
-fn fill(alloc: Global, entries: &mut Entries<u32, u32>, key: u32, cost: u64) -> Result<Reply, Fail>
+fn fill(alloc: Global, entries: &mut Entries<u32, u32>, key: u32, cost: u64) -> Reply
     requires { cost ≤ max_cost }
 {
-    let value = Arc::new(alloc, key.wrapping_add(10_000))?;
-    Ok(match entries.maker_of(&key) {
+    let Ok(value) = Arc::new(alloc, key.wrapping_add(10_000)) else {
+        return Reply::OutOfMemory;
+    };
+    match entries.maker_of(&key) {
         Some(_) => {
             entries.fill(&key, value, cost);
             Reply::Done
         }
         None => Reply::Refused,
-    })
+    }
 }
 
 fn fail(entries: &mut Entries<u32, u32>, key: u32) -> Reply {
@@ -96,24 +100,17 @@ fn make(
     name: &str,
     key: u32,
     number: u64,
-) -> Result<Reply, Fail> {
+) -> Reply {
     match name {
         "ask" => ask(entries, key),
         "fill" => fill(alloc, entries, key, number.min(1 << 32)),
-        "fail" => Ok(fail(entries, key)),
-        "pin" => Ok(pin(entries, key)),
-        "unpin" => Ok(unpin(entries, key)),
+        "fail" => fail(entries, key),
+        "pin" => pin(entries, key),
+        "unpin" => unpin(entries, key),
         _ => {
             entries.set_limits(key.clamp(1, 65_536), number.min(1 << 40));
-            Ok(Reply::Done)
+            Reply::Done
         }
-    }
-}
-
-fn number(word: Option<&str>) -> u32 {
-    match word {
-        Some(word) => word.parse::<u32>().unwrap_or(0),
-        None => 0,
     }
 }
 
@@ -121,75 +118,90 @@ fn number(word: Option<&str>) -> u32 {
 /// then. One pin holds a key: nobody may evict it. 65 is within 100, and isn't within 100 twice. Then two of 65 where 65
 /// is the budget: the less recent one goes. Then a smaller limit of entries: what is pinned stays above it, and nothing
 /// comes in. At last a hit makes an entry the most recent.
-const ROWS: &str = "limits 1 100 = Done 0 0
-ask 1 = Claim 1 0
-ask 1 = Flying(7) 1 0
-ask 2 = Crowded 1 0
-fill 1 65 = Done 1 0
-pin 1 = Done 1 0
-unpin 1 = Done 1 0
-unpin 1 = Done 1 65
-unpin 1 = Refused 1 65
-ask 2 = Claim 1 0
-pin 1 = Refused 1 0
-fail 2 = Done 0 0
-ask 2 = Claim 1 0
-fail 2 = Done 0 0
-limits 2 65 = Done 0 0
-ask 1 = Claim 1 0
-fill 1 65 = Done 1 0
-ask 2 = Claim 2 0
-fill 2 65 = Done 2 0
-unpin 1 = Done 2 65
-unpin 2 = Done 1 65
-ask 2 = Hit(10002) 1 0
-limits 2 0 = Done 1 0
-unpin 2 = Done 0 0
-limits 2 1000 = Done 0 0
-ask 1 = Claim 1 0
-fill 1 65 = Done 1 0
-ask 2 = Claim 2 0
-fill 2 65 = Done 2 0
-unpin 1 = Done 2 65
-limits 1 1000 = Done 1 0
-ask 3 = Crowded 1 0
-unpin 2 = Done 1 65
-ask 3 = Claim 1 0
-fill 3 65 = Done 1 0
-unpin 3 = Done 1 65
-limits 2 1000 = Done 1 65
-ask 1 = Claim 2 65
-fill 1 1 = Done 2 65
-unpin 1 = Done 2 66
-ask 3 = Hit(10003) 2 1
-unpin 3 = Done 2 66
-limits 1 1000 = Done 1 65
-ask 3 = Hit(10003) 1 0
-ask 1 = Crowded 1 0";
+const ROWS: &str = "limits 1 100 = (Done, 0, 0)
+ask 1 = (Claim, 1, 0)
+ask 1 = (Flying(7), 1, 0)
+ask 2 = (Crowded, 1, 0)
+fill 1 65 = (Done, 1, 0)
+pin 1 = (Done, 1, 0)
+unpin 1 = (Done, 1, 0)
+unpin 1 = (Done, 1, 65)
+unpin 1 = (Refused, 1, 65)
+ask 2 = (Claim, 1, 0)
+pin 1 = (Refused, 1, 0)
+fail 2 = (Done, 0, 0)
+ask 2 = (Claim, 1, 0)
+fail 2 = (Done, 0, 0)
+limits 2 65 = (Done, 0, 0)
+ask 1 = (Claim, 1, 0)
+fill 1 65 = (Done, 1, 0)
+ask 2 = (Claim, 2, 0)
+fill 2 65 = (Done, 2, 0)
+unpin 1 = (Done, 2, 65)
+unpin 2 = (Done, 1, 65)
+ask 2 = (Hit(10002), 1, 0)
+limits 2 0 = (Done, 1, 0)
+unpin 2 = (Done, 0, 0)
+limits 2 1000 = (Done, 0, 0)
+ask 1 = (Claim, 1, 0)
+fill 1 65 = (Done, 1, 0)
+ask 2 = (Claim, 2, 0)
+fill 2 65 = (Done, 2, 0)
+unpin 1 = (Done, 2, 65)
+limits 1 1000 = (Done, 1, 0)
+ask 3 = (Crowded, 1, 0)
+unpin 2 = (Done, 1, 65)
+ask 3 = (Claim, 1, 0)
+fill 3 65 = (Done, 1, 0)
+unpin 3 = (Done, 1, 65)
+limits 2 1000 = (Done, 1, 65)
+ask 1 = (Claim, 2, 65)
+fill 1 1 = (Done, 2, 65)
+unpin 1 = (Done, 2, 66)
+ask 3 = (Hit(10003), 2, 1)
+unpin 3 = (Done, 2, 66)
+limits 1 1000 = (Done, 1, 65)
+ask 3 = (Hit(10003), 1, 0)
+ask 1 = (Crowded, 1, 0)";
 
-/// What a call of a row comes to.
-fn outcome(alloc: Global, entries: &mut Entries<u32, u32>, call: &str) -> Result<String, Fail> {
-    let mut words = call.split_whitespace();
-    let name = words.next().unwrap_or("");
-    let key = number(words.next());
-    let other = number(words.next());
-    let reply = make(alloc, entries, name, key, u64::from(other))?;
+/// Makes the call of a row.
+fn make_row(
+    alloc: Global,
+    entries: &mut Entries<u32, u32>,
+    row: &str,
+    others: &mut String,
+) -> Mem<()> {
+    let call = call_of(row);
+    let [key, number, _, _] = numbers(call);
+    let reply = make(alloc, entries, name_of(call), key, u64::from(number));
     let totals = entries.totals();
-    Ok(format!(in alloc; "{reply:?} {} {}", totals.entries, totals.unpinned)?)
+    let found = shown(alloc, &(reply, totals.entries, totals.unpinned))?;
+    add_other(others, row, found.as_str())
+}
+
+/// Makes the calls of rows, and tells what comes to something else than its row says.
+fn make_rows(alloc: Global, entries: &mut Entries<u32, u32>) -> Mem<String> {
+    let mut others = String::new(alloc);
+    for row in ROWS.lines() {
+        make_row(alloc, entries, row, &mut others)?;
+    }
+    Ok(others)
+}
+
+fn value_of(entries: &Entries<u32, u32>, key: u32) -> Option<u32> {
+    match entries.value_of(&key) {
+        Ok(Some(value)) => Some(*value),
+        _ => None,
+    }
 }
 
 #[test]
 fn rows_of_calls(rt: HostRuntime) -> Result<(), Fail> {
-    let alloc = rt.alloc();
-    let mut entries: Entries<u32, u32> = Entries::open(alloc, 2, 100)?;
-    for row in ROWS.lines() {
-        let (call, wanted) = row.split_once(" = ").ok_or("no call")?;
-        let found = outcome(alloc, &mut entries, call)?;
-        assert_eq!(rt; found.as_str(), wanted, "{call}");
-    }
-    assert_eq!(rt; entries.totals().evictions, 6);
-    assert_eq!(rt; entries.pins_of(&3), Some(1));
-    let value = entries.value_of(&3)?.ok_or("no value")?;
-    assert_eq!(rt; *value, 10_003);
+    let mut entries: Entries<u32, u32> = Entries::open(rt.alloc(), 2, 100)?;
+    let others = make_rows(rt.alloc(), &mut entries)?;
+    assert_eq!(rt; others.as_str(), "");
+    let evictions = entries.totals().evictions;
+    let last = (evictions, entries.pins_of(&3), value_of(&entries, 3));
+    assert_eq!(rt; last, (6, Some(1), Some(10_003)));
     Ok(())
 }

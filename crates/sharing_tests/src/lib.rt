@@ -6,6 +6,8 @@ mod evictions;
 #[cfg(test)]
 mod live_events;
 #[cfg(test)]
+mod rows;
+#[cfg(test)]
 mod tracks;
 #[cfg(test)]
 mod turns;

@@ -4,6 +4,7 @@ ghost use Rattle.ass_num.specs.Limits.{max_text_bytes};
 ghost use Rattle.ass_events.specs.Ranges.{IsEvent, text_bytes};
 ghost use Rattle.track_history.specs.Tellings.{IsSound};
 
+use crate::rows::{add_other, call_of, name_of, numbers, shown};
 use ass_events::{Event, read_chunk};
 use ass_num::Mem;
 use std::alloc::Global;
@@ -54,52 +55,109 @@ fn offer(alloc: Global, live: &mut LiveEvents, row: Row) -> Feed
     }
 }
 
-/// An event in the first layer, or in another one.
-fn event_at(order: u32, start: u32, duration: u32, layer: u32) -> Row {
-    Row {
+/// The ReadOrders of events, each a decimal digit.
+fn digits(events: &[Arc<Event>]) -> u32 {
+    let mut digits = 0u32;
+    for event in events {
+        digits = digits.wrapping_mul(10).wrapping_add(event.order);
+    }
+    digits
+}
+
+fn near(alloc: Global, live: &LiveEvents, t: i64) -> Mem<String>
+    requires { IsSound live.now }
+{
+    let near = live.near(alloc, t)?;
+    shown(alloc, &digits(near.as_slice()))
+}
+
+fn orders(alloc: Global, live: &LiveEvents) -> Mem<String> {
+    let orders = live.orders(alloc)?;
+    shown(alloc, &orders.as_slice())
+}
+
+/// Feeds an event: its ReadOrder, its start, its duration and its layer.
+fn feed(alloc: Global, live: &mut LiveEvents, call: &str) -> Mem<String>
+    requires { IsSound live.old }
+    ensures { IsSound live.new }
+{
+    let [order, start, duration, layer] = numbers(call);
+    let row = Row {
         order,
         layer,
         start,
         duration,
+    };
+    shown(alloc, &offer(alloc, live, row))
+}
+
+/// What a call comes to: that of `near` tells the ReadOrders of what is near an instant, each a decimal digit.
+fn outcome(alloc: Global, live: &mut LiveEvents, call: &str) -> Mem<String>
+    requires { IsSound live.old }
+    ensures { IsSound live.new }
+{
+    let [t, _, _, _] = numbers(call);
+    match name_of(call) {
+        "feed" => feed(alloc, live, call),
+        "near" => near(alloc, live, i64::from(t)),
+        "orders" => orders(alloc, live),
+        "entries" => shown(alloc, &live.entries()),
+        _ => shown(alloc, &live.flush()),
     }
 }
 
-/// The ReadOrders of what is near the instant, each a decimal digit.
-fn near(alloc: Global, live: &LiveEvents, t: i64) -> Mem<u32>
-    requires { IsSound live.now }
+fn make_row(alloc: Global, live: &mut LiveEvents, row: &str, others: &mut String) -> Mem<()>
+    requires { IsSound live.old }
+    ensures { IsSound live.new }
 {
-    let mut digits = 0u32;
-    for event in live.near(alloc, t)?.as_slice() {
-        digits = digits.wrapping_mul(10).wrapping_add(event.order);
-    }
-    Ok(digits)
+    let found = outcome(alloc, live, call_of(row))?;
+    add_other(others, row, found.as_str())
 }
+
+/// Makes the calls of rows, and tells what comes to something else than its row says.
+fn make_rows(alloc: Global, live: &mut LiveEvents, rows: &str) -> Mem<String>
+    requires { IsSound live.old }
+    ensures { IsSound live.new }
+{
+    let mut others = String::new(alloc);
+    for row in rows.lines() {
+        make_row(alloc, live, row, &mut others)?;
+    }
+    Ok(others)
+}
+
+/// Two of the same layer are near at 15, then one in each of two layers.
+const FEW: &str = "feed 3 30 10 0 = Accepted(0)
+feed 1 0 10 0 = Accepted(1)
+feed 2 5 15 0 = Accepted(2)
+feed 1 30 10 0 = Repeated(1)
+near 35 = 3
+near 15 = 12
+orders = [3, 1, 2]
+flush = Done(3)
+near 15 = 0
+feed 1 0 10 0 = Accepted(4)
+feed 2 5 15 1 = Accepted(5)
+entries = 6
+near 15 = 2
+near 5 = 12";
 
 #[test]
 fn what_an_event_is_placed_clear_of_is_near(rt: HostRuntime) -> Result<(), Fail> {
-    let alloc = rt.alloc();
-    let mut live = LiveEvents::new(alloc);
-    let third = offer(alloc, &mut live, event_at(3, 30, 10, 0));
-    offer(alloc, &mut live, event_at(1, 0, 10, 0));
-    offer(alloc, &mut live, event_at(2, 5, 15, 0));
-    let again = offer(alloc, &mut live, event_at(1, 30, 10, 0));
-    assert_eq!(rt; (third, again), (Feed::Accepted(0), Feed::Repeated(1)));
-    assert_eq!(rt; (near(alloc, &live, 35)?, near(alloc, &live, 15)?), (3, 12));
-    assert_eq!(rt; live.orders(alloc)?.as_slice(), [3, 1, 2].as_slice());
-    assert_eq!(rt;
-        (live.flush(), near(alloc, &live, 15)?),
-        (Flushed::Done(3), 0)
-    );
-    let first = offer(alloc, &mut live, event_at(1, 0, 10, 0));
-    offer(alloc, &mut live, event_at(2, 5, 15, 1));
-    assert_eq!(rt; (first, live.entries()), (Feed::Accepted(4), 6));
-    assert_eq!(rt; (near(alloc, &live, 15)?, near(alloc, &live, 5)?), (2, 12));
+    let mut live = LiveEvents::new(rt.alloc());
+    let others = make_rows(rt.alloc(), &mut live, FEW)?;
+    assert_eq!(rt; others.as_str(), "");
     Ok(())
 }
 
 /// One of many events, each of which is shown for ten milliseconds after the one before.
 fn row_of(order: u32) -> Row {
-    event_at(order, order.wrapping_mul(10), 10, 0)
+    Row {
+        order,
+        layer: 0,
+        start: order.wrapping_mul(10),
+        duration: 10,
+    }
 }
 
 /// Feeds a million events, and answers how often the place was another than the number of events before.
@@ -117,20 +175,19 @@ fn feed_million(alloc: Global, live: &mut LiveEvents) -> u32
     wrong
 }
 
+/// With a million live events.
+const MANY: &str = "feed 1000000 10000000 10 0 = Full(1000000)
+feed 7 70 10 0 = Repeated(7)
+near 10000000 = 0
+flush = Done(1000000)
+feed 1000000 10000000 10 0 = Accepted(1000001)";
+
 #[test]
 fn there_are_a_million_live_events_at_most(rt: HostRuntime) -> Result<(), Fail> {
-    let alloc = rt.alloc();
-    let mut live = LiveEvents::new(alloc);
-    assert_eq!(rt; feed_million(alloc, &mut live), 0);
-    let one_more = offer(alloc, &mut live, row_of(1_000_000));
-    let repeated = offer(alloc, &mut live, row_of(7));
-    assert_eq!(rt;
-        (one_more, repeated),
-        (Feed::Full(1_000_000), Feed::Repeated(7))
-    );
-    assert_eq!(rt; near(alloc, &live, 10_000_000)?, 0);
-    assert_eq!(rt; live.flush(), Flushed::Done(1_000_000));
-    let accepted = offer(alloc, &mut live, row_of(1_000_000));
-    assert_eq!(rt; accepted, Feed::Accepted(1_000_001));
+    let mut live = LiveEvents::new(rt.alloc());
+    let wrong = feed_million(rt.alloc(), &mut live);
+    assert_eq!(rt; wrong, 0);
+    let others = make_rows(rt.alloc(), &mut live, MANY)?;
+    assert_eq!(rt; others.as_str(), "");
     Ok(())
 }

@@ -2,6 +2,7 @@
 ghost use Rattle.std.specs.Prelude.{◌≡◌, ◌+◌, ◌<◌, IsSomeAnd};
 ghost use Rattle.turn_cell.specs.Passes.{IsOf};
 
+use crate::rows::are_in_turn;
 use std::sync::Wait;
 use std::test::Fail;
 use std::thread::{Threads, join_mut};
@@ -197,31 +198,40 @@ fn work_by_three<R: Threads + Wait + AllocGlobal + Sync>(
     );
 }
 
+/// Feeds by two threads beside one that looks, and tells how many times the calls of each did what they should.
+fn feed_and_look<R: Threads + Wait + AllocGlobal + Sync>(
+    rt: &R,
+    track: &Track,
+    pass: TrackPass,
+) -> (TrackPass, [u32; 3])
+    requires first { IsOf track.now pass × (pass.number ≡ 0) }
+    requires room { pass.next ≡ 1 }
+    ensures { IsOf track.now result.0 × (result.0.number ≡ 0) }
+{
+    let (pass, mut left) = lend(track, pass, 0);
+    let (pass, mut right) = lend(track, pass, 1);
+    let (pass, mut looker) = lend(track, pass, 2);
+    work_by_three(rt, track, &mut left, &mut right, &mut looker);
+    let (pass, fed) = rejoin(track, pass, left);
+    let (pass, also_fed) = rejoin(track, pass, right);
+    let (pass, looked) = rejoin(track, pass, looker);
+    (pass, [fed, also_fed, looked])
+}
+
 #[test]
 fn two_threads_feed_beside_one_that_looks(rt: HostRuntime) -> Result<(), Fail> {
     let opened = Track::open(rt.alloc());
     let Ok((track, pass)) = opened else {
         panic!(rt; "memory")
     };
-    let (pass, mut left) = lend(&track, pass, 0);
-    let (pass, mut right) = lend(&track, pass, 1);
-    let (pass, mut looker) = lend(&track, pass, 2);
-    work_by_three(&rt, &track, &mut left, &mut right, &mut looker);
-    let (pass, fed) = rejoin(&track, pass, left);
-    let (pass, also_fed) = rejoin(&track, pass, right);
-    let (pass, looked) = rejoin(&track, pass, looker);
+    let (pass, done) = feed_and_look(&rt, &track, pass);
     let (pass, orders) = track.orders(&rt, rt.alloc(), pass);
     track.close(pass);
     let Ok(orders) = orders else {
         panic!(rt; "memory")
     };
-    assert_eq!(rt; (fed, also_fed, looked), (1000, 1000, 100));
+    assert_eq!(rt; done, [1000, 1000, 100]);
     assert_eq!(rt; orders.len(), 2000);
-    let mut next = [0u32, 1000];
-    for order in orders.as_slice() {
-        let feeder = usize::from(*order >= 1000);
-        assert_eq!(rt; *order, next[feeder]);
-        next[feeder] = next[feeder].wrapping_add(1);
-    }
+    assert!(rt; are_in_turn(orders.as_slice()));
     Ok(())
 }

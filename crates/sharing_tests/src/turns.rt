@@ -2,6 +2,7 @@
 ghost use Rattle.std.specs.Prelude.{◌≡◌, ◌≤◌, [], map, IsSomeAnd};
 ghost use Rattle.turn_cell.specs.Passes.{IsOf};
 
+use crate::rows::are_in_turn;
 use std::alloc::Global;
 use std::sync::Wait;
 use std::test::Fail;
@@ -181,8 +182,8 @@ fn one_thread_takes_in_turn(rt: HostRuntime) -> Result<(), Fail> {
     };
     let (pass, seen) = take_in_turn(&rt, &cell, first, second);
     let closed = cell.close(pass);
-    assert_eq!(rt; (seen.holder, seen.word), (0, 1));
-    assert_eq!(rt; (seen.next_holder, seen.was_empty), (1, true));
+    assert_eq!(rt; (seen.holder, seen.word, seen.next_holder), (0, 1, 1));
+    assert!(rt; seen.was_empty);
     let Some(entries) = closed else {
         panic!(rt; "the turn is out")
     };
@@ -209,11 +210,6 @@ fn two_threads_give_a_thousand_each(rt: HostRuntime) -> Result<(), Fail> {
         panic!(rt; "the turn is out")
     };
     assert_eq!(rt; entries.all.len(), 2000);
-    let mut next = [0u32, 1000];
-    for entry in entries.all.iter() {
-        let giver = usize::from(*entry >= 1000);
-        assert_eq!(rt; *entry, next[giver]);
-        next[giver] = next[giver].wrapping_add(1);
-    }
+    assert!(rt; are_in_turn(entries.all.as_slice()));
     Ok(())
 }
