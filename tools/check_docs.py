@@ -304,7 +304,7 @@ def words(score):
         folders[:] = [f for f in folders if f not in (".git", "out", "docs", "target")]
         for file in files:
             known.update(re.split(r"[._]", file)[:1] + [file, file.split(".")[0]])
-            if file.endswith((".rt", ".antt", ".edit", ".txt", ".sh", ".py")) or file in ("vimalorua", "HANDLES"):
+            if file.endswith((".rt", ".antt", ".edit", ".txt", ".sh", ".py", ".h", ".c")) or file in ("vimalorua", "HANDLES"):
                 with open(os.path.join(at, file), encoding="utf-8", errors="replace") as f:
                     known.update(re.findall(r"[^\W\d][\w'\-]*", f.read()))
     for page in pages():

@@ -87,7 +87,7 @@ def items_in(text, at, end):
             test = test or "cfg(test)" in text[at:stop].replace(" ", "")
             at = stop
             continue
-        m = re.compile(r"(pub(?:\s*\([^)]*\))?\s+)?((?:unsafe\s+|const\s+(?=fn))*)([A-Za-z_]+)").match(text, at)
+        m = re.compile(r"(pub(?:\s*\([^)]*\))?\s+)?((?:unsafe\s+|(?:const|extern)\s+(?=fn))*)([A-Za-z_]+)").match(text, at)
         if not m:
             at += 1
             continue

@@ -1,0 +1,192 @@
+#!/usr/bin/env bash
+# Tests the library from C: the demo's frames beside those of `./vimalorua frame`, pictures beside their lists, by one
+# thread and by four in turn, every status, and every call for memory refused; plainly, and under the sanitizers where
+# the compiler has them.
+#
+#   c/test.sh [ARCHIVE]     without it the archive that c/build.sh made
+set -euo pipefail
+here=$(dirname -- "$(readlink -f -- "${BASH_SOURCE[0]}")")
+top=$(dirname -- "$here")
+archive=$(readlink -m -- "${1:-$top/crates/vimalorua_c/out/libvimalorua_c.a}")
+cc=${CC:-cc}
+work=$(mktemp -d)
+trap 'rm -rf "$work"' EXIT
+
+if [ ! -f "$archive" ]; then
+    echo "test.sh: there is no $archive: c/build.sh makes it" >&2
+    exit 1
+fi
+
+sanitizers=-fsanitize=address,undefined
+kinds=plain
+echo 'int main(void) { return 0; }' > "$work/empty.c"
+if "$cc" $sanitizers -o "$work/empty" "$work/empty.c" 2> "$work/log" && "$work/empty"; then
+    kinds='plain sanitized'
+else
+    echo 'test.sh: the compiler has no sanitizers, so all is built plainly' >&2
+fi
+
+compile() { # KIND OBJECT FILE WORDS..
+    local flags='-O2'
+    [ "$1" = plain ] || flags="-g -O1 $sanitizers -fno-sanitize-recover=all"
+    # shellcheck disable=SC2086
+    "$cc" $flags -std=c11 -D_POSIX_C_SOURCE=200809L -pedantic -Wall -Wextra -Wconversion -Werror "${@:4}" \
+        -c -o "$work/$1/$2" "$here/$3"
+}
+
+link() { # KIND PROGRAM OBJECT..
+    local flags=
+    [ "$1" = plain ] || flags=$sanitizers
+    # shellcheck disable=SC2086
+    (cd "$work/$1" && "$cc" $flags -o "$2" "${@:3}" "$archive" -lpthread)
+}
+
+build() { # KIND
+    local refusing='-Dmalloc=refusing_malloc -Drealloc=refusing_realloc -Dfree=counted_free'
+    mkdir "$work/$1"
+    compile "$1" heap.o rattle_heap.c
+    compile "$1" images.o ass_images.c
+    compile "$1" files.o files.c
+    # shellcheck disable=SC2086
+    compile "$1" refusing_heap.o rattle_heap.c $refusing
+    # shellcheck disable=SC2086
+    compile "$1" refusing_images.o ass_images.c $refusing
+    compile "$1" refusing.o tests/refusing.c
+    compile "$1" errors.o tests/errors.c
+    compile "$1" pictures.o tests/pictures.c
+    compile "$1" demo.o demo.c
+    compile "$1" shim.o bench/ass_shim.c
+    link "$1" errors errors.o refusing.o refusing_heap.o refusing_images.o
+    link "$1" pictures pictures.o files.o images.o heap.o
+    link "$1" demo demo.o files.o heap.o
+}
+
+# The archive asks for what docs/EMBEDDING-C.md names, gives the header's calls, and can stand in a shared library.
+archive_alone() {
+    local others
+    others=$(nm -g "$archive" | awk 'NF > 1 { print $NF }' | sort -u |
+        grep -vxE 'mem(cpy|move|set)|__u?(div|mod)ti3|rattle_(alloc|realloc|dealloc)|vimalorua_[a-z0-9_]+' || :)
+    if [ -n "$others" ]; then
+        printf 'test.sh: other names in the archive:\n%s\n' "$others" >&2
+        return 1
+    fi
+    sed -n 's/^\(u*int32_t\|void\) \(vimalorua_[a-z0-9_]*\)(.*/\2/p' "$here/vimalorua.h" | sort > "$work/declared"
+    nm -g "$archive" | awk '$2 == "T" { print $3 }' | sort > "$work/given"
+    diff "$work/declared" "$work/given"
+    "$cc" -shared -fPIC -o "$work/shared.so" -Wl,--whole-archive "$archive" -Wl,--no-whole-archive "$here/rattle_heap.c"
+}
+
+# An image without the second line of its head, which is a comment.
+no_comment() {
+    local magic comment
+    IFS= read -r magic
+    IFS= read -r comment
+    [[ $comment == '# t='* ]]
+    echo "$magic"
+    cat
+}
+
+# The frames that the program draws, once for both kinds.
+wanted() { # FROM TO STEP WxH SCRIPT FONT
+    local ms into
+    into=$work/wanted-$(basename "$5").ppm
+    [ ! -f "$into" ] || return 0
+    for ((ms = $1; ms < $2; ms += $3)); do
+        "$top/vimalorua" frame --at "$ms" --size "$4" "${@:5}" 2> "$work/log" | no_comment || {
+            cat "$work/log" >&2
+            return 1
+        }
+    done > "$into"
+}
+
+# The demo's frames beside the program's, and pictures beside their lists.
+frames() { # KIND FROM TO STEP WxH SCRIPT FONT
+    wanted "${@:2}"
+    "$work/$1/demo" "${@:2}" > "$work/demo.ppm"
+    cmp "$work/demo.ppm" "$work/wanted-$(basename "$6").ppm"
+    "$work/$1/pictures" "${@:2}"
+}
+
+# The blocks of docs/EMBEDDING-C.md that are written in a language, or in none.
+blocks() { # LANGUAGE
+    awk -v fence="\`\`\`$1" '/^```/ { inside = !inside; wanted = inside && $0 == fence; next } wanted' \
+        "$top/docs/EMBEDDING-C.md"
+}
+
+# The page's ten lines, in a program, and its commands, as they stand there: at the top of a folder in which c/build.sh
+# only names the archive.
+from_page() {
+    local page=$work/page
+    mkdir -p "$page/c"
+    ln -s "$top/examples" "$page/examples"
+    ln -s "$here"/*.c "$here"/*.h "$page/c"
+    printf '#!/bin/sh\necho "%s"\n' "$archive" > "$page/c/build.sh"
+    chmod +x "$page/c/build.sh"
+    blocks c > "$page/yours.c"
+    cat >> "$page/yours.c" << 'END'
+
+#include "files.c"
+
+int main(int argc, char **argv) {
+    static uint8_t rgb[3 * 1280 * 720];
+    size_t script_len = 0, font_len = 0;
+    uint8_t *script = argc < 3 ? NULL : read_file(argv[1], &script_len);
+    uint8_t *font = argc < 3 ? NULL : read_file(argv[2], &font_len);
+    if (script == NULL || font == NULL || draw(script, script_len, font, font_len, 2500, rgb) != VIMALORUA_DONE)
+        return 1;
+    printf("P6\n1280 720\n255\n");
+    fwrite(rgb, 1, sizeof rgb, stdout);
+    free(script);
+    free(font);
+    return 0;
+}
+END
+    "$cc" -Wall -Wextra -Werror -I"$here" -c -o "$page/yours.o" "$page/yours.c"
+    (
+        cd "$page"
+        blocks '' > commands
+        sh -e commands
+        ./yours examples/dialogue.ass examples/subtitle.bdf > yours.ppm
+        "$work/plain/demo" 2500 2501 1 1280x720 examples/dialogue.ass examples/subtitle.bdf > demo.ppm
+        cmp yours.ppm demo.ppm
+    )
+}
+
+# The header from C++, in a program that is linked.
+from_cxx() {
+    cat > "$work/calls.cc" << 'END'
+#include "ass_images.h"
+int main() {
+    vimalorua *handle = nullptr;
+    size_t place = 0;
+    const char text[] = "[Events]\n";
+    if (vimalorua_open(reinterpret_cast<const uint8_t *>(text), sizeof text - 1, 0, &handle, &place) != VIMALORUA_DONE)
+        return 1;
+    vimalorua_close(handle);
+    ass_images images = {};
+    ass_images_free(&images);
+    return vimalorua_version() != VIMALORUA_VERSION;
+}
+END
+    "$1" -Wall -Wextra -Werror -I"$here" -c -o "$work/calls.o" "$work/calls.cc"
+    (cd "$work/plain" && "$1" -o calls "$work/calls.o" images.o heap.o "$archive")
+    "$work/plain/calls"
+}
+
+archive_alone
+for kind in $kinds; do
+    build "$kind"
+    "$work/$kind/errors"
+    frames "$kind" 0 1 1 4x3 "$top/examples/row.ass" "$top/examples/dot.bdf"
+    frames "$kind" 0 2000 1000 320x180 "$top/examples/hello.ass" "$top/examples/letter.bdf"
+    for script in dialogue karaoke signs; do
+        frames "$kind" 1000 5000 1500 320x180 "$top/examples/$script.ass" "$top/examples/subtitle.bdf"
+    done
+    echo "test.sh: $kind passed"
+done
+from_page
+echo 'test.sh: the lines and commands of docs/EMBEDDING-C.md passed'
+if command -v "${CXX:-c++}" > "$work/log"; then
+    from_cxx "${CXX:-c++}"
+    echo 'test.sh: C++ passed'
+fi

@@ -1,0 +1,94 @@
+-- Public: the numbers that calls return, with the places that go with them.
+use Rattle.std.specs.Prelude.{ℕ, ℤ, pos}
+use Rattle.ass_script.specs.declared.refusal.ScriptRefusal.{ScriptRefusal}
+use Rattle.ass_script.specs.declared.refusal.ScriptRefusal.TheVariants as script
+use Rattle.ass_script.specs.declared.script.EventField.{EventField}
+use Rattle.ass_script.specs.declared.script.EventField.TheVariants as field
+use Rattle.bdf_font.specs.declared.cause.FontRefusal.{FontRefusal}
+use Rattle.bdf_font.specs.declared.cause.FontRefusal.TheVariants as font
+use Rattle.frame_change.specs.declared.kinds.ChangeKind.{ChangeKind}
+use Rattle.frame_change.specs.declared.kinds.ChangeKind.TheVariants.{Same, Moved, Other}
+use Rattle.track_history.specs.declared.answers.Feed.{Feed}
+use Rattle.track_history.specs.declared.answers.Feed.TheVariants as fed
+use Rattle.track_history.specs.declared.answers.Flushed.{Flushed}
+use Rattle.track_history.specs.declared.answers.Flushed.TheVariants as flushed
+use Rattle.vimalorua_c.specs.declared.status.Told.{Told}
+
+abbrev pub done_status : ℤ
+done_status = pos 0
+
+abbrev pub out_of_memory_status : ℤ
+out_of_memory_status = pos 5
+
+abbrev pub many_fonts_status : ℤ
+many_fonts_status = pos 8
+
+abbrev pub no_font_status : ℤ
+no_font_status = pos 9
+
+abbrev pub bad_call_status : ℤ
+bad_call_status = pos 14
+
+abbrev pub closed_status : ℤ
+closed_status = pos 15
+
+abbrev pub told : ℤ → ℕ → Told
+told status place = record { status = status; place = place }
+
+-- why a script isn't read
+abbrev pub script_told : ScriptRefusal → Told
+script_told (script.NotUtf8 front) = told (pos 1) front
+script_told script.NoEvents = told (pos 2) 0
+script_told (script.TooManyLines most) = told (pos 3) most
+script_told (script.TooManyStyles most) = told (pos 4) most
+script_told script.OutOfMemory = told out_of_memory_status 0
+
+-- why a font isn't read
+abbrev pub font_told : FontRefusal → Told
+font_told (font.BadFont line cause) = told (pos 6) line
+font_told (font.TooLarge most) = told (pos 7) most
+font_told font.OutOfMemory = told out_of_memory_status 0
+
+-- the answer to a feed
+abbrev pub feed_told : Feed → Told
+feed_told (fed.Accepted entry) = told done_status entry
+feed_told (fed.Repeated entry) = told (pos 10) entry
+feed_told (fed.Malformed which byte) = told (pos 11) byte
+feed_told (fed.Full most) = told (pos 12) most
+feed_told fed.OutOfMemory = told out_of_memory_status 0
+
+-- the number of a field, from 1
+abbrev pub field_number : EventField → ℕ
+field_number field.ReadOrder = 1
+field_number field.Layer = 2
+field_number field.Start = 3
+field_number field.End = 4
+field_number field.Duration = 5
+field_number field.Style = 6
+field_number field.Name = 7
+field_number field.MarginL = 8
+field_number field.MarginR = 9
+field_number field.MarginV = 10
+field_number field.Effect = 11
+field_number field.Text = 12
+field_number field.Utf8 = 13
+field_number field.Other = 14
+
+-- the number of the field that a feed refused, or 0
+abbrev pub fed_field : Feed → ℕ
+fed_field (fed.Accepted entry) = 0
+fed_field (fed.Repeated entry) = 0
+fed_field (fed.Malformed which byte) = field_number which
+fed_field (fed.Full most) = 0
+fed_field fed.OutOfMemory = 0
+
+-- the answer to a flush
+abbrev pub flush_told : Flushed → Told
+flush_told (flushed.Done entry) = told done_status entry
+flush_told (flushed.TooMany most) = told (pos 13) most
+
+-- a change as libass numbers it
+abbrev pub change_number : ChangeKind → ℤ
+change_number Same = pos 0
+change_number Moved = pos 1
+change_number Other = pos 2

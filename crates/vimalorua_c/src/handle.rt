@@ -1,0 +1,64 @@
+//! What C keeps between calls.
+ghost use Rattle.std.specs.Prelude.{◌≡◌};
+ghost use Rattle.vimalorua_c.specs.declared.kept.Kept.{Kept};
+
+use crate::kept::Kept;
+use crate::parts::Parts;
+use std::alloc::Global;
+use std::marker::Model;
+
+/// A box as C may hold it: a pointer that names no type of ours, and what stands there.
+#[repr(C)]
+#[derive(Drop)]
+pub struct Handle {
+    at: *mut u8,
+    alloc: Global,
+    pub ghost value: { Kept },
+}
+
+impl Model for Handle {
+    ghost use Rattle.std_alloc.specs.Box.Ownership.{box_owns};
+    ghost use Rattle.std_heap.specs.contracts.GlobalAllocator.TheImpl.{ghosts};
+    ghost use denote.Param.{param};
+    ghost use Rattle.vimalorua_c.specs.contracts.kept.Kept as kept;
+
+    ghost also_owns = { λ h. box_owns (ghosts.dealloc_token h.alloc) (param 0 kept.the_row) h.at h.value };
+}
+
+impl Handle {
+    fn of_parts(parts: Parts<Kept, Global>) -> Handle
+        ensures { result.value ≡ parts.value }
+    {
+        let Parts { ptr, alloc } = parts;
+        Handle {
+            at: ptr as *mut u8,
+            alloc,
+        }
+    }
+
+    fn into_parts(self) -> Parts<Kept, Global>
+        ensures { result.value ≡ self.value }
+    {
+        let Handle { at, alloc } = self;
+        Parts {
+            ptr: at as *mut Kept,
+            alloc,
+        }
+    }
+
+    /// A handle of what stands in a box.
+    pub fn of(kept: Box<Kept>) -> Handle
+        ensures { result.value ≡ kept.value }
+    {
+        Handle::of_parts(Parts::of(kept))
+    }
+
+    /// The box again.
+    pub fn into_box(self) -> Box<Kept>
+        ensures { result.value ≡ self.value }
+    {
+        self.into_parts().into_box()
+    }
+}
+
+unsafe impl Send for Handle {}

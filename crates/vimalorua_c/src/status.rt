@@ -1,0 +1,145 @@
+//! The numbers that calls return. c/vimalorua.h has them again.
+
+ghost use Rattle.std.specs.Prelude.{◌≡◌};
+ghost use Rattle.vimalorua_c.specs.Statuses as rule;
+
+use ass_script::{EventField, ScriptRefusal};
+use bdf_font::FontRefusal;
+use frame_change::ChangeKind;
+use track_history::{Feed, Flushed};
+
+pub const DONE: i32 = 0;
+
+pub const NOT_UTF8: i32 = 1;
+
+pub const NO_EVENTS: i32 = 2;
+
+pub const MANY_LINES: i32 = 3;
+
+pub const MANY_STYLES: i32 = 4;
+
+pub const OUT_OF_MEMORY: i32 = 5;
+
+pub const BAD_FONT: i32 = 6;
+
+pub const LARGE_FONT: i32 = 7;
+
+pub const MANY_FONTS: i32 = 8;
+
+pub const NO_FONT: i32 = 9;
+
+pub const REPEATED: i32 = 10;
+
+pub const MALFORMED: i32 = 11;
+
+pub const FULL: i32 = 12;
+
+pub const MANY_FLUSHES: i32 = 13;
+
+pub const BAD_CALL: i32 = 14;
+
+pub const CLOSED: i32 = 15;
+
+/// A status, and the place that goes with it, or 0.
+#[derive(Clone, Copy, Debug, PartialEq, Eq)]
+pub struct Told {
+    pub status: i32,
+    pub place: usize,
+}
+
+/// A status with its place.
+pub fn told_at(status: i32, place: usize) -> Told
+    ensures { result ≡ record { status = status; place = place } }
+{
+    Told { status, place }
+}
+
+/// Why a script isn't read.
+pub fn script_told(refusal: ScriptRefusal) -> Told
+    ensures { result ≡ rule.script_told refusal }
+{
+    match refusal {
+        ScriptRefusal::NotUtf8(front) => told_at(NOT_UTF8, front),
+        ScriptRefusal::NoEvents => told_at(NO_EVENTS, 0),
+        ScriptRefusal::TooManyLines(most) => told_at(MANY_LINES, most),
+        ScriptRefusal::TooManyStyles(most) => told_at(MANY_STYLES, most),
+        ScriptRefusal::OutOfMemory => told_at(OUT_OF_MEMORY, 0),
+    }
+}
+
+/// Why a font isn't read.
+pub fn font_told(refusal: FontRefusal) -> Told
+    ensures { result ≡ rule.font_told refusal }
+{
+    match refusal {
+        FontRefusal::BadFont(line, _) => told_at(BAD_FONT, line),
+        FontRefusal::TooLarge(most) => told_at(LARGE_FONT, most),
+        FontRefusal::OutOfMemory => told_at(OUT_OF_MEMORY, 0),
+    }
+}
+
+/// The answer to a feed.
+pub fn feed_told(answer: Feed) -> Told
+    ensures { result ≡ rule.feed_told answer }
+{
+    match answer {
+        Feed::Accepted(entry) => told_at(DONE, entry),
+        Feed::Repeated(entry) => told_at(REPEATED, entry),
+        Feed::Malformed(_, byte) => told_at(MALFORMED, byte),
+        Feed::Full(most) => told_at(FULL, most),
+        Feed::OutOfMemory => told_at(OUT_OF_MEMORY, 0),
+    }
+}
+
+/// The number of a field, from 1.
+fn field_number(field: EventField) -> u32
+    ensures { result ≡ rule.field_number field }
+{
+    match field {
+        EventField::ReadOrder => 1,
+        EventField::Layer => 2,
+        EventField::Start => 3,
+        EventField::End => 4,
+        EventField::Duration => 5,
+        EventField::Style => 6,
+        EventField::Name => 7,
+        EventField::MarginL => 8,
+        EventField::MarginR => 9,
+        EventField::MarginV => 10,
+        EventField::Effect => 11,
+        EventField::Text => 12,
+        EventField::Utf8 => 13,
+        EventField::Other => 14,
+    }
+}
+
+/// The number of the field that a feed refused, or 0.
+pub fn fed_field(answer: Feed) -> u32
+    ensures { result ≡ rule.fed_field answer }
+{
+    match answer {
+        Feed::Malformed(field, _) => field_number(field),
+        Feed::Accepted(_) | Feed::Repeated(_) | Feed::Full(_) | Feed::OutOfMemory => 0,
+    }
+}
+
+/// The answer to a flush.
+pub fn flush_told(answer: Flushed) -> Told
+    ensures { result ≡ rule.flush_told answer }
+{
+    match answer {
+        Flushed::Done(entry) => told_at(DONE, entry),
+        Flushed::TooMany(most) => told_at(MANY_FLUSHES, most),
+    }
+}
+
+/// The number of a change, as `detect_change` of `ass_render_frame` has it (libass `ass.h`).
+pub fn change_number(kind: ChangeKind) -> i32
+    ensures { result ≡ rule.change_number kind }
+{
+    match kind {
+        ChangeKind::Same => 0,
+        ChangeKind::Moved => 1,
+        ChangeKind::Other => 2,
+    }
+}
