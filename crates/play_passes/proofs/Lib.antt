@@ -1,6 +1,7 @@
 pub mod Shards
 pub mod Splits
 pub mod Hands
+pub mod Apart
 pub mod Takes
 pub mod ShardRounds
 pub mod CacheRounds

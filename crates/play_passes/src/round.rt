@@ -1,6 +1,7 @@
 //! One round.
 
 ghost use Rattle.std.specs.Prelude.{◌≡◌, ℕ, ◌+◌, ◌<◌, ◌≤◌, length, All, slice_index_or};
+ghost use Rattle.std.specs.Thread.{IsSync};
 ghost use Rattle.render_pass.specs.Holding.{HoldsTheSame};
 ghost use Rattle.render_pass.specs.Passes.{HoldsNothing, IsFirstPass, IsPassOfRenderer, IsRenderJoined, IsRenderSplit, RenderView};
 ghost use Rattle.play_workers.specs.Limits.{max_rounds};
@@ -17,7 +18,7 @@ use render_pass::laws::frames_are_given_back;
 use render_pass::{RenderPass, Renderer};
 use std::alloc::Global;
 use std::sync::Wait;
-use std::thread::{Threads, for_each_mut};
+use std::thread::{Threads, join_mut};
 
 /// All workers do their parts at once, each with a pass of its own. Then all passes are joined again.
 pub fn play_round<R: Threads + Wait + Sync, G: Gate + Sync>(
@@ -82,7 +83,8 @@ fn split(renderer: &Renderer, first: RenderPass) -> (RenderPass, RenderPass)
     }
 }
 
-/// Each worker does its part in a thread of its own.
+/// Each worker does its part in a thread of its own. The calling thread begins them all, one after another.
+#[cycle(parts)]
 fn work_all<R: Threads + Wait + Sync, G: Gate + Sync>(
     rt: &R,
     alloc: Global,
@@ -99,15 +101,47 @@ fn work_all<R: Threads + Wait + Sync, G: Gate + Sync>(
     ensures { (i : ℕ) (d : Worker) → i < length workers.old
         → HasWorked stage.now round (slice_index_or workers.old i d) (slice_index_or workers.new i d) }
 {
-    let threads = workers.len();
-    for_each_mut(
-        rt,
-        workers,
-        threads,
-        &|_number: usize, worker: &mut Worker|
-            requires { HasPass stage.now.renderer worker.old × IsPlayStage stage.now × (round ≤ max_rounds) × IsRoleOf stage.now.job worker.old.role }
-        { worker.work(rt, alloc, stage, round, gate) },
-    );
+    let Some((worker, rest)) = workers.split_first_mut() else {
+        unreachable!()
+    };
+    if rest.is_empty() {
+        worker.work(rt, alloc, stage, round, gate);
+        return;
+    }
+    work_apart(rt, alloc, stage, round, gate, worker, rest);
+}
+
+/// One worker works in a new thread, while this one begins the threads of the rest.
+#[cycle(parts)]
+fn work_apart<R: Threads + Wait + Sync, G: Gate + Sync>(
+    rt: &R,
+    alloc: Global,
+    stage: &Stage,
+    round: usize,
+    gate: &G,
+    worker: &mut Worker,
+    rest: &mut [Worker],
+)
+    requires stage { IsPlayStage stage.now }
+    requires small { round ≤ max_rounds }
+    requires pass { HasPass stage.now.renderer worker.old }
+    requires role { IsRoleOf stage.now.job worker.old.role }
+    requires some { 0 < length rest.old }
+    requires passes { All (HasPass stage.now.renderer) rest.old }
+    requires roles { All (λ (w : Worker). IsRoleOf stage.now.job w.role) rest.old }
+    ensures worker { HasWorked stage.now round worker.old worker.new }
+    ensures rest { (i : ℕ) (d : Worker) → i < length rest.old
+        → HasWorked stage.now round (slice_index_or rest.old i d) (slice_index_or rest.new i d) }
+{
+    let mut part = ||
+        requires { IsPlayStage stage.now × (round ≤ max_rounds) × HasPass stage.now.renderer worker.now × IsRoleOf stage.now.job worker.now.role }
+        ensures { HasWorked stage.entry.now round worker.entry.now worker.exit.now }
+    { worker.work(rt, alloc, stage, round, gate) };
+    let mut others = ||
+        requires { IsSync R.row × IsSync G.row × (0 < length rest.now) × IsPlayStage stage.now × (round ≤ max_rounds) × All (HasPass stage.now.renderer) rest.now × All (λ (w : Worker). IsRoleOf stage.now.job w.role) rest.now }
+        ensures { (i : ℕ) (d : Worker) → i < length rest.entry.now → HasWorked stage.entry.now round (slice_index_or rest.entry.now i d) (slice_index_or rest.exit.now i d) }
+    { work_all(rt, alloc, stage, round, rest, gate) };
+    join_mut(rt, &mut part, &mut others);
 }
 
 /// Joins a pass that holds as much as one that holds nothing into the first one.
