@@ -1,5 +1,4 @@
 use Rattle.std.proofs.Common.{arith, ◌≤◌, sym, subst}
-use Rattle.std.specs.Arc.{arc_value}
 use Rattle.ass_num.specs.Limits.{max_text_bytes}
 use Rattle.ass_events.specs.declared.event.Event.{Event}
 use Rattle.ass_events.specs.Ranges.{IsEvent, text_bytes}
