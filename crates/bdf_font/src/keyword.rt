@@ -17,6 +17,7 @@ pub enum Keyword {
     Unknown,
 }
 
+/// A keyword of the lines from `STARTCHAR` to `ENDCHAR` (BDF 2.1, individual glyph information).
 #[derive(Clone, Copy, Debug, PartialEq, Eq)]
 pub enum GlyphKeyword {
     Encoding,
@@ -26,6 +27,7 @@ pub enum GlyphKeyword {
     EndChar,
 }
 
+/// A keyword of the lines before the first glyph (BDF 2.1, global font information).
 #[derive(Clone, Copy, Debug, PartialEq, Eq)]
 pub enum HeaderKeyword {
     Name,
@@ -36,6 +38,7 @@ pub enum HeaderKeyword {
     Property(PropertyKeyword),
 }
 
+/// A keyword of the lines from `STARTPROPERTIES` to `ENDPROPERTIES` that the reader knows.
 #[derive(Clone, Copy, Debug, PartialEq, Eq)]
 pub enum PropertyKeyword {
     Ascent,

@@ -4,6 +4,7 @@ use ass_num::OutOfMemory;
 use std::alloc::{AllocError, AllocFailed};
 use std::io;
 
+/// The ways in which the program ends before its last line.
 #[derive(Debug, Drop)]
 pub enum Stop {
     /// The words aren't `KEYS ROUNDS`.

@@ -30,6 +30,7 @@ pub struct Means {
 }
 
 impl Means {
+    /// Means over `radius` bytes to either side of one.
     pub fn new(radius: u32) -> Means
         requires some { 0 < radius }
         requires small { radius ≤ max_blur }
@@ -43,6 +44,7 @@ impl Means {
         }
     }
 
+    /// How many bytes to either side of one are in its mean.
     pub fn radius(&self) -> usize
         ensures value { result ≡ self.now.radius }
         ensures small { result ≤ max_blur }

@@ -20,6 +20,7 @@ pub struct NearIndex {
 }
 
 impl NearIndex {
+    /// An index without spans.
     pub fn new(alloc: Global) -> NearIndex
         ensures { result.blocks.items ≡ [] }
     {
