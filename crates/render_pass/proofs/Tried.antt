@@ -122,7 +122,7 @@ module _ (renderer : RendererView) (old new : CachesPass) (events : List Event) 
     refused-images (refused.PinsFull place) is nothing = record { draws = draws; are_draws = are; refused = is; nothing = record { of = of; nothing = nothing; others = record { masks = masks; outlines = outlines } } }
     refused-images refused.OutOfMemory is nothing = record { of = of; nothing = nothing; others = record { masks = masks; outlines = outlines } }
 
-  pub refused-nothing : (refusal : PinRefusal) → AreImagesRefused renderer old new events t size refusal → AddsNothing renderer old new
+  refused-nothing : (refusal : PinRefusal) → AreImagesRefused renderer old new events t size refusal → AddsNothing renderer old new
   refused-nothing (refused.TurnOut word) h = h.nothing
   refused-nothing (refused.NotReady place) h = h.nothing
   refused-nothing (refused.PinsFull place) h = h.nothing

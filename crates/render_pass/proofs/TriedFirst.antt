@@ -1,10 +1,11 @@
 -- What a call that tries for a frame and else renders it gives.
-use Rattle.std.proofs.Common.{ℤ, List, None, Result, Ok, Err, inl, inr, refl, ◌∙◌, arith}
+use Rattle.std.proofs.Common.{◌≢◌, ℤ, List, None, Result, Ok, Err, inl, inr, refl, ◌∙◌, arith}
 use Rattle.ass_events.specs.Histories.{live}
 use Rattle.ass_events.specs.declared.event.Event.{Event}
 use Rattle.ass_num.specs.declared.memory.OutOfMemory.{OutOfMemory}
 use Rattle.ass_num.specs.declared.size.Size.{Size}
 use Rattle.cache_kinds.specs.Kinds.{mask_meaning, region_meaning}
+use Rattle.flight_cache.specs.declared.pinning.PinRefusal.{PinRefusal}
 use Rattle.flight_cache.specs.declared.pinning.PinRefusal.TheVariants as refused
 use Rattle.mask_keys.specs.Equality.{equal_masks, equal_regions}
 use Rattle.mask_caches.specs.Caches.{HoldsAsBefore, IsPassOf}
@@ -20,13 +21,14 @@ use Rattle.frame_paint.specs.declared.frames.Image.{Image}
 use Rattle.render_pass.specs.Holding.{HoldsFrameMore, HoldsLeasesMore, HoldsTheSame}
 use Rattle.render_pass.specs.OneHistory.{ShowsOneHistory}
 use Rattle.render_pass.specs.Passes.{IsPassOfRenderer, RendererView}
-use Rattle.render_pass.specs.Rendering.{AreDrawsUnlent}
-use Rattle.render_pass.specs.Soon.{AreImagesLentThen, AreImagesSoon, IsTriedThenRendered}
+use Rattle.render_pass.specs.Rendering.{AreImagesLent}
+use Rattle.render_pass.specs.Soon.{AreImagesSoon, IsTriedThenRendered}
+use Rattle.render_pass.specs.Trying.{AreDrawsRefused, AreImagesRefused}
 use Rattle.render_pass.proofs.Framed.{framed}
-use Rattle.render_pass.proofs.Held.{before-itself, before-then}
+use Rattle.render_pass.proofs.Held.{before-then}
 use Rattle.render_pass.proofs.Pictures.{frame-history}
 use Rattle.render_pass.proofs.Together.{pass_of, turn-of}
-use Rattle.render_pass.proofs.Tried.{frame-tried, nothing-holds, nothing-itself, refused-nothing}
+use Rattle.render_pass.proofs.Tried.{frame-tried, nothing-holds, nothing-itself}
 
 -- what is held more behind calls that hold as much
 pub leases-behind : (caches : Caches) (p q r : CachesPass) (leases : List MaskLease) → HoldsAsBefore caches p q → HoldsLeasesMore caches q r leases → HoldsLeasesMore caches p r leases
@@ -38,18 +40,22 @@ leases-behind caches p q r leases f g = record {
 
 -- ---- images
 
-module _ (renderer : RendererView) (p : CachesPass) (events : List Event) (t : ℤ) (size : Size) (of : IsPassOf renderer.caches p) where
-  -- memory was wanting, and no key was asked for
-  wanting-unlent : AreDrawsUnlent renderer p p events t size
-  wanting-unlent = record { of = of; holds = before-itself renderer.caches p; unleased = inl refl }
+-- memory was wanting, and no key was asked for
+pub wanting-soon : (renderer : RendererView) (p : CachesPass) (events : List Event) (t : ℤ) (size : Size) → IsPassOf renderer.caches p → (wanting : OutOfMemory) → AreImagesSoon renderer p p events t size (Err wanting)
+wanting-soon renderer p events t size of wanting = inl (nothing-itself renderer p of)
 
-  pub wanting-soon : (wanting : OutOfMemory) → AreImagesSoon renderer p p events t size (Err wanting)
-  wanting-soon wanting = (p, refused.OutOfMemory, nothing-itself renderer p of, wanting-unlent)
+module _ (renderer : RendererView) (old between new : CachesPass) (events : List Event) (t : ℤ) (size : Size) where
+  -- where it isn't for want of memory, the cache refused the keys of the draws
+  draws-refused : (refusal : PinRefusal) → refusal ≢ refused.OutOfMemory → AreImagesRefused renderer old between events t size refusal → AreDrawsRefused renderer old between events t size refusal
+  draws-refused (refused.TurnOut word) cause h = h
+  draws-refused (refused.NotReady place) cause h = h
+  draws-refused (refused.PinsFull place) cause h = h
+  draws-refused refused.OutOfMemory cause h = absurd (cause refl)
 
--- what was lent behind a refusal
-pub lent-soon : {E : Type 0} (renderer : RendererView) (old new : CachesPass) (events : List Event) (t : ℤ) (size : Size) (had : Result (List Image) E) → AreImagesLentThen renderer old new events t size had → AreImagesSoon renderer old new events t size had
-lent-soon renderer old new events t size (Ok images) h = inr h
-lent-soon renderer old new events t size (Err wanting) h = h
+  -- what was lent behind a refusal
+  pub lent-soon : {E : Type 0} (refusal : PinRefusal) (had : Result (List Image) E) → refusal ≢ refused.OutOfMemory → AreImagesRefused renderer old between events t size refusal → AreImagesLent renderer between new events t size had → AreImagesSoon renderer old new events t size had
+  lent-soon refusal (Ok images) cause h lent = inr (record { between = between; refusal = refusal; cause = cause; refused = draws-refused refusal cause h; lent = lent })
+  lent-soon refusal (Err wanting) cause h lent = inr (record { between = between; refusal = refusal; cause = cause; refused = draws-refused refusal cause h; lent = lent })
 
 -- ---- frames
 
@@ -68,14 +74,14 @@ module _ (renderer : RendererView) (track later : TrackView) (old new : CachesPa
       record { pass = f.pass; history = f.history; rendered = inl f.tried; holds = f.holds }
   frame-soon scene images turn shown (inr h) =
       let frame : Frame = record { n = scene.n; t = t; size = size; images = images } in
-      let nothing = refused-nothing renderer old h.0 (live (history_of later.seen)) t size h.1 h.2 in
-      let between : IsPassOfRenderer renderer (pass_of track h.0) = record { track = of.track; caches = nothing.of } in
-      let f = framed renderer track later h.0 new t size scene images between turn shown h.3 in
+      let nothing = h.refused.nothing in
+      let between : IsPassOfRenderer renderer (pass_of track h.between) = record { track = of.track; caches = nothing.of } in
+      let f = framed renderer track later h.between new t size scene images between turn shown h.lent in
       record {
         pass = f.of;
         history = frame-history renderer (pass_of track old) (pass_of later new) t size frame turn f.rendered.is_frame;
-        rendered = inr (h.0, h.1, h.2, f.rendered);
-        holds = leases-behind renderer.caches old h.0 new (leases_of images) (nothing-holds renderer old h.0 nothing) f.holds;
+        rendered = inr (record { between = h.between; refusal = h.refusal; cause = h.cause; refused = h.refused; rendered = f.rendered });
+        holds = leases-behind renderer.caches old h.between new (leases_of images) (nothing-holds renderer old h.between nothing) f.holds;
       }
 
   -- what a call that wants memory makes of it
@@ -85,10 +91,13 @@ module _ (renderer : RendererView) (track later : TrackView) (old new : CachesPa
     pub holds : HoldsTheSame renderer (pass_of track old) (pass_of later new)
 
   pub frame-wanting : (wanting : OutOfMemory) → IsTurn track later None → AreImagesSoon renderer old new (live (history_of later.seen)) t size (Err wanting) → IsFrameWanting wanting
-  frame-wanting wanting turn h =
-      let nothing = refused-nothing renderer old h.0 (live (history_of later.seen)) t size h.1 h.2 in
-      record {
-        pass = record { track = turn-of renderer track later None of.track turn; caches = h.3.of };
-        rendered = (h.0, h.1, h.2, record { turn = turn; unleased = h.3.unleased });
-        holds = before-then renderer.caches old h.0 new (nothing-holds renderer old h.0 nothing) h.3.holds;
-      }
+  frame-wanting wanting turn (inl nothing) = record {
+    pass = record { track = turn-of renderer track later None of.track turn; caches = nothing.of };
+    rendered = inl (record { turn = turn; nothing = nothing });
+    holds = nothing-holds renderer old new nothing;
+  }
+  frame-wanting wanting turn (inr h) = record {
+    pass = record { track = turn-of renderer track later None of.track turn; caches = h.lent.of };
+    rendered = inr (record { between = h.between; refusal = h.refusal; cause = h.cause; refused = h.refused; rendered = record { turn = turn; unleased = h.lent.unleased } });
+    holds = before-then renderer.caches old h.between new (nothing-holds renderer old h.between h.refused.nothing) h.lent.holds;
+  }

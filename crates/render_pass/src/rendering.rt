@@ -1,7 +1,9 @@
 //! Frames by calls that may wait.
-ghost use Rattle.std.specs.Prelude.{List, IfOk};
+ghost use Rattle.std.specs.Prelude.{ℤ, List, IfOk};
 ghost use Rattle.ass_events.specs.Histories.{Entry, IsHistory, live};
+ghost use Rattle.ass_events.specs.declared.event.Event.{Event};
 ghost use Rattle.ass_num.specs.Limits.{IsFrameSize, IsWithin, max_instant};
+ghost use Rattle.ass_num.specs.declared.size.Size.{Size};
 ghost use Rattle.mask_caches.specs.Caches.{IsPassOf};
 ghost use Rattle.mask_keys.specs.Keys.{IsValidPlan};
 ghost use Rattle.mask_model.specs.Outlines.{glyph_counts};
@@ -19,7 +21,7 @@ use ass_io::Gate;
 use ass_num::{Items, Mem, Size};
 use frame_paint::{Frame, Image};
 use mask_caches::CachesPass;
-use mask_keys::Plan;
+use mask_keys::{Draw, Plan};
 use picture_plan::plan;
 use std::alloc::Global;
 use std::sync::Wait;
@@ -45,6 +47,23 @@ impl Renderer {
         )
     }
 
+    /// The images of draws, with masks through the caches.
+    pub(crate) fn images_lent<R: Wait, G: Gate>(
+        &self,
+        rt: &R,
+        alloc: Global,
+        pass: CachesPass,
+        draws: &Items<Draw>,
+        gate: &G,
+    ) -> (CachesPass, Mem<Items<Image>>)
+        requires pass { IsPassOf self.now.caches pass }
+        requires valid { IsValidPlan (glyph_counts self.now.fonts) draws.now }
+        ensures { (events : List Event) (t : ℤ) (size : Size) → AreDraws self.now.script self.now.fonts events t size draws.now
+            → AreImagesLent self.now pass result.0 events t size result.1 }
+    {
+        lend_images(&self.caches, rt, alloc, pass, draws, gate)
+    }
+
     /// The images of what a scene shows, with masks through the caches.
     fn images_of<R: Wait, G: Gate>(
         &self,
@@ -63,7 +82,7 @@ impl Renderer {
             → AreImagesLent self.now pass result.0 (live history) scene.now.t size.now result.1 }
     {
         match self.plan_of(alloc, scene, size) {
-            Ok(plan) => lend_images(&self.caches, rt, alloc, pass, &plan.draws, gate),
+            Ok(plan) => self.images_lent(rt, alloc, pass, &plan.draws, gate),
             Err(refused) => (pass, Err(refused)),
         }
     }

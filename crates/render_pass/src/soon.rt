@@ -1,23 +1,15 @@
 //! Frames by one plan: with the masks that are ready, or through the caches.
-ghost use Rattle.std.specs.Prelude.{ℤ, List, IfOk};
+ghost use Rattle.std.specs.Prelude.{List, IfOk};
 ghost use Rattle.ass_events.specs.Histories.{Entry, IsHistory, live};
-ghost use Rattle.ass_events.specs.declared.event.Event.{Event};
 ghost use Rattle.ass_num.specs.Limits.{IsFrameSize, IsWithin, max_instant};
-ghost use Rattle.ass_num.specs.declared.size.Size.{Size};
 ghost use Rattle.mask_caches.specs.Caches.{IsPassOf};
-ghost use Rattle.mask_keys.specs.Keys.{IsValidPlan};
-ghost use Rattle.mask_model.specs.Outlines.{glyph_counts};
-ghost use Rattle.picture_plan.specs.Pictures.{AreDraws};
 ghost use Rattle.track_history.specs.Answers.{IsSceneOf};
 ghost use Rattle.render_pass.specs.Holding.{HoldsJustTheFrame};
 ghost use Rattle.render_pass.specs.OneHistory.{ShowsOneHistory};
 ghost use Rattle.render_pass.specs.Passes.{IsPassOfRenderer};
-ghost use Rattle.render_pass.specs.Rendering.{AreImagesLent};
 ghost use Rattle.render_pass.specs.Soon.{AreImagesSoon, IsTriedThenRendered};
 
-use crate::images::lend_images;
 use crate::passes::RenderPass;
-use crate::readied::images_with;
 use crate::renderer::Renderer;
 use crate::trying::Readied;
 use ass_io::Gate;
@@ -25,33 +17,11 @@ use ass_num::{Items, Mem, OutOfMemory, Size};
 use flight_cache::PinRefusal;
 use frame_paint::{Frame, Image};
 use mask_caches::CachesPass;
-use mask_keys::Draw;
 use std::alloc::Global;
 use std::sync::Wait;
 use track_history::Scene;
 
 impl Renderer {
-    /// The images of draws whose pins were refused, with masks through the caches. A want of memory ends it.
-    fn images_behind<R: Wait, G: Gate>(
-        &self,
-        rt: &R,
-        alloc: Global,
-        pass: CachesPass,
-        refusal: PinRefusal,
-        draws: &Items<Draw>,
-        gate: &G,
-    ) -> (CachesPass, Mem<Items<Image>>)
-        requires pass { IsPassOf self.now.caches pass }
-        requires valid { IsValidPlan (glyph_counts self.now.fonts) draws.now }
-        ensures { (events : List Event) (t : ℤ) (size : Size) → AreDraws self.now.script self.now.fonts events t size draws.now
-            → AreImagesLent self.now pass result.0 events t size result.1 }
-    {
-        match refusal {
-            PinRefusal::OutOfMemory => (pass, Err(OutOfMemory)),
-            _ => lend_images(&self.caches, rt, alloc, pass, draws, gate),
-        }
-    }
-
     /// The images of what a scene shows, with the masks that are ready where all are, else through the caches.
     fn images_soon<R: Wait, G: Gate>(
         &self,
@@ -71,13 +41,13 @@ impl Renderer {
     {
         match self.readied(alloc, scene, size) {
             Ok(Readied { plan, keys, room }) => {
-                let (pass, tried) = self.caches.try_composites(alloc, pass, &keys);
+                let (pass, tried) = self.images_pinned(alloc, pass, &plan.draws, &keys, room);
                 match tried {
-                    Ok(leases) => (pass, Ok(images_with(&plan.draws, leases, room))),
-                    Err(refusal) => {
-                        room.destroy_empty();
-                        self.images_behind(rt, alloc, pass, refusal, &plan.draws, gate)
-                    }
+                    Ok(images) => (pass, Ok(images)),
+                    Err(refusal) => match refusal {
+                        PinRefusal::OutOfMemory => (pass, Err(OutOfMemory)),
+                        _ => self.images_lent(rt, alloc, pass, &plan.draws, gate),
+                    },
                 }
             }
             Err(refused) => (pass, Err(refused)),

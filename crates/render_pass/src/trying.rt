@@ -1,7 +1,9 @@
 //! Frames by a call that waits for nobody.
-ghost use Rattle.std.specs.Prelude.{◌≡◌, ◌≤◌, List, [], length, IfOk, vec_capacity, vec_len};
+ghost use Rattle.std.specs.Prelude.{◌≡◌, ◌≤◌, ℤ, List, [], length, IfOk, vec_capacity, vec_len};
 ghost use Rattle.ass_events.specs.Histories.{Entry, IsHistory, live};
+ghost use Rattle.ass_events.specs.declared.event.Event.{Event};
 ghost use Rattle.ass_num.specs.Limits.{IsFrameSize, IsWithin, max_instant};
+ghost use Rattle.ass_num.specs.declared.size.Size.{Size};
 ghost use Rattle.mask_caches.specs.Caches.{IsPassOf};
 ghost use Rattle.mask_keys.specs.Keys.{IsValidPlan};
 ghost use Rattle.mask_model.specs.Outlines.{glyph_counts};
@@ -20,7 +22,7 @@ use ass_num::{Items, Mem, OutOfMemory, Size};
 use flight_cache::PinRefusal;
 use frame_paint::{Frame, Image};
 use mask_caches::CachesPass;
-use mask_keys::{CompositeKey, Plan};
+use mask_keys::{CompositeKey, Draw, Plan};
 use std::alloc::Global;
 use track_history::{LookRefusal, Scene};
 
@@ -97,6 +99,34 @@ impl Renderer {
         Ok(Readied { plan, keys, room })
     }
 
+    /// The images of draws, with pins of their keys, where all their masks are ready. There is room for them.
+    pub(crate) fn images_pinned(
+        &self,
+        alloc: Global,
+        pass: CachesPass,
+        draws: &Items<Draw>,
+        keys: &Vec<CompositeKey>,
+        room: Vec<Image>,
+    ) -> (CachesPass, Result<Items<Image>, PinRefusal>)
+        requires pass { IsPassOf self.now.caches pass }
+        requires keys { keys.now.items ≡ plan_keys draws.now }
+        requires empty { room.items ≡ [] }
+        requires len { vec_len room ≡ 0 }
+        requires room { length draws.now ≤ vec_capacity room }
+        ensures pass { IsPassOf self.now.caches result.0 }
+        ensures tried { (events : List Event) (t : ℤ) (size : Size) → AreDraws self.now.script self.now.fonts events t size draws.now
+            → AreImagesTried self.now pass result.0 events t size result.1 }
+    {
+        let (pass, tried) = self.caches.try_composites(alloc, pass, keys);
+        match tried {
+            Ok(leases) => (pass, Ok(images_with(draws, leases, room))),
+            Err(refusal) => {
+                room.destroy_empty();
+                (pass, Err(refusal))
+            }
+        }
+    }
+
     /// The images of what a scene shows, where all their masks are ready.
     fn ready_images(
         &self,
@@ -114,14 +144,7 @@ impl Renderer {
     {
         match self.readied(alloc, scene, size) {
             Ok(Readied { plan, keys, room }) => {
-                let (pass, tried) = self.caches.try_composites(alloc, pass, &keys);
-                match tried {
-                    Ok(leases) => (pass, Ok(images_with(&plan.draws, leases, room))),
-                    Err(refusal) => {
-                        room.destroy_empty();
-                        (pass, Err(refusal))
-                    }
-                }
+                self.images_pinned(alloc, pass, &plan.draws, &keys, room)
             }
             Err(OutOfMemory) => (pass, Err(PinRefusal::OutOfMemory)),
         }

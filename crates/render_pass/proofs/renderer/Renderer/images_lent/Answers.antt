@@ -4,10 +4,10 @@ use Rattle.picture_plan.specs.Pictures.{AreDraws}
 use Rattle.render_pass.specs.Passes.{RendererView}
 use Rattle.render_pass.specs.Rendering.{AreImagesLent}
 use Rattle.render_pass.proofs.Framed.{lent-images}
-use Rattle.render_pass.proofs.renderer.Renderer.images_behind.Goals as goal
+use Rattle.render_pass.proofs.renderer.Renderer.images_lent.Goals as goal
 
-pub returns-in_default : goal.returns-in_default
-returns-in_default g c = λ events t size drawn.
+pub returns : goal.returns
+returns g c = λ events t size drawn.
     let in_it = c.self.inside in let draws = c.args.draws.now in
     let renderer : RendererView = record { script = arc_value in_it.script; fonts = (arc_value in_it.fonts).fonts; track = in_it.track; caches = in_it.caches } in
     let e = c.lend_images.ensures in
