@@ -20,7 +20,7 @@ use Rattle.play_model.specs.Images.{masks_needed}
 use Rattle.play_model.specs.Plays.{PlayView}
 use Rattle.play_workers.specs.Asks.{IsFrameAsked, IsImageAsked, IsImageOfDraws, masks_asked}
 use Rattle.play_workers.proofs.Asked.{keys_needed, pinned_asks, visits_added, visits_ask}
-use Rattle.play_workers.proofs.Later.{refused_later}
+use Rattle.play_workers.proofs.Later.{nothing_later}
 
 -- later passes have asked for no fewer
 pub asked_later : (renderer : RendererView) (pass after : RenderView) → AreLater pass.caches after.caches → masks_asked renderer pass ≤ masks_asked renderer after
@@ -53,7 +53,7 @@ pub soon_asked : {E : Type 0} (renderer : RendererView) (pass after : RenderView
     → IfOk answer (IsFrameAsked renderer pass after (history_of after.track.seen) t size)
 soon_asked renderer pass after t size (Ok frame) numbered h = ⊎_elim
     (λ tried. tried_frame renderer t size frame pass after numbered tried)
-    (λ then. rendered_frame renderer t size frame pass (record pass { caches = then.0 }) after (refused_later renderer pass.caches then.0 _ t size then.1 then.2) then.3)
+    (λ then. rendered_frame renderer t size frame pass (record pass { caches = then.between }) after (nothing_later renderer pass.caches then.between then.refused.nothing) then.rendered)
     h
 soon_asked renderer pass after t size (Err refused) numbered h = tt
 

@@ -1,14 +1,11 @@
 -- A pass after its part is a later one in each shard.
 use Rattle.std.proofs.Common.{◌≡◌, ℕ, ℤ, List, [], Result, Ok, Err, sym, subst, ⊎_elim}
-use Rattle.ass_events.specs.declared.event.Event.{Event}
 use Rattle.ass_num.specs.declared.size.Size.{Size}
 use Rattle.cache_kinds.specs.Kinds.{composite_meaning}
 use Rattle.cache_totals.specs.Balance.{AreLater}
 use Rattle.evict_core.specs.Machine.{Step}
 use Rattle.flight_cache.specs.Laws.{IsLater}
 use Rattle.flight_cache.specs.Shards.{CachePassView}
-use Rattle.flight_cache.specs.declared.pinning.PinRefusal.{PinRefusal}
-use Rattle.flight_cache.specs.declared.pinning.PinRefusal.TheVariants as refused
 use Rattle.flight_cache.proofs.Rows.{later_is_later}
 use Rattle.frame_paint.specs.declared.frames.Frame.{Frame}
 use Rattle.ass_num.specs.Masks.{MaskValue}
@@ -21,7 +18,7 @@ use Rattle.render_pass.specs.Leasing.{AddsVisits}
 use Rattle.render_pass.specs.Passes.{RenderView, RendererView}
 use Rattle.render_pass.specs.Rendering.{IsRendered}
 use Rattle.render_pass.specs.Soon.{IsRenderedThen, IsTriedThenRendered}
-use Rattle.render_pass.specs.Trying.{AddsNothing, AreImagesRefused, IsTriedFrame}
+use Rattle.render_pass.specs.Trying.{AddsNothing, IsTriedFrame}
 use Rattle.render_pass.specs.Warming.{IsColdAt, IsWarmed, Refused, Unplanned}
 use Rattle.turn_cell.proofs.Passes.{Follows_same}
 use Rattle.warm_ahead.specs.Warming.{AddsWarming, KeyVisit}
@@ -55,7 +52,7 @@ composites_later pass after masks outlines later = record {
   composites = later;
 }
 
-nothing_later : (renderer : RendererView) (pass after : CachesPass) → AddsNothing renderer pass after → AreLater pass after
+pub nothing_later : (renderer : RendererView) (pass after : CachesPass) → AddsNothing renderer pass after → AreLater pass after
 nothing_later renderer pass after h = composites_later pass after h.others.masks h.others.outlines
     record { first = ([], h.nothing.first); second = ([], h.nothing.second); third = ([], h.nothing.third); fourth = ([], h.nothing.fourth) }
 
@@ -71,12 +68,6 @@ tried_later : (renderer : RendererView) (pass after : RenderView) (t : ℤ) (siz
 tried_later renderer pass after t size frame h =
     composites_later pass.caches after.caches h.others.masks h.others.outlines (pinned_later equal_composites composite_meaning renderer.caches.composites pass.caches.composites after.caches.composites _ h.pinned.pins h.pinned.pinned)
 
-pub refused_later : (renderer : RendererView) (pass after : CachesPass) (events : List Event) (t : ℤ) (size : Size) (refusal : PinRefusal) → AreImagesRefused renderer pass after events t size refusal → AreLater pass after
-refused_later renderer pass after events t size (refused.TurnOut word) h = nothing_later renderer pass after h.nothing
-refused_later renderer pass after events t size (refused.NotReady place) h = nothing_later renderer pass after h.nothing
-refused_later renderer pass after events t size (refused.PinsFull place) h = nothing_later renderer pass after h.nothing
-refused_later renderer pass after events t size refused.OutOfMemory h = nothing_later renderer pass after h
-
 rendered_later : {E : Type 0} (renderer : RendererView) (pass after : RenderView) (t : ℤ) (size : Size) (answer : Result Frame E) → IsRendered renderer pass after t size answer → AreLater pass.caches after.caches
 rendered_later renderer pass after t size (Ok frame) h = visits_later renderer.caches pass.caches after.caches h.leased.visits [] h.leased.adds
 rendered_later renderer pass after t size (Err wanting) h = ⊎_elim
@@ -87,13 +78,13 @@ rendered_later renderer pass after t size (Err wanting) h = ⊎_elim
 -- behind a refusal
 then_later : {E : Type 0} (renderer : RendererView) (pass after : RenderView) (t : ℤ) (size : Size) (answer : Result Frame E) → IsRenderedThen renderer pass after t size answer → AreLater pass.caches after.caches
 then_later renderer pass after t size answer h =
-    caches_then pass.caches h.0 after.caches
-    (refused_later renderer pass.caches h.0 _ t size h.1 h.2)
-    (rendered_later renderer (record pass { caches = h.0 }) after t size answer h.3)
+    caches_then pass.caches h.between after.caches
+    (nothing_later renderer pass.caches h.between h.refused.nothing)
+    (rendered_later renderer (record pass { caches = h.between }) after t size answer h.rendered)
 
 pub soon_later : {E : Type 0} (renderer : RendererView) (pass after : RenderView) (t : ℤ) (size : Size) (answer : Result Frame E) → IsTriedThenRendered renderer pass after t size answer → AreLater pass.caches after.caches
 soon_later {E} renderer pass after t size (Ok frame) h = ⊎_elim (λ tried. tried_later renderer pass after t size frame tried) (λ then. then_later {E = E} renderer pass after t size (Ok frame) then) h
-soon_later {E} renderer pass after t size (Err wanting) h = then_later {E = E} renderer pass after t size (Err wanting) h
+soon_later {E} renderer pass after t size (Err wanting) h = ⊎_elim (λ none. nothing_later renderer pass.caches after.caches none.nothing) (λ then. then_later {E = E} renderer pass after t size (Err wanting) then) h
 
 pub released_later : (renderer : RendererView) (pass after : RenderView) (steps : List (Step CompositeKey MaskValue)) → Adds equal_composites composite_meaning renderer.caches.composites pass.caches.composites after.caches.composites steps
     → after.caches.masks ≡ pass.caches.masks → after.caches.outlines ≡ pass.caches.outlines → AreLater pass.caches after.caches

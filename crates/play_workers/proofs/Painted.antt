@@ -39,8 +39,8 @@ turn_follows_none pass after turn =
     subst (Follows pass after) (nothing_given gives.0 gives.1) gives.2
 
 pub soon_follows : {E : Type 0} (renderer : RendererView) (pass after : RenderView) (t : ℤ) (size : Size) (answer : Result Frame E) → IsTriedThenRendered renderer pass after t size answer → Follows pass.track after.track []
-soon_follows renderer pass after t size (Ok frame) h = ⊎_elim (λ tried. turn_follows_none pass.track after.track tried.turn) (λ then. turn_follows_none pass.track after.track then.3.turn) h
-soon_follows renderer pass after t size (Err refused) h = turn_follows_none pass.track after.track h.3.turn
+soon_follows renderer pass after t size (Ok frame) h = ⊎_elim (λ tried. turn_follows_none pass.track after.track tried.turn) (λ then. turn_follows_none pass.track after.track then.rendered.turn) h
+soon_follows renderer pass after t size (Err refused) h = ⊎_elim (λ none. turn_follows_none pass.track after.track none.turn) (λ then. turn_follows_none pass.track after.track then.rendered.turn) h
 
 pub warmed_follows : {E : Type 0} (renderer : RendererView) (pass after : RenderView) (instants : List ℤ) (size : Size) (answer : Result ℕ E) → IsWarmed renderer pass after instants size answer → Follows pass.track after.track []
 warmed_follows renderer pass after instants size (Ok count) h = h.2.track

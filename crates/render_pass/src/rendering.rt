@@ -1,5 +1,5 @@
 //! Frames by calls that may wait.
-ghost use Rattle.std.specs.Prelude.{ℤ, List, IfOk};
+ghost use Rattle.std.specs.Prelude.{◌≡◌, ℤ, List, IfOk};
 ghost use Rattle.ass_events.specs.Histories.{Entry, IsHistory, live};
 ghost use Rattle.ass_events.specs.declared.event.Event.{Event};
 ghost use Rattle.ass_num.specs.Limits.{IsFrameSize, IsWithin, max_instant};
@@ -26,6 +26,18 @@ use picture_plan::plan;
 use std::alloc::Global;
 use std::sync::Wait;
 use track_history::Scene;
+
+/// The frame of a scene in a size, with these images.
+pub(crate) fn frame_of(scene: &Scene, size: &Size, images: Items<Image>) -> Frame
+    ensures { result ≡ record { n = scene.now.n; t = scene.now.t; size = size.now; images = images } }
+{
+    Frame {
+        n: scene.n,
+        t: scene.t,
+        size: *size,
+        images,
+    }
+}
 
 impl Renderer {
     /// The draws of what a scene shows.
@@ -113,15 +125,7 @@ impl Renderer {
                 let (caches, images) = self.images_of(rt, alloc, caches, &scene, size, gate);
                 let pass = RenderPass { track, caches };
                 match images {
-                    Ok(images) => {
-                        let frame = Frame {
-                            n: scene.n,
-                            t,
-                            size: *size,
-                            images,
-                        };
-                        (pass, Ok(frame))
-                    }
+                    Ok(images) => (pass, Ok(frame_of(&scene, size, images))),
                     Err(refused) => (pass, Err(refused)),
                 }
             }

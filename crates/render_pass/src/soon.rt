@@ -11,6 +11,7 @@ ghost use Rattle.render_pass.specs.Soon.{AreImagesSoon, IsTriedThenRendered};
 
 use crate::passes::RenderPass;
 use crate::renderer::Renderer;
+use crate::rendering::frame_of;
 use crate::trying::Readied;
 use ass_io::Gate;
 use ass_num::{Items, Mem, OutOfMemory, Size};
@@ -80,15 +81,7 @@ impl Renderer {
                 let (caches, images) = self.images_soon(rt, alloc, caches, &scene, size, gate);
                 let pass = RenderPass { track, caches };
                 match images {
-                    Ok(images) => {
-                        let frame = Frame {
-                            n: scene.n,
-                            t,
-                            size: *size,
-                            images,
-                        };
-                        (pass, Ok(frame))
-                    }
+                    Ok(images) => (pass, Ok(frame_of(&scene, size, images))),
                     Err(refused) => (pass, Err(refused)),
                 }
             }

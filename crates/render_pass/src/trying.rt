@@ -18,6 +18,7 @@ ghost use Rattle.render_pass.specs.Trying.{AreImagesTried, IsTried, look_refusal
 use crate::passes::RenderPass;
 use crate::readied::{images_with, keys_of};
 use crate::renderer::Renderer;
+use crate::rendering::frame_of;
 use ass_num::{Items, Mem, OutOfMemory, Size};
 use flight_cache::PinRefusal;
 use frame_paint::{Frame, Image};
@@ -174,15 +175,7 @@ impl Renderer {
                 let (caches, images) = self.ready_images(alloc, caches, &scene, size);
                 let pass = RenderPass { track, caches };
                 match images {
-                    Ok(images) => {
-                        let frame = Frame {
-                            n: scene.n,
-                            t,
-                            size: *size,
-                            images,
-                        };
-                        (pass, Ok(frame))
-                    }
+                    Ok(images) => (pass, Ok(frame_of(&scene, size, images))),
                     Err(refusal) => (pass, Err(of_caches(refusal))),
                 }
             }

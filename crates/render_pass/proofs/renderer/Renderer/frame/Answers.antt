@@ -15,4 +15,4 @@ returns-in-Ok-images g c =
     let lent = rw c.in-Ok-images.is at c.images_of-caches.ensures history (scene-itself history c.args.t c.in-Ok.scene scene) in
     let f = framed renderer c.pass.inside.track later old new c.args.t size c.in-Ok.scene images of c.look-track.ensures.turn scene
     (subst (λ (t : ℤ). AreDrawsLent renderer old new (live history) t size images) scene.instant lent) in
-    rw (← c.pass.view_is, to_z-of_z c.ranges.t) (record { pass = f.of; history = f.history; rendered = f.rendered; holds = f.holds })
+    rw (← c.pass.view_is, c.frame_of.ensures, scene.instant) (record { pass = f.of; history = f.history; rendered = f.rendered; holds = f.holds })

@@ -20,7 +20,7 @@ returns-in-Ok-images c =
     let had = rw c.in-Ok-images.is at c.ready_images-caches.ensures history (scene-itself history c.args.t c.in-Ok.scene looked.1) in
     let f = frame-tried renderer c.pass.inside.track later old new c.args.t size of c.in-Ok.scene images looked.0 looked.1
     (subst (λ (t : ℤ). AreDrawsPinned renderer old new (live history) t size images) looked.1.instant had) in
-    rw (← c.pass.view_is, to_z-of_z c.ranges.t) (record { pass = f.pass; history = f.history; tried = f.tried; holds = f.holds })
+    rw (← c.pass.view_is, c.frame_of.ensures, looked.1.instant) (record { pass = f.pass; history = f.history; tried = f.tried; holds = f.holds })
 
 pub returns-in-Ok : goal.returns-in-Ok
 returns-in-Ok c =

@@ -20,7 +20,7 @@ returns-in-Ok-images g c =
     let had = rw c.in-Ok-images.is at c.images_soon-caches.ensures history (scene-itself history c.args.t c.in-Ok.scene scene) in
     let f = frame-soon renderer c.pass.inside.track later old new c.args.t size of c.in-Ok.scene images c.look-track.ensures.turn scene
     (subst (λ (t : ℤ). AreImagesSoon renderer old new (live history) t size {E = OutOfMemory} (Ok images)) scene.instant had) in
-    rw (← c.pass.view_is, to_z-of_z c.ranges.t) (record { pass = f.pass; history = f.history; rendered = f.rendered; holds = f.holds })
+    rw (← c.pass.view_is, c.frame_of.ensures, scene.instant) (record { pass = f.pass; history = f.history; rendered = f.rendered; holds = f.holds })
 
 pub returns-in-Ok : goal.returns-in-Ok
 returns-in-Ok g c =
