@@ -25,8 +25,8 @@ returns-in-Ok-clause-tried c = λ events t size drawn.
     (pinned-images renderer c.args.pass new events t size draws are e.pass e.masks e.outlines images leases c.images_with.ensures.leases pinned
     (subst (λ (f : List FontValue). map image_shown images ≡ map (image_of_draw f) draws) c.self.invariant.same_fonts shown))
 
-pub returns-clause-tried : goal.returns-clause-tried
-returns-clause-tried c = λ events t size drawn.
+pub returns-in-Err-clause-tried : goal.returns-in-Err-clause-tried
+returns-in-Err-clause-tried c = λ events t size drawn.
     let in_it = c.self.inside in let draws = c.args.draws.now in
     let new = c.try_composites-pass.result.0 in let refusal = c.in-Err.refusal in
     let renderer : RendererView = record { script = arc_value in_it.script; fonts = (arc_value in_it.fonts).fonts; track = in_it.track; caches = in_it.caches } in
