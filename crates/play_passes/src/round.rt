@@ -12,6 +12,7 @@ ghost use Rattle.play_workers.specs.declared.worker.Worker.{Worker};
 ghost use Rattle.play_passes.specs.Passes.{AreRendersJoined, AreRendersSplit, ExtendsItself, HasIdlePass, IsHome};
 ghost use Rattle.play_passes.specs.Rounds.{AreHandedOut, IsRound, roles_of};
 
+use crate::permits::Permits;
 use ass_io::Gate;
 use play_workers::{Stage, Worker};
 use render_pass::laws::frames_are_given_back;
@@ -20,7 +21,8 @@ use std::alloc::Global;
 use std::sync::Wait;
 use std::thread::{Threads, join_mut};
 
-/// All workers do their parts at once, each with a pass of its own. Then all passes are joined again.
+/// All workers do their parts, each with a pass of its own, as many of them at once as there are permits. Then all passes
+/// are joined again.
 pub fn play_round<R: Threads + Wait + Sync, G: Gate + Sync>(
     rt: &R,
     alloc: Global,
@@ -28,6 +30,7 @@ pub fn play_round<R: Threads + Wait + Sync, G: Gate + Sync>(
     round: usize,
     first: RenderPass,
     workers: &mut [Worker],
+    permits: &Permits,
     gate: &G,
 ) -> RenderPass
     requires stage { IsPlayStage stage.now }
@@ -44,7 +47,7 @@ pub fn play_round<R: Threads + Wait + Sync, G: Gate + Sync>(
     ensures round { IsRound stage.now round first workers.new result }
 {
     let first = hand_out(&stage.renderer, first, workers);
-    work_all(rt, alloc, stage, round, workers, gate);
+    work_all(rt, alloc, stage, round, permits, workers, gate);
     take_back(&stage.renderer, first, workers)
 }
 
@@ -83,13 +86,15 @@ fn split(renderer: &Renderer, first: RenderPass) -> (RenderPass, RenderPass)
     }
 }
 
-/// Each worker does its part in a thread of its own. The calling thread begins them all, one after another.
+/// Each worker does its part in a thread of its own, which the calling thread begins once there is a permit for it. The
+/// calling thread does the part of the last worker itself.
 #[cycle(parts)]
 fn work_all<R: Threads + Wait + Sync, G: Gate + Sync>(
     rt: &R,
     alloc: Global,
     stage: &Stage,
     round: usize,
+    permits: &Permits,
     workers: &mut [Worker],
     gate: &G,
 )
@@ -104,11 +109,33 @@ fn work_all<R: Threads + Wait + Sync, G: Gate + Sync>(
     let Some((worker, rest)) = workers.split_first_mut() else {
         unreachable!()
     };
+    permits.take(rt);
     if rest.is_empty() {
-        worker.work(rt, alloc, stage, round, gate);
+        work_permitted(rt, alloc, stage, round, permits, worker, gate);
         return;
     }
-    work_apart(rt, alloc, stage, round, gate, worker, rest);
+    work_apart(rt, alloc, stage, round, permits, gate, worker, rest);
+}
+
+/// A worker that has a permit does its part, and gives the permit back.
+fn work_permitted<R: Threads + Wait + Sync, G: Gate>(
+    rt: &R,
+    alloc: Global,
+    stage: &Stage,
+    round: usize,
+    permits: &Permits,
+    worker: &mut Worker,
+    gate: &G,
+)
+    requires stage { IsPlayStage stage.now }
+    requires small { round ≤ max_rounds }
+    requires pass { HasPass stage.now.renderer worker.old }
+    requires role { IsRoleOf stage.now.job worker.old.role }
+    ensures { HasWorked stage.now round worker.old worker.new }
+{
+    permits.begin(rt);
+    worker.work(rt, alloc, stage, round, gate);
+    permits.end(rt);
 }
 
 /// One worker works in a new thread, while this one begins the threads of the rest.
@@ -118,6 +145,7 @@ fn work_apart<R: Threads + Wait + Sync, G: Gate + Sync>(
     alloc: Global,
     stage: &Stage,
     round: usize,
+    permits: &Permits,
     gate: &G,
     worker: &mut Worker,
     rest: &mut [Worker],
@@ -136,11 +164,11 @@ fn work_apart<R: Threads + Wait + Sync, G: Gate + Sync>(
     let mut part = ||
         requires { IsPlayStage stage.now × (round ≤ max_rounds) × HasPass stage.now.renderer worker.now × IsRoleOf stage.now.job worker.now.role }
         ensures { HasWorked stage.entry.now round worker.entry.now worker.exit.now }
-    { worker.work(rt, alloc, stage, round, gate) };
+    { work_permitted(rt, alloc, stage, round, permits, worker, gate) };
     let mut others = ||
         requires { IsSync R.row × IsSync G.row × (0 < length rest.now) × IsPlayStage stage.now × (round ≤ max_rounds) × All (HasPass stage.now.renderer) rest.now × All (λ (w : Worker). IsRoleOf stage.now.job w.role) rest.now }
         ensures { (i : ℕ) (d : Worker) → i < length rest.entry.now → HasWorked stage.entry.now round (slice_index_or rest.entry.now i d) (slice_index_or rest.exit.now i d) }
-    { work_all(rt, alloc, stage, round, rest, gate) };
+    { work_all(rt, alloc, stage, round, permits, rest, gate) };
     join_mut(rt, &mut part, &mut others);
 }
 

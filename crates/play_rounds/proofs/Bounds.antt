@@ -8,6 +8,7 @@ use Rattle.std.proofs.lemmas.Nat.{mul-le}
 use Rattle.ass_script.specs.Limits.{max_lines}
 use Rattle.play_shares.specs.Instants.{instant_count}
 use Rattle.play_words.specs.declared.job.PlayJob.{PlayJob}
+use Rattle.play_shares.proofs.RoundPlaces.{few_painters, some_painters}
 use Rattle.play_model.proofs.JoinedPasses.{All_unmap}
 use Rattle.play_model.proofs.Shares.{flags_long}
 use Rattle.play_workers.specs.Limits.{max_rounds}
@@ -52,13 +53,13 @@ module _ (stage : Stage) (is_stage : IsPlayStage stage) where
     pub crew_at_most : length workers ≤ max_crew
     crew_at_most =
         let same = as_crew in
-        let few = crew_few stage.job shift in let f = is_stage.playable.job.feeders.1 in let r = is_stage.playable.job.renderers.1 in omega (arith, same, few, f, r)
+        let few = crew_few stage.job shift in let f = is_stage.playable.job.feeders.1 in let p = few_painters stage.job is_stage.playable.job in omega (arith, same, few, f, p)
 
     pub crew_at_least : 0 < length workers
     crew_at_least =
         let same = as_crew in
-        let f = is_stage.playable.job.feeders.0 in let r = is_stage.playable.job.renderers.0 in
-        let some = crew_some stage.job shift (omega (arith, f)) (omega (arith, r)) in omega (arith, same, some)
+        let f = is_stage.playable.job.feeders.0 in
+        let some = crew_some stage.job shift (omega (arith, f)) (some_painters stage.job is_stage.playable.job) in omega (arith, same, some)
 
     pub crew_is_fit : All (λ (w : Worker). IsRoleOf stage.job w.role) workers
     crew_is_fit = All_unmap (IsRoleOf stage.job) (λ (w : Worker). w.role) workers (subst (All (IsRoleOf stage.job)) (sym crew) (crew_fits stage.job shift))

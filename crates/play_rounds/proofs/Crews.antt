@@ -7,6 +7,7 @@ use Rattle.std.proofs.lemmas.List.{get_or-append_right, get_or_append_left}
 use Rattle.std.proofs.lemmas.List.Elements.{All-append, All-cons, All-get_or, All-nil}
 use Rattle.std.proofs.lemmas.List.FromFn.{get_or-map-range_with_len, length-map-range_with_len, map-range_with_len_more}
 use Rattle.play_words.specs.declared.job.PlayJob.{PlayJob}
+use Rattle.play_shares.specs.Renderers.{painter_count}
 use Rattle.play_workers.specs.Roles.{IsRoleOf}
 use Rattle.play_workers.specs.declared.worker.Role.{Role}
 use Rattle.play_workers.specs.declared.worker.Role.TheVariants.{Feeder, Painter, Warmer}
@@ -64,7 +65,7 @@ painters_after : (p n : ℕ) (roles : List Role) → painter_after p (map Painte
 painters_after p zero roles = let same : p ≡ p + zero = omega arith in ap (λ (k : ℕ). painter_after k roles) same
 painters_after p (suc n) roles = let same : (p + 1) + n ≡ p + suc n = omega arith in painters_after (p + 1) n roles ∙ ap (λ (k : ℕ). painter_after k roles) same
 
-painters_fit : (job : PlayJob) (a n : ℕ) → a + n ≤ job.renderers → All (IsRoleOf job) (map Painter (range_with_len a n))
+painters_fit : (job : PlayJob) (a n : ℕ) → a + n ≤ painter_count job → All (IsRoleOf job) (map Painter (range_with_len a n))
 painters_fit job a zero le = All-nil (IsRoleOf job)
 painters_fit job a (suc n) le = All-cons (IsRoleOf job) (Painter a) (map Painter (range_with_len (a + 1) n)) (omega (arith, le)) (painters_fit job (a + 1) n (omega (arith, le)))
 
@@ -96,17 +97,20 @@ warmers_few true = omega arith
 warmers_few false = omega arith
 
 module _ (job : PlayJob) where
+  abbrev painters : ℕ
+  painters = painter_count job
+
   abbrev warms : Bool
   warms = nat_lt 0 job.ahead
 
   all_painters : ArePaintersFrom 0 (painters_of job)
-  all_painters = painters_from 0 job.renderers (warmers warms) (warmers_from (0 + job.renderers) warms)
+  all_painters = painters_from 0 painters (warmers warms) (warmers_from (0 + painters) warms)
 
-  last_painter : painter_after 0 (painters_of job) ≡ job.renderers
-  last_painter = painters_after 0 job.renderers (warmers warms) ∙ (warmers_after (0 + job.renderers) warms ∙ omega arith)
+  last_painter : painter_after 0 (painters_of job) ≡ painters
+  last_painter = painters_after 0 painters (warmers warms) ∙ (warmers_after (0 + painters) warms ∙ omega arith)
 
   pub painters_are_fit : All (IsRoleOf job) (painters_of job)
-  painters_are_fit = All-append (IsRoleOf job) (map Painter (range_with_len 0 job.renderers)) (warmers warms) (painters_fit job 0 job.renderers (omega arith)) (warmers_fit job warms)
+  painters_are_fit = All-append (IsRoleOf job) (map Painter (range_with_len 0 painters)) (warmers warms) (painters_fit job 0 painters (omega arith)) (warmers_fit job warms)
 
   pub feeders_are_fit : All (IsRoleOf job) (feeders_of job)
   feeders_are_fit = feeders_fit job 0 job.feeders (omega arith)
@@ -114,14 +118,14 @@ module _ (job : PlayJob) where
   pub long_feeders : length (feeders_of job) ≡ job.feeders
   long_feeders = length-map-range_with_len Feeder 0 job.feeders
 
-  pub long_painters : (job.renderers ≤ length (painters_of job)) × (length (painters_of job) ≤ job.renderers + 1)
+  pub long_painters : (painters ≤ length (painters_of job)) × (length (painters_of job) ≤ painters + 1)
   long_painters =
-      let all = length-append (map Painter (range_with_len 0 job.renderers)) (warmers warms) in
-      let some = length-map-range_with_len Painter 0 job.renderers in
+      let all = length-append (map Painter (range_with_len 0 painters)) (warmers warms) in
+      let some = length-map-range_with_len Painter 0 painters in
       let few = warmers_few warms in (omega (arith, all, some), omega (arith, all, some, few))
 
   none_fed : All FeedsNothing (painters_of job)
-  none_fed = All-append FeedsNothing (map Painter (range_with_len 0 job.renderers)) (warmers warms) (painters_feed_nothing 0 job.renderers) (warmers_feed_nothing warms)
+  none_fed = All-append FeedsNothing (map Painter (range_with_len 0 painters)) (warmers warms) (painters_feed_nothing 0 painters) (warmers_feed_nothing warms)
 
   feeder_at : (i : ℕ) (d : Role) → i < job.feeders → slice_index_or (feeders_of job) i d ≡ Feeder i
   feeder_at i d lt = get_or-map-range_with_len Feeder 0 job.feeders i i d lt (omega arith)
@@ -161,18 +165,18 @@ module _ (job : PlayJob) where
   crew_paints Feed = subst (ArePaintersFrom 0) (append-nil (feeders_of job)) (feeders_from 0 0 job.feeders [] tt)
   crew_paints Paint = all_painters
 
-  pub both_paint : painter_after 0 (crew_of job Both) ≡ job.renderers
+  pub both_paint : painter_after 0 (crew_of job Both) ≡ painters
   both_paint = feeders_after 0 0 job.feeders (painters_of job) ∙ last_painter
 
-  pub paint_paints : painter_after 0 (crew_of job Paint) ≡ job.renderers
+  pub paint_paints : painter_after 0 (crew_of job Paint) ≡ painters
   paint_paints = last_painter
 
-  pub crew_few : (shift : Shift) → length (crew_of job shift) ≤ job.feeders + (job.renderers + 1)
+  pub crew_few : (shift : Shift) → length (crew_of job shift) ≤ job.feeders + (painters + 1)
   crew_few Both = let all = length-append (feeders_of job) (painters_of job) in let some = long_feeders in let few = long_painters.1 in omega (arith, all, some, few)
   crew_few Feed = let some = long_feeders in omega (arith, some)
   crew_few Paint = let few = long_painters.1 in omega (arith, few)
 
-  pub crew_some : (shift : Shift) → 0 < job.feeders → 0 < job.renderers → 0 < length (crew_of job shift)
+  pub crew_some : (shift : Shift) → 0 < job.feeders → 0 < painters → 0 < length (crew_of job shift)
   crew_some Both f r = let all = length-append (feeders_of job) (painters_of job) in let some = long_feeders in omega (arith, all, some, f)
   crew_some Feed f r = let some = long_feeders in omega (arith, some, f)
   crew_some Paint f r = let most = long_painters.0 in omega (arith, most, r)

@@ -9,8 +9,8 @@ use Rattle.ass_events.specs.Histories.{Entry}
 use Rattle.render_pass.specs.Passes.{RenderView}
 use Rattle.track_history.specs.Calls.{history_of}
 use Rattle.play_shares.specs.Instants.{instant_count, play_instant}
-use Rattle.play_shares.specs.Renderers.{first_place, images_in, share_begins, share_ends}
-use Rattle.play_shares.proofs.RoundPlaces.{first_begins, live_place, round_ends, within_share}
+use Rattle.play_shares.specs.Renderers.{first_place, images_in, painter_count, share_begins, share_ends}
+use Rattle.play_shares.proofs.RoundPlaces.{first_begins, live_place, round_ends, some_painters, within_share}
 use Rattle.turn_cell.specs.History.{IsPrefix}
 use Rattle.turn_cell.proofs.Histories.{IsPrefix_trans}
 use Rattle.play_words.specs.declared.job.Mode.{Mode}
@@ -105,7 +105,7 @@ module _ (stage : Stage) (round : ℕ) (first : RenderView) (workers : List Work
   each = images_in stage.job round
 
   -- what a painter leaves
-  painted_next : (i : ℕ) → i < length workers → (p : ℕ) (images : List (Vec ℕ)) → p < stage.job.renderers → (shift ≡ Feed → ⊥)
+  painted_next : (i : ℕ) → i < length workers → (p : ℕ) (images : List (Vec ℕ)) → p < painter_count stage.job → (shift ≡ Feed → ⊥)
       → ArePainted stage round p (r.one.begun i) (r.one.passes i) images → AreNext play whole q each (asks_by i) (base + p * each) (painted_bytes images)
   painted_next i lt p images inside unlike painted =
       let many = painted.many in let asked = painted.asked in (
@@ -142,7 +142,7 @@ module _ (stage : Stage) (round : ℕ) (first : RenderView) (workers : List Work
   all_left : (shift ≡ Feed → ⊥) → (i : ℕ) → i < length workers → WorkerHasShown play whole q base each (asks_by i) (slice_index_or workers i nobody)
   all_left unlike i lt = left i lt (slice_index_or workers i nobody).role (given_at stage round first workers after shift old fresh r i) (slice_index_or workers i nobody).outcome unlike (role_fits i lt) (r.fine i nobody lt) (came stage round first workers after shift old fresh r i lt)
 
-  images_on : (images : List ShownImage) → (shift ≡ Feed → ⊥) → painter_after 0 (crew_of stage.job shift) ≡ stage.job.renderers
+  images_on : (images : List ShownImage) → (shift ≡ Feed → ⊥) → painter_after 0 (crew_of stage.job shift) ≡ painter_count stage.job
       → AreFirstImages play (history_of first.track.seen) q (min base (instant_count stage.job)) images
       → AreMoreFirst play whole q (min (first_place stage.job (round + 1)) (instant_count stage.job)) (sum_below (length workers) asks_by) (flat_map (λ (w : Worker). images_by w.outcome) workers) images
   images_on images unlike paints are =
@@ -153,7 +153,7 @@ module _ (stage : Stage) (round : ℕ) (first : RenderView) (workers : List Work
       (subst (λ (h : List Entry). AreFirstImages play h q (min base (instant_count stage.job)) images) r.is are)) in
       let begun = images_renamed play whole q (min base (instant_count stage.job)) (min (base + 0 * each) (instant_count stage.job)) images
       (ap (λ (n : ℕ). min n (instant_count stage.job)) (first_begins base each)) later in
-      let some : 0 < stage.job.renderers = (let least = r.is_stage.playable.job.renderers.0 in omega (arith, least)) in
+      let some = some_painters stage.job r.is_stage.playable.job in
       let all = all_shown play whole q base each asks_by workers 0 images (subst (ArePaintersFrom 0) (sym r.crew) (crew_paints stage.job shift)) (all_left unlike) begun in (
         all.0,
         all.1,

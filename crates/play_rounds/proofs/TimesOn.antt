@@ -3,10 +3,10 @@ use Rattle.std.proofs.Common.{◌≡◌, ℕ, ◌+◌, ◌-◌, ◌*◌, ◌<◌
 use Rattle.std.specs.Arc.{arc_value}
 use Rattle.ass_events.specs.Histories.{Entry, live}
 use Rattle.play_shares.specs.Instants.{instant_count}
-use Rattle.play_shares.specs.Renderers.{first_place, images_each}
+use Rattle.play_shares.specs.Renderers.{first_place, images_each, painter_count}
 use Rattle.play_shares.specs.Rounds.{image_rounds}
 use Rattle.play_shares.proofs.InstantLemmas.{ceil_enough}
-use Rattle.play_shares.proofs.RoundPlaces.{all_reached, none_before, some_images}
+use Rattle.play_shares.proofs.RoundPlaces.{all_reached, none_before, some_images, some_painters}
 use Rattle.play_words.specs.declared.job.Mode.{Mode}
 use Rattle.play_words.specs.declared.job.Mode.TheVariants.{Live, Settled}
 use Rattle.std.proofs.lemmas.Nat.{mul-le}
@@ -72,13 +72,10 @@ module _ (play : PlayView) where
   -- ---- how a time ends
 
   module _ (playable : IsPlayable play) where
-    some_renderer : 0 < play.job.renderers
-    some_renderer = let least = playable.job.renderers.0 in omega (arith, least)
-
     all_made : (rounds : ℕ) → image_rounds play.job ≤ rounds → min (first_place play.job rounds) (instant_count play.job) ≡ instant_count play.job
     all_made rounds late =
-        let all : ℕ = play.job.renderers * images_each play.job in
-        let enough = ceil_enough (instant_count play.job) all (some_images play.job some_renderer) in
+        let all : ℕ = painter_count play.job * images_each play.job in
+        let enough = ceil_enough (instant_count play.job) all (some_images play.job (some_painters play.job playable.job)) in
         let more : image_rounds play.job * all ≤ rounds * all = mul-le (image_rounds play.job) all rounds all late (le_refl all) in
         all_reached (first_place play.job rounds) (image_rounds play.job * all) (instant_count play.job) enough more
 

@@ -1,6 +1,7 @@
 -- Inner: the workers of a shift, and how many rounds it has.
 use Rattle.std.specs.Prelude.{ℕ, max, nat_lt, if◌then◌else◌, List, [], ◌∷◌, ◌++◌, map}
 use Rattle.std.specs.List.{range_with_len}
+use Rattle.play_shares.specs.Renderers.{painter_count}
 use Rattle.play_shares.specs.Rounds.{feeding_rounds, image_rounds}
 use Rattle.play_words.specs.declared.job.Mode.{Mode}
 use Rattle.play_words.specs.declared.job.Mode.TheVariants.{Live, Settled}
@@ -28,9 +29,15 @@ feeders_of job = map Feeder (range_with_len 0 job.feeders)
 
 -- those that paint, and one that warms ahead where that is asked for
 abbrev pub painters_of : PlayJob → List Role
-painters_of job = map Painter (range_with_len 0 job.renderers) ++ (if nat_lt 0 job.ahead then Warmer ∷ [] else [])
+painters_of job = map Painter (range_with_len 0 (painter_count job)) ++ (if nat_lt 0 job.ahead then Warmer ∷ [] else [])
 
 abbrev pub crew_of : PlayJob → Shift → List Role
 crew_of job Both = feeders_of job ++ painters_of job
 crew_of job Feed = feeders_of job
 crew_of job Paint = painters_of job
+
+-- how many of a crew of so many work at once: of painters alone as many as there are renderers, else all
+abbrev pub at_once : PlayJob → Shift → ℕ → ℕ
+at_once job Both crew = crew
+at_once job Feed crew = crew
+at_once job Paint crew = if nat_lt 0 job.ahead then crew else job.renderers

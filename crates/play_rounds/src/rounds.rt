@@ -17,10 +17,10 @@ ghost use Rattle.play_rounds.specs.Shifts.{crew_of, rounds_of};
 
 use crate::ends::Stop;
 use crate::gather::{are_fine, count_repeated, put_images};
-use crate::shift::{Shift, crew_of, rounds_of};
+use crate::shift::{Shift, at_once, crew_of, rounds_of};
 use ass_io::{Gate, Put, Sink};
 use ass_num::OutOfMemory;
-use play_passes::play_round;
+use play_passes::{Permits, play_round};
 use play_workers::{Stage, Worker, dismiss};
 use render_pass::RenderPass;
 use std::alloc::Global;
@@ -35,6 +35,7 @@ fn one_round<R: Threads + Wait + Sync, F: Sink, G: Gate + Sync>(
     round: usize,
     first: RenderPass,
     workers: &mut [Worker],
+    permits: &Permits,
     frames: &mut F,
     gate: &G,
 ) -> (RenderPass, Result<usize, Stop>)
@@ -56,7 +57,7 @@ fn one_round<R: Threads + Wait + Sync, F: Sink, G: Gate + Sync>(
     ensures stopped { IfErr result.1 (λ stop. StopsIn (play_on stage.now) (roles_of workers.old) round (history_of first.track.seen)
         (λ most bytes. IsCutOff stop most bytes (F.held frames.old) (F.held frames.new) (F.faults frames.old) (F.faults frames.new) (F.puts frames.old) (F.puts frames.new))) }
 {
-    let first = play_round(rt, alloc, stage, round, first, workers, gate);
+    let first = play_round(rt, alloc, stage, round, first, workers, permits, gate);
     if !are_fine(workers) {
         return (first, Err(Stop::OutOfMemory));
     }
@@ -75,6 +76,7 @@ fn all_rounds<R: Threads + Wait + Sync, F: Sink, G: Gate + Sync>(
     rounds: usize,
     first: RenderPass,
     workers: &mut [Worker],
+    permits: &Permits,
     frames: &mut F,
     gate: &G,
 ) -> (RenderPass, Result<u64, Stop>)
@@ -98,7 +100,9 @@ fn all_rounds<R: Threads + Wait + Sync, F: Sink, G: Gate + Sync>(
     let mut first = first;
     let mut repeated = 0;
     for round in 0..rounds {
-        let (next, more) = one_round(rt, alloc, stage, round, first, workers, frames, gate);
+        let (next, more) = one_round(
+            rt, alloc, stage, round, first, workers, permits, frames, gate,
+        );
         first = next;
         match more {
             Ok(more) => repeated += more as u64,
@@ -134,9 +138,12 @@ pub fn play_shift<R: Threads + Wait + Sync, F: Sink, G: Gate + Sync>(
         Ok(workers) => workers,
         Err(OutOfMemory) => return (first, Err(Stop::OutOfMemory)),
     };
+    let permits = Permits::new(at_once(stage, shift, workers.len()));
     let rounds = rounds_of(stage, shift);
     let crew = workers.as_mut_slice();
-    let played = all_rounds(rt, alloc, stage, rounds, first, crew, frames, gate);
+    let played = all_rounds(
+        rt, alloc, stage, rounds, first, crew, &permits, frames, gate,
+    );
     dismiss(workers);
     played
 }

@@ -1,14 +1,14 @@
 //! Which workers there are, and for how many rounds.
 
-ghost use Rattle.std.specs.Prelude.{◌≡◌, ◌≤◌, ◌++◌, length, All, IfOk};
+ghost use Rattle.std.specs.Prelude.{◌≡◌, ◌<◌, ◌≤◌, ◌++◌, length, All, IfOk};
 ghost use Rattle.play_passes.specs.Rounds.{roles_of};
 ghost use Rattle.play_workers.specs.Limits.{max_rounds};
 ghost use Rattle.play_workers.specs.Parts.{HasNoPass};
 ghost use Rattle.play_workers.specs.Stages.{IsPlayStage};
-ghost use Rattle.play_rounds.specs.Shifts.{crew_of, feeders_of, painters_of, rounds_of};
+ghost use Rattle.play_rounds.specs.Shifts.{at_once, crew_of, feeders_of, painters_of, rounds_of};
 
 use ass_num::Mem;
-use play_shares::{feeding_rounds, image_rounds};
+use play_shares::{feeding_rounds, image_rounds, painter_count};
 use play_workers::{Role, Stage, Worker, hire};
 use std::alloc::Global;
 
@@ -58,7 +58,7 @@ fn hire_painters(stage: &Stage, workers: Vec<Worker>) -> Mem<Vec<Worker>>
     ensures roles { IfOk result (λ all. roles_of all.items ≡ roles_of workers.items ++ painters_of stage.now.job) }
 {
     let mut workers = workers;
-    for painter in 0..stage.job.renderers as usize {
+    for painter in 0..painter_count(&stage.job) as usize {
         workers = hire(workers, Role::Painter(painter))?;
     }
     if stage.job.ahead > 0 {
@@ -81,5 +81,23 @@ pub fn crew_of(alloc: Global, stage: &Stage, shift: Shift) -> Mem<Vec<Worker>>
         }
         Shift::Feed => hire_feeders(stage, nobody),
         Shift::Paint => hire_painters(stage, nobody),
+    }
+}
+
+/// How many of a crew of so many work at once: of painters alone as many as there are renderers, else all.
+pub fn at_once(stage: &Stage, shift: Shift, crew: usize) -> usize
+    requires stage { IsPlayStage stage.now }
+    requires some { 0 < crew }
+    ensures many { result ≡ at_once stage.now.job shift crew }
+    ensures some { 0 < result }
+{
+    match shift {
+        Shift::Both | Shift::Feed => crew,
+        Shift::Paint => {
+            if stage.job.ahead > 0 {
+                return crew;
+            }
+            stage.job.renderers as usize
+        }
     }
 }

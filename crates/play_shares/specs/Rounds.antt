@@ -3,7 +3,7 @@ use Rattle.std.specs.Prelude.{ℕ, ◌*◌}
 use Rattle.std.specs.Int.{div_ceil}
 use Rattle.play_words.specs.declared.job.PlayJob.{PlayJob}
 use Rattle.play_shares.specs.Instants.{instant_count}
-use Rattle.play_shares.specs.Renderers.{images_each}
+use Rattle.play_shares.specs.Renderers.{images_each, painter_count}
 
 -- until all of so many lines are offered
 abbrev pub feeding_rounds : PlayJob → ℕ → ℕ
@@ -11,4 +11,4 @@ feeding_rounds play count = div_ceil count (play.feeders * play.batch)
 
 -- until all images are made
 abbrev pub image_rounds : PlayJob → ℕ
-image_rounds play = div_ceil (instant_count play) (play.renderers * images_each play)
+image_rounds play = div_ceil (instant_count play) (painter_count play * images_each play)

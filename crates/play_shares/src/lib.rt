@@ -12,5 +12,5 @@ mod tests;
 pub use batches::offers;
 pub use instants::{ahead_instants, instant_at, instant_count};
 pub use laws::all_lines_are_offered;
-pub use renderers::{share_begins, share_ends};
+pub use renderers::{painter_count, share_begins, share_ends};
 pub use rounds::{feeding_rounds, has_too_many_frames, image_rounds};

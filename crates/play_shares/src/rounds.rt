@@ -6,11 +6,11 @@ ghost use Rattle.play_words.specs.Jobs.{IsPlay};
 ghost use Rattle.play_shares.specs.Batches.{feeder_lines};
 ghost use Rattle.play_shares.specs.Instants.{frame_count, instant_count};
 ghost use Rattle.play_shares.specs.Limits.{max_frames};
-ghost use Rattle.play_shares.specs.Renderers.{images_each};
+ghost use Rattle.play_shares.specs.Renderers.{images_each, painter_count};
 ghost use Rattle.play_shares.specs.Rounds.{feeding_rounds, image_rounds};
 
 use crate::instants::instant_count;
-use crate::renderers::images_each;
+use crate::renderers::{images_each, painter_count};
 use play_words::PlayJob;
 
 /// The most images of a play.
@@ -37,10 +37,10 @@ pub fn image_rounds(play: &PlayJob) -> u64
     requires { IsPlay play.now }
     ensures rounds { result ≡ image_rounds play.now }
     ensures few { result ≤ instant_count play.now }
-    ensures enough { instant_count play.now ≤ result * (play.now.renderers * images_each play.now) }
+    ensures enough { instant_count play.now ≤ result * (painter_count play.now * images_each play.now) }
 {
     let count = instant_count(play);
-    let images = u64::from(play.renderers) * images_each(play);
+    let images = painter_count(play) * images_each(play);
     count.div_ceil(images)
 }
 

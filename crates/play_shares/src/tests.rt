@@ -6,7 +6,7 @@ ghost use Rattle.play_words.specs.Limits.{max_ahead};
 
 use crate::{
     ahead_instants, feeding_rounds, has_too_many_frames, image_rounds, instant_at, instant_count,
-    offers, share_begins, share_ends,
+    offers, painter_count, share_begins, share_ends,
 };
 use ass_num::Size;
 use play_words::{Mode, PlayJob};
@@ -77,17 +77,20 @@ fn instants_of_rounds(rt: HostRuntime) -> Result<(), Fail> {
 }
 
 #[test]
-fn instants_of_renderers(rt: HostRuntime) -> Result<(), Fail> {
+fn instants_of_painters(rt: HostRuntime) -> Result<(), Fail> {
     let live = play(Mode::Live, 0);
+    assert_eq!(rt; painter_count(&live), 3);
     assert_eq!(rt; share_begins(&live, 0, 1), 1);
     assert_eq!(rt; share_ends(&live, 0, 1), 2);
     assert_eq!(rt; share_ends(&live, 1, 1), 4);
     let settled = play(Mode::Settled, 0);
+    assert_eq!(rt; painter_count(&settled), 3);
     assert_eq!(rt; share_begins(&settled, 0, 1), 2);
     assert_eq!(rt; share_ends(&settled, 0, 1), 4);
     assert_eq!(rt; share_ends(&settled, 0, 2), 4);
     assert_eq!(rt; image_rounds(&settled), 1);
     let warmed = play(Mode::Settled, 1);
+    assert_eq!(rt; painter_count(&warmed), 3);
     assert_eq!(rt; share_ends(&warmed, 0, 1), 2);
     assert_eq!(rt; image_rounds(&warmed), 2);
     Ok(())

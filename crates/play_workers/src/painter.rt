@@ -11,6 +11,7 @@ ghost use Rattle.render_pass.specs.Passes.{IsPassOfRenderer};
 ghost use Rattle.track_history.specs.Calls.{history_of};
 ghost use Rattle.turn_cell.specs.Passes.{Follows};
 ghost use Rattle.play_shares.specs.Instants.{instant_count, play_instant};
+ghost use Rattle.play_shares.specs.Renderers.{painter_count};
 ghost use Rattle.play_workers.specs.Asks.{IsFrameAsked, IsImageAsked, IsImageOfDraws};
 ghost use Rattle.play_workers.specs.Limits.{max_rounds};
 ghost use Rattle.play_workers.specs.Parts.{ArePainted};
@@ -20,7 +21,7 @@ use crate::stage::Stage;
 use ass_io::{Gate, Place};
 use ass_num::{Items, Mem};
 use play_shares::{instant_at, share_begins, share_ends};
-use ppm_text::ppm_bytes;
+use ppm_text::ppm_bytes_in;
 use render_pass::{Frame, RenderPass, paint_bands};
 use std::alloc::Global;
 use std::sync::Wait;
@@ -51,23 +52,37 @@ fn frame_at<R: Wait, G: Gate>(
         .try_then_frame(rt, alloc, pass, t, size, gate)
 }
 
-/// The image of a frame.
-fn image_of<R: Threads + Sync>(rt: &R, alloc: Global, stage: &Stage, frame: &Frame) -> Mem<Vec<u8>>
+/// The image of a frame, in the memory of a buffer.
+fn image_of<R: Threads + Sync>(
+    rt: &R,
+    alloc: Global,
+    stage: &Stage,
+    frame: &Frame,
+    buffer: Vec<u8>,
+) -> Mem<Vec<u8>>
     requires stage { IsPlayStage stage.now }
     requires size { frame.now.size ≡ stage.now.job.size }
     ensures { (history : List Entry) (t : ℤ) → (is : IsFrameOf stage.now.renderer.script stage.now.renderer.fonts history t stage.now.job.size frame.now)
         → IfOk result (λ image. IsImageOfDraws (play_on stage.now) history t is.draws image.items) }
 {
     let canvas = paint_bands(rt, alloc, frame, stage.job.bands)?;
-    ppm_bytes(alloc, &frame.size, canvas.pixels(), frame.t, frame.n)
+    ppm_bytes_in(
+        alloc,
+        buffer,
+        &frame.size,
+        canvas.pixels(),
+        frame.t,
+        frame.n,
+    )
 }
 
-/// The image of an instant.
+/// The image of an instant, in the memory of a buffer.
 fn paint_instant<R: Threads + Wait + Sync, G: Gate>(
     rt: &R,
     alloc: Global,
     stage: &Stage,
     t: i64,
+    buffer: Vec<u8>,
     pass: RenderPass,
     gate: &G,
 ) -> (RenderPass, Mem<Vec<u8>>)
@@ -83,7 +98,7 @@ fn paint_instant<R: Threads + Wait + Sync, G: Gate>(
     let (pass, frame) = frame_at(rt, alloc, stage, t, pass, gate);
     match frame {
         Ok(frame) => {
-            let image = image_of(rt, alloc, stage, &frame);
+            let image = image_of(rt, alloc, stage, &frame, buffer);
             let pass = stage.renderer.release(rt, pass, frame);
             gate.at(Place::AfterFrame(t));
             (pass, image)
@@ -92,12 +107,13 @@ fn paint_instant<R: Threads + Wait + Sync, G: Gate>(
     }
 }
 
-/// The image of the instant at a place.
+/// The image of the instant at a place, in the memory of a buffer.
 fn image_at<R: Threads + Wait + Sync, G: Gate>(
     rt: &R,
     alloc: Global,
     stage: &Stage,
     place: u64,
+    buffer: Vec<u8>,
     pass: RenderPass,
     gate: &G,
 ) -> (RenderPass, Mem<Vec<u8>>)
@@ -114,7 +130,7 @@ fn image_at<R: Threads + Wait + Sync, G: Gate>(
         Some(t) => t,
         None => unreachable!(),
     };
-    paint_instant(rt, alloc, stage, t, pass, gate)
+    paint_instant(rt, alloc, stage, t, buffer, pass, gate)
 }
 
 /// Adds an image, where it was made.
@@ -125,19 +141,28 @@ fn add_image(images: &mut Items<Vec<u8>>, image: Mem<Vec<u8>>) -> Mem<()>
     images.push(image?)
 }
 
-/// The images of a renderer's instants of a round, one after another.
+/// The buffer of a written image, or a new one where there is none.
+fn next_buffer(alloc: Global, written: &mut Vec<Vec<u8>>) -> Vec<u8> {
+    match written.pop() {
+        Some(buffer) => buffer,
+        None => Vec::new(alloc),
+    }
+}
+
+/// The images of a painter's instants of a round, one after another, in the memory of images that are written, as far as there are some.
 pub fn paint_part<R: Threads + Wait + Sync, G: Gate>(
     rt: &R,
     alloc: Global,
     stage: &Stage,
     round: usize,
     painter: usize,
+    written: Vec<Vec<u8>>,
     pass: RenderPass,
     gate: &G,
 ) -> (RenderPass, Mem<Items<Vec<u8>>>)
     requires stage { IsPlayStage stage.now }
     requires small { round ≤ max_rounds }
-    requires painter { painter < stage.now.job.renderers }
+    requires painter { painter < painter_count stage.now.job }
     requires pass { IsPassOfRenderer stage.now.renderer pass }
     ensures pass { IsPassOfRenderer stage.now.renderer result.0 }
     ensures track { Follows pass.track result.0.track [] }
@@ -148,9 +173,11 @@ pub fn paint_part<R: Threads + Wait + Sync, G: Gate>(
     let first = share_begins(&stage.job, round as u64, painter as u64);
     let end = share_ends(&stage.job, round as u64, painter as u64);
     let mut images = Items::new(alloc);
+    let mut written = written;
     let mut pass = pass;
     for place in first..end {
-        let (next, image) = image_at(rt, alloc, stage, place, pass, gate);
+        let buffer = next_buffer(alloc, &mut written);
+        let (next, image) = image_at(rt, alloc, stage, place, buffer, pass, gate);
         pass = next;
         let added = add_image(&mut images, image);
         if let Err(refused) = added {

@@ -1,6 +1,7 @@
 //! The part of one worker in a round.
 
 ghost use Rattle.std.specs.Prelude.{◌<◌, ◌≤◌};
+ghost use Rattle.play_shares.specs.Renderers.{painter_count};
 ghost use Rattle.play_workers.specs.Limits.{max_rounds};
 ghost use Rattle.play_workers.specs.Parts.{IsDone};
 ghost use Rattle.play_workers.specs.Roles.{IsRoleOf};
@@ -48,16 +49,17 @@ fn painter_part<R: Threads + Wait + Sync, G: Gate>(
     stage: &Stage,
     round: usize,
     painter: usize,
+    written: Vec<Vec<u8>>,
     pass: RenderPass,
     gate: &G,
 ) -> (RenderPass, Outcome)
     requires stage { IsPlayStage stage.now }
     requires small { round ≤ max_rounds }
-    requires painter { painter < stage.now.job.renderers }
+    requires painter { painter < painter_count stage.now.job }
     requires pass { IsPassOfRenderer stage.now.renderer pass }
     ensures { IsDone stage.now round (Role.Painter painter) pass result.0 result.1 }
 {
-    let (pass, images) = paint_part(rt, alloc, stage, round, painter, pass, gate);
+    let (pass, images) = paint_part(rt, alloc, stage, round, painter, written, pass, gate);
     match images {
         Ok(images) => (pass, Outcome::Shown(images)),
         Err(_) => (pass, Outcome::OutOfMemory),
@@ -85,13 +87,14 @@ fn warmer_part<R: Wait, G: Gate>(
     }
 }
 
-/// Does the part of a worker of this role in a round.
+/// Does the part of a worker of this role in a round. The memory of images that are written serves those of this one.
 pub fn do_part<R: Threads + Wait + Sync, G: Gate>(
     rt: &R,
     alloc: Global,
     stage: &Stage,
     round: usize,
     role: Role,
+    written: Vec<Vec<u8>>,
     pass: RenderPass,
     gate: &G,
 ) -> (RenderPass, Outcome)
@@ -103,7 +106,9 @@ pub fn do_part<R: Threads + Wait + Sync, G: Gate>(
 {
     match role {
         Role::Feeder(feeder) => feeder_part(rt, alloc, stage, round, feeder, pass, gate),
-        Role::Painter(painter) => painter_part(rt, alloc, stage, round, painter, pass, gate),
+        Role::Painter(painter) => {
+            painter_part(rt, alloc, stage, round, painter, written, pass, gate)
+        }
         Role::Warmer => warmer_part(rt, alloc, stage, round, pass, gate),
     }
 }

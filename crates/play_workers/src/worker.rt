@@ -13,6 +13,7 @@ use ass_io::Gate;
 use ass_num::{Items, Mem, OutOfMemory};
 use render_pass::RenderPass;
 use std::alloc::{AllocFailed, Global};
+use std::mem;
 use std::sync::Wait;
 use std::thread::Threads;
 
@@ -21,7 +22,7 @@ use std::thread::Threads;
 pub enum Role {
     /// Feeds the batches of the feeder of this number.
     Feeder(usize),
-    /// Paints the instants of the renderer of this number.
+    /// Paints the instants of the painter of this number.
     Painter(usize),
     /// Warms the masks of the instants ahead.
     Warmer,
@@ -61,7 +62,17 @@ impl Outcome {
     }
 }
 
-/// A thread's place in the rounds.
+impl Outcome {
+    /// The images, if it has some.
+    fn into_images(self, alloc: Global) -> Vec<Vec<u8>> {
+        match self {
+            Outcome::Shown(images) => images.into_vec(),
+            Outcome::Idle | Outcome::Fed(_) | Outcome::OutOfMemory => Vec::new(alloc),
+        }
+    }
+}
+
+/// A worker of the rounds.
 pub struct Worker {
     pub role: Role,
     pub pass: Option<RenderPass>,
@@ -87,9 +98,9 @@ impl Worker {
         let Some(pass) = self.pass.take() else {
             unreachable!()
         };
-        // The images of the round before are let go first, so that their memory serves those of this one.
-        self.outcome = Outcome::Idle;
-        let (pass, outcome) = do_part(rt, alloc, stage, round, self.role, pass, gate);
+        // The images of the round before are written, so their memory serves those of this one.
+        let written = mem::replace(&mut self.outcome, Outcome::Idle).into_images(alloc);
+        let (pass, outcome) = do_part(rt, alloc, stage, round, self.role, written, pass, gate);
         self.outcome = outcome;
         let before = self.pass.replace(pass);
         let None = before else { unreachable!() };

@@ -20,8 +20,25 @@ pub fn ppm_bytes(alloc: Global, size: &Size, pixels: &[u8], t: i64, n: usize) ->
     requires { length pixels.now ≡ 3 * (size.now.w * size.now.h) }
     ensures { IfOk result (λ image. image.items ≡ image_bytes size.now.w size.now.h pixels.now t n) }
 {
+    ppm_bytes_in(alloc, Vec::new(alloc), size, pixels, t, n)
+}
+
+/// The same in the memory of a buffer, whose bytes are dropped.
+pub fn ppm_bytes_in(
+    alloc: Global,
+    buffer: Vec<u8>,
+    size: &Size,
+    pixels: &[u8],
+    t: i64,
+    n: usize,
+) -> Mem<Vec<u8>>
+    requires { length pixels.now ≡ 3 * (size.now.w * size.now.h) }
+    ensures { IfOk result (λ image. image.items ≡ image_bytes size.now.w size.now.h pixels.now t n) }
+{
     let head = head(alloc, size, t, n)?;
-    let mut image = Vec::with_capacity(alloc, head.len() + pixels.len())?;
+    let mut image = buffer;
+    image.clear();
+    image.reserve_exact(head.len() + pixels.len())?;
     image.extend_from_slice(head.as_bytes())?;
     image.extend_from_slice(pixels)?;
     Ok(image)

@@ -3,4 +3,4 @@
 
 mod image;
 
-pub use image::ppm_bytes;
+pub use image::{ppm_bytes, ppm_bytes_in};

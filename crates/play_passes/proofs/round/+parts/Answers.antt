@@ -7,18 +7,18 @@ use Rattle.play_workers.specs.declared.worker.Worker.{Worker}
 use Rattle.play_passes.proofs.Apart.{all_worked}
 use Rattle.play_passes.proofs.round.+parts.Goals as goal
 
-pub work_all-work-requires-clause-pass : goal.work_all-work-requires-clause-pass
-work_all-work-requires-clause-pass g t c κs within =
+pub work_all-work_permitted-requires-clause-pass : goal.work_all-work_permitted-requires-clause-pass
+work_all-work_permitted-requires-clause-pass g t c κs within =
     All-head (HasPass c.args.stage.now.renderer) c.in-Some.worker.now c.in-Some.rest.now (subst (All (HasPass c.args.stage.now.renderer)) c.in-Some.ensures.cases.0 c.requires.passes)
 
-pub work_all-work-requires-clause-role : goal.work_all-work-requires-clause-role
-work_all-work-requires-clause-role g t c κs within =
+pub work_all-work_permitted-requires-clause-role : goal.work_all-work_permitted-requires-clause-role
+work_all-work_permitted-requires-clause-role g t c κs within =
     All-head (λ (w : Worker). IsRoleOf c.args.stage.now.job w.role) c.in-Some.worker.now c.in-Some.rest.now (subst (All (λ (w : Worker). IsRoleOf c.args.stage.now.job w.role)) c.in-Some.ensures.cases.0 c.requires.roles)
 
 pub work_all-returns-then-is_empty : goal.work_all-returns-then-is_empty
 work_all-returns-then-is_empty g t c =
     let none : length c.in-Some.rest.now ≡ 0 = search rules in
-    all_worked c.args.stage.now c.args.round c.args.workers.now c.in-Some.worker.now c.work.new.self c.in-Some.rest.now c.in-Some.rest.now c.in-Some.ensures.cases.0 c.work.ensures (λ i d lt. absurd (omega (arith, lt, none)))
+    all_worked c.args.stage.now c.args.round c.args.workers.now c.in-Some.worker.now c.work_permitted.new.worker c.in-Some.rest.now c.in-Some.rest.now c.in-Some.ensures.cases.0 c.work_permitted.ensures (λ i d lt. absurd (omega (arith, lt, none)))
 
 pub work_all-work_apart-requires-clause-pass : goal.work_all-work_apart-requires-clause-pass
 work_all-work_apart-requires-clause-pass g t c κs within =
@@ -42,5 +42,5 @@ work_all-returns g t c =
 
 pub work_apart-returns-clause-rest : goal.work_apart-returns-clause-rest
 work_apart-returns-clause-rest g t c =
-    subst (λ (ws : List Worker). (i : ℕ) (d : Worker) → i < length c.args.rest.now → HasWorked c.args.stage.now c.args.round (slice_index_or c.args.rest.now i d) (slice_index_or ws i d)) {x = c.join_mut.new.g.4.now}
+    subst (λ (ws : List Worker). (i : ℕ) (d : Worker) → i < length c.args.rest.now → HasWorked c.args.stage.now c.args.round (slice_index_or c.args.rest.now i d) (slice_index_or ws i d)) {x = c.join_mut.new.g.5.now}
     (search rules) c.join_mut.ensures.1.met.1

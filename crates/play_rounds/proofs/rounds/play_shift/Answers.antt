@@ -1,3 +1,4 @@
+use Rattle.std.proofs.Common.{arith}
 use Rattle.track_history.specs.Calls.{history_of}
 use Rattle.play_workers.specs.Stages.{play_on}
 use Rattle.play_rounds.specs.Shifts.{crew_of}
@@ -8,6 +9,10 @@ use Rattle.play_rounds.proofs.rounds.play_shift.Goals as goal
 pub returns-in-Err-clause-stopped : goal.returns-in-Err-clause-stopped
 returns-in-Err-clause-stopped g c = stops_now (g.F.Sink.held c.args.frames.now) (g.F.Sink.faults c.args.frames.now) (g.F.Sink.puts c.args.frames.now)
     (play_on c.args.stage.now) (crew_of c.args.stage.now.job c.args.shift) 0 (history_of c.args.first.track.seen)
+
+pub at_once-requires-clause-some : goal.at_once-requires-clause-some
+at_once-requires-clause-some g c =
+    let some = crew_at_least c.args.stage.now c.requires.stage c.args.shift c.in-Ok.workers.items c.in-Ok.ensures.roles in search (arith, some)
 
 pub all_rounds-played-requires-clause-some : goal.all_rounds-played-requires-clause-some
 all_rounds-played-requires-clause-some g c κs within = rw c.as_mut_slice-crew.ensures.value (crew_at_least c.args.stage.now c.requires.stage c.args.shift c.in-Ok.workers.items c.in-Ok.ensures.roles)

@@ -1,7 +1,7 @@
 use Rattle.std.proofs.Common.{subst, sym, to_z-of_z}
 use Rattle.std.specs.Result.{IfOk}
 use Rattle.frame_paint.specs.Frames.{leases_of}
-use Rattle.render_pass.proofs.Held.{leases-given}
+use Rattle.render_pass.proofs.Held.{leases-given, leases-held}
 use Rattle.track_history.specs.Calls.{TrackView, history_of}
 use Rattle.play_workers.specs.Asks.{IsImageAsked}
 use Rattle.play_workers.specs.Stages.{play_on}
@@ -11,6 +11,10 @@ use Rattle.play_workers.proofs.painter.paint_instant.Goals as goal
 
 pub image_of-image-requires-clause-size : goal.image_of-image-requires-clause-size
 image_of-image-requires-clause-size g c = λ κs h. (rw c.in-Ok.is at c.frame_at-pass.ensures.frame).is.size_is
+
+pub release-pass-requires-clause-held : goal.release-pass-requires-clause-held
+release-pass-requires-clause-held g c =
+    leases-held c.args.stage.now.renderer.caches c.args.pass.caches c.frame_at-pass.result.0.caches (leases_of c.in-Ok.frame.images) (rw c.in-Ok.is at c.frame_at-pass.ensures.holds)
 
 pub returns-in-Ok-clause-later : goal.returns-in-Ok-clause-later
 returns-in-Ok-clause-later g c =
