@@ -15,7 +15,7 @@ use Rattle.ass_events.specs.declared.event.Chunk.{Chunk}
 use Rattle.ass_events.specs.declared.event.Event.{Event}
 use Rattle.ass_events.specs.declared.event.ChunkRefusal.{ChunkRefusal}
 use Rattle.ass_events.specs.declared.event.ChunkRefusal.TheVariants.{Malformed, OutOfMemory}
-use Rattle.blanks.specs.Blanks.{past_blanks, before_blanks, trimmed}
+use Rattle.ass_num.specs.Blanks.{past_blanks, before_blanks, trimmed}
 use Rattle.ass_script.specs.Words.{is_comma}
 use Rattle.ass_events.specs.Cuts.{pieces_of}
 use Rattle.ass_events.specs.Numbers.{order_of, whole_or_zero, instant_of}
@@ -25,7 +25,7 @@ use Rattle.ass_events.specs.Events.{IsChunkAnswer, chunk_format, is_time, event_
 use Rattle.ass_events.specs.Ranges.{IsName}
 use Rattle.ass_events.proofs.NumberLemmas.{IsLineTime, number_small, order_small, instant_small}
 use Rattle.ass_events.proofs.PieceLemmas.{EachUtf8, EachPlain, pieces_plain, pieces_utf8, joined_utf8}
-use Rattle.blanks.proofs.TrimmedLemmas.{trimmed-trimmed, trimmed_utf8, All-trimmed}
+use Rattle.ass_num.proofs.TrimmedLemmas.{trimmed-trimmed, trimmed_utf8, All-trimmed}
 
 -- ---- a fact that each field keeps
 
@@ -206,7 +206,7 @@ zero_in_range = record {
     zero_number : IsWithin max_whole (pos 0)
     zero_number = (omega (arith, ints), omega (arith, ints))
 
-nothing_is_name : IsName []
+pub nothing_is_name : IsName []
 unfolding trimmed past_blanks before_blanks
 nothing_is_name = record { utf8 = IsUtf8-nil; no_comma = All-nil (λ c. is_comma c ≡ false); bare = refl }
 

@@ -18,7 +18,7 @@ use Rattle.ass_script.specs.declared.script.EventField.TheVariants as field
 use Rattle.ass_events.specs.declared.event.Event.{Event}
 use Rattle.ass_events.specs.declared.event.ChunkRefusal.{ChunkRefusal}
 use Rattle.ass_events.specs.declared.event.ChunkRefusal.TheVariants.{Malformed}
-use Rattle.blanks.specs.Blanks.{trimmed}
+use Rattle.ass_num.specs.Blanks.{trimmed}
 use Rattle.ass_script.specs.Words.{is_comma}
 use Rattle.ass_script.specs.Fields.{is_text, ends_in_text}
 use Rattle.ass_script.specs.Scripts.{ScriptValue}
@@ -136,43 +136,43 @@ put_order : (n : ℕ) (piece : List ℕ) (fields : FieldValues) → order_of pie
 unfolding field_put
 put_order n piece fields e = ap (option_and_then (λ n. Some (record fields { order = n }))) e
 
-put_layer : (n : ℤ) (piece : List ℕ) (fields : FieldValues) → whole_or_zero piece ≡ Some n → field_put field.Layer piece fields ≡ Some (record fields { layer = n })
+pub put_layer : (n : ℤ) (piece : List ℕ) (fields : FieldValues) → whole_or_zero piece ≡ Some n → field_put field.Layer piece fields ≡ Some (record fields { layer = n })
 unfolding field_put
 put_layer n piece fields e = ap (option_and_then (λ n. Some (record fields { layer = n }))) e
 
-put_left : (n : ℤ) (piece : List ℕ) (fields : FieldValues) → whole_or_zero piece ≡ Some n → field_put field.MarginL piece fields ≡ Some (record fields { margin_l = n })
+pub put_left : (n : ℤ) (piece : List ℕ) (fields : FieldValues) → whole_or_zero piece ≡ Some n → field_put field.MarginL piece fields ≡ Some (record fields { margin_l = n })
 unfolding field_put
 put_left n piece fields e = ap (option_and_then (λ n. Some (record fields { margin_l = n }))) e
 
-put_right : (n : ℤ) (piece : List ℕ) (fields : FieldValues) → whole_or_zero piece ≡ Some n → field_put field.MarginR piece fields ≡ Some (record fields { margin_r = n })
+pub put_right : (n : ℤ) (piece : List ℕ) (fields : FieldValues) → whole_or_zero piece ≡ Some n → field_put field.MarginR piece fields ≡ Some (record fields { margin_r = n })
 unfolding field_put
 put_right n piece fields e = ap (option_and_then (λ n. Some (record fields { margin_r = n }))) e
 
-put_vertical : (n : ℤ) (piece : List ℕ) (fields : FieldValues) → whole_or_zero piece ≡ Some n → field_put field.MarginV piece fields ≡ Some (record fields { margin_v = n })
+pub put_vertical : (n : ℤ) (piece : List ℕ) (fields : FieldValues) → whole_or_zero piece ≡ Some n → field_put field.MarginV piece fields ≡ Some (record fields { margin_v = n })
 unfolding field_put
 put_vertical n piece fields e = ap (option_and_then (λ n. Some (record fields { margin_v = n }))) e
 
-put_style : (piece : List ℕ) (fields : FieldValues) → trimmed piece ≡ piece → field_put field.Style piece fields ≡ Some (record fields { style = piece })
+pub put_style : (piece : List ℕ) (fields : FieldValues) → trimmed piece ≡ piece → field_put field.Style piece fields ≡ Some (record fields { style = piece })
 unfolding field_put
 put_style piece fields e = ap (λ z. Some (record fields { style = z })) e
 
-put_name : (piece : List ℕ) (fields : FieldValues) → trimmed piece ≡ piece → field_put field.Name piece fields ≡ Some (record fields { name = piece })
+pub put_name : (piece : List ℕ) (fields : FieldValues) → trimmed piece ≡ piece → field_put field.Name piece fields ≡ Some (record fields { name = piece })
 unfolding field_put
 put_name piece fields e = ap (λ z. Some (record fields { name = z })) e
 
-put_effect : (piece : List ℕ) (fields : FieldValues) → trimmed piece ≡ piece → field_put field.Effect piece fields ≡ Some (record fields { effect = piece })
+pub put_effect : (piece : List ℕ) (fields : FieldValues) → trimmed piece ≡ piece → field_put field.Effect piece fields ≡ Some (record fields { effect = piece })
 unfolding field_put
 put_effect piece fields e = ap (λ z. Some (record fields { effect = z })) e
 
 -- one column more is read
-read_on : (len place : ℕ) (f g : EventField) (format : List EventField) (p : List ℕ) (pieces : List (List ℕ)) (fields more : FieldValues) → field_put f p fields ≡ Some more →
+pub read_on : (len place : ℕ) (f g : EventField) (format : List EventField) (p : List ℕ) (pieces : List (List ℕ)) (fields more : FieldValues) → field_put f p fields ≡ Some more →
     examined (columns_from len place (f ∷ (g ∷ format)) (p ∷ pieces)) fields ≡ examined (columns_from len (place + length p + 1) (g ∷ format) pieces) more
 unfolding columns_from
 read_on len place f g format p pieces fields more put =
     examined_some (record { field = f; place = place; piece = Some p }) (columns_from len (place + length p + 1) (g ∷ format) pieces) fields more put
 
 -- the text with its commas
-read_text : (len place : ℕ) (text : List ℕ) (fields : FieldValues) → examined (columns_from len place (field.Text ∷ []) (pieces_of text)) fields ≡ Ok (record fields { text = text })
+pub read_text : (len place : ℕ) (text : List ℕ) (fields : FieldValues) → examined (columns_from len place (field.Text ∷ []) (pieces_of text)) fields ≡ Ok (record fields { text = text })
 unfolding columns_from examined field_put
 read_text len place text fields = cases (pieces_of text) refl
   where

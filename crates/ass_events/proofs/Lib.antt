@@ -6,3 +6,5 @@ pub mod PieceLemmas
 pub mod TextLemmas
 pub mod TimeLemmas
 pub mod WriteLemmas
+pub mod GivenEvents
+pub mod LineLengths

@@ -8,7 +8,7 @@ use Rattle.std.specs.List.{join_with_byte, prefix_len, suffix_len}
 use Rattle.std.proofs.lemmas.List.{length-take, length-drop}
 use Rattle.std.proofs.lemmas.List.Splits.{join_with_byte-slice_split}
 use Rattle.ass_num.specs.Numerals.{is_blank}
-use Rattle.blanks.specs.Blanks.{past_blanks, before_blanks, trimmed}
+use Rattle.ass_num.specs.Blanks.{past_blanks, before_blanks, trimmed}
 use Rattle.ass_script.specs.declared.script.EventField.{EventField}
 use Rattle.ass_script.specs.declared.script.EventField.TheVariants as field
 use Rattle.ass_script.specs.Scripts.{ScriptValue}

@@ -8,7 +8,7 @@ use Rattle.ass_script.specs.declared.script.EventField.{EventField}
 use Rattle.ass_script.specs.declared.script.EventField.TheVariants as field
 use Rattle.ass_events.specs.declared.event.ChunkRefusal.{ChunkRefusal}
 use Rattle.ass_events.specs.declared.event.ChunkRefusal.TheVariants.{Malformed}
-use Rattle.blanks.specs.Blanks.{trimmed}
+use Rattle.ass_num.specs.Blanks.{trimmed}
 use Rattle.ass_events.specs.Cuts.{pieces_of}
 use Rattle.ass_events.specs.Numbers.{order_of, whole_or_zero, instant_of}
 

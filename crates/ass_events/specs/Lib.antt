@@ -7,3 +7,5 @@ pub mod Ranges
 pub mod Laws
 pub mod Histories
 pub mod NearEvents
+pub mod ScriptEvents
+pub mod LineLaws

@@ -3,7 +3,7 @@ use Rattle.std.specs.Prelude.{◌≡◌, ℕ, ◌+◌, ◌≤◌, true, false, L
 use Rattle.std.specs.Str.{IsUtf8}
 use Rattle.ass_num.specs.Limits.{IsWithin, max_whole}
 use Rattle.ass_events.specs.declared.event.Event.{Event}
-use Rattle.blanks.specs.Blanks.{trimmed}
+use Rattle.ass_num.specs.Blanks.{trimmed}
 use Rattle.ass_script.specs.Words.{is_comma}
 use Rattle.ass_events.specs.Events.{is_time}
 

@@ -9,8 +9,8 @@ ghost use Rattle.ass_events.specs.Fields.{no_fields, field_put, columns_of, exam
 use crate::event::ChunkRefusal;
 use crate::numbers::{instant, number, order};
 use crate::words::before_comma;
+use ass_num::trimmed;
 use ass_script::EventField;
-use blanks::trimmed;
 
 /// What the fields of a line say. What is kept as a text is a part of the line.
 #[derive(Clone, Copy)]

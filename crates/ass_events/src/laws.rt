@@ -1,6 +1,7 @@
 //! What holds of all chunks and lines: the theorems above the definitions of `read_chunk` and `chunk_of_line`.
 
-ghost use Rattle.ass_events.specs.Laws.{ChunksGiveEvents, WrittenIsReadBack, LinesGiveEvents, ChunksOfLinesAreRead, TextsFitChunks, TextsFitLines, TimesAreRead};
+ghost use Rattle.ass_events.specs.Laws.{ChunksGiveEvents, WrittenIsReadBack, LinesGiveEvents, ChunksOfLinesAreRead, TextsFitChunks, TextsFitLines};
+ghost use Rattle.ass_events.specs.Laws.{TimesAreRead};
 
 /// What `write_chunk` writes of an event that a chunk gave is read back as this event.
 pub fn written_is_read_back()

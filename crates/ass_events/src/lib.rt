@@ -2,16 +2,18 @@
 #![tactic(auto)]
 
 mod event;
+mod events;
 mod fields;
-mod laws;
+pub mod laws;
 mod line;
+pub mod line_laws;
 mod numbers;
 mod read;
 mod words;
 mod write;
 
 pub use event::{Chunk, ChunkRefusal, Event};
-pub use laws::{lines_give_events, texts_fit, times_are_read, written_is_read_back};
+pub use events::events_of;
 pub use line::{chunk_of_line, event_of_line, line_fault};
 pub use read::read_chunk;
 pub use write::write_chunk;

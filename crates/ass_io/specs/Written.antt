@@ -5,11 +5,11 @@ use Rattle.ass_num.specs.Causes.{Rose}
 use Rattle.ass_io.specs.declared.sink.Put.{Put}
 use Rattle.ass_io.specs.declared.sink.Put.TheVariants.{Done, Failed, OutOfMemory}
 
--- The known bytes grow by a front of the piece, which may be nothing or the whole.
+-- The known bytes grow by a prefix of the piece, which may be nothing or the whole.
 abbrev pub AppendsFront : Option (List ℕ) → Option (List ℕ) → List ℕ → Type 0
 AppendsFront old new piece = (front : List ℕ) × (rest : List ℕ) × (piece ≡ front ++ rest) × Appends old new front
 
--- What the sink holds after each answer: the whole piece more, a front of it, or nothing more.
+-- What the sink holds after each answer: the whole piece more, a prefix of it, or nothing more.
 abbrev pub IsPut : Put → Option (List ℕ) → Option (List ℕ) → List ℕ → Type 0
 IsPut Done old new piece = Appends old new piece
 IsPut Failed old new piece = AppendsFront old new piece

@@ -12,7 +12,7 @@ use std::{fs, io};
 
 /// A shelf of real files, by their paths. It tells no contents. A name that the system does not
 /// find is `Missing`; a folder, a path through a file, and whatever else can't be opened or read, but
-/// for want of memory, is `Failed`.
+/// for lack of memory, is `Failed`.
 #[derive(Drop)]
 pub struct FileShelf<R: Files + Drop> {
     rt: R,

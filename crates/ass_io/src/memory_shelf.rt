@@ -25,7 +25,7 @@ impl MemoryShelf {
         }
     }
 
-    /// Puts bytes under a name, in place of what is there. For want of memory the shelf holds
+    /// Puts bytes under a name, in place of what is there. For out of memory the shelf holds
     /// what it held.
     pub fn add(&mut self, alloc: Global, name: &str, bytes: &[u8]) -> Mem<()>
         ensures ok { OnOk result (Replaces self.old self.new name.now bytes.now) }

@@ -40,7 +40,7 @@ pub trait Shelf {
         // What each answer says of the name, and what is in the vector then.
         ensures fetched { IsFetched (told self.old name.now) result into.new.items }
 
-        // What is held decides the answer, but for a fault and for want of memory.
+        // What is held decides the answer, but for a fault and for lack of memory.
         ensures decided { IsFetchDecided (told self.old name.now) result }
 
         ensures counted { IsFetchCounted result (faults self.old) (faults self.new) };

@@ -10,7 +10,7 @@ ghost use Rattle.ass_io.specs.Written.{IsPut, IsPutCounted};
 pub enum Put {
     /// The whole piece was appended.
     Done,
-    /// The sink failed, and a front of the piece, or nothing, was appended.
+    /// The sink failed, and a prefix of the piece, or nothing, was appended.
     Failed,
     /// Memory was wanting, and nothing was appended.
     OutOfMemory,

@@ -62,7 +62,7 @@ impl<W: Write + Drop> Sink for StdSink<W> {
     }
 }
 
-// Writes a piece, and whatever the stream holds back.
+/// Writes a piece, and whatever the stream holds back.
 fn write_through<W: Write>(stream: &mut W, piece: &[u8]) -> io::Result<()>
     ensures { OnOk result (Appends (W.contents stream.old) (W.contents stream.new) piece.now) }
 {

@@ -1,4 +1,4 @@
--- The longest fronts that are colours.
+-- The longest prefixes that are colours.
 use Rattle.std.proofs.Common.{◌≡◌, ℕ, zero, suc, ◌+◌, ◌%◌, ◌^◌, ◌<◌, ◌≤◌, Bool, true, false, cond, eqb, ◌&&◌, ◌||◌, ◌⊎◌, inl, inr, List, [], ◌∷◌, ◌++◌, length, take, drop, pos, neg_ℤ, refl, sym, ap, ◌∙◌, subst, arith, append_assoc, length-append}
 use Rattle.std.proofs.lemmas.List.{length-take-le, length-drop}
 use Rattle.std.proofs.lemmas.List.Elements.{All-head}
@@ -21,7 +21,7 @@ no_mark_digits [] rest all some = absurd (omega arith)
 no_mark_digits (c ∷ cs) rest all some = ap (λ b. cond b (1 + prefix_len is_mark (cs ++ rest)) 0) (hexadecimal_no_mark c (All-head (λ z. is_hexadecimal z ≡ true) c cs all))
 
 module _ (width : ℕ) (t : List ℕ) (m d : ℕ) (marks : m ≡ prefix_len is_mark t) (digits : d ≡ prefix_len is_hexadecimal (drop m t)) where
-  -- a front of marks and digits has all the marks there, and no more digits than there are
+  -- a prefix of marks and digits has all the marks there, and no more digits than there are
   marked_shape : (k low : ℕ) → (x : IsMarked width (take k t) low) → (m ≡ length x.marks) × (length x.digits ≤ d)
   marked_shape k low x =
       let text = rest_of_front t x.marks x.digits k x.spelled in
@@ -193,7 +193,7 @@ wrapped_no_blank code rest low x =
     ∙ no_blank_signed x.sign x.digits rest x.sign_or_none x.all_digits x.some_digit
 
 module _ (t : List ℕ) (b : ℕ) (blanks : b ≡ prefix_len is_blank t) where
-  -- what stands behind the blanks, where a front of the text is the colour of a style
+  -- what stands behind the blanks, where a prefix of the text is the colour of a style
   style_shape : (k colour : ℕ) → (x : IsStyleColour (take k t) colour) → (b ≡ length x.blanks) × (drop b t ≡ x.code ++ drop k t) × (take (length x.code) (drop b t) ≡ x.code)
   style_shape k colour x =
       let text = rest_of_front t x.blanks x.code k x.spelled in

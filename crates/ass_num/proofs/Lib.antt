@@ -19,3 +19,5 @@ pub mod SineTable
 pub mod SumLemmas
 pub mod WholeLaws
 pub mod Wholes
+pub mod CutLemmas
+pub mod TrimmedLemmas

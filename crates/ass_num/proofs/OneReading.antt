@@ -13,7 +13,7 @@ use Rattle.ass_num.proofs.SignFronts.{IsUnsigned, unsigned_all, unsigned_decimal
 use Rattle.ass_num.proofs.Wholes.{no_blank_digits, no_blank_signed, no_digit_blanks}
 use Rattle.ass_num.proofs.ColourFronts.{no_mark_digits, hex_start_no_blank, wrapped_no_hex, wrapped_no_blank}
 
--- Two longest fronts of one text are the same.
+-- Two longest prefixes of one text are the same.
 pub one_front : {Value : Type 0} (Spells : List ℕ → Value → Type 0) → SpellsOne Spells → (text : List ℕ) (v w : Value) (m n : ℕ) → IsLongestFront Spells text v m → IsLongestFront Spells text w n → (v ≡ w) × (m ≡ n)
 one_front {Value} Spells one text v w m n first second =
     let same : m ≡ n = omega (arith, first.longest n w second.within second.spelled, second.longest m v first.within first.spelled) in

@@ -21,7 +21,7 @@ AllPass-take p xs = λ k d inside.
     let within : k < prefix_len p xs = omega (arith, length-take (prefix_len p xs) xs) in
     rw (get_or-take (prefix_len p xs) xs k d within) (prefix_len_passes p xs k d within)
 
--- a text after a front of it
+-- a text after a prefix of it
 pub rest_of_front : (t a b : List ℕ) (k : ℕ) → take k t ≡ a ++ b → t ≡ a ++ (b ++ drop k t)
 rest_of_front t a b k e = sym (take-append-drop k t) ∙ ap (λ z. z ++ drop k t) e ∙ append_assoc a b (drop k t)
 

@@ -36,14 +36,14 @@ unsigned_decimal bytes n d = subst IsUnsigned (sym d.spelled) (elim d.point_or_n
 pub sign_before : (sign bytes rest : List ℕ) → IsSign sign → IsUnsigned bytes → sign_len (sign ++ (bytes ++ rest)) ≡ length sign
 sign_before sign bytes rest is u = ap (λ z. sign_len (sign ++ (z ++ rest))) u.2 ∙ sign_len-append sign u.0 (u.1 ++ rest) is u.3
 
--- What stands behind the sign of a text, where a front of it is a sign and unsigned bytes.
+-- What stands behind the sign of a text, where a prefix of it is a sign and unsigned bytes.
 pub behind_sign : (t sign bytes : List ℕ) (k : ℕ) → take k t ≡ sign ++ bytes → IsSign sign → IsUnsigned bytes → (sign_len t ≡ length sign) × (drop (sign_len t) t ≡ bytes ++ drop k t)
 behind_sign t sign bytes k e is u =
     let text = rest_of_front t sign bytes k e in
     let count : sign_len t ≡ length sign = ap sign_len text ∙ sign_before sign bytes (drop k t) is u in
     (count, ap (λ z. drop z t) count ∙ ap (drop (length sign)) text ∙ drop-append_seam sign (bytes ++ drop k t))
 
--- the same bytes as a front of what stands behind the sign
+-- the same bytes as a prefix of what stands behind the sign
 pub front_behind_sign : (t sign bytes : List ℕ) (k : ℕ) → take k t ≡ sign ++ bytes → IsSign sign → IsUnsigned bytes → take (length bytes) (drop (sign_len t) t) ≡ bytes
 front_behind_sign t sign bytes k e is u = ap (take (length bytes)) (behind_sign t sign bytes k e is u).1 ∙ take-append_seam bytes (drop k t)
 

@@ -16,3 +16,4 @@ pub mod Regions
 pub mod Sine
 pub mod Wholes
 pub mod Winding
+pub mod Blanks

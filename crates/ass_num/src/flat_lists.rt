@@ -80,7 +80,7 @@ impl<T> FlatLists<T> {
         part(self.items.as_slice(), start(ends, k), start(ends, k + 1))
     }
 
-    /// Puts a list at the end. For want of memory the lists stay as they are.
+    /// Puts a list at the end. For out of memory the lists stay as they are.
     pub fn push(&mut self, list: &[T]) -> Mem<()>
     where
         T: Copy,

@@ -83,7 +83,7 @@ impl<T> Items<T> {
 }
 
 impl<T: Drop> Items<T> {
-    /// Puts an item at the end. For want of memory the item is dropped, and the list stays.
+    /// Puts an item at the end. For out of memory the item is dropped, and the list stays.
     pub fn push(&mut self, item: T) -> Mem<()>
         ensures ok { OnOk result (self.new ≡ self.old ++ item ∷ []) }
         ensures err { OnErr result (self.new ≡ self.old) }

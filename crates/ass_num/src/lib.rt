@@ -2,6 +2,7 @@
 #![tactic(auto)]
 
 mod angles;
+mod blanks;
 mod colour;
 mod colour_codes;
 mod decimals;
@@ -19,10 +20,12 @@ mod readings;
 mod region;
 mod size;
 mod text;
+pub mod text_blanks;
 mod text_compare;
 mod times;
 
 pub use angles::{cosine, sine};
+pub use blanks::{before_blanks, past_blanks, trimmed};
 pub use colour::Rgba;
 pub use colour_codes::{colour_of, read_alpha, read_colour, read_style_colour};
 pub use decimals::{read_milli, read_whole};

@@ -85,14 +85,6 @@ impl Mask {
     {
         self.bytes.as_slice()
     }
-
-    /// The vector of the coverage; nothing is copied.
-    pub fn into_bytes(self) -> Vec<u8>
-        ensures bytes { result.items ≡ self.bytes }
-        ensures canonical { is_mask self ≡ true }
-    {
-        self.bytes
-    }
 }
 
 /// Whether these bytes make a mask in the box with this corner and these sides.

@@ -7,7 +7,7 @@ use std::fmt;
 #[derive(Clone, Copy, Debug, PartialEq, Eq, PartialOrd, Ord, Hash, Default)]
 pub struct OutOfMemory;
 
-/// What a call answers that can fail by want of memory alone.
+/// What a call answers that can fail by out of memory alone.
 pub type Mem<T> = Result<T, OutOfMemory>;
 
 impl fmt::Display for OutOfMemory {

@@ -1,7 +1,7 @@
 -- A Style line, one piece on.
 use Rattle.std.proofs.Common.{◌≡◌, ℕ, suc, ◌+◌, ◌<◌, List, [], ◌∷◌, length, get_or, drop, refl, ap, ◌∙◌, arith}
 use Rattle.std.proofs.Math.Seq.{drop-cons}
-use Rattle.blanks.specs.Blanks.{trimmed}
+use Rattle.ass_num.specs.Blanks.{trimmed}
 use Rattle.ass_script.specs.Styles.{with_fields, with_field}
 use Rattle.ass_script.specs.declared.style.Style.{Style}
 use Rattle.ass_script.specs.declared.style_field.StyleField.{StyleField}

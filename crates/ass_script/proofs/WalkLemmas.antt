@@ -7,7 +7,7 @@ use Rattle.std.proofs.lemmas.List.{append-nil}
 use Rattle.ass_script.specs.Limits.{max_lines, max_styles}
 use Rattle.ass_script.specs.Fields.{style_fields_of, usual_style_fields, event_fields_of, ends_in_text}
 use Rattle.ass_script.specs.Styles.{style_of}
-use Rattle.blanks.specs.Blanks.{trimmed}
+use Rattle.ass_num.specs.Blanks.{trimmed}
 use Rattle.ass_script.specs.Words.{is_colon}
 use Rattle.ass_script.specs.Lines.{Line, is_heading, is_comment, section_named, info_key_named, style_key_named, event_key_named, key_named, keyed_line, line_in, section_behind, lines_in_sections}
 use Rattle.ass_script.specs.Scripts.{has, values_of, last_of, last_value, is_res_x, is_res_y, is_wrap, is_scaled, is_dialogue, is_style_format, style_version, is_events_heading, is_styles_heading, canvas_side_of, wrap_style_of, scaled_of, style_fields_behind, styles_behind, event_formats, limit_at, limit_behind, picked_script, script_of_lines}

@@ -2,7 +2,7 @@
 use Rattle.std.specs.Prelude.{ℕ, ◌-◌, ◌==◌, Bool, false, if◌then◌else◌, List, [], ◌∷◌, length, map, slice_get, codes}
 use Rattle.std.specs.Option.{option_map_or}
 use Rattle.std.specs.List.{slice_split, list_any}
-use Rattle.blanks.specs.Blanks.{trimmed}
+use Rattle.ass_num.specs.Blanks.{trimmed}
 use Rattle.ass_num.specs.Names.{same_name}
 use Rattle.ass_script.specs.Words.{is_comma}
 use Rattle.ass_script.specs.declared.lines.Version.{Version}

@@ -1,7 +1,7 @@
 -- Public: the lines of a script: the section that each stands in, and its key and value.
 use Rattle.std.specs.Prelude.{ℕ, ◌-◌, ◌==◌, ◌&&◌, Bool, if◌then◌else◌, List, [], ◌∷◌, length, slice_index, codes}
 use Rattle.std.specs.List.{list_any, before_first, after_first}
-use Rattle.blanks.specs.Blanks.{trimmed}
+use Rattle.ass_num.specs.Blanks.{trimmed}
 use Rattle.ass_num.specs.Bytes.{open_bracket, close_bracket, semicolon}
 use Rattle.ass_num.specs.Names.{same_name}
 use Rattle.ass_script.specs.Words.{is_colon}

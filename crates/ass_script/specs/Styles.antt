@@ -6,7 +6,7 @@ use Rattle.std.specs.Int.{int_max}
 use Rattle.std.specs.Ordering.{int_eq}
 use Rattle.ass_num.specs.Colours.{colour_of}
 use Rattle.ass_num.specs.declared.colour.Rgba.{Rgba}
-use Rattle.blanks.specs.Blanks.{trimmed}
+use Rattle.ass_num.specs.Blanks.{trimmed}
 use Rattle.ass_script.specs.Words.{is_comma}
 use Rattle.ass_num.specs.Wholes.{whole_of}
 use Rattle.ass_script.specs.Numbers.{milli_of, style_colour_of}

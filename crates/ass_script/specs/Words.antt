@@ -4,7 +4,7 @@ use Rattle.std.specs.List.{prefix_len, starts_with}
 use Rattle.std.specs.Bool.{nat_eq}
 use Rattle.ass_num.specs.Bytes.{colon, comma, star}
 use Rattle.ass_num.specs.Numerals.{is_blank}
-use Rattle.blanks.specs.Blanks.{before_blanks}
+use Rattle.ass_num.specs.Blanks.{before_blanks}
 
 abbrev pub is_colon : ℕ → Bool
 is_colon c = c == colon

@@ -8,8 +8,8 @@ use crate::fields::last_ones;
 use crate::lines::Version;
 use crate::script::EventField;
 use crate::words::same_name;
+use ass_num::text_blanks::trimmed;
 use ass_num::{Items, Mem};
-use blanks::text::trimmed;
 use std::alloc::Global;
 
 const USUAL: [EventField; 10] = [

@@ -10,7 +10,7 @@ use crate::lines::Key;
 use crate::script::Header;
 use crate::words::same_name;
 use ass_num::read_whole;
-use blanks::text::trimmed;
+use ass_num::text_blanks::trimmed;
 
 /// The widest and the highest canvas.
 const MAX_SIDE: u32 = 16_384;

@@ -1,10 +1,11 @@
 //! The lines of a script: sections, keys and values.
 
 ghost use Rattle.std.specs.Prelude.{◌≡◌};
-ghost use Rattle.ass_script.specs.Lines.{is_bracketed, is_heading, is_comment, section_named, info_key_named, style_key_named, event_key_named, key_named, keyed_line, line_in};
+ghost use Rattle.ass_script.specs.Lines.{is_bracketed, is_heading, is_comment, section_named, info_key_named, style_key_named, event_key_named, key_named};
+ghost use Rattle.ass_script.specs.Lines.{keyed_line, line_in};
 
 use crate::words::same_name;
-use blanks::text::trimmed;
+use ass_num::text_blanks::trimmed;
 
 /// The version of a section of styles.
 #[derive(Clone, Copy)]

@@ -4,7 +4,8 @@ ghost use Rattle.std.specs.Prelude.{◌≡◌, ◌≤◌, length, OnOk, IfOk};
 ghost use Rattle.ass_script.specs.Fields.{usual_style_fields};
 ghost use Rattle.ass_script.specs.Ranges.{IsScriptReading, IsScript};
 ghost use Rattle.ass_script.specs.Scripts.{IsScriptAnswer};
-ghost use Rattle.ass_script.specs.Walk.{no_script_lines, no_headings, with_heading, fields_of, style_step, format_step, event_format_step, dialogue_step, key_step, line_step, version_said, fields_said, made_script};
+ghost use Rattle.ass_script.specs.Walk.{no_script_lines, no_headings, with_heading, fields_of, style_step, format_step, event_format_step, dialogue_step};
+ghost use Rattle.ass_script.specs.Walk.{key_step, line_step, version_said, fields_said, made_script};
 
 use crate::event_format::{ends_in_text, event_fields, format_or_usual};
 use crate::header_lines::HeaderLines;

@@ -6,8 +6,8 @@ ghost use Rattle.ass_script.specs.Fields.{style_fields_of, usual_style_fields};
 use crate::fields::last_ones;
 use crate::lines::Version;
 use crate::style_field::{StyleField, version_field};
+use ass_num::text_blanks::trimmed;
 use ass_num::{Items, Mem};
-use blanks::text::trimmed;
 use std::alloc::Global;
 
 const USUAL: [StyleField; 23] = [

@@ -4,13 +4,14 @@ ghost use Rattle.std.specs.Prelude.{◌≡◌, ◌≤◌, ◌⊎◌, OnOk, OnErr
 ghost use Rattle.ass_num.specs.Limits.{IsWithin, IsHeldNumber, IsHeldLength, max_whole};
 ghost use Rattle.ass_script.specs.Numbers.{milli_of, style_colour_of};
 ghost use Rattle.ass_script.specs.Ranges.{IsStyle};
-ghost use Rattle.ass_script.specs.Styles.{bare_style, milli_or, size_or, margin_or, flag_or, border_style_or, alignment_or, old_alignment_or, colours_with, with_field, style_of};
+ghost use Rattle.ass_script.specs.Styles.{bare_style, milli_or, size_or, margin_or, flag_or, border_style_or, alignment_or, old_alignment_or, colours_with};
+ghost use Rattle.ass_script.specs.Styles.{with_field, style_of};
 
 use crate::lines::Version;
 use crate::style::{Style, built_in_style};
 use crate::style_field::StyleField;
+use ass_num::text_blanks::trimmed;
 use ass_num::{Mem, Milli, Rgba, Text, colour_of, read_milli, read_style_colour, read_whole};
-use blanks::text::trimmed;
 use std::alloc::Global;
 
 /// The number at the front of a text, in thousandths.

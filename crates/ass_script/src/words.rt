@@ -6,7 +6,7 @@ ghost use Rattle.ass_num.specs.Names.{same_name};
 ghost use Rattle.ass_script.specs.Words.{past_mark, is_star_or_blank, bare_name};
 
 use ass_num::is_blank;
-use blanks::text::before_blanks;
+use ass_num::text_blanks::before_blanks;
 
 /// How many stars and blanks stand at the front.
 fn stars_and_blanks(text: &[u8]) -> usize

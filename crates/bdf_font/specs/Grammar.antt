@@ -4,7 +4,7 @@ use Rattle.std.specs.List.{AllByRecursion, list_all}
 use Rattle.std.specs.Option.{option_or}
 use Rattle.hex.specs.Hex.{is_hex_digit, decode_sized}
 use Rattle.hex.specs.declared.error.FromHexError.{FromHexError}
-use Rattle.blanks.specs.Blanks.{trimmed}
+use Rattle.ass_num.specs.Blanks.{trimmed}
 use Rattle.bdf_font.specs.Limits.{max_glyphs}
 use Rattle.bdf_font.specs.Words.{first_word, after_word, offset_of, bounding_box_of, family_name_of}
 use Rattle.ass_num.specs.Wholes.{whole_of}
@@ -371,7 +371,7 @@ pub record LacksEnd (lines : List (List ℕ)) (n : ℕ) : Type 0 where
   pub sound : IsSoundFront front
   pub place : n ≡ 1 + length lines
 
--- The lines are a front of 131,072 glyphs, and another glyph begins behind it.
+-- The lines are a prefix of 131,072 glyphs, and another glyph begins behind it.
 pub record HasTooMany (lines : List (List ℕ)) : Type 0 where
   pub before : List (List ℕ)
   pub start : List ℕ

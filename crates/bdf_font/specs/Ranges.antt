@@ -9,8 +9,8 @@ use Rattle.bdf_font.specs.declared.glyphs.BoundingBox.{BoundingBox}
 use Rattle.bdf_font.specs.declared.header.Header.{Header}
 use Rattle.bdf_font.specs.declared.reading.Reading.{Reading}
 use Rattle.bdf_font.specs.declared.reading.Draft.{Draft}
-use Rattle.bdf_font.specs.declared.reading.Place.{Place}
-use Rattle.bdf_font.specs.declared.reading.Place.TheVariants as place
+use Rattle.bdf_font.specs.declared.reading.LinePlace.{LinePlace}
+use Rattle.bdf_font.specs.declared.reading.LinePlace.TheVariants as place
 use Rattle.bdf_font.specs.Fonts.{FontValue}
 
 -- within 4,096 on both sides
@@ -52,7 +52,7 @@ pub record IsDraft (draft : Draft) : Type 0 where
   pub bounding_box : IfSome draft.bounding_box IsBox
 
 -- so many glyphs and bytes of a bitmap there may be at a place
-abbrev pub IsReadingPlace : Place → ℕ → ℕ → Type 0
+abbrev pub IsReadingPlace : LinePlace → ℕ → ℕ → Type 0
 IsReadingPlace place.Start glyphs bytes = glyphs ≤ max_glyphs
 IsReadingPlace place.Font glyphs bytes = glyphs ≤ max_glyphs
 IsReadingPlace place.Glyph glyphs bytes = glyphs < max_glyphs

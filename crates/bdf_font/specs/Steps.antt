@@ -2,7 +2,7 @@
 use Rattle.std.specs.Prelude.{◌≡◌, ℕ, ◌+◌, ◌-◌, ◌/◌, ◌==◌, ◌⊎◌, nat_le, true, false, if◌then◌else◌, List, [], ◌∷◌, ◌++◌, length, Option, Some, None, unwrap_or, Result, Ok, Err, ℤ, pos, negsuc}
 use Rattle.hex.specs.Hex.{decode_sized}
 use Rattle.hex.specs.declared.error.FromHexError.{FromHexError}
-use Rattle.blanks.specs.Blanks.{trimmed}
+use Rattle.ass_num.specs.Blanks.{trimmed}
 use Rattle.bdf_font.specs.Limits.{max_glyphs}
 use Rattle.bdf_font.specs.Words.{first_word, after_word, offset_of, bounding_box_of, family_name_of}
 use Rattle.ass_num.specs.Wholes.{whole_of}
@@ -21,8 +21,8 @@ use Rattle.bdf_font.specs.declared.glyphs.BoundingBox.{BoundingBox}
 use Rattle.bdf_font.specs.declared.header.Header.{Header}
 use Rattle.bdf_font.specs.declared.reading.Reading.{Reading}
 use Rattle.bdf_font.specs.declared.reading.Draft.{Draft}
-use Rattle.bdf_font.specs.declared.reading.Place.{Place}
-use Rattle.bdf_font.specs.declared.reading.Place.TheVariants as place
+use Rattle.bdf_font.specs.declared.reading.LinePlace.{LinePlace}
+use Rattle.bdf_font.specs.declared.reading.LinePlace.TheVariants as place
 use Rattle.bdf_font.specs.declared.keyword.Keyword.{Keyword}
 use Rattle.bdf_font.specs.declared.keyword.GlyphKeyword.{GlyphKeyword}
 use Rattle.bdf_font.specs.declared.keyword.HeaderKeyword.{HeaderKeyword}
@@ -129,7 +129,7 @@ after_rows cell _ reading = Fault BadRow
 abbrev pub bitmap_line : BoundingBox → ℕ → List ℕ → Reading → Outcome Reading
 bitmap_line cell left line reading = if left == 0 then after_rows cell (keyword_of (first_word line)) reading else row_line cell (left - 1) (trimmed line) reading
 
-abbrev pub line_step_at : Place → List ℕ → Reading → Outcome Reading
+abbrev pub line_step_at : LinePlace → List ℕ → Reading → Outcome Reading
 line_step_at place.Start line reading = first_line (keyword_of (first_word line)) reading
 line_step_at place.Font line reading = font_step (keyword_of (first_word line)) (after_word line) reading
 line_step_at place.Glyph line reading = glyph_line (keyword_of (first_word line)) (after_word line) reading

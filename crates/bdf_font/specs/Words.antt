@@ -3,7 +3,7 @@ use Rattle.std.specs.Prelude.{ℕ, Bool, ◌&&◌, ◌==◌, nat_lt, nat_le, int
 use Rattle.std.specs.List.{position_or_len, before_first}
 use Rattle.ass_num.specs.Bytes.{quote}
 use Rattle.ass_num.specs.Numerals.{is_blank}
-use Rattle.blanks.specs.Blanks.{past_blanks, before_blanks}
+use Rattle.ass_num.specs.Blanks.{past_blanks, before_blanks}
 use Rattle.ass_num.specs.Wholes.{whole_of}
 use Rattle.bdf_font.specs.Limits.{max_bitmap_side, max_offset}
 use Rattle.bdf_font.specs.declared.glyphs.BoundingBox.{BoundingBox}

@@ -13,8 +13,7 @@ use crate::glyphs::{BoundingBox, FontGlyph};
 use crate::keyword::{HeaderKeyword, PropertyKeyword};
 use crate::numbers::{bounding_box, family_name, offset};
 use crate::words::first_word;
-use ass_num::{Items, Mem, read_whole};
-use blanks::trimmed;
+use ass_num::{Items, Mem, read_whole, trimmed};
 use std::alloc::Global;
 
 /// What was said so far; of several like lines the last.

@@ -7,8 +7,7 @@ ghost use Rattle.bdf_font.specs.Words.{bitmap_side_of, offset_of, bounding_box_o
 
 use crate::glyphs::BoundingBox;
 use crate::words::first_word;
-use ass_num::read_whole;
-use blanks::{before_blanks, past_blanks};
+use ass_num::{before_blanks, past_blanks, read_whole};
 
 /// The most columns and the most rows of a bitmap.
 const MAX_BITMAP_SIDE: i32 = 1_024;

@@ -20,7 +20,8 @@ pub fn read_font(alloc: Global, bytes: &[u8]) -> Result<Font, FontRefusal>
     requires { length bytes.now ≤ max_file_bytes }
     // What is answered is the answer of the format, unless memory ran out.
     ensures answer { result ≢ Err FontRefusal.OutOfMemory → IsFontAnswer (text_lines bytes.now) result }
-    ensures only { (answer : Result FontValue FontRefusal) → IsFontAnswer (text_lines bytes.now) answer → (result ≡ answer) ⊎ (result ≡ Err FontRefusal.OutOfMemory) }
+    ensures only { (answer : Result FontValue FontRefusal) → IsFontAnswer (text_lines bytes.now) answer → (result ≡ answer)
+        ⊎ (result ≡ Err FontRefusal.OutOfMemory) }
 
     ensures font { IfOk result IsFont }
 {

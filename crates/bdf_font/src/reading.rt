@@ -4,7 +4,8 @@ ghost use Rattle.std.specs.Prelude.{◌≡◌, ◌+◌, ◌*◌, ◌/◌, ◌<�
 ghost use Rattle.bdf_font.specs.Limits.{max_glyphs};
 ghost use Rattle.bdf_font.specs.Ranges.{IsBox, IsGlyph, IsDraft, IsReadingPlace, IsFontReading, Keeps};
 ghost use Rattle.bdf_font.specs.Rows.{Gives};
-ghost use Rattle.bdf_font.specs.Steps.{no_font_lines, no_glyph, first_line, font_step, glyph_line, draft_line, bitmap_line, row_line, reading_after, made_glyph};
+ghost use Rattle.bdf_font.specs.Steps.{no_font_lines, no_glyph, first_line, font_step, glyph_line, draft_line, bitmap_line, row_line, reading_after};
+ghost use Rattle.bdf_font.specs.Steps.{made_glyph};
 
 use crate::bits::Bits;
 use crate::cause::{FontCause, Stop};
@@ -13,8 +14,7 @@ use crate::header::Header;
 use crate::keyword::{GlyphKeyword, HeaderKeyword, Keyword, keyword_of};
 use crate::numbers::{bounding_box, offset};
 use crate::words::first_word;
-use ass_num::{Items, read_whole};
-use blanks::trimmed;
+use ass_num::{Items, read_whole, trimmed};
 use std::alloc::Global;
 use std::mem;
 
@@ -23,7 +23,7 @@ pub const MAX_GLYPHS: usize = 131_072;
 
 /// Where a line stands.
 #[derive(Clone, Copy, Debug, PartialEq, Eq)]
-pub enum Place {
+pub enum LinePlace {
     /// Before `STARTFONT`.
     Start,
     /// In the font, outside its glyphs.
@@ -117,7 +117,7 @@ impl Draft {
 /// What was read so far.
 #[derive(Debug, Drop)]
 pub struct Reading {
-    pub place: Place,
+    pub place: LinePlace,
     pub header: Header,
     pub glyphs: Items<FontGlyph>,
     pub draft: Draft,
@@ -130,7 +130,7 @@ impl Reading {
         ensures sound { IsFontReading result }
     {
         Reading {
-            place: Place::Start,
+            place: LinePlace::Start,
             header: Header::new(),
             glyphs: Items::new(alloc),
             draft: Draft::new(alloc),
@@ -143,16 +143,16 @@ impl Reading {
         ensures read { Gives result self.new (reading_after line.now self.old) }
         ensures sound { Keeps result (IsFontReading self.new) }
     {
-        if let Place::Bitmap(cell, left) = self.place {
+        if let LinePlace::Bitmap(cell, left) = self.place {
             return self.bitmap_line(alloc, cell, left, line);
         }
         let (word, rest) = first_word(line);
         let keyword = keyword_of(word);
         match self.place {
-            Place::Start => self.first_line(keyword),
-            Place::Font => self.font_step(alloc, keyword, rest),
-            Place::Glyph => self.glyph_line(alloc, keyword, rest),
-            Place::Bitmap(_, _) => unreachable!(),
+            LinePlace::Start => self.first_line(keyword),
+            LinePlace::Font => self.font_step(alloc, keyword, rest),
+            LinePlace::Glyph => self.glyph_line(alloc, keyword, rest),
+            LinePlace::Bitmap(_, _) => unreachable!(),
         }
     }
 
@@ -163,7 +163,7 @@ impl Reading {
     {
         match keyword {
             Keyword::StartFont => {
-                self.place = Place::Font;
+                self.place = LinePlace::Font;
                 Ok(())
             }
             Keyword::Header(HeaderKeyword::Property(_)) => Ok(()),
@@ -184,7 +184,7 @@ impl Reading {
                 if self.glyphs.len() >= MAX_GLYPHS {
                     return Err(Stop::Full);
                 }
-                self.place = Place::Glyph;
+                self.place = LinePlace::Glyph;
                 Ok(())
             }
             Keyword::Glyph(_) => Err(Stop::Fault(FontCause::Misplaced)),
@@ -212,7 +212,7 @@ impl Reading {
                 };
                 let bytes = bitmap_bytes(cell.w, cell.h);
                 self.draft.bits = Bits::with_room(alloc, bytes)?;
-                self.place = Place::Bitmap(cell, cell.h);
+                self.place = LinePlace::Bitmap(cell, cell.h);
                 Ok(())
             }
             Keyword::Glyph(keyword) => {
@@ -235,7 +235,7 @@ impl Reading {
         line: &[u8],
     ) -> Result<(), Stop>
         requires sound { IsFontReading self.old }
-        requires place { IsReadingPlace (Place.Bitmap cell left) (length self.old.glyphs) (length self.old.draft.bits) }
+        requires place { IsReadingPlace (LinePlace.Bitmap cell left) (length self.old.glyphs) (length self.old.draft.bits) }
         ensures read { Gives result self.new (bitmap_line cell left line.now self.old) }
         ensures sound { Keeps result (IsFontReading self.new) }
     {
@@ -247,18 +247,18 @@ impl Reading {
         }
         let draft = mem::replace(&mut self.draft, Draft::new(alloc));
         self.glyphs.push(draft.made(cell))?;
-        self.place = Place::Font;
+        self.place = LinePlace::Font;
         Ok(())
     }
 
     fn row_line(&mut self, cell: BoundingBox, left: u16, digits: &[u8]) -> Result<(), Stop>
         requires sound { IsFontReading self.old }
-        requires place { IsReadingPlace (Place.Bitmap cell (left + 1)) (length self.old.glyphs) (length self.old.draft.bits) }
+        requires place { IsReadingPlace (LinePlace.Bitmap cell (left + 1)) (length self.old.glyphs) (length self.old.draft.bits) }
         ensures read { Gives result self.new (row_line cell left digits.now self.old) }
         ensures sound { Keeps result (IsFontReading self.new) }
     {
         self.draft.bits.push_row(digits, row_bytes(cell.w))?;
-        self.place = Place::Bitmap(cell, left);
+        self.place = LinePlace::Bitmap(cell, left);
         Ok(())
     }
 }

@@ -5,8 +5,7 @@ ghost use Rattle.std.specs.List.{position_or_len};
 ghost use Rattle.ass_num.specs.Numerals.{is_blank};
 ghost use Rattle.bdf_font.specs.Words.{first_word, after_word};
 
-use ass_num::is_blank;
-use blanks::past_blanks;
+use ass_num::{is_blank, past_blanks};
 
 fn word_len(text: &[u8]) -> usize
     ensures len { result ≡ position_or_len is_blank text.now }

@@ -9,6 +9,7 @@ use Rattle.ass_num.specs.Masks.{MaskValue, is_mask}
 use Rattle.blend.specs.declared.area.Area.{Area}
 use Rattle.blend.specs.declared.area.Band.{Band}
 use Rattle.ass_num.specs.Coverage.{moved_value}
+use Rattle.ass_num.proofs.OrderLemmas.{le_is, le_not, lt_is, lt_not}
 use Rattle.ass_num.proofs.MaskLemmas.{mask_length, offset_inside, value_beside, value_over}
 use Rattle.blend.specs.Blending.{in_rect}
 use Rattle.blend.specs.Areas.{in_area, in_moved_box, IsPart, IsAreaCovered, IsMeeting}
@@ -54,7 +55,7 @@ pub between-held : (low high l r i : ℕ) (x1 x2 y1 y2 : ℤ) → y1 ≡ x1 → 
 between-held low high l r i x1 x2 y1 y2 e f p q h left right =
     between-bounds low high l r i x1 x2 p q h (λ k a b. left k a b ∙ ap (int_lt (pos k)) e) (λ k a b. right k a b ∙ ap (int_lt (pos k)) f)
 
-and-pairs : (a b p q : Bool) → ((a && b) && (p && q)) ≡ ((a && p) && (b && q))
+pub and-pairs : (a b p q : Bool) → ((a && b) && (p && q)) ≡ ((a && p) && (b && q))
 and-pairs true true p q = refl
 and-pairs true false true q = refl
 and-pairs true false false q = refl
@@ -86,21 +87,15 @@ pub record IsBetween (x1 y1 x2 y2 i j : ℤ) : Type 0 where
   pub top : y1 ≤ℤ j
   pub bottom : j <ℤ y2
 
-le_z-true : (a b : ℤ) → int_le a b ≡ true → a ≤ℤ b
-le_z-true a b e = grind (arith, ints)
-
-lt_z-true : (a b : ℤ) → int_lt a b ≡ true → a <ℤ b
-lt_z-true a b e = grind (arith, ints)
-
 pub between-rect : (x1 y1 x2 y2 i j : ℤ) → in_rect x1 y1 x2 y2 i j ≡ true → IsBetween x1 y1 x2 y2 i j
 between-rect x1 y1 x2 y2 i j e =
     let columns : (int_le x1 i && int_lt i x2) ≡ true = and-first (int_le x1 i && int_lt i x2) (int_le y1 j && int_lt j y2) e in
     let rows : (int_le y1 j && int_lt j y2) ≡ true = and-second (int_le x1 i && int_lt i x2) (int_le y1 j && int_lt j y2) e in
     record {
-      left = le_z-true x1 i (and-first (int_le x1 i) (int_lt i x2) columns);
-      right = lt_z-true i x2 (and-second (int_le x1 i) (int_lt i x2) columns);
-      top = le_z-true y1 j (and-first (int_le y1 j) (int_lt j y2) rows);
-      bottom = lt_z-true j y2 (and-second (int_le y1 j) (int_lt j y2) rows);
+      left = le_is x1 i (and-first (int_le x1 i) (int_lt i x2) columns);
+      right = lt_is i x2 (and-second (int_le x1 i) (int_lt i x2) columns);
+      top = le_is y1 j (and-first (int_le y1 j) (int_lt j y2) rows);
+      bottom = lt_is j y2 (and-second (int_le y1 j) (int_lt j y2) rows);
     }
 
 -- where a piece of a row begins in a mask's bytes, and that it lies in them
@@ -194,22 +189,16 @@ meeting-is r band p part both = record {
   whole = λ i j a b c. both i j ∙ ap (λ (t : Bool). t && in_moved_box p i j) (in_area-yes (whole_band band) i j (omega arith) a b c);
 }
 
-le_z-false : (a b : ℤ) → int_le a b ≡ false → b <ℤ a
-le_z-false a b e = grind (arith, ints)
-
-lt_z-false : (a b : ℤ) → int_lt a b ≡ false → b ≤ℤ a
-lt_z-false a b e = grind (arith, ints)
-
 -- what lies outside a rectangle lies beside it, or over or under it
-outside : (x1 y1 x2 y2 i j : ℤ) → in_rect x1 y1 x2 y2 i j ≡ false → ((i <ℤ x1) ⊎ (x2 ≤ℤ i)) ⊎ ((j <ℤ y1) ⊎ (y2 ≤ℤ j))
+pub outside : (x1 y1 x2 y2 i j : ℤ) → in_rect x1 y1 x2 y2 i j ≡ false → ((i <ℤ x1) ⊎ (x2 ≤ℤ i)) ⊎ ((j <ℤ y1) ⊎ (y2 ≤ℤ j))
 outside x1 y1 x2 y2 i j out = go (int_le x1 i) (int_lt i x2) (int_le y1 j) (int_lt j y2) refl refl refl refl out
   where
     go : (l r t b : Bool) → int_le x1 i ≡ l → int_lt i x2 ≡ r → int_le y1 j ≡ t → int_lt j y2 ≡ b → ((l && r) && (t && b)) ≡ false
         → ((i <ℤ x1) ⊎ (x2 ≤ℤ i)) ⊎ ((j <ℤ y1) ⊎ (y2 ≤ℤ j))
-    go false r t b el er et eb f = inl (inl (le_z-false x1 i el))
-    go true false t b el er et eb f = inl (inr (lt_z-false i x2 er))
-    go true true false b el er et eb f = inr (inl (le_z-false y1 j et))
-    go true true true false el er et eb f = inr (inr (lt_z-false j y2 eb))
+    go false r t b el er et eb f = inl (inl (le_not x1 i el))
+    go true false t b el er et eb f = inl (inr (lt_not i x2 er))
+    go true true false b el er et eb f = inr (inl (le_not y1 j et))
+    go true true true false el er et eb f = inr (inr (lt_not j y2 eb))
     go true true true true el er et eb f = absurd (true≢false f)
 
 pub moved_value-outside : (p : MaskValue × ℤ × ℤ) (i j : ℕ) → in_moved_box p i j ≡ false → moved_value p (pos i) (pos j) ≡ 0

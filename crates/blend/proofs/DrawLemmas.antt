@@ -206,7 +206,7 @@ under-inverse band colour p over area part s t u both was is =
     (λ i j e. under-outside colour p over area part i j (both i j) e)
 
 -- no stencil makes coverage where there is none
-stencilled-none : (stencil : StencilValue) (i j m : ℕ) → m ≡ 0 → stencilled stencil i j m ≡ 0
+pub stencilled-none : (stencil : StencilValue) (i j m : ℕ) → m ≡ 0 → stencilled stencil i j m ≡ 0
 stencilled-none Free i j m e = e
 stencilled-none (Rect x1 y1 x2 y2 inverse) i j m e = either (in_rect x1 y1 x2 y2 (pos i) (pos j)) inverse
   where

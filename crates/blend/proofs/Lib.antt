@@ -5,3 +5,5 @@ pub mod CanvasLemmas
 pub mod DrawLemmas
 pub mod FillLemmas
 pub mod TintedLemmas
+pub mod Bands
+pub mod Lists

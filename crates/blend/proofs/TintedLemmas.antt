@@ -20,10 +20,10 @@ IsJoined t u v = ((u.weight ≡ 0) × IsSame t v) ⊎ ((t.weight ≡ 0) × IsSam
 pub blended-none : (under over : ℕ) → blended under over 0 ≡ under
 blended-none under over = omega arith
 
-blended-clear : (t : Tint) (channel : Rgba → ℕ) (d : ℕ) → t.weight ≡ 0 → blended d (channel t.colour) t.weight ≡ d
+pub blended-clear : (t : Tint) (channel : Rgba → ℕ) (d : ℕ) → t.weight ≡ 0 → blended d (channel t.colour) t.weight ≡ d
 blended-clear t channel d e = ap (λ k. blended d (channel t.colour) k) e ∙ blended-none d (channel t.colour)
 
-blended-same : (t u : Tint) (channel : Rgba → ℕ) (d : ℕ) → IsSame t u → blended d (channel t.colour) t.weight ≡ blended d (channel u.colour) u.weight
+pub blended-same : (t u : Tint) (channel : Rgba → ℕ) (d : ℕ) → IsSame t u → blended d (channel t.colour) t.weight ≡ blended d (channel u.colour) u.weight
 blended-same t u channel d (inl e) = ap (λ (v : Tint). blended d (channel v.colour) v.weight) e
 blended-same t u channel d (inr e) = blended-clear t channel d e.0 ∙ sym (blended-clear u channel d e.1)
 

@@ -1,4 +1,4 @@
--- Inner: rectangles of pixels of a picture, and tints that fall on one of them alone.
+-- Public: rectangles of pixels of a picture, and tints that fall on one of them alone.
 use Rattle.std.specs.Prelude.{◌≡◌, ℕ, ℤ, pos, ◌+◌, ◌*◌, ◌+ℤ◌, ◌<◌, ◌≤◌, Bool, true, ◌&&◌, nat_le, nat_lt, if◌then◌else◌, List}
 use Rattle.ass_num.specs.Masks.{MaskValue}
 use Rattle.ass_num.specs.Coverage.{moved_value}

@@ -1,4 +1,4 @@
--- Public: what drawing an image does to the pixels of a picture (docs/BLENDING.md).
+-- Public: what drawing an image does to the pixels of a picture (docs/PICTURES.md).
 use Rattle.std.specs.Prelude.{ℕ, ℤ, pos, ◌+◌, ◌-◌, ◌*◌, ◌/◌, ◌%◌, Bool, ◌&&◌, int_lt, int_le, List, ◌∷◌, if◌then◌else◌}
 use Rattle.ass_num.specs.Masks.{MaskValue}
 use Rattle.ass_num.specs.Coverage.{moved_value}

@@ -4,4 +4,5 @@ pub mod Lending
 pub mod Areas
 pub mod Blocks
 pub mod Bands
-pub mod Stencils
+pub mod Images
+pub mod Painting

@@ -3,11 +3,12 @@
 ghost use Rattle.std.specs.Prelude.{◌≡◌, ◌*◌, length, replicate, IfOk};
 ghost use Rattle.ass_num.specs.Limits.{IsFrameSize};
 ghost use Rattle.blend.specs.Canvases.{black, drawn};
-ghost use Rattle.blend.specs.Stencils.{stencil_value};
+ghost use Rattle.blend.specs.Images.{image_value};
 
+use crate::as_mask::AsMask;
 use crate::drawing::draw_rows;
-use crate::stencil::Stencil;
-use ass_num::{Mask, Mem, Rgba, Size};
+use crate::image::Image;
+use ass_num::{Mem, Size};
 use std::alloc::Global;
 use std::marker::Model;
 
@@ -65,40 +66,11 @@ impl Canvas {
     }
 
     /// Draws an image: one step of the fold that makes a picture. It takes no memory.
-    pub fn draw(
-        &mut self,
-        mask: &Mask,
-        x: i32,
-        y: i32,
-        left: Rgba,
-        right: Rgba,
-        edge: i32,
-        stencil: &Stencil<'_>,
-    )
-        ensures { self.new ≡ drawn self.old (record {
-          mask = mask.now;
-          x = x;
-          y = y;
-          left = left;
-          right = right;
-          edge = edge;
-          stencil = stencil_value stencil.now;
-        }) }
+    pub fn draw<M: AsMask>(&mut self, image: &Image<M>)
+        ensures { self.new ≡ drawn self.old (image_value M.mask image.now) }
     {
         let w = self.w;
         let h = self.h;
-        draw_rows(
-            self.bytes.as_mut_slice(),
-            w,
-            0,
-            h,
-            mask,
-            x,
-            y,
-            left,
-            right,
-            edge,
-            stencil,
-        );
+        draw_rows(self.bytes.as_mut_slice(), w, 0, h, image);
     }
 }

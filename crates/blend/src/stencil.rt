@@ -1,16 +1,23 @@
 //! Stencils: clips as drawing takes them, in pixels and with the mask of a drawn clip at hand.
 
-use ass_num::Mask;
-
-/// What hides parts of an image.
-#[derive(Clone, Copy)]
-pub enum Stencil<'a> {
-    /// Nothing is hidden.
+/// Where an image shows. All numbers are pixels of the picture. `M` has the mask of a drawn clip.
+#[derive(Drop)]
+pub enum Stencil<M> {
+    /// Everywhere.
     Free,
-    /// The left, top, right and bottom bounds of a rectangle in pixels; the right and bottom ones don't belong to it.
-    /// What lies outside is hidden, or at `true` what lies inside.
-    Rect(i32, i32, i32, i32, bool),
-    /// A mask, and by how many columns and rows it is moved. The image's coverage is multiplied by the mask's,
-    /// or at `true` by what the mask leaves.
-    Drawn(&'a Mask, i32, i32, bool),
+    /// From `x1` and `y1` up to but not with `x2` and `y2`; `inverse`: anywhere else.
+    Rect {
+        x1: i32,
+        y1: i32,
+        x2: i32,
+        y2: i32,
+        inverse: bool,
+    },
+    /// By the mask, whose 0 stands at `x` and `y`: the image's coverage is multiplied by the mask's; `inverse`: by what it leaves.
+    Drawn {
+        mask: M,
+        x: i32,
+        y: i32,
+        inverse: bool,
+    },
 }

@@ -82,7 +82,8 @@ pub fn widened(alloc: Global, region: &Region, rx: u32, ry: u32) -> Mem<Region>
     requires down { ry ≤ max_radius }
     ensures samples { IfOk result (λ r. (i j : ℤ) → member r.top r.rows i j ≡ in_widened (member region.now.top region.now.rows) rx ry i j) }
     ensures canonical { IfOk result (λ r. is_canonical r.top r.rows ≡ true) }
-    ensures within { IfOk result (λ r. (limit further : ℕ) → rx ≤ further → ry ≤ further → IsRegionWithin limit region.now.top region.now.rows → IsRegionWithin (limit + further) r.top r.rows) }
+    ensures within { IfOk result (λ r. (limit further : ℕ) → rx ≤ further → ry ≤ further → IsRegionWithin limit region.now.top region.now.rows
+        → IsRegionWithin (limit + further) r.top r.rows) }
 {
     if region.rows().len() == 0 {
         return Ok(Region::empty(alloc));

@@ -15,7 +15,7 @@ use std::sync::Wait;
 use std::sync::atomic::{AtomicBool, Ordering};
 use std::thread::{Threads, join_mut};
 
-// A thread looks so often whether another has got so far.
+/// A thread looks so often whether another has got so far.
 const LOOKS: u32 = 100_000_000;
 
 const ENTRIES: u32 = 64;
@@ -61,13 +61,15 @@ fn claim_and_fail<R: Wait>(
     let (pass, asked) = cache.ask(rt, alloc, pass, &key);
     match asked {
         Asked::Hit(pin) => cache.unpin(rt, pass, pin),
-        Asked::Claim(ticket) => {
-            flags.claimed.store(true, Ordering::Release);
-            await_flag(&flags.asking);
-            pause();
-            cache.fail(rt, pass, ticket)
-        }
-        Asked::Crowded => pass,
+        Asked::Make(duty) => match duty {
+            Some(ticket) => {
+                flags.claimed.store(true, Ordering::Release);
+                await_flag(&flags.asking);
+                pause();
+                cache.fail(rt, pass, ticket)
+            }
+            None => pass,
+        },
         Asked::OutOfMemory => pass,
     }
 }

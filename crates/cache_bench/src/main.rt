@@ -27,13 +27,13 @@ use stop::Stop;
 use visits::{Doubled, visit_keys};
 use workers::{lend_four, rejoin_four, work_by_four};
 
-// So many entries that no shard is full.
+/// So many entries that no shard is full.
 const ENTRIES: u32 = 65_536;
 
-// Each value costs 1, so none is evicted.
+/// Each value costs 1, so none is evicted.
 const BUDGET: u64 = 1_000_000;
 
-// So often a time is taken. The least one counts.
+/// So often a time is taken. The least one counts.
 const LAPS: u32 = 200;
 
 /// What a run came to: the least time that one thread took for all visits, that four threads took for them, how many of
@@ -109,7 +109,8 @@ fn run_threads<R: Wait + Threads + Sync + Clock>(
 
 /// Prints how many visits found a value, and what the cache counted.
 fn show_totals<R: Print>(rt: &R, name: &str, found: u32, totals: &Totals) -> Result<(), Stop> {
-    let steps = [totals.claims, totals.fills, totals.fails, totals.hits];
+    let counts = totals.counts;
+    let steps = [counts.claims, counts.fills, counts.fails, counts.hits];
     let now = [u64::from(totals.entries), totals.pinned, totals.unpinned];
     println!(rt;
         "{name}: {found} found; claims, fills, fails, hits: {steps:?}; entries, pinned, unpinned: {now:?}"

@@ -6,7 +6,7 @@ use std::alloc::Global;
 /// The keys of shard n begin with n times this, and so many are in a shard before the next one's.
 pub const SHARD_KEYS: u32 = 65_536;
 
-// The numbers of a series that seems random.
+/// The numbers of a series that seems random.
 const FACTOR: u32 = 1_664_525;
 
 const ADDEND: u32 = 1_013_904_223;
@@ -30,7 +30,7 @@ pub fn keys_of_shard(alloc: Global, shard: u32, count: u32) -> Mem<Vec<u32>> {
     Ok(keys)
 }
 
-// So many keys of all four shards, drawn from the numbers of one thread as a series that seems random says.
+/// So many keys of all four shards, drawn from the numbers of one thread as a series that seems random says.
 fn mixed_keys(alloc: Global, thread: u32, count: u32) -> Mem<Vec<u32>> {
     let mut keys = Vec::new(alloc);
     let mut drawn = thread;

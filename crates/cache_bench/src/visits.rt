@@ -39,7 +39,7 @@ impl Made for Doubled {
     ghost same_key = { eqb-true };
 }
 
-// The value of a key, twice.
+/// The value of a key, twice.
 fn make(alloc: Global, key: u32) -> Mem<(Arc<u64>, Arc<u64>)>
     ensures { IfOk result (λ r. (arc_value r.0 ≡ 2 * key) × (arc_value r.1 ≡ 2 * key)) }
 {
@@ -65,16 +65,18 @@ fn visit<R: Wait>(
             let pass = cache.unpin(rt, pass, pin);
             (pass, true)
         }
-        Asked::Claim(ticket) => {
-            let Ok((kept, pinned)) = make(alloc, key) else {
-                let pass = cache.fail(rt, pass, ticket);
-                return (pass, false);
-            };
-            let (pass, pin) = cache.fill(rt, pass, ticket, kept, pinned);
-            let pass = cache.unpin(rt, pass, pin);
-            (pass, true)
-        }
-        Asked::Crowded => (pass, false),
+        Asked::Make(duty) => match duty {
+            Some(ticket) => {
+                let Ok((kept, pinned)) = make(alloc, key) else {
+                    let pass = cache.fail(rt, pass, ticket);
+                    return (pass, false);
+                };
+                let (pass, pin) = cache.fill(rt, pass, ticket, kept, pinned);
+                let pass = cache.unpin(rt, pass, pin);
+                (pass, true)
+            }
+            None => (pass, false),
+        },
         Asked::OutOfMemory => (pass, false),
     }
 }

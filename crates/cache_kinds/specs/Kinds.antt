@@ -8,9 +8,9 @@ use Rattle.flight_cache.specs.Meaning.{Meaning}
 use Rattle.mask_keys.specs.declared.composite_key.CompositeKey.{CompositeKey}
 use Rattle.mask_keys.specs.declared.mask_key.MaskKey.{MaskKey}
 use Rattle.mask_keys.specs.declared.region_key.RegionKey.{RegionKey}
-use Rattle.mask_model.specs.Costs.{mask_cost, region_cost}
-use Rattle.mask_model.specs.Numbers.{composite_numbers, mask_numbers, region_numbers}
-use Rattle.mask_model.specs.Values.{composite_value, mask_value, region_value}
+use Rattle.mask_keys.specs.Costs.{mask_cost, region_cost}
+use Rattle.mask_keys.specs.Numbers.{composite_numbers, mask_numbers, region_numbers}
+use Rattle.mask_keys.specs.Values.{composite_value, mask_value, region_value}
 
 -- of the regions of outlines, widened or not
 abbrev pub region_meaning : {Z : Type 0} → Meaning RegionKey RegionValue (Arc FontSet Z)

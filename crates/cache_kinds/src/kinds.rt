@@ -1,18 +1,18 @@
 //! What the three caches keep. The tag of each is the fonts.
 
+use crate::{add_composite_numbers, add_mask_numbers, add_region_numbers};
 use ass_num::{Mask, Mem, Region};
 use bdf_font::FontSet;
 use flight_cache::{Made, ShardSum};
-use key_numbers::{add_composite_numbers, add_mask_numbers, add_region_numbers};
 use made_values::{mask_cost, region_cost};
 use mask_keys::{CompositeKey, MaskKey, RegionKey, key_copy, mask_key_copy, region_key_copy};
 use std::alloc::Global;
 use std::sync::Arc;
 
 /// Regions of outlines, widened or not.
-pub struct OutlineMade;
+pub struct RegionMade;
 
-impl Made for OutlineMade {
+impl Made for RegionMade {
     ghost use Rattle.cache_kinds.specs.Kinds.{region_meaning};
     ghost use Rattle.mask_keys.proofs.Equal.{region_same};
 

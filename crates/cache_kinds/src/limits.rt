@@ -4,7 +4,7 @@ ghost use Rattle.evict_core.specs.Machine.{max_entries};
 ghost use Rattle.flight_cache.specs.Shards.{min_cache_entries};
 ghost use Rattle.cache_kinds.specs.Limits as limits;
 
-// How much budget an entry stands for.
+/// How much budget an entry stands for.
 const BUDGET_OF_ENTRY: u64 = 1024;
 
 const MIN_ENTRIES: u64 = 16;

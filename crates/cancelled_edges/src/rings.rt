@@ -1,6 +1,7 @@
 //! Closed rings of given edges.
 
-ghost use Rattle.std.specs.Prelude.{◌≡◌, ℕ, ◌+◌, ◌<◌, ◌≤◌, ◌++◌, [], Bool, true, false, length, map, replicate, sum_by, slice_index_or, IfOk, OnOk, IsPermutation};
+ghost use Rattle.std.specs.Prelude.{◌≡◌, ℕ, ◌+◌, ◌<◌, ◌≤◌, ◌++◌, [], Bool, true, false, length, map, replicate, sum_by, slice_index_or, IfOk, OnOk};
+ghost use Rattle.std.specs.Prelude.{IsPermutation};
 ghost use Rattle.ass_num.specs.Winding.{edges as ring_edges, edges_of};
 ghost use Rattle.cancelled_edges.specs.Edges.{IsClosed, way};
 ghost use Rattle.cancelled_edges.specs.Walks.{IsInPointOrder, IsNext, IsTakenWhole, untaken_sum};

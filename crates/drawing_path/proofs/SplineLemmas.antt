@@ -70,7 +70,7 @@ place_kept path more (Some place) plain is = record {
   behind = is.behind ++ more;
   parts = ap (λ z. z ++ more) is.parts ∙ append_assoc is.before (Spline is.control is.closed ∷ is.behind) more;
   count = is.count;
-  alone = list_any-append is_figure_or_spline is.behind more ∙ ap (λ z. z || list_any is_figure_or_spline more) is.alone ∙ plain;
+  local = list_any-append is_figure_or_spline is.behind more ∙ ap (λ z. z || list_any is_figure_or_spline more) is.local ∙ plain;
 }
 
 -- the last spline of a path, changed
@@ -78,7 +78,7 @@ pub changed_at : (change : List Point → Bool → Seg) (path : List Seg) (place
 changed_at change path place is =
     ap (last_spline_changed change) is.parts
     ∙ changed_behind change is.before (Spline is.control is.closed ∷ is.behind) refl
-    ∙ ap (λ z. is.before ++ cond z (Spline is.control is.closed ∷ last_spline_changed change is.behind) (change is.control is.closed ∷ is.behind)) is.alone
+    ∙ ap (λ z. is.before ++ cond z (Spline is.control is.closed ∷ last_spline_changed change is.behind) (change is.control is.closed ∷ is.behind)) is.local
 
 -- Figures begun behind a path have no spline.
 figures_stay : (change : List Point → Bool → Seg) (points : List Point) → last_spline_changed change (map Move points) ≡ map Move points
@@ -107,7 +107,7 @@ cubics_plain [] = refl
 
 -- a spline at the end
 pub spline_added : (path : List Seg) (control : List Point) → IsLastSpline (path ++ (Spline control false ∷ [])) (length path)
-spline_added path control = record { before = path; control = control; closed = false; behind = []; parts = refl; count = refl; alone = refl }
+spline_added path control = record { before = path; control = control; closed = false; behind = []; parts = refl; count = refl; local = refl }
 
 -- A write in the place of the last spline is the change of it.
 pub spline_written : (path : List Seg) (place : ℕ) (seg : Seg) (control : List Point) (closed : Bool) (change : List Point → Bool → Seg) (new_control : List Point) (new_closed : Bool) → IsLastSpline path place → seg ≡ get_or path place seg → seg ≡ Spline control closed → change control closed ≡ Spline new_control new_closed → (set path place (Spline new_control new_closed) ≡ last_spline_changed change path) × IsLastSpline (set path place (Spline new_control new_closed)) place
@@ -119,7 +119,7 @@ spline_written path place seg control closed change new_control new_closed is re
     let written : set path place (Spline new_control new_closed) ≡ is.before ++ (Spline new_control new_closed ∷ is.behind) = ap (λ z. set z place (Spline new_control new_closed)) is.parts ∙ set_at is.before (Spline is.control is.closed) is.behind (Spline new_control new_closed) place is.count in
     let new : change is.control is.closed ≡ Spline new_control new_closed = ap (λ z. change z is.closed) points ∙ ap (change control) flag ∙ changed in (
       written ∙ ap (λ z. is.before ++ (z ∷ is.behind)) (sym new) ∙ sym (changed_at change path place is),
-      record { before = is.before; control = new_control; closed = new_closed; behind = is.behind; parts = written; count = is.count; alone = is.alone },
+      record { before = is.before; control = new_control; closed = new_closed; behind = is.behind; parts = written; count = is.count; local = is.local },
     )
 
 pub not_empty : {X : Type 0} (xs : List X) → (length xs == 0) ≡ false → ¬ (xs ≡ [])

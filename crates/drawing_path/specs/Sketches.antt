@@ -16,7 +16,7 @@ pub record IsLastSpline (path : List Seg) (place : ℕ) : Type 0 where
   pub behind : List Seg
   pub parts : path ≡ before ++ (Spline control closed ∷ behind)
   pub count : length before ≡ place
-  pub alone : list_any is_figure_or_spline behind ≡ false
+  pub local : list_any is_figure_or_spline behind ≡ false
 
 -- The place of the last spline of the last figure, or that this figure has none.
 abbrev pub IsSplinePlace : List Seg → Option ℕ → Type 0

@@ -24,7 +24,7 @@ use Rattle.draw_numbers.specs.declared.widths.Radii.{Radii}
 use Rattle.draw_numbers.specs.declared.widths.Softness.{Softness}
 use Rattle.mask_keys.specs.Keys.{IsValidClip, IsValidDraw, IsValidOutline, IsValidPart, IsValidPlan, max_blur_radius, max_border, max_part_offset, max_passes, samples_across}
 use Rattle.mask_keys.specs.declared.plans.Clip.{Clip}
-use Rattle.mask_model.specs.Outlines.{glyph_counts}
+use Rattle.mask_keys.specs.Outlines.{glyph_counts}
 use Rattle.outline_points.specs.Limits.{max_length}
 use Rattle.override_tags.specs.Ranges.{IsClip}
 use Rattle.override_tags.specs.declared.tag.ClipTag.{ClipTag}

@@ -8,7 +8,7 @@ use Rattle.bdf_font.specs.Fonts.{FontValue}
 use Rattle.mask_keys.specs.Keys.{IsValidDraw, IsValidPlan}
 use Rattle.mask_keys.specs.declared.plans.Clip.{Clip}
 use Rattle.mask_keys.specs.declared.plans.Draw.{Draw}
-use Rattle.mask_model.specs.Outlines.{glyph_counts}
+use Rattle.mask_keys.specs.Outlines.{glyph_counts}
 use Rattle.override_tags.specs.Views.{IsView}
 use Rattle.override_tags.specs.declared.view.EventView.{EventView}
 use Rattle.text_layout.specs.Fonts.{IsLayoutFontSet}

@@ -19,7 +19,7 @@ use Rattle.bdf_font.proofs.PlaceLemmas.{glyph_within}
 use Rattle.mask_keys.specs.Keys.{IsValidOutline}
 use Rattle.mask_keys.specs.declared.outline_key.OutlineKey.{OutlineKey}
 use Rattle.mask_keys.specs.declared.outline_key.OutlineKey.TheVariants.{Glyph}
-use Rattle.mask_model.specs.Outlines.{glyph_counts}
+use Rattle.mask_keys.specs.Outlines.{glyph_counts}
 use Rattle.outline_points.specs.Limits.{max_scale}
 use Rattle.outline_points.specs.Placing.{IsMatrix, IsScale}
 use Rattle.override_tags.specs.Views.{IsShownItem, IsShownKind, IsState, IsView}

@@ -11,7 +11,7 @@ mod rows;
 mod runs;
 mod stage;
 
-pub use event::{add_laid_event, add_moved_event, add_viewed_event};
+pub use event::{add_laid_event, add_viewed_event};
 pub use laws::runs_are_maximal;
 pub use rows::add_event_draws;
 pub use stage::Stage;

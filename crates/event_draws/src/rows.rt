@@ -2,7 +2,7 @@
 
 ghost use Rattle.std.specs.Prelude.{◌≡◌, ◌++◌, length, flat_map, All, OnOk, IfSome};
 ghost use Rattle.mask_keys.specs.Keys.{IsValidPlan};
-ghost use Rattle.mask_model.specs.Outlines.{glyph_counts};
+ghost use Rattle.mask_keys.specs.Outlines.{glyph_counts};
 ghost use Rattle.override_tags.specs.Views.{IsView};
 ghost use Rattle.text_layout.specs.Fonts.{IsLayoutFontSet};
 ghost use Rattle.event_draws.specs.EventDraws as rule;

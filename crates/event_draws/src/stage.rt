@@ -2,22 +2,23 @@
 
 ghost use Rattle.std.specs.Prelude.{◌≡◌, ◌+◌, IfSome};
 ghost use Rattle.ass_num.specs.Limits.{IsFrameSize, IsPointWithin, IsWithin, max_instant};
-ghost use Rattle.ass_script.specs.Ranges.{IsScript, IsScriptHeader};
+ghost use Rattle.ass_script.specs.Ranges.{IsScriptHeader};
 ghost use Rattle.ass_events.specs.Ranges.{IsEvent};
 ghost use Rattle.outline_points.specs.Limits.{max_length};
 ghost use Rattle.override_tags.specs.Views.{IsHeldPlace};
 ghost use Rattle.tag_state.specs.Views.{elapsed_at};
 ghost use Rattle.text_layout.specs.Anchors.{IsBlockSide, block_corner};
 ghost use Rattle.text_layout.specs.Limits.{max_anchor, max_block};
+ghost use Rattle.text_layout.specs.Settings.{IsSetting};
 ghost use Rattle.event_draws.specs.Limits.{max_block_corner, max_down};
 ghost use Rattle.event_draws.specs.Stages.{moved_down, origin_by};
 
 use crate::lengths::sum;
 use ass_events::Event;
 use ass_num::{Fix, Point, Size};
-use ass_script::{Header, Script};
+use ass_script::Header;
 use override_tags::EventView;
-use text_layout::{Laid, anchor, block_corner, framed};
+use text_layout::{Laid, Setting, anchor, block_corner, framed};
 
 /// Where an event stands in the frame at an instant.
 #[derive(Clone, Copy, Debug, PartialEq, Eq)]
@@ -39,33 +40,31 @@ impl Stage {
 
     /// The event, laid out, at an instant in milliseconds, moved down by a shift in 1/64 pixel to stand clear of others.
     pub fn of(
-        script: &Script,
+        setting: &Setting<'_>,
         event: &Event,
         t: i64,
-        size: &Size,
         view: &EventView,
         laid: &Laid,
         shift: Fix,
     ) -> Stage
-        requires script { IsScript script.now }
+        requires setting { IsSetting setting.now }
         requires event { IsEvent event.now }
         requires instant { IsWithin max_instant t }
-        requires size { IsFrameSize size.now }
         requires position { IfSome view.now.pos IsHeldPlace }
         requires origin { IfSome view.now.org IsHeldPlace }
         requires width { IsBlockSide laid.now.width }
         requires height { IsBlockSide laid.now.height }
         requires shift { IsWithin max_down shift }
-        ensures value { result ≡ stage_at script.now event.now t size.now view.now laid.now shift }
+        ensures value { result ≡ stage_at setting.now.script event.now t setting.now.size view.now laid.now shift }
         ensures range { IsStage result }
     {
-        let header = script.header();
-        let at = anchor(script, event, view, size);
+        let header = setting.script.header();
+        let at = anchor(setting.script, event, view, &setting.size);
         Stage {
             header,
-            size: *size,
+            size: setting.size,
             corner: corner_of(at, view.align, laid, shift),
-            origin: origin_of(&header, view, size, moved_down(at, shift)),
+            origin: origin_of(&header, view, &setting.size, moved_down(at, shift)),
             elapsed: elapsed_of(event, t),
             fade: view.fade,
         }

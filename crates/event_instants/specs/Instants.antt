@@ -1,4 +1,4 @@
--- Public: what the movement, the fade and the transforms of an event come to at an instant (docs/INSTANTS.md).
+-- Public: what the movement, the fade and the transforms of an event come to at an instant (docs/TAGS.md).
 -- Times are in milliseconds from the event's start, points in thousandths. A weight is in 65,536ths, an alpha from 0 (opaque) to 255.
 use Rattle.std.specs.Prelude.{ℕ, ◌+◌, ◌-◌, ◌*◌, ◌/◌, ℤ, pos, ◌+ℤ◌, ◌-ℤ◌, ◌*ℤ◌, ◌≤ℤ◌, ◌&&◌, int_lt, int_le, List, Option, None, Some, slice_index_or, if◌then◌else◌}
 use Rattle.std.specs.Int.{int_max, int_min}

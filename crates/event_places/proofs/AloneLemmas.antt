@@ -4,14 +4,12 @@ use Rattle.std.specs.Prelude.{slice_get}
 use Rattle.std.proofs.lemmas.Int.{ints}
 use Rattle.std.proofs.lemmas.Option.{slice_get_within, slice_get-get_or}
 use Rattle.ass_events.specs.Histories.{Pairwise}
-use Rattle.event_places.specs.Spans.{StandsBefore}
+use Rattle.near_events.specs.Spans.{StandsBefore}
 use Rattle.event_places.specs.Steps.{IsAlone}
-use Rattle.event_places.specs.declared.spans.EventSpan.{EventSpan}
-use Rattle.event_places.proofs.Lists.{get_from_there, pairwise_get, same_some}
-use Rattle.event_places.proofs.Orders.{layer_le}
-
-three_ways : (m n : ℕ) → (m ≡ n) ⊎ ((m < n) ⊎ (n < m))
-three_ways m n = grind arith
+use Rattle.near_events.specs.declared.spans.EventSpan.{EventSpan}
+use Rattle.near_events.proofs.Lists.{get_from_there, pairwise_get, same_some}
+use Rattle.near_events.proofs.Orders.{layer_le}
+use Rattle.event_places.proofs.StepLemmas.{nat_three}
 
 at_or_below : (m n : ℕ) → m ≤ n → (m ≡ n) ⊎ (m < n)
 at_or_below m n h = grind arith
@@ -45,4 +43,4 @@ alone_is near index s up at first last other c layer =
     let high = layers_rise near (index + 1) k n other up (omega (arith, above)) at_n place.1 in
     last n at_n (omega (arith, ints, low, high, layer)))
     apart))
-    (three_ways k index)
+    (nat_three k index)

@@ -6,9 +6,9 @@ use Rattle.ass_num.specs.declared.size.Size.{Size}
 use Rattle.ass_events.specs.declared.event.Event.{Event}
 use Rattle.ass_script.specs.Scripts.{ScriptValue}
 use Rattle.bdf_font.specs.Fonts.{FontValue}
-use Rattle.placement.specs.Placement.{IsClear, IsLeastShift, Meet, moved_box}
-use Rattle.placement.specs.declared.boxes.Box2.{Box2}
-use Rattle.placement.specs.declared.boxes.Stand.{Stand}
+use Rattle.event_places.specs.Placement.{IsClear, IsLeastShift, Meet, moved_box}
+use Rattle.event_places.specs.declared.stands.Box2.{Box2}
+use Rattle.event_places.specs.declared.stands.Stand.{Stand}
 use Rattle.event_places.specs.Shifts.{HaveOneStand, IsRival, IsRivalBox, HasShift, Placed, IsMovedBy, Shifted, Pointed, Alone}
 use Rattle.event_places.specs.Stands.{HasPoint, IsStandOf, down_by}
 

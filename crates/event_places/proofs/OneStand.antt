@@ -49,10 +49,10 @@ use Rattle.text_layout.specs.declared.laid.Laid.{Laid}
 use Rattle.text_layout.specs.declared.metrics.Metrics.{Metrics}
 use Rattle.text_layout.specs.declared.spans.Span.{Span}
 use Rattle.text_layout.proofs.OneLemmas.{one_laid}
-use Rattle.placement.specs.declared.boxes.Stand.{Stand}
+use Rattle.event_places.specs.declared.stands.Stand.{Stand}
 use Rattle.event_places.specs.Shifts.{HaveOneStand}
 use Rattle.event_places.specs.Stands.{HasPoint, IsStandOf, stand_of}
-use Rattle.event_places.proofs.Lists.{none_some, same_some}
+use Rattle.near_events.proofs.Lists.{none_some, same_some}
 
 -- ---- one list of looks
 -- what stands between two blocks is one list

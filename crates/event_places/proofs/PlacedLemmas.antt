@@ -12,20 +12,20 @@ use Rattle.ass_events.specs.declared.event.Event.{Event}
 use Rattle.ass_events.specs.Histories.{HaveOwnOrders, Pairwise}
 use Rattle.ass_script.specs.Scripts.{ScriptValue}
 use Rattle.bdf_font.specs.Fonts.{FontValue}
-use Rattle.placement.specs.declared.boxes.Stand.{Stand}
+use Rattle.event_places.specs.declared.stands.Stand.{Stand}
 use Rattle.event_places.specs.Limits.{max_shift}
 use Rattle.event_places.specs.PlacedEvents.{ArePlacedEvents, IsPlacedEvent, placed_places}
 use Rattle.event_places.specs.Shifts.{HasShift, IsMovedBy, Shifted as moved_by_shift, Pointed as moved_by_point, Alone as moved_alone}
-use Rattle.event_places.specs.Spans.{AreNearSpans, IsSpanOf, StandsBefore, event_span}
+use Rattle.near_events.specs.Spans.{AreNearSpans, IsSpanOf, StandsBefore, event_span}
 use Rattle.event_places.specs.Stands.{HasPoint, down_by}
 use Rattle.event_places.specs.Steps.{AreSteps, First, Next, IsGoneThrough, IsPlacing, IsPlacingStep, Pointed, Shifted, Alone, Moved, placed_by, unmoved}
 use Rattle.event_places.specs.declared.placed.PlacedEvent.{PlacedEvent}
-use Rattle.event_places.specs.declared.spans.EventSpan.{EventSpan}
-use Rattle.event_places.specs.declared.settled.Settled.{Settled}
-use Rattle.event_places.proofs.Lists.{same_some, in_map, from_map}
-use Rattle.event_places.proofs.Orders.{not_before_itself}
-use Rattle.event_places.proofs.Pairs.{Contains-nil, Contains-head, Contains-tail, Pairwise-push}
-use Rattle.event_places.proofs.StepLemmas.{AreDone, AreSettled, DifferSettled, IsDone, IsKept, SettledEvent, done_more, has_shift, kept_more, new_differs, no_rival, still_kept}
+use Rattle.near_events.specs.declared.spans.EventSpan.{EventSpan}
+use Rattle.event_places.specs.declared.placed_boxes.PlacedBox.{PlacedBox}
+use Rattle.near_events.proofs.Lists.{same_some, in_map, from_map}
+use Rattle.near_events.proofs.Orders.{not_before_itself}
+use Rattle.near_events.proofs.Pairs.{Contains-nil, Contains-head, Contains-tail, Pairwise-push}
+use Rattle.event_places.proofs.StepLemmas.{AreDone, AreCleared, DifferCleared, IsDone, IsKept, ClearedEvent, done_more, has_shift, kept_more, new_differs, no_rival, still_kept}
 
 module _ (script : ScriptValue) (fonts : List FontValue) (size : Size) (events : List Event) (t : ℤ) (near : List EventSpan) (orders : HaveOwnOrders events) (are : AreNearSpans events t near) where
   -- an event that isn't moved
@@ -37,36 +37,36 @@ module _ (script : ScriptValue) (fonts : List FontValue) (size : Size) (events :
   places_more spans placed s one same h =
       map_push (λ (p : PlacedEvent). p.place) placed one ∙ (ap (λ z. z ++ one.place ∷ []) h ∙ (ap (λ z. map (λ (s : EventSpan). s.place) spans ++ z ∷ []) same ∙ sym (map_push (λ (s : EventSpan). s.place) spans s)))
 
-  -- where nothing was settled
-  settled_same : (spans : List EventSpan) (s : EventSpan) (settled : List SettledEvent) → AreSettled script fonts size events near spans settled → IsDone script events near settled s
-      → AreSettled script fonts size events near (spans ++ s ∷ []) settled
-  settled_same spans s settled so d = record {
+  -- where nothing was cleared
+  cleared_same : (spans : List EventSpan) (s : EventSpan) (cleared : List ClearedEvent) → AreCleared script fonts size events near spans cleared → IsDone script events near cleared s
+      → AreCleared script fonts size events near (spans ++ s ∷ []) cleared
+  cleared_same spans s cleared so d = record {
     spanned = λ x c. Contains-append_left spans (s ∷ []) x.span (so.spanned x c);
     shifted = so.shifted;
-    done = λ r c. ⊎_elim (λ old. so.done r old) (λ is. subst (IsDone script events near settled) is d) (Contains-push_cases spans s r c);
+    done = λ r c. ⊎_elim (λ old. so.done r old) (λ is. subst (IsDone script events near cleared) is d) (Contains-push_cases spans s r c);
     differ = so.differ;
   }
 
   -- where one more was
-  settled_more : (spans : List EventSpan) (s : EventSpan) (rest : List EventSpan) (settled : List SettledEvent) (kept : List Settled) (e : Event) (stand : Stand) (shift : ℤ) → near ≡ spans ++ s ∷ rest
-      → AreSettled script fonts size events near spans settled → IsKept (s ∷ rest) settled kept → slice_get events s.place ≡ Some e → HasShift script fonts size events e stand shift
-      → AreSettled script fonts size events near (spans ++ s ∷ []) (settled ++ record { span = s; stand = stand; shift = shift } ∷ [])
-  settled_more spans s rest settled kept e stand shift split so keep at has =
-      let new : SettledEvent = record { span = s; stand = stand; shift = shift } in
+  cleared_more : (spans : List EventSpan) (s : EventSpan) (rest : List EventSpan) (cleared : List ClearedEvent) (kept : List PlacedBox) (e : Event) (stand : Stand) (shift : ℤ) → near ≡ spans ++ s ∷ rest
+      → AreCleared script fonts size events near spans cleared → IsKept (s ∷ rest) cleared kept → slice_get events s.place ≡ Some e → HasShift script fonts size events e stand shift
+      → AreCleared script fonts size events near (spans ++ s ∷ []) (cleared ++ record { span = s; stand = stand; shift = shift } ∷ [])
+  cleared_more spans s rest cleared kept e stand shift split so keep at has =
+      let new : ClearedEvent = record { span = s; stand = stand; shift = shift } in
       record {
-        spanned = λ x c. ⊎_elim (λ old. Contains-append_left spans (s ∷ []) x.span (so.spanned x old)) (λ is. subst (λ (y : SettledEvent). Contains (spans ++ s ∷ []) y.span) is (Contains-push spans s)) (Contains-push_cases settled new x c);
+        spanned = λ x c. ⊎_elim (λ old. Contains-append_left spans (s ∷ []) x.span (so.spanned x old)) (λ is. subst (λ (y : ClearedEvent). Contains (spans ++ s ∷ []) y.span) is (Contains-push spans s)) (Contains-push_cases cleared new x c);
         shifted = λ x f c there.
             ⊎_elim (λ old. so.shifted x f old there)
             (λ is.
-            let own : slice_get events x.span.place ≡ Some e = subst (λ (y : SettledEvent). slice_get events y.span.place ≡ Some e) is at in
+            let own : slice_get events x.span.place ≡ Some e = subst (λ (y : ClearedEvent). slice_get events y.span.place ≡ Some e) is at in
             let same : e ≡ f = same_some e f (sym own ∙ there) in
-            subst (λ (y : SettledEvent). HasShift script fonts size events f y.stand y.shift) is (subst (λ (g : Event). HasShift script fonts size events g stand shift) same has))
-            (Contains-push_cases settled new x c);
+            subst (λ (y : ClearedEvent). HasShift script fonts size events f y.stand y.shift) is (subst (λ (g : Event). HasShift script fonts size events g stand shift) same has))
+            (Contains-push_cases cleared new x c);
         done = λ r c.
-            ⊎_elim (λ old. done_more script events near settled new r (so.done r old))
-            (λ is. inr (inr (new, Contains-push settled new, is))) (Contains-push_cases spans s r c);
-        differ = Pairwise-push DifferSettled settled new so.differ
-            (λ k d lt. new_differs events t near orders are spans s rest split script fonts size settled kept so keep e at (get_or settled k d) (Contains-get_or settled k d lt));
+            ⊎_elim (λ old. done_more script events near cleared new r (so.done r old))
+            (λ is. inr (inr (new, Contains-push cleared new, is))) (Contains-push_cases spans s r c);
+        differ = Pairwise-push DifferCleared cleared new so.differ
+            (λ k d lt. new_differs events t near orders are spans s rest split script fonts size cleared kept so keep e at (get_or cleared k d) (Contains-get_or cleared k d lt));
       }
 
   -- a shift lies within the limit also upwards
@@ -76,49 +76,49 @@ module _ (script : ScriptValue) (fonts : List FontValue) (size : Size) (events :
       (λ no. subst (IsWithin max_shift) (sym (ap (λ b. cond b shift (neg_ℤ shift)) no)) (omega (arith, ints, h.1), omega (arith, ints, h.0)))
       (cases_Bool stand.down)
 
-  step_done : (spans : List EventSpan) (s : EventSpan) (rest : List EventSpan) (placed : List PlacedEvent) (kept : List Settled) (e : Event) (one : PlacedEvent) (new : List Settled)
+  step_done : (spans : List EventSpan) (s : EventSpan) (rest : List EventSpan) (placed : List PlacedEvent) (kept : List PlacedBox) (e : Event) (one : PlacedEvent) (new : List PlacedBox)
       → near ≡ spans ++ s ∷ rest → slice_get events s.place ≡ Some e → AreDone script fonts size events near spans (s ∷ rest) placed kept → IsPlacing script fonts size e s kept one new
       → AreDone script fonts size events near (spans ++ s ∷ []) rest (placed ++ one ∷ []) new
   step_done spans s rest placed kept e _ _ split at d (Pointed point) = record {
-    settled = d.settled;
-    settling = settled_same spans s d.settled d.settling
+    cleared = d.cleared;
+    clearing = cleared_same spans s d.cleared d.clearing
         (inr (inl (λ f there. subst (HasPoint script) (same_some e f (sym at ∙ there)) point)));
-    is_kept = still_kept events t near orders are spans s rest split script fonts size d.settled kept d.settling d.is_kept;
+    is_kept = still_kept events t near orders are spans s rest split script fonts size d.cleared kept d.clearing d.is_kept;
     each = All-push (IsPlacedEvent script fonts size events) placed (unmoved s.place) d.each (still s e at (moved_by_point e point));
     places = places_more spans placed s (unmoved s.place) refl d.places;
   }
-  step_done spans s rest placed kept e _ _ split at d (Shifted stand shift own new stands laid settling) =
-      let has = has_shift events t near orders are spans s rest split script fonts size d.settled kept d.settling d.is_kept e at stand shift stands settling.least in
+  step_done spans s rest placed kept e _ _ split at d (Shifted stand shift own new stands laid clearing) =
+      let has = has_shift events t near orders are spans s rest split script fonts size d.cleared kept d.clearing d.is_kept e at stand shift stands clearing.least in
       record {
-        settled = d.settled ++ record { span = s; stand = stand; shift = shift } ∷ [];
-        settling = settled_more spans s rest d.settled kept e stand shift split d.settling d.is_kept at has;
-        is_kept = kept_more events t near orders are spans s rest split script fonts size d.settled kept d.settling d.is_kept stand shift new settling.members;
+        cleared = d.cleared ++ record { span = s; stand = stand; shift = shift } ∷ [];
+        clearing = cleared_more spans s rest d.cleared kept e stand shift split d.clearing d.is_kept at has;
+        is_kept = kept_more events t near orders are spans s rest split script fonts size d.cleared kept d.clearing d.is_kept stand shift new clearing.members;
         each = All-push (IsPlacedEvent script fonts size events) placed (placed_by s.place stand shift own) d.each
-            record { event = e; stands = at; moved = moved_by_shift e stand shift has; near = down_within stand shift settling.within; own = laid };
+            record { event = e; stands = at; moved = moved_by_shift e stand shift has; near = down_within stand shift clearing.within; own = laid };
         places = places_more spans placed s (placed_by s.place stand shift own) refl d.places;
       }
 
-  step_more : (spans : List EventSpan) (s : EventSpan) (rest : List EventSpan) (placed : List PlacedEvent) (kept : List Settled) (one : PlacedEvent) (new : List Settled)
+  step_more : (spans : List EventSpan) (s : EventSpan) (rest : List EventSpan) (placed : List PlacedEvent) (kept : List PlacedBox) (one : PlacedEvent) (new : List PlacedBox)
       → near ≡ spans ++ s ∷ rest → AreDone script fonts size events near spans (s ∷ rest) placed kept → IsPlacingStep script fonts size events near s kept one new
       → AreDone script fonts size events near (spans ++ s ∷ []) rest (placed ++ one ∷ []) new
   step_more spans s rest placed kept _ _ split d (Alone alone) =
       let here : Contains near s = subst (λ z. Contains z s) (sym split) (Contains-append_right spans (s ∷ rest) s (Contains-head s rest)) in
       let own = are.own s here in
       record {
-        settled = d.settled;
-        settling = settled_same spans s d.settled d.settling (inl alone);
-        is_kept = still_kept events t near orders are spans s rest split script fonts size d.settled kept d.settling d.is_kept;
+        cleared = d.cleared;
+        clearing = cleared_same spans s d.cleared d.clearing (inl alone);
+        is_kept = still_kept events t near orders are spans s rest split script fonts size d.cleared kept d.clearing d.is_kept;
         each = All-push (IsPlacedEvent script fonts size events) placed (unmoved s.place) d.each
             (still s own.event own.stands (moved_alone own.event (λ f rival. no_rival events t near orders are spans s rest split own.event f own.stands alone rival)));
         places = places_more spans placed s (unmoved s.place) refl d.places;
       }
   step_more spans s rest placed kept _ _ split d (Moved e one new at placing) = step_done spans s rest placed kept e one new split at d placing
 
-  steps_done : (rest spans : List EventSpan) (placed : List PlacedEvent) (kept : List Settled) → near ≡ spans ++ rest → AreSteps script fonts size events near spans placed kept
+  steps_done : (rest spans : List EventSpan) (placed : List PlacedEvent) (kept : List PlacedBox) → near ≡ spans ++ rest → AreSteps script fonts size events near spans placed kept
       → AreDone script fonts size events near spans rest placed kept
   steps_done rest _ _ _ split First = record {
-    settled = [];
-    settling =
+    cleared = [];
+    clearing =
         record {
           spanned = λ x c. absurd (Contains-nil x c);
           shifted = λ x e c at. absurd (Contains-nil x c);

@@ -5,8 +5,9 @@ use Rattle.ass_events.specs.NearEvents.{AreNear, IsNear, Shown, Chained, span_of
 use Rattle.ass_events.specs.declared.event.Event.{Event}
 use Rattle.ass_script.specs.Scripts.{ScriptValue}
 use Rattle.bdf_font.specs.Fonts.{FontValue}
-use Rattle.placement.specs.declared.boxes.Box2.{Box2}
-use Rattle.placement.specs.declared.boxes.Stand.{Stand}
+use Rattle.event_places.specs.declared.stands.Box2.{Box2}
+use Rattle.event_places.specs.declared.stands.Stand.{Stand}
+use Rattle.near_events.proofs.NearSpans.{near_there}
 use Rattle.event_places.specs.Shifts.{IsRival, IsRivalBox, HasShift, Placed, IsMovedBy, Shifted, Pointed, Alone}
 
 -- The events that matter have the same rivals in both sets, which matter too.
@@ -41,11 +42,6 @@ moved_agrees matters h _ _ m (Alone e alone) = Alone e (λ f r. alone f (h.back 
 pub relisted : {a b : List Event} {e f : Event} → (Contains a f → Contains b f) → IsRival a e f → IsRival b e f
 relisted over r = record { listed = over r.listed; before = r.before; lasts = r.lasts }
 
--- What matters is one of the events.
-pub near_listed : (events : List Event) (t : ℤ) (e : Event) → IsNear span_of events t e → Contains events e
-near_listed events t _ (Shown {e} listed shown) = listed
-near_listed events t _ (Chained {e} {f} near listed before lasts) = listed
-
 -- Whatever an event that matters has to stand clear of matters.
 pub near_rival : {events : List Event} {t : ℤ} {e f : Event} → IsNear span_of events t e → IsRival events e f → IsNear span_of events t f
 near_rival near r = Chained near r.listed r.before r.lasts
@@ -54,11 +50,11 @@ near_rival near r = Chained near r.listed r.before r.lasts
 pub rivals_are_near : (t : ℤ) (events near : List Event) → AreNear span_of events t near → HaveSameRivals (IsNear span_of events t) events near
 rivals_are_near t events near h = record {
   rivals = λ e f n r. let m = near_rival n r in (relisted (λ _. (h.members f).1 m) r, m);
-  back = λ e f n r. relisted (λ c. near_listed events t f ((h.members f).0 c)) r;
+  back = λ e f n r. relisted (λ c. near_there span_of events t f ((h.members f).0 c)) r;
 }
 
 pub near_have_all : (t : ℤ) (events near : List Event) → AreNear span_of events t near → HaveSameRivals (IsNear span_of events t) near events
 near_have_all t events near h = record {
-  rivals = λ e f n r. let m = (h.members f).0 r.listed in (relisted (λ c. near_listed events t f m) r, m);
+  rivals = λ e f n r. let m = (h.members f).0 r.listed in (relisted (λ c. near_there span_of events t f m) r, m);
   back = λ e f n r. relisted (λ _. (h.members f).1 (near_rival n r)) r;
 }

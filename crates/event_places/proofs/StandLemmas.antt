@@ -13,7 +13,7 @@ use Rattle.ass_script.specs.Ranges.{IsCanvasSide, IsScript}
 use Rattle.ass_script.specs.Scripts.{ScriptValue, style_for}
 use Rattle.outline_points.proofs.Bounds.{within_product, within_quotient}
 use Rattle.override_tags.specs.declared.view.EventView.{EventView}
-use Rattle.placement.specs.Placement.{IsPlaceableStand, max_height}
+use Rattle.event_places.specs.Placement.{IsPlaceableStand, max_height}
 use Rattle.text_layout.specs.Anchors.{IsBlockSide, IsMargins, anchor, anchor_by, block_corner, edge_across, edge_at, edge_down, edge_within, margin_anchor, margins_of, whole_pixels}
 use Rattle.text_layout.specs.Limits.{max_block}
 use Rattle.text_layout.specs.Scales.{framed, pixel, whole_milli}

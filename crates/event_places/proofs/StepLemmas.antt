@@ -16,24 +16,25 @@ use Rattle.ass_events.specs.Histories.{HaveOwnOrders, Pairwise}
 use Rattle.ass_events.specs.NearEvents.{ComesBefore, IsEarlier, Chained, Span, span_of}
 use Rattle.ass_script.specs.Scripts.{ScriptValue}
 use Rattle.bdf_font.specs.Fonts.{FontValue}
-use Rattle.placement.specs.Placement.{IsLeastShift, moved_box}
-use Rattle.placement.specs.declared.boxes.Box2.{Box2}
-use Rattle.placement.specs.declared.boxes.Stand.{Stand}
+use Rattle.event_places.specs.Placement.{IsLeastShift, moved_box}
+use Rattle.event_places.specs.declared.stands.Box2.{Box2}
+use Rattle.event_places.specs.declared.stands.Stand.{Stand}
 use Rattle.event_places.specs.PlacedEvents.{IsPlacedEvent, placed_places}
 use Rattle.event_places.specs.Shifts.{HasShift, IsRival, IsRivalBox, Placed}
-use Rattle.event_places.specs.Spans.{AreNearSpans, IsSpanOf, StandsBefore, event_span, span_at}
+use Rattle.near_events.specs.Spans.{AreNearSpans, IsSpanOf, StandsBefore, event_span, span_at}
 use Rattle.event_places.specs.Stands.{HasPoint, IsStandOf}
-use Rattle.event_places.specs.Steps.{AreSteps, Next, IsAlone, IsPlacing, IsPlacingStep, Alone, Moved, boxes_in_way, is_in_way, settled_at, unmoved}
+use Rattle.event_places.specs.Steps.{AreSteps, Next, IsAlone, IsPlacing, IsPlacingStep, Alone, Moved, boxes_in_way, is_in_way, placed_box, unmoved}
 use Rattle.event_places.specs.declared.placed.PlacedEvent.{PlacedEvent}
-use Rattle.event_places.specs.declared.spans.EventSpan.{EventSpan}
-use Rattle.event_places.specs.declared.settled.Settled.{Settled}
-use Rattle.event_places.proofs.Lists.{there_from_get, get_from_there, same_some, none_some, in_map, from_map, in_filter, from_filter, pairwise_get}
-use Rattle.event_places.proofs.Orders.{before_in_layer, before_trans, earlier_start, layer_le, not_before_itself}
-use Rattle.event_places.proofs.SettleLemmas.{in_way, way_end, way_layer}
-use Rattle.event_places.proofs.Pairs.{Contains-nil, Contains-head, Contains-tail, Contains-cons_cases, Pairwise-cross, Pairwise-right}
+use Rattle.near_events.specs.declared.spans.EventSpan.{EventSpan}
+use Rattle.event_places.specs.declared.placed_boxes.PlacedBox.{PlacedBox}
+use Rattle.near_events.proofs.NearSpans.{no_span}
+use Rattle.near_events.proofs.Lists.{there_from_get, get_from_there, same_some, none_some, in_map, from_map, in_filter, from_filter, pairwise_get}
+use Rattle.near_events.proofs.Orders.{before_in_layer, before_trans, earlier_start, layer_le, not_before_itself}
+use Rattle.event_places.proofs.ClearLemmas.{in_way, way_end, way_layer}
+use Rattle.near_events.proofs.Pairs.{Contains-nil, Contains-head, Contains-tail, Contains-cons_cases, Pairwise-cross, Pairwise-right}
 
 -- ---- the event of a ReadOrder
-nat_three : (m n : ℕ) → (m ≡ n) ⊎ ((m < n) ⊎ (n < m))
+pub nat_three : (m n : ℕ) → (m ≡ n) ⊎ ((m < n) ⊎ (n < m))
 nat_three m n = grind arith
 
 pub same_place : (events : List Event) (i j : ℕ) (e f : Event) → HaveOwnOrders events → slice_get events i ≡ Some e → slice_get events j ≡ Some f → e.order ≡ f.order → i ≡ j
@@ -50,34 +51,34 @@ same_event events i j e f orders at at' same =
 
 -- ---- places by ReadOrder
 -- An event that was moved, whether or not its box is still in the way of any.
-pub record SettledEvent : Type 0 where
+pub record ClearedEvent : Type 0 where
   pub span : EventSpan
   pub stand : Stand
   pub shift : ℤ
 
 -- what is left of it
-abbrev pub settled_of : SettledEvent → Settled
-settled_of x = settled_at x.span x.stand x.shift
+abbrev pub cleared_box : ClearedEvent → PlacedBox
+cleared_box x = placed_box x.span x.stand x.shift
 
-abbrev pub DifferSettled : SettledEvent → SettledEvent → Type 0
-DifferSettled a b = a.span.order ≢ b.span.order
+abbrev pub DifferCleared : ClearedEvent → ClearedEvent → Type 0
+DifferCleared a b = a.span.order ≢ b.span.order
 
 -- what is found of it
-abbrev entry : SettledEvent → Stand × ℤ
+abbrev entry : ClearedEvent → Stand × ℤ
 entry x = (x.stand, x.shift)
 
 -- the stand and the shift of the event of this ReadOrder
-abbrev pub place_in : List SettledEvent → ℕ → Option (Stand × ℤ)
+abbrev pub place_in : List ClearedEvent → ℕ → Option (Stand × ℤ)
 place_in [] order = None
-place_in (x ∷ settled) order = if x.span.order == order then Some (entry x) else place_in settled order
+place_in (x ∷ cleared) order = if x.span.order == order then Some (entry x) else place_in cleared order
 
-place_first : (x : SettledEvent) (xs : List SettledEvent) (order : ℕ) → (x.span.order == order) ≡ true → place_in (x ∷ xs) order ≡ Some (entry x)
+place_first : (x : ClearedEvent) (xs : List ClearedEvent) (order : ℕ) → (x.span.order == order) ≡ true → place_in (x ∷ xs) order ≡ Some (entry x)
 place_first x xs order e = ap (λ b. cond b (Some (entry x)) (place_in xs order)) e
 
-place_later : (x : SettledEvent) (xs : List SettledEvent) (order : ℕ) → (x.span.order == order) ≡ false → place_in (x ∷ xs) order ≡ place_in xs order
+place_later : (x : ClearedEvent) (xs : List ClearedEvent) (order : ℕ) → (x.span.order == order) ≡ false → place_in (x ∷ xs) order ≡ place_in xs order
 place_later x xs order e = ap (λ b. cond b (Some (entry x)) (place_in xs order)) e
 
-place_some : (xs : List SettledEvent) (order : ℕ) (p : Stand × ℤ) → place_in xs order ≡ Some p → (x : SettledEvent) × Contains xs x × (x.span.order ≡ order) × (entry x ≡ p)
+place_some : (xs : List ClearedEvent) (order : ℕ) (p : Stand × ℤ) → place_in xs order ≡ Some p → (x : ClearedEvent) × Contains xs x × (x.span.order ≡ order) × (entry x ≡ p)
 place_some [] order p has = absurd (none_some p has)
 place_some (x ∷ xs) order p has =
     ⊎_elim
@@ -86,47 +87,47 @@ place_some (x ∷ xs) order p has =
     (λ no. let r = place_some xs order p (sym (place_later x xs order no) ∙ has) in (r.0, Contains-tail x xs r.0 r.1, r.2, r.3))
     (cases_Bool (x.span.order == order))
 
-place_of_settled : (xs : List SettledEvent) (x : SettledEvent) → Pairwise DifferSettled xs → Contains xs x → place_in xs x.span.order ≡ Some (entry x)
-place_of_settled [] x h c = absurd (Contains-nil x c)
-place_of_settled (y ∷ ys) x h c =
+place_of_cleared : (xs : List ClearedEvent) (x : ClearedEvent) → Pairwise DifferCleared xs → Contains xs x → place_in xs x.span.order ≡ Some (entry x)
+place_of_cleared [] x h c = absurd (Contains-nil x c)
+place_of_cleared (y ∷ ys) x h c =
     ⊎_elim
-    (λ is. let same : y.span.order ≡ x.span.order = ap (λ (z : SettledEvent). z.span.order) is in
-    place_first y ys x.span.order (grind (arith, nat_tests)) ∙ ap (λ (z : SettledEvent). Some (entry z)) is)
-    (λ later. let other : y.span.order ≢ x.span.order = All-contains (DifferSettled y) ys x h.0 later in
-    place_later y ys x.span.order (grind (arith, nat_tests)) ∙ place_of_settled ys x h.1 later)
+    (λ is. let same : y.span.order ≡ x.span.order = ap (λ (z : ClearedEvent). z.span.order) is in
+    place_first y ys x.span.order (grind (arith, nat_tests)) ∙ ap (λ (z : ClearedEvent). Some (entry z)) is)
+    (λ later. let other : y.span.order ≢ x.span.order = All-contains (DifferCleared y) ys x h.0 later in
+    place_later y ys x.span.order (grind (arith, nat_tests)) ∙ place_of_cleared ys x h.1 later)
     (Contains-cons_cases y ys x c)
 
 -- ---- what holds behind some spans
--- The span has its layer for itself, its event has a point, or it was settled.
-abbrev pub IsDone : ScriptValue → List Event → List EventSpan → List SettledEvent → EventSpan → Type 0
-IsDone script events near settled s =
-    IsAlone near s ⊎ (((e : Event) → slice_get events s.place ≡ Some e → HasPoint script e) ⊎ ((x : SettledEvent) × Contains settled x × (x.span ≡ s)))
+-- The span has its layer for itself, its event has a point, or it was cleared.
+abbrev pub IsDone : ScriptValue → List Event → List EventSpan → List ClearedEvent → EventSpan → Type 0
+IsDone script events near cleared s =
+    IsAlone near s ⊎ (((e : Event) → slice_get events s.place ≡ Some e → HasPoint script e) ⊎ ((x : ClearedEvent) × Contains cleared x × (x.span ≡ s)))
 
-pub record AreSettled (script : ScriptValue) (fonts : List FontValue) (size : Size) (events : List Event) (near spans : List EventSpan) (settled : List SettledEvent) : Type 0 where
-  pub spanned : (x : SettledEvent) → Contains settled x → Contains spans x.span
-  pub shifted : (x : SettledEvent) (e : Event) → Contains settled x → slice_get events x.span.place ≡ Some e → HasShift script fonts size events e x.stand x.shift
-  pub done : (s : EventSpan) → Contains spans s → IsDone script events near settled s
-  pub differ : Pairwise DifferSettled settled
+pub record AreCleared (script : ScriptValue) (fonts : List FontValue) (size : Size) (events : List Event) (near spans : List EventSpan) (cleared : List ClearedEvent) : Type 0 where
+  pub spanned : (x : ClearedEvent) → Contains cleared x → Contains spans x.span
+  pub shifted : (x : ClearedEvent) (e : Event) → Contains cleared x → slice_get events x.span.place ≡ Some e → HasShift script fonts size events e x.stand x.shift
+  pub done : (s : EventSpan) → Contains spans s → IsDone script events near cleared s
+  pub differ : Pairwise DifferCleared cleared
 
--- What is kept is left of settled events, and of each one that is in the way of any span to come it is kept.
-pub record IsKept (rest : List EventSpan) (settled : List SettledEvent) (kept : List Settled) : Type 0 where
-  pub own : (k : Settled) → Contains kept k → (x : SettledEvent) × Contains settled x × (settled_of x ≡ k)
-  pub all : (x : SettledEvent) → Contains settled x → Contains kept (settled_of x) ⊎ ((r : EventSpan) → Contains rest r → is_in_way r (settled_of x) ≡ false)
+-- What is kept is left of cleared events, and of each one that is in the way of any span to come it is kept.
+pub record IsKept (rest : List EventSpan) (cleared : List ClearedEvent) (kept : List PlacedBox) : Type 0 where
+  pub own : (k : PlacedBox) → Contains kept k → (x : ClearedEvent) × Contains cleared x × (cleared_box x ≡ k)
+  pub all : (x : ClearedEvent) → Contains cleared x → Contains kept (cleared_box x) ⊎ ((r : EventSpan) → Contains rest r → is_in_way r (cleared_box x) ≡ false)
 
-pub record AreDone (script : ScriptValue) (fonts : List FontValue) (size : Size) (events : List Event) (near spans rest : List EventSpan) (placed : List PlacedEvent) (kept : List Settled) : Type 0 where
-  pub settled : List SettledEvent
-  pub settling : AreSettled script fonts size events near spans settled
-  pub is_kept : IsKept rest settled kept
+pub record AreDone (script : ScriptValue) (fonts : List FontValue) (size : Size) (events : List Event) (near spans rest : List EventSpan) (placed : List PlacedEvent) (kept : List PlacedBox) : Type 0 where
+  pub cleared : List ClearedEvent
+  pub clearing : AreCleared script fonts size events near spans cleared
+  pub is_kept : IsKept rest cleared kept
   pub each : All (IsPlacedEvent script fonts size events) placed
   pub places : placed_places placed ≡ map (λ (s : EventSpan). s.place) spans
 
-pub done_more : (script : ScriptValue) (events : List Event) (near : List EventSpan) (settled : List SettledEvent) (x : SettledEvent) (s : EventSpan) → IsDone script events near settled s → IsDone script events near (settled ++ x ∷ []) s
-done_more script events near settled x s d =
-    ⊎_elim (λ a. inl a) (λ b. ⊎_elim (λ p. inr (inl p)) (λ q. inr (inr (q.0, Contains-append_left settled (x ∷ []) q.0 q.1, q.2))) b) d
+pub done_more : (script : ScriptValue) (events : List Event) (near : List EventSpan) (cleared : List ClearedEvent) (x : ClearedEvent) (s : EventSpan) → IsDone script events near cleared s → IsDone script events near (cleared ++ x ∷ []) s
+done_more script events near cleared x s d =
+    ⊎_elim (λ a. inl a) (λ b. ⊎_elim (λ p. inr (inl p)) (λ q. inr (inr (q.0, Contains-append_left cleared (x ∷ []) q.0 q.1, q.2))) b) d
 
 -- ---- what is in the way of a span
 -- What isn't in the way of a span behind its own isn't in that of a later one either.
-ended_later : (own s r : EventSpan) (x : Settled) → StandsBefore own s → StandsBefore s r → x.layer ≡ own.layer → is_in_way s x ≡ false → is_in_way r x ≡ false
+ended_later : (own s r : EventSpan) (x : PlacedBox) → StandsBefore own s → StandsBefore s r → x.layer ≡ own.layer → is_in_way s x ≡ false → is_in_way r x ≡ false
 ended_later own s r x before behind layer ended =
     ⊎_elim
     (λ yes.
@@ -187,60 +188,60 @@ module _ (events : List Event) (t : ℤ) (near : List EventSpan) (orders : HaveO
     rival_not_alone : (r : EventSpan) → r.layer ≡ s.layer → StandsBefore r s → IsAlone near r → ⊥
     rival_not_alone r layer before alone = not_before_itself s (subst (λ z. StandsBefore z s) (sym (alone s here (sym layer))) before)
 
-    module _ (script : ScriptValue) (fonts : List FontValue) (size : Size) (settled : List SettledEvent) (kept : List Settled) (so : AreSettled script fonts size events near spans settled) (keep : IsKept (s ∷ rest) settled kept) where
-      -- where nothing was settled
-      pub still_kept : IsKept rest settled kept
+    module _ (script : ScriptValue) (fonts : List FontValue) (size : Size) (cleared : List ClearedEvent) (kept : List PlacedBox) (so : AreCleared script fonts size events near spans cleared) (keep : IsKept (s ∷ rest) cleared kept) where
+      -- where nothing was cleared
+      pub still_kept : IsKept rest cleared kept
       still_kept = record {
         own = keep.own;
         all = λ x c. ⊎_elim (λ there. inl there) (λ ended. inr (λ r later. ended r (Contains-tail s rest r later))) (keep.all x c);
       }
 
       -- where one more was
-      pub kept_more : (stand : Stand) (shift : ℤ) (new : List Settled) → IsPermutation (settled_at s stand shift ∷ filter (is_in_way s) kept) new
-          → IsKept rest (settled ++ record { span = s; stand = stand; shift = shift } ∷ []) new
+      pub kept_more : (stand : Stand) (shift : ℤ) (new : List PlacedBox) → IsPermutation (placed_box s stand shift ∷ filter (is_in_way s) kept) new
+          → IsKept rest (cleared ++ record { span = s; stand = stand; shift = shift } ∷ []) new
       kept_more stand shift new members =
-          let one : SettledEvent = record { span = s; stand = stand; shift = shift } in
+          let one : ClearedEvent = record { span = s; stand = stand; shift = shift } in
           let stay = filter (is_in_way s) kept in
           let behind = Pairwise-right StandsBefore spans (s ∷ rest) up in
-          let over : (k : Settled) → Contains (settled_of one ∷ stay) k → Contains new k = λ k c. Contains-permutation (settled_of one ∷ stay) new k members c in
-          let old : (x : SettledEvent) → Contains settled x → Contains new (settled_of x) ⊎ ((r : EventSpan) → Contains rest r → is_in_way r (settled_of x) ≡ false) =
+          let over : (k : PlacedBox) → Contains (cleared_box one ∷ stay) k → Contains new k = λ k c. Contains-permutation (cleared_box one ∷ stay) new k members c in
+          let old : (x : ClearedEvent) → Contains cleared x → Contains new (cleared_box x) ⊎ ((r : EventSpan) → Contains rest r → is_in_way r (cleared_box x) ≡ false) =
           λ x c.
           ⊎_elim
           (λ there.
           ⊎_elim
-          (λ yes. inl (over (settled_of x) (Contains-tail (settled_of one) stay (settled_of x) (in_filter (is_in_way s) kept (settled_of x) there yes))))
-          (λ no. inr (λ r later. ended_later x.span s r (settled_of x) (gone_before x.span (so.spanned x c)) (All-contains (StandsBefore s) rest r behind.0 later) refl no))
-          (cases_Bool (is_in_way s (settled_of x))))
+          (λ yes. inl (over (cleared_box x) (Contains-tail (cleared_box one) stay (cleared_box x) (in_filter (is_in_way s) kept (cleared_box x) there yes))))
+          (λ no. inr (λ r later. ended_later x.span s r (cleared_box x) (gone_before x.span (so.spanned x c)) (All-contains (StandsBefore s) rest r behind.0 later) refl no))
+          (cases_Bool (is_in_way s (cleared_box x))))
           (λ ended. inr (λ r later. ended r (Contains-tail s rest r later)))
           (keep.all x c)
           in
           record {
             own = λ k c.
                 ⊎_elim
-                (λ is. (one, Contains-push settled one, is))
-                (λ there. let o = keep.own k (from_filter (is_in_way s) kept k there).0 in (o.0, Contains-append_left settled (one ∷ []) o.0 o.1, o.2))
-                (Contains-cons_cases (settled_of one) stay k (Contains-permutation new (settled_of one ∷ stay) k (IsPermutation-sym (settled_of one ∷ stay) new members) c));
+                (λ is. (one, Contains-push cleared one, is))
+                (λ there. let o = keep.own k (from_filter (is_in_way s) kept k there).0 in (o.0, Contains-append_left cleared (one ∷ []) o.0 o.1, o.2))
+                (Contains-cons_cases (cleared_box one) stay k (Contains-permutation new (cleared_box one ∷ stay) k (IsPermutation-sym (cleared_box one ∷ stay) new members) c));
             all = λ x c.
                 ⊎_elim (λ before. old x before)
-                (λ is. inl (subst (λ (y : SettledEvent). Contains new (settled_of y)) is (over (settled_of one) (Contains-head (settled_of one) stay))))
-                (Contains-push_cases settled one x c);
+                (λ is. inl (subst (λ (y : ClearedEvent). Contains new (cleared_box y)) is (over (cleared_box one) (Contains-head (cleared_box one) stay))))
+                (Contains-push_cases cleared one x c);
           }
 
-    module _ (script : ScriptValue) (fonts : List FontValue) (size : Size) (settled : List SettledEvent) (kept : List Settled) (so : AreSettled script fonts size events near spans settled) (keep : IsKept (s ∷ rest) settled kept) (e : Event) (at : slice_get events s.place ≡ Some e) where
-      -- what was settled has an event
-      event_of : (x : SettledEvent) → Contains settled x → IsSpanOf events x.span
+    module _ (script : ScriptValue) (fonts : List FontValue) (size : Size) (cleared : List ClearedEvent) (kept : List PlacedBox) (so : AreCleared script fonts size events near spans cleared) (keep : IsKept (s ∷ rest) cleared kept) (e : Event) (at : slice_get events s.place ≡ Some e) where
+      -- what was cleared has an event
+      event_of : (x : ClearedEvent) → Contains cleared x → IsSpanOf events x.span
       event_of x c = are.own x.span (earlier_near x.span (so.spanned x c))
 
-      order_of : (x : SettledEvent) → (c : Contains settled x) → x.span.order ≡ (event_of x c).event.order
+      order_of : (x : ClearedEvent) → (c : Contains cleared x) → x.span.order ≡ (event_of x c).event.order
       order_of x c = ap (λ (z : EventSpan). z.order) (event_of x c).span
 
       -- that of a ReadOrder is the rival
-      rival_of : (x : SettledEvent) (f : Event) → (c : Contains settled x) → IsRival events e f → x.span.order ≡ f.order → (event_of x c).event ≡ f
+      rival_of : (x : ClearedEvent) (f : Event) → (c : Contains cleared x) → IsRival events e f → x.span.order ≡ f.order → (event_of x c).event ≡ f
       rival_of x f c rival same =
           let place = get_from_there events f rival.listed in
           same_event events x.span.place place.0 (event_of x c).event f orders (event_of x c).stands place.1 (sym (order_of x c) ∙ same)
 
-      points : (f : Event) → IsRival events e f → place_in settled f.order ≡ None → HasPoint script f
+      points : (f : Event) → IsRival events e f → place_in cleared f.order ≡ None → HasPoint script f
       points f rival none =
           let r = rival_span s e f here at rival in
           let layer : (r.0).layer ≡ s.layer = ap (λ (z : EventSpan). z.layer) r.3 ∙ (rival.before.0 ∙ sym (ap (λ (z : EventSpan). z.layer) (span_is s e here at))) in
@@ -248,48 +249,48 @@ module _ (events : List Event) (t : ℤ) (near : List EventSpan) (orders : HaveO
           (λ b. ⊎_elim (λ point. point f r.2)
           (λ x.
           let order : (x.0).span.order ≡ f.order = ap (λ (z : EventSpan). z.order) (x.2 ∙ r.3) in
-          absurd (none_some (entry x.0) (sym none ∙ (ap (place_in settled) (sym order) ∙ place_of_settled settled x.0 so.differ x.1)))) b)
+          absurd (none_some (entry x.0) (sym none ∙ (ap (place_in cleared) (sym order) ∙ place_of_cleared cleared x.0 so.differ x.1)))) b)
           (so.done r.0 (before_gone r.0 r.1 r.4))
 
-      shifts : (f : Event) (a : Stand) (z : ℤ) → IsRival events e f → place_in settled f.order ≡ Some (a, z) → HasShift script fonts size events f a z
+      shifts : (f : Event) (a : Stand) (z : ℤ) → IsRival events e f → place_in cleared f.order ≡ Some (a, z) → HasShift script fonts size events f a z
       shifts f a z rival has =
-          let x = place_some settled f.order (a, z) has in
+          let x = place_some cleared f.order (a, z) has in
           let own = event_of x.0 x.1 in
           let shift = so.shifted x.0 own.event x.1 own.stands in
           let first : HasShift script fonts size events f (x.0).stand (x.0).shift = subst (λ (g : Event). HasShift script fonts size events g (x.0).stand (x.0).shift) (rival_of x.0 f x.1 rival x.2) shift in
           subst (λ (p : Stand × ℤ). HasShift script fonts size events f p.0 p.1) x.3 first
 
-      box_rival : (box : Box2) → Contains (boxes_in_way s kept) box → IsRivalBox events (λ f. place_in settled f.order) e box
+      box_rival : (box : Box2) → Contains (boxes_in_way s kept) box → IsRivalBox events (λ f. place_in cleared f.order) e box
       box_rival box c =
-          let m = from_map (λ (k : Settled). k.place) (filter (is_in_way s) kept) box c in
+          let m = from_map (λ (k : PlacedBox). k.place) (filter (is_in_way s) kept) box c in
           let there = from_filter (is_in_way s) kept m.0 m.1 in
           let o = keep.own m.0 there.0 in
           let x = o.0 in
-          let way : is_in_way s (settled_of x) ≡ true = ap (is_in_way s) o.2 ∙ there.1 in
+          let way : is_in_way s (cleared_box x) ≡ true = ap (is_in_way s) o.2 ∙ there.1 in
           let own = event_of x o.1 in
           let g = own.event in
           let mine = span_is s e here at in
           let before : StandsBefore x.span s = gone_before x.span (so.spanned x o.1) in
-          let layer : x.span.layer ≡ s.layer = way_layer s (settled_of x) way in
+          let layer : x.span.layer ≡ s.layer = way_layer s (cleared_box x) way in
           let earlier : IsEarlier (span_at x.span) (span_at s) = before_in_layer x.span s layer before in
           let g_span : span_at x.span ≡ span_of g = ap span_at own.span in
           let e_span : span_at s ≡ span_of e = ap span_at mine in
           let comes : ComesBefore (span_of g) (span_of e) =
           subst (λ z. ComesBefore z (span_of e)) g_span (subst (ComesBefore (span_at x.span)) e_span (layer, earlier)) in
           let lasts : e.start <ℤ (span_of g).end =
-          subst (λ (z : Span). e.start <ℤ z.end) g_span (subst (λ (z : Span). z.start <ℤ x.span.end) e_span (way_end s (settled_of x) way)) in
+          subst (λ (z : Span). e.start <ℤ z.end) g_span (subst (λ (z : Span). z.start <ℤ x.span.end) e_span (way_end s (cleared_box x) way)) in
           record {
             rival = g;
             is_rival = record { listed = there_from_get events x.span.place g own.stands; before = comes; lasts = lasts };
             stand = x.stand;
             shift = x.shift;
-            stands = ap (place_in settled) (sym (order_of x o.1)) ∙ place_of_settled settled x so.differ o.1;
-            moved = sym m.2 ∙ sym (ap (λ (k : Settled). k.place) o.2);
+            stands = ap (place_in cleared) (sym (order_of x o.1)) ∙ place_of_cleared cleared x so.differ o.1;
+            moved = sym m.2 ∙ sym (ap (λ (k : PlacedBox). k.place) o.2);
           }
 
-      rival_box : (box : Box2) → IsRivalBox events (λ f. place_in settled f.order) e box → Contains (boxes_in_way s kept) box
+      rival_box : (box : Box2) → IsRivalBox events (λ f. place_in cleared f.order) e box → Contains (boxes_in_way s kept) box
       rival_box box r =
-          let x = place_some settled r.rival.order (r.stand, r.shift) r.stands in
+          let x = place_some cleared r.rival.order (r.stand, r.shift) r.stands in
           let own = event_of x.0 x.1 in
           let g : own.event ≡ r.rival = rival_of x.0 r.rival x.1 r.is_rival x.2 in
           let x_span : span_at (x.0).span ≡ span_of r.rival = ap span_at own.span ∙ ap span_of g in
@@ -297,20 +298,20 @@ module _ (events : List Event) (t : ℤ) (near : List EventSpan) (orders : HaveO
           let layer : (x.0).span.layer ≡ s.layer = ap (λ (z : Span). z.layer) x_span ∙ (r.is_rival.before.0 ∙ sym (ap (λ (z : Span). z.layer) e_span)) in
           let lasts : s.start <ℤ (x.0).span.end =
           subst (λ (z : Span). s.start <ℤ z.end) (sym x_span) (subst (λ (z : Span). z.start <ℤ (span_of r.rival).end) (sym e_span) r.is_rival.lasts) in
-          let way : is_in_way s (settled_of x.0) ≡ true = in_way s (settled_of x.0) layer lasts in
-          let place : (settled_of x.0).place ≡ box = ap (λ (p : Stand × ℤ). moved_box (p.0).down p.1 (p.0).place) x.3 ∙ sym r.moved in
+          let way : is_in_way s (cleared_box x.0) ≡ true = in_way s (cleared_box x.0) layer lasts in
+          let place : (cleared_box x.0).place ≡ box = ap (λ (p : Stand × ℤ). moved_box (p.0).down p.1 (p.0).place) x.3 ∙ sym r.moved in
           ⊎_elim
           (λ there. subst (Contains (boxes_in_way s kept)) place
-          (in_map (λ (k : Settled). k.place) (filter (is_in_way s) kept) (settled_of x.0) (in_filter (is_in_way s) kept (settled_of x.0) there way)))
+          (in_map (λ (k : PlacedBox). k.place) (filter (is_in_way s) kept) (cleared_box x.0) (in_filter (is_in_way s) kept (cleared_box x.0) there way)))
           (λ ended. absurd (false≢true (sym (ended s (Contains-head s rest)) ∙ way)))
           (keep.all x.0 x.1)
 
       pub has_shift : (stand : Stand) (shift : ℤ) → IsStandOf script fonts size e stand → IsLeastShift stand.place (boxes_in_way s kept) stand.down shift → HasShift script fonts size events e stand shift
       has_shift stand shift stands least =
-          Placed e stand (boxes_in_way s kept) (λ f. place_in settled f.order) shift stands points shifts (λ box. (box_rival box, rival_box box)) least
+          Placed e stand (boxes_in_way s kept) (λ f. place_in cleared f.order) shift stands points shifts (λ box. (box_rival box, rival_box box)) least
 
       -- no other event has its ReadOrder
-      pub new_differs : (x : SettledEvent) → Contains settled x → x.span.order ≢ s.order
+      pub new_differs : (x : ClearedEvent) → Contains cleared x → x.span.order ≢ s.order
       new_differs x c same =
           let own = event_of x c in
           let order : own.event.order ≡ e.order = sym (order_of x c) ∙ (same ∙ ap (λ (z : EventSpan). z.order) (span_is s e here at)) in
@@ -327,29 +328,25 @@ module _ (events : List Event) (t : ℤ) (near : List EventSpan) (orders : HaveO
         not_before_itself s (subst (λ z. StandsBefore z s) (alone r.0 r.1 layer) r.4)
 
 -- ---- one more step
--- a span that stands for none
-abbrev pub no_span : EventSpan
-no_span = record { layer = pos 0; start = pos 0; end = pos 0; order = 0; place = 0 }
-
-pub steps_more : (script : ScriptValue) (fonts : List FontValue) (size : Size) (events : List Event) (near : List EventSpan) (k : ℕ) (placed pushed : List PlacedEvent) (settled more : List Settled) (one : PlacedEvent)
-    → k < length near → AreSteps script fonts size events near (take k near) placed settled
-    → ((span : EventSpan) → slice_get near k ≡ Some span → IsPlacingStep script fonts size events near span settled one more)
+pub steps_more : (script : ScriptValue) (fonts : List FontValue) (size : Size) (events : List Event) (near : List EventSpan) (k : ℕ) (placed pushed : List PlacedEvent) (boxes more : List PlacedBox) (one : PlacedEvent)
+    → k < length near → AreSteps script fonts size events near (take k near) placed boxes
+    → ((span : EventSpan) → slice_get near k ≡ Some span → IsPlacingStep script fonts size events near span boxes one more)
     → pushed ≡ placed ++ one ∷ [] → AreSteps script fonts size events near (take (k + 1) near) pushed more
-steps_more script fonts size events near k placed pushed settled more one lt steps step is =
+steps_more script fonts size events near k placed pushed boxes more one lt steps step is =
     let s = get_or near k no_span in
-    let next = Next (take k near) placed settled s one more steps (step s (slice_get-get_or near k no_span lt)) in
+    let next = Next (take k near) placed boxes s one more steps (step s (slice_get-get_or near k no_span lt)) in
     subst (λ z. AreSteps script fonts size events near z pushed more) (sym (take_more near k no_span lt))
     (subst (λ z. AreSteps script fonts size events near (take k near ++ s ∷ []) z more) (sym is) next)
 
-pub step_alone : (script : ScriptValue) (fonts : List FontValue) (size : Size) (events : List Event) (near : List EventSpan) (k : ℕ) (span : EventSpan) (settled : List Settled) (one : PlacedEvent)
-    → slice_get near k ≡ Some span → IsAlone near span → one ≡ unmoved (get_or near k no_span).place → IsPlacingStep script fonts size events near span settled one settled
-step_alone script fonts size events near k span settled one at alone is =
+pub step_alone : (script : ScriptValue) (fonts : List FontValue) (size : Size) (events : List Event) (near : List EventSpan) (k : ℕ) (span : EventSpan) (boxes : List PlacedBox) (one : PlacedEvent)
+    → slice_get near k ≡ Some span → IsAlone near span → one ≡ unmoved (get_or near k no_span).place → IsPlacingStep script fonts size events near span boxes one boxes
+step_alone script fonts size events near k span boxes one at alone is =
     let same : get_or near k no_span ≡ span = get_or_from_slice_get near k span no_span at in
-    subst (λ (p : PlacedEvent). IsPlacingStep script fonts size events near span settled p settled) (sym (is ∙ ap (λ (s : EventSpan). unmoved s.place) same)) (Alone alone)
+    subst (λ (p : PlacedEvent). IsPlacingStep script fonts size events near span boxes p boxes) (sym (is ∙ ap (λ (s : EventSpan). unmoved s.place) same)) (Alone alone)
 
-pub step_moved : (script : ScriptValue) (fonts : List FontValue) (size : Size) (events : List Event) (near : List EventSpan) (k : ℕ) (span : EventSpan) (settled : List Settled) (one : PlacedEvent) (more : List Settled) (e : Event)
-    → k < length near → slice_get near k ≡ Some span → slice_get events (get_or near k no_span).place ≡ Some e → IsPlacing script fonts size e (get_or near k no_span) settled one more
-    → IsPlacingStep script fonts size events near span settled one more
-step_moved script fonts size events near k span settled one more e lt at event placing =
+pub step_moved : (script : ScriptValue) (fonts : List FontValue) (size : Size) (events : List Event) (near : List EventSpan) (k : ℕ) (span : EventSpan) (boxes : List PlacedBox) (one : PlacedEvent) (more : List PlacedBox) (e : Event)
+    → k < length near → slice_get near k ≡ Some span → slice_get events (get_or near k no_span).place ≡ Some e → IsPlacing script fonts size e (get_or near k no_span) boxes one more
+    → IsPlacingStep script fonts size events near span boxes one more
+step_moved script fonts size events near k span boxes one more e lt at event placing =
     let same : get_or near k no_span ≡ span = get_or_from_slice_get near k span no_span at in
-    subst (λ (s : EventSpan). IsPlacingStep script fonts size events near s settled one more) same (Moved e one more event placing)
+    subst (λ (s : EventSpan). IsPlacingStep script fonts size events near s boxes one more) same (Moved e one more event placing)

@@ -6,9 +6,9 @@ use Rattle.ass_events.specs.NearEvents.{ComesBefore, span_of}
 use Rattle.ass_events.specs.declared.event.Event.{Event}
 use Rattle.ass_script.specs.Scripts.{ScriptValue}
 use Rattle.bdf_font.specs.Fonts.{FontValue}
-use Rattle.placement.specs.Placement.{IsLeastShift, moved_box}
-use Rattle.placement.specs.declared.boxes.Box2.{Box2}
-use Rattle.placement.specs.declared.boxes.Stand.{Stand}
+use Rattle.event_places.specs.Placement.{IsLeastShift, moved_box}
+use Rattle.event_places.specs.declared.stands.Box2.{Box2}
+use Rattle.event_places.specs.declared.stands.Stand.{Stand}
 use Rattle.event_places.specs.Stands.{HasPoint, IsStandOf, down_by}
 
 -- Of the events, e has to stand clear of f: f comes before it, and ends after its start.

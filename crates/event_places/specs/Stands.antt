@@ -8,9 +8,9 @@ use Rattle.ass_events.specs.declared.event.Event.{Event}
 use Rattle.ass_script.specs.Scripts.{ScriptValue}
 use Rattle.bdf_font.specs.Fonts.{FontValue}
 use Rattle.override_tags.specs.declared.view.EventView.{EventView}
-use Rattle.placement.specs.Placement.{max_height}
-use Rattle.placement.specs.declared.boxes.Box2.{Box2}
-use Rattle.placement.specs.declared.boxes.Stand.{Stand}
+use Rattle.event_places.specs.Placement.{max_height}
+use Rattle.event_places.specs.declared.stands.Box2.{Box2}
+use Rattle.event_places.specs.declared.stands.Stand.{Stand}
 use Rattle.tag_state.specs.Views.{IsViewOf}
 use Rattle.text_layout.specs.Anchors.{anchor, block_corner}
 use Rattle.text_layout.specs.Layouts.{IsLaid}

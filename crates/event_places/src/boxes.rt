@@ -1,44 +1,20 @@
 //! How far a box is moved to stand clear of others.
 
 ghost use Rattle.std.specs.Prelude.{◌≡◌, ◌-◌, ◌<◌, ◌≤◌, ◌≤ℤ◌, ◌↔◌, ℕ, if◌then◌else◌, IsTrue, length, slice_index_or};
-ghost use Rattle.placement.specs.Placement.{IsBoxWithin, IsLeastShift, IsPlaceableStand, IsShift, Meet, Overlap, max_height, max_moved, moved_box, passing};
+ghost use Rattle.event_places.specs.Placement.{IsBoxWithin, IsLeastShift, IsPlaceableStand, IsShift, Meet, max_height, max_moved, moved_box, passing};
 ghost use Rattle.event_places.specs.Limits.{max_shift};
 ghost use Rattle.event_places.specs.Stands.{down_by};
-ghost use Rattle.event_places.specs.Steps.{AreFromLowest, AreNoHigher, AreSettledWithin, CoversBox, CoversRange, CoversStand, IsClearFrom, most_before, settled_boxes};
-ghost use Rattle.event_places.specs.declared.settled.Settled.{Settled};
+ghost use Rattle.event_places.specs.Steps.{AreFromLowest, AreNoTaller, AreBoxesWithin, CoversBox, CoversRange, CoversStand, IsClearFrom, most_before};
+ghost use Rattle.event_places.specs.Steps.{box_places};
+ghost use Rattle.event_places.specs.declared.placed_boxes.PlacedBox.{PlacedBox};
 
-use crate::settled::{Settled, place_among};
+use crate::placed_boxes::{PlacedBox, place_among};
+use crate::shift::{self, meet, shift_past};
+use crate::{Box2, Stand};
 use ass_num::Fix;
-use placement::{Box2, Stand};
-
-/// Whether two open ranges overlap.
-fn overlap(a: Fix, b: Fix, c: Fix, d: Fix) -> bool
-    ensures { IsTrue result ↔ Overlap a b c d }
-{
-    a < b && c < d && a < d && c < b
-}
-
-fn meet(a: &Box2, b: &Box2) -> bool
-    ensures { IsTrue result ↔ Meet a.now b.now }
-{
-    overlap(a.left, a.right, b.left, b.right) && overlap(a.top, a.bottom, b.top, b.bottom)
-}
-
-/// The shift with which the box of a stand comes to touch another one on its far side.
-fn passing(stand: &Stand, other: &Box2) -> Fix
-    requires stand { IsPlaceableStand stand.now }
-    requires other { IsBoxWithin max_moved other.now }
-    ensures { result ≡ passing stand.now.down stand.now.place other.now }
-{
-    if stand.down {
-        other.bottom - stand.place.top
-    } else {
-        stand.place.bottom - other.top
-    }
-}
 
 /// The shift, or that past another box if it would be met.
-fn shift_past(stand: &Stand, shift: Fix, other: &Box2) -> Fix
+fn past_if_met(stand: &Stand, shift: Fix, other: &Box2) -> Fix
     requires stand { IsPlaceableStand stand.now }
     requires shift { IsShift max_shift shift }
     requires other { IsBoxWithin max_moved other.now }
@@ -46,7 +22,7 @@ fn shift_past(stand: &Stand, shift: Fix, other: &Box2) -> Fix
     ensures apart { (Meet (moved_box stand.now.down shift stand.now.place) other.now → ⊥) → result ≡ shift }
 {
     if meet(&moved(stand, shift), other) {
-        passing(stand, other)
+        shift_past(&stand.place, other, stand.down)
     } else {
         shift
     }
@@ -61,40 +37,41 @@ fn on_the_way(count: usize, down: bool, step: usize) -> usize
 }
 
 /// How many boxes on its way the box of a stand has passed, moved by a shift. Of one on its way down those are counted of which it is
-/// known by their upper edges, since none is higher than this.
-fn passed(stand: &Stand, settled: &[Settled], highest: Fix, shift: Fix) -> usize
+/// known by their upper edges, since none is taller than this.
+fn passed(stand: &Stand, boxes: &[PlacedBox], tallest: Fix, shift: Fix) -> usize
     requires stand { IsPlaceableStand stand.now }
-    requires sorted { AreFromLowest settled.now }
-    requires high { AreNoHigher highest settled.now }
-    requires highest { IsShift max_height highest }
+    requires sorted { AreFromLowest boxes.now }
+    requires high { AreNoTaller tallest boxes.now }
+    requires tallest { IsShift max_height tallest }
     requires shift { IsShift max_shift shift }
-    ensures within { result ≤ length settled.now }
-    ensures apart { (j : ℕ) (d : Settled) → j < result → Meet (moved_box stand.now.down shift stand.now.place) (slice_index_or settled.now (if stand.now.down then length settled.now - 1 - j else j) d).place → ⊥ }
+    ensures within { result ≤ length boxes.now }
+    ensures apart { (j : ℕ) (d : PlacedBox) → j < result → Meet (moved_box stand.now.down shift stand.now.place)
+        (slice_index_or boxes.now (if stand.now.down then length boxes.now - 1 - j else j) d).place → ⊥ }
 {
     if stand.down {
-        settled.len() - place_among(settled, stand.place.top + shift - highest)
+        boxes.len() - place_among(boxes, stand.place.top + shift - tallest)
     } else {
-        place_among(settled, stand.place.bottom - shift)
+        place_among(boxes, stand.place.bottom - shift)
     }
 }
 
 /// The least shift by which the box of a stand is clear of boxes that lie from the lowest to the highest, where it is known that it isn't
 /// less than this one. One walk over them is enough: none that was passed is met again.
-pub(crate) fn shift_clear(stand: &Stand, settled: &[Settled], highest: Fix, from: Fix) -> Fix
+pub(crate) fn shift_clear(stand: &Stand, boxes: &[PlacedBox], tallest: Fix, from: Fix) -> Fix
     requires stand { IsPlaceableStand stand.now }
-    requires within { AreSettledWithin most_before settled.now }
-    requires sorted { AreFromLowest settled.now }
-    requires high { AreNoHigher highest settled.now }
-    requires highest { IsShift max_height highest }
+    requires within { AreBoxesWithin most_before boxes.now }
+    requires sorted { AreFromLowest boxes.now }
+    requires high { AreNoTaller tallest boxes.now }
+    requires tallest { IsShift max_height tallest }
     requires from { IsShift max_shift from }
-    requires known { IsClearFrom from stand.now (settled_boxes settled.now) }
-    ensures least { IsLeastShift stand.now.place (settled_boxes settled.now) stand.now.down result }
+    requires known { IsClearFrom from stand.now (box_places boxes.now) }
+    ensures least { IsLeastShift stand.now.place (box_places boxes.now) stand.now.down result }
     ensures range { IsShift max_shift result }
 {
     let mut shift = from;
-    for step in passed(stand, settled, highest, from)..settled.len() {
-        let next = on_the_way(settled.len(), stand.down, step);
-        shift = shift_past(stand, shift, &settled[next].place);
+    for step in passed(stand, boxes, tallest, from)..boxes.len() {
+        let next = on_the_way(boxes.len(), stand.down, step);
+        shift = past_if_met(stand, shift, &boxes[next].place);
     }
     shift
 }
@@ -125,20 +102,7 @@ pub(crate) fn moved(stand: &Stand, shift: Fix) -> Box2
     requires shift { IsShift max_shift shift }
     ensures { result ≡ moved_box stand.now.down shift stand.now.place }
 {
-    let b = &stand.place;
-    if stand.down {
-        Box2 {
-            top: b.top + shift,
-            bottom: b.bottom + shift,
-            ..*b
-        }
-    } else {
-        Box2 {
-            top: b.top - shift,
-            bottom: b.bottom - shift,
-            ..*b
-        }
-    }
+    shift::moved(&stand.place, stand.down, shift)
 }
 
 /// How far down a shift moves a stand.

@@ -2,40 +2,40 @@
 
 ghost use Rattle.std.specs.Prelude.{◌≡◌, ◌+ℤ◌, ◌≤ℤ◌, ◌∷◌, [], All, OnOk, filter};
 ghost use Rattle.std.specs.List.Sorted.{IsPermutation};
-ghost use Rattle.placement.specs.Placement.{IsPlaceableStand, IsShift, max_height};
+ghost use Rattle.event_places.specs.Placement.{IsPlaceableStand, IsShift, max_height};
 ghost use Rattle.event_places.specs.Limits.{max_shift};
-ghost use Rattle.event_places.specs.Steps.{AreKeptBoxes, AreSettledWithin, CoversStand, IsClearFrom, all_stay, is_in_way, most_before, settled_at, settled_boxes};
-ghost use Rattle.event_places.specs.declared.settled.Settled.{Settled};
+ghost use Rattle.event_places.specs.Steps.{AreKeptBoxes, AreBoxesWithin, CoversStand, IsClearFrom, all_stay, is_in_way, most_before, placed_box, box_places};
+ghost use Rattle.event_places.specs.declared.placed_boxes.PlacedBox.{PlacedBox};
 
 use crate::boxes::{covers, moved, shift_clear};
-use crate::settled::{Settled, add_settled, is_in_way};
-use crate::spans::EventSpan;
+use crate::placed_boxes::{PlacedBox, add_box, is_in_way};
+use crate::{Box2, Stand};
 use ass_num::{Fix, Mem};
-use placement::{Box2, Stand};
+use near_events::EventSpan;
 use std::alloc::Global;
 
 /// The boxes of events that were moved, from the lowest to the highest.
 #[derive(Drop)]
-pub(crate) struct Kept {
-    pub boxes: Vec<Settled>,
+pub(crate) struct MovedBoxes {
+    pub boxes: Vec<PlacedBox>,
     /// The layer of all of them.
     pub layer: i32,
     /// No one of them ends earlier.
     pub first_end: i64,
-    /// No one of them is higher.
-    pub highest: Fix,
+    /// No one of them is taller.
+    pub tallest: Fix,
     /// A stand whose box no less shift than `shift` keeps clear of them.
     pub tried: Stand,
     pub shift: Fix,
 }
 
 /// What is left of the event of a span with this stand, moved by a shift.
-fn settled_at(span: &EventSpan, stand: &Stand, shift: Fix) -> Settled
+fn placed_box(span: &EventSpan, stand: &Stand, shift: Fix) -> PlacedBox
     requires stand { IsPlaceableStand stand.now }
     requires shift { IsShift max_shift shift }
-    ensures { result ≡ settled_at span.now stand.now shift }
+    ensures { result ≡ placed_box span.now stand.now shift }
 {
-    Settled {
+    PlacedBox {
         layer: span.layer,
         end: span.end,
         place: moved(stand, shift),
@@ -43,42 +43,38 @@ fn settled_at(span: &EventSpan, stand: &Stand, shift: Fix) -> Settled
 }
 
 /// The end of an event that was moved, or this instant if that is earlier.
-fn earlier(first: i64, settled: &Settled) -> i64
+fn earlier_end(first: i64, placed: &PlacedBox) -> i64
     ensures first { result ≤ℤ first }
-    ensures end { result ≤ℤ settled.now.end }
+    ensures end { result ≤ℤ placed.now.end }
 {
-    if settled.end < first {
-        settled.end
-    } else {
-        first
-    }
+    first.min(placed.end)
 }
 
 /// An instant before which none of these ends.
-fn first_end(settled: &[Settled]) -> i64
-    ensures { All (λ (x : Settled). result ≤ℤ x.end) settled.now }
+fn earliest_end(boxes: &[PlacedBox]) -> i64
+    ensures { All (λ (x : PlacedBox). result ≤ℤ x.end) boxes.now }
 {
     let mut first = i64::MAX;
-    for one in settled {
-        first = earlier(first, one);
+    for one in boxes {
+        first = earlier_end(first, one);
     }
     first
 }
 
 /// The height of the box of a stand, or this one if that is less.
-fn higher(highest: Fix, stand: &Stand) -> Fix
+fn taller(tallest: Fix, stand: &Stand) -> Fix
     requires stand { IsPlaceableStand stand.now }
-    requires highest { IsShift max_height highest }
-    ensures highest { IsShift max_height result }
-    ensures old { highest ≤ℤ result }
+    requires tallest { IsShift max_height tallest }
+    ensures tallest { IsShift max_height result }
+    ensures old { tallest ≤ℤ result }
     ensures new { stand.now.place.bottom ≤ℤ (stand.now.place.top +ℤ result) }
 {
     let height = stand.place.bottom - stand.place.top;
-    if highest < height { height } else { highest }
+    if tallest < height { height } else { tallest }
 }
 
-impl Kept {
-    pub(crate) fn new(alloc: Global) -> Kept
+impl MovedBoxes {
+    pub(crate) fn new(alloc: Global) -> MovedBoxes
         ensures none { result.boxes.items ≡ [] }
         ensures kept { AreKeptBoxes result }
     {
@@ -88,11 +84,11 @@ impl Kept {
             right: 0,
             bottom: 0,
         };
-        Kept {
+        MovedBoxes {
             boxes: Vec::new(alloc),
             layer: 0,
             first_end: 0,
-            highest: 0,
+            tallest: 0,
             tried: Stand {
                 start: 0,
                 end: 0,
@@ -122,7 +118,7 @@ impl Kept {
         }
         self.boxes.retain(|one| is_in_way(span, one));
         self.layer = span.layer;
-        self.first_end = first_end(self.boxes.as_slice());
+        self.first_end = earliest_end(self.boxes.as_slice());
         self.shift = 0;
     }
 
@@ -144,16 +140,16 @@ impl Kept {
     /// A shift below which the box of a stand isn't clear.
     pub(crate) fn bound_for(&mut self, stand: &Stand) -> Fix
         requires kept { AreKeptBoxes self.old }
-        requires within { AreSettledWithin most_before self.old.boxes.items }
+        requires within { AreBoxesWithin most_before self.old.boxes.items }
         requires stand { IsPlaceableStand stand.now }
         ensures boxes { self.new.boxes.items ≡ self.old.boxes.items }
         ensures layer { self.new.layer ≡ self.old.layer }
         ensures kept { AreKeptBoxes self.new }
         ensures range { IsShift max_shift result }
-        ensures bound { IsClearFrom result stand.now (settled_boxes self.old.boxes.items) }
+        ensures bound { IsClearFrom result stand.now (box_places self.old.boxes.items) }
     {
         self.try_covered(stand);
-        self.shift = shift_clear(&self.tried, self.boxes.as_slice(), self.highest, self.shift);
+        self.shift = shift_clear(&self.tried, self.boxes.as_slice(), self.tallest, self.shift);
         self.shift
     }
 
@@ -163,12 +159,12 @@ impl Kept {
         requires layer { self.old.layer ≡ span.now.layer }
         requires stand { IsPlaceableStand stand.now }
         requires shift { IsShift max_shift shift }
-        ensures members { OnOk result (IsPermutation (settled_at span.now stand.now shift ∷ self.old.boxes.items) self.new.boxes.items) }
+        ensures members { OnOk result (IsPermutation (placed_box span.now stand.now shift ∷ self.old.boxes.items) self.new.boxes.items) }
         ensures kept { OnOk result (AreKeptBoxes self.new) }
     {
-        add_settled(&mut self.boxes, settled_at(span, stand, shift))?;
+        add_box(&mut self.boxes, placed_box(span, stand, shift))?;
         self.first_end = self.first_end.min(span.end);
-        self.highest = higher(self.highest, stand);
+        self.tallest = taller(self.tallest, stand);
         Ok(())
     }
 }

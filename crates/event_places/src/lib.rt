@@ -4,14 +4,19 @@
 mod boxes;
 mod kept;
 mod laws;
-mod near;
 mod own;
 mod placed;
-mod settled;
-mod spans;
+mod placed_boxes;
+mod shift;
+mod shift_laws;
+mod stand_list;
+mod stands;
 mod steps;
-mod walks;
 
 pub use laws::{one_shift, one_stand};
 pub use own::OwnLayout;
 pub use placed::{PlacedEvent, placed_events};
+pub use shift::least_shift;
+pub use shift_laws::one_list_of_shifts;
+pub use stand_list::replay;
+pub use stands::{Box2, Stand};

@@ -2,28 +2,25 @@
 
 ghost use Rattle.std.specs.Prelude.{◌≡◌, ◌+◌, ◌+ℤ◌, nat_le, pos, None, IfOk};
 ghost use Rattle.std.specs.Int.{int_min};
-ghost use Rattle.ass_num.specs.Limits.{IsFrameSize, IsPointWithin, IsWithin};
+ghost use Rattle.ass_num.specs.Limits.{IsPointWithin, IsWithin};
 ghost use Rattle.ass_events.specs.Ranges.{IsEvent};
-ghost use Rattle.ass_script.specs.Ranges.{IsScript};
 ghost use Rattle.override_tags.specs.Views.{IsView};
-ghost use Rattle.placement.specs.Placement.{IsPlaceableStand, max_height};
+ghost use Rattle.event_places.specs.Placement.{IsPlaceableStand, max_height};
 ghost use Rattle.tag_state.specs.Views.{IsViewOf};
 ghost use Rattle.text_layout.specs.Anchors.{IsBlockSide};
-ghost use Rattle.text_layout.specs.Fonts.{IsLayoutFontSet};
 ghost use Rattle.text_layout.specs.Limits.{max_anchor, max_block};
+ghost use Rattle.text_layout.specs.Settings.{IsSetting};
 ghost use Rattle.event_places.specs.PlacedEvents.{IsOwnLayout};
 ghost use Rattle.event_places.specs.Stands.{box_at, corner_of, least_top_align, stand_of};
 
+use crate::{Box2, Stand};
 use ass_events::Event;
-use ass_num::{Fix, Mem, Point, Size};
-use ass_script::Script;
-use bdf_font::FontSet;
+use ass_num::{Fix, Mem, Point};
 use override_tags::EventView;
-use placement::{Box2, Stand};
 use std::alloc::Global;
-use text_layout::{Laid, anchor, block_corner, layout};
+use text_layout::{Laid, Setting, anchor, block_corner, layout};
 
-/// The highest that a box counts, in 1/64 pixel: 2^40.
+/// The tallest that a box counts, in 1/64 pixel: 2^40.
 const MAX_HEIGHT: Fix = 1_099_511_627_776;
 
 /// An event as it looks at its own start, laid out.
@@ -36,24 +33,20 @@ pub struct OwnLayout {
 /// The layout of an event that looks so at its own start.
 pub(crate) fn own_layout(
     alloc: Global,
-    script: &Script,
-    fonts: &FontSet,
+    setting: &Setting<'_>,
     event: &Event,
     view: EventView,
-    size: &Size,
 ) -> Mem<OwnLayout>
-    requires script { IsScript script.now }
-    requires fonts { IsLayoutFontSet fonts.now.fonts }
+    requires setting { IsSetting setting.now }
     requires event { IsEvent event.now }
-    requires size { IsFrameSize size.now }
-    requires shows { IsViewOf script.now event.now event.now.start view }
+    requires shows { IsViewOf setting.now.script event.now event.now.start view }
     requires view { IsView view }
-    ensures own { IfOk result (IsOwnLayout script.now fonts.now.fonts size.now event.now) }
+    ensures own { IfOk result (IsOwnLayout setting.now.script setting.now.fonts setting.now.size event.now) }
     ensures view { IfOk result (λ own. own.view ≡ view) }
     ensures width { IfOk result (λ own. IsBlockSide own.laid.width) }
     ensures height { IfOk result (λ own. IsBlockSide own.laid.height) }
 {
-    let laid = layout(alloc, script, fonts, event, &view, size)?;
+    let laid = layout(alloc, setting, event, &view)?;
     Ok(OwnLayout { view, laid })
 }
 
@@ -95,17 +88,16 @@ fn box_at(corner: Point, laid: &Laid) -> Box2
 }
 
 /// The corner of the block of an event at its own start.
-fn corner_of(script: &Script, event: &Event, own: &OwnLayout, size: &Size) -> Point
-    requires script { IsScript script.now }
+fn corner_of(setting: &Setting<'_>, event: &Event, own: &OwnLayout) -> Point
+    requires setting { IsSetting setting.now }
     requires event { IsEvent event.now }
     requires view { IsView own.now.view }
     requires width { IsBlockSide own.now.laid.width }
     requires height { IsBlockSide own.now.laid.height }
-    requires size { IsFrameSize size.now }
-    ensures value { result ≡ corner_of script.now event.now own.now.view own.now.laid size.now }
+    ensures value { result ≡ corner_of setting.now.script event.now own.now.view own.now.laid setting.now.size }
     ensures within { IsPointWithin (max_anchor + max_block) result }
 {
-    let at = anchor(script, event, &own.view, size);
+    let at = anchor(setting.script, event, &own.view, &setting.size);
     block_corner(at, own.view.align, own.laid.width, own.laid.height)
 }
 
@@ -125,21 +117,20 @@ fn gives_way_down(align: u8) -> bool
 }
 
 /// The stand of an event without a point of its own, which is laid out so at its own start.
-pub(crate) fn stand_of(script: &Script, event: &Event, own: &OwnLayout, size: &Size) -> Stand
-    requires script { IsScript script.now }
+pub(crate) fn stand_of(setting: &Setting<'_>, event: &Event, own: &OwnLayout) -> Stand
+    requires setting { IsSetting setting.now }
     requires event { IsEvent event.now }
     requires view { IsView own.now.view }
     requires pointless { own.now.view.pos ≡ None }
     requires width { IsBlockSide own.now.laid.width }
     requires height { IsBlockSide own.now.laid.height }
-    requires size { IsFrameSize size.now }
-    ensures value { result ≡ stand_of script.now event.now own.now.view own.now.laid size.now }
+    ensures value { result ≡ stand_of setting.now.script event.now own.now.view own.now.laid setting.now.size }
     ensures range { IsPlaceableStand result }
 {
     Stand {
         start: event.start,
         end: end_of(event),
-        place: box_at(corner_of(script, event, own, size), &own.laid),
+        place: box_at(corner_of(setting, event, own), &own.laid),
         down: gives_way_down(own.view.align),
     }
 }

@@ -1,31 +1,28 @@
 //! The events that matter at an instant, each moved clear of those before it.
 
-ghost use Rattle.std.specs.Prelude.{◌≡◌, ◌≢◌, ◌+◌, ◌-◌, ◌≤◌, ◌<◌, ℕ, All, Contains, IfOk, IsTrue, length, map, slice_get, Some};
+ghost use Rattle.std.specs.Prelude.{◌≡◌, ◌≢◌, ◌+◌, ◌-◌, ◌≤◌, ◌<◌, ℕ, ℤ, All, Contains, IfOk, IsTrue, length, map, slice_get, Some};
 ghost use Rattle.std.specs.Arc.{arc_value};
-ghost use Rattle.ass_num.specs.Limits.{IsFrameSize, max_text_bytes};
+ghost use Rattle.ass_num.specs.Limits.{max_text_bytes};
 ghost use Rattle.ass_events.specs.Histories.{HaveOwnOrders, Pairwise, max_live};
 ghost use Rattle.ass_events.specs.Ranges.{IsEvent};
 ghost use Rattle.ass_events.specs.declared.event.Event.{Event};
-ghost use Rattle.ass_script.specs.Ranges.{IsScript};
-ghost use Rattle.text_layout.specs.Fonts.{IsLayoutFontSet};
+ghost use Rattle.text_layout.specs.Settings.{IsSetting};
 ghost use Rattle.event_places.specs.PlacedEvents.{ArePlacedEvents};
-ghost use Rattle.event_places.specs.Spans.{IsSpanOf, StandsBefore};
-ghost use Rattle.event_places.specs.Steps.{AreKeptBoxes, AreSettledWithin, IsAlone, IsGoneThrough, IsPlacing, IsPlacingStep, most_before, unmoved};
-ghost use Rattle.event_places.specs.declared.spans.EventSpan.{EventSpan};
+ghost use Rattle.near_events.specs.Spans.{AreNearSpans, IsSpanOf, StandsBefore};
+ghost use Rattle.event_places.specs.Steps.{AreKeptBoxes, AreBoxesWithin, IsAlone, IsGoneThrough, IsPlacing, IsPlacingStep, most_before, unmoved};
+ghost use Rattle.near_events.specs.declared.spans.EventSpan.{EventSpan};
 
 use crate::boxes::down_by;
-use crate::kept::Kept;
-use crate::near::near_spans;
+use crate::kept::MovedBoxes;
 use crate::own::{OwnLayout, own_layout, stand_of};
-use crate::spans::EventSpan;
-use crate::steps::settle;
+use crate::steps::place_clear;
 use ass_events::Event;
-use ass_num::{Fix, Mem, Size};
-use ass_script::Script;
-use bdf_font::FontSet;
+use ass_num::{Fix, Mem};
+use near_events::EventSpan;
 use std::alloc::Global;
 use std::sync::Arc;
 use tag_state::states_at;
+use text_layout::Setting;
 
 /// An event that matters at an instant: its place in the list of events, how far down it is moved, in 1/64 pixel, and its own layout
 /// where one was made.
@@ -61,7 +58,8 @@ fn are_apart(near: &[EventSpan], index: usize, other: usize) -> bool
 /// Whether the span before, if there is one, is in another layer.
 fn is_first(near: &[EventSpan], index: usize) -> bool
     requires { index < length near.now }
-    ensures { (span last : EventSpan) → slice_get near.now index ≡ Some span → 0 < index → slice_get near.now (index - 1) ≡ Some last → IsTrue result → last.layer ≢ span.layer }
+    ensures { (span last : EventSpan) → slice_get near.now index ≡ Some span → 0 < index → slice_get near.now (index - 1) ≡ Some last → IsTrue result
+        → last.layer ≢ span.layer }
 {
     if index == 0 {
         return true;
@@ -81,31 +79,28 @@ fn is_alone(near: &[EventSpan], index: usize) -> bool
 /// An event, moved clear of those that were moved before it. One with a point of its own isn't moved, so it needs no layout.
 fn place_event(
     alloc: Global,
-    script: &Script,
-    fonts: &FontSet,
+    setting: &Setting<'_>,
     event: &Event,
     span: &EventSpan,
-    size: &Size,
-    kept: &mut Kept,
+    kept: &mut MovedBoxes,
 ) -> Mem<PlacedEvent>
-    requires script { IsScript script.now }
-    requires fonts { IsLayoutFontSet fonts.now.fonts }
+    requires setting { IsSetting setting.now }
     requires event { IsEvent event.now }
     requires few { length event.now.text ≤ max_text_bytes }
-    requires size { IsFrameSize size.now }
-    requires within { AreSettledWithin most_before kept.old.boxes.items }
+    requires within { AreBoxesWithin most_before kept.old.boxes.items }
     requires kept { AreKeptBoxes kept.old }
-    ensures placed { IfOk result (λ one. IsPlacing script.now fonts.now.fonts size.now event.now span.now kept.old.boxes.items one kept.new.boxes.items) }
-    ensures within { IfOk result (λ one. (count : ℕ) → AreSettledWithin count kept.old.boxes.items → AreSettledWithin (count + 1) kept.new.boxes.items) }
+    ensures placed { IfOk result (λ one. IsPlacing setting.now.script setting.now.fonts setting.now.size event.now span.now kept.old.boxes.items one
+        kept.new.boxes.items) }
+    ensures within { IfOk result (λ one. (count : ℕ) → AreBoxesWithin count kept.old.boxes.items → AreBoxesWithin (count + 1) kept.new.boxes.items) }
     ensures kept { IfOk result (λ one. AreKeptBoxes kept.new) }
 {
-    let view = states_at(alloc, script, event, event.start)?;
+    let view = states_at(alloc, setting.script, event, event.start)?;
     if view.pos.is_some() {
         return Ok(unmoved(span.place));
     }
-    let own = own_layout(alloc, script, fonts, event, view, size)?;
-    let stand = stand_of(script, event, &own, size);
-    let shift = settle(span, &stand, kept)?;
+    let own = own_layout(alloc, setting, event, view)?;
+    let stand = stand_of(setting, event, &own);
+    let shift = place_clear(span, &stand, kept)?;
     Ok(PlacedEvent {
         place: span.place,
         down: down_by(&stand, shift),
@@ -116,87 +111,77 @@ fn place_event(
 /// The event of a span, moved clear of those before it. One that is alone in its layer stays where it is.
 fn place_next(
     alloc: Global,
-    script: &Script,
-    fonts: &FontSet,
+    setting: &Setting<'_>,
     events: &[Arc<Event>],
     near: &[EventSpan],
     index: usize,
-    size: &Size,
-    kept: &mut Kept,
+    kept: &mut MovedBoxes,
 ) -> Mem<PlacedEvent>
-    requires script { IsScript script.now }
-    requires fonts { IsLayoutFontSet fonts.now.fonts }
+    requires setting { IsSetting setting.now }
     requires events { All IsEvent (map arc_value events.now) }
     requires texts { All (λ (e : Event). length e.text ≤ max_text_bytes) (map arc_value events.now) }
     requires few { length events.now ≤ max_live }
     requires near { (s : EventSpan) → Contains near.now s → IsSpanOf (map arc_value events.now) s }
     requires sorted { Pairwise StandsBefore near.now }
     requires index { index < length near.now }
-    requires size { IsFrameSize size.now }
-    requires within { AreSettledWithin most_before kept.old.boxes.items }
+    requires within { AreBoxesWithin most_before kept.old.boxes.items }
     requires kept { AreKeptBoxes kept.old }
-    ensures step { (span : EventSpan) → slice_get near.now index ≡ Some span → IfOk result (λ one. IsPlacingStep script.now fonts.now.fonts size.now (map arc_value events.now) near.now span kept.old.boxes.items one kept.new.boxes.items) }
-    ensures within { IfOk result (λ one. (count : ℕ) → AreSettledWithin count kept.old.boxes.items → AreSettledWithin (count + 1) kept.new.boxes.items) }
+    ensures step { (span : EventSpan) → slice_get near.now index ≡ Some span → IfOk result
+        (λ one. IsPlacingStep setting.now.script setting.now.fonts setting.now.size (map arc_value events.now) near.now span kept.old.boxes.items one
+        kept.new.boxes.items) }
+    ensures within { IfOk result (λ one. (count : ℕ) → AreBoxesWithin count kept.old.boxes.items → AreBoxesWithin (count + 1) kept.new.boxes.items) }
     ensures kept { IfOk result (λ one. AreKeptBoxes kept.new) }
 {
     let span = near[index];
     if is_alone(near, index) {
         return Ok(unmoved(span.place));
     }
-    let one = place_event(alloc, script, fonts, &events[span.place], &span, size, kept)?;
+    let one = place_event(alloc, setting, &events[span.place], &span, kept)?;
     Ok(one)
 }
 
 /// The events of these spans, each moved clear of those before it.
 fn place_all(
     alloc: Global,
-    script: &Script,
-    fonts: &FontSet,
+    setting: &Setting<'_>,
     events: &[Arc<Event>],
     near: &[EventSpan],
-    size: &Size,
 ) -> Mem<Vec<PlacedEvent>>
-    requires script { IsScript script.now }
-    requires fonts { IsLayoutFontSet fonts.now.fonts }
+    requires setting { IsSetting setting.now }
     requires events { All IsEvent (map arc_value events.now) }
     requires texts { All (λ (e : Event). length e.text ≤ max_text_bytes) (map arc_value events.now) }
     requires few { length events.now ≤ max_live }
     requires near { (s : EventSpan) → Contains near.now s → IsSpanOf (map arc_value events.now) s }
     requires sorted { Pairwise StandsBefore near.now }
     requires few_near { length near.now ≤ max_live }
-    requires size { IsFrameSize size.now }
-    ensures { IfOk result (λ placed. IsGoneThrough script.now fonts.now.fonts size.now (map arc_value events.now) near.now placed.items) }
+    ensures { IfOk result (λ placed. IsGoneThrough setting.now.script setting.now.fonts setting.now.size (map arc_value events.now) near.now placed.items) }
 {
     let mut placed = Vec::with_capacity(alloc, near.len())?;
-    let mut kept = Kept::new(alloc);
+    let mut kept = MovedBoxes::new(alloc);
     for index in 0..near.len() {
-        let one = place_next(alloc, script, fonts, events, near, index, size, &mut kept)?;
+        let one = place_next(alloc, setting, events, near, index, &mut kept)?;
         placed.push(one)?;
     }
     Ok(placed)
 }
 
-/// The events that matter at t, in milliseconds: those shown, and with each those before it in its layer that end after its start. Each
-/// is there once, by layer, then start, then ReadOrder, and moved clear of those before it in its layer (Advanced SubStation Alpha,
-/// "Layer").
+/// The events of these spans, which are those of the events that matter at an instant: those shown, and with each those before it in
+/// its layer that end after its start. Each is there once, by layer, then start, then ReadOrder, and moved clear of those before it in
+/// its layer (Advanced SubStation Alpha, "Layer").
 pub fn placed_events(
     alloc: Global,
-    script: &Script,
-    fonts: &FontSet,
+    setting: &Setting<'_>,
     events: &[Arc<Event>],
-    t: i64,
-    size: &Size,
+    near: &[EventSpan],
 ) -> Mem<Vec<PlacedEvent>>
-    requires script { IsScript script.now }
-    requires fonts { IsLayoutFontSet fonts.now.fonts }
+    requires setting { IsSetting setting.now }
     requires events { All IsEvent (map arc_value events.now) }
     requires texts { All (λ (e : Event). length e.text ≤ max_text_bytes) (map arc_value events.now) }
     requires few { length events.now ≤ max_live }
     requires orders { HaveOwnOrders (map arc_value events.now) }
-    requires size { IsFrameSize size.now }
-    ensures { IfOk result (λ placed. ArePlacedEvents script.now fonts.now.fonts size.now (map arc_value events.now) t placed.items) }
+    requires near { (t : ℤ) × AreNearSpans (map arc_value events.now) t near.now }
+    ensures { (t : ℤ) → AreNearSpans (map arc_value events.now) t near.now
+        → IfOk result (λ placed. ArePlacedEvents setting.now.script setting.now.fonts setting.now.size (map arc_value events.now) t placed.items) }
 {
-    let near = near_spans(alloc, events, t)?;
-    let placed = place_all(alloc, script, fonts, events, near.as_slice(), size)?;
-    Ok(placed)
+    place_all(alloc, setting, events, near)
 }

@@ -4,7 +4,7 @@ use Rattle.std.specs.Cmp.{nat_eq_equiv}
 use Rattle.std.specs.Map.{lookup, remove_entry}
 use Rattle.evict_core.specs.Machine.{Status, is_idle, idle_cost, has_idle, unpinned}
 use Rattle.evict_core.specs.Recency.{some_passes, without_last}
-use Rattle.evict_core.specs.declared.recency.Place.{Place}
+use Rattle.evict_core.specs.declared.recency.Slot.{Slot}
 use Rattle.evict_core.specs.Places.{shown, stored_status, entries_in, is_idle_place, IsOldestIdle, Ties}
 use Rattle.evict_core.proofs.PlacesLemmas.{Each, each-found, Names, lookup-at, some_passes-shown, without_last-shown}
 use Rattle.evict_core.proofs.Searching.{without-oldest}
@@ -21,9 +21,9 @@ cost-removed index view es test (o ∷ os) x all found = let s = all.0 in rw s.1
   | false ↦ λ t. rw s.1 (omega (arith, cost-removed index view es test os x all.1 (rw t at found)))
 ]) refl)
 
-module _ {K V : Type 0} (eq : K → K → Bool) (es : List (K × ℕ)) (os : List (ℕ × Place V)) (next : ℕ) (tied : Ties (λ p. p.index) eq es os next) where
-  names : Each (Names (λ p. p.index) (λ (p : Place V). stored_status p.stored) es) os
-  names = each-found (Names (λ p. p.index) (λ (p : Place V). stored_status p.stored) es) os tied.numbers tied.named
+module _ {K V : Type 0} (eq : K → K → Bool) (es : List (K × ℕ)) (os : List (ℕ × Slot V)) (next : ℕ) (tied : Ties (λ p. p.index) eq es os next) where
+  names : Each (Names (λ p. p.index) (λ (p : Slot V). stored_status p.stored) es) os
+  names = each-found (Names (λ p. p.index) (λ (p : Slot V). stored_status p.stored) es) os tied.numbers tied.named
 
   pub idle-places : has_idle (entries_in es os) ≡ some_passes is_idle_place os
   idle-places = some_passes-shown (λ p. p.index) (λ p. stored_status p.stored) es is_idle os names
@@ -38,4 +38,4 @@ module _ {K V : Type 0} (eq : K → K → Bool) (es : List (K × ℕ)) (os : Lis
     cost-evicted =
         let at : slice_get os (length oldest.newer) ≡ Some (n, oldest.place) = ap (λ l. slice_get l (length oldest.newer)) oldest.is ∙ there-at oldest.newer oldest.older (n, oldest.place) in
         let found = lookup-at nat_eq nat_eq_equiv os (length oldest.newer) (n, oldest.place) n tied.numbers at (nat_eq_equiv.refl n) in
-        omega (arith, cost-removed (λ p. p.index) (λ (p : Place V). stored_status p.stored) es (nat_eq n) os oldest.place names found, oldest.costs)
+        omega (arith, cost-removed (λ p. p.index) (λ (p : Slot V). stored_status p.stored) es (nat_eq n) os oldest.place names found, oldest.costs)

@@ -26,17 +26,12 @@ module _ {K V : Type 0} where
     unpinned = unpinned s.entries;
     pinned = pinned s.entries;
     budget = s.budget;
-    hits = s.counts.hits;
-    claims = s.counts.claims;
-    fills = s.counts.fills;
-    fails = s.counts.fails;
-    crowded = s.counts.crowded;
-    evictions = s.counts.evictions;
+    counts = s.counts;
   }
 
 module _ {K V : Type 0} (eq : K → K → Bool) (old : State K V) (key : K) where
   -- The step that the machine answers the ask with was made, but for a claim, which is a call of its own.
-  -- A key that may be claimed, one that is being made and want of memory change nothing
+  -- A key that may be claimed, one that is being made and out of memory change nothing
   abbrev pub IsAskAnswer : Ask V → State K V → Type 0
   IsAskAnswer (Hit value) new = (ask_answer eq old key ≡ Some machine.Hit) × (ready_value (status_of eq old key) ≡ Some (arc_value value)) × ((number : ℕ) → new ≡ state_after eq old number (machine.Ask key machine.Hit))
   IsAskAnswer Claimable new = (ask_answer eq old key ≡ Some machine.Claim) × (new ≡ old)

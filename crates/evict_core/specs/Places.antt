@@ -7,7 +7,7 @@ use Rattle.evict_core.specs.Recency.{Apart, some_passes}
 use Rattle.evict_core.specs.Machine.{Status, Flying, Ready, is_idle, idle_cost}
 use Rattle.evict_core.specs.declared.stored.Stored.{Stored}
 use Rattle.evict_core.specs.declared.stored.Stored.TheVariants.{Making, Made}
-use Rattle.evict_core.specs.declared.recency.Place.{Place}
+use Rattle.evict_core.specs.declared.recency.Slot.{Slot}
 
 abbrev pub stored_status : {V : Type 0} → Stored V → Status V
 stored_status (Making number) = Flying number
@@ -32,21 +32,21 @@ pub record Ties {K P : Type 0} (index : P → ℕ) (eq : K → K → Bool) (es :
   pub fresh : (n : ℕ) (p : P) → lookup (nat_eq n) os ≡ Some p → n < next
 
 module _ {K V : Type 0} where
-  abbrev pub entries_in : List (K × ℕ) → List (ℕ × Place V) → List (K × Status V)
+  abbrev pub entries_in : List (K × ℕ) → List (ℕ × Slot V) → List (K × Status V)
   entries_in es os = shown (λ p. p.index) (λ p. stored_status p.stored) es os
 
-  abbrev pub IsTied : (K → K → Bool) → List (K × ℕ) → List (ℕ × Place V) → ℕ → ℕ → Type 0
+  abbrev pub IsTied : (K → K → Bool) → List (K × ℕ) → List (ℕ × Slot V) → ℕ → ℕ → Type 0
   IsTied eq es os cap next = Ties (λ p. p.index) eq es os next × (cap ≡ 18446744073709551615)
 
 module _ {V : Type 0} where
-  abbrev pub is_idle_place : Place V → Bool
+  abbrev pub is_idle_place : Slot V → Bool
   is_idle_place p = is_idle (stored_status p.stored)
 
   -- n is the number of the least recent place that may be evicted, which costs so much
-  pub record IsOldestIdle (os : List (ℕ × Place V)) (n price : ℕ) : Type 0 where
-    pub place : Place V
-    pub newer : List (ℕ × Place V)
-    pub older : List (ℕ × Place V)
+  pub record IsOldestIdle (os : List (ℕ × Slot V)) (n price : ℕ) : Type 0 where
+    pub place : Slot V
+    pub newer : List (ℕ × Slot V)
+    pub older : List (ℕ × Slot V)
     pub is : os ≡ newer ++ (n, place) ∷ older
     pub idle : is_idle_place place ≡ true
     pub costs : price ≡ idle_cost (stored_status place.stored)

@@ -2,7 +2,7 @@
 ghost use Rattle.std.specs.Prelude.{◌≡◌, ◌+◌, min};
 ghost use Rattle.evict_core.specs.Machine.{raised};
 
-// One more, up to the last value.
+/// One more, up to the last value.
 pub(crate) fn raise(count: u64) -> u64
     ensures { result ≡ raised count }
 {
@@ -28,10 +28,5 @@ pub struct Totals {
     pub unpinned: u64,
     pub pinned: u64,
     pub budget: u64,
-    pub hits: u64,
-    pub claims: u64,
-    pub fills: u64,
-    pub fails: u64,
-    pub crowded: u64,
-    pub evictions: u64,
+    pub counts: Counts,
 }

@@ -1,7 +1,8 @@
 //! The entries of a cache.
 ghost use Rattle.std.specs.Prelude.{◌≡◌, ℕ, ◌+◌, ◌<◌, ◌≤◌, true, false, ◌||◌, Some, None, length, nat_lt, IfOk, OnOk, OnErr, IsSome, option_map};
 ghost use Rattle.std.specs.Arc.{arc_value};
-ghost use Rattle.evict_core.specs.Machine.{Hit, Claim, Crowded, Ask as ask_step, Fill, Fail, Unpin, Limits, Flying, max_entries, max_budget, max_cost, one_pin_less, has_idle, status_of, pins_in, maker_in, is_within, evict, trim, ask_answer, state_after, hit};
+ghost use Rattle.evict_core.specs.Machine.{Hit, Claim, Crowded, Ask as ask_step, Fill, Fail, Unpin, Limits, Flying, max_entries, max_budget, max_cost};
+ghost use Rattle.evict_core.specs.Machine.{one_pin_less, has_idle, status_of, pins_in, maker_in, is_within, evict, trim, ask_answer, state_after, hit};
 ghost use Rattle.evict_core.specs.History.{opening};
 ghost use Rattle.evict_core.specs.Recency.{change};
 ghost use Rattle.evict_core.specs.Asked.{IsAskAnswer, ready_pins, ready_value, totals_of};
@@ -66,7 +67,7 @@ impl<K: Eq + Hash, V> Entries<K, V> {
     }
 
     /// Asks for the key. A hit is the most recent entry from then on, and has one pin more. A key that may be claimed,
-    /// one that is being made and want of memory change nothing.
+    /// one that is being made and out of memory change nothing.
     pub fn ask(&mut self, key: &K) -> Ask<V>
         ensures { IsAskAnswer K.eq self.old key.now result self.new }
     {
@@ -200,16 +201,11 @@ impl<K: Eq + Hash, V> Entries<K, V> {
             unpinned: self.list.unpinned(),
             pinned: self.list.pinned(),
             budget: self.budget,
-            hits: self.counts.hits,
-            claims: self.counts.claims,
-            fills: self.counts.fills,
-            fails: self.counts.fails,
-            crowded: self.counts.crowded,
-            evictions: self.counts.evictions,
+            counts: self.counts,
         }
     }
 
-    // An ask of a key that isn't there.
+    /// An ask of a key that isn't there.
     fn ask_absent(&mut self, key: &K) -> Ask<V>
         requires { status_of K.eq self.old key.now ≡ None }
         ensures { IsAskAnswer K.eq self.old key.now result self.new }
@@ -241,7 +237,7 @@ impl<K: Eq + Hash, V> Entries<K, V> {
         Ok(())
     }
 
-    // The memory is taken before anything is evicted: the new entry, which is being made, isn't what goes.
+    /// The memory is taken before anything is evicted: the new entry, which is being made, isn't what goes.
     fn claim_full(&mut self, key: K, number: u32) -> Mem<()>
     where
         K: Drop,

@@ -1,5 +1,7 @@
 //! The laws of the cache machine, each over every legal history. The functions do nothing: their contracts are the laws.
-ghost use Rattle.evict_core.specs.Laws.{NoneIsLegal, MoreIsLegal, FrontIsLegal, ClaimsOnce, FillsOnce, ReadyWasFilled, StaysInBudget, StaysInLimit, FliesWherePending, PinsAreHeld, HeldArePins, GivenWereTaken, HeldIsKept, EachIsPinnable, PinsAfterAll, OneHitMore, CountsAreOfSteps, TrimsLeast};
+ghost use Rattle.evict_core.specs.Laws.{NoneIsLegal, MoreIsLegal, FrontIsLegal, ClaimsOnce, FillsOnce, ReadyWasFilled, StaysInBudget, StaysInLimit};
+ghost use Rattle.evict_core.specs.Laws.{FliesWherePending, PinsAreHeld, HeldArePins, GivenWereTaken, HeldIsKept, EachIsPinnable, PinsAfterAll, OneHitMore};
+ghost use Rattle.evict_core.specs.Laws.{CountsAreOfSteps, TrimsLeast};
 
 /// What makes a history legal: the empty one is, and so are a legal one with a step that may follow, and its beginnings.
 pub fn legal<K: Eq, V>()

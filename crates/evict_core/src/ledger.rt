@@ -3,7 +3,8 @@ ghost use Rattle.std.specs.Prelude.{◌≡◌, ◌+◌, ◌<◌, ◌≤◌, true
 ghost use Rattle.std.specs.Map.{lookup, remove_entry};
 ghost use Rattle.std.specs.Arc.{arc_value};
 ghost use Rattle.evict_core.specs.Recency.{to_front, change, without_last};
-ghost use Rattle.evict_core.specs.Machine.{Flying, Ready, max_pins, max_entries, max_cost, is_idle, has_idle, unpinned, pinned, pins_in, maker_in, one_pin_more, one_pin_less};
+ghost use Rattle.evict_core.specs.Machine.{Flying, Ready, max_pins, max_entries, max_cost, is_idle, has_idle, unpinned, pinned, pins_in, maker_in};
+ghost use Rattle.evict_core.specs.Machine.{one_pin_more, one_pin_less};
 ghost use Rattle.evict_core.specs.Looks.{IsLookAt, after_look};
 ghost use Rattle.evict_core.specs.Places.{stored_status};
 

@@ -20,7 +20,7 @@ use std::sync::Arc;
 
 /// What the list has at a number: where its key stands in the map, and what is known of it.
 #[derive(Drop)]
-pub struct Place<V> {
+pub struct Slot<V> {
     index: usize,
     stored: Stored<V>,
 }
@@ -29,7 +29,7 @@ pub struct Place<V> {
 #[derive(Drop)]
 pub struct Recency<K: Eq + Hash, V> {
     keys: IndexMap<K, u64>,
-    order: LruCache<u64, Place<V>>,
+    order: LruCache<u64, Slot<V>>,
     next: u64,
 }
 
@@ -172,7 +172,7 @@ impl<K: Eq + Hash, V> Recency<K, V> {
         let Ok(_) = self.keys.insert(key, number) else {
             return Err(AllocError);
         };
-        let place = Place {
+        let place = Slot {
             index,
             stored: Stored::Making(maker),
         };
@@ -213,8 +213,8 @@ impl<K: Eq + Hash, V> Recency<K, V> {
     }
 }
 
-// The number of the least recent place that may be evicted, and what it costs.
-fn oldest_idle<V>(order: &LruCache<u64, Place<V>>) -> Option<(u64, u64)>
+/// The number of the least recent place that may be evicted, and what it costs.
+fn oldest_idle<V>(order: &LruCache<u64, Slot<V>>) -> Option<(u64, u64)>
     ensures found { IfSome result (λ r. IsOldestIdle order.now.entries r.0 r.1) }
     ensures none { IfNone result (some_passes is_idle_place order.now.entries ≡ false) }
 {
@@ -227,10 +227,10 @@ fn oldest_idle<V>(order: &LruCache<u64, Place<V>>) -> Option<(u64, u64)>
     None
 }
 
-// Takes a number out of the list and its key out of the map, and tells the number whose key took its place in the map.
+/// Takes a number out of the list and its key out of the map, and tells the number whose key took its place in the map.
 fn take_out<K: Eq + Hash + Drop, V>(
     keys: &mut IndexMap<K, u64>,
-    order: &mut LruCache<u64, Place<V>>,
+    order: &mut LruCache<u64, Slot<V>>,
     number: u64,
 ) -> Option<Stored<V>>
     ensures taken { result ≡ option_map (λ p. p.stored) (lookup (nat_eq number) order.old.entries) }
@@ -240,7 +240,7 @@ fn take_out<K: Eq + Hash + Drop, V>(
         → IsTied K.eq keys.new.entries order.new.entries order.new.cap next }
 {
     let (_, place) = order.pop_entry(&number)?;
-    let Place { index, stored } = place;
+    let Slot { index, stored } = place;
     drop(keys.swap_remove_index(index));
     let Some((_, moved)) = keys.get_index(index) else {
         return Some(stored);

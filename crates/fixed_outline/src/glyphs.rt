@@ -242,7 +242,8 @@ pub fn quads_of(
     requires font { IsFont font.now }
     requires glyph { glyph < length font.now.glyphs }
     requires matrix { IsMatrix m.now }
-    ensures value { IfOk result (λ o. (g : _) → slice_get font.now.glyphs glyph ≡ Some g → o.rings ≡ rings_of_glyph m.now bold underline strikeout font.now.ascent g) }
+    ensures value { IfOk result (λ o. (g : _) → slice_get font.now.glyphs glyph ≡ Some g
+        → o.rings ≡ rings_of_glyph m.now bold underline strikeout font.now.ascent g) }
     ensures within { IfOk result (λ o. IsOutline o.rings) }
 {
     let style = style_of(m, bold);

@@ -1,5 +1,5 @@
 -- An ask that tries more than once.
-use Rattle.std.proofs.Common.{◌≡◌, ◌+◌, Bool, List, [], ◌∷◌, map, refl, ap, ◌∙◌, subst}
+use Rattle.std.proofs.Common.{◌≡◌, ◌+◌, Bool, List, [], ◌∷◌, map, Some, None, refl, ap, ◌∙◌, subst}
 use mathlib.Core.List.{append-nil}
 use Rattle.turn_cell.specs.History.{entry_list}
 use Rattle.turn_cell.specs.Passes.{Follows, mine}
@@ -12,7 +12,7 @@ use Rattle.flight_cache.specs.Calls.{ShardView, ShardPassView, GivesSteps, own_s
 use Rattle.flight_cache.specs.Answers.{IsAsked}
 use Rattle.flight_cache.specs.declared.kept.Entry.{Entry}
 use Rattle.flight_cache.specs.declared.pins.Asked.{Asked}
-use Rattle.flight_cache.specs.declared.pins.Asked.TheVariants.{Hit, Claim, Crowded, OutOfMemory}
+use Rattle.flight_cache.specs.declared.pins.Asked.TheVariants.{Hit, Make, OutOfMemory}
 
 no-more : {X Y : Type 0} (f : X → Y) (xs : List X) → map f xs ≡ [] → xs ≡ []
 no-more f [] none = refl
@@ -42,6 +42,6 @@ module _ {K V T : Type 0} (eq : K → K → Bool) (meaning : Meaning K V T) (sha
 
   pub asked-later : {M : Type 0} (p w q : ShardPassView K T) (key : K) (a : Asked M K V T) → Follows p w [] → IsAsked eq meaning shard w key q a → IsAsked eq meaning shard p key q a
   asked-later p w q key (Hit pin) f h = (gives-later p w q _ f h.0, h.1, h.2)
-  asked-later p w q key (Claim ticket) f h = (gives-later p w q _ f h.0, h.1)
-  asked-later p w q key Crowded f h = gives-later p w q _ f h
+  asked-later p w q key (Make (Some ticket)) f h = (gives-later p w q _ f h.0, h.1)
+  asked-later p w q key (Make None) f h = gives-later p w q _ f h
   asked-later p w q key OutOfMemory f h = Follows_trans p w q [] [] f h

@@ -1,7 +1,7 @@
 -- Lists of keys: how often a key is named, which keys are in a shard, and which can be pinned.
-use Rattle.std.proofs.Common.{◌≡◌, ℕ, ◌+◌, ◌<◌, ◌≤◌, ◌==◌, ◌||◌, zero, suc, Bool, true, false, cond, List, [], ◌∷◌, ◌++◌, length, get_or, take, drop, map, filter, ◌⊎◌, inl, inr, ⊎_elim, Some, refl, sym, ap, ◌∙◌, subst, arith}
+use Rattle.std.proofs.Common.{◌≡◌, ℕ, ◌+◌, ◌<◌, ◌≤◌, ◌==◌, ◌||◌, zero, suc, Bool, true, false, cond, List, [], ◌∷◌, ◌++◌, length, get_or, take, drop, map, filter, reverse, append_assoc, ◌⊎◌, inl, inr, ⊎_elim, Some, refl, sym, ap, ◌∙◌, subst, arith}
 use Rattle.std.proofs.lemmas.Bool.{eq-eqb, eqb-true}
-use Rattle.std.proofs.lemmas.List.{take_more, drop_more, get_or-map, length-take-le, append-nil}
+use Rattle.std.proofs.lemmas.List.{take_more, drop_more, get_or-map, length-take-le, append-nil, reverse-append}
 use Rattle.std.proofs.lemmas.List.Elements.{filter-append}
 use Rattle.evict_core.specs.Machine.{State, Hit, HitsEach, ask_answer, hit, hit_all, status_of, max_pins}
 use Rattle.evict_core.specs.History.{one_if, times_named}
@@ -130,3 +130,11 @@ module _ {K : Type 0} (eq : K → K → Bool) where
           | true ↦ λ t. let h = here t in push-pinnable (filter p (take i xs)) (get_or xs i d) all (h.0, h.1, omega (arith, h.2, named-filter p (get_or xs i d) (take i xs)))
           | false ↦ λ t. subst (ArePinnable eq s) (sym (append-nil (filter p (take i xs)))) all
         ]) refl)
+
+-- what is taken from the end of one list goes behind another, whose elements stand for it
+pub one-taken : {X Y : Type 0} (g : Y → X) (all left before : List X) (given after : List Y) (y : Y) → before ≡ left ++ g y ∷ [] → after ≡ given ++ y ∷ []
+    → before ++ map g (reverse given) ≡ all → left ++ map g (reverse after) ≡ all
+one-taken {X} g all left before given after y taken put are =
+    ap (λ l. left ++ map g l) (ap reverse put ∙ reverse-append given (y ∷ []))
+    ∙ (sym (append_assoc left (g y ∷ []) (map g (reverse given)))
+    ∙ (ap (λ (l : List X). l ++ map g (reverse given)) (sym taken) ∙ are))

@@ -51,7 +51,7 @@ module _ {K V T : Type 0} (eq : K → K → Bool) (meaning : Meaning K V T) (cac
   }
 
   pub refused-nothing : (refusal : PinRefusal) → IsRefused eq meaning cache pass keys after refusal → GivesNothing pass after
-  refused-nothing (TurnOut word) h = out-nothing eq meaning cache pass (shards_of meaning keys) after h.1
+  refused-nothing TurnOut h = out-nothing eq meaning cache pass (shards_of meaning keys) after h
   refused-nothing (NotReady i) h = stopped-nothing i h.0 h.1
   refused-nothing (PinsFull i) h = stopped-nothing i h.0 h.2
   refused-nothing OutOfMemory h = h
@@ -143,15 +143,15 @@ module _ {K V T : Type 0} (eq : K → K → Bool) (meaning : Meaning K V T) (cac
 
 module _ {K V T : Type 0} (eq : K → K → Bool) (laws : IsEquivalence eq) (same : (a b : K) → eq a b ≡ true → a ≡ b) (meaning : Meaning K V T) where
   pub refused_for_one_cause : RefusedForOneCause eq meaning
-  refused_for_one_cause cache p q keys (TurnOut v) (TurnOut w) of a b r s = ap TurnOut (r.0 ∙ sym s.0)
-  refused_for_one_cause cache p q keys (TurnOut v) (NotReady j) of a b r s = absurd (out-or-stopped eq meaning cache of p (shards_of meaning keys) q (take j keys) r.1.0 r.1.1 s.1.0)
-  refused_for_one_cause cache p q keys (TurnOut v) (PinsFull j) of a b r s = absurd (out-or-stopped eq meaning cache of p (shards_of meaning keys) q (take j keys) r.1.0 r.1.1 s.2.0)
-  refused_for_one_cause cache p q keys (NotReady i) (TurnOut w) of a b r s = absurd (out-or-stopped eq meaning cache of p (shards_of meaning keys) q (take i keys) s.1.0 s.1.1 r.1.0)
+  refused_for_one_cause cache p q keys TurnOut TurnOut of a b r s = refl
+  refused_for_one_cause cache p q keys TurnOut (NotReady j) of a b r s = absurd (out-or-stopped eq meaning cache of p (shards_of meaning keys) q (take j keys) r.0 r.1 s.1.0)
+  refused_for_one_cause cache p q keys TurnOut (PinsFull j) of a b r s = absurd (out-or-stopped eq meaning cache of p (shards_of meaning keys) q (take j keys) r.0 r.1 s.2.0)
+  refused_for_one_cause cache p q keys (NotReady i) TurnOut of a b r s = absurd (out-or-stopped eq meaning cache of p (shards_of meaning keys) q (take i keys) s.0 s.1 r.1.0)
   refused_for_one_cause cache p q keys (NotReady i) (NotReady j) of a b r s = ap NotReady (one-place eq same laws meaning keys cache of p q i j r.0 s.0 (inl r.2) (inl s.2) r.1 s.1).0
   refused_for_one_cause cache p q keys (NotReady i) (PinsFull j) of a b r s =
       let one = one-place eq same laws meaning keys cache of p q i j r.0 s.0 (inl r.2) (inr (s.1, s.3, s.4)) r.1 s.2 in
       let no = sym r.2 ∙ (ap (pins_shown eq meaning cache p keys q) one.1 ∙ s.3) in cc
-  refused_for_one_cause cache p q keys (PinsFull i) (TurnOut w) of a b r s = absurd (out-or-stopped eq meaning cache of p (shards_of meaning keys) q (take i keys) s.1.0 s.1.1 r.2.0)
+  refused_for_one_cause cache p q keys (PinsFull i) TurnOut of a b r s = absurd (out-or-stopped eq meaning cache of p (shards_of meaning keys) q (take i keys) s.0 s.1 r.2.0)
   refused_for_one_cause cache p q keys (PinsFull i) (NotReady j) of a b r s =
       let one = one-place eq same laws meaning keys cache of p q i j r.0 s.0 (inr (r.1, r.3, r.4)) (inl s.2) r.2 s.1 in
       let no = sym s.2 ∙ (ap (pins_shown eq meaning cache p keys q) (sym one.1) ∙ r.3) in cc

@@ -35,7 +35,7 @@ same-nothing pass = record { first = Follows_same pass.first; second = Follows_s
 
 module _ {M K V T : Type 0} (eq : K → K → Bool) (laws : IsEquivalence eq) (same : (a b : K) → eq a b ≡ true → a ≡ b) (meaning : Meaning K V T) (cache : CacheView T) (of : AreShardsOf cache.tag cache.shards) (pass : CachePassView K T) (keys : List K) (holds : Holds M K V T) (h : AreHoldsOf eq meaning (shards_of meaning keys) cache pass holds) where
   pub refused-of : (r : PinRefusal) → IsRefusalOf eq meaning cache keys holds r → IsRefused eq meaning cache pass keys (passes_back holds) r
-  refused-of (TurnOut word) r = absurd r
+  refused-of TurnOut r = absurd r
   refused-of (NotReady i) r = (
     r.0,
     (back-stops-all eq laws same meaning (shards_of meaning keys) cache pass holds h (take i keys) r.2, r.1),

@@ -1,5 +1,5 @@
 -- Inner: what a call that pins several keys holds of each shard.
-use Rattle.std.specs.Prelude.{◌≡◌, ℕ, ◌+◌, ◌≤◌, slice_get, Bool, true, false, List, [], ◌∷◌, ◌++◌, take, Option, Some, None}
+use Rattle.std.specs.Prelude.{◌≡◌, ℕ, ◌+◌, ◌≤◌, ◌⊎◌, slice_get, Bool, true, false, List, [], ◌∷◌, ◌++◌, take, Option, Some, None}
 use Rattle.turn_cell.specs.Passes.{IsOf, IsTurnOf}
 use Rattle.evict_core.specs.Machine.{status_of, max_pins}
 use Rattle.evict_core.specs.History.{times_named}
@@ -9,7 +9,7 @@ use Rattle.flight_cache.specs.Meaning.{Meaning, shard_of}
 use Rattle.flight_cache.specs.Histories.{Stands, IsLegalUnder}
 use Rattle.flight_cache.specs.Calls.{ShardView, ShardPassView}
 use Rattle.flight_cache.specs.Shards.{Shards, CacheView, CachePassView, AreAlike, at}
-use Rattle.flight_cache.specs.Pinning.{is_named, keys_in}
+use Rattle.flight_cache.specs.Pinning.{is_named, keys_in, TurnsWith}
 use Rattle.flight_cache.specs.declared.kept.Entry.TheVariants.{PinAll}
 use Rattle.flight_cache.specs.declared.pinning.PinRefusal.{PinRefusal}
 use Rattle.flight_cache.specs.declared.pinning.PinRefusal.TheVariants.{TurnOut, NotReady, PinsFull, OutOfMemory}
@@ -18,6 +18,14 @@ use Rattle.flight_cache.specs.declared.holds.Hold.TheVariants.{Turn, Pass}
 use Rattle.flight_cache.specs.declared.holds.Holds.{Holds}
 use Rattle.std.specs.declared.snapshot.Snapshot.{Snapshot}
 use Rattle.std.specs.Global.{Vec}
+
+-- the shard is named and out: its pass lost a try
+abbrev pub IsLost : {K T : Type 0} → List ℕ → ShardView T → ShardPassView K T → ShardPassView K T → Type 0
+IsLost shards shard pass after = (is_named shards shard.tag.shard ≡ true) × (after ≡ record pass { lost = pass.lost + 1 })
+
+-- Of two shards, one after the other, one is named and out: the first, and the second's pass is as it was; or the second, and the first, where it is named, gave its turn back
+abbrev pub IsOneLost : {K V T : Type 0} → (K → K → Bool) → Meaning K V T → List ℕ → ShardView T → ShardView T → ShardPassView K T → ShardPassView K T → ShardPassView K T → ShardPassView K T → Type 0
+IsOneLost eq meaning shards shard next pass next_pass after next_after = (IsLost shards shard pass after × (next_after ≡ next_pass)) ⊎ (TurnsWith eq meaning shards shard pass after [] × IsLost shards next next_pass next_after)
 
 module _ {M K V T : Type 0} where
   -- the pass, once what is held is given back without an entry
@@ -91,7 +99,7 @@ module _ {M K V T : Type 0} where
 
     -- what is held says of the first key that can't be pinned
     abbrev pub IsRefusalOf : CacheView T → List K → Holds M K V T → PinRefusal → Type 0
-    IsRefusalOf cache keys holds (TurnOut word) = ⊥
+    IsRefusalOf cache keys holds TurnOut = ⊥
     IsRefusalOf cache keys holds (NotReady i) = (k : K) × (slice_get keys i ≡ Some k) × CanPinAll cache (take i keys) holds × (pins_at eq (at (four_of holds) (shard_of (meaning.numbers k))) k ≡ None)
     IsRefusalOf cache keys holds (PinsFull i) = (k : K) × (pins : ℕ) × (slice_get keys i ≡ Some k) × CanPinAll cache (take i keys) holds × (pins_at eq (at (four_of holds) (shard_of (meaning.numbers k))) k ≡ Some pins) × (max_pins ≤ pins + times_named eq k (take i keys))
     IsRefusalOf cache keys holds OutOfMemory = ⊥

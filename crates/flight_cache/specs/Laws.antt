@@ -252,7 +252,7 @@ module _ {K V T : Type 0} (eq : K → K → Bool) (meaning : Meaning K V T) wher
   abbrev pub NothingHolds : Type 0
   NothingHolds = (cache : CacheView T) (pass after : CachePassView K T) → GivesNothing pass after → HoldsEachMore cache pass after []
 
-  -- a refusal of pinning several keys is for one cause, where it isn't for want of memory
+  -- a refusal of pinning several keys is for one cause, where it isn't for lack of memory
   abbrev pub RefusedForOneCause : Type 0
   RefusedForOneCause = (cache : CacheView T) (pass after : CachePassView K T) (keys : List K) (one other : PinRefusal) → AreShardsOf cache.tag cache.shards
       → ¬ (one ≡ OutOfMemory) → ¬ (other ≡ OutOfMemory)

@@ -89,9 +89,9 @@ module _ {K V T : Type 0} (eq : K → K → Bool) (meaning : Meaning K V T) (cac
   abbrev pub pins_shown : K → Option ℕ
   pins_shown k = let n = shard_of (meaning.numbers k) in ready_pins (status_of eq (shown_state eq meaning (at cache.shards n) (at after n)) k)
 
-  -- the turn of the first named shard that is out said so; or the key at i isn't ready; or it has all its pins, once its places before i are counted
+  -- the first named shard that is out lost a try; or the key at i isn't ready; or it has all its pins, once its places before i are counted
   abbrev pub IsRefused : PinRefusal → Type 0
-  IsRefused (TurnOut word) = (word ≡ 1) × ((n : ℕ) × IsTurnOut eq meaning cache pass (shards_of meaning keys) after n)
+  IsRefused TurnOut = (n : ℕ) × IsTurnOut eq meaning cache pass (shards_of meaning keys) after n
   IsRefused (NotReady i) = (k : K) × IsStoppedAt i k × (pins_shown k ≡ None)
   IsRefused (PinsFull i) = (k : K) × (pins : ℕ) × IsStoppedAt i k × (pins_shown k ≡ Some pins) × (max_pins ≤ pins + times_named eq k (take i keys))
   IsRefused OutOfMemory = GivesNothing pass after

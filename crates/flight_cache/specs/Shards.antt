@@ -2,6 +2,7 @@
 use Rattle.std.specs.Prelude.{◌≡◌, ℕ, ◌+◌, ◌/◌, ◌≤◌, ◌==◌, if◌then◌else◌, min, Bool, List, []}
 use Rattle.evict_core.specs.Machine.{Step, last_count}
 use Rattle.evict_core.specs.History.{times_named, pins_left}
+use Rattle.evict_core.specs.declared.counts.Counts.{Counts}
 use Rattle.evict_core.specs.declared.counts.Totals.{Totals}
 use Rattle.turn_cell.specs.History.{IsPrefix, IsBelow}
 use Rattle.turn_cell.specs.Passes.{IsOf, Extends}
@@ -155,18 +156,23 @@ pub record HasLimits {T : Type 0} (shards : Shards (ShardView T)) (entries budge
   pub budgets_are : each (λ s. s.tag.budget) shards ≡ record { first = part budget 0; second = part budget 1; third = part budget 2; fourth = part budget 3 }
 
 -- the sums, each held at the last value of its type
-abbrev pub total_sum : Totals → Totals → Totals
-total_sum one other = record {
-  entries = min (one.entries + other.entries) last_length;
-  unpinned = min (one.unpinned + other.unpinned) last_count;
-  pinned = min (one.pinned + other.pinned) last_count;
-  budget = min (one.budget + other.budget) last_count;
+abbrev pub count_sum : Counts → Counts → Counts
+count_sum one other = record {
   hits = min (one.hits + other.hits) last_count;
   claims = min (one.claims + other.claims) last_count;
   fills = min (one.fills + other.fills) last_count;
   fails = min (one.fails + other.fails) last_count;
   crowded = min (one.crowded + other.crowded) last_count;
   evictions = min (one.evictions + other.evictions) last_count;
+}
+
+abbrev pub total_sum : Totals → Totals → Totals
+total_sum one other = record {
+  entries = min (one.entries + other.entries) last_length;
+  unpinned = min (one.unpinned + other.unpinned) last_count;
+  pinned = min (one.pinned + other.pinned) last_count;
+  budget = min (one.budget + other.budget) last_count;
+  counts = count_sum one.counts other.counts;
 }
 
 abbrev pub sum_of_totals : Shards Totals → Totals

@@ -3,7 +3,8 @@
 //! A turn takes the value behind it out of its slot and puts it back, so a pointer lies there in place of the entries.
 ghost use Rattle.std.specs.Prelude.{◌≡◌, ℕ, ◌≤◌, Some, IfOk, OnOk, OnErr, IsSome, option_map};
 ghost use Rattle.std.specs.Arc.{arc_value};
-ghost use Rattle.evict_core.specs.Machine.{Hit, Claim, Ask as ask_step, Fill, Fail, Unpin, Limits, max_entries, max_budget, max_cost, status_of, pins_in, maker_in, ask_answer, state_after};
+ghost use Rattle.evict_core.specs.Machine.{Hit, Claim, Ask as ask_step, Fill, Fail, Unpin, Limits, max_entries, max_budget, max_cost, status_of, pins_in};
+ghost use Rattle.evict_core.specs.Machine.{maker_in, ask_answer, state_after};
 ghost use Rattle.evict_core.specs.History.{opening};
 ghost use Rattle.evict_core.specs.Asked.{IsAskAnswer, ready_pins, ready_value, totals_of};
 
@@ -49,7 +50,7 @@ impl<K: Eq + Hash, V> BoxedEntries<K, V> {
     }
 
     /// Asks for the key. A hit is the most recent entry from then on, and has one pin more. A key that may be claimed,
-    /// one that is being made and want of memory change nothing.
+    /// one that is being made and out of memory change nothing.
     pub fn ask(&mut self, key: &K) -> Ask<V>
         ensures { IsAskAnswer K.eq self.old key.now result self.new }
     {

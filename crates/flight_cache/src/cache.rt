@@ -9,14 +9,16 @@ ghost use Rattle.flight_cache.specs.Meaning.{shard_count, shard_of};
 ghost use Rattle.flight_cache.specs.Histories.{left_by};
 ghost use Rattle.flight_cache.specs.Calls.{GivesSteps, own_steps};
 ghost use Rattle.flight_cache.specs.Answers.{IsAsked, HasKeyValue};
-ghost use Rattle.flight_cache.specs.Shards.{IsCacheOf, IsShardOf, AreShardsOf, EachGives, EachHasGivenBack, EachIsLegal, EachBegins, EachGaveAsMuch, EachIsBelow, EachExtends, HasNothing, HasLimits, min_cache_entries, total_sum, sum_of_totals, each, both, at, with_at, part};
+ghost use Rattle.flight_cache.specs.Shards.{IsCacheOf, IsShardOf, AreShardsOf, EachGives, EachHasGivenBack, EachIsLegal, EachBegins, EachGaveAsMuch};
+ghost use Rattle.flight_cache.specs.Shards.{EachIsBelow, EachExtends, HasNothing, HasLimits, min_cache_entries, count_sum, total_sum, sum_of_totals, each};
+ghost use Rattle.flight_cache.specs.Shards.{both, at, with_at, part};
 
 use crate::made::{Made, shard_number};
 use crate::pass::CachePass;
 use crate::pins::{Asked, Pin, Ticket};
 use crate::shard::{Shard, ShardPass};
 use ass_num::{Mem, OutOfMemory};
-use evict_core::Totals;
+use evict_core::{Counts, Totals};
 use std::alloc::Global;
 use std::marker::Model;
 use std::sync::{Arc, Wait};
@@ -39,15 +41,11 @@ impl<M: Made> Model for Cache<M> {
     ghost invariant = { λ c. AreShardsOf c.first.tag.tag.value (record { first = c.first; second = c.second; third = c.third; fourth = c.fourth }) };
 }
 
-// The sums of two shards' totals.
-fn sum(one: Totals, other: Totals) -> Totals
-    ensures { result ≡ total_sum one other }
+/// The sums of two shards' counts.
+fn count_sum(one: Counts, other: Counts) -> Counts
+    ensures { result ≡ count_sum one other }
 {
-    Totals {
-        entries: one.entries.saturating_add(other.entries),
-        unpinned: one.unpinned.saturating_add(other.unpinned),
-        pinned: one.pinned.saturating_add(other.pinned),
-        budget: one.budget.saturating_add(other.budget),
+    Counts {
         hits: one.hits.saturating_add(other.hits),
         claims: one.claims.saturating_add(other.claims),
         fills: one.fills.saturating_add(other.fills),
@@ -57,7 +55,20 @@ fn sum(one: Totals, other: Totals) -> Totals
     }
 }
 
-// The shard of this number, with its part of both limits.
+/// The sums of two shards' totals.
+fn sum(one: Totals, other: Totals) -> Totals
+    ensures { result ≡ total_sum one other }
+{
+    Totals {
+        entries: one.entries.saturating_add(other.entries),
+        unpinned: one.unpinned.saturating_add(other.unpinned),
+        pinned: one.pinned.saturating_add(other.pinned),
+        budget: one.budget.saturating_add(other.budget),
+        counts: count_sum(one.counts, other.counts),
+    }
+}
+
+/// The shard of this number, with its part of both limits.
 fn open_part<M: Made>(
     alloc: Global,
     tag: &M::Tag,
@@ -188,12 +199,14 @@ impl<M: Made> Cache<M> {
         pinned: Arc<M::Value>,
     ) -> (CachePass<M>, Pin<M>)
         requires cell { IsCacheOf self.now pass }
-        requires open { let n = shard_of (M.meaning.numbers ticket.key) in has_open M.Key.eq (own_steps M.meaning (at self.now.shards n).tag (at pass n)) ticket.key ≡ true }
+        requires open { let n = shard_of (M.meaning.numbers ticket.key) in has_open M.Key.eq (own_steps M.meaning (at self.now.shards n).tag (at pass n))
+            ticket.key ≡ true }
         requires kept { arc_value kept ≡ M.meaning.made self.now.tag ticket.key }
         requires pinned { arc_value pinned ≡ M.meaning.made self.now.tag ticket.key }
         requires cost { M.meaning.cost (arc_value kept) ≤ max_cost }
         ensures fill { let n = shard_of (M.meaning.numbers ticket.key) in
-            GivesSteps M.Key.eq M.meaning (at self.now.shards n) (at pass n) (at result.0 n) (Fill ticket.key (M.meaning.cost (arc_value kept)) (arc_value kept) ∷ []) }
+            GivesSteps M.Key.eq M.meaning (at self.now.shards n) (at pass n) (at result.0 n)
+            (Fill ticket.key (M.meaning.cost (arc_value kept)) (arc_value kept) ∷ []) }
         ensures others { let n = shard_of (M.meaning.numbers ticket.key) in result.0 ≡ with_at pass n (at result.0 n) }
         ensures pin { (result.1.key ≡ ticket.key) × (result.1.value ≡ arc_value pinned) }
     {
@@ -206,7 +219,8 @@ impl<M: Made> Cache<M> {
     /// The value of the ticket's key isn't made.
     pub fn fail<R: Wait>(&self, rt: &R, pass: CachePass<M>, ticket: Ticket<M>) -> CachePass<M>
         requires cell { IsCacheOf self.now pass }
-        requires open { let n = shard_of (M.meaning.numbers ticket.key) in has_open M.Key.eq (own_steps M.meaning (at self.now.shards n).tag (at pass n)) ticket.key ≡ true }
+        requires open { let n = shard_of (M.meaning.numbers ticket.key) in has_open M.Key.eq (own_steps M.meaning (at self.now.shards n).tag (at pass n))
+            ticket.key ≡ true }
         ensures fail { let n = shard_of (M.meaning.numbers ticket.key) in
             GivesSteps M.Key.eq M.meaning (at self.now.shards n) (at pass n) (at result n) (Fail ticket.key ∷ []) }
         ensures others { let n = shard_of (M.meaning.numbers ticket.key) in result ≡ with_at pass n (at result n) }
@@ -220,7 +234,8 @@ impl<M: Made> Cache<M> {
     /// Gives a pin back.
     pub fn unpin<R: Wait>(&self, rt: &R, pass: CachePass<M>, pin: Pin<M>) -> CachePass<M>
         requires cell { IsCacheOf self.now pass }
-        requires held { let n = shard_of (M.meaning.numbers pin.key) in 1 ≤ pins_left M.Key.eq (own_steps M.meaning (at self.now.shards n).tag (at pass n)) pin.key }
+        requires held { let n = shard_of (M.meaning.numbers pin.key) in 1 ≤ pins_left M.Key.eq (own_steps M.meaning (at self.now.shards n).tag (at pass n))
+            pin.key }
         ensures unpin { let n = shard_of (M.meaning.numbers pin.key) in
             GivesSteps M.Key.eq M.meaning (at self.now.shards n) (at pass n) (at result n) (Unpin pin.key ∷ []) }
         ensures others { let n = shard_of (M.meaning.numbers pin.key) in result ≡ with_at pass n (at result n) }
@@ -366,24 +381,24 @@ impl<M: Made> Cache<M> {
     }
 
     /// What the pass has seen of each shard is legal.
-    pub fn legal(&self, pass: &CachePass<M>)
+    pub fn proof_legal(&self, pass: &CachePass<M>)
         requires { IsCacheOf self.now pass.now }
         ensures { EachIsLegal M.Key.eq M.meaning self.now.shards pass.now }
     {
-        self.first.legal(&pass.first);
-        self.second.legal(&pass.second);
-        self.third.legal(&pass.third);
-        self.fourth.legal(&pass.fourth);
+        self.first.proof_legal(&pass.first);
+        self.second.proof_legal(&pass.second);
+        self.third.proof_legal(&pass.third);
+        self.fourth.proof_legal(&pass.fourth);
     }
 
     /// The shards have their numbers, and the cache's tag.
-    pub fn numbered(&self)
+    pub fn proof_numbered(&self)
         ensures { AreShardsOf self.now.tag self.now.shards }
     {
         let _ = &self.first;
     }
 
-    // The shard of this number.
+    /// The shard of this number.
     fn shard(&self, number: u32) -> &Shard<M>
         requires { number < shard_count }
         ensures shard { result.now ≡ at self.now.shards number }

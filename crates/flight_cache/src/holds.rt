@@ -6,15 +6,15 @@ ghost use Rattle.evict_core.specs.Machine.{HitsEach, hit_all};
 ghost use Rattle.evict_core.specs.History.{times_named};
 ghost use Rattle.flight_cache.specs.Meaning.{shard_count};
 ghost use Rattle.flight_cache.specs.Shards.{IsCacheOf, at};
-ghost use Rattle.flight_cache.specs.Pinning.{IsTurnOut, is_named, keys_in, shards_of};
-ghost use Rattle.flight_cache.specs.Holds.{IsHeld, IsHoldOf, CanPin, IsPassPinned, AreHeld, AreHoldsOf, CanPinAll, ArePassesPinned, IsRefusalOf, pass_back, passes_back, pins_at, held_value, four_of};
+ghost use Rattle.flight_cache.specs.Pinning.{IsTurnOut, keys_in, shards_of};
+ghost use Rattle.flight_cache.specs.Holds.{IsHeld, IsHoldOf, IsLost, IsOneLost, CanPin, IsPassPinned, AreHeld, AreHoldsOf, CanPinAll, ArePassesPinned};
+ghost use Rattle.flight_cache.specs.Holds.{IsRefusalOf, pass_back, passes_back, pins_at, held_value, four_of};
 
 use crate::cache::Cache;
 use crate::kept::{Entry, Kept};
 use crate::made::Made;
 use crate::pass::CachePass;
 use crate::pinning::PinRefusal;
-use crate::pins::Pin;
 use crate::shard::{Shard, ShardPass};
 use ass_num::{Mem, OutOfMemory};
 use std::alloc::Global;
@@ -37,7 +37,7 @@ pub(crate) struct Holds<M: Made> {
 }
 
 impl<M: Made> Hold<M> {
-    // The pins of a key whose value is ready.
+    /// The pins of a key whose value is ready.
     fn pins_of(&self, key: &M::Key) -> Option<u32>
         ensures { result ≡ pins_at M.Key.eq self.now key.now }
     {
@@ -47,7 +47,7 @@ impl<M: Made> Hold<M> {
         }
     }
 
-    // The value of a key whose value is ready.
+    /// The value of a key whose value is ready.
     fn value_of(&self, key: &M::Key) -> Mem<Option<Arc<M::Value>>>
         ensures { IfOk result (λ o. option_map arc_value o ≡ held_value M.Key.eq self.now key.now) }
     {
@@ -59,16 +59,11 @@ impl<M: Made> Hold<M> {
 }
 
 impl<M: Made> Shard<M> {
-    // Tries once for the turn where it is wanted.
-    fn try_hold(
-        &self,
-        pass: ShardPass<M>,
-        shards: &Vec<u32>,
-    ) -> Result<Hold<M>, (u64, ShardPass<M>)>
+    /// Tries once for the turn where it is wanted.
+    fn try_hold(&self, pass: ShardPass<M>, shards: &Vec<u32>) -> Result<Hold<M>, ShardPass<M>>
         requires { IsOf self.now pass }
         ensures held { IfOk result (IsHoldOf M.Key.eq M.meaning shards.now.items self.now pass) }
-        ensures named { IfErr result (λ r. is_named shards.now.items self.now.tag.shard ≡ true) }
-        ensures out { IfErr result (λ r. (r.0 ≡ 1) × (r.1 ≡ record pass { lost = pass.lost + 1 })) }
+        ensures out { IfErr result (IsLost shards.now.items self.now pass) }
     {
         if !shards.contains(&self.number) {
             return Ok(Hold::Pass(pass));
@@ -76,11 +71,11 @@ impl<M: Made> Shard<M> {
         let ShardPass { pass } = pass;
         match self.cell.try_take(pass) {
             Ok(turn) => Ok(Hold::Turn(turn)),
-            Err((word, pass)) => Err((word, ShardPass { pass })),
+            Err(pass) => Err(ShardPass { pass }),
         }
     }
 
-    // Gives back what is held, without an entry.
+    /// Gives back what is held, without an entry.
     fn let_go(&self, hold: Hold<M>) -> ShardPass<M>
         requires { IsHeld M.Key.eq M.meaning self.now hold }
         ensures { result ≡ pass_back hold }
@@ -91,11 +86,14 @@ impl<M: Made> Shard<M> {
         }
     }
 
-    // A pin more of each key that is in the shard, for each of its places.
+    /// A pin more of each key that is in the shard, for each of its places.
     fn pin_keys(&self, turn: &mut Turn<Kept<M>>, keys: &Vec<M::Key>, shards: &Vec<u32>)
         requires shards { shards.now.items ≡ shards_of M.meaning keys.now.items }
         requires ready { HitsEach M.Key.eq turn.old.value.entries (keys_in M.meaning self.now keys.now.items) }
-        ensures { turn.new ≡ record turn.old { value = record { entries = hit_all M.Key.eq turn.old.value.entries (keys_in M.meaning self.now keys.now.items) } } }
+        ensures { turn.new ≡ record turn.old {
+          value = record
+              { entries = hit_all M.Key.eq turn.old.value.entries (keys_in M.meaning self.now keys.now.items) };
+        } }
     {
         for i in 0..keys.len() {
             if shards[i] == self.number {
@@ -104,7 +102,7 @@ impl<M: Made> Shard<M> {
         }
     }
 
-    // Pins the keys of this shard, and gives its turn back with that entry.
+    /// Pins the keys of this shard, and gives its turn back with that entry.
     fn pin_all(&self, hold: Hold<M>, keys: &Vec<M::Key>, shards: &Vec<u32>) -> ShardPass<M>
         requires held { IsHeld M.Key.eq M.meaning self.now hold }
         requires shards { shards.now.items ≡ shards_of M.meaning keys.now.items }
@@ -122,7 +120,7 @@ impl<M: Made> Shard<M> {
     }
 }
 
-// How many of the first keys are this one.
+/// How many of the first keys are this one.
 fn places<K: Eq>(keys: &Vec<K>, count: usize, key: &K) -> usize
     requires { count ≤ length keys.now.items }
     ensures { result ≡ times_named K.eq key.now (take count keys.now.items) }
@@ -136,21 +134,30 @@ fn places<K: Eq>(keys: &Vec<K>, count: usize, key: &K) -> usize
     places
 }
 
-// Spends pins that nothing counts.
-fn discard<M: Made>(pins: Vec<Pin<M>>) {
-    let mut pins = pins;
-    while let Some(pin) = pins.pop() {
-        let Pin {
-            key: _,
-            shard: _,
-            value: _,
-        } = pin;
+/// The turns of two shards where they are wanted, one after the other. Where the second is out, the first is given back.
+fn hold_both<M: Made>(
+    shard: &Shard<M>,
+    next: &Shard<M>,
+    pass: ShardPass<M>,
+    next_pass: ShardPass<M>,
+    shards: &Vec<u32>,
+) -> Result<(Hold<M>, Hold<M>), (ShardPass<M>, ShardPass<M>)>
+    requires { IsOf shard.now pass × IsOf next.now next_pass }
+    ensures held { IfOk result (λ r. IsHoldOf M.Key.eq M.meaning shards.now.items shard.now pass r.0
+        × IsHoldOf M.Key.eq M.meaning shards.now.items next.now next_pass r.1) }
+    ensures out { IfErr result (λ r. IsOneLost M.Key.eq M.meaning shards.now.items shard.now next.now pass next_pass r.0 r.1) }
+{
+    match shard.try_hold(pass, shards) {
+        Ok(hold) => match next.try_hold(next_pass, shards) {
+            Ok(next_hold) => Ok((hold, next_hold)),
+            Err(next_pass) => Err((shard.let_go(hold), next_pass)),
+        },
+        Err(pass) => Err((pass, next_pass)),
     }
-    pins.destroy_empty();
 }
 
 impl<M: Made> Holds<M> {
-    // What is held of a shard.
+    /// What is held of a shard.
     fn of(&self, shard: u32) -> &Hold<M>
         requires { shard < shard_count }
         ensures { result.now ≡ at (four_of self.now) shard }
@@ -165,7 +172,7 @@ impl<M: Made> Holds<M> {
 }
 
 impl<M: Made> Cache<M> {
-    // The first key that can't be pinned. The places before it that name it count as pins.
+    /// The first key that can't be pinned. The places before it that name it count as pins.
     pub(crate) fn refusal(
         &self,
         holds: &Holds<M>,
@@ -176,7 +183,7 @@ impl<M: Made> Cache<M> {
         ensures none { IfNone result (CanPinAll M.Key.eq M.meaning self.now keys.now.items holds.now) }
         ensures some { IfSome result (IsRefusalOf M.Key.eq M.meaning self.now keys.now.items holds.now) }
     {
-        self.numbered();
+        self.proof_numbered();
         for i in 0..keys.len() {
             let key = &keys[i];
             let Some(pins) = holds.of(shards[i]).pins_of(key) else {
@@ -190,50 +197,38 @@ impl<M: Made> Cache<M> {
         None
     }
 
-    // A pin of each key. The entries don't count them yet.
-    pub(crate) fn pins(
+    /// The value of each key.
+    pub(crate) fn values(
         &self,
         alloc: Global,
         holds: &Holds<M>,
         keys: &Vec<M::Key>,
         shards: &Vec<u32>,
-    ) -> Mem<Vec<Pin<M>>>
+    ) -> Mem<Vec<Arc<M::Value>>>
         requires held { AreHeld M.Key.eq M.meaning self.now holds.now }
         requires shards { shards.now.items ≡ shards_of M.meaning keys.now.items }
-        ensures keys { IfOk result (λ pins. map (λ p. p.key) pins.items ≡ keys.now.items) }
-        ensures values { IfOk result (λ pins. map (λ p. p.value) pins.items ≡ map (M.meaning.made self.now.tag) keys.now.items) }
+        ensures { IfOk result (λ values. map arc_value values.items ≡ map (M.meaning.made self.now.tag) keys.now.items) }
     {
-        let mut pins = Vec::new(alloc);
-        if pins.reserve(keys.len()).is_err() {
-            pins.destroy_empty();
-            return Err(OutOfMemory);
-        }
-        self.numbered();
+        let mut values = Vec::new(alloc);
+        self.proof_numbered();
         for i in 0..keys.len() {
-            let Ok(key) = M::copy(alloc, &keys[i]) else {
-                discard(pins);
+            let Some(value) = holds.of(shards[i]).value_of(&keys[i])? else {
                 return Err(OutOfMemory);
             };
-            let shard = shards[i];
-            let Ok(Some(value)) = holds.of(shard).value_of(&key) else {
-                discard(pins);
-                return Err(OutOfMemory);
-            };
-            pins.push_reserved(Pin { key, shard, value });
+            values.push(value)?;
         }
-        Ok(pins)
+        Ok(values)
     }
 
-    // The turns of the shards that are named, in ascending order. Where one is out, those before it are given back.
+    /// The turns of the shards that are named, in ascending order. Where one is out, those before it are given back.
     pub(crate) fn try_hold(
         &self,
         pass: CachePass<M>,
         shards: &Vec<u32>,
-    ) -> Result<Holds<M>, (u64, CachePass<M>)>
+    ) -> Result<Holds<M>, CachePass<M>>
         requires { IsCacheOf self.now pass }
         ensures held { IfOk result (AreHoldsOf M.Key.eq M.meaning shards.now.items self.now pass) }
-        ensures word { IfErr result (λ r. r.0 ≡ 1) }
-        ensures out { IfErr result (λ r. (n : ℕ) × IsTurnOut M.Key.eq M.meaning self.now pass shards.now.items r.1 n) }
+        ensures out { IfErr result (λ after. (n : ℕ) × IsTurnOut M.Key.eq M.meaning self.now pass shards.now.items after n) }
     {
         let CachePass {
             first,
@@ -241,77 +236,33 @@ impl<M: Made> Cache<M> {
             third,
             fourth,
         } = pass;
-        let first = match self.first.try_hold(first, shards) {
-            Ok(hold) => hold,
-            Err((word, first)) => {
-                return Err((
-                    word,
-                    CachePass {
+        match hold_both(&self.first, &self.second, first, second, shards) {
+            Ok((first, second)) => {
+                match hold_both(&self.third, &self.fourth, third, fourth, shards) {
+                    Ok((third, fourth)) => Ok(Holds {
                         first,
                         second,
                         third,
                         fourth,
-                    },
-                ));
-            }
-        };
-        let second = match self.second.try_hold(second, shards) {
-            Ok(hold) => hold,
-            Err((word, second)) => {
-                let first = self.first.let_go(first);
-                return Err((
-                    word,
-                    CachePass {
-                        first,
-                        second,
+                    }),
+                    Err((third, fourth)) => Err(CachePass {
+                        first: self.first.let_go(first),
+                        second: self.second.let_go(second),
                         third,
                         fourth,
-                    },
-                ));
+                    }),
+                }
             }
-        };
-        let third = match self.third.try_hold(third, shards) {
-            Ok(hold) => hold,
-            Err((word, third)) => {
-                let first = self.first.let_go(first);
-                let second = self.second.let_go(second);
-                return Err((
-                    word,
-                    CachePass {
-                        first,
-                        second,
-                        third,
-                        fourth,
-                    },
-                ));
-            }
-        };
-        let fourth = match self.fourth.try_hold(fourth, shards) {
-            Ok(hold) => hold,
-            Err((word, fourth)) => {
-                let first = self.first.let_go(first);
-                let second = self.second.let_go(second);
-                let third = self.third.let_go(third);
-                return Err((
-                    word,
-                    CachePass {
-                        first,
-                        second,
-                        third,
-                        fourth,
-                    },
-                ));
-            }
-        };
-        Ok(Holds {
-            first,
-            second,
-            third,
-            fourth,
-        })
+            Err((first, second)) => Err(CachePass {
+                first,
+                second,
+                third,
+                fourth,
+            }),
+        }
     }
 
-    // Gives back what is held, without an entry.
+    /// Gives back what is held, without an entry.
     pub(crate) fn let_go(&self, holds: Holds<M>) -> CachePass<M>
         requires { AreHeld M.Key.eq M.meaning self.now holds }
         ensures { result ≡ passes_back holds }
@@ -330,7 +281,7 @@ impl<M: Made> Cache<M> {
         }
     }
 
-    // Pins the keys, each in its shard.
+    /// Pins the keys, each in its shard.
     pub(crate) fn pin_all(
         &self,
         holds: Holds<M>,

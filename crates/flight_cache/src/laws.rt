@@ -1,5 +1,10 @@
 //! The laws of shards and of what calls make of a pass. The functions do nothing: their contracts are the laws.
-ghost use Rattle.flight_cache.specs.Laws.{ShardsStayInBudget, ShardsStayInLimit, HistoryInBudget, HistoryInLimit, ShardsClaimOnce, ShardsFillOnce, ReadyAreMade, FliesWhereOpen, ShardPinsAreHeld, ShardsKeepHeld, HitHolds, FillHolds, UnpinGives, PinAllHolds, ClaimOpens, AskIsAnswered, PlacesAreInShard, PinnedAllHolds, NothingIsGivenBack, GivenBackAgain, OneGivesBack, GivesFollow, GivesOwnSteps, EachIsLater, GivesItself, NothingHolds, RefusedForOneCause, LimitsAreOpened, LimitsAreSet, PartsAddUp, CallIsLater, LaterIsLater, StaysOfCache, FirstIsWhole, StaysWhole, JoinedIsWhole, WholeButNone, SplitIsWholeBut, JoinIsWholeBut, LaterIsWholeBut, WholeKnowsAll};
+ghost use Rattle.flight_cache.specs.Laws.{ShardsStayInBudget, ShardsStayInLimit, HistoryInBudget, HistoryInLimit, ShardsClaimOnce, ShardsFillOnce};
+ghost use Rattle.flight_cache.specs.Laws.{ReadyAreMade, FliesWhereOpen, ShardPinsAreHeld, ShardsKeepHeld, HitHolds, FillHolds, UnpinGives, PinAllHolds};
+ghost use Rattle.flight_cache.specs.Laws.{ClaimOpens, AskIsAnswered, PlacesAreInShard, PinnedAllHolds, NothingIsGivenBack, GivenBackAgain, OneGivesBack};
+ghost use Rattle.flight_cache.specs.Laws.{GivesFollow, GivesOwnSteps, EachIsLater, GivesItself, NothingHolds, RefusedForOneCause, LimitsAreOpened};
+ghost use Rattle.flight_cache.specs.Laws.{LimitsAreSet, PartsAddUp, CallIsLater, LaterIsLater, StaysOfCache, FirstIsWhole, StaysWhole, JoinedIsWhole};
+ghost use Rattle.flight_cache.specs.Laws.{WholeButNone, SplitIsWholeBut, JoinIsWholeBut, LaterIsWholeBut, WholeKnowsAll};
 
 use crate::made::Made;
 
@@ -49,7 +54,7 @@ pub fn calls<M: Made>()
     ensures nothing { NothingHolds M.Key.eq M.meaning }
 {}
 
-/// A refusal of `try_pin_all` is for one cause: no two of the refusals that aren't for want of memory hold of the same
+/// A refusal of `try_pin_all` is for one cause: no two of the refusals that aren't for lack of memory hold of the same
 /// call.
 pub fn refusals<M: Made>()
     ensures { RefusedForOneCause M.Key.eq M.meaning }

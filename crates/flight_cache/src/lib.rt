@@ -1,7 +1,7 @@
 //! A cache that threads share: one of them makes a value, and the others wait for it.
 //!
 //! Each key is in one of four shards, each behind a turn of its own. What threads do to a shard is one history, which
-//! is legal for the cache machine of `evict_core`. docs/SINGLE_FLIGHT.md explains the words.
+//! is legal for the cache machine of `evict_core`. docs/CACHES.md explains the words.
 #![tactic(auto)]
 
 mod boxed_entries;

@@ -8,13 +8,13 @@ use std::alloc::Global;
 use std::hash::Hash;
 use std::marker::Model;
 
-// A sum stays below this.
+/// A sum stays below this.
 const SUM_BOUND: u64 = 4_294_967_296;
 
-// What the sum is multiplied by before a number is added.
+/// What the sum is multiplied by before a number is added.
 const SUM_FACTOR: u64 = 31;
 
-// The shard is told by the sum's bits from this one on.
+/// The shard is told by the sum's bits from this one on.
 const SHARD_UNIT: u32 = 65536;
 
 const SHARD_COUNT: u32 = 4;
@@ -86,7 +86,7 @@ pub trait Made {
     ghost same_key: { (a b : Self.Key) → Self.Key.eq a b ≡ true → a ≡ b };
 }
 
-// The shard of a key.
+/// The shard of a key.
 pub(crate) fn shard_number<M: Made>(key: &M::Key) -> u32
     ensures shard { result ≡ shard_of (M.meaning.numbers key.now) }
     ensures below { result < shard_count }

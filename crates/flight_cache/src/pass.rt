@@ -36,13 +36,13 @@ pub(crate) struct Others<M: Made> {
 
 impl<M: Made> CachePass<M> {
     /// The passes of the four shards have one number, and drew as many numbers.
-    pub fn alike(&self)
+    pub fn proof_alike(&self)
         ensures { AreAlike self.now }
     {
         let _ = &self.first;
     }
 
-    // The pass of one shard, and the others.
+    /// The pass of one shard, and the others.
     pub(crate) fn apart(self, number: u32) -> (ShardPass<M>, Others<M>)
         ensures own { result.0 ≡ at self number }
         ensures others { (own : ShardPassView M.Key M.Tag) → together result.1 own ≡ with_at self number own }
@@ -73,7 +73,7 @@ impl<M: Made> CachePass<M> {
 }
 
 impl<M: Made> Others<M> {
-    // The cache's pass again.
+    /// The cache's pass again.
     pub(crate) fn together(self, own: ShardPass<M>) -> CachePass<M>
         requires { AreAlike (together self own) }
         ensures { result ≡ together self own }

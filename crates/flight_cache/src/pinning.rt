@@ -1,5 +1,6 @@
 //! Pins of several keys at once, without waiting.
-ghost use Rattle.std.specs.Prelude.{◌≡◌, IfOk, IfErr};
+ghost use Rattle.std.specs.Prelude.{◌≡◌, ◌≤◌, [], length, map, IfOk, IfErr, vec_capacity, vec_len};
+ghost use Rattle.std.specs.Arc.{arc_value};
 ghost use Rattle.flight_cache.specs.Shards.{IsCacheOf};
 ghost use Rattle.flight_cache.specs.Pinning.{GivesNothing, IsPinnedAll, IsRefused, shards_of};
 
@@ -7,14 +8,15 @@ use crate::cache::Cache;
 use crate::made::{Made, shard_number};
 use crate::pass::CachePass;
 use crate::pins::Pin;
-use ass_num::Mem;
+use ass_num::{Mem, OutOfMemory};
 use std::alloc::Global;
+use std::sync::Arc;
 
-/// Why keys weren't pinned: a shard's turn is out, by this word; the value of the key at a place isn't ready; it has
-/// all its pins; or memory was wanting.
+/// Why keys weren't pinned: a shard's turn is out; the value of the key at a place isn't ready; it has all its pins; or
+/// memory ran out.
 #[derive(Clone, Copy, Debug, PartialEq, Eq)]
 pub enum PinRefusal {
-    TurnOut(u64),
+    TurnOut,
     NotReady(usize),
     PinsFull(usize),
     OutOfMemory,
@@ -27,32 +29,36 @@ impl<M: Made> Cache<M> {
         &self,
         alloc: Global,
         pass: CachePass<M>,
-        keys: &Vec<M::Key>,
+        keys: Vec<M::Key>,
     ) -> (CachePass<M>, Result<Vec<Pin<M>>, PinRefusal>)
         requires { IsCacheOf self.now pass }
-        ensures pinned { IfOk result.1 (λ pins. IsPinnedAll M.Key.eq M.meaning self.now pass keys.now.items result.0 pins.items) }
-        ensures refused { IfErr result.1 (IsRefused M.Key.eq M.meaning self.now pass keys.now.items result.0) }
+        ensures pinned { IfOk result.1 (λ pins. IsPinnedAll M.Key.eq M.meaning self.now pass keys.items result.0 pins.items) }
+        ensures refused { IfErr result.1 (IsRefused M.Key.eq M.meaning self.now pass keys.items result.0) }
         ensures nothing { IfErr result.1 (λ refusal. GivesNothing pass result.0) }
     {
-        self.numbered();
-        let Ok(shards) = shard_numbers::<M>(alloc, keys) else {
+        self.proof_numbered();
+        let Ok(shards) = shard_numbers::<M>(alloc, &keys) else {
             return (pass, Err(PinRefusal::OutOfMemory));
         };
         let holds = match self.try_hold(pass, &shards) {
             Ok(holds) => holds,
-            Err((word, pass)) => return (pass, Err(PinRefusal::TurnOut(word))),
+            Err(pass) => return (pass, Err(PinRefusal::TurnOut)),
         };
-        if let Some(refusal) = self.refusal(&holds, keys, &shards) {
+        if let Some(refusal) = self.refusal(&holds, &keys, &shards) {
             return (self.let_go(holds), Err(refusal));
         }
-        let Ok(pins) = self.pins(alloc, &holds, keys, &shards) else {
+        let Ok(values) = self.values(alloc, &holds, &keys, &shards) else {
             return (self.let_go(holds), Err(PinRefusal::OutOfMemory));
         };
-        (self.pin_all(holds, keys, &shards), Ok(pins))
+        let Ok(room) = room_for::<M>(alloc, keys.len()) else {
+            return (self.let_go(holds), Err(PinRefusal::OutOfMemory));
+        };
+        let pass = self.pin_all(holds, &keys, &shards);
+        (pass, Ok(pins_with::<M>(keys, &shards, values, room)))
     }
 }
 
-// The shard of each key.
+/// The shard of each key.
 fn shard_numbers<M: Made>(alloc: Global, keys: &Vec<M::Key>) -> Mem<Vec<u32>>
     ensures { IfOk result (λ shards. shards.items ≡ shards_of M.meaning keys.now.items) }
 {
@@ -61,4 +67,47 @@ fn shard_numbers<M: Made>(alloc: Global, keys: &Vec<M::Key>) -> Mem<Vec<u32>>
         shards.push(shard_number::<M>(key))?;
     }
     Ok(shards)
+}
+
+/// No pins, with room for so many.
+fn room_for<M: Made>(alloc: Global, count: usize) -> Mem<Vec<Pin<M>>>
+    ensures empty { IfOk result (λ room. room.items ≡ []) }
+    ensures len { IfOk result (λ room. vec_len room ≡ 0) }
+    ensures room { IfOk result (λ room. count ≤ vec_capacity room) }
+{
+    let mut room = Vec::new(alloc);
+    if room.reserve(count).is_err() {
+        room.destroy_empty();
+        return Err(OutOfMemory);
+    }
+    Ok(room)
+}
+
+/// A pin of each key with its value, in the order of the keys. There is room for them.
+fn pins_with<M: Made>(
+    keys: Vec<M::Key>,
+    shards: &Vec<u32>,
+    values: Vec<Arc<M::Value>>,
+    room: Vec<Pin<M>>,
+) -> Vec<Pin<M>>
+    requires shards { shards.now.items ≡ shards_of M.meaning keys.items }
+    requires values { length values.items ≡ length keys.items }
+    requires empty { room.items ≡ [] }
+    requires len { vec_len room ≡ 0 }
+    requires room { length keys.items ≤ vec_capacity room }
+    ensures keys { map (λ p. p.key) result.items ≡ keys.items }
+    ensures values { map (λ p. p.value) result.items ≡ map arc_value values.items }
+{
+    let mut keys = keys;
+    let mut values = values;
+    let mut pins = room;
+    while let Some(key) = keys.pop() {
+        let Some(value) = values.pop() else {
+            unreachable!()
+        };
+        let shard = shards[keys.len()];
+        pins.push_reserved(Pin { key, shard, value });
+    }
+    pins.reverse();
+    pins
 }

@@ -38,7 +38,7 @@ impl<M: Made> Model for ShardPass<M> {
     ghost invariant = { λ p. HasLegal M.Key.eq M.meaning p.pass.tag p.pass.seen };
 }
 
-// So many words lie between what two shards change: two lines of a processor's cache.
+/// So many words lie between what two shards change: two lines of a processor's cache.
 const GAP: usize = 16;
 
 /// The entries of a shard's keys, behind a turn.
@@ -127,7 +127,7 @@ impl<M: Made> Shard<M> {
         unreachable!()
     }
 
-    // One ask. The key comes back where its value is being made.
+    /// One ask. The key comes back where its value is being made.
     fn ask_once<R: Wait>(
         &self,
         rt: &R,
@@ -145,7 +145,7 @@ impl<M: Made> Shard<M> {
         self.answer(alloc, before, turn, key)
     }
 
-    // What the turn answers. It comes home in here, where nothing can wait: there is no handle to wait with.
+    /// What the turn answers. It comes home in here, where nothing can wait: there is no handle to wait with.
     fn answer(
         &self,
         alloc: Global,
@@ -179,11 +179,11 @@ impl<M: Made> Shard<M> {
                     return (pass, Ok(Asked::OutOfMemory));
                 }
                 let pass = self.give(turn, Some(Entry::Claim(Snapshot::of(&key))));
-                (pass, Ok(Asked::Claim(Ticket { key, shard })))
+                (pass, Ok(Asked::Make(Some(Ticket { key, shard }))))
             }
             Ask::Crowded => {
                 let pass = self.give(turn, Some(Entry::Crowded(Snapshot::of(&key))));
-                (pass, Ok(Asked::Crowded))
+                (pass, Ok(Asked::Make(None)))
             }
             Ask::Flying(_) => {
                 let pass = self.give(turn, None);
@@ -307,7 +307,7 @@ impl<M: Made> Shard<M> {
         }
     }
 
-    // A new pass, where a number is left.
+    /// A new pass, where a number is left.
     pub(crate) fn split_with_room(&self, pass: ShardPass<M>) -> (ShardPass<M>, ShardPass<M>)
         requires cell { IsOf self.now pass }
         requires first { pass.number ≡ 0 }
@@ -353,14 +353,14 @@ impl<M: Made> Shard<M> {
     }
 
     /// What the pass has seen is legal.
-    pub fn legal(&self, pass: &ShardPass<M>)
+    pub fn proof_legal(&self, pass: &ShardPass<M>)
         requires { IsOf self.now pass.now }
         ensures { IsLegalUnder M.Key.eq M.meaning self.now.tag pass.now.seen }
     {
         let _ = &pass.pass;
     }
 
-    // The turn of the shard.
+    /// The turn of the shard.
     fn take<R: Wait>(&self, rt: &R, pass: ShardPass<M>) -> Turn<Kept<M>>
         requires { IsOf self.now pass }
         ensures turn { IsTurnAfterTries (Stands M.Key.eq M.meaning) self.now.tag pass result }
@@ -370,7 +370,7 @@ impl<M: Made> Shard<M> {
         self.cell.take(rt, pass)
     }
 
-    // The turn comes home, with this entry.
+    /// The turn comes home, with this entry.
     pub(crate) fn give(&self, turn: Turn<Kept<M>>, entry: Option<Entry<M::Key>>) -> ShardPass<M>
         requires cell { IsOf self.now turn.pass }
         requires value { Stands M.Key.eq M.meaning self.now.tag turn.value (with_entry turn.list turn.pass.number entry) }

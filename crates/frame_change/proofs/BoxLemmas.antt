@@ -7,7 +7,7 @@ use Rattle.frame_change.specs.Changes.{DiffersAt, IsLeastChanged, IsPicture}
 use Rattle.frame_change.specs.Rows.{AreSame, AreColumns}
 use Rattle.frame_change.specs.declared.pixels.Changed.{Changed}
 use Rattle.frame_change.proofs.ColumnLemmas.{Differs}
-use Rattle.frame_change.proofs.WordLemmas.{below_or_not}
+use Rattle.std.proofs.lemmas.Bool.{cases_lt}
 
 -- all bytes are the same
 pub all_same : (a b : List ℕ) → length a ≡ length b → AreSame a b 0 (length a) → a ≡ b
@@ -55,7 +55,7 @@ module _ (size : Size) (a b : List ℕ) (picture : IsPicture size a) (first last
   w = size.w
 
   pub reaches : first < last
-  reaches = elim (below_or_not first last) [ inl less ↦ less | inr past ↦ absurd (differs (behind first past inside)) ]
+  reaches = elim (cases_lt first last) [ inl less ↦ less | inr past ↦ absurd (differs (behind first past inside)) ]
 
   last_row : (last - 1) / (3 * w) < size.h
   last_row = row_within w size.h (last - 1) some (omega (arith, reaches, picture))
@@ -70,10 +70,10 @@ module _ (size : Size) (a b : List ℕ) (picture : IsPicture size a) (first last
   row_between : (i j : ℕ) → i < w → j < size.h → DiffersAt w a b i j → (first / (3 * w) ≤ j) × (j < (last - 1) / (3 * w) + 1)
   row_between i j in_row in_picture at =
       let m : ℕ = 3 * (j * w + i) + at.0 in
-      let low : first ≤ m = elim (below_or_not m first) [ inl less ↦ absurd (at.2 (before m (omega arith) less)) | inr past ↦ past ] in
+      let low : first ≤ m = elim (cases_lt m first) [ inl less ↦ absurd (at.2 (before m (omega arith) less)) | inr past ↦ past ] in
       let rows : (j + 1) * (3 * w) ≤ 3 * (w * size.h) = rows_within w size.h (j + 1) (omega arith) in
       let whole : m < length a = omega (arith, at.1, rows, picture) in
-      let high : m < last = elim (below_or_not m last) [ inl less ↦ less | inr past ↦ absurd (at.2 (behind m past whole)) ] in
+      let high : m < last = elim (cases_lt m last) [ inl less ↦ less | inr past ↦ absurd (at.2 (behind m past whole)) ] in
       let above : first / (3 * w) < j + 1 = (div-lt_iff_lt-mul (omega arith)).1 (omega (arith, at.1, low)) in
       let below : j ≤ (last - 1) / (3 * w) = (le-div_iff_mul-le (omega arith)).1 (omega (arith, high)) in
       (omega arith, omega arith)

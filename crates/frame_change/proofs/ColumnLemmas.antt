@@ -3,7 +3,7 @@ use Rattle.std.proofs.Common.{◌≡◌, ℕ, ◌+◌, ◌-◌, ◌*◌, ◌/◌
 use Rattle.std.proofs.lemmas.List.{get_or-take, get_or-drop, length-take-le, length-drop}
 use Rattle.frame_change.specs.Changes.{DiffersAt}
 use Rattle.frame_change.specs.Rows.{AreSame, IsLeft, IsRight, AreColumns}
-use Rattle.frame_change.proofs.WordLemmas.{below_or_not}
+use Rattle.std.proofs.lemmas.Bool.{cases_lt}
 
 -- a byte of both lists differs
 abbrev pub Differs : List ℕ → List ℕ → ℕ → Type 0
@@ -72,7 +72,7 @@ module _ (w : ℕ) (a b : List ℕ) (y : ℕ) (size : length (row_of w y a) ≡ 
   right_at : (right found : ℕ) → right < found → IsRight (row_of w y a) (row_of w y b) right found → DiffersAt w a b (found - 1) y
   right_at right found more is =
       let some = is.differs more in
-      let high : some.0 < 3 * (found - 1) + 3 = elim (below_or_not some.0 (3 * found)) [ inl less ↦ omega arith | inr past ↦ absurd (some.3 (is.same some.0 past some.2)) ] in
+      let high : some.0 < 3 * (found - 1) + 3 = elim (cases_lt some.0 (3 * found)) [ inl less ↦ omega arith | inr past ↦ absurd (some.3 (is.same some.0 past some.2)) ] in
       from_row (found - 1) some.0 (omega (arith, some.1)) high (omega (arith, is.in_row, size)) some.3
 
   left_at : (left found : ℕ) → found < left → left ≤ w → IsLeft (row_of w y a) (row_of w y b) left found → DiffersAt w a b found y
@@ -85,8 +85,8 @@ module _ (w : ℕ) (a b : List ℕ) (y : ℕ) (size : length (row_of w y a) ≡ 
     left_within = omega (arith, before.left_within, is_left.within);
     right_within = omega (arith, is_right.in_row, size);
     has = λ i j inside from to differs. has_pixel i j inside from differs (last_or_not j to);
-    left_differs = λ inside. left_pixel (below_or_not x left) inside;
-    right_differs = λ some. right_pixel (below_or_not right z) some;
+    left_differs = λ inside. left_pixel (cases_lt x left) inside;
+    right_differs = λ some. right_pixel (cases_lt right z) some;
   }
     where
       last_or_not : (j : ℕ) → j < y + 1 → (j < y) ⊎ (j ≡ y)
@@ -97,8 +97,8 @@ module _ (w : ℕ) (a b : List ℕ) (y : ℕ) (size : length (row_of w y a) ≡ 
       has_pixel i j inside from differs (inr here) =
           let P : ℕ → Type 0 = λ n. Differs a b (3 * (n * w + i) + differs.0) in
           let in_row = to_row i differs.0 differs.1 inside (subst P here differs.2) in (
-            elim (below_or_not i x) [ inl less ↦ absurd (in_row (is_left.same (3 * i + differs.0) (omega arith) (omega (arith, differs.1)))) | inr past ↦ past ],
-            elim (below_or_not i z) [ inl less ↦ less | inr past ↦ absurd (in_row (is_right.same (3 * i + differs.0) (omega arith) (omega (arith, differs.1, size)))) ],
+            elim (cases_lt i x) [ inl less ↦ absurd (in_row (is_left.same (3 * i + differs.0) (omega arith) (omega (arith, differs.1)))) | inr past ↦ past ],
+            elim (cases_lt i z) [ inl less ↦ less | inr past ↦ absurd (in_row (is_right.same (3 * i + differs.0) (omega arith) (omega (arith, differs.1, size)))) ],
           )
 
       left_pixel : (x < left) ⊎ (left ≤ x) → x < w → (j : ℕ) × (first ≤ j) × (j < y + 1) × DiffersAt w a b x j

@@ -17,7 +17,8 @@ use Rattle.mask_keys.specs.contracts.plans.ClipEq.TheImpl.Laws as clip_laws
 use Rattle.mask_keys.specs.contracts.plans.PlanEq.TheImpl.Laws as plan_laws
 use Rattle.frame_change.specs.Changes.{unplaced}
 use Rattle.mask_keys.specs.Equality.{equal_composites}
-use Rattle.mask_keys.proofs.Equal.{both, items_same, composite_same, decided}
+use Rattle.mask_keys.proofs.Equal.{items_same, composite_same, decided}
+use Rattle.std.proofs.lemmas.Bool.{and_parts}
 
 pub colour_same : (a b : Rgba) → colour.ghosts.eq a b ≡ true → a ≡ b
 colour_same a b e = grind (arith, e, unsigned_Decides a.r b.r, unsigned_Decides a.g b.g, unsigned_Decides a.b b.b, unsigned_Decides a.a b.a)
@@ -26,18 +27,18 @@ pub clip_same : (a b : Clip) → clip.ghosts.eq a b ≡ true → a ≡ b
 clip_same Free Free e = refl
 clip_same (Rect a b c d i) (Rect p q r s j) e = grind (arith, e, signed_Decides a p, signed_Decides b q, signed_Decides c r, signed_Decides d s, booleans_Decides i j)
 clip_same (Drawn k x y i) (Drawn l u v j) e =
-    let parts = both (equal_composites k l) _ e in
+    let parts = and_parts (equal_composites k l) _ e in
     grind (arith, composite_same k l parts.0, parts.1, signed_Decides x u, signed_Decides y v, booleans_Decides i j)
 clip_same a b e = grind arith
 
 pub draw_same : (a b : Draw) → draw.ghosts.eq a b ≡ true → a ≡ b
 draw_same a b e =
-    let key = both (equal_composites a.key b.key) _ e in
-    let x = both (int_eq a.x b.x) _ key.1 in
-    let y = both (int_eq a.y b.y) _ x.1 in
-    let left = both (colour.ghosts.eq a.left b.left) _ y.1 in
-    let right = both (colour.ghosts.eq a.right b.right) _ left.1 in
-    let edge = both (int_eq a.edge b.edge) (clip.ghosts.eq a.clip b.clip) right.1 in
+    let key = and_parts (equal_composites a.key b.key) _ e in
+    let x = and_parts (int_eq a.x b.x) _ key.1 in
+    let y = and_parts (int_eq a.y b.y) _ x.1 in
+    let left = and_parts (colour.ghosts.eq a.left b.left) _ y.1 in
+    let right = and_parts (colour.ghosts.eq a.right b.right) _ left.1 in
+    let edge = and_parts (int_eq a.edge b.edge) (clip.ghosts.eq a.clip b.clip) right.1 in
     let key_is = composite_same a.key b.key key.0 in
     let x_is = (signed_Decides a.x b.x).0 x.0 in
     let y_is = (signed_Decides a.y b.y).0 y.0 in

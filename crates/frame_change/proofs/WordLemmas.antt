@@ -1,9 +1,10 @@
 -- Bytes that are the same, eight at a time and one at a time.
-use Rattle.std.proofs.Common.{◌≡◌, ℕ, ◌+◌, ◌-◌, ◌<◌, ◌≤◌, ◌⊎◌, inl, inr, List, length, get_or, take, drop, refl, sym, ap, ◌∙◌, subst, arith}
+use Rattle.std.proofs.Common.{◌≡◌, ℕ, ◌+◌, ◌-◌, ◌<◌, ◌≤◌, inl, inr, List, length, get_or, take, drop, refl, sym, ap, ◌∙◌, subst, arith}
 use Rattle.std.specs.Int.{from_le_bytes, w64}
 use Rattle.std.proofs.lemmas.Nat.{le_bytes_8}
 use Rattle.std.proofs.lemmas.List.{get_or-take, get_or-drop, get_or_past, length-take-le, length-drop}
 use Rattle.frame_change.specs.Rows.{AreSame}
+use Rattle.std.proofs.lemmas.Bool.{cases_lt}
 
 -- all numbers of the list are bytes
 abbrev pub AreBytes : List ℕ → Type 0
@@ -15,11 +16,8 @@ eight_at a i j inside = get_or-take 8 (drop i a) j 0 inside ∙ get_or-drop i a 
 eight_long : (a : List ℕ) (i : ℕ) → i + 8 ≤ length a → length (take 8 (drop i a)) ≡ 8
 eight_long a i inside = length-take-le 8 (drop i a) (omega (arith, length-drop i a))
 
-pub below_or_not : (j n : ℕ) → (j < n) ⊎ (n ≤ j)
-below_or_not j n = grind arith
-
 eight_bytes : (a : List ℕ) (i : ℕ) → AreBytes a → i + 8 ≤ length a → AreBytes (take 8 (drop i a))
-eight_bytes a i bytes inside j = elim (below_or_not j 8) [
+eight_bytes a i bytes inside j = elim (cases_lt j 8) [
   | inl less ↦ (let P : ℕ → Type 0 = λ n. n < 256 in subst P (sym (eight_at a i j less)) (bytes (i + j)))
   | inr past ↦ (let P : ℕ → Type 0 = λ n. n < 256 in subst P (sym (get_or_past (take 8 (drop i a)) j 0 (omega (arith, eight_long a i inside)))) (omega arith))
 ]
@@ -37,7 +35,7 @@ word_same a b i v w in_a in_b bytes_a bytes_b v_is w_is same = λ k first last.
 
 -- what is the same up to a place and from it on
 pub same_on : (a b : List ℕ) (i j k : ℕ) → AreSame a b i j → AreSame a b j k → AreSame a b i k
-same_on a b i j k before behind = λ n first last. elim (below_or_not n j) [ inl less ↦ before n first less | inr past ↦ behind n past last ]
+same_on a b i j k before behind = λ n first last. elim (cases_lt n j) [ inl less ↦ before n first less | inr past ↦ behind n past last ]
 
 pub same_one : (a b : List ℕ) (i j : ℕ) → j ≡ i + 1 → get_or a i 0 ≡ get_or b i 0 → AreSame a b i j
 same_one a b i j next same = λ n first last.

@@ -2,7 +2,7 @@
 
 ghost use Rattle.std.specs.Prelude.{◌≡◌, List};
 ghost use Rattle.bdf_font.specs.Fonts.{FontValue};
-ghost use Rattle.mask_model.specs.Pictures.{picture};
+ghost use Rattle.mask_keys.specs.Pictures.{picture};
 ghost use Rattle.frame_change.specs.Changes.{IsChange};
 ghost use Rattle.frame_change.specs.declared.kinds.ChangeKind.TheVariants.{Same};
 

@@ -28,12 +28,12 @@ abbrev pub seconds_text : ℕ → List ℕ
 seconds_text t = decimal (t / 1000 % 6) ++ decimal (t / 100 % 10) ++ codes "." ++ decimal (t / 10 % 10) ++ decimal (t % 10)
 
 -- so many hundredths of a second as `H:MM:SS.cc`
-unfoldable pub time_text : ℕ → List ℕ
-time_text t = minutes_text t ++ codes ":" ++ seconds_text t
+unfoldable pub hundredths_text : ℕ → List ℕ
+hundredths_text t = minutes_text t ++ codes ":" ++ seconds_text t
 
 -- when a line begins and when it ends
 unfoldable pub span_text : ℕ → ℕ → List ℕ
-span_text begin long = time_text begin ++ codes "," ++ time_text (begin + long)
+span_text begin long = hundredths_text begin ++ codes "," ++ hundredths_text (begin + long)
 
 -- words of a size
 abbrev pub words_text : ℕ → List ℕ

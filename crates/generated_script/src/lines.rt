@@ -2,7 +2,8 @@
 
 ghost use Rattle.std.specs.Prelude.{◌≡◌, ◌<◌, ◌≤◌, ◌^◌, IfOk, string_bytes};
 ghost use Rattle.generated_script.specs.Draws.{state_after_draws};
-ghost use Rattle.generated_script.specs.Lines.{form_of, line_text, minutes_text, moved_text, line_numbers, placed_text, seconds_text, span_text, event_text, time_text};
+ghost use Rattle.generated_script.specs.Lines.{form_of, line_text, minutes_text, moved_text, line_numbers, placed_text, seconds_text, span_text, event_text};
+ghost use Rattle.generated_script.specs.Lines.{hundredths_text};
 
 use crate::draws::Draws;
 use ass_num::Mem;
@@ -91,8 +92,8 @@ fn seconds_text(alloc: Global, t: u64) -> Mem<String>
 }
 
 /// So many hundredths of a second as a time of a script.
-fn time_text(alloc: Global, t: u64) -> Mem<String>
-    ensures { IfOk result (λ text. string_bytes text ≡ time_text t) }
+fn hundredths_text(alloc: Global, t: u64) -> Mem<String>
+    ensures { IfOk result (λ text. string_bytes text ≡ hundredths_text t) }
 {
     let minutes = minutes_text(alloc, t)?;
     let seconds = seconds_text(alloc, t)?;
@@ -104,8 +105,8 @@ fn span_text(alloc: Global, begin: u64, length: u32) -> Mem<String>
     requires { begin < 2 ^ 63 }
     ensures { IfOk result (λ text. string_bytes text ≡ span_text begin length) }
 {
-    let start = time_text(alloc, begin)?;
-    let end = time_text(alloc, begin + u64::from(length))?;
+    let start = hundredths_text(alloc, begin)?;
+    let end = hundredths_text(alloc, begin + u64::from(length))?;
     Ok(format!(in alloc; "{start},{end}")?)
 }
 

@@ -2,13 +2,13 @@
 
 ghost use Rattle.std.specs.Prelude.{◌^◌, ◌≤◌, length, pos, IsTrue};
 ghost use Rattle.std.specs.List.{All};
-ghost use Rattle.placement.specs.Placement.{AreInOrder, IsPlaceableStand, IsBoxWithin, max_stands};
+ghost use Rattle.event_places.specs.Placement.{AreInOrder, IsPlaceableStand, IsBoxWithin, max_stands};
 
 use crate::laps::Laps;
 use crate::stop::Stop;
 use crate::telling::tell;
 use ass_num::{Fix, Mem};
-use placement::{Box2, Stand, replay};
+use event_places::{Box2, Stand, replay};
 use std::alloc::Global;
 use std::time::Instant;
 

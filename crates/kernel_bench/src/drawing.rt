@@ -5,7 +5,7 @@ use crate::laps::Laps;
 use crate::stop::Stop;
 use crate::telling::tell;
 use ass_num::{Mask, Rgba, Size};
-use blend::{Canvas, Stencil};
+use blend::{Canvas, Image, Stencil};
 use std::alloc::Global;
 use std::time::Instant;
 
@@ -20,7 +20,15 @@ fn white(alpha: u8) -> Rgba {
 }
 
 fn draw(canvas: &mut Canvas, mask: &Mask, colour: Rgba) {
-    canvas.draw(mask, 0, 0, colour, colour, 0, &Stencil::Free);
+    canvas.draw(&Image {
+        mask,
+        x: 0,
+        y: 0,
+        left: colour,
+        right: colour,
+        edge: 0,
+        stencil: Stencil::Free,
+    });
 }
 
 fn screen(alloc: Global) -> Result<Canvas, Stop> {

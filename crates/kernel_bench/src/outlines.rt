@@ -58,7 +58,8 @@ fn font(alloc: Global, rows: u8) -> Result<Font, Stop>
     ensures { IfOk result IsFont }
 {
     let head = format!(in alloc;
-        "STARTFONT 2.1\nFONT solid\nFONTBOUNDINGBOX 48 {rows} 0 0\nSTARTPROPERTIES 1\nFONT_ASCENT {rows}\nENDPROPERTIES\nSTARTCHAR x\nENCODING 120\nDWIDTH 48 0\nBBX 48 {rows} 0 0\nBITMAP\n"
+        "STARTFONT 2.1\nFONT solid\nFONTBOUNDINGBOX 48 {rows} 0 0\nSTARTPROPERTIES 1\nFONT_ASCENT {rows}\n\
+         ENDPROPERTIES\nSTARTCHAR x\nENCODING 120\nDWIDTH 48 0\nBBX 48 {rows} 0 0\nBITMAP\n"
     )?;
     let mut text = repeated(alloc, head.as_str(), "FFFFFFFFFFFF\n", u32::from(rows))?;
     text.push_str("ENDCHAR\nENDFONT\n")?;

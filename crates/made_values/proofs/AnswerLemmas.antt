@@ -1,4 +1,4 @@
--- What calls answer is the value of a function, or want of memory.
+-- What calls answer is the value of a function, or out of memory.
 use Rattle.std.proofs.Common.{◌≡◌, ℕ, ◌+◌, ◌*◌, ◌/◌, ◌≤◌, true, not, ℤ, pos, List, ap, ◌∙◌, subst, arith, Result, Ok, Err, IfOk}
 use Rattle.std.specs.Ordering.{int_eq}
 use Rattle.ass_num.specs.Coverage.{IsCover}
@@ -15,11 +15,11 @@ use Rattle.mask_keys.specs.declared.mask_key.MaskKey.{MaskKey}
 use Rattle.mask_keys.specs.Keys.{max_blur_radius, max_passes}
 use Rattle.sample_region.specs.Limits.{max_inside}
 use Rattle.made_values.specs.Reach.{max_covered_corner, max_covered_side}
-use Rattle.mask_model.specs.Masks.{covered_mask, softened_mask, blurred_mask}
-use Rattle.mask_model.specs.Regions.{outline_region}
-use Rattle.mask_model.specs.Values.{mask_of_region}
-use Rattle.mask_model.proofs.RegionLemmas.{region_is}
-use Rattle.mask_model.proofs.ValueLemmas.{covered_is, softened_is, blurred_is}
+use Rattle.mask_keys.specs.Masks.{covered_mask, softened_mask, blurred_mask}
+use Rattle.mask_keys.specs.Regions.{outline_region}
+use Rattle.mask_keys.specs.Values.{mask_of_region}
+use Rattle.mask_keys.proofs.RegionLemmas.{region_is}
+use Rattle.mask_keys.proofs.ValueLemmas.{covered_is, softened_is, blurred_is}
 
 -- ---- regions
 

@@ -10,7 +10,7 @@ use Rattle.bdf_font.specs.Fonts.{FontValue}
 use Rattle.bdf_font.specs.GlyphRings.{rings_of_glyph}
 use Rattle.bdf_font.specs.declared.glyphs.FontGlyph.{FontGlyph}
 use Rattle.mask_keys.specs.Keys.{IsValidGlyph}
-use Rattle.mask_model.specs.Outlines.{found_font_rings, found_glyph_rings, glyph_counts}
+use Rattle.mask_keys.specs.Outlines.{found_font_rings, found_glyph_rings, glyph_counts}
 
 -- the font of a valid key's glyph, and that it has the glyph
 pub font_found : (fonts read : List FontValue) (at glyph : ℕ) (font : FontValue) (m : Matrix) → read ≡ fonts → font ≡ get_or read at font → IsValidGlyph (glyph_counts fonts) at glyph m → (slice_get fonts at ≡ Some font) × (glyph < length font.glyphs)

@@ -7,8 +7,8 @@ use Rattle.bdf_font.specs.Fonts.{FontValue}
 use Rattle.mask_cover.specs.Sums.{IsPlaceableMask}
 use Rattle.mask_keys.specs.Keys.{IsValidPart, max_part_offset, region_key}
 use Rattle.mask_keys.specs.declared.composite_key.Part.{Part}
-use Rattle.mask_model.specs.Values.{mask_value, placed_part, region_value}
-use Rattle.mask_model.proofs.ReachLemmas.{mask_reach}
+use Rattle.mask_keys.specs.Values.{mask_value, placed_part, region_value}
+use Rattle.mask_keys.proofs.ReachLemmas.{mask_reach}
 use Rattle.made_values.specs.Parts.{masks_of, placed_masks}
 
 pub placed_are : (fonts : List FontValue) (parts : List Part) → placed_masks parts (masks_of fonts parts) ≡ map (placed_part fonts) parts

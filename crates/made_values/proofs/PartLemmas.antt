@@ -7,20 +7,20 @@ use Rattle.ass_num.specs.Coverage.{box_of, InBox, IsSum, IsMovedPixel, moved_val
 use Rattle.ass_num.specs.Limits.{IsMaskWithin, max_mask_corner, max_mask_side}
 use Rattle.ass_num.specs.Masks.{MaskValue, is_mask, value_at}
 use Rattle.mask_keys.specs.declared.composite_key.Part.{Part}
-use Rattle.mask_model.specs.Masks.{summed_mask}
-use Rattle.mask_model.proofs.ValueLemmas.{summed_is}
+use Rattle.mask_keys.specs.Masks.{summed_mask}
+use Rattle.mask_keys.proofs.ValueLemmas.{summed_is}
 use Rattle.ass_num.proofs.MaskLemmas.{value_most}
 use Rattle.made_values.specs.Parts.{placed_masks}
 
 -- ---- a single mask that isn't moved
 
-abbrev pub alone : MaskValue → List (MaskValue × ℤ × ℤ)
-alone m = (m, pos 0, pos 0) ∷ []
+abbrev pub local : MaskValue → List (MaskValue × ℤ × ℤ)
+local m = (m, pos 0, pos 0) ∷ []
 
 unmoved : (z : ℤ) → z -ℤ pos 0 ≡ z
 unmoved z = omega (arith, ints)
 
-alone_pixel : (m : MaskValue) (i j : ℤ) → Any (λ p. IsMovedPixel p i j) (alone m) → InBox (box_of m) i j
+alone_pixel : (m : MaskValue) (i j : ℤ) → Any (λ p. IsMovedPixel p i j) (local m) → InBox (box_of m) i j
 alone_pixel m i j (zero, p, l, e, h) =
     let P : MaskValue × ℤ × ℤ → Type 0 = λ q. IsMovedPixel q i j in
     let here : InBox (box_of m) (i -ℤ pos 0) (j -ℤ pos 0) = subst P (sym e) h in
@@ -29,19 +29,19 @@ alone_pixel m i j (zero, p, l, e, h) =
     subst Y (unmoved j) (subst X (unmoved i) here)
 alone_pixel m i j (suc k, p, l, e, h) = absurd (omega arith)
 
-pixel_alone : (m : MaskValue) (i j : ℤ) → InBox (box_of m) i j → Any (λ p. IsMovedPixel p i j) (alone m)
+pixel_alone : (m : MaskValue) (i j : ℤ) → InBox (box_of m) i j → Any (λ p. IsMovedPixel p i j) (local m)
 pixel_alone m i j h =
     let X : ℤ → Type 0 = λ z. InBox (box_of m) z (j -ℤ pos 0) in
     let Y : ℤ → Type 0 = λ z. InBox (box_of m) i z in
     (0, (m, pos 0, pos 0), omega arith, refl, subst X (sym (unmoved i)) (subst Y (sym (unmoved j)) h))
 
-alone_value : (v : ℕ) → v ≤ 255 → v ≡ min 255 v
-alone_value v l = grind arith
+local_value : (v : ℕ) → v ≤ 255 → v ≡ min 255 v
+local_value v l = grind arith
 
-alone_sum : (m : MaskValue) → ((k : ℕ) → get_or m.bytes k 0 ≤ 255) → IsSum (alone m) m
-alone_sum m bytes = record {
+local_sum : (m : MaskValue) → ((k : ℕ) → get_or m.bytes k 0 ≤ 255) → IsSum (local m) m
+local_sum m bytes = record {
   value = λ x y.
-      alone_value (value_at m x y) (value_most m x y 255 bytes)
+      local_value (value_at m x y) (value_most m x y 255 bytes)
       ∙ ap (λ z. min 255 (value_at m z y)) (sym (unmoved x)) ∙ ap (λ z. min 255 (value_at m (x -ℤ pos 0) z)) (sym (unmoved y))
       ∙ ap (min 255) (sym (sum_by-cons (λ (p : MaskValue × ℤ × ℤ). moved_value p x y) (m, pos 0, pos 0) [] ∙ omega arith));
   box = record {
@@ -50,8 +50,8 @@ alone_sum m bytes = record {
   };
 }
 
-pub alone_is : (m : MaskValue) → is_mask m ≡ true → IsMaskWithin max_mask_corner max_mask_side m → ((k : ℕ) → get_or m.bytes k 0 ≤ 255) → m ≡ summed_mask (alone m)
-alone_is m is within bytes = summed_is (alone m) max_mask_corner max_mask_side m is (alone_sum m bytes) within (omega arith)
+pub alone_is : (m : MaskValue) → is_mask m ≡ true → IsMaskWithin max_mask_corner max_mask_side m → ((k : ℕ) → get_or m.bytes k 0 ≤ 255) → m ≡ summed_mask (local m)
+alone_is m is within bytes = summed_is (local m) max_mask_corner max_mask_side m is (local_sum m bytes) within (omega arith)
 
 -- ---- the item of a part and its mask
 
@@ -92,15 +92,15 @@ placed_whole value parts masks k e l = let count = placed_count value parts mask
 
 -- ---- a single part that isn't moved
 
-alone_same : (m n : MaskValue) (x y : ℤ) → m ≡ n → x ≡ pos 0 → y ≡ pos 0 → ◌≡◌ {A = List (MaskValue × ℤ × ℤ)} ((m, x, y) ∷ []) (alone n)
-alone_same m n x y e f g = rw (e, f, g) refl
+local_same : (m n : MaskValue) (x y : ℤ) → m ≡ n → x ≡ pos 0 → y ≡ pos 0 → ◌≡◌ {A = List (MaskValue × ℤ × ℤ)} ((m, x, y) ∷ []) (local n)
+local_same m n x y e f g = rw (e, f, g) refl
 
 pub placed_alone : {A : Type 0} (value : A → MaskValue) (parts : List Part) (masks : List A) (p : Part) (a : A) → length parts ≡ 1 → length masks ≡ length parts
-    → p ≡ get_or parts 0 p → a ≡ get_or masks 0 a → p.dx ≡ pos 0 → p.dy ≡ pos 0 → placed_masks parts (map value masks) ≡ alone (value a)
+    → p ≡ get_or parts 0 p → a ≡ get_or masks 0 a → p.dx ≡ pos 0 → p.dy ≡ pos 0 → placed_masks parts (map value masks) ≡ local (value a)
 placed_alone value [] masks p a one e f g x y = absurd (omega arith)
 placed_alone value (q ∷ r ∷ parts) masks p a one e f g x y = absurd (omega arith)
 placed_alone value (q ∷ []) [] p a one e f g x y = absurd (omega arith)
 placed_alone value (q ∷ []) (b ∷ masks) p a one e f g x y =
     let X : Part → ℤ = λ z. z.dx in
     let Y : Part → ℤ = λ z. z.dy in
-    alone_same (value b) (value a) q.dx q.dy (ap value (sym g)) (sym (ap X f) ∙ x) (sym (ap Y f) ∙ y)
+    local_same (value b) (value a) q.dx q.dy (ap value (sym g)) (sym (ap X f) ∙ x) (sym (ap Y f) ∙ y)

@@ -10,11 +10,11 @@ use Rattle.ass_num.specs.Limits.{IsWithin}
 use Rattle.ass_num.specs.Masks.{MaskValue, value_at}
 use Rattle.ass_num.proofs.MaskLemmas.{value_beside, value_over}
 use Rattle.mask_cover.specs.Sums.{IsPlaceableMask}
-use Rattle.mask_model.specs.Boxes.{box_within}
-use Rattle.mask_model.specs.Masks.{is_in_moved, max_summed, summed_mask}
-use Rattle.mask_model.proofs.CoverLemmas.{box_in, mask_in-value}
-use Rattle.mask_model.proofs.LeastLemmas.{box_within-least}
-use Rattle.mask_model.proofs.ValueLemmas.{Any_weaker, in_box_is, in_box_true}
+use Rattle.mask_keys.specs.Boxes.{box_within}
+use Rattle.mask_keys.specs.Masks.{is_in_moved, max_summed, summed_mask}
+use Rattle.mask_keys.proofs.CoverLemmas.{box_in, mask_in-value}
+use Rattle.mask_keys.proofs.LeastLemmas.{box_within-least}
+use Rattle.mask_keys.proofs.ValueLemmas.{Any_weaker, in_box_is, in_box_true}
 
 abbrev Moved : Type 0
 Moved = MaskValue × ℤ × ℤ

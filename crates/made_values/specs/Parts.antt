@@ -3,7 +3,7 @@ use Rattle.std.specs.Prelude.{ℤ, List, [], ◌∷◌, map}
 use Rattle.ass_num.specs.Masks.{MaskValue}
 use Rattle.bdf_font.specs.Fonts.{FontValue}
 use Rattle.mask_keys.specs.declared.composite_key.Part.{Part}
-use Rattle.mask_model.specs.Values.{mask_value}
+use Rattle.mask_keys.specs.Values.{mask_value}
 
 -- the masks of the parts in the same order, each with its part's offset
 abbrev pub placed_masks : List Part → List MaskValue → List (MaskValue × ℤ × ℤ)

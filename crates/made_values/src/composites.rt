@@ -6,7 +6,7 @@ ghost use Rattle.ass_num.specs.Coverage.{InBox, IsMovedPixel, box_of};
 ghost use Rattle.ass_num.specs.Limits.{IsMaskWithin, max_mask_corner, max_mask_side};
 ghost use Rattle.ass_num.specs.Masks.{MaskValue, is_mask};
 ghost use Rattle.mask_cover.specs.Sums.{HasSum, IsBoxOf, IsPlaceableMask};
-ghost use Rattle.mask_model.specs.Masks.{summed_mask};
+ghost use Rattle.mask_keys.specs.Masks.{summed_mask};
 ghost use Rattle.made_values.specs.Parts.{placed_masks};
 
 use ass_num::{Mask, Mem};
@@ -59,7 +59,7 @@ fn sum_of_parts(alloc: Global, parts: &[Part], masks: &[Arc<Mask>]) -> Mem<Mask>
 }
 
 /// Bytes are at most 255, as their type says.
-fn are_most_255(bytes: &[u8])
+fn proof_most_255(bytes: &[u8])
     ensures { (k : ℕ) → slice_index bytes.now k ≤ 255 }
 {}
 
@@ -70,7 +70,7 @@ fn shared_mask(mask: &Arc<Mask>) -> Mem<Arc<Mask>>
 {
     // The bytes tell that the mask has its one form.
     let bytes = mask.bytes();
-    are_most_255(bytes);
+    proof_most_255(bytes);
     Ok(Arc::try_clone(mask)?)
 }
 

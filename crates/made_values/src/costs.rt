@@ -1,7 +1,7 @@
 //! What values cost in a cache.
 
 ghost use Rattle.std.specs.Prelude.{◌≡◌, min};
-ghost use Rattle.mask_model.specs.Costs.{mask_cost, greatest_cost, region_cost};
+ghost use Rattle.mask_keys.specs.Costs.{mask_cost, greatest_cost, region_cost};
 
 use ass_num::{Mask, Region};
 

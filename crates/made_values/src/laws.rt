@@ -7,8 +7,8 @@ ghost use Rattle.bdf_font.specs.Fonts.{FontValue};
 ghost use Rattle.made_values.specs.Parts.{masks_of, placed_masks};
 ghost use Rattle.mask_cover.specs.Sums.{IsPlaceableMask};
 ghost use Rattle.mask_keys.specs.Keys.{IsValidPart};
-ghost use Rattle.mask_model.specs.Masks.{summed_mask};
-ghost use Rattle.mask_model.specs.Values.{composite_value};
+ghost use Rattle.mask_keys.specs.Masks.{summed_mask};
+ghost use Rattle.mask_keys.specs.Values.{composite_value};
 
 use mask_keys::{CompositeKey, Part};
 
@@ -19,6 +19,8 @@ pub fn summed_masks_are_sums()
 
 /// The masks of a key's parts are what `made_composite` asks for, and make the key's composed mask.
 pub fn parts_make_their_composite()
-    ensures value { (fonts : List FontValue) (key : CompositeKey) → summed_mask (placed_masks key.parts (masks_of fonts key.parts)) ≡ composite_value fonts key }
-    ensures masks { (fonts : List FontValue) (glyphs : List ℕ) (parts : List Part) → All (IsValidPart glyphs) parts → All IsPlaceableMask (placed_masks parts (masks_of fonts parts)) }
+    ensures value { (fonts : List FontValue) (key : CompositeKey)
+        → summed_mask (placed_masks key.parts (masks_of fonts key.parts)) ≡ composite_value fonts key }
+    ensures masks { (fonts : List FontValue) (glyphs : List ℕ) (parts : List Part) → All (IsValidPart glyphs) parts
+        → All IsPlaceableMask (placed_masks parts (masks_of fonts parts)) }
 {}

@@ -1,14 +1,15 @@
 //! The masks of regions.
 
 ghost use Rattle.std.specs.Prelude.{◌≡◌, ℕ, ◌+◌, ◌*◌, ◌≤◌, ◌<◌, true, IfOk};
+ghost use Rattle.std.specs.Arc.{arc_value};
 ghost use Rattle.ass_num.specs.Limits.{IsMaskWithin, IsRegionWithin, max_sample, max_mask_corner, max_mask_side};
 ghost use Rattle.ass_num.specs.Masks.{is_mask};
 ghost use Rattle.mask_keys.specs.Keys.{HasMaskRanges, max_blur_radius, max_passes, samples_across};
-ghost use Rattle.mask_model.specs.Masks.{blurred_mask, covered_mask, softened_mask};
-ghost use Rattle.mask_model.specs.Regions.{widened_region};
+ghost use Rattle.mask_keys.specs.Masks.{blurred_mask, covered_mask, softened_mask};
+ghost use Rattle.mask_keys.specs.Regions.{widened_region};
 ghost use Rattle.sample_region.specs.Limits.{max_inside};
 ghost use Rattle.made_values.specs.Reach.{max_covered_corner, max_covered_side};
-ghost use Rattle.mask_model.specs.Values.{mask_of_region};
+ghost use Rattle.mask_keys.specs.Values.{mask_of_region};
 
 use crate::regions::made_border;
 use ass_num::{Mask, Mem, Region};
@@ -16,6 +17,7 @@ use mask_blur::{box_blur, soften};
 use mask_cover::cover;
 use mask_keys::MaskKey;
 use std::alloc::Global;
+use std::sync::Arc;
 
 /// The mask of a region at a phase.
 fn covered(alloc: Global, region: &Region, px: u8, py: u8) -> Mem<Mask>
@@ -68,6 +70,16 @@ pub fn mask_of_region(alloc: Global, region: &Region, key: &MaskKey) -> Mem<Mask
     let mask = covered(alloc, region, key.px, key.py)?;
     let soft = softened(alloc, mask, key.edges)?;
     blurred(alloc, soft, key.blur)
+}
+
+/// The mask that a key makes of its region.
+pub fn mask_from(alloc: Global, region: &Region, key: &MaskKey) -> Mem<Arc<Mask>>
+    requires region { IsRegionWithin max_sample region.now.top region.now.rows }
+    requires key { HasMaskRanges key.now }
+    ensures { IfOk result (λ a. arc_value a ≡ mask_of_region key.now region.now) }
+{
+    let mask = mask_of_region(alloc, region, key)?;
+    Ok(Arc::new(alloc, mask)?)
 }
 
 /// The mask of a key, from the region of its outline, whose samples lie within 65,536 of 0.

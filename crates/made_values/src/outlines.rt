@@ -4,9 +4,9 @@ ghost use Rattle.std.specs.Prelude.{◌≡◌, ℕ, ℤ, ◌<◌, List, length, 
 ghost use Rattle.ass_num.specs.Limits.{IsOutline, IsRegionWithin};
 ghost use Rattle.ass_num.specs.Winding.{winding};
 ghost use Rattle.mask_keys.specs.Keys.{IsValidOutline};
-ghost use Rattle.mask_model.specs.Outlines.{IsFontSet, glyph_counts, rings_of};
+ghost use Rattle.mask_keys.specs.Outlines.{IsFontSet, glyph_counts, rings_of};
 ghost use Rattle.sample_region.specs.Limits.{max_inside};
-ghost use Rattle.mask_model.specs.Values.{outline_value};
+ghost use Rattle.mask_keys.specs.Values.{outline_value};
 
 use ass_num::{Mem, Outline, Region};
 use bdf_font::FontSet;

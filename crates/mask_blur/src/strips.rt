@@ -78,7 +78,7 @@ fn soften_step(
 }
 
 /// One pass over 16 columns from column `at` on of `h` rows of `w` bytes, but for the frame of `m`. Two rows a turn spare copies of the sums.
-// inlined, LLVM takes what is written to for a part of the sums, which then go through memory
+/// inlined, LLVM takes what is written to for a part of the sums, which then go through memory
 #[inline(never)]
 fn soften_strip(to: &mut [u8], from: &[u8], w: usize, h: usize, m: usize, at: usize)
     requires height { 2 * m + 4 ≤ h }

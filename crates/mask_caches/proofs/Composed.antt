@@ -17,8 +17,8 @@ use Rattle.mask_cover.specs.Sums.{IsPlaceableMask}
 use Rattle.mask_keys.specs.Keys.{IsValidPart}
 use Rattle.mask_keys.specs.declared.composite_key.Part.{Part}
 use Rattle.mask_keys.specs.declared.mask_key.MaskKey.{MaskKey}
-use Rattle.mask_model.specs.Masks.{summed_mask}
-use Rattle.mask_model.specs.Values.{mask_value, placed_part}
+use Rattle.mask_keys.specs.Masks.{summed_mask}
+use Rattle.mask_keys.specs.Values.{mask_value, placed_part}
 use Rattle.mask_caches.specs.Adding.{Adds, HoldsAsMuch, HoldsFewer, HoldsMore}
 use Rattle.mask_caches.specs.Courses.{has_value}
 use Rattle.mask_caches.specs.Leases.{lease_value}

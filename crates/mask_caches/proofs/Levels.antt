@@ -12,7 +12,7 @@ use Rattle.flight_cache.specs.Calls.{TicketView, PinView}
 use Rattle.flight_cache.specs.Shards.{CacheView, CachePassView}
 use Rattle.cache_kinds.specs.Kinds.{region_meaning, mask_meaning, composite_meaning}
 use Rattle.mask_keys.specs.Equality.{equal_regions, equal_masks, equal_composites}
-use Rattle.mask_keys.specs.Keys.{region_key}
+use Rattle.mask_keys.specs.Keys.{region_key, unwidened}
 use Rattle.mask_keys.proofs.Equal.{region_same, mask_same, composite_same}
 use Rattle.mask_keys.specs.contracts.region_key.RegionKeyEq.TheImpl.Laws as region_laws
 use Rattle.mask_keys.specs.contracts.mask_key.MaskKeyEq.TheImpl.Laws as mask_laws
@@ -25,7 +25,7 @@ use Rattle.mask_caches.specs.Courses.{Course, Found, Unasked, has_value, has_pin
 use Rattle.mask_caches.specs.Composing.{ThreePasses, IsComposed}
 use Rattle.mask_caches.specs.Holding.{AreAllHad}
 use Rattle.mask_caches.specs.Leases.{given_steps}
-use Rattle.mask_caches.specs.Visits.{RegionVisit, MaskVisit, IsRegionVisit, IsMaskVisit, AreMaskVisits, is_widened, outline_key, widening_steps, region_steps, region_use_steps, steps_of_its_region, mask_steps, region_steps_of, mask_steps_of}
+use Rattle.mask_caches.specs.Visits.{RegionVisit, MaskVisit, IsRegionVisit, IsMaskVisit, AreMaskVisits, is_widened, widening_steps, region_steps, region_use_steps, steps_of_its_region, mask_steps, region_steps_of, mask_steps_of}
 use Rattle.mask_caches.specs.declared.caches.Caches.{Caches}
 use Rattle.mask_caches.specs.declared.lease.Lease.{Lease}
 use Rattle.mask_caches.specs.declared.lease.Lease.TheVariants.{Pinned}
@@ -74,36 +74,36 @@ module _ {M E Z : Type 0} (cache : CacheView (Arc FontSet Z)) (key : RegionKey) 
   plain-region had plain v = (
     record { course = v.0; outline = Unasked },
     record { outline = λ both value. absurd (first-true (is_widened key) (is_made v.0) plain both) },
-    subst (λ (b : Bool). Adds equal_regions region_meaning cache p q (course_steps region_meaning cache.tag key v.0 (if b then use_steps region_meaning cache.tag (outline_key key) Unasked [] else []))) (sym plain) v.1,
+    subst (λ (b : Bool). Adds equal_regions region_meaning cache p q (course_steps region_meaning cache.tag key v.0 (if b then use_steps region_meaning cache.tag (unwidened key) Unasked [] else []))) (sym plain) v.1,
     v.2,
   )
 
   pub widened-visit : (r s : CachePassView RegionKey (Arc FontSet Z)) (duty : Option (TicketView RegionKey)) (made : Result (Arc RegionValue Z) E) (had : Result (Lease M RegionKey RegionValue (Arc FontSet Z)) E) → is_widened key ≡ true
       → Adds equal_regions region_meaning cache p q (duty_steps (region_meaning {Z = Z}) key duty) → IsDutyOf (region_meaning {Z = Z}) key duty
-      → (course : Course) × Adds equal_regions region_meaning cache q r (use_steps region_meaning cache.tag (outline_key key) course []) × OnOk made (has_value course ≡ true)
+      → (course : Course) × Adds equal_regions region_meaning cache q r (use_steps region_meaning cache.tag (unwidened key) course []) × OnOk made (has_value course ≡ true)
       → Adds equal_regions region_meaning cache r s (settled_steps region_meaning cache.tag duty had) → IsSettled region_meaning cache.tag duty made had
       → IfOk made (λ a. arc_value a ≡ region_meaning.made cache.tag key)
       → RegionVisited s had
   widened-visit r s duty made had wide asks need inner settles settled value =
-      let v = settled-course equal_regions region_laws.laws-law region_same region_meaning cache key (use_steps region_meaning cache.tag (outline_key key) inner.0 []) p q r s duty made had asks need inner.1 settles settled value inner.2 in (
+      let v = settled-course equal_regions region_laws.laws-law region_same region_meaning cache key (use_steps region_meaning cache.tag (unwidened key) inner.0 []) p q r s duty made had asks need inner.1 settles settled value inner.2 in (
         record { course = v.0; outline = inner.0 },
         record { outline = λ both has. v.4 has },
-        subst (λ (b : Bool). Adds equal_regions region_meaning cache p s (course_steps region_meaning cache.tag key v.0 (if b then use_steps region_meaning cache.tag (outline_key key) inner.0 [] else []))) (sym wide) v.1,
+        subst (λ (b : Bool). Adds equal_regions region_meaning cache p s (course_steps region_meaning cache.tag key v.0 (if b then use_steps region_meaning cache.tag (unwidened key) inner.0 [] else []))) (sym wide) v.1,
         v.2,
       )
 
 -- a region that is used for what stands above it, and given back
 module _ {M Z : Type 0} (cache : CacheView (Arc FontSet Z)) (p q r : CachePassView RegionKey (Arc FontSet Z)) (k : RegionKey) (lease : Lease M RegionKey RegionValue (Arc FontSet Z)) where
-  pub outline-used : (key : RegionKey) → k ≡ outline_key key
+  pub outline-used : (key : RegionKey) → k ≡ unwidened key
       → (course : Course) × Adds equal_regions region_meaning cache p q (course_steps region_meaning cache.tag k course []) × IsLeaseOf region_meaning cache.tag k course lease
       → Adds equal_regions region_meaning cache q r (given_steps lease)
-      → (course : Course) × Adds equal_regions region_meaning cache p r (use_steps region_meaning cache.tag (outline_key key) course []) × (has_value course ≡ true)
+      → (course : Course) × Adds equal_regions region_meaning cache p r (use_steps region_meaning cache.tag (unwidened key) course []) × (has_value course ≡ true)
   outline-used key is v gives =
       let visits = subst (λ (x : RegionKey). Adds equal_regions region_meaning cache p q (course_steps region_meaning cache.tag x v.0 [])) is v.1 in
       let had = subst (λ (x : RegionKey). IsLeaseOf region_meaning cache.tag x v.0 lease) is v.2 in (
         v.0,
-        had-use equal_regions region_laws.laws-law region_same region_meaning cache (outline_key key) v.0 [] p q r lease had visits gives,
-        had-value equal_regions region_laws.laws-law region_same region_meaning cache (outline_key key) v.0 lease had,
+        had-use equal_regions region_laws.laws-law region_same region_meaning cache (unwidened key) v.0 [] p q r lease had visits gives,
+        had-value equal_regions region_laws.laws-law region_same region_meaning cache (unwidened key) v.0 lease had,
       )
 
   pub region-used : (key : MaskKey) → k ≡ region_key key
@@ -120,12 +120,12 @@ module _ {M Z : Type 0} (cache : CacheView (Arc FontSet Z)) (p q r : CachePassVi
       )
 
 module _ {Z : Type 0} (cache : CacheView (Arc FontSet Z)) (p q : CachePassView RegionKey (Arc FontSet Z)) (k : RegionKey) where
-  pub outline-refused : (key : RegionKey) → k ≡ outline_key key
+  pub outline-refused : (key : RegionKey) → k ≡ unwidened key
       → (course : Course) × Adds equal_regions region_meaning cache p q (course_steps region_meaning cache.tag k course []) × (has_value course ≡ false)
-      → (course : Course) × Adds equal_regions region_meaning cache p q (use_steps region_meaning cache.tag (outline_key key) course []) × Unit {0}
+      → (course : Course) × Adds equal_regions region_meaning cache p q (use_steps region_meaning cache.tag (unwidened key) course []) × Unit {0}
   outline-refused key is v = (
     v.0,
-    refused-use equal_regions region_laws.laws-law region_same region_meaning cache (outline_key key) v.0 [] p q v.2
+    refused-use equal_regions region_laws.laws-law region_same region_meaning cache (unwidened key) v.0 [] p q v.2
         (subst (λ (x : RegionKey). Adds equal_regions region_meaning cache p q (course_steps region_meaning cache.tag x v.0 [])) is v.1),
     tt,
   )

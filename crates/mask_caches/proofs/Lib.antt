@@ -1,4 +1,5 @@
 pub mod Adding
+pub mod Asking
 pub mod Cells
 pub mod Closing
 pub mod Composed
@@ -12,3 +13,8 @@ pub mod Releasing
 pub mod Staying
 pub mod Tagged
 pub mod Visiting
+pub mod Firsts
+pub mod Warmed
+pub mod Asks
+pub mod Counted
+pub mod Summed

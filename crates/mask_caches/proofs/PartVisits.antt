@@ -22,7 +22,7 @@ use Rattle.mask_keys.specs.contracts.mask_key.MaskKeyEq.TheImpl.Laws as mask_law
 use Rattle.mask_keys.specs.declared.composite_key.Part.{Part}
 use Rattle.mask_keys.specs.declared.mask_key.MaskKey.{MaskKey}
 use Rattle.mask_keys.specs.declared.region_key.RegionKey.{RegionKey}
-use Rattle.mask_model.specs.Values.{mask_value}
+use Rattle.mask_keys.specs.Values.{mask_value}
 use Rattle.mask_caches.specs.Adding.{Adds, HoldsAsMuch, HoldsMore}
 use Rattle.mask_caches.specs.Courses.{has_value, IsLeaseOf, HoldsTheLease}
 use Rattle.mask_caches.specs.Leases.{given_steps, lease_value}

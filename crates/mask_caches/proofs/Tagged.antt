@@ -11,8 +11,8 @@ use Rattle.cache_kinds.specs.Kinds.{composite_meaning, region_meaning}
 use Rattle.mask_keys.specs.declared.composite_key.CompositeKey.{CompositeKey}
 use Rattle.mask_keys.specs.declared.mask_key.MaskKey.{MaskKey}
 use Rattle.mask_keys.specs.declared.region_key.RegionKey.{RegionKey}
-use Rattle.mask_model.specs.Costs.{mask_cost, region_cost}
-use Rattle.mask_model.specs.Values.{composite_value, mask_value, region_value}
+use Rattle.mask_keys.specs.Costs.{mask_cost, region_cost}
+use Rattle.mask_keys.specs.Values.{composite_value, mask_value, region_value}
 use Rattle.mask_caches.specs.Courses.{Course, IsHadBy, IsLeaseOf}
 use Rattle.mask_caches.specs.Leases.{lease_value}
 use Rattle.mask_caches.specs.declared.lease.Lease.{Lease}

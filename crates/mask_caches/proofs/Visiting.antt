@@ -31,9 +31,6 @@ any-ok (Ok a) p = p
 any-ok (Err e) p = tt
 
 module _ {K V T : Type 0} (eq : K → K → Bool) (laws : IsEquivalence eq) (same : (a b : K) → eq a b ≡ true → a ≡ b) (meaning : Meaning K V T) (cache : CacheView T) where
-  pub much-itself : (p : CachePassView K T) → HoldsAsMuch eq meaning cache p p
-  much-itself p = record { pins = λ k. refl; claims = λ k. refl }
-
   -- after a claim it is open, also where the pass holds as much later
   pub duty-open : (key : K) (p q r : CachePassView K T) (duty : Option (TicketView K)) → Adds eq meaning cache p q (duty_steps meaning key duty) → IsDutyOf meaning key duty → HoldsAsMuch eq meaning cache q r
       → IfSome duty (λ t. is_open eq meaning cache r t.key ≡ true)
@@ -77,7 +74,7 @@ module _ {K V T : Type 0} (eq : K → K → Bool) (laws : IsEquivalence eq) (sam
       (subst (λ (l : List (Step K V)). Adds eq meaning cache p q l) (sym (append-nil (course_steps meaning cache.tag key course inner))) visits)
 
 module _ {M K V T : Type 0} (eq : K → K → Bool) (laws : IsEquivalence eq) (same : (a b : K) → eq a b ≡ true → a ≡ b) (meaning : Meaning K V T) (cache : CacheView T) where
-  -- a hit, and want of memory at the ask
+  -- a hit, and out of memory at the ask
   pub found-holds : {E : Type 0} (key : K) (p q : CachePassView K T) (pin : PinView K V) → Adds eq meaning cache p q (Ask key Hit ∷ []) → (pin.key ≡ key) × (pin.value ≡ meaning.made cache.tag key)
       → HoldsTheLease {M = M} {E = E} eq meaning cache p q (Ok (Pinned pin))
   found-holds key p q pin asks need = record {

@@ -6,12 +6,12 @@ use Rattle.evict_core.specs.Machine.{Step, Ask, Hit, Claim, Crowded, Fill, Fail,
 use Rattle.flight_cache.specs.Meaning.{Meaning}
 use Rattle.flight_cache.specs.Shards.{CacheView, CachePassView}
 use Rattle.flight_cache.specs.Calls.{TicketView}
+use Rattle.flight_cache.specs.declared.pins.Asked.{Asked}
+use Rattle.flight_cache.specs.declared.pins.Asked.TheVariants as asked
 use Rattle.evict_core.specs.History.{one_if}
 use Rattle.mask_caches.specs.Adding.{pins_of, is_open}
 use Rattle.mask_caches.specs.declared.lease.Lease.{Lease}
 use Rattle.mask_caches.specs.declared.lease.Lease.TheVariants.{Pinned, Own}
-use Rattle.mask_caches.specs.declared.lending.Need.{Need}
-use Rattle.mask_caches.specs.declared.lending.Need.TheVariants.{Had, Make, OutOfMemory}
 
 -- The value was there. Or the key was claimed, and its value filled, or its making failed. Or the cache had no room, and the value was made apart, or its making failed.
 -- Or the ask found no memory
@@ -123,21 +123,21 @@ IsOwnOf (Err refused) (Err again) = Unit {0}
 
 module _ {M K V T : Type 0} (meaning : Meaning K V T) (tag : T) where
   -- the steps of an ask for the key that came to this
-  abbrev pub asked_steps : K → Need M K V T → List (Step K V)
-  asked_steps key (Had pin) = Ask key Hit ∷ []
-  asked_steps key (Make duty) = duty_steps meaning key duty
-  asked_steps key OutOfMemory = []
+  abbrev pub asked_steps : K → Asked M K V T → List (Step K V)
+  asked_steps key (asked.Hit pin) = Ask key Hit ∷ []
+  asked_steps key (asked.Make duty) = duty_steps meaning key duty
+  asked_steps key asked.OutOfMemory = []
 
-  -- a pin has the key and its value
-  abbrev pub IsNeedOf : K → Need M K V T → Type 0
-  IsNeedOf key (Had pin) = (pin.key ≡ key) × (pin.value ≡ meaning.made tag key)
-  IsNeedOf key (Make duty) = IsDutyOf meaning key duty
-  IsNeedOf key OutOfMemory = Unit {0}
+  -- a pin has the key and its value, and a ticket the key
+  abbrev pub IsForKey : K → Asked M K V T → Type 0
+  IsForKey key (asked.Hit pin) = (pin.key ≡ key) × (pin.value ≡ meaning.made tag key)
+  IsForKey key (asked.Make duty) = IsDutyOf meaning key duty
+  IsForKey key asked.OutOfMemory = Unit {0}
 
-  abbrev pub IsNewClaim : (K → K → Bool) → CacheView T → CachePassView K T → Need M K V T → Type 0
-  IsNewClaim eq cache pass (Make duty) = IsNewDuty meaning eq cache pass duty
-  IsNewClaim eq cache pass (Had pin) = Unit {0}
-  IsNewClaim eq cache pass OutOfMemory = Unit {0}
+  abbrev pub IsNewClaim : (K → K → Bool) → CacheView T → CachePassView K T → Asked M K V T → Type 0
+  IsNewClaim eq cache pass (asked.Make duty) = IsNewDuty meaning eq cache pass duty
+  IsNewClaim eq cache pass (asked.Hit pin) = Unit {0}
+  IsNewClaim eq cache pass asked.OutOfMemory = Unit {0}
 
   -- the steps of settling: where there is a ticket the value is filled, or its making failed
   abbrev pub settled_steps : {E : Type 0} → Option (TicketView K) → Result (Lease M K V T) E → List (Step K V)

@@ -8,3 +8,9 @@ pub mod Pinning
 pub mod Threes
 pub mod Together
 pub mod Visits
+pub mod Aheads
+pub mod Firsts
+pub mod Warming
+pub mod Asks
+pub mod Balance
+pub mod Laws

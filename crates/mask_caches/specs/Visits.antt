@@ -6,7 +6,7 @@ use Rattle.ass_num.specs.Masks.{MaskValue}
 use Rattle.ass_num.specs.Regions.{RegionValue}
 use Rattle.evict_core.specs.Machine.{Step}
 use Rattle.cache_kinds.specs.Kinds.{region_meaning, mask_meaning, composite_meaning}
-use Rattle.mask_keys.specs.Keys.{region_key}
+use Rattle.mask_keys.specs.Keys.{region_key, unwidened}
 use Rattle.mask_keys.specs.declared.composite_key.CompositeKey.{CompositeKey}
 use Rattle.mask_keys.specs.declared.composite_key.Part.{Part}
 use Rattle.mask_keys.specs.declared.mask_key.MaskKey.{MaskKey}
@@ -33,10 +33,6 @@ pub record CompositeVisit : Type 0 where
 abbrev pub is_widened : RegionKey → Bool
 is_widened key = not ((key.rx == 0) && (key.ry == 0))
 
--- the region that it is widened from
-abbrev pub outline_key : RegionKey → RegionKey
-outline_key key = record { outline = key.outline; rx = 0; ry = 0 }
-
 -- a widened region that was made and had its value had its outline
 pub record IsRegionVisit (key : RegionKey) (visit : RegionVisit) : Type 0 where
   pub outline : is_widened key && is_made visit.course ≡ true → has_value visit.course ≡ true → has_value visit.outline ≡ true
@@ -61,7 +57,7 @@ pub record IsCompositeVisit (key : CompositeKey) (visit : CompositeVisit) : Type
 module _ {Z : Type 0} (fonts : Arc FontSet Z) where
   -- the use of the region that it is widened from, if it is
   abbrev pub widening_steps : RegionKey → RegionVisit → List (Step RegionKey RegionValue)
-  widening_steps key visit = if is_widened key then use_steps region_meaning fonts (outline_key key) visit.outline [] else []
+  widening_steps key visit = if is_widened key then use_steps region_meaning fonts (unwidened key) visit.outline [] else []
 
   -- what a region adds to the cache of regions
   abbrev pub region_steps : RegionKey → RegionVisit → List (Step RegionKey RegionValue)

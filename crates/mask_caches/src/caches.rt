@@ -1,17 +1,17 @@
 //! The three caches.
 ghost use Rattle.std.specs.Arc.{arc_value};
-ghost use Rattle.mask_model.specs.Outlines.{IsFontSet};
+ghost use Rattle.mask_keys.specs.Outlines.{IsFontSet};
 ghost use Rattle.mask_caches.specs.Together.{HaveFonts};
 
 use bdf_font::FontSet;
-use cache_kinds::{CompositeMade, MaskMade, OutlineMade};
+use cache_kinds::{CompositeMade, MaskMade, RegionMade};
 use flight_cache::Cache;
 use std::sync::Arc;
 
 /// The caches of regions, of masks and of composed masks, which threads ask by `&`.
 pub struct Caches {
     pub(crate) fonts: Arc<FontSet>,
-    pub(crate) outlines: Cache<OutlineMade>,
+    pub(crate) outlines: Cache<RegionMade>,
     pub(crate) masks: Cache<MaskMade>,
     pub(crate) composites: Cache<CompositeMade>,
     ghost tags: { HaveFonts fonts outlines.tag masks.tag composites.tag },

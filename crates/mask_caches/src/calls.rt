@@ -5,10 +5,11 @@ ghost use Rattle.evict_core.specs.Machine.{Limits, Unpin, max_budget, max_entrie
 ghost use Rattle.flight_cache.specs.Shards.{EachGives, IsCacheOf, min_cache_entries, part};
 ghost use Rattle.cache_kinds.specs.Kinds.{composite_meaning, mask_meaning, region_meaning};
 ghost use Rattle.mask_keys.specs.Equality.{equal_composites, equal_masks, equal_regions};
-ghost use Rattle.mask_model.specs.Outlines.{IsFontSet};
+ghost use Rattle.mask_keys.specs.Outlines.{IsFontSet};
 ghost use Rattle.mask_caches.specs.Adding.{Adds};
 ghost use Rattle.mask_caches.specs.Leases.{HoldsLease, given_steps, is_pinned};
-ghost use Rattle.mask_caches.specs.Caches.{AreJoined, AreLegal, AreNew, AreNumbered, HasAllGivenBack, HoldsAsBefore, HoldsNothingAgain, IsNewCache, IsPassOf, IsSamePass, IsSplit, IsSplitIn, all_totals};
+ghost use Rattle.mask_caches.specs.Caches.{AreJoined, AreLegal, AreNew, AreNumbered, HasAllGivenBack, HoldsAsBefore, HoldsNothingAgain, IsNewCache, IsPassOf};
+ghost use Rattle.mask_caches.specs.Caches.{IsSamePass, IsSplit, IsSplitIn, all_totals};
 ghost use Rattle.cache_kinds.specs.Limits.{entry_limit};
 
 use crate::caches::Caches;
@@ -22,7 +23,7 @@ use flight_cache::{Cache, CachePass, Made};
 use std::alloc::Global;
 use std::sync::{Arc, Wait};
 
-// A cache with the whole budget, and its first pass.
+/// A cache with the whole budget, and its first pass.
 fn open_cache<M: Made>(alloc: Global, tag: M::Tag, budget: u64) -> Mem<(Cache<M>, CachePass<M>)>
     requires { budget ≤ max_budget }
     ensures tag { IfOk result (λ r. r.0.tag ≡ tag) }
@@ -33,7 +34,7 @@ fn open_cache<M: Made>(alloc: Global, tag: M::Tag, budget: u64) -> Mem<(Cache<M>
     Cache::open(alloc, tag, entries, budget)
 }
 
-// A split that can't be refused.
+/// A split that can't be refused.
 fn split_with_room<M: Made>(cache: &Cache<M>, pass: CachePass<M>) -> (CachePass<M>, CachePass<M>)
     requires cell { IsCacheOf cache.now pass }
     requires first { pass.first.number ≡ 0 }
@@ -89,9 +90,12 @@ impl Caches {
         requires pass { IsPassOf self.now pass }
         requires budget { budget ≤ max_budget }
         ensures pass { IsPassOf self.now result }
-        ensures outlines { EachGives equal_regions region_meaning self.now.outlines.shards pass.outlines result.outlines (λ n. Limits (part (entry_limit budget) n) (part budget n) ∷ []) }
-        ensures masks { EachGives equal_masks mask_meaning self.now.masks.shards pass.masks result.masks (λ n. Limits (part (entry_limit budget) n) (part budget n) ∷ []) }
-        ensures composites { EachGives equal_composites composite_meaning self.now.composites.shards pass.composites result.composites (λ n. Limits (part (entry_limit budget) n) (part budget n) ∷ []) }
+        ensures outlines { EachGives equal_regions region_meaning self.now.outlines.shards pass.outlines result.outlines
+            (λ n. Limits (part (entry_limit budget) n) (part budget n) ∷ []) }
+        ensures masks { EachGives equal_masks mask_meaning self.now.masks.shards pass.masks result.masks
+            (λ n. Limits (part (entry_limit budget) n) (part budget n) ∷ []) }
+        ensures composites { EachGives equal_composites composite_meaning self.now.composites.shards pass.composites result.composites
+            (λ n. Limits (part (entry_limit budget) n) (part budget n) ∷ []) }
         ensures holds { HoldsAsBefore self.now pass result }
     {
         let CachesPass {
@@ -261,17 +265,17 @@ impl Caches {
 
     /// What the pass has seen of each shard is legal, the shards have their numbers, and the pass holds nothing if it holds
     /// what one did that held nothing. It does nothing: its contract is the law.
-    pub fn legal(&self, pass: &CachesPass)
+    pub fn proof_legal(&self, pass: &CachesPass)
         requires { IsPassOf self.now pass.now }
         ensures legal { AreLegal self.now pass.now }
         ensures numbered { AreNumbered self.now }
         ensures nothing { HoldsNothingAgain self.now pass.now }
     {
-        self.outlines.legal(&pass.outlines);
-        self.masks.legal(&pass.masks);
-        self.composites.legal(&pass.composites);
-        self.outlines.numbered();
-        self.masks.numbered();
-        self.composites.numbered();
+        self.outlines.proof_legal(&pass.outlines);
+        self.masks.proof_legal(&pass.masks);
+        self.composites.proof_legal(&pass.composites);
+        self.outlines.proof_numbered();
+        self.masks.proof_numbered();
+        self.composites.proof_numbered();
     }
 }

@@ -7,9 +7,9 @@ ghost use Rattle.made_values.specs.Parts.{placed_masks};
 ghost use Rattle.mask_cover.specs.Sums.{IsPlaceableMask};
 ghost use Rattle.mask_keys.specs.Equality.{equal_composites, equal_masks, equal_regions};
 ghost use Rattle.mask_keys.specs.Keys.{IsValidComposite, IsValidPart};
-ghost use Rattle.mask_model.specs.Masks.{summed_mask};
-ghost use Rattle.mask_model.specs.Outlines.{glyph_counts};
-ghost use Rattle.mask_model.specs.Values.{composite_value};
+ghost use Rattle.mask_keys.specs.Masks.{summed_mask};
+ghost use Rattle.mask_keys.specs.Outlines.{glyph_counts};
+ghost use Rattle.mask_keys.specs.Values.{composite_value};
 ghost use Rattle.mask_caches.specs.Adding.{Adds, HoldsAsMuch, HoldsFewer, HoldsMore};
 ghost use Rattle.mask_caches.specs.Caches.{IsPassOf};
 ghost use Rattle.mask_caches.specs.Composing.{HoldsJustTheLease, IsComposed};
@@ -20,16 +20,16 @@ ghost use Rattle.mask_caches.specs.Visits.{AreMaskVisits, MaskVisit, mask_steps,
 
 use crate::caches::Caches;
 use crate::lease::{Lease, give_back};
-use crate::lending::{Need, ask, settle};
+use crate::lending::{ask, settle};
 use crate::passes::CachesPass;
-use ass_io::{Gate, Kind, Place};
 use ass_num::{Mask, Mem, OutOfMemory};
-use cache_kinds::{CompositeMade, MaskMade, OutlineMade};
-use flight_cache::{Cache, CachePass};
+use cache_kinds::{CompositeMade, MaskMade, RegionMade};
+use flight_cache::{Asked, Cache, CachePass};
 use made_values::made_composite;
 use mask_keys::{CompositeKey, Part};
 use std::alloc::Global;
 use std::sync::{Arc, Wait};
+use test_hook::{HookPoint, TestHook, ValueKind};
 
 /// The values of leases, each shared with its lease.
 fn shared(alloc: Global, leases: &Vec<Lease<MaskMade>>) -> Mem<Vec<Arc<Mask>>>
@@ -43,12 +43,12 @@ fn shared(alloc: Global, leases: &Vec<Lease<MaskMade>>) -> Mem<Vec<Arc<Mask>>>
 }
 
 /// The composed mask of parts, from the leases of their masks, where all are had.
-fn composed<G: Gate>(
+fn composed<H: TestHook>(
     alloc: Global,
     parts: &[Part],
     leases: &Vec<Lease<MaskMade>>,
     are_all: bool,
-    gate: &G,
+    hook: &H,
 ) -> Mem<Arc<Mask>>
     requires count { are_all ≡ true → length leases.now.items ≡ length parts.now }
     requires masks { are_all ≡ true → All IsPlaceableMask (placed_masks parts.now (map lease_value leases.now.items)) }
@@ -58,7 +58,7 @@ fn composed<G: Gate>(
     if !are_all {
         return Err(OutOfMemory);
     }
-    gate.at(Place::BeforeMake(Kind::Composite));
+    hook.at(HookPoint::BeforeMake(ValueKind::Composite));
     let shares = shared(alloc, leases)?;
     made_composite(alloc, parts, &shares)
 }
@@ -86,7 +86,7 @@ fn give_all_back<R: Wait>(
 
 /// What is had of the masks of parts, and whether all were.
 struct Masks {
-    outlines: CachePass<OutlineMade>,
+    outlines: CachePass<RegionMade>,
     masks: CachePass<MaskMade>,
     leases: Vec<Lease<MaskMade>>,
     are_all: bool,
@@ -94,22 +94,22 @@ struct Masks {
 
 /// The passes of the three caches, of whatever numbers.
 struct Passes {
-    outlines: CachePass<OutlineMade>,
+    outlines: CachePass<RegionMade>,
     masks: CachePass<MaskMade>,
     composites: CachePass<CompositeMade>,
 }
 
 impl Caches {
-    // The masks of parts through their cache, in the order of the parts, until one can't be had. There is room for the leases.
-    fn visit_masks<R: Wait, G: Gate>(
+    /// The masks of parts through their cache, in the order of the parts, until one can't be had. There is room for the leases.
+    fn visit_masks<R: Wait, H: TestHook>(
         &self,
         rt: &R,
         alloc: Global,
-        outlines: CachePass<OutlineMade>,
+        outlines: CachePass<RegionMade>,
         masks: CachePass<MaskMade>,
         parts: &[Part],
         leases: Vec<Lease<MaskMade>>,
-        gate: &G,
+        hook: &H,
     ) -> Masks
         requires outlines { IsCacheOf self.now.outlines outlines }
         requires masks { IsCacheOf self.now.masks masks }
@@ -128,7 +128,7 @@ impl Caches {
         let mut leases = leases;
         for part in parts {
             let (next_outlines, next_masks, had) = self.mask(
-                rt, alloc, outlines, masks, &part.mask, gate,
+                rt, alloc, outlines, masks, &part.mask, hook,
             );
             outlines = next_outlines;
             masks = next_masks;
@@ -152,16 +152,16 @@ impl Caches {
         }
     }
 
-    // The composed mask of a key, from the masks of its parts, which are had through their cache.
-    fn make_composite<R: Wait, G: Gate>(
+    /// The composed mask of a key, from the masks of its parts, which are had through their cache.
+    fn make_composite<R: Wait, H: TestHook>(
         &self,
         rt: &R,
         alloc: Global,
-        outlines: CachePass<OutlineMade>,
+        outlines: CachePass<RegionMade>,
         masks: CachePass<MaskMade>,
         key: &CompositeKey,
-        gate: &G,
-    ) -> (CachePass<OutlineMade>, CachePass<MaskMade>, Mem<Arc<Mask>>)
+        hook: &H,
+    ) -> (CachePass<RegionMade>, CachePass<MaskMade>, Mem<Arc<Mask>>)
         requires outlines { IsCacheOf self.now.outlines outlines }
         requires masks { IsCacheOf self.now.masks masks }
         requires key { IsValidComposite (glyph_counts (arc_value self.now.fonts).fonts) key.now }
@@ -184,20 +184,20 @@ impl Caches {
             masks,
             leases,
             are_all,
-        } = self.visit_masks(rt, alloc, outlines, masks, parts, leases, gate);
-        let made = composed(alloc, parts, &leases, are_all, gate);
+        } = self.visit_masks(rt, alloc, outlines, masks, parts, leases, hook);
+        let made = composed(alloc, parts, &leases, are_all, hook);
         let masks = give_all_back(&self.masks, rt, masks, leases);
         (outlines, masks, made)
     }
 
-    // What `composite` does, on the passes themselves.
-    fn visit_composite<R: Wait, G: Gate>(
+    /// What `composite` does, on the passes themselves.
+    fn visit_composite<R: Wait, H: TestHook>(
         &self,
         rt: &R,
         alloc: Global,
         passes: Passes,
         key: &CompositeKey,
-        gate: &G,
+        hook: &H,
     ) -> (Passes, Mem<Lease<CompositeMade>>)
         requires outlines { IsCacheOf self.now.outlines passes.outlines }
         requires masks { IsCacheOf self.now.masks passes.masks }
@@ -211,9 +211,9 @@ impl Caches {
             masks,
             composites,
         } = passes;
-        let (composites, need) = ask(&self.composites, rt, alloc, composites, key);
-        match need {
-            Need::Had(pin) => {
+        let (composites, asked) = ask(&self.composites, rt, alloc, composites, key);
+        match asked {
+            Asked::Hit(pin) => {
                 let passes = Passes {
                     outlines,
                     masks,
@@ -221,9 +221,9 @@ impl Caches {
                 };
                 (passes, Ok(Lease::Pinned(pin)))
             }
-            Need::Make(duty) => {
+            Asked::Make(duty) => {
                 let (outlines, masks, made) = self.make_composite(
-                    rt, alloc, outlines, masks, key, gate,
+                    rt, alloc, outlines, masks, key, hook,
                 );
                 let (composites, had) = settle(&self.composites, rt, composites, duty, made);
                 let passes = Passes {
@@ -233,7 +233,7 @@ impl Caches {
                 };
                 (passes, had)
             }
-            Need::OutOfMemory => {
+            Asked::OutOfMemory => {
                 let passes = Passes {
                     outlines,
                     masks,
@@ -248,13 +248,13 @@ impl Caches {
     /// order, for each missing mask its region, and for a missing widened region that of its outline. What the cache has
     /// no room for is made apart, and is the caller's own. Waits while another thread makes what it asks for; at most one
     /// making in each cache, of each of these four kinds, is under way in this call.
-    pub fn composite<R: Wait, G: Gate>(
+    pub fn composite<R: Wait, H: TestHook>(
         &self,
         rt: &R,
         alloc: Global,
         pass: CachesPass,
         key: &CompositeKey,
-        gate: &G,
+        hook: &H,
     ) -> (CachesPass, Mem<Lease<CompositeMade>>)
         requires pass { IsPassOf self.now pass }
         requires key { IsValidComposite (glyph_counts (arc_value self.now.fonts).fonts) key.now }
@@ -274,7 +274,7 @@ impl Caches {
             masks,
             composites,
         };
-        let (passes, had) = self.visit_composite(rt, alloc, passes, key, gate);
+        let (passes, had) = self.visit_composite(rt, alloc, passes, key, hook);
         let Passes {
             outlines,
             masks,

@@ -5,7 +5,9 @@ ghost use Rattle.flight_cache.specs.Shards.{IsCacheOf};
 ghost use Rattle.mask_caches.specs.Adding.{Adds};
 ghost use Rattle.mask_caches.specs.Leases.{HoldsLease, given_steps, is_pinned, lease_value};
 
-use ass_num::Mem;
+use ass_num::{Mask, Mem};
+use blend::AsMask;
+use cache_kinds::CompositeMade;
 use flight_cache::{Cache, CachePass, Made, Pin};
 use std::sync::{Arc, Wait};
 
@@ -26,7 +28,7 @@ impl<M: Made> Lease<M> {
         }
     }
 
-    // The value, shared with the lease.
+    /// The value, shared with the lease.
     pub(crate) fn share(&self) -> Mem<Arc<M::Value>>
         ensures { IfOk result (λ a. arc_value a ≡ lease_value self.now) }
     {
@@ -34,6 +36,16 @@ impl<M: Made> Lease<M> {
             Lease::Pinned(pin) => pin.share(),
             Lease::Own(value) => Ok(Arc::try_clone(value)?),
         }
+    }
+}
+
+impl AsMask for Lease<CompositeMade> {
+    ghost use Rattle.mask_caches.specs.Leases.{lease_value};
+
+    ghost mask = { λ lease. lease_value lease };
+
+    fn as_mask(&self) -> &Mask {
+        self.value()
     }
 }
 

@@ -4,22 +4,13 @@ ghost use Rattle.std.specs.Arc.{arc_value};
 ghost use Rattle.evict_core.specs.Machine.{Fail, max_cost};
 ghost use Rattle.flight_cache.specs.Shards.{IsCacheOf};
 ghost use Rattle.mask_caches.specs.Adding.{Adds, is_open};
-ghost use Rattle.mask_caches.specs.Courses.{IsFilledLease, IsNeedOf, IsNewClaim, IsOwnOf, IsSettled, IsSettledTicket, asked_steps, settled_steps};
+ghost use Rattle.mask_caches.specs.Courses.{IsFilledLease, IsForKey, IsNewClaim, IsOwnOf, IsSettled, IsSettledTicket, asked_steps, settled_steps};
 
 use crate::lease::Lease;
 use ass_num::{Mem, OutOfMemory};
-use flight_cache::{Asked, Cache, CachePass, Made, Pin, Ticket};
+use flight_cache::{Asked, Cache, CachePass, Made, Ticket};
 use std::alloc::Global;
 use std::sync::{Arc, Wait};
-
-/// What an ask came to.
-pub(crate) enum Need<M: Made> {
-    /// A pin of the value.
-    Had(Pin<M>),
-    /// The value is to be made: for the cache, where there is a ticket, or else apart, since it has no room.
-    Make(Option<Ticket<M>>),
-    OutOfMemory,
-}
 
 /// Asks for the key, and waits while its value is being made.
 pub(crate) fn ask<M: Made, R: Wait>(
@@ -28,19 +19,13 @@ pub(crate) fn ask<M: Made, R: Wait>(
     alloc: Global,
     pass: CachePass<M>,
     key: &M::Key,
-) -> (CachePass<M>, Need<M>)
+) -> (CachePass<M>, Asked<M>)
     requires { IsCacheOf cache.now pass }
     ensures steps { Adds M.Key.eq M.meaning cache.now pass result.0 (asked_steps M.meaning cache.now.tag key.now result.1) }
-    ensures need { IsNeedOf M.meaning cache.now.tag key.now result.1 }
+    ensures asked { IsForKey M.meaning cache.now.tag key.now result.1 }
     ensures new { IsNewClaim M.meaning cache.now.tag M.Key.eq cache.now pass result.1 }
 {
-    let (pass, asked) = cache.ask(rt, alloc, pass, key);
-    match asked {
-        Asked::Hit(pin) => (pass, Need::Had(pin)),
-        Asked::Claim(ticket) => (pass, Need::Make(Some(ticket))),
-        Asked::Crowded => (pass, Need::Make(None)),
-        Asked::OutOfMemory => (pass, Need::OutOfMemory),
-    }
+    cache.ask(rt, alloc, pass, key)
 }
 
 /// The value of a ticket's key is filled and pinned; the ticket fails where it finds no second owner.

@@ -1,49 +1,38 @@
 //! Masks through their cache.
 ghost use Rattle.std.specs.Prelude.{◌≡◌, true, IfOk, OnOk};
 ghost use Rattle.std.specs.Arc.{arc_value};
-ghost use Rattle.ass_num.specs.Limits.{IsRegionWithin, max_sample};
 ghost use Rattle.flight_cache.specs.Shards.{IsCacheOf};
 ghost use Rattle.cache_kinds.specs.Kinds.{mask_meaning, region_meaning};
 ghost use Rattle.mask_keys.specs.Equality.{equal_masks, equal_regions};
-ghost use Rattle.mask_keys.specs.Keys.{HasMaskRanges, IsValidMask, region_key};
-ghost use Rattle.mask_model.specs.Outlines.{glyph_counts};
-ghost use Rattle.mask_model.specs.Values.{mask_of_region, mask_value};
+ghost use Rattle.mask_keys.specs.Keys.{IsValidMask, region_key};
+ghost use Rattle.mask_keys.specs.Outlines.{glyph_counts};
+ghost use Rattle.mask_keys.specs.Values.{mask_value};
 ghost use Rattle.mask_caches.specs.Adding.{Adds, HoldsAsMuch};
 ghost use Rattle.mask_caches.specs.Courses.{HoldsTheLease, IsHadBy, has_value};
 ghost use Rattle.mask_caches.specs.Visits.{IsMaskVisit, IsRegionVisit, MaskVisit, RegionVisit, mask_steps, region_use_steps, steps_of_its_region};
 
 use crate::caches::Caches;
 use crate::lease::{Lease, give_back};
-use crate::lending::{Need, ask, settle};
-use ass_io::{Gate, Kind, Place};
-use ass_num::{Mask, Mem, OutOfMemory, Region};
-use cache_kinds::{MaskMade, OutlineMade};
-use flight_cache::CachePass;
-use made_values::mask_of_region;
+use crate::lending::{ask, settle};
+use ass_num::{Mask, Mem, OutOfMemory};
+use cache_kinds::{MaskMade, RegionMade};
+use flight_cache::{Asked, CachePass};
+use made_values::mask_from;
 use mask_keys::{MaskKey, region_key_of};
 use std::alloc::Global;
 use std::sync::{Arc, Wait};
-
-/// The mask that a key makes of its region.
-fn mask_from(alloc: Global, region: &Region, key: &MaskKey) -> Mem<Arc<Mask>>
-    requires region { IsRegionWithin max_sample region.now.top region.now.rows }
-    requires key { HasMaskRanges key.now }
-    ensures { IfOk result (λ a. arc_value a ≡ mask_of_region key.now region.now) }
-{
-    let mask = mask_of_region(alloc, region, key)?;
-    Ok(Arc::new(alloc, mask)?)
-}
+use test_hook::{HookPoint, TestHook, ValueKind};
 
 impl Caches {
-    // The mask of a key, from its region, which is had through the cache.
-    fn make_mask<R: Wait, G: Gate>(
+    /// The mask of a key, from its region, which is had through the cache.
+    fn make_mask<R: Wait, H: TestHook>(
         &self,
         rt: &R,
         alloc: Global,
-        outlines: CachePass<OutlineMade>,
+        outlines: CachePass<RegionMade>,
         key: &MaskKey,
-        gate: &G,
-    ) -> (CachePass<OutlineMade>, Mem<Arc<Mask>>)
+        hook: &H,
+    ) -> (CachePass<RegionMade>, Mem<Arc<Mask>>)
         requires pass { IsCacheOf self.now.outlines outlines }
         requires key { IsValidMask (glyph_counts (arc_value self.now.fonts).fonts) key.now }
         ensures region { (visit : RegionVisit) × IsRegionVisit (region_key key.now) visit
@@ -55,10 +44,10 @@ impl Caches {
         let Ok(region_key) = region_key_of(alloc, key) else {
             return (outlines, Err(OutOfMemory));
         };
-        let (outlines, had) = self.region(rt, alloc, outlines, &region_key, gate);
+        let (outlines, had) = self.region(rt, alloc, outlines, &region_key, hook);
         match had {
             Ok(lease) => {
-                gate.at(Place::BeforeMake(Kind::Mask));
+                hook.at(HookPoint::BeforeMake(ValueKind::Mask));
                 let made = mask_from(alloc, lease.value(), key);
                 (give_back(&self.outlines, rt, outlines, lease), made)
             }
@@ -67,16 +56,16 @@ impl Caches {
     }
 
     /// A mask, through the cache.
-    pub(crate) fn mask<R: Wait, G: Gate>(
+    pub(crate) fn mask<R: Wait, H: TestHook>(
         &self,
         rt: &R,
         alloc: Global,
-        outlines: CachePass<OutlineMade>,
+        outlines: CachePass<RegionMade>,
         masks: CachePass<MaskMade>,
         key: &MaskKey,
-        gate: &G,
+        hook: &H,
     ) -> (
-        CachePass<OutlineMade>,
+        CachePass<RegionMade>,
         CachePass<MaskMade>,
         Mem<Lease<MaskMade>>,
     )
@@ -90,15 +79,15 @@ impl Caches {
         ensures outlines { HoldsAsMuch equal_regions region_meaning self.now.outlines outlines result.0 }
         ensures holds { HoldsTheLease equal_masks mask_meaning self.now.masks masks result.1 result.2 }
     {
-        let (masks, need) = ask(&self.masks, rt, alloc, masks, key);
-        match need {
-            Need::Had(pin) => (outlines, masks, Ok(Lease::Pinned(pin))),
-            Need::Make(duty) => {
-                let (outlines, made) = self.make_mask(rt, alloc, outlines, key, gate);
+        let (masks, asked) = ask(&self.masks, rt, alloc, masks, key);
+        match asked {
+            Asked::Hit(pin) => (outlines, masks, Ok(Lease::Pinned(pin))),
+            Asked::Make(duty) => {
+                let (outlines, made) = self.make_mask(rt, alloc, outlines, key, hook);
                 let (masks, had) = settle(&self.masks, rt, masks, duty, made);
                 (outlines, masks, had)
             }
-            Need::OutOfMemory => (outlines, masks, Err(OutOfMemory)),
+            Asked::OutOfMemory => (outlines, masks, Err(OutOfMemory)),
         }
     }
 }

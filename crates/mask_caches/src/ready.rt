@@ -16,7 +16,7 @@ use flight_cache::{Made, Pin, PinRefusal};
 use mask_keys::CompositeKey;
 use std::alloc::Global;
 
-// Leases of the pins, in their order. There is room for them.
+/// Leases of the pins, in their order. There is room for them.
 fn leases_of<M: Made>(pins: Vec<Pin<M>>, room: Vec<Lease<M>>) -> Vec<Lease<M>>
     requires empty { room.items ≡ [] }
     requires len { vec_len room ≡ 0 }
@@ -43,11 +43,12 @@ impl Caches {
         &self,
         alloc: Global,
         pass: CachesPass,
-        keys: &Vec<CompositeKey>,
+        keys: Vec<CompositeKey>,
     ) -> (CachesPass, Result<Vec<Lease<CompositeMade>>, PinRefusal>)
         requires { IsPassOf self.now pass }
-        ensures pinned { IfOk result.1 (λ leases. ArePinned equal_composites composite_meaning self.now.composites pass.composites keys.now.items result.0.composites leases.items) }
-        ensures refused { IfErr result.1 (IsRefused equal_composites composite_meaning self.now.composites pass.composites keys.now.items result.0.composites) }
+        ensures pinned { IfOk result.1 (λ leases. ArePinned equal_composites composite_meaning self.now.composites pass.composites keys.items
+            result.0.composites leases.items) }
+        ensures refused { IfErr result.1 (IsRefused equal_composites composite_meaning self.now.composites pass.composites keys.items result.0.composites) }
         ensures nothing { IfErr result.1 (λ refusal. GivesNothing pass.composites result.0.composites) }
         ensures holds { IfErr result.1 (λ refusal. HoldsAsMuch equal_composites composite_meaning self.now.composites pass.composites result.0.composites) }
         ensures masks { result.0.masks ≡ pass.masks }
@@ -64,7 +65,7 @@ impl Caches {
             masks,
             composites,
         } = pass;
-        self.composites.numbered();
+        self.composites.proof_numbered();
         let (composites, tried) = self.composites.try_pin_all(alloc, composites, keys);
         let pass = CachesPass {
             outlines,

@@ -68,7 +68,8 @@ pub fn cover(alloc: Global, region: &Region, px: u8, py: u8) -> Mem<Mask>
     requires rows { (region.now.top +ℤ pos (length region.now.rows)) ≤ℤ pos (2 ^ 31) }
     ensures mask { IfOk result (IsCover (member region.now.top region.now.rows) px py) }
     ensures canonical { IfOk result (λ m. is_mask m ≡ true) }
-    ensures within { IfOk result (λ m. (limit : ℕ) → IsRegionWithin limit region.now.top region.now.rows → IsMaskWithin (limit / 16 + 1) (2 * (limit / 16) + 3) m) }
+    ensures within { IfOk result (λ m. (limit : ℕ) → IsRegionWithin limit region.now.top region.now.rows
+        → IsMaskWithin (limit / 16 + 1) (2 * (limit / 16) + 3) m) }
 {
     let rows = region.rows();
     if rows.len() == 0 {

@@ -1,6 +1,7 @@
 //! Counts of the samples in the pixels of a row, kept by their steps: the count of a pixel is the sum of the steps up to it.
 
-ghost use Rattle.std.specs.Prelude.{◌≡◌, ℕ, pos, neg_ℤ, true, length, ◌<◌, ◌≤◌, ◌+◌, ◌*◌, ◌^◌, ◌+ℤ◌, ◌-ℤ◌, ◌<ℤ◌, ◌≤ℤ◌, All, IfOk, slice_index, slice_index_or, unsigned_abs};
+ghost use Rattle.std.specs.Prelude.{◌≡◌, ℕ, pos, neg_ℤ, true, length, ◌<◌, ◌≤◌, ◌+◌, ◌*◌, ◌^◌, ◌+ℤ◌, ◌-ℤ◌, ◌<ℤ◌, ◌≤ℤ◌, All, IfOk, slice_index, slice_index_or};
+ghost use Rattle.std.specs.Prelude.{unsigned_abs};
 ghost use Rattle.ass_num.specs.Regions.{ascend, all_ascend};
 ghost use Rattle.ass_num.specs.Coverage.{coverage_byte};
 ghost use Rattle.mask_cover.specs.Steps.{sum_first, samples_after, AreStepsWithin, CountsWithin, row_count, cell_count, IsInside, IsRowPushed};

@@ -71,7 +71,8 @@ impl MaskSum {
         ensures same { result ≡ self }
         ensures canonical { is_mask result ≡ true }
         ensures sum { (parts : List (MaskValue × ℤ × ℤ)) → IsBoxOf parts (box_of self) → HasSum parts self → IsSum parts result }
-        ensures within { (parts : List (MaskValue × ℤ × ℤ)) → IsBoxOf parts (box_of self) → (corner side shift : ℕ) → All (IsMovedWithin corner side shift) parts → IsMaskWithin (corner + shift) (2 * (corner + shift) + side) result }
+        ensures within { (parts : List (MaskValue × ℤ × ℤ)) → IsBoxOf parts (box_of self) → (corner side shift : ℕ)
+            → All (IsMovedWithin corner side shift) parts → IsMaskWithin (corner + shift) (2 * (corner + shift) + side) result }
     {
         Mask::new(self.x, self.y, self.w, self.h, self.bytes)
     }
@@ -114,7 +115,8 @@ pub fn sum_of(alloc: Global, parts: &[(Mask, i32, i32)]) -> Mem<Mask>
     requires { All IsPlaceableMask parts.now }
     ensures sum { IfOk result (IsSum parts.now) }
     ensures canonical { IfOk result (λ m. is_mask m ≡ true) }
-    ensures within { IfOk result (λ m. (corner side shift : ℕ) → All (IsMovedWithin corner side shift) parts.now → IsMaskWithin (corner + shift) (2 * (corner + shift) + side) m) }
+    ensures within { IfOk result (λ m. (corner side shift : ℕ) → All (IsMovedWithin corner side shift) parts.now
+        → IsMaskWithin (corner + shift) (2 * (corner + shift) + side) m) }
 {
     let mut sum = MaskSum::new(alloc, &extent_of(parts))?;
     for (mask, dx, dy) in parts {

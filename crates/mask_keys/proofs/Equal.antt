@@ -24,16 +24,14 @@ use Rattle.mask_keys.specs.contracts.region_key.RegionKeyEq.TheImpl.Laws as regi
 use Rattle.mask_keys.specs.contracts.mask_key.MaskKeyEq.TheImpl.Laws as mask_laws
 use Rattle.mask_keys.specs.contracts.composite_key.CompositeKeyEq.TheImpl.Laws as composite_laws
 use Rattle.mask_keys.specs.Equality.{equal_outlines, equal_regions, equal_masks, equal_composites}
-
-pub both : (r s : Bool) → (r && s) ≡ true → (r ≡ true) × (s ≡ true)
-both r s e = grind arith
+use Rattle.std.proofs.lemmas.Bool.{and_parts}
 
 pub items_same : {K : Type 0} (E : K → K → Bool) (same : (a b : K) → E a b ≡ true → a ≡ b) (xs ys : List K) → pointwise E xs ys ≡ true → xs ≡ ys
 items_same E same [] [] e = refl
 items_same E same [] (y ∷ ys) e = grind arith
 items_same E same (x ∷ xs) [] e = grind arith
 items_same E same (x ∷ xs) (y ∷ ys) e =
-    let parts = both (E x y) (pointwise E xs ys) e in
+    let parts = and_parts (E x y) (pointwise E xs ys) e in
     grind (arith, same x y parts.0, items_same E same xs ys parts.1)
 
 pub point_same : (a b : Point) → point.ghosts.eq a b ≡ true → a ≡ b
@@ -46,21 +44,21 @@ pub seg_same : (a b : Seg) → seg.ghosts.eq a b ≡ true → a ≡ b
 seg_same (Move p) (Move q) e = grind (arith, point_same p q e)
 seg_same (Line p) (Line q) e = grind (arith, point_same p q e)
 seg_same (Cubic a b c) (Cubic p q r) e =
-    let first = both (point.ghosts.eq a p) (point.ghosts.eq b q && point.ghosts.eq c r) e in
-    let rest = both (point.ghosts.eq b q) (point.ghosts.eq c r) first.1 in
+    let first = and_parts (point.ghosts.eq a p) (point.ghosts.eq b q && point.ghosts.eq c r) e in
+    let rest = and_parts (point.ghosts.eq b q) (point.ghosts.eq c r) first.1 in
     grind (arith, point_same a p first.0, point_same b q rest.0, point_same c r rest.1)
 seg_same (Spline a s) (Spline b t) e =
-    let parts = both (pointwise point.ghosts.eq a b) _ e in
+    let parts = and_parts (pointwise point.ghosts.eq a b) _ e in
     grind (arith, items_same point.ghosts.eq point_same a b parts.0, (booleans_Decides s t).0 parts.1)
 seg_same a b e = grind arith
 
 pub outline_same : (a b : OutlineKey) → equal_outlines a b ≡ true → a ≡ b
 outline_same (Glyph f g m b u s) (Glyph f2 g2 m2 b2 u2 s2) e =
-    let font = both (nat_eq f f2) _ e in
-    let glyph = both (nat_eq g g2) _ font.1 in
-    let under = both (matrix.ghosts.eq m m2) _ glyph.1 in
-    let bold = both (beq b b2) _ under.1 in
-    let bars = both (beq u u2) _ bold.1 in
+    let font = and_parts (nat_eq f f2) _ e in
+    let glyph = and_parts (nat_eq g g2) _ font.1 in
+    let under = and_parts (matrix.ghosts.eq m m2) _ glyph.1 in
+    let bold = and_parts (beq b b2) _ under.1 in
+    let bars = and_parts (beq u u2) _ bold.1 in
     grind (
       arith,
       (unsigned_Decides f f2).0 font.0,
@@ -71,20 +69,20 @@ outline_same (Glyph f g m b u s) (Glyph f2 g2 m2 b2 u2 s2) e =
       (booleans_Decides s s2).0 bars.1,
     )
 outline_same (Drawing p m s) (Drawing q n t) e =
-    let first = both (pointwise seg.ghosts.eq p.segs q.segs) (matrix.ghosts.eq m n && _) e in
-    let rest = both (matrix.ghosts.eq m n) _ first.1 in
+    let first = and_parts (pointwise seg.ghosts.eq p.segs q.segs) (matrix.ghosts.eq m n && _) e in
+    let rest = and_parts (matrix.ghosts.eq m n) _ first.1 in
     grind (arith, items_same seg.ghosts.eq seg_same p.segs q.segs first.0, matrix_same m n rest.0, (signed_Decides s t).0 rest.1)
 outline_same (Box w h t) (Box w2 h2 t2) e = grind (arith, signed_Decides w w2, signed_Decides h h2, signed_Decides t t2)
 outline_same a b e = grind arith
 
 pub region_same : (a b : RegionKey) → equal_regions a b ≡ true → a ≡ b
 region_same a b e =
-    let parts = both (equal_outlines a.outline b.outline) _ e in
+    let parts = and_parts (equal_outlines a.outline b.outline) _ e in
     grind (arith, outline_same a.outline b.outline parts.0, parts.1, unsigned_Decides a.rx b.rx, unsigned_Decides a.ry b.ry)
 
 pub mask_same : (a b : MaskKey) → equal_masks a b ≡ true → a ≡ b
 mask_same a b e =
-    let parts = both (equal_outlines a.outline b.outline) _ e in
+    let parts = and_parts (equal_outlines a.outline b.outline) _ e in
     grind (
       arith,
       outline_same a.outline b.outline parts.0,
@@ -99,7 +97,7 @@ mask_same a b e =
 
 pub part_same : (a b : Part) → part.ghosts.eq a b ≡ true → a ≡ b
 part_same a b e =
-    let parts = both (equal_masks a.mask b.mask) _ e in
+    let parts = and_parts (equal_masks a.mask b.mask) _ e in
     grind (arith, mask_same a.mask b.mask parts.0, parts.1, signed_Decides a.dx b.dx, signed_Decides a.dy b.dy)
 
 pub composite_same : (a b : CompositeKey) → equal_composites a b ≡ true → a ≡ b

@@ -61,6 +61,10 @@ IsValidOutline glyphs (Box w h _) = IsValidBox w h
 abbrev pub region_key : MaskKey → RegionKey
 region_key key = record { outline = key.outline; rx = key.rx; ry = key.ry }
 
+-- the region that it is widened from
+abbrev pub unwidened : RegionKey → RegionKey
+unwidened key = record { outline = key.outline; rx = 0; ry = 0 }
+
 pub record IsValidRegion (glyphs : List ℕ) (key : RegionKey) : Type 0 where
   pub outline : IsValidOutline glyphs key.outline
   pub rx : key.rx ≤ max_border

@@ -1,2 +1,12 @@
 pub mod Equality
 pub mod Keys
+pub mod Boxes
+pub mod Costs
+pub mod Masks
+pub mod Meanings
+pub mod Numbers
+pub mod Outlines
+pub mod Pictures
+pub mod PlanKeys
+pub mod Regions
+pub mod Values

@@ -1,7 +1,7 @@
 //! Copies of keys.
 
 ghost use Rattle.std.specs.Prelude.{◌≡◌, IfOk};
-ghost use Rattle.mask_keys.specs.Keys.{region_key};
+ghost use Rattle.mask_keys.specs.Keys.{region_key, unwidened};
 
 use crate::composite_key::CompositeKey;
 use crate::mask_key::MaskKey;
@@ -50,5 +50,16 @@ pub fn region_key_of(alloc: Global, mask: &MaskKey) -> Mem<RegionKey>
         outline: outline_key_copy(alloc, &mask.outline)?,
         rx: mask.rx,
         ry: mask.ry,
+    })
+}
+
+/// The key of the region that a widened one is made from.
+pub fn unwidened(alloc: Global, key: &RegionKey) -> Mem<RegionKey>
+    ensures { IfOk result (λ k. k ≡ unwidened key.now) }
+{
+    Ok(RegionKey {
+        outline: outline_key_copy(alloc, &key.outline)?,
+        rx: 0,
+        ry: 0,
     })
 }

@@ -4,7 +4,8 @@ ghost use Rattle.std.specs.Prelude.{◌≡◌, ◌≤◌, ◌*◌, pos, ◌+ℤ�
 ghost use Rattle.ass_num.specs.Floor.{floor_div};
 ghost use Rattle.ass_num.specs.Limits.{IsWithin, IsPointWithin};
 ghost use Rattle.outline_points.specs.Limits.{max_scaled, max_length};
-ghost use Rattle.outline_points.specs.Curves.{AreAtMost, max_weight, weighted, weighted_point, cubic_unit, spline_unit, cubic_weights, spline_weights, cubic_point, spline_point};
+ghost use Rattle.outline_points.specs.Curves.{AreAtMost, max_weight, weighted, weighted_point, cubic_unit, spline_unit, cubic_weights, spline_weights};
+ghost use Rattle.outline_points.specs.Curves.{cubic_point, spline_point};
 
 use crate::products::{product, quotient};
 use ass_num::Point;

@@ -6,7 +6,8 @@ ghost use Rattle.ass_num.specs.Paths.{IsSegment, IsPath};
 ghost use Rattle.outline_points.specs.Limits.{max_scaled, max_length};
 ghost use Rattle.outline_points.specs.Placing.{IsMatrix};
 ghost use Rattle.outline_points.specs.Curves.{cubic_points, piece_points};
-ghost use Rattle.outline_points.specs.Drawings.{scaled_point, spline_points, last_point, end_point, segment_points, walk_points, drawing_extent, larger_point, largest_from};
+ghost use Rattle.outline_points.specs.Drawings.{scaled_point, spline_points, last_point, end_point, segment_points, walk_points, drawing_extent, larger_point};
+ghost use Rattle.outline_points.specs.Drawings.{largest_from};
 
 use crate::curves::{cubic_point, spline_point};
 use crate::products::scaled;

@@ -11,7 +11,7 @@ use Rattle.std.proofs.lemmas.Str.{encodes-chars, encode_ascii}
 use Rattle.ass_num.specs.Fronts.{IsLongestFront}
 use Rattle.ass_num.specs.Numerals.{is_mark, is_hexadecimal, number_of, IsMilli, IsMarked, IsColour, IsAlpha}
 use Rattle.ass_num.proofs.ColourFronts.{marked_front, marked_none}
-use Rattle.blanks.specs.Blanks.{trimmed}
+use Rattle.ass_num.specs.Blanks.{trimmed}
 use Rattle.drawing_path.proofs.ExistsLemmas.{HasFrontOrNone, milli_exists, has_path}
 use Rattle.tag_arguments.specs.Cuts.{plain_argument, bracketed, tag_len, outer_len, depth_after}
 use Rattle.tag_arguments.specs.Names.{tag_name}
@@ -213,7 +213,7 @@ part_tags_exist from HardBreak = ([], refl)
 part_tags_exist from SoftBreak = ([], refl)
 part_tags_exist from HardSpace = ([], refl)
 
--- ---- fronts
+-- ---- prefixes
 
 -- the first `}`
 first_close : (text : List ℕ) → has_close text ≡ true → (body : List ℕ) × (rest : List ℕ) × (text ≡ body ++ (125 ∷ rest)) × (has_close body ≡ false)

@@ -10,7 +10,7 @@ use Rattle.ass_num.specs.Numerals.{IsMilli, IsColour, IsAlpha}
 use Rattle.ass_num.specs.declared.geometry.Seg.{Seg}
 use Rattle.ass_num.proofs.OneReading.{one_front, one_milli, one_marked}
 use Rattle.drawing_path.proofs.LawLemmas.{one_path}
-use Rattle.blanks.specs.Blanks.{trimmed}
+use Rattle.ass_num.specs.Blanks.{trimmed}
 use Rattle.tag_arguments.specs.Cuts.{plain_argument, bracketed, tag_len}
 use Rattle.tag_arguments.specs.Names.{tag_name}
 use Rattle.tag_arguments.specs.Numbers.{ReadsOptional, ReadsFront, AreNumbers, ReadsNumbers, ReadsBracketed, comma_pieces, begins_signed, counted_pieces}

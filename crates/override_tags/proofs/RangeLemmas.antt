@@ -12,7 +12,7 @@ use Rattle.ass_num.specs.Floor.{floor_div, held}
 use Rattle.ass_num.specs.Limits.{IsHeldNumber}
 use Rattle.ass_num.specs.Numerals.{IsMilli}
 use Rattle.ass_num.proofs.Floor.{floor_div_within, held_within}
-use Rattle.blanks.specs.Blanks.{trimmed}
+use Rattle.ass_num.specs.Blanks.{trimmed}
 use Rattle.drawing_path.proofs.RangeLemmas.{milli_held, drawing_valid}
 use Rattle.tag_arguments.specs.Cuts.{bracketed}
 use Rattle.tag_arguments.specs.Names.{tag_names, tag_name}
@@ -23,7 +23,7 @@ use Rattle.tag_arguments.specs.declared.kinds.Sung.{Sung}
 use Rattle.tag_arguments.specs.declared.kinds.TagName.{TagName}
 use Rattle.tag_arguments.specs.declared.kinds.TagName.TheVariants as name
 use Rattle.tag_arguments.proofs.LongestLemmas.{longest_counts, all_rows}
-use Rattle.blanks.specs.Blanks.{past_blanks}
+use Rattle.ass_num.specs.Blanks.{past_blanks}
 use Rattle.override_tags.specs.declared.item.Item.{Item}
 use Rattle.override_tags.specs.declared.tag.ClipTag.TheVariants.{Rect, Drawn}
 use Rattle.override_tags.specs.declared.tag.GradualTag.{GradualTag}

@@ -8,7 +8,7 @@ use Rattle.ass_num.specs.Floor.{floor_div, held}
 use Rattle.ass_num.specs.Numerals.{IsMilli, IsColour, IsAlpha}
 use Rattle.ass_num.specs.declared.geometry.Path.{Path}
 use Rattle.drawing_path.specs.Paths.{IsPathOf}
-use Rattle.blanks.specs.Blanks.{trimmed}
+use Rattle.ass_num.specs.Blanks.{trimmed}
 use Rattle.tag_arguments.specs.Cuts.{plain_argument, bracketed}
 use Rattle.tag_arguments.specs.Numbers.{ReadsOptional, ReadsUnsigned, ReadsFront, ReadsNumbers, ReadsBracketed, comma_pieces}
 use Rattle.tag_arguments.specs.declared.kinds.Num.TheVariants as num

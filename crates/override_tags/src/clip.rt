@@ -8,8 +8,8 @@ ghost use Rattle.override_tags.specs.Singles.{rectangle_of, scale_of, ReadsDrawn
 
 use crate::single::whole;
 use crate::tag::{ClipTag, Tag};
+use ass_num::text_blanks::trimmed;
 use ass_num::{Mem, Milli, hold};
-use blanks::text::trimmed;
 use drawing_path::read_path;
 use std::alloc::Global;
 use tag_arguments::{Numbers, bracketed, first_piece, number_list, read_front};

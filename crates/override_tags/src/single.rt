@@ -3,7 +3,8 @@
 ghost use Rattle.std.specs.Prelude.{◌≡◌, ◌∷◌, [], IfOk};
 ghost use Rattle.std.specs.Option.{option_map};
 ghost use Rattle.override_tags.specs.declared.tag.Tag.TheVariants.{Number, Colour, Alpha, Move, Fade};
-ghost use Rattle.override_tags.specs.Singles.{whole, exact, is_wrap_style, wrap_tag, key_tag, align_of, key_of_old, old_align_of, karaoke_of, pos_of, org_of, move_of, fade_of, numbered_of, ReadsNumbered, ReadsSingle};
+ghost use Rattle.override_tags.specs.Singles.{whole, exact, is_wrap_style, wrap_tag, key_tag, align_of, key_of_old, old_align_of, karaoke_of, pos_of, org_of};
+ghost use Rattle.override_tags.specs.Singles.{move_of, fade_of, numbered_of, ReadsNumbered, ReadsSingle};
 
 use crate::clip::clip_tag;
 use crate::tag::Tag;

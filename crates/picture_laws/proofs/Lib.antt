@@ -4,3 +4,7 @@ pub mod Runs
 pub mod Rows
 pub mod Moved
 pub mod Shown
+pub mod Views
+pub mod Moves
+pub mod Written
+pub mod Rewritten

@@ -10,7 +10,7 @@ use Rattle.event_draws.specs.MovedDraws.{AreMovedDraws}
 use Rattle.event_places.proofs.OneShift.{one_move}
 use Rattle.event_places.proofs.OneStand.{one_stand}
 use Rattle.mask_keys.specs.declared.plans.Draw.{Draw}
-use Rattle.mask_model.specs.Pictures.{picture}
+use Rattle.mask_keys.specs.Pictures.{picture}
 use Rattle.picture_laws.proofs.Moved.{one_moved}
 use Rattle.picture_laws.specs.OnePicture.{HaveOneListOfDraws, HaveOnePicture}
 use Rattle.picture_plan.specs.Pictures.{AreDrawsInOrder, AreEventDraws, AreShown}

@@ -10,7 +10,7 @@ use Rattle.ass_num.specs.declared.size.Size.{Size}
 use Rattle.ass_events.specs.declared.event.Event.{Event}
 use Rattle.ass_script.specs.Scripts.{ScriptValue}
 use Rattle.bdf_font.specs.Fonts.{FontValue}
-use Rattle.mask_keys.proofs.Equal.{both, items_same, seg_same}
+use Rattle.mask_keys.proofs.Equal.{items_same, seg_same}
 use Rattle.override_tags.specs.declared.view.EventView.{EventView}
 use Rattle.override_tags.specs.declared.view.Shown.{Shown}
 use Rattle.override_tags.specs.declared.view.ShownKind.{ShownKind}
@@ -23,6 +23,7 @@ use Rattle.tag_state.proofs.StateEquality.{state_same}
 use Rattle.text_layout.specs.Layouts.{IsLaid}
 use Rattle.text_layout.specs.declared.laid.Laid.{Laid}
 use Rattle.picture_plan.specs.Alike.{AreLaidAlike}
+use Rattle.std.proofs.lemmas.Bool.{and_parts}
 
 -- ---- what `==` says
 
@@ -38,7 +39,7 @@ kind_same a b e = grind arith
 
 item_same : (a b : Shown) → item.ghosts.eq a b ≡ true → a ≡ b
 item_same a b e =
-    let parts = both (kind.ghosts.eq a.kind b.kind) (nat_eq a.state b.state) e in
+    let parts = and_parts (kind.ghosts.eq a.kind b.kind) (nat_eq a.state b.state) e in
     grind (arith, kind_same a.kind b.kind parts.0, (unsigned_Decides a.state b.state).0 parts.1)
 
 pub all_items_same : (xs ys : List Shown) → pointwise item.ghosts.eq xs ys ≡ true → xs ≡ ys

@@ -4,7 +4,8 @@ use Rattle.ass_events.specs.NearEvents.{AreNear, IsNear, Shown, span_of}
 use Rattle.ass_events.specs.declared.event.Event.{Event}
 use Rattle.ass_script.specs.Scripts.{ScriptValue}
 use Rattle.bdf_font.specs.Fonts.{FontValue}
-use Rattle.event_places.proofs.RivalAgreement.{near_have_all, near_listed, relisted, rivals_are_near}
+use Rattle.event_places.proofs.RivalAgreement.{near_have_all, relisted, rivals_are_near}
+use Rattle.near_events.proofs.NearSpans.{near_there}
 use Rattle.picture_plan.proofs.Agreement.{Agree, draws_agree}
 use Rattle.picture_plan.specs.Pictures.{DrawsOfASet, DrawsOfNearEvents, HaveSameEvents, PicturesOfASet, PicturesOfNearEvents}
 
@@ -25,14 +26,14 @@ draws_of_a_set script fonts a b t size draws same d = draws_agree always (same_a
 to_near : (t : ℤ) (events near : List Event) → AreNear span_of events t near → Agree (IsNear span_of events t) t events near
 to_near t events near h = record {
   rivals = rivals_are_near t events near h;
-  shown = λ e s. (λ c. (h.members e).1 (Shown c s), λ c. near_listed events t e ((h.members e).0 c));
+  shown = λ e s. (λ c. (h.members e).1 (Shown c s), λ c. near_there span_of events t e ((h.members e).0 c));
   drawn = λ e s c. Shown c s;
 }
 
 from_near : (t : ℤ) (events near : List Event) → AreNear span_of events t near → Agree (IsNear span_of events t) t near events
 from_near t events near h = record {
   rivals = near_have_all t events near h;
-  shown = λ e s. (λ c. near_listed events t e ((h.members e).0 c), λ c. (h.members e).1 (Shown c s));
+  shown = λ e s. (λ c. near_there span_of events t e ((h.members e).0 c), λ c. (h.members e).1 (Shown c s));
   drawn = λ e s c. (h.members e).0 c;
 }
 

@@ -19,17 +19,14 @@ use Rattle.ass_num.proofs.OrderLemmas.{le_is, le_true, lt_is, lt_true}
 use Rattle.ass_events.specs.Histories.{HaveOwnOrders, Pairwise}
 use Rattle.ass_events.specs.NearEvents.{IsNear, IsShownAt, Shown, span_of}
 use Rattle.ass_events.specs.declared.event.Event.{Event}
-use Rattle.event_places.proofs.Pairs.{Pairwise-push}
+use Rattle.near_events.proofs.Pairs.{Pairwise-push}
 use Rattle.event_places.specs.declared.placed.PlacedEvent.{PlacedEvent}
 use Rattle.picture_plan.specs.Pictures.{AreShown, IsDrawnBefore}
 use Rattle.picture_plan.specs.ShownEvents.{ArePlaces, AreByLayer, AreShownPlaces, IsDrawnUnder, IsShownPlace, event_placed_at, event_shown, is_shown_at, no_event, no_placed, shown_if}
 use Rattle.picture_plan.specs.declared.shown.ShownEvent.{ShownEvent}
+use Rattle.near_events.proofs.Sorts.{first_less, pairwise_at}
 
 -- ---- pairs
-
-pairwise_at : {X : Type 0} (R : X → X → Type 0) (xs : List X) → ((i j : ℕ) (d : X) → i < j → j < length xs → R (get_or xs i d) (get_or xs j d)) → Pairwise R xs
-pairwise_at R [] h = tt
-pairwise_at R (x ∷ xs) h = (λ k d lt. h zero (suc k) d (omega arith) (omega arith), pairwise_at R xs (λ i j d order lt. h (suc i) (suc j) d (omega arith) (omega arith)))
 
 pub at_pairwise : {X : Type 0} (R : X → X → Type 0) (xs : List X) (i j : ℕ) (d : X) → Pairwise R xs → i < j → j < length xs → R (get_or xs i d) (get_or xs j d)
 at_pairwise R [] i j d h order within = absurd (omega arith)
@@ -107,9 +104,6 @@ key_cmp a b = ordering_then (int_cmp a.0 b.0) (nat_cmp a.1 b.1)
 key_total : IsTotalOrder key_cmp
 key_total = then_total (on_total (λ (k : Key). k.0) int_cmp_total) (on_total (λ (k : Key). k.1) nat_cmp_total)
 
-below_by_layer : (a b : Bool) (c : Ordering) → a ≡ true → is_lt (ordering_then (cond a Less (cond b Greater Equal)) c) ≡ true
-below_by_layer a b c e = ap (λ t. is_lt (ordering_then (cond t Less (cond b Greater Equal)) c)) e
-
 below_by_order : (a b c d : Bool) → a ≡ false → b ≡ false → c ≡ true → is_lt (ordering_then (cond a Less (cond b Greater Equal)) (cond c Less (cond d Equal Greater))) ≡ true
 below_by_order a b c d p q r =
     ap (λ t. is_lt (ordering_then (cond t Less (cond b Greater Equal)) (cond c Less (cond d Equal Greater)))) p
@@ -117,7 +111,7 @@ below_by_order a b c d p q r =
 
 below_is_lt : (a b : ShownEvent) → IsDrawnUnder a b → is_lt (key_cmp (key_of a) (key_of b)) ≡ true
 below_is_lt a b p =
-    ⊎_elim (λ x. below_by_layer (int_lt a.layer b.layer) (int_lt b.layer a.layer) (nat_cmp a.order b.order) (grind (arith, ints)))
+    ⊎_elim (λ x. first_less (int_lt a.layer b.layer) (int_lt b.layer a.layer) (nat_cmp a.order b.order) (grind (arith, ints)))
     (λ x. below_by_order (int_lt a.layer b.layer) (int_lt b.layer a.layer) (nat_lt a.order b.order) (a.order == b.order)
     (let e = x.0 in grind (arith, ints)) (let e = x.0 in grind (arith, ints)) (let l = x.1 in grind (arith, nat_tests))) p
 

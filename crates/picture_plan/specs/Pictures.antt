@@ -10,7 +10,7 @@ use Rattle.bdf_font.specs.Fonts.{FontValue}
 use Rattle.blend.specs.Canvases.{CanvasValue}
 use Rattle.event_places.specs.Shifts.{IsMovedBy}
 use Rattle.mask_keys.specs.declared.plans.Draw.{Draw}
-use Rattle.mask_model.specs.Pictures.{picture}
+use Rattle.mask_keys.specs.Pictures.{picture}
 use Rattle.event_draws.specs.MovedDraws.{AreMovedDraws}
 
 -- e is drawn before f: in a lower layer, or in the same one by ReadOrder.

@@ -1,62 +1,54 @@
 //! The draws of an event where it was placed.
 
 ghost use Rattle.std.specs.Prelude.{◌≤◌, List, length, IfSome, OnOk};
-ghost use Rattle.ass_num.specs.Limits.{IsFrameSize, IsWithin, max_instant, max_text_bytes};
-ghost use Rattle.ass_script.specs.Ranges.{IsScript};
+ghost use Rattle.ass_num.specs.Limits.{IsWithin, max_instant, max_text_bytes};
 ghost use Rattle.ass_events.specs.Ranges.{IsEvent};
 ghost use Rattle.override_tags.specs.Views.{IsView};
 ghost use Rattle.tag_state.specs.Views.{IsViewOf};
 ghost use Rattle.mask_keys.specs.Keys.{IsValidPlan};
-ghost use Rattle.mask_model.specs.Outlines.{glyph_counts};
-ghost use Rattle.text_layout.specs.Fonts.{IsLayoutFontSet};
+ghost use Rattle.mask_keys.specs.Outlines.{glyph_counts};
+ghost use Rattle.text_layout.specs.Settings.{IsSetting};
 ghost use Rattle.event_places.specs.Limits.{max_shift};
 ghost use Rattle.event_places.specs.PlacedEvents.{IsOwnLayout};
 ghost use Rattle.event_draws.specs.MovedDraws.{AddsMovedDraws};
 
 use crate::alike::are_laid_alike;
 use ass_events::Event;
-use ass_num::{Fix, Items, Mem, Size};
-use ass_script::Script;
-use bdf_font::FontSet;
+use ass_num::{Fix, Items, Mem};
 use event_draws::{add_laid_event, add_viewed_event};
 use event_places::{OwnLayout, PlacedEvent};
 use mask_keys::Draw;
 use override_tags::EventView;
 use std::alloc::Global;
 use tag_state::states_at;
+use text_layout::Setting;
 
 /// Adds the draws of an event that looks so at an instant, by its own layout if it is laid out alike.
 #[tactic(auto, using(crate::proofs::ShiftLemmas::down_within))]
 fn add_alike_event(
     alloc: Global,
-    script: &Script,
-    fonts: &FontSet,
+    setting: &Setting<'_>,
     event: &Event,
     view: &EventView,
     own: &OwnLayout,
     t: i64,
-    size: &Size,
     shift: Fix,
     draws: &mut Items<Draw>,
 ) -> Mem<()>
-    requires script { IsScript script.now }
-    requires fonts { IsLayoutFontSet fonts.now.fonts }
+    requires setting { IsSetting setting.now }
     requires event { IsEvent event.now }
     requires instant { IsWithin max_instant t }
-    requires size { IsFrameSize size.now }
     requires shift { IsWithin max_shift shift }
-    requires shows { IsViewOf script.now event.now t view.now }
+    requires shows { IsViewOf setting.now.script event.now t view.now }
     requires view { IsView view.now }
-    requires own { IsOwnLayout script.now fonts.now.fonts size.now event.now own.now }
-    ensures draws { OnOk result (AddsMovedDraws script.now fonts.now.fonts event.now t size.now shift draws.old draws.new) }
-    ensures valid { OnOk result (IsValidPlan (glyph_counts fonts.now.fonts) draws.old → IsValidPlan (glyph_counts fonts.now.fonts) draws.new) }
+    requires own { IsOwnLayout setting.now.script setting.now.fonts setting.now.size event.now own.now }
+    ensures draws { OnOk result (AddsMovedDraws setting.now.script setting.now.fonts event.now t setting.now.size shift draws.old draws.new) }
+    ensures valid { OnOk result (IsValidPlan (glyph_counts setting.now.fonts) draws.old → IsValidPlan (glyph_counts setting.now.fonts) draws.new) }
 {
     if are_laid_alike(&own.view, view) {
-        return add_laid_event(
-            alloc, script, fonts, event, view, &own.laid, t, size, shift, draws,
-        );
+        return add_laid_event(alloc, setting, event, view, &own.laid, t, shift, draws);
     }
-    add_viewed_event(alloc, script, fonts, event, view, t, size, shift, draws)
+    add_viewed_event(alloc, setting, event, view, t, shift, draws)
 }
 
 /// Adds the draws of an event at an instant in milliseconds, moved down to where it was placed. It is laid out as it looks then, by its
@@ -64,49 +56,24 @@ fn add_alike_event(
 #[tactic(auto, using(crate::proofs::ShiftLemmas::down_within))]
 pub(crate) fn add_placed_event(
     alloc: Global,
-    script: &Script,
-    fonts: &FontSet,
+    setting: &Setting<'_>,
     event: &Event,
     placed: &PlacedEvent,
     t: i64,
-    size: &Size,
     draws: &mut Items<Draw>,
 ) -> Mem<()>
-    requires script { IsScript script.now }
-    requires fonts { IsLayoutFontSet fonts.now.fonts }
+    requires setting { IsSetting setting.now }
     requires event { IsEvent event.now }
     requires few { length event.now.text ≤ max_text_bytes }
     requires instant { IsWithin max_instant t }
-    requires size { IsFrameSize size.now }
     requires shift { IsWithin max_shift placed.now.down }
-    requires own { IfSome placed.now.own (IsOwnLayout script.now fonts.now.fonts size.now event.now) }
-    ensures draws { OnOk result (AddsMovedDraws script.now fonts.now.fonts event.now t size.now placed.now.down draws.old draws.new) }
-    ensures valid { OnOk result (IsValidPlan (glyph_counts fonts.now.fonts) draws.old → IsValidPlan (glyph_counts fonts.now.fonts) draws.new) }
+    requires own { IfSome placed.now.own (IsOwnLayout setting.now.script setting.now.fonts setting.now.size event.now) }
+    ensures draws { OnOk result (AddsMovedDraws setting.now.script setting.now.fonts event.now t setting.now.size placed.now.down draws.old draws.new) }
+    ensures valid { OnOk result (IsValidPlan (glyph_counts setting.now.fonts) draws.old → IsValidPlan (glyph_counts setting.now.fonts) draws.new) }
 {
-    let view = states_at(alloc, script, event, t)?;
+    let view = states_at(alloc, setting.script, event, t)?;
     match &placed.own {
-        Some(own) => add_alike_event(
-            alloc,
-            script,
-            fonts,
-            event,
-            &view,
-            own,
-            t,
-            size,
-            placed.down,
-            draws,
-        ),
-        None => add_viewed_event(
-            alloc,
-            script,
-            fonts,
-            event,
-            &view,
-            t,
-            size,
-            placed.down,
-            draws,
-        ),
+        Some(own) => add_alike_event(alloc, setting, event, &view, own, t, placed.down, draws),
+        None => add_viewed_event(alloc, setting, event, &view, t, placed.down, draws),
     }
 }

@@ -3,10 +3,9 @@
 
 mod alike;
 mod event;
-mod laws;
+pub mod laws;
 mod pictures;
 mod shown;
 
-pub use laws::{near_events_draw, order_of_arrival};
 pub use mask_keys::{Clip, Draw, Plan};
-pub use pictures::plan;
+pub use pictures::{plan, plan_of_spans};

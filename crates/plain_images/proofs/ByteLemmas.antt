@@ -1,5 +1,5 @@
 -- Bytes that are added row by row, and masks that are made of them.
-use Rattle.std.proofs.Common.{◌≡◌, ℕ, ◌+◌, ◌-◌, ◌*◌, ◌<◌, ◌≤◌, ℤ, pos, ◌-ℤ◌, true, false, ◌==◌, List, [], ◌∷◌, ◌++◌, length, get_or, slice_index, refl, sym, ◌∙◌, ⊎_elim, arith, length-append}
+use Rattle.std.proofs.Common.{◌≡◌, ℕ, ◌+◌, ◌-◌, ◌*◌, ◌<◌, ◌≤◌, ℤ, pos, true, false, ◌==◌, List, [], ◌∷◌, ◌++◌, length, get_or, slice_index, refl, sym, ◌∙◌, ⊎_elim, arith, length-append}
 use Rattle.std.proofs.lemmas.Bool.{cases_lt}
 use Rattle.std.proofs.lemmas.Bool.Decides.{nat_tests}
 use Rattle.std.proofs.lemmas.Int.{ints}
@@ -8,20 +8,12 @@ use Rattle.std.proofs.Math.Seq.{get_or-append_seam}
 use Rattle.ass_num.specs.Masks.{MaskValue, is_mask, value_at}
 use Rattle.ass_num.proofs.MaskLemmas.{cell_below, value_inside}
 use Rattle.blend.specs.Blending.{StencilValue}
-use Rattle.blend.proofs.AreaLemmas.{IsPlace, place}
 use Rattle.plain_images.specs.Cutting.{AddsBytes, AreRowsOf, IsCutOf, IsCuttable, IsRowCovered, stencilled_at}
 use Rattle.plain_images.specs.Panes.{box_pane}
 use Rattle.plain_images.specs.declared.panes.Pane.{Pane}
 use Rattle.plain_images.proofs.PaneLemmas.{bounds, has}
 
 -- ---- rows of a mask
-
--- where a covered row begins in the bytes of its mask
-pub row_place : (m : MaskValue) (x y : ℤ) (from w j p q : ℕ) → is_mask m ≡ true → IsRowCovered (m, x, y) from w j
-    → pos from -ℤ x -ℤ m.x ≡ pos p → pos j -ℤ y -ℤ m.y ≡ pos q → IsPlace m w p q
-row_place m x y from w j p q canonical is column row =
-    let count : from + w - from ≡ w = omega arith in
-    rw count at (place m x y from (from + w) j p q canonical (omega (arith, is.some)) is.first is.last column row)
 
 -- the rows of a pane are covered where the pane can be cut
 pub row_covered : (moved : MaskValue × ℤ × ℤ) (pane : Pane) (x y w h j : ℕ) → IsCuttable moved pane → 0 < w

@@ -10,14 +10,14 @@ use Rattle.ass_num.specs.declared.size.Size.{Size}
 use Rattle.ass_num.proofs.MaskLemmas.{value_beside, value_over}
 use Rattle.blend.specs.Blending.{Tint, Image, stencilled, tint_of, tint_at, by_number}
 use Rattle.blend.specs.Canvases.{CanvasValue, drawn}
-use Rattle.blend.proofs.AreaLemmas.{moved_value-outside}
+use Rattle.blend.proofs.AreaLemmas.{moved_value-outside, outside}
 use Rattle.blend.proofs.TintedLemmas.{length-tinted, tint_of-none}
 use Rattle.plain_images.specs.Panes.{in_pane, is_empty_pane, frame_pane, box_pane, pane_before, pane_from}
 use Rattle.plain_images.specs.PlainImages.{ArePanesOf, ArePlainOf, IsPaneOf, PlainImagesMakeThePicture, coloured_panes, image_of_plain, image_pane, in_colour, shown_at, stencil_panes, with_plain_images}
 use Rattle.plain_images.specs.PlainImages as plain
 use Rattle.plain_images.specs.declared.panes.Pane.{Pane}
 use Rattle.plain_images.specs.declared.plain.PlainImage.{PlainImage}
-use Rattle.plain_images.proofs.PaneLemmas.{Cover, Miss, empty_lacks, has, in_both, out_of, stencil_cover, stencil_miss}
+use Rattle.plain_images.proofs.PaneLemmas.{Cover, Miss, empty_lacks, has, in_both, stencil_cover, stencil_miss}
 use Rattle.plain_images.proofs.TintLemmas.{AreClear, AreJoined, tinted_all, tinted_all-joined}
 
 -- ---- coloured panes at a pixel
@@ -132,7 +132,7 @@ tint_is p i j =
 
 value_out : (image : Image) (pane : Pane) (colour : Rgba) (p : PlainImage) (i j : ℕ) → IsPaneOf image pane colour p → in_pane pane (pos i) (pos j) ≡ false
     → value_at p.mask (pos i) (pos j) ≡ 0
-value_out image pane colour p i j is out = elim (out_of pane (pos i) (pos j) out) [
+value_out image pane colour p i j is out = elim (outside pane.x1 pane.y1 pane.x2 pane.y2 (pos i) (pos j) out) [
   | inl (inl h) ↦ value_beside p.mask (pos i) (pos j) (inl (rw is.left h))
   | inl (inr h) ↦ value_beside p.mask (pos i) (pos j) (inr (rw is.right h))
   | inr (inl h) ↦ value_over p.mask (pos i) (pos j) (inl (rw is.top h))

@@ -1,11 +1,11 @@
 -- Which of the panes of an image has a pixel: one of them, or none where nothing of the image shows there.
-use Rattle.std.proofs.Common.{◌≡◌, ℕ, ◌⊎◌, ℤ, pos, ◌≤ℤ◌, ◌<ℤ◌, int_le, int_lt, Bool, true, false, ◌&&◌, if◌then◌else◌, List, [], ◌∷◌, refl, sym, ◌∙◌, inl, inr, arith}
+use Rattle.std.proofs.Common.{◌≡◌, ℕ, ◌⊎◌, ℤ, pos, ◌≤ℤ◌, ◌<ℤ◌, int_le, int_lt, Bool, true, false, ◌&&◌, List, [], ◌∷◌, refl, sym, ◌∙◌, inl, inr, arith}
 use Rattle.std.proofs.lemmas.Int.{ints}
-use Rattle.std.proofs.lemmas.Bool.{true≢false}
 use Rattle.std.specs.Int.{int_min, int_max}
+use Rattle.ass_num.proofs.OrderLemmas.{le_is, le_not, lt_is, lt_not}
 use Rattle.blend.specs.Blending.{StencilValue, Free, Rect, Drawn, in_rect, stencilled}
-use Rattle.blend.proofs.AreaLemmas.{IsBetween, between-rect, moved_value-outside}
-use Rattle.blend.proofs.TintedLemmas.{by_255-none}
+use Rattle.blend.proofs.AreaLemmas.{IsBetween, and-pairs, between-rect, moved_value-outside, outside}
+use Rattle.blend.proofs.DrawLemmas.{stencilled-none}
 use Rattle.plain_images.specs.Panes.{HasSides, IsPartOf, in_pane, is_empty_pane, box_pane, both_panes, panes_around, panes_beside}
 use Rattle.plain_images.specs.PlainImages.{stencil_panes}
 use Rattle.plain_images.specs.declared.panes.Pane.{Pane}
@@ -28,41 +28,12 @@ has p i j a b c d = grind (arith, ints)
 pub lacks : (p : Pane) (i j : ℤ) → ((i <ℤ p.x1) ⊎ (p.x2 ≤ℤ i)) ⊎ ((j <ℤ p.y1) ⊎ (p.y2 ≤ℤ j)) → in_pane p i j ≡ false
 lacks p i j out = grind (arith, ints)
 
-le_z-false : (a b : ℤ) → int_le a b ≡ false → b <ℤ a
-le_z-false a b e = grind (arith, ints)
-
-le_z-true : (a b : ℤ) → int_le a b ≡ true → a ≤ℤ b
-le_z-true a b e = grind (arith, ints)
-
-lt_z-true : (a b : ℤ) → int_lt a b ≡ true → a <ℤ b
-lt_z-true a b e = grind (arith, ints)
-
-lt_z-false : (a b : ℤ) → int_lt a b ≡ false → b ≤ℤ a
-lt_z-false a b e = grind (arith, ints)
-
-pub out_of : (p : Pane) (i j : ℤ) → in_pane p i j ≡ false → ((i <ℤ p.x1) ⊎ (p.x2 ≤ℤ i)) ⊎ ((j <ℤ p.y1) ⊎ (p.y2 ≤ℤ j))
-out_of p i j out = go (int_le p.x1 i) (int_lt i p.x2) (int_le p.y1 j) (int_lt j p.y2) refl refl refl refl out
-  where
-    go : (l r t b : Bool) → int_le p.x1 i ≡ l → int_lt i p.x2 ≡ r → int_le p.y1 j ≡ t → int_lt j p.y2 ≡ b → ((l && r) && (t && b)) ≡ false
-        → ((i <ℤ p.x1) ⊎ (p.x2 ≤ℤ i)) ⊎ ((j <ℤ p.y1) ⊎ (p.y2 ≤ℤ j))
-    go false r t b el er et eb f = inl (inl (le_z-false p.x1 i el))
-    go true false t b el er et eb f = inl (inr (lt_z-false i p.x2 er))
-    go true true false b el er et eb f = inr (inl (le_z-false p.y1 j et))
-    go true true true false el er et eb f = inr (inr (lt_z-false j p.y2 eb))
-    go true true true true el er et eb f = absurd (true≢false f)
-
 -- what the test says
 pub bounds : (p : Pane) (i j : ℤ) → in_pane p i j ≡ true → IsBetween p.x1 p.y1 p.x2 p.y2 i j
 bounds p i j e = between-rect p.x1 p.y1 p.x2 p.y2 i j e
 
-pairs : (a b c d : Bool) → ((a && b) && (c && d)) ≡ ((a && c) && (b && d))
-pairs true true c d = refl
-pairs true false true d = refl
-pairs true false false d = refl
-pairs false b c d = refl
-
 four_pairs : (a b c d e f g h : Bool) → (((a && b) && (c && d)) && ((e && f) && (g && h))) ≡ (((a && c) && (e && g)) && ((b && d) && (f && h)))
-four_pairs a b c d e f g h = rw (pairs a b c d, pairs e f g h) (pairs (a && c) (b && d) (e && g) (f && h))
+four_pairs a b c d e f g h = rw (and-pairs a b c d, and-pairs e f g h) (and-pairs (a && c) (b && d) (e && g) (f && h))
 
 past_both : (a b i : ℤ) → int_le (int_max a b) i ≡ (int_le a i && int_le b i)
 past_both a b i = grind (arith, ints)
@@ -113,7 +84,7 @@ four_around pane hole i j m part sided inside none =
     go : (u d l r : Bool) → int_lt (pos j) hole.y1 ≡ u → int_le hole.y2 (pos j) ≡ d → int_lt (pos i) hole.x1 ≡ l → int_le hole.x2 (pos i) ≡ r
         → IsBetween pane.x1 pane.y1 pane.x2 pane.y2 (pos i) (pos j) → Cover (panes_beside pane hole) i j m
     go true d l r eu ed el er b =
-        let up : pos j <ℤ hole.y1 = lt_z-true (pos j) hole.y1 eu in
+        let up : pos j <ℤ hole.y1 = lt_is (pos j) hole.y1 eu in
         let low : pos j <ℤ hole.y2 = omega (arith, ints, up, sided.high) in
         inr (
           has (above pane hole) (pos i) (pos j) b.left b.right b.top up,
@@ -126,8 +97,8 @@ four_around pane hole i j m part sided inside none =
           ),
         )
     go false true l r eu ed el er b =
-        let from : hole.y1 ≤ℤ pos j = lt_z-false (pos j) hole.y1 eu in
-        let down : hole.y2 ≤ℤ pos j = le_z-true hole.y2 (pos j) ed in
+        let from : hole.y1 ≤ℤ pos j = lt_not (pos j) hole.y1 eu in
+        let down : hole.y2 ≤ℤ pos j = le_is hole.y2 (pos j) ed in
         inl (
           lacks (above pane hole) (pos i) (pos j) (inr (inr from)),
           inr (
@@ -139,9 +110,9 @@ four_around pane hole i j m part sided inside none =
           ),
         )
     go false false true r eu ed el er b =
-        let from : hole.y1 ≤ℤ pos j = lt_z-false (pos j) hole.y1 eu in
-        let to : pos j <ℤ hole.y2 = le_z-false hole.y2 (pos j) ed in
-        let before : pos i <ℤ hole.x1 = lt_z-true (pos i) hole.x1 el in
+        let from : hole.y1 ≤ℤ pos j = lt_not (pos j) hole.y1 eu in
+        let to : pos j <ℤ hole.y2 = le_not hole.y2 (pos j) ed in
+        let before : pos i <ℤ hole.x1 = lt_is (pos i) hole.x1 el in
         let short : pos i <ℤ hole.x2 = omega (arith, ints, before, sided.wide) in
         inl (
           lacks (above pane hole) (pos i) (pos j) (inr (inr from)),
@@ -154,10 +125,10 @@ four_around pane hole i j m part sided inside none =
           ),
         )
     go false false false true eu ed el er b =
-        let from : hole.y1 ≤ℤ pos j = lt_z-false (pos j) hole.y1 eu in
-        let to : pos j <ℤ hole.y2 = le_z-false hole.y2 (pos j) ed in
-        let past : hole.x1 ≤ℤ pos i = lt_z-false (pos i) hole.x1 el in
-        let behind : hole.x2 ≤ℤ pos i = le_z-true hole.x2 (pos i) er in
+        let from : hole.y1 ≤ℤ pos j = lt_not (pos j) hole.y1 eu in
+        let to : pos j <ℤ hole.y2 = le_not hole.y2 (pos j) ed in
+        let past : hole.x1 ≤ℤ pos i = lt_not (pos i) hole.x1 el in
+        let behind : hole.x2 ≤ℤ pos i = le_is hole.x2 (pos i) er in
         inl (
           lacks (above pane hole) (pos i) (pos j) (inr (inr from)),
           inl (
@@ -169,10 +140,10 @@ four_around pane hole i j m part sided inside none =
           ),
         )
     go false false false false eu ed el er b =
-        let from : hole.y1 ≤ℤ pos j = lt_z-false (pos j) hole.y1 eu in
-        let to : pos j <ℤ hole.y2 = le_z-false hole.y2 (pos j) ed in
-        let past : hole.x1 ≤ℤ pos i = lt_z-false (pos i) hole.x1 el in
-        let short : pos i <ℤ hole.x2 = le_z-false hole.x2 (pos i) er in
+        let from : hole.y1 ≤ℤ pos j = lt_not (pos j) hole.y1 eu in
+        let to : pos j <ℤ hole.y2 = le_not hole.y2 (pos j) ed in
+        let past : hole.x1 ≤ℤ pos i = lt_not (pos i) hole.x1 el in
+        let short : pos i <ℤ hole.x2 = le_not hole.x2 (pos i) er in
         inl (
           lacks (above pane hole) (pos i) (pos j) (inr (inr from)),
           inl (
@@ -195,7 +166,7 @@ AreParts [] outer = Unit {0}
 AreParts (p ∷ ps) outer = IsPartOf p outer × AreParts ps outer
 
 part_lacks : (part pane : Pane) (i j : ℤ) → IsPartOf part pane → in_pane pane i j ≡ false → in_pane part i j ≡ false
-part_lacks part pane i j is out = elim (out_of pane i j out) [
+part_lacks part pane i j is out = elim (outside pane.x1 pane.y1 pane.x2 pane.y2 i j out) [
   | inl (inl h) ↦ lacks part i j (inl (inl (omega (arith, ints, h, is.left))))
   | inl (inr h) ↦ lacks part i j (inl (inr (omega (arith, ints, h, is.right))))
   | inr (inl h) ↦ lacks part i j (inr (inl (omega (arith, ints, h, is.top))))
@@ -272,18 +243,6 @@ around pane rect i j m outside inside = go (is_empty_pane (both_panes pane rect)
         (miss_parts (panes_beside pane hole) pane i j (four_parts pane hole pane (both_part pane rect) (sides hole is) (whole_part pane)) at) (outside at))
 
 -- ---- stencils
-
--- no stencil makes coverage where there is none
-pub stencilled-none : (stencil : StencilValue) (i j m : ℕ) → m ≡ 0 → stencilled stencil i j m ≡ 0
-stencilled-none Free i j m e = e
-stencilled-none (Rect x1 y1 x2 y2 inverse) i j m e = either (in_rect x1 y1 x2 y2 (pos i) (pos j)) inverse
-  where
-    either : (r b : Bool) → (let left : ℕ = if r then (if b then 0 else m) else (if b then m else 0) in left) ≡ 0
-    either true true = refl
-    either true false = e
-    either false true = e
-    either false false = refl
-stencilled-none (Drawn c x y inverse) i j m e = by_255-none m _ e
 
 -- The panes of a stencil in a pane cover what the stencil leaves of a mask that has nothing outside the pane.
 pub stencil_cover : (stencil : StencilValue) (pane : Pane) (i j m : ℕ) → (in_pane pane (pos i) (pos j) ≡ false → m ≡ 0)

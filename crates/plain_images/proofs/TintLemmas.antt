@@ -2,7 +2,7 @@
 use Rattle.std.proofs.Common.{◌≡◌, ℕ, ◌+◌, ◌-◌, ◌*◌, ◌<◌, ◌≤◌, ◌⊎◌, List, [], ◌∷◌, length, refl, sym, ap, ◌∙◌, inl, inr, arith}
 use Rattle.ass_num.specs.declared.colour.Rgba.{Rgba}
 use Rattle.blend.specs.Blending.{Tint, blended, tinted}
-use Rattle.blend.proofs.TintedLemmas.{IsSame, blended-none, cons-same}
+use Rattle.blend.proofs.TintedLemmas.{IsSame, blended-clear, blended-same, cons-same}
 
 -- None of these tints has a weight.
 abbrev pub AreClear : {P : Type 0} → (P → Tint) → List P → Type 0
@@ -24,23 +24,16 @@ abbrev blended_all : {P : Type 0} → (P → Tint) → (Rgba → ℕ) → List P
 blended_all tint channel [] d = d
 blended_all tint channel (p ∷ ps) d = blended_all tint channel ps (blended d (channel (tint p).colour) (tint p).weight)
 
-clear : (t : Tint) (channel : Rgba → ℕ) (d : ℕ) → t.weight ≡ 0 → blended d (channel t.colour) t.weight ≡ d
-clear t channel d e = ap (λ k. blended d (channel t.colour) k) e ∙ blended-none d (channel t.colour)
-
-same : (t u : Tint) (channel : Rgba → ℕ) (d : ℕ) → IsSame t u → blended d (channel t.colour) t.weight ≡ blended d (channel u.colour) u.weight
-same t u channel d (inl e) = ap (λ (v : Tint). blended d (channel v.colour) v.weight) e
-same t u channel d (inr e) = clear t channel d e.0 ∙ sym (clear u channel d e.1)
-
 all_clear : {P : Type 0} → (tint : P → Tint) (channel : Rgba → ℕ) (ps : List P) (d : ℕ) → AreClear tint ps → blended_all tint channel ps d ≡ d
 all_clear tint channel [] d h = refl
-all_clear tint channel (p ∷ ps) d h = ap (blended_all tint channel ps) (clear (tint p) channel d h.0) ∙ all_clear tint channel ps d h.1
+all_clear tint channel (p ∷ ps) d h = ap (blended_all tint channel ps) (blended-clear (tint p) channel d h.0) ∙ all_clear tint channel ps d h.1
 
 all_joined : {P : Type 0} → (tint : P → Tint) (channel : Rgba → ℕ) (ps : List P) (v : Tint) (d : ℕ) → AreJoined tint ps v
     → blended_all tint channel ps d ≡ blended d (channel v.colour) v.weight
-all_joined tint channel [] v d h = sym (clear v channel d h)
-all_joined tint channel (p ∷ ps) v d (inl h) = ap (blended_all tint channel ps) (clear (tint p) channel d h.0) ∙ all_joined tint channel ps v d h.1
+all_joined tint channel [] v d h = sym (blended-clear v channel d h)
+all_joined tint channel (p ∷ ps) v d (inl h) = ap (blended_all tint channel ps) (blended-clear (tint p) channel d h.0) ∙ all_joined tint channel ps v d h.1
 all_joined tint channel (p ∷ ps) v d (inr h) =
-    all_clear tint channel ps (blended d (channel (tint p).colour) (tint p).weight) h.1 ∙ same (tint p) v channel d h.0
+    all_clear tint channel ps (blended d (channel (tint p).colour) (tint p).weight) h.1 ∙ blended-same (tint p) v channel d h.0
 
 -- pixel by pixel
 none_of : {P : Type 0} → (tint : P → ℕ → Tint) (ps : List P) (n : ℕ) → tinted_all tint ps n [] ≡ []

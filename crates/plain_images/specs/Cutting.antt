@@ -6,12 +6,7 @@ use Rattle.ass_num.specs.Masks.{MaskValue, is_mask, value_at}
 use Rattle.blend.specs.Blending.{StencilValue, Free, Drawn, stencilled}
 use Rattle.plain_images.specs.Panes.{IsPartOf, box_pane, in_pane}
 use Rattle.plain_images.specs.declared.cutting.DrawnClip.{DrawnClip}
-use Rattle.plain_images.specs.declared.cutting.Moved.{Moved}
 use Rattle.plain_images.specs.declared.panes.Pane.{Pane}
-
--- a moved mask with the mask in the place of the reference to it
-abbrev pub moved_of : Moved → MaskValue × ℤ × ℤ
-moved_of moved = (moved.mask.now, moved.x, moved.y)
 
 -- a drawn clip as a stencil; without one nothing is hidden
 abbrev pub clip_stencil : Option DrawnClip → StencilValue

@@ -1,67 +1,32 @@
 //! Cutting panes out of masks.
 
-ghost use Rattle.std.specs.Prelude.{◌≡◌, ◌≤ℤ◌, ◌+ℤ◌, ◌-ℤ◌, ◌≤◌, ◌<◌, ◌+◌, ◌-◌, ◌*◌, ℕ, pos, length, take, drop, slice_index, if◌then◌else◌, IfOk, OnOk};
+ghost use Rattle.std.specs.Prelude.{◌≡◌, ◌≤◌, ◌<◌, ◌+◌, ◌-◌, ◌*◌, ℕ, pos, length, slice_index, if◌then◌else◌, IfOk, OnOk};
 ghost use Rattle.ass_num.specs.Coverage.{moved_value};
 ghost use Rattle.ass_num.specs.Limits.{max_frame_side};
+ghost use Rattle.blend.specs.Areas.{placed_of};
 ghost use Rattle.blend.specs.Blending.{by_255, Drawn, stencilled};
-ghost use Rattle.plain_images.specs.Cutting.{AddsBytes, AreRowsOf, IsCutOf, IsCuttable, IsRowCovered, clip_stencil, stencilled_at, moved_of};
+ghost use Rattle.plain_images.specs.Cutting.{AddsBytes, AreRowsOf, IsCutOf, IsCuttable, IsRowCovered, clip_stencil, stencilled_at};
 ghost use Rattle.plain_images.specs.Panes.{HasSides};
 
 use crate::panes::{Pane, box_pane};
 use ass_num::{Mask, Mem};
+use blend::{Placed, cover};
 use std::alloc::Global;
-
-/// A mask that is moved right by `x` and down by `y`.
-#[derive(Clone, Copy)]
-pub struct Moved<'a> {
-    pub mask: &'a Mask,
-    pub x: i32,
-    pub y: i32,
-}
 
 /// A drawn clip: what its mask covers shows, or at `inverse` what the mask leaves.
 #[derive(Clone, Copy)]
 pub struct DrawnClip<'a> {
-    pub over: Moved<'a>,
+    pub over: Placed<'a>,
     pub inverse: bool,
 }
 
-/// How many columns or rows pixel `i` lies past the side `at` of a box that is moved by `by`.
-fn offset(i: u32, by: i32, at: i32) -> usize
-    requires { (at +ℤ by) ≤ℤ pos i }
-    ensures { pos i -ℤ by -ℤ at ≡ pos result }
+/// What a placed mask has of a pixel.
+fn value(placed: Placed<'_>, i: u32, j: u32) -> u8
+    requires { i < max_frame_side }
+    ensures { result ≡ moved_value (placed_of placed.entry) (pos i) (pos j) }
 {
-    (i64::from(i) - i64::from(by) - i64::from(at)) as usize
-}
-
-/// So many bytes of a row from a column on, where rows have `w` bytes.
-fn piece(bytes: &[u8], w: usize, row: usize, column: usize, count: usize) -> &[u8]
-    requires { row * w + column + count ≤ length bytes.now }
-    ensures bytes { result.now ≡ take count (drop (row * w + column) bytes.now) }
-    ensures count { length result.now ≡ count }
-{
-    let from = row * w + column;
-    &bytes[from..from + count]
-}
-
-/// What a mask has of `w` pixels in its box, from column `x` of row `j` on.
-fn row_of(moved: Moved<'_>, x: u32, w: u32, j: u32) -> &[u8]
-    requires { IsRowCovered (moved_of moved) x w j }
-    ensures count { length result.now ≡ w }
-    ensures values { (k : ℕ) → k < w → slice_index result.now k ≡ moved_value (moved_of moved.entry) (pos (x + k)) (pos j) }
-{
-    let mask = moved.mask;
-    let row = offset(j, moved.y, mask.y());
-    let column = offset(x, moved.x, mask.x());
-    piece(mask.bytes(), mask.w() as usize, row, column, w as usize)
-}
-
-/// What a mask has of a pixel.
-fn value(moved: Moved<'_>, i: u32, j: u32) -> u8
-    ensures { result ≡ moved_value (moved_of moved.entry) (pos i) (pos j) }
-{
-    if box_pane(moved.mask, moved.x, moved.y).has(i, j) {
-        row_of(moved, i, 1, j)[0]
+    if box_pane(placed).has(i, j) {
+        cover(placed, i, i + 1, j)[0]
     } else {
         0
     }
@@ -78,7 +43,8 @@ fn clipped(cover: u8, over: u8, inverse: bool) -> u8
 /// Adds what a drawn clip leaves of the bytes of a row from column `x` on.
 fn add_under(bytes: &mut Vec<u8>, row: &[u8], x: u32, j: u32, clip: DrawnClip<'_>) -> Mem<()>
     requires { x + length row.now ≤ max_frame_side }
-    ensures { OnOk result (AddsBytes (λ k. stencilled (Drawn clip.entry.over.mask.now clip.entry.over.x clip.entry.over.y clip.entry.inverse) (x + k) j (slice_index row.now k))
+    ensures { OnOk result (AddsBytes (λ k. stencilled (Drawn clip.entry.over.mask.now clip.entry.over.x clip.entry.over.y clip.entry.inverse) (x + k) j
+        (slice_index row.now k))
         (length row.now) bytes.old.items bytes.new.items) }
 {
     for (k, byte) in row.iter().enumerate() {
@@ -91,17 +57,17 @@ fn add_under(bytes: &mut Vec<u8>, row: &[u8], x: u32, j: u32, clip: DrawnClip<'_
 /// Adds what a drawn clip leaves of `w` pixels of a mask's box, from column `x` of row `j` on.
 fn add_row(
     bytes: &mut Vec<u8>,
-    moved: Moved<'_>,
+    placed: Placed<'_>,
     x: u32,
     w: u32,
     j: u32,
     clip: Option<DrawnClip<'_>>,
 ) -> Mem<()>
-    requires covered { IsRowCovered (moved_of moved) x w j }
+    requires covered { IsRowCovered (placed_of placed) x w j }
     requires frame { x + w ≤ max_frame_side }
-    ensures { OnOk result (AddsBytes (λ k. stencilled_at (moved_of moved.entry) (clip_stencil clip.entry) (x + k) j) w bytes.old.items bytes.new.items) }
+    ensures { OnOk result (AddsBytes (λ k. stencilled_at (placed_of placed.entry) (clip_stencil clip.entry) (x + k) j) w bytes.old.items bytes.new.items) }
 {
-    let row = row_of(moved, x, w, j);
+    let row = cover(placed, x, x + w, j);
     match clip {
         Some(clip) => add_under(bytes, row, x, j, clip),
         None => Ok(bytes.extend_from_slice(row)?),
@@ -111,21 +77,21 @@ fn add_row(
 /// What a drawn clip leaves of `h` rows of `w` pixels in a mask's box and in a frame, from pixel (x, y) on.
 fn rows_of(
     alloc: Global,
-    moved: Moved<'_>,
+    placed: Placed<'_>,
     x: u32,
     y: u32,
     w: u32,
     h: u32,
     clip: Option<DrawnClip<'_>>,
 ) -> Mem<Vec<u8>>
-    requires covered { (j : ℕ) → y ≤ j → j < y + h → IsRowCovered (moved_of moved) x w j }
+    requires covered { (j : ℕ) → y ≤ j → j < y + h → IsRowCovered (placed_of placed) x w j }
     requires columns { x + w ≤ max_frame_side }
     requires rows { y + h ≤ max_frame_side }
-    ensures { IfOk result (λ bytes. AreRowsOf (λ k l. stencilled_at (moved_of moved.entry) (clip_stencil clip.entry) (x + k) (y + l)) w h bytes.items) }
+    ensures { IfOk result (λ bytes. AreRowsOf (λ k l. stencilled_at (placed_of placed.entry) (clip_stencil clip.entry) (x + k) (y + l)) w h bytes.items) }
 {
     let mut bytes = Vec::with_capacity(alloc, w as usize * h as usize)?;
     for l in 0..h {
-        add_row(&mut bytes, moved, x, w, y + l, clip)?;
+        add_row(&mut bytes, placed, x, w, y + l, clip)?;
     }
     Ok(bytes)
 }
@@ -133,18 +99,18 @@ fn rows_of(
 /// What a drawn clip leaves of a pane in a mask's box and in a frame.
 pub fn cut_mask(
     alloc: Global,
-    moved: Moved<'_>,
+    placed: Placed<'_>,
     pane: Pane,
     clip: Option<DrawnClip<'_>>,
 ) -> Mem<Mask>
-    requires cuttable { IsCuttable (moved_of moved) pane }
+    requires cuttable { IsCuttable (placed_of placed) pane }
     requires some { HasSides pane }
-    ensures { IfOk result (IsCutOf (moved_of moved.entry) (clip_stencil clip.entry) pane) }
+    ensures { IfOk result (IsCutOf (placed_of placed.entry) (clip_stencil clip.entry) pane) }
 {
     let x = pane.x1 as u32;
     let y = pane.y1 as u32;
     let w = (pane.x2 - pane.x1) as u32;
     let h = (pane.y2 - pane.y1) as u32;
-    let bytes = rows_of(alloc, moved, x, y, w, h, clip)?;
+    let bytes = rows_of(alloc, placed, x, y, w, h, clip)?;
     Ok(Mask::new(x as i32, y as i32, w, h, bytes))
 }

@@ -2,11 +2,10 @@
 #![tactic(auto)]
 
 mod cutting;
-mod laws;
+pub mod laws;
 mod listing;
 mod panes;
 mod plain;
 
-pub use laws::plain_images_make_the_picture;
 pub use listing::plain_images_of;
 pub use plain::PlainImage;

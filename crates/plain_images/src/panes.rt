@@ -4,7 +4,8 @@ ghost use Rattle.std.specs.Prelude.{◌≡◌, pos};
 ghost use Rattle.ass_num.specs.Limits.{IsFrameSize};
 ghost use Rattle.plain_images.specs.Panes as rule;
 
-use ass_num::{Mask, Size};
+use ass_num::Size;
+use blend::Placed;
 
 /// The pixels in the columns from `x1` and the rows from `y1` on, without those of the bounds `x2` and `y2`.
 #[derive(Clone, Copy)]
@@ -27,17 +28,17 @@ pub fn frame_pane(size: &Size) -> Pane
     }
 }
 
-/// The box of a mask that is moved right by `x` and down by `y`.
-pub fn box_pane(mask: &Mask, x: i32, y: i32) -> Pane
-    ensures { result ≡ rule.box_pane mask.now x y }
+/// The box of a placed mask.
+pub fn box_pane(placed: Placed<'_>) -> Pane
+    ensures { result ≡ rule.box_pane placed.entry.mask.now placed.entry.x placed.entry.y }
 {
-    let x1 = i64::from(mask.x()) + i64::from(x);
-    let y1 = i64::from(mask.y()) + i64::from(y);
+    let x1 = i64::from(placed.mask.x()) + i64::from(placed.x);
+    let y1 = i64::from(placed.mask.y()) + i64::from(placed.y);
     Pane {
         x1,
         y1,
-        x2: x1 + i64::from(mask.w()),
-        y2: y1 + i64::from(mask.h()),
+        x2: x1 + i64::from(placed.mask.w()),
+        y2: y1 + i64::from(placed.mask.h()),
     }
 }
 

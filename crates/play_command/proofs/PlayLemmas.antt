@@ -2,19 +2,19 @@
 use Rattle.std.proofs.Common.{◌≡◌, inl, inr, ℕ, Bool, true, false, cond, List, [], ◌∷◌, Option, Some, None, Ok, Err, refl, sym, subst, arith}
 use Rattle.std.specs.Prelude.{IfSome}
 use Rattle.ass_io.specs.Fetched.{Told}
-use Rattle.frame_play.proofs.RunLemmas.{IsRefusal, keeps, read_kind}
-use Rattle.frame_play.specs.Outcomes.{IsReportable, IsStatusReadCounted, IsWriteCounted, status_if_put}
-use Rattle.frame_play.specs.Runs.{sink_change}
-use Rattle.frame_play.specs.declared.outcome.Outcome.{Outcome}
-use Rattle.frame_play.specs.declared.outcome.Outcome.TheVariants.{Ended, Found}
-use Rattle.input_files.specs.Files.{IsAnswerReadCounted}
-use Rattle.input_files.specs.declared.inputs.Inputs.{Inputs}
+use Rattle.single_run.proofs.Runs.{IsRefusal, keeps, read_kind}
+use Rattle.single_run.specs.Outcomes.{IsReportable, IsStatusReadCounted, IsWriteCounted, status_if_put}
+use Rattle.single_run.specs.Runs.{sink_change}
+use Rattle.single_run.specs.declared.outcome.Outcome.{Outcome}
+use Rattle.single_run.specs.declared.outcome.Outcome.TheVariants.{Ended, Found}
+use Rattle.run_status.specs.Files.{IsAnswerReadCounted}
+use Rattle.run_status.specs.declared.inputs.Inputs.{Inputs}
 use Rattle.play_model.specs.Plays.{IsPlayable, PlayView}
 use Rattle.play_rounds.specs.Outputs.{IsPlayed}
 use Rattle.play_rounds.specs.declared.ends.PlayEnd.{PlayEnd}
 use Rattle.play_rounds.specs.declared.ends.PlayEnd.TheVariants as play_end
 use Rattle.play_shares.specs.Limits.{max_frames}
-use Rattle.play_words.specs.declared.job.PlayJob.{PlayJob}
+use Rattle.run_words.specs.declared.job.PlayJob.{PlayJob}
 use Rattle.run_status.specs.declared.status.Status.{Status}
 use Rattle.run_status.specs.declared.status.Status.TheVariants as status
 use Rattle.run_status.specs.declared.status.What.TheVariants.{Frames as images}

@@ -10,20 +10,20 @@ use Rattle.ass_script.specs.declared.refusal.ScriptRefusal.TheVariants as refusa
 use Rattle.bdf_font.specs.Fonts.{FontValue}
 use Rattle.bdf_font.specs.Limits.{max_fonts}
 use Rattle.bdf_font.specs.Ranges.{IsFont}
-use Rattle.frame_play.proofs.InputLemmas.{file_lines, font_set, held_lines}
+use Rattle.single_run.proofs.InputLemmas.{file_lines, font_set, held_lines}
 use Rattle.generated_script.specs.Generated.{generated}
-use Rattle.input_files.specs.Causes.{script_status, with_status}
-use Rattle.input_files.specs.Inputs.{AreRead}
-use Rattle.input_files.specs.declared.inputs.Inputs.{Inputs}
+use Rattle.run_status.specs.Causes.{script_status, with_status}
+use Rattle.run_status.specs.Inputs.{AreRead}
+use Rattle.run_status.specs.declared.inputs.Inputs.{Inputs}
 use Rattle.play_model.specs.Plays.{IsPlayable, PlayView}
 use Rattle.play_shares.specs.Instants.{frame_count}
 use Rattle.play_shares.specs.Limits.{max_frames}
-use Rattle.play_words.specs.Jobs.{IsPlay}
-use Rattle.play_words.specs.declared.job.PlayJob.{PlayJob}
+use Rattle.run_words.specs.Jobs.{IsPlay}
+use Rattle.run_words.specs.declared.job.PlayJob.{PlayJob}
 use Rattle.run_status.specs.declared.status.Status.{Status}
 use Rattle.run_status.specs.declared.status.Status.TheVariants.{TooLarge}
 use Rattle.run_status.specs.declared.status.What.TheVariants.{Bytes, Frames as images}
-use Rattle.script_events.specs.Laws.{LinesFitTheirText}
+use Rattle.ass_events.specs.LineLaws.{LinesFitTheirText}
 use Rattle.text_layout.specs.Fonts.{IsLayoutFontSet}
 use Rattle.play_command.specs.PlayRuns.{has_too_many, play_refusal, view_of}
 use Rattle.play_command.specs.SelftestRuns.{IsScriptIn, IsSelftestRead, selftest_fonts}

@@ -7,23 +7,23 @@ use Rattle.ass_io.specs.Fetched.{Told}
 use Rattle.ass_io.specs.Written.{AppendsFront}
 use Rattle.ass_script.specs.Scripts.{ScriptValue}
 use Rattle.bdf_font.specs.Limits.{max_fonts}
-use Rattle.frame_play.proofs.CountLemmas.{memory_either, reported_once_after}
-use Rattle.frame_play.proofs.RunLemmas.{answered_after, done_before, ended, fault_or_decided, found_before, keeps, reported_as}
-use Rattle.frame_play.specs.Outcomes.{IsEnded, IsFinishPutCount, IsOrFault, IsOrMemory, IsReportPutCount, IsReportable, IsReported, IsStatusReadCounted, IsWriteCounted, out_of_memory, status_if_put, text_to_report}
-use Rattle.frame_play.specs.Runs.{SinkChange, sink_change}
-use Rattle.frame_play.specs.declared.outcome.Outcome.{Outcome}
-use Rattle.frame_play.specs.declared.outcome.Outcome.TheVariants.{Ended, Found}
-use Rattle.frame_play.specs.Works.{is_too_long, limited_in, max_frames, work_asked, work_in, work_of}
-use Rattle.frame_play.specs.declared.work.Work.{Work}
-use Rattle.input_files.specs.Laws.{AreTold, FilesDecide, IsReadDecided}
-use Rattle.input_files.specs.declared.inputs.Inputs.{Inputs}
+use Rattle.single_run.proofs.CountLemmas.{memory_either, reported_once_after}
+use Rattle.single_run.proofs.Runs.{answered_after, done_before, ended, fault_or_decided, found_before, keeps, reported_as}
+use Rattle.single_run.specs.Outcomes.{IsEnded, IsFinishPutCount, IsOrFault, IsOrMemory, IsReportPutCount, IsReportable, IsReported, IsStatusReadCounted, IsWriteCounted, out_of_memory, status_if_put, text_to_report}
+use Rattle.single_run.specs.Runs.{SinkChange, sink_change}
+use Rattle.single_run.specs.declared.outcome.Outcome.{Outcome}
+use Rattle.single_run.specs.declared.outcome.Outcome.TheVariants.{Ended, Found}
+use Rattle.single_run.specs.Works.{is_too_long, limited_in, max_frames, work_asked, work_in, work_of}
+use Rattle.single_run.specs.declared.work.Work.{Work}
+use Rattle.run_status.specs.Laws.{AreTold, FilesDecide, IsReadDecided}
+use Rattle.run_status.specs.declared.inputs.Inputs.{Inputs}
 use Rattle.play_model.specs.Outputs.{IsFrontOfPlay}
 use Rattle.play_model.specs.Plays.{PlayView}
-use Rattle.play_words.specs.Words.{job_of}
-use Rattle.play_words.specs.declared.job.Job.{Job}
-use Rattle.play_words.specs.declared.job.Job.TheVariants.{Changes, Check, Frame, Play, Selftest, Write}
-use Rattle.play_words.specs.declared.job.PlayJob.{PlayJob}
-use Rattle.play_words.specs.declared.job.WordsFault.{WordsFault}
+use Rattle.run_words.specs.Words.{job_of}
+use Rattle.run_words.specs.declared.job.Job.{Job}
+use Rattle.run_words.specs.declared.job.Job.TheVariants.{Changes, Check, Frame, Play, Selftest, Write}
+use Rattle.run_words.specs.declared.job.PlayJob.{PlayJob}
+use Rattle.run_words.specs.declared.job.WordsFault.{WordsFault}
 use Rattle.run_status.specs.Statuses.{status_line}
 use Rattle.run_status.specs.declared.status.Status.{Status}
 use Rattle.run_status.specs.declared.status.Status.TheVariants as status

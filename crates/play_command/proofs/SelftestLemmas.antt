@@ -14,13 +14,13 @@ use Rattle.ass_script.specs.Scripts.{ScriptValue, script_of}
 use Rattle.ass_script.specs.declared.refusal.ScriptRefusal.{ScriptRefusal}
 use Rattle.ass_script.specs.declared.refusal.ScriptRefusal.TheVariants as refusal
 use Rattle.bdf_font.specs.Ranges.{IsFont}
-use Rattle.frame_play.specs.Outcomes.{IsOrFault, IsReportable, IsStatusReadCounted, IsWriteCounted, SuitsSink, status_if_put}
-use Rattle.frame_play.specs.declared.outcome.Outcome.{Outcome}
-use Rattle.frame_play.specs.declared.outcome.Outcome.TheVariants.{Ended, Found}
+use Rattle.single_run.specs.Outcomes.{IsOrFault, IsReportable, IsStatusReadCounted, IsWriteCounted, SuitsSink, status_if_put}
+use Rattle.single_run.specs.declared.outcome.Outcome.{Outcome}
+use Rattle.single_run.specs.declared.outcome.Outcome.TheVariants.{Ended, Found}
 use Rattle.generated_script.specs.Generated.{generated}
 use Rattle.generated_script.specs.Grid.{grid_font}
-use Rattle.input_files.specs.Causes.{script_status, with_status}
-use Rattle.input_files.specs.declared.inputs.Inputs.{Inputs}
+use Rattle.run_status.specs.Causes.{script_status, with_status}
+use Rattle.run_status.specs.declared.inputs.Inputs.{Inputs}
 use Rattle.play_model.specs.Images.{IsSettledImage}
 use Rattle.play_model.specs.Outputs.{IsShownPlay}
 use Rattle.play_model.specs.Plays.{IsPlayable, IsTimeOf, PlayView, feeder_events, good_count}
@@ -35,15 +35,15 @@ use Rattle.play_rounds.specs.Outputs.{IsPlayed, IsWholePlay}
 use Rattle.play_rounds.specs.declared.ends.PlayEnd.{PlayEnd}
 use Rattle.play_rounds.specs.declared.ends.PlayEnd.TheVariants as play_end
 use Rattle.play_shares.specs.Instants.{frame_count, instant_count}
-use Rattle.play_words.specs.Jobs.{IsJob, IsPlay}
-use Rattle.play_words.specs.declared.job.Job.TheVariants.{Selftest}
-use Rattle.play_words.specs.declared.job.PlayJob.{PlayJob}
+use Rattle.run_words.specs.Jobs.{IsJob, IsPlay}
+use Rattle.run_words.specs.declared.job.Job.TheVariants.{Selftest}
+use Rattle.run_words.specs.declared.job.PlayJob.{PlayJob}
 use Rattle.run_status.specs.declared.status.BadScript.TheVariants.{NoEvents, NotUtf8}
 use Rattle.run_status.specs.declared.status.Status.{Status}
 use Rattle.run_status.specs.declared.status.Status.TheVariants as status
 use Rattle.run_status.specs.declared.status.What.TheVariants.{Bytes, Lines, Styles}
 use Rattle.run_status.specs.declared.status.Which.TheVariants.{Report}
-use Rattle.script_events.specs.ScriptEvents.{line_events}
+use Rattle.ass_events.specs.ScriptEvents.{line_events}
 use Rattle.text_layout.specs.Fonts.{IsLayoutFontSet}
 use Rattle.track_history.specs.Answers.{read_orders}
 use Rattle.play_command.specs.PlayRuns.{status_read, view_of}

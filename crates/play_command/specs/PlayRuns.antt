@@ -5,11 +5,11 @@ use Rattle.ass_io.specs.Fetched.{Told}
 use Rattle.ass_io.specs.Written.{AppendsFront}
 use Rattle.ass_num.specs.Causes.{Rose}
 use Rattle.bdf_font.specs.Limits.{max_fonts}
-use Rattle.frame_play.specs.Outcomes.{IsLineReported, IsMemoryReported, IsOrMemory, IsReported}
-use Rattle.frame_play.specs.Runs.{SinkChange}
-use Rattle.input_files.specs.Inputs.{AreRead}
-use Rattle.input_files.specs.Laws.{AreTold, IsReadDecided}
-use Rattle.input_files.specs.declared.inputs.Inputs.{Inputs}
+use Rattle.single_run.specs.Outcomes.{IsLineReported, IsMemoryReported, IsOrMemory, IsReported}
+use Rattle.single_run.specs.Runs.{SinkChange}
+use Rattle.run_status.specs.Inputs.{AreRead}
+use Rattle.run_status.specs.Laws.{AreTold, IsReadDecided}
+use Rattle.run_status.specs.declared.inputs.Inputs.{Inputs}
 use Rattle.play_model.specs.Outputs.{IsFrontOfPlay}
 use Rattle.play_model.specs.Plays.{IsPlayable, PlayView}
 use Rattle.play_report.specs.Reports.{report_text}
@@ -17,8 +17,8 @@ use Rattle.play_report.specs.declared.report.PlayReport.{PlayReport}
 use Rattle.play_rounds.specs.Outputs.{IsMoreBy, IsWholePlay}
 use Rattle.play_shares.specs.Instants.{frame_count}
 use Rattle.play_shares.specs.Limits.{max_frames}
-use Rattle.play_words.specs.declared.job.PlayJob.{PlayJob}
-use Rattle.play_words.specs.declared.job.WordsFault.TheVariants.{Usage}
+use Rattle.run_words.specs.declared.job.PlayJob.{PlayJob}
+use Rattle.run_words.specs.declared.job.WordsFault.TheVariants.{Usage}
 use Rattle.run_status.specs.declared.status.Status.{Status}
 use Rattle.run_status.specs.declared.status.Status.TheVariants.{BadWords, Done, OutOfMemory, TooLarge, WriteFault}
 use Rattle.run_status.specs.declared.status.What.TheVariants.{Frames as images}
@@ -51,7 +51,7 @@ pub record IsPlayOutput (play : PlayView) (bytes text : List ℕ) : Type 0 where
   pub whole : IsWholePlay play bytes report
   pub value : text ≡ report_text report
 
--- What the sinks got of a play at each status: all; a front of what may be shown; all that is shown, and a front of the report; or a front of both.
+-- What the sinks got of a play at each status: all; a prefix of what may be shown; all that is shown, and a prefix of the report; or a prefix of both.
 abbrev pub IsPlayPut : PlayView → SinkChange → SinkChange → Status → Type 0
 IsPlayPut play frames report Done =
     (bytes text : List ℕ) × IsPlayOutput play bytes text × Appends frames.held_before frames.held_now bytes
@@ -93,7 +93,7 @@ abbrev pub status_read : {Value : Type 0} → Result Value Status → Status
 status_read (Ok value) = Done
 status_read (Err refusal) = refusal
 
--- Files that are all told of decide a run where no fault came: the answer that their reading asks for, or want of memory.
+-- Files that are all told of decide a run where no fault came: the answer that their reading asks for, or out of memory.
 abbrev pub DecidesPlay : (List ℕ → Told) → PlayJob → List ℕ → List (List ℕ) → Status → Type 0
 DecidesPlay told job script fonts status =
     (reading : Result Inputs Status) → AreTold told script fonts → IsPlayRead told job script fonts reading → IsReadDecided reading

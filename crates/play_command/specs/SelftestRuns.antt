@@ -3,23 +3,23 @@ use Rattle.std.specs.Prelude.{◌≡◌, ◌⊎◌, ℕ, ◌*◌, ◌<◌, pos, 
 use Rattle.ass_script.specs.Ranges.{IsScript}
 use Rattle.ass_script.specs.Scripts.{ScriptValue}
 use Rattle.bdf_font.specs.Fonts.{FontValue}
-use Rattle.frame_play.specs.Outcomes.{IsOrFault, IsOrMemory, IsReported}
-use Rattle.frame_play.specs.Runs.{SinkChange}
+use Rattle.single_run.specs.Outcomes.{IsOrFault, IsOrMemory, IsReported}
+use Rattle.single_run.specs.Runs.{SinkChange}
 use Rattle.generated_script.specs.Generated.{generated}
 use Rattle.generated_script.specs.Grid.{grid_font}
-use Rattle.input_files.specs.Files.{AsksScript}
-use Rattle.input_files.specs.Laws.{IsReadDecided}
+use Rattle.run_status.specs.Files.{AsksScript}
+use Rattle.run_status.specs.Laws.{IsReadDecided}
 use Rattle.play_model.specs.Images.{IsSettledImage}
 use Rattle.play_model.specs.Plays.{PlayView}
 use Rattle.play_report.specs.Digests.{digest_after}
 use Rattle.play_report.specs.Reports.{summary_text}
 use Rattle.play_report.specs.declared.report.PlayReport.{PlayReport}
-use Rattle.play_words.specs.declared.job.Mode.TheVariants.{Settled}
-use Rattle.play_words.specs.declared.job.PlayJob.{PlayJob}
+use Rattle.run_words.specs.declared.job.Mode.TheVariants.{Settled}
+use Rattle.run_words.specs.declared.job.PlayJob.{PlayJob}
 use Rattle.run_status.specs.declared.status.Status.{Status}
 use Rattle.run_status.specs.declared.status.Status.TheVariants.{OutOfMemory}
 use Rattle.run_status.specs.declared.status.Which.TheVariants.{Report}
-use Rattle.script_events.specs.ScriptEvents.{line_events}
+use Rattle.ass_events.specs.ScriptEvents.{line_events}
 use Rattle.play_command.specs.PlayRuns.{status_read}
 
 -- how many images a selftest makes
@@ -70,7 +70,7 @@ abbrev pub IsSelftestReport : ℕ → ℕ → Result ScriptValue Status → List
 IsSelftestReport seed events (Err refusal) text = text ≡ []
 IsSelftestReport seed events (Ok script) text = IsSelftestText script seed events text
 
--- What reading bytes as a script answers: what a file asks for that holds them, or want of memory.
+-- What reading bytes as a script answers: what a file asks for that holds them, or out of memory.
 abbrev pub IsScriptIn : List ℕ → Result ScriptValue Status → Type 0
 IsScriptIn bytes reading = AsksScript [] (Some bytes) reading ⊎ (reading ≡ Err OutOfMemory)
 
@@ -85,7 +85,7 @@ pub record IsSelftestRun (seed events : ℕ) (report : SinkChange) (status : Sta
   pub answered : IsOrFault Report (status_read reading) status
   pub reported : IsReported status report.held_before report.held_now report.faults_before report.faults_now (IsSelftestReport seed events reading)
 
--- The generated script decides a run where the report didn't fail: what its reading asks for, or want of memory.
+-- The generated script decides a run where the report didn't fail: what its reading asks for, or out of memory.
 abbrev pub DecidesSelftest : ℕ → ℕ → Status → Type 0
 DecidesSelftest seed events status =
     (reading : Result ScriptValue Status) → IsSelftestRead seed events reading → IsReadDecided reading → IsOrMemory (status_read reading) status

@@ -5,20 +5,20 @@ use Rattle.ass_io.specs.Fetched.{Told}
 use Rattle.ass_num.specs.Limits.{max_file_bytes}
 use Rattle.ass_script.specs.Ranges.{IsScript}
 use Rattle.ass_script.specs.Scripts.{ScriptValue}
-use Rattle.frame_play.specs.Outcomes.{IsOrFault, SuitsSink, out_of_memory, status_if_put, text_to_report}
-use Rattle.frame_play.specs.Runs.{SinkChange}
-use Rattle.frame_play.specs.declared.outcome.Outcome.{Outcome}
-use Rattle.frame_play.specs.declared.outcome.Outcome.TheVariants.{Ended, Found}
-use Rattle.input_files.specs.declared.inputs.Inputs.{Inputs}
+use Rattle.single_run.specs.Outcomes.{IsOrFault, SuitsSink, out_of_memory, status_if_put, text_to_report}
+use Rattle.single_run.specs.Runs.{SinkChange}
+use Rattle.single_run.specs.declared.outcome.Outcome.{Outcome}
+use Rattle.single_run.specs.declared.outcome.Outcome.TheVariants.{Ended, Found}
+use Rattle.run_status.specs.declared.inputs.Inputs.{Inputs}
 use Rattle.play_model.specs.Outputs.{IsFrontOfPlay}
 use Rattle.play_model.specs.Plays.{IsPlayable, PlayView}
 use Rattle.play_report.specs.Digests.{digest_after}
 use Rattle.play_report.specs.Reports.{report_text, summary_text}
 use Rattle.play_rounds.specs.declared.ends.PlayEnd.{PlayEnd}
 use Rattle.play_rounds.specs.declared.ends.PlayEnd.TheVariants as play_end
-use Rattle.play_words.specs.declared.job.Job.{Job}
-use Rattle.play_words.specs.declared.job.Job.TheVariants.{Play, Selftest}
-use Rattle.play_words.specs.declared.job.PlayJob.{PlayJob}
+use Rattle.run_words.specs.declared.job.Job.{Job}
+use Rattle.run_words.specs.declared.job.Job.TheVariants.{Play, Selftest}
+use Rattle.run_words.specs.declared.job.PlayJob.{PlayJob}
 use Rattle.run_status.specs.declared.status.Status.{Status}
 use Rattle.run_status.specs.declared.status.Status.TheVariants.{Done, OutOfMemory, WriteFault}
 use Rattle.run_status.specs.declared.status.Which.TheVariants.{Frames, Report}
@@ -63,7 +63,7 @@ abbrev pub script_alone : Result Inputs Status → Result ScriptValue Status
 script_alone (Ok inputs) = Ok inputs.script
 script_alone (Err refusal) = Err refusal
 
--- The script came to these inputs with the font of a selftest, or memory was wanting.
+-- The script came to these inputs with the font of a selftest, or memory ran out.
 abbrev pub IsWithFont : ScriptValue → Result Inputs Status → Type 0
 IsWithFont script (Ok inputs) = (inputs.script ≡ script) × (inputs.fonts ≡ selftest_fonts) × IsLayoutFontSet inputs.fonts
 IsWithFont script (Err refusal) = refusal ≡ OutOfMemory

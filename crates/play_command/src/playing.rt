@@ -2,27 +2,27 @@
 
 ghost use Rattle.std.specs.Prelude.{◌≡◌, IfOk};
 ghost use Rattle.std.specs.Arc.{arc_value};
-ghost use Rattle.frame_play.specs.Outcomes.{IsReportable, IsStatusReadCounted, IsWriteCounted, status_if_put};
-ghost use Rattle.frame_play.specs.Runs.{sink_change};
+ghost use Rattle.single_run.specs.Outcomes.{IsReportable, IsStatusReadCounted, IsWriteCounted, status_if_put};
+ghost use Rattle.single_run.specs.Runs.{sink_change};
 ghost use Rattle.play_command.specs.PlayRuns.{view_of};
 ghost use Rattle.play_command.specs.Working.{IsPlayWorked, IsSpoken, IsToldOf};
 ghost use Rattle.play_model.specs.Plays.{IsPlayable};
 ghost use Rattle.play_rounds.specs.Outputs.{IsPlayed};
-ghost use Rattle.play_words.specs.Jobs.{IsPlay};
+ghost use Rattle.run_words.specs.Jobs.{IsPlay};
 
 use crate::reading::play_inputs;
-use ass_io::{Gate, Rt, Shelf, Sink};
+use ass_io::{Rt, Shelf, Sink};
 use ass_num::{Mem, OutOfMemory, Text};
 use ass_script::Script;
 use bdf_font::FontSet;
-use frame_play::Outcome;
-use input_files::Inputs;
 use play_report::report_text;
 use play_rounds::{PlayEnd, play};
-use play_words::PlayJob;
-use run_status::{Status, Which};
+use run_status::{Inputs, Status, Which};
+use run_words::PlayJob;
+use single_run::Outcome;
 use std::alloc::Global;
 use std::sync::Arc;
+use test_hook::TestHook;
 
 /// A script and fonts that threads share.
 fn shared(alloc: Global, inputs: Inputs) -> Mem<(Arc<Script>, Arc<FontSet>)>
@@ -36,19 +36,20 @@ fn shared(alloc: Global, inputs: Inputs) -> Mem<(Arc<Script>, Arc<FontSet>)>
 }
 
 /// Plays a job with what was read for it.
-pub fn play_with<F: Sink, G: Gate + Sync>(
+pub fn play_with<F: Sink, H: TestHook + Sync>(
     rt: &impl Rt,
     alloc: Global,
     job: PlayJob,
     inputs: Inputs,
     frames: &mut F,
-    gate: &G,
+    hook: &H,
 ) -> PlayEnd
     requires { IsPlayable (view_of job inputs) }
-    ensures { IsPlayed (view_of job inputs) result (F.held frames.old) (F.held frames.new) (F.faults frames.old) (F.faults frames.new) (F.puts frames.old) (F.puts frames.new) }
+    ensures { IsPlayed (view_of job inputs) result (F.held frames.old) (F.held frames.new) (F.faults frames.old) (F.faults frames.new) (F.puts frames.old)
+        (F.puts frames.new) }
 {
     match shared(alloc, inputs) {
-        Ok((script, fonts)) => play(rt, alloc, job, script, fonts, frames, gate),
+        Ok((script, fonts)) => play(rt, alloc, job, script, fonts, frames, hook),
         Err(OutOfMemory) => PlayEnd::OutOfMemory,
     }
 }
@@ -68,7 +69,7 @@ fn told(alloc: Global, end: PlayEnd) -> Outcome
 }
 
 /// Plays a job with its files. Nothing goes to the frames sink before all files were read.
-pub fn play_files<S: Shelf, F: Sink, G: Gate + Sync>(
+pub fn play_files<S: Shelf, F: Sink, H: TestHook + Sync>(
     rt: &impl Rt,
     alloc: Global,
     job: PlayJob,
@@ -76,7 +77,7 @@ pub fn play_files<S: Shelf, F: Sink, G: Gate + Sync>(
     fonts: &[Text],
     shelf: &mut S,
     frames: &mut F,
-    gate: &G,
+    hook: &H,
 ) -> Outcome
     requires { IsPlay job }
     ensures run { IsPlayWorked (S.told shelf.old) job script.now fonts.now
@@ -87,7 +88,7 @@ pub fn play_files<S: Shelf, F: Sink, G: Gate + Sync>(
     ensures spoken { IsSpoken result }
 {
     match play_inputs(alloc, shelf, &job, script, fonts) {
-        Ok(inputs) => told(alloc, play_with(rt, alloc, job, inputs, frames, gate)),
+        Ok(inputs) => told(alloc, play_with(rt, alloc, job, inputs, frames, hook)),
         Err(status) => Outcome::Ended(status),
     }
 }

@@ -2,24 +2,23 @@
 
 ghost use Rattle.std.specs.Prelude.{◌≡◌, IfOk};
 ghost use Rattle.ass_script.specs.Ranges.{IsScript};
-ghost use Rattle.input_files.specs.Files.{IsAnswerReadCounted};
+ghost use Rattle.run_status.specs.Files.{IsAnswerReadCounted};
 ghost use Rattle.play_command.specs.PlayRuns.{IsPlayRead, has_too_many, play_refusal, view_of};
 ghost use Rattle.play_command.specs.SelftestRuns.{IsScriptIn, IsSelftestRead, selftest_fonts};
 ghost use Rattle.play_command.specs.Working.{AreSelftestInputs, IsWithFont, script_alone};
 ghost use Rattle.play_model.specs.Plays.{IsPlayable};
-ghost use Rattle.play_words.specs.Jobs.{IsPlay};
+ghost use Rattle.run_words.specs.Jobs.{IsPlay};
 ghost use Rattle.text_layout.specs.Fonts.{IsLayoutFontSet};
 
+use ass_events::line_laws;
 use ass_io::{MAX_FILE_BYTES, Shelf};
 use ass_num::{Items, Mem, OutOfMemory, Text};
 use ass_script::{Script, read_script};
 use bdf_font::Font;
 use generated_script::{generated, grid_font};
-use input_files::{Inputs, MAX_FONTS, read_inputs, script_status};
 use play_shares::has_too_many_frames;
-use play_words::{PlayJob, WordsFault};
-use run_status::{Status, What};
-use script_events::lines_fit_their_text;
+use run_status::{Inputs, MAX_FONTS, Status, What, read_inputs, script_status};
+use run_words::{PlayJob, WordsFault};
 use std::alloc::Global;
 
 /// The most images of a play.
@@ -63,7 +62,7 @@ pub fn play_inputs<S: Shelf>(
     ensures counted { IsAnswerReadCounted result (S.faults shelf.old) (S.faults shelf.new) }
     ensures playable { IfOk result (λ inputs. IsPlayable (view_of job.now inputs)) }
 {
-    lines_fit_their_text();
+    line_laws::lines_fit_their_text();
     match play_refusal(job, fonts) {
         Some(status) => Err(status),
         None => read_inputs(alloc, shelf, script, fonts),
@@ -122,7 +121,7 @@ pub fn selftest_inputs(alloc: Global, seed: u32, events: u32) -> Result<Inputs, 
     ensures read { IsSelftestRead seed events (script_alone result) }
     ensures inputs { IfOk result AreSelftestInputs }
 {
-    lines_fit_their_text();
+    line_laws::lines_fit_their_text();
     match selftest_script(alloc, seed, events) {
         Ok(script) => with_font(alloc, script),
         Err(status) => Err(status),

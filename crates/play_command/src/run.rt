@@ -2,38 +2,38 @@
 
 ghost use Rattle.std.specs.Prelude.{◌≡◌, ◌≢◌, ◌⊎◌, [], ℕ, List, None, Ok, Some};
 ghost use Rattle.ass_num.specs.Causes.{Rose};
-ghost use Rattle.frame_play.specs.Outcomes.{IsFinishPutCount, IsFramesPutCount, IsOrMemory, IsReportPutCount, IsReportable, IsReported};
-ghost use Rattle.frame_play.specs.Outcomes.{IsStatusReadCounted, IsWriteCounted, out_of_memory, status_if_put};
-ghost use Rattle.frame_play.specs.Outputs.{sink_of};
-ghost use Rattle.frame_play.specs.Runs.{Decides, IsJobRun, sink_change};
-ghost use Rattle.frame_play.specs.Works.{work_asked};
-ghost use Rattle.frame_play.specs.declared.work.Work.{Work};
+ghost use Rattle.single_run.specs.Outcomes.{IsFinishPutCount, IsFramesPutCount, IsOrMemory, IsReportPutCount, IsReportable, IsReported};
+ghost use Rattle.single_run.specs.Outcomes.{IsStatusReadCounted, IsWriteCounted, out_of_memory, status_if_put};
+ghost use Rattle.single_run.specs.Outputs.{sink_of};
+ghost use Rattle.single_run.specs.Runs.{Decides, IsJobRun, sink_change};
+ghost use Rattle.single_run.specs.Works.{work_asked};
+ghost use Rattle.single_run.specs.declared.work.Work.{Work};
 ghost use Rattle.play_command.specs.PlayRuns.{DecidesPlay, IsPlayRun};
 ghost use Rattle.play_command.specs.SelftestRuns.{DecidesSelftest, IsSelftestRun};
 ghost use Rattle.play_command.specs.Working.{IsJobWorked, IsShared, IsSpoken};
-ghost use Rattle.play_words.specs.Jobs.{IsJob};
-ghost use Rattle.play_words.specs.Words.{job_of, texts};
-ghost use Rattle.play_words.specs.declared.job.Job.TheVariants.{Play as a_play, Selftest as a_selftest};
-ghost use Rattle.play_words.specs.declared.job.PlayJob.{PlayJob};
+ghost use Rattle.run_words.specs.Jobs.{IsJob};
+ghost use Rattle.run_words.specs.Words.{job_of, texts};
+ghost use Rattle.run_words.specs.declared.job.Job.TheVariants.{Play as a_play, Selftest as a_selftest};
+ghost use Rattle.run_words.specs.declared.job.PlayJob.{PlayJob};
 ghost use Rattle.run_status.specs.declared.status.Which.TheVariants.{Report as the_report};
 
 use crate::playing::play_files;
 use crate::selftest::do_selftest;
-use ass_io::{Gate, Rt, Shelf, Sink};
-use frame_play::{Outcome, calm, finish};
-use input_files::files_decide;
-use play_words::{Job, read_words};
-use run_status::Status;
+use ass_io::{Rt, Shelf, Sink};
+use run_status::{Status, files_decide};
+use run_words::{Job, read_words};
+use single_run::{Outcome, calm, finish};
 use std::alloc::Global;
+use test_hook::TestHook;
 
 /// Does a job in which threads wait for one another, up to what is to be reported of it.
-fn do_job<S: Shelf, F: Sink, G: Gate + Sync>(
+fn do_job<S: Shelf, F: Sink, H: TestHook + Sync>(
     rt: &impl Rt,
     alloc: Global,
     job: Job,
     shelf: &mut S,
     frames: &mut F,
-    gate: &G,
+    hook: &H,
 ) -> Outcome
     requires within { IsJob job }
     requires shared { IsShared job }
@@ -49,10 +49,10 @@ fn do_job<S: Shelf, F: Sink, G: Gate + Sync>(
     match job {
         Job::Play(play, script, fonts) => {
             let fonts = fonts.as_slice();
-            play_files(rt, alloc, play, &script, fonts, shelf, frames, gate)
+            play_files(rt, alloc, play, &script, fonts, shelf, frames, hook)
         }
         Job::Selftest(seed, events, workers) => {
-            do_selftest(rt, alloc, seed, events, workers, gate)
+            do_selftest(rt, alloc, seed, events, workers, hook)
         }
         Job::Check(_, _) => unreachable!(),
         Job::Frame(_, _, _, _, _) => unreachable!(),
@@ -62,13 +62,13 @@ fn do_job<S: Shelf, F: Sink, G: Gate + Sync>(
 }
 
 /// Does the play or the selftest of the words, up to what is to be reported of it.
-fn do_shared<S: Shelf, F: Sink, G: Gate + Sync>(
+fn do_shared<S: Shelf, F: Sink, H: TestHook + Sync>(
     rt: &impl Rt,
     alloc: Global,
     words: &[String],
     shelf: &mut S,
     frames: &mut F,
-    gate: &G,
+    hook: &H,
 ) -> Outcome
     requires { work_asked (texts words.now) ≡ Ok None }
     ensures worked { (job : Job) → job_of (texts words.now) ≡ Ok job
@@ -82,21 +82,21 @@ fn do_shared<S: Shelf, F: Sink, G: Gate + Sync>(
     ensures spoken { IsSpoken result }
 {
     match read_words(alloc, words) {
-        Ok(job) => do_job(rt, alloc, job, shelf, frames, gate),
-        // Words that ask for no job don't come here, so memory was wanting for them.
+        Ok(job) => do_job(rt, alloc, job, shelf, frames, hook),
+        // Words that ask for no job don't come here, so memory ran out for them.
         Err(_refusal) => Outcome::Ended(Status::OutOfMemory),
     }
 }
 
 /// Does the job of the words: `calm` does what waits for nobody, and a play and a selftest are done here, by threads.
-pub fn top<S: Shelf, F: Sink, R: Sink, G: Gate + Sync>(
+pub fn top<S: Shelf, F: Sink, R: Sink, H: TestHook + Sync>(
     rt: &impl Rt,
     alloc: Global,
     words: &[String],
     shelf: &mut S,
     frames: &mut F,
     report: &mut R,
-    gate: &G,
+    hook: &H,
 ) -> Status
     // Words that ask for no job are refused, before any file is fetched, and nothing is shown.
     ensures other_words { (status : Status) → work_asked (texts words.now) ≡ Err status → IsOrMemory status result }
@@ -104,7 +104,8 @@ pub fn top<S: Shelf, F: Sink, R: Sink, G: Gate + Sync>(
     ensures other_frames { (status : Status) → work_asked (texts words.now) ≡ Err status → frames.new ≡ frames.old }
     ensures other_report { (status : Status) → work_asked (texts words.now) ≡ Err status → IsReported result (R.held report.old) (R.held report.new)
         (R.faults report.old) (R.faults report.new) (λ text. text ≡ []) }
-    ensures other_once { (status : Status) → work_asked (texts words.now) ≡ Err status → IsFinishPutCount (Outcome.Ended status) result (R.puts report.old) (R.puts report.new) }
+    ensures other_once { (status : Status) → work_asked (texts words.now) ≡ Err status
+        → IsFinishPutCount (Outcome.Ended status) result (R.puts report.old) (R.puts report.new) }
 
     // The files are read in order, and what they hold asks for the answer and for what both sinks get.
     ensures run { (work : Work) → work_asked (texts words.now) ≡ Ok (Some work) → IsJobRun (S.told shelf.old) work
@@ -155,7 +156,7 @@ pub fn top<S: Shelf, F: Sink, R: Sink, G: Gate + Sync>(
     match calm(alloc, words, shelf, frames, report) {
         Some(status) => status,
         None => {
-            let outcome = do_shared(rt, alloc, words, shelf, frames, gate);
+            let outcome = do_shared(rt, alloc, words, shelf, frames, hook);
             finish(alloc, outcome, report)
         }
     }

@@ -5,20 +5,21 @@ ghost use Rattle.play_command.specs.SelftestRuns.{accepted_first, selftest_job};
 ghost use Rattle.play_command.specs.Working.{IsSelftestWorked, IsSummedOf};
 ghost use Rattle.play_report.specs.Digests.{digest_after};
 ghost use Rattle.play_report.specs.Reports.{summary_text};
-ghost use Rattle.play_words.specs.Jobs.{IsJob};
-ghost use Rattle.play_words.specs.Limits.{max_events};
-ghost use Rattle.play_words.specs.declared.job.Job.TheVariants.{Selftest};
+ghost use Rattle.run_words.specs.Jobs.{IsJob};
+ghost use Rattle.run_words.specs.Limits.{max_events};
+ghost use Rattle.run_words.specs.declared.job.Job.TheVariants.{Selftest};
 
 use crate::playing::play_with;
 use crate::reading::selftest_inputs;
-use ass_io::{Gate, MemorySink, Rt};
+use ass_io::{MemorySink, Rt};
 use ass_num::{Mem, OutOfMemory, Size};
-use frame_play::Outcome;
 use play_report::{PlayReport, digest_after, summary_text};
 use play_rounds::PlayEnd;
-use play_words::{Mode, PlayJob};
 use run_status::Status;
+use run_words::{Mode, PlayJob};
+use single_run::Outcome;
 use std::alloc::Global;
+use test_hook::TestHook;
 
 /// How many images a selftest makes.
 const IMAGE_COUNT: i64 = 20;
@@ -64,14 +65,15 @@ fn summary_of(
     report: &PlayReport,
     images: &[u8],
 ) -> Mem<String>
-    ensures { IfOk result (λ text. string_bytes text ≡ summary_text seed events (length (accepted_first report.now)) report.now.frames (digest_after 0 images.now)) }
+    ensures { IfOk result (λ text. string_bytes text ≡ summary_text seed events (length (accepted_first report.now)) report.now.frames
+        (digest_after 0 images.now)) }
 {
     let digest = digest_after(0, images);
     let accepted = accepted_count(report);
     summary_text(alloc, seed, events, accepted, report.frames, digest)
 }
 
-/// What is to be reported of a selftest whose play ended so and put these images. A sink in memory fails for want of memory alone.
+/// What is to be reported of a selftest whose play ended so and put these images. A sink in memory fails for lack of memory alone.
 fn summed(alloc: Global, seed: u32, events: u32, end: PlayEnd, images: &[u8]) -> Outcome
     ensures { IsSummedOf seed events images.now end result }
 {
@@ -86,13 +88,13 @@ fn summed(alloc: Global, seed: u32, events: u32, end: PlayEnd, images: &[u8]) ->
 }
 
 /// Plays a generated script, and digests the images.
-pub fn do_selftest<G: Gate + Sync>(
+pub fn do_selftest<H: TestHook + Sync>(
     rt: &impl Rt,
     alloc: Global,
     seed: u32,
     events: u32,
     workers: u32,
-    gate: &G,
+    hook: &H,
 ) -> Outcome
     requires { IsJob (Selftest seed events workers) }
     ensures { IsSelftestWorked seed events result }
@@ -101,7 +103,7 @@ pub fn do_selftest<G: Gate + Sync>(
         Ok(inputs) => {
             let job = selftest_job(events, workers);
             let mut images = MemorySink::new(alloc);
-            let end = play_with(rt, alloc, job, inputs, &mut images, gate);
+            let end = play_with(rt, alloc, job, inputs, &mut images, hook);
             summed(alloc, seed, events, end, images.bytes())
         }
         Err(status) => Outcome::Ended(status),

@@ -12,7 +12,7 @@ use Rattle.bdf_font.specs.Fonts.{FontValue}
 use Rattle.blend.specs.Canvases.{CanvasValue}
 use Rattle.picture_laws.specs.OnePicture.{HaveOnePicture}
 use Rattle.picture_plan.specs.Pictures.{IsPictureAt}
-use Rattle.input_files.specs.Laws.{IsReadDecided}
+use Rattle.run_status.specs.Laws.{IsReadDecided}
 use Rattle.play_command.proofs.RunLemmas.{reading_one}
 use Rattle.play_command.specs.SelftestRuns.{IsSelftestRead, IsSelftestReport, IsSelftestText, image_count, selftest_play}
 use Rattle.play_laws.specs.Agreement.{PlayAlike}
@@ -23,10 +23,10 @@ use Rattle.play_model.specs.Plays.{IsPlayable, PlayView}
 use Rattle.play_report.specs.Digests.{digest_after}
 use Rattle.play_report.specs.Reports.{summary_text}
 use Rattle.play_shares.specs.Instants.{frame_count, instant_count, play_instant}
-use Rattle.play_words.specs.declared.job.Mode.TheVariants.{Settled}
+use Rattle.run_words.specs.declared.job.Mode.TheVariants.{Settled}
 use Rattle.ppm_text.specs.Images.{image_bytes}
 use Rattle.run_status.specs.declared.status.Status.{Status}
-use Rattle.script_events.specs.ScriptEvents.{line_events}
+use Rattle.ass_events.specs.ScriptEvents.{line_events}
 
 abbrev pub Law : Type 0
 Law = (script : ScriptValue) (fonts : List FontValue) → IsScript script → HaveOnePicture script fonts

@@ -17,7 +17,7 @@ use Rattle.play_shares.specs.Batches.{again_lines, feeder_lines, good_lines, has
 use Rattle.play_shares.specs.Offers.{good_of_batch}
 use Rattle.play_shares.proofs.AllOffers.{all_offered}
 use Rattle.play_shares.proofs.FeederLines.{AreSteps, lines_are_steps}
-use Rattle.script_events.specs.ScriptEvents.{event_given}
+use Rattle.ass_events.specs.ScriptEvents.{event_given}
 
 -- ---- what is repeated
 

@@ -1,11 +1,11 @@
--- What a settled run has put before it ended is a front of what one puts that is done.
-use Rattle.std.proofs.Common.{◌≡◌, ◌∙◌, ◌⊎◌, inl, inr, sym, ap, subst, ℕ, List, [], ◌++◌, append-nil, Option, Some, None, Result, Ok, Err}
-use Rattle.std.specs.Io.KnownBytes.{Appends, Keeps}
+-- What a settled run has put before it ended is a prefix of what one puts that is done.
+use Rattle.std.proofs.Common.{◌≡◌, ◌∙◌, ◌⊎◌, inl, inr, sym, ap, subst, ℕ, List, [], ◌++◌, append-nil, Result, Ok, Err}
+use Rattle.std.specs.Io.KnownBytes.{Appends}
 use Rattle.ass_events.specs.Histories.{Entry}
 use Rattle.ass_io.specs.Fetched.{Told}
-use Rattle.frame_play.specs.Runs.{SinkChange}
-use Rattle.input_files.specs.Laws.{AreTold, FilesDecide}
-use Rattle.input_files.specs.declared.inputs.Inputs.{Inputs}
+use Rattle.single_run.specs.Runs.{SinkChange}
+use Rattle.run_status.specs.Laws.{AreTold, FilesDecide}
+use Rattle.run_status.specs.declared.inputs.Inputs.{Inputs}
 use Rattle.play_command.specs.PlayRuns.{IsPlayAsked, IsPlayOutput, IsPlayPut, IsPlayRead, IsPlayRun, play_refusal, view_of}
 use Rattle.play_laws.proofs.AgreementLemmas.{Law, plays_agree}
 use Rattle.play_laws.proofs.FrontLemmas.{front_of_times}
@@ -14,18 +14,14 @@ use Rattle.play_laws.proofs.SettledFronts.{fronts_agree}
 use Rattle.play_laws.specs.Agreement.{JobsAlike, PlayAlike}
 use Rattle.play_model.specs.Outputs.{IsFrontOfPlay, IsShownPlay}
 use Rattle.play_model.specs.Plays.{IsPlayable, PlayView}
-use Rattle.play_words.specs.declared.job.Mode.TheVariants.{Settled}
-use Rattle.play_words.specs.declared.job.PlayJob.{PlayJob}
+use Rattle.run_words.specs.declared.job.Mode.TheVariants.{Settled}
+use Rattle.run_words.specs.declared.job.PlayJob.{PlayJob}
 use Rattle.run_status.specs.declared.status.Status.{Status}
 use Rattle.run_status.specs.declared.status.Status.TheVariants as status
 use Rattle.run_status.specs.declared.status.Which.TheVariants.{Frames, Report}
+use Rattle.play_rounds.proofs.Puts.{kept_nothing}
 
-kept_appends : (old new : Option (List ℕ)) → Keeps old new → Appends old new []
-kept_appends None new h = tt
-kept_appends (Some xs) None h = h
-kept_appends (Some xs) (Some ys) h = h ∙ sym (append-nil xs)
-
--- a front of what may be shown, or all of it
+-- a prefix of what may be shown, or all of it
 abbrev IsEarly : PlayView → List ℕ → Type 0
 IsEarly play front = IsFrontOfPlay play front ⊎ ((times : List (List Entry)) × IsShownPlay play times front)
 
@@ -61,7 +57,7 @@ module _ (told : List ℕ → Told) (script : List ℕ) (fonts : List (List ℕ)
       (y : DoneRun told script fonts other more said) where
     early_run : (reading : Result Inputs Status) → IsPlayRead told one script fonts reading → IsPlayAsked one reading frames report answer
         → (front rest : List ℕ) × Appends frames.held_before frames.held_now front × Appends more.held_before more.held_now (front ++ rest)
-    early_run (Err why) read asked = ([], (y.put).0, kept_appends frames.held_before frames.held_now asked.1, (y.put).3)
+    early_run (Err why) read asked = ([], (y.put).0, kept_nothing frames.held_before frames.held_now asked.1, (y.put).3)
     early_run (Ok inputs) read asked =
         let same : inputs ≡ y.inputs = same_inputs told script fonts law decide known inputs y.inputs (unrefused told script fonts (play_refusal one fonts) inputs read) y.read in
         let both : PlayAlike (view_of one inputs) (view_of other y.inputs) =

@@ -18,8 +18,8 @@ use Rattle.play_model.proofs.MoreTimes.{entries_many, times_closed}
 use Rattle.play_model.proofs.Rounds.{good_most}
 use Rattle.play_model.proofs.Shares.{before_next}
 use Rattle.play_shares.specs.Instants.{frame_count, instant_count, play_instant}
-use Rattle.play_words.specs.declared.job.Mode.{Mode}
-use Rattle.play_words.specs.declared.job.Mode.TheVariants.{Live, Settled}
+use Rattle.run_words.specs.declared.job.Mode.{Mode}
+use Rattle.run_words.specs.declared.job.Mode.TheVariants.{Live, Settled}
 use Rattle.ppm_text.specs.Images.{image_bytes}
 
 module _ (play : PlayView) where

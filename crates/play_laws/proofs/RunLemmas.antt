@@ -3,19 +3,19 @@ use Rattle.std.proofs.Common.{◌≡◌, ◌∙◌, inl, inr, refl, sym, ap, sub
 use Rattle.std.specs.Io.KnownBytes.{Appends}
 use Rattle.ass_io.specs.Fetched.{Told}
 use Rattle.bdf_font.specs.Limits.{max_fonts}
-use Rattle.frame_play.specs.Outcomes.{IsOrMemory}
-use Rattle.frame_play.specs.Runs.{SinkChange}
-use Rattle.input_files.specs.Inputs.{AreFilesRead, AreRead}
-use Rattle.input_files.specs.Laws.{AreTold, FilesDecide}
-use Rattle.input_files.specs.declared.inputs.Inputs.{Inputs}
+use Rattle.single_run.specs.Outcomes.{IsOrMemory}
+use Rattle.single_run.specs.Runs.{SinkChange}
+use Rattle.run_status.specs.Inputs.{AreFilesRead, AreRead}
+use Rattle.run_status.specs.Laws.{AreTold, FilesDecide}
+use Rattle.run_status.specs.declared.inputs.Inputs.{Inputs}
 use Rattle.play_command.specs.PlayRuns.{AreReadUnless, DecidesPlay, IsPlayAsked, IsPlayPut, IsPlayRead, IsPlayRun, has_too_many, play_refusal, view_of}
 use Rattle.play_laws.proofs.AgreementLemmas.{Law, plays_agree}
 use Rattle.play_laws.specs.Agreement.{JobsAlike}
 use Rattle.play_model.specs.Plays.{IsPlayable}
 use Rattle.play_shares.specs.Instants.{frame_count}
 use Rattle.play_shares.specs.Limits.{max_frames}
-use Rattle.play_words.specs.declared.job.Mode.TheVariants.{Settled}
-use Rattle.play_words.specs.declared.job.PlayJob.{PlayJob}
+use Rattle.run_words.specs.declared.job.Mode.TheVariants.{Settled}
+use Rattle.run_words.specs.declared.job.PlayJob.{PlayJob}
 use Rattle.run_status.specs.declared.status.Status.{Status}
 use Rattle.run_status.specs.declared.status.Status.TheVariants.{Done, TooLarge}
 use Rattle.run_status.specs.declared.status.What.TheVariants.{Frames as images}

@@ -5,32 +5,32 @@ use Rattle.std.specs.List.{flat_map}
 use Rattle.std.proofs.lemmas.List.FromFn.{length-map-range_with_len}
 use Rattle.ass_num.specs.Limits.{max_file_bytes}
 use Rattle.ass_script.specs.Scripts.{ScriptValue, script_of}
-use Rattle.frame_play.specs.Outcomes.{IsOrFault}
-use Rattle.generated_laws.specs.Laws.{GeneratedLinesGiveEvents, GeneratedScriptsAreRead, GeneratedScriptsFit, generated_event}
+use Rattle.single_run.specs.Outcomes.{IsOrFault}
+use Rattle.script_laws.specs.GeneratedLaws.{GeneratedLinesGiveEvents, GeneratedScriptsAreRead, GeneratedScriptsFit, generated_event}
 use Rattle.generated_script.specs.Generated.{generated}
-use Rattle.input_files.specs.Causes.{script_status, with_status}
+use Rattle.run_status.specs.Causes.{script_status, with_status}
 use Rattle.play_command.specs.PlayRuns.{status_read}
 use Rattle.play_command.specs.SelftestRuns.{IsSelftestRead, IsSelftestReport, IsSelftestText, image_count}
 use Rattle.play_laws.specs.Selftests.{SelftestsAcceptAll, SelftestsAreDone}
 use Rattle.play_report.specs.Digests.{digest_after}
 use Rattle.play_report.specs.Reports.{summary_text}
-use Rattle.play_words.proofs.AskedLemmas.{words_within}
-use Rattle.play_words.specs.Words.{job_of}
-use Rattle.play_words.specs.Jobs.{IsJob}
-use Rattle.play_words.specs.Limits.{max_events}
-use Rattle.play_words.specs.declared.job.Job.{Job}
-use Rattle.play_words.specs.declared.job.Job.TheVariants.{Selftest}
-use Rattle.play_words.specs.declared.job.WordsFault.{WordsFault}
+use Rattle.run_words.proofs.AskedLemmas.{words_within}
+use Rattle.run_words.specs.Words.{job_of}
+use Rattle.run_words.specs.Jobs.{IsJob}
+use Rattle.run_words.specs.Limits.{max_events}
+use Rattle.run_words.specs.declared.job.Job.{Job}
+use Rattle.run_words.specs.declared.job.Job.TheVariants.{Selftest}
+use Rattle.run_words.specs.declared.job.WordsFault.{WordsFault}
 use Rattle.run_status.specs.declared.status.Status.{Status}
 use Rattle.run_status.specs.declared.status.Status.TheVariants.{Done, OutOfMemory}
 use Rattle.run_status.specs.declared.status.Which.TheVariants.{Report}
-use Rattle.script_events.specs.ScriptEvents.{line_events}
+use Rattle.ass_events.specs.ScriptEvents.{line_events}
 
 few_events : (words : List (List ℕ)) (seed events workers : ℕ) → job_of words ≡ Ok (Selftest seed events workers) → events ≤ max_events
 few_events words seed events workers asked =
     let within : IsJob (Selftest seed events workers) = subst (λ (r : Result Job WordsFault). IfOk r IsJob) asked (words_within words) in within.1.1
 
--- Reading the generated script answers that script, or memory was wanting.
+-- Reading the generated script answers that script, or memory ran out.
 reading_is : (seed events : ℕ) (script : ScriptValue) (reading : Result ScriptValue Status) → length (generated seed events) ≤ max_file_bytes → script_of (generated seed events) ≡ Ok script →
     IsSelftestRead seed events reading → (reading ≡ Ok script) ⊎ (reading ≡ Err OutOfMemory)
 reading_is seed events script reading fits is (inl (inl (few, asked))) = inl (asked ∙ ap (with_status script_status) is)

@@ -1,4 +1,4 @@
--- What a settled play wrote before it ended early is a front of what each whole one of the same files puts.
+-- What a settled play wrote before it ended early is a prefix of what each whole one of the same files puts.
 use Rattle.std.proofs.Common.{◌≡◌, ◌∙◌, ℕ, ◌+◌, ◌*◌, ◌/◌, ◌%◌, ◌<◌, List, ◌++◌, length, take, drop, sym, ap, subst, arith, append_assoc, length-append}
 use Rattle.std.specs.List.{All, flat_map, slice_index_or}
 use Rattle.std.proofs.lemmas.Grind.{flat_map-append}
@@ -18,10 +18,10 @@ use Rattle.play_model.specs.Images.{IsCountAt, IsImageAt, IsImageOf, IsSettledIm
 use Rattle.play_model.specs.Outputs.{IsShownPlay}
 use Rattle.play_model.specs.Plays.{IsPlayable, IsTimeOf, PlayView, good_count, history_of_times}
 use Rattle.play_shares.specs.Instants.{frame_count, instant_count, play_instant}
-use Rattle.play_words.specs.declared.job.Mode.{Mode}
-use Rattle.play_words.specs.declared.job.Mode.TheVariants.{Settled}
+use Rattle.run_words.specs.declared.job.Mode.{Mode}
+use Rattle.run_words.specs.declared.job.Mode.TheVariants.{Settled}
 use Rattle.ppm_text.specs.Images.{image_bytes}
-use Rattle.script_events.specs.ScriptEvents.{line_events}
+use Rattle.ass_events.specs.ScriptEvents.{line_events}
 
 -- ---- one image
 

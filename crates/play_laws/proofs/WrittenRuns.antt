@@ -1,40 +1,35 @@
 -- What a command `write` that is done has put.
-use Rattle.std.proofs.Common.{◌≡◌, inl, inr, refl, sym, ap, subst, ℕ, List, Some, None, Result, Ok, Err, ◌-ℤ◌}
+use Rattle.std.proofs.Common.{◌≡◌, inl, inr, refl, sym, subst, ℕ, List, Some, None, Result, Ok, Err, ◌-ℤ◌}
 use Rattle.std.specs.Io.KnownBytes.{Appends}
 use Rattle.ass_events.specs.declared.event.Event.{Event}
 use Rattle.ass_io.specs.Fetched.{Held, Told}
 use Rattle.ass_script.specs.Scripts.{ScriptValue, script_of}
-use Rattle.ass_script.specs.declared.refusal.ScriptRefusal.{ScriptRefusal}
-use Rattle.frame_play.specs.Outcomes.{IsOrFault}
-use Rattle.frame_play.specs.Outputs.{IsFramesAsked, rewritten, sink_of, status_asked, written_with}
-use Rattle.frame_play.specs.Runs.{SinkChange}
-use Rattle.frame_play.specs.declared.work.Task.{Task}
-use Rattle.frame_play.specs.declared.work.Task.TheVariants.{Write}
-use Rattle.frame_play.specs.declared.work.WriteTask.{WriteTask}
-use Rattle.input_files.specs.Causes.{script_status, with_status}
-use Rattle.input_files.specs.Files.{AsksScript}
-use Rattle.input_files.specs.Inputs.{AreRead, IsScriptRead}
-use Rattle.input_files.specs.declared.inputs.Inputs.{Inputs}
+use Rattle.single_run.specs.Outcomes.{IsOrFault}
+use Rattle.single_run.specs.Outputs.{IsFramesAsked, rewritten, sink_of, status_asked, written_with}
+use Rattle.single_run.specs.Runs.{SinkChange}
+use Rattle.single_run.specs.declared.work.Task.{Task}
+use Rattle.single_run.specs.declared.work.Task.TheVariants.{Write}
+use Rattle.single_run.specs.declared.work.WriteTask.{WriteTask}
+use Rattle.run_status.specs.Files.{AsksScript}
+use Rattle.run_status.specs.Inputs.{AreRead, IsScriptRead}
+use Rattle.run_status.specs.declared.inputs.Inputs.{Inputs}
 use Rattle.play_laws.proofs.RunLemmas.{read_not_done}
 use Rattle.play_laws.specs.Writing.{IsWrittenLater, WrittenRunsShowTheSame}
 use Rattle.run_status.specs.declared.status.Status.{Status}
 use Rattle.run_status.specs.declared.status.Status.TheVariants.{Done}
-use Rattle.script_events.specs.ScriptEvents.{line_events}
+use Rattle.ass_events.specs.ScriptEvents.{line_events}
 use Rattle.track_write.specs.Shifts.{shifted}
 use Rattle.track_write.specs.Texts.{written}
 use Rattle.track_write.specs.declared.refusal.WriteRefusal.{WriteRefusal}
-use Rattle.written_pictures.specs.Laws.{AreReadLater, ReadScriptsAreReadLater}
+use Rattle.picture_laws.specs.Laws.{AreReadLater, ReadScriptsAreReadLater}
+use Rattle.single_run.proofs.InputLemmas.{script_in}
 
 -- ---- the script that was read
-
-spelled_in : (answer : Result ScriptValue ScriptRefusal) (script : ScriptValue) → Ok script ≡ with_status script_status answer → answer ≡ Ok script
-spelled_in (Ok other) script e = let same : other ≡ script = cc in ap (λ (s : ScriptValue). Ok s) same
-spelled_in (Err refusal) script e = absurd cc
 
 -- some bytes spell it
 has_source : (name : List ℕ) (held : Held) (script : ScriptValue) → AsksScript name held (Ok script) → (source : List ℕ) × (script_of source ≡ Ok script)
 has_source name None script e = absurd cc
-has_source name (Some bytes) script (inl (small, e)) = (bytes, spelled_in (script_of bytes) script e)
+has_source name (Some bytes) script (inl (small, e)) = (bytes, script_in (script_of bytes) script e)
 has_source name (Some bytes) script (inr (large, e)) = absurd cc
 
 script_is_read : (told : List ℕ → Told) (script : List ℕ) (fonts : List (List ℕ)) (inputs : Inputs) → AreRead told script fonts (Ok inputs) → IsScriptRead told script (Ok inputs.script)

@@ -4,14 +4,14 @@ use Rattle.std.specs.Io.KnownBytes.{Appends}
 use Rattle.ass_events.specs.Histories.{Entry}
 use Rattle.ass_io.specs.Fetched.{Told}
 use Rattle.ass_script.specs.Scripts.{ScriptValue}
-use Rattle.frame_play.specs.Runs.{SinkChange}
-use Rattle.input_files.specs.Laws.{AreTold, IsReadDecided}
+use Rattle.single_run.specs.Runs.{SinkChange}
+use Rattle.run_status.specs.Laws.{AreTold, IsReadDecided}
 use Rattle.play_command.specs.PlayRuns.{IsPlayRun}
 use Rattle.play_command.specs.SelftestRuns.{IsSelftestRead, IsSelftestReport}
 use Rattle.play_model.specs.Outputs.{IsShownPlay}
 use Rattle.play_model.specs.Plays.{IsPlayable, PlayView}
-use Rattle.play_words.specs.declared.job.Mode.TheVariants.{Settled}
-use Rattle.play_words.specs.declared.job.PlayJob.{PlayJob}
+use Rattle.run_words.specs.declared.job.Mode.TheVariants.{Settled}
+use Rattle.run_words.specs.declared.job.PlayJob.{PlayJob}
 use Rattle.run_status.specs.declared.status.Status.{Status}
 use Rattle.run_status.specs.declared.status.Status.TheVariants.{Done}
 
@@ -42,7 +42,7 @@ SettledRunsAgree =
     → IsPlayRun told one script fonts frames report before now Done → IsPlayRun told other script fonts more said begun ended Done
     → (bytes : List ℕ) × Appends frames.held_before frames.held_now bytes × Appends more.held_before more.held_now bytes
 
--- What a settled run over such files has put before it ended in any way is a front of what each one puts that is done.
+-- What a settled run over such files has put before it ended in any way is a prefix of what each one puts that is done.
 abbrev pub EarlyRunsAgree : Type 0
 EarlyRunsAgree =
     (told : List ℕ → Told) (script : List ℕ) (fonts : List (List ℕ)) (one other : PlayJob) (frames report more said : SinkChange) (before now begun ended : ℕ) (status : Status)

@@ -1,4 +1,4 @@
--- Public: what a play has written before it ended is a front of the images of whole times.
+-- Public: what a play has written before it ended is a prefix of the images of whole times.
 use Rattle.std.specs.Prelude.{◌≡◌, ℕ, ◌≤◌, ℤ, List, ◌++◌, length, take, All}
 use Rattle.std.specs.List.{flat_map}
 use Rattle.ass_events.specs.Histories.{Entry, live}
@@ -8,9 +8,9 @@ use Rattle.play_laws.specs.Agreement.{PlayAlike}
 use Rattle.play_model.specs.Outputs.{AreImages, IsFrontOfPlay, IsShownPlay}
 use Rattle.play_model.specs.Plays.{IsPlayable, IsTimeOf, PlayView, history_of_times}
 use Rattle.play_shares.specs.Instants.{frame_count}
-use Rattle.play_words.specs.declared.job.Mode.TheVariants.{Settled}
+use Rattle.run_words.specs.declared.job.Mode.TheVariants.{Settled}
 
--- The bytes are a front of the first images of whole times, of which there are as many as the play has.
+-- The bytes are a prefix of the first images of whole times, of which there are as many as the play has.
 pub record IsFrontOfTimes (play : PlayView) (bytes : List ℕ) : Type 0 where
   pub times : List (List Entry)
   pub as_many : length times ≡ play.job.times
@@ -31,13 +31,13 @@ HavePictures play =
     (times : List (List Entry)) (n : ℕ) (t : ℤ) → All (IsTimeOf play) times
     → (canvas : CanvasValue) × IsPictureAt play.script play.fonts (live (take n (history_of_times times))) t play.job.size canvas
 
--- So where there are pictures, what was written is a front of the bytes of a whole play.
+-- So where there are pictures, what was written is a prefix of the bytes of a whole play.
 abbrev pub FrontsAreOfPlays : Type 0
 FrontsAreOfPlays =
     (play : PlayView) (bytes : List ℕ) → HavePictures play → IsFrontOfPlay play bytes
     → (times : List (List Entry)) × (more : List ℕ) × IsShownPlay play times (bytes ++ more)
 
--- What a settled play has written before it ended is a front of what each whole one puts that is alike.
+-- What a settled play has written before it ended is a prefix of what each whole one puts that is alike.
 abbrev pub SettledFrontsAgree : Type 0
 SettledFrontsAgree =
     (one other : PlayView) (times : List (List Entry)) (front bytes : List ℕ) → IsPlayable one → IsPlayable other → PlayAlike one other

@@ -3,13 +3,13 @@ use Rattle.std.specs.Prelude.{◌≡◌, List, ℕ, Ok, ◌-ℤ◌}
 use Rattle.std.specs.Io.KnownBytes.{Appends}
 use Rattle.ass_io.specs.Fetched.{Told}
 use Rattle.ass_script.specs.Scripts.{ScriptValue}
-use Rattle.frame_play.specs.Runs.{IsJobRun, SinkChange}
-use Rattle.frame_play.specs.declared.work.Task.TheVariants.{Write}
-use Rattle.frame_play.specs.declared.work.Work.{Work}
-use Rattle.frame_play.specs.declared.work.WriteTask.{WriteTask}
-use Rattle.input_files.specs.Inputs.{IsScriptRead}
+use Rattle.single_run.specs.Runs.{IsJobRun, SinkChange}
+use Rattle.single_run.specs.declared.work.Task.TheVariants.{Write}
+use Rattle.single_run.specs.declared.work.Work.{Work}
+use Rattle.single_run.specs.declared.work.WriteTask.{WriteTask}
+use Rattle.run_status.specs.Inputs.{IsScriptRead}
 use Rattle.run_status.specs.declared.status.Status.TheVariants.{Done}
-use Rattle.written_pictures.specs.Laws.{AreReadLater}
+use Rattle.picture_laws.specs.Laws.{AreReadLater}
 
 -- The script of the name was read, and the frames sink got a text that is read as a script: at each instant, so much later and so much earlier, it shows what the first one shows at the old one.
 pub record IsWrittenLater (told : List ℕ → Told) (name : List ℕ) (write : WriteTask) (frames : SinkChange) : Type 0 where

@@ -7,10 +7,9 @@ ghost use Rattle.play_laws.specs.Fronts.{FrontsAreOfPlays, FrontsGoOn, SettledFr
 ghost use Rattle.play_laws.specs.Selftests.{SelftestsAcceptAll, SelftestsAreDone};
 ghost use Rattle.play_laws.specs.Writing.{WrittenRunsShowTheSame};
 
-use generated_laws::generated_scripts_are_read;
-use input_files::files_decide;
-use picture_laws::one_picture;
-use written_pictures::rewritten_scripts_show_the_same;
+use picture_laws::{one_picture, rewritten_scripts_show_the_same};
+use run_status::files_decide;
+use script_laws::generated_scripts_are_read;
 
 /// Two settled plays of the same script and fonts, at the same instants, as often and of the same size, put the same bytes: no number
 /// of feeders, renderers, lines of a batch, lines offered again, instants warmed ahead, bands or bytes of a budget changes one.
@@ -21,7 +20,7 @@ pub fn settled_plays_agree()
 }
 
 /// So do two settled runs over the same files that are both done, where it is told what the files hold. One that ends in any other way
-/// has put a front of that.
+/// has put a prefix of that.
 pub fn settled_runs_agree()
     ensures done { SettledRunsAgree }
     ensures early { EarlyRunsAgree }
@@ -37,7 +36,7 @@ pub fn selftests_agree()
     one_picture();
 }
 
-/// A selftest is done, but for want of memory and a fault of its report: its script is never refused. Where it is done, its
+/// A selftest is done, but for lack of memory and a fault of its report: its script is never refused. Where it is done, its
 /// report says that each event was accepted.
 pub fn selftests_are_done()
     ensures done { SelftestsAreDone }
@@ -46,19 +45,19 @@ pub fn selftests_are_done()
     generated_scripts_are_read();
 }
 
-/// A play whose files are right is done, but for faults and want of memory.
+/// A play whose files are right is done, but for faults and out of memory.
 pub fn plays_are_done()
     ensures { PlaysAreDone }
 {}
 
-/// What a play that ended early has written is a front of the images of as many whole times as it was to be played. Where there
-/// are pictures, it is a front of what a whole play puts.
+/// What a play that ended early has written is a prefix of the images of as many whole times as it was to be played. Where there
+/// are pictures, it is a prefix of what a whole play puts.
 pub fn fronts_go_on()
     ensures times { FrontsGoOn }
     ensures plays { FrontsAreOfPlays }
 {}
 
-/// What a settled play that ended early has written is a front of what a whole one puts that is of the same script and fonts, at the
+/// What a settled play that ended early has written is a prefix of what a whole one puts that is of the same script and fonts, at the
 /// same instants, as often and of the same size.
 pub fn settled_fronts_agree()
     ensures { SettledFrontsAgree }

@@ -1,5 +1,5 @@
 //! The laws that settled plays of the same files agree, and selftests of the same script; that a play whose files are right is
-//! done, and a selftest; that an early end is a front of whole times; how many events rounds feed and repeat; and what a
+//! done, and a selftest; that an early end is a prefix of whole times; how many events rounds feed and repeat; and what a
 //! script shows that was written again.
 #![tactic(auto)]
 

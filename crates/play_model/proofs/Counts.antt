@@ -12,7 +12,7 @@ use Rattle.ass_num.proofs.ListLemmas.{flat_more}
 use Rattle.ass_script.specs.Scripts.{ScriptValue}
 use Rattle.play_shares.specs.Batches.{feeder_lines}
 use Rattle.play_shares.proofs.FeederLines.{lines_more}
-use Rattle.script_events.specs.ScriptEvents.{event_given, line_events}
+use Rattle.ass_events.specs.ScriptEvents.{event_given, line_events}
 use Rattle.play_model.specs.Interleavings.{sum_below}
 use Rattle.play_model.specs.Plays.{IsTimeOf, PlayView, events_at, feeder_events, good_count}
 use Rattle.play_model.proofs.Labels.{length_interleaving, sum_below_add, sum_below_same, sum_below_zero}

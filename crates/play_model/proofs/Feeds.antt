@@ -11,12 +11,12 @@ use Rattle.track_history.specs.declared.answers.Feed.{Feed}
 use Rattle.track_history.specs.declared.answers.Feed.TheVariants.{Accepted, Repeated, Malformed, Full, OutOfMemory}
 use Rattle.play_model.specs.Feeding.{AreFed, AreFedTwice, FeedAnswer, Has, IsKnown, IsKnownOf, accepted_of, repeated_of, repeats}
 
-accepted_of-append : (xs ys : List FeedAnswer) → accepted_of (xs ++ ys) ≡ accepted_of xs ++ accepted_of ys
+pub accepted_of-append : (xs ys : List FeedAnswer) → accepted_of (xs ++ ys) ≡ accepted_of xs ++ accepted_of ys
 accepted_of-append [] ys = refl
 accepted_of-append (a ∷ xs) ys =
     ap (λ z. entry_list (fed_entry a.0 a.1) ++ z) (accepted_of-append xs ys) ∙ sym (append_assoc (entry_list (fed_entry a.0 a.1)) (accepted_of xs) (accepted_of ys))
 
-repeated_of-append : (xs ys : List FeedAnswer) → repeated_of (xs ++ ys) ≡ repeated_of xs + repeated_of ys
+pub repeated_of-append : (xs ys : List FeedAnswer) → repeated_of (xs ++ ys) ≡ repeated_of xs + repeated_of ys
 repeated_of-append [] ys = omega arith
 repeated_of-append (a ∷ xs) ys = let rest = repeated_of-append xs ys in omega arith
 

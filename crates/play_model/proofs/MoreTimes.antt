@@ -10,7 +10,7 @@ use mathlib.Core.Logic.{dite}
 use native.Mathlib.Decide.{ℕ_discrete, dec_le}
 use Rattle.ass_events.specs.Histories.{Entry, Chunk, Flush, flushes_of, live}
 use Rattle.play_shares.specs.Instants.{instant_count, play_instant}
-use Rattle.play_words.specs.declared.job.Mode.TheVariants.{Live}
+use Rattle.run_words.specs.declared.job.Mode.TheVariants.{Live}
 use Rattle.play_model.specs.Images.{IsCountAt, IsImageAt, IsImageOf, IsShownImage, ShownImage, entries_before, needed_by, shown_pieces}
 use Rattle.play_model.specs.Outputs.{AreImages, AreShownImages, IsFrontOfPlay}
 use Rattle.play_model.specs.Plays.{IsFedTo, IsTimeOf, PlayView, feeder_events, good_before, good_count, history_of_times}
@@ -18,14 +18,9 @@ use Rattle.play_model.specs.Times.{AreFirstAt, AreFirstShown, history_before}
 use Rattle.play_model.proofs.Counts.{time_long}
 use Rattle.play_model.proofs.FeedLaws.{IsChunk, all_chunks, flushes_of_chunks}
 use Rattle.play_model.proofs.Labels.{IsInterleaving_all}
-use Rattle.play_model.proofs.SettledLaws.{live_after-append}
+use Rattle.track_history.proofs.Histories.{live_after-append, flushes_of-append}
 
 -- ---- histories
-
-flushes_of-append : (xs ys : List Entry) → flushes_of (xs ++ ys) ≡ flushes_of xs + flushes_of ys
-flushes_of-append [] ys = omega arith
-flushes_of-append (Chunk e ∷ xs) ys = flushes_of-append xs ys
-flushes_of-append (Flush ∷ xs) ys = let rest = flushes_of-append xs ys in omega (arith, rest)
 
 pub dead_before : (times : List (List Entry)) → live (history_before times) ≡ []
 dead_before [] = refl

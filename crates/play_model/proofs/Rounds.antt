@@ -5,8 +5,8 @@ use Rattle.ass_events.specs.Histories.{Entry, Chunk, live}
 use Rattle.play_shares.specs.Batches.{again_lines, batch_lines, good_lines}
 use Rattle.play_shares.specs.Rounds.{feeding_rounds}
 use Rattle.play_shares.proofs.AllOffers.{lines_within, none_behind}
-use Rattle.play_words.specs.declared.job.Mode.TheVariants.{Live}
-use Rattle.script_events.specs.ScriptEvents.{line_events}
+use Rattle.run_words.specs.declared.job.Mode.TheVariants.{Live}
+use Rattle.ass_events.specs.ScriptEvents.{line_events}
 use Rattle.picture_plan.specs.Pictures.{HaveSameEvents}
 use Rattle.play_model.specs.Images.{IsCountAt, entries_before}
 use Rattle.play_model.specs.Plays.{IsFedTo, IsPlayable, IsTimeOf, PlayView, all_feeding, events_again, events_at, events_before, events_in, feeder_events, good_before, good_count, good_flags, lines_of_feeder, repeated_before, repeated_count, repeated_in}

@@ -8,9 +8,10 @@ use Rattle.ass_events.specs.Histories.{Entry, Chunk, Flush, live, live_after}
 use Rattle.ass_events.specs.declared.event.Event.{Event}
 use Rattle.ass_script.specs.Scripts.{ScriptValue}
 use Rattle.picture_plan.specs.Pictures.{HaveSameEvents}
+use Rattle.track_history.proofs.Histories.{live_after-append}
 use Rattle.play_shares.specs.Batches.{feeder_lines}
 use Rattle.play_shares.proofs.AllOffers.{of_feeder, unfiltered}
-use Rattle.script_events.specs.ScriptEvents.{event_given, line_events}
+use Rattle.ass_events.specs.ScriptEvents.{event_given, line_events}
 use Rattle.play_model.specs.Plays.{IsTimeOf, PlayView, events_at, feeder_events}
 use Rattle.play_model.proofs.Counts.{all_lines}
 use Rattle.play_model.proofs.FeedLaws.{IsChunk, all_chunks, unchunk}
@@ -18,11 +19,6 @@ use Rattle.play_model.proofs.JoinedPasses.{Contains_here, Contains_map}
 use Rattle.play_model.proofs.Labels.{IsInterleaving_all, IsInterleaving_item, IsInterleaving_list}
 
 -- ---- what is live behind a history of which nothing is
-
-pub live_after-append : (events : List Event) (xs ys : List Entry) → live_after events (xs ++ ys) ≡ live_after (live_after events xs) ys
-live_after-append events [] ys = refl
-live_after-append events (Chunk e ∷ xs) ys = live_after-append (events ++ e ∷ []) xs ys
-live_after-append events (Flush ∷ xs) ys = live_after-append [] xs ys
 
 pub live_behind : (old fresh : List Entry) → live old ≡ [] → live (old ++ fresh) ≡ live fresh
 live_behind old fresh dead = live_after-append [] old fresh ∙ ap (λ events. live_after events fresh) dead

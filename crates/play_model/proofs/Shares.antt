@@ -1,7 +1,6 @@
 -- What the feeders have in a round is apart from all else.
 use Rattle.std.proofs.Common.{◌≡◌, ◌≢◌, ℕ, zero, suc, ◌+◌, ◌*◌, ◌%◌, ◌<◌, ◌≤◌, Bool, true, false, eqb, cond, get_or, List, [], ◌∷◌, ◌++◌, length, take, drop, Result, Ok, Err, refl, sym, ap, subst, ◌∙◌, arith, append_assoc, length-append, lt_of_not-le}
 use Rattle.std.specs.List.{All, Contains, filter, range_with_len}
-use Rattle.std.specs.Prelude.{slice_index_or}
 use Rattle.std.specs.Result.{is_ok}
 use Rattle.std.proofs.lemmas.Grind.{flat_map-append}
 use Rattle.std.proofs.lemmas.List.{take-append-drop}
@@ -10,13 +9,12 @@ use Rattle.std.proofs.lemmas.List.FromFn.{get_or-map-range_with_len, length-map-
 use mathlib.Core.Logic.{dite}
 use native.Mathlib.Decide.{dec_le}
 use Rattle.turn_cell.specs.History.{IsDistinct}
-use Rattle.ass_events.specs.Events.{event_of_line, line_event, line_made}
-use Rattle.ass_events.specs.Fields.{FieldValues, columns_of, examined, no_fields}
+use Rattle.ass_events.specs.Events.{event_of_line}
 use Rattle.ass_events.specs.declared.event.ChunkRefusal.{ChunkRefusal}
 use Rattle.ass_events.specs.declared.event.Event.{Event}
 use Rattle.ass_script.specs.Scripts.{ScriptValue}
-use Rattle.script_events.specs.ScriptEvents.{event_given}
-use Rattle.script_events.proofs.GivenEvents.{few_events}
+use Rattle.ass_events.specs.ScriptEvents.{event_given}
+use Rattle.ass_events.proofs.GivenEvents.{few_events, line_order}
 use Rattle.track_history.specs.Answers.{read_orders}
 use Rattle.play_shares.specs.Batches.{again_lines, batch_lines, good_lines}
 use Rattle.play_shares.proofs.AllOffers.{all_again, feeder_is, first_and_next}
@@ -28,14 +26,6 @@ use Rattle.play_model.proofs.SettledLaws.{line_there, of_line}
 
 -- ---- events of lines
 
-abbrev order_in : Result Event ChunkRefusal → ℕ
-order_in (Ok event) = event.order
-order_in (Err refusal) = 0
-
-made_order : (i : ℕ) (fields : Result FieldValues ChunkRefusal) (event : Event) → line_made i fields ≡ Ok event → event.order ≡ i
-made_order i (Ok fields) event e = sym (ap order_in e)
-made_order i (Err refusal) event e = absurd cc
-
 none_given : (r : Result Event ChunkRefusal) → is_ok r ≡ false → event_given r ≡ []
 none_given (Ok event) none = absurd cc
 none_given (Err refusal) none = refl
@@ -45,10 +35,6 @@ one_given (Ok event) some = refl
 one_given (Err refusal) some = absurd cc
 
 module _ (script : ScriptValue) where
-  pub line_order : (i : ℕ) (event : Event) → event_of_line script i ≡ Ok event → event.order ≡ i
-  unfolding line_event
-  line_order i event e = made_order i (examined (columns_of script.format (slice_index_or script.lines i [])) no_fields) event e
-
   pub events_parts : (xs ys : List ℕ) → events_at script (xs ++ ys) ≡ events_at script xs ++ events_at script ys
   events_parts xs ys = flat_map-append (λ i. event_given (event_of_line script i)) xs ys
 
@@ -100,7 +86,7 @@ module _ (script : ScriptValue) where
   orders_all P (i ∷ lines) all = first (event_of_line script i) refl (orders_all P lines (All-tail P i lines all))
     where
       first : (r : Result Event ChunkRefusal) → event_of_line script i ≡ r → All P (read_orders (events_at script lines)) → All P (read_orders (event_given r ++ events_at script lines))
-      first (Ok event) is rest = All-cons P event.order (read_orders (events_at script lines)) (subst P (sym (line_order i event is)) (All-head P i lines all)) rest
+      first (Ok event) is rest = All-cons P event.order (read_orders (events_at script lines)) (subst P (sym (line_order script i event is)) (All-head P i lines all)) rest
       first (Err refusal) is rest = rest
 
   orders_distinct : (lines : List ℕ) → IsDistinct lines → IsDistinct (read_orders (events_at script lines))
@@ -108,7 +94,7 @@ module _ (script : ScriptValue) where
   orders_distinct (i ∷ lines) apart = first (event_of_line script i) refl (orders_distinct lines apart.1)
     where
       first : (r : Result Event ChunkRefusal) → event_of_line script i ≡ r → IsDistinct (read_orders (events_at script lines)) → IsDistinct (read_orders (event_given r ++ events_at script lines))
-      first (Ok event) is rest = (orders_all (λ m. m ≢ event.order) lines (subst (λ (k : ℕ). All (λ m. m ≢ k) lines) (sym (line_order i event is)) apart.0), rest)
+      first (Ok event) is rest = (orders_all (λ m. m ≢ event.order) lines (subst (λ (k : ℕ). All (λ m. m ≢ k) lines) (sym (line_order script i event is)) apart.0), rest)
       first (Err refusal) is rest = rest
 
 -- ---- numbers of lines are distinct

@@ -7,15 +7,16 @@ use Rattle.std.proofs.lemmas.Nat.{mul-le}
 use Rattle.ass_events.specs.Histories.{Entry, Flush, live}
 use Rattle.picture_plan.proofs.DrawLaws.{pictures_of_a_set}
 use Rattle.play_shares.specs.Instants.{instant_count, play_instant}
-use Rattle.play_words.specs.declared.job.Mode.{Mode}
-use Rattle.play_words.specs.declared.job.Mode.TheVariants.{Settled}
+use Rattle.run_words.specs.declared.job.Mode.{Mode}
+use Rattle.run_words.specs.declared.job.Mode.TheVariants.{Settled}
 use Rattle.ppm_text.specs.Images.{image_bytes}
-use Rattle.script_events.specs.ScriptEvents.{line_events}
+use Rattle.ass_events.specs.ScriptEvents.{line_events}
 use Rattle.play_model.specs.Images.{IsCountAt, IsImageAt, IsImageOf, IsSettledImage}
 use Rattle.play_model.specs.Outputs.{IsShownPlay}
 use Rattle.play_model.specs.Plays.{IsPlayable, IsTimeOf, PlayView, good_count, history_of_times}
 use Rattle.play_model.proofs.Counts.{good_is, time_long}
-use Rattle.play_model.proofs.SettledLaws.{live_after-append, whole_time}
+use Rattle.play_model.proofs.SettledLaws.{whole_time}
+use Rattle.track_history.proofs.Histories.{live_after-append}
 
 -- Time q in a history of times of so many entries each: what is before it, of which nothing is live, and what is behind it.
 pub record TimeAt (P : List Entry → Type 0) (many q : ℕ) (history : List Entry) : Type 0 where

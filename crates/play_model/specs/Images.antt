@@ -7,10 +7,10 @@ use Rattle.mask_keys.specs.declared.plans.Clip.TheVariants.{Free, Rect, Drawn}
 use Rattle.mask_keys.specs.declared.plans.Draw.{Draw}
 use Rattle.picture_plan.specs.Pictures.{IsPictureAt}
 use Rattle.play_shares.specs.Instants.{play_instant}
-use Rattle.play_words.specs.declared.job.Mode.{Mode}
-use Rattle.play_words.specs.declared.job.Mode.TheVariants.{Live, Settled}
+use Rattle.run_words.specs.declared.job.Mode.{Mode}
+use Rattle.run_words.specs.declared.job.Mode.TheVariants.{Live, Settled}
 use Rattle.ppm_text.specs.Images.{image_bytes}
-use Rattle.script_events.specs.ScriptEvents.{line_events}
+use Rattle.ass_events.specs.ScriptEvents.{line_events}
 use Rattle.play_model.specs.Plays.{PlayView, good_before, good_count}
 
 -- The bytes are the image of what a history shows at t; its comment counts the history's entries.

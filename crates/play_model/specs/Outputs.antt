@@ -3,7 +3,7 @@ use Rattle.std.specs.Prelude.{◌≡◌, ℕ, ◌+◌, ◌*◌, ◌<◌, ◌≤�
 use Rattle.std.specs.List.{flat_map}
 use Rattle.ass_events.specs.Histories.{Entry}
 use Rattle.play_shares.specs.Instants.{frame_count, instant_count}
-use Rattle.play_words.specs.declared.job.Mode.TheVariants.{Settled}
+use Rattle.run_words.specs.declared.job.Mode.TheVariants.{Settled}
 use Rattle.play_model.specs.Images.{IsImageAt, IsSettledImage, IsShownImage, ShownImage}
 use Rattle.play_model.specs.Plays.{IsFedTo, IsPlayable, IsTimeOf, PlayView, history_of_times}
 
@@ -31,7 +31,7 @@ pub record IsPlayedSoFar (play : PlayView) (history : List Entry) : Type 0 where
   pub fed : IsFedTo play rounds last
   pub value : history ≡ history_of_times (times ++ last ∷ [])
 
--- What a play has written before it ended in any way: whole images in their order, and perhaps a front of the next.
+-- What a play has written before it ended in any way: whole images in their order, and perhaps a prefix of the next.
 pub record IsFrontOfPlay (play : PlayView) (bytes : List ℕ) : Type 0 where
   pub history : List Entry
   pub so_far : IsPlayedSoFar play history

@@ -13,9 +13,9 @@ use Rattle.play_shares.specs.Batches.{again_lines, batch_lines, feeder_lines}
 use Rattle.play_shares.specs.Instants.{frame_count}
 use Rattle.play_shares.specs.Limits.{max_frames}
 use Rattle.play_shares.specs.Rounds.{feeding_rounds}
-use Rattle.play_words.specs.Jobs.{IsPlay}
-use Rattle.play_words.specs.declared.job.PlayJob.{PlayJob}
-use Rattle.script_events.specs.ScriptEvents.{event_given}
+use Rattle.run_words.specs.Jobs.{IsPlay}
+use Rattle.run_words.specs.declared.job.PlayJob.{PlayJob}
+use Rattle.ass_events.specs.ScriptEvents.{event_given}
 use Rattle.text_layout.specs.Fonts.{IsLayoutFontSet}
 use Rattle.play_model.specs.Interleavings.{IsInterleaving, sum_below}
 

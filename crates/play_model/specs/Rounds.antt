@@ -6,8 +6,8 @@ use Rattle.ass_events.specs.Histories.{Entry, live}
 use Rattle.ass_events.specs.declared.event.Event.{Event}
 use Rattle.picture_plan.specs.Pictures.{HaveSameEvents}
 use Rattle.play_shares.specs.Batches.{again_lines, good_lines}
-use Rattle.play_words.specs.declared.job.Mode.TheVariants.{Live}
-use Rattle.script_events.specs.ScriptEvents.{line_events}
+use Rattle.run_words.specs.declared.job.Mode.TheVariants.{Live}
+use Rattle.ass_events.specs.ScriptEvents.{line_events}
 use Rattle.play_model.specs.Feeding.{AreFedTwice}
 use Rattle.play_model.specs.Images.{IsCountAt, entries_before}
 use Rattle.play_model.specs.Interleavings.{IsInterleaving}

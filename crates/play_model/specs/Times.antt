@@ -3,7 +3,7 @@ use Rattle.std.specs.Prelude.{◌≡◌, ℕ, ◌+◌, ◌*◌, ◌<◌, ◌≤�
 use Rattle.std.specs.List.{flat_map}
 use Rattle.ass_events.specs.Histories.{Entry, Flush, flushes_of, live}
 use Rattle.play_shares.specs.Instants.{instant_count}
-use Rattle.play_words.specs.declared.job.Mode.TheVariants.{Live}
+use Rattle.run_words.specs.declared.job.Mode.TheVariants.{Live}
 use Rattle.play_model.specs.Images.{IsCountAt, IsImageAt, IsShownImage, ShownImage, entries_before, shown_pieces}
 use Rattle.play_model.specs.Outputs.{AreImages, AreShownImages, IsFrontOfPlay}
 use Rattle.play_model.specs.Plays.{IsFedTo, IsTimeOf, PlayView, good_before, history_of_times}

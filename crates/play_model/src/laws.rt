@@ -3,8 +3,10 @@
 ghost use Rattle.std.specs.Prelude.{[]};
 ghost use Rattle.play_model.specs.Outputs.{SettledPlaysAreFixed};
 ghost use Rattle.play_model.specs.Plays.{IsFedTo, PlayView};
-ghost use Rattle.play_model.specs.Times.{ImagesFollow, ImagesStay, RoundsBoundImages, ShownImagesAreImages, ShownImagesFollow, ShownImagesStay, StoppedTimesAreFronts, TimesEndInFlushes, TimesFollow};
-ghost use Rattle.play_model.specs.Rounds.{AllRoundsFeedAll, GoodLinesHaveAllEvents, LinesHaveShortChunks, LiveCountsAreBounded, RoundsAreCounted, RoundsFeedOn, TimesHaveAllEvents};
+ghost use Rattle.play_model.specs.Times.{ImagesFollow, ImagesStay, RoundsBoundImages, ShownImagesAreImages, ShownImagesFollow, ShownImagesStay};
+ghost use Rattle.play_model.specs.Times.{StoppedTimesAreFronts, TimesEndInFlushes, TimesFollow};
+ghost use Rattle.play_model.specs.Rounds.{AllRoundsFeedAll, GoodLinesHaveAllEvents, LinesHaveShortChunks, LiveCountsAreBounded, RoundsAreCounted};
+ghost use Rattle.play_model.specs.Rounds.{RoundsFeedOn, TimesHaveAllEvents};
 
 /// The images of a settled play are those of all events of the script, whoever fed and drew them, and in whatever rounds.
 pub fn settled_plays_are_fixed()

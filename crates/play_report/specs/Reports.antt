@@ -22,11 +22,11 @@ count_lines malformed repeated frames =
 
 -- the entries of a cache that were found, claimed and filled
 abbrev pub entry_words : Totals → List ℕ
-entry_words t = codes " hits " ++ decimal t.hits ++ codes " claims " ++ decimal t.claims ++ codes " fills " ++ decimal t.fills
+entry_words t = codes " hits " ++ decimal t.counts.hits ++ codes " claims " ++ decimal t.counts.claims ++ codes " fills " ++ decimal t.counts.fills
 
 -- the values that failed, had no room or were evicted
 abbrev pub loss_words : Totals → List ℕ
-loss_words t = codes " fails " ++ decimal t.fails ++ codes " crowded " ++ decimal t.crowded ++ codes " evictions " ++ decimal t.evictions ++ codes "\n"
+loss_words t = codes " fails " ++ decimal t.counts.fails ++ codes " crowded " ++ decimal t.counts.crowded ++ codes " evictions " ++ decimal t.counts.evictions ++ codes "\n"
 
 -- the caches in the order of their totals
 abbrev pub cache_name : ℕ → List ℕ

@@ -1,7 +1,8 @@
 //! The report of a play.
 
 ghost use Rattle.std.specs.Prelude.{◌≡◌, ◌++◌, IfOk, OnOk, string_bytes};
-ghost use Rattle.play_report.specs.Reports.{accepted_line, accepted_lines, cache_line, cache_lines, cache_name, count_lines, entry_words, loss_words, order_words, report_text};
+ghost use Rattle.play_report.specs.Reports.{accepted_line, accepted_lines, cache_line, cache_lines, cache_name, count_lines, entry_words, loss_words};
+ghost use Rattle.play_report.specs.Reports.{order_words, report_text};
 
 use ass_num::{Items, Mem};
 use evict_core::Totals;
@@ -64,9 +65,9 @@ fn count_lines(alloc: Global, malformed: u64, repeated: u64, frames: u64) -> Mem
 fn entry_words(alloc: Global, totals: &Totals) -> Mem<String>
     ensures { IfOk result (λ text. string_bytes text ≡ entry_words totals.now) }
 {
-    let hits = totals.hits;
-    let claims = totals.claims;
-    let fills = totals.fills;
+    let hits = totals.counts.hits;
+    let claims = totals.counts.claims;
+    let fills = totals.counts.fills;
     Ok(format!(in alloc; " hits {hits} claims {claims} fills {fills}")?)
 }
 
@@ -74,9 +75,9 @@ fn entry_words(alloc: Global, totals: &Totals) -> Mem<String>
 fn loss_words(alloc: Global, totals: &Totals) -> Mem<String>
     ensures { IfOk result (λ text. string_bytes text ≡ loss_words totals.now) }
 {
-    let fails = totals.fails;
-    let crowded = totals.crowded;
-    let evictions = totals.evictions;
+    let fails = totals.counts.fails;
+    let crowded = totals.counts.crowded;
+    let evictions = totals.counts.evictions;
     Ok(format!(in alloc; " fails {fails} crowded {crowded} evictions {evictions}\n")?)
 }
 

@@ -72,7 +72,7 @@ module _ (h h' h'' : Option (List ℕ)) (f f' f'' p p' p'' a a' a'' : ℕ) (play
         let one = stops times images so_far.1 so_far.2.1 in
         (shown images ++ one.0, one.1, shown_cut h h' h'' f f' f'' p p' p'' a a' a'' s images count (frame_count play.job) one.0 so_far.2.2 one.2 room)
 
-    -- the next time was played whole, and then memory was wanting
+    -- the next time was played whole, and then memory ran out
     pub stops_behind : (history'' : List Entry) (repeated : ℕ) (orders : List ℕ) → PlaysTimes play time history history'' repeated orders (λ next. AreImagesWritten next h' h'' f' f'' p' p'' a' a'')
         → IsStopped play stop.OutOfMemory h h'' f f'' p p''
     stops_behind history'' repeated orders plays =

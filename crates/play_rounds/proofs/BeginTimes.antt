@@ -3,18 +3,18 @@ use Rattle.std.proofs.Common.{◌≡◌, ℕ, ◌<◌, ◌≤◌, Bool, false, L
 use Rattle.std.specs.Prelude.{nat_le}
 use Rattle.std.proofs.lemmas.Bool.Decides.{nat_tests}
 use Rattle.cache_kinds.specs.Kinds.{composite_meaning}
-use Rattle.cache_totals.specs.Asks.{seen_asks}
+use Rattle.mask_caches.specs.Asks.{seen_asks}
 use Rattle.mask_caches.specs.declared.passes.CachesPass.{CachesPass}
 use Rattle.play_workers.specs.Asks.{masks_seen}
 use Rattle.ass_events.specs.Histories.{Entry, Chunk, Flush, flushed, flushes_of, max_flushes}
-use Rattle.play_words.specs.Limits.{max_times}
+use Rattle.run_words.specs.Limits.{max_times}
 use Rattle.play_model.specs.Plays.{PlayView, history_of_times}
 use Rattle.play_model.specs.Times.{history_before}
 use Rattle.play_model.proofs.JoinedPasses.{nil_of}
 use Rattle.play_model.proofs.MoreTimes.{flushes_many, times_closed}
-use Rattle.play_passes.specs.Passes.{IsHome}
-use Rattle.play_passes.proofs.Turns.{found_same}
-use Rattle.render_pass.specs.Passes.{IsPassOfRenderer, RenderView, RendererView}
+use Rattle.play_rounds.specs.Passes.{IsHome}
+use Rattle.play_rounds.proofs.Turns.{found_same}
+use Rattle.renderer.specs.Passes.{IsPassOfRenderer, RenderView, RendererView}
 use Rattle.track_history.specs.Answers.{extended, flushed_entry}
 use Rattle.track_history.specs.Calls.{IsFlushed, IsTurn, history_of}
 use Rattle.track_history.specs.declared.answers.Flushed.{Flushed}

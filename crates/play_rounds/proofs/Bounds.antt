@@ -7,16 +7,16 @@ use Rattle.std.proofs.lemmas.List.Elements.{All-map}
 use Rattle.std.proofs.lemmas.Nat.{mul-le}
 use Rattle.ass_script.specs.Limits.{max_lines}
 use Rattle.play_shares.specs.Instants.{instant_count}
-use Rattle.play_words.specs.declared.job.PlayJob.{PlayJob}
+use Rattle.run_words.specs.declared.job.PlayJob.{PlayJob}
 use Rattle.play_shares.proofs.RoundPlaces.{few_painters, some_painters}
 use Rattle.play_model.proofs.JoinedPasses.{All_unmap}
 use Rattle.play_model.proofs.Shares.{flags_long}
 use Rattle.play_workers.specs.Limits.{max_rounds}
 use Rattle.play_workers.specs.Roles.{IsRoleOf}
 use Rattle.play_workers.specs.Stages.{IsPlayStage}
-use Rattle.play_workers.specs.declared.stage.Stage.{Stage}
+use Rattle.play_workers.specs.declared.stage.PlayStage.{PlayStage}
 use Rattle.play_workers.specs.declared.worker.Worker.{Worker}
-use Rattle.play_passes.specs.Rounds.{roles_of}
+use Rattle.play_rounds.specs.Rounds.{worker_roles}
 use Rattle.play_rounds.specs.Limits.{max_crew}
 use Rattle.play_rounds.specs.Shifts.{crew_of}
 use Rattle.play_rounds.specs.declared.shift.Shift.{Shift}
@@ -24,14 +24,14 @@ use Rattle.play_rounds.proofs.Crews.{crew_few, crew_fits, crew_some}
 
 -- ---- workers of the same roles
 
-pub as_many : (workers others : List Worker) → roles_of others ≡ roles_of workers → length others ≡ length workers
+pub as_many : (workers others : List Worker) → worker_roles others ≡ worker_roles workers → length others ≡ length workers
 as_many workers others same = sym (length-map others (λ (w : Worker). w.role)) ∙ (ap length same ∙ length-map workers (λ (w : Worker). w.role))
 
-pub still_fit : (job : PlayJob) (workers others : List Worker) → roles_of others ≡ roles_of workers → All (λ (w : Worker). IsRoleOf job w.role) workers → All (λ (w : Worker). IsRoleOf job w.role) others
+pub still_fit : (job : PlayJob) (workers others : List Worker) → worker_roles others ≡ worker_roles workers → All (λ (w : Worker). IsRoleOf job w.role) workers → All (λ (w : Worker). IsRoleOf job w.role) others
 still_fit job workers others same fit = All_unmap (IsRoleOf job) (λ (w : Worker). w.role) others
     (subst (All (IsRoleOf job)) (sym same) (All-map (IsRoleOf job) (λ (w : Worker). w.role) workers fit))
 
-module _ (stage : Stage) (is_stage : IsPlayStage stage) where
+module _ (stage : PlayStage) (is_stage : IsPlayStage stage) where
   pub lines_are : length stage.good ≡ length (arc_value stage.script).lines
   lines_are = ap length is_stage.good ∙ flags_long (arc_value stage.script)
 
@@ -46,7 +46,7 @@ module _ (stage : Stage) (is_stage : IsPlayStage stage) where
 
   -- ---- the crew of a shift
 
-  module _ (shift : Shift) (workers : List Worker) (crew : roles_of workers ≡ crew_of stage.job shift) where
+  module _ (shift : Shift) (workers : List Worker) (crew : worker_roles workers ≡ crew_of stage.job shift) where
     as_crew : length workers ≡ length (crew_of stage.job shift)
     as_crew = sym (length-map workers (λ (w : Worker). w.role)) ∙ ap length crew
 

@@ -6,13 +6,13 @@ use Rattle.std.specs.Result.{IfOk}
 use Rattle.std.proofs.lemmas.List.{get_or-append_right, get_or_append_left}
 use Rattle.std.proofs.lemmas.List.Elements.{All-append, All-cons, All-get_or, All-nil}
 use Rattle.std.proofs.lemmas.List.FromFn.{get_or-map-range_with_len, length-map-range_with_len, map-range_with_len_more}
-use Rattle.play_words.specs.declared.job.PlayJob.{PlayJob}
+use Rattle.run_words.specs.declared.job.PlayJob.{PlayJob}
 use Rattle.play_shares.specs.Renderers.{painter_count}
 use Rattle.play_workers.specs.Roles.{IsRoleOf}
 use Rattle.play_workers.specs.declared.worker.Role.{Role}
 use Rattle.play_workers.specs.declared.worker.Role.TheVariants.{Feeder, Painter, Warmer}
 use Rattle.play_workers.specs.declared.worker.Worker.{Worker}
-use Rattle.play_passes.specs.Rounds.{roles_of}
+use Rattle.play_rounds.specs.Rounds.{worker_roles}
 use Rattle.play_rounds.specs.Shifts.{crew_of, feeders_of, painters_of}
 use Rattle.play_rounds.specs.declared.shift.Shift.{Shift}
 use Rattle.play_rounds.specs.declared.shift.Shift.TheVariants.{Both, Feed, Paint}
@@ -193,12 +193,12 @@ module _ (role : ℕ → Role) (before : List Role) where
 
 -- whom nobody came before
 pub hired_first : {X E : Type 0} (roles : List Role) (nobody : List Worker) → nobody ≡ [] → (hired : Result X E) (items : X → List Worker)
-    → IfOk hired (λ x. roles_of (items x) ≡ roles_of nobody ++ roles) → IfOk hired (λ x. roles_of (items x) ≡ roles)
+    → IfOk hired (λ x. worker_roles (items x) ≡ worker_roles nobody ++ roles) → IfOk hired (λ x. worker_roles (items x) ≡ roles)
 hired_first roles nobody none hired items crew =
-    subst (λ (before : List Role). IfOk hired (λ x. roles_of (items x) ≡ before)) (ap (λ (ws : List Worker). roles_of ws ++ roles) none) crew
+    subst (λ (before : List Role). IfOk hired (λ x. worker_roles (items x) ≡ before)) (ap (λ (ws : List Worker). worker_roles ws ++ roles) none) crew
 
-pub hired_both : {X E : Type 0} (job : PlayJob) (nobody feeders : List Worker) → nobody ≡ [] → roles_of feeders ≡ roles_of nobody ++ feeders_of job → (hired : Result X E) (items : X → List Worker)
-    → IfOk hired (λ x. roles_of (items x) ≡ roles_of feeders ++ painters_of job) → IfOk hired (λ x. roles_of (items x) ≡ crew_of job Both)
+pub hired_both : {X E : Type 0} (job : PlayJob) (nobody feeders : List Worker) → nobody ≡ [] → worker_roles feeders ≡ worker_roles nobody ++ feeders_of job → (hired : Result X E) (items : X → List Worker)
+    → IfOk hired (λ x. worker_roles (items x) ≡ worker_roles feeders ++ painters_of job) → IfOk hired (λ x. worker_roles (items x) ≡ crew_of job Both)
 hired_both job nobody feeders none fed hired items crew =
-    subst (λ (before : List Role). IfOk hired (λ x. roles_of (items x) ≡ before))
-    (ap (λ (roles : List Role). roles ++ painters_of job) (fed ∙ ap (λ (ws : List Worker). roles_of ws ++ feeders_of job) none)) crew
+    subst (λ (before : List Role). IfOk hired (λ x. worker_roles (items x) ≡ before))
+    (ap (λ (roles : List Role). roles ++ painters_of job) (fed ∙ ap (λ (ws : List Worker). worker_roles ws ++ feeders_of job) none)) crew

@@ -5,7 +5,7 @@ use Rattle.std.specs.List.{slice_index_or}
 use Rattle.std.proofs.lemmas.List.{append_cancel_left, get_or-map, length-map}
 use Rattle.ass_events.specs.Histories.{Entry, live}
 use Rattle.ass_events.specs.declared.event.Event.{Event}
-use Rattle.render_pass.specs.Passes.{RenderView}
+use Rattle.renderer.specs.Passes.{RenderView}
 use Rattle.track_history.specs.Answers.{entry_of}
 use Rattle.track_history.specs.Calls.{history_of}
 use Rattle.play_shares.specs.Batches.{again_lines}
@@ -19,16 +19,16 @@ use Rattle.play_model.proofs.Labels.{IsInterleaving_fewer, length_interleaving, 
 use Rattle.play_model.proofs.Rounds.{feeds_on, repeats_again}
 use Rattle.play_workers.specs.Parts.{IsFedPart, IsFine, IsOutcome, told_repeats}
 use Rattle.play_workers.specs.Stages.{IsPlayStage, play_on}
-use Rattle.play_workers.specs.declared.stage.Stage.{Stage}
+use Rattle.play_workers.specs.declared.stage.PlayStage.{PlayStage}
 use Rattle.play_workers.specs.declared.worker.Outcome.{Outcome}
 use Rattle.play_workers.specs.declared.worker.Outcome.TheVariants.{Idle, Fed, Shown, OutOfMemory}
 use Rattle.play_workers.specs.declared.worker.Role.{Role}
 use Rattle.play_workers.specs.declared.worker.Role.TheVariants.{Feeder, Painter, Warmer}
 use Rattle.play_workers.specs.declared.worker.Worker.{Worker}
-use Rattle.play_passes.specs.Passes.{IsHome}
-use Rattle.play_passes.specs.Rounds.{IsRound, roles_of}
-use Rattle.play_passes.proofs.Told.{shown_begins, shown_ends, told_begun, told_given, told_later, told_mixed, told_new}
-use Rattle.play_passes.proofs.WholeRounds.{gave, nobody}
+use Rattle.play_rounds.specs.Passes.{IsHome}
+use Rattle.play_rounds.specs.Rounds.{IsRound, worker_roles}
+use Rattle.play_rounds.proofs.Told.{shown_begins, shown_ends, told_begun, told_given, told_later, told_mixed, told_new}
+use Rattle.play_rounds.proofs.WholeRounds.{gave, nobody}
 use Rattle.play_rounds.specs.Playing.{fed_before, repeats_before}
 use Rattle.play_rounds.specs.Shifts.{crew_of}
 use Rattle.play_rounds.specs.declared.shift.Shift.{Shift}
@@ -36,7 +36,7 @@ use Rattle.play_rounds.specs.declared.shift.Shift.TheVariants.{Both, Feed, Paint
 use Rattle.play_rounds.proofs.Crews.{FeedsNothing, crew_feeds, crew_rests, feeders_in, feeders_within}
 use Rattle.play_rounds.proofs.Sums.{one_below_more, sum_by_place}
 
-module _ (stage : Stage) (round : ℕ) (pass after : RenderView) where
+module _ (stage : PlayStage) (round : ℕ) (pass after : RenderView) where
   -- what a feeder's outcome says
   fed_by : (f : ℕ) (given : List Entry) (outcome : Outcome) → IsFine outcome → IsOutcome stage round (Feeder f) pass after given outcome → IsFedPart stage round f pass after given (told_repeats outcome)
   fed_by f given Idle fine came = absurd came
@@ -69,14 +69,14 @@ AreFedTwice_later before after more again batch given repeated two = record {
   repeated_are = two.repeated_are;
 }
 
-module _ (stage : Stage) (round : ℕ) (first : RenderView) (workers : List Worker) (after : RenderView) where
+module _ (stage : PlayStage) (round : ℕ) (first : RenderView) (workers : List Worker) (after : RenderView) where
   -- a round in which memory was never wanting
   pub record IsFineRound (shift : Shift) (old fresh : List Entry) : Type 0 where
     pub home : IsHome stage.renderer first
     pub one : IsRound stage round first workers after
     pub is_stage : IsPlayStage stage
     pub fine : (i : ℕ) (d : Worker) → i < length workers → IsFine (slice_index_or workers i d).outcome
-    pub crew : roles_of workers ≡ crew_of stage.job shift
+    pub crew : worker_roles workers ≡ crew_of stage.job shift
     pub dead : live old ≡ []
     pub is : history_of first.track.seen ≡ old ++ fresh
     pub fed : IsFedTo (play_on stage) (fed_before shift (all_feeding (play_on stage)) round) fresh
@@ -111,7 +111,7 @@ module _ (stage : Stage) (round : ℕ) (first : RenderView) (workers : List Work
         subst (λ (g : List Entry). IsOutcome stage round (slice_index_or workers i nobody).role (r.one.begun i) (r.one.passes i) g (outcome_at i))
         (sym (ap (map entry_of) (gave stage round first workers after r.home r.one i lt))) done.came
 
-    -- what a worker saw: what was there, and a front of what is new
+    -- what a worker saw: what was there, and a prefix of what is new
     pub record HasSeen (i : ℕ) : Type 0 where
       pub front : List Entry
       pub rest : List Entry
@@ -178,7 +178,7 @@ module _ (stage : Stage) (round : ℕ) (first : RenderView) (workers : List Work
         let zero_sum : sum_below (feeders_in stage.job shift) (λ i. length (given_at i)) ≡ 0 = ap (λ (n : ℕ). sum_below n (λ i. length (given_at i))) none in omega (arith, many, zero_sum))
 
 -- a round feeds on, and repeats just what is offered once more
-pub fed_on : (stage : Stage) (round : ℕ) (first : RenderView) (workers : List Worker) (after : RenderView) (shift : Shift) (old fresh : List Entry) (r : IsFineRound stage round first workers after shift old fresh)
+pub fed_on : (stage : PlayStage) (round : ℕ) (first : RenderView) (workers : List Worker) (after : RenderView) (shift : Shift) (old fresh : List Entry) (r : IsFineRound stage round first workers after shift old fresh)
     → IsFedTo (play_on stage) (fed_before shift (all_feeding (play_on stage)) (round + 1)) (fresh ++ fresh_new stage round first workers after shift old fresh r)
     × (repeats_before (play_on stage) shift round + sum_by (λ (w : Worker). told_repeats w.outcome) workers ≡ repeats_before (play_on stage) shift (round + 1))
 fed_on stage round first workers after Both old fresh r =

@@ -9,26 +9,26 @@ use Rattle.ass_events.specs.Histories.{Entry}
 use Rattle.ass_events.specs.declared.event.ChunkRefusal.{ChunkRefusal}
 use Rattle.ass_events.specs.declared.event.Event.{Event}
 use Rattle.ass_script.specs.Scripts.{ScriptValue}
-use Rattle.render_pass.specs.Passes.{RenderView}
-use Rattle.script_events.specs.ScriptEvents.{event_given}
+use Rattle.renderer.specs.Passes.{RenderView}
+use Rattle.ass_events.specs.ScriptEvents.{event_given}
 use Rattle.track_history.specs.Calls.{history_of}
 use Rattle.track_history.specs.declared.answers.Feed.{Feed}
 use Rattle.track_history.specs.declared.answers.Feed.TheVariants as feed
 use Rattle.play_shares.specs.Batches.{again_lines, batch_lines, feeder_lines, good_lines, has_batch, last_items}
-use Rattle.play_words.specs.Limits.{max_batch}
-use Rattle.play_words.specs.declared.job.PlayJob.{PlayJob}
+use Rattle.run_words.specs.Limits.{max_batch}
+use Rattle.run_words.specs.declared.job.PlayJob.{PlayJob}
 use Rattle.play_model.specs.Feeding.{AreFed, FeedAnswer, repeated_of, repeats}
 use Rattle.play_model.specs.Plays.{PlayView, events_again, events_at, events_in, good_flags}
 use Rattle.play_workers.specs.Parts.{IsOutcome, told_repeats}
 use Rattle.play_workers.specs.Stages.{IsPlayStage, play_on}
-use Rattle.play_workers.specs.declared.stage.Stage.{Stage}
+use Rattle.play_workers.specs.declared.stage.PlayStage.{PlayStage}
 use Rattle.play_workers.specs.declared.worker.Outcome.{Outcome}
 use Rattle.play_workers.specs.declared.worker.Outcome.TheVariants.{Idle, Fed, Shown, OutOfMemory}
 use Rattle.play_workers.specs.declared.worker.Role.{Role}
 use Rattle.play_workers.specs.declared.worker.Role.TheVariants.{Feeder, Painter, Warmer}
 use Rattle.play_workers.specs.declared.worker.Worker.{Worker}
-use Rattle.play_passes.specs.Rounds.{IsRound}
-use Rattle.play_passes.proofs.WholeRounds.{all_at}
+use Rattle.play_rounds.specs.Rounds.{IsRound}
+use Rattle.play_rounds.proofs.WholeRounds.{all_at}
 use Rattle.play_rounds.specs.Limits.{max_crew}
 
 given_few : (r : Result Event ChunkRefusal) → length (event_given r) ≤ 1
@@ -84,7 +84,7 @@ fed_few before events after given repeated fed =
     let most = repeated_few fed.answers in let all : length (map (λ (a : FeedAnswer). a.0) fed.answers) ≡ length events = ap length fed.events_are in
     let same = length-map fed.answers (λ (a : FeedAnswer). a.0) in let is = fed.repeated_are in omega (arith, most, all, same, is)
 
-module _ (stage : Stage) (is_stage : IsPlayStage stage) (round : ℕ) (pass after : RenderView) (given : List Entry) where
+module _ (stage : PlayStage) (is_stage : IsPlayStage stage) (round : ℕ) (pass after : RenderView) (given : List Entry) where
   told_few : (role : Role) (outcome : Outcome) → IsOutcome stage round role pass after given outcome → told_repeats outcome ≤ 2 * max_batch
   told_few (Feeder f) Idle came = absurd came
   told_few (Feeder f) (Fed repeated) came =
@@ -106,7 +106,7 @@ module _ (stage : Stage) (is_stage : IsPlayStage stage) (round : ℕ) (pass afte
   told_few Warmer (Shown images) came = absurd came
   told_few Warmer OutOfMemory came = omega arith
 
-pub round_few : (stage : Stage) (round : ℕ) (first : RenderView) (workers : List Worker) (after : RenderView) → IsPlayStage stage → IsRound stage round first workers after → length workers ≤ max_crew
+pub round_few : (stage : PlayStage) (round : ℕ) (first : RenderView) (workers : List Worker) (after : RenderView) → IsPlayStage stage → IsRound stage round first workers after → length workers ≤ max_crew
     → sum_by (λ (w : Worker). told_repeats w.outcome) workers ≤ 4294967295
 round_few stage round first workers after is_stage one few =
     let all = sum_by-le (λ (w : Worker). told_repeats w.outcome) (2 * max_batch) workers (all_at (λ (w : Worker). told_repeats w.outcome ≤ 2 * max_batch) workers (λ i d lt.

@@ -12,3 +12,14 @@ pub mod TimesMore
 pub mod AllTimes
 pub mod Whole
 pub mod Bounds
+pub mod Shards
+pub mod Splits
+pub mod Hands
+pub mod Apart
+pub mod Takes
+pub mod ShardRounds
+pub mod CacheRounds
+pub mod CacheAsks
+pub mod WholeRounds
+pub mod Told
+pub mod Turns

@@ -4,21 +4,21 @@ use Rattle.std.specs.List.{flat_map}
 use Rattle.std.proofs.lemmas.List.{take_all}
 use Rattle.std.proofs.Math.Seq.{take-append-add}
 use Rattle.ass_events.specs.Histories.{Entry}
-use Rattle.render_pass.specs.Passes.{RenderView}
+use Rattle.renderer.specs.Passes.{RenderView}
 use Rattle.track_history.specs.Calls.{history_of}
 use Rattle.play_shares.specs.Instants.{instant_count}
-use Rattle.play_words.specs.declared.job.PlayJob.{PlayJob}
+use Rattle.run_words.specs.declared.job.PlayJob.{PlayJob}
 use Rattle.play_model.specs.Plays.{PlayView, all_feeding}
 use Rattle.play_workers.specs.Parts.{images_by, told_repeats}
 use Rattle.play_workers.specs.Stages.{IsPlayStage, play_on}
-use Rattle.play_workers.specs.declared.stage.Stage.{Stage}
+use Rattle.play_workers.specs.declared.stage.PlayStage.{PlayStage}
 use Rattle.play_workers.specs.declared.worker.Role.{Role}
 use Rattle.play_workers.specs.declared.worker.Worker.{Worker}
-use Rattle.play_passes.specs.Passes.{IsHome}
-use Rattle.play_passes.specs.Rounds.{IsRound, roles_of}
+use Rattle.play_rounds.specs.Passes.{IsHome}
+use Rattle.play_rounds.specs.Rounds.{IsRound, worker_roles}
 use Rattle.play_model.specs.Images.{ShownImage}
 use Rattle.play_workers.specs.Asks.{masks_seen}
-use Rattle.play_passes.proofs.WholeRounds.{masks_after}
+use Rattle.play_rounds.proofs.WholeRounds.{masks_after}
 use Rattle.play_rounds.specs.Outputs.{AreCutOff, AreImagesWritten, AreWritten, IsCutOff}
 use Rattle.play_rounds.specs.Playing.{AreFirstImages, IsShiftPlayed, IsShiftStopped, PlaysOn, StopsIn, fed_before, images_before}
 use Rattle.play_rounds.specs.declared.ends.Stop.{Stop}
@@ -62,8 +62,8 @@ stopped_in play old q shift round history repeated images next cut played =
 
 -- ---- one round
 
-module _ (h h' : Option (List ℕ)) (f f' p p' : ℕ) (stage : Stage) (round : ℕ) (first : RenderView) (workers : List Worker) (after : RenderView) (roles : List Role)
-    (is_stage : IsPlayStage stage) (home : IsHome stage.renderer first) (one : IsRound stage round first workers after) (same : roles_of workers ≡ roles) where
+module _ (h h' : Option (List ℕ)) (f f' p p' : ℕ) (stage : PlayStage) (round : ℕ) (first : RenderView) (workers : List Worker) (after : RenderView) (roles : List Role)
+    (is_stage : IsPlayStage stage) (home : IsHome stage.renderer first) (one : IsRound stage round first workers after) (same : worker_roles workers ≡ roles) where
   abbrev pieces : List (List ℕ)
   pieces = flat_map (λ (w : Worker). images_by w.outcome) workers
 
@@ -86,7 +86,7 @@ module _ (h h' : Option (List ℕ)) (f f' p p' : ℕ) (stage : Stage) (round : �
             (cut_fewer h h' h' f f' f' p p' p' s (length pieces) (instant_count stage.job - length images) (take cut.0 (joined pieces)) cut.1 (omega (arith, all, long, few))),
       )
 
--- memory was wanting
+-- memory ran out
 pub stops_now : (h : Option (List ℕ)) (f p : ℕ) (play : PlayView) (roles : List Role) (round : ℕ) (history : List Entry) → StopsIn play roles round history (λ most bytes. IsCutOff stop.OutOfMemory most bytes h h f f p p)
 stops_now h f p play roles round history = λ old q shift repeated images crew played.
     ([], stopped_now play old q shift round history repeated images played, nothing_cut h h h f f f p p p (instant_count play.job - length images))

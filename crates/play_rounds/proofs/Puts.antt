@@ -89,7 +89,7 @@ module _ (h h' h'' : Option (List ℕ)) (f f' f'' p p' p'' : ℕ) where
   pub cut_fewer : (s : Stop) (most all : ℕ) (bytes : List ℕ) → IsCutOff s most bytes h h' f f' p p' → most ≤ all → IsCutOff s all bytes h h' f f' p p'
   cut_fewer s most all bytes cut few = (cut.0, cut.1, cut.2, (let b = cut.3 in omega (arith, b, few)))
 
-  -- all of some pieces were written before memory was wanting
+  -- all of some pieces were written before memory ran out
   pub all_cut : (xs : List (List ℕ)) (most : ℕ) → AreWritten xs h h' f f' p p' → length xs ≤ most → IsCutOff stop.OutOfMemory most (joined xs) h h' f f' p p'
   all_cut xs most one few = (one.0, one.1, one.2.1, (let a = one.2.2 in omega (arith, a, few)))
 
@@ -105,7 +105,7 @@ module _ (h h' h'' : Option (List ℕ)) (f f' f'' p p' p'' : ℕ) where
             (cut_then s xs (length ys) (length (xs ++ ys)) (take two.0 (joined ys)) one two.1 (let long = length-append xs ys in omega (arith, long))),
       )
 
-kept_nothing : (h h' : Option (List ℕ)) → Keeps h h' → Appends h h' []
+pub kept_nothing : (h h' : Option (List ℕ)) → Keeps h h' → Appends h h' []
 kept_nothing None h' kept = tt
 kept_nothing (Some xs) None kept = absurd kept
 kept_nothing (Some xs) (Some ys) kept = kept ∙ sym (append-nil xs)

@@ -6,15 +6,15 @@ use Rattle.std.proofs.lemmas.List.{get_or_default}
 use Rattle.std.proofs.lemmas.List.Elements.{All-get_or}
 use Rattle.std.proofs.Math.Seq.{take-append_seam}
 use Rattle.ass_events.specs.Histories.{Entry}
-use Rattle.render_pass.specs.Passes.{RenderView}
+use Rattle.renderer.specs.Passes.{RenderView}
 use Rattle.track_history.specs.Calls.{history_of}
 use Rattle.play_shares.specs.Instants.{instant_count, play_instant}
 use Rattle.play_shares.specs.Renderers.{first_place, images_in, painter_count, share_begins, share_ends}
 use Rattle.play_shares.proofs.RoundPlaces.{first_begins, live_place, round_ends, some_painters, within_share}
 use Rattle.turn_cell.specs.History.{IsPrefix}
 use Rattle.turn_cell.proofs.Histories.{IsPrefix_trans}
-use Rattle.play_words.specs.declared.job.Mode.{Mode}
-use Rattle.play_words.specs.declared.job.Mode.TheVariants.{Live, Settled}
+use Rattle.run_words.specs.declared.job.Mode.{Mode}
+use Rattle.run_words.specs.declared.job.Mode.TheVariants.{Live, Settled}
 use Rattle.play_model.specs.Images.{IsCountAt, IsImageOf, IsShownImage, ShownImage, all_masks, entries_before, needed_by, shown_pieces}
 use Rattle.play_model.specs.Interleavings.{sum_below}
 use Rattle.play_model.specs.Plays.{IsPlayable, PlayView, all_feeding, good_before}
@@ -23,17 +23,17 @@ use Rattle.play_workers.specs.Asks.{masks_asked}
 use Rattle.play_workers.specs.Parts.{ArePainted, IsFine, IsOutcome, images_by, painted_bytes, told_repeats}
 use Rattle.play_workers.specs.Roles.{IsRoleOf}
 use Rattle.play_workers.specs.Stages.{IsPlayStage, play_on}
-use Rattle.play_workers.specs.declared.stage.Stage.{Stage}
+use Rattle.play_workers.specs.declared.stage.PlayStage.{PlayStage}
 use Rattle.play_workers.specs.declared.worker.Outcome.{Outcome}
 use Rattle.play_workers.specs.declared.worker.Outcome.TheVariants.{Idle, Fed, Shown, OutOfMemory}
 use Rattle.play_workers.specs.declared.worker.Role.{Role}
 use Rattle.play_workers.specs.declared.worker.Role.TheVariants.{Feeder, Painter, Warmer}
 use Rattle.play_workers.specs.declared.worker.Worker.{Worker}
 use Rattle.play_workers.proofs.Paintings.{IsImageBetween, image_between}
-use Rattle.play_passes.specs.Passes.{IsHome}
-use Rattle.play_passes.specs.Rounds.{IsRound, roles_of}
-use Rattle.play_passes.proofs.Told.{shown_ends, told_begun}
-use Rattle.play_passes.proofs.WholeRounds.{all_at, nobody}
+use Rattle.play_rounds.specs.Passes.{IsHome}
+use Rattle.play_rounds.specs.Rounds.{IsRound, worker_roles}
+use Rattle.play_rounds.proofs.Told.{shown_ends, told_begun}
+use Rattle.play_rounds.proofs.WholeRounds.{all_at, nobody}
 use Rattle.play_rounds.specs.Playing.{AreFirstImages, IsShiftPlayed, fed_before, images_before}
 use Rattle.play_rounds.specs.Shifts.{IsShiftOf, crew_of}
 use Rattle.play_rounds.specs.declared.shift.Shift.{Shift}
@@ -54,7 +54,7 @@ count_at play q place round n Settled Both playable of is least most unlike = ab
 count_at play q place round n Settled Feed playable of is least most unlike = absurd (unlike refl)
 count_at play q place round n Settled Paint playable of is least most unlike = let all = good_all play playable (all_feeding play) (le_refl (all_feeding play)) in omega (arith, all, least, most)
 
-module _ (stage : Stage) (round : ℕ) (first : RenderView) (workers : List Worker) (after : RenderView) (shift : Shift) (old fresh : List Entry) (r : IsFineRound stage round first workers after shift old fresh)
+module _ (stage : PlayStage) (round : ℕ) (first : RenderView) (workers : List Worker) (after : RenderView) (shift : Shift) (old fresh : List Entry) (r : IsFineRound stage round first workers after shift old fresh)
     (q : ℕ) (mode : IsShiftOf stage.job.mode shift) (behind : length old ≡ entries_before (play_on stage) q) where
   abbrev play : PlayView
   play = play_on stage
@@ -158,7 +158,7 @@ module _ (stage : Stage) (round : ℕ) (first : RenderView) (workers : List Work
         all.0,
         all.1,
         all.2,
-        images_renamed play whole q (min (base + painter_after 0 (roles_of workers) * each) (instant_count stage.job)) (min (first_place stage.job (round + 1)) (instant_count stage.job))
+        images_renamed play whole q (min (base + painter_after 0 (worker_roles workers) * each) (instant_count stage.job)) (min (first_place stage.job (round + 1)) (instant_count stage.job))
             (images ++ all.0)
             (ap (λ (roles : List Role). min (base + painter_after 0 roles * each) (instant_count stage.job)) r.crew ∙ (ap (λ (n : ℕ). min (base + n * each) (instant_count stage.job)) paints
             ∙ round_ends stage.job round some))
@@ -166,13 +166,13 @@ module _ (stage : Stage) (round : ℕ) (first : RenderView) (workers : List Work
       )
 
 -- a feeder has no image
-fed_image : (stage : Stage) (round : ℕ) (pass after : RenderView) (f : ℕ) (given : List Entry) (outcome : Outcome) → IsOutcome stage round (Feeder f) pass after given outcome → images_by outcome ≡ []
+fed_image : (stage : PlayStage) (round : ℕ) (pass after : RenderView) (f : ℕ) (given : List Entry) (outcome : Outcome) → IsOutcome stage round (Feeder f) pass after given outcome → images_by outcome ≡ []
 fed_image stage round pass after f given Idle came = absurd came
 fed_image stage round pass after f given (Fed repeated) came = refl
 fed_image stage round pass after f given (Shown images) came = absurd came
 fed_image stage round pass after f given OutOfMemory came = refl
 
-module _ (stage : Stage) (round : ℕ) (first : RenderView) (workers : List Worker) (after : RenderView) (old fresh : List Entry) (r : IsFineRound stage round first workers after Feed old fresh) where
+module _ (stage : PlayStage) (round : ℕ) (first : RenderView) (workers : List Worker) (after : RenderView) (old fresh : List Entry) (r : IsFineRound stage round first workers after Feed old fresh) where
   only_feeders : (i : ℕ) → i < length workers → images_by (slice_index_or workers i nobody).outcome ≡ []
   only_feeders i lt =
       let roles : length workers ≡ length (crew_of stage.job Feed) = crew_long stage round first workers after Feed old fresh r in
@@ -187,7 +187,7 @@ module _ (stage : Stage) (round : ℕ) (first : RenderView) (workers : List Work
       subst (λ (w : Worker). images_by w.outcome ≡ []) (get_or_default workers i nobody d lt) (only_feeders i lt)))
 
 -- what a round makes of the images of its shift
-images_of_round : (stage : Stage) (round : ℕ) (first : RenderView) (workers : List Worker) (after : RenderView) (shift : Shift) (old fresh : List Entry) (r : IsFineRound stage round first workers after shift old fresh)
+images_of_round : (stage : PlayStage) (round : ℕ) (first : RenderView) (workers : List Worker) (after : RenderView) (shift : Shift) (old fresh : List Entry) (r : IsFineRound stage round first workers after shift old fresh)
     (q : ℕ) (images : List ShownImage) → IsShiftOf stage.job.mode shift → length old ≡ entries_before (play_on stage) q
     → AreFirstImages (play_on stage) (history_of first.track.seen) q (images_before shift stage.job round) images
     → AreMoreFirst (play_on stage) (old ++ (fresh ++ fresh_new stage round first workers after shift old fresh r)) q (images_before shift stage.job (round + 1))
@@ -210,8 +210,8 @@ abbrev pub AllFine : List Worker → Type 0
 AllFine workers = (i : ℕ) (d : Worker) → i < length workers → IsFine (slice_index_or workers i d).outcome
 
 -- A round more of a shift: images of what the workers painted, which need no more composed masks than the workers' passes asked for.
-pub shift_on : (stage : Stage) (round : ℕ) (first : RenderView) (workers : List Worker) (after : RenderView) (old : List Entry) (q : ℕ) (shift : Shift) (repeated : ℕ) (images : List ShownImage)
-    → IsPlayStage stage → IsHome stage.renderer first → (one : IsRound stage round first workers after) → AllFine workers → roles_of workers ≡ crew_of stage.job shift
+pub shift_on : (stage : PlayStage) (round : ℕ) (first : RenderView) (workers : List Worker) (after : RenderView) (old : List Entry) (q : ℕ) (shift : Shift) (repeated : ℕ) (images : List ShownImage)
+    → IsPlayStage stage → IsHome stage.renderer first → (one : IsRound stage round first workers after) → AllFine workers → worker_roles workers ≡ crew_of stage.job shift
     → IsShiftPlayed (play_on stage) old q shift round (history_of first.track.seen) repeated images
     → (next : List ShownImage) × (shown_pieces next ≡ flat_map (λ (w : Worker). images_by w.outcome) workers) × (all_masks next ≤ sum_below (length workers) (λ i. masks_asked stage.renderer (one.passes i)))
     × IsShiftPlayed (play_on stage) old q shift (round + 1) (history_of after.track.seen) (repeated + sum_by (λ (w : Worker). told_repeats w.outcome) workers) (images ++ next)

@@ -104,7 +104,7 @@ module _ (play : PlayView) where
         let one = stops (length times) (dead times images many played) (long times images many played) in
         (one.0, front_of times images many played one.0 one.1, one.2)
 
-    -- the time was played whole, and then memory was wanting
+    -- the time was played whole, and then memory ran out
     pub stop_behind : (history'' : List Entry) (repeated : ℕ) (Written : List ShownImage → Type 0) (CutOff : List ℕ → Type 0) → PlaysTime play history' history'' repeated Written
         → ((next : List ShownImage) → length next ≤ count → Written next → CutOff (shown next)) → StopsInTimes play time history CutOff
     stop_behind history'' repeated Written CutOff plays cut = λ times images many played.
@@ -112,7 +112,7 @@ module _ (play : PlayView) where
         let mine = own times images many played history'' repeated one.0 one.1 in
         (shown one.0, front_of times images many played (shown one.0) (stopped_after times images many played history'' repeated one.0 one.1), cut one.0 (omega (arith, mine)) one.2)
 
-  -- times were played, the last of which is this, and then memory was wanting
+  -- times were played, the last of which is this, and then memory ran out
   pub front_whole : (times : List (List Entry)) (images next : List ShownImage) (history : List Entry) (repeated : ℕ) (orders : List ℕ) → length times < play.job.times → All (IsTimeOf play) times
       → IsTimeMore play times images history repeated orders next → IsFrontOfPlay play (shown (images ++ next))
   front_whole times images next history repeated orders few each more =

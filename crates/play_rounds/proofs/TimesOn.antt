@@ -7,8 +7,8 @@ use Rattle.play_shares.specs.Renderers.{first_place, images_each, painter_count}
 use Rattle.play_shares.specs.Rounds.{image_rounds}
 use Rattle.play_shares.proofs.InstantLemmas.{ceil_enough}
 use Rattle.play_shares.proofs.RoundPlaces.{all_reached, none_before, some_images, some_painters}
-use Rattle.play_words.specs.declared.job.Mode.{Mode}
-use Rattle.play_words.specs.declared.job.Mode.TheVariants.{Live, Settled}
+use Rattle.run_words.specs.declared.job.Mode.{Mode}
+use Rattle.run_words.specs.declared.job.Mode.TheVariants.{Live, Settled}
 use Rattle.std.proofs.lemmas.Nat.{mul-le}
 use Rattle.play_model.specs.Images.{ShownImage, entries_before}
 use Rattle.play_model.specs.Plays.{IsPlayable, PlayView, all_feeding, repeated_before}
@@ -16,7 +16,7 @@ use Rattle.play_model.proofs.JoinedPasses.{nil_of}
 use Rattle.play_model.proofs.Rounds.{feeds_all, nothing_fed, repeats_all}
 use Rattle.play_model.proofs.Shares.{flags_long}
 use Rattle.play_workers.specs.Stages.{IsPlayStage, play_on}
-use Rattle.play_workers.specs.declared.stage.Stage.{Stage}
+use Rattle.play_workers.specs.declared.stage.PlayStage.{PlayStage}
 use Rattle.play_rounds.specs.Outputs.{AreImagesWritten, IsCutOff}
 use Rattle.play_rounds.specs.Playing.{IsShiftPlayed, PlaysOn, StopsIn}
 use Rattle.play_rounds.specs.Shifts.{IsShiftOf, crew_of, rounds_of}
@@ -26,7 +26,7 @@ use Rattle.play_rounds.specs.declared.shift.Shift.TheVariants.{Both, Feed, Paint
 use Rattle.play_rounds.proofs.Puts.{shown_cut, shown_then}
 use Rattle.play_rounds.proofs.Walks.{images_renamed, no_images}
 
-pub lines_are : (stage : Stage) → IsPlayStage stage → length stage.good ≡ length (play_on stage).script.lines
+pub lines_are : (stage : PlayStage) → IsPlayStage stage → length stage.good ≡ length (play_on stage).script.lines
 lines_are stage is_stage = ap length is_stage.good ∙ flags_long (arc_value stage.script)
 
 module _ (play : PlayView) where

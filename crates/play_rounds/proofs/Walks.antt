@@ -18,8 +18,8 @@ use Rattle.play_workers.specs.declared.worker.Outcome.TheVariants.{Idle, Fed, Sh
 use Rattle.play_workers.specs.declared.worker.Role.{Role}
 use Rattle.play_workers.specs.declared.worker.Role.TheVariants.{Feeder, Painter, Warmer}
 use Rattle.play_workers.specs.declared.worker.Worker.{Worker}
-use Rattle.play_passes.specs.Rounds.{roles_of}
-use Rattle.play_passes.proofs.WholeRounds.{nobody}
+use Rattle.play_rounds.specs.Rounds.{worker_roles}
+use Rattle.play_rounds.proofs.WholeRounds.{nobody}
 use Rattle.play_rounds.specs.Playing.{AreFirstImages}
 use Rattle.play_rounds.proofs.Crews.{ArePaintersFrom, IsNext, next_painter, painter_after}
 use Rattle.play_rounds.proofs.Puts.{pieces-append}
@@ -106,9 +106,9 @@ module _ (play : PlayView) where
     abbrev pub WorkerHasShown : ℕ → Worker → Type 0
     WorkerHasShown asked w = HasShown asked w.role w.outcome
 
-    pub all_shown : (asked : ℕ → ℕ) (workers : List Worker) (p : ℕ) (images : List ShownImage) → ArePaintersFrom p (roles_of workers)
+    pub all_shown : (asked : ℕ → ℕ) (workers : List Worker) (p : ℕ) (images : List ShownImage) → ArePaintersFrom p (worker_roles workers)
         → ((i : ℕ) → i < length workers → WorkerHasShown (asked i) (slice_index_or workers i nobody)) → AreUpTo p images
-        → AreMore (sum_below (length workers) asked) (flat_map (λ (w : Worker). images_by w.outcome) workers) (painter_after p (roles_of workers)) images
+        → AreMore (sum_below (length workers) asked) (flat_map (λ (w : Worker). images_by w.outcome) workers) (painter_after p (worker_roles workers)) images
     all_shown asked [] p images from all are = none_more 0 p images are
     all_shown asked (w ∷ workers) p images from all are =
         let one = one_shown (asked 0) w.role w.outcome p images from.0 (all 0 (omega arith)) are in
@@ -119,7 +119,7 @@ module _ (play : PlayView) where
           one.0 ++ rest.0,
           pieces-append one.0 rest.0 ∙ (ap (λ (z : List (List ℕ)). z ++ shown_pieces rest.0) one.1 ∙ ap (λ (z : List (List ℕ)). images_by w.outcome ++ z) rest.1),
           omega (arith, few, fewer, masks, asks),
-          subst (AreUpTo (painter_after p (roles_of (w ∷ workers)))) (append_assoc images one.0 rest.0) rest.3,
+          subst (AreUpTo (painter_after p (worker_roles (w ∷ workers)))) (append_assoc images one.0 rest.0) rest.3,
         )
 
 -- workers that painted nothing have no images

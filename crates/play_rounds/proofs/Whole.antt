@@ -5,10 +5,10 @@ use Rattle.std.specs.Prelude.{not}
 use Rattle.ass_events.specs.Histories.{Entry}
 use Rattle.ass_script.specs.Scripts.{ScriptValue}
 use Rattle.bdf_font.specs.Fonts.{FontValue}
-use Rattle.cache_totals.specs.Asks.{HasAsks}
+use Rattle.mask_caches.specs.Asks.{HasAsks}
 use Rattle.evict_core.specs.declared.counts.Totals.{Totals}
 use Rattle.play_report.specs.declared.report.PlayReport.{PlayReport}
-use Rattle.play_words.specs.declared.job.PlayJob.{PlayJob}
+use Rattle.run_words.specs.declared.job.PlayJob.{PlayJob}
 use Rattle.play_shares.specs.Instants.{frame_count, instant_count}
 use Rattle.play_model.specs.Images.{all_masks, shown_pieces}
 use Rattle.play_model.specs.Outputs.{AreShownImages, IsFrontOfPlay}

@@ -3,3 +3,5 @@ pub mod Shifts
 pub mod Playing
 pub mod Outputs
 pub mod Times
+pub mod Passes
+pub mod Rounds

@@ -1,7 +1,7 @@
 -- Inner: the limits of a play's crews.
 use Rattle.std.specs.Prelude.{ℕ, ◌+◌, ◌*◌}
 use Rattle.play_shares.specs.Limits.{max_painters}
-use Rattle.play_words.specs.Limits.{max_workers}
+use Rattle.run_words.specs.Limits.{max_workers}
 use Rattle.play_workers.specs.Limits.{max_rounds}
 
 -- the most workers of a round: feeders, painters and one that warms ahead

@@ -6,8 +6,8 @@ use Rattle.ass_events.specs.Histories.{Entry, live}
 use Rattle.ass_io.specs.declared.sink.Put.{Put}
 use Rattle.ass_io.specs.declared.sink.Put.TheVariants as put
 use Rattle.ass_num.specs.Causes.{Rose}
-use Rattle.cache_totals.specs.Asks.{HasAsks}
-use Rattle.cache_totals.specs.Balance.{IsAccounted}
+use Rattle.mask_caches.specs.Asks.{HasAsks}
+use Rattle.mask_caches.specs.Balance.{IsAccounted}
 use Rattle.evict_core.specs.declared.counts.Totals.{Totals}
 use Rattle.play_report.specs.declared.report.PlayReport.{PlayReport}
 use Rattle.play_shares.specs.Instants.{frame_count}
@@ -31,7 +31,7 @@ abbrev pub AreWritten : List (List ℕ) → Option (List ℕ) → Option (List �
 AreWritten pieces held held' faults faults' puts puts' =
     Appends held held' (flat_map (λ piece. piece) pieces) × (faults' ≡ faults) × IsMoreBy (length pieces) puts puts'
 
--- The count of faults rose at `WriteFault`, and is as it was where memory was wanting.
+-- The count of faults rose at `WriteFault`, and is as it was where memory ran out.
 abbrev pub IsStopCounted : Stop → ℕ → ℕ → Type 0
 IsStopCounted stop.WriteFault faults faults' = Rose faults faults' × (faults ≤ faults')
 IsStopCounted stop.OutOfMemory faults faults' = faults' ≡ faults
@@ -41,7 +41,7 @@ abbrev pub IsCutOff : Stop → ℕ → List ℕ → Option (List ℕ) → Option
 IsCutOff stop most bytes held held' faults faults' puts puts' =
     Appends held held' bytes × IsStopCounted stop faults faults' × (puts ≤ puts') × (puts' ≤ puts + most)
 
--- The sink got a front of the pieces, by a put for each at most.
+-- The sink got a prefix of the pieces, by a put for each at most.
 abbrev pub AreCutOff : Stop → List (List ℕ) → Option (List ℕ) → Option (List ℕ) → ℕ → ℕ → ℕ → ℕ → Type 0
 AreCutOff stop pieces held held' faults faults' puts puts' =
     (cut : ℕ) × IsCutOff stop (length pieces) (take cut (flat_map (λ piece. piece) pieces)) held held' faults faults' puts puts'
@@ -79,7 +79,7 @@ pub record IsWholePlay (play : PlayView) (bytes : List ℕ) (report : PlayReport
   pub are : AreShownImages play (history_of_times times) images
   pub totals : AreLastTotals (all_masks images) report.totals
 
--- The play stopped, and what the sink got is a front of what it may show.
+-- The play stopped, and what the sink got is a prefix of what it may show.
 abbrev pub IsStopped : PlayView → Stop → Option (List ℕ) → Option (List ℕ) → ℕ → ℕ → ℕ → ℕ → Type 0
 IsStopped play stop held held' faults faults' puts puts' =
     (bytes : List ℕ) × IsFrontOfPlay play bytes × IsCutOff stop (frame_count play.job) bytes held held' faults faults' puts puts'

@@ -4,7 +4,7 @@ use Rattle.std.specs.List.{flat_map}
 use Rattle.ass_events.specs.Histories.{Entry, live}
 use Rattle.play_shares.specs.Instants.{instant_count}
 use Rattle.play_shares.specs.Renderers.{first_place}
-use Rattle.play_words.specs.declared.job.PlayJob.{PlayJob}
+use Rattle.run_words.specs.declared.job.PlayJob.{PlayJob}
 use Rattle.play_model.specs.Images.{IsShownImage, ShownImage, entries_before, shown_pieces}
 use Rattle.play_model.specs.Plays.{IsFedTo, PlayView, all_feeding, repeated_before}
 use Rattle.play_workers.specs.declared.worker.Role.{Role}
@@ -46,7 +46,7 @@ pub record IsShiftPlayed (play : PlayView) (old : List Entry) (q : ℕ) (shift :
   pub repeated_are : repeated ≡ repeats_before play shift rounds
   pub images_are : AreFirstImages play history q (images_before shift play.job rounds) images
 
--- A shift ended early: so many rounds were fed whole, and the first images of time q and a front of the next were written, all of that history.
+-- A shift ended early: so many rounds were fed whole, and the first images of time q and a prefix of the next were written, all of that history.
 pub record IsShiftStopped (play : PlayView) (old : List Entry) (q : ℕ) (bytes : List ℕ) : Type 0 where
   pub rounds : ℕ
   pub fresh : List Entry

@@ -3,9 +3,9 @@ use Rattle.std.specs.Prelude.{ℕ, max, nat_lt, if◌then◌else◌, List, [], �
 use Rattle.std.specs.List.{range_with_len}
 use Rattle.play_shares.specs.Renderers.{painter_count}
 use Rattle.play_shares.specs.Rounds.{feeding_rounds, image_rounds}
-use Rattle.play_words.specs.declared.job.Mode.{Mode}
-use Rattle.play_words.specs.declared.job.Mode.TheVariants.{Live, Settled}
-use Rattle.play_words.specs.declared.job.PlayJob.{PlayJob}
+use Rattle.run_words.specs.declared.job.Mode.{Mode}
+use Rattle.run_words.specs.declared.job.Mode.TheVariants.{Live, Settled}
+use Rattle.run_words.specs.declared.job.PlayJob.{PlayJob}
 use Rattle.play_workers.specs.declared.worker.Role.{Role}
 use Rattle.play_workers.specs.declared.worker.Role.TheVariants.{Feeder, Painter, Warmer}
 use Rattle.play_rounds.specs.declared.shift.Shift.{Shift}

@@ -3,7 +3,7 @@ use Rattle.std.specs.Prelude.{◌≡◌, ℕ, ◌*◌, List, [], ◌∷◌, ◌+
 use Rattle.std.specs.List.{flat_map}
 use Rattle.ass_events.specs.Histories.{Entry, live}
 use Rattle.evict_core.specs.declared.counts.Totals.{Totals}
-use Rattle.play_words.specs.declared.job.PlayJob.{PlayJob}
+use Rattle.run_words.specs.declared.job.PlayJob.{PlayJob}
 use Rattle.play_shares.specs.Instants.{frame_count, instant_count}
 use Rattle.play_model.specs.Images.{ShownImage, entries_before, shown_pieces}
 use Rattle.play_model.specs.Outputs.{AreShownImages, IsFrontOfPlay}

@@ -9,7 +9,7 @@ ghost use Rattle.play_rounds.specs.Outputs.{ArePut};
 use ass_io::{Put, Sink};
 use play_workers::{Outcome, Worker};
 
-/// Whether memory was wanting nowhere.
+/// Whether memory ran out nowhere.
 pub fn are_fine(workers: &[Worker]) -> bool
     ensures { IsTrue result ↔ All (λ (w : Worker). IsFine w.outcome) workers.now }
 {

@@ -4,10 +4,14 @@
 
 mod ends;
 mod gather;
+mod permits;
+mod round;
 mod rounds;
 mod shift;
 mod times;
 mod whole_play;
 
 pub use ends::PlayEnd;
+pub use permits::Permits;
+pub use round::play_round;
 pub use whole_play::play;

@@ -2,8 +2,8 @@
 
 ghost use Rattle.std.specs.Prelude.{◌≡◌, ◌+◌, ◌*◌, ◌<◌, ◌≤◌, length, All, IfErr, IfOk};
 ghost use Rattle.play_workers.specs.Asks.{masks_seen};
-ghost use Rattle.play_passes.specs.Passes.{IsHome};
-ghost use Rattle.play_passes.specs.Rounds.{roles_of};
+ghost use Rattle.play_rounds.specs.Passes.{IsHome};
+ghost use Rattle.play_rounds.specs.Rounds.{worker_roles};
 ghost use Rattle.play_workers.specs.Limits.{max_rounds};
 ghost use Rattle.play_workers.specs.Parts.{HasNoPass};
 ghost use Rattle.play_workers.specs.Roles.{IsRoleOf};
@@ -18,26 +18,27 @@ ghost use Rattle.play_rounds.specs.Shifts.{crew_of, rounds_of};
 use crate::ends::Stop;
 use crate::gather::{are_fine, count_repeated, put_images};
 use crate::shift::{Shift, at_once, crew_of, rounds_of};
-use ass_io::{Gate, Put, Sink};
+use crate::{Permits, play_round};
+use ass_io::{Put, Sink};
 use ass_num::OutOfMemory;
-use play_passes::{Permits, play_round};
-use play_workers::{Stage, Worker, dismiss};
-use render_pass::RenderPass;
+use play_workers::{PlayStage, Worker, dismiss};
+use renderer::RenderPass;
 use std::alloc::Global;
 use std::sync::Wait;
 use std::thread::Threads;
+use test_hook::TestHook;
 
 /// Plays one round, writes its images, and answers how many events were there already.
-fn one_round<R: Threads + Wait + Sync, F: Sink, G: Gate + Sync>(
+fn one_round<R: Threads + Wait + Sync, F: Sink, H: TestHook + Sync>(
     rt: &R,
     alloc: Global,
-    stage: &Stage,
+    stage: &PlayStage,
     round: usize,
     first: RenderPass,
     workers: &mut [Worker],
     permits: &Permits,
     frames: &mut F,
-    gate: &G,
+    hook: &H,
 ) -> (RenderPass, Result<usize, Stop>)
     requires stage { IsPlayStage stage.now }
     requires room { first.track.next + length workers.old ≤ u32.MAX }
@@ -50,14 +51,17 @@ fn one_round<R: Threads + Wait + Sync, F: Sink, G: Gate + Sync>(
     ensures home { IsHome stage.now.renderer result.0 }
     ensures drawn { result.0.track.next ≡ first.track.next + length workers.old }
     ensures idle { All HasNoPass workers.new }
-    ensures crew { roles_of workers.new ≡ roles_of workers.old }
+    ensures crew { worker_roles workers.new ≡ worker_roles workers.old }
     ensures few { IfOk result.1 (λ more. more ≤ u32.MAX) }
-    ensures played { IfOk result.1 (λ more. PlaysOn (play_on stage.now) (roles_of workers.old) round (round + 1) (history_of first.track.seen) (history_of result.0.track.seen) more
-        (λ next. AreImagesWritten next (F.held frames.old) (F.held frames.new) (F.faults frames.old) (F.faults frames.new) (F.puts frames.old) (F.puts frames.new) (masks_seen stage.now.renderer first) (masks_seen stage.now.renderer result.0))) }
-    ensures stopped { IfErr result.1 (λ stop. StopsIn (play_on stage.now) (roles_of workers.old) round (history_of first.track.seen)
-        (λ most bytes. IsCutOff stop most bytes (F.held frames.old) (F.held frames.new) (F.faults frames.old) (F.faults frames.new) (F.puts frames.old) (F.puts frames.new))) }
+    ensures played { IfOk result.1 (λ more. PlaysOn (play_on stage.now) (worker_roles workers.old) round (round + 1) (history_of first.track.seen)
+        (history_of result.0.track.seen) more
+        (λ next. AreImagesWritten next (F.held frames.old) (F.held frames.new) (F.faults frames.old) (F.faults frames.new) (F.puts frames.old)
+        (F.puts frames.new) (masks_seen stage.now.renderer first) (masks_seen stage.now.renderer result.0))) }
+    ensures stopped { IfErr result.1 (λ stop. StopsIn (play_on stage.now) (worker_roles workers.old) round (history_of first.track.seen)
+        (λ most bytes. IsCutOff stop most bytes (F.held frames.old) (F.held frames.new) (F.faults frames.old) (F.faults frames.new) (F.puts frames.old)
+        (F.puts frames.new))) }
 {
-    let first = play_round(rt, alloc, stage, round, first, workers, permits, gate);
+    let first = play_round(rt, alloc, stage, round, first, workers, permits, hook);
     if !are_fine(workers) {
         return (first, Err(Stop::OutOfMemory));
     }
@@ -69,16 +73,16 @@ fn one_round<R: Threads + Wait + Sync, F: Sink, G: Gate + Sync>(
 }
 
 /// Plays the rounds of a shift with its crew.
-fn all_rounds<R: Threads + Wait + Sync, F: Sink, G: Gate + Sync>(
+fn all_rounds<R: Threads + Wait + Sync, F: Sink, H: TestHook + Sync>(
     rt: &R,
     alloc: Global,
-    stage: &Stage,
+    stage: &PlayStage,
     rounds: usize,
     first: RenderPass,
     workers: &mut [Worker],
     permits: &Permits,
     frames: &mut F,
-    gate: &G,
+    hook: &H,
 ) -> (RenderPass, Result<u64, Stop>)
     requires stage { IsPlayStage stage.now }
     requires small { rounds ≤ max_rounds }
@@ -92,16 +96,19 @@ fn all_rounds<R: Threads + Wait + Sync, F: Sink, G: Gate + Sync>(
     ensures drawn { result.0.track.next ≤ first.track.next + rounds * max_crew }
     ensures idle { All HasNoPass workers.new }
     ensures few { IfOk result.1 (λ more. more ≤ rounds * u32.MAX) }
-    ensures played { IfOk result.1 (λ more. PlaysOn (play_on stage.now) (roles_of workers.old) 0 rounds (history_of first.track.seen) (history_of result.0.track.seen) more
-        (λ next. AreImagesWritten next (F.held frames.old) (F.held frames.new) (F.faults frames.old) (F.faults frames.new) (F.puts frames.old) (F.puts frames.new) (masks_seen stage.now.renderer first) (masks_seen stage.now.renderer result.0))) }
-    ensures stopped { IfErr result.1 (λ stop. StopsIn (play_on stage.now) (roles_of workers.old) 0 (history_of first.track.seen)
-        (λ most bytes. IsCutOff stop most bytes (F.held frames.old) (F.held frames.new) (F.faults frames.old) (F.faults frames.new) (F.puts frames.old) (F.puts frames.new))) }
+    ensures played { IfOk result.1 (λ more. PlaysOn (play_on stage.now) (worker_roles workers.old) 0 rounds (history_of first.track.seen)
+        (history_of result.0.track.seen) more
+        (λ next. AreImagesWritten next (F.held frames.old) (F.held frames.new) (F.faults frames.old) (F.faults frames.new) (F.puts frames.old)
+        (F.puts frames.new) (masks_seen stage.now.renderer first) (masks_seen stage.now.renderer result.0))) }
+    ensures stopped { IfErr result.1 (λ stop. StopsIn (play_on stage.now) (worker_roles workers.old) 0 (history_of first.track.seen)
+        (λ most bytes. IsCutOff stop most bytes (F.held frames.old) (F.held frames.new) (F.faults frames.old) (F.faults frames.new) (F.puts frames.old)
+        (F.puts frames.new))) }
 {
     let mut first = first;
     let mut repeated = 0;
     for round in 0..rounds {
         let (next, more) = one_round(
-            rt, alloc, stage, round, first, workers, permits, frames, gate,
+            rt, alloc, stage, round, first, workers, permits, frames, hook,
         );
         first = next;
         match more {
@@ -113,14 +120,14 @@ fn all_rounds<R: Threads + Wait + Sync, F: Sink, G: Gate + Sync>(
 }
 
 /// Plays a shift.
-pub fn play_shift<R: Threads + Wait + Sync, F: Sink, G: Gate + Sync>(
+pub fn play_shift<R: Threads + Wait + Sync, F: Sink, H: TestHook + Sync>(
     rt: &R,
     alloc: Global,
-    stage: &Stage,
+    stage: &PlayStage,
     shift: Shift,
     first: RenderPass,
     frames: &mut F,
-    gate: &G,
+    hook: &H,
 ) -> (RenderPass, Result<u64, Stop>)
     requires stage { IsPlayStage stage.now }
     requires room { first.track.next + max_drawn ≤ u32.MAX }
@@ -130,9 +137,11 @@ pub fn play_shift<R: Threads + Wait + Sync, F: Sink, G: Gate + Sync>(
     ensures few { IfOk result.1 (λ more. more ≤ max_rounds * u32.MAX) }
     ensures played { IfOk result.1 (λ more. PlaysOn (play_on stage.now) (crew_of stage.now.job shift) 0 (rounds_of stage.now.job (length stage.now.good) shift)
         (history_of first.track.seen) (history_of result.0.track.seen) more
-        (λ next. AreImagesWritten next (F.held frames.old) (F.held frames.new) (F.faults frames.old) (F.faults frames.new) (F.puts frames.old) (F.puts frames.new) (masks_seen stage.now.renderer first) (masks_seen stage.now.renderer result.0))) }
+        (λ next. AreImagesWritten next (F.held frames.old) (F.held frames.new) (F.faults frames.old) (F.faults frames.new) (F.puts frames.old)
+        (F.puts frames.new) (masks_seen stage.now.renderer first) (masks_seen stage.now.renderer result.0))) }
     ensures stopped { IfErr result.1 (λ stop. StopsIn (play_on stage.now) (crew_of stage.now.job shift) 0 (history_of first.track.seen)
-        (λ most bytes. IsCutOff stop most bytes (F.held frames.old) (F.held frames.new) (F.faults frames.old) (F.faults frames.new) (F.puts frames.old) (F.puts frames.new))) }
+        (λ most bytes. IsCutOff stop most bytes (F.held frames.old) (F.held frames.new) (F.faults frames.old) (F.faults frames.new) (F.puts frames.old)
+        (F.puts frames.new))) }
 {
     let mut workers = match crew_of(alloc, stage, shift) {
         Ok(workers) => workers,
@@ -142,7 +151,7 @@ pub fn play_shift<R: Threads + Wait + Sync, F: Sink, G: Gate + Sync>(
     let rounds = rounds_of(stage, shift);
     let crew = workers.as_mut_slice();
     let played = all_rounds(
-        rt, alloc, stage, rounds, first, crew, &permits, frames, gate,
+        rt, alloc, stage, rounds, first, crew, &permits, frames, hook,
     );
     dismiss(workers);
     played

@@ -1,7 +1,7 @@
 //! Which workers there are, and for how many rounds.
 
 ghost use Rattle.std.specs.Prelude.{◌≡◌, ◌<◌, ◌≤◌, ◌++◌, length, All, IfOk};
-ghost use Rattle.play_passes.specs.Rounds.{roles_of};
+ghost use Rattle.play_rounds.specs.Rounds.{worker_roles};
 ghost use Rattle.play_workers.specs.Limits.{max_rounds};
 ghost use Rattle.play_workers.specs.Parts.{HasNoPass};
 ghost use Rattle.play_workers.specs.Stages.{IsPlayStage};
@@ -9,7 +9,7 @@ ghost use Rattle.play_rounds.specs.Shifts.{at_once, crew_of, feeders_of, painter
 
 use ass_num::Mem;
 use play_shares::{feeding_rounds, image_rounds, painter_count};
-use play_workers::{Role, Stage, Worker, hire};
+use play_workers::{PlayStage, Role, Worker, hire};
 use std::alloc::Global;
 
 /// What is done at once: feeding and painting, or one of them alone.
@@ -21,7 +21,7 @@ pub enum Shift {
 }
 
 /// How many rounds a shift has.
-pub fn rounds_of(stage: &Stage, shift: Shift) -> usize
+pub fn rounds_of(stage: &PlayStage, shift: Shift) -> usize
     requires { IsPlayStage stage.now }
     ensures rounds { result ≡ rounds_of stage.now.job (length stage.now.good) shift }
     ensures few { result ≤ max_rounds }
@@ -37,11 +37,11 @@ pub fn rounds_of(stage: &Stage, shift: Shift) -> usize
 }
 
 /// Adds the feeders.
-fn hire_feeders(stage: &Stage, workers: Vec<Worker>) -> Mem<Vec<Worker>>
+fn hire_feeders(stage: &PlayStage, workers: Vec<Worker>) -> Mem<Vec<Worker>>
     requires stage { IsPlayStage stage.now }
     requires idle { All HasNoPass workers.items }
     ensures idle { IfOk result (λ all. All HasNoPass all.items) }
-    ensures roles { IfOk result (λ all. roles_of all.items ≡ roles_of workers.items ++ feeders_of stage.now.job) }
+    ensures roles { IfOk result (λ all. worker_roles all.items ≡ worker_roles workers.items ++ feeders_of stage.now.job) }
 {
     let mut workers = workers;
     for feeder in 0..stage.job.feeders as usize {
@@ -51,11 +51,11 @@ fn hire_feeders(stage: &Stage, workers: Vec<Worker>) -> Mem<Vec<Worker>>
 }
 
 /// Adds those that paint, and one that warms ahead where that was asked for.
-fn hire_painters(stage: &Stage, workers: Vec<Worker>) -> Mem<Vec<Worker>>
+fn hire_painters(stage: &PlayStage, workers: Vec<Worker>) -> Mem<Vec<Worker>>
     requires stage { IsPlayStage stage.now }
     requires idle { All HasNoPass workers.items }
     ensures idle { IfOk result (λ all. All HasNoPass all.items) }
-    ensures roles { IfOk result (λ all. roles_of all.items ≡ roles_of workers.items ++ painters_of stage.now.job) }
+    ensures roles { IfOk result (λ all. worker_roles all.items ≡ worker_roles workers.items ++ painters_of stage.now.job) }
 {
     let mut workers = workers;
     for painter in 0..painter_count(&stage.job) as usize {
@@ -68,10 +68,10 @@ fn hire_painters(stage: &Stage, workers: Vec<Worker>) -> Mem<Vec<Worker>>
 }
 
 /// The workers of a shift, without passes.
-pub fn crew_of(alloc: Global, stage: &Stage, shift: Shift) -> Mem<Vec<Worker>>
+pub fn crew_of(alloc: Global, stage: &PlayStage, shift: Shift) -> Mem<Vec<Worker>>
     requires { IsPlayStage stage.now }
     ensures idle { IfOk result (λ workers. All HasNoPass workers.items) }
-    ensures roles { IfOk result (λ workers. roles_of workers.items ≡ crew_of stage.now.job shift) }
+    ensures roles { IfOk result (λ workers. worker_roles workers.items ≡ crew_of stage.now.job shift) }
 {
     let nobody = Vec::new(alloc);
     match shift {
@@ -85,7 +85,7 @@ pub fn crew_of(alloc: Global, stage: &Stage, shift: Shift) -> Mem<Vec<Worker>>
 }
 
 /// How many of a crew of so many work at once: of painters alone as many as there are renderers, else all.
-pub fn at_once(stage: &Stage, shift: Shift, crew: usize) -> usize
+pub fn at_once(stage: &PlayStage, shift: Shift, crew: usize) -> usize
     requires stage { IsPlayStage stage.now }
     requires some { 0 < crew }
     ensures many { result ≡ at_once stage.now.job shift crew }

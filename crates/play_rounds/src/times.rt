@@ -2,10 +2,10 @@
 
 ghost use Rattle.std.specs.Prelude.{◌≡◌, ◌+◌, ◌*◌, ◌<◌, ◌≤◌, [], IfErr, IfOk};
 ghost use Rattle.play_workers.specs.Asks.{masks_seen};
-ghost use Rattle.play_passes.specs.Passes.{IsHome};
+ghost use Rattle.play_rounds.specs.Passes.{IsHome};
 ghost use Rattle.play_shares.specs.Instants.{instant_count};
-ghost use Rattle.play_words.specs.Limits.{max_times};
-ghost use Rattle.play_words.specs.declared.job.Mode.TheVariants.{Settled};
+ghost use Rattle.run_words.specs.Limits.{max_times};
+ghost use Rattle.run_words.specs.declared.job.Mode.TheVariants.{Settled};
 ghost use Rattle.play_workers.specs.Limits.{max_rounds};
 ghost use Rattle.play_workers.specs.Stages.{IsPlayStage, play_on};
 ghost use Rattle.track_history.specs.Calls.{history_of};
@@ -16,23 +16,24 @@ ghost use Rattle.play_rounds.specs.Times.{BeginsTime, HavePlayed, PlaysTime, Pla
 use crate::ends::{Played, Stop};
 use crate::rounds::play_shift;
 use crate::shift::Shift;
-use ass_io::{Gate, Sink};
+use ass_io::Sink;
 use ass_num::{Items, OutOfMemory};
-use play_words::Mode;
-use play_workers::Stage;
-use render_pass::RenderPass;
+use play_workers::PlayStage;
+use renderer::RenderPass;
+use run_words::Mode;
 use std::alloc::Global;
 use std::sync::Wait;
 use std::thread::Threads;
+use test_hook::TestHook;
 
 /// Plays the job once, with all lines fed first.
-fn play_settled<R: Threads + Wait + Sync, F: Sink, G: Gate + Sync>(
+fn play_settled<R: Threads + Wait + Sync, F: Sink, H: TestHook + Sync>(
     rt: &R,
     alloc: Global,
-    stage: &Stage,
+    stage: &PlayStage,
     first: RenderPass,
     frames: &mut F,
-    gate: &G,
+    hook: &H,
 ) -> (RenderPass, Result<u64, Stop>)
     requires stage { IsPlayStage stage.now }
     requires mode { stage.now.job.mode ≡ Settled }
@@ -42,16 +43,18 @@ fn play_settled<R: Threads + Wait + Sync, F: Sink, G: Gate + Sync>(
     ensures drawn { result.0.track.next ≤ first.track.next + 2 * max_drawn }
     ensures few { IfOk result.1 (λ more. more ≤ 2 * (max_rounds * u32.MAX)) }
     ensures played { IfOk result.1 (λ more. PlaysTime (play_on stage.now) (history_of first.track.seen) (history_of result.0.track.seen) more
-        (λ images. AreImagesWritten images (F.held frames.old) (F.held frames.new) (F.faults frames.old) (F.faults frames.new) (F.puts frames.old) (F.puts frames.new) (masks_seen stage.now.renderer first) (masks_seen stage.now.renderer result.0))) }
+        (λ images. AreImagesWritten images (F.held frames.old) (F.held frames.new) (F.faults frames.old) (F.faults frames.new) (F.puts frames.old)
+        (F.puts frames.new) (masks_seen stage.now.renderer first) (masks_seen stage.now.renderer result.0))) }
     ensures stopped { IfErr result.1 (λ stop. StopsInTime (play_on stage.now) (history_of first.track.seen)
-        (λ bytes. IsCutOff stop (instant_count stage.now.job) bytes (F.held frames.old) (F.held frames.new) (F.faults frames.old) (F.faults frames.new) (F.puts frames.old) (F.puts frames.new))) }
+        (λ bytes. IsCutOff stop (instant_count stage.now.job) bytes (F.held frames.old) (F.held frames.new) (F.faults frames.old) (F.faults frames.new)
+        (F.puts frames.old) (F.puts frames.new))) }
 {
-    let (first, fed) = play_shift(rt, alloc, stage, Shift::Feed, first, frames, gate);
+    let (first, fed) = play_shift(rt, alloc, stage, Shift::Feed, first, frames, hook);
     let repeated = match fed {
         Ok(repeated) => repeated,
         Err(stop) => return (first, Err(stop)),
     };
-    let (after, painted) = play_shift(rt, alloc, stage, Shift::Paint, first, frames, gate);
+    let (after, painted) = play_shift(rt, alloc, stage, Shift::Paint, first, frames, hook);
     match painted {
         Ok(more) => (after, Ok(repeated + more)),
         Err(stop) => (after, Err(stop)),
@@ -59,13 +62,13 @@ fn play_settled<R: Threads + Wait + Sync, F: Sink, G: Gate + Sync>(
 }
 
 /// Plays the job once: lines and instants together, or all lines first.
-fn play_once<R: Threads + Wait + Sync, F: Sink, G: Gate + Sync>(
+fn play_once<R: Threads + Wait + Sync, F: Sink, H: TestHook + Sync>(
     rt: &R,
     alloc: Global,
-    stage: &Stage,
+    stage: &PlayStage,
     first: RenderPass,
     frames: &mut F,
-    gate: &G,
+    hook: &H,
 ) -> (RenderPass, Result<u64, Stop>)
     requires stage { IsPlayStage stage.now }
     requires room { first.track.next + 2 * max_drawn ≤ u32.MAX }
@@ -74,18 +77,20 @@ fn play_once<R: Threads + Wait + Sync, F: Sink, G: Gate + Sync>(
     ensures drawn { result.0.track.next ≤ first.track.next + 2 * max_drawn }
     ensures few { IfOk result.1 (λ more. more ≤ 2 * (max_rounds * u32.MAX)) }
     ensures played { IfOk result.1 (λ more. PlaysTime (play_on stage.now) (history_of first.track.seen) (history_of result.0.track.seen) more
-        (λ images. AreImagesWritten images (F.held frames.old) (F.held frames.new) (F.faults frames.old) (F.faults frames.new) (F.puts frames.old) (F.puts frames.new) (masks_seen stage.now.renderer first) (masks_seen stage.now.renderer result.0))) }
+        (λ images. AreImagesWritten images (F.held frames.old) (F.held frames.new) (F.faults frames.old) (F.faults frames.new) (F.puts frames.old)
+        (F.puts frames.new) (masks_seen stage.now.renderer first) (masks_seen stage.now.renderer result.0))) }
     ensures stopped { IfErr result.1 (λ stop. StopsInTime (play_on stage.now) (history_of first.track.seen)
-        (λ bytes. IsCutOff stop (instant_count stage.now.job) bytes (F.held frames.old) (F.held frames.new) (F.faults frames.old) (F.faults frames.new) (F.puts frames.old) (F.puts frames.new))) }
+        (λ bytes. IsCutOff stop (instant_count stage.now.job) bytes (F.held frames.old) (F.held frames.new) (F.faults frames.old) (F.faults frames.new)
+        (F.puts frames.old) (F.puts frames.new))) }
 {
     match stage.job.mode {
-        Mode::Live => play_shift(rt, alloc, stage, Shift::Both, first, frames, gate),
-        Mode::Settled => play_settled(rt, alloc, stage, first, frames, gate),
+        Mode::Live => play_shift(rt, alloc, stage, Shift::Both, first, frames, hook),
+        Mode::Settled => play_settled(rt, alloc, stage, first, frames, hook),
     }
 }
 
 /// Drops what earlier times fed, where there was one.
-fn begin_time<R: Wait>(rt: &R, stage: &Stage, time: u32, first: RenderPass) -> RenderPass
+fn begin_time<R: Wait>(rt: &R, stage: &PlayStage, time: u32, first: RenderPass) -> RenderPass
     requires stage { IsPlayStage stage.now }
     requires time { time < max_times }
     requires home { IsHome stage.now.renderer first }
@@ -102,14 +107,14 @@ fn begin_time<R: Wait>(rt: &R, stage: &Stage, time: u32, first: RenderPass) -> R
 }
 
 /// Plays the job once, and tells what was accepted.
-fn one_time<R: Threads + Wait + Sync, F: Sink, G: Gate + Sync>(
+fn one_time<R: Threads + Wait + Sync, F: Sink, H: TestHook + Sync>(
     rt: &R,
     alloc: Global,
-    stage: &Stage,
+    stage: &PlayStage,
     time: u32,
     first: RenderPass,
     frames: &mut F,
-    gate: &G,
+    hook: &H,
 ) -> (RenderPass, Result<(u64, Items<u32>), Stop>)
     requires stage { IsPlayStage stage.now }
     requires time { time < stage.now.job.times }
@@ -119,12 +124,14 @@ fn one_time<R: Threads + Wait + Sync, F: Sink, G: Gate + Sync>(
     ensures drawn { result.0.track.next ≤ first.track.next + 2 * max_drawn }
     ensures few { IfOk result.1 (λ more. more.0 ≤ 2 * (max_rounds * u32.MAX)) }
     ensures played { IfOk result.1 (λ more. PlaysTimes (play_on stage.now) time (history_of first.track.seen) (history_of result.0.track.seen) more.0 more.1
-        (λ next. AreImagesWritten next (F.held frames.old) (F.held frames.new) (F.faults frames.old) (F.faults frames.new) (F.puts frames.old) (F.puts frames.new) (masks_seen stage.now.renderer first) (masks_seen stage.now.renderer result.0))) }
+        (λ next. AreImagesWritten next (F.held frames.old) (F.held frames.new) (F.faults frames.old) (F.faults frames.new) (F.puts frames.old)
+        (F.puts frames.new) (masks_seen stage.now.renderer first) (masks_seen stage.now.renderer result.0))) }
     ensures stopped { IfErr result.1 (λ stop. StopsInTimes (play_on stage.now) time (history_of first.track.seen)
-        (λ bytes. IsCutOff stop (instant_count stage.now.job) bytes (F.held frames.old) (F.held frames.new) (F.faults frames.old) (F.faults frames.new) (F.puts frames.old) (F.puts frames.new))) }
+        (λ bytes. IsCutOff stop (instant_count stage.now.job) bytes (F.held frames.old) (F.held frames.new) (F.faults frames.old) (F.faults frames.new)
+        (F.puts frames.old) (F.puts frames.new))) }
 {
     let first = begin_time(rt, stage, time, first);
-    let (first, played) = play_once(rt, alloc, stage, first, frames, gate);
+    let (first, played) = play_once(rt, alloc, stage, first, frames, hook);
     let repeated = match played {
         Ok(repeated) => repeated,
         Err(stop) => return (first, Err(stop)),
@@ -137,13 +144,13 @@ fn one_time<R: Threads + Wait + Sync, F: Sink, G: Gate + Sync>(
 }
 
 /// Plays the job as often as was asked for.
-pub fn all_times<R: Threads + Wait + Sync, F: Sink, G: Gate + Sync>(
+pub fn all_times<R: Threads + Wait + Sync, F: Sink, H: TestHook + Sync>(
     rt: &R,
     alloc: Global,
-    stage: &Stage,
+    stage: &PlayStage,
     first: RenderPass,
     frames: &mut F,
-    gate: &G,
+    hook: &H,
 ) -> (RenderPass, Result<Played, Stop>)
     requires stage { IsPlayStage stage.now }
     requires home { IsHome stage.now.renderer first }
@@ -151,8 +158,10 @@ pub fn all_times<R: Threads + Wait + Sync, F: Sink, G: Gate + Sync>(
     requires next { first.track.next ≡ 1 }
     ensures home { IsHome stage.now.renderer result.0 }
     ensures played { IfOk result.1 (λ played. HavePlayed (play_on stage.now) stage.now.job.times (history_of result.0.track.seen) played
-        (λ images. AreImagesWritten images (F.held frames.old) (F.held frames.new) (F.faults frames.old) (F.faults frames.new) (F.puts frames.old) (F.puts frames.new) (masks_seen stage.now.renderer first) (masks_seen stage.now.renderer result.0))) }
-    ensures stopped { IfErr result.1 (λ stop. IsStopped (play_on stage.now) stop (F.held frames.old) (F.held frames.new) (F.faults frames.old) (F.faults frames.new) (F.puts frames.old) (F.puts frames.new)) }
+        (λ images. AreImagesWritten images (F.held frames.old) (F.held frames.new) (F.faults frames.old) (F.faults frames.new) (F.puts frames.old)
+        (F.puts frames.new) (masks_seen stage.now.renderer first) (masks_seen stage.now.renderer result.0))) }
+    ensures stopped { IfErr result.1 (λ stop. IsStopped (play_on stage.now) stop (F.held frames.old) (F.held frames.new) (F.faults frames.old)
+        (F.faults frames.new) (F.puts frames.old) (F.puts frames.new)) }
 {
     let mut first = first;
     let mut played = Played {
@@ -160,7 +169,7 @@ pub fn all_times<R: Threads + Wait + Sync, F: Sink, G: Gate + Sync>(
         repeated: 0,
     };
     for time in 0..stage.job.times {
-        let (next, came) = one_time(rt, alloc, stage, time, first, frames, gate);
+        let (next, came) = one_time(rt, alloc, stage, time, first, frames, hook);
         first = next;
         match came {
             Ok(more) => {

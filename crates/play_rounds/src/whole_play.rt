@@ -4,28 +4,29 @@ ghost use Rattle.std.specs.Prelude.{◌≡◌, ◌≤◌, ℕ, [], length, filte
 ghost use Rattle.std.specs.Arc.{arc_value};
 ghost use Rattle.play_model.specs.Plays.{IsPlayable};
 ghost use Rattle.play_workers.specs.Asks.{masks_seen};
-ghost use Rattle.play_passes.specs.Passes.{IsHome};
+ghost use Rattle.play_rounds.specs.Passes.{IsHome};
 ghost use Rattle.play_workers.specs.Stages.{IsPlayStage, play_on};
-ghost use Rattle.render_pass.specs.Passes.{IsFirstPass, IsPassOfRenderer};
+ghost use Rattle.renderer.specs.Passes.{IsFirstPass, IsPassOfRenderer};
 ghost use Rattle.track_history.specs.Calls.{history_of};
 ghost use Rattle.play_rounds.specs.Outputs.{AreLastTotals, IsPlayed};
 ghost use Rattle.play_rounds.specs.Times.{EndsAs};
 
 use crate::ends::{PlayEnd, Played, Stop};
 use crate::times::all_times;
-use ass_io::{Gate, Sink};
+use ass_io::Sink;
 use ass_num::{Mem, OutOfMemory};
 use ass_script::Script;
 use bdf_font::FontSet;
 use evict_core::Totals;
 use play_report::PlayReport;
 use play_shares::instant_count;
-use play_words::PlayJob;
-use play_workers::{Stage, good_flags};
-use render_pass::{RenderPass, Renderer};
+use play_workers::{PlayStage, good_flags};
+use renderer::{RenderPass, Renderer};
+use run_words::PlayJob;
 use std::alloc::Global;
 use std::sync::{Arc, Wait};
 use std::thread::Threads;
+use test_hook::TestHook;
 
 /// How many Dialogue lines give no event.
 fn malformed_count(good: &[bool]) -> u64
@@ -46,7 +47,7 @@ fn set_stage(
     job: PlayJob,
     script: Arc<Script>,
     fonts: Arc<FontSet>,
-) -> Mem<(Stage, RenderPass)>
+) -> Mem<(PlayStage, RenderPass)>
     requires { IsPlayable (record { job = job; script = arc_value script; fonts = (arc_value fonts).fonts }) }
     ensures stage { IfOk result (λ r. IsPlayStage r.0) }
     ensures play { IfOk result (λ r. play_on r.0 ≡ record { job = job; script = arc_value script; fonts = (arc_value fonts).fonts }) }
@@ -57,7 +58,7 @@ fn set_stage(
     let good = good_flags(alloc, &script)?;
     let shared = Arc::try_clone(&script)?;
     let (renderer, first) = Renderer::open(alloc, shared, fonts, job.budget)?;
-    let stage = Stage {
+    let stage = PlayStage {
         job,
         script,
         good,
@@ -77,7 +78,7 @@ fn last_totals<R: Wait>(rt: &R, renderer: &Renderer, first: RenderPass) -> (Rend
 }
 
 /// How a play ended that came so far.
-fn end_of(stage: &Stage, played: Result<Played, Stop>, totals: [Totals; 3]) -> PlayEnd
+fn end_of(stage: &PlayStage, played: Result<Played, Stop>, totals: [Totals; 3]) -> PlayEnd
     requires { IsPlayStage stage.now }
     ensures { EndsAs stage.now.job stage.now.good played totals result }
 {
@@ -96,26 +97,27 @@ fn end_of(stage: &Stage, played: Result<Played, Stop>, totals: [Totals; 3]) -> P
 
 /// Plays a job with its script and its fonts, and writes the images of each time, in the order of their instants, by as
 /// many puts as there are.
-pub fn play<R: Threads + Wait + Sync, F: Sink, G: Gate + Sync>(
+pub fn play<R: Threads + Wait + Sync, F: Sink, H: TestHook + Sync>(
     rt: &R,
     alloc: Global,
     job: PlayJob,
     script: Arc<Script>,
     fonts: Arc<FontSet>,
     frames: &mut F,
-    gate: &G,
+    hook: &H,
 ) -> PlayEnd
     requires playable { IsPlayable (record { job = job; script = arc_value script; fonts = (arc_value fonts).fonts }) }
-    ensures played { IsPlayed (record { job = job; script = arc_value script; fonts = (arc_value fonts).fonts }) result (F.held frames.old) (F.held frames.new) (F.faults frames.old) (F.faults frames.new) (F.puts frames.old) (F.puts frames.new) }
+    ensures played { IsPlayed (record { job = job; script = arc_value script; fonts = (arc_value fonts).fonts }) result (F.held frames.old)
+        (F.held frames.new) (F.faults frames.old) (F.faults frames.new) (F.puts frames.old) (F.puts frames.new) }
 {
     let (stage, first) = match set_stage(alloc, job, script, fonts) {
         Ok(set) => set,
         Err(OutOfMemory) => return PlayEnd::OutOfMemory,
     };
-    let (first, played) = all_times(rt, alloc, &stage, first, frames, gate);
+    let (first, played) = all_times(rt, alloc, &stage, first, frames, hook);
     let (first, totals) = last_totals(rt, &stage.renderer, first);
     let end = end_of(&stage, played, totals);
-    let Stage {
+    let PlayStage {
         job: _,
         script: _,
         good: _,

@@ -8,8 +8,8 @@ use Rattle.std.proofs.lemmas.List.FromFn.{get_or-range_with_len, length-range_wi
 use Rattle.std.proofs.lemmas.Nat.{mul-le}
 use Rattle.std.proofs.Math.Seq.{take-add}
 use Rattle.ass_num.proofs.ListLemmas.{flat_more}
-use Rattle.play_words.specs.Jobs.{IsPlay}
-use Rattle.play_words.specs.declared.job.PlayJob.{PlayJob}
+use Rattle.run_words.specs.Jobs.{IsPlay}
+use Rattle.run_words.specs.declared.job.PlayJob.{PlayJob}
 use Rattle.play_shares.specs.Batches.{again_lines, batch_lines, feeder_lines, good_lines, has_batch, last_items, offered}
 use Rattle.play_shares.specs.Offers.{AreAllOffered, IsOfOneFeeder, good_of_batch, good_of_feeder, in_rounds}
 use Rattle.play_shares.specs.Rounds.{feeding_rounds}

@@ -10,7 +10,7 @@ use native.Mathlib.Decide.{ℕ_discrete, dec_le}
 use Rattle.play_shares.specs.Batches.{feeder_lines}
 use Rattle.ass_script.specs.Limits.{max_lines}
 use Rattle.play_shares.specs.Limits.{max_places}
-use Rattle.play_words.specs.Limits.{max_batch, max_workers}
+use Rattle.run_words.specs.Limits.{max_batch, max_workers}
 
 -- These are the numbers below `count` that stand `feeders` apart, from `feeder` on.
 pub record AreSteps (feeders feeder count : ℕ) (xs : List ℕ) : Type 0 where

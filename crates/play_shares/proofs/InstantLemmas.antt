@@ -9,8 +9,8 @@ use Rattle.std.proofs.lemmas.List.FromFn.{get_or-map-range_with_len, length-map-
 use Rattle.std.proofs.lemmas.Nat.{div-add-mod', mul-le}
 use Rattle.std.proofs.lemmas.Option.{slice_get-get_or, slice_get_past}
 use Rattle.ass_num.specs.Limits.{max_instant}
-use Rattle.play_words.specs.Jobs.{IsMoment, IsPlay, IsStep}
-use Rattle.play_words.specs.declared.job.PlayJob.{PlayJob}
+use Rattle.run_words.specs.Jobs.{IsMoment, IsPlay, IsStep}
+use Rattle.run_words.specs.declared.job.PlayJob.{PlayJob}
 use Rattle.play_shares.specs.Instants.{instant_count, play_instant, instants}
 use Rattle.play_shares.proofs.Parts.{part_ends, part_more}
 

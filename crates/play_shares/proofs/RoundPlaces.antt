@@ -6,11 +6,11 @@ use Rattle.std.proofs.lemmas.Nat.{div-add-mod', div-mul-add, le-div, mul-le}
 use mathlib.Core.Logic.{dite}
 use native.Mathlib.Decide.{dec_le}
 use Rattle.ass_num.specs.declared.size.Size.{Size}
-use Rattle.play_words.specs.Jobs.{IsFrame, IsPlay}
-use Rattle.play_words.specs.Limits.{max_workers}
-use Rattle.play_words.specs.declared.job.Mode.{Mode}
-use Rattle.play_words.specs.declared.job.Mode.TheVariants.{Live, Settled}
-use Rattle.play_words.specs.declared.job.PlayJob.{PlayJob}
+use Rattle.run_words.specs.Jobs.{IsFrame, IsPlay}
+use Rattle.run_words.specs.Limits.{max_workers}
+use Rattle.run_words.specs.declared.job.Mode.{Mode}
+use Rattle.run_words.specs.declared.job.Mode.TheVariants.{Live, Settled}
+use Rattle.run_words.specs.declared.job.PlayJob.{PlayJob}
 use Rattle.play_shares.specs.Instants.{instant_count}
 use Rattle.play_shares.specs.Limits.{max_frames, max_painters, max_round_images, max_round_pixels, max_share_pixels}
 use Rattle.play_shares.specs.Renderers.{each_in, first_place, images_each, images_in, images_that_fit, painter_count, painters_in, share_pixels}

@@ -1,7 +1,7 @@
 -- Public: the lines that feeders offer (docs/PROGRAM.md).
 use Rattle.std.specs.Prelude.{ℕ, ◌-◌, ◌*◌, ◌%◌, ◌==◌, nat_lt, Bool, false, if◌then◌else◌, List, [], ◌++◌, length, take, drop, filter, slice_index_or}
 use Rattle.std.specs.List.{range_with_len}
-use Rattle.play_words.specs.declared.job.PlayJob.{PlayJob}
+use Rattle.run_words.specs.declared.job.PlayJob.{PlayJob}
 
 -- the lines of a feeder, of so many: those whose number leaves the feeder's where it is divided by the number of feeders
 abbrev pub feeder_lines : ℕ → ℕ → ℕ → List ℕ

@@ -1,7 +1,7 @@
 -- Public: the limits of a play.
 use Rattle.std.specs.Prelude.{ℕ, ◌+◌, ◌*◌}
 use Rattle.ass_script.specs.Limits.{max_lines}
-use Rattle.play_words.specs.Limits.{max_batch, max_workers}
+use Rattle.run_words.specs.Limits.{max_batch, max_workers}
 
 -- the most images, over all times
 abbrev pub max_frames : ℕ

@@ -1,7 +1,7 @@
 -- Public: what the offers of all rounds come to (docs/PROGRAM.md).
 use Rattle.std.specs.Prelude.{◌≡◌, ℕ, ◌+◌, ◌%◌, ◌≤◌, min, Bool, if◌then◌else◌, List, [], length, Contains}
 use Rattle.std.specs.List.{flat_map, range_with_len}
-use Rattle.play_words.specs.declared.job.PlayJob.{PlayJob}
+use Rattle.run_words.specs.declared.job.PlayJob.{PlayJob}
 use Rattle.play_shares.specs.Batches.{again_lines, batch_lines, feeder_lines, good_lines, has_batch, offered}
 use Rattle.play_shares.specs.Rounds.{feeding_rounds}
 

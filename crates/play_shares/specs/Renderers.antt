@@ -2,9 +2,9 @@
 use Rattle.std.specs.Prelude.{ℕ, ◌+◌, ◌-◌, ◌*◌, ◌/◌, ◌==◌, max, min, nat_lt, if◌then◌else◌}
 use Rattle.std.specs.Int.{div_ceil}
 use Rattle.ass_num.specs.declared.size.Size.{Size}
-use Rattle.play_words.specs.declared.job.Mode.{Mode}
-use Rattle.play_words.specs.declared.job.Mode.TheVariants.{Live, Settled}
-use Rattle.play_words.specs.declared.job.PlayJob.{PlayJob}
+use Rattle.run_words.specs.declared.job.Mode.{Mode}
+use Rattle.run_words.specs.declared.job.Mode.TheVariants.{Live, Settled}
+use Rattle.run_words.specs.declared.job.PlayJob.{PlayJob}
 use Rattle.play_shares.specs.Instants.{instant_count}
 use Rattle.play_shares.specs.Limits.{max_round_images, max_round_pixels, max_share_pixels}
 

@@ -1,7 +1,7 @@
 -- Public: how many rounds a play has (docs/PROGRAM.md).
 use Rattle.std.specs.Prelude.{ℕ, ◌*◌}
 use Rattle.std.specs.Int.{div_ceil}
-use Rattle.play_words.specs.declared.job.PlayJob.{PlayJob}
+use Rattle.run_words.specs.declared.job.PlayJob.{PlayJob}
 use Rattle.play_shares.specs.Instants.{instant_count}
 use Rattle.play_shares.specs.Renderers.{images_each, painter_count}
 

@@ -3,13 +3,13 @@
 ghost use Rattle.std.specs.Prelude.{◌≡◌, ◌<◌, ◌≤◌, ◌++◌, ◌∷◌, [], false, length, slice_index_or, IfOk, OnOk};
 ghost use Rattle.std.specs.List.{slice_get};
 ghost use Rattle.ass_script.specs.Limits.{max_lines};
-ghost use Rattle.play_words.specs.Jobs.{IsPlay};
-ghost use Rattle.play_words.specs.Limits.{max_batch, max_workers};
+ghost use Rattle.run_words.specs.Jobs.{IsPlay};
+ghost use Rattle.run_words.specs.Limits.{max_batch, max_workers};
 ghost use Rattle.play_shares.specs.Batches.{again_lines, batch_lines, feeder_lines, good_lines, has_batch, last_items, offered};
 ghost use Rattle.play_shares.specs.Limits.{max_places};
 
 use ass_num::Mem;
-use play_words::PlayJob;
+use run_words::PlayJob;
 use std::alloc::Global;
 
 /// The line of a feeder at a place, where it has so many of these lines.

@@ -2,12 +2,12 @@
 
 ghost use Rattle.std.specs.Prelude.{◌≡◌, ◌≤◌, IfOk};
 ghost use Rattle.std.specs.List.{slice_get};
-ghost use Rattle.play_words.specs.Jobs.{IsPlay};
+ghost use Rattle.run_words.specs.Jobs.{IsPlay};
 ghost use Rattle.play_shares.specs.Instants.{ahead_instants, instant_count, instants};
 ghost use Rattle.play_shares.specs.Limits.{max_frames};
 
 use ass_num::Mem;
-use play_words::PlayJob;
+use run_words::PlayJob;
 use std::alloc::Global;
 
 /// How many instants there are, from the first one on below the end.

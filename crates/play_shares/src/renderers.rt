@@ -1,13 +1,14 @@
 //! The painters of a round, and the instants that each has in it.
 
 ghost use Rattle.std.specs.Prelude.{◌≡◌, ◌<◌, ◌≤◌};
-ghost use Rattle.play_words.specs.Jobs.{IsFrame, IsPlay};
+ghost use Rattle.run_words.specs.Jobs.{IsFrame, IsPlay};
 ghost use Rattle.play_shares.specs.Limits.{max_frames, max_painters, max_round_images};
-ghost use Rattle.play_shares.specs.Renderers.{first_place, images_each, images_in, images_that_fit, painter_count, painters_in, share_begins, share_ends, share_pixels};
+ghost use Rattle.play_shares.specs.Renderers.{first_place, images_each, images_in, images_that_fit, painter_count, painters_in, share_begins, share_ends};
+ghost use Rattle.play_shares.specs.Renderers.{share_pixels};
 
 use crate::instants::instant_count;
 use ass_num::Size;
-use play_words::{Mode, PlayJob};
+use run_words::{Mode, PlayJob};
 
 /// The most pixels of the images that a round has for each renderer, where it has more than one.
 pub const MAX_ROUND_PIXELS: u64 = 16_777_216;

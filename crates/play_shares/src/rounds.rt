@@ -2,7 +2,7 @@
 
 ghost use Rattle.std.specs.Prelude.{◌≡◌, ℕ, ◌<◌, ◌≤◌, ◌*◌, length, IsTrue, ◌↔◌};
 ghost use Rattle.ass_script.specs.Limits.{max_lines};
-ghost use Rattle.play_words.specs.Jobs.{IsPlay};
+ghost use Rattle.run_words.specs.Jobs.{IsPlay};
 ghost use Rattle.play_shares.specs.Batches.{feeder_lines};
 ghost use Rattle.play_shares.specs.Instants.{frame_count, instant_count};
 ghost use Rattle.play_shares.specs.Limits.{max_frames};
@@ -11,7 +11,7 @@ ghost use Rattle.play_shares.specs.Rounds.{feeding_rounds, image_rounds};
 
 use crate::instants::instant_count;
 use crate::renderers::{images_each, painter_count};
-use play_words::PlayJob;
+use run_words::PlayJob;
 
 /// The most images of a play.
 pub const MAX_FRAMES: u64 = 1_000_000;

@@ -1,15 +1,15 @@
 //! A play's work, as it was shared out by hand.
 
 ghost use Rattle.std.specs.Prelude.{◌≡◌, ◌≤◌};
-ghost use Rattle.play_words.specs.Jobs.{IsPlay};
-ghost use Rattle.play_words.specs.Limits.{max_ahead};
+ghost use Rattle.run_words.specs.Jobs.{IsPlay};
+ghost use Rattle.run_words.specs.Limits.{max_ahead};
 
 use crate::{
     ahead_instants, feeding_rounds, has_too_many_frames, image_rounds, instant_at, instant_count,
     offers, painter_count, share_begins, share_ends,
 };
 use ass_num::Size;
-use play_words::{Mode, PlayJob};
+use run_words::{Mode, PlayJob};
 use std::test::Fail;
 
 fn play(mode: Mode, ahead: u32) -> PlayJob

@@ -1,7 +1,7 @@
-//! A gate that counts makings.
+//! A hook that counts makings.
 
-use ass_io::{Gate, Kind, Place};
 use std::sync::atomic::{AtomicU64, Ordering};
+use test_hook::{HookPoint, TestHook, ValueKind};
 
 /// How many values of each kind threads began to make.
 #[derive(Drop)]
@@ -31,12 +31,12 @@ impl Makings {
     }
 }
 
-impl Gate for Makings {
-    fn at(&self, place: Place) {
-        let count = match place {
-            Place::BeforeMake(Kind::Outline) => &self.outlines,
-            Place::BeforeMake(Kind::Mask) => &self.masks,
-            Place::BeforeMake(Kind::Composite) => &self.composites,
+impl TestHook for Makings {
+    fn at(&self, point: HookPoint) {
+        let count = match point {
+            HookPoint::BeforeMake(ValueKind::Outline) => &self.outlines,
+            HookPoint::BeforeMake(ValueKind::Mask) => &self.masks,
+            HookPoint::BeforeMake(ValueKind::Composite) => &self.composites,
             _ => return,
         };
         count.fetch_add(1, Ordering::SeqCst);

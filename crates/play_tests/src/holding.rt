@@ -1,8 +1,8 @@
-//! A gate that holds a thread that makes a value until others have fed and framed.
+//! A hook that holds a thread that makes a value until others have fed and framed.
 
-use ass_io::{Gate, Place};
 use crossbeam_utils::Backoff;
 use std::sync::atomic::{AtomicBool, Ordering};
+use test_hook::{HookPoint, TestHook};
 
 /// A thread looks so often whether others have got so far.
 const LOOKS: u32 = 100_000_000;
@@ -21,17 +21,17 @@ fn await_flag(flag: &AtomicBool) -> bool {
 /// Holds the first thread that makes a value until the event with ReadOrder 2 was fed and a frame at 20 or at 30 was made, and the
 /// thread that fed that event until a value is being made.
 #[derive(Drop)]
-pub struct HoldingGate {
+pub struct HoldingHook {
     making: AtomicBool,
     fed: AtomicBool,
     framed: AtomicBool,
     late: AtomicBool,
 }
 
-impl HoldingGate {
+impl HoldingHook {
     /// Nothing was held yet.
-    pub fn new() -> HoldingGate {
-        HoldingGate {
+    pub fn new() -> HoldingHook {
+        HoldingHook {
             making: AtomicBool::new(false),
             fed: AtomicBool::new(false),
             framed: AtomicBool::new(false),
@@ -53,20 +53,20 @@ impl HoldingGate {
     }
 }
 
-impl Gate for HoldingGate {
-    fn at(&self, place: Place) {
-        match place {
-            Place::BeforeMake(_) => {
+impl TestHook for HoldingHook {
+    fn at(&self, point: HookPoint) {
+        match point {
+            HookPoint::BeforeMake(_) => {
                 if !self.making.swap(true, Ordering::SeqCst) {
                     self.await_all(&[&self.fed, &self.framed]);
                 }
             }
-            Place::AfterFeed(2) => {
+            HookPoint::AfterFeed(2) => {
                 self.fed.store(true, Ordering::SeqCst);
                 self.await_all(&[&self.making]);
             }
-            Place::AfterFrame(20 | 30) => self.framed.store(true, Ordering::SeqCst),
-            Place::AfterFeed(_) | Place::AfterFrame(_) => {}
+            HookPoint::AfterFrame(20 | 30) => self.framed.store(true, Ordering::SeqCst),
+            HookPoint::AfterFeed(_) | HookPoint::AfterFrame(_) => {}
         }
     }
 }

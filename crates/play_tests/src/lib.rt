@@ -1,4 +1,4 @@
-//! Tests of plays by threads, whose gates hold and count them.
+//! Tests of plays by threads, whose hooks hold and count them.
 #![tactic(auto)]
 
 #[cfg(test)]

@@ -1,9 +1,10 @@
 //! Whole runs over files in memory.
 
-use ass_io::{Gate, MemoryShelf, MemorySink, Rt};
+use ass_io::{MemoryShelf, MemorySink, Rt};
 use play_command::top;
 use std::alloc::{AllocError, Global};
 use std::test::Fail;
+use test_hook::TestHook;
 
 const HEAD: &str = "[Script Info]
 ScriptType: v4.00+
@@ -59,12 +60,12 @@ fn words_of(alloc: Global, line: &str) -> Result<Vec<String>, AllocError> {
 }
 
 /// Does what words ask for, over a script with these Dialogue lines and a font with one letter.
-pub fn run<G: Gate + Sync>(
+pub fn run<H: TestHook + Sync>(
     rt: &impl Rt,
     alloc: Global,
     line: &str,
     lines: &str,
-    gate: &G,
+    hook: &H,
 ) -> Result<Ran, Fail> {
     let words = words_of(alloc, line)?;
     let script = format!(in alloc; "{HEAD}{lines}")?;
@@ -74,7 +75,7 @@ pub fn run<G: Gate + Sync>(
     let mut frames = MemorySink::new(alloc);
     let mut report = MemorySink::new(alloc);
     let words = words.as_slice();
-    let status = top(rt, alloc, words, &mut shelf, &mut frames, &mut report, gate);
+    let status = top(rt, alloc, words, &mut shelf, &mut frames, &mut report, hook);
     let exit = status.exit_status();
     Ok(Ran {
         exit,

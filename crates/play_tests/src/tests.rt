@@ -1,7 +1,7 @@
 //! Plays whose threads are held and counted.
 
 use crate::counting::Makings;
-use crate::holding::HoldingGate;
+use crate::holding::HoldingHook;
 use crate::runs::run;
 use ass_io::Rt;
 use std::alloc::Global;
@@ -35,26 +35,26 @@ composite hits 2 claims 1 fills 1 fails 0 crowded 0 evictions 0
 /// Fed and drawn at once: one thread makes a value while another feeds and a third has a frame.
 #[test]
 fn feeders_and_renderers_work_at_once(rt: HostRuntime) -> Result<(), Fail> {
-    let gate = HoldingGate::new();
+    let hook = HoldingHook::new();
     let words =
         "play --from 0 --to 40 --step 10 --size 4x3 --renderers 2 --batch 2 --mode live a.ass f.bdf";
-    let ran = run(&rt, rt.alloc(), words, THREE, &gate)?;
+    let ran = run(&rt, rt.alloc(), words, THREE, &hook)?;
     assert_eq!(rt; ran.exit, 0);
-    assert!(rt; !gate.is_late());
+    assert!(rt; !hook.is_late());
     Ok(())
 }
 
 /// How many values of each kind were made in a play of three images with a budget, which has to report this.
 fn made(rt: &impl Rt, alloc: Global, budget: &str, report: &str) -> Result<[u64; 3], Fail> {
-    let gate = Makings::new();
+    let hook = Makings::new();
     let words = format!(in alloc;
         "play --from 0 --to 3 --step 1 --size 4x3 --budget {budget} a.ass f.bdf"
     )?;
-    let ran = run(rt, alloc, words.as_str(), ONE, &gate)?;
+    let ran = run(rt, alloc, words.as_str(), ONE, &hook)?;
     if ran.exit != 0 || ran.report.bytes() != report.as_bytes() {
         return Err("it played something else".into());
     }
-    Ok(gate.counts())
+    Ok(hook.counts())
 }
 
 /// What isn't kept is made for each image again, and what is kept once; so often it is claimed in the caches, as reports tell.

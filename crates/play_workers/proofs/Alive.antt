@@ -1,5 +1,5 @@
 -- What is live behind a dead history.
-use Rattle.std.proofs.Common.{◌≡◌, ℕ, ◌+◌, true, cond, List, [], ◌∷◌, ◌++◌, length, map, refl, sym, ap, subst, ◌∙◌, arith, append_assoc, append-nil, ⊎_elim, Some, None}
+use Rattle.std.proofs.Common.{◌≡◌, ℕ, ◌+◌, true, cond, List, [], ◌∷◌, ◌++◌, length, map, sym, ap, subst, ◌∙◌, arith, append_assoc, append-nil, ⊎_elim, Some, None}
 use Rattle.std.specs.Prelude.{◌==◌}
 use Rattle.std.specs.List.{Contains, position_from}
 use Rattle.std.proofs.lemmas.Bool.{cases_Bool}
@@ -10,20 +10,6 @@ use Rattle.ass_events.specs.Histories.{Entry, Chunk, Flush, flushes_of, live, li
 use Rattle.track_history.specs.Answers.{position_of}
 use Rattle.play_model.proofs.FeedLaws.{unchunk}
 use Rattle.play_model.proofs.JoinedPasses.{Contains_cons_cases, Contains_map, not_in_nil}
-
-live_after-append : (es : List Event) (xs ys : List Entry) → live_after es (xs ++ ys) ≡ live_after (live_after es xs) ys
-live_after-append es [] ys = refl
-live_after-append es (Chunk e ∷ xs) ys = live_after-append (es ++ e ∷ []) xs ys
-live_after-append es (Flush ∷ xs) ys = live_after-append [] xs ys
-
--- what is dead adds nothing
-pub live_behind : (old mid : List Entry) → live old ≡ [] → live (old ++ mid) ≡ live mid
-live_behind old mid dead = live_after-append [] old mid ∙ ap (λ es. live_after es mid) dead
-
-pub flushes_of-append : (xs ys : List Entry) → flushes_of (xs ++ ys) ≡ flushes_of xs + flushes_of ys
-flushes_of-append [] ys = omega arith
-flushes_of-append (Chunk e ∷ xs) ys = flushes_of-append xs ys
-flushes_of-append (Flush ∷ xs) ys = let more = flushes_of-append xs ys in omega (arith, more)
 
 no_flush : (xs : List Entry) → flushes_of (Flush ∷ xs) ≡ 0 → ⊥
 no_flush xs none = absurd (omega (arith, none))

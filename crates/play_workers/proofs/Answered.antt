@@ -2,12 +2,11 @@
 use Rattle.std.proofs.Common.{◌≡◌, ℕ, ◌≤◌, true, cond, List, [], ◌∷◌, ◌++◌, length, refl, sym, ap, subst, ◌∙◌, arith, append_assoc, ⊎_elim, Option, Some, None}
 use Rattle.std.specs.Prelude.{nat_le}
 use Rattle.std.specs.List.{Contains}
-use Rattle.std.specs.Option.{option_map}
 use Rattle.std.proofs.lemmas.Bool.{cases_Bool}
 use Rattle.std.proofs.lemmas.Bool.Decides.{nat_tests}
 use Rattle.std.proofs.lemmas.List.{append_cancel_left, map-append}
 use Rattle.std.proofs.lemmas.List.Elements.{Contains-append_left}
-use Rattle.turn_cell.specs.History.{History, IsPrefix, with_entry}
+use Rattle.turn_cell.specs.History.{History, IsPrefix}
 use Rattle.ass_events.specs.declared.event.Event.{Event}
 use Rattle.ass_script.specs.declared.script.EventField.{EventField}
 use Rattle.ass_events.specs.Histories.{Entry, Chunk, flushes_of, live, max_live}
@@ -17,8 +16,11 @@ use Rattle.track_history.specs.declared.answers.Feed.{Feed}
 use Rattle.track_history.specs.declared.answers.Feed.TheVariants.{Accepted, Repeated, Malformed, Full, OutOfMemory}
 use Rattle.track_history.specs.declared.answers.TrackEntry.{TrackEntry}
 use Rattle.track_history.proofs.Repeats.{repeated_entry}
+use Rattle.track_history.proofs.Turns.{history_of-with_entry}
 use Rattle.play_model.specs.Feeding.{Has, HasMemory, IsKnownOf}
-use Rattle.play_workers.proofs.Alive.{absent, flushes_of-append, is_live, length_live, live_behind, was_live}
+use Rattle.play_workers.proofs.Alive.{absent, is_live, length_live, was_live}
+use Rattle.play_model.proofs.SettledLaws.{live_behind}
+use Rattle.track_history.proofs.Histories.{flushes_of-append}
 
 -- ---- answers by the place
 
@@ -106,10 +108,6 @@ module _ (old before fresh list : List Entry) (dead : live old ≡ []) (begins :
 
 -- ---- one feed
 
-history_with : (list : History TrackEntry) (n : ℕ) (given : Option TrackEntry) → history_of (with_entry list n given) ≡ extended (history_of list) (option_map entry_of given)
-history_with list n None = refl
-history_with list n (Some x) = map-append (λ (pair : ℕ × TrackEntry). entry_of pair.1) list ((n, x) ∷ [])
-
 pub history-prefix : (xs ys : History TrackEntry) → IsPrefix xs ys → IsPrefix (history_of xs) (history_of ys)
 history-prefix xs ys begins = (history_of begins.0, sym (map-append (λ (pair : ℕ × TrackEntry). entry_of pair.1) xs begins.0) ∙ ap history_of begins.1)
 
@@ -120,5 +118,5 @@ offered_known event pass after answer h memory old before fresh dead first last 
     let list = history_of turn.list in
     let begins : IsPrefix (old ++ before) list = subst (λ (z : List Entry). IsPrefix z list) first (history-prefix pass.seen turn.list turn.extends.begins) in
     let gave : extended list (fed_entry event answer) ≡ old ++ fresh =
-    ap (extended list) (sym h.turn.is_entry) ∙ sym (history_with turn.list pass.number h.turn.given) ∙ sym (ap history_of turn.seen) ∙ last in
+    ap (extended list) (sym h.turn.is_entry) ∙ sym (history_of-with_entry turn.list pass.number h.turn.given) ∙ sym (ap history_of turn.seen) ∙ last in
     known_of old before fresh list dead begins event answer gave h.answered memory

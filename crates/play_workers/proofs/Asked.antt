@@ -8,8 +8,8 @@ use Rattle.std.proofs.lemmas.List.Sums.{sum_by-cons}
 use Rattle.ass_num.specs.Masks.{MaskValue}
 use Rattle.bdf_font.specs.declared.font.FontSet.{FontSet}
 use Rattle.cache_kinds.specs.Kinds.{composite_meaning}
-use Rattle.cache_totals.specs.Asks.{asks_of, own_asks}
-use Rattle.cache_totals.proofs.Asks.{IsOfOne, adds_asks, asks_of-append}
+use Rattle.mask_caches.specs.Asks.{asks_of, own_asks}
+use Rattle.mask_caches.proofs.Asks.{IsOfOne, adds_asks, asks_of-append}
 use Rattle.evict_core.specs.History.{one_if}
 use Rattle.evict_core.specs.Machine.{Ask, Claim, Crowded, Fail, Hit, PinAll, Step}
 use Rattle.flight_cache.specs.Calls.{GivesSteps, PinView, ShardPassView, ShardView, own_steps}
@@ -30,11 +30,11 @@ use Rattle.mask_keys.specs.declared.composite_key.CompositeKey.{CompositeKey}
 use Rattle.mask_keys.specs.declared.plans.Clip.{Clip}
 use Rattle.mask_keys.specs.declared.plans.Clip.TheVariants.{Drawn, Free, Rect}
 use Rattle.mask_keys.specs.declared.plans.Draw.{Draw}
-use Rattle.render_pass.specs.Leasing.{AddsVisits, visit_steps}
+use Rattle.renderer.specs.Leasing.{AddsVisits, visit_steps}
 use Rattle.turn_cell.specs.Passes.{Follows}
 use Rattle.turn_cell.proofs.Passes.{Follows_same}
-use Rattle.warm_ahead.specs.Firsts.{clip_keys, draw_keys, plan_keys}
-use Rattle.warm_ahead.specs.Warming.{KeyVisit}
+use Rattle.mask_keys.specs.PlanKeys.{clip_keys, draw_keys, plan_keys}
+use Rattle.mask_caches.specs.Warming.{KeyVisit}
 use Rattle.play_model.specs.Images.{clip_masks, masks_needed}
 
 -- ---- keys

@@ -4,18 +4,18 @@ use Rattle.std.specs.Result.{IfOk}
 use Rattle.ass_events.specs.Histories.{Entry}
 use Rattle.ass_num.specs.declared.size.Size.{Size}
 use Rattle.cache_kinds.specs.Kinds.{composite_meaning}
-use Rattle.cache_totals.specs.Balance.{AreLater}
-use Rattle.cache_totals.proofs.Asks.{later_asks}
-use Rattle.frame_paint.specs.declared.frames.Frame.{Frame}
+use Rattle.mask_caches.specs.Balance.{AreLater}
+use Rattle.mask_caches.proofs.Asks.{later_asks}
+use Rattle.renderer.specs.declared.frames.Frame.{Frame}
 use Rattle.mask_caches.specs.Caches.{AreNumbered}
 use Rattle.mask_keys.specs.Equality.{equal_composites}
 use Rattle.mask_keys.specs.declared.plans.Draw.{Draw}
-use Rattle.render_pass.specs.Passes.{RenderView, RendererView}
-use Rattle.render_pass.specs.Rendering.{IsRenderedFrame}
-use Rattle.render_pass.specs.Soon.{IsTriedThenRendered}
-use Rattle.render_pass.specs.Trying.{IsTriedFrame}
+use Rattle.renderer.specs.Passes.{RenderView, RendererView}
+use Rattle.renderer.specs.Rendering.{IsRenderedFrame}
+use Rattle.renderer.specs.Soon.{IsTriedThenRendered}
+use Rattle.renderer.specs.Trying.{IsTriedFrame}
 use Rattle.track_history.specs.Calls.{history_of}
-use Rattle.warm_ahead.specs.Firsts.{plan_keys}
+use Rattle.mask_keys.specs.PlanKeys.{plan_keys}
 use Rattle.play_model.specs.Images.{masks_needed}
 use Rattle.play_model.specs.Plays.{PlayView}
 use Rattle.play_workers.specs.Asks.{IsFrameAsked, IsImageAsked, IsImageOfDraws, masks_asked}

@@ -18,7 +18,7 @@ first_fault : (o : Option FieldValues) (columns : List Column) (f : EventField) 
 first_fault (Some fields) columns f place more e = more fields e
 first_fault None columns f place more e = cc
 
--- no line is refused for want of memory
+-- no line is refused for lack of memory
 examined_without : (columns : List Column) (fields : FieldValues) → examined columns fields ≡ Err OutOfMemory → ⊥
 unfolding examined
 examined_without [] fields e = cc

@@ -14,12 +14,12 @@ use Rattle.ass_num.specs.Limits.{max_instant, max_text_bytes}
 use Rattle.std.proofs.lemmas.Int.{ints}
 use Rattle.ass_script.specs.Ranges.{IsScript}
 use Rattle.ass_script.specs.Scripts.{ScriptValue}
-use Rattle.script_events.specs.ScriptEvents.{event_given}
+use Rattle.ass_events.specs.ScriptEvents.{event_given}
 use Rattle.track_history.specs.Calls.{IsEventFed, IsFed, IsFedBy, TrackView}
 use Rattle.track_history.specs.declared.answers.Feed.{Feed}
 use Rattle.track_history.specs.declared.answers.Feed.TheVariants.{OutOfMemory}
 use Rattle.turn_cell.specs.History.{IsPrefix}
-use Rattle.render_pass.specs.Passes.{RenderView}
+use Rattle.renderer.specs.Passes.{RenderView}
 use Rattle.play_shares.specs.Batches.{offered}
 use Rattle.play_model.specs.Feeding.{HasMemory, repeats}
 use Rattle.play_model.specs.Plays.{IsPlayable, PlayView, events_again, events_at, events_in}
@@ -28,7 +28,7 @@ use Rattle.play_model.proofs.Shares.{events_parts, flags_long}
 use Rattle.play_workers.specs.Offers.{AreEventsFed, AreOffered, HasGiven}
 use Rattle.play_workers.specs.Parts.{IsBatchFed}
 use Rattle.play_workers.specs.Stages.{IsPlayStage, play_on}
-use Rattle.play_workers.specs.declared.stage.Stage.{Stage}
+use Rattle.play_workers.specs.declared.stage.PlayStage.{PlayStage}
 use Rattle.play_workers.proofs.Offered.{event_fed, fed_front, fed_more, fed_twice, front_none, given_same, offered_none}
 use Rattle.play_workers.proofs.Shared.{events_offered}
 
@@ -42,7 +42,7 @@ some_chunked : (r : Result Event ChunkRefusal) (chunk : Chunk) → chunked r ≡
 some_chunked (Ok event) chunk e = (event, refl, (let made : Ok (chunk_made event) ≡ Ok chunk = e in let same : chunk_made event ≡ chunk = cc in sym same))
 some_chunked (Err other) chunk e = absurd (let none : Err other ≡ Ok chunk = e in cc)
 
--- nothing was fed for want of memory
+-- nothing was fed for lack of memory
 pub none_fed_yet : (pass : TrackView) (events : List Event) (refused : NoMemory) → HasGiven pass pass (AreEventsFed pass pass events (Err refused))
 none_fed_yet pass events refused = given_same pass (AreEventsFed pass pass events (Err refused)) (front_none pass pass events)
 
@@ -89,7 +89,7 @@ times_fit script line chunk is inside read =
     subst (λ (c : Chunk). FitsSigned w64 c.start × FitsSigned w64 c.duration) (sym made.2) (time_fits made.0.start event.start, time_fits made.0.duration event.duration)
 
 -- a line of a stage is one of its script
-pub line_inside : (stage : Stage) (line : ℕ) → IsPlayStage stage → line < length stage.good → line < length (arc_value stage.script).lines
+pub line_inside : (stage : PlayStage) (line : ℕ) → IsPlayStage stage → line < length stage.good → line < length (arc_value stage.script).lines
 line_inside stage line is lt = subst (λ (n : ℕ). line < n) (ap length is.good ∙ flags_long (arc_value stage.script)) lt
 
 -- ---- lines in order
@@ -127,7 +127,7 @@ lines_all script lines i pass after m end all =
 
 -- ---- what a feeder has for a round
 
-module _ (stage : Stage) (round feeder : ℕ) (pass after : RenderView) where
+module _ (stage : PlayStage) (round feeder : ℕ) (pass after : RenderView) where
   abbrev again : List Event
   again = events_again (play_on stage) round feeder
 
@@ -152,6 +152,6 @@ module _ (stage : Stage) (round feeder : ℕ) (pass after : RenderView) where
       (ap (events_at (arc_value stage.script)) are ∙ events_offered (play_on stage) stage.good round feeder is.good) fed)
 
 -- it may be that no line was had
-pub part_unfed : (stage : Stage) (round feeder : ℕ) (pass : RenderView) (refused : NoMemory) → HasGiven pass.track pass.track (IsBatchFed stage round feeder pass pass (Err refused))
+pub part_unfed : (stage : PlayStage) (round feeder : ℕ) (pass : RenderView) (refused : NoMemory) → HasGiven pass.track pass.track (IsBatchFed stage round feeder pass pass (Err refused))
 part_unfed stage round feeder pass refused =
     given_same pass.track (IsBatchFed stage round feeder pass pass (Err refused)) (front_none pass.track pass.track (events_again (play_on stage) round feeder ++ events_in (play_on stage) round feeder))

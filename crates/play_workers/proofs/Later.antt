@@ -2,26 +2,26 @@
 use Rattle.std.proofs.Common.{◌≡◌, ℕ, ℤ, List, [], Result, Ok, Err, sym, subst, ⊎_elim}
 use Rattle.ass_num.specs.declared.size.Size.{Size}
 use Rattle.cache_kinds.specs.Kinds.{composite_meaning}
-use Rattle.cache_totals.specs.Balance.{AreLater}
+use Rattle.mask_caches.specs.Balance.{AreLater}
 use Rattle.evict_core.specs.Machine.{Step}
 use Rattle.flight_cache.specs.Laws.{IsLater}
 use Rattle.flight_cache.specs.Shards.{CachePassView}
 use Rattle.flight_cache.proofs.Rows.{later_is_later}
-use Rattle.frame_paint.specs.declared.frames.Frame.{Frame}
+use Rattle.renderer.specs.declared.frames.Frame.{Frame}
 use Rattle.ass_num.specs.Masks.{MaskValue}
 use Rattle.mask_caches.specs.Adding.{Adds}
 use Rattle.mask_caches.specs.declared.caches.Caches.{Caches}
 use Rattle.mask_caches.specs.declared.passes.CachesPass.{CachesPass}
 use Rattle.mask_keys.specs.Equality.{equal_composites}
 use Rattle.mask_keys.specs.declared.composite_key.CompositeKey.{CompositeKey}
-use Rattle.render_pass.specs.Leasing.{AddsVisits}
-use Rattle.render_pass.specs.Passes.{RenderView, RendererView}
-use Rattle.render_pass.specs.Rendering.{IsRendered}
-use Rattle.render_pass.specs.Soon.{IsRenderedThen, IsTriedThenRendered}
-use Rattle.render_pass.specs.Trying.{AddsNothing, IsTriedFrame}
-use Rattle.render_pass.specs.Warming.{IsColdAt, IsWarmed, Refused, Unplanned}
+use Rattle.renderer.specs.Leasing.{AddsVisits}
+use Rattle.renderer.specs.Passes.{RenderView, RendererView}
+use Rattle.renderer.specs.Rendering.{IsRendered}
+use Rattle.renderer.specs.Soon.{IsRenderedThen, IsTriedThenRendered}
+use Rattle.renderer.specs.Trying.{AddsNothing, IsTriedFrame}
+use Rattle.renderer.specs.Warming.{IsColdAt, IsWarmed, Refused, Unplanned}
 use Rattle.turn_cell.proofs.Passes.{Follows_same}
-use Rattle.warm_ahead.specs.Warming.{AddsWarming, KeyVisit}
+use Rattle.mask_caches.specs.Warming.{AddsWarming, KeyVisit}
 use Rattle.play_workers.proofs.Asked.{pinned_later}
 
 later_none : {K T : Type 0} (pass : CachePassView K T) → IsLater pass pass

@@ -14,10 +14,11 @@ use Rattle.track_history.specs.Calls.{IsEventFed, IsOffered, TrackView, history_
 use Rattle.track_history.specs.declared.answers.Feed.{Feed}
 use Rattle.track_history.specs.declared.answers.Feed.TheVariants.{Accepted, Repeated, Malformed, Full, OutOfMemory}
 use Rattle.track_history.proofs.LawLemmas.{turn_follows}
+use Rattle.play_model.proofs.Feeds.{accepted_of-append, repeated_of-append}
 use Rattle.play_model.specs.Feeding.{AreFed, AreFedTwice, FeedAnswer, Has, HasMemory, IsKnown, IsKnownOf, accepted_of, repeated_of, repeats}
 use Rattle.play_workers.specs.Offers.{AreEventsFed, AreOffered, HasGiven, IsFrontOffered}
-use Rattle.play_workers.proofs.Alive.{flushes_of-append}
 use Rattle.play_workers.proofs.Answered.{history-prefix, offered_known}
+use Rattle.track_history.proofs.Histories.{flushes_of-append}
 
 -- ---- what is known stays known
 
@@ -46,14 +47,6 @@ all_wider before before' after after' answers p q known = All-weaker (IsKnown be
 
 -- ---- two after another
 
-accepted-append : (xs ys : List FeedAnswer) → accepted_of (xs ++ ys) ≡ accepted_of xs ++ accepted_of ys
-accepted-append [] ys = refl
-accepted-append (a ∷ xs) ys = ap (λ z. entry_list (fed_entry a.0 a.1) ++ z) (accepted-append xs ys) ∙ sym (append_assoc (entry_list (fed_entry a.0 a.1)) (accepted_of xs) (accepted_of ys))
-
-repeated-append : (xs ys : List FeedAnswer) → repeated_of (xs ++ ys) ≡ repeated_of xs + repeated_of ys
-repeated-append [] ys = omega arith
-repeated-append (a ∷ xs) ys = let more = repeated-append xs ys in omega (arith, more)
-
 prefix_same : {X : Type 0} (xs : List X) → IsPrefix xs xs
 prefix_same xs = ([], append-nil xs)
 
@@ -62,8 +55,8 @@ fed_both : (before mid fresh : List Entry) (xs ys : List Event) (g h : List Entr
 fed_both before mid fresh xs ys g h m n p q first second = record {
   answers = first.answers ++ second.answers;
   events_are = map-append (λ (a : FeedAnswer). a.0) first.answers second.answers ∙ ap (λ z. z ++ map (λ (a : FeedAnswer). a.0) second.answers) first.events_are ∙ ap (λ z. xs ++ z) second.events_are;
-  given_are = ap (λ z. z ++ h) first.given_are ∙ ap (λ z. accepted_of first.answers ++ z) second.given_are ∙ sym (accepted-append first.answers second.answers);
-  repeated_are = (let one = first.repeated_are in let two = second.repeated_are in let sum = repeated-append first.answers second.answers in omega (arith, one, two, sum));
+  given_are = ap (λ z. z ++ h) first.given_are ∙ ap (λ z. accepted_of first.answers ++ z) second.given_are ∙ sym (accepted_of-append first.answers second.answers);
+  repeated_are = (let one = first.repeated_are in let two = second.repeated_are in let sum = repeated_of-append first.answers second.answers in omega (arith, one, two, sum));
   known = All-append (IsKnown before fresh) first.answers second.answers
       (all_wider before before fresh mid first.answers (prefix_same before) q first.known) (all_wider before mid fresh fresh second.answers p (prefix_same fresh) second.known);
 }
@@ -193,6 +186,6 @@ fed_twice before again batch fresh given repeated fed =
       second_given = accepted_of two;
       second_repeated = repeated_of two;
       second = record { answers = two; events_are = cut.4; given_are = refl; repeated_are = refl; known = all_right (IsKnown before fresh) one two known };
-      given_are = fed.given_are ∙ ap accepted_of cut.2 ∙ accepted-append one two;
-      repeated_are = fed.repeated_are ∙ ap repeated_of cut.2 ∙ repeated-append one two;
+      given_are = fed.given_are ∙ ap accepted_of cut.2 ∙ accepted_of-append one two;
+      repeated_are = fed.repeated_are ∙ ap repeated_of cut.2 ∙ repeated_of-append one two;
     }

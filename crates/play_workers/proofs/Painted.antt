@@ -1,46 +1,32 @@
 -- Frames that are tried first, and their images.
-use Rattle.std.proofs.Common.{Global, Vec, ◌≡◌, ℕ, ◌*◌, ℤ, List, [], ◌∷◌, fold, map, refl, sym, ap, subst, ◌∙◌, None, Result, Ok, Err, ⊎_elim}
+use Rattle.std.proofs.Common.{Global, Vec, ◌≡◌, ℕ, ◌*◌, ℤ, List, [], ◌∷◌, fold, map, refl, sym, ap, subst, ◌∙◌, Result, Ok, Err, ⊎_elim}
 use Rattle.std.specs.Result.{IfOk}
 use Rattle.ass_events.specs.Histories.{Entry, live}
 use Rattle.ass_num.specs.declared.size.Size.{Size}
 use Rattle.ass_script.specs.Scripts.{ScriptValue}
 use Rattle.blend.specs.Blending.{Image}
 use Rattle.blend.specs.Canvases.{CanvasValue, black, drawn}
-use Rattle.frame_paint.proofs.Pictures.{canvas-picture}
-use Rattle.frame_paint.specs.Frames.{canvas_of, image_shown}
-use Rattle.frame_paint.specs.declared.frames.Frame.{Frame}
+use Rattle.renderer.proofs.PaintedPictures.{canvas-picture}
+use Rattle.renderer.specs.ShownFrames.{canvas_of, image_shown}
+use Rattle.renderer.specs.declared.frames.Frame.{Frame}
 use Rattle.mask_caches.specs.Caches.{HoldsAsBefore}
-use Rattle.mask_model.specs.Pictures.{picture}
+use Rattle.mask_keys.specs.Pictures.{picture}
 use Rattle.picture_plan.specs.Pictures.{AreDraws}
 use Rattle.ppm_text.specs.Images.{image_bytes}
-use Rattle.render_pass.specs.Frames.{IsFrameOf}
-use Rattle.render_pass.specs.Holding.{HoldsTheSame}
-use Rattle.render_pass.specs.Passes.{RenderView, RendererView}
-use Rattle.render_pass.specs.Soon.{IsTriedThenRendered}
-use Rattle.render_pass.specs.Warming.{IsColdAt, IsWarmed, Refused, Unplanned}
-use Rattle.render_pass.proofs.Held.{before-itself}
-use Rattle.track_history.proofs.LawLemmas.{turn_follows}
-use Rattle.track_history.specs.Answers.{entry_of}
-use Rattle.track_history.specs.Calls.{IsTurn, TrackView}
-use Rattle.track_history.specs.declared.answers.TrackEntry.{TrackEntry}
+use Rattle.renderer.specs.Frames.{IsFrameOf}
+use Rattle.renderer.specs.Holding.{HoldsTheSame}
+use Rattle.renderer.specs.Passes.{RenderView, RendererView}
+use Rattle.renderer.specs.Soon.{IsTriedThenRendered}
+use Rattle.renderer.specs.Warming.{IsColdAt, IsWarmed, Refused, Unplanned}
+use Rattle.track_history.proofs.LawLemmas.{turn_alone}
 use Rattle.turn_cell.specs.Passes.{Follows}
 use Rattle.play_model.specs.Plays.{PlayView}
 use Rattle.play_workers.specs.Asks.{IsImageOfDraws}
-
--- ---- turns that give nothing
-
-nothing_given : (given : List TrackEntry) → map entry_of given ≡ [] → given ≡ []
-nothing_given [] e = refl
-nothing_given (x ∷ xs) e = cc
-
-pub turn_follows_none : (pass after : TrackView) → IsTurn pass after None → Follows pass after []
-turn_follows_none pass after turn =
-    let gives = turn_follows pass after None turn in
-    subst (Follows pass after) (nothing_given gives.0 gives.1) gives.2
+use Rattle.mask_caches.proofs.Warmed.{before-itself}
 
 pub soon_follows : {E : Type 0} (renderer : RendererView) (pass after : RenderView) (t : ℤ) (size : Size) (answer : Result Frame E) → IsTriedThenRendered renderer pass after t size answer → Follows pass.track after.track []
-soon_follows renderer pass after t size (Ok frame) h = ⊎_elim (λ tried. turn_follows_none pass.track after.track tried.turn) (λ then. turn_follows_none pass.track after.track then.rendered.turn) h
-soon_follows renderer pass after t size (Err refused) h = ⊎_elim (λ none. turn_follows_none pass.track after.track none.turn) (λ then. turn_follows_none pass.track after.track then.rendered.turn) h
+soon_follows renderer pass after t size (Ok frame) h = ⊎_elim (λ tried. turn_alone pass.track after.track tried.turn) (λ then. turn_alone pass.track after.track then.rendered.turn) h
+soon_follows renderer pass after t size (Err refused) h = ⊎_elim (λ none. turn_alone pass.track after.track none.turn) (λ then. turn_alone pass.track after.track then.rendered.turn) h
 
 pub warmed_follows : {E : Type 0} (renderer : RendererView) (pass after : RenderView) (instants : List ℤ) (size : Size) (answer : Result ℕ E) → IsWarmed renderer pass after instants size answer → Follows pass.track after.track []
 warmed_follows renderer pass after instants size (Ok count) h = h.2.track

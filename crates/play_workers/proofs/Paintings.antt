@@ -6,10 +6,9 @@ use Rattle.std.specs.Result.{IfOk, is_ok}
 use Rattle.std.proofs.lemmas.List.{map-append}
 use Rattle.std.proofs.lemmas.List.Sums.{sum_by-append}
 use Rattle.ass_events.specs.Histories.{Entry}
-use Rattle.cache_totals.specs.Balance.{AreLater}
-use Rattle.render_pass.specs.Holding.{HoldsTheSame}
-use Rattle.render_pass.specs.Passes.{IsPassOfRenderer, RenderView, RendererView}
-use Rattle.render_pass.proofs.Held.{before-then}
+use Rattle.mask_caches.specs.Balance.{AreLater}
+use Rattle.renderer.specs.Holding.{HoldsTheSame}
+use Rattle.renderer.specs.Passes.{IsPassOfRenderer, RenderView, RendererView}
 use Rattle.track_history.specs.Calls.{history_of}
 use Rattle.turn_cell.specs.History.{IsPrefix}
 use Rattle.turn_cell.specs.Passes.{Follows}
@@ -23,6 +22,7 @@ use Rattle.play_workers.specs.Parts.{painted_bytes}
 use Rattle.play_workers.proofs.Answered.{history-prefix}
 use Rattle.play_workers.proofs.Later.{caches_same, caches_then}
 use Rattle.play_workers.proofs.Painted.{holds_itself}
+use Rattle.mask_caches.proofs.Warmed.{before-then}
 
 -- The pass is one of the renderer and goes on from the other; it gave the track nothing, and holds what that one held.
 pub record GoesOn (renderer : RendererView) (pass after : RenderView) : Type 0 where

@@ -4,15 +4,15 @@ use Rattle.std.specs.List.{slice_get}
 use Rattle.std.proofs.lemmas.Int.{ints}
 use Rattle.ass_num.specs.Limits.{IsWithin, max_instant}
 use Rattle.ass_num.specs.declared.memory.OutOfMemory.{OutOfMemory as NoMemory}
-use Rattle.render_pass.specs.Holding.{HoldsTheSame}
-use Rattle.render_pass.specs.Passes.{IsPassOfRenderer, RenderView}
+use Rattle.renderer.specs.Holding.{HoldsTheSame}
+use Rattle.renderer.specs.Passes.{IsPassOfRenderer, RenderView}
 use Rattle.turn_cell.specs.Passes.{Follows}
 use Rattle.play_shares.specs.Instants.{instant_count, instants, play_instant}
-use Rattle.cache_totals.specs.Balance.{AreLater}
+use Rattle.mask_caches.specs.Balance.{AreLater}
 use Rattle.play_workers.specs.Offers.{HasGiven}
 use Rattle.play_workers.specs.Parts.{IsBatchFed, IsDone, IsOutcome}
 use Rattle.play_workers.specs.Stages.{IsPlayStage}
-use Rattle.play_workers.specs.declared.stage.Stage.{Stage}
+use Rattle.play_workers.specs.declared.stage.PlayStage.{PlayStage}
 use Rattle.play_workers.specs.declared.worker.Outcome.{Outcome}
 use Rattle.play_workers.specs.declared.worker.Outcome.TheVariants.{Fed, OutOfMemory}
 use Rattle.play_workers.specs.declared.worker.Role.{Role}
@@ -21,7 +21,7 @@ use Rattle.play_workers.proofs.Later.{caches_same}
 use Rattle.play_workers.proofs.Painted.{holds_itself}
 use Rattle.play_workers.proofs.Shared.{instant_within, place_gone, place_there}
 
-module _ (stage : Stage) (round : ℕ) (pass after : RenderView) (is_of : IsPassOfRenderer stage.renderer after) where
+module _ (stage : PlayStage) (round : ℕ) (pass after : RenderView) (is_of : IsPassOfRenderer stage.renderer after) where
   pub fed_done : (feeder repeated : ℕ) → after.caches ≡ pass.caches → HasGiven pass.track after.track (IsBatchFed stage {E = NoMemory} round feeder pass after (Ok repeated))
       → IsDone stage round (Feeder feeder) pass after (Fed repeated)
   fed_done feeder repeated same fed = record { is_of = is_of; given = fed.given; follows = fed.follows; later = caches_same pass.caches after.caches same; holds = holds_itself stage.renderer pass after same; came = fed.as_told }
@@ -36,7 +36,7 @@ module _ (stage : Stage) (round : ℕ) (pass after : RenderView) (is_of : IsPass
   done_giving_none role outcome follows later same came = record { is_of = is_of; given = []; follows = follows; later = later; holds = same; came = came }
 
 -- the instant at a place
-module _ (stage : Stage) (is : IsPlayStage stage) (place : ℕ) (t : ℤ) (there : Some t ≡ slice_get (instants stage.job) place) where
+module _ (stage : PlayStage) (is : IsPlayStage stage) (place : ℕ) (t : ℤ) (there : Some t ≡ slice_get (instants stage.job) place) where
   pub instant_is : t ≡ play_instant stage.job place
   instant_is = (place_there stage.job is.playable.job place t there).1
 
@@ -46,5 +46,5 @@ module _ (stage : Stage) (is : IsPlayStage stage) (place : ℕ) (t : ℤ) (there
       let within : IsWithin max_instant t = subst (IsWithin max_instant) (sym here.1) (instant_within stage.job is.playable.job place here.0) in
       (within, omega (arith, ints, within.0, within.1))
 
-pub instant_not_gone : (stage : Stage) → IsPlayStage stage → (place : ℕ) → place < instant_count stage.job → None ≡ slice_get (instants stage.job) place → ⊥
+pub instant_not_gone : (stage : PlayStage) → IsPlayStage stage → (place : ℕ) → place < instant_count stage.job → None ≡ slice_get (instants stage.job) place → ⊥
 instant_not_gone stage is place inside gone = let past = place_gone stage.job is.playable.job place gone in absurd (omega (arith, inside, past))

@@ -9,8 +9,8 @@ use Rattle.std.proofs.lemmas.List.Elements.{All-nil, All-append, All-drop, All-f
 use Rattle.std.proofs.lemmas.List.FromFn.{get_or-map-range_with_len, get_or-range_with_len, length-map-range_with_len, length-range_with_len}
 use Rattle.std.proofs.lemmas.Option.{get_or_from_slice_get, slice_get-get_or, slice_get_within}
 use Rattle.ass_num.specs.Limits.{IsWithin, max_instant}
-use Rattle.play_words.specs.Jobs.{IsPlay}
-use Rattle.play_words.specs.declared.job.PlayJob.{PlayJob}
+use Rattle.run_words.specs.Jobs.{IsPlay}
+use Rattle.run_words.specs.declared.job.PlayJob.{PlayJob}
 use Rattle.play_shares.specs.Batches.{again_lines, batch_lines, feeder_lines, good_lines, has_batch, last_items, offered}
 use Rattle.play_shares.specs.Instants.{ahead_instants, instant_count, instants, play_instant}
 use Rattle.play_shares.proofs.InstantLemmas.{instant_fits}

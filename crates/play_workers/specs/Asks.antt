@@ -3,11 +3,11 @@ use Rattle.std.specs.Prelude.{◌≡◌, ℕ, ◌+◌, ◌≤◌, ℤ, List, [],
 use Rattle.ass_events.specs.Histories.{Entry}
 use Rattle.ass_num.specs.declared.size.Size.{Size}
 use Rattle.cache_kinds.specs.Kinds.{composite_meaning}
-use Rattle.cache_totals.specs.Asks.{own_asks, seen_asks}
-use Rattle.frame_paint.specs.declared.frames.Frame.{Frame}
+use Rattle.mask_caches.specs.Asks.{own_asks, seen_asks}
+use Rattle.renderer.specs.declared.frames.Frame.{Frame}
 use Rattle.mask_keys.specs.declared.plans.Draw.{Draw}
-use Rattle.render_pass.specs.Frames.{IsFrameOf}
-use Rattle.render_pass.specs.Passes.{RenderView, RendererView}
+use Rattle.renderer.specs.Frames.{IsFrameOf}
+use Rattle.renderer.specs.Passes.{RenderView, RendererView}
 use Rattle.track_history.specs.Calls.{history_of}
 use Rattle.turn_cell.specs.History.{IsPrefix}
 use Rattle.play_shares.specs.Instants.{play_instant}

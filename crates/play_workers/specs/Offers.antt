@@ -22,7 +22,7 @@ pub record IsFrontOffered (pass after : TrackView) (events : List Event) (given 
   pub repeated : ℕ
   pub offered : AreOffered pass after front given repeated
 
--- All of the events were offered, or for want of memory the first ones.
+-- All of the events were offered, or for lack of memory the first ones.
 abbrev pub AreEventsFed : {E : Type 0} → TrackView → TrackView → List Event → Result ℕ E → List Entry → Type 0
 AreEventsFed pass after events (Ok repeated) given = AreOffered pass after events given repeated
 AreEventsFed pass after events (Err refused) given = IsFrontOffered pass after events given

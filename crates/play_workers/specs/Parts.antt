@@ -2,10 +2,10 @@
 use Rattle.std.specs.Prelude.{◌≡◌, ℕ, ◌-◌, List, [], ◌++◌, map, Some, None, Result, Ok, Err}
 use Rattle.std.specs.Global.{Vec}
 use Rattle.ass_events.specs.Histories.{Entry, live}
-use Rattle.cache_totals.specs.Balance.{AreLater}
+use Rattle.mask_caches.specs.Balance.{AreLater}
 use Rattle.play_shares.specs.Renderers.{share_begins, share_ends}
-use Rattle.render_pass.specs.Holding.{HoldsTheSame}
-use Rattle.render_pass.specs.Passes.{IsPassOfRenderer, RenderView, RendererView}
+use Rattle.renderer.specs.Holding.{HoldsTheSame}
+use Rattle.renderer.specs.Passes.{IsPassOfRenderer, RenderView, RendererView}
 use Rattle.track_history.specs.Answers.{entry_of}
 use Rattle.track_history.specs.Calls.{history_of}
 use Rattle.track_history.specs.declared.answers.TrackEntry.{TrackEntry}
@@ -15,7 +15,7 @@ use Rattle.play_model.specs.Plays.{events_again, events_in}
 use Rattle.play_workers.specs.Asks.{AreImagesAsked}
 use Rattle.play_workers.specs.Offers.{IsFrontOffered}
 use Rattle.play_workers.specs.Stages.{play_on}
-use Rattle.play_workers.specs.declared.stage.Stage.{Stage}
+use Rattle.play_workers.specs.declared.stage.PlayStage.{PlayStage}
 use Rattle.play_workers.specs.declared.worker.Outcome.{Outcome}
 use Rattle.play_workers.specs.declared.worker.Outcome.TheVariants.{Idle, Fed, Shown, OutOfMemory}
 use Rattle.play_workers.specs.declared.worker.Role.{Role}
@@ -26,14 +26,14 @@ use Rattle.play_workers.specs.declared.worker.Worker.{Worker}
 abbrev pub painted_bytes : List (Vec ℕ) → List (List ℕ)
 painted_bytes images = map (λ (image : Vec ℕ). image.items) images
 
-module _ (stage : Stage) where
+module _ (stage : PlayStage) where
   -- A feeder did its part, whatever dead history it found before.
   abbrev pub IsFedPart : ℕ → ℕ → RenderView → RenderView → List Entry → ℕ → Type 0
   IsFedPart round feeder pass after given repeated =
       (old before fresh : List Entry) → live old ≡ [] → history_of pass.track.seen ≡ old ++ before → history_of after.track.seen ≡ old ++ fresh
       → AreFedTwice before (events_again (play_on stage) round feeder) (events_in (play_on stage) round feeder) fresh given repeated
 
-  -- Its part ended for want of memory.
+  -- Its part ended for lack of memory.
   abbrev pub IsFedInPart : ℕ → ℕ → RenderView → RenderView → List Entry → Type 0
   IsFedInPart round feeder pass after given =
       IsFrontOffered pass.track after.track (events_again (play_on stage) round feeder ++ events_in (play_on stage) round feeder) given
@@ -98,7 +98,7 @@ pub record HasPass (renderer : RendererView) (worker : Worker) : Type 0 where
   pub is_of : IsPassOfRenderer renderer pass
 
 -- the worker did its part, and has its pass again
-pub record HasWorked (stage : Stage) (round : ℕ) (before after : Worker) : Type 0 where
+pub record HasWorked (stage : PlayStage) (round : ℕ) (before after : Worker) : Type 0 where
   pub pass : RenderView
   pub is : before.pass ≡ Some pass
   pub pass_after : RenderView

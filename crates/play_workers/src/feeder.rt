@@ -2,7 +2,7 @@
 
 ghost use Rattle.std.specs.Prelude.{◌≡◌, ◌<◌, ◌≤◌, ◌∷◌, [], length, All, IfOk, OnErr};
 ghost use Rattle.std.specs.Arc.{arc_value};
-ghost use Rattle.render_pass.specs.Passes.{IsPassOfRenderer};
+ghost use Rattle.renderer.specs.Passes.{IsPassOfRenderer};
 ghost use Rattle.play_model.specs.Feeding.{HasMemory, repeats as repeats_of};
 ghost use Rattle.play_model.specs.Plays.{events_at};
 ghost use Rattle.play_workers.specs.Limits.{max_rounds};
@@ -10,17 +10,17 @@ ghost use Rattle.play_workers.specs.Offers.{AreEventsFed, HasGiven};
 ghost use Rattle.play_workers.specs.Parts.{IsBatchFed};
 ghost use Rattle.play_workers.specs.Stages.{IsPlayStage};
 
-use crate::stage::Stage;
+use crate::stage::PlayStage;
 use ass_events::{ChunkRefusal, chunk_of_line};
-use ass_io::{Gate, Place};
 use ass_num::{Mem, OutOfMemory};
 use play_shares::offers;
-use render_pass::RenderPass;
+use renderer::RenderPass;
 use std::alloc::Global;
 use std::sync::Wait;
+use test_hook::{HookPoint, TestHook};
 use track_history::Feed;
 
-/// How many events that were there already an answer tells of. It is an error if memory was wanting.
+/// How many events that were there already an answer tells of. It is an error if memory ran out.
 fn repeats(answer: Feed) -> Mem<usize>
     ensures counted { IfOk result (λ more. (more ≡ repeats_of answer) × HasMemory answer) }
     ensures wanting { OnErr result (answer ≡ Feed.OutOfMemory) }
@@ -34,13 +34,13 @@ fn repeats(answer: Feed) -> Mem<usize>
 }
 
 /// Offers the event of a Dialogue line, where it gives one, and answers whether it was there already.
-fn feed_line<R: Wait, G: Gate>(
+fn feed_line<R: Wait, H: TestHook>(
     rt: &R,
     alloc: Global,
-    stage: &Stage,
+    stage: &PlayStage,
     line: usize,
     pass: RenderPass,
-    gate: &G,
+    hook: &H,
 ) -> (RenderPass, Mem<usize>)
     requires stage { IsPlayStage stage.now }
     requires line { line < length stage.now.good }
@@ -59,18 +59,18 @@ fn feed_line<R: Wait, G: Gate>(
     let (pass, answer) = stage
         .renderer
         .feed(rt, alloc, pass, bytes, chunk.start, chunk.duration);
-    gate.at(Place::AfterFeed(line as u32));
+    hook.at(HookPoint::AfterFeed(line as u32));
     (pass, repeats(answer))
 }
 
 /// Offers the events of lines in order, and counts those that were there already.
-fn feed_lines<R: Wait, G: Gate>(
+fn feed_lines<R: Wait, H: TestHook>(
     rt: &R,
     alloc: Global,
-    stage: &Stage,
+    stage: &PlayStage,
     lines: &[usize],
     pass: RenderPass,
-    gate: &G,
+    hook: &H,
 ) -> (RenderPass, Mem<usize>)
     requires stage { IsPlayStage stage.now }
     requires lines { All (λ line. line < length stage.now.good) lines.now }
@@ -83,7 +83,7 @@ fn feed_lines<R: Wait, G: Gate>(
     let mut repeated = 0;
     let mut pass = pass;
     for line in lines {
-        let (next, more) = feed_line(rt, alloc, stage, *line, pass, gate);
+        let (next, more) = feed_line(rt, alloc, stage, *line, pass, hook);
         pass = next;
         match more {
             Ok(more) => repeated += more,
@@ -94,14 +94,14 @@ fn feed_lines<R: Wait, G: Gate>(
 }
 
 /// Offers what the feeder of a number has for a round.
-pub fn feed_part<R: Wait, G: Gate>(
+pub fn feed_part<R: Wait, H: TestHook>(
     rt: &R,
     alloc: Global,
-    stage: &Stage,
+    stage: &PlayStage,
     round: usize,
     feeder: usize,
     pass: RenderPass,
-    gate: &G,
+    hook: &H,
 ) -> (RenderPass, Mem<usize>)
     requires stage { IsPlayStage stage.now }
     requires feeder { feeder < stage.now.job.feeders }
@@ -112,7 +112,7 @@ pub fn feed_part<R: Wait, G: Gate>(
     ensures fed { HasGiven pass.track result.0.track (IsBatchFed stage.now round feeder pass result.0 result.1) }
 {
     match offers(alloc, &stage.job, stage.good.as_slice(), round, feeder) {
-        Ok(lines) => feed_lines(rt, alloc, stage, lines.as_slice(), pass, gate),
+        Ok(lines) => feed_lines(rt, alloc, stage, lines.as_slice(), pass, hook),
         Err(refused) => (pass, Err(refused)),
     }
 }

@@ -9,5 +9,5 @@ mod stage;
 mod warmer;
 mod worker;
 
-pub use stage::{Stage, good_flags};
+pub use stage::{PlayStage, good_flags};
 pub use worker::{Outcome, Role, Worker, dismiss, hire};

@@ -4,10 +4,10 @@ ghost use Rattle.std.specs.Prelude.{◌≡◌, ◌<◌, ◌≤◌, ◌∷◌, �
 ghost use Rattle.std.specs.Result.{is_ok};
 ghost use Rattle.ass_events.specs.Histories.{Entry};
 ghost use Rattle.ass_num.specs.Limits.{IsWithin, max_instant};
-ghost use Rattle.cache_totals.specs.Balance.{AreLater};
-ghost use Rattle.render_pass.specs.Frames.{IsFrameOf};
-ghost use Rattle.render_pass.specs.Holding.{HoldsJustTheFrame, HoldsTheSame};
-ghost use Rattle.render_pass.specs.Passes.{IsPassOfRenderer};
+ghost use Rattle.mask_caches.specs.Balance.{AreLater};
+ghost use Rattle.renderer.specs.Frames.{IsFrameOf};
+ghost use Rattle.renderer.specs.Holding.{HoldsJustTheFrame, HoldsTheSame};
+ghost use Rattle.renderer.specs.Passes.{IsPassOfRenderer};
 ghost use Rattle.track_history.specs.Calls.{history_of};
 ghost use Rattle.turn_cell.specs.Passes.{Follows};
 ghost use Rattle.play_shares.specs.Instants.{instant_count, play_instant};
@@ -17,24 +17,24 @@ ghost use Rattle.play_workers.specs.Limits.{max_rounds};
 ghost use Rattle.play_workers.specs.Parts.{ArePainted};
 ghost use Rattle.play_workers.specs.Stages.{IsPlayStage, play_on};
 
-use crate::stage::Stage;
-use ass_io::{Gate, Place};
+use crate::stage::PlayStage;
 use ass_num::{Items, Mem};
 use play_shares::{instant_at, share_begins, share_ends};
 use ppm_text::ppm_bytes_in;
-use render_pass::{Frame, RenderPass, paint_bands};
+use renderer::{Frame, RenderPass, paint_bands};
 use std::alloc::Global;
 use std::sync::Wait;
 use std::thread::Threads;
+use test_hook::{HookPoint, TestHook};
 
 /// A frame: tried first, and rendered where the try had none.
-fn frame_at<R: Wait, G: Gate>(
+fn frame_at<R: Wait, H: TestHook>(
     rt: &R,
     alloc: Global,
-    stage: &Stage,
+    stage: &PlayStage,
     t: i64,
     pass: RenderPass,
-    gate: &G,
+    hook: &H,
 ) -> (RenderPass, Mem<Frame>)
     requires stage { IsPlayStage stage.now }
     requires instant { IsWithin max_instant t }
@@ -45,18 +45,18 @@ fn frame_at<R: Wait, G: Gate>(
     ensures frame { IfOk result.1 (IsFrameAsked stage.now.renderer pass result.0 (history_of result.0.track.seen) t stage.now.job.size) }
     ensures holds { HoldsJustTheFrame stage.now.renderer pass result.0 result.1 }
 {
-    stage.renderer.kept(&pass);
+    stage.renderer.proof_kept(&pass);
     let size = &stage.job.size;
     stage
         .renderer
-        .try_then_frame(rt, alloc, pass, t, size, gate)
+        .try_then_frame(rt, alloc, pass, t, size, hook)
 }
 
 /// The image of a frame, in the memory of a buffer.
 fn image_of<R: Threads + Sync>(
     rt: &R,
     alloc: Global,
-    stage: &Stage,
+    stage: &PlayStage,
     frame: &Frame,
     buffer: Vec<u8>,
 ) -> Mem<Vec<u8>>
@@ -77,14 +77,14 @@ fn image_of<R: Threads + Sync>(
 }
 
 /// The image of an instant, in the memory of a buffer.
-fn paint_instant<R: Threads + Wait + Sync, G: Gate>(
+fn paint_instant<R: Threads + Wait + Sync, H: TestHook>(
     rt: &R,
     alloc: Global,
-    stage: &Stage,
+    stage: &PlayStage,
     t: i64,
     buffer: Vec<u8>,
     pass: RenderPass,
-    gate: &G,
+    hook: &H,
 ) -> (RenderPass, Mem<Vec<u8>>)
     requires stage { IsPlayStage stage.now }
     requires instant { IsWithin max_instant t }
@@ -95,12 +95,12 @@ fn paint_instant<R: Threads + Wait + Sync, G: Gate>(
     ensures image { IfOk result.1 (λ image. IsImageAsked (play_on stage.now) stage.now.renderer pass result.0 (history_of result.0.track.seen) t image.items) }
     ensures holds { HoldsTheSame stage.now.renderer pass result.0 }
 {
-    let (pass, frame) = frame_at(rt, alloc, stage, t, pass, gate);
+    let (pass, frame) = frame_at(rt, alloc, stage, t, pass, hook);
     match frame {
         Ok(frame) => {
             let image = image_of(rt, alloc, stage, &frame, buffer);
             let pass = stage.renderer.release(rt, pass, frame);
-            gate.at(Place::AfterFrame(t));
+            hook.at(HookPoint::AfterFrame(t));
             (pass, image)
         }
         Err(refused) => (pass, Err(refused)),
@@ -108,14 +108,14 @@ fn paint_instant<R: Threads + Wait + Sync, G: Gate>(
 }
 
 /// The image of the instant at a place, in the memory of a buffer.
-fn image_at<R: Threads + Wait + Sync, G: Gate>(
+fn image_at<R: Threads + Wait + Sync, H: TestHook>(
     rt: &R,
     alloc: Global,
-    stage: &Stage,
+    stage: &PlayStage,
     place: u64,
     buffer: Vec<u8>,
     pass: RenderPass,
-    gate: &G,
+    hook: &H,
 ) -> (RenderPass, Mem<Vec<u8>>)
     requires stage { IsPlayStage stage.now }
     requires place { place < instant_count stage.now.job }
@@ -123,14 +123,15 @@ fn image_at<R: Threads + Wait + Sync, G: Gate>(
     ensures pass { IsPassOfRenderer stage.now.renderer result.0 }
     ensures track { Follows pass.track result.0.track [] }
     ensures later { AreLater pass.caches result.0.caches }
-    ensures image { IfOk result.1 (λ image. IsImageAsked (play_on stage.now) stage.now.renderer pass result.0 (history_of result.0.track.seen) (play_instant stage.now.job place) image.items) }
+    ensures image { IfOk result.1 (λ image. IsImageAsked (play_on stage.now) stage.now.renderer pass result.0 (history_of result.0.track.seen)
+        (play_instant stage.now.job place) image.items) }
     ensures holds { HoldsTheSame stage.now.renderer pass result.0 }
 {
     let t = match instant_at(&stage.job, place) {
         Some(t) => t,
         None => unreachable!(),
     };
-    paint_instant(rt, alloc, stage, t, buffer, pass, gate)
+    paint_instant(rt, alloc, stage, t, buffer, pass, hook)
 }
 
 /// Adds an image, where it was made.
@@ -150,15 +151,15 @@ fn next_buffer(alloc: Global, written: &mut Vec<Vec<u8>>) -> Vec<u8> {
 }
 
 /// The images of a painter's instants of a round, one after another, in the memory of images that are written, as far as there are some.
-pub fn paint_part<R: Threads + Wait + Sync, G: Gate>(
+pub fn paint_part<R: Threads + Wait + Sync, H: TestHook>(
     rt: &R,
     alloc: Global,
-    stage: &Stage,
+    stage: &PlayStage,
     round: usize,
     painter: usize,
     written: Vec<Vec<u8>>,
     pass: RenderPass,
-    gate: &G,
+    hook: &H,
 ) -> (RenderPass, Mem<Items<Vec<u8>>>)
     requires stage { IsPlayStage stage.now }
     requires small { round ≤ max_rounds }
@@ -177,7 +178,7 @@ pub fn paint_part<R: Threads + Wait + Sync, G: Gate>(
     let mut pass = pass;
     for place in first..end {
         let buffer = next_buffer(alloc, &mut written);
-        let (next, image) = image_at(rt, alloc, stage, place, buffer, pass, gate);
+        let (next, image) = image_at(rt, alloc, stage, place, buffer, pass, hook);
         pass = next;
         let added = add_image(&mut images, image);
         if let Err(refused) = added {

@@ -6,28 +6,28 @@ ghost use Rattle.play_workers.specs.Limits.{max_rounds};
 ghost use Rattle.play_workers.specs.Parts.{IsDone};
 ghost use Rattle.play_workers.specs.Roles.{IsRoleOf};
 ghost use Rattle.play_workers.specs.Stages.{IsPlayStage};
-ghost use Rattle.render_pass.specs.Passes.{IsPassOfRenderer};
+ghost use Rattle.renderer.specs.Passes.{IsPassOfRenderer};
 
 use crate::feeder::feed_part;
 use crate::painter::paint_part;
-use crate::stage::Stage;
+use crate::stage::PlayStage;
 use crate::warmer::warm_part;
 use crate::worker::{Outcome, Role};
-use ass_io::Gate;
-use render_pass::RenderPass;
+use renderer::RenderPass;
 use std::alloc::Global;
 use std::sync::Wait;
 use std::thread::Threads;
+use test_hook::TestHook;
 
 /// Does the part of a feeder.
-fn feeder_part<R: Wait, G: Gate>(
+fn feeder_part<R: Wait, H: TestHook>(
     rt: &R,
     alloc: Global,
-    stage: &Stage,
+    stage: &PlayStage,
     round: usize,
     feeder: usize,
     pass: RenderPass,
-    gate: &G,
+    hook: &H,
 ) -> (RenderPass, Outcome)
     requires stage { IsPlayStage stage.now }
     requires small { round ≤ max_rounds }
@@ -35,7 +35,7 @@ fn feeder_part<R: Wait, G: Gate>(
     requires pass { IsPassOfRenderer stage.now.renderer pass }
     ensures { IsDone stage.now round (Role.Feeder feeder) pass result.0 result.1 }
 {
-    let (pass, fed) = feed_part(rt, alloc, stage, round, feeder, pass, gate);
+    let (pass, fed) = feed_part(rt, alloc, stage, round, feeder, pass, hook);
     match fed {
         Ok(repeated) => (pass, Outcome::Fed(repeated)),
         Err(_) => (pass, Outcome::OutOfMemory),
@@ -43,15 +43,15 @@ fn feeder_part<R: Wait, G: Gate>(
 }
 
 /// Does the part of a painter.
-fn painter_part<R: Threads + Wait + Sync, G: Gate>(
+fn painter_part<R: Threads + Wait + Sync, H: TestHook>(
     rt: &R,
     alloc: Global,
-    stage: &Stage,
+    stage: &PlayStage,
     round: usize,
     painter: usize,
     written: Vec<Vec<u8>>,
     pass: RenderPass,
-    gate: &G,
+    hook: &H,
 ) -> (RenderPass, Outcome)
     requires stage { IsPlayStage stage.now }
     requires small { round ≤ max_rounds }
@@ -59,7 +59,7 @@ fn painter_part<R: Threads + Wait + Sync, G: Gate>(
     requires pass { IsPassOfRenderer stage.now.renderer pass }
     ensures { IsDone stage.now round (Role.Painter painter) pass result.0 result.1 }
 {
-    let (pass, images) = paint_part(rt, alloc, stage, round, painter, written, pass, gate);
+    let (pass, images) = paint_part(rt, alloc, stage, round, painter, written, pass, hook);
     match images {
         Ok(images) => (pass, Outcome::Shown(images)),
         Err(_) => (pass, Outcome::OutOfMemory),
@@ -67,20 +67,20 @@ fn painter_part<R: Threads + Wait + Sync, G: Gate>(
 }
 
 /// Does the part of the one that warms ahead.
-fn warmer_part<R: Wait, G: Gate>(
+fn warmer_part<R: Wait, H: TestHook>(
     rt: &R,
     alloc: Global,
-    stage: &Stage,
+    stage: &PlayStage,
     round: usize,
     pass: RenderPass,
-    gate: &G,
+    hook: &H,
 ) -> (RenderPass, Outcome)
     requires stage { IsPlayStage stage.now }
     requires small { round ≤ max_rounds }
     requires pass { IsPassOfRenderer stage.now.renderer pass }
     ensures { IsDone stage.now round Role.Warmer pass result.0 result.1 }
 {
-    let (pass, warmed) = warm_part(rt, alloc, stage, round, pass, gate);
+    let (pass, warmed) = warm_part(rt, alloc, stage, round, pass, hook);
     match warmed {
         Ok(_) => (pass, Outcome::Idle),
         Err(_) => (pass, Outcome::OutOfMemory),
@@ -88,15 +88,15 @@ fn warmer_part<R: Wait, G: Gate>(
 }
 
 /// Does the part of a worker of this role in a round. The memory of images that are written serves those of this one.
-pub fn do_part<R: Threads + Wait + Sync, G: Gate>(
+pub fn do_part<R: Threads + Wait + Sync, H: TestHook>(
     rt: &R,
     alloc: Global,
-    stage: &Stage,
+    stage: &PlayStage,
     round: usize,
     role: Role,
     written: Vec<Vec<u8>>,
     pass: RenderPass,
-    gate: &G,
+    hook: &H,
 ) -> (RenderPass, Outcome)
     requires stage { IsPlayStage stage.now }
     requires small { round ≤ max_rounds }
@@ -105,10 +105,10 @@ pub fn do_part<R: Threads + Wait + Sync, G: Gate>(
     ensures { IsDone stage.now round role pass result.0 result.1 }
 {
     match role {
-        Role::Feeder(feeder) => feeder_part(rt, alloc, stage, round, feeder, pass, gate),
+        Role::Feeder(feeder) => feeder_part(rt, alloc, stage, round, feeder, pass, hook),
         Role::Painter(painter) => {
-            painter_part(rt, alloc, stage, round, painter, written, pass, gate)
+            painter_part(rt, alloc, stage, round, painter, written, pass, hook)
         }
-        Role::Warmer => warmer_part(rt, alloc, stage, round, pass, gate),
+        Role::Warmer => warmer_part(rt, alloc, stage, round, pass, hook),
     }
 }

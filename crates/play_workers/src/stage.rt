@@ -6,13 +6,13 @@ ghost use Rattle.play_model.specs.Plays.{good_flags};
 use ass_events::line_fault;
 use ass_num::{Items, Mem};
 use ass_script::Script;
-use play_words::PlayJob;
-use render_pass::Renderer;
+use renderer::Renderer;
+use run_words::PlayJob;
 use std::alloc::Global;
 use std::sync::Arc;
 
 /// A job with its script and its renderer.
-pub struct Stage {
+pub struct PlayStage {
     pub job: PlayJob,
     pub script: Arc<Script>,
     /// Of each Dialogue line whether it gives an event.

@@ -1,29 +1,29 @@
 //! What the worker does that warms ahead.
 
 ghost use Rattle.std.specs.Prelude.{◌≤◌, []};
-ghost use Rattle.cache_totals.specs.Balance.{AreLater};
+ghost use Rattle.mask_caches.specs.Balance.{AreLater};
 ghost use Rattle.play_shares.specs.Limits.{max_frames};
-ghost use Rattle.render_pass.specs.Holding.{HoldsTheSame};
-ghost use Rattle.render_pass.specs.Passes.{IsPassOfRenderer};
+ghost use Rattle.renderer.specs.Holding.{HoldsTheSame};
+ghost use Rattle.renderer.specs.Passes.{IsPassOfRenderer};
 ghost use Rattle.turn_cell.specs.Passes.{Follows};
 ghost use Rattle.play_workers.specs.Stages.{IsPlayStage};
 
-use crate::stage::Stage;
-use ass_io::Gate;
+use crate::stage::PlayStage;
 use ass_num::Mem;
 use play_shares::ahead_instants;
-use render_pass::RenderPass;
+use renderer::RenderPass;
 use std::alloc::Global;
 use std::sync::Wait;
+use test_hook::TestHook;
 
 /// Makes the masks of the instants that come after those of a round.
-pub fn warm_part<R: Wait, G: Gate>(
+pub fn warm_part<R: Wait, H: TestHook>(
     rt: &R,
     alloc: Global,
-    stage: &Stage,
+    stage: &PlayStage,
     round: usize,
     pass: RenderPass,
-    gate: &G,
+    hook: &H,
 ) -> (RenderPass, Mem<usize>)
     requires stage { IsPlayStage stage.now }
     requires small { round ≤ max_frames }
@@ -38,7 +38,7 @@ pub fn warm_part<R: Wait, G: Gate>(
             let size = &stage.job.size;
             stage
                 .renderer
-                .warm(rt, alloc, pass, ahead.as_slice(), size, gate)
+                .warm(rt, alloc, pass, ahead.as_slice(), size, hook)
         }
         Err(refused) => (pass, Err(refused)),
     }

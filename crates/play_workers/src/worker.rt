@@ -8,14 +8,14 @@ ghost use Rattle.play_workers.specs.Stages.{IsPlayStage};
 ghost use Rattle.play_workers.specs.declared.worker.Worker.{Worker};
 
 use crate::part::do_part;
-use crate::stage::Stage;
-use ass_io::Gate;
+use crate::stage::PlayStage;
 use ass_num::{Items, Mem, OutOfMemory};
-use render_pass::RenderPass;
+use renderer::RenderPass;
 use std::alloc::{AllocFailed, Global};
 use std::mem;
 use std::sync::Wait;
 use std::thread::Threads;
+use test_hook::TestHook;
 
 /// What a worker does in each round.
 #[derive(Clone, Copy)]
@@ -81,13 +81,13 @@ pub struct Worker {
 
 impl Worker {
     /// Does the worker's part of a round with its pass, which is in its place again afterwards.
-    pub fn work<R: Threads + Wait + Sync, G: Gate>(
+    pub fn work<R: Threads + Wait + Sync, H: TestHook>(
         &mut self,
         rt: &R,
         alloc: Global,
-        stage: &Stage,
+        stage: &PlayStage,
         round: usize,
-        gate: &G,
+        hook: &H,
     )
         requires pass { HasPass stage.now.renderer self.old }
         requires stage { IsPlayStage stage.now }
@@ -100,7 +100,7 @@ impl Worker {
         };
         // The images of the round before are written, so their memory serves those of this one.
         let written = mem::replace(&mut self.outcome, Outcome::Idle).into_images(alloc);
-        let (pass, outcome) = do_part(rt, alloc, stage, round, self.role, written, pass, gate);
+        let (pass, outcome) = do_part(rt, alloc, stage, round, self.role, written, pass, hook);
         self.outcome = outcome;
         let before = self.pass.replace(pass);
         let None = before else { unreachable!() };

@@ -8,7 +8,7 @@ use Rattle.bdf_font.specs.Fonts.{FontValue}
 use Rattle.blend.specs.Blending.{Image}
 use Rattle.blend.specs.Canvases.{CanvasValue, black, drawn}
 use Rattle.mask_keys.specs.declared.plans.Draw.{Draw}
-use Rattle.mask_model.specs.Pictures.{image_of_draw, with_draw}
+use Rattle.mask_keys.specs.Pictures.{image_of_draw, with_draw}
 use Rattle.picture_plan.specs.Pictures.{AreDraws, IsPictureAt}
 use Rattle.plain_images.specs.PlainImages.{ArePlainImages, ArePlainOf, None, Next, PlainImagesMakeThePicture, with_plain_images}
 use Rattle.plain_images.specs.declared.plain.PlainImage.{PlainImage}

@@ -8,7 +8,7 @@ use Rattle.ass_num.specs.declared.size.Size.{Size}
 use Rattle.bdf_font.specs.Fonts.{FontValue}
 use Rattle.bdf_font.specs.Limits.{max_fonts}
 use Rattle.bdf_font.specs.Ranges.{IsFont}
-use Rattle.mask_model.specs.Outlines.{IsFontSet}
+use Rattle.mask_keys.specs.Outlines.{IsFontSet}
 
 pub more_font_set : (fonts more : List FontValue) (font : FontValue) → IsFontSet fonts → IsFont font → length fonts < max_fonts → more ≡ fonts ++ font ∷ [] → IsFontSet more
 more_font_set fonts more font set is few made = subst IsFontSet (sym made) (record {

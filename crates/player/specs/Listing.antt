@@ -6,7 +6,7 @@ use Rattle.ass_script.specs.Scripts.{ScriptValue}
 use Rattle.bdf_font.specs.Fonts.{FontValue}
 use Rattle.blend.specs.Blending.{Image}
 use Rattle.mask_keys.specs.declared.plans.Draw.{Draw}
-use Rattle.mask_model.specs.Pictures.{image_of_draw}
+use Rattle.mask_keys.specs.Pictures.{image_of_draw}
 use Rattle.picture_plan.specs.Pictures.{AreDraws}
 use Rattle.plain_images.specs.PlainImages.{ArePlainImages, ArePlainOf}
 use Rattle.plain_images.specs.declared.plain.PlainImage.{PlainImage}

@@ -3,15 +3,16 @@
 ghost use Rattle.std.specs.Prelude.{◌≡◌, ◌<◌, length, IfOk};
 ghost use Rattle.ass_num.specs.Limits.{IsFrameSize, IsWithin, max_instant};
 ghost use Rattle.mask_keys.specs.Keys.{IsValidPlan};
-ghost use Rattle.mask_model.specs.Outlines.{glyph_counts};
+ghost use Rattle.mask_keys.specs.Outlines.{glyph_counts};
 ghost use Rattle.picture_plan.specs.Pictures.{AreDraws, IsPictureAt};
 
 use crate::player::Player;
 use ass_num::{Mem, Size};
 use blend::Canvas;
 use mask_keys::Plan;
-use picture_plan::{near_events_draw, plan};
+use picture_plan::{laws, plan_of_spans};
 use std::alloc::Global;
+use text_layout::Setting;
 
 impl Player {
     /// The draws of what the live events show at an instant.
@@ -22,9 +23,15 @@ impl Player {
         ensures draws { IfOk result (λ plan. AreDraws self.now.script self.now.fonts self.now.track.events t size.now plan.draws) }
         ensures valid { IfOk result (λ plan. IsValidPlan (glyph_counts self.now.fonts) plan.draws) }
     {
-        near_events_draw();
+        laws::near_events_draw();
         let near = self.track.near(alloc, t)?;
-        plan(alloc, &self.script, &self.fonts, near.as_slice(), t, size)
+        let setting = Setting {
+            script: &self.script,
+            fonts: &self.fonts,
+            size: *size,
+        };
+        let spans = near.spans.as_slice();
+        plan_of_spans(alloc, &setting, near.events.as_slice(), spans, t)
     }
 
     /// The picture that the live events show at an instant, in milliseconds, in a frame of a size. Whatever the caches keep
@@ -40,7 +47,7 @@ impl Player {
     {
         let plan = self.plan_at(alloc, t, size)?;
         let mut canvas = Canvas::new(alloc, size)?;
-        self.alone.paint(alloc, &plan, &mut canvas)?;
+        self.local.paint(alloc, &plan, &mut canvas)?;
         Ok(canvas)
     }
 }

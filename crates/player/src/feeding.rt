@@ -1,10 +1,10 @@
 //! What a player's track is fed, and flushing it.
 
 ghost use Rattle.std.specs.Prelude.{◌≡◌, ◌≤◌, length, fold, OnOk, OnErr};
-ghost use Rattle.alone_track.specs.Feeding.{AreFrontOffered, IsChunkOffered, IsFlushedAlone, with_offer};
+ghost use Rattle.track_history.specs.LocalFeeding.{AreFrontOffered, IsChunkOffered, IsFlushedLocally, with_offer};
 ghost use Rattle.ass_events.specs.Events.{event_of};
 ghost use Rattle.ass_num.specs.Limits.{max_text_bytes};
-ghost use Rattle.script_events.specs.ScriptEvents.{line_events};
+ghost use Rattle.ass_events.specs.ScriptEvents.{line_events};
 
 use crate::player::Player;
 use ass_num::Mem;
@@ -23,7 +23,7 @@ impl Player {
     }
 
     /// Offers the events of the script's Dialogue lines, in order: each has the place of its line as its ReadOrder
-    /// (`ass_read_memory` in libass `ass.h`). Lines that give no event are passed over. For want of memory some of the
+    /// (`ass_read_memory` in libass `ass.h`). Lines that give no event are passed over. For out of memory some of the
     /// events were offered, from the first on.
     pub fn feed_lines(&mut self, alloc: Global) -> Mem<()>
         ensures ok { OnOk result (self.new.track ≡ fold with_offer self.old.track (line_events self.old.script)) }
@@ -36,7 +36,7 @@ impl Player {
     /// Drops all live events, unless there were a million flushes (`ass_flush_events` in libass `ass.h`). It takes no
     /// memory.
     pub fn flush(&mut self) -> Flushed
-        ensures flushed { IsFlushedAlone self.old.track self.new.track result }
+        ensures flushed { IsFlushedLocally self.old.track self.new.track result }
         ensures same { self.new ≡ record self.old { track = self.new.track } }
     {
         self.track.flush()

@@ -4,8 +4,8 @@ ghost use Rattle.std.specs.Prelude.{◌≡◌, ◌<◌, All, length, map, IfOk, 
 ghost use Rattle.ass_num.specs.Limits.{IsFrameSize, IsWithin, max_instant};
 ghost use Rattle.blend.specs.Canvases.{black};
 ghost use Rattle.mask_keys.specs.Keys.{IsValidPlan};
-ghost use Rattle.mask_model.specs.Outlines.{glyph_counts};
-ghost use Rattle.mask_model.specs.Pictures.{image_of_draw};
+ghost use Rattle.mask_keys.specs.Outlines.{glyph_counts};
+ghost use Rattle.mask_keys.specs.Pictures.{image_of_draw};
 ghost use Rattle.picture_plan.specs.Pictures.{IsPictureAt};
 ghost use Rattle.plain_images.specs.PlainImages.{ArePlainImages, LiesInFrame, with_plain_images};
 ghost use Rattle.player.specs.Changes.{IsListChange};
@@ -18,7 +18,7 @@ use crate::player::{Listed, Player};
 use ass_num::{Mem, Size};
 use frame_change::ChangeKind;
 use mask_keys::Plan;
-use plain_images::{PlainImage, plain_images_make_the_picture};
+use plain_images::{PlainImage, laws};
 use std::alloc::Global;
 
 /// Whether what is listed is of this plan and this size.
@@ -53,7 +53,7 @@ impl Player {
         ensures else_same { OnOk result (self.new ≡ record self.old { images = self.new.images }) }
         ensures err { OnErr result (self.new ≡ self.old) }
     {
-        let images = images_of_plan(alloc, &mut self.alone, size, &plan)?;
+        let images = images_of_plan(alloc, &mut self.local, size, &plan)?;
         let bytes = byte_count(images.as_slice())?;
         let kind = list_change(self.images.as_slice(), images.as_slice());
         self.images = images;
@@ -70,7 +70,8 @@ impl Player {
         requires instant { IsWithin max_instant t }
         requires size { IsFrameSize size.now }
         // Painted in order, with nothing hidden, they make the picture, and all of them lie in the frame.
-        ensures picture { OnOk result (IsPictureAt self.old.script self.old.fonts self.old.track.events t size.now (with_plain_images (black size.now.w size.now.h) self.new.images)) }
+        ensures picture { OnOk result (IsPictureAt self.old.script self.old.fonts self.old.track.events t size.now
+            (with_plain_images (black size.now.w size.now.h) self.new.images)) }
         ensures frame { OnOk result (All (LiesInFrame size.now) self.new.images) }
         // Which they are.
         ensures list { OnOk result (IsListOf self.old.script self.old.fonts self.old.track.events t size.now self.new.images) }
@@ -78,7 +79,7 @@ impl Player {
         ensures else_same { OnOk result (self.new ≡ record self.old { images = self.new.images }) }
         ensures err { OnErr result (self.new ≡ self.old) }
     {
-        plain_images_make_the_picture();
+        laws::plain_images_make_the_picture();
         let plan = self.plan_at(alloc, t, size)?;
         if self.has_listed(&plan, size) {
             return Ok(ChangeKind::Same);

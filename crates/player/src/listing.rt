@@ -1,45 +1,35 @@
 //! The plain images of a plan.
 
 ghost use Rattle.std.specs.Prelude.{◌≡◌, map, IfOk, OnOk};
+ghost use Rattle.std.specs.Arc.{arc_value};
 ghost use Rattle.ass_num.specs.Limits.{IsFrameSize};
-ghost use Rattle.blend.specs.Stencils.{stencil_value};
+ghost use Rattle.blend.specs.Images.{image_value};
 ghost use Rattle.mask_keys.specs.Keys.{IsValidDraw, IsValidPlan};
-ghost use Rattle.mask_model.specs.Outlines.{glyph_counts};
-ghost use Rattle.mask_model.specs.Pictures.{image_of_draw};
+ghost use Rattle.mask_keys.specs.Outlines.{glyph_counts};
+ghost use Rattle.mask_keys.specs.Pictures.{image_of_draw};
 ghost use Rattle.plain_images.specs.PlainImages.{ArePlainImages};
 ghost use Rattle.player.specs.Listing.{AddsDraw};
 ghost use Rattle.player.specs.Players.{mask_bytes};
 
-use alone_caches::Alone;
 use ass_num::{Mask, Mem, OutOfMemory, Size};
-use blend::Stencil;
-use mask_keys::{Clip, Draw, Plan};
+use blend::Image;
+use local_caches::LocalCaches;
+use mask_keys::{Draw, Plan};
 use plain_images::{PlainImage, plain_images_of};
 use std::alloc::Global;
+use std::sync::Arc;
 
-/// Adds the plain images of a draw, with its mask and its clip's stencil at hand.
-fn add_masked(
+/// Adds the plain images of an image.
+fn add_image(
     alloc: Global,
     size: &Size,
-    draw: &Draw,
-    mask: &Mask,
-    stencil: &Stencil<'_>,
+    image: &Image<Arc<Mask>>,
     images: &mut Vec<PlainImage>,
 ) -> Mem<()>
     requires { IsFrameSize size.now }
-    ensures { OnOk result (AddsDraw size.now (record {
-      mask = mask.now;
-      x = draw.now.x;
-      y = draw.now.y;
-      left = draw.now.left;
-      right = draw.now.right;
-      edge = draw.now.edge;
-      stencil = stencil_value stencil.now;
-    }) images.old.items images.new.items) }
+    ensures { OnOk result (AddsDraw size.now (image_value arc_value image.now) images.old.items images.new.items) }
 {
-    let plains = plain_images_of(
-        alloc, size, mask, draw.x, draw.y, draw.left, draw.right, draw.edge, stencil,
-    )?;
+    let plains = plain_images_of(alloc, size, image)?;
     let mut plains = plains;
     Ok(images.append(&mut plains)?)
 }
@@ -47,54 +37,37 @@ fn add_masked(
 /// Adds the plain images of a draw, with the masks of its keys through the caches.
 fn add_draw(
     alloc: Global,
-    alone: &mut Alone,
+    local: &mut LocalCaches,
     size: &Size,
     draw: &Draw,
     images: &mut Vec<PlainImage>,
 ) -> Mem<()>
-    requires draw { IsValidDraw (glyph_counts alone.old.fonts) draw.now }
+    requires draw { IsValidDraw (glyph_counts local.old.fonts) draw.now }
     requires size { IsFrameSize size.now }
-    ensures fonts { alone.new.fonts ≡ alone.old.fonts }
-    ensures budget { alone.new.budget ≡ alone.old.budget }
-    ensures added { OnOk result (AddsDraw size.now (image_of_draw alone.old.fonts draw.now) images.old.items images.new.items) }
+    ensures fonts { local.new.fonts ≡ local.old.fonts }
+    ensures budget { local.new.budget ≡ local.old.budget }
+    ensures added { OnOk result (AddsDraw size.now (image_of_draw local.old.fonts draw.now) images.old.items images.new.items) }
 {
-    let mask = alone.composite(alloc, &draw.key)?;
-    match &draw.clip {
-        Clip::Free => add_masked(alloc, size, draw, &mask, &Stencil::Free, images),
-        Clip::Rect {
-            x1,
-            y1,
-            x2,
-            y2,
-            inverse,
-        } => {
-            let stencil = Stencil::Rect(*x1, *y1, *x2, *y2, *inverse);
-            add_masked(alloc, size, draw, &mask, &stencil, images)
-        }
-        Clip::Drawn { key, x, y, inverse } => {
-            let over = alone.composite(alloc, key)?;
-            let stencil = Stencil::Drawn(&over, *x, *y, *inverse);
-            add_masked(alloc, size, draw, &mask, &stencil, images)
-        }
-    }
+    let image = local.image(alloc, draw)?;
+    add_image(alloc, size, &image, images)
 }
 
 /// The plain images of a plan in a frame of a size.
 pub(crate) fn images_of_plan(
     alloc: Global,
-    alone: &mut Alone,
+    local: &mut LocalCaches,
     size: &Size,
     plan: &Plan,
 ) -> Mem<Vec<PlainImage>>
-    requires plan { IsValidPlan (glyph_counts alone.old.fonts) plan.now.draws }
+    requires plan { IsValidPlan (glyph_counts local.old.fonts) plan.now.draws }
     requires size { IsFrameSize size.now }
-    ensures fonts { alone.new.fonts ≡ alone.old.fonts }
-    ensures budget { alone.new.budget ≡ alone.old.budget }
-    ensures images { IfOk result (λ images. ArePlainImages size.now (map (image_of_draw alone.old.fonts) plan.now.draws) images.items) }
+    ensures fonts { local.new.fonts ≡ local.old.fonts }
+    ensures budget { local.new.budget ≡ local.old.budget }
+    ensures images { IfOk result (λ images. ArePlainImages size.now (map (image_of_draw local.old.fonts) plan.now.draws) images.items) }
 {
     let mut images = Vec::new(alloc);
     for draw in plan.draws.as_slice() {
-        add_draw(alloc, alone, size, draw, &mut images)?;
+        add_draw(alloc, local, size, draw, &mut images)?;
     }
     Ok(images)
 }

@@ -8,18 +8,18 @@ ghost use Rattle.bdf_font.specs.Limits.{max_fonts};
 ghost use Rattle.bdf_font.specs.Ranges.{IsFont};
 ghost use Rattle.evict_core.specs.Machine.{max_budget};
 ghost use Rattle.player.specs.Players.{new_player};
-ghost use Rattle.script_events.specs.Laws.{HasShortLines};
+ghost use Rattle.ass_events.specs.LineLaws.{HasShortLines};
 
 use crate::fonts::with_font;
 use crate::player::Player;
-use alone_caches::Alone;
-use alone_track::AloneTrack;
+use ass_events::line_laws;
 use ass_num::{Items, Mem};
 use ass_script::{Script, ScriptRefusal, read_script};
 use bdf_font::{Font, FontSet};
-use script_events::lines_fit_their_text;
+use local_caches::LocalCaches;
 use std::alloc::Global;
 use std::sync::Arc;
+use track_history::LocalTrack;
 
 impl Player {
     /// A player of the script that bytes spell, at most 67,108,864 of them, without fonts and without events: the script's
@@ -31,7 +31,7 @@ impl Player {
         ensures opened { IfOk result (λ player. (script : ScriptValue) × (script_of bytes.now ≡ Ok script) × (player ≡ new_player script budget)) }
         ensures refused { IfErr result (λ refusal. IsScriptAnswer (Err refusal) (script_of bytes.now)) }
     {
-        lines_fit_their_text();
+        line_laws::lines_fit_their_text();
         let script = match read_script(alloc, bytes) {
             Ok(script) => script,
             Err(refusal) => return Err(refusal),
@@ -54,12 +54,12 @@ impl Player {
         };
         let fonts = Arc::new(alloc, none)?;
         let shared = Arc::try_clone(&fonts)?;
-        let alone = Alone::open(alloc, shared, budget)?;
+        let local = LocalCaches::open(alloc, shared, budget)?;
         Ok(Player {
             script,
             fonts,
-            track: AloneTrack::new(alloc),
-            alone,
+            track: LocalTrack::new(alloc),
+            local,
             budget,
             listed: None,
             images: Vec::new(alloc),
@@ -85,9 +85,9 @@ impl Player {
         let more = with_font(alloc, &self.fonts, font)?;
         let fonts = Arc::new(alloc, more)?;
         let shared = Arc::try_clone(&fonts)?;
-        let alone = Alone::open(alloc, shared, self.budget)?;
+        let local = LocalCaches::open(alloc, shared, self.budget)?;
         self.fonts = fonts;
-        self.alone = alone;
+        self.local = local;
         self.listed = None;
         Ok(())
     }
@@ -98,7 +98,7 @@ impl Player {
         requires { budget ≤ max_budget }
         ensures { self.new ≡ record self.old { budget = budget } }
     {
-        self.alone.set_budget(budget);
+        self.local.set_budget(budget);
         self.budget = budget;
     }
 }

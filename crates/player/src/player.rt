@@ -1,14 +1,14 @@
 //! The player.
 
-use alone_caches::Alone;
-use alone_track::AloneTrack;
 use ass_num::Size;
 use ass_script::Script;
 use bdf_font::FontSet;
+use local_caches::LocalCaches;
 use mask_keys::Plan;
 use plain_images::PlainImage;
 use std::marker::Model;
 use std::sync::Arc;
+use track_history::LocalTrack;
 
 /// What the images that were listed last are of.
 #[derive(Drop)]
@@ -23,8 +23,8 @@ pub(crate) struct Listed {
 pub struct Player {
     pub(crate) script: Script,
     pub(crate) fonts: Arc<FontSet>,
-    pub(crate) track: AloneTrack,
-    pub(crate) alone: Alone,
+    pub(crate) track: LocalTrack,
+    pub(crate) local: LocalCaches,
     pub(crate) budget: u64,
     // None where fonts were added since.
     pub(crate) listed: Option<Listed>,
@@ -47,5 +47,5 @@ impl Model for Player {
       images = p.images.items;
     } };
 
-    ghost invariant = { λ p. IsPlayer p.script (arc_value p.fonts).fonts p.alone p.budget p.listed p.images.items p.bytes };
+    ghost invariant = { λ p. IsPlayer p.script (arc_value p.fonts).fonts p.local p.budget p.listed p.images.items p.bytes };
 }

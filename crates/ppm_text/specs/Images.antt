@@ -1,4 +1,4 @@
--- Public: images, as binary portable pixmaps with a comment (docs/BLENDING.md).
+-- Public: images, as binary portable pixmaps with a comment (docs/PICTURES.md).
 use Rattle.std.specs.Prelude.{ℕ, ℤ, List, ◌++◌, codes}
 use Rattle.std.specs.Fmt.{decimal, signed_decimal}
 

@@ -56,7 +56,8 @@ impl Growth {
     /// The region of the rows, without the empty rows at the end. It keeps no more memory than it needs.
     pub fn finish(self) -> Region
         requires { IsWholeGrowth self }
-        ensures samples { (wanted : ℤ → ℤ → Bool) (last : ℤ) → IsGrown wanted last self → ((i j : ℤ) → last ≤ℤ j → wanted i j ≡ false) → (i j : ℤ) → member result.top result.rows i j ≡ wanted i j }
+        ensures samples { (wanted : ℤ → ℤ → Bool) (last : ℤ) → IsGrown wanted last self → ((i j : ℤ) → last ≤ℤ j → wanted i j ≡ false) → (i j : ℤ)
+            → member result.top result.rows i j ≡ wanted i j }
         ensures canonical { is_canonical result.top result.rows ≡ true }
     {
         let Growth {

@@ -1,0 +1,4 @@
+pub mod AskedLemmas
+pub mod FontLemmas
+pub mod DecideLemmas
+pub mod ExistLemmas

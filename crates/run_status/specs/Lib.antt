@@ -1,2 +1,6 @@
 pub mod Fields
 pub mod Statuses
+pub mod Causes
+pub mod Files
+pub mod Inputs
+pub mod Laws

@@ -3,8 +3,8 @@ use Rattle.std.specs.Prelude.{ℕ, List, [], ◌++◌, codes, decimal}
 use Rattle.ass_script.specs.declared.script.EventField.{EventField}
 use Rattle.bdf_font.specs.declared.cause.FontCause.{FontCause}
 use Rattle.bdf_font.specs.declared.cause.FontCause.TheVariants.{NoStart, BadNumber, BadRow, Misplaced, NoEnd}
-use Rattle.play_words.specs.declared.job.WordsFault.{WordsFault}
-use Rattle.play_words.specs.declared.job.WordsFault.TheVariants.{Usage, Value}
+use Rattle.run_words.specs.declared.job.WordsFault.{WordsFault}
+use Rattle.run_words.specs.declared.job.WordsFault.TheVariants.{Usage, Value}
 use Rattle.run_status.specs.Fields.{field_name}
 use Rattle.run_status.specs.declared.status.BadScript.{BadScript}
 use Rattle.run_status.specs.declared.status.BadScript.TheVariants.{NotUtf8, NoEvents}

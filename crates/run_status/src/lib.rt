@@ -1,8 +1,15 @@
 //! How a run of the program ended: its exit status, and the line that says why.
 #![tactic(auto)]
 
+mod causes;
 mod fields;
+mod file_laws;
+mod files;
+mod inputs;
 mod status;
 
+pub use causes::script_status;
 pub use fields::field_name;
+pub use file_laws::files_decide;
+pub use inputs::{Inputs, MAX_FONTS, read_inputs};
 pub use status::{BadScript, Status, What, Which};

@@ -8,7 +8,7 @@ use crate::fields::field_name;
 use ass_num::{Mem, OutOfMemory, Text};
 use ass_script::EventField;
 use bdf_font::FontCause;
-use play_words::WordsFault;
+use run_words::WordsFault;
 use std::alloc::Global;
 
 /// Which of the two sinks.

@@ -14,19 +14,19 @@ use Rattle.sample_region.specs.Edges.{down_from, IsEdge, IsOrdered}
 use Rattle.region_rows.specs.Growths.{IsRowHolding}
 use Rattle.sample_region.specs.Rows.{IsRowOf}
 use Rattle.ass_num.specs.declared.region.Run.{Run}
-use Rattle.sample_region.specs.declared.edges.Edge.{Edge}
+use Rattle.sample_region.specs.declared.edges.SweepEdge.{SweepEdge}
 use Rattle.sample_region.specs.declared.sweep.Crossing.{Crossing}
 use Rattle.sample_region.proofs.OutsideLemmas.{Ends, rings_ends}
 use Rattle.ass_num.proofs.OrderLemmas.{lt_true, lt_false, lt_is}
 use Rattle.sample_region.proofs.WindingLemmas.{Way, crossing_of, crossings_of, SameSums, flat_sums, even, inside_is, spans_parts}
 
 -- ---- a ring, edge by edge
-pub line_more : (items : List Edge) (last first : Point) (rest : List Point) (k : ℕ) (d p : Point) → k < length rest → p ≡ get_or rest k d
+pub line_more : (items : List SweepEdge) (last first : Point) (rest : List Point) (k : ℕ) (d p : Point) → k < length rest → p ≡ get_or rest k d
     → (items ++ down_from (last, p)) ++ flat_map down_from (line p (drop (k + 1) rest) first) ≡ items ++ flat_map down_from (line last (drop k rest) first)
 line_more items last first rest k d p h e =
     rw (drop_more rest k d h, ← e) (append_assoc items (down_from (last, p)) (flat_map down_from (line p (drop (k + 1) rest) first)))
 
-pub line_all : (items : List Edge) (last first : Point) (rest : List Point) (k : ℕ) → length rest ≤ k
+pub line_all : (items : List SweepEdge) (last first : Point) (rest : List Point) (k : ℕ) → length rest ≤ k
     → items ++ down_from (last, first) ≡ items ++ flat_map down_from (line last (drop k rest) first)
 line_all items last first rest k h = rw (drop_all k rest h) (ap (λ xs. items ++ xs) (sym (append-nil (down_from (last, first)))))
 
@@ -36,23 +36,23 @@ ring_of [] d h = absurd (omega arith)
 ring_of (p ∷ ring) d h = refl
 
 -- ---- sums over the crossings of a row
-abbrev weight : ℤ → (Crossing → ℕ) → Edge → ℕ
+abbrev weight : ℤ → (Crossing → ℕ) → SweepEdge → ℕ
 weight y g e = cond (spans e.upper e.lower y) (g (crossing_at y e)) 0
 
-row_step : (g : Crossing → ℕ) (f : Edge → Crossing) (b : Bool) (e : Edge) (rest : List Edge) → sum_by g (map f (cond b (e ∷ rest) rest)) ≡ cond b (g (f e)) 0 + sum_by g (map f rest)
+row_step : (g : Crossing → ℕ) (f : SweepEdge → Crossing) (b : Bool) (e : SweepEdge) (rest : List SweepEdge) → sum_by g (map f (cond b (e ∷ rest) rest)) ≡ cond b (g (f e)) 0 + sum_by g (map f rest)
 row_step g f true e rest = sum_by-cons g (f e) (map f rest)
 row_step g f false e rest = omega arith
 
-row_sum : (y : ℤ) (g : Crossing → ℕ) (es : List Edge) → sum_by g (row_crossings y es) ≡ sum_by (weight y g) es
+row_sum : (y : ℤ) (g : Crossing → ℕ) (es : List SweepEdge) → sum_by g (row_crossings y es) ≡ sum_by (weight y g) es
 row_sum y g [] = refl
 row_sum y g (e ∷ es) =
-    row_step g (crossing_at y) (spans e.upper e.lower y) e (filter (λ (e : Edge). spans e.upper e.lower y) es) ∙ rw (row_sum y g es) (sym (sum_by-cons (weight y g) e es))
+    row_step g (crossing_at y) (spans e.upper e.lower y) e (filter (λ (e : SweepEdge). spans e.upper e.lower y) es) ∙ rw (row_sum y g es) (sym (sum_by-cons (weight y g) e es))
 
 single : {X : Type 0} (w : X → ℕ) (x : X) → sum_by w (x ∷ []) ≡ w x
 single w x = sum_by-cons w x [] ∙ omega arith
 
 -- an edge from one end or the other, and its crossing
-pair_step : (w : Edge → ℕ) (g : Crossing → ℕ) (e f : Edge) (c d : Crossing) (a b s t : Bool) → w e ≡ cond s (g c) 0 → w f ≡ cond t (g d) 0 → (s ≡ true → a ≡ true) → (t ≡ true → b ≡ true) → (a ≡ true → b ≡ false)
+pair_step : (w : SweepEdge → ℕ) (g : Crossing → ℕ) (e f : SweepEdge) (c d : Crossing) (a b s t : Bool) → w e ≡ cond s (g c) 0 → w f ≡ cond t (g d) 0 → (s ≡ true → a ≡ true) → (t ≡ true → b ≡ true) → (a ≡ true → b ≡ false)
     → sum_by w (cond a (e ∷ []) (cond b (f ∷ []) [])) ≡ sum_by g (cond s (c ∷ []) (cond t (d ∷ []) []))
 pair_step w g e f c d true b true t p q h k l = single w e ∙ p ∙ sym (single g c)
 pair_step w g e f c d true b false false p q h k l = single w e ∙ p
@@ -77,11 +77,11 @@ pair_sum y g e =
 ways_sum : (y : ℤ) (g : Crossing → ℕ) (es : List Way) → sum_by (weight y g) (flat_map down_from es) ≡ sum_by g (crossings_of y es)
 ways_sum y g es = flat_sums (weight y g) (λ (e : Way). sum_by g (crossing_of y e)) down_from (pair_sum y g) es ∙ sym (flat_sums g (λ (e : Way). sum_by g (crossing_of y e)) (crossing_of y) (λ e. refl) es)
 
-same_sums : (y : ℤ) (rings : List (List Point)) (list : List Edge) → IsPermutation (flat_map down_from (edges_of rings)) list → SameSums (crossings_of y (edges_of rings)) (row_crossings y list)
+same_sums : (y : ℤ) (rings : List (List Point)) (list : List SweepEdge) → IsPermutation (flat_map down_from (edges_of rings)) list → SameSums (crossings_of y (edges_of rings)) (row_crossings y list)
 same_sums y rings list h g = row_sum y g list ∙ sum_by-IsPermutation (weight y g) (flat_map down_from (edges_of rings)) list h ∙ ways_sum y g (edges_of rings)
 
 -- ---- the edges of an outline
-pub insides : (rings : List (List Point)) (list : List Edge) → IsPermutation (flat_map down_from (edges_of rings)) list → (i j : ℤ) → is_inside list i j ≡ inside rings i j
+pub insides : (rings : List (List Point)) (list : List SweepEdge) → IsPermutation (flat_map down_from (edges_of rings)) list → (i j : ℤ) → is_inside list i j ≡ inside rings i j
 insides rings list h i j = inside_is rings i j (row_crossings (place j) list) (same_sums (place j) rings list h)
 
 -- crossings in another order
@@ -96,9 +96,9 @@ even_same cs ds h e = sum_by-IsPermutation (λ (c : Crossing). cond c.down 1 0) 
 
 way_ends : (e : Way) → Ends IsOutlinePoint e → All IsEdge (down_from e)
 way_ends e h =
-    cond_both (int_lt e.0.y e.1.y) (record { upper = e.0; lower = e.1; down = true } ∷ []) (cond (int_lt e.1.y e.0.y) (record { upper = e.1; lower = e.0; down = false } ∷ []) []) (λ (es : List Edge). All IsEdge es)
+    cond_both (int_lt e.0.y e.1.y) (record { upper = e.0; lower = e.1; down = true } ∷ []) (cond (int_lt e.1.y e.0.y) (record { upper = e.1; lower = e.0; down = false } ∷ []) []) (λ (es : List SweepEdge). All IsEdge es)
     (λ _. All-cons IsEdge (record { upper = e.0; lower = e.1; down = true }) [] (record { upper = h.0; lower = h.1 }) (All-nil IsEdge))
-    (λ _. cond_both (int_lt e.1.y e.0.y) (record { upper = e.1; lower = e.0; down = false } ∷ []) [] (λ (es : List Edge). All IsEdge es)
+    (λ _. cond_both (int_lt e.1.y e.0.y) (record { upper = e.1; lower = e.0; down = false } ∷ []) [] (λ (es : List SweepEdge). All IsEdge es)
     (λ _. All-cons IsEdge (record { upper = e.1; lower = e.0; down = false }) [] (record { upper = h.1; lower = h.0 }) (All-nil IsEdge))
     (λ _. All-nil IsEdge))
 
@@ -106,7 +106,7 @@ ways_ends : (es : List Way) → All (Ends IsOutlinePoint) es → All IsEdge (fla
 ways_ends [] h = All-nil IsEdge
 ways_ends (e ∷ es) h = All-append IsEdge (down_from e) (flat_map down_from es) (way_ends e (All-head (Ends IsOutlinePoint) e es h)) (ways_ends es (All-tail (Ends IsOutlinePoint) e es h))
 
-pub sweepable : (rings : List (List Point)) (list : List Edge) → IsOutline rings → IsPermutation (flat_map down_from (edges_of rings)) list → IsOrdered list → IsSweepable list
+pub sweepable : (rings : List (List Point)) (list : List SweepEdge) → IsOutline rings → IsPermutation (flat_map down_from (edges_of rings)) list → IsOrdered list → IsSweepable list
 sweepable rings list near h up = record {
   edges = All-permutation IsEdge (flat_map down_from (edges_of rings)) list h (ways_ends (edges_of rings) (rings_ends IsOutlinePoint rings near));
   ordered = up;
@@ -114,7 +114,7 @@ sweepable rings list near h up = record {
 }
 
 -- the runs of the crossings of a row hold its samples
-pub row_holding : (list : List Edge) (j y : ℤ) (cs : List Crossing) (runs : List Run) → y ≡ place j → IsPermutation (row_crossings y list) cs → IsRowOf cs runs → IsRowHolding (λ i. is_inside list i j) runs
+pub row_holding : (list : List SweepEdge) (j y : ℤ) (cs : List Crossing) (runs : List Run) → y ≡ place j → IsPermutation (row_crossings y list) cs → IsRowOf cs runs → IsRowHolding (λ i. is_inside list i j) runs
 row_holding list j y cs runs e p h = record {
   covers = λ i. h.covers i ∙ odd_same i (row_crossings y list) cs p ∙ rw e refl;
   ascends = h.ascends;

@@ -11,7 +11,7 @@ use Rattle.ass_num.proofs.OrderLemmas.{le_false}
 use Rattle.sample_region.specs.Crossings.{crossing_at, row_crossings, ups, downs_to, ups_to, is_odd, is_inside, IsSweepable}
 use Rattle.sample_region.specs.Edges.{IsEdge}
 use Rattle.sample_region.specs.Heights.{IsHeightBetween}
-use Rattle.sample_region.specs.declared.edges.Edge.{Edge}
+use Rattle.sample_region.specs.declared.edges.SweepEdge.{SweepEdge}
 use Rattle.sample_region.specs.declared.sweep.Crossing.{Crossing}
 use Rattle.sample_region.proofs.OutsideLemmas.{outside}
 use Rattle.sample_region.proofs.SignedLemmas.{cut_within}
@@ -30,7 +30,7 @@ none_before i (c ∷ cs) h =
 abbrev IsNearCut : Crossing → Type 0
 IsNearCut c = (negsuc 65535 ≤ℤ c.at) × (c.at ≤ℤ pos 65536)
 
-edge_near : (y : ℤ) (e : Edge) → IsEdge e → spans e.upper e.lower y ≡ true → IsNearCut (crossing_at y e)
+edge_near : (y : ℤ) (e : SweepEdge) → IsEdge e → spans e.upper e.lower y ≡ true → IsNearCut (crossing_at y e)
 edge_near y e w h =
     let p = spans_parts e.upper e.lower y h in
     let p0 = p.0 in
@@ -39,15 +39,15 @@ edge_near y e w h =
     let l = w.lower in
     cut_within e.upper.x e.lower.x (y -ℤ e.upper.y) (e.lower.y -ℤ e.upper.y) u.x.0 u.x.1 l.x.0 l.x.1 (omega (arith, ints)) (omega (arith, ints))
 
-cuts_near : (y : ℤ) (list : List Edge) → All IsEdge list → All IsNearCut (row_crossings y list)
+cuts_near : (y : ℤ) (list : List SweepEdge) → All IsEdge list → All IsNearCut (row_crossings y list)
 cuts_near y list near =
-    let p : Edge → Bool = λ e. spans e.upper e.lower y in
+    let p : SweepEdge → Bool = λ e. spans e.upper e.lower y in
     All-map IsNearCut (crossing_at y) (filter p list) (λ k d l. edge_near y (get_or (filter p list) k d) (All-filter p IsEdge list near k d l) (filter_passes p list k d l))
 
 even_odd : (n : ℕ) → not (eqb n n) ≡ false
 even_odd n = ap not (eq-eqb n n refl)
 
-pub columns_near : (list : List Edge) → IsSweepable list → (i j : ℤ) → is_inside list i j ≡ true → IsWithin 65536 i
+pub columns_near : (list : List SweepEdge) → IsSweepable list → (i j : ℤ) → is_inside list i j ≡ true → IsWithin 65536 i
 columns_near list w i j h =
     let cs = row_crossings (place j) list in
     let near = cuts_near (place j) list w.edges in

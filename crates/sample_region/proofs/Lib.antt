@@ -7,4 +7,4 @@ mod SortLemmas
 mod SteadyLemmas
 mod SweepLemmas
 mod WalkLemmas
-mod WindingLemmas
+pub mod WindingLemmas

@@ -7,7 +7,7 @@ use Rattle.std.proofs.lemmas.List.Sums.{count_by-le-length}
 use Rattle.std.proofs.lemmas.List.{length-take, get_or-take, take_more}
 use Rattle.std.proofs.lemmas.Int.{clamps}
 use Rattle.std.specs.Int.{int_min, int_max}
-use Rattle.sample_region.specs.declared.row.Walk.{Walk}
+use Rattle.sample_region.specs.declared.row.RowCrossings.{RowCrossings}
 use Rattle.std.proofs.lemmas.Bool.{eq-eqb, ne_eqb}
 use Rattle.std.proofs.Math.Bool.{or-true}
 use Rattle.ass_num.proofs.OrderLemmas.{lt_true, lt_false, le_true, le_false}
@@ -309,7 +309,7 @@ pub before : (cs : List Crossing) (k : ℕ) (d : Crossing) → IsAscending cs �
 before cs k d up h = All-from_get_or (λ e. e.at ≤ℤ (get_or cs k d).at) (take k cs) d
     (λ i l. let m : i < k = omega (arith, l, length-take k cs) in rw (get_or-take k cs i d m) (up i k d (omega arith) h))
 
-pub walk_more : (cs : List Crossing) (k : ℕ) (d : Crossing) (old new : Walk) → IsAscending cs → k < length cs
+pub walk_more : (cs : List Crossing) (k : ℕ) (d : Crossing) (old new : RowCrossings) → IsAscending cs → k < length cs
     → ((low : ℤ) → All (λ (c : Crossing). low <ℤ c.at) cs → HasWalked low (take k cs) old) → Passes (get_or cs k d) old new
     → (low : ℤ) → All (λ (c : Crossing). low <ℤ c.at) cs → HasWalked low (take (k + 1) cs) new
 walk_more cs k d old new up h w p low a = rw (take_more cs k d h) (p low (take k cs) (w low a) (All-get_or (λ (c : Crossing). low <ℤ c.at) cs k d h a) (before cs k d up h))

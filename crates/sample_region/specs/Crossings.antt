@@ -3,7 +3,7 @@ use Rattle.std.specs.Prelude.{ℕ, ℤ, pos, ◌+ℤ◌, ◌-ℤ◌, ◌*ℤ◌,
 use Rattle.std.specs.Int.{int_div_euclid}
 use Rattle.ass_num.specs.Winding.{place, spans}
 use Rattle.ass_num.specs.declared.geometry.Point.{Point}
-use Rattle.sample_region.specs.declared.edges.Edge.{Edge}
+use Rattle.sample_region.specs.declared.edges.SweepEdge.{SweepEdge}
 use Rattle.sample_region.specs.declared.sweep.Crossing.{Crossing}
 use Rattle.sample_region.specs.Edges.{IsEdge, IsOrdered, IsAscendingBy}
 
@@ -11,11 +11,11 @@ use Rattle.sample_region.specs.Edges.{IsEdge, IsOrdered, IsAscendingBy}
 abbrev pub cut_of : Point → Point → ℤ → ℤ
 cut_of a b y = int_div_euclid ((b.x -ℤ a.x) *ℤ (y -ℤ a.y) +ℤ (a.x +ℤ pos 2) *ℤ (b.y -ℤ a.y) -ℤ pos 1) (pos 4 *ℤ (b.y -ℤ a.y))
 
-abbrev pub crossing_at : ℤ → Edge → Crossing
+abbrev pub crossing_at : ℤ → SweepEdge → Crossing
 crossing_at y e = record { at = cut_of e.upper e.lower y; down = e.down }
 
 -- the crossings of the row at y
-abbrev pub row_crossings : ℤ → List Edge → List Crossing
+abbrev pub row_crossings : ℤ → List SweepEdge → List Crossing
 row_crossings y edges = map (crossing_at y) (filter (λ e. spans e.upper e.lower y) edges)
 
 abbrev pub IsAscending : List Crossing → Type 0
@@ -45,11 +45,11 @@ abbrev pub is_odd : ℤ → List Crossing → Bool
 is_odd i cs = not (nat_eq (downs_to i cs) (ups_to i cs))
 
 -- the edges of closed rings, in order
-pub record IsSweepable (list : List Edge) : Type 0 where
+pub record IsSweepable (list : List SweepEdge) : Type 0 where
   pub edges : All IsEdge list
   pub ordered : IsOrdered list
   pub even : (y : ℤ) → downs (row_crossings y list) ≡ ups (row_crossings y list)
 
 -- sample i of row j lies inside the rings of the edges
-abbrev pub is_inside : List Edge → ℤ → ℤ → Bool
+abbrev pub is_inside : List SweepEdge → ℤ → ℤ → Bool
 is_inside edges i j = is_odd i (row_crossings (place j) edges)

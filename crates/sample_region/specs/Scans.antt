@@ -5,22 +5,22 @@ use Rattle.sample_region.specs.Crossings.{is_inside}
 use Rattle.sample_region.specs.Edges.{IsSteady, IsSwept}
 use Rattle.region_rows.specs.Grown.{IsGrown}
 use Rattle.region_rows.specs.Growths.{IsRowHolding}
-use Rattle.sample_region.specs.declared.edges.Edge.{Edge}
+use Rattle.sample_region.specs.declared.edges.SweepEdge.{SweepEdge}
 use Rattle.sample_region.specs.declared.region.Scan.{Scan}
 
 -- no edge is lost that reaches row j or a later one
-abbrev pub HasReached : List Edge → ℤ → Scan → Type 0
+abbrev pub HasReached : List SweepEdge → ℤ → Scan → Type 0
 HasReached edges j scan = IsSwept (place j) edges scan.sweep.begun scan.sweep.active.items
 
 -- the runs that were found last are those of row j
-abbrev pub HoldsRow : List Edge → ℤ → Scan → Type 0
+abbrev pub HoldsRow : List SweepEdge → ℤ → Scan → Type 0
 HoldsRow edges j scan = IsRowHolding (λ i. is_inside edges i j) scan.walk.runs.items
 
 -- and those of each row from j on that is as the last one
-abbrev pub HasSteadyRows : List Edge → ℤ → Scan → Type 0
+abbrev pub HasSteadyRows : List SweepEdge → ℤ → Scan → Type 0
 HasSteadyRows edges j scan = (k : ℤ) → j ≤ℤ k → IsSteady (place k) edges scan.sweep.begun scan.sweep.active.items → HoldsRow edges k scan
 
-pub record HasScanned (edges : List Edge) (j : ℤ) (scan : Scan) : Type 0 where
+pub record HasScanned (edges : List SweepEdge) (j : ℤ) (scan : Scan) : Type 0 where
   pub reached : HasReached edges j scan
   pub steady : HasSteadyRows edges j scan
   pub grown : IsGrown (is_inside edges) j scan.growth

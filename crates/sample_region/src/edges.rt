@@ -11,18 +11,18 @@ use std::alloc::Global;
 
 /// An edge that isn't level, from its upper to its lower end, and whether the ring goes down along it.
 #[derive(Clone, Copy)]
-pub struct Edge {
+pub struct SweepEdge {
     pub upper: Point,
     pub lower: Point,
     pub down: bool,
 }
 
 /// Adds the edge from a to b, unless it is level: then it crosses no row.
-fn add_edge(a: Point, b: Point, edges: &mut Vec<Edge>) -> Mem<()>
+fn add_edge(a: Point, b: Point, edges: &mut Vec<SweepEdge>) -> Mem<()>
     ensures { OnOk result (edges.new.items ≡ edges.old.items ++ down_from (a, b)) }
 {
     if a.y < b.y {
-        edges.push(Edge {
+        edges.push(SweepEdge {
             upper: a,
             lower: b,
             down: true,
@@ -30,7 +30,7 @@ fn add_edge(a: Point, b: Point, edges: &mut Vec<Edge>) -> Mem<()>
         return Ok(());
     }
     if b.y < a.y {
-        edges.push(Edge {
+        edges.push(SweepEdge {
             upper: b,
             lower: a,
             down: false,
@@ -41,7 +41,7 @@ fn add_edge(a: Point, b: Point, edges: &mut Vec<Edge>) -> Mem<()>
 }
 
 /// Adds the edges of a closed ring.
-fn add_ring(ring: &[Point], list: &mut Vec<Edge>) -> Mem<()>
+fn add_ring(ring: &[Point], list: &mut Vec<SweepEdge>) -> Mem<()>
     ensures { OnOk result (list.new.items ≡ list.old.items ++ flat_map down_from (edges ring.now)) }
 {
     let [first, rest @ ..] = ring else {
@@ -56,7 +56,7 @@ fn add_ring(ring: &[Point], list: &mut Vec<Edge>) -> Mem<()>
 }
 
 /// The edges of an outline, ring by ring.
-fn list_edges(alloc: Global, outline: &Outline) -> Mem<Vec<Edge>>
+fn list_edges(alloc: Global, outline: &Outline) -> Mem<Vec<SweepEdge>>
     ensures { IfOk result (λ list. list.items ≡ flat_map down_from (edges_of outline.now.rings)) }
 {
     let mut list = Vec::with_capacity(alloc, outline.rings.all_items().len())?;
@@ -66,7 +66,7 @@ fn list_edges(alloc: Global, outline: &Outline) -> Mem<Vec<Edge>>
     Ok(list)
 }
 
-fn sort(list: &mut Vec<Edge>)
+fn sort(list: &mut Vec<SweepEdge>)
     ensures permutation { IsPermutation list.old.items list.new.items }
     ensures ordered { IsOrdered list.new.items }
 {
@@ -74,7 +74,7 @@ fn sort(list: &mut Vec<Edge>)
 }
 
 /// The edges of an outline in the order of their upper ends.
-pub fn ordered_edges(alloc: Global, outline: &Outline) -> Mem<Vec<Edge>>
+pub fn ordered_edges(alloc: Global, outline: &Outline) -> Mem<Vec<SweepEdge>>
     requires { IsOutline outline.now.rings }
     ensures sweepable { IfOk result (λ list. IsSweepable list.items) }
     ensures insides { IfOk result (λ list. (i j : ℤ) → is_inside list.items i j ≡ inside outline.now.rings i j) }

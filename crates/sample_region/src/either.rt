@@ -72,7 +72,8 @@ pub fn union(alloc: Global, a: &Region, b: &Region) -> Mem<Region>
     requires near_b { IsRegionWithin max_sample b.now.top b.now.rows }
     ensures samples { IfOk result (λ r. (i j : ℤ) → member r.top r.rows i j ≡ (member a.now.top a.now.rows i j || member b.now.top b.now.rows i j)) }
     ensures canonical { IfOk result (λ r. is_canonical r.top r.rows ≡ true) }
-    ensures within { IfOk result (λ r. (limit : ℕ) → IsRegionWithin limit a.now.top a.now.rows → IsRegionWithin limit b.now.top b.now.rows → IsRegionWithin limit r.top r.rows) }
+    ensures within { IfOk result (λ r. (limit : ℕ) → IsRegionWithin limit a.now.top a.now.rows → IsRegionWithin limit b.now.top b.now.rows
+        → IsRegionWithin limit r.top r.rows) }
 {
     let rows = rows_of(a, b);
     let mut growth = Growth::new(alloc, rows.first);

@@ -8,8 +8,8 @@ ghost use Rattle.sample_region.specs.Limits.{max_inside, max_swept};
 ghost use Rattle.sample_region.specs.Crossings.{IsSweepable, is_inside};
 ghost use Rattle.sample_region.specs.Heights.{IsHeightBetween};
 
-use crate::edges::{Edge, ordered_edges};
-use crate::row::Walk;
+use crate::edges::{SweepEdge, ordered_edges};
+use crate::row::RowCrossings;
 use crate::sweep::Sweep;
 use ass_num::{Mem, Outline, Point, Region};
 use region_rows::{Growth, RowRange};
@@ -101,7 +101,7 @@ fn rows_within(heights: Heights) -> RowRange
 #[derive(Drop)]
 struct Scan {
     sweep: Sweep,
-    walk: Walk,
+    walk: RowCrossings,
     growth: Growth,
 }
 
@@ -109,7 +109,7 @@ impl Scan {
     ghost use Rattle.sample_region.specs.Scans.{HasReached, HasScanned, HasSteadyRows, HoldsRow};
 
     /// Sweeps row j, and finds its runs.
-    fn sweep_row(&mut self, edges: &[Edge], j: i32) -> Mem<()>
+    fn sweep_row(&mut self, edges: &[SweepEdge], j: i32) -> Mem<()>
         requires edges { IsSweepable edges.now }
         requires low { neg_ℤ (pos max_swept) ≤ℤ j }
         requires high { j ≤ℤ pos max_swept }
@@ -125,7 +125,7 @@ impl Scan {
     }
 
     /// Finds the runs of row j. Where they are known to be those of the row before, it isn't swept.
-    fn find_row(&mut self, edges: &[Edge], j: i32) -> Mem<()>
+    fn find_row(&mut self, edges: &[SweepEdge], j: i32) -> Mem<()>
         requires edges { IsSweepable edges.now }
         requires low { neg_ℤ (pos max_swept) ≤ℤ j }
         requires high { j ≤ℤ pos max_swept }
@@ -143,7 +143,7 @@ impl Scan {
     }
 
     /// Adds row j, the next one.
-    fn add_row(&mut self, edges: &[Edge], j: i32) -> Mem<()>
+    fn add_row(&mut self, edges: &[SweepEdge], j: i32) -> Mem<()>
         requires edges { IsSweepable edges.now }
         requires low { neg_ℤ (pos max_swept) ≤ℤ j }
         requires high { j ≤ℤ pos max_swept }
@@ -156,7 +156,7 @@ impl Scan {
     }
 
     /// Adds rows from `first` up to `end`.
-    fn add_rows(&mut self, edges: &[Edge], first: i32, end: i32) -> Mem<()>
+    fn add_rows(&mut self, edges: &[SweepEdge], first: i32, end: i32) -> Mem<()>
         requires edges { IsSweepable edges.now }
         requires low { neg_ℤ (pos max_swept) ≤ℤ first }
         requires ordered { first ≤ℤ end }
@@ -186,7 +186,7 @@ pub fn region_of(alloc: Global, outline: &Outline) -> Mem<Region>
     let edges = ordered_edges(alloc, outline)?;
     let mut scan = Scan {
         sweep: Sweep::new(alloc),
-        walk: Walk::new(alloc),
+        walk: RowCrossings::new(alloc),
         growth: Growth::new(alloc, rows.first),
     };
     scan.add_rows(edges.as_slice(), rows.first, rows.end)?;

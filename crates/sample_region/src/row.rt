@@ -10,21 +10,21 @@ use std::alloc::Global;
 
 /// How many crossings went down and up, where the run that is open began, and the runs before it.
 #[derive(Drop)]
-pub struct Walk {
+pub struct RowCrossings {
     downs: usize,
     ups: usize,
     from: i32,
     pub runs: Vec<Run>,
 }
 
-impl Walk {
+impl RowCrossings {
     ghost use Rattle.sample_region.specs.Walks.{Passes};
 
     /// A walk that has found nothing yet.
-    pub fn new(alloc: Global) -> Walk
+    pub fn new(alloc: Global) -> RowCrossings
         ensures { result.runs.items ≡ [] }
     {
-        Walk {
+        RowCrossings {
             downs: 0,
             ups: 0,
             from: 0,

@@ -6,7 +6,7 @@ ghost use Rattle.sample_region.specs.Edges.{BeginBelow, IsCrossed, IsSteady, IsS
 ghost use Rattle.sample_region.specs.Crossings.{IsAscending, IsSweepable, crossing_at, row_crossings};
 
 use crate::cut::cut;
-use crate::edges::Edge;
+use crate::edges::SweepEdge;
 use ass_num::Mem;
 use std::alloc::Global;
 
@@ -21,16 +21,16 @@ pub struct Crossing {
 #[derive(Drop)]
 pub struct Sweep {
     begun: usize,
-    active: Vec<Edge>,
+    active: Vec<SweepEdge>,
     pub crossings: Vec<Crossing>,
 }
 
 impl Sweep {
-    ghost use Rattle.sample_region.specs.declared.edges.Edge.{Edge};
+    ghost use Rattle.sample_region.specs.declared.edges.SweepEdge.{SweepEdge};
 
     /// A sweep that hasn't begun.
     pub fn new(alloc: Global) -> Sweep
-        ensures swept { (y : ℤ) → (edges : List Edge) → IsSwept y edges result.begun result.active.items }
+        ensures swept { (y : ℤ) → (edges : List SweepEdge) → IsSwept y edges result.begun result.active.items }
         ensures begun { result.begun ≡ 0 }
         ensures active { result.active.items ≡ [] }
     {
@@ -42,7 +42,7 @@ impl Sweep {
     }
 
     /// Takes an edge in, unless it ends above the row at `y`.
-    fn take_in(&mut self, e: Edge, y: i64) -> Mem<()>
+    fn take_in(&mut self, e: SweepEdge, y: i64) -> Mem<()>
         ensures active { OnOk result (self.new.active.items ≡ self.old.active.items ++ cond (int_lt y e.lower.y) (e ∷ []) []) }
         ensures begun { self.new.begun ≡ self.old.begun }
     {
@@ -54,7 +54,7 @@ impl Sweep {
     }
 
     /// Takes in the edges that begin above the row at `y` or on it; those that end above it are dropped already.
-    fn begin_edges(&mut self, edges: &[Edge], y: i64) -> Mem<()>
+    fn begin_edges(&mut self, edges: &[SweepEdge], y: i64) -> Mem<()>
         requires sweepable { IsSweepable edges.now }
         requires active { self.old.active.items ≡ unended y (take self.old.begun edges.now) }
         requires above { All (λ e. e.upper.y ≤ℤ y) (take self.old.begun edges.now) }
@@ -76,7 +76,7 @@ impl Sweep {
     }
 
     /// Moves on to the row at `y`, and finds its crossings in ascending order.
-    pub fn advance(&mut self, edges: &[Edge], y: i64) -> Mem<()>
+    pub fn advance(&mut self, edges: &[SweepEdge], y: i64) -> Mem<()>
         requires sweepable { IsSweepable edges.now }
         requires swept { IsSwept y edges.now self.old.begun self.old.active.items }
         ensures crossings { OnOk result (IsPermutation (row_crossings y edges.now) self.new.crossings.items) }
@@ -92,7 +92,7 @@ impl Sweep {
     }
 
     /// Whether all edges that haven't begun yet begin below the row at `y`.
-    fn begin_below(&self, edges: &[Edge], y: i64) -> bool
+    fn begin_below(&self, edges: &[SweepEdge], y: i64) -> bool
         requires { IsSweepable edges.now }
         ensures { IsTrue result → BeginBelow y (drop self.now.begun edges.now) }
     {
@@ -100,7 +100,7 @@ impl Sweep {
     }
 
     /// Whether the row at `y` is known to have the same crossings as the last row.
-    pub fn is_steady(&self, edges: &[Edge], y: i64) -> bool
+    pub fn is_steady(&self, edges: &[SweepEdge], y: i64) -> bool
         requires { IsSweepable edges.now }
         ensures { IsTrue result → IsSteady y edges.now self.now.begun self.now.active.items }
     {
@@ -109,14 +109,14 @@ impl Sweep {
 }
 
 /// Whether an edge stands upright and reaches below the row at `y`.
-fn is_upright_past(e: Edge, y: i64) -> bool
+fn is_upright_past(e: SweepEdge, y: i64) -> bool
     ensures { IsTrue result → IsUprightPast y e }
 {
     e.upper.x == e.lower.x && y < e.lower.y
 }
 
 /// Whether all edges do.
-fn are_upright_past(edges: &[Edge], y: i64) -> bool
+fn are_upright_past(edges: &[SweepEdge], y: i64) -> bool
     ensures { IsTrue result → All (IsUprightPast y) edges.now }
 {
     for e in edges {
@@ -128,7 +128,7 @@ fn are_upright_past(edges: &[Edge], y: i64) -> bool
 }
 
 /// Drops the edges that end above the row at `y`.
-fn drop_ended(active: &mut Vec<Edge>, y: i64)
+fn drop_ended(active: &mut Vec<SweepEdge>, y: i64)
     ensures { active.new.items ≡ unended y active.old.items }
 {
     active.retain(
@@ -139,7 +139,7 @@ fn drop_ended(active: &mut Vec<Edge>, y: i64)
 }
 
 /// The crossings of edges with the row at `y`.
-fn cross(active: &[Edge], y: i64, crossings: &mut Vec<Crossing>) -> Mem<()>
+fn cross(active: &[SweepEdge], y: i64, crossings: &mut Vec<Crossing>) -> Mem<()>
     requires { All (IsCrossed y) active.now }
     ensures { OnOk result (crossings.new.items ≡ map (crossing_at y) active.now) }
 {

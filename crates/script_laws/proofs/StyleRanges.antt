@@ -18,8 +18,8 @@ use Rattle.ass_num.specs.Colours.{colour_of}
 use Rattle.ass_num.specs.Limits.{IsHeldLength, IsHeldNumber, IsWithin, max_held, max_whole}
 use Rattle.ass_num.specs.Wholes.{whole_of}
 use Rattle.ass_num.specs.declared.colour.Rgba.{Rgba}
-use Rattle.blanks.specs.Blanks.{trimmed}
-use Rattle.blanks.proofs.TrimmedLemmas.{trimmed_utf8}
+use Rattle.ass_num.specs.Blanks.{trimmed}
+use Rattle.ass_num.proofs.TrimmedLemmas.{trimmed_utf8}
 use Rattle.ass_script.specs.Numbers.{milli_of, style_colour_of}
 use Rattle.ass_script.specs.Ranges.{IsStyle}
 use Rattle.ass_script.specs.Styles.{alignment_in, bare_style, border_style_or, built_in_style, colours_with, margin_or, milli_or, old_alignment, old_alignment_in, size_or, style_of, with_field, with_fields}

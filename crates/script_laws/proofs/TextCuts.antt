@@ -19,7 +19,7 @@ use Rattle.ass_script.specs.declared.lines.Key.{Key}
 use Rattle.ass_script.specs.declared.lines.Key.TheVariants as key
 use Rattle.ass_script.specs.declared.lines.Section.{Section}
 use Rattle.ass_script.proofs.Cuts.{boundary_behind_mark}
-use Rattle.blanks.specs.Blanks.{trimmed}
+use Rattle.ass_num.specs.Blanks.{trimmed}
 
 -- ---- a text whose longest front in UTF-8 is all of it
 

@@ -41,7 +41,7 @@ fn ask(entries: &mut Entries<u32, u32>, key: u32) -> Reply {
     }
 }
 
-// The value of a key is its number and ten thousand more.
+/// The value of a key is its number and ten thousand more.
 fn fill(alloc: Global, entries: &mut Entries<u32, u32>, key: u32, cost: u64) -> Reply
     requires { cost ≤ max_cost }
 {
@@ -200,7 +200,7 @@ fn rows_of_calls(rt: HostRuntime) -> Result<(), Fail> {
     let mut entries: Entries<u32, u32> = Entries::open(rt.alloc(), 2, 100)?;
     let others = make_rows(rt.alloc(), &mut entries)?;
     assert_eq!(rt; others.as_str(), "");
-    let evictions = entries.totals().evictions;
+    let evictions = entries.totals().counts.evictions;
     let last = (evictions, entries.pins_of(&3), value_of(&entries, 3));
     assert_eq!(rt; last, (6, Some(1), Some(10_003)));
     Ok(())

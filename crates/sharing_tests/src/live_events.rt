@@ -68,7 +68,7 @@ fn near(alloc: Global, live: &LiveEvents, t: i64) -> Mem<String>
     requires { IsSound live.now }
 {
     let near = live.near(alloc, t)?;
-    shown(alloc, &digits(near.as_slice()))
+    shown(alloc, &digits(near.events.as_slice()))
 }
 
 fn orders(alloc: Global, live: &LiveEvents) -> Mem<String> {

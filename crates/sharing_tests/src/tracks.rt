@@ -72,7 +72,7 @@ fn tried<R: AllocGlobal>(
     let (pass, scene) = track.try_look(rt.alloc(), pass, 5);
     match scene {
         Ok(scene) => (pass, scene.n),
-        Err(LookRefusal::TurnOut(1)) => (pass, before),
+        Err(LookRefusal::TurnOut) => (pass, before),
         Err(_) => (pass, 0),
     }
 }

@@ -117,7 +117,7 @@ fn work_both<R: Threads + Wait + Sync>(
 #[derive(Drop)]
 struct Seen {
     holder: u32,
-    word: u64,
+    was_out: bool,
     next_holder: u32,
     was_empty: bool,
 }
@@ -135,9 +135,9 @@ fn take_in_turn<R: Wait>(
 {
     let turn = cell.take(rt, first);
     let holder = turn.number();
-    let (word, second) = match cell.try_take(second) {
-        Ok(turn) => (0, cell.give(turn, None)),
-        Err(out) => out,
+    let (was_out, second) = match cell.try_take(second) {
+        Ok(turn) => (false, cell.give(turn, None)),
+        Err(second) => (true, second),
     };
     let first = cell.give(turn, None);
     let (next_holder, was_empty, second) = match cell.try_take(second) {
@@ -146,11 +146,11 @@ fn take_in_turn<R: Wait>(
             turn.value().all.is_empty(),
             cell.give(turn, None),
         ),
-        Err((_, second)) => (9, false, second),
+        Err(second) => (9, false, second),
     };
     let seen = Seen {
         holder,
-        word,
+        was_out,
         next_holder,
         was_empty,
     };
@@ -182,8 +182,8 @@ fn one_thread_takes_in_turn(rt: HostRuntime) -> Result<(), Fail> {
     };
     let (pass, seen) = take_in_turn(&rt, &cell, first, second);
     let closed = cell.close(pass);
-    assert_eq!(rt; (seen.holder, seen.word, seen.next_holder), (0, 1, 1));
-    assert!(rt; seen.was_empty);
+    assert_eq!(rt; (seen.holder, seen.next_holder), (0, 1));
+    assert!(rt; seen.was_out && seen.was_empty);
     let Some(entries) = closed else {
         panic!(rt; "the turn is out")
     };

@@ -126,7 +126,7 @@ longest_is (r ∷ rows) text row is = elim (cases_Bool (starts_with nat_eq text 
 
 -- ---- the laws
 
--- of two fronts of a text that are equally long
+-- of two prefixes of a text that are equally long
 one_front : (text a b : List ℕ) → starts_with nat_eq text a ≡ true → starts_with nat_eq text b ≡ true → length a ≡ length b → a ≡ b
 one_front text a b first second len =
     sym (take-append_seam a (drop (length a) text)) ∙ ap (take (length a)) (sym (split text a first)) ∙ ap (λ z. take z text) len

@@ -5,7 +5,7 @@ use Rattle.std.proofs.lemmas.List.Sums.{fails_before_first}
 use Rattle.std.proofs.lemmas.List.Splits.{slice_split_none, slice_split_first}
 use Rattle.ass_num.specs.Fronts.{BeginsWith, HasNoFront}
 use Rattle.ass_num.specs.Numerals.{IsMilli}
-use Rattle.blanks.specs.Blanks.{trimmed}
+use Rattle.ass_num.specs.Blanks.{trimmed}
 use Rattle.tag_arguments.specs.Numbers.{comma_pieces, unless_blank, without_blank_last, counted_pieces, AreNumbers, AreFewNumbers}
 
 -- a text without a comma is one piece

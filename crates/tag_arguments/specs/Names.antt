@@ -6,7 +6,7 @@ use Rattle.tag_arguments.specs.declared.kinds.Num.TheVariants as num
 use Rattle.tag_arguments.specs.declared.kinds.Sung.TheVariants as sung
 use Rattle.tag_arguments.specs.declared.kinds.TagName.{TagName}
 use Rattle.tag_arguments.specs.declared.kinds.TagName.TheVariants as name
-use Rattle.blanks.specs.Blanks.{past_blanks}
+use Rattle.ass_num.specs.Blanks.{past_blanks}
 
 -- a spelling, and what it stands for
 abbrev pub NameRow : Type 0

@@ -4,7 +4,7 @@ use Rattle.std.specs.List.{slice_split}
 use Rattle.ass_num.specs.Bytes.{comma}
 use Rattle.ass_num.specs.Fronts.{BeginsWith, HasNoFront}
 use Rattle.ass_num.specs.Numerals.{IsMilli, is_sign}
-use Rattle.blanks.specs.Blanks.{trimmed}
+use Rattle.ass_num.specs.Blanks.{trimmed}
 
 -- An argument that may be empty. Where it isn't, its front spells a value; none is read where no front does.
 abbrev pub ReadsOptional : {V : Type 0} → (List ℕ → V → Type 0) → List ℕ → Option (Option V) → Type 0

@@ -6,7 +6,7 @@ ghost use Rattle.std.specs.Option.{option_copied};
 ghost use Rattle.ass_num.specs.Bytes.{backslash};
 ghost use Rattle.tag_arguments.specs.Cuts.{after_bracket, plain_argument, depth_after, outer_len, tag_len, bracketed};
 
-use blanks::text::trimmed;
+use ass_num::text_blanks::trimmed;
 
 /// The text behind a `(` at the front, if one stands there.
 fn after_bracket(text: &str) -> Option<&str>

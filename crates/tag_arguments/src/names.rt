@@ -5,7 +5,7 @@ ghost use Rattle.std.specs.Option.{option_map};
 ghost use Rattle.tag_arguments.specs.Names.{longer_found, longest_row, longest_name, tag_name, tag_names, rows_of};
 
 use crate::kinds::{Num, Sung, TagName};
-use blanks::text::past_blanks;
+use ass_num::text_blanks::past_blanks;
 
 /// A spelling, and what it stands for.
 type NameRow = (&'static str, TagName);

@@ -4,12 +4,13 @@ ghost use Rattle.std.specs.Prelude.{◌≡◌, ◌+◌, ◌<◌, ◌∷◌, [], 
 ghost use Rattle.std.specs.Option.{option_map, option_copied};
 ghost use Rattle.ass_num.specs.Numerals.{IsMilli};
 ghost use Rattle.tag_arguments.specs.Cuts.{bracketed};
-ghost use Rattle.tag_arguments.specs.Numbers.{begins_signed, ReadsUnsigned, ReadsOptional, ReadsFront, ReadsNumbers, ReadsBracketed, comma_pieces, counted_pieces, left_pieces};
+ghost use Rattle.tag_arguments.specs.Numbers.{begins_signed, ReadsUnsigned, ReadsOptional, ReadsFront, ReadsNumbers, ReadsBracketed, comma_pieces};
+ghost use Rattle.tag_arguments.specs.Numbers.{counted_pieces, left_pieces};
 
 use crate::cut::bracketed;
 use arrayvec::ArrayVec;
+use ass_num::text_blanks::trimmed;
 use ass_num::{Milli, read_milli};
-use blanks::text::trimmed;
 
 /// The numbers of an argument.
 pub type Numbers = ArrayVec<Milli, 7>;

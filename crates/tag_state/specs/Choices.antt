@@ -1,4 +1,4 @@
--- Public: what the tags of a text say of the whole event: which of several counts (docs/STATES.md).
+-- Public: what the tags of a text say of the whole event: which of several counts (docs/TAGS.md).
 use Rattle.std.specs.Prelude.{◌≡◌, ℕ, ◌*◌, ℤ, pos, List, [], ◌∷◌, Option, Some, None, slice_get}
 use Rattle.std.specs.Int.RustNames.{unsigned_abs}
 use Rattle.std.specs.List.{filter_map}

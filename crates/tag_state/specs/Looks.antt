@@ -1,4 +1,4 @@
--- Public: what a text shows, in order, and which tags stand before each (docs/STATES.md).
+-- Public: what a text shows, in order, and which tags stand before each (docs/TAGS.md).
 use Rattle.std.specs.Prelude.{◌≡◌, ℕ, ◌<◌, ℤ, Bool, true, false, List, [], ◌∷◌, ◌++◌, All, Option, Some, None, slice_range}
 use Rattle.ass_num.specs.declared.geometry.Path.{Path}
 use Rattle.drawing_path.specs.Paths.{IsPathOf}

@@ -1,4 +1,4 @@
--- Public: the table of properties: what a style says of each, and which tags set it (docs/STATES.md).
+-- Public: the table of properties: what a style says of each, and which tags set it (docs/TAGS.md).
 use Rattle.std.specs.Prelude.{ℕ, ◌+◌, ◌==◌, ◌||◌, ℤ, pos, int_lt, int_le, Bool, true, false, if◌then◌else◌, List, [], slice_index_or, Option, Some, None, option_and_then}
 use Rattle.std.specs.Int.{int_max}
 use Rattle.std.specs.Int.RustNames.{unsigned_abs}

@@ -1,4 +1,4 @@
--- Public: how the tags before a character decide a property of it (docs/STATES.md).
+-- Public: how the tags before a character decide a property of it (docs/TAGS.md).
 use Rattle.std.specs.Prelude.{ℕ, ℤ, Bool, true, false, if◌then◌else◌, List, [], ◌∷◌, ◌++◌, map, reverse, Option, unwrap_or}
 use Rattle.std.specs.List.{filter_map}
 use Rattle.ass_script.specs.Scripts.{ScriptValue, style_for}

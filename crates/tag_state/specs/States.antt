@@ -1,4 +1,4 @@
--- Public: the state of a character: each property by the tags before it (docs/STATES.md).
+-- Public: the state of a character: each property by the tags before it (docs/TAGS.md).
 use Rattle.std.specs.Prelude.{◌≡◌, ℕ, ◌<◌, List, Some, slice_get}
 use Rattle.ass_script.specs.Scripts.{ScriptValue}
 use Rattle.override_tags.specs.declared.view.State.{State}

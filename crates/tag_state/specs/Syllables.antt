@@ -1,4 +1,4 @@
--- Public: the syllable of a character (docs/STATES.md).
+-- Public: the syllable of a character (docs/TAGS.md).
 use Rattle.std.specs.Prelude.{ℕ, ◌+◌, ℤ, pos, ◌+ℤ◌, List, [], ◌∷◌, Option, Some, None}
 use Rattle.override_tags.specs.declared.tag.Tag.TheVariants.{Karaoke}
 use Rattle.override_tags.specs.declared.view.Syllable.{Syllable}

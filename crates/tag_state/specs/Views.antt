@@ -1,4 +1,4 @@
--- Public: what an event shows at an instant (docs/STATES.md).
+-- Public: what an event shows at an instant (docs/TAGS.md).
 use Rattle.std.specs.Prelude.{◌≡◌, ℕ, ◌-◌, ℤ, pos, ◌-ℤ◌, List, [], ◌∷◌, Some, length, slice_get, unwrap_or}
 use Rattle.ass_script.specs.Scripts.{ScriptValue, style_for}
 use Rattle.ass_events.specs.declared.event.Event.{Event}

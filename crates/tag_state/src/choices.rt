@@ -191,7 +191,8 @@ fn transformed(
     weight: u32,
 ) -> Option<ClipTag>
     requires { weight ≤ one_16 }
-    ensures { (before : List Effect) → clip ≡ rule.clip_at header.now before → result ≡ rule.clip_at header.now (reverse (map (Gradual weight) tags.now) ++ before) }
+    ensures { (before : List Effect) → clip ≡ rule.clip_at header.now before
+        → result ≡ rule.clip_at header.now (reverse (map (Gradual weight) tags.now) ++ before) }
 {
     let mut clip = clip;
     for tag in tags {
@@ -226,7 +227,8 @@ fn has_clip(tags: &[GradualTag]) -> bool
 #[inline]
 fn set_clip(clip: &mut Option<ClipTag>, header: &Header, tag: Tag, duration: i64, elapsed: i64)
     requires { IsHeldTag tag }
-    ensures { (before : List Effect) → clip.old ≡ rule.clip_at header.now before → clip.new ≡ rule.clip_at header.now (reverse (effects_of_tag duration elapsed tag) ++ before) }
+    ensures { (before : List Effect) → clip.old ≡ rule.clip_at header.now before
+        → clip.new ≡ rule.clip_at header.now (reverse (effects_of_tag duration elapsed tag) ++ before) }
 {
     match tag {
         Tag::Clip(new) => *clip = Some(new),
@@ -276,7 +278,8 @@ impl Said {
     #[inline]
     fn hear(&mut self, header: &Header, tag: Tag, duration: i64, elapsed: i64)
         requires { IsHeldTag tag }
-        ensures { (items : List Item) (i : Item) → i.kind ≡ item.Tag tag → rule.IsSaid header.now duration elapsed items self.old → rule.IsSaid header.now duration elapsed (items ++ i ∷ []) self.new }
+        ensures { (items : List Item) (i : Item) → i.kind ≡ item.Tag tag → rule.IsSaid header.now duration elapsed items self.old
+            → rule.IsSaid header.now duration elapsed (items ++ i ∷ []) self.new }
     {
         self.align = first_align(self.align, &tag);
         self.pos = first_point(self.pos, &tag, duration, elapsed);

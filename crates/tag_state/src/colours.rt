@@ -46,7 +46,10 @@ pub(crate) fn set_colour(
     requires four { which ≤ 4 }
     requires unit { IfSome weight (λ w. w ≤ one_16) }
     ensures four { length state.old.colours ≡ 4 }
-    ensures written { state.new ≡ record state.old { colours = slice_set state.old.colours (which - 1) (rule.colour_after style.now (which - 1) value weight (colour_at state.old.colours (which - 1))) } }
+    ensures written { state.new ≡ record state.old {
+      colours = slice_set state.old.colours (which - 1)
+          (rule.colour_after style.now (which - 1) value weight (colour_at state.old.colours (which - 1)));
+    } }
 {
     let place = usize::from(which - 1);
     let new = match value {

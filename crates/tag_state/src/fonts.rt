@@ -51,9 +51,11 @@ impl Fonts {
     /// The number of the font of the style at a place. Its name is looked up once.
     fn number_at(&mut self, alloc: Global, place: usize, style: &Style) -> Mem<u32>
         requires room { length self.old.names + 1 < 2 ^ 32 }
-        ensures fonts { (script : ScriptValue) → slice_get script.styles place ≡ Some style.now → AreFonts script self.old → OnOk result (AreFonts script self.new) }
+        ensures fonts { (script : ScriptValue) → slice_get script.styles place ≡ Some style.now → AreFonts script self.old
+            → OnOk result (AreFonts script self.new) }
         ensures grown { OnOk result (Grow self.old.names self.new.names) }
-        ensures number { (script : ScriptValue) → slice_get script.styles place ≡ Some style.now → AreFonts script self.old → IfOk result (λ number. slice_get self.new.names number ≡ Some style.now.font) }
+        ensures number { (script : ScriptValue) → slice_get script.styles place ≡ Some style.now → AreFonts script self.old
+            → IfOk result (λ number. slice_get self.new.names number ≡ Some style.now.font) }
     {
         if let Some(number) = self.styles.get(&place).copied() {
             return Ok(number);

@@ -55,7 +55,8 @@ impl<'a> Pen<'a> {
     fn set_font(&mut self, alloc: Global, name: &str) -> Mem<()>
         requires room { length self.old.fonts.names + 1 < 2 ^ 32 }
         ensures grown { OnOk result (Grow self.old.fonts.names self.new.fonts.names) }
-        ensures pen { (script : ScriptValue) (own : List ℕ) (before : List Effect) (tags : ℕ) → IsPen script own before tags self.old → OnOk result (IsPen script own (Plain (FontName name.now) ∷ before) (tags + 1) self.new) }
+        ensures pen { (script : ScriptValue) (own : List ℕ) (before : List Effect) (tags : ℕ) → IsPen script own before tags self.old
+            → OnOk result (IsPen script own (Plain (FontName name.now) ∷ before) (tags + 1) self.new) }
     {
         if name.is_empty() {
             self.state.font = self.face.font;
@@ -69,7 +70,8 @@ impl<'a> Pen<'a> {
     fn reset(&mut self, alloc: Global, script: &'a Script, name: &str) -> Mem<()>
         requires room { length self.old.fonts.names + 1 < 2 ^ 32 }
         ensures grown { OnOk result (Grow self.old.fonts.names self.new.fonts.names) }
-        ensures pen { (own : List ℕ) (before : List Effect) (tags : ℕ) → IsPen script.now own before tags self.old → OnOk result (IsPen script.now own (Plain (Reset name.now) ∷ before) (tags + 1) self.new) }
+        ensures pen { (own : List ℕ) (before : List Effect) (tags : ℕ) → IsPen script.now own before tags self.old
+            → OnOk result (IsPen script.now own (Plain (Reset name.now) ∷ before) (tags + 1) self.new) }
     {
         if name.is_empty() {
             self.face = self.own;
@@ -95,7 +97,8 @@ impl<'a> Pen<'a> {
         requires room { length self.old.fonts.names + 1 < 2 ^ 32 }
         requires song { IfSome self.old.state.sung HasSongRoom }
         ensures grown { OnOk result (Grow self.old.fonts.names self.new.fonts.names) }
-        ensures pen { (own : List ℕ) (before : List Effect) (tags : ℕ) → IsPen script.now own before tags self.old → OnOk result (IsPen script.now own (reverse (effects_of_tag event.now.duration elapsed tag.now) ++ before) (tags + 1) self.new) }
+        ensures pen { (own : List ℕ) (before : List Effect) (tags : ℕ) → IsPen script.now own before tags self.old
+            → OnOk result (IsPen script.now own (reverse (effects_of_tag event.now.duration elapsed tag.now) ++ before) (tags + 1) self.new) }
     {
         let style = self.face.style;
         match tag {

@@ -143,7 +143,8 @@ impl Sheet {
         ensures current { IfOk result (λ number. self.new.current ≡ Some number) }
         ensures grown { OnOk result (Grow self.old.states self.new.states) }
         ensures items { self.new.items ≡ self.old.items }
-        ensures held { (names : ℕ) → (length state.now.colours ≡ 4 → IsState names state.now) → All (IsState names) self.old.states → OnOk result (All (IsState names) self.new.states) }
+        ensures held { (names : ℕ) → (length state.now.colours ≡ 4 → IsState names state.now) → All (IsState names) self.old.states
+            → OnOk result (All (IsState names) self.new.states) }
     {
         if let Some(number) = self.current {
             return Ok(number);
@@ -162,10 +163,12 @@ impl Sheet {
     pub(crate) fn show(&mut self, state: &State, kind: ShownKind) -> Mem<()>
         requires room { length self.old.states + 1 < 2 ^ 32 }
         requires current { IfSome self.old.current (IsStored self.old.states state.now) }
-        ensures shown { OnOk result ((number : ℕ) × (self.new.items ≡ self.old.items ++ record { kind = kind; state = number } ∷ []) × IsStored self.new.states state.now number) }
+        ensures shown { OnOk result ((number : ℕ) × (self.new.items ≡ self.old.items ++ record { kind = kind; state = number } ∷ [])
+            × IsStored self.new.states state.now number) }
         ensures current { OnOk result (IfSome self.new.current (IsStored self.new.states state.now)) }
         ensures grown { OnOk result (Grow self.old.states self.new.states) }
-        ensures held { (names : ℕ) → (length state.now.colours ≡ 4 → IsState names state.now) → All (IsState names) self.old.states → OnOk result (All (IsState names) self.new.states) }
+        ensures held { (names : ℕ) → (length state.now.colours ≡ 4 → IsState names state.now) → All (IsState names) self.old.states
+            → OnOk result (All (IsState names) self.new.states) }
     {
         let state = self.number_of(state)?;
         self.items.push(Shown { kind, state })
@@ -187,7 +190,8 @@ impl Sheet {
         ensures last { OnOk result ((number : ℕ) × IsLast self.new.states state.now number) }
         ensures grown { OnOk result (Grow self.old.states self.new.states) }
         ensures items { self.new.items ≡ self.old.items }
-        ensures held { (names : ℕ) → (length state.now.colours ≡ 4 → IsState names state.now) → All (IsState names) self.old.states → OnOk result (All (IsState names) self.new.states) }
+        ensures held { (names : ℕ) → (length state.now.colours ≡ 4 → IsState names state.now) → All (IsState names) self.old.states
+            → OnOk result (All (IsState names) self.new.states) }
     {
         if self.is_last(state) {
             return Ok(());

@@ -47,7 +47,8 @@ pub fn move_by(state: &mut State, style: &Style, tag: GradualTag, weight: u32)
 pub fn transform(state: &mut State, style: &Style, tags: &[GradualTag], weight: u32)
     requires held { All IsGradualTag tags.now }
     requires unit { weight ≤ one_16 }
-    ensures { (script : ScriptValue) (own : List ℕ) (names : List (List ℕ)) (before : List Effect) → style.now ≡ style_in_force script own before → IsStateAt script own names before state.old → IsStateAt script own names (reverse (map (Gradual weight) tags.now) ++ before) state.new }
+    ensures { (script : ScriptValue) (own : List ℕ) (names : List (List ℕ)) (before : List Effect) → style.now ≡ style_in_force script own before
+        → IsStateAt script own names before state.old → IsStateAt script own names (reverse (map (Gradual weight) tags.now) ++ before) state.new }
 {
     for tag in tags {
         move_by(state, style, *tag, weight);

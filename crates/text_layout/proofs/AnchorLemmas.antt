@@ -6,7 +6,7 @@ use Rattle.ass_num.specs.Limits.{IsWithin, max_frame_side, max_whole}
 use Rattle.ass_num.proofs.LimitLemmas.{IsWithin-wider}
 use Rattle.ass_script.specs.Ranges.{IsCanvasSide}
 use Rattle.text_layout.proofs.BitLemmas.{bits_32, bits_64, framed_bits, place_bits, whole_bits}
-use Rattle.text_layout.specs.declared.anchors.Edge.{Edge}
+use Rattle.text_layout.specs.declared.anchors.AnchorSide.{AnchorSide}
 use Rattle.text_layout.specs.Anchors.{IsBlockSide, edge_at, event_margin_or, whole_pixels}
 use Rattle.text_layout.specs.Limits.{max_anchor, max_framed, max_block_place, max_script_length}
 use Rattle.text_layout.specs.Scales.{pixel}
@@ -68,8 +68,8 @@ far_bits side a margin few is h =
     ap bits_64 (ap₂ ◌-ℤ◌ y (framed_bits margin h))
     ∙ place_bits (pos (pixel * side) -ℤ margin) (IsWithin-wider max_anchor max_block_place (pos (pixel * side) -ℤ margin) (omega arith) (far_within side margin few h))
 
-pub edge_same : (r near far a b : ℤ) (e f : Edge) → r ≡ edge_at e a b → e ≡ f → a ≡ near → b ≡ far → r ≡ edge_at f near far
-edge_same r near far a b e f is p q s = is ∙ ap (λ (edge : Edge). edge_at edge a b) p ∙ ap₂ (edge_at f) q s
+pub edge_same : (r near far a b : ℤ) (e f : AnchorSide) → r ≡ edge_at e a b → e ≡ f → a ≡ near → b ≡ far → r ≡ edge_at f near far
+edge_same r near far a b e f is p q s = is ∙ ap (λ (edge : AnchorSide). edge_at edge a b) p ∙ ap₂ (edge_at f) q s
 
 -- ---- corners
 

@@ -11,8 +11,8 @@ use Rattle.ass_num.specs.Limits.{max_text_bytes}
 use Rattle.ass_num.proofs.Floor.{floor_div_nonnegative}
 use Rattle.line_layout.specs.Breaks.{IsItemWidth, IsParagraph, pen, width}
 use Rattle.line_layout.proofs.PenLemmas.{pen-le, pen-more}
-use Rattle.text_layout.specs.declared.anchors.Edge.{Edge}
-use Rattle.text_layout.specs.declared.anchors.Edge.TheVariants.{Near, Middle, Far}
+use Rattle.text_layout.specs.declared.anchors.AnchorSide.{AnchorSide}
+use Rattle.text_layout.specs.declared.anchors.AnchorSide.TheVariants.{Near, Middle, Far}
 use Rattle.text_layout.specs.declared.extents.Extent.{Extent}
 use Rattle.text_layout.specs.declared.laid.Line.{Line}
 use Rattle.text_layout.specs.declared.metrics.Metrics.{Metrics}
@@ -44,7 +44,7 @@ spans-some items (s ∷ ss) h = omega arith
 
 -- ---- edges
 
-pub edge-inner : (edge : Edge) (len : ℤ) → pos 0 ≤ℤ len → (pos 0 ≤ℤ edge_within edge len) × (edge_within edge len ≤ℤ len)
+pub edge-inner : (edge : AnchorSide) (len : ℤ) → pos 0 ≤ℤ len → (pos 0 ≤ℤ edge_within edge len) × (edge_within edge len ≤ℤ len)
 edge-inner Near len l = (omega (arith, ints), l)
 edge-inner Middle len l = let h = floor_div_nonnegative (pos 0 +ℤ len) 2 (omega arith) (omega (arith, ints, l)) in let most = h.1 in (h.0, omega (arith, ints, most))
 edge-inner Far len l = (l, omega (arith, ints))
@@ -65,7 +65,7 @@ height-from_zero (e ∷ es) h =
 abbrev pub HoldsItems : List ℤ → ℤ → ℤ → Line → Type 0
 HoldsItems ws across down line = IsLineWithin (length ws) across down line × (line.width ≡ width ws line.first line.last)
 
-pub lines-within : (edge : Edge) (ws : List ℤ) (across down top : ℤ) (f : Span → Extent) (spans : List Span)
+pub lines-within : (edge : AnchorSide) (ws : List ℤ) (across down top : ℤ) (f : Span → Extent) (spans : List Span)
     → ((s : Span) → IsSpanWithin (length ws) s → (f s).advance ≡ width ws s.first s.last)
     → All (IsSpanWithin (length ws)) spans → All IsLineExtent (map f spans) → All (λ (e : Extent). e.advance ≤ℤ across) (map f spans)
     → pos 0 ≤ℤ top → (top +ℤ block_height (map f spans)) ≤ℤ down
@@ -104,7 +104,7 @@ lines-within edge ws across down top f (s ∷ ss) each h x w t b =
     (All-tail (IsSpanWithin (length ws)) s ss h) (All-tail IsLineExtent e (map f ss) x) (All-tail (λ (d : Extent). d.advance ≤ℤ across) e (map f ss) w)
     (omega (arith, ints, t, up, down_to)) below)
 
-pub lines-count : (edge : Edge) (across top : ℤ) (f : Span → Extent) (spans : List Span) → length (lines_from edge across top spans (map f spans)) ≡ length spans
+pub lines-count : (edge : AnchorSide) (across top : ℤ) (f : Span → Extent) (spans : List Span) → length (lines_from edge across top spans (map f spans)) ≡ length spans
 lines-count edge across top f [] = refl
 lines-count edge across top f (s ∷ ss) = ap suc (lines-count edge across (top +ℤ ((f s).ascent +ℤ (f s).descent)) f ss)
 
@@ -150,7 +150,7 @@ placed-within ws count number across down (line ∷ lines) g few h =
     (placed-within ws count (number + 1) across down lines g (omega (arith, few)) (All-tail (HoldsItems ws across down) line lines h))
 
 -- Of each span its items are placed, and not the one behind it.
-pub placed-count : (edge : Edge) (ws : List ℤ) (number from end : ℕ) (across top : ℤ) (f : Span → Extent) (spans : List Span) → AreSpans from end spans
+pub placed-count : (edge : AnchorSide) (ws : List ℤ) (number from end : ℕ) (across top : ℤ) (f : Span → Extent) (spans : List Span) → AreSpans from end spans
     → from + length (placed_from ws number (lines_from edge across top spans (map f spans))) + length spans ≤ end
 placed-count edge ws number from end across top f [] h = omega (arith, h)
 placed-count edge ws number from end across top f (s ∷ ss) h =

@@ -9,7 +9,7 @@ use Rattle.std.specs.Int.{int_max}
 use Rattle.std.specs.List.{All, range_with_len}
 use Rattle.line_layout.specs.Breaks.{width}
 use Rattle.line_layout.proofs.PenLemmas.{pen-more}
-use Rattle.text_layout.specs.declared.anchors.Edge.{Edge}
+use Rattle.text_layout.specs.declared.anchors.AnchorSide.{AnchorSide}
 use Rattle.text_layout.specs.declared.laid.Line.{Line}
 use Rattle.text_layout.specs.declared.laid.Placed.{Placed}
 use Rattle.text_layout.specs.declared.spans.Span.{Span}
@@ -75,7 +75,7 @@ width-most es h = greatest-most (pos 0) (pos max_line) es (omega (arith, ints)) 
 -- ---- lines
 
 -- one more line
-pub lines_step : (column : Edge) (width top next : ℤ) (spans : List Span) (extents : List Extent) (k : ℕ) (s : Span) (e : Extent) (before after all : List Line) (line : Line)
+pub lines_step : (column : AnchorSide) (width top next : ℤ) (spans : List Span) (extents : List Extent) (k : ℕ) (s : Span) (e : Extent) (before after all : List Line) (line : Line)
     → k < length spans → k < length extents → before ++ lines_from column width top (drop k spans) (drop k extents) ≡ all → after ≡ before ++ line ∷ []
     → line ≡ line_at column width (get_or spans k s) (get_or extents k e) top → next ≡ top +ℤ ((get_or extents k e).ascent +ℤ (get_or extents k e).descent)
     → after ++ lines_from column width next (drop (k + 1) spans) (drop (k + 1) extents) ≡ all

@@ -6,8 +6,8 @@ use Rattle.ass_events.specs.declared.event.Event.{Event}
 use Rattle.bdf_font.specs.Fonts.{FontValue}
 use Rattle.line_layout.proofs.OneLemmas.{one_best, one_filling}
 use Rattle.override_tags.specs.declared.view.EventView.{EventView}
-use Rattle.text_layout.specs.declared.kinds.Role.{Role}
-use Rattle.text_layout.specs.declared.kinds.Role.TheVariants.{Space}
+use Rattle.text_layout.specs.declared.kinds.BreakRole.{BreakRole}
+use Rattle.text_layout.specs.declared.kinds.BreakRole.TheVariants.{Space}
 use Rattle.text_layout.specs.declared.laid.Laid.{Laid}
 use Rattle.text_layout.specs.declared.spans.Span.{Span}
 use Rattle.text_layout.specs.Extents.{item_extents}
@@ -28,13 +28,13 @@ one_chosen wrap widths spaces max xs ys style h k =
       | inr (inr (inr e)) ↦ one_best widths spaces max _ xs ys (h.least e) (k.least e)
     ]
 
-one_paragraph : (wrap : ℕ) (roles : List Role) (advances : List ℤ) (max : ℤ) (p : Span) (xs ys : List Span) → wrap ≤ 3
+one_paragraph : (wrap : ℕ) (roles : List BreakRole) (advances : List ℤ) (max : ℤ) (p : Span) (xs ys : List Span) → wrap ≤ 3
     → AreLinesOf wrap roles advances max p xs → AreLinesOf wrap roles advances max p ys → xs ≡ ys
 one_paragraph wrap roles advances max p xs ys style h k =
     let places = one_chosen wrap (slice_range advances p.first p.last) (places_of Space (slice_range roles p.first p.last)) max h.0 k.0 style h.1 k.1 in
     h.2 ∙ ap (λ (l : List ℕ). spans_between p.first p.last (map (λ place. p.first + place) l)) places ∙ sym k.2
 
-pub one_set_of_lines : (wrap : ℕ) (roles : List Role) (advances : List ℤ) (max : ℤ) (ps xs ys : List Span) → wrap ≤ 3
+pub one_set_of_lines : (wrap : ℕ) (roles : List BreakRole) (advances : List ℤ) (max : ℤ) (ps xs ys : List Span) → wrap ≤ 3
     → AreLines wrap roles advances max ps xs → AreLines wrap roles advances max ps ys → xs ≡ ys
 one_set_of_lines wrap roles advances max [] xs ys style h k = h ∙ sym k
 one_set_of_lines wrap roles advances max (p ∷ ps) xs ys style h k =

@@ -8,7 +8,7 @@ use Rattle.line_layout.specs.Breaks.{AreFilled, AreFrom, IsItemWidth, IsParagrap
 use Rattle.text_layout.specs.Spans.{ArePlacesInOrder, AreLines, AreLinesOf, AreSpans, AreChosen, is_role, places_from, places_of, spans_between}
 use Rattle.override_tags.specs.declared.view.Shown.{Shown}
 use Rattle.text_layout.specs.Kinds.{role_of, roles_of}
-use Rattle.text_layout.specs.declared.kinds.Role.{Role}
+use Rattle.text_layout.specs.declared.kinds.BreakRole.{BreakRole}
 use Rattle.text_layout.specs.declared.spans.Span.{Span}
 
 -- ---- places
@@ -18,7 +18,7 @@ AreInOrder-lower a b to [] l h = omega arith
 AreInOrder-lower a b to (p ∷ ps) l h = (omega arith, h.1, h.2)
 
 -- The places of a role are in order.
-pub places_from-order : (role : Role) (from n : ℕ) (roles : List Role) → from ≤ n → ArePlacesInOrder from (n + length roles) (places_from role n roles)
+pub places_from-order : (role : BreakRole) (from n : ℕ) (roles : List BreakRole) → from ≤ n → ArePlacesInOrder from (n + length roles) (places_from role n roles)
 places_from-order role from n [] l = omega arith
 places_from-order role from n (r ∷ roles) l =
     let later : ArePlacesInOrder (n + 1) (n + 1 + length roles) (places_from role (n + 1) roles) = places_from-order role (n + 1) (n + 1) roles (omega arith) in
@@ -66,7 +66,7 @@ AreInOrder-filled widths spaces max a to (p ∷ ps) below l h =
     (h.0.onward, less, AreInOrder-filled widths spaces max (p + 1) to ps below (omega arith) h.1)
 
 -- The places of a role that were found along all items.
-pub places-order : (role : Role) (wrap : ℕ) (items : List Shown) (k : ℕ) (places : List ℕ) → length items ≤ k
+pub places-order : (role : BreakRole) (wrap : ℕ) (items : List Shown) (k : ℕ) (places : List ℕ) → length items ≤ k
     → places ++ places_from role k (roles_of wrap (drop k items)) ≡ places_of role (roles_of wrap items) → ArePlacesInOrder 0 (length items) places
 places-order role wrap items k places l h =
     let all : places ≡ places_of role (roles_of wrap items) =
@@ -99,7 +99,7 @@ AreSpans-length from end (s ∷ spans) h = omega (arith, h.1, AreSpans-length (s
 
 -- ---- lines of paragraphs
 
-pub AreLines-push : (wrap : ℕ) (roles : List Role) (advances : List ℤ) (max : ℤ) (ps : List Span) (p : Span) (lines front : List Span)
+pub AreLines-push : (wrap : ℕ) (roles : List BreakRole) (advances : List ℤ) (max : ℤ) (ps : List Span) (p : Span) (lines front : List Span)
     → AreLines wrap roles advances max ps lines → AreLinesOf wrap roles advances max p front → AreLines wrap roles advances max (ps ++ p ∷ []) (lines ++ front)
 AreLines-push wrap roles advances max [] p lines front h k =
     (front, [], k, refl, ap (λ l. l ++ front) h ∙ sym (append-nil front))
@@ -180,7 +180,7 @@ spans-step n k at ps lines front l h later spans =
     let parts : AreSpans at (n + 1) (p ∷ drop (k + 1) ps) = subst (AreSpans at (n + 1)) (drop_more ps k no_span l) later in
     (AreSpans-append 0 at (p.last + 1) lines front h (subst (λ (from : ℕ). AreSpans from (p.last + 1) front) parts.0 spans), parts.3)
 
-pub lines-step : (wrap : ℕ) (roles : List Role) (advances : List ℤ) (max : ℤ) (k : ℕ) (ps lines front : List Span) → k < length ps
+pub lines-step : (wrap : ℕ) (roles : List BreakRole) (advances : List ℤ) (max : ℤ) (k : ℕ) (ps lines front : List Span) → k < length ps
     → AreLines wrap roles advances max (take k ps) lines → AreLinesOf wrap roles advances max (get_or ps k no_span) front
     → AreLines wrap roles advances max (take (k + 1) ps) (lines ++ front)
 lines-step wrap roles advances max k ps lines front l h more =

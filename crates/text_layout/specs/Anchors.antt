@@ -11,8 +11,8 @@ use Rattle.ass_script.specs.Scripts.{ScriptValue, style_for}
 use Rattle.ass_script.specs.declared.script.Header.{Header}
 use Rattle.ass_events.specs.declared.event.Event.{Event}
 use Rattle.override_tags.specs.declared.view.EventView.{EventView}
-use Rattle.text_layout.specs.declared.anchors.Edge.{Edge}
-use Rattle.text_layout.specs.declared.anchors.Edge.TheVariants.{Near, Middle, Far}
+use Rattle.text_layout.specs.declared.anchors.AnchorSide.{AnchorSide}
+use Rattle.text_layout.specs.declared.anchors.AnchorSide.TheVariants.{Near, Middle, Far}
 use Rattle.text_layout.specs.declared.anchors.Margins.{Margins}
 use Rattle.text_layout.specs.Limits.{max_block}
 use Rattle.text_layout.specs.Scales.{framed, pixel, whole_milli}
@@ -40,21 +40,21 @@ wrapping_width header margins size =
     int_max (framed (whole_pixels ((pos header.res_x -ℤ margins.left) -ℤ margins.right)) size.w header.res_x) (pos 0)
 
 -- where an alignment puts the block across the frame: 1, 4 and 7 at the left, 2, 5 and 8 in the middle, 3, 6 and 9 at the right
-abbrev pub edge_across : ℕ → Edge
+abbrev pub edge_across : ℕ → AnchorSide
 edge_across align = if align % 3 == 1 then Near else (if align % 3 == 2 then Middle else Far)
 
 -- where it puts it down the frame: 7, 8 and 9 at the top, 4, 5 and 6 in the middle, 1, 2 and 3 at the bottom
-abbrev pub edge_down : ℕ → Edge
+abbrev pub edge_down : ℕ → AnchorSide
 edge_down align = if nat_le 7 align then Near else (if nat_le 4 align then Middle else Far)
 
 -- the place of an edge between two others
-abbrev pub edge_at : Edge → ℤ → ℤ → ℤ
+abbrev pub edge_at : AnchorSide → ℤ → ℤ → ℤ
 edge_at Near near far = near
 edge_at Middle near far = floor_div (near +ℤ far) (pos 2)
 edge_at Far near far = far
 
 -- how far the edge of something of this length lies from its near end
-abbrev pub edge_within : Edge → ℤ → ℤ
+abbrev pub edge_within : AnchorSide → ℤ → ℤ
 edge_within edge len = edge_at edge (pos 0) len
 
 -- the anchor by the margins: what is in the middle stands halfway between them

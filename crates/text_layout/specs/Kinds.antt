@@ -5,8 +5,8 @@ use Rattle.std.specs.Prelude.{ℕ, ◌==◌, if◌then◌else◌, Option, Some, 
 use Rattle.override_tags.specs.declared.view.Shown.{Shown}
 use Rattle.override_tags.specs.declared.view.ShownKind.{ShownKind}
 use Rattle.override_tags.specs.declared.view.ShownKind.TheVariants as shown
-use Rattle.text_layout.specs.declared.kinds.Role.{Role}
-use Rattle.text_layout.specs.declared.kinds.Role.TheVariants.{Word, Space, Break}
+use Rattle.text_layout.specs.declared.kinds.BreakRole.{BreakRole}
+use Rattle.text_layout.specs.declared.kinds.BreakRole.TheVariants.{Word, Space, Break}
 
 -- U+0020
 abbrev pub space_char : ℕ
@@ -24,7 +24,7 @@ char_of wrap shown.Hard = None
 char_of wrap shown.Soft = if wrap == unwrapped then None else Some space_char
 
 -- what it is for the breaks of lines
-abbrev pub role_of : ℕ → ShownKind → Role
+abbrev pub role_of : ℕ → ShownKind → BreakRole
 role_of wrap (shown.Char c) = if c == space_char then Space else Word
 role_of wrap (shown.Drawing _) = Word
 role_of wrap shown.Hard = Break
@@ -35,5 +35,5 @@ abbrev pub chars_of : ℕ → List Shown → List (Option ℕ)
 chars_of wrap items = map (λ (shown : Shown). char_of wrap shown.kind) items
 
 -- the roles of all items
-abbrev pub roles_of : ℕ → List Shown → List Role
+abbrev pub roles_of : ℕ → List Shown → List BreakRole
 roles_of wrap items = map (λ (shown : Shown). role_of wrap shown.kind) items

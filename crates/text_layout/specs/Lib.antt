@@ -8,4 +8,5 @@ pub mod Limits
 pub mod Lines
 pub mod Metrics
 pub mod Scales
+pub mod Settings
 pub mod Spans

@@ -5,7 +5,7 @@ use Rattle.std.specs.List.{range_with_len}
 use Rattle.std.specs.Option.{option_map_or}
 use Rattle.line_layout.specs.Breaks.{IsItemWidth, width}
 use Rattle.override_tags.specs.declared.view.Shown.{Shown}
-use Rattle.text_layout.specs.declared.anchors.Edge.{Edge}
+use Rattle.text_layout.specs.declared.anchors.AnchorSide.{AnchorSide}
 use Rattle.text_layout.specs.declared.extents.Extent.{Extent}
 use Rattle.text_layout.specs.declared.laid.Line.{Line}
 use Rattle.text_layout.specs.declared.laid.Placed.{Placed}
@@ -67,7 +67,7 @@ abbrev pub block_height : List Extent → ℤ
 block_height lines = length_sum (heights_of lines)
 
 -- a line of this extent whose top is here, in a block of this width
-abbrev pub line_at : Edge → ℤ → Span → Extent → ℤ → Line
+abbrev pub line_at : AnchorSide → ℤ → Span → Extent → ℤ → Line
 line_at column width span extent top = record {
   first = span.first;
   last = span.last;
@@ -79,7 +79,7 @@ line_at column width span extent top = record {
 }
 
 -- the lines, one below the other
-abbrev pub lines_from : Edge → ℤ → ℤ → List Span → List Extent → List Line
+abbrev pub lines_from : AnchorSide → ℤ → ℤ → List Span → List Extent → List Line
 lines_from column width top [] extents = []
 lines_from column width top (span ∷ spans) [] = []
 lines_from column width top (span ∷ spans) (extent ∷ extents) =

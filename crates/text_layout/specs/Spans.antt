@@ -2,22 +2,22 @@
 use Rattle.std.specs.Prelude.{◌≡◌, ℕ, ◌+◌, ◌<◌, ◌≤◌, Bool, true, false, if◌then◌else◌, List, [], ◌∷◌, ◌++◌, map, length, slice_range, ℤ}
 use Rattle.line_layout.specs.Breaks.{AreFilled, IsBest}
 use Rattle.text_layout.specs.Kinds.{unwrapped}
-use Rattle.text_layout.specs.declared.kinds.Role.{Role}
-use Rattle.text_layout.specs.declared.kinds.Role.TheVariants.{Word, Space, Break}
+use Rattle.text_layout.specs.declared.kinds.BreakRole.{BreakRole}
+use Rattle.text_layout.specs.declared.kinds.BreakRole.TheVariants.{Word, Space, Break}
 use Rattle.text_layout.specs.declared.spans.Span.{Span}
 
-abbrev pub is_role : Role → Role → Bool
+abbrev pub is_role : BreakRole → BreakRole → Bool
 is_role Word Word = true
 is_role Space Space = true
 is_role Break Break = true
 is_role _ _ = false
 
 -- the places of a role, where the first of the roles has the place n
-abbrev pub places_from : Role → ℕ → List Role → List ℕ
+abbrev pub places_from : BreakRole → ℕ → List BreakRole → List ℕ
 places_from role n [] = []
 places_from role n (r ∷ roles) = if is_role r role then n ∷ places_from role (n + 1) roles else places_from role (n + 1) roles
 
-abbrev pub places_of : Role → List Role → List ℕ
+abbrev pub places_of : BreakRole → List BreakRole → List ℕ
 places_of role roles = places_from role 0 roles
 
 -- The items from `first` up to `to`, cut at the places, which are in order; what stands at a place is in no span.
@@ -26,7 +26,7 @@ spans_between first to [] = record { first = first; last = to } ∷ []
 spans_between first to (place ∷ places) = record { first = first; last = place } ∷ spans_between (place + 1) to places
 
 -- the paragraphs of a text: what stands between hard breaks
-abbrev pub paragraphs_of : List Role → List Span
+abbrev pub paragraphs_of : List BreakRole → List Span
 paragraphs_of roles = spans_between 0 (length roles) (places_of Break roles)
 
 -- The places are where a wrap style breaks a paragraph of these widths and break places.
@@ -37,14 +37,14 @@ pub record AreChosen (wrap : ℕ) (widths : List ℤ) (spaces : List ℕ) (max :
   pub least : wrap ≡ 3 → IsBest widths spaces max false places
 
 -- The spans are the lines of a paragraph, which is broken at chosen spaces.
-abbrev pub AreLinesOf : ℕ → List Role → List ℤ → ℤ → Span → List Span → Type 0
+abbrev pub AreLinesOf : ℕ → List BreakRole → List ℤ → ℤ → Span → List Span → Type 0
 AreLinesOf wrap roles advances max paragraph lines =
     (places : List ℕ)
     × AreChosen wrap (slice_range advances paragraph.first paragraph.last) (places_of Space (slice_range roles paragraph.first paragraph.last)) max places
     × (lines ≡ spans_between paragraph.first paragraph.last (map (λ place. paragraph.first + place) places))
 
 -- The spans are the lines of the paragraphs, one after another.
-abbrev pub AreLines : ℕ → List Role → List ℤ → ℤ → List Span → List Span → Type 0
+abbrev pub AreLines : ℕ → List BreakRole → List ℤ → ℤ → List Span → List Span → Type 0
 AreLines wrap roles advances max [] lines = lines ≡ []
 AreLines wrap roles advances max (paragraph ∷ paragraphs) lines =
     (front rest : List Span) × AreLinesOf wrap roles advances max paragraph front × AreLines wrap roles advances max paragraphs rest × (lines ≡ front ++ rest)

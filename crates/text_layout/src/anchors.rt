@@ -6,7 +6,8 @@ ghost use Rattle.ass_script.specs.Ranges.{IsScript, IsScriptHeader, IsStyle};
 ghost use Rattle.ass_events.specs.Ranges.{IsEvent};
 ghost use Rattle.override_tags.specs.Views.{IsHeldPlace};
 ghost use Rattle.text_layout.specs.Limits.{max_anchor, max_block_place};
-ghost use Rattle.text_layout.specs.Anchors.{IsBlockSide, IsMargins, anchor, block_corner, edge_across, edge_at, edge_within, margin_anchor, event_margin_or, margins_of, edge_down, wrapping_width};
+ghost use Rattle.text_layout.specs.Anchors.{IsBlockSide, IsMargins, anchor, block_corner, edge_across, edge_at, edge_within, margin_anchor, event_margin_or};
+ghost use Rattle.text_layout.specs.Anchors.{margins_of, edge_down, wrapping_width};
 
 use crate::scales::framed;
 use ass_events::Event;
@@ -24,7 +25,7 @@ pub struct Margins {
 
 /// Where something stands between two edges.
 #[derive(Clone, Copy, Debug, PartialEq, Eq)]
-pub(crate) enum Edge {
+pub(crate) enum AnchorSide {
     /// At the left or the upper edge.
     Near,
     Middle,
@@ -66,45 +67,45 @@ pub fn wrapping_width(header: &Header, margins: &Margins, size: &Size) -> Fix
 }
 
 /// Where an alignment puts a block across the frame (Aegisub tag reference, "\an").
-pub(crate) fn column_of(align: u8) -> Edge
+pub(crate) fn column_of(align: u8) -> AnchorSide
     ensures { result ≡ edge_across align }
 {
     match align % 3 {
-        1 => Edge::Near,
-        2 => Edge::Middle,
-        _ => Edge::Far,
+        1 => AnchorSide::Near,
+        2 => AnchorSide::Middle,
+        _ => AnchorSide::Far,
     }
 }
 
 /// Where it puts a block down the frame.
-fn row_of(align: u8) -> Edge
+fn row_of(align: u8) -> AnchorSide
     ensures { result ≡ edge_down align }
 {
     if align >= 7 {
-        Edge::Near
+        AnchorSide::Near
     } else if align >= 4 {
-        Edge::Middle
+        AnchorSide::Middle
     } else {
-        Edge::Far
+        AnchorSide::Far
     }
 }
 
 /// The place of an edge between two others.
-fn edge_at(edge: Edge, near: Fix, far: Fix) -> Fix
+fn edge_at(edge: AnchorSide, near: Fix, far: Fix) -> Fix
     requires near { IsWithin max_block_place near }
     requires far { IsWithin max_block_place far }
     ensures value { result ≡ edge_at edge near far }
     ensures within { (limit : ℕ) → IsWithin limit near → IsWithin limit far → IsWithin limit result }
 {
     match edge {
-        Edge::Near => near,
-        Edge::Middle => (near + far).div_euclid(2),
-        Edge::Far => far,
+        AnchorSide::Near => near,
+        AnchorSide::Middle => (near + far).div_euclid(2),
+        AnchorSide::Far => far,
     }
 }
 
 /// How far the edge of something of this length lies from its near end.
-pub(crate) fn edge_within(edge: Edge, length: Fix) -> Fix
+pub(crate) fn edge_within(edge: AnchorSide, length: Fix) -> Fix
     requires from_zero { pos 0 ≤ℤ length }
     requires most { length ≤ℤ pos max_block_place }
     ensures value { result ≡ edge_within edge length }

@@ -10,7 +10,8 @@ ghost use Rattle.outline_points.specs.Placing.{IsMatrix};
 ghost use Rattle.override_tags.specs.Views.{IsShownItem, IsShownKind};
 ghost use Rattle.text_layout.specs.Metrics.{HasFont, IsMetrics};
 ghost use Rattle.text_layout.specs.Limits.{max_framed};
-ghost use Rattle.text_layout.specs.Extents.{IsItemExtent, font_advance, char_advance, char_extent, drawn_extent, extent_of, item_extents, kind_extent, spacing_behind};
+ghost use Rattle.text_layout.specs.Extents.{IsItemExtent, font_advance, char_advance, char_extent, drawn_extent, extent_of, item_extents, kind_extent};
+ghost use Rattle.text_layout.specs.Extents.{spacing_behind};
 
 use crate::clusters::cluster_ends;
 use crate::kinds::char_of;

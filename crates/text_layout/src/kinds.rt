@@ -7,7 +7,7 @@ use override_tags::{Shown, ShownKind};
 
 /// What an item is for the breaks of lines.
 #[derive(Clone, Copy, Debug, PartialEq, Eq)]
-pub(crate) enum Role {
+pub(crate) enum BreakRole {
     /// A drawing, or a character at which no line is broken.
     Word,
     /// A space, at which a line may be broken.
@@ -29,15 +29,15 @@ pub fn char_of(shown: &Shown, wrap: u8) -> Option<char>
 }
 
 /// What an item is for the breaks of lines.
-pub(crate) fn role_of(shown: &Shown, wrap: u8) -> Role
+pub(crate) fn role_of(shown: &Shown, wrap: u8) -> BreakRole
     ensures { result ≡ role_of wrap shown.now.kind }
 {
     match &shown.kind {
-        ShownKind::Char(' ') => Role::Space,
-        ShownKind::Char(_) => Role::Word,
-        ShownKind::Drawing(_) => Role::Word,
-        ShownKind::Hard => Role::Break,
-        ShownKind::Soft if wrap == 2 => Role::Break,
-        ShownKind::Soft => Role::Space,
+        ShownKind::Char(' ') => BreakRole::Space,
+        ShownKind::Char(_) => BreakRole::Word,
+        ShownKind::Drawing(_) => BreakRole::Word,
+        ShownKind::Hard => BreakRole::Break,
+        ShownKind::Soft if wrap == 2 => BreakRole::Break,
+        ShownKind::Soft => BreakRole::Space,
     }
 }

@@ -11,5 +11,6 @@ ghost use Rattle.text_layout.specs.Layouts.{IsLaid};
 
 /// What an event shows has one layout at most.
 pub fn one_layout()
-    ensures { (script : ScriptValue) (fonts : List FontValue) (event : Event) (view : EventView) (size : Size) (laid other : Laid) → view.wrap ≤ 3 → IsLaid script fonts event view size laid → IsLaid script fonts event view size other → laid ≡ other }
+    ensures { (script : ScriptValue) (fonts : List FontValue) (event : Event) (view : EventView) (size : Size) (laid other : Laid) → view.wrap ≤ 3
+        → IsLaid script fonts event view size laid → IsLaid script fonts event view size other → laid ≡ other }
 {}

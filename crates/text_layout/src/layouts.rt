@@ -1,15 +1,14 @@
 //! The layout of what an event shows.
 
 ghost use Rattle.std.specs.Prelude.{◌≡◌, ◌+◌, ◌≤◌, ◌<◌, length, All, IfOk};
-ghost use Rattle.ass_num.specs.Limits.{IsFrameSize, max_text_bytes};
-ghost use Rattle.ass_script.specs.Ranges.{IsScript};
+ghost use Rattle.ass_num.specs.Limits.{max_text_bytes};
 ghost use Rattle.ass_events.specs.Ranges.{IsEvent};
 ghost use Rattle.override_tags.specs.Views.{IsShownItem, IsView};
 ghost use Rattle.text_layout.specs.Extents.{IsItemExtent};
 ghost use Rattle.text_layout.specs.Metrics.{IsMetrics};
-ghost use Rattle.text_layout.specs.Fonts.{IsLayoutFontSet};
 ghost use Rattle.text_layout.specs.Layouts.{IsLaid, IsWithinBlock, laid_out};
 ghost use Rattle.text_layout.specs.Lines.{advances_of};
+ghost use Rattle.text_layout.specs.Settings.{IsSetting};
 ghost use Rattle.text_layout.specs.Spans.{AreSpans};
 
 use crate::anchors::{column_of, margins_of, wrapping_width};
@@ -17,11 +16,10 @@ use crate::extents::{Extent, item_extents};
 use crate::laid::Laid;
 use crate::lines::{block_height, block_width, line_extents, lines_of, placed_items};
 use crate::metrics::{Metrics, all_metrics};
+use crate::setting::Setting;
 use crate::spans::{Span, line_spans};
 use ass_events::Event;
-use ass_num::{Fix, Mem, Size};
-use ass_script::Script;
-use bdf_font::FontSet;
+use ass_num::{Fix, Mem};
 use override_tags::EventView;
 use std::alloc::Global;
 
@@ -68,28 +66,19 @@ fn laid_out(
 }
 
 /// Lays out what an event shows: its characters and drawings in lines, and the lines in a block.
-pub fn layout(
-    alloc: Global,
-    script: &Script,
-    fonts: &FontSet,
-    event: &Event,
-    view: &EventView,
-    size: &Size,
-) -> Mem<Laid>
-    requires script { IsScript script.now }
-    requires fonts { IsLayoutFontSet fonts.now.fonts }
+pub fn layout(alloc: Global, setting: &Setting<'_>, event: &Event, view: &EventView) -> Mem<Laid>
+    requires setting { IsSetting setting.now }
     requires event { IsEvent event.now }
     requires view { IsView view.now }
-    requires size { IsFrameSize size.now }
-    ensures laid { IfOk result (IsLaid script.now fonts.now.fonts event.now view.now size.now) }
+    ensures laid { IfOk result (IsLaid setting.now.script setting.now.fonts event.now view.now setting.now.size) }
     ensures within { IfOk result (IsWithinBlock (length view.now.items)) }
 {
-    let header = script.header();
+    let header = setting.script.header();
     let items = view.items.as_slice();
-    let metrics = all_metrics(alloc, &header, fonts, view, size)?;
-    let extents = item_extents(alloc, fonts, metrics.as_slice(), view.wrap, items)?;
+    let metrics = all_metrics(alloc, &header, setting.fonts, view, &setting.size)?;
+    let extents = item_extents(alloc, setting.fonts, metrics.as_slice(), view.wrap, items)?;
     let advances = advances_of(alloc, extents.as_slice())?;
-    let max = wrapping_width(&header, &margins_of(script, event), size);
+    let max = wrapping_width(&header, &margins_of(setting.script, event), &setting.size);
     let spans = line_spans(alloc, items, view.wrap, advances.as_slice(), max)?;
     laid_out(
         alloc,

@@ -11,6 +11,7 @@ mod layouts;
 mod lines;
 mod metrics;
 mod scales;
+mod setting;
 mod spans;
 
 pub use anchors::{Margins, anchor, block_corner, margins_of, wrapping_width};
@@ -23,4 +24,5 @@ pub use laws::one_layout;
 pub use layouts::layout;
 pub use metrics::{Metrics, all_metrics};
 pub use scales::{clip_matrix, drawing_matrix, framed, text_matrix};
+pub use setting::Setting;
 pub use spans::{Span, line_spans};

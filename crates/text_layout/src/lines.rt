@@ -7,10 +7,11 @@ ghost use Rattle.text_layout.specs.Limits.{max_block, max_block_lines, max_line}
 ghost use Rattle.text_layout.specs.Anchors.{IsBlockSide};
 ghost use Rattle.text_layout.specs.Extents.{IsItemExtent};
 ghost use Rattle.text_layout.specs.Metrics.{IsMetrics};
-ghost use Rattle.text_layout.specs.Lines.{IsLineExtent, IsLineWithin, advances_of, blank_extent, block_height, block_width, joined_extent, line_at, line_extent, line_extents, lines_from, placed_from, placed_in};
+ghost use Rattle.text_layout.specs.Lines.{IsLineExtent, IsLineWithin, advances_of, blank_extent, block_height, block_width, joined_extent, line_at};
+ghost use Rattle.text_layout.specs.Lines.{line_extent, line_extents, lines_from, placed_from, placed_in};
 ghost use Rattle.text_layout.specs.Spans.{AreSpans, IsSpanWithin};
 
-use crate::anchors::{Edge, edge_within};
+use crate::anchors::{AnchorSide, edge_within};
 use crate::extents::Extent;
 use crate::laid::{Line, Placed};
 use crate::metrics::Metrics;
@@ -132,7 +133,7 @@ pub(crate) fn block_height(extents: &[Extent]) -> Fix
 }
 
 /// A line whose top is here, in a block of this width.
-fn line_at(span: Span, extent: &Extent, top: Fix, column: Edge, width: Fix) -> Line
+fn line_at(span: Span, extent: &Extent, top: Fix, column: AnchorSide, width: Fix) -> Line
     requires extent { IsLineExtent extent.now }
     requires top { IsBlockSide top }
     requires width { width ≤ℤ pos max_line }
@@ -155,7 +156,7 @@ pub(crate) fn lines_of(
     alloc: Global,
     spans: &[Span],
     extents: &[Extent],
-    column: Edge,
+    column: AnchorSide,
     width: Fix,
 ) -> Mem<Items<Line>>
     requires few { length spans.now ≤ max_block_lines }

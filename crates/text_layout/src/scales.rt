@@ -8,7 +8,8 @@ ghost use Rattle.bdf_font.specs.Ranges.{IsFont};
 ghost use Rattle.outline_points.specs.Placing.{IsMatrix, IsScale};
 ghost use Rattle.override_tags.specs.Limits.{max_tag_scale};
 ghost use Rattle.text_layout.specs.Limits.{max_dividend, max_em, max_factor, max_framed, max_level_parts, max_script_length};
-ghost use Rattle.text_layout.specs.Scales.{clip_matrix, drawing_matrix, drawing_scale, em_height, fine_parts, framed, held_scale, level_parts, text_matrix, text_scale, turn_of};
+ghost use Rattle.text_layout.specs.Scales.{clip_matrix, drawing_matrix, drawing_scale, em_height, fine_parts, framed, held_scale, level_parts, text_matrix};
+ghost use Rattle.text_layout.specs.Scales.{text_scale, turn_of};
 
 use ass_num::{Fix, Matrix, Milli, Size, div_floor, hold};
 use ass_script::Header;

@@ -7,7 +7,7 @@ ghost use Rattle.text_layout.specs.declared.spans.Span.{Span};
 ghost use Rattle.text_layout.specs.Kinds.{roles_of};
 ghost use Rattle.text_layout.specs.Spans.{ArePlacesInOrder, AreLines, AreLinesOf, AreSpans, paragraphs_of, places_of, spans_between};
 
-use crate::kinds::{Role, role_of};
+use crate::kinds::{BreakRole, role_of};
 use ass_num::{Fix, Mem};
 use line_layout::choose_breaks;
 use override_tags::Shown;
@@ -21,7 +21,7 @@ pub struct Span {
 }
 
 /// The places of the items that have a role.
-fn places_of(alloc: Global, items: &[Shown], wrap: u8, role: Role) -> Mem<Vec<usize>>
+fn places_of(alloc: Global, items: &[Shown], wrap: u8, role: BreakRole) -> Mem<Vec<usize>>
     ensures value { IfOk result (λ places. places.items ≡ places_of role (roles_of wrap items.now)) }
     ensures order { IfOk result (λ places. ArePlacesInOrder 0 (length items.now) places.items) }
 {
@@ -57,7 +57,7 @@ fn paragraphs(alloc: Global, items: &[Shown], wrap: u8) -> Mem<Vec<Span>>
     ensures value { IfOk result (λ spans. spans.items ≡ paragraphs_of (roles_of wrap items.now)) }
     ensures order { IfOk result (λ spans. AreSpans 0 (length items.now + 1) spans.items) }
 {
-    let breaks = places_of(alloc, items, wrap, Role::Break)?;
+    let breaks = places_of(alloc, items, wrap, BreakRole::Break)?;
     let mut paragraphs = Vec::with_capacity(alloc, breaks.len() + 1)?;
     add_spans(0, items.len(), breaks.as_slice(), &mut paragraphs)?;
     Ok(paragraphs)
@@ -84,7 +84,7 @@ fn add_lines(
 {
     let shown = &items[paragraph.first..paragraph.last];
     let widths = &advances[paragraph.first..paragraph.last];
-    let spaces = places_of(alloc, shown, wrap, Role::Space)?;
+    let spaces = places_of(alloc, shown, wrap, BreakRole::Space)?;
     let chosen = choose_breaks(alloc, widths, spaces.as_slice(), max, wrap)?;
     add_spans(paragraph.first, paragraph.last, chosen.as_slice(), lines)?;
     Ok(())

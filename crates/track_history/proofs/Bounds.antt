@@ -3,17 +3,17 @@ use Rattle.std.proofs.Common.{◌≡◌, ℕ, ◌<◌, ◌≤◌, ◌+◌, ◌-�
 use Rattle.std.specs.List.{All, insert}
 use Rattle.std.proofs.lemmas.Int.{ints}
 use Rattle.std.proofs.lemmas.List.Edits.{length-insert}
-use Rattle.std.proofs.lemmas.List.{drop_more, drop_all, take_more}
+use Rattle.std.proofs.lemmas.List.{drop_all, take_more}
 use Rattle.std.proofs.lemmas.List.Elements.{All-nil, All-cons, All-append, All-take, All-drop, All-weaker, All-get_or}
-use Rattle.track_history.specs.declared.spans.LiveSpan.{LiveSpan}
+use Rattle.near_events.specs.declared.spans.EventSpan.{EventSpan}
 use Rattle.track_history.specs.declared.blocks.Block.{Block}
 use Rattle.track_history.specs.Blocks.{IsSpanBlock, IsNearIndex, spans_of}
-use Rattle.track_history.specs.Walks.{WalkValue, first_walk, stepped, walked_spans}
-use Rattle.track_history.proofs.Nears.{walked-append, walked_ended, walked_late, least_low}
+use Rattle.near_events.specs.Walks.{WalkValue, first_walk, walked_spans}
+use Rattle.near_events.proofs.Nears.{walked-append, walked_ended, walked_late, least_low}
 use Rattle.track_history.proofs.Indexes.{spans_from}
 
 -- no span begins before `first` or ends after `last`
-pub record AreWithin (low high : ℤ) (spans : List LiveSpan) : Type 0 where
+pub record AreWithin (low high : ℤ) (spans : List EventSpan) : Type 0 where
   pub first : All (λ s. low ≤ℤ s.start) spans
   pub last : All (λ s. s.end ≤ℤ high) spans
 
@@ -21,26 +21,26 @@ pub none_within : (first last : ℤ) → AreWithin first last []
 none_within first last = record { first = All-nil (λ s. first ≤ℤ s.start); last = All-nil (λ s. s.end ≤ℤ last) }
 
 -- wider bounds, and one span more
-widened : (a b c d : ℤ) (xs : List LiveSpan) → c ≤ℤ a → b ≤ℤ d → AreWithin a b xs → AreWithin c d xs
+widened : (a b c d : ℤ) (xs : List EventSpan) → c ≤ℤ a → b ≤ℤ d → AreWithin a b xs → AreWithin c d xs
 widened a b c d xs low high h = record {
   first = All-weaker (λ s. a ≤ℤ s.start) (λ s. c ≤ℤ s.start) (λ s g. omega (arith, ints, low, g)) xs h.first;
   last = All-weaker (λ s. s.end ≤ℤ b) (λ s. s.end ≤ℤ d) (λ s g. omega (arith, ints, high, g)) xs h.last;
 }
 
-joined : (a b : ℤ) (xs ys : List LiveSpan) → AreWithin a b xs → AreWithin a b ys → AreWithin a b (xs ++ ys)
+joined : (a b : ℤ) (xs ys : List EventSpan) → AreWithin a b xs → AreWithin a b ys → AreWithin a b (xs ++ ys)
 joined a b xs ys p q = record { first = All-append (λ s. a ≤ℤ s.start) xs ys p.first q.first; last = All-append (λ s. s.end ≤ℤ b) xs ys p.last q.last }
 
-one_within : (a b : ℤ) (s : LiveSpan) → a ≤ℤ s.start → s.end ≤ℤ b → AreWithin a b (s ∷ [])
+one_within : (a b : ℤ) (s : EventSpan) → a ≤ℤ s.start → s.end ≤ℤ b → AreWithin a b (s ∷ [])
 one_within a b s low high = record { first = All-cons (λ s. a ≤ℤ s.start) s [] low (All-nil (λ s. a ≤ℤ s.start)); last = All-cons (λ s. s.end ≤ℤ b) s [] high (All-nil (λ s. s.end ≤ℤ b)) }
 
 -- c is at most a and the span's start, and d at least b and its end
-pub more_within : (a b c d : ℤ) (xs : List LiveSpan) (i : ℕ) (s : LiveSpan) → AreWithin a b (take i xs) → i < length xs → s ≡ get_or xs i s → c ≤ℤ a → c ≤ℤ s.start → b ≤ℤ d → s.end ≤ℤ d
+pub more_within : (a b c d : ℤ) (xs : List EventSpan) (i : ℕ) (s : EventSpan) → AreWithin a b (take i xs) → i < length xs → s ≡ get_or xs i s → c ≤ℤ a → c ≤ℤ s.start → b ≤ℤ d → s.end ≤ℤ d
     → AreWithin c d (take (i + 1) xs)
 more_within a b c d xs i s h lt is low start high end =
     subst (AreWithin c d) (sym (take_more xs i s lt ∙ ap (λ z. take i xs ++ z ∷ []) (sym is)))
     (joined c d (take i xs) (s ∷ []) (widened a b c d (take i xs) low high h) (one_within c d s start end))
 
-insert_within : (a b c d : ℤ) (xs : List LiveSpan) (i : ℕ) (s : LiveSpan) → AreWithin a b xs → c ≤ℤ a → c ≤ℤ s.start → b ≤ℤ d → s.end ≤ℤ d → AreWithin c d (insert xs i s)
+insert_within : (a b c d : ℤ) (xs : List EventSpan) (i : ℕ) (s : EventSpan) → AreWithin a b xs → c ≤ℤ a → c ≤ℤ s.start → b ≤ℤ d → s.end ≤ℤ d → AreWithin c d (insert xs i s)
 insert_within a b c d xs i s h low start high end =
     let front : AreWithin a b (take i xs) = record { first = All-take (λ s. a ≤ℤ s.start) i xs h.first; last = All-take (λ s. s.end ≤ℤ b) i xs h.last } in
     let back : AreWithin a b (drop i xs) = record { first = All-drop (λ s. a ≤ℤ s.start) i xs h.first; last = All-drop (λ s. s.end ≤ℤ b) i xs h.last } in
@@ -49,7 +49,7 @@ insert_within a b c d xs i s h low start high end =
 pub block_of_spans : (block : Block) → 0 < length block.spans.items → AreWithin block.first block.last block.spans.items → IsSpanBlock block
 block_of_spans block some within = record { some = some; first = within.first; last = within.last }
 
-pub block_inserted : (old new : Block) (i : ℕ) (s : LiveSpan) → IsSpanBlock old → i ≤ length old.spans.items → new.spans.items ≡ insert old.spans.items i s
+pub block_inserted : (old new : Block) (i : ℕ) (s : EventSpan) → IsSpanBlock old → i ≤ length old.spans.items → new.spans.items ≡ insert old.spans.items i s
     → new.first ≤ℤ old.first → new.first ≤ℤ s.start → old.last ≤ℤ new.last → s.end ≤ℤ new.last → IsSpanBlock new
 block_inserted old new i s block le items low start high end =
     let count = length-insert old.spans.items i s le in
@@ -57,23 +57,7 @@ block_inserted old new i s block le items low start high end =
     block_of_spans new (omega (arith, count, long))
     (subst (AreWithin new.first new.last) (sym items) (insert_within old.first old.last new.first new.last old.spans.items i s (record { first = block.first; last = block.last }) low start high end))
 
--- a walk that has come down to this place
-pub record IsWalked (t : ℤ) (w : WalkValue) (xs : List LiveSpan) (rest : ℕ) (now : WalkValue) : Type 0 where
-  pub within : rest ≤ length xs
-  pub is : now ≡ walked_spans t w (drop rest xs)
-
-pub walk_begun : (t : ℤ) (w : WalkValue) (xs : List LiveSpan) (n : ℕ) → n ≡ length xs → IsWalked t w xs n w
-walk_begun t w xs n is = record { within = omega (arith, is); is = sym (ap (walked_spans t w) (drop_all n xs (omega (arith, is)))) }
-
-pub walk_more : (t : ℤ) (w : WalkValue) (xs : List LiveSpan) (rest : ℕ) (now next : WalkValue) (s : LiveSpan) → IsWalked t w xs rest now → 0 < rest → s ≡ get_or xs (rest - 1) s → next ≡ stepped t now s
-    → IsWalked t w xs (rest - 1) next
-walk_more t w xs rest now next s h some is step =
-    let within = h.within in
-    let back : (rest - 1) + 1 ≡ rest = omega (arith, some) in
-    let cut : drop (rest - 1) xs ≡ s ∷ drop rest xs = drop_more xs (rest - 1) s (omega (arith, some, within)) ∙ (ap (λ z. z ∷ drop ((rest - 1) + 1) xs) (sym is) ∙ ap (λ n. s ∷ drop n xs) back) in
-    record { within = omega (arith, within); is = step ∙ (ap (λ v. stepped t v s) h.is ∙ sym (ap (walked_spans t w) cut)) }
-
--- the same over blocks, from the first walk
+-- the first walk, which has come down to this block
 pub record AreWalked (t : ℤ) (blocks : List Block) (rest : ℕ) (now : WalkValue) : Type 0 where
   pub within : rest ≤ length blocks
   pub is : now ≡ walked_spans t (first_walk t) (spans_of (drop rest blocks))

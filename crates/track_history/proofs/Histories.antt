@@ -14,7 +14,7 @@ use Rattle.track_history.specs.declared.live_events.LiveEvents.{LiveEvents}
 use Rattle.track_history.specs.ShortEvents.{IsShortEvent, IsShortEntry, HaveShortEvents}
 use Rattle.track_history.specs.Answers.{answer_by, extended, fed_entry, feed_answer, flush_answer, flushed_entry, position_of}
 use Rattle.track_history.specs.Tellings.{Tells, events_of}
-use Rattle.track_history.proofs.Pairs.{Pairwise-push}
+use Rattle.near_events.proofs.Pairs.{Pairwise-push}
 use Rattle.track_history.proofs.Places.{position_absent}
 
 module _ {X : Type 0} where
@@ -30,7 +30,7 @@ module _ {X : Type 0} where
       let whole : f ∷ (fs ++ rest) ≡ y ∷ (ys ++ x ∷ []) = e in let head : f ≡ y = cc in let tail : fs ++ rest ≡ ys ++ x ∷ [] = cc in
       ⊎_elim (λ p. inl (p.0, λ i. head i ∷ p.1 i)) (λ q. inr (λ i. head i ∷ q i)) (front_cases fs rest ys x tail)
 
-live_after-append : (events : List Event) (xs ys : List Entry) → live_after events (xs ++ ys) ≡ live_after (live_after events xs) ys
+pub live_after-append : (events : List Event) (xs ys : List Entry) → live_after events (xs ++ ys) ≡ live_after (live_after events xs) ys
 live_after-append events [] ys = refl
 live_after-append events (Chunk e ∷ xs) ys = live_after-append (events ++ e ∷ []) xs ys
 live_after-append events (Flush ∷ xs) ys = live_after-append [] xs ys
@@ -41,7 +41,7 @@ live-chunk xs e = live_after-append [] xs (Chunk e ∷ [])
 pub live-flush : (xs : List Entry) → live (xs ++ Flush ∷ []) ≡ []
 live-flush xs = live_after-append [] xs (Flush ∷ [])
 
-flushes_of-append : (xs ys : List Entry) → flushes_of (xs ++ ys) ≡ flushes_of xs + flushes_of ys
+pub flushes_of-append : (xs ys : List Entry) → flushes_of (xs ++ ys) ≡ flushes_of xs + flushes_of ys
 flushes_of-append [] ys = omega arith
 flushes_of-append (Chunk e ∷ xs) ys = flushes_of-append xs ys
 flushes_of-append (Flush ∷ xs) ys = let h = flushes_of-append xs ys in omega arith

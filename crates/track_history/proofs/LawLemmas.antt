@@ -21,9 +21,9 @@ use Rattle.track_history.specs.ShortEvents.{IsShortEvent, HaveShortEvents}
 use Rattle.track_history.specs.Answers.{chunk_entry, entry_of, fed_entry}
 use Rattle.track_history.specs.Calls.{IsFed, IsFedBy, IsTriedLook, IsTurn, TrackView}
 use Rattle.track_history.proofs.Histories.{live_short}
-use Rattle.track_history.proofs.Pairs.{Contains-nil, Contains-head, Contains-tail, Contains-cons_cases, Pairwise-weaker}
-use Rattle.track_history.proofs.Places.{near_there}
-use Rattle.track_history.proofs.Orders.{not_both_earlier}
+use Rattle.near_events.proofs.Pairs.{Contains-nil, Contains-head, Contains-tail, Contains-cons_cases, Pairwise-weaker}
+use Rattle.near_events.proofs.NearSpans.{near_there}
+use Rattle.near_events.proofs.Orders.{not_both_earlier}
 
 -- ---- calls
 given_list : (given : Option TrackEntry) → map entry_of (entry_list given) ≡ option_to_list (option_map entry_of given)
@@ -42,16 +42,16 @@ by_event (Ok event) pass later answer h =
     ⊎_elim (λ none. ([], ap (λ a. option_to_list (fed_entry event a)) (sym none.0), same_follows pass later none.1)) (λ turn. turn_follows pass later (fed_entry event answer) turn.turn) h
 by_event (Err refusal) pass later answer h = ([], refl, same_follows pass later h.0)
 
-none_given : (given : Option TrackEntry) → option_map entry_of given ≡ None → given ≡ None
+pub none_given : (given : Option TrackEntry) → option_map entry_of given ≡ None → given ≡ None
 none_given None e = refl
 none_given (Some x) e = let some : Some (entry_of x) ≡ None = e in absurd (cc)
 
-turn_alone : (pass later : TrackView) → IsTurn pass later None → Follows pass later []
+pub turn_alone : (pass later : TrackView) → IsTurn pass later None → Follows pass later []
 turn_alone pass later h = subst (λ (given : Option TrackEntry). Follows pass later (entry_list given)) (none_given h.given h.is_entry) h.turn.follows
 
 pub tried_follows : (pass later : TrackView) (t : ℤ) (answer : Result Scene LookRefusal) → IsTriedLook pass t later answer → Follows pass later []
 tried_follows pass later t (Ok scene) h = turn_alone pass later h.0
-tried_follows pass later t (Err (look.TurnOut word)) h = Follows_tries pass later (pass.lost + 1) (omega arith) h.1
+tried_follows pass later t (Err look.TurnOut) h = Follows_tries pass later (pass.lost + 1) (omega arith) h
 tried_follows pass later t (Err look.OutOfMemory) h = turn_alone pass later h
 
 pub fed_gives : (bytes : List ℕ) (start duration : ℤ) (pass later : TrackView) (answer : Feed) → IsFed bytes start duration pass later answer

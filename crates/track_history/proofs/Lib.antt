@@ -1,7 +1,4 @@
-pub mod Pairs
-pub mod Orders
-pub mod Nears
-pub mod Sorts
+pub mod FoundSpans
 pub mod Indexes
 pub mod Bounds
 pub mod Places
@@ -10,3 +7,4 @@ pub mod Histories
 pub mod Repeats
 pub mod Turns
 pub mod LawLemmas
+pub mod LocalTrackLemmas

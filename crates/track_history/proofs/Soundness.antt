@@ -9,14 +9,15 @@ use Rattle.std.proofs.lemmas.Bool.Decides.{nat_tests}
 use Rattle.std.proofs.lemmas.List.{length_push}
 use Rattle.ass_events.specs.declared.event.Event.{Event}
 use Rattle.ass_events.specs.Histories.{max_live, max_flushes}
-use Rattle.track_history.specs.declared.spans.LiveSpan.{LiveSpan}
+use Rattle.near_events.specs.declared.spans.EventSpan.{EventSpan}
 use Rattle.track_history.specs.declared.live_events.LiveEvents.{LiveEvents}
-use Rattle.track_history.specs.Spans.{live_span}
+use Rattle.near_events.specs.Spans.{event_span}
 use Rattle.track_history.specs.Blocks.{IsNearIndex, IsInserted, spans_of}
 use Rattle.track_history.specs.Answers.{position_of}
 use Rattle.track_history.specs.Tellings.{IsSound, events_of}
 use Rattle.track_history.proofs.Indexes.{no_index}
-use Rattle.track_history.proofs.Places.{HaveSpans, position_of_new, position_of_other, spans_pushed, no_spans}
+use Rattle.near_events.proofs.NearSpans.{HaveSpans}
+use Rattle.track_history.proofs.Places.{position_of_new, position_of_other, spans_pushed, no_spans}
 
 -- ---- the map of places
 abbrev pub ArePlaces : BTreeMap ℕ ℕ → List Event → Type 0
@@ -77,8 +78,8 @@ sound_kept old new sound events index spans places entries flushes =
       bounded = subst (λ f. new.entries ≤ f * (max_live + 1) + length (events_of new)) (sym flushes) (omega (arith, same, entries, bounded));
     }
 
-pub sound_accepted : (old new : LiveEvents) (e : Event) (x : LiveSpan) → IsSound old → length (events_of old) < max_live → events_of new ≡ events_of old ++ e ∷ [] → IsNearIndex new.index.blocks.items
-    → IsInserted (spans_of old.index.blocks.items) x (spans_of new.index.blocks.items) → x ≡ live_span e (length (events_of old)) → ArePlaces new.places (events_of old ++ e ∷ [])
+pub sound_accepted : (old new : LiveEvents) (e : Event) (x : EventSpan) → IsSound old → length (events_of old) < max_live → events_of new ≡ events_of old ++ e ∷ [] → IsNearIndex new.index.blocks.items
+    → IsInserted (spans_of old.index.blocks.items) x (spans_of new.index.blocks.items) → x ≡ event_span e (length (events_of old)) → ArePlaces new.places (events_of old ++ e ∷ [])
     → new.entries ≡ old.entries + 1 → new.flushes ≡ old.flushes → IsSound new
 sound_accepted old new e x sound room events index put is places entries flushes =
     let more : length (events_of new) ≡ length (events_of old) + 1 = ap length events ∙ length_push (events_of old) e in

@@ -7,6 +7,7 @@ use Rattle.ass_events.specs.declared.event.ChunkRefusal.{ChunkRefusal}
 use Rattle.ass_events.specs.declared.event.ChunkRefusal.TheVariants as refusal
 use Rattle.ass_events.specs.Histories.{Entry, Chunk, Flush, max_live, max_flushes, live, flushes_of}
 use Rattle.ass_events.specs.NearEvents.{AreNear, span_of}
+use Rattle.near_events.specs.Spans.{AreNearSpans}
 use Rattle.track_history.specs.declared.answers.TrackEntry.{TrackEntry}
 use Rattle.track_history.specs.declared.answers.TrackEntry.TheVariants as given
 use Rattle.track_history.specs.declared.answers.Feed.{Feed}
@@ -73,9 +74,10 @@ abbrev pub flushed_entry : Flushed → Option Entry
 flushed_entry (Done place) = Some Flush
 flushed_entry (TooMany most) = None
 
--- The scene has the length of the history, and of its live events those that matter at t. Each is a short one.
+-- The scene has the length of the history, and of its live events those that matter at t, with their spans. Each is a short one.
 pub record IsSceneOf (history : List Entry) (t : ℤ) (scene : Scene) : Type 0 where
   pub n : scene.n ≡ length history
   pub instant : scene.t ≡ t
   pub events : AreNear span_of (live history) t (map arc_value scene.events)
+  pub spans : AreNearSpans (map arc_value scene.events) t scene.spans
   pub short : All IsShortEvent (map arc_value scene.events)

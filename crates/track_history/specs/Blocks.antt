@@ -2,9 +2,9 @@
 use Rattle.std.specs.Prelude.{◌≡◌, ◌≢◌, ◌<◌, ◌≤ℤ◌, List, ◌∷◌, ◌++◌, length, All}
 use Rattle.std.specs.List.{flat_map}
 use Rattle.ass_events.specs.Histories.{Pairwise}
-use Rattle.track_history.specs.declared.spans.LiveSpan.{LiveSpan}
+use Rattle.near_events.specs.declared.spans.EventSpan.{EventSpan}
 use Rattle.track_history.specs.declared.blocks.Block.{Block}
-use Rattle.track_history.specs.Spans.{StandsBefore}
+use Rattle.near_events.specs.Spans.{StandsBefore}
 
 -- a block has a span, and none begins before `first` or ends after `last`
 pub record IsSpanBlock (block : Block) : Type 0 where
@@ -13,7 +13,7 @@ pub record IsSpanBlock (block : Block) : Type 0 where
   pub last : All (λ s. s.end ≤ℤ block.last) block.spans.items
 
 -- all spans, in the order of the blocks
-abbrev pub spans_of : List Block → List LiveSpan
+abbrev pub spans_of : List Block → List EventSpan
 spans_of blocks = flat_map (λ block. block.spans.items) blocks
 
 -- the blocks are filled, and all spans are in order and have different ReadOrders
@@ -23,8 +23,8 @@ pub record IsNearIndex (all : List Block) : Type 0 where
   pub orders : Pairwise (λ a b. a.order ≢ b.order) (spans_of all)
 
 -- the span was put in somewhere
-pub record IsInserted (old : List LiveSpan) (span : LiveSpan) (new : List LiveSpan) : Type 0 where
-  pub front : List LiveSpan
-  pub back : List LiveSpan
+pub record IsInserted (old : List EventSpan) (span : EventSpan) (new : List EventSpan) : Type 0 where
+  pub front : List EventSpan
+  pub back : List EventSpan
   pub was : old ≡ front ++ back
   pub is : new ≡ front ++ span ∷ back

@@ -40,7 +40,7 @@ pub record IsTurn (pass after : TrackView) (entry : Option Entry) : Type 0 where
   pub legal : IsHistory (history_of after.seen)
   pub short : HaveShortEvents (history_of after.seen)
 
--- The event was offered at a turn, which found `turn.turn.list`. Where memory was wanting before it, no turn was taken.
+-- The event was offered at a turn, which found `turn.turn.list`. Where memory ran out before it, no turn was taken.
 pub record IsOffered (event : Event) (pass after : TrackView) (answer : Feed) : Type 0 where
   pub turn : IsTurn pass after (fed_entry event answer)
   pub answered : IsFeedAnswer (history_of turn.turn.list) event answer
@@ -62,8 +62,8 @@ pub record IsFlushed (pass after : TrackView) (answer : Flushed) : Type 0 where
   pub answered : answer ≡ flush_answer (history_of turn.turn.list)
   pub history : history_of after.seen ≡ rule.flushed (history_of turn.turn.list)
 
--- A try took the turn and gave it back, or it lost, and the word that it read says that the turn is out.
+-- A try took the turn and gave it back, or it was lost, since the turn is out.
 abbrev pub IsTriedLook : TrackView → ℤ → TrackView → Result Scene LookRefusal → Type 0
 IsTriedLook pass t after (Ok scene) = IsTurn pass after None × IsSceneOf (history_of after.seen) t scene
-IsTriedLook pass t after (Err (look.TurnOut word)) = (word ≡ 1) × (after ≡ record pass { lost = pass.lost + 1 })
+IsTriedLook pass t after (Err look.TurnOut) = after ≡ record pass { lost = pass.lost + 1 }
 IsTriedLook pass t after (Err look.OutOfMemory) = IsTurn pass after None

@@ -1,7 +1,7 @@
-pub mod Spans
 pub mod Blocks
-pub mod Walks
 pub mod ShortEvents
 pub mod Answers
 pub mod Tellings
 pub mod Calls
+pub mod LocalFeeding
+pub mod LocalTracks

@@ -5,9 +5,9 @@ use Rattle.std.specs.Ordering.{nat_cmp}
 use Rattle.std.specs.BTreeMap.{get}
 use Rattle.ass_events.specs.declared.event.Event.{Event}
 use Rattle.ass_events.specs.Histories.{Entry, IsHistory, max_live, max_flushes, live, flushes_of}
-use Rattle.track_history.specs.declared.spans.LiveSpan.{LiveSpan}
+use Rattle.near_events.specs.declared.spans.EventSpan.{EventSpan}
 use Rattle.track_history.specs.declared.live_events.LiveEvents.{LiveEvents}
-use Rattle.track_history.specs.Spans.{IsSpanOf}
+use Rattle.near_events.specs.Spans.{IsSpanOf}
 use Rattle.track_history.specs.Blocks.{IsNearIndex, spans_of}
 use Rattle.track_history.specs.ShortEvents.{HaveShortEvents}
 use Rattle.track_history.specs.Answers.{position_of}
@@ -19,7 +19,7 @@ events_of kept = map arc_value kept.events.items
 -- What is kept beside the live events fits them: the index has just their spans, and the map their places; and the counts fit.
 pub record IsSound (kept : LiveEvents) : Type 0 where
   pub index : IsNearIndex kept.index.blocks.items
-  pub spans : (s : LiveSpan) → Contains (spans_of kept.index.blocks.items) s ↔ IsSpanOf (events_of kept) s
+  pub spans : (s : EventSpan) → Contains (spans_of kept.index.blocks.items) s ↔ IsSpanOf (events_of kept) s
   pub places : (order : ℕ) → get nat_cmp kept.places order ≡ position_of order (events_of kept)
   pub few : length (events_of kept) ≤ max_live
   pub few_flushes : kept.flushes ≤ max_flushes

@@ -67,7 +67,7 @@ impl Flushed {
 /// Why a try to look has no scene.
 #[derive(Clone, Copy, Debug, PartialEq, Eq)]
 pub enum LookRefusal {
-    /// Another pass has the turn: the word that says so.
-    TurnOut(u64),
+    /// Another pass has the turn.
+    TurnOut,
     OutOfMemory,
 }

@@ -3,13 +3,11 @@
 ghost use Rattle.std.specs.Prelude.{◌≡◌, ◌≢◌, ◌<◌, ◌≤◌, ◌≤ℤ◌, ◌∷◌, [], ◌++◌, All, IfOk, OnOk, OnErr, length, take, drop, slice_index_or};
 ghost use Rattle.std.specs.List.{insert};
 ghost use Rattle.ass_events.specs.Histories.{Pairwise};
-ghost use Rattle.track_history.specs.Spans.{StandsBefore};
+ghost use Rattle.near_events.specs.Spans.{StandsBefore};
 ghost use Rattle.track_history.specs.Blocks.{IsSpanBlock};
-ghost use Rattle.track_history.specs.Walks.{walk_of, walked_spans};
 
-use crate::spans::LiveSpan;
-use crate::walks::Walk;
 use ass_num::Mem;
+use near_events::EventSpan;
 use std::alloc::Global;
 
 /// The most spans of a block.
@@ -18,14 +16,14 @@ const MOST: usize = 512;
 /// Some spans in order. None begins before `first` or ends after `last`.
 #[derive(Drop)]
 pub struct Block {
-    pub spans: Vec<LiveSpan>,
+    pub spans: Vec<EventSpan>,
     pub first: i64,
     pub last: i64,
 }
 
 impl Block {
     /// The block of one span.
-    pub fn of_one(alloc: Global, span: LiveSpan) -> Mem<Block>
+    pub fn of_one(alloc: Global, span: EventSpan) -> Mem<Block>
         ensures block { IfOk result IsSpanBlock }
         ensures spans { IfOk result (λ block. block.spans.items ≡ span ∷ []) }
     {
@@ -39,7 +37,7 @@ impl Block {
     }
 
     /// The block of these spans.
-    pub fn of_all(spans: Vec<LiveSpan>) -> Block
+    pub fn of_all(spans: Vec<EventSpan>) -> Block
         requires { 0 < length spans.items }
         ensures block { IsSpanBlock result }
         ensures spans { result.spans.items ≡ spans.items }
@@ -54,7 +52,7 @@ impl Block {
     }
 
     /// How many of the spans stand before this one.
-    pub fn count_before(&self, span: &LiveSpan) -> usize
+    pub fn count_before(&self, span: &EventSpan) -> usize
         requires sorted { Pairwise StandsBefore self.now.spans.items }
         requires new { All (λ s. s.order ≢ span.now.order) self.now.spans.items }
         ensures within { result ≤ length self.now.spans.items }
@@ -75,7 +73,7 @@ impl Block {
     }
 
     /// Inserts the span at this place.
-    pub fn insert(&mut self, at: usize, span: LiveSpan) -> Mem<()>
+    pub fn insert(&mut self, at: usize, span: EventSpan) -> Mem<()>
         requires block { IsSpanBlock self.old }
         requires within { at ≤ length self.old.spans.items }
         ensures block { IsSpanBlock self.new }
@@ -111,22 +109,10 @@ impl Block {
         self.first = first;
         self.last = last;
     }
-
-    /// Walks over the spans, the last one first.
-    pub fn walk(&self, t: i64, walk: &mut Walk) -> Mem<()>
-        ensures { OnOk result (walk_of walk.new ≡ walked_spans t (walk_of walk.old) self.now.spans.items) }
-    {
-        let mut rest = self.spans.len();
-        'down: while rest > 0 {
-            rest -= 1;
-            walk.step(t, &self.spans[rest])?;
-        }
-        Ok(())
-    }
 }
 
 /// The earliest start and the latest end of some spans.
-fn bounds_of(spans: &[LiveSpan]) -> (i64, i64)
+fn bounds_of(spans: &[EventSpan]) -> (i64, i64)
     requires { 0 < length spans.now }
     ensures first { All (λ s. result.0 ≤ℤ s.start) spans.now }
     ensures last { All (λ s. s.end ≤ℤ result.1) spans.now }
@@ -142,7 +128,7 @@ fn bounds_of(spans: &[LiveSpan]) -> (i64, i64)
 }
 
 /// The earliest start and the latest end with one span more.
-fn wider(first: i64, last: i64, span: LiveSpan) -> (i64, i64)
+fn wider(first: i64, last: i64, span: EventSpan) -> (i64, i64)
     ensures first { result.0 ≤ℤ first × result.0 ≤ℤ span.start }
     ensures last { last ≤ℤ result.1 × span.end ≤ℤ result.1 }
 {

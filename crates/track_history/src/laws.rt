@@ -49,5 +49,6 @@ pub fn near_is_live()
     ensures live { (history : List Entry) (near : List Event) (t : ℤ) → AreNear span_of (live history) t near → All (Contains (live history)) near }
     ensures orders { (history : List Entry) (near : List Event) (t : ℤ) → IsHistory history → AreNear span_of (live history) t near → HaveOwnOrders near }
     ensures few { (history : List Entry) (near : List Event) (t : ℤ) → IsHistory history → AreNear span_of (live history) t near → length near ≤ max_live }
-    ensures short { (history : List Entry) (near : List Event) (t : ℤ) → HaveShortEvents history → AreNear span_of (live history) t near → All IsShortEvent near }
+    ensures short { (history : List Entry) (near : List Event) (t : ℤ) → HaveShortEvents history → AreNear span_of (live history) t near
+        → All IsShortEvent near }
 {}

@@ -6,14 +6,15 @@ ghost use Rattle.ass_events.specs.Histories.{Entry, max_live};
 ghost use Rattle.ass_events.specs.NearEvents.{AreNear, span_of};
 ghost use Rattle.ass_num.specs.Limits.{max_text_bytes};
 ghost use Rattle.ass_events.specs.Ranges.{IsEvent, text_bytes};
+ghost use Rattle.near_events.specs.Spans.{AreNearSpans};
 ghost use Rattle.track_history.specs.Answers.{IsFeedAnswer, fed_entry, flush_answer, flushed_entry, extended, position_of, read_orders};
 ghost use Rattle.track_history.specs.Tellings.{IsSound, Tells, events_of};
 
 use crate::answers::{Feed, Flushed};
 use crate::near_index::NearIndex;
-use crate::spans::LiveSpan;
 use ass_events::Event;
 use ass_num::{Items, Mem};
+use near_events::{EventSpan, NearEvents, sort_by_layer};
 use std::alloc::Global;
 use std::collections::BTreeMap;
 use std::sync::Arc;
@@ -95,7 +96,7 @@ impl LiveEvents {
         ensures uncounted { OnErr result (self.new.entries ≡ self.old.entries) }
     {
         let place = self.events.len();
-        let span = LiveSpan::of(event, place);
+        let span = EventSpan::of(event, place);
         let shared = Arc::try_clone(event)?;
         self.events.reserve(1)?;
         self.places.insert(event.order, place)?;
@@ -137,17 +138,25 @@ impl LiveEvents {
         self.entries
     }
 
-    /// The live events that matter at an instant, by start and then ReadOrder.
-    pub fn near(&self, alloc: Global, t: i64) -> Mem<Items<Arc<Event>>>
+    /// The live events that matter at an instant, and their spans.
+    pub fn near(&self, alloc: Global, t: i64) -> Mem<NearEvents>
         requires { IsSound self.now }
-        ensures { IfOk result (λ near. AreNear span_of (events_of self.now) t (map arc_value near)) }
+        ensures events { IfOk result (λ near. AreNear span_of (events_of self.now) t (map arc_value near.events)) }
+        ensures spans { IfOk result (λ near. AreNearSpans (map arc_value near.events) t near.spans) }
     {
-        let spans = self.index.near(alloc, t)?;
-        let mut near = Vec::with_capacity(alloc, spans.len())?;
-        for span in &spans {
-            near.push(Arc::try_clone(&self.events[span.place])?)?;
+        let found = self.index.near(alloc, t)?;
+        let mut events = Vec::with_capacity(alloc, found.len())?;
+        let mut spans = Vec::with_capacity(alloc, found.len())?;
+        for span in &found {
+            let place = events.len();
+            events.push(Arc::try_clone(&self.events[span.place])?)?;
+            spans.push(moved_to(span, place))?;
         }
-        Ok(Items::from_vec(near))
+        sort_by_layer(&mut spans);
+        Ok(NearEvents {
+            events: Items::from_vec(events),
+            spans: Items::from_vec(spans),
+        })
     }
 
     /// The ReadOrders of the live events, in the order in which they were accepted.
@@ -160,4 +169,11 @@ impl LiveEvents {
         }
         Ok(Items::from_vec(orders))
     }
+}
+
+/// The span at another place.
+fn moved_to(span: &EventSpan, place: usize) -> EventSpan
+    ensures { result ≡ record span.now { place = place } }
+{
+    EventSpan { place, ..*span }
 }

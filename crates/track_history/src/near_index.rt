@@ -1,16 +1,15 @@
 //! The spans of all live events, so that what matters at an instant is found without a walk over all of them.
 
 ghost use Rattle.std.specs.Prelude.{◌≡◌, ◌≢◌, ◌+◌, ◌<◌, ◌≤◌, [], ◌∷◌, ◌++◌, All, IfOk, OnOk, OnErr, length, take, drop, slice_index_or};
-ghost use Rattle.std.specs.List.Sorted.{IsPermutation};
+ghost use Rattle.ass_events.specs.Histories.{Pairwise};
 ghost use Rattle.ass_events.specs.NearEvents.{AreNear};
-ghost use Rattle.track_history.specs.Spans.{StandsBefore, AreInTime, span_at};
+ghost use Rattle.near_events.specs.Spans.{StandsBefore, span_at};
 ghost use Rattle.track_history.specs.Blocks.{IsNearIndex, IsInserted, spans_of};
-ghost use Rattle.track_history.specs.Walks.{first_walk, walk_of, walked_spans};
+ghost use Rattle.near_events.specs.Walks.{first_walk, walk_of, walked_spans};
 
 use crate::blocks::Block;
-use crate::spans::LiveSpan;
-use crate::walks::Walk;
 use ass_num::Mem;
+use near_events::{EventSpan, Walk, sort_in_time};
 use std::alloc::Global;
 
 /// Spans by layer, then start, then ReadOrder, in blocks of some hundred.
@@ -36,8 +35,8 @@ impl NearIndex {
         self.blocks.clear();
     }
 
-    /// Puts in a span whose ReadOrder no other has. Where memory is wanting, the spans stay as they are.
-    pub fn insert(&mut self, alloc: Global, span: LiveSpan) -> Mem<()>
+    /// Puts in a span whose ReadOrder no other has. Where memory runs out, the spans stay as they are.
+    pub fn insert(&mut self, alloc: Global, span: EventSpan) -> Mem<()>
         requires index { IsNearIndex self.old.blocks.items }
         requires new { All (λ s. s.order ≢ span.order) (spans_of self.old.blocks.items) }
         ensures index { IsNearIndex self.new.blocks.items }
@@ -59,7 +58,7 @@ impl NearIndex {
     }
 
     /// The block in which the span has its place.
-    fn block_of(&self, span: &LiveSpan) -> usize
+    fn block_of(&self, span: &EventSpan) -> usize
         requires index { IsNearIndex self.now.blocks.items }
         requires some { 0 < length self.now.blocks.items }
         requires new { All (λ s. s.order ≢ span.now.order) (spans_of self.now.blocks.items) }
@@ -104,7 +103,7 @@ impl NearIndex {
     }
 
     /// Puts the span into the block in which it has its place.
-    fn insert_into(&mut self, at: usize, span: LiveSpan) -> Mem<()>
+    fn insert_into(&mut self, at: usize, span: EventSpan) -> Mem<()>
         requires index { IsNearIndex self.old.blocks.items }
         requires new { All (λ s. s.order ≢ span.order) (spans_of self.old.blocks.items) }
         requires within { at < length self.old.blocks.items }
@@ -129,16 +128,17 @@ impl NearIndex {
             rest -= 1;
             let block = &self.blocks[rest];
             if block.first <= t && walk.least < block.last {
-                block.walk(t, &mut walk)?;
+                walk.go_over(t, block.spans.as_slice())?;
             }
         }
         Ok(walk)
     }
 
     /// The spans that matter at an instant, by start and then ReadOrder.
-    pub fn near(&self, alloc: Global, t: i64) -> Mem<Vec<LiveSpan>>
+    pub fn near(&self, alloc: Global, t: i64) -> Mem<Vec<EventSpan>>
         requires { IsNearIndex self.now.blocks.items }
-        ensures { IfOk result (λ near. AreNear span_at (spans_of self.now.blocks.items) t near.items) }
+        ensures near { IfOk result (λ near. AreNear span_at (spans_of self.now.blocks.items) t near.items) }
+        ensures orders { IfOk result (λ near. Pairwise (λ a b. a.order ≢ b.order) near.items) }
     {
         let Walk {
             mut found,
@@ -148,12 +148,4 @@ impl NearIndex {
         sort_in_time(&mut found);
         Ok(found)
     }
-}
-
-/// Brings spans in order of start and then ReadOrder.
-fn sort_in_time(spans: &mut Vec<LiveSpan>)
-    ensures permutation { IsPermutation spans.old.items spans.new.items }
-    ensures sorted { AreInTime spans.new.items }
-{
-    spans.sort_unstable_by_key(|span| (span.start, span.order));
 }

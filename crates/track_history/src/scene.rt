@@ -2,6 +2,7 @@
 
 use ass_events::Event;
 use ass_num::Items;
+use near_events::EventSpan;
 use std::sync::Arc;
 
 /// What a track shows for a picture at an instant.
@@ -14,4 +15,6 @@ pub struct Scene {
     /// The live events that matter at the instant, by start and then ReadOrder: those that are shown, and of their layers the
     /// earlier ones that they are placed clear of.
     pub events: Items<Arc<Event>>,
+    /// Their spans, by layer, then start, then ReadOrder.
+    pub spans: Items<EventSpan>,
 }

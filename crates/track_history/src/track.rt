@@ -15,6 +15,7 @@ use crate::live_events::LiveEvents;
 use crate::scene::Scene;
 use ass_events::{ChunkRefusal, Event, read_chunk};
 use ass_num::{Items, Mem, OutOfMemory};
+use near_events::NearEvents;
 use std::alloc::Global;
 use std::marker::Model;
 use std::sync::{Arc, Wait};
@@ -47,6 +48,7 @@ impl Model for TrackPass {
 /// The accepted events of a track, in one history. Threads share it by `&`.
 ///
 /// A pass must come from the track that it is used on. What says `rt` may wait for the turn; nothing else waits.
+#[derive(Drop)]
 pub struct Track {
     cell: TurnCell<LiveEvents>,
 }
@@ -144,7 +146,7 @@ impl Track {
         self.scene_of(alloc, turn, t)
     }
 
-    /// Looks without waiting: where another pass has the turn, the answer is the word that says so.
+    /// Looks without waiting: where another pass has the turn, the try is lost, and there is no scene.
     pub fn try_look(
         &self,
         alloc: Global,
@@ -160,7 +162,7 @@ impl Track {
                 let (pass, scene) = self.scene_of(alloc, turn, t);
                 (pass, scene.map_err(|_| LookRefusal::OutOfMemory))
             }
-            Err((word, pass)) => (TrackPass { pass }, Err(LookRefusal::TurnOut(word))),
+            Err(pass) => (TrackPass { pass }, Err(LookRefusal::TurnOut)),
         }
     }
 
@@ -243,10 +245,11 @@ fn scene(alloc: Global, live: &LiveEvents, t: i64) -> Mem<Scene>
     requires { IsSound live.now }
     ensures { (history : List Entry) → Tells live.now history → IfOk result (IsSceneOf history t) }
 {
-    let events = live.near(alloc, t)?;
+    let NearEvents { events, spans } = live.near(alloc, t)?;
     Ok(Scene {
         n: live.entries(),
         t,
         events,
+        spans,
     })
 }

@@ -1,20 +1,19 @@
 -- An event is read back from its line.
-use Rattle.std.proofs.Common.{◌≡◌, ℕ, ◌+◌, ◌%◌, ◌≤◌, true, false, List, [], ◌∷◌, ◌++◌, length, Some, Ok, ℤ, pos, ◌+ℤ◌, ◌-ℤ◌, int_le, refl, sym, ap, ◌∙◌, arith}
+use Rattle.std.proofs.Common.{◌≡◌, ℕ, ◌%◌, ◌≤◌, true, false, List, [], ◌∷◌, ◌++◌, length, Some, Ok, ℤ, pos, ◌+ℤ◌, ◌-ℤ◌, int_le, refl, sym, ap, ◌∙◌, arith}
 use Rattle.std.specs.Prelude.{option_and_then}
 use Rattle.std.specs.Fmt.{signed_decimal}
 use Rattle.std.specs.Int.RustNames.{unsigned_abs}
-use Rattle.std.specs.List.{All, join_with_byte}
+use Rattle.std.specs.List.{All}
 use Rattle.std.specs.Int.{int_max}
 use Rattle.std.proofs.lemmas.Bool.{and_parts}
 use Rattle.std.proofs.lemmas.Int.{ints}
 use Rattle.std.proofs.lemmas.List.Elements.{All-cons}
-use Rattle.std.proofs.lemmas.List.Splits.{slice_split_at, length-slice_split, join_with_byte-slice_split}
+use Rattle.std.proofs.lemmas.List.Splits.{slice_split_at}
 use Rattle.ass_num.specs.Limits.{max_instant}
 use Rattle.ass_num.proofs.OrderLemmas.{le_is}
 use Rattle.ass_script.specs.Fields.{usual_event_fields}
 use Rattle.ass_script.specs.Words.{is_comma}
 use Rattle.ass_script.specs.declared.lines.Version.TheVariants.{V4Plus}
-use Rattle.ass_script.specs.declared.script.EventField.{EventField}
 use Rattle.ass_script.specs.declared.script.EventField.TheVariants as field
 use Rattle.ass_events.specs.Cuts.{pieces_of}
 use Rattle.ass_events.specs.Events.{is_time, duration_between, line_made, line_event}
@@ -22,41 +21,20 @@ use Rattle.ass_events.specs.Fields.{FieldValues, no_fields, columns_from, column
 use Rattle.ass_events.specs.Numbers.{whole_or_zero, instant_of}
 use Rattle.ass_events.specs.Ranges.{IsEvent}
 use Rattle.ass_events.specs.declared.event.Event.{Event}
-use Rattle.ass_events.proofs.FieldLemmas.{examined_some}
 use Rattle.ass_events.proofs.NumberLemmas.{number-signed_decimal}
 use Rattle.ass_events.proofs.PieceLemmas.{EachPlain}
-use Rattle.blanks.specs.Blanks.{trimmed}
 use Rattle.track_write.specs.Rows.{row, event_end, event_fields}
 use Rattle.track_write.specs.Spelling.{time_text}
 use Rattle.track_write.specs.Texts.{max_written_end}
 use Rattle.track_write.proofs.Readings.{number_read, instant_read, signed_no_blank, one_blank, not_below}
 use Rattle.track_write.proofs.Tokens.{no_comma, signed_tokens, time_tokens}
+use Rattle.ass_events.proofs.LawLemmas.{put_layer, put_left, put_right, put_vertical, put_style, put_name, put_effect, read_on, read_text}
 
 -- the pieces of a row whose last field may have commas
 front_cut : (fields : List (List ℕ)) (text : List ℕ) → EachPlain fields → pieces_of (row (fields ++ text ∷ [])) ≡ fields ++ pieces_of text
 front_cut [] text each = refl
 front_cut (f ∷ []) text each = slice_split_at is_comma f 44 text each.0 refl
 front_cut (f ∷ (g ∷ gs)) text each = slice_split_at is_comma f 44 (row ((g ∷ gs) ++ text ∷ [])) each.0 refl ∙ ap (λ z. f ∷ z) (front_cut (g ∷ gs) text each.1)
-
--- one column more is read
-read_on : (len place : ℕ) (f g : EventField) (format : List EventField) (p : List ℕ) (pieces : List (List ℕ)) (fields more : FieldValues) → field_put f p fields ≡ Some more →
-    examined (columns_from len place (f ∷ (g ∷ format)) (p ∷ pieces)) fields ≡ examined (columns_from len (place + length p + 1) (g ∷ format) pieces) more
-unfolding columns_from
-read_on len place f g format p pieces fields more put =
-    examined_some (record { field = f; place = place; piece = Some p }) (columns_from len (place + length p + 1) (g ∷ format) pieces) fields more put
-
--- the text with its commas
-read_text : (len place : ℕ) (text : List ℕ) (fields : FieldValues) → examined (columns_from len place (field.Text ∷ []) (pieces_of text)) fields ≡ Ok (record fields { text = text })
-unfolding columns_from examined field_put
-read_text len place text fields = cases (pieces_of text) refl
-  where
-    cases : (pieces : List (List ℕ)) → pieces_of text ≡ pieces → examined (columns_from len place (field.Text ∷ []) pieces) fields ≡ Ok (record fields { text = text })
-    cases [] e = absurd (omega (arith, ap length e, length-slice_split is_comma text))
-    cases (p ∷ ps) e = ap (λ z. Ok (record fields { text = z })) (ap (join_with_byte 44) (sym e) ∙ join_with_byte-slice_split 44 text)
-
-put_layer : (n : ℤ) (piece : List ℕ) (fields : FieldValues) → whole_or_zero piece ≡ Some n → field_put field.Layer piece fields ≡ Some (record fields { layer = n })
-unfolding field_put
-put_layer n piece fields e = ap (option_and_then (λ n. Some (record fields { layer = n }))) e
 
 put_start : (n : ℤ) (piece : List ℕ) (fields : FieldValues) → instant_of piece ≡ Some n → field_put field.Start piece fields ≡ Some (record fields { start = n })
 unfolding field_put
@@ -65,30 +43,6 @@ put_start n piece fields e = ap (option_and_then (λ n. Some (record fields { st
 put_end : (n : ℤ) (piece : List ℕ) (fields : FieldValues) → instant_of piece ≡ Some n → field_put field.End piece fields ≡ Some (record fields { end = n })
 unfolding field_put
 put_end n piece fields e = ap (option_and_then (λ n. Some (record fields { end = n }))) e
-
-put_left : (n : ℤ) (piece : List ℕ) (fields : FieldValues) → whole_or_zero piece ≡ Some n → field_put field.MarginL piece fields ≡ Some (record fields { margin_l = n })
-unfolding field_put
-put_left n piece fields e = ap (option_and_then (λ n. Some (record fields { margin_l = n }))) e
-
-put_right : (n : ℤ) (piece : List ℕ) (fields : FieldValues) → whole_or_zero piece ≡ Some n → field_put field.MarginR piece fields ≡ Some (record fields { margin_r = n })
-unfolding field_put
-put_right n piece fields e = ap (option_and_then (λ n. Some (record fields { margin_r = n }))) e
-
-put_vertical : (n : ℤ) (piece : List ℕ) (fields : FieldValues) → whole_or_zero piece ≡ Some n → field_put field.MarginV piece fields ≡ Some (record fields { margin_v = n })
-unfolding field_put
-put_vertical n piece fields e = ap (option_and_then (λ n. Some (record fields { margin_v = n }))) e
-
-put_style : (piece : List ℕ) (fields : FieldValues) → trimmed piece ≡ piece → field_put field.Style piece fields ≡ Some (record fields { style = piece })
-unfolding field_put
-put_style piece fields e = ap (λ z. Some (record fields { style = z })) e
-
-put_name : (piece : List ℕ) (fields : FieldValues) → trimmed piece ≡ piece → field_put field.Name piece fields ≡ Some (record fields { name = piece })
-unfolding field_put
-put_name piece fields e = ap (λ z. Some (record fields { name = z })) e
-
-put_effect : (piece : List ℕ) (fields : FieldValues) → trimmed piece ≡ piece → field_put field.Effect piece fields ≡ Some (record fields { effect = piece })
-unfolding field_put
-put_effect piece fields e = ap (λ z. Some (record fields { effect = z })) e
 
 -- what is added is left when the start is taken away
 length_left : (start duration : ℤ) → is_time duration ≡ true → duration_between start (start +ℤ duration) ≡ duration

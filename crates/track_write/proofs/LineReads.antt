@@ -9,7 +9,7 @@ use Rattle.ass_script.specs.declared.lines.Section.TheVariants as section
 use Rattle.ass_script.specs.declared.lines.Version.TheVariants.{V4Plus}
 use Rattle.ass_script.specs.declared.lines.Key.{Key}
 use Rattle.ass_script.specs.declared.lines.Key.TheVariants as key
-use Rattle.blanks.specs.Blanks.{past_blanks, before_blanks, trimmed}
+use Rattle.ass_num.specs.Blanks.{past_blanks, before_blanks, trimmed}
 
 abbrev pub said : Key → List ℕ → Line
 said k value = record { key = k; value = value }

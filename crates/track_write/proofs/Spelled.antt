@@ -31,8 +31,8 @@ use Rattle.ass_script.specs.declared.style_field.StyleField.{StyleField}
 use Rattle.ass_script.specs.declared.style_field.StyleField.TheVariants as style
 use Rattle.ass_script.proofs.WalkLemmas.{read_is}
 use Rattle.ass_events.proofs.PieceLemmas.{EachPlain, pieces_plain}
-use Rattle.blanks.specs.Blanks.{past_blanks, before_blanks, trimmed}
-use Rattle.blanks.proofs.TrimmedLemmas.{trimmed-trimmed, All-trimmed}
+use Rattle.ass_num.specs.Blanks.{past_blanks, before_blanks, trimmed}
+use Rattle.ass_num.proofs.TrimmedLemmas.{trimmed-trimmed, All-trimmed}
 use Rattle.track_write.specs.Ranges.{IsPlain, IsByteColour, IsSpelledStyle}
 use Rattle.track_write.specs.Texts.{is_line_feed}
 use Rattle.track_write.proofs.LineCuts.{EachField}

@@ -22,7 +22,7 @@ use Rattle.ass_script.specs.Words.{is_comma}
 use Rattle.ass_script.specs.declared.lines.Version.TheVariants.{V4Plus}
 use Rattle.ass_script.specs.declared.style.Style.{Style}
 use Rattle.ass_events.proofs.PieceLemmas.{EachPlain}
-use Rattle.blanks.specs.Blanks.{trimmed}
+use Rattle.ass_num.specs.Blanks.{trimmed}
 use Rattle.track_write.specs.Ranges.{IsByteColour, IsSpelledStyle}
 use Rattle.track_write.specs.Rows.{row, colour_of_place, style_fields}
 use Rattle.track_write.specs.Spelling.{milli_text, colour_text, flag_text}

@@ -14,8 +14,8 @@ use Rattle.ass_num.specs.Numerals.{is_blank, is_decimal}
 use Rattle.ass_num.specs.declared.colour.Rgba.{Rgba}
 use Rattle.ass_script.specs.Words.{is_comma}
 use Rattle.ass_events.proofs.NumberLemmas.{decimal_digits}
-use Rattle.blanks.specs.Blanks.{past_blanks, before_blanks, trimmed}
-use Rattle.blanks.proofs.TrimmedLemmas.{trimmed_bare}
+use Rattle.ass_num.specs.Blanks.{past_blanks, before_blanks, trimmed}
+use Rattle.ass_num.proofs.TrimmedLemmas.{trimmed_bare}
 use Rattle.track_write.specs.Ranges.{IsByteColour}
 use Rattle.track_write.specs.Spelling.{digit, two_digits, three_digits, fraction_text, thousandths_text, milli_text, hex_digit, byte_text, colour_text, flag_text, time_text}
 use Rattle.track_write.specs.Texts.{is_line_feed}

@@ -27,7 +27,7 @@ use Rattle.ass_script.specs.declared.refusal.ScriptRefusal.TheVariants as refusa
 use Rattle.ass_script.specs.declared.script.Header.{Header}
 use Rattle.ass_script.specs.declared.style.Style.{Style}
 use Rattle.ass_events.specs.declared.event.Event.{Event}
-use Rattle.blanks.specs.Blanks.{past_blanks, before_blanks, trimmed}
+use Rattle.ass_num.specs.Blanks.{past_blanks, before_blanks, trimmed}
 use Rattle.track_write.specs.Ranges.{IsSpelledStyle, IsSpelledScript}
 use Rattle.track_write.specs.Rows.{row, event_fields, header_lines, style_fields, style_format_line, style_line, style_lines, event_format_line, dialogue_line, spoken, event_lines, scaled_line, script_lines}
 use Rattle.track_write.proofs.LineReads.{said, info_heading, styles_heading, events_heading, type_line, width_line, height_line, wrap_line, scaled_said, style_said, style_format_said, event_format_said, dialogue_said}

@@ -1,7 +1,7 @@
 -- Public: the scripts that are read back as they were.
 use Rattle.std.specs.Prelude.{◌≡◌, ℕ, ◌<◌, false, List, All}
 use Rattle.ass_num.specs.declared.colour.Rgba.{Rgba}
-use Rattle.blanks.specs.Blanks.{trimmed}
+use Rattle.ass_num.specs.Blanks.{trimmed}
 use Rattle.ass_script.specs.Words.{is_comma}
 use Rattle.ass_script.specs.Ranges.{IsScript}
 use Rattle.ass_script.specs.Scripts.{ScriptValue}

@@ -3,7 +3,8 @@
 ghost use Rattle.std.specs.Prelude.{◌≡◌, ◌<◌, ◌++◌, ◌∷◌, OnOk};
 ghost use Rattle.std.specs.Fmt.{decimal, signed_decimal};
 ghost use Rattle.std.specs.Int.RustNames.{unsigned_abs};
-ghost use Rattle.track_write.specs.Spelling.{digit, two_digits, three_digits, fraction_text, thousandths_text, milli_text, hex_digit, byte_text, colour_text, flag_text, time_text};
+ghost use Rattle.track_write.specs.Spelling.{digit, two_digits, three_digits, fraction_text, thousandths_text, milli_text, hex_digit, byte_text, colour_text};
+ghost use Rattle.track_write.specs.Spelling.{flag_text, time_text};
 
 use ass_num::{Mem, Milli, Rgba};
 use std::alloc::Global;

@@ -3,7 +3,8 @@ ghost use Rattle.std.specs.Prelude.{◌≡◌, ◌≢◌, ℕ, ◌+◌, ◌<◌,
 ghost use mathlib.Core.Option.{none};
 ghost use Rattle.atomic_table.specs.Table.{step};
 ghost use Rattle.turn_cell.specs.History.{History, IsPrefix, IsBelow, with_entry};
-ghost use Rattle.turn_cell.specs.Passes.{IsOf, IsTurnOf, IsTurnAfterTries, Extends, IsWholePass, IsUnjoined, first_pass, split_pass, new_pass, joined_pass, mine};
+ghost use Rattle.turn_cell.specs.Passes.{IsOf, IsTurnOf, IsTurnAfterTries, Extends, IsWholePass, IsUnjoined, first_pass, split_pass, new_pass, joined_pass};
+ghost use Rattle.turn_cell.specs.Passes.{mine};
 ghost use Rattle.turn_cell.specs.Plays.{IsReadyToGive, GiveTells};
 
 use crate::book::Book;
@@ -18,23 +19,24 @@ use std::alloc::Global;
 use std::marker::{Brand, Model};
 use std::sync::Wait;
 
-// The word of the turn, and what it says.
+/// The word of the turn, and what it says.
 const TURN: usize = 0;
 
 const HOME: u64 = 0;
 
 const OUT: u64 = 1;
 
-// The word of numbers: the least number that wasn't drawn yet.
+/// The word of numbers: the least number that wasn't drawn yet.
 const NUMBERS: usize = 1;
 
-// The slot of the value.
+/// The slot of the value.
 const VALUE: usize = 0;
 
 /// A value behind a turn. Threads share it by `&`.
 ///
 /// A pass or a turn must come from the cell that it is used on. But for `open`, no call takes memory, and but for
 /// `take`, none waits.
+#[derive(Drop)]
 pub struct TurnCell<B: Book> {
     table: Table<Option<B>, SeatView<B::Entry, B::Tag>, B::Tag, OneHistory<B>, Global>,
 }
@@ -94,18 +96,18 @@ impl<B: Book> TurnCell<B> {
         for _ in rt.forever() {
             match self.try_take(waiting) {
                 Ok(turn) => return turn,
-                Err((_, back)) => waiting = back,
+                Err(back) => waiting = back,
             }
             backoff.snooze();
         }
         unreachable!()
     }
 
-    /// Takes the turn if it is home. Else the answer is the word that says that it is out, and the pass.
-    pub fn try_take(&self, pass: Pass<B>) -> Result<Turn<B>, (u64, Pass<B>)>
+    /// Takes the turn if it is home. Else the pass comes back, with one lost try more.
+    pub fn try_take(&self, pass: Pass<B>) -> Result<Turn<B>, Pass<B>>
         requires { IsOf self.now pass }
         ensures turn { IfOk result (IsTurnOf B.stands self.now.tag pass) }
-        ensures out { IfErr result (λ r. (r.0 ≡ 1) × (r.1 ≡ record pass { lost = pass.lost + 1 })) }
+        ensures out { IfErr result (λ p. p ≡ record pass { lost = pass.lost + 1 }) }
     {
         let Pass {
             number,
@@ -117,7 +119,7 @@ impl<B: Book> TurnCell<B> {
             .shared
             .compare_exchange::<Take<B>>(&mut seat, TURN, HOME, OUT);
         if word != HOME {
-            return Err((word, Pass { number, next, seat }));
+            return Err(Pass { number, next, seat });
         }
         let Some(value) = self.table.shared.exchange(&mut seat, VALUE, None) else {
             unreachable!()
@@ -147,7 +149,7 @@ impl<B: Book> TurnCell<B> {
         Pass { number, next, seat }
     }
 
-    // The turn comes home with the entry that `P` picks. The argument is there for `give` to pick it by.
+    /// The turn comes home with the entry that `P` picks. The argument is there for `give` to pick it by.
     fn release<P: PickedEntry<B::Entry>>(
         &self,
         seat: &mut Seat<Option<B>, SeatView<B::Entry, B::Tag>>,

@@ -1,10 +1,10 @@
 //! The shards of some keys, which were worked out elsewhere.
 
 use ass_num::{Items, Matrix, Mem, Path, Point, Seg};
-use flight_cache::ShardSum;
-use key_numbers::{
+use cache_kinds::{
     add_composite_numbers, add_mask_numbers, add_outline_numbers, add_region_numbers,
 };
+use flight_cache::ShardSum;
 use mask_keys::{CompositeKey, MaskKey, OutlineKey, Part, RegionKey, Shared};
 use std::alloc::Global;
 use std::test::Fail;

@@ -5,7 +5,7 @@ ghost use Rattle.std.specs.Arc.{arc_value};
 ghost use Rattle.ass_num.specs.Limits.{IsMaskWithin, IsWithin, max_mask_corner, max_mask_side};
 ghost use Rattle.ass_num.specs.Paths.{IsPath};
 ghost use Rattle.mask_keys.specs.Keys.{HasMaskRanges, IsValidOutline, IsValidPart, max_part_offset};
-ghost use Rattle.mask_model.specs.Outlines.{IsFontSet, glyph_counts};
+ghost use Rattle.mask_keys.specs.Outlines.{IsFontSet, glyph_counts};
 
 use ass_num::{Items, Mask, Matrix, Mem, Path, Point, Seg};
 use bdf_font::{FontSet, read_font};
@@ -19,7 +19,9 @@ use std::test::Fail;
 
 /// A blank, and a dot of one pixel.
 const DOT: &str =
-    "STARTFONT 2.1\nFONT dot\nFONTBOUNDINGBOX 1 1 0 0\nSTARTPROPERTIES 2\nFONT_ASCENT 1\nFONT_DESCENT 0\nENDPROPERTIES\nSTARTCHAR space\nENCODING 32\nDWIDTH 1 0\nBBX 0 0 0 0\nBITMAP\nENDCHAR\nSTARTCHAR x\nENCODING 120\nDWIDTH 1 0\nBBX 1 1 0 0\nBITMAP\n80\nENDCHAR\nENDFONT\n";
+    "STARTFONT 2.1\nFONT dot\nFONTBOUNDINGBOX 1 1 0 0\nSTARTPROPERTIES 2\nFONT_ASCENT 1\nFONT_DESCENT 0\n\
+     ENDPROPERTIES\nSTARTCHAR space\nENCODING 32\nDWIDTH 1 0\nBBX 0 0 0 0\nBITMAP\nENDCHAR\n\
+     STARTCHAR x\nENCODING 120\nDWIDTH 1 0\nBBX 1 1 0 0\nBITMAP\n80\nENDCHAR\nENDFONT\n";
 
 /// A bitmap's pixel, and a script's unit, is a pixel.
 const PLAIN: Matrix = Matrix {
@@ -289,7 +291,7 @@ fn moved(alloc: Global, mask: &Arc<Mask>, dx: i32, dy: i32) -> Mem<Arc<Mask>>
 }
 
 /// A part that is moved one pixel further isn't valid.
-fn further_parts_are_not_valid()
+fn proof_further_parts_are_not_valid()
     ensures across { (glyphs : List ℕ) (part : Part) → part.dx ≡ pos (max_part_offset + 1) → ¬ (IsValidPart glyphs part) }
     ensures down { (glyphs : List ℕ) (part : Part) → part.dy ≡ pos (max_part_offset + 1) → ¬ (IsValidPart glyphs part) }
 {}
@@ -299,7 +301,7 @@ fn parts_are_moved_to_the_limit(rt: HostRuntime) -> Result<(), Fail> {
     let alloc = rt.alloc();
     let fonts = fonts(alloc)?;
     let dot = Arc::new(alloc, mask_of(alloc, &fonts, &key(glyph(1), 0, 0, 0, 0))?)?;
-    further_parts_are_not_valid();
+    proof_further_parts_are_not_valid();
     let below = moved(alloc, &dot, -20_480, 20_480)?;
     assert!(rt; has_box(&below, -20_480, 20_479, 1, 1));
     let above = moved(alloc, &dot, 20_480, -20_480)?;

@@ -6,8 +6,8 @@ use Rattle.std_alloc.proofs.BoxSteps.Form.{Bx}
 use Rattle.std_heap.specs.contracts.Global as heap
 use Rattle.std_heap.specs.contracts.GlobalAllocator.TheImpl.{ghosts, dict}
 use Rattle.std_heap.proofs.Global.TheLaws as heap_laws
-use Rattle.vimalorua_c.specs.contracts.kept.Kept as kept
-use Rattle.vimalorua_c.proofs.kept.Kept.TheLaws as kept_laws
+use Rattle.vimalorua_c.specs.contracts.kept.HeldPlayer as kept
+use Rattle.vimalorua_c.proofs.kept.HeldPlayer.TheLaws as kept_laws
 use Rattle.vimalorua_c.specs.contracts.parts.Parts as parts
 use Rattle.vimalorua_c.specs.contracts.handle.Handle as handle
 

@@ -15,17 +15,17 @@ use Rattle.mask_keys.proofs.mask_key.MaskKey.TheSendSync.{the_send as mask_key_s
 use Rattle.mask_keys.proofs.composite_key.CompositeKey.TheSendSync.{the_send as composite_key_send}
 use Rattle.bdf_font.proofs.font.FontSet.TheSendSync.{the_send as font_set_send, the_sync as font_set_sync}
 use Rattle.ass_script.proofs.script.Script.TheSendSync.{the_send as script_send}
-use Rattle.alone_track.proofs.track.AloneTrack.TheSendSync.{the_send as track_send}
+use Rattle.track_history.proofs.local_track.LocalTrack.TheSendSync.{the_send as track_send}
 use Rattle.plain_images.proofs.plain.PlainImage.TheSendSync.{the_send as plain_image_send}
 use Rattle.player.proofs.player.Listed.TheSendSync.{the_send as listed_send}
-use Rattle.alone_caches.specs.contracts.alone.Alone as alone
-use Rattle.alone_caches.specs.contracts.alone.Alone.TheInside as alone_inside
+use Rattle.local_caches.specs.contracts.local.LocalCaches as local
+use Rattle.local_caches.specs.contracts.local.LocalCaches.TheInside as alone_inside
 use Rattle.player.specs.contracts.player.Player as player
 use Rattle.player.specs.contracts.player.Player.TheInside as player_inside
-use Rattle.vimalorua_c.specs.contracts.kept.Kept as kept
+use Rattle.vimalorua_c.specs.contracts.kept.HeldPlayer as kept
 
-alone_send : IsSend alone.the_row
-alone_send =
+local_send : IsSend local.the_row
+local_send =
     view_send _ _ _ _ _ (recorded_send alone_inside.the_field.row _ _ alone_inside.the_type.to_one (struct_send (shape alone_inside.the_type) (
       arc_send _ _ _ font_set_send global_send font_set_sync global_sync the_frees,
       (
@@ -46,7 +46,7 @@ player_send =
         (
           track_send,
           (
-            alone_send,
+            local_send,
             (
               search sendable,
               (

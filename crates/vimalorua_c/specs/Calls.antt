@@ -1,6 +1,6 @@
 -- Public: what the calls of a handle answer, and what they do to the player behind it.
 use Rattle.std.specs.Prelude.{◌≡◌, ◌≢◌, ◌↔◌, ◌⊎◌, ℕ, ◌*◌, ◌+◌, ◌<◌, ◌≤◌, ℤ, pos, neg_ℤ, ◌<ℤ◌, List, [], ◌∷◌, ◌++◌, length, All, flat_map, fold, Option, Some, None, Ok, Err}
-use Rattle.alone_track.specs.Feeding.{AreFrontOffered, IsChunkOffered, IsFlushedAlone, with_offer}
+use Rattle.track_history.specs.LocalFeeding.{AreFrontOffered, IsChunkOffered, IsFlushedLocally, with_offer}
 use Rattle.ass_events.specs.Events.{event_of}
 use Rattle.ass_num.specs.Limits.{max_file_bytes, max_frame_side, max_instant}
 use Rattle.ass_num.specs.declared.size.Size.{Size}
@@ -20,12 +20,12 @@ use Rattle.plain_images.specs.declared.plain.PlainImage.{PlainImage}
 use Rattle.player.specs.Changes.{IsListChange}
 use Rattle.player.specs.Listing.{IsListOf}
 use Rattle.player.specs.Players.{PlayerView, mask_bytes, new_player}
-use Rattle.script_events.specs.ScriptEvents.{line_events}
+use Rattle.ass_events.specs.ScriptEvents.{line_events}
 use Rattle.track_history.specs.declared.answers.Feed.{Feed}
 use Rattle.track_history.specs.declared.answers.Flushed.{Flushed}
 use Rattle.vimalorua_c.specs.Statuses.{bad_call_status, change_number, closed_status, done_status, fed_field, feed_told, flush_told, font_told, many_fonts_status, no_font_status, out_of_memory_status, script_told, told}
 use Rattle.vimalorua_c.specs.declared.handle.Handle.{Handle}
-use Rattle.vimalorua_c.specs.declared.kept.Kept.{Kept}
+use Rattle.vimalorua_c.specs.declared.kept.HeldPlayer.{HeldPlayer}
 use Rattle.vimalorua_c.specs.declared.listing.ImageNumbers.{ImageNumbers}
 use Rattle.vimalorua_c.specs.declared.status.Told.{Told}
 
@@ -38,8 +38,8 @@ IsMadeOf IsUntold call status None None = (status ≡ closed_status) × IsUntold
 IsMadeOf IsUntold call status (Some old) None = ⊥
 IsMadeOf IsUntold call status None (Some new) = ⊥
 
--- A call of a handle: a bad one changes and tells nothing, nor does one for which memory was wanting before it was made.
-abbrev pub IsCall : Type 0 → Type 0 → (PlayerView → PlayerView → Type 0) → ℤ → Kept → Kept → Type 0
+-- A call of a handle: a bad one changes and tells nothing, nor does one for which memory ran out before it was made.
+abbrev pub IsCall : Type 0 → Type 0 → (PlayerView → PlayerView → Type 0) → ℤ → HeldPlayer → HeldPlayer → Type 0
 IsCall IsBad IsUntold call status old new =
     (IsBad × (status ≡ bad_call_status) × (new ≡ old) × IsUntold)
     ⊎ ((IsBad → ⊥) × (((status ≡ out_of_memory_status) × (new ≡ old) × IsUntold) ⊎ IsMadeOf IsUntold call status old.player new.player))
@@ -50,7 +50,7 @@ IsCall IsBad IsUntold call status old new =
 abbrev pub IsNewHandle : List ℕ → ℕ → Handle → Type 0
 IsNewHandle bytes budget handle = (script : ScriptValue) × (script_of bytes ≡ Ok script) × (handle.value.player ≡ Some (new_player script budget))
 
--- Why no handle is opened of bytes: memory is wanting, or they spell no script.
+-- Why no handle is opened of bytes: memory runs out, or they spell no script.
 abbrev pub IsScriptTold : List ℕ → Told → Type 0
 IsScriptTold bytes answer = (answer ≡ told out_of_memory_status 0) ⊎ ((refusal : ScriptRefusal) × (script_of bytes ≡ Err refusal) × (answer ≡ script_told refusal))
 
@@ -87,7 +87,7 @@ pub record IsChunkFed (chunk : List ℕ) (start duration : ℤ) (status : ℤ) (
   pub is_told : feed_told answer ≡ told status place
   pub is_field : fed_field answer ≡ field
 
--- The events of the script's lines were offered, for want of memory only some of them, from the first on; and how many entries the history has then is told.
+-- The events of the script's lines were offered, for lack of memory only some of them, from the first on; and how many entries the history has then is told.
 abbrev pub AreLinesFed : ℤ → ℕ → PlayerView → PlayerView → Type 0
 AreLinesFed status place old new = (place ≡ new.track.entries) × (new ≡ record old { track = new.track }) × (
     ((status ≡ done_status) × (new.track ≡ fold with_offer old.track (line_events old.script)))
@@ -95,7 +95,7 @@ AreLinesFed status place old new = (place ≡ new.track.entries) × (new ≡ rec
 
 pub record IsFlushTold (status : ℤ) (place : ℕ) (old new : PlayerView) : Type 0 where
   pub answer : Flushed
-  pub flushed : IsFlushedAlone old.track new.track answer
+  pub flushed : IsFlushedLocally old.track new.track answer
   pub same : new ≡ record old { track = new.track }
   pub is_told : flush_told answer ≡ told status place
 
@@ -108,7 +108,7 @@ IsBeyond at size = (max_frame_side < size.w) ⊎ ((max_frame_side < size.h) ⊎ 
 abbrev pub IsBadDraw : ℤ → Size → List ℕ → Type 0
 IsBadDraw at size out = IsBeyond at size ⊎ (length out ≢ 3 * (size.w * size.h))
 
--- The bytes are those of the picture; or there is no font, or memory was wanting, and they are as before. The player stays as it is.
+-- The bytes are those of the picture; or there is no font, or memory ran out, and they are as before. The player stays as it is.
 pub record IsDrawn (at : ℤ) (size : Size) (before after : List ℕ) (status : ℤ) (old new : PlayerView) : Type 0 where
   pub same : new ≡ old
   pub fonts : (status ≡ no_font_status) ↔ (old.fonts ≡ [])
@@ -116,7 +116,7 @@ pub record IsDrawn (at : ℤ) (size : Size) (before after : List ℕ) (status : 
   pub else_same : status ≢ done_status → after ≡ before
   pub others : status ≢ done_status → status ≢ no_font_status → status ≡ out_of_memory_status
 
--- The images were listed; or there is no font, or memory was wanting, and the player stays as it is.
+-- The images were listed; or there is no font, or memory ran out, and the player stays as it is.
 pub record AreImagesTold (at : ℤ) (size : Size) (status before change : ℤ) (count bytes : ℕ) (old new : PlayerView) : Type 0 where
   pub fonts : (status ≡ no_font_status) ↔ (old.fonts ≡ [])
   pub picture : status ≡ done_status → IsPictureAt old.script old.fonts old.track.events at size (with_plain_images (black size.w size.h) new.images)

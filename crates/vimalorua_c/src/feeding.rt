@@ -50,7 +50,8 @@ pub extern "C" fn vimalorua_feed(
     field: &mut u32,
     place: &mut usize,
 ) -> i32
-    ensures { IsCall (max_text_bytes < length chunk.now) ((field.new ≡ 0) × (place.new ≡ 0)) (IsChunkFed chunk.now start duration result field.new place.new) result handle.old.value handle.new.value }
+    ensures { IsCall (max_text_bytes < length chunk.now) ((field.new ≡ 0) × (place.new ≡ 0)) (IsChunkFed chunk.now start duration result field.new place.new)
+        result handle.old.value handle.new.value }
 {
     *field = 0;
     *place = 0;

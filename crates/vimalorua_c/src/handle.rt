@@ -1,8 +1,8 @@
 //! What C keeps between calls.
 ghost use Rattle.std.specs.Prelude.{◌≡◌};
-ghost use Rattle.vimalorua_c.specs.declared.kept.Kept.{Kept};
+ghost use Rattle.vimalorua_c.specs.declared.kept.HeldPlayer.{HeldPlayer};
 
-use crate::kept::Kept;
+use crate::kept::HeldPlayer;
 use crate::parts::Parts;
 use std::alloc::Global;
 use std::marker::Model;
@@ -13,20 +13,20 @@ use std::marker::Model;
 pub struct Handle {
     at: *mut u8,
     alloc: Global,
-    pub ghost value: { Kept },
+    pub ghost value: { HeldPlayer },
 }
 
 impl Model for Handle {
     ghost use Rattle.std_alloc.specs.Box.Ownership.{box_owns};
     ghost use Rattle.std_heap.specs.contracts.GlobalAllocator.TheImpl.{ghosts};
     ghost use denote.Param.{param};
-    ghost use Rattle.vimalorua_c.specs.contracts.kept.Kept as kept;
+    ghost use Rattle.vimalorua_c.specs.contracts.kept.HeldPlayer as kept;
 
     ghost also_owns = { λ h. box_owns (ghosts.dealloc_token h.alloc) (param 0 kept.the_row) h.at h.value };
 }
 
 impl Handle {
-    fn of_parts(parts: Parts<Kept, Global>) -> Handle
+    fn of_parts(parts: Parts<HeldPlayer, Global>) -> Handle
         ensures { result.value ≡ parts.value }
     {
         let Parts { ptr, alloc } = parts;
@@ -36,25 +36,25 @@ impl Handle {
         }
     }
 
-    fn into_parts(self) -> Parts<Kept, Global>
+    fn into_parts(self) -> Parts<HeldPlayer, Global>
         ensures { result.value ≡ self.value }
     {
         let Handle { at, alloc } = self;
         Parts {
-            ptr: at as *mut Kept,
+            ptr: at as *mut HeldPlayer,
             alloc,
         }
     }
 
     /// A handle of what stands in a box.
-    pub fn of(kept: Box<Kept>) -> Handle
+    pub fn of(kept: Box<HeldPlayer>) -> Handle
         ensures { result.value ≡ kept.value }
     {
         Handle::of_parts(Parts::of(kept))
     }
 
     /// The box again.
-    pub fn into_box(self) -> Box<Kept>
+    pub fn into_box(self) -> Box<HeldPlayer>
         ensures { result.value ≡ self.value }
     {
         self.into_parts().into_box()

@@ -105,7 +105,8 @@ pub extern "C" fn vimalorua_images(
     count: &mut usize,
     bytes: &mut usize,
 ) -> i32
-    ensures { IsCall (IsBeyond at (record { w = w; h = h })) ((change.new ≡ change.old) × (count.new ≡ count.old) × (bytes.new ≡ bytes.old)) (AreImagesTold at (record { w = w; h = h }) result change.old change.new count.new bytes.new) result handle.old.value handle.new.value }
+    ensures { IsCall (IsBeyond at (record { w = w; h = h })) ((change.new ≡ change.old) × (count.new ≡ count.old) × (bytes.new ≡ bytes.old))
+        (AreImagesTold at (record { w = w; h = h }) result change.old change.new count.new bytes.new) result handle.old.value handle.new.value }
 {
     let size = Size { w, h };
     if !may_be_shown(at, &size) {
@@ -137,7 +138,8 @@ pub extern "C" fn vimalorua_copy_images(
     images: &mut [ImageNumbers],
     masks: &mut [u8],
 ) -> i32
-    ensures { IsCall ⊥ ((images.new ≡ images.old) × (masks.new ≡ masks.old)) (AreImagesCopied images.old images.new masks.old masks.new result) result handle.old.value handle.new.value }
+    ensures { IsCall ⊥ ((images.new ≡ images.old) × (masks.new ≡ masks.old)) (AreImagesCopied images.old images.new masks.old masks.new result) result
+        handle.old.value handle.new.value }
 {
     let Ok(kept) = take(alloc, handle) else {
         return OUT_OF_MEMORY;

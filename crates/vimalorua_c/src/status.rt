@@ -8,36 +8,52 @@ use bdf_font::FontRefusal;
 use frame_change::ChangeKind;
 use track_history::{Feed, Flushed};
 
+/// The call did what it says.
 pub const DONE: i32 = 0;
 
+/// The script's bytes are not UTF-8.
 pub const NOT_UTF8: i32 = 1;
 
+/// No line of the script is the heading `[Events]`.
 pub const NO_EVENTS: i32 = 2;
 
+/// The script has more than 1,000,000 Dialogue lines.
 pub const MANY_LINES: i32 = 3;
 
+/// The script has more than 10,000 styles.
 pub const MANY_STYLES: i32 = 4;
 
+/// Memory was refused.
 pub const OUT_OF_MEMORY: i32 = 5;
 
+/// The font has a faulty line.
 pub const BAD_FONT: i32 = 6;
 
+/// The font has more than 131,072 glyphs.
 pub const LARGE_FONT: i32 = 7;
 
+/// The player has 64 fonts already.
 pub const MANY_FONTS: i32 = 8;
 
+/// Nothing is drawn before a font was added.
 pub const NO_FONT: i32 = 9;
 
+/// The ReadOrder is that of an event fed before.
 pub const REPEATED: i32 = 10;
 
+/// A field of the chunk can't be read or is missing.
 pub const MALFORMED: i32 = 11;
 
+/// The track has 1,000,000 live events already.
 pub const FULL: i32 = 12;
 
+/// The track was flushed 1,000,000 times already.
 pub const MANY_FLUSHES: i32 = 13;
 
+/// A number or a length is out of its range.
 pub const BAD_CALL: i32 = 14;
 
+/// Nothing is behind the handle.
 pub const CLOSED: i32 = 15;
 
 /// A status, and the place that goes with it, or 0.

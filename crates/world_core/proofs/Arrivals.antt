@@ -8,7 +8,7 @@ use Rattle.std.proofs.lemmas.List.Elements.{All-head, All-tail, Contains-append_
 use Rattle.ass_events.specs.Histories.{Chunk, Entry, HaveOwnOrders, after, has_order, live, max_live}
 use Rattle.ass_events.specs.declared.event.Event.{Event}
 use Rattle.track_history.proofs.Histories.{live-chunk}
-use Rattle.track_history.proofs.Pairs.{Pairwise-cross}
+use Rattle.near_events.proofs.Pairs.{Pairwise-cross}
 use Rattle.world_core.specs.Laws.{AreNewTo, LiveInAnyOrder, after_all}
 
 order-absent : (order : ℕ) (events : List Event) → All (λ (e : Event). e.order ≢ order) events → has_order order events ≡ false

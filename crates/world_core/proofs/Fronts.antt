@@ -8,8 +8,8 @@ use Rattle.ass_events.specs.declared.event.Event.{Event}
 use Rattle.flight_cache.specs.Meaning.{Meaning}
 use Rattle.turn_cell.proofs.Histories.{IsPrefix-append, IsPrefix_same, IsPrefix_trans}
 use Rattle.turn_cell.specs.History.{IsPrefix}
-use Rattle.world_keys.specs.declared.keys.WorldKey.{WorldKey}
-use Rattle.world_keys.specs.declared.keys.WorldValue.{WorldValue}
+use Rattle.world_core.specs.declared.world_keys.WorldKey.{WorldKey}
+use Rattle.world_core.specs.declared.world_keys.WorldValue.{WorldValue}
 use Rattle.world_core.specs.Records.{BeginsWithLooks}
 use Rattle.world_core.specs.States.{LookState, WorldState, opening_world}
 use Rattle.world_core.specs.Steps.{after_chunk, after_step, after_steps}

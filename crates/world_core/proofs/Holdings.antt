@@ -2,10 +2,10 @@
 use Rattle.std.proofs.Common.{◌≡◌, ℕ, ◌<◌, List, length, Option, Some, None, ⊎_elim, refl, sym, subst, arith}
 use Rattle.std.specs.List.{slice_get}
 use Rattle.std.proofs.lemmas.Option.{slice_get_cases}
-use Rattle.actor_caches.specs.declared.holding.Holding.{Holding}
+use Rattle.world_core.specs.declared.holding.Holding.{Holding}
 use Rattle.world_core.specs.Replies.{done_where}
 use Rattle.world_core.specs.Steps.{ActorCachesOf, at_place}
-use Rattle.world_keys.specs.declared.keys.WorldKey.{WorldKey}
+use Rattle.world_core.specs.declared.world_keys.WorldKey.{WorldKey}
 use Rattle.world_core.specs.declared.steps.Reply.TheVariants.{Done, Idle}
 
 there : {X : Type 0} (xs : List X) (i : ℕ) → i < length xs → (x : X) × (slice_get xs i ≡ Some x)

@@ -6,9 +6,15 @@ mod Telling
 mod Replying
 mod Seeing
 mod Feeding
-mod Holding
+mod HeldValues
 mod Recording
 mod Fronts
 mod Arrivals
 mod Running
 mod Orders
+pub mod CacheStanding
+pub mod Calls
+pub mod Places
+pub mod Everyone
+pub mod Owned
+pub mod Costs

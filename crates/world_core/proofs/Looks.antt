@@ -11,15 +11,15 @@ use Rattle.ass_num.specs.Limits.{IsFrameSize}
 use Rattle.ass_num.specs.declared.size.Size.{Size}
 use Rattle.ass_script.specs.Scripts.{ScriptValue}
 use Rattle.bdf_font.specs.Fonts.{FontValue}
-use Rattle.mask_model.specs.Pictures.{picture}
-use Rattle.actor_caches.specs.Caches.{ActorCachesView}
-use Rattle.world_keys.specs.Keys.{world_meaning}
+use Rattle.mask_keys.specs.Pictures.{picture}
+use Rattle.world_core.specs.Caches.{ActorCachesView}
+use Rattle.world_core.specs.Keys.{world_meaning}
 use Rattle.world_core.specs.Laws.{KeepsLaws}
 use Rattle.world_core.specs.Replies.{HoldsAll, KeepsDraw, IsLookReply, IsMaskLacking, IsPictureShown, IsShowReply}
 use Rattle.world_core.specs.States.{LookState, with_look}
 use Rattle.world_core.specs.Tellings.{AreWorldCaches, TellsLastLook, TellsLook, WorldTag}
-use Rattle.world_keys.specs.declared.keys.WorldKey.{WorldKey}
-use Rattle.world_keys.specs.declared.keys.WorldValue.{WorldValue}
+use Rattle.world_core.specs.declared.world_keys.WorldKey.{WorldKey}
+use Rattle.world_core.specs.declared.world_keys.WorldValue.{WorldValue}
 use Rattle.world_core.specs.declared.looking.ActorLook.{ActorLook}
 use Rattle.world_core.specs.declared.steps.Reply.{Reply}
 use Rattle.world_core.specs.declared.steps.Reply.TheVariants.{Idle}

@@ -11,10 +11,10 @@ use Rattle.ass_script.specs.Ranges.{IsScript}
 use Rattle.ass_script.specs.Scripts.{ScriptValue}
 use Rattle.bdf_font.specs.Fonts.{FontValue}
 use Rattle.picture_plan.specs.Pictures.{HaveSameEvents}
-use Rattle.script_events.specs.ScriptEvents.{event_given}
+use Rattle.ass_events.specs.ScriptEvents.{event_given}
 use Rattle.track_history.proofs.Histories.{fed_after, flushed_after}
 use Rattle.track_history.specs.Answers.{extended}
-use Rattle.world_keys.specs.Keys.{world_meaning}
+use Rattle.world_core.specs.Keys.{world_meaning}
 use Rattle.world_core.specs.Laws.{after_all}
 use Rattle.world_core.specs.Orders.{IsNoFlush, IsNoLookOf, OrdersShowTheSame, RepliesTellHistory, RunsShowTheSame, ShowsLook, done_flush_entry, events_fed, fed_chunk_entry, history_told, step_events, told_entry}
 use Rattle.world_core.specs.Replies.{AreReplies, IsFedReply, IsPictureShown, IsReply, IsShowReply}

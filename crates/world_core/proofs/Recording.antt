@@ -4,33 +4,33 @@ use Rattle.std.specs.List.{All, slice_get}
 use Rattle.std.proofs.lemmas.List.{length-set}
 use Rattle.std.proofs.lemmas.List.Elements.{All-head, All-tail}
 use Rattle.bdf_font.specs.Fonts.{FontValue}
-use Rattle.ass_io.specs.declared.gate.Kind.{Kind}
-use Rattle.ass_io.specs.declared.gate.Kind.TheVariants as kind
+use Rattle.test_hook.specs.declared.hook.ValueKind.{ValueKind}
+use Rattle.test_hook.specs.declared.hook.ValueKind.TheVariants as kind
 use Rattle.evict_core.proofs.FillLaws.{claims-once, fills-once}
 use Rattle.evict_core.specs.History.{IsLegal}
 use Rattle.evict_core.specs.Machine as machine
 use Rattle.flight_cache.specs.Meaning.{Meaning, shard_count}
-use Rattle.actor_caches.specs.Caches.{ActorCachesView, answer_in, after_answer, filled, failed, unpinned_at}
-use Rattle.actor_caches.specs.Holdings.{holding_place}
-use Rattle.actor_caches.specs.Laws.{StandFor}
-use Rattle.actor_caches.specs.declared.holding.Holding.{Holding}
-use Rattle.actor_caches.proofs.Owned.{opened-stand, asked-stand, filled-stand, failed-stand, unpinned-stand, limited-stand}
+use Rattle.world_core.specs.Caches.{ActorCachesView, answer_in, after_answer, filled, failed, unpinned_at}
+use Rattle.world_core.specs.Holdings.{holding_place}
+use Rattle.world_core.specs.CacheLaws.{StandFor}
+use Rattle.world_core.specs.declared.holding.Holding.{Holding}
+use Rattle.world_core.proofs.Owned.{opened-stand, asked-stand, filled-stand, failed-stand, unpinned-stand, limited-stand}
 use Rattle.world_core.specs.Histories.{ShardHistories, ShardHistory, kind_limits, with_own_step, with_step_at, fill_of, with_step_of, with_steps_of, opening_limits}
 use Rattle.world_core.specs.Records.{BeginsWithLooks, IsRecorded, StepsAreRecorded}
 use Rattle.world_core.proofs.Fronts.{looks-kept, opening-looks}
-use Rattle.world_keys.specs.Keys.{equal_world_keys, first_shard, key_kind, world_shard, world_shards}
+use Rattle.world_core.specs.Keys.{equal_world_keys, first_shard, key_kind, world_shard, world_shards}
 use Rattle.world_core.specs.States.{WorldState, opening_world}
 use Rattle.world_core.specs.Steps.{after_step, after_steps, at_holding, at_place, held_key}
 use Rattle.world_core.specs.Tellings.{IsValidStep}
-use Rattle.world_keys.specs.contracts.keys.WorldKeyEq.TheImpl.Laws as key_laws
-use Rattle.world_keys.specs.declared.keys.WorldKey.{WorldKey}
-use Rattle.world_keys.specs.declared.keys.WorldKey.TheVariants as key
-use Rattle.world_keys.specs.declared.keys.WorldValue.{WorldValue}
+use Rattle.world_core.specs.contracts.world_keys.WorldKeyEq.TheImpl.Laws as key_laws
+use Rattle.world_core.specs.declared.world_keys.WorldKey.{WorldKey}
+use Rattle.world_core.specs.declared.world_keys.WorldKey.TheVariants as key
+use Rattle.world_core.specs.declared.world_keys.WorldValue.{WorldValue}
 use Rattle.world_core.specs.declared.steps.Step.{Step}
 use Rattle.world_core.specs.declared.steps.Step.TheVariants.{Feed, Flush, Look, AskOutline, AskMask, AskComposite, Fill, Fail, Unpin, Limits, Show}
 
 -- a shard of a kind is one of the twelve
-kind-within : (k : Kind) (n : ℕ) → n < shard_count → first_shard k + n < world_shards
+kind-within : (k : ValueKind) (n : ℕ) → n < shard_count → first_shard k + n < world_shards
 kind-within kind.Outline n below = omega (arith, below)
 kind-within kind.Mask n below = omega (arith, below)
 kind-within kind.Composite n below = omega (arith, below)

@@ -10,7 +10,7 @@ use Rattle.std.proofs.lemmas.List.Elements.{All-get_or}
 use Rattle.std.proofs.lemmas.List.Sums.{fold_more}
 use Rattle.ass_script.specs.Scripts.{ScriptValue}
 use Rattle.bdf_font.specs.Fonts.{FontValue}
-use Rattle.world_keys.specs.Keys.{world_meaning}
+use Rattle.world_core.specs.Keys.{world_meaning}
 use Rattle.world_core.specs.Laws.{KeepsLaws, KeepsLawsFor}
 use Rattle.world_core.specs.Made.{IsMade}
 use Rattle.world_core.specs.Replies.{AreReplies, IsReply}
@@ -29,7 +29,7 @@ module _ (script : ScriptValue) (fonts : List FontValue) where
   replies-push s (y ∷ ys) [] x r are is = absurd are
   replies-push s (y ∷ ys) (q ∷ qs) x r are is = (are.0, replies-push (after_step world_meaning s y) ys qs x r are.1 is)
 
-  -- the replies to a front of the steps, and those to the rest
+  -- the replies to a prefix of the steps, and those to the rest
   pub replies-apart : (xs ys : List Step) (s : WorldState WorldTag) (told rest : List Reply) → length told ≡ length xs → AreReplies script fonts world_meaning s (xs ++ ys) (told ++ rest)
       → AreReplies script fonts world_meaning s xs told × AreReplies script fonts world_meaning (after_steps world_meaning s xs) ys rest
   replies-apart [] ys s [] rest same are = (tt, are)

@@ -9,7 +9,7 @@ use Rattle.ass_events.specs.Histories.{Entry, live}
 use Rattle.ass_script.specs.Scripts.{ScriptValue}
 use Rattle.bdf_font.specs.Fonts.{FontValue}
 use Rattle.picture_plan.specs.Pictures.{AreDraws}
-use Rattle.world_keys.specs.Keys.{world_meaning}
+use Rattle.world_core.specs.Keys.{world_meaning}
 use Rattle.world_core.specs.Laws.{KeepsLaws, KeepsLawsFor}
 use Rattle.world_core.specs.Records.{BeginsWithLooks}
 use Rattle.world_core.specs.Replies.{AreReplies, IsPictureShown, IsShowReply}

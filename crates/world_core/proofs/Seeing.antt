@@ -6,7 +6,7 @@ use Rattle.ass_script.specs.Ranges.{IsScript}
 use Rattle.ass_script.specs.Scripts.{ScriptValue}
 use Rattle.bdf_font.specs.Fonts.{FontValue}
 use Rattle.mask_keys.specs.declared.plans.Draw.{Draw}
-use Rattle.mask_model.specs.Pictures.{picture}
+use Rattle.mask_keys.specs.Pictures.{picture}
 use Rattle.picture_laws.proofs.Shown.{one_list_of_draws}
 use Rattle.picture_plan.proofs.DrawLaws.{draws_of_a_set}
 use Rattle.picture_plan.specs.Pictures.{AreDraws}

@@ -6,13 +6,13 @@ use Rattle.std.proofs.lemmas.List.{length-set}
 use Rattle.std.proofs.lemmas.List.Elements.{All-append, All-drop, All-get_or, All-push, All-take}
 use Rattle.std.proofs.lemmas.Option.{get_or_from_slice_get}
 use Rattle.evict_core.specs.Machine.{Answer, Hit, Claim, Crowded}
-use Rattle.mask_model.specs.Outlines.{glyph_counts}
-use Rattle.actor_caches.specs.Caches.{ActorCachesView, answer_in, after_answer, asked, failed, filled, unpinned_at, with_limits}
-use Rattle.actor_caches.specs.declared.holding.Holding.{Holding}
-use Rattle.world_keys.specs.Keys.{IsValidWorldKey, equal_world_keys, world_meaning, world_value}
+use Rattle.mask_keys.specs.Outlines.{glyph_counts}
+use Rattle.world_core.specs.Caches.{ActorCachesView, answer_in, after_answer, asked, failed, filled, unpinned_at, with_limits}
+use Rattle.world_core.specs.declared.holding.Holding.{Holding}
+use Rattle.world_core.specs.Keys.{IsValidWorldKey, equal_world_keys, world_meaning, world_value}
 use Rattle.world_core.specs.Tellings.{AreWorldCaches, WorldTag}
-use Rattle.world_keys.specs.declared.keys.WorldKey.{WorldKey}
-use Rattle.world_keys.specs.declared.keys.WorldValue.{WorldValue}
+use Rattle.world_core.specs.declared.world_keys.WorldKey.{WorldKey}
+use Rattle.world_core.specs.declared.world_keys.WorldValue.{WorldValue}
 
 -- what holds of each element holds of each that is left
 all-remove : {X : Type 0} (P : X → Type 0) (xs : List X) (i : ℕ) → All P xs → All P (remove xs i)

@@ -9,19 +9,19 @@ use Rattle.mask_keys.specs.declared.composite_key.CompositeKey.{CompositeKey}
 use Rattle.mask_keys.specs.declared.plans.Clip.{Clip}
 use Rattle.mask_keys.specs.declared.plans.Clip.TheVariants as clip
 use Rattle.mask_keys.specs.declared.plans.Draw.{Draw}
-use Rattle.actor_caches.specs.Caches.{ActorCachesView, shard_in}
-use Rattle.actor_caches.specs.Holdings.{count_held}
-use Rattle.actor_caches.specs.Laws.{HaveHistories}
-use Rattle.actor_caches.proofs.Owned.{tickets-are-of-making, makers-have-tickets, pins-are-actors, each-in-budget, each-in-limit, ready-values-are-made}
-use Rattle.world_keys.specs.Keys.{equal_world_keys, world_meaning, world_shard}
+use Rattle.world_core.specs.Caches.{ActorCachesView, shard_in}
+use Rattle.world_core.specs.Holdings.{count_held}
+use Rattle.world_core.specs.CacheLaws.{HaveHistories}
+use Rattle.world_core.proofs.Owned.{tickets-are-of-making, makers-have-tickets, pins-are-actors, each-in-budget, each-in-limit, ready-values-are-made}
+use Rattle.world_core.specs.Keys.{equal_world_keys, world_meaning, world_shard}
 use Rattle.world_core.specs.Laws.{KeepsLaws}
 use Rattle.world_core.specs.Replies.{HoldsAll, HoldsClip, HoldsMask, KeepsClip, KeepsDraw, KeepsMask}
 use Rattle.world_core.specs.Tellings.{WorldTag}
-use Rattle.world_keys.specs.contracts.keys.WorldKeyEq.TheImpl.Laws as key_laws
-use Rattle.world_keys.specs.declared.keys.WorldKey.{WorldKey}
-use Rattle.world_keys.specs.declared.keys.WorldKey.TheVariants as key
-use Rattle.world_keys.specs.declared.keys.WorldValue.{WorldValue}
-use Rattle.world_keys.specs.SameKeys.{world_same}
+use Rattle.world_core.specs.contracts.world_keys.WorldKeyEq.TheImpl.Laws as key_laws
+use Rattle.world_core.specs.declared.world_keys.WorldKey.{WorldKey}
+use Rattle.world_core.specs.declared.world_keys.WorldKey.TheVariants as key
+use Rattle.world_core.specs.declared.world_keys.WorldValue.{WorldValue}
+use Rattle.world_core.specs.SameKeys.{world_same}
 
 module _ (s : ActorCachesView WorldKey WorldValue WorldTag) (have : HaveHistories equal_world_keys world_meaning s) where
   held-pinned : (actor n : ℕ) (key : WorldKey) → 1 ≤ count_held equal_world_keys actor n key s.pins → 1 ≤ pins_in (status_of equal_world_keys (shard_in s n) key)

@@ -9,15 +9,15 @@ use Rattle.ass_num.specs.declared.memory.OutOfMemory.{OutOfMemory}
 use Rattle.ass_num.specs.declared.size.Size.{Size}
 use Rattle.track_history.specs.declared.live_events.LiveEvents.{LiveEvents}
 use Rattle.track_history.specs.Tellings.{IsSound, Tells}
-use Rattle.actor_caches.specs.Caches.{ActorCachesView, asked}
-use Rattle.world_keys.specs.Keys.{equal_world_keys}
+use Rattle.world_core.specs.Caches.{ActorCachesView, asked}
+use Rattle.world_core.specs.Keys.{equal_world_keys}
 use Rattle.world_core.specs.Made.{IsMadeBy}
 use Rattle.world_core.specs.Replies.{IsAskReply}
 use Rattle.world_core.specs.States.{WorldState, with_look}
 use Rattle.world_core.specs.Steps.{held_key}
 use Rattle.world_core.specs.Tellings.{AreWorldCaches, TellsLook, TellsWorld, WorldTag}
-use Rattle.world_keys.specs.declared.keys.WorldKey.{WorldKey}
-use Rattle.world_keys.specs.declared.keys.WorldValue.{WorldValue}
+use Rattle.world_core.specs.declared.world_keys.WorldKey.{WorldKey}
+use Rattle.world_core.specs.declared.world_keys.WorldValue.{WorldValue}
 use Rattle.world_core.specs.declared.looking.ActorLook.{ActorLook}
 use Rattle.world_core.specs.declared.steps.Reply.{Reply}
 use Rattle.world_core.specs.declared.steps.Reply.TheVariants.{Looked}

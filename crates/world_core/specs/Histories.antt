@@ -5,16 +5,16 @@ use Rattle.evict_core.specs.Machine as machine
 use Rattle.flight_cache.specs.Meaning.{Meaning}
 use Rattle.flight_cache.specs.Shards.{part}
 use Rattle.cache_kinds.specs.Limits.{entry_limit}
-use Rattle.actor_caches.specs.Caches.{answer_in}
-use Rattle.actor_caches.specs.Histories.{ask_in_shard, entry_in_shard}
-use Rattle.actor_caches.specs.Holdings.{holding_place}
-use Rattle.actor_caches.specs.declared.holding.Holding.{Holding}
-use Rattle.world_keys.specs.Keys.{equal_world_keys, first_shard}
+use Rattle.world_core.specs.Caches.{answer_in}
+use Rattle.world_core.specs.CacheHistories.{ask_in_shard, entry_in_shard}
+use Rattle.world_core.specs.Holdings.{holding_place}
+use Rattle.world_core.specs.declared.holding.Holding.{Holding}
+use Rattle.world_core.specs.Keys.{equal_world_keys, first_shard}
 use Rattle.world_core.specs.States.{WorldState}
 use Rattle.world_core.specs.Steps.{after_step, held_key}
-use Rattle.world_keys.specs.declared.keys.WorldKey.{WorldKey}
-use Rattle.world_keys.specs.declared.keys.WorldKey.TheVariants as key
-use Rattle.world_keys.specs.declared.keys.WorldValue.{WorldValue}
+use Rattle.world_core.specs.declared.world_keys.WorldKey.{WorldKey}
+use Rattle.world_core.specs.declared.world_keys.WorldKey.TheVariants as key
+use Rattle.world_core.specs.declared.world_keys.WorldValue.{WorldValue}
 use Rattle.world_core.specs.declared.steps.Step.{Step}
 use Rattle.world_core.specs.declared.steps.Step.TheVariants.{Feed, Flush, Look, AskOutline, AskMask, AskComposite, Fill, Fail, Unpin, Limits, Show}
 

@@ -9,16 +9,16 @@ use Rattle.evict_core.specs.History.{one_if}
 use Rattle.evict_core.specs.Machine.{has_idle, maker_in, pins_in, status_of, unpinned}
 use Rattle.flight_cache.specs.Meaning.{Meaning}
 use Rattle.picture_plan.specs.Pictures.{HaveSameEvents}
-use Rattle.actor_caches.specs.Caches.{ActorCachesView, shard_in}
-use Rattle.actor_caches.specs.Holdings.{count_all, count_held}
-use Rattle.actor_caches.specs.Laws.{HaveHistories}
-use Rattle.world_keys.specs.Keys.{equal_world_keys}
+use Rattle.world_core.specs.Caches.{ActorCachesView, shard_in}
+use Rattle.world_core.specs.Holdings.{count_all, count_held}
+use Rattle.world_core.specs.CacheLaws.{HaveHistories}
+use Rattle.world_core.specs.Keys.{equal_world_keys}
 use Rattle.world_core.specs.Replies.{IsPictureShown}
 use Rattle.world_core.specs.States.{LookState, WorldState}
 use Rattle.world_core.specs.Steps.{after_steps}
 use Rattle.world_core.specs.Tellings.{WorldTag}
-use Rattle.world_keys.specs.declared.keys.WorldKey.{WorldKey}
-use Rattle.world_keys.specs.declared.keys.WorldValue.{WorldValue}
+use Rattle.world_core.specs.declared.world_keys.WorldKey.{WorldKey}
+use Rattle.world_core.specs.declared.world_keys.WorldValue.{WorldValue}
 use Rattle.world_core.specs.declared.steps.Step.{Step}
 
 module _ {T : Type 0} (meaning : Meaning WorldKey WorldValue T) where

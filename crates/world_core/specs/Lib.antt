@@ -8,3 +8,11 @@ pub mod Laws
 pub mod Runs
 pub mod Orders
 pub mod Made
+pub mod Holdings
+pub mod Caches
+pub mod Codes
+pub mod Answers
+pub mod CacheLaws
+pub mod CacheHistories
+pub mod Keys
+pub mod SameKeys

@@ -2,7 +2,7 @@
 use Rattle.std.specs.Prelude.{◌≡◌, Result, IfOk, OnErr}
 use Rattle.std.specs.Arc.{arc_value}
 use Rattle.ass_num.specs.declared.memory.OutOfMemory.{OutOfMemory}
-use Rattle.world_keys.specs.Keys.{world_meaning}
+use Rattle.world_core.specs.Keys.{world_meaning}
 use Rattle.world_core.specs.Replies.{IsReply}
 use Rattle.world_core.specs.States.{WorldState}
 use Rattle.world_core.specs.Steps.{after_step}

@@ -8,9 +8,9 @@ use Rattle.ass_events.specs.declared.event.ChunkRefusal.{ChunkRefusal}
 use Rattle.ass_events.specs.declared.event.Event.{Event}
 use Rattle.bdf_font.specs.Fonts.{FontValue}
 use Rattle.picture_plan.specs.Pictures.{HaveSameEvents}
-use Rattle.script_events.specs.ScriptEvents.{event_given}
+use Rattle.ass_events.specs.ScriptEvents.{event_given}
 use Rattle.track_history.specs.Answers.{chunk_entry, extended, flushed_entry}
-use Rattle.world_keys.specs.Keys.{world_meaning}
+use Rattle.world_core.specs.Keys.{world_meaning}
 use Rattle.world_core.specs.Laws.{AreNewTo}
 use Rattle.world_core.specs.Replies.{AreReplies}
 use Rattle.world_core.specs.States.{WorldState}

@@ -6,14 +6,14 @@ use Rattle.evict_core.specs.History.{replay}
 use Rattle.evict_core.specs.Laws.{IsEvictedWithin, IsLostWithin}
 use Rattle.evict_core.specs.Machine as machine
 use Rattle.flight_cache.specs.Meaning.{Meaning}
-use Rattle.actor_caches.specs.Laws.{StandFor}
-use Rattle.world_keys.specs.Keys.{equal_world_keys}
+use Rattle.world_core.specs.CacheLaws.{StandFor}
+use Rattle.world_core.specs.Keys.{equal_world_keys}
 use Rattle.world_core.specs.Histories.{ShardHistories, ShardHistory, opening_limits, with_steps_of}
 use Rattle.world_core.specs.States.{LookState, WorldState, opening_world}
 use Rattle.world_core.specs.Steps.{after_steps}
 use Rattle.world_core.specs.Tellings.{IsValidStep}
-use Rattle.world_keys.specs.declared.keys.WorldKey.{WorldKey}
-use Rattle.world_keys.specs.declared.keys.WorldValue.{WorldValue}
+use Rattle.world_core.specs.declared.world_keys.WorldKey.{WorldKey}
+use Rattle.world_core.specs.declared.world_keys.WorldValue.{WorldValue}
 use Rattle.world_core.specs.declared.steps.Step.{Step}
 
 -- between two claims of a key, by whichever actors, stands its fail or an eviction of it

@@ -13,24 +13,24 @@ use Rattle.mask_keys.specs.declared.composite_key.CompositeKey.{CompositeKey}
 use Rattle.mask_keys.specs.declared.plans.Clip.{Clip}
 use Rattle.mask_keys.specs.declared.plans.Clip.TheVariants as clip
 use Rattle.mask_keys.specs.declared.plans.Draw.{Draw}
-use Rattle.mask_model.specs.Pictures.{picture}
-use Rattle.mask_model.specs.Values.{composite_value}
+use Rattle.mask_keys.specs.Pictures.{picture}
+use Rattle.mask_keys.specs.Values.{composite_value}
 use Rattle.picture_plan.specs.Pictures.{AreDraws}
 use Rattle.track_history.specs.Answers.{feed_answer, flush_answer, refused_answer}
 use Rattle.track_history.specs.declared.answers.Feed.{Feed}
 use Rattle.track_history.specs.declared.answers.Feed.TheVariants.{OutOfMemory}
-use Rattle.actor_caches.specs.Answers.{IsActorAnswer}
-use Rattle.actor_caches.specs.Caches.{ActorCachesView, shard_in}
-use Rattle.actor_caches.specs.Holdings.{holding_place, count_held}
-use Rattle.actor_caches.specs.declared.answer.ActorAnswer.{ActorAnswer}
-use Rattle.actor_caches.specs.declared.answer.ActorAnswer.TheVariants as answer
-use Rattle.world_keys.specs.Keys.{world_shard, equal_world_keys}
+use Rattle.world_core.specs.Answers.{IsActorAnswer}
+use Rattle.world_core.specs.Caches.{ActorCachesView, shard_in}
+use Rattle.world_core.specs.Holdings.{holding_place, count_held}
+use Rattle.world_core.specs.declared.answer.ActorAnswer.{ActorAnswer}
+use Rattle.world_core.specs.declared.answer.ActorAnswer.TheVariants as answer
+use Rattle.world_core.specs.Keys.{world_shard, equal_world_keys}
 use Rattle.world_core.specs.States.{LookState, WorldState}
 use Rattle.world_core.specs.Steps.{after_step, held_key}
-use Rattle.world_keys.specs.declared.keys.WorldKey.{WorldKey}
-use Rattle.world_keys.specs.declared.keys.WorldKey.TheVariants as key
-use Rattle.world_keys.specs.declared.keys.WorldValue.{WorldValue}
-use Rattle.world_keys.specs.declared.keys.WorldValue.TheVariants as value
+use Rattle.world_core.specs.declared.world_keys.WorldKey.{WorldKey}
+use Rattle.world_core.specs.declared.world_keys.WorldKey.TheVariants as key
+use Rattle.world_core.specs.declared.world_keys.WorldValue.{WorldValue}
+use Rattle.world_core.specs.declared.world_keys.WorldValue.TheVariants as value
 use Rattle.world_core.specs.declared.steps.Reply.{Reply}
 use Rattle.world_core.specs.declared.steps.Reply.TheVariants.{Fed, Flushed, Looked, Hit, Claim, Flying, Crowded, Done, Shown, Idle}
 use Rattle.world_core.specs.declared.steps.Step.{Step}
@@ -41,7 +41,7 @@ abbrev pub chunk_answer : List rule.Entry → Result Event ChunkRefusal → Feed
 chunk_answer history (Ok event) = feed_answer history event
 chunk_answer history (Err refusal) = refused_answer refusal
 
--- it is the reply to the event of a chunk, and never want of memory
+-- it is the reply to the event of a chunk, and never out of memory
 pub record IsFedReply (history : List rule.Entry) (event : Result Event ChunkRefusal) (reply : Reply) : Type 0 where
   pub is : reply ≡ Fed (chunk_answer history event)
   pub had : chunk_answer history event ≢ OutOfMemory

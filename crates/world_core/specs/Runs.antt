@@ -4,9 +4,9 @@ use Rattle.ass_script.specs.Scripts.{ScriptValue}
 use Rattle.ass_events.specs.Histories.{live}
 use Rattle.bdf_font.specs.Fonts.{FontValue}
 use Rattle.mask_keys.specs.declared.plans.Draw.{Draw}
-use Rattle.mask_model.specs.Pictures.{picture}
+use Rattle.mask_keys.specs.Pictures.{picture}
 use Rattle.picture_plan.specs.Pictures.{AreDraws}
-use Rattle.world_keys.specs.Keys.{world_meaning}
+use Rattle.world_core.specs.Keys.{world_meaning}
 use Rattle.world_core.specs.Histories.{ShardHistories, with_steps_of}
 use Rattle.world_core.specs.Laws.{KeepsLawsFor}
 use Rattle.world_core.specs.Records.{IsRecorded}

@@ -4,9 +4,9 @@ use Rattle.ass_num.specs.declared.size.Size.{Size}
 use Rattle.ass_events.specs.Histories.{Entry}
 use Rattle.flight_cache.specs.Shards.{part}
 use Rattle.cache_kinds.specs.Limits.{entry_limit}
-use Rattle.actor_caches.specs.Caches.{ActorCachesView, no_shards, with_shard}
-use Rattle.world_keys.specs.declared.keys.WorldKey.{WorldKey}
-use Rattle.world_keys.specs.declared.keys.WorldValue.{WorldValue}
+use Rattle.world_core.specs.Caches.{ActorCachesView, no_shards, with_shard}
+use Rattle.world_core.specs.declared.world_keys.WorldKey.{WorldKey}
+use Rattle.world_core.specs.declared.world_keys.WorldValue.{WorldValue}
 
 -- a look: the history that was seen, the instant and the size of the frame
 pub record LookState : Type 0 where

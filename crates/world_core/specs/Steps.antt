@@ -5,14 +5,14 @@ use Rattle.ass_events.specs.Histories as rule
 use Rattle.ass_events.specs.declared.event.Event.{Event}
 use Rattle.ass_events.specs.declared.event.ChunkRefusal.{ChunkRefusal}
 use Rattle.flight_cache.specs.Meaning.{Meaning}
-use Rattle.actor_caches.specs.Caches.{ActorCachesView, asked, filled, failed, unpinned_at, with_limits}
-use Rattle.actor_caches.specs.Holdings.{holding_place}
-use Rattle.actor_caches.specs.declared.holding.Holding.{Holding}
-use Rattle.world_keys.specs.Keys.{equal_world_keys, first_shard, world_shard}
+use Rattle.world_core.specs.Caches.{ActorCachesView, asked, filled, failed, unpinned_at, with_limits}
+use Rattle.world_core.specs.Holdings.{holding_place}
+use Rattle.world_core.specs.declared.holding.Holding.{Holding}
+use Rattle.world_core.specs.Keys.{equal_world_keys, first_shard, world_shard}
 use Rattle.world_core.specs.States.{WorldState, with_look}
-use Rattle.world_keys.specs.declared.keys.WorldKey.{WorldKey}
-use Rattle.world_keys.specs.declared.keys.WorldKey.TheVariants as key
-use Rattle.world_keys.specs.declared.keys.WorldValue.{WorldValue}
+use Rattle.world_core.specs.declared.world_keys.WorldKey.{WorldKey}
+use Rattle.world_core.specs.declared.world_keys.WorldKey.TheVariants as key
+use Rattle.world_core.specs.declared.world_keys.WorldValue.{WorldValue}
 use Rattle.world_core.specs.declared.steps.Step.{Step}
 use Rattle.world_core.specs.declared.steps.Step.TheVariants.{Feed, Flush, Look, AskOutline, AskMask, AskComposite, Fill, Fail, Unpin, Limits, Show}
 

@@ -14,16 +14,16 @@ use Rattle.bdf_font.specs.declared.font.FontSet.{FontSet}
 use Rattle.evict_core.specs.Machine.{max_entries, max_budget}
 use Rattle.flight_cache.specs.Meaning.{shard_count}
 use Rattle.mask_keys.specs.Keys.{IsValidRegion, IsValidMask, IsValidComposite}
-use Rattle.mask_model.specs.Outlines.{glyph_counts}
+use Rattle.mask_keys.specs.Outlines.{glyph_counts}
 use Rattle.picture_plan.specs.Pictures.{AreDraws}
 use Rattle.text_layout.specs.Fonts.{IsLayoutFontSet}
 use Rattle.track_history.specs.Tellings as track
-use Rattle.actor_caches.specs.declared.holding.Holding.{Holding}
-use Rattle.actor_caches.specs.Caches.{ActorCachesView}
-use Rattle.world_keys.specs.Keys.{IsValidWorldKey, world_shards}
+use Rattle.world_core.specs.declared.holding.Holding.{Holding}
+use Rattle.world_core.specs.Caches.{ActorCachesView}
+use Rattle.world_core.specs.Keys.{IsValidWorldKey, world_shards}
 use Rattle.world_core.specs.States.{LookState, WorldState}
-use Rattle.world_keys.specs.declared.keys.WorldKey.{WorldKey}
-use Rattle.world_keys.specs.declared.keys.WorldValue.{WorldValue}
+use Rattle.world_core.specs.declared.world_keys.WorldKey.{WorldKey}
+use Rattle.world_core.specs.declared.world_keys.WorldValue.{WorldValue}
 use Rattle.world_core.specs.declared.steps.Step.{Step}
 use Rattle.world_core.specs.declared.steps.Step.TheVariants.{Feed, Flush, Look, AskOutline, AskMask, AskComposite, Fill, Fail, Unpin, Limits, Show}
 use Rattle.world_core.specs.declared.looking.ActorLook.{ActorLook}

@@ -3,25 +3,27 @@ ghost use Rattle.std.specs.Prelude.{◌≡◌, ◌+◌, ◌≤◌, ◌<◌, IfOk
 ghost use Rattle.std.specs.Arc.{arc_value};
 ghost use Rattle.evict_core.specs.Machine.{max_budget, max_entries};
 ghost use Rattle.flight_cache.specs.Meaning.{shard_count};
-ghost use Rattle.mask_model.specs.Outlines.{IsFontSet, glyph_counts};
-ghost use Rattle.actor_caches.specs.Caches.{asked, failed, filled, unpinned_at, with_limits};
-ghost use Rattle.actor_caches.specs.Holdings as holdings;
-ghost use Rattle.world_keys.specs.Keys as keys;
-ghost use Rattle.world_keys.specs.Keys.{IsValidWorldKey, equal_world_keys, world_meaning};
+ghost use Rattle.mask_keys.specs.Outlines.{IsFontSet, glyph_counts};
+ghost use Rattle.world_core.specs.Caches.{asked, failed, filled, unpinned_at, with_limits};
+ghost use Rattle.world_core.specs.Holdings as holdings;
+ghost use Rattle.world_core.specs.Keys as keys;
+ghost use Rattle.world_core.specs.Keys.{IsValidWorldKey, equal_world_keys, world_meaning};
 ghost use Rattle.world_core.specs.Replies as replies;
 ghost use Rattle.world_core.specs.States.{opening_world, with_kind, with_part};
 ghost use Rattle.world_core.specs.Steps as rule;
 ghost use Rattle.world_core.specs.Tellings.{AreWorldCaches};
 
 use crate::steps::Reply;
-use actor_caches::{ActorAnswer, ActorCaches, holding_place};
-use ass_io::Kind;
+use crate::{
+    ActorAnswer, ActorCaches, WorldKey, WorldMade, first_shard, holding_place, made_value,
+    world_shard,
+};
 use ass_num::Mem;
 use bdf_font::FontSet;
 use cache_kinds::entry_limit;
 use std::alloc::Global;
 use std::sync::Arc;
-use world_keys::{WorldKey, WorldMade, first_shard, made_value, world_shard};
+use test_hook::ValueKind;
 
 /// The twelve shards without entries. Each kind has four, with their parts of the budget and of the entries that go with it.
 pub(crate) fn open_caches(
@@ -39,7 +41,7 @@ pub(crate) fn open_caches(
     Ok(caches)
 }
 
-// The four shards of a kind.
+/// The four shards of a kind.
 fn add_kind(alloc: Global, caches: &mut ActorCaches<WorldMade>, budget: u64) -> Mem<()>
     requires { budget ≤ max_budget }
     ensures { OnOk result (caches.new ≡ with_kind budget caches.old) }
@@ -50,7 +52,7 @@ fn add_kind(alloc: Global, caches: &mut ActorCaches<WorldMade>, budget: u64) -> 
     add_part(alloc, caches, budget, 3)
 }
 
-// One of the shards of a kind.
+/// One of the shards of a kind.
 fn add_part(alloc: Global, caches: &mut ActorCaches<WorldMade>, budget: u64, i: u32) -> Mem<()>
     requires budget { budget ≤ max_budget }
     requires place { i < shard_count }
@@ -60,7 +62,7 @@ fn add_part(alloc: Global, caches: &mut ActorCaches<WorldMade>, budget: u64, i: 
     caches.add_shard(alloc, entries, (budget + u64::from(i)) / 4)
 }
 
-// The reply of what the caches answered.
+/// The reply of what the caches answered.
 fn reply_of(answer: ActorAnswer) -> Reply
     ensures { result ≡ replies.reply_of answer }
 {
@@ -102,7 +104,8 @@ pub(crate) fn fill(
     requires fonts { IsFontSet (arc_value fonts.now).fonts }
     requires caches { AreWorldCaches fonts.now caches.old }
     ensures reply { IfOk result (λ r. r ≡ replies.done_where (holdings.holding_place actor i caches.old.tickets)) }
-    ensures state { OnOk result (caches.new ≡ rule.at_place caches.old.tickets (filled equal_world_keys world_meaning) (holdings.holding_place actor i caches.old.tickets) caches.old) }
+    ensures state { OnOk result (caches.new ≡ rule.at_place caches.old.tickets (filled equal_world_keys world_meaning)
+        (holdings.holding_place actor i caches.old.tickets) caches.old) }
     ensures caches { AreWorldCaches fonts.now caches.new }
     ensures err { OnErr result (caches.new ≡ caches.old) }
 {
@@ -157,7 +160,7 @@ pub(crate) fn unpin(
 pub(crate) fn set_limits(
     caches: &mut ActorCaches<WorldMade>,
     fonts: &Arc<FontSet>,
-    kind: Kind,
+    kind: ValueKind,
     shard: u32,
     entries: u32,
     budget: u64,

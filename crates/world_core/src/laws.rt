@@ -3,7 +3,7 @@ ghost use Rattle.std.specs.Prelude.{List};
 ghost use Rattle.ass_script.specs.Ranges.{IsScript};
 ghost use Rattle.ass_script.specs.Scripts.{ScriptValue};
 ghost use Rattle.bdf_font.specs.Fonts.{FontValue};
-ghost use Rattle.world_keys.specs.Keys.{world_meaning};
+ghost use Rattle.world_core.specs.Keys.{world_meaning};
 ghost use Rattle.world_core.specs.Laws.{LiveInAnyOrder, ShowTheSame};
 ghost use Rattle.world_core.specs.Orders.{OrdersShowTheSame, RepliesTellHistory, RunsShowTheSame};
 ghost use Rattle.world_core.specs.Records.{StepsAreRecorded};

@@ -4,10 +4,9 @@ ghost use Rattle.ass_events.specs.Events.{event_of};
 ghost use Rattle.ass_events.specs.Histories.{Entry, live};
 ghost use Rattle.ass_events.specs.Histories as histories;
 ghost use Rattle.ass_events.specs.Ranges.{IsEvent, text_bytes};
-ghost use Rattle.ass_num.specs.Limits.{IsFrameSize, IsWithin, max_instant, max_text_bytes};
-ghost use Rattle.ass_script.specs.Ranges.{IsScript};
+ghost use Rattle.ass_num.specs.Limits.{IsWithin, max_instant, max_text_bytes};
 ghost use Rattle.picture_plan.specs.Pictures.{AreDraws};
-ghost use Rattle.text_layout.specs.Fonts.{IsLayoutFontSet};
+ghost use Rattle.text_layout.specs.Settings.{IsSetting};
 ghost use Rattle.track_history.specs.Answers.{flush_answer};
 ghost use Rattle.track_history.specs.Tellings.{IsSound, Tells};
 ghost use Rattle.world_core.specs.Replies.{IsFedReply};
@@ -17,12 +16,11 @@ ghost use Rattle.world_core.specs.Tellings.{TellsLook};
 use crate::steps::Reply;
 use ass_events::{Chunk, ChunkRefusal, Event, read_chunk};
 use ass_num::{Mem, OutOfMemory, Size};
-use ass_script::Script;
-use bdf_font::FontSet;
 use mask_keys::Plan;
-use picture_plan::plan;
+use picture_plan::plan_of_spans;
 use std::alloc::Global;
 use std::sync::Arc;
+use text_layout::Setting;
 use track_history::{Feed, Flushed, LiveEvents};
 
 /// The last look of an actor: how many entries it saw, and the size and the draws of its picture.
@@ -38,8 +36,10 @@ pub(crate) fn feed(alloc: Global, track: &mut LiveEvents, chunk: &Chunk) -> Mem<
     requires sound { IsSound track.old }
     requires short { length chunk.now.bytes ≤ max_text_bytes }
     ensures sound { IsSound track.new }
-    ensures reply { (history : List Entry) → Tells track.old history → IfOk result (λ r. IsFedReply history (event_of chunk.now.bytes chunk.now.start chunk.now.duration) r) }
-    ensures history { (history : List Entry) → Tells track.old history → IfOk result (λ _. Tells track.new (rule.after_chunk history (event_of chunk.now.bytes chunk.now.start chunk.now.duration))) }
+    ensures reply { (history : List Entry) → Tells track.old history
+        → IfOk result (λ r. IsFedReply history (event_of chunk.now.bytes chunk.now.start chunk.now.duration) r) }
+    ensures history { (history : List Entry) → Tells track.old history
+        → IfOk result (λ _. Tells track.new (rule.after_chunk history (event_of chunk.now.bytes chunk.now.start chunk.now.duration))) }
     ensures err { (history : List Entry) → Tells track.old history → OnErr result (Tells track.new history) }
 {
     match read_chunk(alloc, chunk.bytes.as_slice(), chunk.start, chunk.duration) {
@@ -76,48 +76,37 @@ pub(crate) fn flush(track: &mut LiveEvents) -> Flushed
 }
 
 /// The draws of what the track shows at an instant.
-pub(crate) fn plan_at(
-    alloc: Global,
-    script: &Script,
-    fonts: &FontSet,
-    track: &LiveEvents,
-    t: i64,
-    size: &Size,
-) -> Mem<Plan>
-    requires script { IsScript script.now }
-    requires fonts { IsLayoutFontSet fonts.now.fonts }
+pub(crate) fn plan_at(alloc: Global, setting: &Setting<'_>, track: &LiveEvents, t: i64) -> Mem<Plan>
+    requires setting { IsSetting setting.now }
     requires sound { IsSound track.now }
     requires history { (history : List Entry) × Tells track.now history }
     requires instant { IsWithin max_instant t }
-    requires size { IsFrameSize size.now }
-    ensures { (history : List Entry) → Tells track.now history → IfOk result (λ plan. AreDraws script.now fonts.now.fonts (live history) t size.now plan.draws) }
+    ensures { (history : List Entry) → Tells track.now history
+        → IfOk result (λ plan. AreDraws setting.now.script setting.now.fonts (live history) t setting.now.size plan.draws) }
 {
     let near = track.near(alloc, t)?;
-    plan(alloc, script, fonts, near.as_slice(), t, size)
+    let spans = near.spans.as_slice();
+    plan_of_spans(alloc, setting, near.events.as_slice(), spans, t)
 }
 
 /// A look at the track.
 pub(crate) fn look_at(
     alloc: Global,
-    script: &Script,
-    fonts: &FontSet,
+    setting: &Setting<'_>,
     track: &LiveEvents,
     t: i64,
-    size: &Size,
 ) -> Mem<ActorLook>
-    requires script { IsScript script.now }
-    requires fonts { IsLayoutFontSet fonts.now.fonts }
+    requires setting { IsSetting setting.now }
     requires sound { IsSound track.now }
     requires history { (history : List Entry) × Tells track.now history }
     requires instant { IsWithin max_instant t }
-    requires size { IsFrameSize size.now }
     ensures { (history : List Entry) → Tells track.now history
-        → IfOk result (λ kept. TellsLook script.now fonts.now.fonts kept (record { history = history; instant = t; size = size.now })) }
+        → IfOk result (λ kept. TellsLook setting.now.script setting.now.fonts kept (record { history = history; instant = t; size = setting.now.size })) }
 {
-    let plan = plan_at(alloc, script, fonts, track, t, size)?;
+    let plan = plan_at(alloc, setting, track, t)?;
     Ok(ActorLook {
         n: track.entries(),
-        size: *size,
+        size: setting.size,
         plan,
     })
 }

@@ -5,30 +5,29 @@ ghost use Rattle.ass_num.specs.Limits.{IsFrameSize};
 ghost use Rattle.ass_num.specs.Masks.{MaskValue};
 ghost use Rattle.blend.specs.Blending as blending;
 ghost use Rattle.blend.specs.Canvases.{drawn};
-ghost use Rattle.blend.specs.Stencils.{stencil_value};
-ghost use Rattle.mask_model.specs.Pictures.{picture, with_draw};
-ghost use Rattle.mask_model.specs.Values.{composite_value};
-ghost use Rattle.actor_caches.specs.Holdings as holdings;
-ghost use Rattle.world_keys.specs.Keys.{equal_world_keys, world_shard, world_shards, world_value};
+ghost use Rattle.blend.specs.Images.{stencil_value};
+ghost use Rattle.mask_keys.specs.Pictures.{picture, with_draw};
+ghost use Rattle.mask_keys.specs.Values.{composite_value};
+ghost use Rattle.world_core.specs.Holdings as holdings;
+ghost use Rattle.world_core.specs.Keys.{equal_world_keys, world_shard, world_shards, world_value};
 ghost use Rattle.world_core.specs.Replies.{HoldsAll, HoldsClip, HoldsDraw, HoldsMask};
-ghost use Rattle.world_keys.specs.declared.keys.WorldValue.TheVariants as kept;
+ghost use Rattle.world_core.specs.declared.world_keys.WorldValue.TheVariants as kept;
 
-use actor_caches::{ActorCaches, Holding};
+use crate::{ActorCaches, Holding, WorldKey, WorldMade, WorldValue, world_shard};
 use ass_num::{Items, Mask, Mem, Size};
 use blend::{Canvas, Stencil};
 use mask_keys::{Clip, CompositeKey, Draw, Plan, key_copy};
 use std::alloc::Global;
 use std::sync::Arc;
-use world_keys::{WorldKey, WorldMade, WorldValue, world_shard};
 
-// Whether a pin is the actor's, of a shard's key.
+/// Whether a pin is the actor's, of a shard's key.
 fn is_held_by(pin: &Holding<WorldKey>, actor: u32, shard: usize, key: &WorldKey) -> bool
     ensures { result ≡ holdings.is_held_by equal_world_keys actor shard key.now pin.now }
 {
     pin.actor == actor && pin.shard == shard && *key == pin.key
 }
 
-// Whether the actor holds a shard's key.
+/// Whether the actor holds a shard's key.
 fn is_held(pins: &[Holding<WorldKey>], actor: u32, shard: usize, key: &WorldKey) -> bool
     ensures some { IsTrue result → 1 ≤ holdings.count_held equal_world_keys actor shard key.now pins.now }
     ensures none { IsFalse result → holdings.count_held equal_world_keys actor shard key.now pins.now ≡ 0 }
@@ -41,7 +40,7 @@ fn is_held(pins: &[Holding<WorldKey>], actor: u32, shard: usize, key: &WorldKey)
     false
 }
 
-// The value of a key that the actor holds.
+/// The value of a key that the actor holds.
 fn held_value(
     caches: &ActorCaches<WorldMade>,
     actor: u32,
@@ -54,13 +53,13 @@ fn held_value(
 {
     let shard = world_shard(key);
     if is_held(caches.pins(), actor, shard, key) {
-        caches.have_histories();
+        caches.proof_histories();
         return caches.value_of(shard, key);
     }
     Ok(None)
 }
 
-// The value of a composed mask that the actor holds.
+/// The value of a composed mask that the actor holds.
 fn held_mask(
     alloc: Global,
     caches: &ActorCaches<WorldMade>,
@@ -76,25 +75,8 @@ fn held_mask(
     held_value(caches, actor, &WorldKey::Composite(copy))
 }
 
-// Blends a draw into the canvas, with its mask and its clip's stencil at hand.
-fn blend_mask(canvas: &mut Canvas, draw: &Draw, mask: &Mask, stencil: &Stencil<'_>)
-    ensures { canvas.new ≡ drawn canvas.old (record {
-      mask = mask.now;
-      x = draw.now.x;
-      y = draw.now.y;
-      left = draw.now.left;
-      right = draw.now.right;
-      edge = draw.now.edge;
-      stencil = stencil_value stencil.now;
-    }) }
-{
-    canvas.draw(
-        mask, draw.x, draw.y, draw.left, draw.right, draw.edge, stencil,
-    );
-}
-
-// The same with its value, which is a mask.
-fn blend_draw(canvas: &mut Canvas, draw: &Draw, value: &WorldValue, stencil: &Stencil<'_>)
+/// Draws a draw with its value, which is a mask, and its clip's stencil at hand.
+fn blend_draw(canvas: &mut Canvas, draw: &Draw, value: &WorldValue, stencil: Stencil<&Mask>)
     ensures { (mask : MaskValue) → value.now ≡ kept.Mask mask → canvas.new ≡ drawn canvas.old (record {
       mask = mask;
       x = draw.now.x;
@@ -102,16 +84,16 @@ fn blend_draw(canvas: &mut Canvas, draw: &Draw, value: &WorldValue, stencil: &St
       left = draw.now.left;
       right = draw.now.right;
       edge = draw.now.edge;
-      stencil = stencil_value stencil.now;
+      stencil = stencil_value (λ over. over.now) stencil.entry;
     }) }
 {
     match value {
-        WorldValue::Mask(mask) => blend_mask(canvas, draw, mask, stencil),
+        WorldValue::Mask(mask) => canvas.draw(&draw.image(mask, stencil)),
         WorldValue::Region(_) => {}
     }
 }
 
-// Blends a draw that a drawn clip cuts, with both values at hand.
+/// Draws a draw that a drawn clip cuts, with both values at hand.
 fn blend_clipped(
     canvas: &mut Canvas,
     draw: &Draw,
@@ -133,14 +115,19 @@ fn blend_clipped(
 {
     match over {
         WorldValue::Mask(mask) => {
-            let stencil = Stencil::Drawn(mask, x, y, inverse);
-            blend_draw(canvas, draw, value, &stencil);
+            let stencil = Stencil::Drawn {
+                mask,
+                x,
+                y,
+                inverse,
+            };
+            blend_draw(canvas, draw, value, stencil);
         }
         WorldValue::Region(_) => {}
     }
 }
 
-// Draws a draw with its value at hand, or tells that the actor doesn't hold the mask of its clip.
+/// Draws a draw with its value at hand, or tells that the actor doesn't hold the mask of its clip.
 fn paint_value(
     alloc: Global,
     caches: &ActorCaches<WorldMade>,
@@ -156,7 +143,7 @@ fn paint_value(
 {
     match &draw.clip {
         Clip::Free => {
-            blend_draw(canvas, draw, value, &Stencil::Free);
+            blend_draw(canvas, draw, value, Stencil::Free);
             Ok(true)
         }
         Clip::Rect {
@@ -166,8 +153,14 @@ fn paint_value(
             y2,
             inverse,
         } => {
-            let stencil = Stencil::Rect(*x1, *y1, *x2, *y2, *inverse);
-            blend_draw(canvas, draw, value, &stencil);
+            let stencil = Stencil::Rect {
+                x1: *x1,
+                y1: *y1,
+                x2: *x2,
+                y2: *y2,
+                inverse: *inverse,
+            };
+            blend_draw(canvas, draw, value, stencil);
             Ok(true)
         }
         Clip::Drawn { key, x, y, inverse } => {
@@ -183,7 +176,7 @@ fn paint_value(
     }
 }
 
-// Draws one draw, or tells that the actor doesn't hold a mask of it.
+/// Draws one draw, or tells that the actor doesn't hold a mask of it.
 fn paint_draw(
     alloc: Global,
     caches: &ActorCaches<WorldMade>,
@@ -202,7 +195,7 @@ fn paint_draw(
     }
 }
 
-// Paints draws in order, or tells that the actor doesn't hold a mask of them.
+/// Paints draws in order, or tells that the actor doesn't hold a mask of them.
 fn paint_draws(
     alloc: Global,
     caches: &ActorCaches<WorldMade>,

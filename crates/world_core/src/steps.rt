@@ -1,9 +1,9 @@
 //! What actors do, and what they are answered.
 
 use ass_events::Chunk;
-use ass_io::Kind;
 use ass_num::{Items, Size};
 use mask_keys::{CompositeKey, MaskKey, RegionKey};
+use test_hook::ValueKind;
 use track_history::{Feed, Flushed};
 
 /// A step of an actor, whose number comes first. Where a number of a kind is a place, it counts from 0 among the actor's own.
@@ -28,7 +28,7 @@ pub enum Step {
     /// Gives back a pin, by its place.
     Unpin(u32, usize),
     /// Sets the limits of a shard of a kind, from 0 to 3: its entries and its budget.
-    Limits(Kind, u32, u32, u64),
+    Limits(ValueKind, u32, u32, u64),
     /// Shows the picture of the last look.
     Show(u32),
 }

@@ -8,11 +8,11 @@ ghost use Rattle.ass_script.specs.Ranges.{IsScript};
 ghost use Rattle.evict_core.specs.Machine.{max_budget, max_entries};
 ghost use Rattle.flight_cache.specs.Meaning.{shard_count};
 ghost use Rattle.mask_keys.specs.Keys.{IsValidComposite, IsValidMask, IsValidRegion};
-ghost use Rattle.mask_model.specs.Outlines.{glyph_counts};
+ghost use Rattle.mask_keys.specs.Outlines.{glyph_counts};
 ghost use Rattle.text_layout.specs.Fonts.{IsLayoutFontSet};
 ghost use Rattle.track_history.specs.Answers.{flush_answer};
-ghost use Rattle.actor_caches.specs.Caches.{asked};
-ghost use Rattle.world_keys.specs.Keys.{IsValidWorldKey, equal_world_keys, world_meaning};
+ghost use Rattle.world_core.specs.Caches.{asked};
+ghost use Rattle.world_core.specs.Keys.{IsValidWorldKey, equal_world_keys, world_meaning};
 ghost use Rattle.world_core.specs.Histories.{opening_limits};
 ghost use Rattle.world_core.specs.Laws.{KeepsLaws};
 ghost use Rattle.world_core.specs.Made.{IsMade, IsMadeBy};
@@ -29,9 +29,8 @@ use crate::caching::{ask, fail, fill, open_caches, set_limits, unpin};
 use crate::looking::{ActorLook, feed, flush, look_at};
 use crate::painting::pixels_of;
 use crate::steps::{Reply, Step};
-use actor_caches::ActorCaches;
+use crate::{ActorCaches, WorldKey, WorldMade};
 use ass_events::Chunk;
-use ass_io::Kind;
 use ass_num::{Mem, Size};
 use ass_script::Script;
 use bdf_font::FontSet;
@@ -39,8 +38,9 @@ use mask_keys::{CompositeKey, MaskKey, RegionKey, key_copy, mask_key_copy, regio
 use std::alloc::Global;
 use std::collections::BTreeMap;
 use std::sync::Arc;
+use test_hook::ValueKind;
+use text_layout::Setting;
 use track_history::LiveEvents;
-use world_keys::{WorldKey, WorldMade};
 
 /// A track, twelve shards, and of each actor its last look, its tickets and its pins.
 #[derive(Drop)]
@@ -82,7 +82,8 @@ pub fn one_step(alloc: Global, mut world: World, step: &Step) -> Result<(World, 
     ensures script { IfOk result (λ r. r.0.script ≡ world.script) }
     ensures fonts { IfOk result (λ r. r.0.fonts ≡ world.fonts) }
     ensures ok { (s : WorldState WorldTag) → TellsWorld world s
-        → IfOk result (λ r. TellsWorld r.0 (after_step world_meaning s step.now) × IsReply (arc_value world.script) (arc_value world.fonts).fonts s step.now r.1) }
+        → IfOk result (λ r. TellsWorld r.0 (after_step world_meaning s step.now)
+        × IsReply (arc_value world.script) (arc_value world.fonts).fonts s step.now r.1) }
     ensures laws { IfOk result (λ r. KeepsLaws world_meaning r.0.caches) }
     ensures err { (s : WorldState WorldTag) → TellsWorld world s → IfErr result (λ w. TellsWorld w s) }
     ensures inputs { IfErr result (λ w. (w.script ≡ world.script) × (w.fonts ≡ world.fonts)) }
@@ -108,7 +109,7 @@ pub fn run(alloc: Global, mut world: World, steps: &[Step]) -> Result<(World, Ve
     ensures err { (s : WorldState WorldTag) → TellsWorld world s → IfErr result (λ w. (k : ℕ) × (k < length steps.now) × IsRunOf s (take k steps.now) w) }
     ensures inputs { IfErr result (λ w. (w.script ≡ world.script) × (w.fonts ≡ world.fonts)) }
 {
-    world.keep_laws();
+    world.proof_laws();
     let mut replies = Vec::new(alloc);
     for step in steps {
         if replies.reserve(1).is_err() {
@@ -123,7 +124,7 @@ pub fn run(alloc: Global, mut world: World, steps: &[Step]) -> Result<(World, Ve
 }
 
 impl World {
-    // One step, after which the laws hold.
+    /// One step, after which the laws hold.
     fn step(&mut self, alloc: Global, step: &Step) -> Mem<Reply>
         requires told { IsWorld self.old }
         requires step { IsValidStep (arc_value self.old.fonts).fonts step.now }
@@ -131,15 +132,15 @@ impl World {
         ensures laws { KeepsLaws world_meaning self.new.caches }
     {
         let made = self.make(alloc, step);
-        self.keep_laws();
+        self.proof_laws();
         made
     }
 
     /// What holds after all steps that were made.
-    pub fn keep_laws(&self)
+    pub fn proof_laws(&self)
         ensures { KeepsLaws world_meaning self.now.caches }
     {
-        self.caches.have_histories();
+        self.caches.proof_histories();
     }
 
     fn make(&mut self, alloc: Global, step: &Step) -> Mem<Reply>
@@ -187,7 +188,12 @@ impl World {
         ensures { IsMadeBy (λ s. record s { looks = with_look actor (record { history = s.history; instant = t; size = size.now }) s.looks })
             (λ s r. r ≡ reply.Looked (length s.history)) self.old self.new result }
     {
-        let look = look_at(alloc, &self.script, &self.fonts, &self.track, t, size)?;
+        let setting = Setting {
+            script: &self.script,
+            fonts: &self.fonts,
+            size: *size,
+        };
+        let look = look_at(alloc, &setting, &self.track, t)?;
         self.looks.insert(actor, look)?;
         Ok(Reply::Looked(self.track.entries()))
     }
@@ -195,7 +201,8 @@ impl World {
     fn ask(&mut self, alloc: Global, actor: u32, key: &WorldKey) -> Mem<Reply>
         requires told { IsWorld self.old }
         requires key { IsValidWorldKey (glyph_counts (arc_value self.old.fonts).fonts) key.now }
-        ensures { IsMadeBy (λ s. record s { caches = asked equal_world_keys (held_key actor key.now) s.caches }) (λ s r. IsAskReply s.caches actor key.now r) self.old self.new result }
+        ensures { IsMadeBy (λ s. record s { caches = asked equal_world_keys (held_key actor key.now) s.caches })
+            (λ s r. IsAskReply s.caches actor key.now r) self.old self.new result }
     {
         ask(alloc, &mut self.caches, &self.fonts, actor, key)
     }
@@ -248,7 +255,7 @@ impl World {
         Ok(unpin(&mut self.caches, &self.fonts, actor, i))
     }
 
-    fn set_limits(&mut self, kind: Kind, shard: u32, entries: u32, budget: u64) -> Mem<Reply>
+    fn set_limits(&mut self, kind: ValueKind, shard: u32, entries: u32, budget: u64) -> Mem<Reply>
         requires told { IsWorld self.old }
         requires shard { shard < shard_count }
         requires least { 1 ≤ entries }
@@ -271,14 +278,15 @@ impl World {
         }
     }
 
-    // Shows a look of an actor.
+    /// Shows a look of an actor.
     fn show_look(&self, alloc: Global, actor: u32, look: &ActorLook) -> Mem<Reply>
         requires told { IsWorld self.now }
         requires size { IsFrameSize look.now.size }
-        ensures { (s : WorldState WorldTag) (seen : LookState) → TellsWorld self.now s → TellsLook (arc_value self.now.script) (arc_value self.now.fonts).fonts look.now seen
+        ensures { (s : WorldState WorldTag) (seen : LookState) → TellsWorld self.now s
+            → TellsLook (arc_value self.now.script) (arc_value self.now.fonts).fonts look.now seen
             → IfOk result (λ r. IsLookReply (arc_value self.now.script) (arc_value self.now.fonts).fonts s.caches actor seen r) }
     {
-        self.keep_laws();
+        self.proof_laws();
         let shown = pixels_of(alloc, &self.caches, actor, &look.plan, &look.size)?;
         match shown {
             Some(pixels) => Ok(Reply::Shown(look.n, pixels)),

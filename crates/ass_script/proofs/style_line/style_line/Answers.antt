@@ -1,7 +1,7 @@
 use Rattle.std.proofs.Common.{◌≡◌, ◌+◌, ◌<◌, ℕ, List, lit<, drop, length, get_or, sym, ap, ◌∙◌, arith}
 use Rattle.std.specs.List.{slice_split}
 use Rattle.std.proofs.lemmas.Iterator.Splits.{YieldsList-from_str_split}
-use Rattle.blanks.specs.Blanks.{trimmed}
+use Rattle.ass_num.specs.Blanks.{trimmed}
 use Rattle.ass_script.specs.Words.{is_comma}
 use Rattle.ass_script.specs.Styles.{with_fields, with_field, style_of}
 use Rattle.ass_script.specs.declared.style_field.StyleField.TheVariants as StyleField

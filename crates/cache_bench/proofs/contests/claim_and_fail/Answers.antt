@@ -22,22 +22,22 @@ returns-in-Hit g c =
 
 pub fail-requires-clause-cell : goal.fail-requires-clause-cell
 fail-requires-clause-cell g c =
-    let asked = rw c.in-Claim.is at c.ask-pass.ensures.asked in
+    let asked = rw (c.in-Make.is, c.in-Some.is) at c.ask-pass.ensures.asked in
     call-stays (◌==◌) nat_eq_equiv doubled c.args.cache.now c.args.key c.args.pass c.ask-pass.result.0 (Ask c.args.key Claim ∷ []) c.requires (asked.0, c.ask-pass.ensures.others)
 
 pub fail-requires-clause-open : goal.fail-requires-clause-open
 fail-requires-clause-open g c =
-    let asked = rw c.in-Claim.is at c.ask-pass.ensures.asked in
-    claim-open (◌==◌) nat_eq_equiv doubled c.args.cache.now c.args.key c.in-Claim.ticket.key c.args.pass c.ask-pass.result.0 asked.1 (asked.0, c.ask-pass.ensures.others)
+    let asked = rw (c.in-Make.is, c.in-Some.is) at c.ask-pass.ensures.asked in
+    claim-open (◌==◌) nat_eq_equiv doubled c.args.cache.now c.args.key c.in-Some.ticket.key c.args.pass c.ask-pass.result.0 asked.1 (asked.0, c.ask-pass.ensures.others)
 
-pub returns-in-Claim : goal.returns-in-Claim
-returns-in-Claim g c =
-    let asked = rw c.in-Claim.is at c.ask-pass.ensures.asked in
-    after-fail (◌==◌) nat_eq_equiv doubled c.args.cache.now c.args.key c.in-Claim.ticket.key c.args.pass c.ask-pass.result.0 c.fail.result asked.1 c.requires (asked.0, c.ask-pass.ensures.others) (c.fail.ensures.fail, c.fail.ensures.others)
+pub returns-in-Some : goal.returns-in-Some
+returns-in-Some g c =
+    let asked = rw (c.in-Make.is, c.in-Some.is) at c.ask-pass.ensures.asked in
+    after-fail (◌==◌) nat_eq_equiv doubled c.args.cache.now c.args.key c.in-Some.ticket.key c.args.pass c.ask-pass.result.0 c.fail.result asked.1 c.requires (asked.0, c.ask-pass.ensures.others) (c.fail.ensures.fail, c.fail.ensures.others)
 
-pub returns-in-Crowded : goal.returns-in-Crowded
-returns-in-Crowded g c =
-    let asked = rw c.in-Crowded.is at c.ask-pass.ensures.asked in
+pub returns-in-None : goal.returns-in-None
+returns-in-None g c =
+    let asked = rw (c.in-Make.is, c.in-None.is) at c.ask-pass.ensures.asked in
     after-crowded (◌==◌) nat_eq_equiv doubled c.args.cache.now c.args.key c.args.pass c.ask-pass.result.0 c.requires (asked, c.ask-pass.ensures.others)
 
 pub returns-in-OutOfMemory : goal.returns-in-OutOfMemory

@@ -22,32 +22,32 @@ returns-in-Hit g c =
 
 pub fail-pass-requires-clause-cell : goal.fail-pass-requires-clause-cell
 fail-pass-requires-clause-cell g c =
-    let asked = rw c.in-Claim.is at c.ask-pass.ensures.asked in
+    let asked = rw (c.in-Make.is, c.in-Some.is) at c.ask-pass.ensures.asked in
     call-stays (◌==◌) nat_eq_equiv doubled c.args.cache.now c.args.key c.args.pass c.ask-pass.result.0 (Ask c.args.key Claim ∷ []) c.requires (asked.0, c.ask-pass.ensures.others)
 
 pub fail-pass-requires-clause-open : goal.fail-pass-requires-clause-open
 fail-pass-requires-clause-open g c =
-    let asked = rw c.in-Claim.is at c.ask-pass.ensures.asked in
-    claim-open (◌==◌) nat_eq_equiv doubled c.args.cache.now c.args.key c.in-Claim.ticket.key c.args.pass c.ask-pass.result.0 asked.1 (asked.0, c.ask-pass.ensures.others)
+    let asked = rw (c.in-Make.is, c.in-Some.is) at c.ask-pass.ensures.asked in
+    claim-open (◌==◌) nat_eq_equiv doubled c.args.cache.now c.args.key c.in-Some.ticket.key c.args.pass c.ask-pass.result.0 asked.1 (asked.0, c.ask-pass.ensures.others)
 
 pub returns-in_default : goal.returns-in_default
 returns-in_default g c =
-    let asked = rw c.in-Claim.is at c.ask-pass.ensures.asked in
-    after-fail (◌==◌) nat_eq_equiv doubled c.args.cache.now c.args.key c.in-Claim.ticket.key c.args.pass c.ask-pass.result.0 c.fail-pass.result asked.1 c.requires (asked.0, c.ask-pass.ensures.others) (c.fail-pass.ensures.fail, c.fail-pass.ensures.others)
+    let asked = rw (c.in-Make.is, c.in-Some.is) at c.ask-pass.ensures.asked in
+    after-fail (◌==◌) nat_eq_equiv doubled c.args.cache.now c.args.key c.in-Some.ticket.key c.args.pass c.ask-pass.result.0 c.fail-pass.result asked.1 c.requires (asked.0, c.ask-pass.ensures.others) (c.fail-pass.ensures.fail, c.fail-pass.ensures.others)
 
-pub unpin-pass-requires-in-Claim-clause-held : goal.unpin-pass-requires-in-Claim-clause-held
-unpin-pass-requires-in-Claim-clause-held g c =
-    fill-held (◌==◌) nat_eq_equiv doubled c.args.cache.now c.in-Claim.ticket.key c.fill-pass.result.1.key _ _ c.ask-pass.result.0 c.fill-pass.result.0 c.fill-pass.ensures.pin.0 (c.fill-pass.ensures.fill, c.fill-pass.ensures.others)
+pub unpin-pass-requires-in-Some-clause-held : goal.unpin-pass-requires-in-Some-clause-held
+unpin-pass-requires-in-Some-clause-held g c =
+    fill-held (◌==◌) nat_eq_equiv doubled c.args.cache.now c.in-Some.ticket.key c.fill-pass.result.1.key _ _ c.ask-pass.result.0 c.fill-pass.result.0 c.fill-pass.ensures.pin.0 (c.fill-pass.ensures.fill, c.fill-pass.ensures.others)
 
 pub returns-in-Ok : goal.returns-in-Ok
 returns-in-Ok g c =
-    let asked = rw c.in-Claim.is at c.ask-pass.ensures.asked in
-    after-fill (◌==◌) nat_eq_equiv doubled c.args.cache.now c.args.key c.in-Claim.ticket.key c.fill-pass.result.1.key _ _ c.args.pass c.ask-pass.result.0 c.fill-pass.result.0 c.unpin-pass-in-Claim.result
-    asked.1 (c.fill-pass.ensures.pin.0 ∙ asked.1) c.requires (asked.0, c.ask-pass.ensures.others) (c.fill-pass.ensures.fill, c.fill-pass.ensures.others) (c.unpin-pass-in-Claim.ensures.unpin, c.unpin-pass-in-Claim.ensures.others)
+    let asked = rw (c.in-Make.is, c.in-Some.is) at c.ask-pass.ensures.asked in
+    after-fill (◌==◌) nat_eq_equiv doubled c.args.cache.now c.args.key c.in-Some.ticket.key c.fill-pass.result.1.key _ _ c.args.pass c.ask-pass.result.0 c.fill-pass.result.0 c.unpin-pass-in-Some.result
+    asked.1 (c.fill-pass.ensures.pin.0 ∙ asked.1) c.requires (asked.0, c.ask-pass.ensures.others) (c.fill-pass.ensures.fill, c.fill-pass.ensures.others) (c.unpin-pass-in-Some.ensures.unpin, c.unpin-pass-in-Some.ensures.others)
 
-pub returns-in-Crowded : goal.returns-in-Crowded
-returns-in-Crowded g c =
-    let asked = rw c.in-Crowded.is at c.ask-pass.ensures.asked in
+pub returns-in-None : goal.returns-in-None
+returns-in-None g c =
+    let asked = rw (c.in-Make.is, c.in-None.is) at c.ask-pass.ensures.asked in
     after-crowded (◌==◌) nat_eq_equiv doubled c.args.cache.now c.args.key c.args.pass c.ask-pass.result.0 c.requires (asked, c.ask-pass.ensures.others)
 
 pub returns-in-OutOfMemory : goal.returns-in-OutOfMemory

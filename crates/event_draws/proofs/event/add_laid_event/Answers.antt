@@ -16,27 +16,33 @@ four_colours names states h = All-weaker (IsState names) (λ (state : State). le
 
 pub add_event_draws-requires-clause-laid : goal.add_event_draws-requires-clause-laid
 add_event_draws-requires-clause-laid c =
-    drawn_layout c.args.script.now c.args.fonts.now.fonts c.args.event.now c.args.view.now c.args.size.now c.args.laid.now c.requires.view.wrap c.requires.laid_out
-    c.requires.within
+    drawn_layout c.setting.inside.script.now c.setting.inside.fonts.now.fonts c.args.event.now c.args.view.now c.setting.inside.size c.args.laid.now c.requires.view.wrap
+    (rw (← c.setting.view_is) at c.requires.laid_out) c.requires.within
 
 pub returns-clause-draws : goal.returns-clause-draws
 returns-clause-draws c =
-    let fonts = c.args.fonts.now.fonts in
+    let setting = c.setting.inside in
+    let fonts = setting.fonts.now.fonts in
     let view = c.args.view.now in
     let laid = c.args.laid.now in
-    let stands : c.of-stage.result ≡ stage_at c.args.script.now c.args.event.now c.args.t c.args.size.now view laid c.args.shift = first_of (search rules, grind (arith, common_steps)) in
-    on_ok_weaker c.add_event_draws.result
+    let placed : c.of-stage.result ≡ stage_at c.args.setting.now.script c.args.event.now c.args.t c.args.setting.now.size view laid c.args.shift = first_of (search rules, grind (arith, common_steps)) in
+    let stands : c.of-stage.result ≡ stage_at setting.script.now c.args.event.now c.args.t setting.size view laid c.args.shift = rw (← c.setting.view_is) at placed in
+    rw (← c.setting.view_is)
+    (on_ok_weaker c.add_event_draws.result
     (λ e. record {
       added = event_draws c.of-stage.result fonts view laid;
       whole = e;
       drawn =
           record {
             view = view;
-            shows = c.requires.shows;
+            shows = rw (← c.setting.view_is) at c.requires.shows;
             colours = four_colours (length view.names) view.states c.requires.view.states;
             laid = laid;
-            laid_out = c.requires.laid_out;
+            laid_out = rw (← c.setting.view_is) at c.requires.laid_out;
             value = ap (λ (stage : Stage). event_draws stage fonts view laid) stands;
           };
     })
-    c.add_event_draws.ensures.draws
+    c.add_event_draws.ensures.draws)
+
+pub returns-clause-valid : goal.returns-clause-valid
+returns-clause-valid c = rw (← c.setting.view_is) c.add_event_draws.ensures.valid

@@ -3,7 +3,7 @@ use Rattle.std.proofs.lemmas.Grind.{common_steps}
 use Rattle.std.proofs.lemmas.List.Elements.{All-append}
 use Rattle.std.proofs.lemmas.Result.{on_ok_weaker}
 use Rattle.mask_keys.specs.Keys.{IsValidDraw, IsValidPlan}
-use Rattle.mask_model.specs.Outlines.{glyph_counts}
+use Rattle.mask_keys.specs.Outlines.{glyph_counts}
 use Rattle.event_draws.specs.EventDraws.{event_draws}
 use Rattle.event_draws.proofs.ValidEvents.{event_valid}
 use Rattle.event_draws.proofs.rows.add_event_draws.Goals as goal

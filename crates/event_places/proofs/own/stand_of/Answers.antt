@@ -10,5 +10,5 @@ pub returns-clause-range : goal.returns-clause-range
 returns-clause-range c =
     let own = c.args.own.now in
     rw (returns-clause-value c)
-    (placeable c.args.script.now c.args.event.now own.view own.laid c.args.size.now c.requires.script
-    (margins_within c.args.script.now c.args.event.now c.requires.script c.requires.event) c.requires.size c.requires.pointless c.requires.width c.requires.height)
+    (placeable c.args.setting.now.script c.args.event.now own.view own.laid c.args.setting.now.size c.requires.setting.script
+    (margins_within c.args.setting.now.script c.args.event.now c.requires.setting.script c.requires.event) c.requires.setting.size c.requires.pointless c.requires.width c.requires.height)

@@ -1,20 +1,24 @@
 use Rattle.std.proofs.Common.{◌≡◌, ◌+◌, ◌∙◌, sym, arith, rules, SFits, w64, None}
 use Rattle.std.proofs.lemmas.Int.{to_z-of_z}
+use Rattle.tag_state.specs.Views.{IsViewOf}
 use Rattle.event_places.specs.Steps.{Pointed, Shifted}
-use Rattle.event_places.proofs.Lists.{none_from}
-use Rattle.event_places.proofs.SettleLemmas.{settled_wider}
+use Rattle.near_events.proofs.Lists.{none_from}
+use Rattle.event_places.proofs.ClearLemmas.{boxes_wider}
 use Rattle.event_places.proofs.placed.place_event.Goals as goal
 
 pub returns-then-is_some-clause-placed : goal.returns-then-is_some-clause-placed
 returns-then-is_some-clause-placed c =
     let f : SFits w64 c.args.event.now.start = search rules in
+    let shows : IsViewOf c.args.setting.now.script c.args.event.now c.args.event.now.start c.in_ok-view.view =
+    rw (← c.setting.view_is) (rw (to_z-of_z w64 c.args.event.now.start f) at c.in_ok-view.ensures.view)
+    in
     rw c.unmoved.ensures
-    (Pointed (record { view = c.in_ok-view.view; shows = rw (to_z-of_z w64 c.args.event.now.start f) at c.in_ok-view.ensures.view; point = sym c.is_some.ensures ∙ c.if-is_some.true }))
+    (Pointed (record { view = c.in_ok-view.view; shows = shows; point = sym c.is_some.ensures ∙ c.if-is_some.true }))
 
 pub own_layout-requires-clause-shows : goal.own_layout-requires-clause-shows
 own_layout-requires-clause-shows c =
     let f : SFits w64 c.args.event.now.start = search rules in
-    rw (to_z-of_z w64 c.args.event.now.start f) at c.in_ok-view.ensures.view
+    rw (← c.setting.view_is) (rw (to_z-of_z w64 c.args.event.now.start f) at c.in_ok-view.ensures.view)
 
 pub stand_of-stand-requires-clause-view : goal.stand_of-stand-requires-clause-view
 stand_of-stand-requires-clause-view c = rw c.in_ok-own.ensures.view c.in_ok-view.ensures.range
@@ -31,9 +35,9 @@ returns-clause-placed c =
     let fs : SFits w64 shift = search rules in
     let pointless : own.view.pos ≡ None = rw c.in_ok-own.ensures.view (none_from c.in_ok-view.view.pos (sym c.is_some.ensures ∙ c.if-is_some.false)) in
     rw (to_z-of_z w64 c.down_by.result fd, c.down_by.ensures, to_z-of_z w64 shift fs)
-    (Shifted stand shift own c.settle.new.kept.boxes.items
+    (Shifted stand shift own c.place_clear.new.kept.boxes.items
     record { view = own.view; shows = c.in_ok-own.ensures.own.shows; pointless = pointless; laid = own.laid; laid_out = c.in_ok-own.ensures.own.laid_out; value = c.stand_of-stand.ensures.value }
-    c.in_ok-own.ensures.own c.in_ok-shift.ensures.settling)
+    c.in_ok-own.ensures.own c.in_ok-shift.ensures.clearing)
 
 pub returns-then-is_some-clause-within : goal.returns-then-is_some-clause-within
-returns-then-is_some-clause-within c count h = settled_wider count (count + 1) c.args.kept.now.boxes.items (omega arith) h
+returns-then-is_some-clause-within c count h = boxes_wider count (count + 1) c.args.kept.now.boxes.items (omega arith) h

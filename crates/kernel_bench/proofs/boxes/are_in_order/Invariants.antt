@@ -1,5 +1,5 @@
 use Rattle.std.proofs.Common.{ℕ, ◌+◌, ◌<◌, ◌≤ℤ◌, slice_index_or}
-use Rattle.placement.specs.declared.boxes.Stand.{Stand}
+use Rattle.event_places.specs.declared.stands.Stand.{Stand}
 use Rattle.kernel_bench.proofs.boxes.are_in_order.Given as goal
 
 abbrev pub invariant-loop-k : goal.invariant-loop-k

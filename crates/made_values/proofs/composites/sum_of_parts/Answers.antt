@@ -4,7 +4,7 @@ use Rattle.ass_num.specs.Coverage.{PixelBox, InBox}
 use Rattle.ass_num.specs.Limits.{max_mask_corner, max_mask_side, max_mask_shift}
 use Rattle.ass_num.specs.Masks.{MaskValue}
 use Rattle.mask_cover.specs.Sums.{IsBoxOf}
-use Rattle.mask_model.proofs.ValueLemmas.{summed_is}
+use Rattle.mask_keys.proofs.ValueLemmas.{summed_is}
 use Rattle.made_values.specs.Parts.{placed_masks}
 use Rattle.made_values.proofs.PartLemmas.{placed_at, placed_count, placed_more, placed_whole}
 use Rattle.made_values.proofs.composites.sum_of_parts.Goals as goal

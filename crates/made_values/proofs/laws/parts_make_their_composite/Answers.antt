@@ -1,5 +1,5 @@
 use Rattle.std.proofs.Common.{ap}
-use Rattle.mask_model.specs.Masks.{summed_mask}
+use Rattle.mask_keys.specs.Masks.{summed_mask}
 use Rattle.made_values.proofs.KeyLemmas.{parts_placeable, placed_are}
 use Rattle.made_values.proofs.laws.parts_make_their_composite.Goals as goal
 

@@ -1,5 +1,5 @@
 use Rattle.mask_blur.proofs.BlurLemmas.{same_blurred}
-use Rattle.mask_model.proofs.ValueLemmas.{blurred_is}
+use Rattle.mask_keys.proofs.ValueLemmas.{blurred_is}
 use Rattle.made_values.proofs.AnswerLemmas.{blurred_answer, blurred_near}
 use Rattle.made_values.proofs.masks.blurred.Goals as goal
 

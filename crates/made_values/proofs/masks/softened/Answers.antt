@@ -1,5 +1,5 @@
 use Rattle.mask_blur.proofs.SoftenedLemmas.{same_softened}
-use Rattle.mask_model.proofs.ValueLemmas.{softened_is}
+use Rattle.mask_keys.proofs.ValueLemmas.{softened_is}
 use Rattle.made_values.proofs.AnswerLemmas.{softened_answer, softened_near}
 use Rattle.made_values.proofs.masks.softened.Goals as goal
 

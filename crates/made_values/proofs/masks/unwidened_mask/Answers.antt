@@ -1,5 +1,5 @@
-use Rattle.mask_model.specs.Regions.{widened_region}
-use Rattle.mask_model.proofs.WidenedLemmas.{widened_by_nothing}
+use Rattle.mask_keys.specs.Regions.{widened_region}
+use Rattle.mask_keys.proofs.WidenedLemmas.{widened_by_nothing}
 use Rattle.made_values.proofs.AnswerLemmas.{same_region}
 use Rattle.made_values.proofs.masks.unwidened_mask.Goals as goal
 

@@ -1,4 +1,4 @@
-use Rattle.mask_model.specs.Outlines.{rings_of}
+use Rattle.mask_keys.specs.Outlines.{rings_of}
 use Rattle.made_values.proofs.AnswerLemmas.{outline_answer, region_near}
 use Rattle.made_values.proofs.outlines.made_outline.Goals as goal
 

@@ -1,7 +1,7 @@
 use Rattle.std.proofs.Common.{◌≡◌, ℤ, List}
 use Rattle.ass_num.specs.Winding.{winding}
 use Rattle.bdf_font.specs.Fonts.{FontValue}
-use Rattle.mask_model.specs.Outlines.{rings_of}
+use Rattle.mask_keys.specs.Outlines.{rings_of}
 use Rattle.made_values.proofs.AnswerLemmas.{same_winding}
 use Rattle.made_values.proofs.GlyphLemmas.{font_found, glyph_rings_found}
 use Rattle.made_values.proofs.outlines.winding_outline.Goals as goal

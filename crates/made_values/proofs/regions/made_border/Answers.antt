@@ -1,7 +1,7 @@
 use Rattle.ass_num.specs.Limits.{max_sample}
 use Rattle.ass_num.specs.Regions.{RegionValue, member}
 use Rattle.region_rows.specs.Widened.{in_widened}
-use Rattle.mask_model.proofs.RegionLemmas.{answer_is}
+use Rattle.mask_keys.proofs.RegionLemmas.{answer_is}
 use Rattle.made_values.proofs.AnswerLemmas.{border_near}
 use Rattle.made_values.proofs.regions.made_border.Goals as goal
 

@@ -5,7 +5,7 @@ use Rattle.std.proofs.lemmas.List.{length-map}
 use Rattle.ass_num.specs.Masks.{MaskValue}
 use Rattle.made_values.specs.Parts.{placed_masks}
 use Rattle.mask_cover.specs.Sums.{IsPlaceableMask}
-use Rattle.mask_model.specs.Masks.{summed_mask}
+use Rattle.mask_keys.specs.Masks.{summed_mask}
 use Rattle.mask_caches.specs.Leases.{lease_value}
 use Rattle.mask_caches.proofs.Visiting.{any-ok}
 use Rattle.mask_caches.proofs.composites.composed.Goals as goal

@@ -1,8 +1,8 @@
 use Rattle.std.proofs.Common.{◌∙◌, rules, subst, sym}
-use Rattle.frame_play.specs.Runs.{sink_change}
-use Rattle.play_words.specs.Jobs.{IsJob, IsPlay}
-use Rattle.play_words.specs.declared.job.Job.{Job}
-use Rattle.play_words.specs.declared.job.Job.TheVariants.{Selftest}
+use Rattle.single_run.specs.Runs.{sink_change}
+use Rattle.run_words.specs.Jobs.{IsJob, IsPlay}
+use Rattle.run_words.specs.declared.job.Job.{Job}
+use Rattle.run_words.specs.declared.job.Job.TheVariants.{Selftest}
 use Rattle.play_command.proofs.RunLemmas.{not_selftest}
 use Rattle.play_command.proofs.SelftestLemmas.{worked_kind}
 use Rattle.play_command.specs.Working.{IsJobWorked, IsPlayWorked}

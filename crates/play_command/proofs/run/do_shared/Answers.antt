@@ -1,8 +1,8 @@
 use Rattle.std.proofs.Common.{subst}
-use Rattle.frame_play.specs.Runs.{sink_change}
-use Rattle.play_words.specs.Words.{job_of, texts}
-use Rattle.play_words.specs.declared.job.Job.{Job}
-use Rattle.play_words.specs.declared.job.Job.TheVariants.{Selftest}
+use Rattle.single_run.specs.Runs.{sink_change}
+use Rattle.run_words.specs.Words.{job_of, texts}
+use Rattle.run_words.specs.declared.job.Job.{Job}
+use Rattle.run_words.specs.declared.job.Job.TheVariants.{Selftest}
 use Rattle.play_command.proofs.RunLemmas.{job_left, job_wanting, same_job}
 use Rattle.play_command.specs.Working.{IsJobWorked}
 use Rattle.play_command.proofs.run.do_shared.Goals as goal

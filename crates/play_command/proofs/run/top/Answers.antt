@@ -1,10 +1,10 @@
 use Rattle.std.proofs.Common.{◌≡◌, ◌∙◌, Ok, None, inr, refl, rules, sym, subst}
-use Rattle.frame_play.proofs.RunLemmas.{read_after, written_after}
-use Rattle.frame_play.specs.Runs.{sink_change}
-use Rattle.frame_play.specs.Works.{work_asked}
-use Rattle.play_words.specs.Words.{texts}
+use Rattle.single_run.proofs.Runs.{read_after, written_after}
+use Rattle.single_run.specs.Runs.{sink_change}
+use Rattle.single_run.specs.Works.{work_asked}
+use Rattle.run_words.specs.Words.{texts}
 use Rattle.play_command.proofs.RunLemmas.{left_no_work, left_not_refused, play_decides, play_left, play_run, play_wanting, refused_no_work, selftest_decides, selftest_left, selftest_run, selftest_wanting, told_once, wanting_once}
-use Rattle.play_words.specs.declared.job.Job.TheVariants.{Play, Selftest}
+use Rattle.run_words.specs.declared.job.Job.TheVariants.{Play, Selftest}
 use Rattle.play_command.proofs.run.top.Goals as goal
 
 -- ---- what waits for nobody
@@ -18,7 +18,7 @@ returns-in-Some-clause-other_frames g c = λ why refused. c.in-Some.ensures.othe
 pub returns-in-Some-clause-other_report : goal.returns-in-Some-clause-other_report
 returns-in-Some-clause-other_report g c = λ why refused. c.in-Some.ensures.other_report (refused_no_work _ why refused)
 
--- ---- a play or a selftest, where memory is wanting for its words
+-- ---- a play or a selftest, where memory runs out for its words
 
 pub returns-in-Some-clause-play : goal.returns-in-Some-clause-play
 returns-in-Some-clause-play g c = λ job script fonts asked.

@@ -1,7 +1,7 @@
 use Rattle.std.proofs.Common.{◌≡◌, ◌+◌, ◌∙◌, arith, refl}
 use Rattle.track_history.specs.Calls.{history_of}
 use Rattle.play_workers.specs.Asks.{masks_seen}
-use Rattle.play_passes.specs.Rounds.{roles_of}
+use Rattle.play_rounds.specs.Rounds.{worker_roles}
 use Rattle.play_workers.specs.Stages.{play_on}
 use Rattle.play_rounds.proofs.Bounds.{as_many, still_fit}
 use Rattle.play_rounds.proofs.Plays.{plays_none, plays_then, stops_then}
@@ -14,7 +14,7 @@ loop-round-init g c = record {
   idle = c.requires.idle;
   crew = refl;
   few = omega arith;
-  played = plays_none (g.F.Sink.held c.args.frames.now) (g.F.Sink.faults c.args.frames.now) (g.F.Sink.puts c.args.frames.now) (masks_seen c.args.stage.now.renderer c.args.first) (play_on c.args.stage.now) (roles_of c.args.workers.now) 0 (history_of c.args.first.track.seen);
+  played = plays_none (g.F.Sink.held c.args.frames.now) (g.F.Sink.faults c.args.frames.now) (g.F.Sink.puts c.args.frames.now) (masks_seen c.args.stage.now.renderer c.args.first) (play_on c.args.stage.now) (worker_roles c.args.workers.now) 0 (history_of c.args.first.track.seen);
 }
 
 pub one_round-next-requires-clause-room : goal.one_round-next-requires-clause-room
@@ -44,7 +44,7 @@ loop-round-preserved g c =
       crew = one.crew ∙ kept.crew;
       few = (let before = kept.few in let more = e.few in omega (arith, before, more));
       played = plays_then (g.F.Sink.held c.args.frames.now) (g.F.Sink.held c.loop-round.frames) (g.F.Sink.held c.one_round-next.new.frames) (g.F.Sink.faults c.args.frames.now) (g.F.Sink.faults c.loop-round.frames) (g.F.Sink.faults c.one_round-next.new.frames) (g.F.Sink.puts c.args.frames.now) (g.F.Sink.puts c.loop-round.frames) (g.F.Sink.puts c.one_round-next.new.frames) (masks_seen c.args.stage.now.renderer c.args.first) (masks_seen c.args.stage.now.renderer c.loop-round.first) (masks_seen c.args.stage.now.renderer c.one_round-next.result.0)
-          (play_on c.args.stage.now) (roles_of c.args.workers.now) 0 c.loop-round.round (history_of c.args.first.track.seen) (history_of c.loop-round.first.track.seen) c.loop-round.repeated kept.played
+          (play_on c.args.stage.now) (worker_roles c.args.workers.now) 0 c.loop-round.round (history_of c.args.first.track.seen) (history_of c.loop-round.first.track.seen) c.loop-round.repeated kept.played
           (c.loop-round.round + 1) (history_of c.one_round-next.result.0.track.seen) c.in-Ok.more (rw kept.crew at e.played);
     }
 
@@ -53,7 +53,7 @@ returns-in-Err-clause-stopped g c =
     let kept = c.loop-round.invariant in
     let e = rw c.in-Err.is at c.one_round-next.ensures in
     stops_then (g.F.Sink.held c.args.frames.now) (g.F.Sink.held c.loop-round.frames) (g.F.Sink.held c.one_round-next.new.frames) (g.F.Sink.faults c.args.frames.now) (g.F.Sink.faults c.loop-round.frames) (g.F.Sink.faults c.one_round-next.new.frames) (g.F.Sink.puts c.args.frames.now) (g.F.Sink.puts c.loop-round.frames) (g.F.Sink.puts c.one_round-next.new.frames) (masks_seen c.args.stage.now.renderer c.args.first) (masks_seen c.args.stage.now.renderer c.loop-round.first) (masks_seen c.args.stage.now.renderer c.one_round-next.result.0)
-    (play_on c.args.stage.now) (roles_of c.args.workers.now) 0 c.loop-round.round (history_of c.args.first.track.seen) (history_of c.loop-round.first.track.seen) c.loop-round.repeated kept.played
+    (play_on c.args.stage.now) (worker_roles c.args.workers.now) 0 c.loop-round.round (history_of c.args.first.track.seen) (history_of c.loop-round.first.track.seen) c.loop-round.repeated kept.played
     c.in-Err.stop (rw kept.crew at e.stopped)
 
 pub returns-clause-played : goal.returns-clause-played

@@ -2,8 +2,8 @@ use Rattle.std.proofs.Common.{◌≡◌, ◌+◌, ◌*◌, ◌≤◌}
 use Rattle.std.specs.List.{All}
 use Rattle.track_history.specs.Calls.{history_of}
 use Rattle.play_workers.specs.Asks.{masks_seen}
-use Rattle.play_passes.specs.Passes.{IsHome}
-use Rattle.play_passes.specs.Rounds.{roles_of}
+use Rattle.play_rounds.specs.Passes.{IsHome}
+use Rattle.play_rounds.specs.Rounds.{worker_roles}
 use Rattle.play_workers.specs.Parts.{HasNoPass}
 use Rattle.play_workers.specs.Stages.{play_on}
 use Rattle.play_rounds.specs.Limits.{max_crew}
@@ -16,8 +16,8 @@ invariant-loop-round g l = record {
   home : IsHome l.stage.renderer l.first;
   drawn : l.first.track.next ≤ l.fn.first.track.next + l.round * max_crew;
   idle : All HasNoPass l.workers;
-  crew : roles_of l.workers ≡ roles_of l.initial.workers;
+  crew : worker_roles l.workers ≡ worker_roles l.initial.workers;
   few : l.repeated ≤ l.round * 4294967295;
-  played : PlaysOn (play_on l.stage) (roles_of l.initial.workers) 0 l.round (history_of l.fn.first.track.seen) (history_of l.first.track.seen) l.repeated
+  played : PlaysOn (play_on l.stage) (worker_roles l.initial.workers) 0 l.round (history_of l.fn.first.track.seen) (history_of l.first.track.seen) l.repeated
       (λ next. AreImagesWritten next (g.F.Sink.held l.initial.frames) (g.F.Sink.held l.frames) (g.F.Sink.faults l.initial.frames) (g.F.Sink.faults l.frames) (g.F.Sink.puts l.initial.frames) (g.F.Sink.puts l.frames) (masks_seen l.stage.renderer l.fn.first) (masks_seen l.stage.renderer l.first));
 }

@@ -1,7 +1,7 @@
 use Rattle.std.proofs.Common.{◌+◌, ◌*◌, ◌≤◌}
 use Rattle.track_history.specs.Calls.{history_of}
 use Rattle.play_workers.specs.Asks.{masks_seen}
-use Rattle.play_passes.specs.Passes.{IsHome}
+use Rattle.play_rounds.specs.Passes.{IsHome}
 use Rattle.play_workers.specs.Limits.{max_rounds}
 use Rattle.play_workers.specs.Stages.{play_on}
 use Rattle.play_rounds.specs.Limits.{max_drawn}

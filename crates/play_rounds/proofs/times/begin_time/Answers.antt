@@ -1,7 +1,7 @@
 use Rattle.std.proofs.Common.{arith}
 use Rattle.track_history.specs.Answers.{flushed_entry}
 use Rattle.track_history.specs.Calls.{history_of}
-use Rattle.play_passes.proofs.Turns.{home_turn}
+use Rattle.play_rounds.proofs.Turns.{home_turn}
 use Rattle.play_workers.specs.Stages.{play_on}
 use Rattle.play_rounds.proofs.BeginTimes.{begin_flushed, begin_same, flushed_history, seen_same}
 use Rattle.play_rounds.proofs.times.begin_time.Goals as goal

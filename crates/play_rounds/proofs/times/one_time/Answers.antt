@@ -4,7 +4,7 @@ use Rattle.play_shares.specs.Instants.{instant_count}
 use Rattle.track_history.specs.Calls.{history_of}
 use Rattle.play_model.specs.Images.{ShownImage, shown_pieces}
 use Rattle.play_workers.specs.Asks.{masks_seen}
-use Rattle.play_passes.proofs.Turns.{home_turn}
+use Rattle.play_rounds.proofs.Turns.{home_turn}
 use Rattle.play_workers.specs.Stages.{play_on}
 use Rattle.play_rounds.specs.Outputs.{AreImagesWritten, IsCutOff}
 use Rattle.play_rounds.specs.Times.{PlaysTime}

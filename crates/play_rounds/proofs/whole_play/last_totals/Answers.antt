@@ -1,13 +1,13 @@
 use Rattle.std.proofs.Common.{List, ap, length, subst, sym, ◌∙◌}
 use Rattle.std.specs.List.{All, slice_index_or}
 use Rattle.cache_kinds.specs.Kinds.{composite_meaning}
-use Rattle.cache_totals.specs.Asks.{HasAsks}
-use Rattle.cache_totals.specs.Balance.{IsAccounted}
+use Rattle.mask_caches.specs.Asks.{HasAsks}
+use Rattle.mask_caches.specs.Balance.{IsAccounted}
 use Rattle.evict_core.specs.declared.counts.Totals.{Totals}
 use Rattle.mask_caches.specs.Caches.{shown_totals}
 use Rattle.mask_keys.specs.Equality.{equal_composites}
 use Rattle.track_history.specs.Calls.{TrackView}
-use Rattle.play_passes.proofs.Turns.{totals_balance, totals_count_asks}
+use Rattle.play_rounds.proofs.Turns.{totals_balance, totals_count_asks}
 use Rattle.play_workers.specs.Asks.{masks_seen}
 use Rattle.play_rounds.proofs.Whole.{fewer_asks}
 use Rattle.play_rounds.proofs.whole_play.last_totals.Goals as goal

@@ -1,7 +1,7 @@
 use Rattle.std.proofs.Common.{ap, subst, sym, ◌∙◌}
 use Rattle.std.specs.Arc.{arc_value}
 use Rattle.play_model.specs.Plays.{IsPlayable, good_flags}
-use Rattle.play_passes.proofs.Turns.{home_new}
+use Rattle.play_rounds.proofs.Turns.{home_new}
 use Rattle.track_history.specs.Calls.{TrackView, history_of}
 use Rattle.play_rounds.proofs.Whole.{same_play}
 use Rattle.play_rounds.proofs.whole_play.set_stage.Goals as goal

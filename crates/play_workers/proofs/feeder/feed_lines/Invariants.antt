@@ -1,6 +1,6 @@
 use Rattle.std.proofs.Common.{◌≡◌, ◌≤◌, take}
 use Rattle.std.specs.Arc.{arc_value}
-use Rattle.render_pass.specs.Passes.{IsPassOfRenderer}
+use Rattle.renderer.specs.Passes.{IsPassOfRenderer}
 use Rattle.play_model.specs.Plays.{events_at}
 use Rattle.play_workers.specs.Offers.{AreOffered, HasGiven}
 use Rattle.play_workers.proofs.feeder.feed_lines.Given as goal

@@ -14,5 +14,5 @@ returns-clause-later g c =
 
 pub returns-clause-frame : goal.returns-clause-frame
 returns-clause-frame g c =
-    soon_asked c.args.stage.now.renderer c.args.pass c.try_then_frame.result.0 _ _ c.try_then_frame.result.1 c.kept.ensures.numbered
+    soon_asked c.args.stage.now.renderer c.args.pass c.try_then_frame.result.0 _ _ c.try_then_frame.result.1 c.proof_kept.ensures.numbered
     (rw (to_z-of_z c.ranges.t) at c.try_then_frame.ensures.rendered)

@@ -1,7 +1,7 @@
 use Rattle.std.proofs.Common.{subst, sym, to_z-of_z}
 use Rattle.std.specs.Result.{IfOk}
-use Rattle.frame_paint.specs.Frames.{leases_of}
-use Rattle.render_pass.proofs.Held.{leases-given, leases-held}
+use Rattle.renderer.specs.ShownFrames.{leases_of}
+use Rattle.renderer.proofs.Held.{leases-given, leases-held}
 use Rattle.track_history.specs.Calls.{TrackView, history_of}
 use Rattle.play_workers.specs.Asks.{IsImageAsked}
 use Rattle.play_workers.specs.Stages.{play_on}

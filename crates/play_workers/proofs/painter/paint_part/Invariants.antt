@@ -1,7 +1,7 @@
 use Rattle.std.proofs.Common.{[], ◌-◌, ◌≤◌}
-use Rattle.cache_totals.specs.Balance.{AreLater}
-use Rattle.render_pass.specs.Holding.{HoldsTheSame}
-use Rattle.render_pass.specs.Passes.{IsPassOfRenderer}
+use Rattle.mask_caches.specs.Balance.{AreLater}
+use Rattle.renderer.specs.Holding.{HoldsTheSame}
+use Rattle.renderer.specs.Passes.{IsPassOfRenderer}
 use Rattle.turn_cell.specs.Passes.{Follows}
 use Rattle.play_workers.specs.Asks.{AreImagesAsked}
 use Rattle.play_workers.specs.Parts.{painted_bytes}

@@ -1,7 +1,7 @@
 use Rattle.std.proofs.Common.{◌≡◌, ◌<◌, List, [], length, get_or, refl, sym, subst, ◌∙◌}
 use Rattle.bdf_font.specs.Fonts.{FontValue}
 use Rattle.mask_keys.specs.declared.plans.Draw.{Draw}
-use Rattle.mask_model.specs.Pictures.{image_of_draw}
+use Rattle.mask_keys.specs.Pictures.{image_of_draw}
 use Rattle.plain_images.specs.PlainImages.{ArePlainImages}
 use Rattle.plain_images.specs.PlainImages as plain
 use Rattle.plain_images.specs.declared.plain.PlainImage.{PlainImage}
@@ -20,7 +20,7 @@ pub loop-draw-preserved : goal.loop-draw-preserved
 loop-draw-preserved c =
     let kept = c.loop-draw.invariant in
     let size = c.args.size.now in
-    let fonts : List FontValue = c.args.alone.now.fonts in
+    let fonts : List FontValue = c.args.local.now.fonts in
     let draws : List Draw = c.args.plan.now.draws in
     let draw : Draw = c.draw-item.result in
     let below : c.loop-draw.draw-index < length draws = subst (λ (ds : List Draw). c.loop-draw.draw-index < length ds) c.as_slice-draw-items.ensures c.loop-draw-test.true in

@@ -2,10 +2,10 @@ use Rattle.std.proofs.Common.{rules, pos, false, to_z-of_z}
 use Rattle.std.proofs.lemmas.List.{take_all}
 use Rattle.std.proofs.lemmas.List.Elements.{All-more}
 use Rattle.sample_region.specs.Edges.{IsUprightPast}
-use Rattle.sample_region.specs.declared.edges.Edge.{Edge}
+use Rattle.sample_region.specs.declared.edges.SweepEdge.{SweepEdge}
 use Rattle.sample_region.proofs.sweep.are_upright_past.Goals as goal
 
-abbrev none : Edge
+abbrev none : SweepEdge
 none = record { upper = record { x = pos 0; y = pos 0 }; lower = record { x = pos 0; y = pos 0 }; down = false }
 
 pub loop-e-preserved : goal.loop-e-preserved

@@ -2,7 +2,7 @@ use Rattle.std.proofs.Common.{◌≡◌, ◌∙◌, ◌+◌, ℤ, List, length, 
 use Rattle.std.proofs.lemmas.Int.{ints}
 use Rattle.std.proofs.lemmas.List.{length-map}
 use Rattle.std.specs.List.{All}
-use Rattle.text_layout.specs.declared.anchors.Edge.{Edge}
+use Rattle.text_layout.specs.declared.anchors.AnchorSide.{AnchorSide}
 use Rattle.text_layout.specs.declared.extents.Extent.{Extent}
 use Rattle.text_layout.specs.declared.laid.Laid.{Laid}
 use Rattle.text_layout.specs.declared.laid.Line.{Line}
@@ -31,9 +31,9 @@ side_bits side h =
     place_bits side (omega (arith, ints, low, high), omega (arith, ints, low, high))
 
 -- the same lines by equal edges, widths and extents
-lines_same : (spans : List Span) (e f : Edge) (v w : ℤ) (xs ys : List Extent) → e ≡ f → v ≡ w → xs ≡ ys → lines_from e v (pos 0) spans xs ≡ lines_from f w (pos 0) spans ys
+lines_same : (spans : List Span) (e f : AnchorSide) (v w : ℤ) (xs ys : List Extent) → e ≡ f → v ≡ w → xs ≡ ys → lines_from e v (pos 0) spans xs ≡ lines_from f w (pos 0) spans ys
 lines_same spans e f v w xs ys edge width same =
-    ap₂ (λ (g : Edge) (across : ℤ). lines_from g across (pos 0) spans xs) edge width ∙ ap (lines_from f w (pos 0) spans) same
+    ap₂ (λ (g : AnchorSide) (across : ℤ). lines_from g across (pos 0) spans xs) edge width ∙ ap (lines_from f w (pos 0) spans) same
 
 pub line_extents-requires-clause-spans : goal.line_extents-requires-clause-spans
 line_extents-requires-clause-spans c = spans-within 0 (length c.args.extents.now) c.args.spans.now c.requires.spans

@@ -51,6 +51,9 @@ laid_by script fonts event view size metrics extents advances items max spans sh
       is ∙ ap₂ (λ (x : List Metrics) (y : List Extent). laid_out view x y shown) m e ∙ ap (laid_out view all each) s,
     )
 
+pub margins_of-requires-clause-styles : goal.margins_of-requires-clause-styles
+margins_of-requires-clause-styles c = rw (← c.setting.view_is) at c.requires.setting.script.styles
+
 pub line_spans-requires-clause-widths : goal.line_spans-requires-clause-widths
 line_spans-requires-clause-widths c =
     subst (All IsItemWidth) (sym (c.as_slice-3.ensures.value ∙ c.in_ok-advances.ensures))
@@ -62,7 +65,7 @@ laid_out-requires-clause-metrics c = subst (All IsMetrics) (sym c.as_slice-4.ens
 pub laid_out-requires-clause-items : goal.laid_out-requires-clause-items
 laid_out-requires-clause-items c =
     let view = c.args.view.now in
-    let count = ap length (c.as_slice-4.ensures.value ∙ c.in_ok-metrics.ensures.value) ∙ metrics_count c.header-header.result c.args.fonts.now.fonts view c.args.size.now in
+    let count = ap length (c.as_slice-4.ensures.value ∙ c.in_ok-metrics.ensures.value) ∙ metrics_count c.header-header.result c.setting.inside.fonts.now.fonts view c.setting.inside.size in
     subst (λ (n : ℕ). All (IsShownItem n) view.items) (sym count) c.requires.view.items
 
 pub laid_out-requires-clause-extents : goal.laid_out-requires-clause-extents
@@ -70,10 +73,11 @@ laid_out-requires-clause-extents c = subst (All IsItemExtent) (sym c.as_slice-5.
 
 pub returns-clause-laid : goal.returns-clause-laid
 returns-clause-laid c =
-    let script = c.args.script.now in
-    let fonts = c.args.fonts.now.fonts in
+    let setting = c.setting.inside in
+    let script = setting.script.now in
+    let fonts = setting.fonts.now.fonts in
     let view = c.args.view.now in
-    let size = c.args.size.now in
+    let size = setting.size in
     let all = all_metrics script.header fonts view size in
     let metrics = c.in_ok-metrics.ensures.value ∙ ap (λ (h : Header). all_metrics h fonts view size) c.header-header.ensures in
     let extents =
@@ -83,9 +87,10 @@ returns-clause-laid c =
     let max =
     to_z-of_z fits ∙ c.wrapping_width-max.ensures
     ∙ ap₂ (λ (h : Header) (m : Margins). wrapping_width h m size) c.header-header.ensures c.margins_of.ensures.value in
-    IfOk-weaker c.laid_out.result _ _ (λ laid is. laid_by script fonts c.args.event.now view size c.as_slice-4.result.now c.as_slice-5.result.now c.as_slice-3.result.now
+    rw (← c.setting.view_is)
+    (IfOk-weaker c.laid_out.result _ _ (λ laid is. laid_by script fonts c.args.event.now view size c.as_slice-4.result.now c.as_slice-5.result.now c.as_slice-3.result.now
     c.as_slice-items.result.now _ c.in_ok-spans.spans.items c.as_slice-6.result.now laid (c.as_slice-4.ensures.value ∙ metrics) (c.as_slice-5.ensures.value ∙ extents) advances
-    c.as_slice-items.ensures max c.as_slice-6.ensures.value c.in_ok-spans.ensures.lines is) c.laid_out.ensures.value
+    c.as_slice-items.ensures max c.as_slice-6.ensures.value c.in_ok-spans.ensures.lines is) c.laid_out.ensures.value)
 
 pub returns-clause-within : goal.returns-clause-within
 returns-clause-within c =

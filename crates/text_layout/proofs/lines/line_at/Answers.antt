@@ -1,6 +1,6 @@
 use Rattle.std.proofs.Common.{◌≡◌, ◌∙◌, ℤ, pos, ◌+ℤ◌, ◌-ℤ◌, ◌≤ℤ◌, ap, ap₂, arith}
 use Rattle.std.proofs.lemmas.Int.{ints}
-use Rattle.text_layout.specs.declared.anchors.Edge.{Edge}
+use Rattle.text_layout.specs.declared.anchors.AnchorSide.{AnchorSide}
 use Rattle.text_layout.specs.declared.extents.Extent.{Extent}
 use Rattle.text_layout.specs.declared.laid.Line.{Line}
 use Rattle.text_layout.specs.declared.spans.Span.{Span}
@@ -15,7 +15,7 @@ use Rattle.text_layout.proofs.lines.line_at.Goals as goal
 abbrev line_of : Span → ℤ → ℤ → ℤ → ℤ → ℤ → Line
 line_of span top baseline left width height = record { first = span.first; last = span.last; top = top; baseline = baseline; left = left; width = width; height = height }
 
-line_bits : (column : Edge) (width : ℤ) (span : Span) (e : Extent) (top r : ℤ) → IsLineExtent e → IsBlockSide top → width ≤ℤ pos max_line → e.advance ≤ℤ width
+line_bits : (column : AnchorSide) (width : ℤ) (span : Span) (e : Extent) (top r : ℤ) → IsLineExtent e → IsBlockSide top → width ≤ℤ pos max_line → e.advance ≤ℤ width
     → r ≡ edge_within column (bits_64 (bits_64 width -ℤ bits_64 e.advance))
     → line_of span (bits_64 top) (bits_64 (bits_64 top +ℤ bits_64 e.ascent)) (bits_64 r) (bits_64 e.advance) (bits_64 (bits_64 e.ascent +ℤ bits_64 e.descent)) ≡ line_at column width span e top
 line_bits column width span e top r reach side most wide is =

@@ -1,6 +1,6 @@
 use Rattle.std.proofs.Common.{◌≡◌, ℕ, ℤ, List, ◌+◌, ◌-◌, ◌∙◌, ◌++◌, map, take, drop, sym, ap, subst, to_z, of_z, to_z-of_z, w64, refl}
 use Rattle.text_layout.specs.Spans.{AreChosen, places_of, spans_between}
-use Rattle.text_layout.specs.declared.kinds.Role.TheVariants.{Space}
+use Rattle.text_layout.specs.declared.kinds.BreakRole.TheVariants.{Space}
 use Rattle.text_layout.proofs.SpanLemmas.{AreInOrder-placed, AreSpans-between, chosen-slice, paragraph-slice, roles-slice}
 use Rattle.text_layout.proofs.spans.add_lines.Goals as goal
 

@@ -1,11 +1,11 @@
 use Rattle.std.proofs.Common.{None, refl, sym}
-use Rattle.actor_caches.specs.Caches.{ActorCachesView, failed}
-use Rattle.actor_caches.specs.Holdings.{holding_place}
-use Rattle.actor_caches.specs.declared.holding.Holding.{Holding}
-use Rattle.world_keys.specs.Keys.{equal_world_keys}
+use Rattle.world_core.specs.Caches.{ActorCachesView, failed}
+use Rattle.world_core.specs.Holdings.{holding_place}
+use Rattle.world_core.specs.declared.holding.Holding.{Holding}
+use Rattle.world_core.specs.Keys.{equal_world_keys}
 use Rattle.world_core.specs.Tellings.{AreWorldCaches, WorldTag}
-use Rattle.world_keys.specs.declared.keys.WorldKey.{WorldKey}
-use Rattle.world_keys.specs.declared.keys.WorldValue.{WorldValue}
+use Rattle.world_core.specs.declared.world_keys.WorldKey.{WorldKey}
+use Rattle.world_core.specs.declared.world_keys.WorldValue.{WorldValue}
 use Rattle.world_core.proofs.Holdings.{at-kept, at-made, at-none, done-found, done-none}
 use Rattle.world_core.proofs.Shards.{caches-failed}
 use Rattle.world_core.proofs.caching.fail.Goals as goal

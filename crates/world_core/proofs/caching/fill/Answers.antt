@@ -1,16 +1,16 @@
 use Rattle.std.proofs.Common.{◌≡◌, ◌<◌, length, get_or, None, refl, sym, ap, ◌∙◌, subst}
 use Rattle.std.specs.Arc.{arc_value}
-use Rattle.mask_model.specs.Outlines.{glyph_counts}
-use Rattle.actor_caches.specs.Caches.{ActorCachesView, filled}
-use Rattle.actor_caches.specs.Holdings.{holding_place}
-use Rattle.actor_caches.specs.declared.holding.Holding.{Holding}
-use Rattle.world_keys.specs.Keys.{IsValidWorldKey, equal_world_keys, world_meaning, world_value}
+use Rattle.mask_keys.specs.Outlines.{glyph_counts}
+use Rattle.world_core.specs.Caches.{ActorCachesView, filled}
+use Rattle.world_core.specs.Holdings.{holding_place}
+use Rattle.world_core.specs.declared.holding.Holding.{Holding}
+use Rattle.world_core.specs.Keys.{IsValidWorldKey, equal_world_keys, world_meaning, world_value}
 use Rattle.world_core.specs.Tellings.{AreWorldCaches, WorldTag}
-use Rattle.world_keys.specs.declared.keys.WorldKey.{WorldKey}
-use Rattle.world_keys.specs.declared.keys.WorldValue.{WorldValue}
+use Rattle.world_core.specs.declared.world_keys.WorldKey.{WorldKey}
+use Rattle.world_core.specs.declared.world_keys.WorldValue.{WorldValue}
 use Rattle.world_core.proofs.Holdings.{at-kept, at-made, at-none, done-found, done-none}
 use Rattle.world_core.proofs.Shards.{caches-filled, caches-same, valid-at, value-at}
-use Rattle.world_keys.proofs.Costs.{cost-most}
+use Rattle.world_core.proofs.Costs.{cost-most}
 use Rattle.world_core.proofs.caching.fill.Goals as goal
 
 pub made_value-requires-clause-key : goal.made_value-requires-clause-key

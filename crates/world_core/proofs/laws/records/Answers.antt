@@ -1,4 +1,4 @@
-use Rattle.world_keys.specs.Keys.{world_meaning}
+use Rattle.world_core.specs.Keys.{world_meaning}
 use Rattle.world_core.proofs.Recording.{steps-are-recorded}
 use Rattle.world_core.proofs.laws.records.Goals as goal
 

@@ -1,5 +1,11 @@
-use Rattle.std.proofs.Common.{refl, to_z-of_z}
+use Rattle.std.proofs.Common.{ap, to_z-of_z}
+use Rattle.text_layout.specs.Settings.{SettingValue}
 use Rattle.world_core.proofs.looking.look_at.Goals as goal
 
 pub returns : goal.returns
-returns c = λ history tells. record { n = c.entries.ensures history tells; size = refl; frame = c.requires.size; draws = rw (to_z-of_z c.ranges.t) at (c.in_ok-plan.ensures history tells) }
+returns c = λ history tells. record {
+  n = c.entries.ensures history tells;
+  size = ap (λ (s : SettingValue). s.size) c.setting.view_is;
+  frame = c.requires.setting.size;
+  draws = rw (to_z-of_z c.ranges.t) at (c.in_ok-plan.ensures history tells);
+}

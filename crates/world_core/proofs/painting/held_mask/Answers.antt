@@ -1,5 +1,5 @@
 use Rattle.std.specs.Arc.{arc_value}
-use Rattle.world_core.proofs.Holding.{value-lacking}
+use Rattle.world_core.proofs.HeldValues.{value-lacking}
 use Rattle.world_core.proofs.painting.held_mask.Goals as goal
 
 pub returns-clause-held : goal.returns-clause-held

@@ -1,10 +1,10 @@
 use Rattle.std.proofs.Common.{◌≡◌, List, sym, ◌∙◌, subst}
 use Rattle.std.proofs.lemmas.List.{take_all}
-use Rattle.actor_caches.specs.Holdings.{count_held, is_held_by}
-use Rattle.actor_caches.specs.declared.holding.Holding.{Holding}
-use Rattle.world_keys.specs.Keys.{equal_world_keys}
-use Rattle.world_keys.specs.declared.keys.WorldKey.{WorldKey}
-use Rattle.world_core.proofs.Holding.{counted-here, counted-not}
+use Rattle.world_core.specs.Holdings.{count_held, is_held_by}
+use Rattle.world_core.specs.declared.holding.Holding.{Holding}
+use Rattle.world_core.specs.Keys.{equal_world_keys}
+use Rattle.world_core.specs.declared.world_keys.WorldKey.{WorldKey}
+use Rattle.world_core.proofs.HeldValues.{counted-here, counted-not}
 use Rattle.world_core.proofs.painting.is_held.Goals as goal
 
 pub returns-then-is_held_by-clause-some : goal.returns-then-is_held_by-clause-some

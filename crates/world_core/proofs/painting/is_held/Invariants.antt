@@ -1,6 +1,6 @@
 use Rattle.std.proofs.Common.{◌≡◌, take}
-use Rattle.actor_caches.specs.Holdings.{count_held}
-use Rattle.world_keys.specs.Keys.{equal_world_keys}
+use Rattle.world_core.specs.Holdings.{count_held}
+use Rattle.world_core.specs.Keys.{equal_world_keys}
 use Rattle.world_core.proofs.painting.is_held.Given as goal
 
 abbrev pub invariant-loop-pin : goal.invariant-loop-pin

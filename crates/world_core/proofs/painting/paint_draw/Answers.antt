@@ -1,4 +1,4 @@
-use Rattle.world_core.proofs.Holding.{draw-held}
+use Rattle.world_core.proofs.HeldValues.{draw-held}
 use Rattle.world_core.proofs.painting.paint_draw.Goals as goal
 
 pub paint_value-requires-clause-value : goal.paint_value-requires-clause-value

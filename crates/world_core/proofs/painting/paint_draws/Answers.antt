@@ -2,9 +2,9 @@ use Rattle.std.proofs.Common.{refl, ap, ◌∙◌, subst}
 use Rattle.std.specs.Arc.{arc_value}
 use Rattle.std.specs.List.{fold}
 use Rattle.std.proofs.lemmas.List.{take_all}
-use Rattle.alone_caches.proofs.PaintLemmas.{painted-more}
-use Rattle.mask_model.specs.Pictures.{with_draw}
-use Rattle.world_core.proofs.Holding.{all-more, not-all}
+use Rattle.local_caches.proofs.PaintLemmas.{painted-more}
+use Rattle.mask_keys.specs.Pictures.{with_draw}
+use Rattle.world_core.proofs.HeldValues.{all-more, not-all}
 use Rattle.world_core.specs.Replies.{HoldsAll, HoldsDraw}
 use Rattle.world_core.proofs.painting.paint_draws.Goals as goal
 

@@ -1,7 +1,7 @@
 use Rattle.std.proofs.Common.{◌≡◌, take}
 use Rattle.std.specs.Arc.{arc_value}
 use Rattle.std.specs.List.{fold}
-use Rattle.mask_model.specs.Pictures.{with_draw}
+use Rattle.mask_keys.specs.Pictures.{with_draw}
 use Rattle.world_core.specs.Replies.{HoldsAll}
 use Rattle.world_core.proofs.painting.paint_draws.Given as goal
 

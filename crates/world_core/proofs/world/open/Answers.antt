@@ -1,7 +1,7 @@
 use Rattle.std.proofs.Common.{refl}
 use Rattle.std.specs.Arc.{arc_value}
 use Rattle.std.proofs.lemmas.List.Elements.{All-nil}
-use Rattle.world_keys.specs.Keys.{world_meaning}
+use Rattle.world_core.specs.Keys.{world_meaning}
 use Rattle.world_core.proofs.Looks.{no-looks}
 use Rattle.world_core.proofs.Recording.{opening-recorded}
 use Rattle.world_core.proofs.world.open.Goals as goal

@@ -1,7 +1,7 @@
 use Rattle.std.proofs.Common.{◌≡◌, List, take, refl, ◌∙◌, subst, arith}
 use Rattle.std.specs.Arc.{arc_value}
 use Rattle.std.proofs.lemmas.List.{take_all}
-use Rattle.world_keys.specs.Keys.{world_meaning}
+use Rattle.world_core.specs.Keys.{world_meaning}
 use Rattle.world_core.specs.Laws.{KeepsLaws}
 use Rattle.world_core.specs.Replies.{AreReplies}
 use Rattle.world_core.specs.Steps.{after_steps}
@@ -42,7 +42,7 @@ loop-step-init c = record {
   fonts = refl;
   tells = λ s t. t;
   replies = λ s t. rw c.new-replies.ensures.items tt;
-  laws = λ s t k within. let zero : k ≡ 0 = omega (arith, within) in rw zero (subst (KeepsLaws world_meaning) t.caches c.keep_laws.ensures);
+  laws = λ s t k within. let zero : k ≡ 0 = omega (arith, within) in rw zero (subst (KeepsLaws world_meaning) t.caches c.proof_laws.ensures);
 }
 
 pub loop-step-preserved : goal.loop-step-preserved

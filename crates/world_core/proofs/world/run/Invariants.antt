@@ -1,6 +1,6 @@
 use Rattle.std.proofs.Common.{◌≡◌, ◌≤◌, ℕ, take}
 use Rattle.std.specs.Arc.{arc_value}
-use Rattle.world_keys.specs.Keys.{world_meaning}
+use Rattle.world_core.specs.Keys.{world_meaning}
 use Rattle.world_core.specs.Laws.{KeepsLawsFor}
 use Rattle.world_core.specs.Replies.{AreReplies}
 use Rattle.world_core.specs.States.{WorldState}

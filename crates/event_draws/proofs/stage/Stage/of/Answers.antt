@@ -14,6 +14,6 @@ returns-clause-value c =
     let moved : c.moved_down.result ≡ moved_down at c.args.shift = search rules in
     let elapsed : c.elapsed_of.result ≡ elapsed_at c.args.event.now c.args.t = search rules in
     let fits : FitsSigned w64 c.elapsed_of.result = search rules in
-    rw (to_z-of_z fits)
-    (stage_is c.args.script.now c.args.event.now c.args.t c.args.size.now view laid c.args.shift c.header-header.result at c.corner_of.result c.moved_down.result c.origin_of.result
+    rw (to_z-of_z fits, ← c.setting.view_is)
+    (stage_is c.setting.inside.script.now c.args.event.now c.args.t c.setting.inside.size view laid c.args.shift c.header-header.result at c.corner_of.result c.moved_down.result c.origin_of.result
     c.elapsed_of.result c.header-header.ensures c.anchor-at.ensures.value corner moved c.origin_of.ensures.value elapsed)

@@ -34,10 +34,10 @@ loop-i-preserved g c =
     let fk : shard_of (g.M.Made.meaning.numbers c.index-key.result.now) ≡ c.index.result.now = ap (λ (k : g.row.M-Key.Denot). shard_of (g.M.Made.meaning.numbers k)) c.index-key.ensures ∙ shard-at (λ (k : g.row.M-Key.Denot). shard_of (g.M.Made.meaning.numbers k)) c.args.keys.now.items c.args.shards.now.items c.loop-i.i c.index.result.now c.index-key.result.now lt c.requires c.index.ensures in
     let found : pins_at g.M.Key.PartialEq.eq (at (four_of c.args.holds.now) (shard_of (g.M.Made.meaning.numbers c.index-key.result.now))) c.index-key.result.now ≡ Some c.in-Some.pins = ap (λ (n : ℕ). pins_at g.M.Key.PartialEq.eq (at (four_of c.args.holds.now) n) c.index-key.result.now) fk ∙ (ap (λ (h : Hold g.row.M.Denot g.row.M-Key.Denot g.row.M-Value.Denot g.row.M-Tag.Denot). pins_at g.M.Key.PartialEq.eq h c.index-key.result.now) (sym c.of.ensures) ∙ (sym c.pins_of.ensures ∙ c.in-Some.is)) in
     elim c.else-room-i.branch [
-      | else-room-i-via-then-room-i+else-room-places w ↦ can-pin-more g.M.Key.PartialEq.eq g.met.M.Key.Eq.laws g.met.M.Made.same_key g.M.Made.meaning c.args.self.now c.numbered.ensures c.args.keys.now.items c.loop-i.i c.index-key.result.now lt c.args.holds.now c.loop-i.invariant c.in-Some.pins
+      | else-room-i-via-then-room-i+else-room-places w ↦ can-pin-more g.M.Key.PartialEq.eq g.met.M.Key.Eq.laws g.met.M.Made.same_key g.M.Made.meaning c.args.self.now c.proof_numbered.ensures c.args.keys.now.items c.loop-i.i c.index-key.result.now lt c.args.holds.now c.loop-i.invariant c.in-Some.pins
           (subst (λ (x : g.row.M-Key.Denot). pins_at g.M.Key.PartialEq.eq (at (four_of c.args.holds.now) (shard_of (g.M.Made.meaning.numbers x))) x ≡ Some c.in-Some.pins) c.index-key.ensures found)
           (subst (λ (x : g.row.M-Key.Denot). c.in-Some.pins + times_named g.M.Key.PartialEq.eq x (take c.loop-i.i c.args.keys.now.items) < max_pins) c.index-key.ensures (omega (arith, w.if-room-places.false, w.places.ensures)))
-      | else-room-i-via-else-room-i w ↦ can-pin-more g.M.Key.PartialEq.eq g.met.M.Key.Eq.laws g.met.M.Made.same_key g.M.Made.meaning c.args.self.now c.numbered.ensures c.args.keys.now.items c.loop-i.i c.index-key.result.now lt c.args.holds.now c.loop-i.invariant c.in-Some.pins
+      | else-room-i-via-else-room-i w ↦ can-pin-more g.M.Key.PartialEq.eq g.met.M.Key.Eq.laws g.met.M.Made.same_key g.M.Made.meaning c.args.self.now c.proof_numbered.ensures c.args.keys.now.items c.loop-i.i c.index-key.result.now lt c.args.holds.now c.loop-i.invariant c.in-Some.pins
           (subst (λ (x : g.row.M-Key.Denot). pins_at g.M.Key.PartialEq.eq (at (four_of c.args.holds.now) (shard_of (g.M.Made.meaning.numbers x))) x ≡ Some c.in-Some.pins) c.index-key.ensures found)
           (subst (λ (x : g.row.M-Key.Denot). c.in-Some.pins + times_named g.M.Key.PartialEq.eq x (take c.loop-i.i c.args.keys.now.items) < max_pins) c.index-key.ensures (omega (arith, w.if-room-i.false, named-take g.M.Key.PartialEq.eq c.index-key.result.now c.args.keys.now.items c.loop-i.i (omega (arith, lt)))))
     ]

@@ -7,22 +7,22 @@ use Rattle.mask_keys.specs.contracts.mask_key.MaskKeyEq.TheImpl.Laws as mask_law
 use Rattle.mask_keys.specs.contracts.region_key.RegionKeyEq.TheImpl.Laws as region_laws
 use Rattle.mask_keys.specs.Keys.{IsValidPart}
 use Rattle.mask_keys.specs.declared.composite_key.Part.{Part}
-use Rattle.mask_model.specs.Masks.{summed_mask}
-use Rattle.mask_model.specs.Outlines.{glyph_counts}
-use Rattle.mask_model.specs.Values.{placed_part}
+use Rattle.mask_keys.specs.Masks.{summed_mask}
+use Rattle.mask_keys.specs.Outlines.{glyph_counts}
+use Rattle.mask_keys.specs.Values.{placed_part}
 use Rattle.cache_kinds.specs.Kinds.{mask_meaning, region_meaning}
 use Rattle.mask_caches.specs.Holding.{AreAllHad, all_given_steps, pinned_keys}
 use Rattle.mask_caches.specs.Visits.{AreMaskVisits, mask_steps, mask_unpins}
 use Rattle.mask_caches.proofs.Adding.{adds-none, adds-stays}
 use Rattle.mask_caches.proofs.Composed.{as-many, composed-value, given-back, given-then, more-held, none-visited, on-ok-then, placeable}
-use Rattle.mask_caches.proofs.Visiting.{much-itself}
 use Rattle.mask_caches.proofs.caches.Caches.make_composite.Goals as goal
+use Rattle.mask_caches.proofs.Holding.{much-itself}
 
 pub returns-then-is_err : goal.returns-then-is_err
 returns-then-is_err g c = record {
   visits = ([], none-visited c.args.key.now.parts, adds-none equal_regions region_meaning c.args.self.now.outlines c.args.outlines, adds-none equal_masks mask_meaning c.args.self.now.masks c.args.masks, tt);
-  outlines = much-itself equal_regions region_laws.laws-law region_same region_meaning c.args.self.now.outlines c.args.outlines;
-  holds = much-itself equal_masks mask_laws.laws-law mask_same mask_meaning c.args.self.now.masks c.args.masks;
+  outlines = much-itself equal_regions region_meaning c.args.self.now.outlines c.args.outlines;
+  holds = much-itself equal_masks mask_meaning c.args.self.now.masks c.args.masks;
   value = tt;
 }
 

@@ -5,22 +5,23 @@ use Rattle.mask_keys.specs.Keys.{region_key}
 use Rattle.mask_keys.specs.declared.region_key.RegionKey.{RegionKey}
 use Rattle.mask_keys.proofs.Equal.{region_same}
 use Rattle.mask_keys.specs.contracts.region_key.RegionKeyEq.TheImpl.Laws as region_laws
-use Rattle.mask_model.specs.Values.{region_value}
+use Rattle.mask_keys.specs.Values.{region_value}
 use Rattle.cache_kinds.specs.Kinds.{region_meaning}
 use Rattle.mask_caches.specs.Courses.{Unasked, has_value}
 use Rattle.mask_caches.proofs.Adding.{adds-none, adds-stays}
 use Rattle.mask_caches.proofs.Levels.{no-region-visit, region-refused, region-used}
 use Rattle.mask_caches.proofs.PlainValues.{mask-made, region-near}
 use Rattle.mask_caches.proofs.Tagged.{region-of-fonts}
-use Rattle.mask_caches.proofs.Visiting.{any-ok, given-again, lease-held, much-itself, refused-much}
+use Rattle.mask_caches.proofs.Visiting.{any-ok, given-again, lease-held, refused-much}
 use Rattle.mask_caches.proofs.caches.Caches.make_mask.Goals as goal
+use Rattle.mask_caches.proofs.Holding.{much-itself}
 
 pub returns-in_default : goal.returns-in_default
 returns-in_default g c =
     let none = no-region-visit (region_key c.args.key.now) in
     record {
       region = (record { course = Unasked; outline = Unasked }, none, adds-none equal_regions region_meaning c.args.self.now.outlines c.args.outlines, tt);
-      holds = much-itself equal_regions region_laws.laws-law region_same region_meaning c.args.self.now.outlines c.args.outlines;
+      holds = much-itself equal_regions region_meaning c.args.self.now.outlines c.args.outlines;
       value = tt;
     }
 

@@ -6,28 +6,29 @@ use Rattle.cache_kinds.specs.Kinds.{mask_meaning, region_meaning}
 use Rattle.mask_caches.proofs.Adding.{adds-none, adds-stays}
 use Rattle.mask_caches.proofs.Tagged.{mask-cost, mask-tagged}
 use Rattle.mask_caches.proofs.Levels.{found-mask, made-mask, unasked-mask}
-use Rattle.mask_caches.proofs.Visiting.{duty-open, duty-value, found-holds, much-itself, settled-holds, unasked-holds}
+use Rattle.mask_caches.proofs.Visiting.{duty-open, duty-value, found-holds, settled-holds, unasked-holds}
 use Rattle.mask_caches.proofs.caches.Caches.mask.Goals as goal
+use Rattle.mask_caches.proofs.Holding.{much-itself}
 
-pub returns-in-Had : goal.returns-in-Had
-returns-in-Had g c =
-    let asks = rw c.in-Had.is at c.ask-masks.ensures.steps in
-    let need = rw c.in-Had.is at c.ask-masks.ensures.need in
+pub returns-in-Hit : goal.returns-in-Hit
+returns-in-Hit g c =
+    let asks = rw c.in-Hit.is at c.ask-masks.ensures.steps in
+    let need = rw c.in-Hit.is at c.ask-masks.ensures.asked in
     record {
-      visit = found-mask c.args.self.now.outlines c.args.self.now.masks c.args.key.now c.args.outlines c.args.outlines c.args.masks c.ask-masks.result.0 c.in-Had.pin (adds-none equal_regions region_meaning c.args.self.now.outlines c.args.outlines) asks need;
-      outlines = much-itself equal_regions region_laws.laws-law region_same region_meaning c.args.self.now.outlines c.args.outlines;
-      holds = found-holds equal_masks mask_laws.laws-law mask_same mask_meaning c.args.self.now.masks c.args.key.now c.args.masks c.ask-masks.result.0 c.in-Had.pin asks need;
+      visit = found-mask c.args.self.now.outlines c.args.self.now.masks c.args.key.now c.args.outlines c.args.outlines c.args.masks c.ask-masks.result.0 c.in-Hit.pin (adds-none equal_regions region_meaning c.args.self.now.outlines c.args.outlines) asks need;
+      outlines = much-itself equal_regions region_meaning c.args.self.now.outlines c.args.outlines;
+      holds = found-holds equal_masks mask_laws.laws-law mask_same mask_meaning c.args.self.now.masks c.args.key.now c.args.masks c.ask-masks.result.0 c.in-Hit.pin asks need;
     }
 
 pub settle-masks-requires : goal.settle-masks-requires
 settle-masks-requires g c =
     let asks = rw c.in-Make.is at c.ask-masks.ensures.steps in
-    let need = rw c.in-Make.is at c.ask-masks.ensures.need in
+    let need = rw c.in-Make.is at c.ask-masks.ensures.asked in
     let made = c.make_mask-outlines.result.1 in
     let q = c.ask-masks.result.0 in
     record {
       cell = adds-stays equal_masks mask_meaning c.args.self.now.masks c.args.masks q _ c.requires.masks asks;
-      claimed = duty-open equal_masks mask_laws.laws-law mask_same mask_meaning c.args.self.now.masks c.args.key.now c.args.masks q q c.in-Make.duty asks need (much-itself equal_masks mask_laws.laws-law mask_same mask_meaning c.args.self.now.masks q);
+      claimed = duty-open equal_masks mask_laws.laws-law mask_same mask_meaning c.args.self.now.masks c.args.key.now c.args.masks q q c.in-Make.duty asks need (much-itself equal_masks mask_meaning c.args.self.now.masks q);
       value = duty-value equal_masks mask_laws.laws-law mask_same mask_meaning c.args.self.now.masks c.args.key.now c.in-Make.duty made need
           (mask-tagged c.args.self.now.fonts c.args.self.now.masks.tag c.args.key.now made c.args.self.now.tags.masks_have c.make_mask-outlines.ensures.value);
       cost = mask-cost made;
@@ -36,7 +37,7 @@ settle-masks-requires g c =
 pub returns-in-Make : goal.returns-in-Make
 returns-in-Make g c =
     let asks = rw c.in-Make.is at c.ask-masks.ensures.steps in
-    let need = rw c.in-Make.is at c.ask-masks.ensures.need in
+    let need = rw c.in-Make.is at c.ask-masks.ensures.asked in
     let new = rw c.in-Make.is at c.ask-masks.ensures.new in
     let cache = c.args.self.now.masks in
     let q = c.ask-masks.result.0 in
@@ -48,7 +49,7 @@ returns-in-Make g c =
           (mask-tagged c.args.self.now.fonts cache.tag c.args.key.now made c.args.self.now.tags.masks_have c.make_mask-outlines.ensures.value);
       outlines = c.make_mask-outlines.ensures.holds;
       holds = settled-holds equal_masks mask_laws.laws-law mask_same mask_meaning cache c.args.key.now c.args.masks q q c.settle-masks.result.0 c.in-Make.duty made had
-          asks need new (much-itself equal_masks mask_laws.laws-law mask_same mask_meaning cache q) c.settle-masks.ensures.steps c.settle-masks.ensures.settled;
+          asks need new (much-itself equal_masks mask_meaning cache q) c.settle-masks.ensures.steps c.settle-masks.ensures.settled;
     }
 
 pub returns-in-OutOfMemory : goal.returns-in-OutOfMemory
@@ -56,6 +57,6 @@ returns-in-OutOfMemory g c =
     let asks = rw c.in-OutOfMemory.is at c.ask-masks.ensures.steps in
     record {
       visit = unasked-mask c.args.self.now.outlines c.args.self.now.masks c.args.key.now c.args.outlines c.args.outlines c.args.masks c.ask-masks.result.0 (adds-none equal_regions region_meaning c.args.self.now.outlines c.args.outlines) asks;
-      outlines = much-itself equal_regions region_laws.laws-law region_same region_meaning c.args.self.now.outlines c.args.outlines;
+      outlines = much-itself equal_regions region_meaning c.args.self.now.outlines c.args.outlines;
       holds = unasked-holds equal_masks mask_laws.laws-law mask_same mask_meaning c.args.self.now.masks c.args.masks c.ask-masks.result.0 _ asks;
     }

@@ -6,26 +6,27 @@ use Rattle.cache_kinds.specs.Kinds.{region_meaning}
 use Rattle.mask_caches.specs.Courses.{Found, Unasked}
 use Rattle.mask_caches.proofs.Adding.{adds-none, adds-stays}
 use Rattle.mask_caches.proofs.Tagged.{region-cost, region-tagged}
-use Rattle.mask_caches.proofs.Visiting.{any-ok, duty-open, duty-value, found-holds, much-itself, settled-course, settled-holds, unasked-holds}
+use Rattle.mask_caches.proofs.Visiting.{any-ok, duty-open, duty-value, found-holds, settled-course, settled-holds, unasked-holds}
 use Rattle.mask_caches.proofs.caches.Caches.outline.Goals as goal
+use Rattle.mask_caches.proofs.Holding.{much-itself}
 
-pub returns-in-Had : goal.returns-in-Had
-returns-in-Had g c =
-    let asks = rw c.in-Had.is at c.ask-pass.ensures.steps in
-    let need = rw c.in-Had.is at c.ask-pass.ensures.need in
+pub returns-in-Hit : goal.returns-in-Hit
+returns-in-Hit g c =
+    let asks = rw c.in-Hit.is at c.ask-pass.ensures.steps in
+    let need = rw c.in-Hit.is at c.ask-pass.ensures.asked in
     record {
       visit = (Found, asks, (refl, need.0, need.1));
-      holds = found-holds equal_regions region_laws.laws-law region_same region_meaning c.args.self.now.outlines c.args.key.now c.args.pass c.ask-pass.result.0 c.in-Had.pin asks need;
+      holds = found-holds equal_regions region_laws.laws-law region_same region_meaning c.args.self.now.outlines c.args.key.now c.args.pass c.ask-pass.result.0 c.in-Hit.pin asks need;
     }
 
 pub settle-requires : goal.settle-requires
 settle-requires g c =
     let asks = rw c.in-Make.is at c.ask-pass.ensures.steps in
-    let need = rw c.in-Make.is at c.ask-pass.ensures.need in
+    let need = rw c.in-Make.is at c.ask-pass.ensures.asked in
     let value = region-tagged c.args.self.now.fonts c.args.self.now.outlines.tag c.args.key.now c.make_outline-made.result c.args.self.now.tags.outlines_have c.make_outline-made.ensures in
     record {
       cell = adds-stays equal_regions region_meaning c.args.self.now.outlines c.args.pass c.ask-pass.result.0 _ c.requires.pass asks;
-      claimed = duty-open equal_regions region_laws.laws-law region_same region_meaning c.args.self.now.outlines c.args.key.now c.args.pass c.ask-pass.result.0 c.ask-pass.result.0 c.in-Make.duty asks need (much-itself equal_regions region_laws.laws-law region_same region_meaning c.args.self.now.outlines c.ask-pass.result.0);
+      claimed = duty-open equal_regions region_laws.laws-law region_same region_meaning c.args.self.now.outlines c.args.key.now c.args.pass c.ask-pass.result.0 c.ask-pass.result.0 c.in-Make.duty asks need (much-itself equal_regions region_meaning c.args.self.now.outlines c.ask-pass.result.0);
       value = duty-value equal_regions region_laws.laws-law region_same region_meaning c.args.self.now.outlines c.args.key.now c.in-Make.duty c.make_outline-made.result need value;
       cost = region-cost c.make_outline-made.result;
     }
@@ -33,7 +34,7 @@ settle-requires g c =
 pub returns-in-Make : goal.returns-in-Make
 returns-in-Make g c =
     let asks = rw c.in-Make.is at c.ask-pass.ensures.steps in
-    let need = rw c.in-Make.is at c.ask-pass.ensures.need in
+    let need = rw c.in-Make.is at c.ask-pass.ensures.asked in
     let new = rw c.in-Make.is at c.ask-pass.ensures.new in
     let cache = c.args.self.now.outlines in
     let q = c.ask-pass.result.0 in
@@ -43,7 +44,7 @@ returns-in-Make g c =
     record {
       visit = (v.0, v.1, v.2);
       holds = settled-holds equal_regions region_laws.laws-law region_same region_meaning cache c.args.key.now c.args.pass q q c.settle.result.0 c.in-Make.duty c.make_outline-made.result c.settle.result.1
-          asks need new (much-itself equal_regions region_laws.laws-law region_same region_meaning cache q) c.settle.ensures.steps c.settle.ensures.settled;
+          asks need new (much-itself equal_regions region_meaning cache q) c.settle.ensures.steps c.settle.ensures.settled;
     }
 
 pub returns-in-OutOfMemory : goal.returns-in-OutOfMemory

@@ -10,8 +10,8 @@ use Rattle.mask_keys.specs.contracts.composite_key.CompositeKeyEq.TheImpl.Laws a
 use Rattle.mask_caches.proofs.Adding.{later-itself}
 use Rattle.mask_caches.proofs.Pinned.{nothing-much, pin-each, pinned-more, tried-later}
 use Rattle.mask_caches.proofs.Staying.{together-later}
-use Rattle.mask_caches.proofs.Visiting.{much-itself}
 use Rattle.mask_caches.proofs.caches.Caches.try_composites.Goals as goal
+use Rattle.mask_caches.proofs.Holding.{much-itself}
 
 pub returns-then-is_err : goal.returns-then-is_err
 returns-then-is_err c =
@@ -21,7 +21,7 @@ returns-then-is_err c =
       pinned = tt;
       refused = same;
       nothing = same;
-      holds = much-itself equal_composites composite_laws.laws-law composite_same composite_meaning c.args.self.now.composites p;
+      holds = much-itself equal_composites composite_meaning c.args.self.now.composites p;
       masks = refl;
       outlines = refl;
       pass = c.requires;
@@ -33,7 +33,7 @@ invariant_of-pass c =
     record {
       together = together-later c.args.pass.outlines c.args.pass.outlines c.args.pass.masks c.args.pass.masks c.args.pass.composites c.try_pin_all-composites.result.0
           c.args.pass.together (later-itself equal_regions region_meaning c.args.self.now.outlines c.args.pass.outlines) (later-itself equal_masks mask_meaning c.args.self.now.masks c.args.pass.masks)
-          (tried-later equal_composites composite_meaning cache c.args.pass.composites c.try_pin_all-composites.result.0 composite_laws.laws-law composite_same c.numbered.ensures c.args.keys.now.items
+          (tried-later equal_composites composite_meaning cache c.args.pass.composites c.try_pin_all-composites.result.0 composite_laws.laws-law composite_same c.proof_numbered.ensures c.args.keys.items
           (λ pins. pins.items) c.try_pin_all-composites.result.1 c.try_pin_all-composites.ensures.pinned c.try_pin_all-composites.ensures.nothing);
     }
 
@@ -41,7 +41,7 @@ pub leases_of-requires-clause-room : goal.leases_of-requires-clause-room
 leases_of-requires-clause-room c =
     let pinned = rw c.in-Ok.is at c.try_pin_all-composites.ensures.pinned in
     let room = on-ok c.reserve.result _ (sym c.is_err.ensures.value ∙ c.if-is_err.false) c.reserve.ensures.ok in
-    omega (arith, room, c.len.ensures, c.new-leases.ensures.len, pin-each c.args.keys.now.items c.in-Ok.pins.items pinned.keys_are)
+    omega (arith, room, c.len.ensures, c.new-leases.ensures.len, pin-each c.args.keys.items c.in-Ok.pins.items pinned.keys_are)
 
 pub returns-in-Ok : goal.returns-in-Ok
 returns-in-Ok c =
@@ -51,7 +51,7 @@ returns-in-Ok c =
         pins = c.in-Ok.pins.items;
         are = c.leases_of.ensures;
         pinned = pinned;
-        holds = pinned-more equal_composites composite_meaning c.args.self.now.composites c.args.pass.composites c.try_pin_all-composites.result.0 composite_laws.laws-law composite_same c.numbered.ensures c.args.keys.now.items c.in-Ok.pins.items pinned;
+        holds = pinned-more equal_composites composite_meaning c.args.self.now.composites c.args.pass.composites c.try_pin_all-composites.result.0 composite_laws.laws-law composite_same c.proof_numbered.ensures c.args.keys.items c.in-Ok.pins.items pinned;
       };
       refused = tt;
       nothing = tt;
@@ -62,7 +62,7 @@ returns-in-Ok c =
         outlines = c.requires.outlines;
         masks = c.requires.masks;
         composites = stays_of_cache c.args.self.now.composites c.args.pass.composites c.try_pin_all-composites.result.0 c.requires.composites
-            (tried-later equal_composites composite_meaning c.args.self.now.composites c.args.pass.composites c.try_pin_all-composites.result.0 composite_laws.laws-law composite_same c.numbered.ensures c.args.keys.now.items
+            (tried-later equal_composites composite_meaning c.args.self.now.composites c.args.pass.composites c.try_pin_all-composites.result.0 composite_laws.laws-law composite_same c.proof_numbered.ensures c.args.keys.items
             (λ pins. pins.items) c.try_pin_all-composites.result.1 c.try_pin_all-composites.ensures.pinned c.try_pin_all-composites.ensures.nothing);
       };
     }
@@ -82,7 +82,7 @@ returns-in-Err c =
         outlines = c.requires.outlines;
         masks = c.requires.masks;
         composites = stays_of_cache c.args.self.now.composites c.args.pass.composites c.try_pin_all-composites.result.0 c.requires.composites
-            (tried-later equal_composites composite_meaning c.args.self.now.composites c.args.pass.composites c.try_pin_all-composites.result.0 composite_laws.laws-law composite_same c.numbered.ensures c.args.keys.now.items
+            (tried-later equal_composites composite_meaning c.args.self.now.composites c.args.pass.composites c.try_pin_all-composites.result.0 composite_laws.laws-law composite_same c.proof_numbered.ensures c.args.keys.items
             (λ pins. pins.items) c.try_pin_all-composites.result.1 c.try_pin_all-composites.ensures.pinned c.try_pin_all-composites.ensures.nothing);
       };
     }

@@ -1,39 +1,40 @@
 use Rattle.std.proofs.Common.{refl}
 use Rattle.cache_kinds.specs.Kinds.{composite_meaning, mask_meaning, region_meaning}
 use Rattle.mask_keys.specs.Equality.{equal_composites, equal_masks, equal_regions}
-use Rattle.mask_keys.proofs.Equal.{composite_same, mask_same, region_same}
+use Rattle.mask_keys.proofs.Equal.{composite_same}
 use Rattle.mask_keys.specs.contracts.composite_key.CompositeKeyEq.TheImpl.Laws as composite_laws
 use Rattle.mask_keys.specs.contracts.mask_key.MaskKeyEq.TheImpl.Laws as mask_laws
 use Rattle.mask_keys.specs.contracts.region_key.RegionKeyEq.TheImpl.Laws as region_laws
 use Rattle.mask_caches.proofs.Adding.{adds-stays}
 use Rattle.mask_caches.proofs.Tagged.{composite-tagged, mask-cost}
 use Rattle.mask_caches.proofs.Levels.{found-composite, made-composite, unasked-composite}
-use Rattle.mask_caches.proofs.Visiting.{duty-open, duty-value, found-holds, much-itself, settled-holds, unasked-holds}
+use Rattle.mask_caches.proofs.Visiting.{duty-open, duty-value, found-holds, settled-holds, unasked-holds}
 use Rattle.mask_caches.proofs.caches.Caches.visit_composite.Goals as goal
+use Rattle.mask_caches.proofs.Holding.{much-itself}
 
-pub returns-in-Had : goal.returns-in-Had
-returns-in-Had g c =
-    let asks = rw c.in-Had.is at c.ask-composites.ensures.steps in
-    let need = rw c.in-Had.is at c.ask-composites.ensures.need in
+pub returns-in-Hit : goal.returns-in-Hit
+returns-in-Hit g c =
+    let asks = rw c.in-Hit.is at c.ask-composites.ensures.steps in
+    let need = rw c.in-Hit.is at c.ask-composites.ensures.asked in
     record {
-      composed = found-composite c.args.self.now c.args.key.now _ _ c.in-Had.pin asks need refl refl;
+      composed = found-composite c.args.self.now c.args.key.now _ _ c.in-Hit.pin asks need refl refl;
       holds = record {
-        composites = found-holds equal_composites composite_laws.laws-law composite_same composite_meaning c.args.self.now.composites c.args.key.now c.args.passes.composites c.ask-composites.result.0 c.in-Had.pin asks need;
-        masks = much-itself equal_masks mask_laws.laws-law mask_same mask_meaning c.args.self.now.masks c.args.passes.masks;
-        outlines = much-itself equal_regions region_laws.laws-law region_same region_meaning c.args.self.now.outlines c.args.passes.outlines;
+        composites = found-holds equal_composites composite_laws.laws-law composite_same composite_meaning c.args.self.now.composites c.args.key.now c.args.passes.composites c.ask-composites.result.0 c.in-Hit.pin asks need;
+        masks = much-itself equal_masks mask_meaning c.args.self.now.masks c.args.passes.masks;
+        outlines = much-itself equal_regions region_meaning c.args.self.now.outlines c.args.passes.outlines;
       };
     }
 
 pub settle-composites-requires : goal.settle-composites-requires
 settle-composites-requires g c =
     let asks = rw c.in-Make.is at c.ask-composites.ensures.steps in
-    let need = rw c.in-Make.is at c.ask-composites.ensures.need in
+    let need = rw c.in-Make.is at c.ask-composites.ensures.asked in
     let cache = c.args.self.now.composites in
     let q = c.ask-composites.result.0 in
     let made = c.make_composite-outlines.result.2 in
     record {
       cell = adds-stays equal_composites composite_meaning cache c.args.passes.composites q _ c.requires.composites asks;
-      claimed = duty-open equal_composites composite_laws.laws-law composite_same composite_meaning cache c.args.key.now c.args.passes.composites q q c.in-Make.duty asks need (much-itself equal_composites composite_laws.laws-law composite_same composite_meaning cache q);
+      claimed = duty-open equal_composites composite_laws.laws-law composite_same composite_meaning cache c.args.key.now c.args.passes.composites q q c.in-Make.duty asks need (much-itself equal_composites composite_meaning cache q);
       value = duty-value equal_composites composite_laws.laws-law composite_same composite_meaning cache c.args.key.now c.in-Make.duty made need
           (composite-tagged c.args.self.now.fonts cache.tag c.args.key.now made c.args.self.now.tags.composites_have c.make_composite-outlines.ensures.value);
       cost = mask-cost made;
@@ -42,7 +43,7 @@ settle-composites-requires g c =
 pub returns-in-Make : goal.returns-in-Make
 returns-in-Make g c =
     let asks = rw c.in-Make.is at c.ask-composites.ensures.steps in
-    let need = rw c.in-Make.is at c.ask-composites.ensures.need in
+    let need = rw c.in-Make.is at c.ask-composites.ensures.asked in
     let new = rw c.in-Make.is at c.ask-composites.ensures.new in
     let cache = c.args.self.now.composites in
     let q = c.ask-composites.result.0 in
@@ -53,7 +54,7 @@ returns-in-Make g c =
           (composite-tagged c.args.self.now.fonts cache.tag c.args.key.now made c.args.self.now.tags.composites_have c.make_composite-outlines.ensures.value);
       holds = record {
         composites = settled-holds equal_composites composite_laws.laws-law composite_same composite_meaning cache c.args.key.now c.args.passes.composites q q c.settle-composites.result.0 c.in-Make.duty made had
-            asks need new (much-itself equal_composites composite_laws.laws-law composite_same composite_meaning cache q) c.settle-composites.ensures.steps c.settle-composites.ensures.settled;
+            asks need new (much-itself equal_composites composite_meaning cache q) c.settle-composites.ensures.steps c.settle-composites.ensures.settled;
         masks = c.make_composite-outlines.ensures.holds;
         outlines = c.make_composite-outlines.ensures.outlines;
       };
@@ -66,7 +67,7 @@ returns-in-OutOfMemory g c =
       composed = unasked-composite c.args.self.now c.args.key.now _ _ _ asks refl refl;
       holds = record {
         composites = unasked-holds equal_composites composite_laws.laws-law composite_same composite_meaning c.args.self.now.composites c.args.passes.composites c.ask-composites.result.0 _ asks;
-        masks = much-itself equal_masks mask_laws.laws-law mask_same mask_meaning c.args.self.now.masks c.args.passes.masks;
-        outlines = much-itself equal_regions region_laws.laws-law region_same region_meaning c.args.self.now.outlines c.args.passes.outlines;
+        masks = much-itself equal_masks mask_meaning c.args.self.now.masks c.args.passes.masks;
+        outlines = much-itself equal_regions region_meaning c.args.self.now.outlines c.args.passes.outlines;
       };
     }

@@ -8,13 +8,13 @@ use Rattle.mask_caches.proofs.Tagged.{region-cost, region-tagged}
 use Rattle.mask_caches.proofs.Visiting.{duty-open, duty-value, found-holds, settled-holds, unasked-holds}
 use Rattle.mask_caches.proofs.caches.Caches.widened.Goals as goal
 
-pub returns-in-Had : goal.returns-in-Had
-returns-in-Had g c =
-    let asks = rw c.in-Had.is at c.ask-pass.ensures.steps in
-    let need = rw c.in-Had.is at c.ask-pass.ensures.need in
+pub returns-in-Hit : goal.returns-in-Hit
+returns-in-Hit g c =
+    let asks = rw c.in-Hit.is at c.ask-pass.ensures.steps in
+    let need = rw c.in-Hit.is at c.ask-pass.ensures.asked in
     record {
-      visit = found-region c.args.self.now.outlines c.args.key.now c.args.pass c.ask-pass.result.0 c.in-Had.pin asks need;
-      holds = found-holds equal_regions region_laws.laws-law region_same region_meaning c.args.self.now.outlines c.args.key.now c.args.pass c.ask-pass.result.0 c.in-Had.pin asks need;
+      visit = found-region c.args.self.now.outlines c.args.key.now c.args.pass c.ask-pass.result.0 c.in-Hit.pin asks need;
+      holds = found-holds equal_regions region_laws.laws-law region_same region_meaning c.args.self.now.outlines c.args.key.now c.args.pass c.ask-pass.result.0 c.in-Hit.pin asks need;
     }
 
 pub make_widened-pass-requires-clause-pass : goal.make_widened-pass-requires-clause-pass
@@ -23,7 +23,7 @@ make_widened-pass-requires-clause-pass g c = adds-stays equal_regions region_mea
 pub settle-requires : goal.settle-requires
 settle-requires g c =
     let asks = rw c.in-Make.is at c.ask-pass.ensures.steps in
-    let need = rw c.in-Make.is at c.ask-pass.ensures.need in
+    let need = rw c.in-Make.is at c.ask-pass.ensures.asked in
     let value = region-tagged c.args.self.now.fonts c.args.self.now.outlines.tag c.args.key.now c.make_widened-pass.result.1 c.args.self.now.tags.outlines_have c.make_widened-pass.ensures.value in
     record {
       cell = adds-stays equal_regions region_meaning c.args.self.now.outlines c.ask-pass.result.0 c.make_widened-pass.result.0 _ (adds-stays equal_regions region_meaning c.args.self.now.outlines c.args.pass c.ask-pass.result.0 _ c.requires.pass asks) c.make_widened-pass.ensures.outline.1;
@@ -35,7 +35,7 @@ settle-requires g c =
 pub returns-in-Make : goal.returns-in-Make
 returns-in-Make g c =
     let asks = rw c.in-Make.is at c.ask-pass.ensures.steps in
-    let need = rw c.in-Make.is at c.ask-pass.ensures.need in
+    let need = rw c.in-Make.is at c.ask-pass.ensures.asked in
     let new = rw c.in-Make.is at c.ask-pass.ensures.new in
     let cache = c.args.self.now.outlines in
     let q = c.ask-pass.result.0 in

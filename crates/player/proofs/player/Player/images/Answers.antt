@@ -1,7 +1,7 @@
 use Rattle.std.proofs.Common.{ℤ, map, refl, subst}
 use Rattle.std.proofs.Math.Facts.{to_z-of_z}
 use Rattle.std.proofs.lemmas.Result.{on_ok_weaker}
-use Rattle.mask_model.specs.Pictures.{image_of_draw}
+use Rattle.mask_keys.specs.Pictures.{image_of_draw}
 use Rattle.picture_plan.specs.Pictures.{AreDraws}
 use Rattle.player.proofs.ListLemmas.{listed_picture}
 use Rattle.player.proofs.player.Player.images.Goals as goal

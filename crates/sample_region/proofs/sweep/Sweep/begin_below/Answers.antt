@@ -3,11 +3,11 @@ use Rattle.std.proofs.lemmas.Int.{ints}
 use Rattle.std.proofs.lemmas.List.Elements.{All-get_or}
 use Rattle.ass_num.proofs.OrderLemmas.{lt_is}
 use Rattle.sample_region.specs.Edges.{IsEdge}
-use Rattle.sample_region.specs.declared.edges.Edge.{Edge}
+use Rattle.sample_region.specs.declared.edges.SweepEdge.{SweepEdge}
 use Rattle.sample_region.proofs.SweepLemmas.{all_below}
 use Rattle.sample_region.proofs.sweep.Sweep.begin_below.Goals as goal
 
-abbrev none : Edge
+abbrev none : SweepEdge
 none = record { upper = record { x = pos 0; y = pos 0 }; lower = record { x = pos 0; y = pos 0 }; down = false }
 
 pub returns-else-self-edges : goal.returns-else-self-edges

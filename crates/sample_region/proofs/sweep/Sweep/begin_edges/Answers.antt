@@ -3,12 +3,12 @@ use Rattle.std.proofs.lemmas.Int.{ints}
 use Rattle.std.proofs.lemmas.List.{drop_all}
 use Rattle.std.proofs.lemmas.List.Elements.{filter_more, All-more, All-nil, All-get_or}
 use Rattle.sample_region.specs.Edges.{unended, IsEdge}
-use Rattle.sample_region.specs.declared.edges.Edge.{Edge}
+use Rattle.sample_region.specs.declared.edges.SweepEdge.{SweepEdge}
 use Rattle.ass_num.proofs.OrderLemmas.{lt_is, lt_not}
 use Rattle.sample_region.proofs.SweepLemmas.{all_below}
 use Rattle.sample_region.proofs.sweep.Sweep.begin_edges.Goals as goal
 
-abbrev none : Edge
+abbrev none : SweepEdge
 none = record { upper = record { x = pos 0; y = pos 0 }; lower = record { x = pos 0; y = pos 0 }; down = false }
 
 pub returns-then-y-e-clause-below : goal.returns-then-y-e-clause-below
@@ -32,11 +32,11 @@ loop-k-preserved c =
     let j = rw (to_z-of_z c.ranges.y) at c.loop-k.invariant.above in
     rw (to_z-of_z c.ranges.y) (record {
       begun = refl;
-      active = a ∙ rw i (sym (filter_more (λ (e : Edge). int_lt c.args.y e.lower.y) c.args.edges.now c.loop-k.k none c.loop-k-test.true));
-      above = All-more (λ (e : Edge). e.upper.y ≤ℤ c.args.y) c.args.edges.now c.loop-k.k none c.loop-k-test.true j h;
+      active = a ∙ rw i (sym (filter_more (λ (e : SweepEdge). int_lt c.args.y e.lower.y) c.args.edges.now c.loop-k.k none c.loop-k-test.true));
+      above = All-more (λ (e : SweepEdge). e.upper.y ≤ℤ c.args.y) c.args.edges.now c.loop-k.k none c.loop-k-test.true j h;
     })
 
 pub returns-clause-below : goal.returns-clause-below
 returns-clause-below c =
     let b = c.loop-k.invariant.begun in
-    rw (drop_all c.loop-k.self.begun c.args.edges.now (omega (arith, c.loop-k-test.false))) (All-nil (λ (e : Edge). c.args.y <ℤ e.upper.y))
+    rw (drop_all c.loop-k.self.begun c.args.edges.now (omega (arith, c.loop-k-test.false))) (All-nil (λ (e : SweepEdge). c.args.y <ℤ e.upper.y))

@@ -2,11 +2,11 @@ use Rattle.std.proofs.Common.{◌≡◌, ◌≢◌, [], ◌∷◌, ◌++◌, len
 use Rattle.std.specs.Ordering.{nat_cmp}
 use Rattle.std.specs.BTreeMap.{Updates}
 use Rattle.std.proofs.lemmas.List.{length-map, map_push}
-use Rattle.track_history.specs.Spans.{live_span}
+use Rattle.near_events.specs.Spans.{event_span}
 use Rattle.std.specs.Arc.{arc_value}
 use Rattle.std.specs.List.{All}
 use Rattle.ass_events.specs.declared.event.Event.{Event}
-use Rattle.track_history.specs.declared.spans.LiveSpan.{LiveSpan}
+use Rattle.near_events.specs.declared.spans.EventSpan.{EventSpan}
 use Rattle.track_history.specs.Answers.{position_of}
 use Rattle.track_history.specs.Blocks.{spans_of}
 use Rattle.track_history.specs.Tellings.{events_of}
@@ -26,8 +26,8 @@ returns-in_err-insert-clause-sound c =
 pub insert-requires-2-clause-new : goal.insert-requires-2-clause-new
 insert-requires-2-clause-new c =
     let spans = spans_of c.args.self.now.index.blocks.items in let e = arc_value c.args.event.now in let place = c.len-place.result in
-    let is : c.of-span.result ≡ live_span e place = c.of-span.ensures ∙ ap (λ (z : Event). live_span z place) c.deref.ensures in
-    subst (λ (x : LiveSpan). All (λ (s : LiveSpan). s.order ≢ x.order) spans) (sym is) (new_order (events_of c.args.self.now) spans e.order c.requires.sound.spans c.requires.new)
+    let is : c.of-span.result ≡ event_span e place = c.of-span.ensures ∙ ap (λ (z : Event). event_span z place) c.deref.ensures in
+    subst (λ (x : EventSpan). All (λ (s : EventSpan). s.order ≢ x.order) spans) (sym is) (new_order (events_of c.args.self.now) spans e.order c.requires.sound.spans c.requires.new)
 
 pub returns-in-Err-clause-sound : goal.returns-in-Err-clause-sound
 returns-in-Err-clause-sound c =
@@ -42,7 +42,7 @@ returns-clause-sound c =
     let sound = c.requires.sound in let e = arc_value c.args.event.now in let place = c.len-place.result in
     let old = c.args.self.now in let shared = c.in_ok-shared.shared in
     let at : place ≡ length (events_of old) = omega (arith, c.len-place.ensures, length-map old.events.items arc_value, old.events.ok.0) in
-    let is : c.of-span.result ≡ live_span e (length (events_of old)) = c.of-span.ensures ∙ (ap (λ (z : Event). live_span z place) c.deref.ensures ∙ ap (live_span e) at) in
+    let is : c.of-span.result ≡ event_span e (length (events_of old)) = c.of-span.ensures ∙ (ap (λ (z : Event). event_span z place) c.deref.ensures ∙ ap (event_span e) at) in
     let pushed = c.push_reserved.ensures.items ∙ ap (λ xs. xs ++ shared ∷ []) c.reserve.ensures.items in
     sound_accepted old _ e c.of-span.result sound c.requires.room
     (ap (λ xs. map arc_value xs) pushed ∙ (map_push arc_value old.events.items shared ∙ ap (λ z. events_of old ++ z ∷ []) c.in_ok-shared.ensures))

@@ -1,6 +1,6 @@
 use Rattle.std.proofs.Common.{◌≡◌, ◌≢◌, take, drop, sym, subst, ◌∙◌}
 use Rattle.std.proofs.lemmas.List.{get_or_default}
-use Rattle.track_history.specs.declared.spans.LiveSpan.{LiveSpan}
+use Rattle.near_events.specs.declared.spans.EventSpan.{EventSpan}
 use Rattle.track_history.specs.declared.blocks.Block.{Block}
 use Rattle.track_history.proofs.Indexes.{Before, Behind, block_all, block_sorted, inserted_or_not}
 use Rattle.track_history.proofs.near_index.NearIndex.insert_into.Goals as goal
@@ -9,7 +9,7 @@ pub count_before-count-requires-clause-sorted : goal.count_before-count-requires
 count_before-count-requires-clause-sorted c = block_sorted c.args.self.now.blocks.items c.args.at c.index.result.now c.requires.within c.index.ensures c.requires.index
 
 pub count_before-count-requires-clause-new : goal.count_before-count-requires-clause-new
-count_before-count-requires-clause-new c = block_all (λ (s : LiveSpan). s.order ≢ c.args.span.order) c.args.self.now.blocks.items c.args.at c.index.result.now c.requires.within c.index.ensures c.requires.new
+count_before-count-requires-clause-new c = block_all (λ (s : EventSpan). s.order ≢ c.args.span.order) c.args.self.now.blocks.items c.args.at c.index.result.now c.requires.within c.index.ensures c.requires.new
 
 pub returns-clause-index : goal.returns-clause-index
 returns-clause-index c =

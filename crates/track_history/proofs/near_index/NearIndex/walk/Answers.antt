@@ -5,7 +5,7 @@ use Rattle.track_history.proofs.near_index.NearIndex.walk.Goals as goal
 use Rattle.track_history.proofs.near_index.NearIndex.walk.Goals.{else-block-t-via-then-block-t+else-walk-block, else-block-t-via-else-block-t}
 
 pub down-preserved-then-walk-block : goal.down-preserved-then-walk-block
-down-preserved-then-walk-block c = block_walked _ _ c.down.rest _ _ c.index-block.result.now c.down.invariant c.down-test.true c.index-block.ensures c.in_ok-walk.ensures
+down-preserved-then-walk-block c = block_walked _ _ c.down.rest _ _ c.index-block.result.now c.down.invariant c.down-test.true c.index-block.ensures (rw c.as_slice.ensures.value at c.in_ok-go_over.ensures)
 
 pub down-preserved : goal.down-preserved
 down-preserved c = elim c.else-block-t.branch [

@@ -1,5 +1,5 @@
 use Rattle.track_history.proofs.Bounds.{AreWalked}
-use Rattle.track_history.specs.Walks.{walk_of}
+use Rattle.near_events.specs.Walks.{walk_of}
 use Rattle.track_history.proofs.near_index.NearIndex.walk.Given as goal
 
 abbrev pub invariant-down : goal.invariant-down

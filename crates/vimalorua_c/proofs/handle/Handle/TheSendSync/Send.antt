@@ -7,12 +7,12 @@ use denote.Param.Send.{IsSend, AllSend, owning_send, struct_send, sendable}
 use Rattle.std.proofs.Crossing as heap
 use Rattle.std_alloc.proofs.SendSync.{quiet, lies}
 use Rattle.std_heap.proofs.Global.TheSendSync as handle
-use Rattle.vimalorua_c.specs.contracts.kept.Kept as Kept
+use Rattle.vimalorua_c.specs.contracts.kept.HeldPlayer as HeldPlayer
 use Rattle.vimalorua_c.proofs.PlayerSent.{kept_send as kept}
 use Rattle.vimalorua_c.specs.contracts.handle.Handle.{the_row, the_type}
 
 pub send : IsSend the_row
 send =
     let all : AllSend (fields the_type) = (search sendable, (handle.the_field_send, tt)) in
-    owning_send the_type all (λ d. (lies Kept.the_row kept d.at d.value, heap.frees.frees d.alloc (raw (lone Kept.the_row.mir)) d.at))
+    owning_send the_type all (λ d. (lies HeldPlayer.the_row kept d.at d.value, heap.frees.frees d.alloc (raw (lone HeldPlayer.the_row.mir)) d.at))
     (λ k. quiet (to the_type) (exits_of k (fields the_type)) ((struct_send (shape the_type) all).leaving k))

@@ -1,10 +1,10 @@
-use Rattle.actor_caches.specs.Caches.{ActorCachesView, asked}
-use Rattle.world_keys.specs.Keys.{equal_world_keys}
+use Rattle.world_core.specs.Caches.{ActorCachesView, asked}
+use Rattle.world_core.specs.Keys.{equal_world_keys}
 use Rattle.world_core.specs.Replies.{IsAskReply}
 use Rattle.world_core.specs.Steps.{held_key}
 use Rattle.world_core.specs.Tellings.{WorldTag}
-use Rattle.world_keys.specs.declared.keys.WorldKey.{WorldKey}
-use Rattle.world_keys.specs.declared.keys.WorldValue.{WorldValue}
+use Rattle.world_core.specs.declared.world_keys.WorldKey.{WorldKey}
+use Rattle.world_core.specs.declared.world_keys.WorldValue.{WorldValue}
 use Rattle.world_core.specs.declared.steps.Reply.{Reply}
 use Rattle.world_core.proofs.Telling.{caches-of, made-caches}
 use Rattle.world_core.proofs.world.World.ask.Goals as goal

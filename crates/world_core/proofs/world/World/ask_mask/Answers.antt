@@ -1,5 +1,5 @@
 use Rattle.std.proofs.Common.{◌≡◌, Err, ap, rules}
-use Rattle.world_keys.specs.declared.keys.WorldKey.TheVariants.{Mask}
+use Rattle.world_core.specs.declared.world_keys.WorldKey.TheVariants.{Mask}
 use Rattle.world_core.proofs.Telling.{asked-same, made-refused}
 use Rattle.world_core.proofs.world.World.ask_mask.Goals as goal
 

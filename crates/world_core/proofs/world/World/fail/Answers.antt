@@ -1,12 +1,12 @@
 use Rattle.std.proofs.Common.{◌≡◌, Ok}
-use Rattle.actor_caches.specs.Caches.{ActorCachesView, failed}
-use Rattle.actor_caches.specs.Holdings.{holding_place}
-use Rattle.world_keys.specs.Keys.{equal_world_keys}
+use Rattle.world_core.specs.Caches.{ActorCachesView, failed}
+use Rattle.world_core.specs.Holdings.{holding_place}
+use Rattle.world_core.specs.Keys.{equal_world_keys}
 use Rattle.world_core.specs.Replies.{done_where}
 use Rattle.world_core.specs.Steps.{at_place}
 use Rattle.world_core.specs.Tellings.{WorldTag}
-use Rattle.world_keys.specs.declared.keys.WorldKey.{WorldKey}
-use Rattle.world_keys.specs.declared.keys.WorldValue.{WorldValue}
+use Rattle.world_core.specs.declared.world_keys.WorldKey.{WorldKey}
+use Rattle.world_core.specs.declared.world_keys.WorldValue.{WorldValue}
 use Rattle.world_core.specs.declared.steps.Reply.{Reply}
 use Rattle.world_core.proofs.Telling.{caches-of, made-caches}
 use Rattle.world_core.proofs.world.World.fail.Goals as goal

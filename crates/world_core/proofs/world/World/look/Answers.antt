@@ -2,11 +2,9 @@ use Rattle.std.proofs.Common.{◌≡◌, Err, rules, to_z-of_z}
 use Rattle.world_core.proofs.Telling.{made-looks, made-no_look, made-refused}
 use Rattle.world_core.proofs.world.World.look.Goals as goal
 
-pub look_at-requires-clause-script : goal.look_at-requires-clause-script
-look_at-requires-clause-script c = rw c.deref.ensures c.requires.told.1.script
-
-pub look_at-requires-clause-fonts : goal.look_at-requires-clause-fonts
-look_at-requires-clause-fonts c = rw c.deref-2.ensures c.requires.told.1.fonts
+pub look_at-requires-clause-setting : goal.look_at-requires-clause-setting
+look_at-requires-clause-setting c =
+    record { script = rw c.deref.ensures c.requires.told.1.script; fonts = rw c.deref-2.ensures c.requires.told.1.fonts; size = c.requires.size }
 
 pub look_at-requires-clause-sound : goal.look_at-requires-clause-sound
 look_at-requires-clause-sound c = c.requires.told.1.sound

@@ -1,9 +1,9 @@
 use Rattle.std.proofs.Common.{◌≡◌, ◌+◌, Ok, refl}
-use Rattle.actor_caches.specs.Caches.{ActorCachesView, with_limits}
-use Rattle.world_keys.specs.Keys.{equal_world_keys, first_shard}
+use Rattle.world_core.specs.Caches.{ActorCachesView, with_limits}
+use Rattle.world_core.specs.Keys.{equal_world_keys, first_shard}
 use Rattle.world_core.specs.Tellings.{WorldTag}
-use Rattle.world_keys.specs.declared.keys.WorldKey.{WorldKey}
-use Rattle.world_keys.specs.declared.keys.WorldValue.{WorldValue}
+use Rattle.world_core.specs.declared.world_keys.WorldKey.{WorldKey}
+use Rattle.world_core.specs.declared.world_keys.WorldValue.{WorldValue}
 use Rattle.world_core.specs.declared.steps.Reply.{Reply}
 use Rattle.world_core.specs.declared.steps.Reply.TheVariants.{Done}
 use Rattle.world_core.proofs.Telling.{caches-of, made-caches}

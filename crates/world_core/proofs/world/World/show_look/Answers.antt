@@ -9,7 +9,7 @@ pixels_of-requires-clause-shards c = (caches-of c.args.self.now c.requires.told.
 pub returns-in-Some : goal.returns-in-Some
 returns-in-Some c = λ s seen t k.
     let w = c.args.self.now in
-    look-shown (arc_value w.script) w.fonts w.caches s.caches t.caches c.args.actor c.args.look.now seen k c.in-Some.pixels (caches-of w s t) c.keep_laws.ensures (rw c.in-Some.is at c.in_ok-shown.ensures.held) (rw c.in-Some.is at c.in_ok-shown.ensures.pixels)
+    look-shown (arc_value w.script) w.fonts w.caches s.caches t.caches c.args.actor c.args.look.now seen k c.in-Some.pixels (caches-of w s t) c.proof_laws.ensures (rw c.in-Some.is at c.in_ok-shown.ensures.held) (rw c.in-Some.is at c.in_ok-shown.ensures.pixels)
 
 pub returns-in-None : goal.returns-in-None
 returns-in-None c = λ s seen t k.

@@ -1,5 +1,0 @@
-use Rattle.actor_caches.proofs.Places.{IsLeft}
-use Rattle.actor_caches.proofs.holding.holding_place.Given as goal
-
-abbrev pub invariant-loop-at : goal.invariant-loop-at
-invariant-loop-at g l = IsLeft l.actor l.list l.i l.left l.at

@@ -1,5 +1,0 @@
-pub mod Alones
-pub mod Codes
-pub mod Keeping
-pub mod Painting
-pub mod Unwidened

@@ -1,8 +1,0 @@
-use Rattle.cache_totals.proofs.Summed.{caches_balance, caches_count_asks}
-use Rattle.cache_totals.proofs.laws.totals_of_caches.Goals as goal
-
-pub returns : goal.returns
-returns g c = record {
-  balance = caches_balance g.M.Key.PartialEq.eq g.met.M.Key.Eq.laws g.M.Made.meaning;
-  asks = caches_count_asks g.M.Key.PartialEq.eq g.met.M.Key.Eq.laws g.M.Made.meaning;
-}

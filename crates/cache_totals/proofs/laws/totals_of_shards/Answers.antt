@@ -1,8 +1,0 @@
-use Rattle.cache_totals.proofs.Counted.{shards_balance, shards_count_asks}
-use Rattle.cache_totals.proofs.laws.totals_of_shards.Goals as goal
-
-pub returns : goal.returns
-returns g c = record {
-  balance = shards_balance g.M.Key.PartialEq.eq g.met.M.Key.Eq.laws g.M.Made.meaning;
-  asks = shards_count_asks g.M.Key.PartialEq.eq g.met.M.Key.Eq.laws g.M.Made.meaning;
-}

@@ -1,3 +1,0 @@
-pub mod InstantLemmas
-pub mod LineLemmas
-pub mod PictureLemmas

@@ -1,4 +1,0 @@
-pub mod Instants
-pub mod Lines
-pub mod Reports
-pub mod Laws

@@ -1,6 +1,0 @@
-use Rattle.std.proofs.Common.{rules}
-use Rattle.event_places.proofs.Sorts.{in_order_from_sort}
-use Rattle.event_places.proofs.spans.sort_spans.Goals as goal
-
-pub returns-clause-sorted : goal.returns-clause-sorted
-returns-clause-sorted c = in_order_from_sort _ c.sort_unstable_by_key.ensures.sorted (λ f a r q k. search rules)

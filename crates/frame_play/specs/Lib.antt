@@ -1,4 +1,0 @@
-pub mod Works
-pub mod Outcomes
-pub mod Outputs
-pub mod Runs

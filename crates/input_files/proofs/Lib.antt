@@ -1,4 +1,0 @@
-pub mod AskedLemmas
-pub mod FontLemmas
-pub mod DecideLemmas
-pub mod ExistLemmas

@@ -1,4 +1,0 @@
-pub mod Causes
-pub mod Files
-pub mod Inputs
-pub mod Laws

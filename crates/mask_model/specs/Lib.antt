@@ -1,9 +1,0 @@
-pub mod Boxes
-pub mod Costs
-pub mod Masks
-pub mod Meanings
-pub mod Numbers
-pub mod Outlines
-pub mod Pictures
-pub mod Regions
-pub mod Values

@@ -1,0 +1,6 @@
+pub mod Lists
+pub mod Nears
+pub mod NearSpans
+pub mod Orders
+pub mod Pairs
+pub mod Sorts

@@ -1,6 +1,0 @@
-use Rattle.std.proofs.Common.{◌≡◌, take}
-use Rattle.placement.specs.Placement.{boxes_of}
-use Rattle.placement.proofs.list.boxes_of.Given as goal
-
-abbrev pub invariant-loop-stand : goal.invariant-loop-stand
-invariant-loop-stand l = l.boxes.items ≡ boxes_of (take l.stand-index l.stands)

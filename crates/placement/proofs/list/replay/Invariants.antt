@@ -1,5 +1,0 @@
-use Rattle.placement.proofs.ReplayLemmas.{Replayed}
-use Rattle.placement.proofs.list.replay.Given as goal
-
-abbrev pub invariant-loop-stand : goal.invariant-loop-stand
-invariant-loop-stand l = Replayed l.list l.shown.items l.shifts.items l.stand-index

@@ -1,5 +1,0 @@
-use Rattle.play_passes.proofs.Hands.{AreHandedTo}
-use Rattle.play_passes.proofs.round.hand_out.Given as goal
-
-abbrev pub invariant-loop-worker : goal.invariant-loop-worker
-invariant-loop-worker l = AreHandedTo l.renderer l.fn.first l.initial.workers l.workers l.worker-index l.first

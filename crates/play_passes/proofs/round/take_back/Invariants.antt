@@ -1,5 +1,0 @@
-use Rattle.play_passes.proofs.Takes.{AreTakenTo}
-use Rattle.play_passes.proofs.round.take_back.Given as goal
-
-abbrev pub invariant-loop-worker : goal.invariant-loop-worker
-invariant-loop-worker l = AreTakenTo l.renderer l.fn.first l.initial.workers l.workers l.worker-index l.first

@@ -1,5 +1,0 @@
-use Rattle.play_words.proofs.WordsLemmas.{usage}
-use Rattle.play_words.proofs.words.usage_is_of_grammar.Goals as goal
-
-pub returns : goal.returns
-returns c = usage

@@ -1,9 +1,0 @@
-use Rattle.ass_events.specs.Histories.{live}
-use Rattle.render_pass.proofs.Tried.{nothing-itself}
-use Rattle.render_pass.proofs.renderer.Renderer.ready_images.Goals as goal
-
-pub returns-in-Ok : goal.returns-in-Ok
-returns-in-Ok c = λ history h. c.images_pinned.ensures.tried (live history) c.args.scene.now.t c.args.size.now (c.in-Ok.ensures.draws history h)
-
-pub returns-in-Err : goal.returns-in-Err
-returns-in-Err c = λ history h. nothing-itself c.args.self.now c.args.pass c.requires.pass

@@ -1,0 +1,13 @@
+pub mod Framed
+pub mod GivenLeases
+pub mod Held
+pub mod KnownShards
+pub mod Leasing
+pub mod Lending
+pub mod Pictures
+pub mod ReadyImages
+pub mod Together
+pub mod Tried
+pub mod TriedFirst
+pub mod Warmed
+pub mod PaintedPictures

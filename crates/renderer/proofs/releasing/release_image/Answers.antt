@@ -1,0 +1,28 @@
+use Rattle.std.proofs.Common.{[], ◌∷◌}
+use Rattle.renderer.specs.ShownFrames.{leases_of_clip}
+use Rattle.renderer.proofs.GivenLeases.{GivesLeases, gives-fewer, gives-one, gives-then, lease-held, leases-first, leases-last}
+use Rattle.renderer.proofs.releasing.release_image.Goals as goal
+
+pub release_clip-pass-requires-clause-held : goal.release_clip-pass-requires-clause-held
+release_clip-pass-requires-clause-held g c = leases-last c.args.caches.now c.args.pass (c.args.image.mask ∷ []) (leases_of_clip c.args.image.stencil) c.requires.held
+
+pub give_back-requires-clause-held : goal.give_back-requires-clause-held
+give_back-requires-clause-held g c =
+    let caches = c.args.caches.now in let lease = c.args.image.mask in let clip = leases_of_clip c.args.image.stencil in
+    let given = c.release_clip-pass.result in let e = c.release_clip-pass.ensures in
+    let gives : GivesLeases caches c.args.pass given clip = record { composites = e.composites; fewer = e.holds.composites; masks = e.masks; outlines = e.outlines } in
+    lease-held caches given lease (leases-first caches c.args.pass given (lease ∷ []) clip c.requires.held gives)
+
+pub returns : goal.returns
+returns g c =
+    let caches = c.args.caches.now in let lease = c.args.image.mask in let clip = leases_of_clip c.args.image.stencil in
+    let given = c.release_clip-pass.result in let e = c.release_clip-pass.ensures in let f = c.give_back.ensures in
+    let gives : GivesLeases caches c.args.pass given clip = record { composites = e.composites; fewer = e.holds.composites; masks = e.masks; outlines = e.outlines } in
+    let all = gives-then caches c.args.pass given c.give_back.result (lease ∷ []) clip gives (gives-one caches given c.give_back.result lease f.composites f.masks f.outlines) in
+    record {
+      pass = f.pass;
+      composites = all.composites;
+      masks = all.masks;
+      outlines = all.outlines;
+      holds = gives-fewer caches c.args.pass c.give_back.result (lease ∷ clip) all;
+    }

@@ -1,0 +1,11 @@
+pub mod Frames
+pub mod Passes
+pub mod Holding
+pub mod Keeping
+pub mod OneHistory
+pub mod Leasing
+pub mod Rendering
+pub mod Trying
+pub mod Soon
+pub mod Warming
+pub mod ShownFrames

@@ -1,0 +1,24 @@
+//! The renderer: frames for many threads, each the picture of one history of a track, with masks from shared caches. docs/HEADLINE.md
+//! says what is promised of a frame.
+#![tactic(auto)]
+
+mod calls;
+mod frames;
+mod images;
+mod keeping;
+pub mod laws;
+mod painting;
+mod passes;
+mod readied;
+mod releasing;
+mod renderer;
+mod rendering;
+mod soon;
+mod trying;
+mod warming;
+
+pub use frames::{Frame, FrameImage, FrameStencil};
+pub use painting::{paint, paint_bands};
+pub use passes::RenderPass;
+pub use renderer::Renderer;
+pub use trying::{Again, TryRefusal};

@@ -1,0 +1,61 @@
+-- What the bytes of a file ask for.
+use Rattle.std.proofs.Common.{◌≡◌, ℕ, ◌+◌, ◌<◌, ◌≤◌, List, length, replicate, Some, None, Result, Ok, Err, inl, inr, refl, ap, subst, arith}
+use Rattle.std.proofs.lemmas.List.{length-replicate}
+use Rattle.ass_num.specs.Causes.{IfTold}
+use Rattle.ass_num.specs.Limits.{max_file_bytes}
+use Rattle.ass_io.specs.Fetched.{Holds, IsMissing, IsTooLarge, Told}
+use Rattle.run_status.specs.declared.status.Status.{Status}
+use Rattle.run_status.specs.declared.status.Status.TheVariants as status
+use Rattle.run_status.specs.declared.status.What.TheVariants.{Bytes}
+use Rattle.run_status.specs.Files.{AsksBytes, AsksOf, IsAnswered, IsAskedFor}
+
+-- Some list is longer than a number says. It is never looked at.
+unfoldable longer : (n : ℕ) → (xs : List ℕ) × (n < length xs)
+longer n = (replicate (n + 1) 0, omega (arith, length-replicate {A = ℕ} (n + 1) 0))
+
+-- Bytes that were read are held.
+pub got : (told : Told) (name bytes : List ℕ) → IfTold told (Holds bytes) → length bytes ≤ max_file_bytes → IsAskedFor (AsksBytes name) told (Ok bytes)
+got None name bytes told few = (Some bytes, tt, inl (few, refl))
+got (Some held) name bytes told few = (Some bytes, told, inl (few, refl))
+
+-- Nothing is held where nothing has the name.
+pub missing : (told : Told) (name : List ℕ) → IfTold told IsMissing → IsAskedFor (AsksBytes name) told (Err (status.NoSuchFile name))
+missing None name told = (None, tt, refl)
+missing (Some held) name told = (None, told, refl)
+
+-- Too many bytes are held.
+pub too_large : (told : Told) (name : List ℕ) → IfTold told IsTooLarge → IsAskedFor (AsksBytes name) told (Err (status.TooLarge Bytes max_file_bytes))
+too_large None name told = let many = longer max_file_bytes in (Some many.0, tt, inr (many.1, refl))
+too_large (Some None) name told = absurd told
+too_large (Some (Some bytes)) name told = (Some bytes, refl, inr (told, refl))
+
+-- Bytes that are held ask for what they ask for.
+pub asked_of : {Value : Type 0} (asks : List ℕ → Result Value Status → Type 0) (name : List ℕ) (told : Told) (bytes : List ℕ) (answer : Result Value Status) →
+    IsAskedFor (AsksBytes name) told (Ok bytes) → asks bytes answer → IsAskedFor (AsksOf asks name) told answer
+asked_of asks name told bytes answer (None, told_is, h) asked = absurd cc
+asked_of asks name told bytes answer (Some held, told_is, inl (few, same)) asked =
+    let equal : bytes ≡ held = cc in
+    (Some held, told_is, inl (few, subst (λ held. asks held answer) equal asked))
+asked_of asks name told bytes answer (Some held, told_is, inr (many, same)) asked = absurd cc
+
+kept : {Value : Type 0} (asks : List ℕ → Result Value Status → Type 0) (name : List ℕ) (told : Told) (why : Status) →
+    IsAskedFor (AsksBytes name) told (Err why) → IsAskedFor (AsksOf asks name) told (Err why)
+kept asks name told why (None, told_is, h) = let equal : why ≡ status.NoSuchFile name = cc in (None, told_is, ap Err equal)
+kept asks name told why (Some held, told_is, inl (few, same)) = absurd cc
+kept asks name told why (Some held, told_is, inr (many, same)) =
+    let equal : why ≡ status.TooLarge Bytes max_file_bytes = cc in
+    (Some held, told_is, inr (many, ap Err equal))
+
+-- A file that isn't fetched is no script and no font.
+pub refused : {Value : Type 0} (asks : List ℕ → Result Value Status → Type 0) (name : List ℕ) (told : Told) (why : Status) →
+    IsAnswered (AsksBytes name) told name (Err why) → IsAnswered (AsksOf asks name) told name (Err why)
+refused asks name told status.Done h = h
+refused asks name told (status.NoSuchFile other) h = kept asks name told _ h
+refused asks name told (status.ReadFault other) h = h
+refused asks name told (status.BadScript cause) h = kept asks name told _ h
+refused asks name told (status.BadFont index line cause) h = kept asks name told _ h
+refused asks name told (status.WriteFault which) h = h
+refused asks name told (status.TooLarge what limit) h = kept asks name told _ h
+refused asks name told status.OutOfMemory h = h
+refused asks name told (status.BadWords why) h = h
+refused asks name told (status.Unwritable order field) h = h

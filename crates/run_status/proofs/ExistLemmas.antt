@@ -1,0 +1,126 @@
+-- Files that are told have an answer.
+use Rattle.std.proofs.Common.{◌≡◌, ◌≢◌, ◌⊎◌, ℕ, zero, suc, ◌+◌, ◌<◌, ◌≤◌, inl, inr, List, [], ◌∷◌, ◌++◌, length, slice_index_or, Some, None, Result, Ok, Err, refl, sym, subst, length-append, arith}
+use Rattle.std.proofs.lemmas.Bool.{cases_lt}
+use Rattle.std.proofs.lemmas.List.{get_or_default}
+use Rattle.ass_num.specs.Limits.{max_file_bytes}
+use Rattle.ass_io.specs.Fetched.{Held, Told}
+use Rattle.ass_script.proofs.Refusals.{never_wants_memory}
+use Rattle.ass_script.specs.Scripts.{ScriptValue, script_of}
+use Rattle.ass_script.specs.declared.refusal.ScriptRefusal.{ScriptRefusal}
+use Rattle.ass_script.specs.declared.refusal.ScriptRefusal.TheVariants as script
+use Rattle.bdf_font.specs.Fonts.{FontValue}
+use Rattle.bdf_font.specs.Grammar.{IsFontAnswer}
+use Rattle.bdf_font.specs.Laws.{OneAnswer}
+use Rattle.bdf_font.specs.Lines.{text_lines}
+use Rattle.bdf_font.specs.declared.cause.FontRefusal.{FontRefusal}
+use Rattle.bdf_font.specs.declared.cause.FontRefusal.TheVariants as font
+use Rattle.run_status.specs.declared.status.Status.{Status}
+use Rattle.run_status.specs.declared.status.Status.TheVariants as status
+use Rattle.run_status.specs.declared.status.What.TheVariants.{Bytes}
+use Rattle.bdf_font.specs.Limits.{max_fonts}
+use Rattle.run_status.specs.declared.inputs.Inputs.{Inputs}
+use Rattle.run_status.specs.Causes.{font_status, script_status, with_status}
+use Rattle.run_status.specs.Files.{Asks, AsksFont, AsksOf, AsksScript, FontAsked, IsAnswered, IsAskedFor}
+use Rattle.run_status.specs.Inputs.{AreFirstFonts, AreFontsRead, AreRead, IsFontRead, IsScriptRead}
+use Rattle.run_status.specs.Laws.{FilesHaveAnAnswer, IsCause, IsReadDecided}
+use Rattle.run_status.proofs.DecideLemmas.{AreNamesTold}
+use Rattle.run_status.proofs.FontLemmas.{first_more}
+
+-- There is an answer about what a name holds, and it is decided.
+record HasAnswer {Value : Type 0} (asks : Asks Value) (name : List ℕ) (held : Held) : Type 0 where
+  pub answer : Result Value Status
+  pub decided : IsReadDecided answer
+  pub answered : IsAnswered asks (Some held) name answer
+
+script_answered : (name : List ℕ) (held : Held) (r : Result ScriptValue ScriptRefusal) → (r ≡ Err script.OutOfMemory → ⊥) →
+    IsAskedFor (AsksScript name) (Some held) (with_status script_status r) → HasAnswer (AsksScript name) name held
+script_answered name held (Ok read) suffices h = record { answer = Ok read; decided = tt; answered = h }
+script_answered name held (Err (script.NotUtf8 n)) suffices h = record { answer = Err (script_status (script.NotUtf8 n)); decided = tt; answered = h }
+script_answered name held (Err script.NoEvents) suffices h = record { answer = Err (script_status script.NoEvents); decided = tt; answered = h }
+script_answered name held (Err (script.TooManyLines n)) suffices h = record { answer = Err (script_status (script.TooManyLines n)); decided = tt; answered = h }
+script_answered name held (Err (script.TooManyStyles n)) suffices h = record { answer = Err (script_status (script.TooManyStyles n)); decided = tt; answered = h }
+script_answered name held (Err script.OutOfMemory) suffices h = absurd (suffices refl)
+
+font_answered : (index : ℕ) (name : List ℕ) (held : Held) (lines : List (List ℕ)) (r : Result FontValue FontRefusal) → IsFontAnswer lines r →
+    IsAskedFor (AsksFont index name) (Some held) (with_status (font_status index) r) → HasAnswer (AsksFont index name) name held
+font_answered index name held lines (Ok read) answer h = record { answer = Ok read; decided = tt; answered = h }
+font_answered index name held lines (Err (font.BadFont line cause)) answer h = record { answer = Err (status.BadFont index line cause); decided = tt; answered = h }
+font_answered index name held lines (Err (font.TooLarge most)) answer h = record { answer = Err (font_status index (font.TooLarge most)); decided = tt; answered = h }
+font_answered index name held lines (Err font.OutOfMemory) answer h = absurd answer
+
+-- A name that nothing has, or that holds too much, has its status.
+held_answer : {Value : Type 0} (asks : List ℕ → Result Value Status → Type 0) (name : List ℕ) →
+    ((bytes : List ℕ) → length bytes ≤ max_file_bytes → HasAnswer (AsksOf asks name) name (Some bytes)) → (held : Held) → HasAnswer (AsksOf asks name) name held
+held_answer asks name known None = record { answer = Err (status.NoSuchFile name); decided = tt; answered = (None, refl, refl) }
+held_answer asks name known (Some bytes) = elim (cases_lt max_file_bytes (length bytes)) [
+  | inl more ↦ record { answer = Err (status.TooLarge Bytes max_file_bytes); decided = tt; answered = (Some bytes, refl, inr (more, refl)) }
+  | inr few ↦ known bytes few
+]
+
+script_has : (name : List ℕ) (held : Held) → HasAnswer (AsksScript name) name held
+script_has name held =
+    held_answer _ name (λ bytes few. script_answered name (Some bytes) (script_of bytes) (never_wants_memory bytes) (Some bytes, refl, inl (few, refl))) held
+
+font_has : OneAnswer → (index : ℕ) (name : List ℕ) (held : Held) → HasAnswer (AsksFont index name) name held
+font_has law index name held =
+    held_answer (FontAsked index) name
+    (λ bytes few.
+    let read = law (text_lines bytes) in
+    font_answered index name (Some bytes) (text_lines bytes) read.0 read.1 (Some bytes, refl, inl (few, (read.0, read.1, refl)))) held
+
+-- There is an answer about a name of which it is told what it holds.
+told_has : {Value : Type 0} (asks : Asks Value) (name : List ℕ) (told : Told) → told ≢ None → ((held : Held) → HasAnswer asks name held) →
+    (answer : Result Value Status) × IsReadDecided answer × IsAnswered asks told name answer
+told_has asks name None known has = absurd (known refl)
+told_has asks name (Some held) known has = let one = has held in (one.answer, one.decided, one.answered)
+
+font_some : OneAnswer → (told : List ℕ → Told) (names : List (List ℕ)) (index : ℕ) → AreNamesTold told names → index < length names →
+    (answer : Result FontValue Status) × IsReadDecided answer × IsFontRead told names index answer
+font_some law told names index known within =
+    let name = slice_index_or names index [] in
+    let one = told_has (AsksFont index name) name (told name) (known index [] within) (font_has law index name) in
+    (one.0, one.1, λ none. subst (λ name. IsAnswered (AsksFont index name) (told name) name one.0) (get_or_default names index [] none within) one.2)
+
+-- The first fonts are read, or one of them is refused.
+abbrev HasFirst : (List ℕ → Told) → List (List ℕ) → ℕ → Type 0
+HasFirst told names n =
+    ((fonts : List FontValue) × (length fonts ≡ n) × AreFirstFonts told names fonts)
+    ⊎ ((status : Status) × IsCause status × AreFontsRead told names (Err status))
+
+next_has : (told : List ℕ → Told) (names : List (List ℕ)) (n : ℕ) (fonts : List FontValue) → n < length names → length fonts ≡ n → AreFirstFonts told names fonts →
+    (answer : Result FontValue Status) → IsReadDecided answer → IsFontRead told names n answer → HasFirst told names (suc n)
+next_has told names n fonts within count first (Ok read) decided h =
+    let more : length (fonts ++ read ∷ []) ≡ length fonts + 1 = length-append fonts (read ∷ []) in
+    inl (fonts ++ read ∷ [], omega (arith, more, count), first_more told names fonts read first (subst (λ m. IsFontRead told names m (Ok read)) (sym count) h))
+next_has told names n fonts within count first (Err why) decided h =
+    inr (why, decided, (fonts, omega (arith, count, within), first, subst (λ m. IsFontRead told names m (Err why)) (sym count) h))
+
+first_has : OneAnswer → (told : List ℕ → Told) (names : List (List ℕ)) → AreNamesTold told names → (n : ℕ) → n ≤ length names → HasFirst told names n
+first_has law told names known zero within = inl ([], refl, λ index none less. absurd (omega (arith, less)))
+first_has law told names known (suc n) within = elim (first_has law told names known n (omega (arith, within))) [
+  | inl (fonts, count, first) ↦
+      let one = font_some law told names n known (omega (arith, within)) in
+      next_has told names n fonts (omega (arith, within)) count first one.0 one.1 one.2
+  | inr stopped ↦ inr stopped
+]
+
+abbrev Answer : (List ℕ → Told) → List ℕ → List (List ℕ) → Type 0
+Answer told script fonts = (answer : Result Inputs Status) × IsReadDecided answer × AreRead told script fonts answer
+
+with_fonts : (told : List ℕ → Told) (script : List ℕ) (fonts : List (List ℕ)) (read : ScriptValue) → length fonts ≤ max_fonts → IsScriptRead told script (Ok read) →
+    HasFirst told fonts (length fonts) → Answer told script fonts
+with_fonts told script fonts read few h (inl (all, count, first)) = (Ok (record { script = read; fonts = all }), tt, inl (few, (h, (count, first))))
+with_fonts told script fonts read few h (inr (why, cause, stopped)) = (Err why, cause, inl (few, inr (read, h, stopped)))
+
+with_script : OneAnswer → (told : List ℕ → Told) (script : List ℕ) (fonts : List (List ℕ)) → AreNamesTold told fonts → length fonts ≤ max_fonts →
+    (answer : Result ScriptValue Status) → IsReadDecided answer → IsScriptRead told script answer → Answer told script fonts
+with_script law told script fonts known few (Ok read) decided h = with_fonts told script fonts read few h (first_has law told fonts known (length fonts) (omega arith))
+with_script law told script fonts known few (Err why) decided h = (Err why, decided, inl (few, inl h))
+
+pub files_have_an_answer : OneAnswer → FilesHaveAnAnswer
+files_have_an_answer law told script fonts known = elim (cases_lt max_fonts (length fonts)) [
+  | inl more ↦ (_, tt, inr (more, refl))
+  | inr few ↦
+      let one = told_has (AsksScript script) script (told script) known.0 (script_has script) in
+      with_script law told script fonts known.1 few one.0 one.1 one.2
+]

@@ -1,0 +1,98 @@
+//! What a job works on.
+
+ghost use Rattle.std.specs.Prelude.{◌≡◌, ◌<◌, All, IfOk, length};
+ghost use Rattle.ass_script.specs.Ranges.{IsScript};
+ghost use Rattle.bdf_font.specs.Ranges.{IsFont};
+ghost use Rattle.run_status.specs.Files.{IsAnswerReadCounted};
+ghost use Rattle.run_status.specs.Inputs.{AreFilesRead, AreFontsRead, AreRead, IsFontRead};
+
+use crate::files::{fetch_font, fetch_script};
+use crate::{Status, What};
+use ass_io::Shelf;
+use ass_num::{Items, Text};
+use ass_script::Script;
+use bdf_font::Font;
+use std::alloc::Global;
+
+/// The most fonts of a job.
+pub const MAX_FONTS: usize = 64;
+
+/// A script, and fonts in the order of their names.
+#[derive(Debug, Drop)]
+pub struct Inputs {
+    pub script: Script,
+    pub fonts: Items<Font>,
+}
+
+/// The font at a place of the names.
+fn fetch_font_at<S: Shelf>(
+    alloc: Global,
+    shelf: &mut S,
+    names: &[Text],
+    index: usize,
+) -> Result<Font, Status>
+    requires { index < length names.now }
+    ensures kept { S.told shelf.new ≡ S.told shelf.old }
+    ensures read { IsFontRead (S.told shelf.old) names.now index result }
+    ensures counted { IsAnswerReadCounted result (S.faults shelf.old) (S.faults shelf.new) }
+    ensures font { IfOk result IsFont }
+{
+    fetch_font(alloc, shelf, index, &names[index])
+}
+
+/// The fonts of files.
+fn fetch_fonts<S: Shelf>(
+    alloc: Global,
+    shelf: &mut S,
+    names: &[Text],
+) -> Result<Items<Font>, Status>
+    ensures kept { S.told shelf.new ≡ S.told shelf.old }
+    ensures read { AreFontsRead (S.told shelf.old) names.now result }
+    ensures counted { IsAnswerReadCounted result (S.faults shelf.old) (S.faults shelf.new) }
+    ensures fonts { IfOk result (All IsFont) }
+{
+    let mut fonts = Items::new(alloc);
+    for index in 0..names.len() {
+        let font = fetch_font_at(alloc, shelf, names, index)?;
+        fonts.push(font)?;
+    }
+    Ok(fonts)
+}
+
+/// The script and the fonts of files.
+fn fetch_files<S: Shelf>(
+    alloc: Global,
+    shelf: &mut S,
+    script: &Text,
+    fonts: &[Text],
+) -> Result<Inputs, Status>
+    ensures kept { S.told shelf.new ≡ S.told shelf.old }
+    ensures read { AreFilesRead (S.told shelf.old) script.now fonts.now result }
+    ensures counted { IsAnswerReadCounted result (S.faults shelf.old) (S.faults shelf.new) }
+    ensures script { IfOk result (λ inputs. IsScript inputs.script) }
+    ensures fonts { IfOk result (λ inputs. All IsFont inputs.fonts) }
+{
+    let script = fetch_script(alloc, shelf, script)?;
+    let fonts = fetch_fonts(alloc, shelf, fonts)?;
+    Ok(Inputs { script, fonts })
+}
+
+/// Reads the script of this name, and then the fonts of these names, in order. The first that can't be read decides the
+/// answer; before any of them, `TooLarge(Fonts, 64)` comes where there are more names of fonts than that.
+pub fn read_inputs<S: Shelf>(
+    alloc: Global,
+    shelf: &mut S,
+    script: &Text,
+    fonts: &[Text],
+) -> Result<Inputs, Status>
+    ensures kept { S.told shelf.new ≡ S.told shelf.old }
+    ensures read { AreRead (S.told shelf.old) script.now fonts.now result }
+    ensures counted { IsAnswerReadCounted result (S.faults shelf.old) (S.faults shelf.new) }
+    ensures script { IfOk result (λ inputs. IsScript inputs.script) }
+    ensures fonts { IfOk result (λ inputs. All IsFont inputs.fonts) }
+{
+    if fonts.len() > MAX_FONTS {
+        return Err(Status::TooLarge(What::Fonts, MAX_FONTS));
+    }
+    fetch_files(alloc, shelf, script, fonts)
+}

@@ -1,0 +1,99 @@
+-- Public: what a command is asked for, by what was found for its arguments.
+use Rattle.std.specs.Prelude.{ℕ, pos, Bool, true, not, List, [], Option, Some, None, Result, Ok, Err, find, unwrap_or, option_and_then}
+use Rattle.std.specs.Option.{option_map_or}
+use Rattle.ass_num.specs.declared.size.Size.{Size}
+use Rattle.clap.specs.Walk.{Row, all_of, first_of}
+use Rattle.run_words.specs.Arguments.{argument_name, argument_kind, shown_name}
+use Rattle.run_words.specs.Commands.{arguments_of}
+use Rattle.run_words.specs.Limits.{usual_batch, usual_budget}
+use Rattle.run_words.specs.Values.{is_of_kind, mode_in, number_within, size_in}
+use Rattle.run_words.specs.declared.argument.Argument.{Argument}
+use Rattle.run_words.specs.declared.argument.Argument.TheVariants as argument
+use Rattle.run_words.specs.declared.argument.Kind.{Kind}
+use Rattle.run_words.specs.declared.argument.Kind.TheVariants.{Number}
+use Rattle.run_words.specs.declared.command.Command.{Command}
+use Rattle.run_words.specs.declared.command.Command.TheVariants as command
+use Rattle.run_words.specs.declared.job.Job.{Job}
+use Rattle.run_words.specs.declared.job.Job.TheVariants.{Check, Frame, Play, Selftest, Changes, Write}
+use Rattle.run_words.specs.declared.job.Mode.{Mode}
+use Rattle.run_words.specs.declared.job.Mode.TheVariants.{Settled}
+use Rattle.run_words.specs.declared.job.PlayJob.{PlayJob}
+use Rattle.run_words.specs.declared.job.WordsFault.{WordsFault}
+use Rattle.run_words.specs.declared.job.WordsFault.TheVariants.{Value}
+
+-- the text that was found for an argument
+abbrev pub text_at : List Row → Argument → Option (List ℕ)
+text_at rows argument = first_of (argument_name argument) rows
+
+-- An argument that isn't given is of its rule.
+abbrev pub fits : List Row → Argument → Bool
+fits rows argument = option_map_or (is_of_kind (argument_kind argument)) (text_at rows argument) true
+
+-- the first argument of a command of which the text isn't of its rule
+abbrev pub first_bad : List Row → Command → Option Argument
+first_bad rows command = find (λ argument. not (fits rows argument)) (arguments_of command)
+
+abbrev pub number_by : Kind → Option (List ℕ) → ℕ → ℕ
+number_by (Number least most) text absent = unwrap_or (option_and_then (number_within least most) text) absent
+number_by _ text absent = absent
+
+-- the number of an argument, or what stands for it where it isn't given
+abbrev pub number_at : List Row → Argument → ℕ → ℕ
+number_at rows argument absent = number_by (argument_kind argument) (text_at rows argument) absent
+
+abbrev pub smallest_size : Size
+smallest_size = record { w = 1; h = 1 }
+
+-- the size of the frames, which is always given
+abbrev pub size_at : List Row → Size
+size_at rows = unwrap_or (option_and_then size_in (text_at rows argument.Size)) smallest_size
+
+abbrev pub mode_at : List Row → Mode
+mode_at rows = unwrap_or (option_and_then mode_in (text_at rows argument.Mode)) Settled
+
+-- the name of the script, which is always given
+abbrev pub script_at : List Row → List ℕ
+script_at rows = unwrap_or (text_at rows argument.Script) []
+
+-- the names of the fonts, in the order of the words
+abbrev pub fonts_at : List Row → List (List ℕ)
+fonts_at rows = unwrap_or (all_of (argument_name argument.Fonts) rows) []
+
+abbrev pub budget_at : List Row → ℕ
+budget_at rows = number_at rows argument.Budget usual_budget
+
+-- what a `play` is asked for
+abbrev pub play_of : List Row → PlayJob
+play_of rows = record {
+  from = pos (number_at rows argument.From 0);
+  to = pos (number_at rows argument.To 0);
+  step = pos (number_at rows argument.Step 1);
+  size = size_at rows;
+  feeders = number_at rows argument.Feeders 1;
+  renderers = number_at rows argument.Renderers 1;
+  batch = number_at rows argument.Batch usual_batch;
+  again = number_at rows argument.Again 0;
+  times = number_at rows argument.Times 1;
+  ahead = number_at rows argument.Ahead 0;
+  bands = number_at rows argument.Bands 1;
+  budget = budget_at rows;
+  mode = mode_at rows;
+}
+
+-- the job of a command
+abbrev pub job_for : List Row → Command → Job
+job_for rows command.Check = Check (script_at rows) (fonts_at rows)
+job_for rows command.Frame = Frame (pos (number_at rows argument.At 0)) (size_at rows) (budget_at rows) (script_at rows) (fonts_at rows)
+job_for rows command.Play = Play (play_of rows) (script_at rows) (fonts_at rows)
+job_for rows command.Selftest = Selftest (number_at rows argument.Seed 0) (number_at rows argument.Events 1) (number_at rows argument.Workers 1)
+job_for rows command.Changes =
+    Changes (pos (number_at rows argument.From 0)) (pos (number_at rows argument.To 0)) (pos (number_at rows argument.Step 1)) (size_at rows) (budget_at rows) (script_at rows) (fonts_at rows)
+job_for rows command.Write = Write (pos (number_at rows argument.Later 0)) (pos (number_at rows argument.Earlier 0)) (script_at rows)
+
+abbrev pub unless_bad : Option Argument → Job → Result Job WordsFault
+unless_bad None job = Ok job
+unless_bad (Some argument) job = Err (Value (shown_name argument))
+
+-- the job of a command, or the first of its arguments of which the text isn't of its rule
+abbrev pub command_reading : List Row → Command → Result Job WordsFault
+command_reading rows command = unless_bad (first_bad rows command) (job_for rows command)

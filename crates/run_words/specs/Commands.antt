@@ -1,0 +1,32 @@
+-- Public: the commands, and the arguments that each takes (docs/PROGRAM.md).
+use Rattle.std.specs.Prelude.{ℕ, List, [], ◌∷◌, codes}
+use Rattle.run_words.specs.declared.argument.Argument.{Argument}
+use Rattle.run_words.specs.declared.argument.Argument.TheVariants as argument
+use Rattle.run_words.specs.declared.command.Command.{Command}
+use Rattle.run_words.specs.declared.command.Command.TheVariants.{Check, Frame, Play, Selftest, Changes, Write}
+
+abbrev pub commands : List Command
+commands = Check ∷ Frame ∷ Play ∷ Selftest ∷ Changes ∷ Write ∷ []
+
+abbrev pub command_name : Command → List ℕ
+command_name Check = codes "check"
+command_name Frame = codes "frame"
+command_name Play = codes "play"
+command_name Selftest = codes "selftest"
+command_name Changes = codes "changes"
+command_name Write = codes "write"
+
+-- the script and the fonts
+abbrev pub file_arguments : List Argument
+file_arguments = argument.Script ∷ argument.Fonts ∷ []
+
+-- what a command takes: the options in the order in which their values are looked at, and then the positionals
+abbrev pub arguments_of : Command → List Argument
+arguments_of Check = file_arguments
+arguments_of Frame = argument.At ∷ argument.Size ∷ argument.Budget ∷ file_arguments
+arguments_of Play =
+    argument.From ∷ argument.To ∷ argument.Step ∷ argument.Size ∷ argument.Feeders ∷ argument.Renderers ∷ argument.Batch ∷ argument.Again
+    ∷ argument.Times ∷ argument.Ahead ∷ argument.Bands ∷ argument.Budget ∷ argument.Mode ∷ file_arguments
+arguments_of Selftest = argument.Workers ∷ argument.Seed ∷ argument.Events ∷ []
+arguments_of Changes = argument.From ∷ argument.To ∷ argument.Step ∷ argument.Size ∷ argument.Budget ∷ file_arguments
+arguments_of Write = argument.Later ∷ argument.Earlier ∷ argument.Script ∷ []

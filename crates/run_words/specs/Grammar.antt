@@ -1,0 +1,46 @@
+-- Public: the grammar of the words, as `clap` reads it.
+use Rattle.std.specs.Prelude.{ℕ, Bool, true, false, List, map, Option, Some, None, if◌then◌else◌, codes}
+use Rattle.clap.specs.Lexer.{usize_max}
+use Rattle.clap.specs.Simple.{App, Shape, new_rule, new_shape}
+use Rattle.clap.specs.Walk.{Rule, is_empty}
+use Rattle.clap.specs.Faults.{fault_of}
+use Rattle.clap.specs.declared.builder.range.ValueRange.{ValueRange}
+use Rattle.run_words.specs.Arguments.{argument_name, is_positional, is_required}
+use Rattle.run_words.specs.Commands.{arguments_of, command_name, commands}
+use Rattle.run_words.specs.declared.argument.Argument.{Argument}
+use Rattle.run_words.specs.declared.argument.Argument.TheVariants.{Fonts}
+use Rattle.run_words.specs.declared.command.Command.{Command}
+
+-- how many words the argument takes: the fonts one or more, all others the usual one
+abbrev pub range_of : Argument → Option ValueRange
+range_of Fonts = Some (record { start_inclusive = 1; end_inclusive = usize_max })
+range_of _ = None
+
+-- an option by its name, or a positional
+abbrev pub argument_rule : Argument → Rule
+argument_rule argument = record (new_rule (argument_name argument)) {
+  long = if is_positional argument then None else Some (argument_name argument);
+  range = range_of argument;
+  required = is_required argument;
+}
+
+abbrev pub command_shape : Command → Shape
+command_shape command = record (new_shape (command_name command)) { rules = map argument_rule (arguments_of command) }
+
+-- One command is wanted. There is neither help nor a version, and the first word isn't the program's name.
+abbrev pub words_app : App
+words_app = record {
+  top = record (new_shape (codes "vimalorua")) {
+    is_leaf = false;
+    no_binary_name = true;
+    disable_help_flag = true;
+    disable_help_subcommand = true;
+    disable_version_flag = true;
+    subcommand_required = true;
+  };
+  subs = map command_shape commands;
+}
+
+-- The words are of the grammar.
+abbrev pub is_taken : List (List ℕ) → Bool
+is_taken words = is_empty (fault_of words_app words)

@@ -1,0 +1,165 @@
+//! The arguments of all commands.
+
+ghost use Rattle.std.specs.Prelude.{◌≡◌, ◌++◌, IfOk, codes};
+ghost use Rattle.run_words.specs.Arguments.{argument_name, is_positional, is_required, argument_kind, shown_name};
+
+use ass_num::{Mem, Text};
+use std::alloc::Global;
+
+/// The last instant, in milliseconds.
+pub const MAX_INSTANT: u64 = 4_000_000_000_000;
+
+/// The most columns and the most rows of a frame.
+pub const MAX_FRAME_SIDE: u64 = 4096;
+
+/// The most feeders, renderers or workers.
+pub const MAX_WORKERS: u64 = 8;
+
+/// The most lines of a batch, and the most lines that are fed again.
+pub const MAX_BATCH: u64 = 10_000;
+
+/// The most times that a job is played.
+pub const MAX_TIMES: u64 = 8;
+
+/// The most instants that are warmed ahead.
+pub const MAX_AHEAD: u64 = 64;
+
+/// The most bands of a frame.
+pub const MAX_BANDS: u64 = 8;
+
+/// The most bytes of a cache's budget.
+pub const MAX_BUDGET: u64 = 1 << 40;
+
+/// The last seed.
+pub const MAX_SEED: u64 = 2_147_483_647;
+
+/// The most events that are generated.
+pub const MAX_EVENTS: u64 = 100_000;
+
+/// What the text of a value has to be.
+#[derive(Clone, Copy, Debug, PartialEq, Eq)]
+pub enum Kind {
+    /// A number from the first to the second.
+    Number(u64, u64),
+    /// The columns and the rows of a frame, with an `x` between.
+    FrameSize,
+    /// `live` or `settled`.
+    PlayMode,
+    /// The name of a file, which is any text.
+    FileName,
+}
+
+/// An argument of a command.
+#[derive(Clone, Copy, Debug, PartialEq, Eq)]
+pub enum Argument {
+    At,
+    From,
+    To,
+    Step,
+    Size,
+    Feeders,
+    Renderers,
+    Batch,
+    Again,
+    Times,
+    Ahead,
+    Bands,
+    Budget,
+    Mode,
+    Workers,
+    Later,
+    Earlier,
+    Script,
+    Fonts,
+    Seed,
+    Events,
+}
+
+impl Argument {
+    /// Its name: an option's without the two dashes.
+    pub fn name<'a>(self) -> &'a str
+        ensures { result.now ≡ argument_name self }
+    {
+        match self {
+            Argument::At => "at",
+            Argument::From => "from",
+            Argument::To => "to",
+            Argument::Step => "step",
+            Argument::Size => "size",
+            Argument::Feeders => "feeders",
+            Argument::Renderers => "renderers",
+            Argument::Batch => "batch",
+            Argument::Again => "again",
+            Argument::Times => "times",
+            Argument::Ahead => "ahead",
+            Argument::Bands => "bands",
+            Argument::Budget => "budget",
+            Argument::Mode => "mode",
+            Argument::Workers => "workers",
+            Argument::Later => "later",
+            Argument::Earlier => "earlier",
+            Argument::Script => "SCRIPT",
+            Argument::Fonts => "FONT",
+            Argument::Seed => "SEED",
+            Argument::Events => "EVENTS",
+        }
+    }
+
+    /// Whether it is named by its place among the words alone.
+    pub fn is_positional(self) -> bool
+        ensures { result ≡ is_positional self }
+    {
+        match self {
+            Argument::Script | Argument::Fonts | Argument::Seed | Argument::Events => true,
+            _ => false,
+        }
+    }
+
+    /// Whether a command that takes it needs it.
+    pub fn is_required(self) -> bool
+        ensures { result ≡ is_required self }
+    {
+        match self {
+            Argument::At | Argument::From | Argument::To | Argument::Step | Argument::Size => true,
+            _ => self.is_positional(),
+        }
+    }
+
+    /// What its value has to be.
+    pub fn kind(self) -> Kind
+        ensures { result ≡ argument_kind self }
+    {
+        match self {
+            Argument::At | Argument::From | Argument::To | Argument::Later | Argument::Earlier =>
+                Kind::Number(0, MAX_INSTANT),
+            Argument::Step => Kind::Number(1, MAX_INSTANT),
+            Argument::Size => Kind::FrameSize,
+            Argument::Feeders | Argument::Renderers | Argument::Workers => {
+                Kind::Number(1, MAX_WORKERS)
+            }
+            Argument::Batch => Kind::Number(1, MAX_BATCH),
+            Argument::Again => Kind::Number(0, MAX_BATCH),
+            Argument::Times => Kind::Number(1, MAX_TIMES),
+            Argument::Ahead => Kind::Number(0, MAX_AHEAD),
+            Argument::Bands => Kind::Number(1, MAX_BANDS),
+            Argument::Budget => Kind::Number(0, MAX_BUDGET),
+            Argument::Mode => Kind::PlayMode,
+            Argument::Seed => Kind::Number(0, MAX_SEED),
+            Argument::Events => Kind::Number(1, MAX_EVENTS),
+            Argument::Script | Argument::Fonts => Kind::FileName,
+        }
+    }
+
+    /// Its name as a refusal shows it: an option's with the two dashes.
+    pub fn shown_name(self, alloc: Global) -> Mem<Text>
+        ensures { IfOk result (λ name. name ≡ shown_name self) }
+    {
+        let name = self.name();
+        if self.is_positional() {
+            Text::copy(alloc, name)
+        } else {
+            let shown = format!(in alloc; "--{name}")?;
+            Text::copy(alloc, shown.as_str())
+        }
+    }
+}

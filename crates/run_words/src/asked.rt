@@ -1,0 +1,209 @@
+//! What a command is asked for, by what was found for its arguments.
+
+ghost use Rattle.std.specs.Prelude.{◌≡◌, ◌≤◌, ◌^◌, ◌<◌, IfOk, map, pos, option_map};
+ghost use Rattle.clap.specs.Words.{all_of, found_of, rows_of};
+ghost use Rattle.run_words.specs.Arguments.{argument_name, most_of};
+ghost use Rattle.run_words.specs.Asked.{fits, first_bad, fonts_at, job_for, mode_at, number_at, play_of, script_at, size_at, text_at};
+
+use crate::argument::{Argument, Kind};
+use crate::command::Command;
+use crate::job::{Job, Mode, PlayJob};
+use crate::values::{is_of_kind, mode_in, number_within, size_in};
+use ass_num::{Items, Mem, Size, Text};
+use clap::ArgMatches;
+use std::alloc::Global;
+
+/// What stands for a budget that isn't given, in bytes.
+const ABSENT_BUDGET: u64 = 67_108_864;
+
+/// What stands for a batch that isn't given.
+const ABSENT_BATCH: u32 = 16;
+
+/// The text that was found for an argument.
+fn text_at<'a>(found: &ArgMatches<'a>, argument: Argument) -> Option<&'a str>
+    ensures { option_map (λ text. text.now) result ≡ text_at (rows_of (found_of found.now)) argument }
+{
+    found.get_str(argument.name())
+}
+
+/// Whether what was found for an argument is of its rule.
+fn fits(found: &ArgMatches, argument: Argument) -> bool
+    ensures { result ≡ fits (rows_of (found_of found.now)) argument }
+{
+    match text_at(found, argument) {
+        Some(text) => is_of_kind(argument.kind(), text),
+        None => true,
+    }
+}
+
+/// The first argument of a command of which what was found isn't of its rule.
+pub fn first_bad(found: &ArgMatches, command: Command) -> Option<Argument>
+    ensures { result ≡ first_bad (rows_of (found_of found.now)) command }
+{
+    for argument in command.arguments() {
+        if !fits(found, *argument) {
+            return Some(*argument);
+        }
+    }
+    None
+}
+
+/// The number of an argument, or what stands for it where it isn't given.
+fn number_at(found: &ArgMatches, argument: Argument, absent: u64) -> u64
+    ensures value { result ≡ number_at (rows_of (found_of found.now)) argument absent }
+    ensures small { absent ≤ most_of argument → result ≤ most_of argument }
+{
+    let Some(text) = text_at(found, argument) else {
+        return absent;
+    };
+    let Kind::Number(least, most) = argument.kind() else {
+        return absent;
+    };
+    match number_within(text, least, most) {
+        Some(number) => number,
+        None => absent,
+    }
+}
+
+/// The instant of an argument, or of what stands for it.
+fn instant_at(found: &ArgMatches, argument: Argument, absent: u32) -> i64
+    requires small { most_of argument < 2 ^ 63 }
+    requires within { absent ≤ most_of argument }
+    ensures { result ≡ pos (number_at (rows_of (found_of found.now)) argument absent) }
+{
+    number_at(found, argument, u64::from(absent)) as i64
+}
+
+/// A number of 32 bits.
+fn count_at(found: &ArgMatches, argument: Argument, absent: u32) -> u32
+    requires small { most_of argument < 2 ^ 32 }
+    requires within { absent ≤ most_of argument }
+    ensures { result ≡ number_at (rows_of (found_of found.now)) argument absent }
+{
+    number_at(found, argument, u64::from(absent)) as u32
+}
+
+/// The size of the frames.
+fn size_at(found: &ArgMatches) -> Size
+    ensures { result ≡ size_at (rows_of (found_of found.now)) }
+{
+    match text_at(found, Argument::Size) {
+        Some(text) => match size_in(text) {
+            Some(size) => size,
+            None => Size { w: 1, h: 1 },
+        },
+        None => Size { w: 1, h: 1 },
+    }
+}
+
+/// The mode, or `Settled`.
+fn mode_at(found: &ArgMatches) -> Mode
+    ensures { result ≡ mode_at (rows_of (found_of found.now)) }
+{
+    match text_at(found, Argument::Mode) {
+        Some(text) => match mode_in(text) {
+            Some(mode) => mode,
+            None => Mode::Settled,
+        },
+        None => Mode::Settled,
+    }
+}
+
+/// The name of the script.
+fn script_at(alloc: Global, found: &ArgMatches) -> Mem<Text>
+    ensures { IfOk result (λ name. name ≡ script_at (rows_of (found_of found.now))) }
+{
+    match text_at(found, Argument::Script) {
+        Some(text) => Text::copy(alloc, text),
+        None => Text::copy(alloc, ""),
+    }
+}
+
+/// A copy of texts.
+fn copied(alloc: Global, texts: &[&str]) -> Mem<Items<Text>>
+    ensures { IfOk result (λ copy. copy ≡ map (λ text. text.now) texts.now) }
+{
+    let mut copy = Items::new(alloc);
+    for text in texts {
+        copy.push(Text::copy(alloc, text)?)?;
+    }
+    Ok(copy)
+}
+
+/// The words that were found for the fonts.
+fn fonts_found<'f, 'a>(found: &'f ArgMatches<'a>) -> Option<&'f [&'a str]>
+    ensures { option_map (λ texts. map (λ text. text.now) texts.now) result ≡ all_of (argument_name Argument.Fonts) (rows_of (found_of found.now)) }
+{
+    found.get_raw(Argument::Fonts.name())
+}
+
+/// The names of the fonts, in order.
+fn fonts_at(alloc: Global, found: &ArgMatches) -> Mem<Items<Text>>
+    ensures { IfOk result (λ names. names ≡ fonts_at (rows_of (found_of found.now))) }
+{
+    match fonts_found(found) {
+        Some(texts) => copied(alloc, texts),
+        None => Ok(Items::new(alloc)),
+    }
+}
+
+/// What a `play` is asked for.
+fn play_of(found: &ArgMatches) -> PlayJob
+    ensures { result ≡ play_of (rows_of (found_of found.now)) }
+{
+    PlayJob {
+        from: instant_at(found, Argument::From, 0),
+        to: instant_at(found, Argument::To, 0),
+        step: instant_at(found, Argument::Step, 1),
+        size: size_at(found),
+        feeders: count_at(found, Argument::Feeders, 1),
+        renderers: count_at(found, Argument::Renderers, 1),
+        batch: count_at(found, Argument::Batch, ABSENT_BATCH),
+        again: count_at(found, Argument::Again, 0),
+        times: count_at(found, Argument::Times, 1),
+        ahead: count_at(found, Argument::Ahead, 0),
+        bands: count_at(found, Argument::Bands, 1),
+        budget: number_at(found, Argument::Budget, ABSENT_BUDGET),
+        mode: mode_at(found),
+    }
+}
+
+/// The job of a command.
+pub fn job_for(alloc: Global, found: &ArgMatches, command: Command) -> Mem<Job>
+    ensures { IfOk result (λ job. job ≡ job_for (rows_of (found_of found.now)) command) }
+{
+    match command {
+        Command::Check => Ok(Job::Check(script_at(alloc, found)?, fonts_at(alloc, found)?)),
+        Command::Frame => Ok(Job::Frame(
+            instant_at(found, Argument::At, 0),
+            size_at(found),
+            number_at(found, Argument::Budget, ABSENT_BUDGET),
+            script_at(alloc, found)?,
+            fonts_at(alloc, found)?,
+        )),
+        Command::Play => Ok(Job::Play(
+            play_of(found),
+            script_at(alloc, found)?,
+            fonts_at(alloc, found)?,
+        )),
+        Command::Selftest => Ok(Job::Selftest(
+            count_at(found, Argument::Seed, 0),
+            count_at(found, Argument::Events, 1),
+            count_at(found, Argument::Workers, 1),
+        )),
+        Command::Changes => Ok(Job::Changes(
+            instant_at(found, Argument::From, 0),
+            instant_at(found, Argument::To, 0),
+            instant_at(found, Argument::Step, 1),
+            size_at(found),
+            number_at(found, Argument::Budget, ABSENT_BUDGET),
+            script_at(alloc, found)?,
+            fonts_at(alloc, found)?,
+        )),
+        Command::Write => Ok(Job::Write(
+            instant_at(found, Argument::Later, 0),
+            instant_at(found, Argument::Earlier, 0),
+            script_at(alloc, found)?,
+        )),
+    }
+}

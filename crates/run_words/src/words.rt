@@ -1,0 +1,65 @@
+//! The words of a run.
+
+ghost use Rattle.std.specs.Prelude.{◌≡◌, IfOk, map};
+ghost use Rattle.clap.specs.Words.{found_of, rows_of, subcommand_rows_of};
+ghost use Rattle.run_words.specs.Asked.{command_reading};
+ghost use Rattle.run_words.specs.Jobs.{IsJob};
+ghost use Rattle.run_words.specs.Words.{FirstWordIsCommand, IsReading, UsageIsOfGrammar, job_in, job_of, texts};
+
+use crate::asked::{first_bad, job_for};
+use crate::command::{Command, command_named};
+use crate::grammar::whole;
+use crate::job::{Job, WordsFault, WordsRefusal};
+use clap::ArgMatches;
+use clap::error::ErrorKind;
+use std::alloc::Global;
+
+/// The job of a command, or the first of its arguments whose value isn't of its rule.
+fn read_command(alloc: Global, found: &ArgMatches, command: Command) -> Result<Job, WordsRefusal>
+    ensures { IsReading (command_reading (rows_of (found_of found.now)) command) result }
+{
+    match first_bad(found, command) {
+        Some(argument) => {
+            let name = argument.shown_name(alloc)?;
+            Err(WordsRefusal::BadWords(WordsFault::Value(name)))
+        }
+        None => Ok(job_for(alloc, found, command)?),
+    }
+}
+
+/// The job of what was found.
+fn read_matches(alloc: Global, matches: &ArgMatches) -> Result<Job, WordsRefusal>
+    ensures { IsReading (job_in (subcommand_rows_of matches.now)) result }
+{
+    let Some((name, found)) = matches.subcommand() else {
+        return Err(WordsRefusal::BadWords(WordsFault::Usage));
+    };
+    match command_named(name) {
+        Some(command) => read_command(alloc, found, command),
+        None => Err(WordsRefusal::BadWords(WordsFault::Usage)),
+    }
+}
+
+/// The job that the words ask for.
+pub fn read_words(alloc: Global, words: &[String]) -> Result<Job, WordsRefusal>
+    ensures read { IsReading (job_of (texts words.now)) result }
+    ensures within { IfOk result IsJob }
+{
+    match whole(alloc)?.try_get_matches_from(words) {
+        Ok(matches) => read_matches(alloc, &matches),
+        Err(error) => match error.kind() {
+            ErrorKind::OutOfMemory => Err(WordsRefusal::OutOfMemory),
+            _ => Err(WordsRefusal::BadWords(WordsFault::Usage)),
+        },
+    }
+}
+
+/// Words are refused as `Usage` exactly where `clap` refuses them: no job and no value is refused so.
+pub fn usage_is_of_grammar()
+    ensures { UsageIsOfGrammar }
+{}
+
+/// Words that ask for a job begin with the word that names its command.
+pub fn first_word_is_command()
+    ensures { FirstWordIsCommand }
+{}

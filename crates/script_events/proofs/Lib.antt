@@ -1,2 +1,0 @@
-pub mod GivenEvents
-pub mod LineLengths

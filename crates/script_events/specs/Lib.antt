@@ -1,2 +1,0 @@
-pub mod ScriptEvents
-pub mod Laws

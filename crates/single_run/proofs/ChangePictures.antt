@@ -1,0 +1,31 @@
+-- How large pictures are.
+use Rattle.std.proofs.Common.{◌≡◌, ℕ, ◌*◌, List, [], ◌∷◌, fold, ap, refl, sym, ◌∙◌}
+use Rattle.ass_num.specs.declared.size.Size.{Size}
+use Rattle.bdf_font.specs.Fonts.{FontValue}
+use Rattle.blend.specs.Canvases.{CanvasValue, black}
+use Rattle.mask_keys.specs.declared.plans.Draw.{Draw}
+use Rattle.mask_keys.specs.Pictures.{picture, with_draw}
+
+-- draws leave the size of a canvas
+pub drawn_width : (fonts : List FontValue) (canvas : CanvasValue) (draws : List Draw) → (fold (with_draw fonts) canvas draws).w ≡ canvas.w
+drawn_width fonts canvas [] = refl
+drawn_width fonts canvas (draw ∷ draws) = drawn_width fonts (with_draw fonts canvas draw) draws
+
+pub drawn_height : (fonts : List FontValue) (canvas : CanvasValue) (draws : List Draw) → (fold (with_draw fonts) canvas draws).h ≡ canvas.h
+drawn_height fonts canvas [] = refl
+drawn_height fonts canvas (draw ∷ draws) = drawn_height fonts (with_draw fonts canvas draw) draws
+
+-- the bytes of a picture
+pub picture_bytes : (fonts : List FontValue) (size : Size) (draws : List Draw) (canvas : CanvasValue) (count : ℕ) → canvas ≡ picture fonts size draws → count ≡ 3 * (canvas.w * canvas.h) → count ≡ 3 * (size.w * size.h)
+picture_bytes fonts size draws canvas count is counted =
+    let wide : canvas.w ≡ size.w = ap (λ (c : CanvasValue). c.w) is ∙ drawn_width fonts (black size.w size.h) draws in
+    let high : canvas.h ≡ size.h = ap (λ (c : CanvasValue). c.h) is ∙ drawn_height fonts (black size.w size.h) draws in
+    counted ∙ ap (λ w. 3 * (w * canvas.h)) wide ∙ ap (λ h. 3 * (size.w * h)) high
+
+-- what is painted on black is the picture
+pub painted : (fonts : List FontValue) (size : Size) (draws : List Draw) (old new : CanvasValue) → old ≡ black size.w size.h → new ≡ fold (with_draw fonts) old draws → new ≡ picture fonts size draws
+painted fonts size draws old new blank is = is ∙ ap (λ (c : CanvasValue). fold (with_draw fonts) c draws) blank
+
+-- no draws leave the frame black
+pub blank_picture : (fonts : List FontValue) (size : Size) (draws : List Draw) (canvas : CanvasValue) → draws ≡ [] → canvas ≡ black size.w size.h → canvas ≡ picture fonts size draws
+blank_picture fonts size draws canvas none blank = blank ∙ sym (ap (picture fonts size) none)

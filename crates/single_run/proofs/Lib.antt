@@ -1,0 +1,9 @@
+pub mod CountLemmas
+pub mod InputLemmas
+pub mod PictureLemmas
+pub mod RewriteLemmas
+pub mod Runs
+pub mod WorkLemmas
+pub mod InstantLemmas
+pub mod LineLemmas
+pub mod ChangePictures

@@ -1,0 +1,88 @@
+-- From what two pictures are to the line on them, and from lines to a report.
+use Rattle.std.proofs.Common.{◌≡◌, ◌↔◌, ℕ, ◌+◌, pos, List, [], ◌++◌, Option, Some, None, ap, refl, sym, subst, arith}
+use Rattle.std.specs.Prelude.{IfSome}
+use Rattle.ass_num.specs.declared.size.Size.{Size}
+use Rattle.ass_events.specs.declared.event.Event.{Event}
+use Rattle.ass_script.specs.Scripts.{ScriptValue}
+use Rattle.bdf_font.specs.Fonts.{FontValue}
+use Rattle.frame_change.specs.Changes.{DiffersAt, HasChanges, IsChange, IsLeastChanged}
+use Rattle.frame_change.specs.declared.kinds.ChangeKind.{ChangeKind}
+use Rattle.frame_change.specs.declared.kinds.ChangeKind.TheVariants.{Same, Moved, Other}
+use Rattle.frame_change.specs.declared.pixels.Changed.{Changed}
+use Rattle.mask_keys.specs.declared.plans.Draw.{Draw}
+use Rattle.mask_keys.specs.declared.plans.Plan.{Plan}
+use Rattle.mask_keys.specs.Pictures.{picture}
+use Rattle.picture_plan.specs.Pictures.{AreDraws}
+use Rattle.single_run.specs.Instants.{instant_at}
+use Rattle.single_run.specs.Laws.{SameDrawsChangeNothing}
+use Rattle.single_run.specs.Lines.{change_line}
+use Rattle.single_run.specs.ChangeReports.{AreChangeLines, IsChangeLine, IsChangedBox, NextLine, NoLine, plan_of}
+use Rattle.single_run.specs.declared.instants.Instants.{Instants}
+
+of_draws : (kind : ChangeKind) (before now : Plan) → IsChange kind before now → IsChange kind (plan_of before.draws) (plan_of now.draws)
+of_draws Same before now h = h
+of_draws Moved before now h = h
+of_draws Other before now h = h
+
+boxed : (size : Size) (a b : List ℕ) (box : Option Changed) → (box ≡ None) ↔ (a ≡ b) → IfSome box (IsLeastChanged size a b) → IsChangedBox size a b box
+boxed size a b None none some = none.0 refl
+boxed size a b (Some box) none some = some
+
+-- the line on draws that are those before
+pub unchanged_line : (fonts : List FontValue) (size : Size) (t : ℕ) (before now : Plan) (line : List ℕ) → IsChange Same before now → line ≡ change_line t Same None → IsChangeLine fonts size t before.draws now.draws line
+unchanged_line fonts size t before now line same is = record {
+  kind = Same;
+  box = None;
+  is_change = same;
+  is_box = ap (λ (draws : List Draw). (picture fonts size draws).bytes) same;
+  value = is;
+}
+
+-- the line on two pictures
+pub changed_line : (fonts : List FontValue) (size : Size) (t : ℕ) (before now : Plan) (kind : ChangeKind) (box : Option Changed) (a b line : List ℕ) → IsChange kind before now →
+    a ≡ (picture fonts size before.draws).bytes → b ≡ (picture fonts size now.draws).bytes → (box ≡ None) ↔ (a ≡ b) → IfSome box (IsLeastChanged size a b) →
+    line ≡ change_line t kind box → IsChangeLine fonts size t before.draws now.draws line
+changed_line fonts size t before now kind box a b line differs old new none some is = record {
+  kind = kind;
+  box = box;
+  is_change = of_draws kind before now differs;
+  is_box = subst (λ bytes. IsChangedBox size bytes (picture fonts size now.draws).bytes box) old (subst (λ bytes. IsChangedBox size a bytes box) new (boxed size a b box none some));
+  value = is;
+}
+
+-- before the first instant there are no lines
+pub no_lines : (script : ScriptValue) (fonts : List FontValue) (events : List Event) (instants : Instants) (size : Size) (draws : List Draw) (text : List ℕ) →
+    draws ≡ [] → text ≡ [] → AreChangeLines script fonts events instants size 0 draws text
+no_lines script fonts events instants size draws text no_draws no_text =
+    subst (λ d. AreChangeLines script fonts events instants size 0 d text) (sym no_draws)
+    (subst (AreChangeLines script fonts events instants size 0 []) (sym no_text) NoLine)
+
+-- one line more
+pub next_lines : (script : ScriptValue) (fonts : List FontValue) (events : List Event) (instants : Instants) (size : Size) (place t : ℕ) (before now : List Draw) (text line new : List ℕ) →
+    AreChangeLines script fonts events instants size place before text → t ≡ instant_at instants place → AreDraws script fonts events (pos t) size now →
+    IsChangeLine fonts size t before now line → new ≡ text ++ line → AreChangeLines script fonts events instants size (place + 1) now new
+next_lines script fonts events instants size place t before now text line new lines at draws told is =
+    subst (AreChangeLines script fonts events instants size (place + 1) now) (sym is)
+    (NextLine place before now text line lines
+    (subst (λ n. AreDraws script fonts events (pos n) size now) at draws)
+    (subst (λ n. IsChangeLine fonts size n before now line) at told))
+
+-- ---- equal pictures have no box
+
+never_differs : (w : ℕ) (a : List ℕ) (i j : ℕ) → DiffersAt w a a i j → ⊥
+never_differs w a i j (k, within, differs) = differs refl
+
+no_least : (size : Size) (a : List ℕ) (box : Changed) → IsLeastChanged size a a box → ⊥
+no_least size a box least =
+    let other : Changed = record { x1 = box.x1 + 1; y1 = box.y1; x2 = box.x2; y2 = box.y2 } in
+    let has : HasChanges size a a other = λ i j wide high differs. absurd (never_differs size.w a i j differs) in
+    let inside = least.least other has in
+    omega (arith, inside.left)
+
+none_at : (size : Size) (a b : List ℕ) (box : Option Changed) → a ≡ b → IsChangedBox size a b box → box ≡ None
+none_at size a b None same is = refl
+none_at size a b (Some box) same is = absurd (no_least size b box (subst (λ bytes. IsLeastChanged size bytes b box) same is))
+
+pub same_draws : SameDrawsChangeNothing
+same_draws fonts size before now box same is =
+    none_at size (picture fonts size before).bytes (picture fonts size now).bytes box (ap (λ (draws : List Draw). (picture fonts size draws).bytes) same) is

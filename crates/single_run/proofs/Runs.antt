@@ -1,0 +1,477 @@
+-- How the parts of a run make the whole.
+use Rattle.std.proofs.Common.{◌≡◌, ◌⊎◌, inl, inr, ℕ, ◌≤◌, List, [], ◌++◌, length, slice_index_or, Option, Some, None, Result, Ok, Err, refl, sym, ap, subst, ◌∙◌, append-nil, arith}
+use Rattle.std.specs.Io.KnownBytes.{Appends, Keeps}
+use Rattle.std.proofs.KnownBytes.{Keeps-trans}
+use Rattle.std.proofs.lemmas.Bool.{cases_lt}
+use Rattle.ass_num.specs.Causes.{Rose}
+use Rattle.ass_io.specs.Fetched.{Told}
+use Rattle.ass_io.specs.Written.{AppendsFront, IsPut, IsPutCounted}
+use Rattle.ass_io.specs.declared.sink.Put.{Put}
+use Rattle.ass_io.specs.declared.sink.Put.TheVariants as put
+use Rattle.run_status.specs.Files.{Asks, AsksFont, AsksScript, IsAnswered}
+use Rattle.run_status.specs.Inputs.{AreRead}
+use Rattle.run_status.specs.Laws.{FilesDecide, IsReadDecided}
+use Rattle.run_status.specs.declared.inputs.Inputs.{Inputs}
+use Rattle.single_run.specs.declared.work.Work.{Work}
+use Rattle.single_run.specs.declared.work.Task.{Task}
+use Rattle.single_run.specs.declared.work.Task.TheVariants.{Changes, Check, Frame, Write}
+use Rattle.run_status.specs.Statuses.{status_line}
+use Rattle.run_status.specs.declared.status.Status.{Status}
+use Rattle.run_status.specs.declared.status.Status.TheVariants as status
+use Rattle.run_status.specs.declared.status.What.TheVariants.{Fonts}
+use Rattle.run_status.specs.declared.status.Which.{Which}
+use Rattle.run_status.specs.declared.status.Which.TheVariants.{Frames, Report}
+use Rattle.track_write.specs.declared.refusal.WriteRefusal.{WriteRefusal}
+use Rattle.track_write.specs.declared.refusal.WriteRefusal.TheVariants.{OutOfMemory, Unwritable}
+use Rattle.single_run.specs.Outcomes.{IsEnded, IsOrFault, IsOrMemory, SuitsSink, IsStatusReadCounted, IsMemoryReported, IsReported, IsShown, IsFramesPutCount, IsWriteCounted, out_of_memory, status_if_put, text_to_report}
+use Rattle.single_run.specs.Outputs.{IsFramesAsked, IsReportAsked, rewritten, sink_of, status_asked, task_status, written_status}
+use Rattle.single_run.specs.Runs.{Decides, IsJobRun, IsWorked, SinkChange, sink_change}
+use Rattle.single_run.specs.declared.outcome.Outcome.{Outcome}
+use Rattle.single_run.specs.declared.outcome.Outcome.TheVariants.{Ended, Found}
+
+-- ---- what sinks got
+
+pub keeps : (held : Option (List ℕ)) → Keeps held held
+keeps None = tt
+keeps (Some bytes) = refl
+
+pub appends_none : (held : Option (List ℕ)) → Appends held held []
+appends_none None = tt
+appends_none (Some bytes) = sym (append-nil bytes)
+
+keeps_appended : (old new : Option (List ℕ)) → Appends old new [] → Keeps old new
+keeps_appended None new h = tt
+keeps_appended (Some xs) None h = h
+keeps_appended (Some xs) (Some ys) h = h ∙ append-nil xs
+
+front_by_all : (old new : Option (List ℕ)) (piece : List ℕ) → Appends old new piece → AppendsFront old new piece
+front_by_all old new piece h = (piece, [], sym (append-nil piece), h)
+
+-- Where nothing may be all, nothing is shown.
+pub shown_none : (answer : Status) (held : Option (List ℕ)) (may : List ℕ → Type 0) → may [] → IsShown answer held held may
+shown_none status.Done held may m = ([], m, appends_none held)
+shown_none (status.NoSuchFile name) held may m = keeps held
+shown_none (status.ReadFault name) held may m = keeps held
+shown_none (status.BadScript cause) held may m = keeps held
+shown_none (status.BadFont index line cause) held may m = keeps held
+shown_none (status.WriteFault Frames) held may m = ([], m, front_by_all held held [] (appends_none held))
+shown_none (status.WriteFault Report) held may m = keeps held
+shown_none (status.TooLarge what limit) held may m = keeps held
+shown_none status.OutOfMemory held may m = inl (keeps held)
+shown_none (status.BadWords why) held may m = keeps held
+shown_none (status.Unwritable order field) held may m = keeps held
+
+-- What was shown may be a part where memory runs out.
+shown_front : (answer : Status) (old new : Option (List ℕ)) (may : List ℕ → Type 0) → IsShown answer old new may → IsShown status.OutOfMemory old new may
+shown_front status.Done old new may h = inr (h.0, h.1, front_by_all old new h.0 h.2)
+shown_front (status.NoSuchFile name) old new may h = inl h
+shown_front (status.ReadFault name) old new may h = inl h
+shown_front (status.BadScript cause) old new may h = inl h
+shown_front (status.BadFont index line cause) old new may h = inl h
+shown_front (status.WriteFault Frames) old new may h = inr h
+shown_front (status.WriteFault Report) old new may h = inl h
+shown_front (status.TooLarge what limit) old new may h = inl h
+shown_front status.OutOfMemory old new may h = h
+shown_front (status.BadWords why) old new may h = inl h
+shown_front (status.Unwritable order field) old new may h = inl h
+
+-- What is shown of bytes that may be shown is so of all bytes that may be.
+pub shown_more : (answer : Status) (old new : Option (List ℕ)) (may more : List ℕ → Type 0) → ((bytes : List ℕ) → may bytes → more bytes) → IsShown answer old new may → IsShown answer old new more
+shown_more status.Done old new may more each h = (h.0, each h.0 h.1, h.2)
+shown_more (status.NoSuchFile name) old new may more each h = h
+shown_more (status.ReadFault name) old new may more each h = h
+shown_more (status.BadScript cause) old new may more each h = h
+shown_more (status.BadFont index line cause) old new may more each h = h
+shown_more (status.WriteFault Frames) old new may more each h = (h.0, each h.0 h.1, h.2)
+shown_more (status.WriteFault Report) old new may more each h = h
+shown_more (status.TooLarge what limit) old new may more each h = h
+shown_more status.OutOfMemory old new may more each (inl h) = inl h
+shown_more status.OutOfMemory old new may more each (inr h) = inr (h.0, each h.0 h.1, h.2)
+shown_more (status.BadWords why) old new may more each h = h
+shown_more (status.Unwritable order field) old new may more each h = h
+
+-- What a put leaves is so of its piece alone.
+pub shown_whole : (old new : Option (List ℕ)) (piece : List ℕ) → Appends old new piece → IsShown status.Done old new (λ bytes. bytes ≡ piece)
+shown_whole old new piece h = (piece, refl, h)
+
+pub shown_part : (old new : Option (List ℕ)) (piece : List ℕ) → AppendsFront old new piece → IsShown (status.WriteFault Frames) old new (λ bytes. bytes ≡ piece)
+shown_part old new piece h = (piece, refl, h)
+
+pub shown_kept : (old new : Option (List ℕ)) (piece : List ℕ) → Keeps old new → IsShown status.OutOfMemory old new (λ bytes. bytes ≡ piece)
+shown_kept old new piece h = inl h
+
+-- The same of the report.
+pub told_whole : (old new : Option (List ℕ)) (before now : ℕ) (text : List ℕ) → Appends old new text → now ≡ before → IsReported status.Done old new before now (λ t. t ≡ text)
+told_whole old new before now text h same = (text, refl, h, same)
+
+pub told_part : (old new : Option (List ℕ)) (before now : ℕ) (text : List ℕ) → AppendsFront old new text → Rose before now → before ≤ now → IsReported (status.WriteFault Report) old new before now (λ t. t ≡ text)
+told_part old new before now text h rose rises = (text, refl, h, rose, rises)
+
+pub told_nothing : (held : Option (List ℕ)) (faults : ℕ) → IsReported status.Done held held faults faults (λ t. t ≡ [])
+told_nothing held faults = ([], refl, appends_none held, refl)
+
+-- What is put where memory runs out.
+pub memory_told : (answer : Put) (old new : Option (List ℕ)) (before now : ℕ) → IsPut answer old new (status_line status.OutOfMemory) → IsPutCounted answer before now → IsMemoryReported old new before now
+memory_told put.Done old new before now h same = inl (h, same)
+memory_told put.Failed old new before now h rose = inr (inl (h, rose.0, rose.1))
+memory_told put.OutOfMemory old new before now h same = inr (inr (h, same))
+
+kept_appends : (old mid new : Option (List ℕ)) (piece : List ℕ) → Keeps old mid → Appends mid new piece → Appends old new piece
+kept_appends None mid new piece k a = tt
+kept_appends (Some xs) None new piece k a = absurd k
+kept_appends (Some xs) (Some ys) None piece k a = absurd a
+kept_appends (Some xs) (Some ys) (Some zs) piece k a = a ∙ ap (λ l. l ++ piece) k
+
+-- It's so too behind a put that wanted memory.
+pub memory_behind : (old mid new : Option (List ℕ)) (before between now : ℕ) → Keeps old mid → between ≡ before → IsMemoryReported mid new between now → IsMemoryReported old new before now
+memory_behind old mid new before between now k same (inl (h, e)) = inl (kept_appends old mid new (status_line status.OutOfMemory) k h, e ∙ same)
+memory_behind old mid new before between now k same (inr (inl ((front, rest, split, h), rose, le))) =
+    inr (inl ((front, rest, split, kept_appends old mid new front k h), subst (λ n. Rose n now) same rose, omega (arith, same, le)))
+memory_behind old mid new before between now k same (inr (inr (h, e))) = inr (inr (Keeps-trans old mid new k h, e ∙ same))
+
+-- Words that ask for no work have nothing to report.
+nothing_to_report : (asked : Result (Option Work) Status) (outcome : Outcome) → ((why : Status) → asked ≡ Err why → (outcome ≡ Ended why) ⊎ (outcome ≡ out_of_memory)) →
+    (asked ≡ Ok None → outcome ≡ out_of_memory) → ((work : Work) → asked ≡ Ok (Some work) → ⊥) → text_to_report outcome ≡ []
+nothing_to_report (Err why) outcome other left none = elim (other why refl) [
+  | inl is ↦ ap text_to_report is
+  | inr is ↦ ap text_to_report is
+]
+nothing_to_report (Ok None) outcome other left none = ap text_to_report (left refl)
+nothing_to_report (Ok (Some work)) outcome other left none = absurd (none work refl)
+
+-- Of such words the report gets nothing but a line.
+pub other_reported : (asked : Result (Option Work) Status) (outcome : Outcome) (answer : Status) (old new : Option (List ℕ)) (before now : ℕ) →
+    ((why : Status) → asked ≡ Err why → (outcome ≡ Ended why) ⊎ (outcome ≡ out_of_memory)) → (asked ≡ Ok None → outcome ≡ out_of_memory) →
+    ((work : Work) → asked ≡ Ok (Some work) → ⊥) →
+    IsReported answer old new before now (λ text. text ≡ text_to_report outcome) → IsReported answer old new before now (λ text. text ≡ [])
+other_reported asked outcome answer old new before now other left none h =
+    subst (λ (t : List ℕ). IsReported answer old new before now (λ text. text ≡ t)) (nothing_to_report asked outcome other left none) h
+
+-- Where memory runs out, nothing may be shown.
+pub shown_nothing : (held : Option (List ℕ)) (may : List ℕ → Type 0) → IsShown status.OutOfMemory held held may
+shown_nothing held may = inl (keeps held)
+
+-- ---- refusals by the files
+
+-- The status says why a file isn't read.
+abbrev pub IsRefusal : Status → Type 0
+IsRefusal status.Done = ⊥
+IsRefusal (status.WriteFault which) = ⊥
+IsRefusal (status.BadWords why) = ⊥
+IsRefusal (status.Unwritable order field) = ⊥
+IsRefusal _ = Unit {0}
+
+answered_kind : {Value : Type 0} (asks : Asks Value) (told : Told) (name : List ℕ) (answer : Status) → IsAnswered asks told name (Err answer) → IsRefusal answer
+answered_kind asks told name status.Done h = h
+answered_kind asks told name (status.NoSuchFile other) h = tt
+answered_kind asks told name (status.ReadFault other) h = tt
+answered_kind asks told name (status.BadScript cause) h = tt
+answered_kind asks told name (status.BadFont index line cause) h = tt
+answered_kind asks told name (status.WriteFault which) h = h
+answered_kind asks told name (status.TooLarge what limit) h = tt
+answered_kind asks told name status.OutOfMemory h = tt
+answered_kind asks told name (status.BadWords why) h = h
+answered_kind asks told name (status.Unwritable order field) h = h
+
+pub read_kind : (told : List ℕ → Told) (script : List ℕ) (fonts : List (List ℕ)) (answer : Status) → AreRead told script fonts (Err answer) → IsRefusal answer
+read_kind told script fonts answer (inl (few, inl h)) = answered_kind (AsksScript script) (told script) script answer h
+read_kind told script fonts answer (inl (few, inr (read, first, (before, within, are, h)))) =
+    let name = slice_index_or fonts (length before) [] in
+    answered_kind (AsksFont (length before) name) (told name) name answer (h [])
+read_kind told script fonts answer (inr (many, e)) = let same : answer ≡ status.TooLarge Fonts 64 = cc in subst IsRefusal (sym same) tt
+
+own_refusal : (sink : Which) (answer : Status) → IsRefusal answer → SuitsSink sink (Ended answer)
+own_refusal sink status.Done h = absurd h
+own_refusal Report (status.NoSuchFile other) h = tt
+own_refusal Report (status.ReadFault other) h = tt
+own_refusal Report (status.BadScript cause) h = tt
+own_refusal Report (status.BadFont index line cause) h = tt
+own_refusal Report (status.TooLarge what limit) h = tt
+own_refusal Report status.OutOfMemory h = tt
+own_refusal Frames (status.NoSuchFile other) h = tt
+own_refusal Frames (status.ReadFault other) h = tt
+own_refusal Frames (status.BadScript cause) h = tt
+own_refusal Frames (status.BadFont index line cause) h = tt
+own_refusal Frames (status.TooLarge what limit) h = tt
+own_refusal Frames status.OutOfMemory h = tt
+own_refusal sink (status.WriteFault which) h = absurd h
+own_refusal sink (status.BadWords why) h = absurd h
+own_refusal sink (status.Unwritable order field) h = absurd h
+
+-- A job whose files are refused.
+pub refused_worked : (told : List ℕ → Told) (work : Work) (answer : Status) (held : Option (List ℕ)) (faults : ℕ) →
+    AreRead told work.script work.fonts (Err answer) → IsWorked told work (sink_change held held faults faults) (Ended answer)
+refused_worked told work answer held faults read = record {
+  reading = Err answer;
+  read = read;
+  answered = inl (inl refl);
+  shown = shown_none answer held (IsFramesAsked work.task (Err answer)) refl;
+  text = λ done. refl;
+  own = own_refusal (sink_of work.task) answer (read_kind told work.script work.fonts answer read);
+}
+
+-- A job for which memory ran out before its files were read.
+pub memory_worked : (told : List ℕ → Told) (work : Work) (held : Option (List ℕ)) (faults : ℕ) → IsWorked told work (sink_change held held faults faults) out_of_memory
+memory_worked told work held faults = elim (cases_lt 64 (length work.fonts)) [
+  | inl many ↦ record {
+    reading = Err (status.TooLarge Fonts 64);
+    read = inr (many, refl);
+    answered = inl (inr refl);
+    shown = inl (keeps held);
+    text = λ done. refl;
+    own = own_refusal (sink_of work.task) status.OutOfMemory tt;
+  }
+  | inr few ↦ record {
+    reading = Err status.OutOfMemory;
+    read = inl (few, inl tt);
+    answered = inl (inl refl);
+    shown = inl (keeps held);
+    text = λ done. refl;
+    own = own_refusal (sink_of work.task) status.OutOfMemory tt;
+  }
+]
+
+-- ---- from an outcome to the run
+
+-- A status ends as it is, or memory ran out.
+pub ended : (before answer : Status) → IsEnded (Ended before) answer → IsOrMemory before answer
+ended status.Done answer h = inl h
+ended (status.NoSuchFile name) answer h = h
+ended (status.ReadFault name) answer h = h
+ended (status.BadScript cause) answer h = h
+ended (status.BadFont index line cause) answer h = h
+ended (status.WriteFault which) answer h = h
+ended (status.TooLarge what limit) answer h = h
+ended status.OutOfMemory answer h = h
+ended (status.BadWords why) answer h = h
+ended (status.Unwritable order field) answer h = h
+
+pub answered_after : (sink : Which) (wanted : Status) (outcome : Outcome) (answer : Status) → SuitsSink sink outcome →
+    IsOrFault sink wanted (status_if_put outcome) → IsEnded outcome answer → IsOrFault sink wanted answer
+answered_after sink wanted (Ended before) answer own asked h = elim (ended before answer h) [
+  | inl same ↦ subst (IsOrFault sink wanted) (sym same) asked
+  | inr memory ↦ inl (inr memory)
+]
+answered_after Frames wanted (Found text) answer own asked ended = absurd own
+answered_after Report wanted (Found text) answer own asked (inl (inl done)) = subst (IsOrFault Report wanted) (sym done) asked
+answered_after Report wanted (Found text) answer own asked (inl (inr memory)) = inl (inr memory)
+answered_after Report wanted (Found text) answer own (inl (inl done)) (inr fault) = inr (sym done, fault)
+answered_after Report wanted (Found text) answer own (inl (inr memory)) (inr fault) = absurd cc
+answered_after Report wanted (Found text) answer own (inr (done, other)) (inr fault) = absurd cc
+
+-- A task for the report shows nothing.
+nothing_shown : (task : Task) (reading : Result Inputs Status) → sink_of task ≡ Report → (bytes : List ℕ) → IsFramesAsked task reading bytes → bytes ≡ []
+nothing_shown task (Err other) own bytes h = h
+nothing_shown Check (Ok inputs) own bytes h = h
+nothing_shown (Changes changes) (Ok inputs) own bytes h = h
+nothing_shown (Frame frame) (Ok inputs) own bytes h = absurd cc
+nothing_shown (Write write) (Ok inputs) own bytes h = absurd cc
+
+shown_after : (sink : Which) (may : List ℕ → Type 0) (outcome : Outcome) (answer : Status) (old new : Option (List ℕ)) → (sink ≡ Report → (bytes : List ℕ) → may bytes → bytes ≡ []) →
+    SuitsSink sink outcome → IsEnded outcome answer → IsShown (status_if_put outcome) old new may → IsShown answer old new may
+shown_after sink may (Ended before) answer old new none own e h = elim (ended before answer e) [
+  | inl same ↦ subst (λ s. IsShown s old new may) (sym same) h
+  | inr memory ↦ subst (λ s. IsShown s old new may) (sym memory) (shown_front before old new may h)
+]
+shown_after Frames may (Found text) answer old new none own ended h = absurd own
+shown_after Report may (Found text) answer old new none own (inl (inl done)) h = subst (λ s. IsShown s old new may) (sym done) h
+shown_after Report may (Found text) answer old new none own (inl (inr memory)) h = subst (λ s. IsShown s old new may) (sym memory) (shown_front status.Done old new may h)
+shown_after Report may (Found text) answer old new none own (inr fault) h =
+    let kept = keeps_appended old new (subst (Appends old new) (none refl h.0 h.1) h.2) in
+    subst (λ s. IsShown s old new may) (sym fault) kept
+
+-- What was reported counts where all is done or the report failed; it may be reported then.
+pub reported_as : (answer : Status) (old new : Option (List ℕ)) (before now : ℕ) (text : List ℕ) (may : List ℕ → Type 0) →
+    (answer ≡ status.Done → may text) → (answer ≡ status.WriteFault Report → may text) →
+    IsReported answer old new before now (λ t. t ≡ text) → IsReported answer old new before now may
+reported_as status.Done old new before now text may d f h = (text, d refl, subst (λ t. Appends old new t) h.1 h.2, h.3)
+reported_as (status.NoSuchFile name) old new before now text may d f h = h
+reported_as (status.ReadFault name) old new before now text may d f h = h
+reported_as (status.BadScript cause) old new before now text may d f h = h
+reported_as (status.BadFont index line cause) old new before now text may d f h = h
+reported_as (status.WriteFault Frames) old new before now text may d f h = h
+reported_as (status.WriteFault Report) old new before now text may d f h = (text, f refl, subst (λ t. AppendsFront old new t) h.1 h.2, h.3, h.4)
+reported_as (status.TooLarge what limit) old new before now text may d f h = h
+reported_as status.OutOfMemory old new before now text may d f h = h
+reported_as (status.BadWords why) old new before now text may d f h = h
+reported_as (status.Unwritable order field) old new before now text may d f h = h
+
+pub done_before : (outcome : Outcome) (answer : Status) → IsEnded outcome answer → answer ≡ status.Done → status_if_put outcome ≡ status.Done
+done_before (Ended before) answer e done = elim (ended before answer e) [
+  | inl same ↦ sym same ∙ done
+  | inr memory ↦ absurd cc
+]
+done_before (Found text) answer e done = refl
+
+pub found_before : (sink : Which) (outcome : Outcome) (answer : Status) → SuitsSink sink outcome → IsEnded outcome answer → answer ≡ status.WriteFault Report → status_if_put outcome ≡ status.Done
+found_before sink (Ended before) answer own e fault = elim (ended before answer e) [
+  | inl same ↦ let equal : before ≡ status.WriteFault Report = cc in absurd (subst (λ s. SuitsSink sink (Ended s)) equal own)
+  | inr memory ↦ absurd cc
+]
+found_before sink (Found text) answer own e fault = refl
+
+-- A job and what is reported of it are a run.
+pub run_after : (told : List ℕ → Told) (work : Work) (frames report : SinkChange) (outcome : Outcome) (answer : Status) →
+    IsWorked told work frames outcome → IsEnded outcome answer →
+    IsReported answer report.held_before report.held_now report.faults_before report.faults_now (λ text. text ≡ text_to_report outcome) →
+    IsJobRun told work frames report answer
+run_after told work frames report outcome answer worked ended reported = record {
+  reading = worked.reading;
+  read = worked.read;
+  answered = answered_after (sink_of work.task) _ outcome answer worked.own worked.answered ended;
+  shown = shown_after (sink_of work.task) (IsFramesAsked work.task worked.reading) outcome answer _ _ (nothing_shown work.task worked.reading) worked.own ended worked.shown;
+  reported = reported_as answer _ _ _ _ (text_to_report outcome) (IsReportAsked work.task worked.reading)
+      (λ done. worked.text (done_before outcome answer ended done))
+      (λ fault. worked.text (found_before (sink_of work.task) outcome answer worked.own ended fault)) reported;
+}
+
+-- ---- the counts
+
+read_rises : (answer : Status) (before now : ℕ) → IsStatusReadCounted answer before now → before ≤ now
+read_rises status.Done before now h = omega (arith, h)
+read_rises (status.NoSuchFile name) before now h = omega (arith, h)
+read_rises (status.ReadFault name) before now h = h.1
+read_rises (status.BadScript cause) before now h = omega (arith, h)
+read_rises (status.BadFont index line cause) before now h = omega (arith, h)
+read_rises (status.WriteFault which) before now h = omega (arith, h)
+read_rises (status.TooLarge what limit) before now h = omega (arith, h)
+read_rises status.OutOfMemory before now h = h
+read_rises (status.BadWords why) before now h = omega (arith, h)
+read_rises (status.Unwritable order field) before now h = omega (arith, h)
+
+pub read_after : (outcome : Outcome) (answer : Status) (before now : ℕ) → IsEnded outcome answer → IsStatusReadCounted (status_if_put outcome) before now → IsStatusReadCounted answer before now
+read_after (Ended s) answer before now e h = elim (ended s answer e) [
+  | inl same ↦ subst (λ s. IsStatusReadCounted s before now) (sym same) h
+  | inr memory ↦ subst (λ s. IsStatusReadCounted s before now) (sym memory) (read_rises s before now h)
+]
+read_after (Found text) answer before now (inl (inl done)) h = subst (λ s. IsStatusReadCounted s before now) (sym done) h
+read_after (Found text) answer before now (inl (inr memory)) h = subst (λ s. IsStatusReadCounted s before now) (sym memory) (omega (arith, h))
+read_after (Found text) answer before now (inr fault) h = subst (λ s. IsStatusReadCounted s before now) (sym fault) h
+
+written_read : (text : Result (List ℕ) WriteRefusal) (before now : ℕ) → now ≡ before → IsStatusReadCounted (written_status text) before now
+written_read (Ok text) before now same = same
+written_read (Err (Unwritable order field)) before now same = same
+written_read (Err OutOfMemory) before now same = omega (arith, same)
+
+own_read : (task : Task) (inputs : Inputs) (before now : ℕ) → now ≡ before → IsStatusReadCounted (task_status task inputs) before now
+own_read Check inputs before now same = same
+own_read (Frame frame) inputs before now same = same
+own_read (Changes changes) inputs before now same = same
+own_read (Write write) inputs before now same = written_read (rewritten write inputs.script) before now same
+
+-- No task fails at a file.
+pub read_same : (task : Task) (inputs : Inputs) (answer : Status) (before now : ℕ) → now ≡ before → IsOrFault (sink_of task) (task_status task inputs) answer → IsStatusReadCounted answer before now
+read_same task inputs answer before now same (inl (inl wanted)) = subst (λ s. IsStatusReadCounted s before now) (sym wanted) (own_read task inputs before now same)
+read_same task inputs answer before now same (inl (inr memory)) = subst (λ s. IsStatusReadCounted s before now) (sym memory) (omega (arith, same))
+read_same task inputs answer before now same (inr (done, fault)) = subst (λ s. IsStatusReadCounted s before now) (sym fault) same
+
+written_rises : (answer : Status) (before now : ℕ) → IsWriteCounted answer before now → before ≤ now
+written_rises status.Done before now h = omega (arith, h)
+written_rises (status.NoSuchFile name) before now h = omega (arith, h)
+written_rises (status.ReadFault name) before now h = omega (arith, h)
+written_rises (status.BadScript cause) before now h = omega (arith, h)
+written_rises (status.BadFont index line cause) before now h = omega (arith, h)
+written_rises (status.WriteFault Frames) before now h = h.1
+written_rises (status.WriteFault Report) before now h = omega (arith, h)
+written_rises (status.TooLarge what limit) before now h = omega (arith, h)
+written_rises status.OutOfMemory before now h = h
+written_rises (status.BadWords why) before now h = omega (arith, h)
+written_rises (status.Unwritable order field) before now h = omega (arith, h)
+
+pub written_after : (outcome : Outcome) (answer : Status) (before now : ℕ) → IsEnded outcome answer → IsWriteCounted (status_if_put outcome) before now → IsWriteCounted answer before now
+written_after (Ended s) answer before now e h = elim (ended s answer e) [
+  | inl same ↦ subst (λ s. IsWriteCounted s before now) (sym same) h
+  | inr memory ↦ subst (λ s. IsWriteCounted s before now) (sym memory) (written_rises s before now h)
+]
+written_after (Found text) answer before now (inl (inl done)) h = subst (λ s. IsWriteCounted s before now) (sym done) h
+written_after (Found text) answer before now (inl (inr memory)) h = subst (λ s. IsWriteCounted s before now) (sym memory) (omega (arith, h))
+written_after (Found text) answer before now (inr fault) h = subst (λ s. IsWriteCounted s before now) (sym fault) h
+
+-- ---- refusals leave the frames sink
+
+once_of : (sink : Which) (answer : Status) (n : ℕ) → IsRefusal answer → IsFramesPutCount sink answer n n
+once_of sink status.Done n h = absurd h
+once_of sink (status.NoSuchFile name) n h = refl
+once_of sink (status.ReadFault name) n h = refl
+once_of sink (status.BadScript cause) n h = refl
+once_of sink (status.BadFont index line cause) n h = refl
+once_of sink (status.WriteFault which) n h = absurd h
+once_of sink (status.TooLarge what limit) n h = refl
+once_of Report status.OutOfMemory n h = refl
+once_of Frames status.OutOfMemory n h = (omega arith, omega arith)
+once_of sink (status.BadWords why) n h = absurd h
+once_of sink (status.Unwritable order field) n h = absurd h
+
+written_of : (answer : Status) (n : ℕ) → IsRefusal answer → IsWriteCounted answer n n
+written_of status.Done n h = absurd h
+written_of (status.NoSuchFile name) n h = refl
+written_of (status.ReadFault name) n h = refl
+written_of (status.BadScript cause) n h = refl
+written_of (status.BadFont index line cause) n h = refl
+written_of (status.WriteFault which) n h = absurd h
+written_of (status.TooLarge what limit) n h = refl
+written_of status.OutOfMemory n h = omega arith
+written_of (status.BadWords why) n h = absurd h
+written_of (status.Unwritable order field) n h = absurd h
+
+pub refused_once : (told : List ℕ → Told) (work : Work) (answer : Status) (n : ℕ) → AreRead told work.script work.fonts (Err answer) → IsFramesPutCount (sink_of work.task) answer n n
+refused_once told work answer n read = once_of (sink_of work.task) answer n (read_kind told work.script work.fonts answer read)
+
+pub refused_written : (told : List ℕ → Told) (work : Work) (answer : Status) (n : ℕ) → AreRead told work.script work.fonts (Err answer) → IsWriteCounted answer n n
+refused_written told work answer n read = written_of answer n (read_kind told work.script work.fonts answer read)
+
+-- ---- what the files decide
+
+abbrev pub IsFault : Result Inputs Status → Type 0
+IsFault reading = ((name : List ℕ) × (reading ≡ Err (status.ReadFault name))) ⊎ (reading ≡ Err status.OutOfMemory)
+
+pub fault_or_decided : (reading : Result Inputs Status) → IsReadDecided reading ⊎ IsFault reading
+fault_or_decided (Ok inputs) = inl tt
+fault_or_decided (Err status.Done) = inl tt
+fault_or_decided (Err (status.NoSuchFile name)) = inl tt
+fault_or_decided (Err (status.ReadFault name)) = inr (inl (name, refl))
+fault_or_decided (Err (status.BadScript cause)) = inl tt
+fault_or_decided (Err (status.BadFont index line cause)) = inl tt
+fault_or_decided (Err (status.WriteFault which)) = inl tt
+fault_or_decided (Err (status.TooLarge what limit)) = inl tt
+fault_or_decided (Err status.OutOfMemory) = inr (inr refl)
+fault_or_decided (Err (status.BadWords why)) = inl tt
+fault_or_decided (Err (status.Unwritable order field)) = inl tt
+
+-- A task's sink fails only where its count rises.
+sink_rose : (sink : Which) (answer : Status) (frames report : SinkChange) (may : List ℕ → Type 0) → answer ≡ status.WriteFault sink →
+    IsWriteCounted answer frames.faults_before frames.faults_now →
+    IsReported answer report.held_before report.held_now report.faults_before report.faults_now may →
+    Rose frames.faults_before frames.faults_now ⊎ Rose report.faults_before report.faults_now
+sink_rose Report answer frames report may fault written reported = inr (subst (λ s. IsReported s report.held_before report.held_now report.faults_before report.faults_now may) fault reported).3
+sink_rose Frames answer frames report may fault written reported = inl (subst (λ s. IsWriteCounted s frames.faults_before frames.faults_now) fault written).0
+
+unfailed : (sink : Which) (wanted answer : Status) → (answer ≡ status.WriteFault sink → ⊥) → IsOrFault sink wanted answer → IsOrMemory wanted answer
+unfailed sink wanted answer fails (inl h) = h
+unfailed sink wanted answer fails (inr (done, fault)) = absurd (fails fault)
+
+unread : (sink : Which) (name : List ℕ) (answer : Status) (before now : ℕ) → (Rose before now → ⊥) → IsStatusReadCounted answer before now →
+    IsOrFault sink (status.ReadFault name) answer → answer ≡ status.OutOfMemory
+unread sink name answer before now stays counted (inl (inl same)) = absurd (stays (subst (λ s. IsStatusReadCounted s before now) same counted).0)
+unread sink name answer before now stays counted (inl (inr memory)) = memory
+unread sink name answer before now stays counted (inr (done, fault)) = absurd cc
+
+wanting : (sink : Which) (answer : Status) → IsOrFault sink status.OutOfMemory answer → answer ≡ status.OutOfMemory
+wanting sink answer (inl (inl memory)) = memory
+wanting sink answer (inl (inr memory)) = memory
+wanting sink answer (inr (done, fault)) = absurd cc
+
+-- Files that are told decide a run without a fault.
+pub decides : FilesDecide → (told : List ℕ → Told) (work : Work) (frames report : SinkChange) (before now : ℕ) (answer : Status) →
+    IsJobRun told work frames report answer → IsStatusReadCounted answer before now → IsWriteCounted answer frames.faults_before frames.faults_now →
+    (Rose before now → ⊥) → (Rose frames.faults_before frames.faults_now → ⊥) → (Rose report.faults_before report.faults_now → ⊥) → Decides told work answer
+decides law told work frames report before now answer run counted written stays shows reports = λ reading known read decided.
+    let sink = sink_of work.task in
+    elim (fault_or_decided run.reading) [
+      | inl found ↦
+          let same = law told work.script work.fonts run.reading reading known found decided run.read read in
+          let fails : answer ≡ status.WriteFault sink → ⊥ = λ fault. elim (sink_rose sink answer frames report _ fault written run.reported) [ inl rose ↦ shows rose | inr rose ↦ reports rose ] in
+          unfailed sink (status_asked work.task reading) answer fails (subst (λ r. IsOrFault sink (status_asked work.task r) answer) same run.answered)
+      | inr (inl (name, fault)) ↦ inr (unread sink name answer before now stays counted (subst (λ r. IsOrFault sink (status_asked work.task r) answer) fault run.answered))
+      | inr (inr memory) ↦ inr (wanting sink answer (subst (λ r. IsOrFault sink (status_asked work.task r) answer) memory run.answered))
+    ]

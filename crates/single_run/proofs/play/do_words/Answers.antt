@@ -1,0 +1,23 @@
+use Rattle.std.proofs.Common.{◌≡◌, ◌∙◌, inl, inr, Err, Ok, Option, Result, Some, subst, sym}
+use Rattle.run_status.specs.declared.status.Status.{Status}
+use Rattle.run_status.specs.declared.status.Status.TheVariants.{OutOfMemory}
+use Rattle.run_words.specs.Words.{texts}
+use Rattle.single_run.specs.Runs.{IsWorked, sink_change}
+use Rattle.single_run.specs.Works.{IsWorkRead, work_asked}
+use Rattle.single_run.specs.declared.outcome.Outcome.TheVariants.{Ended}
+use Rattle.single_run.specs.declared.work.Work.{Work}
+use Rattle.single_run.proofs.Runs.{memory_worked}
+use Rattle.single_run.proofs.play.do_words.Goals as goal
+
+-- Where words ask for work, out of memory alone comes in its place.
+memory_alone : (asked : Result (Option Work) Status) (why : Status) (work : Work) → IsWorkRead asked (Err why) → asked ≡ Ok (Some work) → why ≡ OutOfMemory
+memory_alone asked why work (inl same) e = let equal : Err why ≡ Ok (Some work) = same ∙ e in absurd cc
+memory_alone asked why work (inr memory) e = cc
+
+pub returns-in-Err-clause-run : goal.returns-in-Err-clause-run
+returns-in-Err-clause-run g c = λ work asked.
+    let told = g.S.Shelf.told c.args.shelf.now in
+    let frames = c.args.frames.now in
+    let change = sink_change (g.F.Sink.held frames) (g.F.Sink.held frames) (g.F.Sink.faults frames) (g.F.Sink.faults frames) in
+    subst (λ why. IsWorked told work change (Ended why)) (sym (memory_alone (work_asked (texts c.args.words.now)) c.in-Err.status work c.in-Err.ensures.asked asked))
+    (memory_worked told work (g.F.Sink.held frames) (g.F.Sink.faults frames))

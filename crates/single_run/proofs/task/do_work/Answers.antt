@@ -1,0 +1,46 @@
+use Rattle.std.proofs.Common.{Err, Ok, subst}
+use Rattle.run_status.specs.Inputs.{AreRead}
+use Rattle.single_run.specs.Outcomes.{status_if_put}
+use Rattle.single_run.proofs.InputLemmas.{inputs_suit}
+use Rattle.single_run.proofs.Runs.{read_same, refused_once, refused_worked, refused_written}
+use Rattle.single_run.proofs.task.do_work.Goals as goal
+
+pub do_task-requires-clause-inputs : goal.do_task-requires-clause-inputs
+do_task-requires-clause-inputs g c =
+    let told = g.S.Shelf.told c.args.shelf.now in
+    inputs_suit c.lines_fit_their_text.ensures told c.args.work.now.task c.args.work.now.script c.args.work.now.fonts c.in-Ok.inputs c.requires
+    (subst (λ fonts. AreRead told c.args.work.now.script fonts (Ok c.in-Ok.inputs)) c.as_slice.ensures c.in-Ok.ensures.read) c.in-Ok.ensures.fonts
+
+pub returns-in-Err-clause-run : goal.returns-in-Err-clause-run
+returns-in-Err-clause-run g c =
+    let told = g.S.Shelf.told c.args.shelf.now in
+    refused_worked told c.args.work.now c.in-Err.status _ _
+    (subst (λ fonts. AreRead told c.args.work.now.script fonts (Err c.in-Err.status)) c.as_slice.ensures c.in-Err.ensures.read)
+
+pub returns-in-Err-clause-once : goal.returns-in-Err-clause-once
+returns-in-Err-clause-once g c =
+    let told = g.S.Shelf.told c.args.shelf.now in
+    refused_once told c.args.work.now c.in-Err.status _
+    (subst (λ fonts. AreRead told c.args.work.now.script fonts (Err c.in-Err.status)) c.as_slice.ensures c.in-Err.ensures.read)
+
+pub returns-in-Err-clause-write : goal.returns-in-Err-clause-write
+returns-in-Err-clause-write g c =
+    let told = g.S.Shelf.told c.args.shelf.now in
+    refused_written told c.args.work.now c.in-Err.status _
+    (subst (λ fonts. AreRead told c.args.work.now.script fonts (Err c.in-Err.status)) c.as_slice.ensures c.in-Err.ensures.read)
+
+pub returns-in-Ok-clause-run : goal.returns-in-Ok-clause-run
+returns-in-Ok-clause-run g c =
+    let told = g.S.Shelf.told c.args.shelf.now in
+    record {
+      reading = Ok c.in-Ok.inputs;
+      read = subst (λ fonts. AreRead told c.args.work.now.script fonts (Ok c.in-Ok.inputs)) c.as_slice.ensures c.in-Ok.ensures.read;
+      answered = c.do_task.ensures.answered;
+      shown = c.do_task.ensures.shown;
+      text = c.do_task.ensures.text;
+      own = c.do_task.ensures.own;
+    }
+
+pub returns-in-Ok-clause-read : goal.returns-in-Ok-clause-read
+returns-in-Ok-clause-read g c =
+    read_same c.args.work.now.task c.in-Ok.inputs (status_if_put c.do_task.result) _ _ c.in-Ok.ensures.counted c.do_task.ensures.answered

@@ -1,0 +1,47 @@
+-- Public: the report on what changes from picture to picture.
+use Rattle.std.specs.Prelude.{◌≡◌, ℕ, ◌+◌, pos, List, [], ◌++◌, Option, Some, None}
+use Rattle.ass_num.specs.declared.size.Size.{Size}
+use Rattle.ass_events.specs.declared.event.Event.{Event}
+use Rattle.ass_script.specs.Scripts.{ScriptValue}
+use Rattle.bdf_font.specs.Fonts.{FontValue}
+use Rattle.frame_change.specs.Changes.{IsChange, IsLeastChanged}
+use Rattle.frame_change.specs.declared.kinds.ChangeKind.{ChangeKind}
+use Rattle.frame_change.specs.declared.pixels.Changed.{Changed}
+use Rattle.mask_keys.specs.declared.plans.Draw.{Draw}
+use Rattle.mask_keys.specs.declared.plans.Plan.{Plan}
+use Rattle.mask_keys.specs.Pictures.{picture}
+use Rattle.picture_plan.specs.Pictures.{AreDraws}
+use Rattle.ass_events.specs.ScriptEvents.{line_events}
+use Rattle.single_run.specs.Instants.{instant_at, instant_count}
+use Rattle.single_run.specs.Lines.{change_line}
+use Rattle.single_run.specs.declared.instants.Instants.{Instants}
+
+abbrev pub plan_of : List Draw → Plan
+plan_of draws = record { draws = draws }
+
+-- The least box of the pixels at which two pictures differ: there is none exactly where they are equal.
+abbrev pub IsChangedBox : Size → List ℕ → List ℕ → Option Changed → Type 0
+IsChangedBox size a b None = a ≡ b
+IsChangedBox size a b (Some box) = IsLeastChanged size a b box
+
+-- The line tells how draws differ from those before, and where their pictures do.
+pub record IsChangeLine (fonts : List FontValue) (size : Size) (t : ℕ) (before now : List Draw) (line : List ℕ) : Type 0 where
+  pub kind : ChangeKind
+  pub box : Option Changed
+  pub is_change : IsChange kind (plan_of before) (plan_of now)
+  pub is_box : IsChangedBox size (picture fonts size before).bytes (picture fonts size now).bytes box
+  pub value : line ≡ change_line t kind box
+
+-- The text is the lines on the first instants, the last of which has these draws. The first of them is compared with no draws, which leave the frame black.
+pub data AreChangeLines (script : ScriptValue) (fonts : List FontValue) (events : List Event) (instants : Instants) (size : Size) : ℕ → List Draw → List ℕ → Type 0 where
+  NoLine : AreChangeLines script fonts events instants size 0 [] []
+  NextLine : (place : ℕ) (before now : List Draw) (text line : List ℕ)
+      → AreChangeLines script fonts events instants size place before text
+      → AreDraws script fonts events (pos (instant_at instants place)) size now
+      → IsChangeLine fonts size (instant_at instants place) before now line
+      → AreChangeLines script fonts events instants size (place + 1) now (text ++ line)
+
+-- The report on what changes in the picture that the events of a script show in fonts, from instant to instant, on a frame of a size.
+abbrev pub IsChangesReport : ScriptValue → List FontValue → Instants → Size → List ℕ → Type 0
+IsChangesReport script fonts instants size text =
+    (last : List Draw) × AreChangeLines script fonts (line_events script) instants size (instant_count instants) last text

@@ -1,0 +1,85 @@
+-- Public: what a job may put to the two sinks.
+use Rattle.std.specs.Prelude.{◌≡◌, ℕ, pos, List, [], length, Result, Ok, Err}
+use Rattle.ass_num.specs.declared.size.Size.{Size}
+use Rattle.ass_script.specs.Scripts.{ScriptValue}
+use Rattle.ass_events.specs.declared.event.Event.{Event}
+use Rattle.bdf_font.specs.Fonts.{FontValue}
+use Rattle.blend.specs.Canvases.{CanvasValue}
+use Rattle.single_run.specs.ChangeReports.{IsChangesReport}
+use Rattle.single_run.specs.CheckReports.{check_text}
+use Rattle.run_status.specs.declared.inputs.Inputs.{Inputs}
+use Rattle.picture_plan.specs.Pictures.{IsPictureAt}
+use Rattle.ppm_text.specs.Images.{image_bytes}
+use Rattle.run_status.specs.declared.status.Status.{Status}
+use Rattle.run_status.specs.declared.status.Status.TheVariants as status
+use Rattle.run_status.specs.declared.status.Which.{Which}
+use Rattle.run_status.specs.declared.status.Which.TheVariants as sink
+use Rattle.ass_events.specs.ScriptEvents.{line_events}
+use Rattle.track_write.specs.Shifts.{shifted}
+use Rattle.track_write.specs.Texts.{written}
+use Rattle.track_write.specs.declared.refusal.WriteRefusal.{WriteRefusal}
+use Rattle.track_write.specs.declared.refusal.WriteRefusal.TheVariants.{OutOfMemory, Unwritable}
+use Rattle.single_run.specs.declared.work.Task.{Task}
+use Rattle.single_run.specs.declared.work.Task.TheVariants.{Changes, Check, Frame, Write}
+use Rattle.single_run.specs.declared.work.WriteTask.{WriteTask}
+
+-- These bytes are the image of the picture that the events of a script show in fonts at an instant in milliseconds, on a frame of a size; its comment counts these events.
+pub record IsFrameImage (script : ScriptValue) (fonts : List FontValue) (at : ℕ) (size : Size) (bytes : List ℕ) : Type 0 where
+  pub canvas : CanvasValue
+  pub is_picture : IsPictureAt script fonts (line_events script) (pos at) size canvas
+  pub value : bytes ≡ image_bytes size.w size.h canvas.bytes (pos at) (length (line_events script))
+
+-- the text of a script with events, where they are some
+abbrev pub written_with : ScriptValue → Result (List Event) WriteRefusal → Result (List ℕ) WriteRefusal
+written_with script (Ok events) = written script events
+written_with script (Err refusal) = Err refusal
+
+-- a script written again with its events so much later and so much earlier, or the first event that can't be written so, with its first such field
+abbrev pub rewritten : WriteTask → ScriptValue → Result (List ℕ) WriteRefusal
+rewritten write script = written_with script (shifted write.later write.earlier (line_events script))
+
+abbrev pub written_status : Result (List ℕ) WriteRefusal → Status
+written_status (Ok text) = status.Done
+written_status (Err (Unwritable order field)) = status.Unwritable order field
+written_status (Err OutOfMemory) = status.OutOfMemory
+
+-- the status that a task with its inputs asks for
+abbrev pub task_status : Task → Inputs → Status
+task_status (Write write) inputs = written_status (rewritten write inputs.script)
+task_status _ inputs = status.Done
+
+-- What a task may put to the frames sink: a report nothing, a picture its image, whatever the budget, and a script that is written again its text.
+abbrev pub IsFramesOf : Task → Inputs → List ℕ → Type 0
+IsFramesOf Check inputs bytes = bytes ≡ []
+IsFramesOf (Frame frame) inputs bytes = IsFrameImage inputs.script inputs.fonts frame.at frame.size bytes
+IsFramesOf (Changes changes) inputs bytes = bytes ≡ []
+IsFramesOf (Write write) inputs bytes = rewritten write inputs.script ≡ Ok bytes
+
+-- What a task may put to the report: what a check finds, what changes from picture to picture, whatever the budget, and else nothing.
+abbrev pub IsReportOf : Task → Inputs → List ℕ → Type 0
+IsReportOf Check inputs text = text ≡ check_text inputs.script inputs.fonts
+IsReportOf (Frame frame) inputs text = text ≡ []
+IsReportOf (Changes changes) inputs text = IsChangesReport inputs.script inputs.fonts changes.instants changes.size text
+IsReportOf (Write write) inputs text = text ≡ []
+
+-- the sink that gets what a task is for
+abbrev pub sink_of : Task → Which
+sink_of Check = sink.Report
+sink_of (Frame frame) = sink.Frames
+sink_of (Changes changes) = sink.Report
+sink_of (Write write) = sink.Frames
+
+-- the status that an answer about the inputs asks for
+abbrev pub status_asked : Task → Result Inputs Status → Status
+status_asked task (Err refusal) = refusal
+status_asked task (Ok inputs) = task_status task inputs
+
+-- what may be put to the frames sink after it
+abbrev pub IsFramesAsked : Task → Result Inputs Status → List ℕ → Type 0
+IsFramesAsked task (Err refusal) bytes = bytes ≡ []
+IsFramesAsked task (Ok inputs) bytes = IsFramesOf task inputs bytes
+
+-- what may be put to the report after it where all is done
+abbrev pub IsReportAsked : Task → Result Inputs Status → List ℕ → Type 0
+IsReportAsked task (Err refusal) text = text ≡ []
+IsReportAsked task (Ok inputs) text = IsReportOf task inputs text

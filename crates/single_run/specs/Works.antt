@@ -1,0 +1,121 @@
+-- Public: the work that words ask for, as far as it waits for nobody.
+use Rattle.std.specs.Prelude.{◌≡◌, ◌⊎◌, Bool, true, ◌&&◌, if◌then◌else◌, ℕ, ◌<◌, ◌≤◌, nat_le, nat_lt, ℤ, pos, negsuc, List, [], ◌∷◌, length, Option, Some, None, Result, Ok, Err, option_map}
+use Rattle.std.specs.Int.RustNames.{unsigned_abs}
+use Rattle.ass_events.specs.Events.{is_time}
+use Rattle.ass_num.specs.Limits.{IsFrameSize, IsInstant}
+use Rattle.ass_num.specs.declared.size.Size.{Size}
+use Rattle.bdf_font.specs.Limits.{max_fonts}
+use Rattle.single_run.specs.Instants.{AreInstants, instant_count}
+use Rattle.run_status.specs.declared.inputs.Inputs.{Inputs}
+use Rattle.run_words.specs.Limits.{max_budget}
+use Rattle.run_words.specs.Words.{job_of}
+use Rattle.run_words.specs.declared.job.Job.{Job}
+use Rattle.run_words.specs.declared.job.Job.TheVariants as job
+use Rattle.run_words.specs.declared.job.WordsFault.{WordsFault}
+use Rattle.run_words.specs.declared.job.WordsFault.TheVariants.{Usage}
+use Rattle.run_status.specs.declared.status.Status.{Status}
+use Rattle.run_status.specs.declared.status.Status.TheVariants.{BadWords, OutOfMemory, TooLarge}
+use Rattle.run_status.specs.declared.status.What.TheVariants.{Frames}
+use Rattle.ass_events.specs.LineLaws.{HasShortLines}
+use Rattle.text_layout.specs.Fonts.{IsLayoutFontSet}
+use Rattle.single_run.specs.declared.work.ChangesTask.{ChangesTask}
+use Rattle.single_run.specs.declared.work.FrameTask.{FrameTask}
+use Rattle.single_run.specs.declared.work.Task.{Task}
+use Rattle.single_run.specs.declared.work.Task.TheVariants.{Changes, Check, Frame, Write}
+use Rattle.single_run.specs.declared.work.Work.{Work}
+use Rattle.single_run.specs.declared.work.WriteTask.{WriteTask}
+
+-- the picture at an instant, in fonts: words put no instant below 0, and name a font at least
+abbrev pub frame_task : ℤ → Size → ℕ → List (List ℕ) → Option Task
+frame_task at size budget [] = None
+frame_task (negsuc _) size budget (font ∷ fonts) = None
+frame_task (pos at) size budget (font ∷ fonts) = Some (Frame (record { at = at; size = size; budget = budget }))
+
+-- the report on what changes from picture to picture, in fonts, of which words name one at least; no instant of theirs is below 0
+abbrev pub changes_task : ℤ → ℤ → ℤ → Size → ℕ → List (List ℕ) → Option Task
+changes_task from to step size budget [] = None
+changes_task from to step size budget (font ∷ fonts) = Some (Changes (record {
+  instants = record { from = unsigned_abs from; to = unsigned_abs to; step = unsigned_abs step };
+  size = size;
+  budget = budget;
+}))
+
+abbrev pub work_with : List ℕ → List (List ℕ) → Task → Work
+work_with script fonts task = record { task = task; script = script; fonts = fonts }
+
+-- the work of a job that waits for nobody, where words can ask for it
+abbrev pub work_of : Job → Option Work
+work_of (job.Check script fonts) = Some (work_with script fonts Check)
+work_of (job.Frame at size budget script fonts) = option_map (work_with script fonts) (frame_task at size budget fonts)
+work_of (job.Changes from to step size budget script fonts) = option_map (work_with script fonts) (changes_task from to step size budget fonts)
+work_of (job.Write later earlier script) = Some (work_with script [] (Write (record { later = later; earlier = earlier })))
+work_of _ = None
+
+-- the most pictures that a task compares
+abbrev pub max_frames : ℕ
+max_frames = 1000000
+
+-- how many pictures a task compares
+abbrev pub compared : Task → ℕ
+compared (Changes changes) = instant_count changes.instants
+compared _ = 0
+
+-- whether it compares too many; too many fonts are told before
+abbrev pub is_too_long : Work → Bool
+is_too_long work = nat_le (length work.fonts) max_fonts && nat_lt max_frames (compared work.task)
+
+abbrev pub limited : Work → Result (Option Work) Status
+limited work = if is_too_long work then Err (TooLarge Frames max_frames) else Ok (Some work)
+
+abbrev pub limited_in : Option Work → Result (Option Work) Status
+limited_in None = Err (BadWords Usage)
+limited_in (Some work) = limited work
+
+-- in a play and in a selftest threads wait for one another
+abbrev pub work_in : Result Job WordsFault → Result (Option Work) Status
+work_in (Err fault) = Err (BadWords fault)
+work_in (Ok (job.Play play script fonts)) = Ok None
+work_in (Ok (job.Selftest seed events workers)) = Ok None
+work_in (Ok job) = limited_in (work_of job)
+
+-- the work that the words of a run ask for, none where that is a play or a selftest, or the status that they ask for
+abbrev pub work_asked : List (List ℕ) → Result (Option Work) Status
+work_asked words = work_in (job_of words)
+
+-- The answer is what is asked for, or memory ran out.
+abbrev pub IsWorkRead : Result (Option Work) Status → Result (Option Work) Status → Type 0
+IsWorkRead asked answer = (answer ≡ asked) ⊎ (answer ≡ Err OutOfMemory)
+
+-- The numbers of a picture are within their limits.
+pub record IsFrameTask (frame : FrameTask) : Type 0 where
+  pub at : IsInstant frame.at
+  pub size : IsFrameSize frame.size
+  pub budget : frame.budget ≤ max_budget
+
+-- Events may be that much later and that much earlier.
+pub record IsWriteTask (write : WriteTask) : Type 0 where
+  pub later : is_time write.later ≡ true
+  pub earlier : is_time write.earlier ≡ true
+
+-- The numbers of a report on changes are within their limits.
+pub record IsChangesTask (changes : ChangesTask) : Type 0 where
+  pub instants : AreInstants changes.instants
+  pub size : IsFrameSize changes.size
+  pub budget : changes.budget ≤ max_budget
+
+-- The numbers of a task are within their limits, and a picture has a font at least.
+abbrev pub IsTaskIn : List (List ℕ) → Task → Type 0
+IsTaskIn fonts Check = Unit {0}
+IsTaskIn fonts (Frame frame) = IsFrameTask frame × (0 < length fonts)
+IsTaskIn fonts (Changes changes) = IsChangesTask changes × (0 < length fonts)
+IsTaskIn fonts (Write write) = IsWriteTask write
+
+abbrev pub IsWork : Work → Type 0
+IsWork work = IsTaskIn work.fonts work.task
+
+-- What a task needs of what is read for it: events have short texts, and a picture is laid out in 1 to 64 fonts.
+abbrev pub AreInputsOf : Task → Inputs → Type 0
+AreInputsOf Check inputs = Unit {0}
+AreInputsOf (Frame frame) inputs = IsFrameTask frame × HasShortLines inputs.script × IsLayoutFontSet inputs.fonts
+AreInputsOf (Changes changes) inputs = IsChangesTask changes × HasShortLines inputs.script × IsLayoutFontSet inputs.fonts
+AreInputsOf (Write write) inputs = IsWriteTask write × HasShortLines inputs.script

@@ -1,0 +1,41 @@
+//! What changes from picture to picture.
+
+ghost use Rattle.std.specs.Prelude.{◌≡◌, ◌≢◌};
+ghost use Rattle.ass_script.specs.Ranges.{IsScript};
+ghost use Rattle.run_status.specs.declared.status.Status.TheVariants.{Done as done_status};
+ghost use Rattle.ass_events.specs.LineLaws.{HasShortLines};
+ghost use Rattle.text_layout.specs.Fonts.{IsLayoutFontSet};
+ghost use Rattle.single_run.specs.Outcomes.{IsOrFault, SuitsSink, status_if_put, text_to_report};
+ghost use Rattle.single_run.specs.Outputs.{IsReportOf};
+ghost use Rattle.single_run.specs.Works.{IsChangesTask};
+ghost use Rattle.single_run.specs.declared.work.Task.TheVariants.{Changes};
+
+use crate::changes_report;
+use crate::outcome::Outcome;
+use crate::work::ChangesTask;
+use ass_num::OutOfMemory;
+use run_status::{Inputs, Status, Which};
+use std::alloc::Global;
+
+/// What a report on changes is to say.
+pub fn compare(alloc: Global, changes: &ChangesTask, inputs: Inputs) -> Outcome
+    requires changes { IsChangesTask changes.now }
+    requires script { IsScript inputs.script }
+    requires short { HasShortLines inputs.script }
+    requires fonts { IsLayoutFontSet inputs.fonts }
+    ensures answered { IsOrFault Which.Report done_status (status_if_put result) }
+    ensures text { status_if_put result ≡ done_status → IsReportOf (Changes changes.now) inputs (text_to_report result) }
+    ensures own { SuitsSink Which.Report result }
+    ensures memory { status_if_put result ≢ done_status → result ≡ Outcome.Ended Status.OutOfMemory }
+{
+    let Inputs { script, fonts } = inputs;
+    let ChangesTask {
+        instants,
+        size,
+        budget,
+    } = changes;
+    match changes_report(alloc, &script, fonts, instants, size, *budget) {
+        Ok(text) => Outcome::Found(text),
+        Err(OutOfMemory) => Outcome::Ended(Status::OutOfMemory),
+    }
+}

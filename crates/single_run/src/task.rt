@@ -1,0 +1,77 @@
+//! A task, up to what is to be reported of it.
+
+ghost use Rattle.std.specs.Prelude.{◌≡◌, ◌≢◌, Ok, string_bytes};
+ghost use Rattle.ass_script.specs.Ranges.{IsScript};
+ghost use Rattle.single_run.specs.Outcomes.{IsFramesPutCount, IsOrFault, IsShown, IsStatusReadCounted, IsWriteCounted, SuitsSink, status_if_put};
+ghost use Rattle.single_run.specs.Outcomes.{text_to_report};
+ghost use Rattle.single_run.specs.Outputs.{IsFramesOf, IsReportOf, sink_of, task_status};
+ghost use Rattle.single_run.specs.Runs.{IsWorked, sink_change};
+ghost use Rattle.single_run.specs.Works.{AreInputsOf, IsTaskIn, IsWork};
+ghost use Rattle.run_status.specs.declared.status.Status.TheVariants.{Done as done_status};
+
+use crate::changes::compare;
+use crate::check_report;
+use crate::outcome::Outcome;
+use crate::picture::draw;
+use crate::rewrite::rewrite;
+use crate::work::{Task, Work};
+use ass_events::line_laws;
+use ass_io::{Shelf, Sink};
+use ass_num::OutOfMemory;
+use run_status::{Inputs, Status, Which, read_inputs};
+use std::alloc::Global;
+
+/// What a check is to report.
+fn check(alloc: Global, inputs: &Inputs) -> Outcome
+    requires { IsScript inputs.now.script }
+    ensures answered { IsOrFault Which.Report done_status (status_if_put result) }
+    ensures text { status_if_put result ≡ done_status → IsReportOf Task.Check inputs.now (text_to_report result) }
+    ensures own { SuitsSink Which.Report result }
+    ensures memory { status_if_put result ≢ done_status → result ≡ Outcome.Ended Status.OutOfMemory }
+{
+    match check_report(alloc, &inputs.script, inputs.fonts.as_slice()) {
+        Ok(text) => Outcome::Found(text),
+        Err(OutOfMemory) => Outcome::Ended(Status::OutOfMemory),
+    }
+}
+
+/// Does a task with its inputs.
+#[tactic(auto, using(crate::proofs::Runs::shown_none))]
+fn do_task<F: Sink>(alloc: Global, task: &Task, inputs: Inputs, frames: &mut F) -> Outcome
+    requires script { IsScript inputs.script }
+    requires inputs { AreInputsOf task.now inputs }
+    ensures answered { IsOrFault (sink_of task.now) (task_status task.now inputs) (status_if_put result) }
+    ensures shown { IsShown (status_if_put result) (F.held frames.old) (F.held frames.new) (IsFramesOf task.now inputs) }
+    ensures once { IsFramesPutCount (sink_of task.now) (status_if_put result) (F.puts frames.old) (F.puts frames.new) }
+    ensures counted { IsWriteCounted (status_if_put result) (F.faults frames.old) (F.faults frames.new) }
+    ensures text { status_if_put result ≡ done_status → IsReportOf task.now inputs (text_to_report result) }
+    ensures own { SuitsSink (sink_of task.now) result }
+{
+    match task {
+        Task::Check => check(alloc, &inputs),
+        Task::Frame(frame) => Outcome::Ended(draw(alloc, frame, inputs, frames)),
+        Task::Changes(changes) => compare(alloc, changes, inputs),
+        Task::Write(write) => Outcome::Ended(rewrite(alloc, write, &inputs.script, frames)),
+    }
+}
+
+/// Does the work of a job. Nothing goes to the frames sink before all files were read.
+pub fn do_work<S: Shelf, F: Sink>(
+    alloc: Global,
+    work: &Work,
+    shelf: &mut S,
+    frames: &mut F,
+) -> Outcome
+    requires { IsWork work.now }
+    ensures run { IsWorked (S.told shelf.old) work.now (sink_change (F.held frames.old) (F.held frames.new) (F.faults frames.old) (F.faults frames.new))
+        result }
+    ensures read { IsStatusReadCounted (status_if_put result) (S.faults shelf.old) (S.faults shelf.new) }
+    ensures once { IsFramesPutCount (sink_of work.now.task) (status_if_put result) (F.puts frames.old) (F.puts frames.new) }
+    ensures write { IsWriteCounted (status_if_put result) (F.faults frames.old) (F.faults frames.new) }
+{
+    line_laws::lines_fit_their_text();
+    match read_inputs(alloc, shelf, &work.script, work.fonts.as_slice()) {
+        Ok(inputs) => do_task(alloc, &work.task, inputs, frames),
+        Err(status) => Outcome::Ended(status),
+    }
+}

@@ -1,0 +1,109 @@
+//! Whole runs of the program over real files. Their sinks are in memory.
+
+use crate::telling::{parted, shown};
+use ass_io::{FailingSink, FileShelf, MemorySink, Rt, Shelf};
+use ass_num::Mem;
+use bstr::BStr;
+use play_command::top;
+use play_report::digest_after;
+use run_words::read_words;
+use std::alloc::Global;
+use test_hook::NoHook;
+
+fn words_of(alloc: Global, line: &str) -> Mem<Vec<String>> {
+    let mut words = Vec::new(alloc);
+    for word in line.split_whitespace() {
+        words.push(String::from_str(alloc, word)?)?;
+    }
+    Ok(words)
+}
+
+/// What words ask for.
+pub fn job(alloc: Global, line: &str) -> Mem<String> {
+    let words = words_of(alloc, line)?;
+    shown(alloc, &read_words(alloc, words.as_slice()))
+}
+
+/// A sink whose put of this number fails; 0 is none.
+fn sink(alloc: Global, fail: u64) -> Mem<FailingSink> {
+    let fails = vec![in alloc; fail]?;
+    Ok(FailingSink::new(MemorySink::new(alloc), fails))
+}
+
+/// What came of a run.
+#[derive(Drop)]
+pub struct Ran {
+    pub exit: u8,
+    pub frames: FailingSink,
+    pub report: FailingSink,
+}
+
+/// Does what words ask for: the exit status.
+fn exit_of<S: Shelf>(
+    lent: &impl Rt,
+    alloc: Global,
+    words: &[String],
+    shelf: &mut S,
+    frames: &mut FailingSink,
+    report: &mut FailingSink,
+) -> u8 {
+    let status = top(lent, alloc, words, shelf, frames, report, &NoHook);
+    status.exit_status()
+}
+
+/// Does what the words ask for, where a put of an image and a put of a report fail: their numbers, or 0 for none.
+pub fn run<S: Shelf>(
+    lent: &impl Rt,
+    alloc: Global,
+    line: &str,
+    shelf: &mut S,
+    [image, told]: [u64; 2],
+) -> Mem<Ran> {
+    let words = words_of(alloc, line)?;
+    let mut frames = sink(alloc, image)?;
+    let mut report = sink(alloc, told)?;
+    let words = words.as_slice();
+    let exit = exit_of(lent, alloc, words, shelf, &mut frames, &mut report);
+    Ok(Ran {
+        exit,
+        frames,
+        report,
+    })
+}
+
+/// A run over real files.
+pub fn over_files(lent: &impl Rt, rt: &HostRuntime, line: &str) -> Mem<Ran> {
+    run(lent, rt.alloc(), line, &mut FileShelf::new(*rt), [0, 0])
+}
+
+/// The exit status, the report and the image.
+pub fn ran_told(alloc: Global, ran: &Ran) -> Mem<String> {
+    let (report, image) = (BStr::new(ran.report.bytes()), BStr::new(ran.frames.bytes()));
+    shown(alloc, &(ran.exit, report, image))
+}
+
+/// What comes of a run over real files.
+pub fn told(lent: &impl Rt, rt: &HostRuntime, line: &str) -> Mem<String> {
+    let ran = over_files(lent, rt, line)?;
+    ran_told(rt.alloc(), &ran)
+}
+
+/// The exit status, and the digest of the images.
+pub fn digest(lent: &impl Rt, rt: &HostRuntime, line: &str) -> Mem<String> {
+    let ran = over_files(lent, rt, line)?;
+    shown(rt.alloc(), &(ran.exit, digest_after(0, ran.frames.bytes())))
+}
+
+/// The three bytes at a place.
+fn pixel_at<'a>(image: &'a [u8], place: &str) -> Option<&'a [u8]> {
+    let place = place.parse::<u32>().unwrap_or(0) as usize;
+    image.get(place..place + 3)
+}
+
+/// The exit status, how long the image is, and three bytes of it: their place, and the words.
+pub fn pixel(lent: &impl Rt, rt: &HostRuntime, question: &str) -> Mem<String> {
+    let (place, line) = parted(question, " ");
+    let ran = over_files(lent, rt, line)?;
+    let image = ran.frames.bytes();
+    shown(rt.alloc(), &(ran.exit, image.len(), pixel_at(image, place)))
+}

@@ -1,3 +1,0 @@
-pub mod Aheads
-pub mod Firsts
-pub mod Warming

@@ -1,6 +1,0 @@
-use Rattle.std.proofs.Common.{All}
-use Rattle.ass_num.specs.Limits.{IsOutlinePoint}
-use Rattle.worked_answers.proofs.rings.add_ring.Given as goal
-
-abbrev pub invariant-loop-word : goal.invariant-loop-word
-invariant-loop-word l = All IsOutlinePoint l.points.items

@@ -1,5 +1,0 @@
-use Rattle.world_core.proofs.Standing.{keeps-laws}
-use Rattle.world_core.proofs.world.World.keep_laws.Goals as goal
-
-pub returns : goal.returns
-returns c = keeps-laws c.args.self.now.caches c.have_histories.ensures

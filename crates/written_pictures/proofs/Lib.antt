@@ -1,4 +1,0 @@
-pub mod Views
-pub mod Moves
-pub mod Written
-pub mod Rewritten
