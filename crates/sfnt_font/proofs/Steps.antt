@@ -1,0 +1,33 @@
+-- One step of each loop over the file.
+use Rattle.std.proofs.Common.{◌≡◌, ℕ, suc, ◌+◌, ◌-◌, ◌*◌, ◌<◌, List, length, Some, cond, false, sym, ap, ◌∙◌, arith}
+use Rattle.std.specs.Prelude.{nat_lt}
+use Rattle.sfnt_font.specs.declared.directory.Table.{Table}
+use Rattle.sfnt_font.specs.declared.maps.Choice.{Choice}
+use Rattle.sfnt_font.specs.Bytes.{u32_at}
+use Rattle.sfnt_font.specs.Faces.{bad_face}
+use Rattle.sfnt_font.specs.Directory.{is_table, table_at, table_from}
+use Rattle.sfnt_font.specs.Maps.{best_map, better, choice_at}
+
+pub bad_face-next : (bytes : List ℕ) (at n k : ℕ) → k < n → nat_lt (length bytes) (u32_at bytes (at + 4 * k) + 12) ≡ false → bad_face bytes (at + 4 * (k + 1)) (n - (k + 1)) ≡ bad_face bytes (at + 4 * k) (n - k)
+bad_face-next bytes at n k less fails =
+    let left : n - k ≡ suc (n - (k + 1)) = omega arith in
+    let next : at + 4 * (k + 1) ≡ (at + 4 * k) + 4 = omega arith in
+    ap (λ place. bad_face bytes place (n - (k + 1))) next
+    ∙ (sym (ap (λ b. cond b (Some (at + 4 * k)) (bad_face bytes ((at + 4 * k) + 4) (n - (k + 1)))) fails)
+    ∙ ap (bad_face bytes (at + 4 * k)) (sym left))
+
+pub table_from-next : (bytes : List ℕ) (name first n k : ℕ) → k < n → is_table bytes name (first + 16 * k) ≡ false → table_from bytes name (first + 16 * (k + 1)) (n - (k + 1)) ≡ table_from bytes name (first + 16 * k) (n - k)
+table_from-next bytes name first n k less fails =
+    let left : n - k ≡ suc (n - (k + 1)) = omega arith in
+    let next : first + 16 * (k + 1) ≡ (first + 16 * k) + 16 = omega arith in
+    ap (λ place. table_from bytes name place (n - (k + 1))) next
+    ∙ (sym (ap (λ b. cond b (Some (table_at bytes (first + 16 * k))) (table_from bytes name ((first + 16 * k) + 16) (n - (k + 1)))) fails)
+    ∙ ap (table_from bytes name (first + 16 * k)) (sym left))
+
+pub best_map-next : (bytes : List ℕ) (cmap : Table) (first n k : ℕ) (best : Choice) → k < n →
+    best_map bytes cmap (first + 8 * (k + 1)) (n - (k + 1)) (better best (choice_at bytes cmap (first + 8 * k))) ≡ best_map bytes cmap (first + 8 * k) (n - k) best
+best_map-next bytes cmap first n k best less =
+    let left : n - k ≡ suc (n - (k + 1)) = omega arith in
+    let next : first + 8 * (k + 1) ≡ (first + 8 * k) + 8 = omega arith in
+    ap (λ place. best_map bytes cmap place (n - (k + 1)) (better best (choice_at bytes cmap (first + 8 * k)))) next
+    ∙ ap (λ m. best_map bytes cmap (first + 8 * k) m best) (sym left)

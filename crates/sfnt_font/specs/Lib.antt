@@ -1,0 +1,9 @@
+pub mod Bytes
+pub mod Answers
+pub mod Faces
+pub mod Directory
+pub mod Numbers
+pub mod Maps
+pub mod Ranges
+pub mod Fonts
+pub mod Metrics
