@@ -1,0 +1,117 @@
+//! A player for one thread: a script and a font in memory, and the picture of an instant as rows of signs.
+#![tactic(auto)]
+
+ghost use Rattle.ass_num.specs.Limits.{IsWithin, max_instant};
+
+use ass_io::MAX_FILE_BYTES;
+use ass_num::Size;
+use bdf_font::read_font;
+use blend::Canvas;
+use player::Player;
+use std::alloc::{AllocError, Global};
+use std::io;
+
+const SCRIPT: &[u8] = b"[Script Info]
+PlayResX: 13
+PlayResY: 9
+[Events]
+Dialogue: 0,0:00:01.00,0:00:02.00,,,0,0,0,,{\\an7\\pos(1,1)\\fs7\\bord0\\shad0}Hi
+";
+
+const FONT: &[u8] = b"STARTFONT 2.1
+FONTBOUNDINGBOX 6 7 0 0
+STARTCHAR H
+ENCODING 72
+BBX 5 7 0 0
+BITMAP
+88
+88
+88
+F8
+88
+88
+88
+ENDCHAR
+STARTCHAR i
+ENCODING 105
+BBX 3 7 0 0
+BITMAP
+40
+00
+C0
+40
+40
+40
+E0
+ENDCHAR
+ENDFONT
+";
+
+const FRAME: Size = Size { w: 13, h: 9 };
+
+/// Gives a player a font, if the bytes are one.
+fn add_font(alloc: Global, player: &mut Player, font: &[u8]) -> bool {
+    if font.len() > MAX_FILE_BYTES || player.font_count() > 0 {
+        return false;
+    }
+    match read_font(alloc, font) {
+        Ok(font) => player.add_font(alloc, font).is_ok(),
+        Err(_) => false,
+    }
+}
+
+/// A player of the script, with the font and the script's own lines.
+fn opened(alloc: Global) -> Option<Player> {
+    if SCRIPT.len() > MAX_FILE_BYTES {
+        return None;
+    }
+    let mut player = match Player::open(alloc, SCRIPT, 1_000_000) {
+        Ok(player) => player,
+        Err(_) => return None,
+    };
+    if add_font(alloc, &mut player, FONT) && player.feed_lines(alloc).is_ok() {
+        Some(player)
+    } else {
+        None
+    }
+}
+
+/// The picture of an instant in milliseconds. There is none without a font, or where memory runs out.
+fn picture(alloc: Global, player: &mut Player, t: i64) -> Option<Canvas>
+    requires { IsWithin max_instant t }
+{
+    if player.font_count() == 0 {
+        return None;
+    }
+    player.draw(alloc, t, &FRAME).ok()
+}
+
+/// The signs of a row of pixels: a dot for black.
+fn signs_of(alloc: Global, row: &[u8]) -> Result<String, AllocError> {
+    let mut signs = String::new(alloc);
+    for pixel in row.chunks(3) {
+        let is_black = pixel.iter().all(|byte| *byte == 0);
+        signs.push(if is_black { '.' } else { '#' })?;
+    }
+    Ok(signs)
+}
+
+/// Prints a picture.
+fn show<R: Print>(rt: &R, alloc: Global, canvas: &Canvas) -> io::Result<()> {
+    for row in canvas.pixels().chunks(3 * FRAME.w as usize) {
+        let signs = signs_of(alloc, row)?;
+        println!(rt; "{signs}")?;
+    }
+    Ok(())
+}
+
+fn main(rt: HostRuntime) -> io::Result<()> {
+    let alloc = rt.alloc();
+    let Some(mut player) = opened(alloc) else {
+        return println!(rt; "no player");
+    };
+    match picture(alloc, &mut player, 1_500) {
+        Some(canvas) => show(&rt, alloc, &canvas),
+        None => println!(rt; "no picture"),
+    }
+}
