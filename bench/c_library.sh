@@ -6,7 +6,7 @@
 #
 # ASSBENCH.C is a bench that makes libass's calls. Beside it are gen.py and bdf2ttf.py, which make scripts and fonts.
 # From the environment:
-#   ARCHIVE   the library, else the one that c/build.sh makes
+#   ARCHIVE   the library, else release/libvimalorua.a
 #   LIBASS    the compiler's words for libass, else those of pkg-config
 #   FONT      a BDF file, else examples/subtitle.bdf; libass gets it as TrueType, one square for each set pixel
 #   ROWS      the names of some workloads, else all
@@ -49,10 +49,8 @@ END
 }
 
 build() {
-    local archive=${ARCHIVE:-}
-    [ -n "$archive" ] || archive=$("$top/c/build.sh")
-    cc -O2 -I"$top/c/bench" -o "$room/here" "$bench" "$top"/c/{bench/ass_shim,ass_images,files,rattle_heap}.c \
-        "$archive" -lpthread
+    cc -O2 -I"$top/c/bench" -o "$room/here" "$bench" "$top"/c/{bench/ass_shim,ass_images,files}.c \
+        "${ARCHIVE:-$top/release/libvimalorua.a}" -lpthread
     sides=here
     if [ -n "${LIBASS:=$(pkg-config --cflags --libs libass 2> "$room/log" || :)}" ]; then
         # shellcheck disable=SC2086

@@ -8,8 +8,7 @@ set -eu
 top=$(dirname -- "$(dirname -- "$(readlink -f -- "${BASH_SOURCE[0]}")")")
 runs=${1:-3}
 part=${2:-}
-program=$top/crates/play_main/out/play_main
-[ -x "$program" ] || { echo "no proved program stands in $program: see README" >&2; exit 1; }
+program=$("$top/vimalorua" --which)
 room=$(mktemp -d)
 trap 'rm -rf "$room"' EXIT
 . "$top/bench/pages.sh"

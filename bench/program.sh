@@ -10,15 +10,11 @@ runs=${1:-20}
 room=$(mktemp -d)
 trap 'rm -rf "$room"' EXIT
 
-# The wrapper builds what is missing, and says on standard error where the build is unproved.
-"$top/vimalorua" check "$top/examples/row.ass" "$top/examples/dot.bdf" 2> "$room/said" || true
-if grep -q 'this is an unproved build' "$room/said"; then
-    program=$top/out/play_main
-    echo 'program: the unproved build, whose times say nothing of a proved one'
+program=$("$top/vimalorua" --which)
+echo "program: $program"
+if [ "${program%/out/*}" = "$top" ]; then
+    echo 'this is the unproved build, whose times say nothing of a proved one'
     runs=2
-else
-    program=$top/crates/play_main/out/play_main
-    echo 'program: the proved build'
 fi
 
 date -u +%Y-%m-%d
@@ -87,7 +83,7 @@ measure 'frame without a line' "$runs" empty.ass "$program" frame --at 1000 --si
 measure 'frame of a bordered line' "$runs" plain.ass "$program" frame --at 1000 --size 1920x1080 plain.ass "$subtitle"
 measure 'frame of 200 signs' "$runs" signs.ass "$program" frame --at 1000 --size 1920x1080 signs.ass "$subtitle"
 measure 'check 100,000 lines' "$runs" 100000.ass "$program" check 100000.ass "$font"
-if [ "$program" != "$top/out/play_main" ]; then
+if [ "${program%/out/*}" != "$top" ]; then
     measure 'check 1,000,000 lines' $(((runs + 3) / 4)) 1000000.ass "$program" check 1000000.ass "$font"
 fi
 

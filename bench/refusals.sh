@@ -1,18 +1,15 @@
 #!/usr/bin/env bash
 # Refuses memory to the program: each allocation of a run alone, and then each one with all behind it. Every run has to be done as ever, or
 # to answer `out of memory` with a front of the same images. The runs are a `frame`, a `play` of two lines by two feeders and two
-# renderers, and a `selftest` of 20 events. It takes the proved build, a C compiler and Python.
+# renderers, and a `selftest` of 20 events. It takes PROGRAM, or else the program that ./vimalorua
+# takes, a C compiler and Python.
 #
-# refusals.sh [JOB [FROM [TO]]]: all of them, or one job alone, or its allocations from FROM on, up to TO. JOBS runs stand side by side,
-# as many as there are processors where that isn't set.
+# refusals.sh [JOB [FROM [TO [STEP]]]]: all of them, or one job alone, or its allocations from FROM on, up to TO, by STEP. JOBS runs stand
+# side by side, as many as there are processors where that isn't set.
 set -eu
 
 top=$(dirname -- "$(dirname -- "$(readlink -f -- "${BASH_SOURCE[0]}")")")
-program=$top/crates/play_main/out/play_main
-if [ ! -x "$program" ]; then
-    echo "refusals: (cd crates/play_main && rt run) makes the build that is needed" >&2
-    exit 1
-fi
+program=${PROGRAM:-$("$top/vimalorua" --which)}
 room=$(mktemp -d)
 trap 'rm -rf "$room"' EXIT
 
@@ -84,11 +81,11 @@ cc -O1 -shared -fPIC -o "$room/refuse.so" "$room/refuse.c" -ldl
 # all NAME WORDS..: every allocation of these words, or those from `from` up to `to`
 all() {
     [ -z "$job" ] || [ "$job" = "$1" ] || return 0
-    python3 - "$room" "$program" "$from" "$to" "$jobs" "$@" <<'END' || failed=1
+    python3 - "$room" "$program" "$from" "$to" "$step" "$jobs" "$@" <<'END' || failed=1
 import os, re, subprocess, sys
 from concurrent.futures import ThreadPoolExecutor
 
-room, program, first, last, jobs, name, *words = sys.argv[1:]
+room, program, first, last, step, jobs, name, *words = sys.argv[1:]
 LINE = b"out of memory\n"
 ON = 1_000_000_000
 
@@ -127,7 +124,7 @@ if status:
 with open(f"{room}/count") as file:
     count = int(file.read())
 begin, end = int(first or 1), min(int(last or count), count)
-asked = [it for n in range(begin, end + 1) for it in ((n, n), (n, ON))]
+asked = [it for n in range(begin, end + 1, int(step or 1)) for it in ((n, n), (n, ON))]
 with ThreadPoolExecutor(int(jobs)) as pool:
     found = list(pool.map(lambda it: judge(*it), asked))
 wrong = [it for it in found if isinstance(it, str)]
@@ -143,6 +140,7 @@ cd "$top/examples"
 job=${1:-}
 from=${2:-}
 to=${3:-}
+step=${4:-}
 jobs=${JOBS:-$(nproc)}
 failed=0
 all frame frame --at 0 --size 4x3 row.ass dot.bdf

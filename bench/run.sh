@@ -11,8 +11,8 @@ program=$top/crates/kernel_bench/out/kernel_bench
 is_fresh() {
     local crate
     [ -x "$program" ] || return 1
-    for crate in ass_num blanks region_rows sample_region outline_points cancelled_edges fixed_outline border_region mask_cover mask_blur \
-        placement blend bdf_font drawing_path kernel_bench; do
+    for crate in ass_num region_rows sample_region outline_points cancelled_edges fixed_outline border_region mask_cover mask_blur \
+        event_places blend bdf_font drawing_path kernel_bench; do
         [ -z "$(find "$top/crates/$crate/src" -newer "$program" -print -quit)" ] || return 1
     done
 }

@@ -1,19 +1,22 @@
 #!/usr/bin/env bash
 # Tests the library from C: the demo's frames beside those of `./vimalorua frame`, pictures beside their lists, by one
 # thread and by four in turn, every status, and every call for memory refused; plainly, and under the sanitizers where
-# the compiler has them.
+# the compiler has them. Then the shared library beside the archive, and what both show of names.
 #
-#   c/test.sh [ARCHIVE]     without it the archive that c/build.sh made
+#   c/test.sh [ARCHIVE]     without it release/libvimalorua.a
+#
+# PROGRAM is the program that draws the frames, in place of ./vimalorua.
 set -euo pipefail
 here=$(dirname -- "$(readlink -f -- "${BASH_SOURCE[0]}")")
 top=$(dirname -- "$here")
-archive=$(readlink -m -- "${1:-$top/crates/vimalorua_c/out/libvimalorua_c.a}")
+archive=$(readlink -m -- "${1:-$top/release/libvimalorua.a}")
+shared=${archive%/*}/libvimalorua.so.1
 cc=${CC:-cc}
 work=$(mktemp -d)
 trap 'rm -rf "$work"' EXIT
 
 if [ ! -f "$archive" ]; then
-    echo "test.sh: there is no $archive: c/build.sh makes it" >&2
+    echo "test.sh: there is no $archive: c/build.sh makes one" >&2
     exit 1
 fi
 
@@ -44,7 +47,6 @@ link() { # KIND PROGRAM OBJECT..
 build() { # KIND
     local refusing='-Dmalloc=refusing_malloc -Drealloc=refusing_realloc -Dfree=counted_free'
     mkdir "$work/$1"
-    compile "$1" heap.o rattle_heap.c
     compile "$1" images.o ass_images.c
     compile "$1" files.o files.c
     # shellcheck disable=SC2086
@@ -57,23 +59,33 @@ build() { # KIND
     compile "$1" demo.o demo.c
     compile "$1" shim.o bench/ass_shim.c
     link "$1" errors errors.o refusing.o refusing_heap.o refusing_images.o
-    link "$1" pictures pictures.o files.o images.o heap.o
-    link "$1" demo demo.o files.o heap.o
+    link "$1" pictures pictures.o files.o images.o
+    link "$1" demo demo.o files.o
 }
 
-# The archive asks for what docs/EMBEDDING-C.md names, gives the header's calls, and can stand in a shared library.
+# The archive asks for what docs/EMBEDDING-C.md names, and gives the header's calls.
 archive_alone() {
     local others
-    others=$(nm -g "$archive" | awk 'NF > 1 { print $NF }' | sort -u |
-        grep -vxE 'mem(cpy|move|set)|__u?(div|mod)ti3|rattle_(alloc|realloc|dealloc)|vimalorua_[a-z0-9_]+' || :)
+    others=$(nm -g "$archive" | awk '$1 != "" && NF > 1 { print $NF }' | sort -u |
+        grep -vxE 'mem(cpy|move|set)|malloc|realloc|free|__u?(div|mod)ti3|rattle_(alloc|realloc|dealloc)|vimalorua_[a-z0-9_]+' || :)
     if [ -n "$others" ]; then
         printf 'test.sh: other names in the archive:\n%s\n' "$others" >&2
         return 1
     fi
     sed -n 's/^\(u*int32_t\|void\) \(vimalorua_[a-z0-9_]*\)(.*/\2/p' "$here/vimalorua.h" | sort > "$work/declared"
-    nm -g "$archive" | awk '$2 == "T" { print $3 }' | sort > "$work/given"
+    nm -g "$archive" | awk '$2 == "T" && $3 ~ /^vimalorua_/ && $3 != "vimalorua_shut" { print $3 }' | sort > "$work/given"
     diff "$work/declared" "$work/given"
-    "$cc" -shared -fPIC -o "$work/shared.so" -Wl,--whole-archive "$archive" -Wl,--no-whole-archive "$here/rattle_heap.c"
+}
+
+# The shared library shows the header's calls and nothing else, has its name, and needs the C library alone. The demo
+# with it draws as with the archive.
+shared_alone() {
+    nm -D --defined-only "$shared" | awk '$2 != "A" { sub(/@.*/, "", $3); print $3 }' | sort | diff "$work/declared" -
+    readelf -d "$shared" | sed -n 's/.*(\(SONAME\|NEEDED\)).*\[\(.*\)\]/\1 \2/p' | sort > "$work/needs"
+    printf 'NEEDED libc.so.6\nSONAME libvimalorua.so.1\n' | diff - "$work/needs"
+    (cd "$work/plain" && "$cc" -o shared demo.o files.o "$shared" "-Wl,-rpath,${shared%/*}")
+    "$work/plain/shared" 1000 5000 1500 320x180 "$top/examples/signs.ass" "$top/examples/subtitle.bdf" |
+        cmp - "$work/wanted-signs.ass.ppm"
 }
 
 # An image without the second line of its head, which is a comment.
@@ -92,7 +104,7 @@ wanted() { # FROM TO STEP WxH SCRIPT FONT
     into=$work/wanted-$(basename "$5").ppm
     [ ! -f "$into" ] || return 0
     for ((ms = $1; ms < $2; ms += $3)); do
-        "$top/vimalorua" frame --at "$ms" --size "$4" "${@:5}" 2> "$work/log" | no_comment || {
+        "${PROGRAM:-$top/vimalorua}" frame --at "$ms" --size "$4" "${@:5}" 2> "$work/log" | no_comment || {
             cat "$work/log" >&2
             return 1
         }
@@ -113,15 +125,13 @@ blocks() { # LANGUAGE
         "$top/docs/EMBEDDING-C.md"
 }
 
-# The page's ten lines, in a program, and its commands, as they stand there: at the top of a folder in which c/build.sh
-# only names the archive.
+# The page's ten lines, in a program, and its commands, as they stand there: at the top of a folder that has the release.
 from_page() {
     local page=$work/page
-    mkdir -p "$page/c"
+    mkdir -p "$page/c" "$page/release"
     ln -s "$top/examples" "$page/examples"
     ln -s "$here"/*.c "$here"/*.h "$page/c"
-    printf '#!/bin/sh\necho "%s"\n' "$archive" > "$page/c/build.sh"
-    chmod +x "$page/c/build.sh"
+    ln -s "$archive" "$shared" "$page/release"
     blocks c > "$page/yours.c"
     cat >> "$page/yours.c" << 'END'
 
@@ -169,7 +179,7 @@ int main() {
 }
 END
     "$1" -Wall -Wextra -Werror -I"$here" -c -o "$work/calls.o" "$work/calls.cc"
-    (cd "$work/plain" && "$1" -o calls "$work/calls.o" images.o heap.o "$archive")
+    (cd "$work/plain" && "$1" -o calls "$work/calls.o" images.o "$archive")
     "$work/plain/calls"
 }
 
@@ -184,6 +194,8 @@ for kind in $kinds; do
     done
     echo "test.sh: $kind passed"
 done
+shared_alone
+echo 'test.sh: the shared library passed'
 from_page
 echo 'test.sh: the lines and commands of docs/EMBEDDING-C.md passed'
 if command -v "${CXX:-c++}" > "$work/log"; then

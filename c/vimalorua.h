@@ -16,7 +16,7 @@
  * type. A pointer with a length behind it has that many items. What a call writes overlaps nothing else that it is
  * given.
  *
- * malloc, realloc and free, which rattle_heap.c calls, are one allocator, and align a block to each power of two up to
+ * malloc, realloc and free, which the library calls, are one allocator, and align a block to each power of two up to
  * 16 that divides its size. No call is made from a signal handler, nor in the forked child of a process with threads.
  *
  * Numbers may be any: those that are out of range are answered by VIMALORUA_BAD_CALL, as lengths are.
@@ -30,7 +30,8 @@
 extern "C" {
 #endif
 
-/* The number of this header. vimalorua_version tells that of the library. */
+/* The number of this header, which is the first number of the release's version and that of libvimalorua.so.
+ * vimalorua_version tells that of the library. */
 #define VIMALORUA_VERSION 1
 
 /* Compilers warn of null pointers then, and the sanitizer of undefined behaviour finds them. */
@@ -86,11 +87,7 @@ enum {
     VIMALORUA_OTHER_LIST = 2
 };
 
-/* The library's alone: neither read, written nor copied by the program. It is whole here so that vimalorua_close can
- * pass it by value. */
-typedef struct vimalorua {
-    void *at;
-} vimalorua;
+typedef struct vimalorua vimalorua;
 
 /* An image of one colour: w columns and h rows of the frame, from column x and row y on, all of them inside the frame.
  * Its mask has a byte for each pixel, row by row: 0 leaves the pixel as it is. The bytes are w * h of the masks, from
@@ -171,17 +168,8 @@ int32_t vimalorua_images(vimalorua *handle, int64_t ms, uint32_t w, uint32_t h, 
 int32_t vimalorua_copy_images(vimalorua *handle, vimalorua_image *images, size_t count, uint8_t *masks,
                               size_t bytes) VIMALORUA_NO_NULLS;
 
-/* Two halves of vimalorua_close: frees what is behind a handle, and frees the handle's own block. */
-void vimalorua_shut(vimalorua handle);
-void rattle_dealloc(void *block);
-
 /* Frees a handle. Of a null one it does nothing. */
-static inline void vimalorua_close(vimalorua *handle) {
-    if (handle) {
-        vimalorua_shut(*handle);
-        rattle_dealloc(handle);
-    }
-}
+void vimalorua_close(vimalorua *handle);
 
 #ifdef __cplusplus
 }

@@ -1,0 +1,60 @@
+# Installs the release:
+#
+#   make install [PREFIX=/usr/local] [LIBDIR=$(PREFIX)/lib] [DESTDIR=]
+#   make uninstall, with the same words
+#
+# It takes a shell, and python3 for the manual page.
+
+PREFIX = /usr/local
+BINDIR = $(PREFIX)/bin
+LIBDIR = $(PREFIX)/lib
+INCLUDEDIR = $(PREFIX)/include
+DATADIR = $(PREFIX)/share
+DESTDIR =
+
+VERSION := $(shell cat VERSION)
+INTERFACE := $(firstword $(subst ., ,$(VERSION)))
+
+bin = $(DESTDIR)$(BINDIR)
+lib = $(DESTDIR)$(LIBDIR)
+include = $(DESTDIR)$(INCLUDEDIR)
+data = $(DESTDIR)$(DATADIR)
+
+DOCS = LICENSE CHANGELOG.md docs/PROGRAM.md docs/EMBEDDING-C.md
+EXAMPLES = examples/*.ass examples/*.bdf c/demo.c c/files.c c/files.h c/ass_images.c c/ass_images.h
+
+all:
+	@echo 'There is nothing to build: release/ has the program and the library. Try: make install'
+
+install:
+	@grep -qx "code $$(./vimalorua --sum)" release/SOURCES || \
+	    { echo 'release/ is missing or of other sources: tools/release make makes it' >&2; exit 1; }
+	cd release && sha256sum --check --quiet SHA256SUMS
+	install -d $(bin) $(lib)/vimalorua $(lib)/pkgconfig $(include) $(data)/man/man1
+	install -d $(data)/bash-completion/completions $(data)/doc/vimalorua/examples
+	install -m 755 release/vimalorua $(lib)/vimalorua/vimalorua
+	sed -e 's|^installed=.*|installed=$(LIBDIR)/vimalorua/vimalorua|' -e 's|^version=.*|version=$(VERSION)|' \
+	    vimalorua > $(bin)/vimalorua
+	chmod 755 $(bin)/vimalorua
+	install -m 644 release/vimalorua.h $(include)
+	install -m 644 release/libvimalorua.a release/libvimalorua.so.$(INTERFACE) $(lib)
+	ln -sf libvimalorua.so.$(INTERFACE) $(lib)/libvimalorua.so
+	sed -e 's|@PREFIX@|$(PREFIX)|' -e 's|@LIBDIR@|$(LIBDIR)|' -e 's|@INCLUDEDIR@|$(INCLUDEDIR)|' \
+	    -e 's|@VERSION@|$(VERSION)|' packaging/vimalorua.pc.in > $(lib)/pkgconfig/vimalorua.pc
+	python3 packaging/manual.py | gzip -9n > $(data)/man/man1/vimalorua.1.gz
+	install -m 644 packaging/vimalorua.bash $(data)/bash-completion/completions/vimalorua
+	install -m 644 $(DOCS) $(data)/doc/vimalorua
+	install -m 644 $(EXAMPLES) $(data)/doc/vimalorua/examples
+	[ -n '$(DESTDIR)' ] || [ "$$(id -u)" -ne 0 ] || PATH="$$PATH:/usr/sbin:/sbin" ldconfig
+
+uninstall:
+	rm -rf $(lib)/vimalorua $(data)/doc/vimalorua
+	rm -f $(bin)/vimalorua $(include)/vimalorua.h $(lib)/libvimalorua.a $(lib)/libvimalorua.so
+	rm -f $(lib)/libvimalorua.so.$(INTERFACE) $(lib)/pkgconfig/vimalorua.pc $(data)/man/man1/vimalorua.1.gz
+	rm -f $(data)/bash-completion/completions/vimalorua
+	[ -n '$(DESTDIR)' ] || [ "$$(id -u)" -ne 0 ] || PATH="$$PATH:/usr/sbin:/sbin" ldconfig
+
+test:
+	./test
+
+.PHONY: all install uninstall test

@@ -1,0 +1,38 @@
+# Completion of the words of vimalorua, for bash.
+
+_vimalorua() {
+    local word=${COMP_WORDS[COMP_CWORD]} before=${COMP_WORDS[COMP_CWORD - 1]} options=
+    COMPREPLY=()
+    if [ "$COMP_CWORD" -eq 1 ]; then
+        mapfile -t COMPREPLY < <(compgen -W 'check frame changes write play selftest help --version' -- "$word")
+        return
+    fi
+    case ${COMP_WORDS[1]} in
+    frame) options='--at --size --budget' ;;
+    changes) options='--from --to --step --size --budget' ;;
+    write) options='--later --earlier' ;;
+    selftest) options='--workers' ;;
+    play)
+        options='--from --to --step --size --feeders --renderers --batch --again --times --ahead --bands --budget --mode'
+        ;;
+    esac
+    case $before in
+    --mode) mapfile -t COMPREPLY < <(compgen -W 'live settled' -- "$word") ;;
+    --size) mapfile -t COMPREPLY < <(compgen -W '640x360 1280x720 1920x1080 3840x2160' -- "$word") ;;
+    --*) ;;
+    *)
+        case $word in
+        -*) mapfile -t COMPREPLY < <(compgen -W "$options" -- "$word") ;;
+        *)
+            [ "${COMP_WORDS[1]}" = selftest ] || mapfile -t COMPREPLY < <(
+                compgen -f -X '!*.@(ass|ssa|bdf|ASS|SSA|BDF)' -- "$word"
+                compgen -d -- "$word"
+            )
+            compopt -o filenames 2> /dev/null
+            ;;
+        esac
+        ;;
+    esac
+}
+
+complete -F _vimalorua vimalorua

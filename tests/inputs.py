@@ -1,0 +1,83 @@
+"""The files that the stored runs read, beside those of examples/."""
+
+import os
+import shutil
+
+HEAD = """[Script Info]
+ScriptType: v4.00+
+PlayResX: 16
+PlayResY: 12
+WrapStyle: 2
+[V4+ Styles]
+Format: Name, Fontname, Fontsize, PrimaryColour, OutlineColour, BackColour, BorderStyle, Outline, Shadow, Alignment
+Style: Default,dot,4,&H00FFFFFF,&H00000000,&H80000000,1,0,0,7
+[Events]
+Format: Layer, Start, End, Style, Name, MarginL, MarginR, MarginV, Effect, Text
+"""
+
+GLYPH = "STARTCHAR x\nENCODING {code}\nDWIDTH 1 0\nBBX 1 1 0 0\nBITMAP\n80\nENDCHAR\n"
+FONT = "STARTFONT 2.1\nFONT dot\nFONTBOUNDINGBOX 1 1 0 0\n{glyphs}ENDFONT\n"
+
+
+def line(start, end, text, margin="0", layer="0"):
+    return f"Dialogue: {layer},{start},{end},Default,,{margin},0,0,,{text}\n"
+
+
+def scripts():
+    x = line("0:00:00.00", "0:00:01.00", "x")
+    yield "empty.ass", ""
+    yield "no_events.ass", "[Script Info]\nPlayResX: 4\n"
+    yield "no_lines.ass", HEAD
+    yield "not_utf8.ass", b"[Script Info]\n; \xe4\n[Events]\n"
+    yield "crlf.ass", "\ufeff" + (HEAD + x).replace("\n", "\r\n")
+    yield "early.ass", HEAD + line("0:00:09.00", "0:00:10.00", "x") + line("0:00:01.00", "0:00:02.00", "x")
+    yield "fine.ass", HEAD + line("0:00:01.00", "0:00:02.00", "x")
+    yield "late.ass", HEAD + line("999999:59:59.00", "999999:59:59.99", "x")
+    yield "malformed.ass", HEAD + x + "".join(
+        [
+            line("0:00:00.00", "0:00:01.00", "x", layer="no"),
+            line("soon", "0:00:01.00", "x"),
+            line("0:00:00.00", "0:00:01", "x"),
+            line("0:00:00.00", "0:00:01.00", "x", margin="2147483648"),
+            "Dialogue: 0,0:00:00.00\n",
+            "Dialogue: \n",
+        ]
+    )
+    yield "ssa.ssa", (
+        "[Script Info]\nScriptType: v4.00\nPlayResX: 16\nPlayResY: 12\n[V4 Styles]\n"
+        "Format: Name, Fontname, Fontsize, PrimaryColour, Alignment\nStyle: *Default,dot,4,65535,6\n[Events]\n"
+        "Format: Marked, Start, End, Style, Name, MarginL, MarginR, MarginV, Effect, Text\n"
+        "Dialogue: Marked=0,0:00:00.00,0:00:01.00,*Default,,0000,0000,0000,,x x\n"
+    )
+    yield "moves.ass", HEAD + line("0:00:00.00", "0:00:01.00", r"{\move(0,0,12,8)}x") + line("0:00:00.50", "0:00:01.00", "x x")
+    yield "-x.ass", HEAD + x
+    yield "two words.ass", HEAD + x
+    yield "styles.ass", HEAD.replace("[Events]", "Style: Default,dot,4\n" * 10_000 + "[Events]")
+    yield "lines.ass", HEAD + x * 1_000_001
+
+
+def fonts():
+    x = GLYPH.format(code=120)
+    whole = FONT.format(glyphs=x)
+    yield "empty.bdf", ""
+    yield "no_start.bdf", "FONT dot\n" + whole
+    yield "bad_number.bdf", whole.replace("BBX 1 1", "BBX 1 1025")
+    yield "bad_row.bdf", whole.replace("BITMAP\n80", "BITMAP\n8")
+    yield "misplaced.bdf", whole.replace("STARTCHAR", "ENDCHAR\nSTARTCHAR")
+    yield "no_end.bdf", whole.replace("ENDFONT\n", "")
+    yield "no_glyphs.bdf", FONT.format(glyphs="")
+    yield "one.bdf", whole
+    yield "truetype.ttf", b"\0\1\0\0\0\4" + bytes(90)
+    yield "glyphs.bdf", FONT.format(glyphs=x * 131_073)
+
+
+def make(room, examples):
+    """Puts the files and those of examples/ into a folder."""
+    for name in os.listdir(examples):
+        shutil.copy(f"{examples}/{name}", room)
+    for name, text in [*scripts(), *fonts()]:
+        with open(f"{room}/{name}", "wb") as it:
+            it.write(text if isinstance(text, bytes) else text.encode())
+    os.mkdir(f"{room}/folder")
+    with open(f"{room}/large.bdf", "wb") as it:
+        it.truncate(67_108_865)

@@ -1,0 +1,154 @@
+"""What stands around the program: the release, the wrapper, the library, installing, and the documents."""
+
+import os
+import re
+import shutil
+import subprocess
+import tempfile
+
+
+def ran(words, cwd, **how):
+    how = {"capture_output": True, "encoding": "utf-8", "errors": "surrogateescape", "timeout": 1200, **how}
+    return subprocess.run(words, cwd=cwd, stdin=subprocess.DEVNULL, **how)
+
+
+def counted(score, name, done):
+    """Takes the counts of another test's last line."""
+    lines = done.stdout.splitlines() or [""]
+    found = re.fullmatch(r"(\d+) passed, (\d+) failed", lines[-1])
+    for line in lines[: -1 if found else None] + done.stderr.splitlines() if done.returncode else []:
+        print(f"FAILED: {name}: {line}", flush=True)
+    score.add(*map(int, found.groups()) if found else (0, 1))
+
+
+def read(path):
+    with open(path, encoding="utf-8") as it:
+        return it.read()
+
+
+def release(score, given):
+    folder = f"{given.top}/release"
+    done = ran(["sha256sum", "--check", "--quiet", "SHA256SUMS"], folder if os.path.isdir(folder) else given.top)
+    score.check(done.returncode == 0, f"SHA256SUMS isn't of what release/ has: {done.stdout}{done.stderr}")
+    which = ran([f"{given.top}/vimalorua", "--which"], given.top)
+    score.check(os.path.realpath(which.stdout.strip()) == f"{folder}/vimalorua", "the release isn't of this checkout's sources")
+    sizes = {it.name: it.stat().st_size for it in os.scandir(folder)} if os.path.isdir(folder) else {"vimalorua": 0}
+    score.check(sizes["vimalorua"] < 10**6 and sum(sizes.values()) < 3 * 10**6, f"the release is large: {sizes}")
+    with open(given.program, "rb") as it:
+        versions = [tuple(map(int, found.split(b"."))) for found in re.findall(rb"GLIBC_([0-9.]+)\0", it.read())]
+    score.check((2, 2, 5) in versions and max(versions) <= (2, 34), f"the program asks for glibc {max(versions, default=None)}")
+    version = read(f"{given.top}/VERSION").strip()
+    score.check(re.fullmatch(r"\d+\.\d+\.\d+", version), f"VERSION is {version}")
+    header = re.search(r"#define VIMALORUA_VERSION (\d+)", read(f"{given.top}/c/vimalorua.h"))[1]
+    score.check(header == version.split(".")[0], f"the header has {header}, and VERSION {version}")
+    changes = read(f"{given.top}/CHANGELOG.md")
+    score.check(re.search(rf"^## {re.escape(version)}, \d{{4}}-\d\d-\d\d$", changes, re.M), f"CHANGELOG.md has no {version} with its day")
+
+
+def refusals(score, given):
+    """Of a frame and a small play each call for memory is refused, and of a selftest some."""
+    for job, step in (("frame", 1), ("play", 1), ("selftest", 101)):
+        words = [f"{given.top}/bench/refusals.sh", job, "1", str(10**6), str(step)]
+        done = ran(words, given.top, env={**os.environ, "PROGRAM": given.program})
+        told = re.search(r"refused in (\d+) runs: \d+ out of memory, (\d+) failed\n", done.stdout)
+        if done.returncode or not told:
+            print(done.stdout + done.stderr, end="", flush=True)
+        score.add(*((int(told[1]) - int(told[2]), int(told[2])) if told else (0, 1)))
+
+
+# Words, and what the wrapper says behind the program's line.
+SAID = [
+    ("fram", "the first word is check, frame, changes, write, play or selftest, and not 'fram'"),
+    ("frame --size 4x3 row.ass dot.bdf", "frame lacks --at (milliseconds from 0 to 4000000000000)"),
+    ("check row.ass", "check lacks FONT.."),
+    ("frame --at 0 --at 0", "--at is given twice"),
+    ("frame --font x", "frame has no option --font"),
+    ("frame -x", "there is no option -x; a name that begins with - stands behind --"),
+    ("write row.ass row.ass", "write takes SCRIPT alone, and not row.ass too"),
+    ("frame --at 0 --size", "--size lacks its value: columns and rows, each from 1 to 4096, as 1280x720"),
+    ("frame --at x --size 4x3 row.ass dot.bdf", "--at takes milliseconds from 0 to 4000000000000, and not 'x'"),
+    ("frame --at 0 --size=4 row.ass dot.bdf", "--size takes columns and rows, each from 1 to 4096, as 1280x720, and not '4'"),
+    ("selftest 1 0", "EVENTS takes a number from 1 to 100000, and not '0'"),
+    ("check row.ass dot.bdf bad_row.bdf", "that font is bad_row.bdf"),
+    ("check row.ass dot.bdf truetype.ttf", "that font is truetype.ttf, which isn't BDF: 'otf2bdf -r 72 -p 48 -o truetype.bdf truetype.ttf' makes one"),
+    ("check row.ass empty.bdf", "that font is empty.bdf, which isn't BDF: "),
+]
+
+
+def wrapper(score, given):
+    words_of_wrapper(score, given, f"{given.top}/vimalorua")
+    score.check("(cd crates/" in ran([f"{given.top}/vimalorua", "help"], given.room).stdout, "the help doesn't tell of builds")
+
+
+def words_of_wrapper(score, given, program):
+    """What a wrapper says itself. The program's own lines stay as they are, and where it says more it says one line."""
+    for words, wanted in SAID:
+        own = ran([given.program, *words.split()], given.room)
+        done = ran([program, *words.split()], given.room)
+        holds = done.stderr.startswith(f"{own.stderr}vimalorua: {wanted}") and done.stderr.count("\n") == 2
+        score.check(holds and done.returncode == own.returncode, f"vimalorua {words} says {done.stderr!r}")
+    for words in ("check row.ass dot.bdf", "frame --at 0 --size 4x3 row.ass dot.bdf", "check no.ass dot.bdf", "write --later 5 row.ass"):
+        own, done = (ran([it, *words.split()], given.room) for it in (given.program, program))
+        score.check((own.returncode, own.stdout, own.stderr) == (done.returncode, done.stdout, done.stderr), f"vimalorua {words} says more")
+    version = ran([program, "--version"], given.room)
+    score.check(version.stdout == f"vimalorua {read(f'{given.top}/VERSION')}", f"--version says {version.stdout!r}")
+    usage, none = ran([program, "help"], given.room), ran([program], given.room)
+    score.check(usage.returncode == 0 and none.returncode == 2 and usage.stdout == none.stderr, "no words aren't answered by the help")
+
+
+def library(score, given):
+    done = ran([f"{given.top}/c/test.sh", given.archive], given.top, env={**os.environ, "PROGRAM": given.program})
+    passed = re.findall(r"^test.sh: .* passed$", done.stdout, re.M)
+    if done.returncode:
+        print(done.stdout + done.stderr, end="", flush=True)
+    score.add(len(passed), 1 if done.returncode or not passed else 0)
+
+
+def install(score, given):
+    """Installs into a folder, asks what lies there, and removes it."""
+    if not shutil.which("make"):
+        print("install: there is no make here, so nothing is installed")
+        return
+    with tempfile.TemporaryDirectory(prefix="vimalorua-") as room:
+        words = ["make", "-s", f"PREFIX={room}/usr"]
+        env = {key: value for key, value in os.environ.items() if key != "MAKEFLAGS"}
+        done = ran([*words, "install", f"DESTDIR={room}/stage"], given.top, env=env)
+        score.check(done.returncode == 0, f"make install: {done.stdout}{done.stderr}")
+        os.rename(f"{room}/stage{room}/usr", f"{room}/usr")
+        words_of_wrapper(score, given, f"{room}/usr/bin/vimalorua")
+        completion(score, f"{room}/usr/share/bash-completion/completions/vimalorua")
+        page = ran(["gzip", "-cd", f"{room}/usr/share/man/man1/vimalorua.1.gz"], room).stdout
+        score.check(".SH EXIT STATUS" in page and ".SH SYNOPSIS" in page, "the manual page has no statuses or no synopsis")
+        built_with(score, given, f"{room}/usr")
+        done = ran([*words, "uninstall"], given.top, env={**env, "PATH": os.environ["PATH"]})
+        left = [name for _, _, names in os.walk(f"{room}/usr") for name in names]
+        score.check(done.returncode == 0 and not left, f"make uninstall leaves {left}: {done.stderr}")
+
+
+def completion(score, file):
+    """What is completed behind some words."""
+    for words, wanted in (("vimalorua fr", "frame"), ("vimalorua play --mo", "--mode"), ("vimalorua play --mode l", "live")):
+        script = f'. "{file}"; COMP_WORDS=({words}); COMP_CWORD=$((${{#COMP_WORDS[@]}} - 1)); _vimalorua; echo "${{COMPREPLY[*]}}"'
+        said = ran(["bash", "-c", script], "/").stdout.strip()
+        score.check(said == wanted, f"{words} is completed as {said!r}")
+
+
+def built_with(score, given, prefix):
+    """A program in C by what was installed, with the archive and with the shared library."""
+    pc = read(f"{prefix}/lib/pkgconfig/vimalorua.pc")
+    flags = [it.replace("${libdir}", f"{prefix}/lib").replace("${includedir}", f"{prefix}/include") for it in re.findall(r"-[IlL]\S+", pc)]
+    doc = f"{prefix}/share/doc/vimalorua/examples"
+    cc = os.environ.get("CC", "cc")
+    wanted = ran([given.program, "frame", "--at", "2000", "--size", "64x36", "hello.ass", "letter.bdf"], doc).stdout
+    for kind, more in (("archive", ["-Wl,-Bstatic", *flags, "-Wl,-Bdynamic"]), ("shared library", [*flags, f"-Wl,-rpath,{prefix}/lib"])):
+        made = f"{prefix}/demo"
+        done = ran([cc, "-o", made, f"-I{prefix}/include", "demo.c", "files.c", *more], doc)
+        score.check(done.returncode == 0, f"a program with the {kind}: {done.stderr}")
+        said = ran([made, "2000", "2001", "1", "64x36", "hello.ass", "letter.bdf"], doc).stdout
+        score.check(said and said == re.sub("# .*\n", "", wanted, count=1), f"a program with the {kind} draws something else")
+        if os.path.exists(made):
+            os.remove(made)
+
+
+def docs(score, given):
+    counted(score, "docs", ran(["python3", "tools/check_docs.py"], given.top))
