@@ -7,11 +7,13 @@ It looks at these things, and ends with a line `N passed, M failed`:
   marks     each file of specs/ says in its first line whether it is public or inner (spec_marks.py)
   trust     docs/TRUST.md quotes the contract of `top`, says what each clause says, and lists the definitions that it
             reaches
-  edits     each edit of must-fail/ stands in its crate's table in docs/PROMISES.md, and each named there exists
+  edits     each edit of must-fail/ or edits/ stands in its crate's table in docs/PROMISES.md, each named there exists
+            in one of the two places, and what it turns stands once in its file; no more crates than CONTRIBUTING.md
+            says have edits in must-fail/
   names     each function, clause and definition that docs/PROMISES.md names in its second column exists
   words     each name of code in any page exists somewhere in the repository
-  crates    docs/ARCHITECTURE.md and docs/PROMISES.md have each crate of crates.txt, with what it stands on
-  quoted    the program in README.md stands in a test or in worked_answers, line by line
+  crates    docs/ARCHITECTURE.md has each crate of crates.txt, in its order and under its headings
+  quoted    docs/EMBEDDING.md quotes functions of both example programs as they stand
   links     each link between pages leads to a file
   widths    no line of a page is longer than 120 columns, but for tables and pictures
   unsafe    docs/TRUST.md has a link to each file that has an unsafe call
@@ -36,6 +38,7 @@ WORDS = sys.argv[1:]
 OTHERS = {"for_each_mut", "from_utf8_unchecked", "TertiaryColour"}  # names of std and of scripts
 WIDTH = 120
 ALSO = "also refused"
+MOST_CRATES, MOST_EDITS = 20, 3  # of must-fail/
 
 
 def writes(part):
@@ -185,7 +188,51 @@ def cells(line):
     return [cell.strip() for cell in line.strip().strip("|").split("|")]
 
 
+def edit_files(crate):
+    """The edits of a crate, each by its name and its path."""
+    for folder in (f"crates/{crate}/must-fail", f"edits/{crate}"):
+        full = os.path.join(TOP, folder)
+        for file in sorted(os.listdir(full)) if os.path.isdir(full) else []:
+            if file.endswith(".edit"):
+                yield file[:-5], f"{folder}/{file}"
+
+
+def applies(crate, path):
+    """Whether each text that an edit turns stands in its file once, as those before it leave the file."""
+    file, old, texts = "", "", {}
+    for line in read(path).split("\n"):
+        if line.startswith("file: "):
+            file = os.path.join("crates", crate, line[6:].strip())
+            if os.path.isfile(os.path.join(TOP, file)):
+                texts.setdefault(file, read(file))
+        elif line.startswith("old: "):
+            old = line[5:]
+        elif line.startswith("new:"):
+            if not old or texts.get(file, "").count(old) != 1:
+                return False
+            texts[file] = texts[file].replace(old, line[4:].removeprefix(" "))
+    return bool(texts)
+
+
+def edit_places(score, crates):
+    """Where the edits stand."""
+    folder = os.path.join(TOP, "edits")
+    for name in sorted(os.listdir(folder)) if os.path.isdir(folder) else []:
+        score.check(name in crates or name == "TRIED", f"edits/{name}", "is no crate's")
+    tried_by_the_gate = []
+    for crate in crates:
+        files = list(edit_files(crate))
+        for name, path in files:
+            score.check(applies(crate, path), path, "turns what doesn't stand in its file, or stands there twice")
+            score.check([n for n, _ in files].count(name) == 1, path, "stands in both places")
+        there = [path for _, path in files if "/must-fail/" in path]
+        tried_by_the_gate += [crate] if there else []
+        score.check(len(there) <= MOST_EDITS, f"crates/{crate}/must-fail", f"has more than {MOST_EDITS} edits")
+    score.check(len(tried_by_the_gate) <= MOST_CRATES, "crates", f"more than {MOST_CRATES} have edits in must-fail/")
+
+
 def edits(score, crates):
+    edit_places(score, crates)
     path = "docs/PROMISES.md"
     lines, found = sections(read(path))
     named_sections = {}
@@ -194,8 +241,7 @@ def edits(score, crates):
             named_sections[crate] = (begin, end)
     changed = []
     for crate in crates:
-        folder = os.path.join(TOP, "crates", crate, "must-fail")
-        there = sorted(f[:-5] for f in os.listdir(folder) if f.endswith(".edit")) if os.path.isdir(folder) else []
+        there = sorted(name for name, _ in edit_files(crate))
         if crate not in named_sections:
             score.check(False, path, f"has no part on {crate}")
             continue
@@ -320,34 +366,32 @@ def words(score):
                     score.check(part in known or part in OTHERS, page, f"nothing is called `{span}`")
 
 
-def crate_tables(score, crates):
-    lines = read("docs/ARCHITECTURE.md").splitlines()
-    rows = {}
-    for line in lines:
-        row = cells(line) if line.startswith("|") else []
-        if len(row) >= 3 and row[0] in crates:
-            rows.setdefault(row[0], row)
-    for crate, below in crates.items():
-        row = rows.get(crate)
-        if row is None:
-            score.check(False, "docs/ARCHITECTURE.md", f"lacks the crate {crate}")
-            continue
-        said = {w for w in re.findall(r"\w+", row[2].replace("the kit's", "").replace(" and ", " ")) if w != "-"}
-        score.check(said == set(below), "docs/ARCHITECTURE.md",
-                    f"{crate} stands on {', '.join(below) or 'nothing'}, not on {', '.join(sorted(said)) or 'nothing'}")
+def stages_of(path, heading):
+    """The crates of a file by its headings, in its order."""
+    found, stage, crates = [], "", crates_of()
+    for line in read(path).splitlines():
+        if line.startswith(heading):
+            stage = line[len(heading):].strip()
+        row = cells(line) if line.startswith("|") else [line.partition(":")[0].split(" ")[0]]
+        if row[0] in crates:
+            found.append((stage, row[0]))
+    return found
+
+
+def crate_tables(score):
+    path = "docs/ARCHITECTURE.md"
+    begin, end = (read(path).find(f"\n## {title}") for title in ("The crates, by stage", "How a run of the program"))
+    told = [it for it in stages_of(path, "### ") if f"\n| {it[1]} |" in read(path)[begin:end]]
+    for at, it in enumerate(stages_of("crates.txt", "# ")):
+        score.check(told[at:at + 1] == [it], path, f"should have {it[1]} as crate {at + 1}, in {it[0]}, as crates.txt")
 
 
 def quoted(score):
-    tests = set()
-    for at, _, files in os.walk(os.path.join(TOP, "crates")):
-        for file in files:
-            if re.search("tests|worked_answers", at) and file.endswith(".rt"):
-                with open(os.path.join(at, file), encoding="utf-8") as f:
-                    tests.update(line.strip() for line in f)
-    for block in re.findall(r"```rust\n(.*?)```", read("README.md"), re.S):
-        for line in block.splitlines():
-            if line.strip():
-                score.check(line.strip() in tests, "README.md", f"stands in no test: {line.strip()}")
+    names = [name for name in ("player_example", "renderer_example") if name in crates_of()]
+    programs = [read(f"crates/{name}/src/main.rt") for name in names]
+    for block in re.findall(r"```rust\n(.*?)```", read("docs/EMBEDDING.md"), re.S):
+        score.check(any(block in program for program in programs), "docs/EMBEDDING.md", f"stands in no example: {block[:60]}")
+    score.check(len(programs) == 2, "docs/EMBEDDING.md", "should quote two examples")
 
 
 def links(score):
@@ -456,7 +500,7 @@ def main():
     edits(score, crates)
     names(score, reach)
     words(score)
-    crate_tables(score, crates)
+    crate_tables(score)
     quoted(score)
     links(score)
     widths(score)
