@@ -1,0 +1,177 @@
+/* Subtitles for players: one handle has a script, its fonts, the live events of one track, and caches.
+ *
+ * A call answers by a status, of which only VIMALORUA_DONE is 0. Below stands which statuses a call has, what it
+ * answers, and what it leaves as it was.
+ *
+ * Who owns what: the library keeps nothing of what it is given, and lends nothing. What it answers is copied into the
+ * caller's memory. The handle alone is the library's: vimalorua_open makes it, and vimalorua_close frees all of it.
+ *
+ * What C must keep to, since nothing checks it:
+ *
+ * A handle comes from vimalorua_open, isn't copied, and has one call at a time. It may go from thread to thread where
+ * a lock, a thread's start or join, or a sequentially consistent atomic orders its calls. After vimalorua_close it is
+ * gone.
+ *
+ * No pointer is null, not even one to 0 items, but that vimalorua_close takes a null handle. Each is aligned for its
+ * type. A pointer with a length behind it has that many items. What a call writes overlaps nothing else that it is
+ * given.
+ *
+ * malloc, realloc and free, which the library calls, are one allocator, and align a block to each power of two up to
+ * 16 that divides its size. No call is made from a signal handler, nor in the forked child of a process with threads.
+ *
+ * Numbers may be any: those that are out of range are answered by VIMALORUA_BAD_CALL, as lengths are.
+ *
+ * Times are in milliseconds, sizes of frames in pixels, and all other lengths in bytes or in items. */
+#ifndef VIMALORUA_H
+#define VIMALORUA_H
+#include <stddef.h>
+#include <stdint.h>
+#ifdef __cplusplus
+extern "C" {
+#endif
+
+/* The number of this header, which is the first number of the release's version and that of libvimalorua.so.
+ * vimalorua_version tells that of the library. */
+#define VIMALORUA_VERSION 1
+
+/* Compilers warn of null pointers then, and the sanitizer of undefined behaviour finds them. */
+#if defined(__GNUC__) || defined(__clang__)
+#define VIMALORUA_NO_NULLS __attribute__((nonnull))
+#else
+#define VIMALORUA_NO_NULLS
+#endif
+
+/* Statuses. Where one tells a place, it stands beside it; where it tells none, a call that has a place writes 0. */
+enum {
+    VIMALORUA_DONE = 0,
+    VIMALORUA_NOT_UTF8 = 1,      /* *place: how many bytes the longest front has that is UTF-8 */
+    VIMALORUA_NO_EVENTS = 2,     /* no line is the heading [Events] */
+    VIMALORUA_MANY_LINES = 3,    /* *place: the most Dialogue lines, 1,000,000 */
+    VIMALORUA_MANY_STYLES = 4,   /* *place: the most styles, 10,000 */
+    VIMALORUA_OUT_OF_MEMORY = 5, /* the same call may be made again */
+    VIMALORUA_BAD_FONT = 6,      /* *place: the first line that leaves the format, from 1 */
+    VIMALORUA_LARGE_FONT = 7,    /* *place: the most glyphs, 131,072 */
+    VIMALORUA_MANY_FONTS = 8,    /* *place: the most fonts, 64 */
+    VIMALORUA_NO_FONT = 9,       /* nothing is drawn before a font was added */
+    VIMALORUA_REPEATED = 10,     /* *place: the entry of the live event that has this ReadOrder */
+    VIMALORUA_MALFORMED = 11,    /* *field: the first field that can't be read or is missing; *place: where it begins */
+    VIMALORUA_FULL = 12,         /* *place: the most live events, 1,000,000 */
+    VIMALORUA_MANY_FLUSHES = 13, /* *place: the most flushes, 1,000,000 */
+    VIMALORUA_BAD_CALL = 14,     /* a number or a length is out of its range */
+    VIMALORUA_CLOSED = 15        /* nothing is behind the handle; it doesn't come where this page is kept to */
+};
+
+/* The fields of an event, as VIMALORUA_MALFORMED names them. Of a chunk, END and OTHER are never named. A place is one
+ * of the chunk's bytes, from 0; that of a missing field is the chunk's length. */
+enum {
+    VIMALORUA_READ_ORDER = 1,
+    VIMALORUA_LAYER = 2,
+    VIMALORUA_START = 3, /* out of range; *place is the chunk's length */
+    VIMALORUA_END = 4,
+    VIMALORUA_DURATION = 5, /* out of range; *place is the chunk's length */
+    VIMALORUA_STYLE = 6,
+    VIMALORUA_NAME = 7,
+    VIMALORUA_MARGIN_L = 8,
+    VIMALORUA_MARGIN_R = 9,
+    VIMALORUA_MARGIN_V = 10,
+    VIMALORUA_EFFECT = 11,
+    VIMALORUA_TEXT = 12,
+    VIMALORUA_UTF8 = 13, /* not UTF-8; *place is how many bytes the longest front has that is */
+    VIMALORUA_OTHER = 14
+};
+
+/* How a list of images differs from the one before. */
+enum {
+    VIMALORUA_SAME = 0,
+    VIMALORUA_MOVED = 1, /* only in where the images stand */
+    VIMALORUA_OTHER_LIST = 2
+};
+
+typedef struct vimalorua vimalorua;
+
+/* An image of one colour: w columns and h rows of the frame, from column x and row y on, all of them inside the frame.
+ * Its mask has a byte for each pixel, row by row: 0 leaves the pixel as it is. The bytes are w * h of the masks, from
+ * `at` on. A colour's a of 0 is opaque, and 255 invisible. */
+typedef struct vimalorua_image {
+    int32_t x, y;
+    uint32_t w, h;
+    uint8_t r, g, b, a;
+    size_t at;
+} vimalorua_image;
+
+/* The library's number: it is that of its header. It takes no memory. */
+uint32_t vimalorua_version(void);
+
+/* Opens a handle, *out, of the bytes of a script (at most 67,108,864), with a budget in bytes for each of its three
+ * caches (at most 2^40). It has no font yet, and no event: see vimalorua_feed_lines.
+ *
+ * DONE: *out is the caller's to close. NOT_UTF8, NO_EVENTS, MANY_LINES, MANY_STYLES, OUT_OF_MEMORY, BAD_CALL: *out
+ * stays. */
+int32_t vimalorua_open(const uint8_t *script, size_t script_len, uint64_t budget, vimalorua **out,
+                       size_t *place) VIMALORUA_NO_NULLS;
+
+/* Adds a font from the bytes of a BDF text (at most 67,108,864) behind the others, of which there are at most 63. Texts
+ * in a style whose font isn't there are shown in font 0. What the caches had is dropped.
+ *
+ * DONE: *place is the font's number, from 0. BAD_FONT, LARGE_FONT, MANY_FONTS, OUT_OF_MEMORY, BAD_CALL, CLOSED:
+ * nothing changes. */
+int32_t vimalorua_add_font(vimalorua *handle, const uint8_t *font, size_t font_len, size_t *place) VIMALORUA_NO_NULLS;
+
+/* Offers the events of the script's own Dialogue lines, each with the place of its line, from 0, as its ReadOrder.
+ * Lines that give no event are passed over, and so are events that vimalorua_feed would answer by REPEATED or FULL.
+ *
+ * DONE: *place is how many entries the track's history has then. OUT_OF_MEMORY: some events were offered, from the
+ * first on; *place may be that number or 0; the call may be made again, and offers the others. CLOSED. */
+int32_t vimalorua_feed_lines(vimalorua *handle, size_t *place) VIMALORUA_NO_NULLS;
+
+/* Offers the event of a chunk, ReadOrder,Layer,Style,Name,MarginL,MarginR,MarginV,Effect,Text (at most 134,217,728
+ * bytes), shown from `start` on for `duration`, each from 0 to 4 * 10^12 milliseconds.
+ *
+ * DONE: the event is live; *place is its entry in the track's history, from 0. REPEATED, MALFORMED, FULL,
+ * OUT_OF_MEMORY, BAD_CALL, CLOSED: nothing changes. *field is 0 but for MALFORMED. */
+int32_t vimalorua_feed(vimalorua *handle, const uint8_t *chunk, size_t chunk_len, int64_t start, int64_t duration,
+                       uint32_t *field, size_t *place) VIMALORUA_NO_NULLS;
+
+/* Drops all live events, as a player does before it seeks.
+ *
+ * DONE: *place is the flush's entry in the track's history. MANY_FLUSHES, OUT_OF_MEMORY, CLOSED: nothing changes. */
+int32_t vimalorua_flush(vimalorua *handle, size_t *place) VIMALORUA_NO_NULLS;
+
+/* Gives each cache a budget in bytes (at most 2^40). Pictures are the same for each.
+ *
+ * DONE. OUT_OF_MEMORY, BAD_CALL, CLOSED: nothing changes. */
+int32_t vimalorua_set_budget(vimalorua *handle, uint64_t budget) VIMALORUA_NO_NULLS;
+
+/* Draws what is shown at `ms` milliseconds (within 4 * 10^12 of 0) on a black frame of w by h pixels (at most 4,096
+ * each) into just 3 * w * h bytes: red, green and blue of each pixel, row by row.
+ *
+ * DONE. NO_FONT, OUT_OF_MEMORY, BAD_CALL, CLOSED: the bytes stay. */
+int32_t vimalorua_draw(vimalorua *handle, int64_t ms, uint32_t w, uint32_t h, uint8_t *out,
+                       size_t out_len) VIMALORUA_NO_NULLS;
+
+/* Lists what is shown at `ms` milliseconds in a frame of w by h pixels as images of one colour each, the lowest first,
+ * and keeps the list for vimalorua_copy_images. Instants and sizes are those of vimalorua_draw. Blended in order onto
+ * black, they make what vimalorua_draw draws: a channel d under a channel c of the colour becomes
+ * div(d * (255 - k) + c * k), where k = div(m * (255 - a)), m is the mask's byte and div(v) is (v + 127) / 255 in whole
+ * numbers.
+ *
+ * DONE: *change tells how the list differs from the one that was kept before, which at first is empty; *count is how
+ * many images it has, and *bytes how many bytes their masks have together. NO_FONT, OUT_OF_MEMORY, BAD_CALL, CLOSED:
+ * the list that was kept stays, and *change, *count and *bytes tell nothing. */
+int32_t vimalorua_images(vimalorua *handle, int64_t ms, uint32_t w, uint32_t h, int32_t *change, size_t *count,
+                         size_t *bytes) VIMALORUA_NO_NULLS;
+
+/* Copies the list that is kept into just as many images, and just as many bytes for their masks, one image's behind the
+ * other's, as vimalorua_images told. It may be copied again: only a vimalorua_images that is DONE changes it.
+ *
+ * DONE. OUT_OF_MEMORY, BAD_CALL, CLOSED: what the pointers have stays. */
+int32_t vimalorua_copy_images(vimalorua *handle, vimalorua_image *images, size_t count, uint8_t *masks,
+                              size_t bytes) VIMALORUA_NO_NULLS;
+
+/* Frees a handle. Of a null one it does nothing. */
+void vimalorua_close(vimalorua *handle);
+
+#ifdef __cplusplus
+}
+#endif
+#endif
