@@ -6,11 +6,7 @@ use Rattle.std.proofs.lemmas.List.{get_or_append_left, get_or_push, get_or_past,
 use Rattle.ass_num.specs.Regions.{in_runs, ascend, row_at, member, has_run, all_ascend, first_has_run, last_has_run, last_has_run_after, top_fits, is_canonical}
 use Rattle.region_rows.specs.Growths.{HasRunRows, IsFormed, IsRowHolding}
 use Rattle.ass_num.specs.declared.region.Run.{Run}
-
--- ---- rows
-pub row_at-nil : (z : ℤ) → row_at [] z ≡ []
-row_at-nil (pos n) = refl
-row_at-nil (negsuc n) = refl
+use Rattle.ass_num.proofs.RegionLemmas.{row_none}
 
 row_at-before : (rows : List (List Run)) (r : List Run) (z : ℤ) → z <ℤ pos (length rows) → row_at (rows ++ r ∷ []) z ≡ row_at rows z
 row_at-before rows r (pos n) h = get_or_append_left rows (r ∷ []) [] n (omega (arith, ints))
@@ -57,8 +53,8 @@ pub skipped : (wanted : ℤ → ℤ → Bool) (j top : ℤ) (rows : List (List R
 skipped wanted j top (s ∷ rows) filled r w c z e = absurd (omega arith)
 skipped wanted j top [] filled r w c z e = record {
   ends = let q = w.ends in omega (arith, ints);
-  members = λ i k h. ap (λ x. in_runs x i) (row_at-nil (k -ℤ (top +ℤ pos 1))) ∙ by_lt_z k j
-      (λ (l : k <ℤ j). sym (ap (λ x. in_runs x i) (row_at-nil (k -ℤ top))) ∙ w.members i k l)
+  members = λ i k h. ap (λ x. in_runs x i) (row_none (k -ℤ (top +ℤ pos 1))) ∙ by_lt_z k j
+      (λ (l : k <ℤ j). sym (ap (λ x. in_runs x i) (row_none (k -ℤ top))) ∙ w.members i k l)
       (λ (l : j ≤ℤ k). let s : j ≡ k = omega (arith, ints) in ap (λ x. in_runs x i) (sym e) ∙ c.covers i ∙ ap (λ x. wanted i x) s);
   formed = record {
     ascends = w.formed.ascends;
@@ -109,7 +105,7 @@ full_from_length (x ∷ r) h = refl
 pub HasRunRows-none : (wanted : ℤ → ℤ → Bool) (first : ℤ) → ((i k : ℤ) → k <ℤ first → wanted i k ≡ false) → HasRunRows wanted first first [] 0
 HasRunRows-none wanted first h = record {
   ends = omega (arith, ints);
-  members = λ i k l. ap (λ x. in_runs x i) (row_at-nil (k -ℤ first)) ∙ sym (h i k l);
+  members = λ i k l. ap (λ x. in_runs x i) (row_none (k -ℤ first)) ∙ sym (h i k l);
   formed = record {
     ascends = refl;
     begins = refl;
@@ -142,7 +138,7 @@ pub members_some : (wanted : ℤ → ℤ → Bool) (last top : ℤ) (rows : List
 members_some wanted last top rows filled w h top' c i k =
     ⊎_elim (λ e. rw e (all_members wanted last top rows filled w h i k))
     (λ e. let m = all_members wanted last top rows filled w h i k in
-    rw e (ap (λ x. in_runs x i) (row_at-nil (k -ℤ top')) ∙ sym (ap (λ x. in_runs x i) (row_at-nil (k -ℤ top))) ∙ rw e at m)) c
+    rw e (ap (λ x. in_runs x i) (row_none (k -ℤ top')) ∙ sym (ap (λ x. in_runs x i) (row_none (k -ℤ top))) ∙ rw e at m)) c
 
 top_fits-take : (n : ℕ) (rows : List (List Run)) (top : ℤ) → (n ≡ 0 → top ≡ pos 0) → n ≤ length rows → top_fits top (take n rows) ≡ true
 top_fits-take zero rows top h l = rw (h refl) refl
@@ -154,4 +150,4 @@ canonical rows filled w top h =
     rw (all_ascend-take filled rows w.ascends, first_has_run-take filled rows w.begins, w.fills, top_fits-take filled rows top h w.within) refl
 
 pub empty_members : (top i k : ℤ) → member top [] i k ≡ false
-empty_members top i k = ap (λ x. in_runs x i) (row_at-nil (k -ℤ top))
+empty_members top i k = ap (λ x. in_runs x i) (row_none (k -ℤ top))

@@ -10,7 +10,7 @@ use Rattle.ass_num.specs.declared.region.Run.{Run}
 use Rattle.region_rows.specs.Joins.{AllBegin, IsJoinedTo, BeginsFirst, AreRunsJoined}
 use Rattle.ass_num.proofs.OrderLemmas.{lt_true, lt_false, le_true, le_false, lt_is}
 use Rattle.region_rows.proofs.GrowthLemmas.{row_at-past}
-use Rattle.ass_num.proofs.RegionLemmas.{row_above}
+use Rattle.ass_num.proofs.RegionLemmas.{row_above, ascends_parts}
 
 pub or_false : (b : Bool) → (b || false) ≡ b
 or_false true = refl
@@ -107,17 +107,11 @@ above (x ∷ xs) a =
     let p = and_parts (int_lt x.from x.to) (ascend_from x.to xs) a in
     (x.from -ℤ pos 1, rw (lt_true (x.from -ℤ pos 1) x.from (omega (arith, ints)), p.0, p.1) refl)
 
-parts : (low : ℤ) (x : Run) (xs : List Run) → ascend_from low (x ∷ xs) ≡ true → (low <ℤ x.from) × (x.from <ℤ x.to) × (ascend_from x.to xs ≡ true)
-parts low x xs a =
-    let p = and_parts (int_lt low x.from && int_lt x.from x.to) (ascend_from x.to xs) a in
-    let q = and_parts (int_lt low x.from) (int_lt x.from x.to) p.0 in
-    (lt_is low x.from q.0, lt_is x.from x.to q.1, p.1)
-
 run_from : (low : ℤ) (xs : List Run) (k : ℕ) (d : Run) → ascend_from low xs ≡ true → k < length xs → (low <ℤ (get_or xs k d).from) × ((get_or xs k d).from <ℤ (get_or xs k d).to)
 run_from low [] k d a l = absurd (omega arith)
-run_from low (x ∷ xs) zero d a l = let p = parts low x xs a in (p.0, p.1)
+run_from low (x ∷ xs) zero d a l = let p = ascends_parts low x xs a in (p.0, p.1)
 run_from low (x ∷ xs) (suc k) d a l =
-    let p = parts low x xs a in
+    let p = ascends_parts low x xs a in
     let p0 = p.0 in
     let p1 = p.1 in
     let q = run_from x.to xs k d p.2 (omega arith) in
@@ -127,12 +121,12 @@ run_from low (x ∷ xs) (suc k) d a l =
 next_from : (low : ℤ) (xs : List Run) (k : ℕ) (d : Run) → ascend_from low xs ≡ true → suc k < length xs → (get_or xs k d).from ≤ℤ (get_or xs (suc k) d).from
 next_from low [] k d a l = absurd (omega arith)
 next_from low (x ∷ xs) zero d a l =
-    let p = parts low x xs a in
+    let p = ascends_parts low x xs a in
     let p1 = p.1 in
     let q = run_from x.to xs 0 d p.2 (omega arith) in
     let q0 = q.0 in
     omega (arith, ints)
-next_from low (x ∷ xs) (suc k) d a l = let p = parts low x xs a in next_from x.to xs k d p.2 (omega arith)
+next_from low (x ∷ xs) (suc k) d a l = let p = ascends_parts low x xs a in next_from x.to xs k d p.2 (omega arith)
 
 pub next_at : (xs : List Run) (k : ℕ) (d : Run) → ascend xs ≡ true → k + 1 < length xs → (get_or xs k d).from ≤ℤ (get_or xs (k + 1) d).from
 next_at xs k d a l = let p = above xs a in let e : k + 1 ≡ suc k = omega arith in rw e (next_from p.0 xs k d p.1 (omega arith))
