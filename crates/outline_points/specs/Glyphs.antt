@@ -1,5 +1,5 @@
 -- Public: the quads of a glyph. They are told of plain numbers, in pixels of the bitmap; b grows downwards from the baseline.
-use Rattle.std.specs.Prelude.{ℕ, Bool, if◌then◌else◌, ℤ, pos, neg_ℤ, ◌+ℤ◌, ◌-ℤ◌, ◌*ℤ◌, List, [], ◌∷◌, ◌++◌, flat_map}
+use Rattle.std.specs.Prelude.{ℕ, Bool, if◌then◌else◌, ℤ, pos, neg_ℤ, ◌+ℤ◌, ◌-ℤ◌, ◌*ℤ◌, List, [], ◌∷◌, flat_map}
 use Rattle.std.specs.List.{range_with_len}
 use Rattle.ass_num.specs.Bitmaps.{pixel_is_set}
 use Rattle.ass_num.specs.Floor.{floor_div}
@@ -56,16 +56,6 @@ row_quads m bold bitmap j = flat_map (pixel_quads m bold bitmap j) (range_with_l
 abbrev pub bitmap_quads : Matrix → Bool → Bitmap → List (List Point)
 bitmap_quads m bold bitmap = flat_map (row_quads m bold bitmap) (range_with_len 0 bitmap.h)
 
--- a bar one pixel high, from the pen as far as the glyph advances it
-abbrev pub bar_quad : Matrix → ℤ → ℤ → List Point
-bar_quad m advance top = quad m (pos 0) top advance (top +ℤ pos 1)
-
--- where the strikeout begins: half of the font's ascent and one pixel above the baseline
-abbrev pub strikeout_top : ℤ → ℤ
-strikeout_top ascent = neg_ℤ (floor_div ascent (pos 2)) -ℤ pos 1
-
--- The rings of a glyph: the pixels, and then the bars.
-abbrev pub glyph_rings : Matrix → Bool → Bool → Bool → ℤ → ℤ → Bitmap → List (List Point)
-glyph_rings m bold underline strikeout ascent advance bitmap =
-    (bitmap_quads m bold bitmap ++ (if underline then bar_quad m advance (pos 1) ∷ [] else []))
-    ++ (if strikeout then bar_quad m advance (strikeout_top ascent) ∷ [] else [])
+-- a bar of this height, from the pen as far as the glyph advances it
+abbrev pub bar_quad : Matrix → ℤ → ℤ → ℤ → List Point
+bar_quad m advance top size = quad m (pos 0) top advance (top +ℤ size)

@@ -1,4 +1,5 @@
 pub mod Boxes
+pub mod Contours
 pub mod Curves
 pub mod Drawings
 pub mod Glyphs

@@ -3,22 +3,19 @@
 ghost use Rattle.std.specs.Prelude.{◌≡◌, ◌+◌, ◌*◌, ◌/◌, ◌<◌, ◌∷◌, [], length, All};
 ghost use Rattle.ass_num.specs.Bitmaps.{pixel_is_set};
 ghost use Rattle.ass_num.specs.Limits.{IsWithin, IsPointWithin, IsOutlinePoint};
-ghost use Rattle.outline_points.specs.Limits.{max_pixel, max_scaled, max_unturned};
+ghost use Rattle.outline_points.specs.Limits.{max_pixel, max_scaled_length};
 ghost use Rattle.outline_points.specs.Placing.{IsMatrix};
 ghost use Rattle.outline_points.specs.Glyphs.{slant, scaled_pixel, glyph_point, quad};
 
 use crate::placing::Turn;
-use crate::products::scaled;
+use crate::products::scaled_length;
 use ass_num::{Matrix, Point};
-
-/// 1 in numbers with 16 fraction bits.
-const ONE_16: u32 = 65_536;
 
 /// How far italic moves a point at this height to the right.
 fn slant(italic: bool, y: i64) -> i64
-    requires { IsWithin max_scaled y }
+    requires { IsWithin max_scaled_length y }
     ensures value { result ≡ slant italic y }
-    ensures within { IsWithin max_scaled result }
+    ensures within { IsWithin max_scaled_length result }
 {
     if italic {
         return (-y).div_euclid(4);
@@ -27,15 +24,15 @@ fn slant(italic: bool, y: i64) -> i64
 }
 
 /// A point of the bitmap's plane, scaled and slanted.
-fn scaled_pixel(m: &Matrix, a: i64, b: i64) -> Point
+pub(crate) fn scaled_pixel(m: &Matrix, a: i64, b: i64) -> Point
     requires matrix { IsMatrix m.now }
     requires a { IsWithin max_pixel a }
     requires b { IsWithin max_pixel b }
     ensures value { result ≡ scaled_pixel m.now a b }
-    ensures within { IsPointWithin max_unturned result }
+    ensures within { IsPointWithin (2 * max_scaled_length) result }
 {
-    let x = scaled(a, m.ux, ONE_16);
-    let y = scaled(b, m.uy, ONE_16);
+    let x = scaled_length(a, m.ux);
+    let y = scaled_length(b, m.uy);
     Point {
         x: x + slant(m.italic, y),
         y,

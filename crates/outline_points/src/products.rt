@@ -3,7 +3,7 @@
 ghost use Rattle.std.specs.Prelude.{◌≡◌, ℕ, ◌<◌, ◌*◌, pos, ◌*ℤ◌, ◌≤◌};
 ghost use Rattle.ass_num.specs.Floor.{floor_div};
 ghost use Rattle.ass_num.specs.Limits.{max_held, one_16, IsWithin};
-ghost use Rattle.outline_points.specs.Limits.{max_scaled, max_unturned};
+ghost use Rattle.outline_points.specs.Limits.{max_pixel, max_scaled, max_scaled_length, max_unturned};
 ghost use Rattle.outline_points.specs.Placing.{IsScale};
 
 use ass_num::div_floor;
@@ -41,4 +41,14 @@ pub fn scaled(a: i64, u: i64, unit: u32) -> i64
     ensures within { IsWithin max_scaled result }
 {
     quotient(product(a, u), unit)
+}
+
+/// A length in pixels or in a font's units, scaled.
+pub fn scaled_length(a: i64, u: i64) -> i64
+    requires length { IsWithin max_pixel a }
+    requires scale { IsScale u }
+    ensures value { result ≡ floor_div (a *ℤ u) (pos one_16) }
+    ensures within { IsWithin max_scaled_length result }
+{
+    (a * u).div_euclid(65_536)
 }

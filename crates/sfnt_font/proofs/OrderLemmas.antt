@@ -1,8 +1,8 @@
 -- Segments in order, and the one that has a code.
-use Rattle.std.proofs.Common.{◌≡◌, ℕ, zero, suc, ◌+◌, ◌-◌, ◌<◌, ◌≤◌, List, [], ◌∷◌, ◌++◌, length, get_or, Bool, true, false, ◌&&◌, Option, Some, None, ltb, ◌⊎◌, inl, inr, le_refl, refl, ap, sym, ◌∙◌, arith}
+use Rattle.std.proofs.Common.{◌≡◌, ℕ, zero, suc, ◌+◌, ◌<◌, ◌≤◌, List, [], ◌∷◌, ◌++◌, length, get_or, true, false, ◌&&◌, Some, None, ◌⊎◌, inl, inr, le_refl, refl, ap, ◌∙◌, arith}
 use Rattle.std.specs.Prelude.{nat_lt, nat_le}
 use Rattle.std.specs.List.Sorted.{IsPartitionPoint, IsPartitionedBy}
-use Rattle.std.proofs.lemmas.Bool.{ltb-true, ltb-false, and_parts, and_from}
+use Rattle.std.proofs.lemmas.Bool.{cases_lt, ltb-true, ltb-false, and_parts, and_from}
 use Rattle.std.proofs.lemmas.Bool.Decides.{nat_tests}
 use Rattle.sfnt_font.specs.declared.segments.Segment.{Segment}
 use Rattle.sfnt_font.specs.Maps.{IsBehind, codes_to, max_code}
@@ -48,7 +48,7 @@ count_after-push count (first ∷ segments) segment = count_after-push (codes_to
 
 -- ---- ascending
 
-tail_in_order : (low count : ℕ) (first : Segment) (segments : List Segment) → are_in_order low count (first ∷ segments) ≡ true → IsBehind low count first × (are_in_order (first.last + 1) (codes_to first) segments ≡ true)
+pub tail_in_order : (low count : ℕ) (first : Segment) (segments : List Segment) → are_in_order low count (first ∷ segments) ≡ true → IsBehind low count first × (are_in_order (first.last + 1) (codes_to first) segments ≡ true)
 tail_in_order low count first segments h =
     let parts = and_parts (stands_behind low count first) (are_in_order (first.last + 1) (codes_to first) segments) h in
     (IsBehind-test low count first parts.0, parts.1)
@@ -76,16 +76,9 @@ apart low count (first ∷ segments) h zero (suc j) d le less =
     omega arith
 apart low count (first ∷ segments) h (suc i) (suc j) d le less = apart (first.last + 1) (codes_to first) segments (tail_in_order low count first segments h).1 i j d (omega arith) (omega arith)
 
-lt_or_ge : (m n : ℕ) → (m < n) ⊎ (n ≤ m)
-lt_or_ge m n = cases (ltb m n) refl
-  where
-    cases : (b : Bool) → ltb m n ≡ b → (m < n) ⊎ (n ≤ m)
-    cases true e = inl (ltb-true m n e)
-    cases false e = inr (ltb-false m n e)
-
 -- the last codes rise
 rises : (segments : List Segment) → are_in_order 0 0 segments ≡ true → (i j : ℕ) (d : Segment) → i ≤ j → j < length segments → (get_or segments i d).last ≤ (get_or segments j d).last
-rises segments h i j d le less = sides (lt_or_ge i j)
+rises segments h i j d le less = sides (cases_lt i j)
   where
     sides : (i < j) ⊎ (j ≤ i) → (get_or segments i d).last ≤ (get_or segments j d).last
     sides (inl before) =
@@ -153,7 +146,7 @@ segment_of-there segments code at d point room first =
 pub segment_of-nowhere : (segments : List Segment) (code at : ℕ) (d : Segment) → are_in_order 0 0 segments ≡ true →
     IsPartitionPoint (λ segment. nat_lt segment.last code ≡ true) (λ segment. nat_lt segment.last code ≡ false) segments at →
     (at < length segments → code < (get_or segments at d).first) → segment_of segments code ≡ None
-segment_of-nowhere segments code at d h point other = segment_from-nowhere segments 0 code d (λ j room. sides j room (lt_or_ge j at))
+segment_of-nowhere segments code at d h point other = segment_from-nowhere segments 0 code d (λ j room. sides j room (cases_lt j at))
   where
     behind : (j : ℕ) → j < length segments → at < j → code < (get_or segments j d).first
     behind j room later =
@@ -168,4 +161,4 @@ segment_of-nowhere segments code at d h point other = segment_from-nowhere segme
 
     sides : (j : ℕ) → j < length segments → (j < at) ⊎ (at ≤ j) → (nat_le (get_or segments j d).first code && nat_le code (get_or segments j d).last) ≡ false
     sides j room (inl less) = above-false (get_or segments j d) code (ltb-true (get_or segments j d).last code (point.0 j d (omega arith) less))
-    sides j room (inr le) = below-false (get_or segments j d) code (from j room le (lt_or_ge at j))
+    sides j room (inr le) = below-false (get_or segments j d) code (from j room le (cases_lt at j))

@@ -1,12 +1,15 @@
 -- One step of each loop over the file.
-use Rattle.std.proofs.Common.{◌≡◌, ℕ, suc, ◌+◌, ◌-◌, ◌*◌, ◌<◌, List, length, Some, cond, false, sym, ap, ◌∙◌, arith}
+use Rattle.std.proofs.Common.{◌≡◌, ℕ, suc, ◌+◌, ◌-◌, ◌*◌, ◌<◌, List, [], ◌∷◌, ◌++◌, length, map, Some, cond, true, false, sym, ap, ◌∙◌, arith}
 use Rattle.std.specs.Prelude.{nat_lt}
+use Rattle.std.specs.List.{range_with_len}
+use Rattle.std.proofs.lemmas.List.FromFn.{map-range_with_len_more}
 use Rattle.sfnt_font.specs.declared.directory.Table.{Table}
 use Rattle.sfnt_font.specs.declared.maps.Choice.{Choice}
 use Rattle.sfnt_font.specs.Bytes.{u32_at}
 use Rattle.sfnt_font.specs.Faces.{bad_face}
 use Rattle.sfnt_font.specs.Directory.{is_table, table_at, table_from}
 use Rattle.sfnt_font.specs.Maps.{best_map, better, choice_at}
+use Rattle.sfnt_font.specs.Names.{is_family, family_from}
 
 pub bad_face-next : (bytes : List ℕ) (at n k : ℕ) → k < n → nat_lt (length bytes) (u32_at bytes (at + 4 * k) + 12) ≡ false → bad_face bytes (at + 4 * (k + 1)) (n - (k + 1)) ≡ bad_face bytes (at + 4 * k) (n - k)
 bad_face-next bytes at n k less fails =
@@ -31,3 +34,21 @@ best_map-next bytes cmap first n k best less =
     let next : first + 8 * (k + 1) ≡ (first + 8 * k) + 8 = omega arith in
     ap (λ place. best_map bytes cmap place (n - (k + 1)) (better best (choice_at bytes cmap (first + 8 * k)))) next
     ∙ ap (λ m. best_map bytes cmap (first + 8 * k) m best) (sym left)
+
+pub family_from-next : (bytes : List ℕ) (names : Table) (rank first n k : ℕ) → k < n → is_family bytes names rank (first + 12 * k) ≡ false →
+    family_from bytes names rank (first + 12 * (k + 1)) (n - (k + 1)) ≡ family_from bytes names rank (first + 12 * k) (n - k)
+family_from-next bytes names rank first n k less fails =
+    let left : n - k ≡ suc (n - (k + 1)) = omega arith in
+    let next : first + 12 * (k + 1) ≡ (first + 12 * k) + 12 = omega arith in
+    ap (λ place. family_from bytes names rank place (n - (k + 1))) next
+    ∙ (sym (ap (λ b. cond b (Some (first + 12 * k)) (family_from bytes names rank ((first + 12 * k) + 12) (n - (k + 1)))) fails)
+    ∙ ap (family_from bytes names rank (first + 12 * k)) (sym left))
+
+pub unit-next : (f : ℕ → ℕ) (units : List ℕ) (k unit : ℕ) → units ≡ map f (range_with_len 0 k) → unit ≡ f k → units ++ unit ∷ [] ≡ map f (range_with_len 0 (k + 1))
+unit-next f units k unit h e = rw (h, e) (sym (map-range_with_len_more f 0 k k (omega arith)))
+
+pub family_from-there : (bytes : List ℕ) (names : Table) (rank first n k : ℕ) → k < n → is_family bytes names rank (first + 12 * k) ≡ true → family_from bytes names rank (first + 12 * k) (n - k) ≡ Some (first + 12 * k)
+family_from-there bytes names rank first n k less is =
+    let left : n - k ≡ suc (n - (k + 1)) = omega arith in
+    ap (family_from bytes names rank (first + 12 * k)) left
+    ∙ ap (λ b. cond b (Some (first + 12 * k)) (family_from bytes names rank ((first + 12 * k) + 12) (n - (k + 1)))) is

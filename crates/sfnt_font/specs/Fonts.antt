@@ -12,6 +12,7 @@ use Rattle.sfnt_font.specs.Bytes.{u16_at, u32_at}
 use Rattle.sfnt_font.specs.Faces.{face_count, face_place}
 use Rattle.sfnt_font.specs.Directory.{directory_at, tables_of}
 use Rattle.sfnt_font.specs.Numbers.{sfnt_numbers}
+use Rattle.sfnt_font.specs.Names.{font_name}
 use Rattle.sfnt_font.specs.Maps.{map_of, segments_of, group_place, first_code_place, shift_place, offset_place}
 
 -- the font of the face whose directory this is
@@ -21,7 +22,7 @@ font_of bytes directory =
     then_read (sfnt_numbers bytes directory tables) (λ numbers.
     then_read (map_of bytes tables.cmap) (λ character_map.
     then_read (segments_of bytes character_map) (λ segments.
-    Ok (record { bytes = bytes; tables = tables; numbers = numbers; character_map = character_map; segments = segments })))))
+    Ok (record { bytes = bytes; tables = tables; numbers = numbers; character_map = character_map; segments = segments; name = font_name bytes directory })))))
 
 -- the font of a face of a file, or the first fault
 abbrev pub sfnt_of : List ℕ → ℕ → Result SfntFont SfntRefusal

@@ -3,7 +3,11 @@ pub mod Answers
 pub mod Faces
 pub mod Directory
 pub mod Numbers
+pub mod Names
 pub mod Maps
 pub mod Ranges
 pub mod Fonts
 pub mod Metrics
+pub mod Codes
+pub mod Laws
+pub mod Glyphs

@@ -1,5 +1,5 @@
 -- Public: the map from characters to glyphs (`cmap`).
-use Rattle.std.specs.Prelude.{◌≡◌, ℕ, zero, suc, ◌+◌, ◌-◌, ◌*◌, ◌/◌, ◌≤◌, max, Bool, ◌&&◌, ◌||◌, not, ◌==◌, nat_lt, nat_le, if◌then◌else◌, List, [], ◌∷◌, length, Option, Some, None, Result, Ok, Err}
+use Rattle.std.specs.Prelude.{◌≡◌, ℕ, zero, suc, ◌+◌, ◌-◌, ◌*◌, ◌/◌, ◌≤◌, max, Bool, ◌&&◌, ◌||◌, ◌==◌, nat_lt, nat_le, if◌then◌else◌, List, [], ◌∷◌, length, Result, Ok, Err}
 use Rattle.ass_num.specs.Limits.{max_file_bytes}
 use Rattle.sfnt_font.specs.declared.cause.SfntCause.TheVariants.{NoMap, BadMap}
 use Rattle.sfnt_font.specs.declared.cause.SfntRefusal.{SfntRefusal}
@@ -74,18 +74,24 @@ chosen_map bytes cmap =
     else unless_none cmap (best_map bytes cmap (cmap.place + 4) (u16_at bytes (cmap.place + 2)) no_choice)
 
 -- a map of format 12, of groups of 12 bytes
+abbrev pub groups_of : List ℕ → Table → Choice → CharacterMap
+groups_of bytes cmap choice = record { format = Groups; place = choice.place; end = table_end cmap; count = u32_at bytes (choice.place + 12); is_symbol = choice.rank == symbol_rank }
+
 abbrev pub groups_map : List ℕ → Table → Choice → Result CharacterMap SfntRefusal
 groups_map bytes cmap choice =
     if nat_lt (table_end cmap) (choice.place + 16) then Err (BadFont choice.place BadMap)
     else if nat_lt (table_end cmap) (choice.place + 16 + 12 * u32_at bytes (choice.place + 12)) then Err (BadFont (choice.place + 12) BadMap)
-    else Ok (record { format = Groups; place = choice.place; end = table_end cmap; count = u32_at bytes (choice.place + 12); is_symbol = choice.rank == symbol_rank })
+    else Ok (groups_of bytes cmap choice)
 
 -- a map of format 4, of segments, of each of which 8 bytes stand in four lists
+abbrev pub ranges_of : List ℕ → Table → Choice → CharacterMap
+ranges_of bytes cmap choice = record { format = Ranges; place = choice.place; end = table_end cmap; count = u16_at bytes (choice.place + 6) / 2; is_symbol = choice.rank == symbol_rank }
+
 abbrev pub ranges_map : List ℕ → Table → Choice → Result CharacterMap SfntRefusal
 ranges_map bytes cmap choice =
     if nat_lt (table_end cmap) (choice.place + 14) then Err (BadFont choice.place BadMap)
     else if nat_lt (table_end cmap) (choice.place + 16 + 8 * (u16_at bytes (choice.place + 6) / 2)) then Err (BadFont (choice.place + 6) BadMap)
-    else Ok (record { format = Ranges; place = choice.place; end = table_end cmap; count = u16_at bytes (choice.place + 6) / 2; is_symbol = choice.rank == symbol_rank })
+    else Ok (ranges_of bytes cmap choice)
 
 abbrev pub whole_map : List ℕ → Table → Choice → Result CharacterMap SfntRefusal
 whole_map bytes cmap choice =

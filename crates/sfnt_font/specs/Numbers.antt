@@ -1,5 +1,5 @@
 -- Public: the numbers of a font.
-use Rattle.std.specs.Prelude.{ℕ, ◌+◌, ◌*◌, ◌/◌, ◌<◌, ◌≤◌, max, not, ◌==◌, if◌then◌else◌, List, Option, Some, None, Result, Ok, Err, ℤ, pos, ◌+ℤ◌, neg_ℤ, int_lt}
+use Rattle.std.specs.Prelude.{ℕ, ◌+◌, ◌/◌, ◌≤◌, max, not, ◌==◌, if◌then◌else◌, List, Option, Some, None, Result, Ok, Err, ℤ, pos, ◌+ℤ◌, neg_ℤ, int_lt, ◌≤ℤ◌, IfSome}
 use Rattle.std.specs.Option.{option_or}
 use Rattle.std.specs.Ordering.{int_eq}
 use Rattle.std.specs.Int.{int_max}
@@ -90,4 +90,21 @@ sfnt_numbers bytes directory tables =
 
 -- A height, or how high a bar is. This is a condition of calls.
 abbrev pub IsHeight : ℤ → Type 0
-IsHeight z = IsWithin 65536 z
+IsHeight z = IsWithin 32768 z
+
+-- what holds of a bar
+pub record IsFontBar (bar : Bar) : Type 0 where
+  pub top : IsWithin 65536 bar.top
+  pub size : pos 0 ≤ℤ bar.size
+  pub size_most : bar.size ≤ℤ pos 65535
+
+-- what holds of the numbers of each font
+pub record AreFontNumbers (numbers : Numbers) : Type 0 where
+  pub ascent : pos 0 ≤ℤ numbers.ascent
+  pub ascent_most : numbers.ascent ≤ℤ pos 32768
+  pub descent : pos 0 ≤ℤ numbers.descent
+  pub descent_most : numbers.descent ≤ℤ pos 32768
+  pub underline : IfSome numbers.underline IsFontBar
+  pub strikeout : IfSome numbers.strikeout IsFontBar
+  pub bold_step : 1 ≤ numbers.bold_step
+  pub bold_most : numbers.bold_step ≤ 65535

@@ -1,7 +1,7 @@
 //! Numbers in a file, which are big-endian. A byte behind the end counts as 0.
 
 ghost use Rattle.std.specs.Prelude.{◌≡◌, ◌<◌, ◌^◌, pos, neg_ℤ, ◌≤ℤ◌};
-ghost use Rattle.sfnt_font.specs.Bytes.{u8_at, u16_at, u32_at, s16_at, IsPlace};
+ghost use Rattle.sfnt_font.specs.Bytes.{u8_at, u16_at, u32_at, s16_at, s8_at, IsPlace};
 
 /// The byte at a place.
 pub fn u8_at(bytes: &[u8], i: usize) -> u8
@@ -42,4 +42,14 @@ pub fn s16_at(bytes: &[u8], i: usize) -> i32
     } else {
         number - 65_536
     }
+}
+
+/// The number of a byte, whose first bit is the sign.
+pub fn s8_at(bytes: &[u8], i: usize) -> i32
+    ensures value { result ≡ s8_at bytes.now i }
+    ensures least { neg_ℤ (pos 32768) ≤ℤ result }
+    ensures most { result ≤ℤ pos 32767 }
+{
+    let number = i32::from(u8_at(bytes, i));
+    if number < 128 { number } else { number - 256 }
 }

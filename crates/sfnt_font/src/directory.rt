@@ -2,7 +2,8 @@
 
 ghost use Rattle.std.specs.Prelude.{◌≡◌, ◌<◌, ◌^◌, length, IfOk, IfSome};
 ghost use Rattle.sfnt_font.specs.Bytes.{u16_at, u32_at};
-ghost use Rattle.sfnt_font.specs.Directory.{whole_directory, directory_at, directory_end, table_end, table_at, is_table, table_named, unless_short, IsDirectory, IsTableIn};
+ghost use Rattle.sfnt_font.specs.Directory.{whole_directory, directory_at, directory_end, table_end, table_at};
+ghost use Rattle.sfnt_font.specs.Directory.{is_table, table_named, unless_short, IsDirectory, IsTableIn};
 
 use crate::bytes::{u16_at, u32_at};
 use crate::cause::{SfntCause, SfntRefusal};
@@ -16,7 +17,7 @@ pub struct Directory {
 }
 
 /// Where the bytes of a table are.
-#[derive(Clone, Copy)]
+#[derive(Clone, Copy, Debug)]
 pub struct Table {
     pub place: usize,
     pub size: usize,

@@ -1,28 +1,29 @@
 //! Fonts, and what is found in them.
 
-ghost use Rattle.std.specs.Prelude.{◌≡◌, ◌≤◌};
+ghost use Rattle.std.specs.Prelude.{◌≡◌, ◌≤◌, neg_ℤ, pos, ◌≤ℤ◌};
 ghost use Rattle.sfnt_font.specs.Maps.{max_code};
 ghost use Rattle.sfnt_font.specs.Fonts.{mapped_glyph, glyph_number, is_symbol_code, symbol_count, place_of_code};
-ghost use Rattle.sfnt_font.specs.Metrics.{advance_of};
+ghost use Rattle.sfnt_font.specs.Metrics.{advance_of, bearing_of};
 ghost use Rattle.sfnt_font.specs.Ranges.{IsSfntFont};
 
 use crate::characters::{held_glyph, segment_glyph};
 use crate::maps::CharacterMap;
-use crate::metrics::entry_advance;
+use crate::metrics::{bearing_in, entry_advance};
 use crate::numbers::Numbers;
 use crate::segments::{Segment, place_in, segment_of};
 use crate::tables::Tables;
 use ass_num::Items;
 
-/// A font: the bytes of its file, where its tables are, its numbers, its map, and the segments of the map. A glyph is
-/// looked at when it is asked for.
-#[derive(Drop)]
+/// A font: the bytes of its file, where its tables are, its numbers, its map, the segments of the map, and its name. A
+/// glyph is looked at when it is asked for.
+#[derive(Debug, Drop)]
 pub struct SfntFont {
     pub(crate) bytes: Items<u8>,
     pub(crate) tables: Tables,
     pub(crate) numbers: Numbers,
     pub(crate) character_map: CharacterMap,
     pub(crate) segments: Items<Segment>,
+    pub(crate) name: Items<u8>,
 }
 
 impl SfntFont {
@@ -40,12 +41,29 @@ impl SfntFont {
         &self.numbers
     }
 
+    /// The name of the font's family, in UTF-8; empty where it has none.
+    pub fn name(&self) -> &[u8]
+        ensures { result.now ≡ self.now.name }
+    {
+        self.name.as_slice()
+    }
+
     /// How wide a glyph is.
     pub fn advance(&self, g: u16) -> u16
         requires { IsSfntFont self.now }
         ensures { result ≡ advance_of self.now g }
     {
         entry_advance(self.bytes(), self.tables.hmtx, self.numbers.advances, g)
+    }
+
+    /// How far a glyph's least x lies from 0.
+    pub(crate) fn bearing(&self, g: u16) -> i32
+        requires { IsSfntFont self.now }
+        ensures value { result ≡ bearing_of self.now g }
+        ensures least { neg_ℤ (pos 32768) ≤ℤ result }
+        ensures most { result ≤ℤ pos 32767 }
+    {
+        bearing_in(self.bytes(), self.tables.hmtx, self.numbers.advances, g)
     }
 
     /// The glyph that the map gives a code, or else 0.
@@ -84,7 +102,7 @@ impl SfntFont {
     }
 
     /// How many codes stand before those of the segments.
-    fn symbol_count(&self) -> u32
+    pub(crate) fn symbol_count(&self) -> u32
         ensures value { result ≡ symbol_count self.now }
         ensures most { result ≤ 256 }
     {

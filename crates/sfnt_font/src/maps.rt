@@ -3,7 +3,9 @@
 ghost use Rattle.std.specs.Prelude.{◌≡◌, ◌<◌, ◌≤◌, ◌^◌, length, IfOk};
 ghost use Rattle.ass_num.specs.Limits.{max_file_bytes};
 ghost use Rattle.sfnt_font.specs.Directory.{IsTableIn};
-ghost use Rattle.sfnt_font.specs.Maps.{windows_rank, unicode_rank, map_rank, is_read_map, choice_at, better, best_map, chosen_map, groups_map, ranges_map, whole_map, map_of, no_choice, last_code_place, first_code_place, shift_place, offset_place, group_place, IsSmallMap, IsMapIn};
+ghost use Rattle.sfnt_font.specs.Maps.{windows_rank, unicode_rank, map_rank, is_read_map, choice_at, better, best_map, chosen_map, groups_map, ranges_map};
+ghost use Rattle.sfnt_font.specs.Maps.{whole_map, map_of, no_choice, last_code_place, first_code_place};
+ghost use Rattle.sfnt_font.specs.Maps.{shift_place, offset_place, group_place, IsSmallMap, IsMapIn};
 
 use crate::bytes::{u16_at, u32_at};
 use crate::cause::{SfntCause, SfntRefusal};
@@ -23,7 +25,7 @@ pub struct Choice {
 }
 
 /// How a map stands in its table.
-#[derive(Clone, Copy)]
+#[derive(Clone, Copy, Debug)]
 pub enum MapFormat {
     /// Format 4: segments, in four lists.
     Ranges,
@@ -33,7 +35,7 @@ pub enum MapFormat {
 
 /// The map of a font's characters: where it begins, where its table ends, how many segments or groups it has, and
 /// whether it is one of symbols.
-#[derive(Clone, Copy)]
+#[derive(Clone, Copy, Debug)]
 pub struct CharacterMap {
     pub format: MapFormat,
     pub place: usize,

@@ -1,11 +1,11 @@
 //! How wide glyphs are.
 
-ghost use Rattle.std.specs.Prelude.{◌≡◌, ◌≤◌, length};
+ghost use Rattle.std.specs.Prelude.{◌≡◌, ◌≤◌, length, neg_ℤ, pos, ◌≤ℤ◌};
 ghost use Rattle.ass_num.specs.Limits.{max_file_bytes};
 ghost use Rattle.sfnt_font.specs.Directory.{IsTableIn};
-ghost use Rattle.sfnt_font.specs.Metrics.{advance_at, entry_advance};
+ghost use Rattle.sfnt_font.specs.Metrics.{advance_at, entry_advance, bearing_at, bearing_in};
 
-use crate::bytes::u16_at;
+use crate::bytes::{s16_at, u16_at};
 use crate::directory::Table;
 
 /// The advance of an entry that has at least so many bytes in its table.
@@ -35,4 +35,32 @@ pub fn entry_advance(bytes: &[u8], hmtx: Table, n: u16, g: u16) -> u16
         return advance_at(bytes, hmtx, 4 * usize::from(g), 4);
     }
     advance_at(bytes, hmtx, 4 * usize::from(n - 1), 2)
+}
+
+fn bearing_at(bytes: &[u8], hmtx: Table, i: usize) -> i32
+    requires hmtx { IsTableIn bytes.now hmtx }
+    requires short { length bytes.now ≤ max_file_bytes }
+    requires i { i ≤ 1048576 }
+    ensures value { result ≡ bearing_at bytes.now hmtx i }
+    ensures least { neg_ℤ (pos 32768) ≤ℤ result }
+    ensures most { result ≤ℤ pos 32767 }
+{
+    if hmtx.size < i + 2 {
+        return 0;
+    }
+    s16_at(bytes, hmtx.place + i)
+}
+
+/// The bearing of glyph g.
+pub fn bearing_in(bytes: &[u8], hmtx: Table, n: u16, g: u16) -> i32
+    requires hmtx { IsTableIn bytes.now hmtx }
+    requires short { length bytes.now ≤ max_file_bytes }
+    ensures value { result ≡ bearing_in bytes.now hmtx n g }
+    ensures least { neg_ℤ (pos 32768) ≤ℤ result }
+    ensures most { result ≤ℤ pos 32767 }
+{
+    if g < n {
+        return bearing_at(bytes, hmtx, 4 * usize::from(g) + 2);
+    }
+    bearing_at(bytes, hmtx, 4 * usize::from(n) + 2 * usize::from(g - n))
 }

@@ -4,7 +4,9 @@ ghost use Rattle.std.specs.Prelude.{◌≡◌, ◌<◌, ◌≤◌, ◌^◌, leng
 ghost use Rattle.ass_num.specs.Limits.{max_file_bytes};
 ghost use Rattle.sfnt_font.specs.Bytes.{s16_at, IsPlace};
 ghost use Rattle.sfnt_font.specs.Directory.{IsTableIn, AreTablesIn, IsDirectory, table_end};
-ghost use Rattle.sfnt_font.specs.Numbers.{heights_or, heights_from, window_heights, typographic_heights, line_heights, box_heights, font_heights, bar_at, bar_of, bar_or, underline_of, strikeout_of, made_numbers, sfnt_numbers, IsHeight};
+ghost use Rattle.sfnt_font.specs.Numbers.{heights_or, heights_from, window_heights, typographic_heights};
+ghost use Rattle.sfnt_font.specs.Numbers.{line_heights, box_heights, font_heights, bar_at, bar_of};
+ghost use Rattle.sfnt_font.specs.Numbers.{bar_or, underline_of, strikeout_of, made_numbers, sfnt_numbers, IsHeight, IsFontBar, AreFontNumbers};
 
 use crate::bytes::{s16_at, u16_at};
 use crate::cause::{SfntCause, SfntRefusal};
@@ -25,14 +27,14 @@ pub struct Heights {
 }
 
 /// A bar over or under a line: how far its top lies below the baseline, and how high it is.
-#[derive(Clone, Copy)]
+#[derive(Clone, Copy, Debug)]
 pub struct Bar {
     pub top: i32,
     pub size: i32,
 }
 
 /// The numbers of a font, in its units.
-#[derive(Clone, Copy)]
+#[derive(Clone, Copy, Debug)]
 pub struct Numbers {
     /// How many units the em has.
     pub units: u16,
@@ -52,7 +54,11 @@ pub struct Numbers {
 fn heights_or(first: Heights, second: Heights) -> Heights
     requires up { IsHeight first.up }
     requires down { IsHeight first.down }
-    ensures { result ≡ heights_or first second }
+    requires other_up { IsHeight second.up }
+    requires other_down { IsHeight second.down }
+    ensures value { result ≡ heights_or first second }
+    ensures up { IsHeight result.up }
+    ensures down { IsHeight result.down }
 {
     if first.up + first.down == 0 {
         return second;
@@ -91,7 +97,9 @@ fn font_heights(bytes: &[u8], tables: &Tables, metrics: Option<Table>) -> Height
     requires tables { AreTablesIn bytes.now tables.now }
     requires short { length bytes.now ≤ max_file_bytes }
     requires metrics { IfSome metrics (IsTableIn bytes.now) }
-    ensures { result ≡ font_heights bytes.now tables.now metrics }
+    ensures value { result ≡ font_heights bytes.now tables.now metrics }
+    ensures up { IsHeight result.up }
+    ensures down { IsHeight result.down }
 {
     let line = heights_at(bytes, tables.hhea.place + 4, tables.hhea.place + 6);
     let of_box = heights_at(bytes, tables.head.place + 42, tables.head.place + 38);
@@ -122,7 +130,8 @@ fn bar_at(middle: i32, size: i32) -> Bar
 fn bar_of(middle: i32, size: i32) -> Option<Bar>
     requires middle { IsHeight middle }
     requires size { IsHeight size }
-    ensures { result ≡ bar_of middle size }
+    ensures value { result ≡ bar_of middle size }
+    ensures bar { IfSome result IsFontBar }
 {
     if size > 0 {
         Some(bar_at(middle, size))
@@ -135,7 +144,8 @@ fn bar_of(middle: i32, size: i32) -> Option<Bar>
 fn bar_in(bytes: &[u8], middle: usize, size: usize) -> Option<Bar>
     requires middle { IsPlace middle }
     requires size { IsPlace size }
-    ensures { result ≡ bar_of (s16_at bytes.now middle) (s16_at bytes.now size) }
+    ensures value { result ≡ bar_of (s16_at bytes.now middle) (s16_at bytes.now size) }
+    ensures bar { IfSome result IsFontBar }
 {
     bar_of(s16_at(bytes, middle), s16_at(bytes, size))
 }
@@ -152,7 +162,9 @@ fn bar_or(
     requires short { length bytes.now ≤ max_file_bytes }
     requires middle { middle < 100 }
     requires size { size < 100 }
-    ensures { result ≡ bar_or bytes.now table middle size other }
+    requires other { IfSome other IsFontBar }
+    ensures value { result ≡ bar_or bytes.now table middle size other }
+    ensures bar { IfSome result IsFontBar }
 {
     match table {
         None => other,
@@ -163,7 +175,8 @@ fn bar_or(
 fn underline_of(bytes: &[u8], units: u16, post: Option<Table>) -> Option<Bar>
     requires post { IfSome post (IsTableIn bytes.now) }
     requires short { length bytes.now ≤ max_file_bytes }
-    ensures { result ≡ underline_of bytes.now units post }
+    ensures value { result ≡ underline_of bytes.now units post }
+    ensures bar { IfSome result IsFontBar }
 {
     let middle = (-i32::from(units)).div_euclid(10);
     bar_or(bytes, post, 8, 10, bar_of(middle, i32::from(units / 20)))
@@ -172,7 +185,8 @@ fn underline_of(bytes: &[u8], units: u16, post: Option<Table>) -> Option<Bar>
 fn strikeout_of(bytes: &[u8], units: u16, metrics: Option<Table>) -> Option<Bar>
     requires metrics { IfSome metrics (IsTableIn bytes.now) }
     requires short { length bytes.now ≤ max_file_bytes }
-    ensures { result ≡ strikeout_of bytes.now units metrics }
+    ensures value { result ≡ strikeout_of bytes.now units metrics }
+    ensures bar { IfSome result IsFontBar }
 {
     bar_or(
         bytes,
@@ -193,7 +207,8 @@ fn made_numbers(
     requires metrics { IfSome metrics (IsTableIn bytes.now) }
     requires post { IfSome post (IsTableIn bytes.now) }
     requires short { length bytes.now ≤ max_file_bytes }
-    ensures { result ≡ made_numbers bytes.now tables.now metrics post }
+    ensures value { result ≡ made_numbers bytes.now tables.now metrics post }
+    ensures numbers { AreFontNumbers result }
 {
     let units = u16_at(bytes, tables.head.place + 18);
     let heights = font_heights(bytes, tables, metrics);
@@ -219,7 +234,8 @@ pub fn sfnt_numbers(
     requires directory { IsDirectory directory }
     requires tables { AreTablesIn bytes.now tables.now }
     requires short { length bytes.now ≤ max_file_bytes }
-    ensures { result ≡ sfnt_numbers bytes.now directory tables.now }
+    ensures value { result ≡ sfnt_numbers bytes.now directory tables.now }
+    ensures numbers { IfOk result AreFontNumbers }
 {
     if u16_at(bytes, tables.head.place + 18) == 0 {
         return Err(SfntRefusal::BadFont(tables.head.place + 18, SfntCause::BadNumber));

@@ -13,6 +13,7 @@ use crate::directory::{Directory, directory_at};
 use crate::faces::{face_count, face_place};
 use crate::font::SfntFont;
 use crate::maps::map_of;
+use crate::names::font_name;
 use crate::numbers::sfnt_numbers;
 use crate::segments::segments_of;
 use crate::tables::tables_of;
@@ -45,11 +46,13 @@ fn font_of(alloc: Global, bytes: Items<u8>, directory: Directory) -> Result<Sfnt
     let numbers = sfnt_numbers(all, directory, &tables)?;
     let character_map = map_of(all, tables.cmap)?;
     let segments = segments_of(alloc, all, character_map)?;
+    let name = font_name(alloc, all, directory)?;
     Ok(SfntFont {
         bytes,
         tables,
         numbers,
         character_map,
         segments,
+        name,
     })
 }

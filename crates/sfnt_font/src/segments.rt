@@ -17,7 +17,7 @@ use std::alloc::Global;
 const MAX_CODE: u32 = 1_114_111;
 
 /// The codes from `first` to `last`, and how many codes the segments before have.
-#[derive(Clone, Copy)]
+#[derive(Clone, Copy, Debug)]
 pub struct Segment {
     pub first: u32,
     pub last: u32,

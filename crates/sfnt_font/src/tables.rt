@@ -13,7 +13,7 @@ const CFF: u32 = 1_128_678_944;
 const CFF_2: u32 = 1_128_678_962;
 
 /// The tables that a font needs.
-#[derive(Clone, Copy)]
+#[derive(Clone, Copy, Debug)]
 pub struct Tables {
     pub head: Table,
     pub maxp: Table,

@@ -1,5 +1,5 @@
-use Rattle.std.proofs.Common.{◌≡◌, ◌+◌, ◌*◌, arith, sym, ◌∙◌, ap}
-use Rattle.sfnt_font.specs.Maps.{best_map, better, choice_at}
+use Rattle.std.proofs.Common.{◌≡◌, ◌+◌, ◌*◌, ◌∙◌, ap}
+use Rattle.sfnt_font.specs.Maps.{better, choice_at}
 use Rattle.sfnt_font.proofs.Steps.{best_map-next}
 use Rattle.sfnt_font.proofs.maps.best_map.Goals as goal
 

@@ -1,5 +1,5 @@
-use Rattle.std.proofs.Common.{◌≡◌, ◌+◌, ◌-◌, length, ◌++◌, ◌∷◌, [], arith, sym, ◌∙◌, ap, length-append}
-use Rattle.sfnt_font.specs.Maps.{IsBehind, codes_to}
+use Rattle.std.proofs.Common.{◌≡◌, ◌+◌, ◌-◌, ◌++◌, ◌∷◌, [], arith, ◌∙◌, ap, length-append}
+use Rattle.sfnt_font.specs.Maps.{IsBehind}
 use Rattle.sfnt_font.proofs.InOrder.{segments_from-next}
 use Rattle.sfnt_font.proofs.OrderLemmas.{low_after, count_after, in_order-push, low_after-push, count_after-push}
 use Rattle.sfnt_font.proofs.segments.segments_of.Goals as goal

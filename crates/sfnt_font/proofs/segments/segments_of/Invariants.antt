@@ -1,4 +1,4 @@
-use Rattle.std.proofs.Common.{◌≡◌, ◌+◌, ◌-◌, ◌≤◌, length, true}
+use Rattle.std.proofs.Common.{◌≡◌, ◌-◌, ◌≤◌, length, true}
 use Rattle.sfnt_font.specs.Maps.{segments_of, segments_from}
 use Rattle.sfnt_font.specs.Ranges.{are_in_order}
 use Rattle.sfnt_font.proofs.InOrder.{behind}

@@ -1,4 +1,4 @@
-use Rattle.std.proofs.Common.{◌≡◌, ◌<◌, ◌≤◌, length, get_or, true, arith}
+use Rattle.std.proofs.Common.{◌≡◌, ◌<◌, length, true, arith}
 use Rattle.sfnt_font.specs.Ranges.{are_in_order}
 use Rattle.sfnt_font.specs.Fonts.{no_segment}
 use Rattle.sfnt_font.proofs.OrderLemmas.{ascends_at, facts_at}

@@ -1,0 +1,199 @@
+//! The name of a font: that of its family.
+
+ghost use Rattle.std.specs.Prelude.{◌≡◌, ◌<◌, ◌≤◌, ◌^◌, length, IfOk, IfSome};
+ghost use Rattle.ass_num.specs.Limits.{max_file_bytes};
+ghost use Rattle.sfnt_font.specs.Directory.{IsDirectory, IsTableIn};
+ghost use Rattle.sfnt_font.specs.Names.{family_rank, text_place, is_whole_name, is_family, ranked_family, family_record, mac_character};
+ghost use Rattle.sfnt_font.specs.Names.{narrow_units, wide_units, name_units, spelled, record_name, font_name};
+
+use crate::bytes::{u8_at, u16_at};
+use crate::directory::{Directory, Table, long_table};
+use ass_num::{Items, Mem};
+use std::alloc::Global;
+
+/// "name"
+const NAMES: u32 = 1_851_878_757;
+
+/// The rank of a Windows name.
+const WINDOWS: u8 = 0;
+
+/// The rank of a Unicode name and of one in Mac Roman.
+const OTHER: u8 = 1;
+
+/// The rank of a name that isn't read.
+const UNREAD: u8 = 2;
+
+/// The characters of the bytes from 128 up in Mac Roman.
+const MAC_ROMAN: [u16; 128] = [
+    196, 197, 199, 201, 209, 214, 220, 225, 224, 226, 228, 227, 229, 231, 233, 232, 234, 235, 237,
+    236, 238, 239, 241, 243, 242, 244, 246, 245, 250, 249, 251, 252, 8224, 176, 162, 163, 167,
+    8226, 182, 223, 174, 169, 8482, 180, 168, 8800, 198, 216, 8734, 177, 8804, 8805, 165, 181,
+    8706, 8721, 8719, 960, 8747, 170, 186, 937, 230, 248, 191, 161, 172, 8730, 402, 8776, 8710,
+    171, 187, 8230, 160, 192, 195, 213, 338, 339, 8211, 8212, 8220, 8221, 8216, 8217, 247, 9674,
+    255, 376, 8260, 8364, 8249, 8250, 64_257, 64_258, 8225, 183, 8218, 8222, 8240, 194, 202, 193,
+    203, 200, 205, 206, 207, 204, 211, 212, 63_743, 210, 218, 219, 217, 305, 710, 732, 175, 728,
+    729, 730, 184, 733, 731, 711,
+];
+
+fn family_rank(platform: u16, encoding: u16) -> u8
+    ensures { result ≡ family_rank platform encoding }
+{
+    match platform {
+        3 => WINDOWS,
+        0 => OTHER,
+        1 if encoding == 0 => OTHER,
+        _ => UNREAD,
+    }
+}
+
+/// Where the text of a record begins.
+fn text_place(bytes: &[u8], names: Table, at: usize) -> usize
+    requires names { IsTableIn bytes.now names }
+    requires short { length bytes.now ≤ max_file_bytes }
+    requires at { at < 2 ^ 32 }
+    ensures value { result ≡ text_place bytes.now names at }
+    ensures place { result < 2 ^ 32 }
+{
+    let texts = usize::from(u16_at(bytes, names.place + 4));
+    names.place + texts + usize::from(u16_at(bytes, at + 10))
+}
+
+/// Whether a record and its text lie in the table.
+fn is_whole_name(bytes: &[u8], names: Table, at: usize) -> bool
+    requires names { IsTableIn bytes.now names }
+    requires short { length bytes.now ≤ max_file_bytes }
+    requires at { at < 2 ^ 32 }
+    ensures { result ≡ is_whole_name bytes.now names at }
+{
+    let size = usize::from(u16_at(bytes, at + 8));
+    at + 12 <= names.end() && text_place(bytes, names, at) + size <= names.end()
+}
+
+/// Whether a record is the name of a family, of this rank.
+fn is_family(bytes: &[u8], names: Table, rank: u8, at: usize) -> bool
+    requires names { IsTableIn bytes.now names }
+    requires short { length bytes.now ≤ max_file_bytes }
+    requires at { at < 2 ^ 32 }
+    ensures { result ≡ is_family bytes.now names rank at }
+{
+    u16_at(bytes, at + 6) == 1
+        && family_rank(u16_at(bytes, at), u16_at(bytes, at + 2)) == rank
+        && is_whole_name(bytes, names, at)
+}
+
+/// The first record that is the name of a family, of this rank.
+fn ranked_family(bytes: &[u8], names: Table, rank: u8) -> Option<usize>
+    requires names { IsTableIn bytes.now names }
+    requires short { length bytes.now ≤ max_file_bytes }
+    ensures value { result ≡ ranked_family bytes.now names rank }
+    ensures place { IfSome result (λ at. at < 2 ^ 32) }
+{
+    for k in 0..u16_at(bytes, names.place + 2) {
+        let at = names.place + 6 + 12 * usize::from(k);
+        if is_family(bytes, names, rank, at) {
+            return Some(at);
+        }
+    }
+    None
+}
+
+/// The record that names the font: the first of Windows, or else the first of the others.
+fn family_record(bytes: &[u8], names: Table) -> Option<usize>
+    requires names { IsTableIn bytes.now names }
+    requires short { length bytes.now ≤ max_file_bytes }
+    ensures value { result ≡ family_record bytes.now names }
+    ensures place { IfSome result (λ at. at < 2 ^ 32) }
+{
+    match ranked_family(bytes, names, WINDOWS) {
+        Some(at) => Some(at),
+        None => ranked_family(bytes, names, OTHER),
+    }
+}
+
+fn mac_character(byte: u8) -> u16
+    ensures { result ≡ mac_character byte }
+{
+    if byte < 128 {
+        return u16::from(byte);
+    }
+    MAC_ROMAN[usize::from(byte - 128)]
+}
+
+/// The units of a text of n bytes in Mac Roman.
+fn narrow_units(alloc: Global, bytes: &[u8], at: usize, n: u16) -> Mem<Items<u16>>
+    requires { at < 2 ^ 32 }
+    ensures { IfOk result (λ units. units ≡ narrow_units bytes.now at n) }
+{
+    let mut units = Items::with_capacity(alloc, usize::from(n))?;
+    for k in 0..n {
+        units.push(mac_character(u8_at(bytes, at + usize::from(k))))?;
+    }
+    Ok(units)
+}
+
+/// The units of a text of n units in UTF-16.
+fn wide_units(alloc: Global, bytes: &[u8], at: usize, n: u16) -> Mem<Items<u16>>
+    requires { at < 2 ^ 32 }
+    ensures { IfOk result (λ units. units ≡ wide_units bytes.now at n) }
+{
+    let mut units = Items::with_capacity(alloc, usize::from(n))?;
+    for k in 0..n {
+        units.push(u16_at(bytes, at + 2 * usize::from(k)))?;
+    }
+    Ok(units)
+}
+
+/// The units of a record's text; an odd last byte isn't one.
+fn name_units(alloc: Global, bytes: &[u8], names: Table, at: usize) -> Mem<Items<u16>>
+    requires names { IsTableIn bytes.now names }
+    requires short { length bytes.now ≤ max_file_bytes }
+    requires at { at < 2 ^ 32 }
+    ensures { IfOk result (λ units. units ≡ name_units bytes.now names at) }
+{
+    let size = u16_at(bytes, at + 8);
+    let place = text_place(bytes, names, at);
+    if u16_at(bytes, at) == 1 {
+        return narrow_units(alloc, bytes, place, size);
+    }
+    wide_units(alloc, bytes, place, size / 2)
+}
+
+/// What units spell, in UTF-8; half a pair is U+FFFD.
+fn spelled(alloc: Global, units: &[u16]) -> Mem<Items<u8>>
+    ensures { IfOk result (λ text. text ≡ spelled units.now) }
+{
+    let text = String::from_utf16_lossy(alloc, units)?;
+    Ok(Items::from_vec(text.into_bytes()))
+}
+
+fn record_name(
+    alloc: Global,
+    bytes: &[u8],
+    names: Table,
+    record_place: Option<usize>,
+) -> Mem<Items<u8>>
+    requires names { IsTableIn bytes.now names }
+    requires short { length bytes.now ≤ max_file_bytes }
+    requires place { IfSome record_place (λ at. at < 2 ^ 32) }
+    ensures { IfOk result (λ name. name ≡ record_name bytes.now names record_place) }
+{
+    match record_place {
+        Some(at) => {
+            let units = name_units(alloc, bytes, names, at)?;
+            spelled(alloc, units.as_slice())
+        }
+        None => Ok(Items::new(alloc)),
+    }
+}
+
+/// The name of the font whose directory this is; empty where it has none that is read.
+pub fn font_name(alloc: Global, bytes: &[u8], directory: Directory) -> Mem<Items<u8>>
+    requires directory { IsDirectory directory }
+    requires short { length bytes.now ≤ max_file_bytes }
+    ensures { IfOk result (λ name. name ≡ font_name bytes.now directory) }
+{
+    match long_table(bytes, directory, NAMES, 6) {
+        Some(names) => record_name(alloc, bytes, names, family_record(bytes, names)),
+        None => Ok(Items::new(alloc)),
+    }
+}
