@@ -43,7 +43,7 @@ same_box : {script : ScriptValue} {fonts : List FontValue} {size : Size} {events
     → (p q : Event → Option (Stand × ℤ))
     → ((f : Event) (s : Stand) (z : ℤ) → IsRival events e f → p f ≡ Some (s, z) → IsStandOf script fonts size f s)
     → ((f : Event) (s : Stand) (z : ℤ) → IsRival events e f → q f ≡ Some (s, z) → IsStandOf script fonts size f s)
-    → ((f : Event) → IsRival events e f → q f ≡ None → HasPoint script f)
+    → ((f : Event) → IsRival events e f → q f ≡ None → HasPoint f)
     → ((f : Event) (s r : Stand) (y z : ℤ) → IsRival events e f → p f ≡ Some (s, y) → q f ≡ Some (r, z) → y ≡ z)
     → IsRivalBox events p e box → IsRivalBox events q e box
 same_box one p q stood stood' points same h =

@@ -35,6 +35,7 @@ use Rattle.tag_state.specs.Setters.{Effect, past}
 use Rattle.tag_state.specs.States.{IsStateAt}
 use Rattle.tag_state.specs.Views.{AreSeen, HasState, IsViewBy, IsViewOf, elapsed_at}
 use Rattle.tag_state.proofs.RangeLemmas.{IsHeldEffect, past_held, wrap_held}
+use Rattle.tag_state.proofs.TextLemmas.{point_shown}
 use Rattle.text_layout.specs.Anchors.{edge_across, margins_of, wrapping_width}
 use Rattle.text_layout.specs.Extents.{extent_of, item_extents, kind_extent}
 use Rattle.text_layout.specs.Fonts.{font_numbers}
@@ -286,12 +287,8 @@ module _ (script : ScriptValue) (fonts : List FontValue) (size : Size) (sound : 
       ∙ (ap (λ (z : Laid). stand_of script e v z size) same
       ∙ (same_stand script e v w k.laid size align (h.pointless ∙ sym k.pointless) ∙ sym k.value))
 
-  pointless : (e : Event) (a : Stand) → IsStandOf script fonts size e a → HasPoint script e → ⊥
-  pointless e a h k =
-      let items : h.shows.items ≡ k.shows.items = one_items h.shows.reading k.shows.items k.shows.reading in
-      let other : IsViewBy script e (elapsed_at e e.start) h.shows.items k.view = subst (λ (z : List Item). IsViewBy script e (elapsed_at e e.start) z k.view) (sym items) k.shows.shown in
-      let place : k.view.pos ≡ None = other.position ∙ (sym h.shows.shown.position ∙ h.pointless) in
-      false≢true (sym (ap is_some place) ∙ k.point)
+  pointless : (e : Event) (a : Stand) → IsStandOf script fonts size e a → HasPoint e → ⊥
+  pointless e a h k = false≢true (sym (ap is_some h.pointless) ∙ (sym (point_shown k.items k.reading h.shows) ∙ k.point))
 
   pub one_stand : HaveOneStand script fonts size
   one_stand = record { one = one; pointless = pointless }

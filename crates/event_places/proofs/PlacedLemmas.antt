@@ -1,6 +1,6 @@
 -- The events gone through are those that matter, each moved clear of its rivals.
-use Rattle.std.proofs.Common.{◌≡◌, ◌≢◌, ℤ, pos, List, [], ◌∷◌, ◌++◌, map, get_or, refl, sym, ap, subst, ◌∙◌, arith, ⊎_elim, inl, inr, Some}
-use Rattle.std.specs.Prelude.{slice_get, neg_ℤ, cond}
+use Rattle.std.proofs.Common.{◌≡◌, ◌≢◌, ℤ, pos, List, [], ◌∷◌, ◌++◌, map, get_or, refl, sym, ap, subst, ◌∙◌, arith, ⊎_elim, inl, inr, Option, Some, None}
+use Rattle.std.specs.Prelude.{IfSome, slice_get, neg_ℤ, cond}
 use Rattle.std.specs.List.{All, Contains}
 use Rattle.std.proofs.lemmas.Bool.{cases_Bool}
 use Rattle.std.proofs.lemmas.Int.{ints}
@@ -14,6 +14,8 @@ use Rattle.ass_script.specs.Scripts.{ScriptValue}
 use Rattle.bdf_font.specs.Fonts.{FontValue}
 use Rattle.event_places.specs.declared.stands.Stand.{Stand}
 use Rattle.event_places.specs.Limits.{max_shift}
+use Rattle.override_tags.specs.declared.item.Item.{Item}
+use Rattle.tag_state.specs.Views.{AreReadItems}
 use Rattle.event_places.specs.PlacedEvents.{ArePlacedEvents, IsPlacedEvent, placed_places}
 use Rattle.event_places.specs.Shifts.{HasShift, IsMovedBy, Shifted as moved_by_shift, Pointed as moved_by_point, Alone as moved_alone}
 use Rattle.near_events.specs.Spans.{AreNearSpans, IsSpanOf, StandsBefore, event_span}
@@ -29,8 +31,9 @@ use Rattle.event_places.proofs.StepLemmas.{AreDone, AreCleared, DifferCleared, I
 
 module _ (script : ScriptValue) (fonts : List FontValue) (size : Size) (events : List Event) (t : ℤ) (near : List EventSpan) (orders : HaveOwnOrders events) (are : AreNearSpans events t near) where
   -- an event that isn't moved
-  still : (s : EventSpan) (e : Event) → slice_get events s.place ≡ Some e → IsMovedBy script fonts size events e (pos 0) → IsPlacedEvent script fonts size events (unmoved s.place)
-  still s e at moved = record { event = e; stands = at; moved = moved; near = (omega (arith, ints), omega (arith, ints)); own = tt }
+  still : (s : EventSpan) (e : Event) (read : Option (List Item)) → IfSome read (AreReadItems e.text) → slice_get events s.place ≡ Some e → IsMovedBy script fonts size events e (pos 0)
+      → IsPlacedEvent script fonts size events (unmoved s.place read)
+  still s e read are_read at moved = record { event = e; stands = at; moved = moved; near = (omega (arith, ints), omega (arith, ints)); own = tt; read = are_read }
 
   places_more : (spans : List EventSpan) (placed : List PlacedEvent) (s : EventSpan) (one : PlacedEvent) → one.place ≡ s.place → placed_places placed ≡ map (λ (s : EventSpan). s.place) spans
       → placed_places (placed ++ one ∷ []) ≡ map (λ (s : EventSpan). s.place) (spans ++ s ∷ [])
@@ -38,12 +41,12 @@ module _ (script : ScriptValue) (fonts : List FontValue) (size : Size) (events :
       map_push (λ (p : PlacedEvent). p.place) placed one ∙ (ap (λ z. z ++ one.place ∷ []) h ∙ (ap (λ z. map (λ (s : EventSpan). s.place) spans ++ z ∷ []) same ∙ sym (map_push (λ (s : EventSpan). s.place) spans s)))
 
   -- where nothing was cleared
-  cleared_same : (spans : List EventSpan) (s : EventSpan) (cleared : List ClearedEvent) → AreCleared script fonts size events near spans cleared → IsDone script events near cleared s
+  cleared_same : (spans : List EventSpan) (s : EventSpan) (cleared : List ClearedEvent) → AreCleared script fonts size events near spans cleared → IsDone events near cleared s
       → AreCleared script fonts size events near (spans ++ s ∷ []) cleared
   cleared_same spans s cleared so d = record {
     spanned = λ x c. Contains-append_left spans (s ∷ []) x.span (so.spanned x c);
     shifted = so.shifted;
-    done = λ r c. ⊎_elim (λ old. so.done r old) (λ is. subst (IsDone script events near cleared) is d) (Contains-push_cases spans s r c);
+    done = λ r c. ⊎_elim (λ old. so.done r old) (λ is. subst (IsDone events near cleared) is d) (Contains-push_cases spans s r c);
     differ = so.differ;
   }
 
@@ -63,7 +66,7 @@ module _ (script : ScriptValue) (fonts : List FontValue) (size : Size) (events :
             subst (λ (y : ClearedEvent). HasShift script fonts size events f y.stand y.shift) is (subst (λ (g : Event). HasShift script fonts size events g stand shift) same has))
             (Contains-push_cases cleared new x c);
         done = λ r c.
-            ⊎_elim (λ old. done_more script events near cleared new r (so.done r old))
+            ⊎_elim (λ old. done_more events near cleared new r (so.done r old))
             (λ is. inr (inr (new, Contains-push cleared new, is))) (Contains-push_cases spans s r c);
         differ = Pairwise-push DifferCleared cleared new so.differ
             (λ k d lt. new_differs events t near orders are spans s rest split script fonts size cleared kept so keep e at (get_or cleared k d) (Contains-get_or cleared k d lt));
@@ -79,23 +82,23 @@ module _ (script : ScriptValue) (fonts : List FontValue) (size : Size) (events :
   step_done : (spans : List EventSpan) (s : EventSpan) (rest : List EventSpan) (placed : List PlacedEvent) (kept : List PlacedBox) (e : Event) (one : PlacedEvent) (new : List PlacedBox)
       → near ≡ spans ++ s ∷ rest → slice_get events s.place ≡ Some e → AreDone script fonts size events near spans (s ∷ rest) placed kept → IsPlacing script fonts size e s kept one new
       → AreDone script fonts size events near (spans ++ s ∷ []) rest (placed ++ one ∷ []) new
-  step_done spans s rest placed kept e _ _ split at d (Pointed point) = record {
+  step_done spans s rest placed kept e _ _ split at d (Pointed read are_read point) = record {
     cleared = d.cleared;
     clearing = cleared_same spans s d.cleared d.clearing
-        (inr (inl (λ f there. subst (HasPoint script) (same_some e f (sym at ∙ there)) point)));
+        (inr (inl (λ f there. subst HasPoint (same_some e f (sym at ∙ there)) point)));
     is_kept = still_kept events t near orders are spans s rest split script fonts size d.cleared kept d.clearing d.is_kept;
-    each = All-push (IsPlacedEvent script fonts size events) placed (unmoved s.place) d.each (still s e at (moved_by_point e point));
-    places = places_more spans placed s (unmoved s.place) refl d.places;
+    each = All-push (IsPlacedEvent script fonts size events) placed (unmoved s.place (Some read)) d.each (still s e (Some read) are_read at (moved_by_point e point));
+    places = places_more spans placed s (unmoved s.place (Some read)) refl d.places;
   }
-  step_done spans s rest placed kept e _ _ split at d (Shifted stand shift own new stands laid clearing) =
+  step_done spans s rest placed kept e _ _ split at d (Shifted stand shift own new read are_read stands laid clearing) =
       let has = has_shift events t near orders are spans s rest split script fonts size d.cleared kept d.clearing d.is_kept e at stand shift stands clearing.least in
       record {
         cleared = d.cleared ++ record { span = s; stand = stand; shift = shift } ∷ [];
         clearing = cleared_more spans s rest d.cleared kept e stand shift split d.clearing d.is_kept at has;
         is_kept = kept_more events t near orders are spans s rest split script fonts size d.cleared kept d.clearing d.is_kept stand shift new clearing.members;
-        each = All-push (IsPlacedEvent script fonts size events) placed (placed_by s.place stand shift own) d.each
-            record { event = e; stands = at; moved = moved_by_shift e stand shift has; near = down_within stand shift clearing.within; own = laid };
-        places = places_more spans placed s (placed_by s.place stand shift own) refl d.places;
+        each = All-push (IsPlacedEvent script fonts size events) placed (placed_by s.place stand shift own read) d.each
+            record { event = e; stands = at; moved = moved_by_shift e stand shift has; near = down_within stand shift clearing.within; own = laid; read = are_read };
+        places = places_more spans placed s (placed_by s.place stand shift own read) refl d.places;
       }
 
   step_more : (spans : List EventSpan) (s : EventSpan) (rest : List EventSpan) (placed : List PlacedEvent) (kept : List PlacedBox) (one : PlacedEvent) (new : List PlacedBox)
@@ -108,9 +111,9 @@ module _ (script : ScriptValue) (fonts : List FontValue) (size : Size) (events :
         cleared = d.cleared;
         clearing = cleared_same spans s d.cleared d.clearing (inl alone);
         is_kept = still_kept events t near orders are spans s rest split script fonts size d.cleared kept d.clearing d.is_kept;
-        each = All-push (IsPlacedEvent script fonts size events) placed (unmoved s.place) d.each
-            (still s own.event own.stands (moved_alone own.event (λ f rival. no_rival events t near orders are spans s rest split own.event f own.stands alone rival)));
-        places = places_more spans placed s (unmoved s.place) refl d.places;
+        each = All-push (IsPlacedEvent script fonts size events) placed (unmoved s.place None) d.each
+            (still s own.event None tt own.stands (moved_alone own.event (λ f rival. no_rival events t near orders are spans s rest split own.event f own.stands alone rival)));
+        places = places_more spans placed s (unmoved s.place None) refl d.places;
       }
   step_more spans s rest placed kept _ _ split d (Moved e one new at placing) = step_done spans s rest placed kept e one new split at d placing
 

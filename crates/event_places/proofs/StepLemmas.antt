@@ -99,14 +99,14 @@ place_of_cleared (y ∷ ys) x h c =
 
 -- ---- what holds behind some spans
 -- The span has its layer for itself, its event has a point, or it was cleared.
-abbrev pub IsDone : ScriptValue → List Event → List EventSpan → List ClearedEvent → EventSpan → Type 0
-IsDone script events near cleared s =
-    IsAlone near s ⊎ (((e : Event) → slice_get events s.place ≡ Some e → HasPoint script e) ⊎ ((x : ClearedEvent) × Contains cleared x × (x.span ≡ s)))
+abbrev pub IsDone : List Event → List EventSpan → List ClearedEvent → EventSpan → Type 0
+IsDone events near cleared s =
+    IsAlone near s ⊎ (((e : Event) → slice_get events s.place ≡ Some e → HasPoint e) ⊎ ((x : ClearedEvent) × Contains cleared x × (x.span ≡ s)))
 
 pub record AreCleared (script : ScriptValue) (fonts : List FontValue) (size : Size) (events : List Event) (near spans : List EventSpan) (cleared : List ClearedEvent) : Type 0 where
   pub spanned : (x : ClearedEvent) → Contains cleared x → Contains spans x.span
   pub shifted : (x : ClearedEvent) (e : Event) → Contains cleared x → slice_get events x.span.place ≡ Some e → HasShift script fonts size events e x.stand x.shift
-  pub done : (s : EventSpan) → Contains spans s → IsDone script events near cleared s
+  pub done : (s : EventSpan) → Contains spans s → IsDone events near cleared s
   pub differ : Pairwise DifferCleared cleared
 
 -- What is kept is left of cleared events, and of each one that is in the way of any span to come it is kept.
@@ -121,8 +121,8 @@ pub record AreDone (script : ScriptValue) (fonts : List FontValue) (size : Size)
   pub each : All (IsPlacedEvent script fonts size events) placed
   pub places : placed_places placed ≡ map (λ (s : EventSpan). s.place) spans
 
-pub done_more : (script : ScriptValue) (events : List Event) (near : List EventSpan) (cleared : List ClearedEvent) (x : ClearedEvent) (s : EventSpan) → IsDone script events near cleared s → IsDone script events near (cleared ++ x ∷ []) s
-done_more script events near cleared x s d =
+pub done_more : (events : List Event) (near : List EventSpan) (cleared : List ClearedEvent) (x : ClearedEvent) (s : EventSpan) → IsDone events near cleared s → IsDone events near (cleared ++ x ∷ []) s
+done_more events near cleared x s d =
     ⊎_elim (λ a. inl a) (λ b. ⊎_elim (λ p. inr (inl p)) (λ q. inr (inr (q.0, Contains-append_left cleared (x ∷ []) q.0 q.1, q.2))) b) d
 
 -- ---- what is in the way of a span
@@ -241,7 +241,7 @@ module _ (events : List Event) (t : ℤ) (near : List EventSpan) (orders : HaveO
           let place = get_from_there events f rival.listed in
           same_event events x.span.place place.0 (event_of x c).event f orders (event_of x c).stands place.1 (sym (order_of x c) ∙ same)
 
-      points : (f : Event) → IsRival events e f → place_in cleared f.order ≡ None → HasPoint script f
+      points : (f : Event) → IsRival events e f → place_in cleared f.order ≡ None → HasPoint f
       points f rival none =
           let r = rival_span s e f here at rival in
           let layer : (r.0).layer ≡ s.layer = ap (λ (z : EventSpan). z.layer) r.3 ∙ (rival.before.0 ∙ sym (ap (λ (z : EventSpan). z.layer) (span_is s e here at))) in
@@ -339,10 +339,10 @@ steps_more script fonts size events near k placed pushed boxes more one lt steps
     (subst (λ z. AreSteps script fonts size events near (take k near ++ s ∷ []) z more) (sym is) next)
 
 pub step_alone : (script : ScriptValue) (fonts : List FontValue) (size : Size) (events : List Event) (near : List EventSpan) (k : ℕ) (span : EventSpan) (boxes : List PlacedBox) (one : PlacedEvent)
-    → slice_get near k ≡ Some span → IsAlone near span → one ≡ unmoved (get_or near k no_span).place → IsPlacingStep script fonts size events near span boxes one boxes
+    → slice_get near k ≡ Some span → IsAlone near span → one ≡ unmoved (get_or near k no_span).place None → IsPlacingStep script fonts size events near span boxes one boxes
 step_alone script fonts size events near k span boxes one at alone is =
     let same : get_or near k no_span ≡ span = get_or_from_slice_get near k span no_span at in
-    subst (λ (p : PlacedEvent). IsPlacingStep script fonts size events near span boxes p boxes) (sym (is ∙ ap (λ (s : EventSpan). unmoved s.place) same)) (Alone alone)
+    subst (λ (p : PlacedEvent). IsPlacingStep script fonts size events near span boxes p boxes) (sym (is ∙ ap (λ (s : EventSpan). unmoved s.place None) same)) (Alone alone)
 
 pub step_moved : (script : ScriptValue) (fonts : List FontValue) (size : Size) (events : List Event) (near : List EventSpan) (k : ℕ) (span : EventSpan) (boxes : List PlacedBox) (one : PlacedEvent) (more : List PlacedBox) (e : Event)
     → k < length near → slice_get near k ≡ Some span → slice_get events (get_or near k no_span).place ≡ Some e → IsPlacing script fonts size e (get_or near k no_span) boxes one more

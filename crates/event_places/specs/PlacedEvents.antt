@@ -8,7 +8,8 @@ use Rattle.ass_events.specs.NearEvents.{IsNear, span_of}
 use Rattle.ass_events.specs.declared.event.Event.{Event}
 use Rattle.ass_script.specs.Scripts.{ScriptValue}
 use Rattle.bdf_font.specs.Fonts.{FontValue}
-use Rattle.tag_state.specs.Views.{IsViewOf}
+use Rattle.override_tags.specs.Views.{IsView}
+use Rattle.tag_state.specs.Views.{AreReadItems, IsViewOf}
 use Rattle.text_layout.specs.Layouts.{IsLaid, IsWithinBlock}
 use Rattle.event_places.specs.Limits.{max_shift}
 use Rattle.event_places.specs.Shifts.{IsMovedBy}
@@ -20,14 +21,17 @@ pub record IsOwnLayout (script : ScriptValue) (fonts : List FontValue) (size : S
   pub shows : IsViewOf script event event.start own.view
   pub laid_out : IsLaid script fonts event own.view size own.laid
   pub within : IsWithinBlock (length own.view.items) own.laid
+  pub range : IsView own.view
 
--- The event at its place among the events is moved so far among all of them, and its own layout is right where there is one.
+-- The event at its place among the events is moved so far among all of them; its own layout is right where there is one, and so is
+-- what was read of its text.
 pub record IsPlacedEvent (script : ScriptValue) (fonts : List FontValue) (size : Size) (events : List Event) (placed : PlacedEvent) : Type 0 where
   pub event : Event
   pub stands : slice_get events placed.place ≡ Some event
   pub moved : IsMovedBy script fonts size events event placed.down
   pub near : IsWithin max_shift placed.down
   pub own : IfSome placed.own (IsOwnLayout script fonts size event)
+  pub read : IfSome placed.read (AreReadItems event.text)
 
 -- The event at this place matters at t.
 pub record IsNearPlace (events : List Event) (t : ℤ) (place : ℕ) : Type 0 where

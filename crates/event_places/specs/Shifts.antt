@@ -31,7 +31,7 @@ pub record IsRivalBox (events : List Event) (place_of : Event → Option (Stand 
 pub data HasShift (script : ScriptValue) (fonts : List FontValue) (size : Size) (events : List Event) : Event → Stand → ℤ → Type 0 where
   Placed : (e : Event) (stand : Stand) (others : List Box2) (place_of : Event → Option (Stand × ℤ)) (shift : ℤ)
       → IsStandOf script fonts size e stand
-      → ((f : Event) → IsRival events e f → place_of f ≡ None → HasPoint script f)
+      → ((f : Event) → IsRival events e f → place_of f ≡ None → HasPoint f)
       → ((f : Event) (s : Stand) (z : ℤ) → IsRival events e f → place_of f ≡ Some (s, z) → HasShift script fonts size events f s z)
       → ((box : Box2) → Contains others box ↔ IsRivalBox events place_of e box)
       → IsLeastShift stand.place others stand.down shift
@@ -41,7 +41,7 @@ pub data HasShift (script : ScriptValue) (fonts : List FontValue) (size : Size) 
 pub data IsMovedBy (script : ScriptValue) (fonts : List FontValue) (size : Size) (events : List Event) : Event → ℤ → Type 0 where
   Shifted : (e : Event) (stand : Stand) (shift : ℤ) → HasShift script fonts size events e stand shift
       → IsMovedBy script fonts size events e (down_by stand shift)
-  Pointed : (e : Event) → HasPoint script e → IsMovedBy script fonts size events e (pos 0)
+  Pointed : (e : Event) → HasPoint e → IsMovedBy script fonts size events e (pos 0)
   Alone : (e : Event) → ((f : Event) → IsRival events e f → ⊥) → IsMovedBy script fonts size events e (pos 0)
 
 -- ---- laws
@@ -49,7 +49,7 @@ pub data IsMovedBy (script : ScriptValue) (fonts : List FontValue) (size : Size)
 -- An event has at most one stand, and none where it has a point of its own.
 pub record HaveOneStand (script : ScriptValue) (fonts : List FontValue) (size : Size) : Type 0 where
   pub one : (e : Event) (a b : Stand) → IsStandOf script fonts size e a → IsStandOf script fonts size e b → a ≡ b
-  pub pointless : (e : Event) (a : Stand) → IsStandOf script fonts size e a → HasPoint script e → ⊥
+  pub pointless : (e : Event) (a : Stand) → IsStandOf script fonts size e a → HasPoint e → ⊥
 
 -- So it has at most one shift.
 abbrev pub HaveOneShift : ScriptValue → List FontValue → Size → Type 0

@@ -1,16 +1,19 @@
 -- Public: where an event stands before it is moved clear of others: its block at its own start.
 -- (Advanced SubStation Alpha, "Layer", "Alignment".)
-use Rattle.std.specs.Prelude.{◌≡◌, ℕ, nat_le, List, None, IsSome, if◌then◌else◌, ℤ, pos, ◌+ℤ◌, neg_ℤ}
+use Rattle.std.specs.Prelude.{◌≡◌, ℕ, nat_le, List, None, IsTrue, if◌then◌else◌, ℤ, pos, ◌+ℤ◌, neg_ℤ}
 use Rattle.std.specs.Int.{int_min}
 use Rattle.ass_num.specs.declared.geometry.Point.{Point}
 use Rattle.ass_num.specs.declared.size.Size.{Size}
 use Rattle.ass_events.specs.declared.event.Event.{Event}
 use Rattle.ass_script.specs.Scripts.{ScriptValue}
 use Rattle.bdf_font.specs.Fonts.{FontValue}
+use Rattle.override_tags.specs.Readings.{IsTextReading}
+use Rattle.override_tags.specs.declared.item.Item.{Item}
 use Rattle.override_tags.specs.declared.view.EventView.{EventView}
 use Rattle.event_places.specs.Placement.{max_height}
 use Rattle.event_places.specs.declared.stands.Box2.{Box2}
 use Rattle.event_places.specs.declared.stands.Stand.{Stand}
+use Rattle.tag_state.specs.Choices.{has_point}
 use Rattle.tag_state.specs.Views.{IsViewOf}
 use Rattle.text_layout.specs.Anchors.{anchor, block_corner}
 use Rattle.text_layout.specs.Layouts.{IsLaid}
@@ -50,11 +53,11 @@ pub record IsStandOf (script : ScriptValue) (fonts : List FontValue) (size : Siz
   pub laid_out : IsLaid script fonts event view size laid
   pub value : stand ≡ stand_of script event view laid size
 
--- The event has a point of its own, by `\pos` or `\move`.
-pub record HasPoint (script : ScriptValue) (event : Event) : Type 0 where
-  pub view : EventView
-  pub shows : IsViewOf script event event.start view
-  pub point : IsSome view.pos
+-- The event has a point of its own, by a `\pos` or a `\move` of its text.
+pub record HasPoint (event : Event) : Type 0 where
+  pub items : List Item
+  pub reading : IsTextReading event.text items
+  pub point : IsTrue (has_point items)
 
 -- how far down a shift moves a stand
 abbrev pub down_by : Stand → ℤ → ℤ

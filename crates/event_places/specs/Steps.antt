@@ -1,5 +1,5 @@
 -- Inner: how events are moved one after the other, each clear of those that were moved before it.
-use Rattle.std.specs.Prelude.{◌≡◌, ℕ, Bool, ◌&&◌, ◌-◌, ◌+ℤ◌, int_lt, ◌≤ℤ◌, List, [], ◌∷◌, ◌++◌, Contains, All, Some, None, map, slice_get, ℤ, pos}
+use Rattle.std.specs.Prelude.{◌≡◌, ℕ, Bool, ◌&&◌, ◌-◌, ◌+ℤ◌, int_lt, ◌≤ℤ◌, List, [], ◌∷◌, ◌++◌, Contains, All, Option, Some, None, map, slice_get, ℤ, pos}
 use Rattle.std.specs.List.{AllPairs, filter}
 use Rattle.std.specs.List.Sorted.{IsPermutation}
 use Rattle.std.specs.Ordering.{int_eq}
@@ -12,6 +12,8 @@ use Rattle.bdf_font.specs.Fonts.{FontValue}
 use Rattle.event_places.specs.Placement.{IsBoxWithin, IsClear, IsLeastShift, IsPlaceableStand, IsShift, max_height, moved_box}
 use Rattle.event_places.specs.declared.stands.Box2.{Box2}
 use Rattle.event_places.specs.declared.stands.Stand.{Stand}
+use Rattle.override_tags.specs.declared.item.Item.{Item}
+use Rattle.tag_state.specs.Views.{AreReadItems}
 use Rattle.event_places.specs.Limits.{max_shift, reach}
 use Rattle.event_places.specs.PlacedEvents.{IsOwnLayout}
 use Rattle.event_places.specs.Stands.{HasPoint, IsStandOf, down_by}
@@ -93,24 +95,25 @@ abbrev pub IsAlone : List EventSpan → EventSpan → Type 0
 IsAlone near span = (other : EventSpan) → Contains near other → other.layer ≡ span.layer → other ≡ span
 
 -- an event that isn't moved
-abbrev pub unmoved : ℕ → PlacedEvent
-unmoved place = record { place = place; down = pos 0; own = None }
+abbrev pub unmoved : ℕ → Option (List Item) → PlacedEvent
+unmoved place read = record { place = place; down = pos 0; own = None; read = read }
 
-abbrev pub placed_by : ℕ → Stand → ℤ → OwnLayout → PlacedEvent
-placed_by place stand shift own = record { place = place; down = down_by stand shift; own = Some own }
+abbrev pub placed_by : ℕ → Stand → ℤ → OwnLayout → List Item → PlacedEvent
+placed_by place stand shift own read = record { place = place; down = down_by stand shift; own = Some own; read = Some read }
 
 -- How an event is moved, behind some that were moved.
 pub data IsPlacing (script : ScriptValue) (fonts : List FontValue) (size : Size) (event : Event) (span : EventSpan) (old : List PlacedBox) : PlacedEvent → List PlacedBox → Type 0 where
-  Pointed : HasPoint script event → IsPlacing script fonts size event span old (unmoved span.place) old
-  Shifted : (stand : Stand) (shift : ℤ) (own : OwnLayout) (new : List PlacedBox)
+  Pointed : (read : List Item) → AreReadItems event.text read → HasPoint event → IsPlacing script fonts size event span old (unmoved span.place (Some read)) old
+  Shifted : (stand : Stand) (shift : ℤ) (own : OwnLayout) (new : List PlacedBox) (read : List Item)
+      → AreReadItems event.text read
       → IsStandOf script fonts size event stand
       → IsOwnLayout script fonts size event own
       → IsClearing span stand old shift new
-      → IsPlacing script fonts size event span old (placed_by span.place stand shift own) new
+      → IsPlacing script fonts size event span old (placed_by span.place stand shift own read) new
 
 -- The event of a span is moved, unless it has its layer for itself.
 pub data IsPlacingStep (script : ScriptValue) (fonts : List FontValue) (size : Size) (events : List Event) (near : List EventSpan) (span : EventSpan) (old : List PlacedBox) : PlacedEvent → List PlacedBox → Type 0 where
-  Alone : IsAlone near span → IsPlacingStep script fonts size events near span old (unmoved span.place) old
+  Alone : IsAlone near span → IsPlacingStep script fonts size events near span old (unmoved span.place None) old
   Moved : (event : Event) (one : PlacedEvent) (new : List PlacedBox) → slice_get events span.place ≡ Some event → IsPlacing script fonts size event span old one new
       → IsPlacingStep script fonts size events near span old one new
 

@@ -17,30 +17,32 @@ use crate::kept::MovedBoxes;
 use crate::own::{OwnLayout, own_layout, stand_of};
 use crate::steps::place_clear;
 use ass_events::Event;
-use ass_num::{Fix, Mem};
+use ass_num::{Fix, Items, Mem};
 use near_events::EventSpan;
 use std::alloc::Global;
 use std::sync::Arc;
-use tag_state::states_at;
+use tag_state::{Item, has_point, items_of, view_of};
 use text_layout::Setting;
 
-/// An event that matters at an instant: its place in the list of events, how far down it is moved, in 1/64 pixel, and its own layout
-/// where one was made.
+/// An event that matters at an instant: its place in the list of events, how far down it is moved, in 1/64 pixel, its own layout where
+/// one was made, and the items of its text where it was read.
 #[derive(Debug, Drop)]
 pub struct PlacedEvent {
     pub place: usize,
     pub down: Fix,
     pub own: Option<OwnLayout>,
+    pub read: Option<Items<Item>>,
 }
 
 /// An event that isn't moved.
-fn unmoved(place: usize) -> PlacedEvent
-    ensures { result ≡ unmoved place }
+fn unmoved(place: usize, read: Option<Items<Item>>) -> PlacedEvent
+    ensures { result ≡ unmoved place read }
 {
     PlacedEvent {
         place,
         down: 0,
         own: None,
+        read,
     }
 }
 
@@ -94,10 +96,11 @@ fn place_event(
     ensures within { IfOk result (λ one. (count : ℕ) → AreBoxesWithin count kept.old.boxes.items → AreBoxesWithin (count + 1) kept.new.boxes.items) }
     ensures kept { IfOk result (λ one. AreKeptBoxes kept.new) }
 {
-    let view = states_at(alloc, setting.script, event, event.start)?;
-    if view.pos.is_some() {
-        return Ok(unmoved(span.place));
+    let items = items_of(alloc, event)?;
+    if has_point(items.as_slice()) {
+        return Ok(unmoved(span.place, Some(items)));
     }
+    let view = view_of(alloc, setting.script, event, items.as_slice(), event.start)?;
     let own = own_layout(alloc, setting, event, view)?;
     let stand = stand_of(setting, event, &own);
     let shift = place_clear(span, &stand, kept)?;
@@ -105,6 +108,7 @@ fn place_event(
         place: span.place,
         down: down_by(&stand, shift),
         own: Some(own),
+        read: Some(items),
     })
 }
 
@@ -134,7 +138,7 @@ fn place_next(
 {
     let span = near[index];
     if is_alone(near, index) {
-        return Ok(unmoved(span.place));
+        return Ok(unmoved(span.place, None));
     }
     let one = place_event(alloc, setting, &events[span.place], &span, kept)?;
     Ok(one)

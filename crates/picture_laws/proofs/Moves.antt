@@ -154,9 +154,8 @@ module _ (by : ℤ) (a b : List Event) (from : Event → Event) (h : Corresponds
         subst (λ z. IsStandOf (with_lines script format lines) fonts size z (later_stand by stand)) (sym (h.alike g c))
         (stand_later script format lines by g.order (from g) fonts size stand (subst (λ z. IsStandOf script fonts size z stand) (sym same) is))
 
-    point_forth : (e g : Event) → Contains b g → from g ≡ e → HasPoint script e → HasPoint (with_lines script format lines) g
-    point_forth e g c same has =
-        subst (HasPoint (with_lines script format lines)) (sym (h.alike g c)) (point_later script format lines by g.order (from g) (subst (HasPoint script) (sym same) has))
+    point_forth : (e g : Event) → Contains b g → from g ≡ e → HasPoint e → HasPoint g
+    point_forth e g c same has = subst HasPoint (sym (h.alike g c)) (point_later by g.order (from g) (subst HasPoint (sym same) has))
 
     shift_forth : (e : Event) (stand : Stand) (shift : ℤ) → HasShift script fonts size a e stand shift → (g : Event) → Contains b g → from g ≡ e →
         HasShift (with_lines script format lines) fonts size b g (later_stand by stand) shift

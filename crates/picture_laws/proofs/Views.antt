@@ -137,5 +137,5 @@ module _ (script : ScriptValue) (format : List EventField) (lines : List (List �
               ∙ ap (λ (end : ℤ). record { start = event.start +ℤ by; end = end; place = place; down = nat_le least_top_align is.view.align }) ends;
         }
 
-    pub point_later : HasPoint script event → HasPoint (with_lines script format lines) (renumbered by order event)
-    point_later has = record { view = has.view; shows = view_of event.start has.view has.shows; point = has.point }
+pub point_later : (by : ℤ) (order : ℕ) (event : Event) → HasPoint event → HasPoint (renumbered by order event)
+point_later by order event has = record { items = has.items; reading = has.reading; point = has.point }

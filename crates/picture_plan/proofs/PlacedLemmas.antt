@@ -9,6 +9,7 @@ use Rattle.ass_events.specs.NearEvents.{IsNear, span_of}
 use Rattle.ass_events.specs.declared.event.Event.{Event}
 use Rattle.ass_script.specs.Scripts.{ScriptValue}
 use Rattle.bdf_font.specs.Fonts.{FontValue}
+use Rattle.tag_state.specs.Views.{AreReadItems}
 use Rattle.event_places.specs.PlacedEvents.{ArePlacedEvents, IsOwnLayout, placed_places}
 use Rattle.event_places.specs.Shifts.{IsMovedBy}
 use Rattle.event_places.specs.declared.placed.PlacedEvent.{PlacedEvent}
@@ -53,3 +54,10 @@ placed_own {script} {fonts} {size} events placed h = λ k d within.
     let p = h.each k d within in
     subst (λ (e : Event). IfSome (get_or placed k d).own (IsOwnLayout script fonts size e)) (sym (get_or_from_slice_get events (get_or placed k d).place p.event no_event p.stands))
     p.own
+
+-- what was read of the text of a placed event is right for the event of its place
+pub placed_read : {script : ScriptValue} {fonts : List FontValue} {size : Size} {t : ℤ} (events : List Event) (placed : List PlacedEvent)
+    → ArePlacedEvents script fonts size events t placed → All (λ (p : PlacedEvent). IfSome p.read (AreReadItems (placed_event events p).text)) placed
+placed_read events placed h = λ k d within.
+    let p = h.each k d within in
+    subst (λ (e : Event). IfSome (get_or placed k d).read (AreReadItems e.text)) (sym (get_or_from_slice_get events (get_or placed k d).place p.event no_event p.stands)) p.read

@@ -23,7 +23,7 @@ no_event = record {
 
 -- what stands for a place that isn't there
 abbrev pub no_placed : PlacedEvent
-no_placed = record { place = 0; down = pos 0; own = None }
+no_placed = record { place = 0; down = pos 0; own = None; read = None }
 
 -- the event of a place
 abbrev pub placed_event : List Event → PlacedEvent → Event

@@ -11,6 +11,7 @@ ghost use Rattle.event_places.specs.PlacedEvents.{ArePlacedEvents, IsOwnLayout};
 ghost use Rattle.mask_keys.specs.Keys.{IsValidPlan};
 ghost use Rattle.mask_keys.specs.Outlines.{glyph_counts};
 ghost use Rattle.text_layout.specs.Settings.{IsSetting};
+ghost use Rattle.tag_state.specs.Views.{AreReadItems};
 ghost use Rattle.event_draws.specs.MovedDraws.{AddsMovedDraws};
 ghost use Rattle.near_events.specs.Spans.{AreNearSpans};
 ghost use Rattle.picture_plan.specs.Pictures.{AreDraws};
@@ -45,6 +46,7 @@ fn add_shown_event(
     requires shifts { All (λ (p : PlacedEvent). IsWithin max_shift p.down) placed.now }
     requires own { All (λ (p : PlacedEvent). IfSome p.own
         (IsOwnLayout setting.now.script setting.now.fonts setting.now.size (placed_event (map arc_value events.now) p))) placed.now }
+    requires read { All (λ (p : PlacedEvent). IfSome p.read (AreReadItems (placed_event (map arc_value events.now) p).text)) placed.now }
     requires place { shown.now.place < length placed.now }
     requires instant { IsWithin max_instant t }
     ensures draws { OnOk result (AddsMovedDraws setting.now.script setting.now.fonts (event_shown (map arc_value events.now) placed.now shown.now) t

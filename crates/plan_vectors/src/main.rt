@@ -1,15 +1,19 @@
 //! Prints the layouts of events and the plans of scripts that it reads, of which `stdout` has what the rules give.
 #![tactic(auto)]
 
+mod breaks;
 mod draws;
 mod inputs;
 mod layouts;
 mod plans;
+mod shifts;
 mod telling;
 
+use breaks::show_breaks;
 use inputs::fonts_of;
 use layouts::show_layouts;
 use plans::show_plans;
+use shifts::show_shifts;
 use std::io;
 
 /// What can't be read, isn't known, or is too much.
@@ -42,11 +46,31 @@ fn plan_out(rt: &HostRuntime, text: &str) -> io::Result<()> {
     show_plans(rt, &fonts, head, rows)
 }
 
-/// Prints the layouts, and the plans behind a line of four bars.
+/// Prints a row: what it asks for, and the breaks of a paragraph or the shifts of stands.
+fn show_row(rt: &HostRuntime, row: &str) -> io::Result<()> {
+    let (kind, question) = row.split_once(' ').ok_or(unreadable())?;
+    match kind {
+        "breaks" => show_breaks(rt, question),
+        "shifts" => show_shifts(rt, question),
+        _ => Err(unreadable()),
+    }
+}
+
+/// Prints rows of items without texts.
+fn show_rows(rt: &HostRuntime, rows: &str) -> io::Result<()> {
+    for row in rows.lines() {
+        show_row(rt, row)?;
+    }
+    Ok(())
+}
+
+/// Prints the layouts, behind a line of four bars the plans, and behind another one the rows of items without texts.
 fn show_all(rt: &HostRuntime, text: &str) -> io::Result<()> {
-    let (layouts, plans) = text.split_once("====\n").ok_or(unreadable())?;
+    let (layouts, rest) = text.split_once("====\n").ok_or(unreadable())?;
+    let (plans, rows) = rest.split_once("====\n").ok_or(unreadable())?;
     lay_out(rt, layouts)?;
-    plan_out(rt, plans)
+    plan_out(rt, plans)?;
+    show_rows(rt, rows)
 }
 
 fn main(rt: HostRuntime) -> io::Result<()> {

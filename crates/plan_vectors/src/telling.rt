@@ -13,6 +13,15 @@ pub fn numbers_text(alloc: Global, head: &str, numbers: &[i64]) -> io::Result<St
     Ok(text)
 }
 
+/// The numbers between blanks; 0 for what is none.
+pub fn numbers_of(alloc: Global, text: &str) -> io::Result<Vec<i64>> {
+    let mut numbers = Vec::new(alloc);
+    for word in text.split_whitespace() {
+        numbers.push(word.parse::<i64>().unwrap_or(0))?;
+    }
+    Ok(numbers)
+}
+
 /// Prints a head and numbers.
 pub fn show_numbers(rt: &HostRuntime, head: &str, numbers: &[i64]) -> io::Result<()> {
     let text = numbers_text(rt.alloc(), head, numbers)?;

@@ -1,3 +1,4 @@
+pub mod Copies
 pub mod SetterLemmas
 pub mod StepLemmas
 pub mod StateLemmas
@@ -9,3 +10,4 @@ pub mod WeightLemmas
 pub mod RangeLemmas
 pub mod WalkLemmas
 pub mod ViewLemmas
+pub mod TextLemmas

@@ -1,5 +1,5 @@
 -- States are equal by `==` only where they are one.
-use Rattle.std.proofs.Common.{arith, ◌≡◌, ℕ, ◌-◌, ◌<◌, refl, sym, ap, ◌∙◌, subst, All, true, Bool, List, [], ◌∷◌, ◌++◌, length, get_or, ◌&&◌, Option, Some, None, nat_eq, length-append}
+use Rattle.std.proofs.Common.{arith, ◌≡◌, ℕ, ◌-◌, ◌<◌, refl, sym, ap, ◌∙◌, subst, All, true, List, [], ◌∷◌, ◌++◌, length, get_or, Option, Some, None, nat_eq, length-append}
 use Rattle.std.specs.Prelude.{slice_get}
 use Rattle.std.proofs.lemmas.List.Elements.{All-nil, All-cons, All-append}
 use Rattle.override_tags.specs.Views.{IsState}
@@ -20,9 +20,7 @@ use Rattle.override_tags.specs.contracts.view.StatePartialEq.TheImpl as state
 use Rattle.override_tags.specs.contracts.view.SyllablePartialEq.TheImpl as syllable
 use Rattle.tag_state.specs.Walks.{IsLast, IsStored}
 use Rattle.tag_state.proofs.FontLemmas.{get_end}
-
-both : (r s : Bool) → (r && s) ≡ true → (r ≡ true) × (s ≡ true)
-both r s e = grind arith
+use Rattle.std.proofs.lemmas.Bool.{and_parts}
 
 rgba_same : (a b : Rgba) → rgba.ghosts.eq a b ≡ true → a ≡ b
 rgba_same a b e = grind (arith, unsigned_Decides a.r b.r, unsigned_Decides a.g b.g, unsigned_Decides a.b b.b, unsigned_Decides a.a b.a)
@@ -32,7 +30,7 @@ colours_same [] [] e = refl
 colours_same [] (y ∷ ys) e = cc
 colours_same (x ∷ xs) [] e = cc
 colours_same (x ∷ xs) (y ∷ ys) e =
-    let parts = both (rgba.ghosts.eq x y) (pointwise rgba.ghosts.eq xs ys) e in
+    let parts = and_parts (rgba.ghosts.eq x y) (pointwise rgba.ghosts.eq xs ys) e in
     let head = rgba_same x y parts.0 in
     let tail = colours_same xs ys parts.1 in
     cc
@@ -45,9 +43,9 @@ kind_same a b e = cc
 
 syllable_same : (a b : Syllable) → syllable.ghosts.eq a b ≡ true → a ≡ b
 syllable_same a b e =
-    let first = both (kind.ghosts.eq a.kind b.kind) _ e in
-    let second = both (int_eq a.begin b.begin) _ first.1 in
-    let third = both (int_eq a.end b.end) _ second.1 in
+    let first = and_parts (kind.ghosts.eq a.kind b.kind) _ e in
+    let second = and_parts (int_eq a.begin b.begin) _ first.1 in
+    let third = and_parts (int_eq a.end b.end) _ second.1 in
     grind (arith, kind_same a.kind b.kind first.0, (signed_Decides a.begin b.begin).0 second.0, (signed_Decides a.end b.end).0 third.0, (unsigned_Decides a.index b.index).0 third.1)
 
 sung_same : (a b : Option Syllable) → option_eq syllable.ghosts.eq a b ≡ true → a ≡ b
@@ -62,26 +60,26 @@ state_parts a b font_is size_is colours_is bold_is italic_is underline_is strike
 
 pub state_same : (a b : State) → state.ghosts.eq a b ≡ true → a ≡ b
 state_same a b e =
-    let p0 = both (nat_eq a.font b.font) _ e in
-    let p1 = both (int_eq a.size b.size) _ p0.1 in
-    let p2 = both (pointwise rgba.ghosts.eq a.colours b.colours) _ p1.1 in
-    let p3 = both (beq a.bold b.bold) _ p2.1 in
-    let p4 = both (beq a.italic b.italic) _ p3.1 in
-    let p5 = both (beq a.underline b.underline) _ p4.1 in
-    let p6 = both (beq a.strikeout b.strikeout) _ p5.1 in
-    let p7 = both (int_eq a.scale_x b.scale_x) _ p6.1 in
-    let p8 = both (int_eq a.scale_y b.scale_y) _ p7.1 in
-    let p9 = both (int_eq a.spacing b.spacing) _ p8.1 in
-    let p10 = both (int_eq a.angle b.angle) _ p9.1 in
-    let p11 = both (nat_eq a.border_style b.border_style) _ p10.1 in
-    let p12 = both (int_eq a.border_x b.border_x) _ p11.1 in
-    let p13 = both (int_eq a.border_y b.border_y) _ p12.1 in
-    let p14 = both (int_eq a.shadow_x b.shadow_x) _ p13.1 in
-    let p15 = both (int_eq a.shadow_y b.shadow_y) _ p14.1 in
-    let p16 = both (int_eq a.edges b.edges) _ p15.1 in
-    let p17 = both (int_eq a.blur b.blur) _ p16.1 in
-    let p18 = both (nat_eq a.draw b.draw) _ p17.1 in
-    let p19 = both (int_eq a.offset b.offset) _ p18.1 in
+    let p0 = and_parts (nat_eq a.font b.font) _ e in
+    let p1 = and_parts (int_eq a.size b.size) _ p0.1 in
+    let p2 = and_parts (pointwise rgba.ghosts.eq a.colours b.colours) _ p1.1 in
+    let p3 = and_parts (beq a.bold b.bold) _ p2.1 in
+    let p4 = and_parts (beq a.italic b.italic) _ p3.1 in
+    let p5 = and_parts (beq a.underline b.underline) _ p4.1 in
+    let p6 = and_parts (beq a.strikeout b.strikeout) _ p5.1 in
+    let p7 = and_parts (int_eq a.scale_x b.scale_x) _ p6.1 in
+    let p8 = and_parts (int_eq a.scale_y b.scale_y) _ p7.1 in
+    let p9 = and_parts (int_eq a.spacing b.spacing) _ p8.1 in
+    let p10 = and_parts (int_eq a.angle b.angle) _ p9.1 in
+    let p11 = and_parts (nat_eq a.border_style b.border_style) _ p10.1 in
+    let p12 = and_parts (int_eq a.border_x b.border_x) _ p11.1 in
+    let p13 = and_parts (int_eq a.border_y b.border_y) _ p12.1 in
+    let p14 = and_parts (int_eq a.shadow_x b.shadow_x) _ p13.1 in
+    let p15 = and_parts (int_eq a.shadow_y b.shadow_y) _ p14.1 in
+    let p16 = and_parts (int_eq a.edges b.edges) _ p15.1 in
+    let p17 = and_parts (int_eq a.blur b.blur) _ p16.1 in
+    let p18 = and_parts (nat_eq a.draw b.draw) _ p17.1 in
+    let p19 = and_parts (int_eq a.offset b.offset) _ p18.1 in
     state_parts a b ((unsigned_Decides a.font b.font).0 p0.0) ((signed_Decides a.size b.size).0 p1.0) (colours_same a.colours b.colours p2.0) ((booleans_Decides a.bold b.bold).0 p3.0) ((booleans_Decides a.italic b.italic).0 p4.0) ((booleans_Decides a.underline b.underline).0 p5.0) ((booleans_Decides a.strikeout b.strikeout).0 p6.0) ((signed_Decides a.scale_x b.scale_x).0 p7.0) ((signed_Decides a.scale_y b.scale_y).0 p8.0) ((signed_Decides a.spacing b.spacing).0 p9.0) ((signed_Decides a.angle b.angle).0 p10.0) ((unsigned_Decides a.border_style b.border_style).0 p11.0) ((signed_Decides a.border_x b.border_x).0 p12.0) ((signed_Decides a.border_y b.border_y).0 p13.0) ((signed_Decides a.shadow_x b.shadow_x).0 p14.0) ((signed_Decides a.shadow_y b.shadow_y).0 p15.0) ((signed_Decides a.edges b.edges).0 p16.0) ((signed_Decides a.blur b.blur).0 p17.0) ((unsigned_Decides a.draw b.draw).0 p18.0) ((signed_Decides a.offset b.offset).0 p19.0) (sung_same a.sung b.sung p19.1)
 
 -- ---- stored states

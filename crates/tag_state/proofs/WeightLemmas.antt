@@ -10,6 +10,7 @@ use Rattle.ass_num.specs.Limits.{max_held, one_16}
 use Rattle.ass_num.specs.Powers.{root_up_to, root_of, scaled, scaled_times, power_of}
 use Rattle.event_instants.specs.Instants.{between, share, weight_at, transform_weight, moved, move_weight}
 use Rattle.event_instants.proofs.OnTheWay.{between_within}
+use Rattle.ass_num.proofs.OrderLemmas.{lt_not, le_not}
 
 -- ---- powers
 
@@ -61,22 +62,16 @@ share_unit begin end elapsed begun before =
     let way = between_within (pos 0) (pos 65536) (elapsed -ℤ begin) (end -ℤ begin) (omega (arith, ints)) (omega (arith, ints)) (omega (arith, ints)) in
     abs_most (between (pos 0) (pos 65536) (elapsed -ℤ begin) (end -ℤ begin)) 65536 way.0 way.1
 
-not_lt : (a b : ℤ) → int_lt a b ≡ false → b ≤ℤ a
-not_lt a b e = grind (arith, ints)
-
-not_le : (a b : ℤ) → int_le a b ≡ false → b <ℤ a
-not_le a b e = grind (arith, ints)
-
 weight_unit : (t1 t2 : ℤ) (quarters : ℕ) (elapsed : ℤ) → weight_at t1 t2 quarters elapsed ≤ one_16
 weight_unit t1 t2 quarters elapsed = first (int_lt elapsed t1) refl
   where
     second : (b : Bool) → int_le t2 elapsed ≡ b → t1 ≤ℤ elapsed → cond b 65536 (power_of (share t1 t2 elapsed) quarters) ≤ one_16
     second true e begun = omega arith
-    second false e begun = power_unit (share t1 t2 elapsed) quarters (share_unit t1 t2 elapsed begun (not_le t2 elapsed e))
+    second false e begun = power_unit (share t1 t2 elapsed) quarters (share_unit t1 t2 elapsed begun (le_not t2 elapsed e))
 
     first : (b : Bool) → int_lt elapsed t1 ≡ b → cond b 0 (cond (int_le t2 elapsed) 65536 (power_of (share t1 t2 elapsed) quarters)) ≤ one_16
     first true e = omega arith
-    first false e = second (int_le t2 elapsed) refl (not_lt elapsed t1 e)
+    first false e = second (int_le t2 elapsed) refl (lt_not elapsed t1 e)
 
 pub transform_unit : (times : Option (ℤ × ℤ)) (duration : ℤ) (quarters : ℕ) (elapsed : ℤ) → transform_weight times duration quarters elapsed ≤ one_16
 transform_unit None duration quarters elapsed = weight_unit (pos 0) duration quarters elapsed
@@ -87,11 +82,11 @@ move_unit times elapsed = first (int_le elapsed times.0) refl
   where
     second : (b : Bool) → int_le times.1 elapsed ≡ b → times.0 <ℤ elapsed → cond b 65536 (share times.0 times.1 elapsed) ≤ one_16
     second true e begun = omega arith
-    second false e begun = share_unit times.0 times.1 elapsed (omega (arith, ints, begun)) (not_le times.1 elapsed e)
+    second false e begun = share_unit times.0 times.1 elapsed (omega (arith, ints, begun)) (le_not times.1 elapsed e)
 
     first : (b : Bool) → int_le elapsed times.0 ≡ b → cond b 0 (cond (int_le times.1 elapsed) 65536 (share times.0 times.1 elapsed)) ≤ one_16
     first true e = omega arith
-    first false e = second (int_le times.1 elapsed) refl (not_le elapsed times.0 e)
+    first false e = second (int_le times.1 elapsed) refl (le_not elapsed times.0 e)
 
 -- ---- numbers on their way
 

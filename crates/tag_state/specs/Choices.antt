@@ -1,7 +1,7 @@
 -- Public: what the tags of a text say of the whole event: which of several counts (docs/TAGS.md).
-use Rattle.std.specs.Prelude.{◌≡◌, ℕ, ◌*◌, ℤ, pos, List, [], ◌∷◌, Option, Some, None, slice_get}
+use Rattle.std.specs.Prelude.{◌≡◌, ℕ, ◌*◌, ℤ, pos, Bool, true, false, List, [], ◌∷◌, Option, Some, None, slice_get}
 use Rattle.std.specs.Int.RustNames.{unsigned_abs}
-use Rattle.std.specs.List.{filter_map}
+use Rattle.std.specs.List.{filter_map, list_any}
 use Rattle.std.specs.Option.{option_map}
 use Rattle.ass_script.specs.declared.script.Header.{Header}
 use Rattle.event_instants.specs.Instants.{moved, move_at, fade_at, fad_at, nth}
@@ -37,6 +37,16 @@ abbrev pub point_said : ℤ → ℤ → Tag → Option (ℤ × ℤ)
 point_said duration elapsed (Pos x y) = Some (x, y)
 point_said duration elapsed (Move path t1 t2) = Some (move_at path t1 t2 duration elapsed)
 point_said duration elapsed _ = None
+
+-- whether an item is a `\pos` or a `\move`
+abbrev pub is_point : ItemKind → Bool
+is_point (item.Tag (Pos _ _)) = true
+is_point (item.Tag (Move _ _ _)) = true
+is_point _ = false
+
+-- whether the items of a text say a point
+abbrev pub has_point : List Item → Bool
+has_point items = list_any (λ (i : Item). is_point i.kind) items
 
 abbrev pub origin_said : Tag → Option (ℤ × ℤ)
 origin_said (Org x y) = Some (x, y)

@@ -8,3 +8,4 @@ pub mod Laws
 pub mod Walks
 pub mod Looks
 pub mod Views
+pub mod Still

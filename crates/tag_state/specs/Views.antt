@@ -1,7 +1,9 @@
 -- Public: what an event shows at an instant (docs/TAGS.md).
-use Rattle.std.specs.Prelude.{◌≡◌, ℕ, ◌-◌, ℤ, pos, ◌-ℤ◌, List, [], ◌∷◌, Some, length, slice_get, unwrap_or}
+use Rattle.std.specs.Prelude.{◌≡◌, ℕ, ◌-◌, ℤ, pos, ◌-ℤ◌, List, [], ◌∷◌, All, Some, length, slice_get, unwrap_or}
 use Rattle.ass_script.specs.Scripts.{ScriptValue, style_for}
 use Rattle.ass_events.specs.declared.event.Event.{Event}
+use Rattle.override_tags.specs.Laws.{IsAtCharacters}
+use Rattle.override_tags.specs.Ranges.{IsHeldItem}
 use Rattle.override_tags.specs.Readings.{IsTextReading}
 use Rattle.override_tags.specs.declared.item.Item.{Item}
 use Rattle.override_tags.specs.declared.view.EventView.{EventView}
@@ -34,6 +36,12 @@ AreSeen script own names states _ _ = ⊥
 -- how many milliseconds of an event have passed
 abbrev pub elapsed_at : Event → ℤ → ℤ
 elapsed_at event t = t -ℤ event.start
+
+-- The items were read of the text: they are its items, in range, and it can be cut where they begin and end.
+pub record AreReadItems (text : List ℕ) (items : List Item) : Type 0 where
+  pub reading : IsTextReading text items
+  pub held : All IsHeldItem items
+  pub cuts : All (IsAtCharacters text) items
 
 -- What an event shows at an instant, by the items of its text.
 pub record IsViewBy (script : ScriptValue) (event : Event) (elapsed : ℤ) (items : List Item) (view : EventView) : Type 0 where

@@ -1,9 +1,10 @@
 //! What the tags of a text say of the whole event.
 
-ghost use Rattle.std.specs.Prelude.{◌≡◌, ◌≤◌, pos, true, false, [], ◌∷◌, ◌++◌, List, map, reverse, unwrap_or, All, IfSome};
+ghost use Rattle.std.specs.Prelude.{◌≡◌, ◌≤◌, pos, true, false, [], ◌∷◌, ◌++◌, List, map, reverse, unwrap_or, All, IfOk, IfSome, OnOk};
 ghost use Rattle.std.specs.Int.RustNames.{unsigned_abs};
 ghost use Rattle.std.specs.Option.{option_map, option_or};
 ghost use Rattle.ass_num.specs.Limits.{one_16};
+ghost use Rattle.event_instants.specs.Instants.{transform_weight as rule_weight};
 ghost use Rattle.override_tags.specs.Ranges.{IsHeldItem, IsHeldTag};
 ghost use Rattle.override_tags.specs.Singles.{is_wrap_style, whole as rule_whole};
 ghost use Rattle.override_tags.specs.declared.item.Item.{Item};
@@ -12,10 +13,11 @@ ghost use Rattle.tag_state.specs.Setters.{Effect, Gradual, effects_of_tag};
 ghost use Rattle.tag_state.specs.Steps.{wrap_said, wrap_step, clip_step, IsNoClip};
 ghost use Rattle.tag_state.specs.Choices as rule;
 
-use ass_num::Milli;
+use ass_num::{Mem, Milli};
 use ass_script::Header;
 use event_instants::{fad_at, fade_at, move_at, moved, transform_weight};
 use override_tags::{ClipTag, GradualTag, Item, ItemKind, Num, Tag, whole};
+use std::alloc::Global;
 
 /// The alignment that a tag says.
 fn align_said(tag: &Tag) -> Option<u8>
@@ -61,6 +63,24 @@ fn first_point(
         Some(point) => Some(point),
         None => point_said(tag, duration, elapsed),
     }
+}
+
+/// Whether an item is a `\pos` or a `\move`.
+fn is_point(kind: &ItemKind) -> bool
+    ensures { result ≡ rule.is_point kind.now }
+{
+    match kind {
+        ItemKind::Tag(Tag::Pos(_, _)) => true,
+        ItemKind::Tag(Tag::Move(_, _, _)) => true,
+        _ => false,
+    }
+}
+
+/// Whether the items of a text say a point.
+pub fn has_point(items: &[Item]) -> bool
+    ensures { result ≡ rule.has_point items.now }
+{
+    items.iter().any(|item| is_point(&item.kind))
 }
 
 /// The origin that a tag says.
@@ -223,22 +243,68 @@ fn has_clip(tags: &[GradualTag]) -> bool
     false
 }
 
+/// A copy of a clip.
+#[tactic(auto, using(crate::proofs::Copies::clip_tag_same))]
+fn clip_copy(alloc: Global, clip: &ClipTag) -> Mem<ClipTag>
+    ensures { IfOk result (λ copy. copy ≡ clip.now) }
+{
+    Ok(clip.clone()?)
+}
+
+/// Sets the clip behind a transform.
+#[inline]
+fn transform_clip(
+    clip: &mut Option<ClipTag>,
+    header: &Header,
+    times: Option<(i64, i64)>,
+    quarters: u32,
+    tags: &[GradualTag],
+    duration: i64,
+    elapsed: i64,
+)
+    requires slow { 1 ≤ quarters }
+    requires fast { quarters ≤ 32 }
+    ensures { (before : List Effect) → clip.old ≡ rule.clip_at header.now before
+        → clip.new ≡ rule.clip_at header.now (reverse (map (Gradual (rule_weight times duration quarters elapsed)) tags.now) ++ before) }
+{
+    if has_clip(tags) {
+        let weight = transform_weight(times, duration, quarters, elapsed);
+        *clip = transformed(header, clip.take(), tags, weight);
+    }
+}
+
 /// Sets the clip behind a tag.
 #[inline]
-fn set_clip(clip: &mut Option<ClipTag>, header: &Header, tag: Tag, duration: i64, elapsed: i64)
-    requires { IsHeldTag tag }
+fn set_clip(
+    alloc: Global,
+    clip: &mut Option<ClipTag>,
+    header: &Header,
+    tag: &Tag,
+    duration: i64,
+    elapsed: i64,
+) -> Mem<()>
+    requires { IsHeldTag tag.now }
     ensures { (before : List Effect) → clip.old ≡ rule.clip_at header.now before
-        → clip.new ≡ rule.clip_at header.now (reverse (effects_of_tag duration elapsed tag) ++ before) }
+        → OnOk result (clip.new ≡ rule.clip_at header.now (reverse (effects_of_tag duration elapsed tag.now) ++ before)) }
 {
     match tag {
-        Tag::Clip(new) => *clip = Some(new),
-        Tag::Transform(times, quarters, tags) => {
-            if has_clip(tags.as_slice()) {
-                let weight = transform_weight(times, duration, quarters, elapsed);
-                *clip = transformed(header, clip.take(), tags.as_slice(), weight);
-            }
+        Tag::Clip(new) => {
+            *clip = Some(clip_copy(alloc, new)?);
+            Ok(())
         }
-        _other => {}
+        Tag::Transform(times, quarters, tags) => {
+            transform_clip(
+                clip,
+                header,
+                *times,
+                *quarters,
+                tags.as_slice(),
+                duration,
+                elapsed,
+            );
+            Ok(())
+        }
+        _other => Ok(()),
     }
 }
 
@@ -276,31 +342,45 @@ impl Said {
 
     /// Takes what one more tag says.
     #[inline]
-    fn hear(&mut self, header: &Header, tag: Tag, duration: i64, elapsed: i64)
-        requires { IsHeldTag tag }
-        ensures { (items : List Item) (i : Item) → i.kind ≡ item.Tag tag → rule.IsSaid header.now duration elapsed items self.old
-            → rule.IsSaid header.now duration elapsed (items ++ i ∷ []) self.new }
+    fn hear(
+        &mut self,
+        alloc: Global,
+        header: &Header,
+        tag: &Tag,
+        duration: i64,
+        elapsed: i64,
+    ) -> Mem<()>
+        requires { IsHeldTag tag.now }
+        ensures { (items : List Item) (i : Item) → i.kind ≡ item.Tag tag.now → rule.IsSaid header.now duration elapsed items self.old
+            → OnOk result (rule.IsSaid header.now duration elapsed (items ++ i ∷ []) self.new) }
     {
-        self.align = first_align(self.align, &tag);
-        self.pos = first_point(self.pos, &tag, duration, elapsed);
-        self.org = first_origin(self.org, &tag);
-        self.fade = first_fade(self.fade, &tag, duration, elapsed);
-        self.wrap = last_wrap(self.wrap, &tag, header.wrap);
-        set_clip(&mut self.clip, header, tag, duration, elapsed);
+        self.align = first_align(self.align, tag);
+        self.pos = first_point(self.pos, tag, duration, elapsed);
+        self.org = first_origin(self.org, tag);
+        self.fade = first_fade(self.fade, tag, duration, elapsed);
+        self.wrap = last_wrap(self.wrap, tag, header.wrap);
+        set_clip(alloc, &mut self.clip, header, tag, duration, elapsed)?;
+        Ok(())
     }
 }
 
 /// What the tags of a text say of an event of a duration, when so much of it has passed.
-pub fn said_of(header: &Header, items: Vec<Item>, duration: i64, elapsed: i64) -> Said
-    requires { All IsHeldItem items.items }
-    ensures { rule.IsSaid header.now duration elapsed items.items result }
+pub fn said_of(
+    alloc: Global,
+    header: &Header,
+    items: &[Item],
+    duration: i64,
+    elapsed: i64,
+) -> Mem<Said>
+    requires { All IsHeldItem items.now }
+    ensures { IfOk result (rule.IsSaid header.now duration elapsed items.now) }
 {
     let mut said = Said::new(header.wrap);
     for item in items {
-        match item.kind {
-            ItemKind::Tag(tag) => said.hear(header, tag, duration, elapsed),
+        match &item.kind {
+            ItemKind::Tag(tag) => said.hear(alloc, header, tag, duration, elapsed)?,
             _other => {}
         }
     }
-    said
+    Ok(said)
 }

@@ -1,7 +1,7 @@
 //! Events of chunks and of lines.
 
 use crate::telling::{lines, number, parted, shown};
-use ass_events::{Chunk, Event, chunk_of_line, read_chunk, write_chunk};
+use ass_events::{Event, chunk_of_line, read_chunk, write_chunk};
 use ass_num::Mem;
 use ass_script::{Script, read_script};
 use bstr::BStr;
@@ -34,17 +34,15 @@ pub fn chunk_told(alloc: Global, question: &str) -> Mem<String> {
     }
 }
 
-fn spelled(alloc: Global, chunk: &Chunk) -> Mem<String> {
-    let bytes = BStr::new(chunk.bytes.as_slice());
-    shown(alloc, &(bytes, chunk.start, chunk.duration))
-}
-
 fn line_chunk(alloc: Global, script: &Script, number: usize) -> Mem<String> {
     if number >= script.line_count() || number > 255 {
         return shown(alloc, &"no such line");
     }
     match chunk_of_line(alloc, script, number) {
-        Ok(chunk) => spelled(alloc, &chunk),
+        Ok(chunk) => {
+            let bytes = BStr::new(chunk.bytes.as_slice());
+            shown(alloc, &(bytes, chunk.start, chunk.duration))
+        }
         Err(refusal) => shown(alloc, &refusal),
     }
 }

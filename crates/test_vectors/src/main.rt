@@ -3,7 +3,6 @@
 //! those whose rows have scripts: these write the file `a.ass`, which no file of `runs` is.
 #![tactic(auto)]
 
-mod breaks;
 mod edges;
 mod events;
 mod faults;
@@ -15,7 +14,6 @@ mod reports;
 mod rings;
 mod runs;
 mod scripts;
-mod shifts;
 mod states;
 mod tags;
 mod telling;
@@ -44,12 +42,10 @@ fn text_answer(alloc: Global, table: &str, question: &str) -> Mem<String> {
     }
 }
 
-/// The answer of what has states, places or shapes, or is generated or reported.
+/// The answer of what has states or shapes, or is generated or reported.
 fn call_answer(alloc: Global, table: &str, question: &str) -> Mem<String> {
     match table {
         "states" | "views" => states::told(alloc, table, question),
-        "breaks" => breaks::places(alloc, question),
-        "shifts" => shifts::shifts(alloc, question),
         "edges" => edges::left(alloc, question),
         "regions" => regions::regions(alloc, question),
         "borders" => regions::border(alloc, question),
@@ -112,15 +108,12 @@ fn ask_rows(lent: &impl Rt, rt: &HostRuntime, table: &str, rows: &str) -> Result
     Ok(count)
 }
 
-fn tell_count(rt: &HostRuntime, table: &str, count: u32) -> Result<(), Fail> {
-    println!(rt; "{table}: {count}")?;
-    Ok(())
-}
-
+/// Asks each row of a table, and prints how many there are.
 fn ask_all(lent: &impl Rt, rt: &HostRuntime, table: &str) -> Result<(), Fail> {
     let rows = fs::read_to_string(rt, table)?;
     let count = ask_rows(lent, rt, table, rows.as_str())?;
-    tell_count(rt, table, count)
+    println!(rt; "{table}: {count}")?;
+    Ok(())
 }
 
 fn main(rt: HostRuntime) -> Result<(), Fail> {

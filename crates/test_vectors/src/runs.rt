@@ -4,7 +4,7 @@ use crate::telling::{parted, shown};
 use ass_io::{FailingSink, FileShelf, MemorySink, Rt, Shelf};
 use ass_num::Mem;
 use bstr::BStr;
-use play_command::top;
+use play_command::exit_of_words;
 use play_report::digest_after;
 use run_words::read_words;
 use std::alloc::Global;
@@ -38,19 +38,6 @@ pub struct Ran {
     pub report: FailingSink,
 }
 
-/// Does what words ask for: the exit status.
-fn exit_of<S: Shelf>(
-    lent: &impl Rt,
-    alloc: Global,
-    words: &[String],
-    shelf: &mut S,
-    frames: &mut FailingSink,
-    report: &mut FailingSink,
-) -> u8 {
-    let status = top(lent, alloc, words, shelf, frames, report, &NoHook);
-    status.exit_status()
-}
-
 /// Does what the words ask for, where a put of an image and a put of a report fail: their numbers, or 0 for none.
 pub fn run<S: Shelf>(
     lent: &impl Rt,
@@ -63,7 +50,7 @@ pub fn run<S: Shelf>(
     let mut frames = sink(alloc, image)?;
     let mut report = sink(alloc, told)?;
     let words = words.as_slice();
-    let exit = exit_of(lent, alloc, words, shelf, &mut frames, &mut report);
+    let exit = exit_of_words(lent, alloc, words, shelf, &mut frames, &mut report, &NoHook);
     Ok(Ran {
         exit,
         frames,

@@ -7,7 +7,7 @@ use Rattle.event_places.specs.declared.placed.PlacedEvent.{PlacedEvent}
 use Rattle.event_draws.specs.MovedDraws.{AddsMovedDraws}
 use Rattle.picture_plan.specs.Pictures.{None}
 use Rattle.picture_plan.specs.ShownEvents.{AreByLayer, AreShownPlaces, event_shown, no_placed}
-use Rattle.picture_plan.proofs.PlacedLemmas.{are_places, placed_own}
+use Rattle.picture_plan.proofs.PlacedLemmas.{are_places, placed_own, placed_read}
 use Rattle.picture_plan.proofs.PlanLemmas.{all_drawn, shown_drawn}
 use Rattle.picture_plan.proofs.ShownLemmas.{no_shown}
 use Rattle.picture_plan.proofs.pictures.placed_draws.Goals as goal
@@ -28,6 +28,9 @@ add_shown_event-requires-clause-shifts c = λ k d w. (c.requires.placed.each k d
 
 pub add_shown_event-requires-clause-own : goal.add_shown_event-requires-clause-own
 add_shown_event-requires-clause-own c = placed_own (map arc_value c.args.events.now) c.args.placed.now c.requires.placed
+
+pub add_shown_event-requires-clause-read : goal.add_shown_event-requires-clause-read
+add_shown_event-requires-clause-read c = placed_read (map arc_value c.args.events.now) c.args.placed.now c.requires.placed
 
 pub add_shown_event-requires-clause-place : goal.add_shown_event-requires-clause-place
 add_shown_event-requires-clause-place c =

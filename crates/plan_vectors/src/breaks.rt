@@ -4,10 +4,12 @@ ghost use Rattle.std.specs.Prelude.{◌<◌, ◌≤◌, ◌+◌, ℕ, IsTrue, le
 ghost use Rattle.std.specs.List.{All};
 ghost use Rattle.line_layout.specs.Breaks.{IsItemWidth};
 
-use crate::telling::{numbers, parted, shown};
-use ass_num::{Fix, Mem};
+use crate::telling::numbers_of;
+use crate::unreadable;
+use ass_num::Fix;
 use line_layout::choose_breaks;
 use std::alloc::Global;
+use std::io;
 
 fn are_narrow(widths: &[Fix]) -> bool
     ensures { IsTrue result → All IsItemWidth widths.now }
@@ -42,20 +44,30 @@ fn ascend(spaces: &[usize]) -> bool
     true
 }
 
-fn breaks_of(alloc: Global, widths: &[Fix], spaces: &[usize], max: Fix, style: u8) -> Mem<String> {
+/// Prints the breaks of items of these widths, with these spaces among them.
+fn show_places(
+    rt: &HostRuntime,
+    question: &str,
+    widths: &[Fix],
+    spaces: &[usize],
+    [max, style]: [i64; 2],
+) -> io::Result<()> {
+    let style = u8::try_from(style).unwrap_or(9);
     if widths.len() > 134_217_728
         || !are_narrow(widths)
         || !are_within(spaces, widths.len())
         || !ascend(spaces)
         || style > 3
     {
-        return shown(alloc, &"no paragraph");
+        return Err(unreadable());
     }
-    let places = choose_breaks(alloc, widths, spaces, max, style)?;
-    shown(alloc, &places.as_slice())
+    match choose_breaks(rt.alloc(), widths, spaces, max, style) {
+        Ok(places) => println!(rt; "breaks {question} => {:?}", places.as_slice()),
+        Err(_) => Err(unreadable()),
+    }
 }
 
-fn places_of(alloc: Global, text: &str) -> Mem<Vec<usize>> {
+fn places_of(alloc: Global, text: &str) -> io::Result<Vec<usize>> {
     let mut places = Vec::new(alloc);
     for word in text.split_whitespace() {
         places.push(usize::from(word.parse::<u16>().unwrap_or(0)))?;
@@ -63,14 +75,15 @@ fn places_of(alloc: Global, text: &str) -> Mem<Vec<usize>> {
     Ok(places)
 }
 
-/// The breaks of so many items of 64, under a maximum, in a style; behind a bar the spaces among the items.
-pub fn places(alloc: Global, question: &str) -> Mem<String> {
-    let (sizes, spaces) = parted(question, " |");
-    let [count, max, style, _, _, _, _, _] = numbers(sizes);
-    let spaces = places_of(alloc, spaces)?;
-    let count = usize::try_from(count).unwrap_or(0);
-    let style = u8::try_from(style).unwrap_or(9);
+/// Prints the breaks of so many items of 64, under a maximum, in a style; behind a bar stand the spaces among the items.
+pub fn show_breaks(rt: &HostRuntime, question: &str) -> io::Result<()> {
+    let (sizes, spaces) = question.split_once(" |").ok_or(unreadable())?;
+    let sizes = numbers_of(rt.alloc(), sizes)?;
+    let spaces = places_of(rt.alloc(), spaces)?;
+    let [count, max, style] = sizes.as_slice() else {
+        return Err(unreadable());
+    };
     let wide = [64; 12];
-    let widths = &wide[..wide.len().min(count)];
-    breaks_of(alloc, widths, spaces.as_slice(), max, style)
+    let widths = &wide[..wide.len().min(usize::try_from(*count).unwrap_or(0))];
+    show_places(rt, question, widths, spaces.as_slice(), [*max, *style])
 }
