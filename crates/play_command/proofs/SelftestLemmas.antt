@@ -194,6 +194,12 @@ wanting seed events reading read = record {
   own = tt;
 }
 
+-- No play fails at a sink that never fails.
+pub never_fails : (play : PlayView) (held held' : Option (List ℕ)) (puts puts' : ℕ) (end : PlayEnd) → IsPlayed play end held held' 0 0 puts puts' → end ≡ play_end.WriteFault → ⊥
+never_fails play held held' puts puts' (play_end.Done report) played is = cc
+never_fails play held held' puts puts' play_end.WriteFault played is = let rose = played.2.1.0 in absurd (omega (arith, rose))
+never_fails play held held' puts puts' play_end.OutOfMemory played is = cc
+
 -- A selftest, however its play ended.
 pub played_out : (seed events workers : ℕ) (inputs : Inputs) (job : PlayJob) (before after : List ℕ) (faults faults' puts puts' : ℕ) (end : PlayEnd) (outcome : Outcome) →
     IsJob (Selftest seed events workers) → IsSelftestRead seed events (Ok inputs.script) → AreSelftestInputs inputs → job ≡ selftest_job events workers → before ≡ [] →
@@ -202,8 +208,7 @@ played_out seed events workers inputs job before after faults faults' puts puts'
     done seed events workers inputs job before after faults faults' puts puts' report text within read suits is none played said
 played_out seed events workers inputs job before after faults faults' puts puts' (play_end.Done report) (Ended why) within read suits is none played said =
     subst (λ (o : Outcome). IsSelftestWorked seed events o) (sym said) (wanting seed events (Ok inputs.script) read)
-played_out seed events workers inputs job before after faults faults' puts puts' play_end.WriteFault outcome within read suits is none played said =
-    subst (λ (o : Outcome). IsSelftestWorked seed events o) (sym said) (wanting seed events (Ok inputs.script) read)
+played_out seed events workers inputs job before after faults faults' puts puts' play_end.WriteFault outcome within read suits is none played said = absurd said
 played_out seed events workers inputs job before after faults faults' puts puts' play_end.OutOfMemory outcome within read suits is none played said =
     subst (λ (o : Outcome). IsSelftestWorked seed events o) (sym said) (wanting seed events (Ok inputs.script) read)
 
@@ -254,7 +259,7 @@ quiet_kind (Ended (status.BadWords fault)) n m h = absurd h
 quiet_kind (Ended (status.NoSuchFile name)) n m h = absurd h
 quiet_kind (Ended (status.ReadFault name)) n m h = absurd h
 quiet_kind (Ended (status.BadScript cause)) n m h = (refl, refl, tt, tt, tt)
-quiet_kind (Ended (status.BadFont index line cause)) n m h = absurd h
+quiet_kind (Ended (status.BadFont index fault)) n m h = absurd h
 quiet_kind (Ended (status.WriteFault which)) n m h = absurd h
 quiet_kind (Ended (status.TooLarge what limit)) n m h = (refl, refl, tt, tt, tt)
 quiet_kind (Ended status.OutOfMemory) n m h = (omega arith, omega arith, tt, tt, tt)

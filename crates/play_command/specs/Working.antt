@@ -80,7 +80,7 @@ abbrev pub IsSummedOf : ℕ → ℕ → List ℕ → PlayEnd → Outcome → Typ
 IsSummedOf seed events images (play_end.Done report) (Found text) =
     string_bytes text ≡ summary_text seed events (length (accepted_first report)) report.frames (digest_after 0 images)
 IsSummedOf seed events images (play_end.Done report) outcome = outcome ≡ out_of_memory
-IsSummedOf seed events images play_end.WriteFault outcome = outcome ≡ out_of_memory
+IsSummedOf seed events images play_end.WriteFault outcome = ⊥
 IsSummedOf seed events images play_end.OutOfMemory outcome = outcome ≡ out_of_memory
 
 -- A selftest before anything is reported.

@@ -1,10 +1,11 @@
 //! A selftest, up to what is to be reported of it.
 
-ghost use Rattle.std.specs.Prelude.{◌≡◌, ◌≤◌, IfOk, length, string_bytes};
+ghost use Rattle.std.specs.Prelude.{◌≡◌, ◌≢◌, ◌≤◌, IfOk, length, string_bytes};
 ghost use Rattle.play_command.specs.SelftestRuns.{accepted_first, selftest_job};
 ghost use Rattle.play_command.specs.Working.{IsSelftestWorked, IsSummedOf};
 ghost use Rattle.play_report.specs.Digests.{digest_after};
 ghost use Rattle.play_report.specs.Reports.{summary_text};
+ghost use Rattle.play_rounds.specs.declared.ends.PlayEnd.TheVariants as play_end;
 ghost use Rattle.run_words.specs.Jobs.{IsJob};
 ghost use Rattle.run_words.specs.Limits.{max_events};
 ghost use Rattle.run_words.specs.declared.job.Job.TheVariants.{Selftest};
@@ -73,8 +74,9 @@ fn summary_of(
     summary_text(alloc, seed, events, accepted, report.frames, digest)
 }
 
-/// What is to be reported of a selftest whose play ended so and put these images. A sink in memory fails for lack of memory alone.
+/// What is to be reported of a selftest whose play ended so and put these images. A sink in memory never fails.
 fn summed(alloc: Global, seed: u32, events: u32, end: PlayEnd, images: &[u8]) -> Outcome
+    requires { end ≢ play_end.WriteFault }
     ensures { IsSummedOf seed events images.now end result }
 {
     match end {
@@ -82,7 +84,7 @@ fn summed(alloc: Global, seed: u32, events: u32, end: PlayEnd, images: &[u8]) ->
             Ok(text) => Outcome::Found(text),
             Err(OutOfMemory) => Outcome::Ended(Status::OutOfMemory),
         },
-        PlayEnd::WriteFault => Outcome::Ended(Status::OutOfMemory),
+        PlayEnd::WriteFault => unreachable!(),
         PlayEnd::OutOfMemory => Outcome::Ended(Status::OutOfMemory),
     }
 }

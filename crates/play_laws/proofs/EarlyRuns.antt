@@ -42,7 +42,7 @@ early_put play frames report (status.BadWords fault) put = absurd put
 early_put play frames report (status.NoSuchFile name) put = absurd put
 early_put play frames report (status.ReadFault name) put = absurd put
 early_put play frames report (status.BadScript cause) put = absurd put
-early_put play frames report (status.BadFont index line cause) put = absurd put
+early_put play frames report (status.BadFont index fault) put = absurd put
 early_put play frames report (status.TooLarge what limit) put = absurd put
 early_put play frames report (status.Unwritable line field) put = absurd put
 

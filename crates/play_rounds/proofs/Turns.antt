@@ -76,7 +76,7 @@ module _ (renderer : RendererView) (first after : RenderView) (home : IsHome ren
     composites = cache_turn equal_composites composite_meaning renderer.caches.composites first.caches.composites after.caches.composites composites home.composites;
   }
 
-  known : AreLegal renderer.caches after.caches
+  pub known : AreLegal renderer.caches after.caches
   known = record {
     outlines = record { first = outlines.first.legal; second = outlines.second.legal; third = outlines.third.legal; fourth = outlines.fourth.legal };
     masks = record { first = masks.first.legal; second = masks.second.legal; third = masks.third.legal; fourth = masks.fourth.legal };

@@ -47,7 +47,7 @@ front_none play some = record {
 }
 
 module _ (play : PlayView) (history : List Entry) (h h' : Option (List ℕ)) (f f' p p' a a' : ℕ) (good : List Bool) (good_is : good ≡ good_flags play.script) (totals : List Totals)
-    (last : (asks : ℕ) → asks ≤ a' → AreLastTotals asks totals) where
+    (last : (asks : ℕ) → asks ≤ a' → AreLastTotals play.job.budget asks totals) where
   done_played : (played : Played) (report : PlayReport) → EndsAs play.job good (Ok played) totals (Done report) → HavePlayed play play.job.times history played (λ images. AreImagesWritten images h h' f f' p p' a a') → IsPlayed play (Done report) h h' f f' p p'
   done_played played report ends has =
       let images = has.2.0 in let times = has.2.1 in let written = has.2.2 in
@@ -71,7 +71,7 @@ module _ (play : PlayView) (history : List Entry) (h h' : Option (List ℕ)) (f 
           images = images;
           pieces = refl;
           are = subst (λ (x : List Entry). AreShownImages play x images) times.is times.are;
-          totals = subst (AreLastTotals (all_masks images)) (sym ends.4) (last (all_masks images) (omega (arith, asked)));
+          totals = subst (AreLastTotals play.job.budget (all_masks images)) (sym ends.4) (last (all_masks images) (omega (arith, asked)));
         },
         written.0.0,
         written.0.1,

@@ -8,6 +8,9 @@ use Rattle.ass_io.specs.declared.sink.Put.TheVariants as put
 use Rattle.ass_num.specs.Causes.{Rose}
 use Rattle.mask_caches.specs.Asks.{HasAsks}
 use Rattle.mask_caches.specs.Balance.{IsAccounted}
+use Rattle.mask_caches.specs.Caches.{AreLegal, AreNew, all_totals}
+use Rattle.mask_caches.specs.declared.caches.Caches.{Caches}
+use Rattle.mask_caches.specs.declared.passes.CachesPass.{CachesPass}
 use Rattle.evict_core.specs.declared.counts.Totals.{Totals}
 use Rattle.play_report.specs.declared.report.PlayReport.{PlayReport}
 use Rattle.play_shares.specs.Instants.{frame_count}
@@ -59,8 +62,14 @@ AreImagesWritten images held held' faults faults' puts puts' asked asked' =
 
 -- ---- what a whole play has written and reports
 
--- The totals of the three caches: what no pin holds costs no more than the budget, each claim was filled or failed, and what was evicted had been filled. In the last one so many composed masks were asked for.
-pub record AreLastTotals (asks : ℕ) (totals : List Totals) : Type 0 where
+-- The totals of three caches that were opened with this budget, after a legal history of theirs: what no pin holds costs no more than the budget, each claim was filled or failed, and what was evicted had been filled. In the last one so many composed masks were asked for.
+pub record AreLastTotals (budget asks : ℕ) (totals : List Totals) : Type 0 where
+  pub caches : Caches
+  pub first : CachesPass
+  pub opened : AreNew caches first budget
+  pub last : CachesPass
+  pub legal : AreLegal caches last
+  pub are : totals ≡ all_totals caches last
   pub three : length totals ≡ 3
   pub budgets : All (λ t. t.unpinned ≤ t.budget) totals
   pub accounted : All IsAccounted totals
@@ -77,7 +86,7 @@ pub record IsWholePlay (play : PlayView) (bytes : List ℕ) (report : PlayReport
   pub images : List ShownImage
   pub pieces : shown_pieces images ≡ shown.images
   pub are : AreShownImages play (history_of_times times) images
-  pub totals : AreLastTotals (all_masks images) report.totals
+  pub totals : AreLastTotals play.job.budget (all_masks images) report.totals
 
 -- The play stopped, and what the sink got is a prefix of what it may show.
 abbrev pub IsStopped : PlayView → Stop → Option (List ℕ) → Option (List ℕ) → ℕ → ℕ → ℕ → ℕ → Type 0

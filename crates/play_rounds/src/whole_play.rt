@@ -6,7 +6,7 @@ ghost use Rattle.play_model.specs.Plays.{IsPlayable};
 ghost use Rattle.play_workers.specs.Asks.{masks_seen};
 ghost use Rattle.play_rounds.specs.Passes.{IsHome};
 ghost use Rattle.play_workers.specs.Stages.{IsPlayStage, play_on};
-ghost use Rattle.renderer.specs.Passes.{IsFirstPass, IsPassOfRenderer};
+ghost use Rattle.renderer.specs.Passes.{IsFirstPass, IsNewRenderer, IsPassOfRenderer, RenderView};
 ghost use Rattle.track_history.specs.Calls.{history_of};
 ghost use Rattle.play_rounds.specs.Outputs.{AreLastTotals, IsPlayed};
 ghost use Rattle.play_rounds.specs.Times.{EndsAs};
@@ -51,6 +51,7 @@ fn set_stage(
     requires { IsPlayable (record { job = job; script = arc_value script; fonts = (arc_value fonts).fonts }) }
     ensures stage { IfOk result (λ r. IsPlayStage r.0) }
     ensures play { IfOk result (λ r. play_on r.0 ≡ record { job = job; script = arc_value script; fonts = (arc_value fonts).fonts }) }
+    ensures opened { IfOk result (λ r. IsNewRenderer r.0.renderer r.1 job.budget) }
     ensures home { IfOk result (λ r. IsHome r.0.renderer r.1) }
     ensures new { IfOk result (λ r. history_of r.1.track.seen ≡ []) }
     ensures next { IfOk result (λ r. r.1.track.next ≡ 1) }
@@ -72,7 +73,8 @@ fn last_totals<R: Wait>(rt: &R, renderer: &Renderer, first: RenderPass) -> (Rend
     requires { IsHome renderer.now first }
     ensures pass { IsPassOfRenderer renderer.now result.0 }
     ensures first { IsFirstPass result.0 }
-    ensures totals { (asks : ℕ) → asks ≤ masks_seen renderer.now first → AreLastTotals asks result.1 }
+    ensures totals { (budget asks : ℕ) (opening : RenderView) → IsNewRenderer renderer.now opening budget → asks ≤ masks_seen renderer.now first
+        → AreLastTotals budget asks result.1 }
 {
     renderer.totals(rt, first)
 }

@@ -1,4 +1,4 @@
-//! A hook that holds a thread that makes a value until others have fed and framed.
+//! Hooks that hold threads: one that makes a value, until others have fed and framed, and the first one that feeds, until another did.
 
 use crossbeam_utils::Backoff;
 use std::sync::atomic::{AtomicBool, Ordering};
@@ -67,6 +67,42 @@ impl TestHook for HoldingHook {
             }
             HookPoint::AfterFrame(20 | 30) => self.framed.store(true, Ordering::SeqCst),
             HookPoint::AfterFeed(_) | HookPoint::AfterFrame(_) => {}
+        }
+    }
+}
+
+/// Holds the first thread that fed an event until another one did.
+#[derive(Drop)]
+pub struct MeetingHook {
+    begun: AtomicBool,
+    met: AtomicBool,
+    late: AtomicBool,
+}
+
+impl MeetingHook {
+    /// Nothing was fed yet.
+    pub fn new() -> MeetingHook {
+        MeetingHook {
+            begun: AtomicBool::new(false),
+            met: AtomicBool::new(false),
+            late: AtomicBool::new(false),
+        }
+    }
+
+    /// Whether the first thread looked in vain for another.
+    pub fn is_late(&self) -> bool {
+        self.late.load(Ordering::SeqCst)
+    }
+}
+
+impl TestHook for MeetingHook {
+    fn at(&self, point: HookPoint) {
+        if let HookPoint::AfterFeed(_) = point {
+            if self.begun.swap(true, Ordering::SeqCst) {
+                self.met.store(true, Ordering::SeqCst);
+            } else if !await_flag(&self.met) {
+                self.late.store(true, Ordering::SeqCst);
+            }
         }
     }
 }

@@ -1,7 +1,7 @@
 //! Whole runs over files in memory.
 
 use ass_io::{MemoryShelf, MemorySink, Rt};
-use play_command::top;
+use play_command::exit_of_words;
 use std::alloc::{AllocError, Global};
 use std::test::Fail;
 use test_hook::TestHook;
@@ -75,8 +75,7 @@ pub fn run<H: TestHook + Sync>(
     let mut frames = MemorySink::new(alloc);
     let mut report = MemorySink::new(alloc);
     let words = words.as_slice();
-    let status = top(rt, alloc, words, &mut shelf, &mut frames, &mut report, hook);
-    let exit = status.exit_status();
+    let exit = exit_of_words(rt, alloc, words, &mut shelf, &mut frames, &mut report, hook);
     Ok(Ran {
         exit,
         frames,

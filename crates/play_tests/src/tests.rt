@@ -1,7 +1,7 @@
 //! Plays whose threads are held and counted.
 
 use crate::counting::Makings;
-use crate::holding::HoldingHook;
+use crate::holding::{HoldingHook, MeetingHook};
 use crate::runs::run;
 use ass_io::Rt;
 use std::alloc::Global;
@@ -62,5 +62,15 @@ fn made(rt: &impl Rt, alloc: Global, budget: &str, report: &str) -> Result<[u64;
 fn kept_values_are_made_once(rt: HostRuntime) -> Result<(), Fail> {
     assert_eq!(rt; made(&rt, rt.alloc(), "0", NOTHING_KEPT)?, [3, 3, 3]);
     assert_eq!(rt; made(&rt, rt.alloc(), "67108864", ALL_KEPT)?, [1, 1, 1]);
+    Ok(())
+}
+
+/// Two workers of a selftest feed at once.
+#[test]
+fn workers_of_a_selftest_work_at_once(rt: HostRuntime) -> Result<(), Fail> {
+    let hook = MeetingHook::new();
+    let ran = run(&rt, rt.alloc(), "selftest 7 40 --workers 2", "", &hook)?;
+    assert_eq!(rt; ran.exit, 0);
+    assert!(rt; !hook.is_late());
     Ok(())
 }

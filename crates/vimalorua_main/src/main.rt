@@ -1,11 +1,11 @@
-//! The program: it makes the real shelf, sinks and hook, and calls `top` with the words.
+//! The program: it makes the real shelf, sinks and hook, and answers what the words come to.
 #![tactic(auto)]
 
 mod progress;
 
 use crate::progress::CountedSink;
 use ass_io::{FileShelf, StdSink};
-use play_command::top;
+use play_command::exit_of_words;
 use single_run::give_up;
 use std::io::IsTerminal;
 use std::process::ExitCode;
@@ -35,7 +35,7 @@ fn main(rt: HostRuntime) -> ExitCode {
     let stderr = rt.stderr();
     let is_watched = stderr.is_terminal();
     let mut frames = CountedSink::new(StdSink::new(rt.stdout()), stderr, is_watched);
-    let status = top(
+    ExitCode::from(exit_of_words(
         &rt,
         rt.alloc(),
         words.as_slice(),
@@ -43,6 +43,5 @@ fn main(rt: HostRuntime) -> ExitCode {
         &mut frames,
         &mut report,
         &NoHook,
-    );
-    ExitCode::from(status.exit_status())
+    ))
 }

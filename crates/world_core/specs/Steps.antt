@@ -16,6 +16,14 @@ use Rattle.world_core.specs.declared.world_keys.WorldValue.{WorldValue}
 use Rattle.world_core.specs.declared.steps.Step.{Step}
 use Rattle.world_core.specs.declared.steps.Step.TheVariants.{Feed, Flush, Look, AskOutline, AskMask, AskComposite, Fill, Fail, Unpin, Limits, Show}
 
+-- The step takes no memory, in whatever state it is made.
+abbrev pub TakesNoMemory : Step → Type 0
+TakesNoMemory (Flush actor) = Unit {0}
+TakesNoMemory (Fail actor i) = Unit {0}
+TakesNoMemory (Unpin actor i) = Unit {0}
+TakesNoMemory (Limits kind shard entries budget) = Unit {0}
+TakesNoMemory _ = ⊥
+
 -- the history after the event of a chunk was offered; one that gives none is refused
 abbrev pub after_chunk : List rule.Entry → Result Event ChunkRefusal → List rule.Entry
 after_chunk history (Ok event) = rule.after history event

@@ -1,5 +1,5 @@
 //! The world: what it is, and its steps.
-ghost use Rattle.std.specs.Prelude.{◌≡◌, ◌≤◌, ◌<◌, ℕ, All, IfErr, IfOk, [], length, take};
+ghost use Rattle.std.specs.Prelude.{◌≡◌, ◌≤◌, ◌<◌, ℕ, All, IfErr, IfOk, IsOk, Ok, [], length, take};
 ghost use Rattle.std.specs.Arc.{arc_value};
 ghost use Rattle.ass_events.specs.Events.{event_of};
 ghost use Rattle.ass_events.specs.Histories.{flushed};
@@ -19,7 +19,7 @@ ghost use Rattle.world_core.specs.Made.{IsMade, IsMadeBy};
 ghost use Rattle.world_core.specs.Records.{BeginsWithLooks, IsRecorded};
 ghost use Rattle.world_core.specs.Runs.{IsRunOf, ShowPicturesOfFirst};
 ghost use Rattle.world_core.specs.States.{LookState, WorldState, opening_world, with_look};
-ghost use Rattle.world_core.specs.Steps.{after_chunk, after_step, held_key};
+ghost use Rattle.world_core.specs.Steps.{TakesNoMemory, after_chunk, after_step, held_key};
 ghost use Rattle.world_core.specs.Replies.{AreReplies, IsAskReply, IsFedReply, IsLookReply, IsReply, IsShowReply};
 ghost use Rattle.world_core.specs.Tellings.{IsValidStep, IsWorld, TellsLook, TellsWorld, WorldTag};
 ghost use Rattle.world_core.specs.declared.steps.Reply.TheVariants as reply;
@@ -75,7 +75,7 @@ pub fn open(alloc: Global, script: Arc<Script>, fonts: Arc<FontSet>, budget: u64
     })
 }
 
-/// One step. Want of memory gives back the world as it was.
+/// One step. Want of memory gives back the world as it was, and comes of no step that takes none.
 pub fn one_step(alloc: Global, mut world: World, step: &Step) -> Result<(World, Reply), World>
     requires told { IsWorld world }
     requires step { IsValidStep (arc_value world.fonts).fonts step.now }
@@ -87,6 +87,7 @@ pub fn one_step(alloc: Global, mut world: World, step: &Step) -> Result<(World, 
     ensures laws { IfOk result (λ r. KeepsLaws world_meaning r.0.caches) }
     ensures err { (s : WorldState WorldTag) → TellsWorld world s → IfErr result (λ w. TellsWorld w s) }
     ensures inputs { IfErr result (λ w. (w.script ≡ world.script) × (w.fonts ≡ world.fonts)) }
+    ensures calm { TakesNoMemory step.now → IsOk result }
 {
     match world.step(alloc, step) {
         Ok(reply) => Ok((world, reply)),
@@ -129,6 +130,7 @@ impl World {
         requires told { IsWorld self.old }
         requires step { IsValidStep (arc_value self.old.fonts).fonts step.now }
         ensures made { IsMade self.old step.now self.new result }
+        ensures calm { TakesNoMemory step.now → IsOk result }
         ensures laws { KeepsLaws world_meaning self.new.caches }
     {
         let made = self.make(alloc, step);
@@ -146,20 +148,21 @@ impl World {
     fn make(&mut self, alloc: Global, step: &Step) -> Mem<Reply>
         requires told { IsWorld self.old }
         requires step { IsValidStep (arc_value self.old.fonts).fonts step.now }
-        ensures { IsMade self.old step.now self.new result }
+        ensures made { IsMade self.old step.now self.new result }
+        ensures calm { TakesNoMemory step.now → IsOk result }
     {
         match step {
             Step::Feed(_, chunk) => self.feed(alloc, chunk),
-            Step::Flush(_) => self.flush(),
+            Step::Flush(_) => Ok(self.flush()),
             Step::Look(actor, t, size) => self.look(alloc, *actor, *t, size),
             Step::AskOutline(actor, key) => self.ask_outline(alloc, *actor, key),
             Step::AskMask(actor, key) => self.ask_mask(alloc, *actor, key),
             Step::AskComposite(actor, key) => self.ask_composite(alloc, *actor, key),
             Step::Fill(actor, i) => self.fill(alloc, *actor, *i),
-            Step::Fail(actor, i) => self.fail(*actor, *i),
-            Step::Unpin(actor, i) => self.unpin(*actor, *i),
+            Step::Fail(actor, i) => Ok(self.fail(*actor, *i)),
+            Step::Unpin(actor, i) => Ok(self.unpin(*actor, *i)),
             Step::Limits(kind, shard, entries, budget) => {
-                self.set_limits(*kind, *shard, *entries, *budget)
+                Ok(self.set_limits(*kind, *shard, *entries, *budget))
             }
             Step::Show(actor) => self.show(alloc, *actor),
         }
@@ -174,11 +177,11 @@ impl World {
         feed(alloc, &mut self.track, chunk)
     }
 
-    fn flush(&mut self) -> Mem<Reply>
+    fn flush(&mut self) -> Reply
         requires { IsWorld self.old }
-        ensures { IsMadeBy (λ s. record s { history = flushed s.history }) (λ s r. r ≡ reply.Flushed (flush_answer s.history)) self.old self.new result }
+        ensures { IsMadeBy (λ s. record s { history = flushed s.history }) (λ s r. r ≡ reply.Flushed (flush_answer s.history)) self.old self.new (Ok result) }
     {
-        Ok(Reply::Flushed(flush(&mut self.track)))
+        Reply::Flushed(flush(&mut self.track))
     }
 
     fn look(&mut self, alloc: Global, actor: u32, t: i64, size: &Size) -> Mem<Reply>
@@ -241,30 +244,30 @@ impl World {
         fill(alloc, &mut self.caches, &self.fonts, actor, i)
     }
 
-    fn fail(&mut self, actor: u32, i: usize) -> Mem<Reply>
+    fn fail(&mut self, actor: u32, i: usize) -> Reply
         requires { IsWorld self.old }
-        ensures { IsMade self.old (step.Fail actor i) self.new result }
+        ensures { IsMade self.old (step.Fail actor i) self.new (Ok result) }
     {
-        Ok(fail(&mut self.caches, &self.fonts, actor, i))
+        fail(&mut self.caches, &self.fonts, actor, i)
     }
 
-    fn unpin(&mut self, actor: u32, i: usize) -> Mem<Reply>
+    fn unpin(&mut self, actor: u32, i: usize) -> Reply
         requires { IsWorld self.old }
-        ensures { IsMade self.old (step.Unpin actor i) self.new result }
+        ensures { IsMade self.old (step.Unpin actor i) self.new (Ok result) }
     {
-        Ok(unpin(&mut self.caches, &self.fonts, actor, i))
+        unpin(&mut self.caches, &self.fonts, actor, i)
     }
 
-    fn set_limits(&mut self, kind: ValueKind, shard: u32, entries: u32, budget: u64) -> Mem<Reply>
+    fn set_limits(&mut self, kind: ValueKind, shard: u32, entries: u32, budget: u64) -> Reply
         requires told { IsWorld self.old }
         requires shard { shard < shard_count }
         requires least { 1 ≤ entries }
         requires most { entries ≤ max_entries }
         requires budget { budget ≤ max_budget }
-        ensures { IsMade self.old (step.Limits kind shard entries budget) self.new result }
+        ensures { IsMade self.old (step.Limits kind shard entries budget) self.new (Ok result) }
     {
         set_limits(&mut self.caches, &self.fonts, kind, shard, entries, budget);
-        Ok(Reply::Done)
+        Reply::Done
     }
 
     fn show(&self, alloc: Global, actor: u32) -> Mem<Reply>

@@ -1,12 +1,15 @@
 use Rattle.std.proofs.Common.{rules, subst}
 use Rattle.play_command.specs.Working.{IsSummedOf}
-use Rattle.play_command.proofs.SelftestLemmas.{inputs_playable, played_out, refused}
+use Rattle.play_command.proofs.SelftestLemmas.{inputs_playable, never_fails, played_out, refused}
 use Rattle.play_command.proofs.selftest.do_selftest.Goals as goal
 
 pub play_with-end-requires : goal.play_with-end-requires
 play_with-end-requires g c =
     let playable = inputs_playable c.args.seed c.args.events c.args.workers c.in-Ok.inputs c.selftest_job-job.result c.selftest_job-job.ensures c.requires c.in-Ok.ensures.inputs in
     search (rules, playable)
+
+pub summed-requires : goal.summed-requires
+summed-requires g c = never_fails _ _ _ _ _ c.play_with-end.result c.play_with-end.ensures
 
 pub returns-in-Ok : goal.returns-in-Ok
 returns-in-Ok g c =

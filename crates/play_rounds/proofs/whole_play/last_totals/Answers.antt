@@ -7,7 +7,7 @@ use Rattle.evict_core.specs.declared.counts.Totals.{Totals}
 use Rattle.mask_caches.specs.Caches.{shown_totals}
 use Rattle.mask_keys.specs.Equality.{equal_composites}
 use Rattle.track_history.specs.Calls.{TrackView}
-use Rattle.play_rounds.proofs.Turns.{totals_balance, totals_count_asks}
+use Rattle.play_rounds.proofs.Turns.{known, totals_balance, totals_count_asks}
 use Rattle.play_workers.specs.Asks.{masks_seen}
 use Rattle.play_rounds.proofs.Whole.{fewer_asks}
 use Rattle.play_rounds.proofs.whole_play.last_totals.Goals as goal
@@ -16,8 +16,14 @@ pub returns-clause-first : goal.returns-clause-first
 returns-clause-first g c = ap (λ (p : TrackView). p.number) c.totals.ensures.track ∙ c.requires.number
 
 pub returns-clause-totals : goal.returns-clause-totals
-returns-clause-totals g c asks few =
+returns-clause-totals g c budget asks opening opened few =
     let told = c.totals.ensures in record {
+      caches = c.args.renderer.now.caches;
+      first = opening.caches;
+      opened = opened.caches;
+      last = c.totals.result.0.caches;
+      legal = known c.args.renderer.now c.args.first c.totals.result.0 c.requires told.pass told.track told.outlines told.masks told.composites;
+      are = told.totals;
       three = ap length told.totals;
       budgets = told.budgets;
       accounted = subst (λ (totals : List Totals). All IsAccounted totals) (sym told.totals)

@@ -1,6 +1,7 @@
-use Rattle.std.proofs.Common.{arith, subst}
+use Rattle.std.proofs.Common.{arith, subst, sym}
 use Rattle.std.specs.Arc.{arc_value}
 use Rattle.std.proofs.lemmas.Result.{IfErr-at_err, IfOk-at_ok}
+use Rattle.renderer.specs.Passes.{IsNewRenderer}
 use Rattle.play_model.specs.Plays.{PlayView}
 use Rattle.play_workers.specs.Asks.{masks_seen}
 use Rattle.play_workers.specs.Stages.{play_on}
@@ -19,10 +20,12 @@ pub returns : goal.returns
 returns g c =
     let stage = c.in-Ok.set.0 in let old = c.args.frames.now in let new = c.all_times-first.new.frames in
     let held = g.F.Sink.held in let faults = g.F.Sink.faults in let puts = g.F.Sink.puts in let seen = masks_seen stage.renderer in
+    let opened : IsNewRenderer stage.renderer c.in-Ok.set.1 stage.job.budget =
+    subst (λ (play : PlayView). IsNewRenderer stage.renderer c.in-Ok.set.1 play.job.budget) (sym c.in-Ok.ensures.play) c.in-Ok.ensures.opened in
     record {
       played = subst (λ (play : PlayView). IsPlayed play c.end_of-end.result (held old) (held new) (faults old) (faults new) (puts old) (puts new)) c.in-Ok.ensures.play
           (play_ends (play_on stage) (history_of c.all_times-first.result.0.track.seen) (held old) (held new) (faults old) (faults new) (puts old) (puts new) (seen c.in-Ok.set.1) (seen c.all_times-first.result.0) stage.good c.in-Ok.ensures.stage.good
-          c.last_totals-first.result.1 c.last_totals-first.ensures.totals c.all_times-first.result.1 c.end_of-end.result c.end_of-end.ensures
+          c.last_totals-first.result.1 (λ asks few. c.last_totals-first.ensures.totals stage.job.budget asks c.in-Ok.set.1 opened few) c.all_times-first.result.1 c.end_of-end.result c.end_of-end.ensures
           (λ one is. IfOk-at_ok (λ one. HavePlayed (play_on stage) stage.job.times (history_of c.all_times-first.result.0.track.seen) one
           (λ images. AreImagesWritten images (held old) (held new) (faults old) (faults new) (puts old) (puts new) (seen c.in-Ok.set.1) (seen c.all_times-first.result.0))) is c.all_times-first.ensures.played)
           (λ s is. IfErr-at_err (λ s. IsStopped (play_on stage) s (held old) (held new) (faults old) (faults new) (puts old) (puts new)) is c.all_times-first.ensures.stopped));

@@ -24,3 +24,6 @@ returns-clause-new c = ap (λ (p : TrackView). history_of p.seen) c.in_ok-render
 
 pub returns-clause-next : goal.returns-clause-next
 returns-clause-next c = ap (λ (p : TrackView). p.next) c.in_ok-renderer.ensures.new.track
+
+pub returns-clause-opened : goal.returns-clause-opened
+returns-clause-opened c = c.in_ok-renderer.ensures.new

@@ -1,0 +1,28 @@
+-- Public: a run of the program, by its words.
+use Rattle.std.specs.Prelude.{◌≡◌, ℕ, List, [], Some, Ok, Err}
+use Rattle.std.specs.Io.KnownBytes.{Keeps}
+use Rattle.ass_io.specs.Fetched.{Told}
+use Rattle.run_status.specs.declared.status.Status.{Status}
+use Rattle.run_words.specs.Words.{job_of}
+use Rattle.run_words.specs.declared.job.Job.TheVariants.{Play, Selftest}
+use Rattle.run_words.specs.declared.job.PlayJob.{PlayJob}
+use Rattle.single_run.specs.Outcomes.{IsOrMemory, IsReported}
+use Rattle.single_run.specs.Runs.{IsJobRun, SinkChange}
+use Rattle.single_run.specs.Works.{work_asked}
+use Rattle.single_run.specs.declared.work.Work.{Work}
+use Rattle.play_command.specs.PlayRuns.{IsPlayRun}
+use Rattle.play_command.specs.SelftestRuns.{IsSelftestRun}
+
+-- The words were refused, nothing was shown, and the report got no more than a line.
+pub record IsRefusedRun (why : Status) (frames report : SinkChange) (status : Status) : Type 0 where
+  pub answered : IsOrMemory why status
+  pub shown : Keeps frames.held_before frames.held_now
+  pub reported : IsReported status report.held_before report.held_now report.faults_before report.faults_now (λ text. text ≡ [])
+
+-- A run that ended with this status: what the words ask for was done, or they were refused.
+pub record IsRunOfWords (told : List ℕ → Told) (words : List (List ℕ)) (frames report : SinkChange) (puts_before puts_now : ℕ) (status : Status) : Type 0 where
+  pub refused : (why : Status) → work_asked words ≡ Err why → IsRefusedRun why frames report status
+  pub work : (work : Work) → work_asked words ≡ Ok (Some work) → IsJobRun told work frames report status
+  pub play : (job : PlayJob) (script : List ℕ) (fonts : List (List ℕ)) → job_of words ≡ Ok (Play job script fonts)
+      → IsPlayRun told job script fonts frames report puts_before puts_now status
+  pub selftest : (seed events workers : ℕ) → job_of words ≡ Ok (Selftest seed events workers) → IsSelftestRun seed events report status
