@@ -1,8 +1,12 @@
 pub mod Answering
+pub mod BitmapFonts
 pub mod Faults
+pub mod FileLemmas
 pub mod Fronts
 pub mod Given
 pub mod Likes
+pub mod OutlineGlyphs
+pub mod PixelLemmas
 pub mod PlaceLemmas
 pub mod ReadLemmas
 pub mod States

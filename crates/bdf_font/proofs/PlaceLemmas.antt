@@ -1,11 +1,11 @@
 -- The places of glyphs by their codes: sorted, and found by halving.
-use Rattle.std.proofs.Common.{◌≡◌, ℕ, suc, ◌+◌, ◌<◌, ◌≤◌, ◌⊎◌, inl, inr, le_refl, ltb, List, [], ◌∷◌, length, get_or, Bool, true, false, cond, not, ◌&&◌, filter, Option, Some, None, refl, ap, sym, ◌∙◌, arith, subst, zero-add, ℤ, pos, negsuc, ◌≤ℤ◌, ◌<ℤ◌}
+use Rattle.std.proofs.Common.{◌≡◌, ℕ, suc, ◌+◌, ◌<◌, ◌≤◌, ◌⊎◌, inl, inr, le_refl, List, [], ◌∷◌, length, get_or, Bool, true, false, cond, not, ◌&&◌, filter, Option, Some, None, refl, ap, sym, ◌∙◌, arith, subst, zero-add, ℤ, pos, negsuc, ◌≤ℤ◌, ◌<ℤ◌}
 use Rattle.std.specs.Prelude.{int_lt, IfSome}
 use Rattle.std.specs.Option.{option_or}
 use Rattle.std.specs.List.Sorted.{IsPartitionPoint, IsPartitionedBy, IsStableByKey, ties}
 use Rattle.std.specs.Ordering.{int_cmp, int_eq, is_lt, is_eq}
 use Rattle.std.specs.declared.cmp.Ordering.TheVariants.{Less, Equal, Greater}
-use Rattle.std.proofs.lemmas.Bool.{ltb-true, ltb-false}
+use Rattle.std.proofs.lemmas.Bool.{cases_lt}
 use Rattle.std.proofs.lemmas.Int.{ints}
 use Rattle.std.proofs.lemmas.Cmp.{int_cmp_total}
 use Rattle.std.proofs.lemmas.List.Sorted.{sorted_far, ranks_by}
@@ -108,13 +108,6 @@ meets a b h le = eq_is a b ∙ (ap (λ p. not p && not (int_lt b a)) h ∙ ap no
 is_above : (a b : ℤ) → a <ℤ b → int_lt a b ≡ true
 is_above a b h = grind (arith, ints)
 
-lt_or_ge : (m n : ℕ) → (m < n) ⊎ (n ≤ m)
-lt_or_ge m n = cases (ltb m n) refl
-  where
-    cases : (b : Bool) → ltb m n ≡ b → (m < n) ⊎ (n ≤ m)
-    cases true e = inl (ltb-true m n e)
-    cases false e = inr (ltb-false m n e)
-
 -- where the code stands at the place that halving gives
 pub first_at-there : (entries : List (ℤ × ℕ)) (code : ℤ) (at : ℕ) (d : ℤ × ℕ) → at < length entries → IsPartitionPoint (λ entry. int_lt entry.0 code ≡ true) (λ entry. int_lt entry.0 code ≡ false) entries at →
     (get_or entries at d).0 ≤ℤ code → first_at code entries ≡ Some (get_or entries at d).1
@@ -126,7 +119,7 @@ first_at-there entries code at d room point le =
 pub first_at-nowhere : (entries : List (ℤ × ℕ)) (code : ℤ) (at : ℕ) (d : ℤ × ℕ) → IsInCodeOrder entries → IsPartitionPoint (λ entry. int_lt entry.0 code ≡ true) (λ entry. int_lt entry.0 code ≡ false) entries at →
     (at < length entries → code <ℤ (get_or entries at d).0) → first_at code entries ≡ None
 first_at-nowhere entries code at d order point other =
-    found_nowhere (first_at code) (λ entry. int_eq entry.0 code) (λ entry. Some entry.1) None refl (λ entry rest. refl) entries d (λ k room. sides k room (lt_or_ge k at))
+    found_nowhere (first_at code) (λ entry. int_eq entry.0 code) (λ entry. Some entry.1) None refl (λ entry rest. refl) entries d (λ k room. sides k room (cases_lt k at))
   where
     sides : (k : ℕ) → k < length entries → (k < at) ⊎ (at ≤ k) → int_eq (get_or entries k d).0 code ≡ false
     sides k room (inl less) = eq_below (get_or entries k d).0 code (point.0 k d (omega arith) less)

@@ -1,17 +1,43 @@
 -- Public: fonts, and what is found in them.
-use Rattle.std.specs.Prelude.{ℕ, ◌+◌, if◌then◌else◌, List, [], ◌∷◌, Option, Some, None, option_and_then, ℤ, pos, negsuc}
+use Rattle.std.specs.Prelude.{ℕ, ◌+◌, if◌then◌else◌, List, [], ◌∷◌, Option, Some, None, option_and_then, ℤ, pos, negsuc, neg_ℤ, ◌-ℤ◌}
 use Rattle.std.specs.Option.{option_or}
 use Rattle.std.specs.Ordering.{int_eq}
+use Rattle.ass_num.specs.Floor.{floor_div}
 use Rattle.ass_num.specs.Names.{same_name}
+use Rattle.sfnt_font.specs.declared.numbers.Bar.{Bar}
 use Rattle.bdf_font.specs.declared.glyphs.FontGlyph.{FontGlyph}
 
--- A font as contracts see it.
+-- A font as contracts see it. Its bars and the step of its bold glyphs are in the units of its glyphs: pixels of bitmaps, or units of contours.
 pub record FontValue : Type 0 where
   pub name : List ℕ
   pub ascent : ℤ
   pub descent : ℤ
   pub default_char : Option ℤ
   pub glyphs : List FontGlyph
+  pub underline : Option Bar
+  pub strikeout : Option Bar
+  pub bold_step : ℤ
+
+-- where the strikeout of bitmaps begins: half of the font's ascent and one pixel above the baseline
+abbrev pub strikeout_top : ℤ → ℤ
+strikeout_top ascent = neg_ℤ (floor_div ascent (pos 2)) -ℤ pos 1
+
+-- a bar one pixel high
+abbrev pub pixel_bar : ℤ → Bar
+pixel_bar top = record { top = top; size = pos 1 }
+
+-- A font of bitmaps. Its bars are one pixel high, and its bold glyphs one pixel wider.
+abbrev pub bitmap_font : List ℕ → ℤ → ℤ → Option ℤ → List FontGlyph → FontValue
+bitmap_font name ascent descent default_char glyphs = record {
+  name = name;
+  ascent = ascent;
+  descent = descent;
+  default_char = default_char;
+  glyphs = glyphs;
+  underline = Some (pixel_bar (pos 1));
+  strikeout = Some (pixel_bar (strikeout_top ascent));
+  bold_step = pos 1;
+}
 
 -- the place of the first glyph with this code, where the first of the glyphs has the place n
 abbrev pub place_from : ℕ → ℤ → List FontGlyph → Option ℕ

@@ -9,7 +9,8 @@ use Rattle.bdf_font.specs.Limits.{max_glyphs}
 use Rattle.bdf_font.specs.Words.{first_word, after_word, offset_of, bounding_box_of, family_name_of}
 use Rattle.ass_num.specs.Wholes.{whole_of}
 use Rattle.bdf_font.specs.Keywords.{keyword_of}
-use Rattle.bdf_font.specs.Fonts.{FontValue}
+use Rattle.bdf_font.specs.Fonts.{FontValue, bitmap_font}
+use Rattle.bdf_font.specs.Pixels.{bitmap_glyph}
 use Rattle.bdf_font.specs.declared.cause.FontCause.{FontCause}
 use Rattle.bdf_font.specs.declared.cause.FontCause.TheVariants.{NoStart, BadNumber, BadRow, Misplaced, NoEnd}
 use Rattle.bdf_font.specs.declared.cause.FontRefusal.{FontRefusal}
@@ -17,6 +18,7 @@ use Rattle.bdf_font.specs.declared.cause.FontRefusal.TheVariants as refusal
 use Rattle.bdf_font.specs.declared.cause.FontRefusal.TheVariants.{BadFont, TooLarge}
 use Rattle.bdf_font.specs.declared.glyphs.FontGlyph.{FontGlyph}
 use Rattle.bdf_font.specs.declared.glyphs.BoundingBox.{BoundingBox}
+use Rattle.bdf_font.specs.declared.glyphs.Pixels.{Pixels}
 use Rattle.bdf_font.specs.declared.keyword.Keyword.{Keyword}
 use Rattle.bdf_font.specs.declared.keyword.Keyword.TheVariants as keyword
 use Rattle.bdf_font.specs.declared.keyword.GlyphKeyword.TheVariants as in_glyph
@@ -188,17 +190,16 @@ bytes_or_none (Err _) = []
 abbrev pub row_bytes : ℕ → List ℕ → List ℕ
 row_bytes len line = bytes_or_none (decode_sized (trimmed line) len)
 
+-- the bitmap of a box with these bytes
+abbrev pub cell_pixels : BoundingBox → List ℕ → Pixels
+cell_pixels cell bits = record { w = cell.w; h = cell.h; x = cell.x; y = cell.y; bits = bits }
+
 -- what the lines of a glyph and its rows make; a missing code is -1, and a missing advance the width
 abbrev pub glyph_in : List (List ℕ) → List (List ℕ) → FontGlyph
-glyph_in head rows = record {
-  code = unwrap_or (last_given (line_value code_in) head) (negsuc 0);
-  advance = unwrap_or (last_given (line_value advance_in) head) (pos (cell_of head).w);
-  w = (cell_of head).w;
-  h = (cell_of head).h;
-  x = (cell_of head).x;
-  y = (cell_of head).y;
-  bits = flat_map (row_bytes (row_len (cell_of head).w)) rows;
-}
+glyph_in head rows = bitmap_glyph
+    (unwrap_or (last_given (line_value code_in) head) (negsuc 0))
+    (unwrap_or (last_given (line_value advance_in) head) (pos (cell_of head).w))
+    (cell_pixels (cell_of head) (flat_map (row_bytes (row_len (cell_of head).w)) rows))
 
 abbrev pub glyphs_in : Block → List FontGlyph
 glyphs_in (Single line) = []
@@ -225,13 +226,12 @@ box_depth (Some cell) = neg_ℤ cell.y
 
 -- What these lines and glyphs make: the family name goes before the font's, and a missing ascent and descent are the box's.
 abbrev pub font_said : List (List ℕ) → List FontGlyph → FontValue
-font_said lines glyphs = record {
-  name = unwrap_or (last_property (λ on. line_value (family_in on)) false lines) (unwrap_or (last_given (line_value title_in) lines) []);
-  ascent = from_zero (unwrap_or (last_property (λ on. line_value (ascent_in on)) false lines) (box_top (last_given (line_value box_in) lines)));
-  descent = from_zero (unwrap_or (last_property (λ on. line_value (descent_in on)) false lines) (box_depth (last_given (line_value box_in) lines)));
-  default_char = last_property (λ on. line_value (default_in on)) false lines;
-  glyphs = glyphs;
-}
+font_said lines glyphs = bitmap_font
+    (unwrap_or (last_property (λ on. line_value (family_in on)) false lines) (unwrap_or (last_given (line_value title_in) lines) []))
+    (from_zero (unwrap_or (last_property (λ on. line_value (ascent_in on)) false lines) (box_top (last_given (line_value box_in) lines))))
+    (from_zero (unwrap_or (last_property (λ on. line_value (descent_in on)) false lines) (box_depth (last_given (line_value box_in) lines))))
+    (last_property (λ on. line_value (default_in on)) false lines)
+    glyphs
 
 -- ---- where a line may stand
 

@@ -1,21 +1,33 @@
--- Public: what holds of every text, in the words of its lines.
-use Rattle.std.specs.Prelude.{◌≡◌, ℕ, ◌+◌, true, false, List, ◌∷◌, ◌++◌, length, Result, Ok, Err}
+-- Public: what holds of every text, in the words of its lines, and of every file.
+use Rattle.std.specs.Prelude.{◌≡◌, ℕ, ◌+◌, Bool, true, false, if◌then◌else◌, List, [], ◌∷◌, ◌++◌, length, All, Result, Ok, Err, ℤ, pos, ◌+ℤ◌}
+use Rattle.ass_num.specs.declared.geometry.Point.{Point}
+use Rattle.ass_num.specs.declared.geometry.Matrix.{Matrix}
+use Rattle.outline_points.specs.Glyphs.{Bitmap, bitmap_quads, quad}
 use Rattle.bdf_font.specs.declared.cause.FontCause.{FontCause}
 use Rattle.bdf_font.specs.declared.cause.FontCause.TheVariants.{NoEnd}
+use Rattle.bdf_font.specs.declared.cause.FontFileRefusal.{FontFileRefusal}
 use Rattle.bdf_font.specs.declared.cause.FontRefusal.{FontRefusal}
 use Rattle.bdf_font.specs.declared.cause.FontRefusal.TheVariants.{BadFont}
 use Rattle.bdf_font.specs.declared.glyphs.FontGlyph.{FontGlyph}
+use Rattle.bdf_font.specs.declared.glyphs.GlyphShape.TheVariants as shape
+use Rattle.bdf_font.specs.declared.glyphs.Pixels.{Pixels}
 use Rattle.bdf_font.specs.declared.keyword.Keyword.TheVariants as keyword
 use Rattle.bdf_font.specs.declared.keyword.GlyphKeyword.{GlyphKeyword}
 use Rattle.bdf_font.specs.declared.keyword.HeaderKeyword.TheVariants as in_header
 use Rattle.bdf_font.specs.declared.keyword.PropertyKeyword.{PropertyKeyword}
 use Rattle.bdf_font.specs.Words.{after_word}
-use Rattle.bdf_font.specs.Fonts.{FontValue}
+use Rattle.bdf_font.specs.Files.{IsFontFileAnswer}
+use Rattle.bdf_font.specs.Fonts.{FontValue, strikeout_top}
+use Rattle.bdf_font.specs.GlyphRings.{bitmap_of, rings_of_glyph}
 use Rattle.bdf_font.specs.Grammar.{IsFontAnswer, says, is_read, open_after, glyph_in, font_said}
 
 -- Each list of lines has exactly one answer.
 abbrev pub OneAnswer : Type 0
 OneAnswer = (lines : List (List ℕ)) → (answer : Result FontValue FontRefusal) × IsFontAnswer lines answer × ((other : Result FontValue FontRefusal) → IsFontAnswer lines other → other ≡ answer)
+
+-- So has each file.
+abbrev pub OneFileAnswer : Type 0
+OneFileAnswer = (bytes : List ℕ) → (answer : Result FontValue FontFileRefusal) × IsFontFileAnswer bytes answer × ((other : Result FontValue FontFileRefusal) → IsFontFileAnswer bytes other → other ≡ answer)
 
 -- What follows the end of a font changes nothing.
 abbrev pub EndsTheFont : Type 0
@@ -50,3 +62,21 @@ LaterPropertyCounts = (kind : PropertyKeyword) (front : List (List ℕ)) (earlie
     says earlier ≡ keyword.Header (in_header.Property kind) → says later ≡ keyword.Header (in_header.Property kind) →
     open_after false (front ++ earlier ∷ mid) ≡ true → is_read true (keyword.Header (in_header.Property kind)) (after_word later) ≡ true →
     font_said (front ++ earlier ∷ mid ++ later ∷ back) glyphs ≡ font_said (front ++ mid ++ later ∷ back) glyphs
+
+-- ---- the rings of glyphs of bitmaps
+
+-- The rings of a bitmap in a font with this ascent: its pixels, and bars one pixel high, one pixel below the baseline and in half of the ascent.
+abbrev pub bitmap_rings : Matrix → Bool → Bool → Bool → ℤ → ℤ → Bitmap → List (List Point)
+bitmap_rings m bold underline strikeout ascent advance bitmap =
+    (bitmap_quads m bold bitmap ++ (if underline then quad m (pos 0) (pos 1) advance (pos 2) ∷ [] else []))
+    ++ (if strikeout then quad m (pos 0) (strikeout_top ascent) advance (strikeout_top ascent +ℤ pos 1) ∷ [] else [])
+
+-- The glyph has a bitmap, and its rings are those of that.
+pub record HasBitmapRings (m : Matrix) (bold underline strikeout : Bool) (font : FontValue) (glyph : FontGlyph) : Type 0 where
+  pub pixels : Pixels
+  pub shape : glyph.shape ≡ shape.Pixels pixels
+  pub rings : rings_of_glyph m bold underline strikeout font glyph ≡ bitmap_rings m bold underline strikeout font.ascent glyph.advance (bitmap_of pixels)
+
+-- All glyphs of a font that lines spell are so.
+abbrev pub BitmapRingsStay : Type 0
+BitmapRingsStay = (lines : List (List ℕ)) (font : FontValue) → IsFontAnswer lines (Ok font) → (m : Matrix) (bold underline strikeout : Bool) → All (HasBitmapRings m bold underline strikeout font) font.glyphs

@@ -2,11 +2,15 @@ pub mod Lines
 pub mod Limits
 pub mod Words
 pub mod Keywords
+pub mod Pixels
 pub mod Fonts
+pub mod Outlines
+pub mod FontData
 pub mod GlyphRings
 pub mod Places
 pub mod Ranges
 pub mod Grammar
+pub mod Files
 pub mod Rows
 pub mod Steps
 pub mod Laws

@@ -1,4 +1,4 @@
--- Public: the places of glyphs by their codes, as a font keeps them.
+-- Inner: the places of glyphs by their codes, as a font keeps them.
 use Rattle.std.specs.Prelude.{◌≡◌, ℕ, ◌+◌, if◌then◌else◌, List, [], ◌∷◌, Option, Some, None, ℤ}
 use Rattle.std.specs.List.Sorted.{IsSortedByKey}
 use Rattle.std.specs.Ordering.{int_cmp, int_eq}

@@ -1,10 +1,15 @@
 -- Public: the ranges of what a font holds.
 use Rattle.std.specs.Prelude.{◌≡◌, ℕ, ◌+◌, ◌*◌, ◌/◌, ◌<◌, ◌≤◌, length, All, IfSome, Result, Ok, Err, ℤ, pos, ◌≤ℤ◌}
 use Rattle.ass_num.specs.Limits.{IsWithin}
-use Rattle.bdf_font.specs.Limits.{max_ascent, max_bitmap_side, max_glyphs, max_offset}
+use Rattle.outline_points.specs.Contours.{IsGlyphPoint}
+use Rattle.sfnt_font.specs.declared.numbers.Bar.{Bar}
+use Rattle.bdf_font.specs.Limits.{max_bitmap_side, max_font_glyphs, max_glyphs, max_measure, max_offset}
 use Rattle.bdf_font.specs.declared.cause.Stop.{Stop}
 use Rattle.bdf_font.specs.declared.cause.Stop.TheVariants as stop
 use Rattle.bdf_font.specs.declared.glyphs.FontGlyph.{FontGlyph}
+use Rattle.bdf_font.specs.declared.glyphs.GlyphShape.{GlyphShape}
+use Rattle.bdf_font.specs.declared.glyphs.GlyphShape.TheVariants as shape
+use Rattle.bdf_font.specs.declared.glyphs.Pixels.{Pixels}
 use Rattle.bdf_font.specs.declared.glyphs.BoundingBox.{BoundingBox}
 use Rattle.bdf_font.specs.declared.header.Header.{Header}
 use Rattle.bdf_font.specs.declared.reading.Reading.{Reading}
@@ -23,22 +28,44 @@ pub record IsBox (cell : BoundingBox) : Type 0 where
   pub x : IsOffset cell.x
   pub y : IsOffset cell.y
 
--- A glyph that a font may have: its bitmap has a row of whole bytes for each line of pixels.
+-- a measure of a font, and one that isn't below 0
+abbrev pub IsMeasure : ℤ → Type 0
+IsMeasure z = IsWithin max_measure z
+
+abbrev pub IsLength : ℤ → Type 0
+IsLength z = (pos 0 ≤ℤ z) × (z ≤ℤ pos max_measure)
+
+-- A bitmap that a glyph may have: a row of whole bytes for each line of pixels.
+pub record IsBitmap (pixels : Pixels) : Type 0 where
+  pub w : pixels.w ≤ max_bitmap_side
+  pub h : pixels.h ≤ max_bitmap_side
+  pub x : IsOffset pixels.x
+  pub y : IsOffset pixels.y
+  pub rows : length pixels.bits ≡ pixels.h * ((pixels.w + 7) / 8)
+
+abbrev pub IsShape : GlyphShape → Type 0
+IsShape (shape.Pixels pixels) = IsBitmap pixels
+IsShape (shape.Contours contours) = All (All IsGlyphPoint) contours
+
+-- A glyph that a font may have.
 pub record IsGlyph (glyph : FontGlyph) : Type 0 where
-  pub advance : IsOffset glyph.advance
-  pub w : glyph.w ≤ max_bitmap_side
-  pub h : glyph.h ≤ max_bitmap_side
-  pub x : IsOffset glyph.x
-  pub y : IsOffset glyph.y
-  pub rows : length glyph.bits ≡ glyph.h * ((glyph.w + 7) / 8)
+  pub advance : IsMeasure glyph.advance
+  pub shape : IsShape glyph.shape
+
+pub record IsBar (bar : Bar) : Type 0 where
+  pub top : IsMeasure bar.top
+  pub size : IsLength bar.size
 
 pub record IsFont (font : FontValue) : Type 0 where
   pub ascent : pos 0 ≤ℤ font.ascent
-  pub ascent_most : font.ascent ≤ℤ pos max_ascent
+  pub ascent_most : font.ascent ≤ℤ pos max_measure
   pub descent : pos 0 ≤ℤ font.descent
-  pub descent_most : font.descent ≤ℤ pos max_offset
+  pub descent_most : font.descent ≤ℤ pos max_measure
   pub glyphs : All IsGlyph font.glyphs
-  pub few : length font.glyphs ≤ max_glyphs
+  pub few : length font.glyphs ≤ max_font_glyphs
+  pub underline : IfSome font.underline IsBar
+  pub strikeout : IfSome font.strikeout IsBar
+  pub bold_step : IsLength font.bold_step
 
 -- ---- while a font is read
 

@@ -7,8 +7,9 @@ use Rattle.bdf_font.specs.Limits.{max_glyphs}
 use Rattle.bdf_font.specs.Words.{first_word, after_word, offset_of, bounding_box_of, family_name_of}
 use Rattle.ass_num.specs.Wholes.{whole_of}
 use Rattle.bdf_font.specs.Keywords.{keyword_of}
-use Rattle.bdf_font.specs.Fonts.{FontValue}
-use Rattle.bdf_font.specs.Grammar.{from_zero, box_top, box_depth}
+use Rattle.bdf_font.specs.Fonts.{FontValue, bitmap_font}
+use Rattle.bdf_font.specs.Pixels.{bitmap_glyph}
+use Rattle.bdf_font.specs.Grammar.{from_zero, box_top, box_depth, cell_pixels}
 use Rattle.bdf_font.specs.Rows.{Outcome, Next, End, Fault, Full, outcome_map, row_pushed}
 use Rattle.bdf_font.specs.declared.cause.FontCause.TheVariants.{NoStart, BadNumber, BadRow, Misplaced}
 use Rattle.bdf_font.specs.declared.cause.FontRefusal.{FontRefusal}
@@ -76,7 +77,7 @@ advance_or (Some advance) w = advance
 advance_or None w = pos w
 
 abbrev pub made_glyph : Draft → BoundingBox → FontGlyph
-made_glyph draft cell = record { code = draft.code; advance = advance_or draft.advance cell.w; w = cell.w; h = cell.h; x = cell.x; y = cell.y; bits = draft.bits }
+made_glyph draft cell = bitmap_glyph draft.code (advance_or draft.advance cell.w) (cell_pixels cell draft.bits)
 
 -- ---- lines by where they stand
 
@@ -143,13 +144,12 @@ reading_after line reading = line_step_at reading.place line reading
 
 -- What the header and the glyphs make: the family name goes before the font's, and a missing ascent and descent are the box's.
 abbrev pub font_made : Header → List FontGlyph → FontValue
-font_made header glyphs = record {
-  name = unwrap_or header.family (unwrap_or header.title []);
-  ascent = from_zero (unwrap_or header.ascent (box_top header.bounding_box));
-  descent = from_zero (unwrap_or header.descent (box_depth header.bounding_box));
-  default_char = header.default_char;
-  glyphs = glyphs;
-}
+font_made header glyphs = bitmap_font
+    (unwrap_or header.family (unwrap_or header.title []))
+    (from_zero (unwrap_or header.ascent (box_top header.bounding_box)))
+    (from_zero (unwrap_or header.descent (box_depth header.bounding_box)))
+    header.default_char
+    glyphs
 
 -- The result of a walk that stopped at line n.
 abbrev pub Answered : ℕ → Stop → Reading → Result FontValue FontRefusal → Type 0

@@ -1,9 +1,12 @@
 //! Why a font isn't read.
 
 ghost use Rattle.std.specs.Prelude.{◌≡◌};
+ghost use Rattle.bdf_font.specs.declared.cause.FontFileRefusal.TheVariants.{Lines};
+ghost use Rattle.bdf_font.specs.declared.cause.FontRefusal.TheVariants.{OutOfMemory as memory_refusal};
 ghost use Rattle.bdf_font.specs.declared.cause.Stop.TheVariants.{OutOfMemory as memory_stop};
 
 use ass_num::OutOfMemory;
+use sfnt_font::SfntRefusal;
 use std::alloc::AllocError;
 
 /// How a line leaves the format.
@@ -30,6 +33,23 @@ pub enum FontRefusal {
     TooLarge(usize),
     /// Memory was wanting.
     OutOfMemory,
+}
+
+/// Why a font's file isn't read.
+#[derive(Clone, Copy, Debug, PartialEq, Eq)]
+pub enum FontFileRefusal {
+    /// Its lines aren't a font in BDF, or memory was wanting.
+    Lines(FontRefusal),
+    /// Its bytes aren't a TrueType font.
+    Bytes(SfntRefusal),
+}
+
+impl From<OutOfMemory> for FontFileRefusal {
+    ghost from_gives = { λ _ refusal. refusal ≡ Lines memory_refusal };
+
+    fn from(_refused: OutOfMemory) -> FontFileRefusal {
+        FontFileRefusal::Lines(FontRefusal::OutOfMemory)
+    }
 }
 
 /// Why no line is read after this one.

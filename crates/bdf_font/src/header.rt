@@ -29,7 +29,7 @@ pub struct Header {
     pub default_char: Option<i64>,
 }
 
-fn copied(alloc: Global, text: &[u8]) -> Mem<Items<u8>>
+pub fn copied(alloc: Global, text: &[u8]) -> Mem<Items<u8>>
     ensures { IfOk result (λ copy. copy ≡ text.now) }
 {
     Ok(Items::from_vec(Vec::from_slice(alloc, text)?))

@@ -1,10 +1,13 @@
-//! What holds of every text: the theorems above the definition of `read_font`.
+//! What holds of every text and every file: the theorems above the definitions of `read_font` and `read_font_file`.
 
-ghost use Rattle.bdf_font.specs.Laws.{OneAnswer, EndsTheFont, IsFirstFault, StaysRefused, LaterFontLineCounts, LaterPropertyCounts, LaterGlyphLineCounts};
+ghost use Rattle.bdf_font.specs.Laws.{OneAnswer, OneFileAnswer, EndsTheFont, IsFirstFault, StaysRefused};
+ghost use Rattle.bdf_font.specs.Laws.{LaterFontLineCounts, LaterPropertyCounts, LaterGlyphLineCounts, BitmapRingsStay};
 
 /// Each text is exactly one of three: a font, refused at one line for one cause, or of too many glyphs; and what follows the font isn't read.
+/// So each file has exactly one answer.
 pub fn one_answer()
     ensures one { OneAnswer }
+    ensures files { OneFileAnswer }
     ensures ends { EndsTheFont }
 {}
 
@@ -20,4 +23,9 @@ pub fn last_line_counts()
     ensures font { LaterFontLineCounts }
     ensures property { LaterPropertyCounts }
     ensures glyph { LaterGlyphLineCounts }
+{}
+
+/// The rings of each glyph that lines spell are the quads of its set pixels, and bars one pixel high.
+pub fn bitmap_rings_stay()
+    ensures { BitmapRingsStay }
 {}

@@ -1,15 +1,16 @@
 //! The walk over the lines of a font.
 
-ghost use Rattle.std.specs.Prelude.{◌≡◌, ◌+◌, ◌*◌, ◌/◌, ◌<◌, ◌≤◌, length};
-ghost use Rattle.bdf_font.specs.Limits.{max_glyphs};
-ghost use Rattle.bdf_font.specs.Ranges.{IsBox, IsGlyph, IsDraft, IsReadingPlace, IsFontReading, Keeps};
+ghost use Rattle.std.specs.Prelude.{◌≡◌, ◌+◌, ◌*◌, ◌/◌, ◌<◌, ◌≤◌, length, IfSome};
+ghost use Rattle.bdf_font.specs.Grammar.{cell_pixels};
+ghost use Rattle.bdf_font.specs.Limits.{max_bitmap_side, max_glyphs};
+ghost use Rattle.bdf_font.specs.Ranges.{IsBitmap, IsBox, IsGlyph, IsMeasure, IsOffset, IsDraft, IsReadingPlace, IsFontReading, Keeps};
 ghost use Rattle.bdf_font.specs.Rows.{Gives};
 ghost use Rattle.bdf_font.specs.Steps.{no_font_lines, no_glyph, first_line, font_step, glyph_line, draft_line, bitmap_line, row_line, reading_after};
-ghost use Rattle.bdf_font.specs.Steps.{made_glyph};
+ghost use Rattle.bdf_font.specs.Steps.{advance_or, made_glyph};
 
 use crate::bits::Bits;
 use crate::cause::{FontCause, Stop};
-use crate::glyphs::{BoundingBox, FontGlyph};
+use crate::glyphs::{BoundingBox, FontGlyph, Pixels};
 use crate::header::Header;
 use crate::keyword::{GlyphKeyword, HeaderKeyword, Keyword, keyword_of};
 use crate::numbers::{bounding_box, offset};
@@ -64,19 +65,9 @@ impl Draft {
         ensures made { result ≡ made_glyph self cell }
         ensures sound { IsGlyph result }
     {
-        let advance = match self.advance {
-            Some(advance) => i32::from(advance),
-            None => i32::from(cell.w),
-        };
-        FontGlyph {
-            code: self.code,
-            advance,
-            w: u32::from(cell.w),
-            h: u32::from(cell.h),
-            x: i32::from(cell.x),
-            y: i32::from(cell.y),
-            bits: self.bits.into_items(),
-        }
+        let advance = advance_or(self.advance, cell.w);
+        let pixels = cell_pixels(cell, self.bits.into_items());
+        FontGlyph::of_pixels(self.code, advance, pixels)
     }
 
     fn line(&mut self, keyword: GlyphKeyword, rest: &[u8]) -> Result<(), Stop>
@@ -111,6 +102,35 @@ impl Draft {
                 Err(Stop::Fault(FontCause::Misplaced))
             }
         }
+    }
+}
+
+/// An advance, or else the width.
+fn advance_or(advance: Option<i16>, w: u16) -> i32
+    requires advance { IfSome advance IsOffset }
+    requires w { w ≤ max_bitmap_side }
+    ensures value { result ≡ advance_or advance w }
+    ensures within { IsMeasure result }
+{
+    match advance {
+        Some(advance) => i32::from(advance),
+        None => i32::from(w),
+    }
+}
+
+/// The bitmap of a box with these bytes.
+fn cell_pixels(cell: BoundingBox, bits: Items<u8>) -> Pixels
+    requires cell { IsBox cell }
+    requires rows { length bits ≡ cell.h * ((cell.w + 7) / 8) }
+    ensures value { result ≡ cell_pixels cell bits }
+    ensures sound { IsBitmap result }
+{
+    Pixels {
+        w: u32::from(cell.w),
+        h: u32::from(cell.h),
+        x: i32::from(cell.x),
+        y: i32::from(cell.y),
+        bits,
     }
 }
 

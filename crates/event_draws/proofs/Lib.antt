@@ -3,7 +3,6 @@ pub mod LayoutLemmas
 pub mod LineSpans
 pub mod MarkLemmas
 pub mod MaximalRuns
-pub mod PixelLemmas
 pub mod RowLemmas
 pub mod RunLemmas
 pub mod ShiftBounds

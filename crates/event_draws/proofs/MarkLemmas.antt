@@ -1,17 +1,29 @@
--- The mark of a drawing that has vertices.
-use Rattle.std.proofs.Common.{◌≡◌, refl, ap, ◌∙◌, Some, List, [], ◌∷◌, ℤ}
+-- Whether a glyph leaves something, and the mark of a drawing that has vertices.
+use Rattle.std.proofs.Common.{◌≡◌, refl, ap, ◌∙◌, Some, List, [], ◌∷◌, length, inl, inr, ℕ, ◌<◌, ℤ, true, false, not, ◌||◌, arith}
+use Rattle.std.specs.List.{slice_get}
+use Rattle.std.specs.Option.{option_map_or}
+use Rattle.std.proofs.lemmas.Option.{slice_get_cases}
 use Rattle.ass_num.specs.declared.geometry.Matrix.{Matrix}
 use Rattle.ass_num.specs.declared.geometry.Path.{Path}
 use Rattle.ass_num.specs.declared.geometry.Point.{Point}
 use Rattle.ass_num.specs.declared.geometry.Seg.{Seg}
+use Rattle.bdf_font.specs.declared.glyphs.FontGlyph.{FontGlyph}
 use Rattle.mask_keys.specs.declared.outline_key.OutlineKey.TheVariants.{Drawing}
 use Rattle.override_tags.specs.declared.view.State.{State}
 use Rattle.text_layout.specs.Extents.{drawn_extent}
 use Rattle.text_layout.specs.Scales.{drawing_matrix}
 use Rattle.text_layout.specs.declared.extents.Extent.{Extent}
-use Rattle.event_draws.specs.Marks.{drawing_mark, drawing_shift, point_above}
+use Rattle.event_draws.specs.Marks.{drawing_mark, drawing_shift, is_marked, point_above}
 use Rattle.event_draws.specs.declared.marks.Mark.{Mark}
 use Rattle.event_draws.specs.declared.stage.Stage.{Stage}
+
+pub marked_is : (state : State) (glyphs : List FontGlyph) (place : ℕ) → place < length glyphs
+    → (state.underline || state.strikeout) || not (option_map_or (λ (glyph : FontGlyph). glyph.blank) (slice_get glyphs place) true)
+    ≡ option_map_or (is_marked state) (slice_get glyphs place) false
+marked_is state glyphs place within = elim (slice_get_cases glyphs place).1 [
+  | inl g ↦ rw g.2 refl
+  | inr past ↦ absurd (omega (arith, within, past.0))
+]
 
 pub mark_is : (stage : Stage) (state : State) (pen : Point) (path : Path) (segs : List Seg) (copy : Path) (m : Matrix) (extent : Extent) (shift : ℤ) (top : Point)
     → (segs ≡ [] → ⊥) → copy ≡ path → m ≡ drawing_matrix stage.header state stage.size → extent ≡ drawn_extent m segs → shift ≡ drawing_shift state m.uy → top ≡ point_above pen extent.ascent

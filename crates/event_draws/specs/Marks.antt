@@ -1,8 +1,7 @@
 -- Public: what the items of a line leave on the frame: their outlines, and the pens at which these stand before they are turned.
-use Rattle.std.specs.Prelude.{ℕ, ◌||◌, Bool, false, if◌then◌else◌, List, [], Option, Some, None, option_and_then, slice_get, slice_index, slice_index_or, ℤ, pos, ◌+ℤ◌, ◌-ℤ◌, ◌*ℤ◌}
-use Rattle.std.specs.List.{filter_map, list_any, range_with_len}
+use Rattle.std.specs.Prelude.{ℕ, ◌||◌, Bool, false, not, if◌then◌else◌, List, [], Option, Some, None, option_and_then, slice_get, slice_index, slice_index_or, ℤ, pos, ◌+ℤ◌, ◌-ℤ◌, ◌*ℤ◌}
+use Rattle.std.specs.List.{filter_map}
 use Rattle.std.specs.Option.{option_map, option_map_or}
-use Rattle.ass_num.specs.Bitmaps.{pixel_is_set}
 use Rattle.ass_num.specs.Floor.{floor_div}
 use Rattle.ass_num.specs.Limits.{IsPointWithin}
 use Rattle.ass_num.specs.declared.geometry.Path.{Path}
@@ -29,17 +28,9 @@ use Rattle.event_draws.specs.Limits.{max_block_pen}
 use Rattle.event_draws.specs.declared.marks.Mark.{Mark}
 use Rattle.event_draws.specs.declared.stage.Stage.{Stage}
 
--- whether a row of a glyph has a set pixel
-abbrev pub row_has_pixels : FontGlyph → ℕ → Bool
-row_has_pixels glyph j = list_any (λ i. pixel_is_set glyph.w glyph.bits i j) (range_with_len 0 glyph.w)
-
--- whether a glyph has one
-abbrev pub has_pixels : FontGlyph → Bool
-has_pixels glyph = list_any (row_has_pixels glyph) (range_with_len 0 glyph.h)
-
--- A glyph leaves something where a pixel of it is set, or where the state draws bars.
+-- A glyph leaves something where it isn't blank, or where the state draws bars.
 abbrev pub is_marked : State → FontGlyph → Bool
-is_marked state glyph = (state.underline || state.strikeout) || has_pixels glyph
+is_marked state glyph = (state.underline || state.strikeout) || not glyph.blank
 
 -- the outline of the glyph at a place of a font
 abbrev pub glyph_outline : Stage → State → ℕ → FontValue → ℕ → Option OutlineKey

@@ -16,7 +16,7 @@ use std::alloc::Global;
 use text_layout::clip_matrix;
 
 /// A copy of a path.
-#[tactic(auto, using(crate::proofs::Copies::path_same))]
+#[tactic(auto, using(tag_state::proofs::Copies::path_same))]
 pub(crate) fn path_copy(alloc: Global, path: &Path) -> Mem<Path>
     ensures { IfOk result (λ copy. copy ≡ path.now) }
 {

@@ -1,11 +1,10 @@
 //! What the items of a line leave on the frame: their outlines, and the pens at which these stand.
 
-ghost use Rattle.std.specs.Prelude.{◌≡◌, ◌<◌, ◌≤◌, ◌+◌, ◌++◌, length, All, IfOk, IfSome, OnOk, slice_index};
+ghost use Rattle.std.specs.Prelude.{◌≡◌, ◌<◌, ◌≤◌, ◌+◌, ◌++◌, false, length, All, IfOk, IfSome, OnOk, slice_get, slice_index};
 ghost use Rattle.ass_num.specs.Limits.{IsHeldNumber, IsPointWithin, IsWithin};
-ghost use Rattle.std.specs.Option.{option_to_list};
-ghost use Rattle.ass_num.specs.Bitmaps.{pixel_is_set};
+ghost use Rattle.std.specs.Option.{option_map_or, option_to_list};
 ghost use Rattle.ass_num.specs.Paths.{IsPath};
-ghost use Rattle.bdf_font.specs.Ranges.{IsFont, IsGlyph};
+ghost use Rattle.bdf_font.specs.Ranges.{IsFont};
 ghost use Rattle.outline_points.specs.Limits.{max_length};
 ghost use Rattle.outline_points.specs.Placing.{IsScale};
 ghost use Rattle.override_tags.specs.Views.{IsShownItem, IsShownKind, IsState, IsView};
@@ -21,9 +20,8 @@ use crate::clip::path_copy;
 use crate::lengths::{difference, sum};
 use crate::stage::Stage;
 use ass_num::{Fix, Items, Mem, Path, Point, div_floor};
-use bdf_font::{Font, FontGlyph, FontSet, find_font, glyph};
+use bdf_font::{Font, FontSet, find_font, glyph};
 use mask_keys::{OutlineKey, Shared};
-use outline_points::pixel_is_set;
 use override_tags::{EventView, Shown, ShownKind, State};
 use std::alloc::Global;
 use text_layout::{Line, Placed, char_of, drawing_matrix, drawn_extent, text_matrix};
@@ -35,49 +33,12 @@ pub(crate) struct Mark {
     pub pen: Point,
 }
 
-/// Whether the pixel of a glyph in column i and row j is set.
-fn is_set(glyph: &FontGlyph, i: u32, j: u32) -> bool
-    requires glyph { IsGlyph glyph.now }
-    requires column { i < glyph.now.w }
-    requires row { j < glyph.now.h }
-    ensures { result ≡ pixel_is_set glyph.now.w glyph.now.bits i j }
+/// Whether the glyph at a place of a font leaves something: it isn't blank, or the state draws bars.
+fn is_marked(state: &State, font: &Font, place: u32) -> bool
+    requires { place < length font.now.glyphs }
+    ensures { result ≡ option_map_or (rule.is_marked state.now) (slice_get font.now.glyphs place) false }
 {
-    pixel_is_set(glyph.bits.as_slice(), glyph.w, i, j)
-}
-
-/// Whether a pixel of row j of a glyph is set.
-fn row_has_pixels(glyph: &FontGlyph, j: u32) -> bool
-    requires glyph { IsGlyph glyph.now }
-    requires row { j < glyph.now.h }
-    ensures { result ≡ rule.row_has_pixels glyph.now j }
-{
-    for i in 0..glyph.w {
-        if is_set(glyph, i, j) {
-            return true;
-        }
-    }
-    false
-}
-
-/// Whether a pixel of a glyph is set.
-fn has_pixels(glyph: &FontGlyph) -> bool
-    requires { IsGlyph glyph.now }
-    ensures { result ≡ rule.has_pixels glyph.now }
-{
-    for j in 0..glyph.h {
-        if row_has_pixels(glyph, j) {
-            return true;
-        }
-    }
-    false
-}
-
-/// Whether a glyph leaves something: a pixel of it is set, or the state draws bars.
-fn is_marked(state: &State, glyph: &FontGlyph) -> bool
-    requires { IsGlyph glyph.now }
-    ensures { result ≡ rule.is_marked state.now glyph.now }
-{
-    state.underline || state.strikeout || has_pixels(glyph)
+    state.underline || state.strikeout || !font.is_blank_at(place)
 }
 
 /// The outline of the glyph at a place of a font, if it leaves anything.
@@ -94,7 +55,7 @@ fn glyph_outline(
     requires place { place < length font.now.glyphs }
     ensures { result ≡ rule.glyph_outline stage.now state.now number font.now place }
 {
-    if is_marked(state, &font.glyphs()[place as usize]) {
+    if is_marked(state, font, place) {
         return Some(OutlineKey::Glyph {
             font: number,
             glyph: place,

@@ -1,3 +1,5 @@
+pub mod ContourLemmas
 pub mod FigureLemmas
 pub mod QuadLemmas
 pub mod RunLemmas
+pub mod ShapeLemmas

@@ -1,13 +1,11 @@
--- The rings of boxes and glyphs, one after another.
-use Rattle.std.proofs.Common.{◌≡◌, ℕ, zero, suc, Bool, true, false, if◌then◌else◌, ◌+ℤ◌, ◌-ℤ◌, neg_ℤ, slice_get, get_or, Some, List, [], ◌∷◌, ◌++◌, refl, sym, ap, ◌∙◌, append_assoc, ℤ, pos}
+-- The rings of boxes and bitmaps, one after another.
+use Rattle.std.proofs.Common.{◌≡◌, ℕ, Bool, true, false, if◌then◌else◌, ◌+ℤ◌, ◌-ℤ◌, neg_ℤ, List, [], ◌∷◌, ◌++◌, refl, sym, ap, ◌∙◌, append_assoc, ℤ, pos}
 use Rattle.ass_num.specs.declared.geometry.Point.{Point}
 use Rattle.ass_num.specs.declared.geometry.Matrix.{Matrix}
 use Rattle.ass_num.specs.Bitmaps.{pixel_is_set}
 use Rattle.outline_points.specs.Placing.{outline_point}
 use Rattle.outline_points.specs.Boxes.{box_ring}
-use Rattle.outline_points.specs.Glyphs.{Bitmap, pixel_quad, set_quads, pixel_quads, bitmap_quads, bar_quad, strikeout_top}
-use Rattle.bdf_font.specs.declared.glyphs.FontGlyph.{FontGlyph}
-use Rattle.bdf_font.specs.GlyphRings.{bitmap_of, rings_of_glyph}
+use Rattle.outline_points.specs.Glyphs.{Bitmap, pixel_quad, set_quads, pixel_quads}
 
 pub box_same : (w h turn angle : ℤ) (a b c d : Point) → angle ≡ turn → a ≡ outline_point angle (record { x = pos 0; y = pos 0 }) → b ≡ outline_point angle (record { x = w; y = pos 0 })
     → c ≡ outline_point angle (record { x = w; y = h }) → d ≡ outline_point angle (record { x = pos 0; y = h }) → a ∷ b ∷ c ∷ d ∷ [] ≡ box_ring w h turn
@@ -26,17 +24,3 @@ pub place_set : (m : Matrix) (bold set : Bool) (bitmap : Bitmap) (i j : ℕ) (a 
 place_set m bold set bitmap i j a b rings new is drawn column row added =
     added ∙ ap (λ z. rings ++ set_quads m bold z b) column ∙ ap (λ z. rings ++ set_quads m bold (bitmap.x +ℤ pos i) z) row
     ∙ ap (λ t. rings ++ (if t then set_quads m bold (bitmap.x +ℤ pos i) (neg_ℤ ((bitmap.y +ℤ pos bitmap.h) -ℤ pos j)) else [])) (sym drawn ∙ is)
-
-pub glyph_whole : (m : Matrix) (bold underline strikeout : Bool) (ascent advance top : ℤ) (glyph : FontGlyph) (r s t u : List (List Point)) → r ≡ [] → s ≡ r ++ bitmap_quads m bold (bitmap_of glyph)
-    → advance ≡ glyph.advance → t ≡ s ++ (if underline then bar_quad m advance (pos 1) ∷ [] else []) → top ≡ strikeout_top ascent → u ≡ t ++ (if strikeout then bar_quad m advance top ∷ [] else [])
-    → u ≡ rings_of_glyph m bold underline strikeout ascent glyph
-glyph_whole m bold underline strikeout ascent advance top glyph r s t u none rows same first below second = rw (second, first, rows, none, below, same) refl
-
-pub got : {X : Type 0} (xs : List X) (i : ℕ) (g d : X) → slice_get xs i ≡ Some g → get_or xs i d ≡ g
-got [] i g d is = cc
-got (x ∷ xs) zero g d is = cc
-got (x ∷ xs) (suc i) g d is = got xs i g d is
-
-pub same_rings : (m n : Matrix) (bold strong underline strikeout : Bool) (ascent up : ℤ) (glyph g : FontGlyph) → m ≡ n → bold ≡ strong → ascent ≡ up → glyph ≡ g
-    → rings_of_glyph m bold underline strikeout ascent glyph ≡ rings_of_glyph n strong underline strikeout up g
-same_rings m n bold strong underline strikeout ascent up glyph g a b c d = rw (a, b, c, d) refl

@@ -12,9 +12,10 @@ use Rattle.ass_num.specs.Sine.{sine_of, cosine_of, sines}
 use Rattle.ass_num.specs.Winding.{counts, edges, edges_of, place, winding}
 use Rattle.ass_num.specs.declared.geometry.Matrix.{Matrix}
 use Rattle.ass_num.specs.declared.geometry.Point.{Point}
-use Rattle.outline_points.specs.Glyphs.{Bitmap, bar_quad, bitmap_quads, glyph_point, pixel_quads, quad, row_quads, scaled_pixel, set_quads, strikeout_top}
+use Rattle.outline_points.specs.Glyphs.{Bitmap, glyph_point, pixel_quads, quad, row_quads, scaled_pixel, set_quads}
 use Rattle.outline_points.specs.Placing.{held_coordinate, turned_by}
-use Rattle.bdf_font.specs.GlyphRings.{bitmap_of, rings_of_glyph}
+use Rattle.bdf_font.specs.Fonts.{FontValue}
+use Rattle.bdf_font.specs.GlyphRings.{bar_rings, rings_of_glyph, shape_rings}
 use Rattle.bdf_font.specs.declared.glyphs.FontGlyph.{FontGlyph}
 use Rattle.fixed_outline.specs.Runs.{IsGap, IsSetRun, run_quads, run_rings}
 
@@ -194,20 +195,19 @@ pub plain_added : (m : Matrix) (bold : Bool) (top left right : ℤ) (rings first
 plain_added m bold top left right rings first is p = p ∙ ap (λ t. rings ++ run_rings m t top left right) (sym is)
 
 -- ---- the whole glyph
-pub bars_added : (m : Matrix) (bold underline strikeout : Bool) (ascent advance top : ℤ) (glyph : FontGlyph) (r s t u : List (List Point)) → r ≡ []
-    → ((i k : ℤ) → winding s i k ≡ winding r i k +ℤ winding (bitmap_quads m bold (bitmap_of glyph)) i k)
-    → advance ≡ glyph.advance → t ≡ s ++ (if underline then bar_quad m advance (pos 1) ∷ [] else []) → top ≡ strikeout_top ascent → u ≡ t ++ (if strikeout then bar_quad m advance top ∷ [] else [])
-    → (i k : ℤ) → winding u i k ≡ winding (rings_of_glyph m bold underline strikeout ascent glyph) i k
-bars_added m bold underline strikeout ascent advance top glyph r s t u none rows same first below second i k =
-    let under : List (List Point) = if underline then bar_quad m glyph.advance (pos 1) ∷ [] else [] in
-    let strike : List (List Point) = if strikeout then bar_quad m glyph.advance (strikeout_top ascent) ∷ [] else [] in
-    let quads = bitmap_quads m bold (bitmap_of glyph) in
-    let e : t ≡ s ++ under = first ∙ ap (λ z. s ++ (if underline then bar_quad m z (pos 1) ∷ [] else [])) same in
-    let f : u ≡ t ++ strike = second ∙ ap (λ z. t ++ (if strikeout then bar_quad m z top ∷ [] else [])) same ∙ ap (λ z. t ++ (if strikeout then bar_quad m glyph.advance z ∷ [] else [])) below in
-    let a = ap (λ rs. winding rs i k) f ∙ winding-append t strike i k in
-    let b = ap (λ rs. winding rs i k) e ∙ winding-append s under i k in
-    let c = rows i k in
-    let d = ap (λ rs. winding rs i k) none in
-    let g = winding-append (quads ++ under) strike i k in
-    let h = winding-append quads under i k in
-    omega (arith, ints, a, b, c, d, g, h)
+pub glyph_winding : (m n : Matrix) (bold strong underline strikeout : Bool) (font : FontValue) (g : FontGlyph) (r u : List (List Point)) → m ≡ n → bold ≡ strong
+    → ((i k : ℤ) → winding r i k ≡ winding (shape_rings m bold font.bold_step g.shape) i k) → u ≡ (r ++ bar_rings m underline g.advance font.underline) ++ bar_rings m strikeout g.advance font.strikeout
+    → (i k : ℤ) → winding u i k ≡ winding (rings_of_glyph n strong underline strikeout font g) i k
+glyph_winding m n bold strong underline strikeout font g r u same thick shape bars i k =
+    let first = bar_rings m underline g.advance font.underline in
+    let second = bar_rings m strikeout g.advance font.strikeout in
+    let rings = shape_rings m bold font.bold_step g.shape in
+    let e : rings_of_glyph m bold underline strikeout font g ≡ rings_of_glyph n strong underline strikeout font g = rw (same, thick) refl in
+    let a = ap (λ rs. winding rs i k) bars in
+    let b = winding-append (r ++ first) second i k in
+    let c = winding-append r first i k in
+    let d = shape i k in
+    let f = winding-append (rings ++ first) second i k in
+    let h = winding-append rings first i k in
+    let w = ap (λ rs. winding rs i k) e in
+    omega (arith, ints, a, b, c, d, f, h, w)

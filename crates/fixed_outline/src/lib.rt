@@ -1,10 +1,13 @@
 //! Outlines of glyphs, drawings and boxes.
 #![tactic(auto)]
 
+mod bars;
 mod boxes;
+mod contours;
 mod drawings;
 mod glyphs;
 mod runs;
+mod style;
 
 pub use ass_num::Matrix;
 pub use boxes::box_outline;

@@ -5,7 +5,7 @@ ghost use Rattle.bdf_font.specs.Ranges.{IsFont};
 ghost use Rattle.generated_script.specs.Grid.{blank, grid_font, letter, letter_rows, letters, row_byte};
 
 use ass_num::{Items, Mem};
-use bdf_font::{Font, FontGlyph};
+use bdf_font::{Font, FontGlyph, Pixels};
 use std::alloc::Global;
 
 /// A row of a letter.
@@ -34,30 +34,29 @@ fn letter(alloc: Global, n: u32) -> Mem<FontGlyph>
     requires { n < 6 }
     ensures { IfOk result (λ glyph. glyph ≡ letter n) }
 {
-    Ok(FontGlyph {
-        code: 97 + i64::from(n),
-        advance: 6,
+    let bits = letter_rows(alloc, n)?;
+    let pixels = Pixels {
         w: 5,
         h: 7,
         x: 0,
         y: 0,
-        bits: letter_rows(alloc, n)?,
-    })
+        bits,
+    };
+    Ok(FontGlyph::of_pixels(97 + i64::from(n), 6, pixels))
 }
 
 /// The space.
 fn blank(alloc: Global) -> FontGlyph
     ensures { result ≡ blank }
 {
-    FontGlyph {
-        code: 32,
-        advance: 6,
+    let pixels = Pixels {
         w: 0,
         h: 0,
         x: 0,
         y: 0,
         bits: Items::new(alloc),
-    }
+    };
+    FontGlyph::of_pixels(32, 6, pixels)
 }
 
 /// Adds the letters from `a` to `f`.

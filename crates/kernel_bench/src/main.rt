@@ -9,6 +9,7 @@ mod cancelling;
 mod drawing;
 mod glyph;
 mod laps;
+mod letters;
 mod masks;
 mod outlines;
 mod stop;
@@ -37,6 +38,7 @@ fn measure(rt: &HostRuntime, kernel: &str, size: u32, turns: u32) -> Result<(), 
     match kernel {
         "outline" => outlines::measure_glyph(rt, size, turns),
         "drawing" => outlines::measure_drawing(rt, size, turns),
+        "letter" => letters::measure(rt, size, turns),
         "region" => glyph::measure(rt, size, turns),
         "cancel" => cancelling::measure(rt, size, turns),
         "border" => border::measure(rt, size, turns),
@@ -50,9 +52,10 @@ fn measure(rt: &HostRuntime, kernel: &str, size: u32, turns: u32) -> Result<(), 
 }
 
 /// Small inputs.
-const SMALL: [(&str, u32); 10] = [
+const SMALL: [(&str, u32); 11] = [
     ("outline", 2),
     ("drawing", 3),
+    ("letter", 8),
     ("region", 8),
     ("cancel", 4),
     ("border", 8),

@@ -9,7 +9,7 @@ use crate::laps::Laps;
 use crate::stop::Stop;
 use crate::telling::tell;
 use ass_num::{Matrix, Path};
-use bdf_font::{Font, read_font};
+use bdf_font::{Font, read_font_file};
 use drawing_path::read_path;
 use fixed_outline::{outline_of_path, quads_of, runs_of};
 use std::alloc::Global;
@@ -19,7 +19,7 @@ use std::time::Instant;
 const MAX_BYTES: usize = 67_108_864;
 
 /// A bitmap's pixel, and a script's unit, is a pixel; and the same under a turn.
-fn matrix(turn: i64) -> Matrix
+pub fn matrix(turn: i64) -> Matrix
     ensures matrix { IsMatrix result }
     ensures turn { result.turn ≡ turn }
 {
@@ -40,21 +40,21 @@ fn repeated(alloc: Global, head: &str, piece: &str, count: u32) -> Result<String
     Ok(text)
 }
 
-/// The font of a text.
-fn font_of(alloc: Global, text: &str) -> Result<Font, Stop>
+/// The font of a file's bytes.
+pub fn font_of(alloc: Global, bytes: &[u8]) -> Result<Font, Stop>
     ensures { IfOk result IsFont }
 {
-    if text.len() > MAX_BYTES {
+    if bytes.len() > MAX_BYTES {
         return Err(Stop::SizeOutOfRange);
     }
-    match read_font(alloc, text.as_bytes()) {
+    match read_font_file(alloc, bytes) {
         Ok(font) => Ok(font),
         Err(_) => Err(Stop::SizeOutOfRange),
     }
 }
 
 /// A font of one glyph, whose bitmap has so many rows of 48 pixels, each of them set.
-fn font(alloc: Global, rows: u8) -> Result<Font, Stop>
+pub fn font(alloc: Global, rows: u8) -> Result<Font, Stop>
     ensures { IfOk result IsFont }
 {
     let head = format!(in alloc;
@@ -63,7 +63,7 @@ fn font(alloc: Global, rows: u8) -> Result<Font, Stop>
     )?;
     let mut text = repeated(alloc, head.as_str(), "FFFFFFFFFFFF\n", u32::from(rows))?;
     text.push_str("ENDCHAR\nENDFONT\n")?;
-    font_of(alloc, text.as_str())
+    font_of(alloc, text.as_bytes())
 }
 
 /// A path of so many curves.
@@ -113,7 +113,7 @@ pub fn measure_glyph(rt: &HostRuntime, rows: u32, turns: u32) -> Result<(), Stop
         return Err(Stop::SizeOutOfRange);
     }
     let font = font(rt.alloc(), rows as u8)?;
-    if font.glyphs().is_empty() {
+    if font.glyph_count() == 0 {
         return Err(Stop::SizeOutOfRange);
     }
     measure_runs(rt, &font, &matrix(0), turns)?;

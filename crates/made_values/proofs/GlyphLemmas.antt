@@ -27,11 +27,11 @@ font_found fonts read at glyph font m e f valid =
 module _ (m : Matrix) (bold underline strikeout : Bool) where
   -- what an answer's outline has to do with the rings of a glyph that is there, it has to do with those that the fonts have
   pub glyph_rings_found : {E : Type 0} (P : Outline → List (List Point) → Type 0) (answer : Result Outline E) (fonts : List FontValue) (at glyph : ℕ) (font : FontValue) → slice_get fonts at ≡ Some font → glyph < length font.glyphs
-      → IfOk answer (λ o. (g : FontGlyph) → slice_get font.glyphs glyph ≡ Some g → P o (rings_of_glyph m bold underline strikeout font.ascent g))
+      → IfOk answer (λ o. (g : FontGlyph) → slice_get font.glyphs glyph ≡ Some g → P o (rings_of_glyph m bold underline strikeout font g))
       → IfOk answer (λ o. P o (found_font_rings m bold underline strikeout glyph (slice_get fonts at)))
   glyph_rings_found P (Ok o) fonts at glyph font found within has = elim (slice_get_cases font.glyphs glyph).1 [
     | inl g ↦
-        subst (P o) (sym (ap (found_font_rings m bold underline strikeout glyph) found ∙ ap (found_glyph_rings m bold underline strikeout font.ascent) g.2)) (has g.0 g.2)
+        subst (P o) (sym (ap (found_font_rings m bold underline strikeout glyph) found ∙ ap (found_glyph_rings m bold underline strikeout font) g.2)) (has g.0 g.2)
     | inr past ↦ let l = past.0 in absurd (omega arith)
   ]
   glyph_rings_found P (Err e) fonts at glyph font found within has = has

@@ -14,3 +14,4 @@ pub mod Warming
 pub mod Asks
 pub mod Balance
 pub mod Laws
+pub mod FontProps

@@ -1,6 +1,7 @@
 //! The three caches.
 ghost use Rattle.std.specs.Arc.{arc_value};
 ghost use Rattle.mask_keys.specs.Outlines.{IsFontSet};
+ghost use Rattle.mask_caches.specs.FontProps.{font_props};
 ghost use Rattle.mask_caches.specs.Together.{HaveFonts};
 
 use bdf_font::FontSet;
@@ -15,5 +16,5 @@ pub struct Caches {
     pub(crate) masks: Cache<MaskMade>,
     pub(crate) composites: Cache<CompositeMade>,
     ghost tags: { HaveFonts fonts outlines.tag masks.tag composites.tag },
-    ghost whole: { IsFontSet (arc_value fonts).fonts },
+    ghost whole: { IsFontSet (arc_value fonts).fonts } by { Prim.hlevel font_props },
 }

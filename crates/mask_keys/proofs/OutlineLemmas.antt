@@ -1,5 +1,5 @@
 -- The rings of a key are those of an outline: their points are held.
-use Rattle.std.proofs.Common.{ℕ, Bool, true, false, ℤ, pos, neg_ℤ, ◌+ℤ◌, ◌-ℤ◌, List, [], ◌∷◌, ◌++◌, All, map, flat_map, Option, Some, None, arith}
+use Rattle.std.proofs.Common.{ℕ, Bool, true, false, ℤ, pos, neg_ℤ, ◌+ℤ◌, ◌-ℤ◌, List, [], ◌∷◌, ◌++◌, All, get_or, map, flat_map, Option, Some, None, arith}
 use Rattle.std.specs.Prelude.{if◌then◌else◌, slice_get}
 use Rattle.std.specs.List.{range_with_len}
 use Rattle.std.proofs.lemmas.Int.{ints}
@@ -9,14 +9,19 @@ use Rattle.ass_num.specs.Limits.{IsWithin, IsOutline, IsOutlinePoint, max_coordi
 use Rattle.ass_num.specs.declared.geometry.Point.{Point}
 use Rattle.ass_num.specs.declared.geometry.Matrix.{Matrix}
 use Rattle.bdf_font.specs.Fonts.{FontValue}
-use Rattle.bdf_font.specs.GlyphRings.{bitmap_of}
+use Rattle.bdf_font.specs.GlyphRings.{bar_rings, bitmap_of, rings_of_glyph, shape_rings}
 use Rattle.bdf_font.specs.declared.glyphs.FontGlyph.{FontGlyph}
+use Rattle.bdf_font.specs.declared.glyphs.GlyphShape.{GlyphShape}
+use Rattle.bdf_font.specs.declared.glyphs.GlyphShape.TheVariants as shape
+use Rattle.sfnt_font.specs.declared.numbers.Bar.{Bar}
 use Rattle.mask_keys.specs.declared.outline_key.OutlineKey.{OutlineKey}
 use Rattle.mask_keys.specs.declared.outline_key.OutlineKey.TheVariants.{Glyph, Drawing, Box}
 use Rattle.outline_points.specs.Boxes.{box_corners, box_ring}
+use Rattle.outline_points.specs.Contours.{bold_shift, contour_points, contour_ring, moved_rings}
 use Rattle.outline_points.specs.Drawings.{drawing_rings}
-use Rattle.outline_points.specs.Glyphs.{Bitmap, quad, pixel_quad, set_quads, pixel_quads, row_quads, bitmap_quads, bar_quad, strikeout_top, glyph_rings, scaled_pixel, glyph_point}
+use Rattle.outline_points.specs.Glyphs.{Bitmap, quad, pixel_quad, set_quads, pixel_quads, row_quads, bitmap_quads, bar_quad, scaled_pixel, glyph_point}
 use Rattle.outline_points.specs.Placing.{held_coordinate, outline_point, shifted_point, turned_point}
+use Rattle.outline_points.specs.declared.glyph_point.GlyphPoint.{GlyphPoint}
 use Rattle.mask_keys.specs.Outlines.{rings_of, found_glyph_rings, found_font_rings}
 
 coordinate_within : (z : ℤ) → IsWithin max_coordinate (held_coordinate z)
@@ -72,22 +77,36 @@ row_outline m bold bitmap j = flat_rings (pixel_quads m bold bitmap j) (pixel_ou
 bitmap_outline : (m : Matrix) (bold : Bool) (bitmap : Bitmap) → IsOutline (bitmap_quads m bold bitmap)
 bitmap_outline m bold bitmap = flat_rings (row_quads m bold bitmap) (row_outline m bold bitmap) (range_with_len 0 bitmap.h)
 
-glyph_outline : (m : Matrix) (bold underline strikeout : Bool) (ascent advance : ℤ) (bitmap : Bitmap) → IsOutline (glyph_rings m bold underline strikeout ascent advance bitmap)
-glyph_outline m bold underline strikeout ascent advance bitmap =
-    let first : List (List Point) = if underline then bar_quad m advance (pos 1) ∷ [] else [] in
-    let second : List (List Point) = if strikeout then bar_quad m advance (strikeout_top ascent) ∷ [] else [] in
-    All-append (All IsOutlinePoint) (bitmap_quads m bold bitmap ++ first) second
-    (All-append (All IsOutlinePoint) (bitmap_quads m bold bitmap) first (bitmap_outline m bold bitmap)
-    (maybe_ring underline (bar_quad m advance (pos 1)) (quad_outline m (pos 0) (pos 1) advance (pos 1 +ℤ pos 1))))
-    (maybe_ring strikeout (bar_quad m advance (strikeout_top ascent)) (quad_outline m (pos 0) (strikeout_top ascent) advance (strikeout_top ascent +ℤ pos 1)))
+moved_outline : (m : Matrix) (shift : ℤ) (contours : List (List GlyphPoint)) → IsOutline (moved_rings m shift contours)
+moved_outline m shift contours = All-map (All IsOutlinePoint) (contour_ring m shift) contours (λ k d l. placed_points (outline_point m.turn) (point_within m.turn) (contour_points m shift (get_or contours k d)))
 
-found_glyph_outline : (m : Matrix) (bold underline strikeout : Bool) (ascent : ℤ) (found : Option FontGlyph) → IsOutline (found_glyph_rings m bold underline strikeout ascent found)
-found_glyph_outline m bold underline strikeout ascent None = All-nil (All IsOutlinePoint)
-found_glyph_outline m bold underline strikeout ascent (Some g) = glyph_outline m bold underline strikeout ascent g.advance (bitmap_of g)
+shape_outline : (m : Matrix) (bold : Bool) (step : ℤ) (s : GlyphShape) → IsOutline (shape_rings m bold step s)
+shape_outline m bold step (shape.Pixels pixels) = bitmap_outline m bold (bitmap_of pixels)
+shape_outline m bold step (shape.Contours contours) =
+    All-append (All IsOutlinePoint) (moved_rings m (pos 0) contours) (if bold then moved_rings m (bold_shift m step) contours else []) (moved_outline m (pos 0) contours)
+    (maybe_rings bold (moved_rings m (bold_shift m step) contours) (moved_outline m (bold_shift m step) contours))
+
+bar_outline : (m : Matrix) (wanted : Bool) (advance : ℤ) (bar : Option Bar) → IsOutline (bar_rings m wanted advance bar)
+bar_outline m false advance bar = All-nil (All IsOutlinePoint)
+bar_outline m true advance None = All-nil (All IsOutlinePoint)
+bar_outline m true advance (Some bar) = one_ring (bar_quad m advance bar.top bar.size) (quad_outline m (pos 0) bar.top advance (bar.top +ℤ bar.size))
+
+glyph_outline : (m : Matrix) (bold underline strikeout : Bool) (font : FontValue) (g : FontGlyph) → IsOutline (rings_of_glyph m bold underline strikeout font g)
+glyph_outline m bold underline strikeout font g =
+    let rings = shape_rings m bold font.bold_step g.shape in
+    let first = bar_rings m underline g.advance font.underline in
+    let second = bar_rings m strikeout g.advance font.strikeout in
+    All-append (All IsOutlinePoint) (rings ++ first) second
+    (All-append (All IsOutlinePoint) rings first (shape_outline m bold font.bold_step g.shape) (bar_outline m underline g.advance font.underline))
+    (bar_outline m strikeout g.advance font.strikeout)
+
+found_glyph_outline : (m : Matrix) (bold underline strikeout : Bool) (font : FontValue) (found : Option FontGlyph) → IsOutline (found_glyph_rings m bold underline strikeout font found)
+found_glyph_outline m bold underline strikeout font None = All-nil (All IsOutlinePoint)
+found_glyph_outline m bold underline strikeout font (Some g) = glyph_outline m bold underline strikeout font g
 
 found_font_outline : (m : Matrix) (bold underline strikeout : Bool) (glyph : ℕ) (found : Option FontValue) → IsOutline (found_font_rings m bold underline strikeout glyph found)
 found_font_outline m bold underline strikeout glyph None = All-nil (All IsOutlinePoint)
-found_font_outline m bold underline strikeout glyph (Some font) = found_glyph_outline m bold underline strikeout font.ascent (slice_get font.glyphs glyph)
+found_font_outline m bold underline strikeout glyph (Some font) = found_glyph_outline m bold underline strikeout font (slice_get font.glyphs glyph)
 
 pub rings_outline : (fonts : List FontValue) (key : OutlineKey) → IsOutline (rings_of fonts key)
 rings_outline fonts (Glyph font glyph m bold underline strikeout) = found_font_outline m bold underline strikeout glyph (slice_get fonts font)

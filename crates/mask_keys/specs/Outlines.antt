@@ -1,5 +1,5 @@
 -- Public: sets of fonts, and the rings of a key's outline.
-use Rattle.std.specs.Prelude.{ℕ, ◌≤◌, ℤ, Bool, List, [], ◌∷◌, length, map, All, Option, Some, None, slice_get}
+use Rattle.std.specs.Prelude.{ℕ, ◌≤◌, Bool, List, [], ◌∷◌, length, map, All, Option, Some, None, slice_get}
 use Rattle.ass_num.specs.declared.geometry.Matrix.{Matrix}
 use Rattle.ass_num.specs.declared.geometry.Point.{Point}
 use Rattle.bdf_font.specs.Fonts.{FontValue}
@@ -21,16 +21,16 @@ pub record IsFontSet (fonts : List FontValue) : Type 0 where
 abbrev pub glyph_counts : List FontValue → List ℕ
 glyph_counts fonts = map (λ font. length font.glyphs) fonts
 
--- the rings of a glyph of a font with this ascent, if there is one
-abbrev pub found_glyph_rings : Matrix → Bool → Bool → Bool → ℤ → Option FontGlyph → List (List Point)
-found_glyph_rings m bold underline strikeout ascent None = []
-found_glyph_rings m bold underline strikeout ascent (Some glyph) = rings_of_glyph m bold underline strikeout ascent glyph
+-- the rings of a glyph of a font, if there is one
+abbrev pub found_glyph_rings : Matrix → Bool → Bool → Bool → FontValue → Option FontGlyph → List (List Point)
+found_glyph_rings m bold underline strikeout font None = []
+found_glyph_rings m bold underline strikeout font (Some glyph) = rings_of_glyph m bold underline strikeout font glyph
 
 -- the rings of a font's glyph, if there is such a font
 abbrev pub found_font_rings : Matrix → Bool → Bool → Bool → ℕ → Option FontValue → List (List Point)
 found_font_rings m bold underline strikeout glyph None = []
 found_font_rings m bold underline strikeout glyph (Some font) =
-    found_glyph_rings m bold underline strikeout font.ascent (slice_get font.glyphs glyph)
+    found_glyph_rings m bold underline strikeout font (slice_get font.glyphs glyph)
 
 -- The rings of a key's outline; none where the fonts lack the glyph.
 abbrev pub rings_of : List FontValue → OutlineKey → List (List Point)

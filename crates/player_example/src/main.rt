@@ -5,7 +5,7 @@ ghost use Rattle.ass_num.specs.Limits.{IsWithin, max_instant};
 
 use ass_io::MAX_FILE_BYTES;
 use ass_num::Size;
-use bdf_font::read_font;
+use bdf_font::read_font_file;
 use blend::Canvas;
 use player::Player;
 use std::alloc::{AllocError, Global};
@@ -54,7 +54,7 @@ fn add_font(alloc: Global, player: &mut Player, font: &[u8]) -> bool {
     if font.len() > MAX_FILE_BYTES || player.font_count() > 0 {
         return false;
     }
-    match read_font(alloc, font) {
+    match read_font_file(alloc, font) {
         Ok(font) => player.add_font(alloc, font).is_ok(),
         Err(_) => false,
     }

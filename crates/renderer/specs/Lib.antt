@@ -9,3 +9,4 @@ pub mod Trying
 pub mod Soon
 pub mod Warming
 pub mod ShownFrames
+pub mod FontCodes

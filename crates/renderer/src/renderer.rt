@@ -20,9 +20,13 @@ pub struct Renderer {
 
 impl Model for Renderer {
     ghost use Rattle.std.specs.Arc.{arc_value};
+    ghost use Rattle.std.specs.Coded.{codes};
+    ghost use Rattle.renderer.specs.FontCodes.{fonts_code};
     ghost use Rattle.renderer.specs.Passes.{IsWholeRenderer, RendererView};
 
     ghost Value = { RendererView };
+
+    ghost coded = { Prim.hlevel (codes, fonts_code) };
 
     ghost view = { λ r. record { script = arc_value r.script; fonts = (arc_value r.fonts).fonts; track = r.track; caches = r.caches } };
 

@@ -15,7 +15,7 @@ ghost use Rattle.track_history.specs.Calls.{history_of};
 use ass_io::MAX_FILE_BYTES;
 use ass_num::{Items, Size};
 use ass_script::{Script, read_script};
-use bdf_font::{Font, FontSet, read_font};
+use bdf_font::{Font, FontSet, read_font_file};
 use blend::Canvas;
 use renderer::{RenderPass, Renderer, laws, paint};
 use std::alloc::{AllocError, Global};
@@ -99,7 +99,7 @@ fn fonts_of(alloc: Global) -> Option<Arc<FontSet>>
     if FONT.len() > MAX_FILE_BYTES {
         return None;
     }
-    match read_font(alloc, FONT) {
+    match read_font_file(alloc, FONT) {
         Ok(font) => set_of(alloc, font),
         Err(_) => None,
     }

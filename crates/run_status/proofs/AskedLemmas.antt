@@ -1,13 +1,20 @@
 -- What the bytes of a file ask for.
-use Rattle.std.proofs.Common.{◌≡◌, ℕ, ◌+◌, ◌<◌, ◌≤◌, List, length, replicate, Some, None, Result, Ok, Err, inl, inr, refl, ap, subst, arith}
+use Rattle.std.proofs.Common.{◌≡◌, ◌≢◌, ℕ, ◌+◌, ◌<◌, ◌≤◌, List, length, replicate, Some, None, Result, Ok, Err, inl, inr, refl, ap, subst, arith}
 use Rattle.std.proofs.lemmas.List.{length-replicate}
 use Rattle.ass_num.specs.Causes.{IfTold}
 use Rattle.ass_num.specs.Limits.{max_file_bytes}
 use Rattle.ass_io.specs.Fetched.{Holds, IsMissing, IsTooLarge, Told}
+use Rattle.bdf_font.specs.Files.{IsFontFileAnswer}
+use Rattle.bdf_font.specs.Fonts.{FontValue}
+use Rattle.bdf_font.specs.declared.cause.FontFileRefusal.{FontFileRefusal}
+use Rattle.bdf_font.specs.declared.cause.FontFileRefusal.TheVariants as file
+use Rattle.bdf_font.specs.declared.cause.FontRefusal.TheVariants as lines
+use Rattle.sfnt_font.specs.declared.cause.SfntRefusal.TheVariants as bytes
 use Rattle.run_status.specs.declared.status.Status.{Status}
 use Rattle.run_status.specs.declared.status.Status.TheVariants as status
 use Rattle.run_status.specs.declared.status.What.TheVariants.{Bytes}
-use Rattle.run_status.specs.Files.{AsksBytes, AsksOf, IsAnswered, IsAskedFor}
+use Rattle.run_status.specs.Causes.{font_status, with_status}
+use Rattle.run_status.specs.Files.{AsksBytes, AsksFont, AsksOf, FontAsked, IsAnswered, IsAskedFor}
 
 -- Some list is longer than a number says. It is never looked at.
 unfoldable longer : (n : ℕ) → (xs : List ℕ) × (n < length xs)
@@ -38,6 +45,21 @@ asked_of asks name told bytes answer (Some held, told_is, inl (few, same)) asked
     (Some held, told_is, inl (few, subst (λ held. asks held answer) equal asked))
 asked_of asks name told bytes answer (Some held, told_is, inr (many, same)) asked = absurd cc
 
+-- The file of a font that is held asks for the font, or for the status of its refusal.
+pub font_asked : (index : ℕ) (name : List ℕ) (told : Told) (all : List ℕ) (read : Result FontValue FontFileRefusal) → IsAskedFor (AsksBytes name) told (Ok all) →
+    (read ≢ Err (file.Lines lines.OutOfMemory) → IsFontFileAnswer all read) → IsAnswered (AsksFont index name) told name (with_status (font_status index) read)
+font_asked index name told all (Ok font) h answer = asked_of (FontAsked index) name told all (Ok font) h (Ok font, answer (λ e. cc), refl)
+font_asked index name told all (Err (file.Lines (lines.BadFont line cause))) h answer =
+    asked_of (FontAsked index) name told all _ h (Err (file.Lines (lines.BadFont line cause)), answer (λ e. cc), refl)
+font_asked index name told all (Err (file.Lines (lines.TooLarge most))) h answer =
+    asked_of (FontAsked index) name told all _ h (Err (file.Lines (lines.TooLarge most)), answer (λ e. cc), refl)
+font_asked index name told all (Err (file.Lines lines.OutOfMemory)) h answer = tt
+font_asked index name told all (Err (file.Bytes (bytes.BadFont byte cause))) h answer =
+    asked_of (FontAsked index) name told all _ h (Err (file.Bytes (bytes.BadFont byte cause)), answer (λ e. cc), refl)
+font_asked index name told all (Err (file.Bytes (bytes.TooLarge most))) h answer =
+    asked_of (FontAsked index) name told all _ h (Err (file.Bytes (bytes.TooLarge most)), answer (λ e. cc), refl)
+font_asked index name told all (Err (file.Bytes bytes.OutOfMemory)) h answer = tt
+
 kept : {Value : Type 0} (asks : List ℕ → Result Value Status → Type 0) (name : List ℕ) (told : Told) (why : Status) →
     IsAskedFor (AsksBytes name) told (Err why) → IsAskedFor (AsksOf asks name) told (Err why)
 kept asks name told why (None, told_is, h) = let equal : why ≡ status.NoSuchFile name = cc in (None, told_is, ap Err equal)
@@ -53,7 +75,7 @@ refused asks name told status.Done h = h
 refused asks name told (status.NoSuchFile other) h = kept asks name told _ h
 refused asks name told (status.ReadFault other) h = h
 refused asks name told (status.BadScript cause) h = kept asks name told _ h
-refused asks name told (status.BadFont index line cause) h = kept asks name told _ h
+refused asks name told (status.BadFont index fault) h = kept asks name told _ h
 refused asks name told (status.WriteFault which) h = h
 refused asks name told (status.TooLarge what limit) h = kept asks name told _ h
 refused asks name told status.OutOfMemory h = h

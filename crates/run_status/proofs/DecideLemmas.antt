@@ -5,8 +5,7 @@ use Rattle.std.proofs.lemmas.Bool.{cases_order}
 use Rattle.ass_io.specs.Fetched.{Held, Told}
 use Rattle.ass_script.specs.Scripts.{ScriptValue}
 use Rattle.bdf_font.specs.Fonts.{FontValue}
-use Rattle.bdf_font.specs.Laws.{OneAnswer}
-use Rattle.bdf_font.specs.Lines.{text_lines}
+use Rattle.bdf_font.specs.Laws.{OneFileAnswer}
 use Rattle.run_status.specs.declared.status.Status.{Status}
 use Rattle.run_status.specs.declared.status.Status.TheVariants as status
 use Rattle.run_status.specs.declared.inputs.Inputs.{Inputs}
@@ -26,7 +25,7 @@ asked asks held name (Err status.Done) decided h = absurd h
 asked asks held name (Err (status.NoSuchFile other)) decided h = asked_by asks held _ h
 asked asks held name (Err (status.ReadFault other)) decided h = absurd decided
 asked asks held name (Err (status.BadScript cause)) decided h = asked_by asks held _ h
-asked asks held name (Err (status.BadFont index line cause)) decided h = asked_by asks held _ h
+asked asks held name (Err (status.BadFont index fault)) decided h = asked_by asks held _ h
 asked asks held name (Err (status.WriteFault which)) decided h = absurd h
 asked asks held name (Err (status.TooLarge what limit)) decided h = asked_by asks held _ h
 asked asks held name (Err status.OutOfMemory) decided h = absurd decided
@@ -56,12 +55,12 @@ script_one : (told : List ℕ → Told) (name : List ℕ) (one other : Result Sc
 script_one told name one other known d e h k =
     answered_one (AsksScript name) (asks_one _ name (λ bytes a b p q. p ∙ sym q)) (told name) name one other known d e h k
 
-same_font : OneAnswer → (index : ℕ) (bytes : List ℕ) (one other : Result FontValue Status) → FontAsked index bytes one → FontAsked index bytes other → one ≡ other
+same_font : OneFileAnswer → (index : ℕ) (bytes : List ℕ) (one other : Result FontValue Status) → FontAsked index bytes one → FontAsked index bytes other → one ≡ other
 same_font law index bytes one other p q =
-    let answer = law (text_lines bytes) in
+    let answer = law bytes in
     p.2 ∙ ap (with_status (font_status index)) (answer.2 p.0 p.1 ∙ sym (answer.2 q.0 q.1)) ∙ sym q.2
 
-font_one : OneAnswer → (told : List ℕ → Told) (names : List (List ℕ)) (index : ℕ) (one other : Result FontValue Status) →
+font_one : OneFileAnswer → (told : List ℕ → Told) (names : List (List ℕ)) (index : ℕ) (one other : Result FontValue Status) →
     ((none : List ℕ) → told (slice_index_or names index none) ≢ None) →
     IsReadDecided one → IsReadDecided other → IsFontRead told names index one → IsFontRead told names index other → one ≡ other
 font_one law told names index one other known d e h k =
@@ -69,17 +68,17 @@ font_one law told names index one other known d e h k =
     answered_one (AsksFont index name) (asks_one (FontAsked index) name (same_font law index)) (told name) name one other (known []) d e (h []) (k [])
 
 -- Two lists of first fonts agree as far as both go.
-fonts_agree : OneAnswer → (told : List ℕ → Told) (names : List (List ℕ)) (index : ℕ) → ((none : List ℕ) → told (slice_index_or names index none) ≢ None) →
+fonts_agree : OneFileAnswer → (told : List ℕ → Told) (names : List (List ℕ)) (index : ℕ) → ((none : List ℕ) → told (slice_index_or names index none) ≢ None) →
     (one other : FontValue) → IsFontRead told names index (Ok one) → IsFontRead told names index (Ok other) → one ≡ other
 fonts_agree law told names index known one other h k = let same = font_one law told names index (Ok one) (Ok other) known tt tt h k in cc
 
 -- A font isn't both read and refused.
-not_both : OneAnswer → (told : List ℕ → Told) (names : List (List ℕ)) (index : ℕ) → ((none : List ℕ) → told (slice_index_or names index none) ≢ None) →
+not_both : OneFileAnswer → (told : List ℕ → Told) (names : List (List ℕ)) (index : ℕ) → ((none : List ℕ) → told (slice_index_or names index none) ≢ None) →
     (font : FontValue) (status : Status) → IsCause status → IsFontRead told names index (Ok font) → IsFontRead told names index (Err status) → ⊥
 not_both law told names index known font status cause h k = let same = font_one law told names index (Ok font) (Err status) known tt cause h k in absurd cc
 
 no_font : FontValue
-no_font = record { name = []; ascent = pos 0; descent = pos 0; default_char = None; glyphs = [] }
+no_font = record { name = []; ascent = pos 0; descent = pos 0; default_char = None; glyphs = []; underline = None; strikeout = None; bold_step = pos 0 }
 
 abbrev inputs : ScriptValue → List FontValue → Inputs
 inputs script fonts = record { script = script; fonts = fonts }
@@ -88,7 +87,7 @@ abbrev pub AreNamesTold : (List ℕ → Told) → List (List ℕ) → Type 0
 AreNamesTold told names = (index : ℕ) (none : List ℕ) → index < length names → told (slice_index_or names index none) ≢ None
 
 -- Two decided answers about fonts are the same.
-fonts_one : OneAnswer → (told : List ℕ → Told) (names : List (List ℕ)) → AreNamesTold told names → (one other : Result (List FontValue) Status) →
+fonts_one : OneFileAnswer → (told : List ℕ → Told) (names : List (List ℕ)) → AreNamesTold told names → (one other : Result (List FontValue) Status) →
     IsReadDecided one → IsReadDecided other → AreFontsRead told names one → AreFontsRead told names other → one ≡ other
 fonts_one law told names known (Ok one) (Ok other) d e h k =
     ap Ok (same_lists one other (h.0 ∙ sym k.0) (λ index none within.
@@ -111,7 +110,7 @@ fonts_one law told names known (Err status) (Err cause) d e h k =
     ]
 
 -- Two decided answers about files are the same.
-read_one : OneAnswer → (told : List ℕ → Told) (script : List ℕ) (fonts : List (List ℕ)) (one other : Result Inputs Status) → AreTold told script fonts →
+read_one : OneFileAnswer → (told : List ℕ → Told) (script : List ℕ) (fonts : List (List ℕ)) (one other : Result Inputs Status) → AreTold told script fonts →
     IsReadDecided one → IsReadDecided other → AreFilesRead told script fonts one → AreFilesRead told script fonts other → one ≡ other
 read_one law told script fonts (Ok one) (Ok other) known d e h k =
     let scripts = script_one told script (Ok one.script) (Ok other.script) known.0 tt tt h.0 k.0 in
@@ -136,7 +135,7 @@ read_one law told script fonts (Err status) (Err cause) known d e (inr h) (inr k
     ap Err equal
 
 -- What is told decides.
-pub files_decide : OneAnswer → FilesDecide
+pub files_decide : OneFileAnswer → FilesDecide
 files_decide law told script fonts one other known d e (inr h) (inr k) = h.1 ∙ sym k.1
 files_decide law told script fonts one other known d e (inr h) (inl k) = absurd (omega (arith, h.0, k.0))
 files_decide law told script fonts one other known d e (inl h) (inr k) = absurd (omega (arith, h.0, k.0))

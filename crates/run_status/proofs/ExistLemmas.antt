@@ -1,5 +1,5 @@
 -- Files that are told have an answer.
-use Rattle.std.proofs.Common.{◌≡◌, ◌≢◌, ◌⊎◌, ℕ, zero, suc, ◌+◌, ◌<◌, ◌≤◌, inl, inr, List, [], ◌∷◌, ◌++◌, length, slice_index_or, Some, None, Result, Ok, Err, refl, sym, subst, length-append, arith}
+use Rattle.std.proofs.Common.{◌≡◌, ◌≢◌, ◌⊎◌, Bool, true, false, ap, ℕ, zero, suc, ◌+◌, ◌<◌, ◌≤◌, inl, inr, List, [], ◌∷◌, ◌++◌, length, slice_index_or, Some, None, Result, Ok, Err, refl, sym, subst, length-append, arith}
 use Rattle.std.proofs.lemmas.Bool.{cases_lt}
 use Rattle.std.proofs.lemmas.List.{get_or_default}
 use Rattle.ass_num.specs.Limits.{max_file_bytes}
@@ -9,11 +9,18 @@ use Rattle.ass_script.specs.Scripts.{ScriptValue, script_of}
 use Rattle.ass_script.specs.declared.refusal.ScriptRefusal.{ScriptRefusal}
 use Rattle.ass_script.specs.declared.refusal.ScriptRefusal.TheVariants as script
 use Rattle.bdf_font.specs.Fonts.{FontValue}
-use Rattle.bdf_font.specs.Grammar.{IsFontAnswer}
-use Rattle.bdf_font.specs.Laws.{OneAnswer}
-use Rattle.bdf_font.specs.Lines.{text_lines}
-use Rattle.bdf_font.specs.declared.cause.FontRefusal.{FontRefusal}
-use Rattle.bdf_font.specs.declared.cause.FontRefusal.TheVariants as font
+use Rattle.bdf_font.specs.Files.{IsFontFileAnswer, IsKindAnswer, outlines_answer}
+use Rattle.bdf_font.specs.Laws.{OneFileAnswer}
+use Rattle.bdf_font.specs.declared.cause.FontFileRefusal.{FontFileRefusal}
+use Rattle.bdf_font.specs.declared.cause.FontFileRefusal.TheVariants as file
+use Rattle.bdf_font.specs.declared.cause.FontRefusal.TheVariants as lines
+use Rattle.sfnt_font.specs.declared.cause.SfntRefusal.{SfntRefusal}
+use Rattle.sfnt_font.specs.declared.cause.SfntRefusal.TheVariants as bytes
+use Rattle.sfnt_font.specs.declared.font.SfntFont.{SfntFont}
+use Rattle.sfnt_font.specs.Bytes.{u32_at}
+use Rattle.sfnt_font.specs.Faces.{is_sfnt_kind}
+use Rattle.sfnt_font.specs.Fonts.{sfnt_of}
+use Rattle.sfnt_font.proofs.Refusals.{never_wants_memory as reading_wants_no_memory}
 use Rattle.run_status.specs.declared.status.Status.{Status}
 use Rattle.run_status.specs.declared.status.Status.TheVariants as status
 use Rattle.run_status.specs.declared.status.What.TheVariants.{Bytes}
@@ -41,12 +48,38 @@ script_answered name held (Err (script.TooManyLines n)) suffices h = record { an
 script_answered name held (Err (script.TooManyStyles n)) suffices h = record { answer = Err (script_status (script.TooManyStyles n)); decided = tt; answered = h }
 script_answered name held (Err script.OutOfMemory) suffices h = absurd (suffices refl)
 
-font_answered : (index : ℕ) (name : List ℕ) (held : Held) (lines : List (List ℕ)) (r : Result FontValue FontRefusal) → IsFontAnswer lines r →
+-- No file asks for want of memory.
+lines_decided : (sfnt : Bool) (all : List ℕ) → IsKindAnswer sfnt all (Err (file.Lines lines.OutOfMemory)) → ⊥
+lines_decided true all h = cases (sfnt_of all 0) h
+  where
+    cases : (read : Result SfntFont SfntRefusal) → Err (file.Lines lines.OutOfMemory) ≡ outlines_answer read → ⊥
+    cases (Ok font) h = cc
+    cases (Err why) h = cc
+lines_decided false all h = h
+
+bytes_decided : (sfnt : Bool) (all : List ℕ) → IsKindAnswer sfnt all (Err (file.Bytes bytes.OutOfMemory)) → ⊥
+bytes_decided true all h = cases (sfnt_of all 0) (reading_wants_no_memory all 0) h
+  where
+    cases : (read : Result SfntFont SfntRefusal) → (read ≡ Err bytes.OutOfMemory → ⊥) → Err (file.Bytes bytes.OutOfMemory) ≡ outlines_answer read → ⊥
+    cases (Ok font) never h = cc
+    cases (Err why) never h = let same : why ≡ bytes.OutOfMemory = cc in never (ap Err same)
+bytes_decided false all h = h
+
+font_answered : (index : ℕ) (name : List ℕ) (held : Held) (all : List ℕ) (r : Result FontValue FontFileRefusal) → IsFontFileAnswer all r →
     IsAskedFor (AsksFont index name) (Some held) (with_status (font_status index) r) → HasAnswer (AsksFont index name) name held
-font_answered index name held lines (Ok read) answer h = record { answer = Ok read; decided = tt; answered = h }
-font_answered index name held lines (Err (font.BadFont line cause)) answer h = record { answer = Err (status.BadFont index line cause); decided = tt; answered = h }
-font_answered index name held lines (Err (font.TooLarge most)) answer h = record { answer = Err (font_status index (font.TooLarge most)); decided = tt; answered = h }
-font_answered index name held lines (Err font.OutOfMemory) answer h = absurd answer
+font_answered index name held all (Ok read) answer h = record { answer = Ok read; decided = tt; answered = h }
+font_answered index name held all (Err (file.Lines (lines.BadFont line cause))) answer h =
+    record { answer = Err (font_status index (file.Lines (lines.BadFont line cause))); decided = tt; answered = h }
+font_answered index name held all (Err (file.Lines (lines.TooLarge most))) answer h =
+    record { answer = Err (font_status index (file.Lines (lines.TooLarge most))); decided = tt; answered = h }
+font_answered index name held all (Err (file.Lines lines.OutOfMemory)) answer h =
+    absurd (lines_decided (is_sfnt_kind (u32_at all 0)) all answer)
+font_answered index name held all (Err (file.Bytes (bytes.BadFont byte cause))) answer h =
+    record { answer = Err (font_status index (file.Bytes (bytes.BadFont byte cause))); decided = tt; answered = h }
+font_answered index name held all (Err (file.Bytes (bytes.TooLarge most))) answer h =
+    record { answer = Err (font_status index (file.Bytes (bytes.TooLarge most))); decided = tt; answered = h }
+font_answered index name held all (Err (file.Bytes bytes.OutOfMemory)) answer h =
+    absurd (bytes_decided (is_sfnt_kind (u32_at all 0)) all answer)
 
 -- A name that nothing has, or that holds too much, has its status.
 held_answer : {Value : Type 0} (asks : List ℕ → Result Value Status → Type 0) (name : List ℕ) →
@@ -61,12 +94,12 @@ script_has : (name : List ℕ) (held : Held) → HasAnswer (AsksScript name) nam
 script_has name held =
     held_answer _ name (λ bytes few. script_answered name (Some bytes) (script_of bytes) (never_wants_memory bytes) (Some bytes, refl, inl (few, refl))) held
 
-font_has : OneAnswer → (index : ℕ) (name : List ℕ) (held : Held) → HasAnswer (AsksFont index name) name held
+font_has : OneFileAnswer → (index : ℕ) (name : List ℕ) (held : Held) → HasAnswer (AsksFont index name) name held
 font_has law index name held =
     held_answer (FontAsked index) name
     (λ bytes few.
-    let read = law (text_lines bytes) in
-    font_answered index name (Some bytes) (text_lines bytes) read.0 read.1 (Some bytes, refl, inl (few, (read.0, read.1, refl)))) held
+    let read = law bytes in
+    font_answered index name (Some bytes) bytes read.0 read.1 (Some bytes, refl, inl (few, (read.0, read.1, refl)))) held
 
 -- There is an answer about a name of which it is told what it holds.
 told_has : {Value : Type 0} (asks : Asks Value) (name : List ℕ) (told : Told) → told ≢ None → ((held : Held) → HasAnswer asks name held) →
@@ -74,7 +107,7 @@ told_has : {Value : Type 0} (asks : Asks Value) (name : List ℕ) (told : Told) 
 told_has asks name None known has = absurd (known refl)
 told_has asks name (Some held) known has = let one = has held in (one.answer, one.decided, one.answered)
 
-font_some : OneAnswer → (told : List ℕ → Told) (names : List (List ℕ)) (index : ℕ) → AreNamesTold told names → index < length names →
+font_some : OneFileAnswer → (told : List ℕ → Told) (names : List (List ℕ)) (index : ℕ) → AreNamesTold told names → index < length names →
     (answer : Result FontValue Status) × IsReadDecided answer × IsFontRead told names index answer
 font_some law told names index known within =
     let name = slice_index_or names index [] in
@@ -95,7 +128,7 @@ next_has told names n fonts within count first (Ok read) decided h =
 next_has told names n fonts within count first (Err why) decided h =
     inr (why, decided, (fonts, omega (arith, count, within), first, subst (λ m. IsFontRead told names m (Err why)) (sym count) h))
 
-first_has : OneAnswer → (told : List ℕ → Told) (names : List (List ℕ)) → AreNamesTold told names → (n : ℕ) → n ≤ length names → HasFirst told names n
+first_has : OneFileAnswer → (told : List ℕ → Told) (names : List (List ℕ)) → AreNamesTold told names → (n : ℕ) → n ≤ length names → HasFirst told names n
 first_has law told names known zero within = inl ([], refl, λ index none less. absurd (omega (arith, less)))
 first_has law told names known (suc n) within = elim (first_has law told names known n (omega (arith, within))) [
   | inl (fonts, count, first) ↦
@@ -112,12 +145,12 @@ with_fonts : (told : List ℕ → Told) (script : List ℕ) (fonts : List (List 
 with_fonts told script fonts read few h (inl (all, count, first)) = (Ok (record { script = read; fonts = all }), tt, inl (few, (h, (count, first))))
 with_fonts told script fonts read few h (inr (why, cause, stopped)) = (Err why, cause, inl (few, inr (read, h, stopped)))
 
-with_script : OneAnswer → (told : List ℕ → Told) (script : List ℕ) (fonts : List (List ℕ)) → AreNamesTold told fonts → length fonts ≤ max_fonts →
+with_script : OneFileAnswer → (told : List ℕ → Told) (script : List ℕ) (fonts : List (List ℕ)) → AreNamesTold told fonts → length fonts ≤ max_fonts →
     (answer : Result ScriptValue Status) → IsReadDecided answer → IsScriptRead told script answer → Answer told script fonts
 with_script law told script fonts known few (Ok read) decided h = with_fonts told script fonts read few h (first_has law told fonts known (length fonts) (omega arith))
 with_script law told script fonts known few (Err why) decided h = (Err why, decided, inl (few, inl h))
 
-pub files_have_an_answer : OneAnswer → FilesHaveAnAnswer
+pub files_have_an_answer : OneFileAnswer → FilesHaveAnAnswer
 files_have_an_answer law told script fonts known = elim (cases_lt max_fonts (length fonts)) [
   | inl more ↦ (_, tt, inr (more, refl))
   | inr few ↦

@@ -5,9 +5,8 @@ use Rattle.ass_num.specs.Limits.{max_file_bytes}
 use Rattle.ass_io.specs.Fetched.{Held, Told}
 use Rattle.ass_script.specs.Scripts.{ScriptValue, script_of}
 use Rattle.bdf_font.specs.Fonts.{FontValue}
-use Rattle.bdf_font.specs.Grammar.{IsFontAnswer}
-use Rattle.bdf_font.specs.Lines.{text_lines}
-use Rattle.bdf_font.specs.declared.cause.FontRefusal.{FontRefusal}
+use Rattle.bdf_font.specs.Files.{IsFontFileAnswer}
+use Rattle.bdf_font.specs.declared.cause.FontFileRefusal.{FontFileRefusal}
 use Rattle.run_status.specs.declared.status.Status.{Status}
 use Rattle.run_status.specs.declared.status.Status.TheVariants.{BadWords, Done, NoSuchFile, OutOfMemory, ReadFault, TooLarge, Unwritable, WriteFault}
 use Rattle.run_status.specs.declared.status.What.TheVariants.{Bytes}
@@ -31,7 +30,7 @@ AsksScript = AsksOf (λ bytes answer. answer ≡ with_status script_status (scri
 
 -- What the bytes of a font ask for, whose place among the fonts is `index`.
 abbrev pub FontAsked : ℕ → List ℕ → Result FontValue Status → Type 0
-FontAsked index bytes answer = (font : Result FontValue FontRefusal) × IsFontAnswer (text_lines bytes) font × (answer ≡ with_status (font_status index) font)
+FontAsked index bytes answer = (font : Result FontValue FontFileRefusal) × IsFontFileAnswer bytes font × (answer ≡ with_status (font_status index) font)
 
 abbrev pub AsksFont : ℕ → List ℕ → Asks FontValue
 AsksFont index = AsksOf (FontAsked index)

@@ -1,4 +1,5 @@
 pub mod Fields
+pub mod FontFaults
 pub mod Statuses
 pub mod Causes
 pub mod Files

@@ -1,11 +1,10 @@
 -- Public: the line and the exit status of each status (docs/PROGRAM.md).
 use Rattle.std.specs.Prelude.{ℕ, List, [], ◌++◌, codes, decimal}
 use Rattle.ass_script.specs.declared.script.EventField.{EventField}
-use Rattle.bdf_font.specs.declared.cause.FontCause.{FontCause}
-use Rattle.bdf_font.specs.declared.cause.FontCause.TheVariants.{NoStart, BadNumber, BadRow, Misplaced, NoEnd}
 use Rattle.run_words.specs.declared.job.WordsFault.{WordsFault}
 use Rattle.run_words.specs.declared.job.WordsFault.TheVariants.{Usage, Value}
 use Rattle.run_status.specs.Fields.{field_name}
+use Rattle.run_status.specs.FontFaults.{fault_line}
 use Rattle.run_status.specs.declared.status.BadScript.{BadScript}
 use Rattle.run_status.specs.declared.status.BadScript.TheVariants.{NotUtf8, NoEvents}
 use Rattle.run_status.specs.declared.status.Status.{Status}
@@ -15,18 +14,12 @@ use Rattle.run_status.specs.declared.status.What.TheVariants as what
 use Rattle.run_status.specs.declared.status.Which.{Which}
 use Rattle.run_status.specs.declared.status.Which.TheVariants.{Frames, Report}
 
-abbrev pub cause_text : FontCause → List ℕ
-cause_text NoStart = codes "no start"
-cause_text BadNumber = codes "bad number"
-cause_text BadRow = codes "bad row"
-cause_text Misplaced = codes "misplaced"
-cause_text NoEnd = codes "no end"
-
 abbrev pub what_text : What → List ℕ
 what_text what.Bytes = codes "bytes"
 what_text what.Lines = codes "lines"
 what_text what.Styles = codes "styles"
 what_text what.Glyphs = codes "glyphs"
+what_text what.Faces = codes "faces"
 what_text what.Fonts = codes "fonts"
 what_text what.Frames = codes "frames"
 
@@ -42,9 +35,6 @@ abbrev pub script_line : BadScript → List ℕ
 script_line (NotUtf8 n) = codes "bad script: not UTF-8 at byte " ++ decimal n ++ codes "\n"
 script_line NoEvents = codes "bad script: no [Events] section\n"
 
-abbrev pub bad_font_line : ℕ → ℕ → List ℕ → List ℕ
-bad_font_line index line cause = codes "bad font " ++ decimal index ++ codes " line " ++ decimal line ++ codes ": " ++ cause ++ codes "\n"
-
 abbrev pub limit_line : List ℕ → ℕ → List ℕ
 limit_line what limit = codes "too large: " ++ what ++ codes " passes " ++ decimal limit ++ codes "\n"
 
@@ -58,7 +48,7 @@ status_line (status.BadWords fault) = words_line fault
 status_line (status.NoSuchFile name) = codes "no such file: " ++ name ++ codes "\n"
 status_line (status.ReadFault name) = codes "read fault: " ++ name ++ codes "\n"
 status_line (status.BadScript cause) = script_line cause
-status_line (status.BadFont index line cause) = bad_font_line index line (cause_text cause)
+status_line (status.BadFont index fault) = fault_line index fault
 status_line (status.WriteFault which) = codes "write fault: " ++ sink_text which ++ codes "\n"
 status_line (status.TooLarge what limit) = limit_line (what_text what) limit
 status_line status.OutOfMemory = codes "out of memory\n"
@@ -71,7 +61,7 @@ exit_status_of (status.BadWords _) = 2
 exit_status_of (status.NoSuchFile _) = 3
 exit_status_of (status.ReadFault _) = 4
 exit_status_of (status.BadScript _) = 5
-exit_status_of (status.BadFont _ _ _) = 6
+exit_status_of (status.BadFont _ _) = 6
 exit_status_of (status.WriteFault _) = 7
 exit_status_of (status.TooLarge _ _) = 8
 exit_status_of status.OutOfMemory = 9

@@ -1,11 +1,12 @@
 //! The statuses of what can't be read.
 
 ghost use Rattle.std.specs.Prelude.{◌≡◌};
-ghost use Rattle.run_status.specs.Causes.{font_status, script_status};
+ghost use Rattle.run_status.specs.Causes.{bytes_status, font_status, lines_status, script_status};
 
-use crate::{BadScript, Status, What};
+use crate::{BadScript, FontFault, Status, What};
 use ass_script::ScriptRefusal;
-use bdf_font::FontRefusal;
+use bdf_font::{FontFileRefusal, FontRefusal};
+use sfnt_font::SfntRefusal;
 
 /// The status of a script that is refused.
 pub fn script_status(refusal: ScriptRefusal) -> Status
@@ -20,13 +21,34 @@ pub fn script_status(refusal: ScriptRefusal) -> Status
     }
 }
 
-/// The status of a font that is refused, whose place among the fonts is `index`.
-pub fn font_status(index: usize, refusal: FontRefusal) -> Status
+/// The status of lines that are refused as a font, whose place among the fonts is `index`.
+fn lines_status(index: usize, refusal: FontRefusal) -> Status
+    ensures { result ≡ lines_status index refusal }
+{
+    match refusal {
+        FontRefusal::BadFont(line, cause) => Status::BadFont(index, FontFault::Line(line, cause)),
+        FontRefusal::TooLarge(limit) => Status::TooLarge(What::Glyphs, limit),
+        FontRefusal::OutOfMemory => Status::OutOfMemory,
+    }
+}
+
+/// The status of the bytes of a TrueType font that are refused.
+fn bytes_status(index: usize, refusal: SfntRefusal) -> Status
+    ensures { result ≡ bytes_status index refusal }
+{
+    match refusal {
+        SfntRefusal::BadFont(byte, cause) => Status::BadFont(index, FontFault::Byte(byte, cause)),
+        SfntRefusal::TooLarge(limit) => Status::TooLarge(What::Faces, limit),
+        SfntRefusal::OutOfMemory => Status::OutOfMemory,
+    }
+}
+
+/// The status of a font's file that is refused.
+pub fn font_status(index: usize, refusal: FontFileRefusal) -> Status
     ensures { result ≡ font_status index refusal }
 {
     match refusal {
-        FontRefusal::BadFont(line, cause) => Status::BadFont(index, line, cause),
-        FontRefusal::TooLarge(limit) => Status::TooLarge(What::Glyphs, limit),
-        FontRefusal::OutOfMemory => Status::OutOfMemory,
+        FontFileRefusal::Lines(refusal) => lines_status(index, refusal),
+        FontFileRefusal::Bytes(refusal) => bytes_status(index, refusal),
     }
 }

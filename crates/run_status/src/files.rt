@@ -11,7 +11,7 @@ use crate::{Status, What};
 use ass_io::{Fetch, MAX_FILE_BYTES, Shelf};
 use ass_num::{Items, Text};
 use ass_script::{Script, read_script};
-use bdf_font::{Font, read_font};
+use bdf_font::{Font, read_font_file};
 use std::alloc::Global;
 
 /// The bytes of a file.
@@ -60,7 +60,7 @@ pub fn fetch_font<S: Shelf>(
     ensures font { IfOk result IsFont }
 {
     let bytes = fetch_file(alloc, shelf, name)?;
-    match read_font(alloc, bytes.as_slice()) {
+    match read_font_file(alloc, bytes.as_slice()) {
         Ok(font) => Ok(font),
         Err(refusal) => Err(font_status(index, refusal)),
     }

@@ -5,11 +5,13 @@ mod causes;
 mod fields;
 mod file_laws;
 mod files;
+mod font_fault;
 mod inputs;
 mod status;
 
 pub use causes::script_status;
 pub use fields::field_name;
 pub use file_laws::files_decide;
+pub use font_fault::FontFault;
 pub use inputs::{Inputs, MAX_FONTS, read_inputs};
 pub use status::{BadScript, Status, What, Which};

@@ -1,13 +1,13 @@
 //! How a run of the program ended.
 
 ghost use Rattle.std.specs.Prelude.{◌≡◌, IfOk, string_bytes};
-ghost use Rattle.run_status.specs.Statuses.{bad_font_line, cause_text, limit_line, unwritable_line, what_text, words_line};
+ghost use Rattle.run_status.specs.Statuses.{limit_line, unwritable_line, what_text, words_line};
 ghost use Rattle.run_status.specs.declared.status.Status.TheVariants.{OutOfMemory as memory_status};
 
 use crate::fields::field_name;
+use crate::font_fault::FontFault;
 use ass_num::{Mem, OutOfMemory, Text};
 use ass_script::EventField;
-use bdf_font::FontCause;
 use run_words::WordsFault;
 use std::alloc::Global;
 
@@ -31,6 +31,8 @@ pub enum What {
     Styles,
     /// The glyphs of a font.
     Glyphs,
+    /// The faces of a font's file.
+    Faces,
     /// The fonts of a job.
     Fonts,
     /// The pictures that a job looks at.
@@ -59,9 +61,8 @@ pub enum Status {
     ReadFault(Text),
     /// The script isn't one: exit status 5.
     BadScript(BadScript),
-    /// The font at this place, from 0, isn't one; the first line, from 1, at which it leaves its format, and how:
-    /// exit status 6.
-    BadFont(usize, usize, FontCause),
+    /// The font at this place, from 0, isn't one, and where it leaves its format: exit status 6.
+    BadFont(usize, FontFault),
     /// The sink failed: exit status 7.
     WriteFault(Which),
     /// There is more of it than this many: exit status 8.
@@ -80,19 +81,6 @@ impl From<OutOfMemory> for Status {
     }
 }
 
-/// The cause of a font's refusal in words.
-fn cause_text(cause: FontCause) -> &'static str
-    ensures { result.now ≡ cause_text cause }
-{
-    match cause {
-        FontCause::NoStart => "no start",
-        FontCause::BadNumber => "bad number",
-        FontCause::BadRow => "bad row",
-        FontCause::Misplaced => "misplaced",
-        FontCause::NoEnd => "no end",
-    }
-}
-
 /// What there is too much of, in a word.
 fn what_text(what: What) -> &'static str
     ensures { result.now ≡ what_text what }
@@ -102,16 +90,10 @@ fn what_text(what: What) -> &'static str
         What::Lines => "lines",
         What::Styles => "styles",
         What::Glyphs => "glyphs",
+        What::Faces => "faces",
         What::Fonts => "fonts",
         What::Frames => "frames",
     }
-}
-
-/// The line of the report on a font that isn't one.
-fn bad_font_line(alloc: Global, index: usize, line: usize, cause: &str) -> Mem<String>
-    ensures { IfOk result (λ text. string_bytes text ≡ bad_font_line index line cause.now) }
-{
-    Ok(format!(in alloc; "bad font {index} line {line}: {cause}\n")?)
 }
 
 /// The line of the report on a limit that is passed.
@@ -188,7 +170,7 @@ impl Status {
             Status::NoSuchFile(_) => 3,
             Status::ReadFault(_) => 4,
             Status::BadScript(_) => 5,
-            Status::BadFont(_, _, _) => 6,
+            Status::BadFont(_, _) => 6,
             Status::WriteFault(_) => 7,
             Status::TooLarge(_, _) => 8,
             Status::OutOfMemory => 9,
@@ -212,9 +194,7 @@ impl Status {
                 Ok(format!(in alloc; "read fault: {name}\n")?)
             }
             Status::BadScript(cause) => cause.line(alloc),
-            Status::BadFont(index, line, cause) => {
-                bad_font_line(alloc, *index, *line, cause_text(*cause))
-            }
+            Status::BadFont(index, fault) => fault.line(alloc, *index),
             Status::WriteFault(which) => {
                 let sink = which.text();
                 Ok(format!(in alloc; "write fault: {sink}\n")?)

@@ -56,7 +56,7 @@ fn add_all_malformed(alloc: Global, script: &Script, report: &mut String) -> Mem
 fn add_font(alloc: Global, i: usize, font: &Font, report: &mut String) -> Mem<()>
     ensures { OnOk result (string_bytes report.new ≡ string_bytes report.old ++ font_report i font.now) }
 {
-    let glyphs = font.glyphs().len();
+    let glyphs = font.glyph_count();
     let line = format!(in alloc; "font {i} glyphs {glyphs}\n")?;
     report.push_str(line.as_str())?;
     Ok(())

@@ -17,7 +17,7 @@ use Rattle.text_layout.specs.Clusters.{cluster_ends}
 use Rattle.text_layout.specs.Kinds.{char_of, chars_of}
 use Rattle.text_layout.specs.Metrics.{held_extent, no_font, no_metrics, scaled_pixels}
 
--- the advance of a glyph in pixels of its bitmap, or 0 without one
+-- the advance of a glyph in the units of its font, or 0 without one
 abbrev pub glyph_advance : List FontGlyph → Option ℕ → ℤ
 glyph_advance glyphs None = pos 0
 glyph_advance glyphs (Some place) = option_map_or (λ (glyph : FontGlyph). glyph.advance) (slice_get glyphs place) (pos 0)

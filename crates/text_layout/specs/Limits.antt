@@ -1,13 +1,13 @@
 -- Public: the limits of layout.
 use Rattle.std.specs.Prelude.{ℕ, ◌+◌, ◌*◌, ◌^◌}
 use Rattle.ass_num.specs.Limits.{max_frame_side, max_held, max_text_bytes, one_16}
-use Rattle.bdf_font.specs.Limits.{max_ascent, max_offset}
+use Rattle.bdf_font.specs.Limits.{max_measure}
 use Rattle.line_layout.specs.Breaks.{max_width}
 use Rattle.override_tags.specs.Limits.{max_tag_scale}
 
--- the greatest height of a font, in its own pixels
+-- the greatest height of a font, in its own units
 abbrev pub max_em : ℕ
-max_em = max_ascent + max_offset
+max_em = 2 * max_measure
 
 -- the farthest from 0 that a product of two numbers of a script may be
 abbrev pub max_dividend : ℕ

@@ -20,7 +20,7 @@ use Rattle.text_layout.specs.Scales.{drawing_matrix, pixel, text_matrix, whole_m
 abbrev pub held_extent : ℤ → ℤ
 held_extent z = held (pos 0) (pos max_width) z
 
--- so many pixels of a bitmap, scaled
+-- so many units of a font, scaled; those of a bitmap font are its pixels
 abbrev pub scaled_pixels : ℤ → ℤ → ℤ
 scaled_pixels pixels scale = floor_div (pixels *ℤ scale) (pos one_16)
 
@@ -43,7 +43,7 @@ metrics_of header number font state size =
 
 -- a font without glyphs, which stands for none
 abbrev pub no_font : FontValue
-no_font = record { name = []; ascent = pos 0; descent = pos 0; default_char = None; glyphs = [] }
+no_font = record { name = []; ascent = pos 0; descent = pos 0; default_char = None; glyphs = []; underline = None; strikeout = None; bold_step = pos 0 }
 
 -- the metrics of a state, whose font is the one of its name
 abbrev pub state_metrics : Header → List FontValue → List ℕ → Size → State → Metrics

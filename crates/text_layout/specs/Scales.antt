@@ -43,7 +43,7 @@ fine_parts side = side * pixel * one_16
 abbrev pub held_scale : ℤ → ℤ
 held_scale z = held (pos 0) (pos max_scale) z
 
--- The scale of a bitmap pixel: a font that is `em` pixels high is `size` script pixels high at a scale of 100 per cent.
+-- The scale of a font's unit: a font that is `em` units high is `size` script pixels high at a scale of 100 per cent.
 abbrev pub text_scale : ℤ → ℤ → ℕ → ℕ → ℕ → ℤ
 text_scale size scale side res em = held_scale (floor_div ((size *ℤ scale) *ℤ pos (fine_parts side)) (pos (whole_milli * whole_per_cent * res * em)))
 

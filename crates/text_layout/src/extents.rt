@@ -37,14 +37,14 @@ pub(crate) const NO_EXTENT: Extent = Extent {
     descent: 0,
 };
 
-/// The advance of a character's glyph in pixels of its bitmap, or 0 without one.
+/// The advance of a character's glyph in the units of its font, or 0 without one.
 fn advance_of(font: &Font, c: char) -> i32
     requires { IsFont font.now }
     ensures value { result ≡ font_advance font.now c }
     ensures within { IsWithin max_pixel result }
 {
     match glyph(font, c) {
-        Some(place) => font.glyphs()[place as usize].advance,
+        Some(place) => font.advance_at(place),
         None => 0,
     }
 }

@@ -46,7 +46,7 @@ pub(crate) fn held_extent(length: i128) -> Fix
     hold(length, 0, MAX_EXTENT)
 }
 
-/// So many pixels of a bitmap, scaled.
+/// So many units of a font, scaled; those of a bitmap font are its pixels.
 pub(crate) fn scaled_pixels(pixels: i32, scale: i64) -> i128
     requires pixels { IsWithin max_pixel pixels }
     requires scale { IsScale scale }

@@ -84,7 +84,7 @@ fn fine_parts(side: u32) -> u64
     u64::from(side) * 64 * 65_536
 }
 
-/// The scale of a bitmap pixel of a font that is `em` pixels high.
+/// The scale of a unit of a font that is `em` units high.
 fn text_scale(size: Milli, scale: Milli, side: u32, res: u32, em: u64) -> i64
     requires size { IsHeldLength size }
     requires scale { IsHeldLength scale }

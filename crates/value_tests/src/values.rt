@@ -39,7 +39,7 @@ fn fonts(alloc: Global) -> Result<FontSet, Fail>
         return Err("the font is long".into());
     }
     let font = read_font(alloc, DOT.as_bytes())?;
-    if font.glyphs().len() != 2 {
+    if font.glyph_count() != 2 {
         return Err("the font has other glyphs".into());
     }
     let mut fonts = Items::new(alloc);

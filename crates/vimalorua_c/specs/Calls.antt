@@ -7,10 +7,9 @@ use Rattle.ass_num.specs.declared.size.Size.{Size}
 use Rattle.ass_script.specs.Scripts.{ScriptValue, script_of}
 use Rattle.ass_script.specs.declared.refusal.ScriptRefusal.{ScriptRefusal}
 use Rattle.bdf_font.specs.Fonts.{FontValue}
-use Rattle.bdf_font.specs.Grammar.{IsFontAnswer}
+use Rattle.bdf_font.specs.Files.{IsFontFileAnswer}
 use Rattle.bdf_font.specs.Limits.{max_fonts}
-use Rattle.bdf_font.specs.Lines.{text_lines}
-use Rattle.bdf_font.specs.declared.cause.FontRefusal.{FontRefusal}
+use Rattle.bdf_font.specs.declared.cause.FontFileRefusal.{FontFileRefusal}
 use Rattle.blend.specs.Canvases.{CanvasValue, black}
 use Rattle.evict_core.specs.Machine.{max_budget}
 use Rattle.frame_change.specs.declared.kinds.ChangeKind.{ChangeKind}
@@ -68,11 +67,11 @@ IsLongFile bytes = max_file_bytes < length bytes
 pub record IsFontAdded (bytes : List ℕ) (answer : Told) (old new : PlayerView) : Type 0 where
   pub many : (answer.status ≡ many_fonts_status) ↔ (max_fonts ≤ length old.fonts)
   pub most : answer.status ≡ many_fonts_status → answer.place ≡ max_fonts
-  pub added : answer.status ≡ done_status → (font : FontValue) × IsFontAnswer (text_lines bytes) (Ok font)
+  pub added : answer.status ≡ done_status → (font : FontValue) × IsFontFileAnswer bytes (Ok font)
       × (answer.place ≡ length old.fonts) × (new ≡ record old { fonts = old.fonts ++ font ∷ [] })
   pub else_same : answer.status ≢ done_status → new ≡ old
   pub refused : answer.status ≢ done_status → answer.status ≢ many_fonts_status → answer.status ≢ out_of_memory_status
-      → (refusal : FontRefusal) × IsFontAnswer (text_lines bytes) (Err refusal) × (answer ≡ font_told refusal)
+      → (refusal : FontFileRefusal) × IsFontFileAnswer bytes (Err refusal) × (answer ≡ font_told refusal)
 
 abbrev pub IsBudgetSet : ℕ → ℤ → PlayerView → PlayerView → Type 0
 IsBudgetSet budget status old new = (status ≡ done_status) × (new ≡ record old { budget = budget })

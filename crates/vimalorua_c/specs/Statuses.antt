@@ -4,10 +4,14 @@ use Rattle.ass_script.specs.declared.refusal.ScriptRefusal.{ScriptRefusal}
 use Rattle.ass_script.specs.declared.refusal.ScriptRefusal.TheVariants as script
 use Rattle.ass_script.specs.declared.script.EventField.{EventField}
 use Rattle.ass_script.specs.declared.script.EventField.TheVariants as field
+use Rattle.bdf_font.specs.declared.cause.FontFileRefusal.{FontFileRefusal}
+use Rattle.bdf_font.specs.declared.cause.FontFileRefusal.TheVariants as file
 use Rattle.bdf_font.specs.declared.cause.FontRefusal.{FontRefusal}
-use Rattle.bdf_font.specs.declared.cause.FontRefusal.TheVariants as font
+use Rattle.bdf_font.specs.declared.cause.FontRefusal.TheVariants as lines
 use Rattle.frame_change.specs.declared.kinds.ChangeKind.{ChangeKind}
 use Rattle.frame_change.specs.declared.kinds.ChangeKind.TheVariants.{Same, Moved, Other}
+use Rattle.sfnt_font.specs.declared.cause.SfntRefusal.{SfntRefusal}
+use Rattle.sfnt_font.specs.declared.cause.SfntRefusal.TheVariants as bytes
 use Rattle.track_history.specs.declared.answers.Feed.{Feed}
 use Rattle.track_history.specs.declared.answers.Feed.TheVariants as fed
 use Rattle.track_history.specs.declared.answers.Flushed.{Flushed}
@@ -43,11 +47,22 @@ script_told (script.TooManyLines most) = told (pos 3) most
 script_told (script.TooManyStyles most) = told (pos 4) most
 script_told script.OutOfMemory = told out_of_memory_status 0
 
+-- why lines aren't a font
+abbrev pub lines_told : FontRefusal → Told
+lines_told (lines.BadFont line cause) = told (pos 6) line
+lines_told (lines.TooLarge most) = told (pos 7) most
+lines_told lines.OutOfMemory = told out_of_memory_status 0
+
+-- why the bytes of a TrueType file aren't one
+abbrev pub bytes_told : SfntRefusal → Told
+bytes_told (bytes.BadFont byte cause) = told (pos 6) byte
+bytes_told (bytes.TooLarge most) = told (pos 7) most
+bytes_told bytes.OutOfMemory = told out_of_memory_status 0
+
 -- why a font isn't read
-abbrev pub font_told : FontRefusal → Told
-font_told (font.BadFont line cause) = told (pos 6) line
-font_told (font.TooLarge most) = told (pos 7) most
-font_told font.OutOfMemory = told out_of_memory_status 0
+abbrev pub font_told : FontFileRefusal → Told
+font_told (file.Lines refusal) = lines_told refusal
+font_told (file.Bytes refusal) = bytes_told refusal
 
 -- the answer to a feed
 abbrev pub feed_told : Feed → Told

@@ -11,7 +11,7 @@ use crate::status::{
     BAD_CALL, CLOSED, DONE, MANY_FONTS, OUT_OF_MEMORY, Told, font_told, script_told, told_at,
 };
 use crate::taking::{handle_of, put_back, take};
-use bdf_font::read_font;
+use bdf_font::read_font_file;
 use player::Player;
 use std::alloc::Global;
 
@@ -90,7 +90,7 @@ fn font_added(alloc: Global, player: &mut Player, font: &[u8]) -> Told
     if count >= MAX_FONTS {
         return told_at(MANY_FONTS, MAX_FONTS);
     }
-    let font = match read_font(alloc, font) {
+    let font = match read_font_file(alloc, font) {
         Ok(font) => font,
         Err(refusal) => return font_told(refusal),
     };

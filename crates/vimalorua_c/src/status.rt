@@ -4,8 +4,9 @@ ghost use Rattle.std.specs.Prelude.{◌≡◌};
 ghost use Rattle.vimalorua_c.specs.Statuses as rule;
 
 use ass_script::{EventField, ScriptRefusal};
-use bdf_font::FontRefusal;
+use bdf_font::{FontFileRefusal, FontRefusal};
 use frame_change::ChangeKind;
+use sfnt_font::SfntRefusal;
 use track_history::{Feed, Flushed};
 
 /// The call did what it says.
@@ -26,10 +27,10 @@ pub const MANY_STYLES: i32 = 4;
 /// Memory was refused.
 pub const OUT_OF_MEMORY: i32 = 5;
 
-/// The font has a faulty line.
+/// The font has a faulty line or byte.
 pub const BAD_FONT: i32 = 6;
 
-/// The font has more than 131,072 glyphs.
+/// The font has more than 131,072 glyphs, or its file more than 64 faces.
 pub const LARGE_FONT: i32 = 7;
 
 /// The player has 64 fonts already.
@@ -83,14 +84,35 @@ pub fn script_told(refusal: ScriptRefusal) -> Told
     }
 }
 
-/// Why a font isn't read.
-pub fn font_told(refusal: FontRefusal) -> Told
-    ensures { result ≡ rule.font_told refusal }
+/// Why lines aren't a font.
+fn lines_told(refusal: FontRefusal) -> Told
+    ensures { result ≡ rule.lines_told refusal }
 {
     match refusal {
         FontRefusal::BadFont(line, _) => told_at(BAD_FONT, line),
         FontRefusal::TooLarge(most) => told_at(LARGE_FONT, most),
         FontRefusal::OutOfMemory => told_at(OUT_OF_MEMORY, 0),
+    }
+}
+
+/// Why the bytes of a TrueType file aren't one.
+fn bytes_told(refusal: SfntRefusal) -> Told
+    ensures { result ≡ rule.bytes_told refusal }
+{
+    match refusal {
+        SfntRefusal::BadFont(byte, _) => told_at(BAD_FONT, byte),
+        SfntRefusal::TooLarge(most) => told_at(LARGE_FONT, most),
+        SfntRefusal::OutOfMemory => told_at(OUT_OF_MEMORY, 0),
+    }
+}
+
+/// Why a font isn't read.
+pub fn font_told(refusal: FontFileRefusal) -> Told
+    ensures { result ≡ rule.font_told refusal }
+{
+    match refusal {
+        FontFileRefusal::Lines(refusal) => lines_told(refusal),
+        FontFileRefusal::Bytes(refusal) => bytes_told(refusal),
     }
 }
 

@@ -7,5 +7,5 @@ use Rattle.fixed_outline.proofs.glyphs.add_row.Given as goal
 
 abbrev pub invariant-loop-i : goal.invariant-loop-i
 invariant-loop-i l =
-    (l.rings ≡ l.initial.rings ++ flat_map (pixel_quads l.style.matrix l.style.bold (bitmap_of l.glyph) l.j) (range_with_len 0 l.i))
+    (l.rings ≡ l.initial.rings ++ flat_map (pixel_quads l.style.matrix l.style.bold (bitmap_of l.pixels) l.j) (range_with_len 0 l.i))
     × (IsOutline l.initial.rings → IsOutline l.rings)

@@ -7,5 +7,5 @@ use Rattle.fixed_outline.proofs.glyphs.add_rows.Given as goal
 
 abbrev pub invariant-loop-j : goal.invariant-loop-j
 invariant-loop-j l =
-    (l.rings ≡ l.initial.rings ++ flat_map (row_quads l.style.matrix l.style.bold (bitmap_of l.glyph)) (range_with_len 0 l.j))
+    (l.rings ≡ l.initial.rings ++ flat_map (row_quads l.style.matrix l.style.bold (bitmap_of l.pixels)) (range_with_len 0 l.j))
     × (IsOutline l.initial.rings → IsOutline l.rings)

@@ -10,7 +10,7 @@ loop-from-init c =
     record {
       within = gap.within;
       begins = gap.ends;
-      winding = λ i k. let e = front_gap c.args.style.now.matrix c.args.style.now.bold (bitmap_of c.args.glyph.now) c.args.j 0 c.run_start-from.result i k gap in omega (arith, ints, e);
+      winding = λ i k. let e = front_gap c.args.style.now.matrix c.args.style.now.bold (bitmap_of c.args.pixels.now) c.args.j 0 c.run_start-from.result i k gap in omega (arith, ints, e);
       outline = λ outline. outline;
     }
 
@@ -18,7 +18,7 @@ pub loop-from-preserved : goal.loop-from-preserved
 loop-from-preserved c =
     let m = c.args.style.now.matrix in
     let bold = c.args.style.now.bold in
-    let bitmap = bitmap_of c.args.glyph.now in
+    let bitmap = bitmap_of c.args.pixels.now in
     let inv = c.loop-from.invariant in
     let run = c.run_end-to.ensures in
     let gap = c.run_start-from-in-loop-from.ensures in
@@ -37,5 +37,5 @@ loop-from-preserved c =
 pub returns-clause-winding : goal.returns-clause-winding
 returns-clause-winding c i k =
     let was = c.loop-from.invariant.winding i k in
-    let whole = front_all c.args.style.now.matrix c.args.style.now.bold (bitmap_of c.args.glyph.now) c.args.j c.loop-from.from i k (omega (arith, c.loop-from.invariant.within, c.loop-from-test.false)) in
+    let whole = front_all c.args.style.now.matrix c.args.style.now.bold (bitmap_of c.args.pixels.now) c.args.j c.loop-from.from i k (omega (arith, c.loop-from.invariant.within, c.loop-from-test.false)) in
     omega (arith, ints, was, whole)

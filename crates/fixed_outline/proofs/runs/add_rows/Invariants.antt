@@ -8,5 +8,5 @@ use Rattle.fixed_outline.proofs.runs.add_rows.Given as goal
 
 abbrev pub invariant-loop-j : goal.invariant-loop-j
 invariant-loop-j l =
-    ((i k : ℤ) → winding l.rings i k ≡ winding l.initial.rings i k +ℤ winding (flat_map (row_quads l.style.matrix l.style.bold (bitmap_of l.glyph)) (range_with_len 0 l.j)) i k)
+    ((i k : ℤ) → winding l.rings i k ≡ winding l.initial.rings i k +ℤ winding (flat_map (row_quads l.style.matrix l.style.bold (bitmap_of l.pixels)) (range_with_len 0 l.j)) i k)
     × (IsOutline l.initial.rings → IsOutline l.rings)

@@ -18,7 +18,7 @@ returns-then-style-clause-winding c =
     let fe : FitsSigned w64 (top +ℤ pos 1) = omega (arith, ints, c.row_top-top.ensures.within) in
     let ff : FitsSigned w64 (left +ℤ pos 1) = omega (arith, ints, c.column_left-left.ensures.within) in
     let fg : FitsSigned w64 (last +ℤ pos 1 +ℤ pos 1) = omega (arith, ints, c.column_left.ensures.within) in
-    run_added m bold (bitmap_of c.args.glyph.now) c.args.j c.requires.upright c.args.from c.args.to left (last +ℤ pos 1) top c.args.rings.now c.add_quad-then-style.new.rings c.requires.some c.requires.run
+    run_added m bold (bitmap_of c.args.pixels.now) c.args.j c.requires.upright c.args.from c.args.to left (last +ℤ pos 1) top c.args.rings.now c.add_quad-then-style.new.rings c.requires.some c.requires.run
     c.column_left-left.ensures.value (omega (arith, ints, c.column_left.ensures.value)) c.row_top-top.ensures.value
     (bold_added m bold top left (last +ℤ pos 1) c.args.rings.now c.add_quad.new.rings c.add_quad-then-style.new.rings c.if-style.true
     (simp to_z-of_z at c.in_ok-add_quad.ensures.added) (simp to_z-of_z at c.in_ok-add_quad-2.ensures.added))
@@ -38,6 +38,6 @@ returns-clause-winding c =
     let fc : FitsSigned w64 top = search rules in
     let fd : FitsSigned w64 (last +ℤ pos 1) = omega (arith, ints, c.column_left.ensures.within) in
     let fe : FitsSigned w64 (top +ℤ pos 1) = omega (arith, ints, c.row_top-top.ensures.within) in
-    run_added m bold (bitmap_of c.args.glyph.now) c.args.j c.requires.upright c.args.from c.args.to left (last +ℤ pos 1) top c.args.rings.now c.add_quad.new.rings c.requires.some c.requires.run
+    run_added m bold (bitmap_of c.args.pixels.now) c.args.j c.requires.upright c.args.from c.args.to left (last +ℤ pos 1) top c.args.rings.now c.add_quad.new.rings c.requires.some c.requires.run
     c.column_left-left.ensures.value (omega (arith, ints, c.column_left.ensures.value)) c.row_top-top.ensures.value
     (plain_added m bold top left (last +ℤ pos 1) c.args.rings.now c.add_quad.new.rings c.if-style.false (simp to_z-of_z at c.in_ok-add_quad.ensures.added))

@@ -5,9 +5,9 @@ use Rattle.fixed_outline.proofs.runs.run_start.Given as goal
 abbrev pub invariant-loop-i : goal.invariant-loop-i
 invariant-loop-i l = record {
   ordered : l.from ≤ l.i;
-  within : l.i ≤ l.glyph.w;
-  clear : (k : ℕ) → l.from ≤ k → k < l.i → pixel_is_set l.glyph.w l.glyph.bits k l.j ≡ false;
+  within : l.i ≤ l.pixels.w;
+  clear : (k : ℕ) → l.from ≤ k → k < l.i → pixel_is_set l.pixels.w l.pixels.bits k l.j ≡ false;
 }
 
 abbrev pub decreases-loop-i : goal.decreases-loop-i
-decreases-loop-i l = l.glyph.w - l.i
+decreases-loop-i l = l.pixels.w - l.i

@@ -1,0 +1,63 @@
+-- The glyphs of a TrueType font in its list: what stands at a place, where a character's stands, and in which ranges they are.
+use Rattle.std.proofs.Common.{◌≡◌, ℕ, ◌+◌, ◌-◌, ◌<◌, List, [], ◌∷◌, length, cond, Option, Some, None, refl, ap, ap₂, ◌∙◌, ℤ, pos, arith, map}
+use Rattle.std.specs.Prelude.{slice_get, IfSome, option_map}
+use Rattle.std.specs.Option.{option_or}
+use Rattle.std.specs.Ordering.{int_eq}
+use Rattle.std.proofs.lemmas.Int.{ints}
+use Rattle.std.proofs.lemmas.List.{length-map}
+use Rattle.std.proofs.lemmas.Option.{slice_get-map, slice_get-get_or}
+use Rattle.std.proofs.lemmas.List.Elements.{All-map}
+use Rattle.sfnt_font.specs.declared.font.SfntFont.{SfntFont}
+use Rattle.sfnt_font.specs.declared.numbers.Bar.{Bar}
+use Rattle.sfnt_font.specs.Codes.{font_codes, code_of_place, code_place_from, glyph_of_code, missing_code}
+use Rattle.sfnt_font.specs.Fonts.{place_of_code}
+use Rattle.sfnt_font.specs.Numbers.{IsFontBar}
+use Rattle.sfnt_font.specs.Ranges.{IsSfntFont}
+use Rattle.sfnt_font.proofs.CodeLemmas.{code_place, missing_place, font_codes_most}
+use Rattle.sfnt_font.proofs.ContourBounds.{contours_within}
+use Rattle.sfnt_font.proofs.RangeLemmas.{advance_most}
+use Rattle.bdf_font.specs.Fonts.{place_from, glyph_of}
+use Rattle.bdf_font.specs.Outlines.{outline_glyph, outline_glyphs, outline_font}
+use Rattle.bdf_font.specs.Ranges.{IsBar, IsFont, IsGlyph}
+
+-- the glyph at a place is that of the code there
+pub glyph_at_place : (font : SfntFont) (place : ℕ) → place < length (outline_glyphs font) → slice_get (outline_glyphs font) place ≡ Some (outline_glyph font (code_of_place font place))
+glyph_at_place font place within =
+    slice_get-map (outline_glyph font) (font_codes font) place
+    ∙ ap (option_map (outline_glyph font)) (slice_get-get_or (font_codes font) place missing_code (omega (arith, within, length-map (font_codes font) (outline_glyph font))))
+
+-- ---- where the glyph of a character stands
+
+from-codes : (font : SfntFont) (n : ℕ) (code : ℤ) (codes : List ℤ) → place_from n code (map (outline_glyph font) codes) ≡ code_place_from n code codes
+from-codes font n code [] = refl
+from-codes font n code (c ∷ codes) = ap (cond (int_eq c code) (Some n)) (from-codes font (n + 1) code codes)
+
+pub outline_found : (font : SfntFont) (c : ℕ) → IsSfntFont font → glyph_of (outline_font font) c ≡ option_or (place_of_code font c) (Some (length (font_codes font) - 1))
+outline_found font c is =
+    ap₂ option_or (from-codes font 0 (pos c) (font_codes font) ∙ code_place font c is)
+    (from-codes font 0 missing_code (font_codes font) ∙ missing_place font is)
+
+-- ---- ranges
+
+bar_sound : (bar : Option Bar) → IfSome bar IsFontBar → IfSome bar IsBar
+bar_sound None is = tt
+bar_sound (Some bar) is = record { top = is.top; size = (is.size, omega (arith, ints, is.size_most)) }
+
+glyph_sound : (font : SfntFont) (code : ℤ) → IsSfntFont font → IsGlyph (outline_glyph font code)
+glyph_sound font code is =
+    let g = glyph_of_code font code in
+    let most = advance_most font g is in
+    record { advance = (omega (arith, ints), omega (arith, ints, most)); shape = contours_within font g }
+
+pub outlines_sound : (font : SfntFont) → IsSfntFont font → IsFont (outline_font font)
+outlines_sound font is = record {
+  ascent = is.numbers.ascent;
+  ascent_most = omega (arith, ints, is.numbers.ascent_most);
+  descent = is.numbers.descent;
+  descent_most = omega (arith, ints, is.numbers.descent_most);
+  glyphs = All-map IsGlyph (outline_glyph font) (font_codes font) (λ k d within. glyph_sound font _ is);
+  few = omega (arith, length-map (font_codes font) (outline_glyph font), font_codes_most font is);
+  underline = bar_sound font.numbers.underline is.numbers.underline;
+  strikeout = bar_sound font.numbers.strikeout is.numbers.strikeout;
+  bold_step = (omega (arith, ints), omega (arith, ints, is.numbers.bold_most));
+}

@@ -1,0 +1,15 @@
+-- Public: what a font keeps, as the font that it is.
+use Rattle.sfnt_font.specs.Ranges.{IsSfntFont}
+use Rattle.bdf_font.specs.declared.font_data.FontData.{FontData}
+use Rattle.bdf_font.specs.declared.font_data.FontData.TheVariants.{Bitmaps, Outlines}
+use Rattle.bdf_font.specs.Fonts.{FontValue}
+use Rattle.bdf_font.specs.Outlines.{outline_font}
+
+abbrev pub font_value : FontData → FontValue
+font_value (Bitmaps font) = font
+font_value (Outlines font) = outline_font font
+
+-- what holds of each
+abbrev pub IsFontData : FontData → Type 0
+IsFontData (Bitmaps font) = Unit {0}
+IsFontData (Outlines font) = IsSfntFont font

@@ -1,0 +1,56 @@
+//! TrueType fonts as lists of glyphs, which are read when they are asked for.
+
+ghost use Rattle.std.specs.Prelude.{◌≡◌, ◌<◌, [], length, pos, true, IfOk, slice_get};
+ghost use Rattle.std.specs.Option.{option_map_or};
+ghost use Rattle.bdf_font.specs.Fonts.{glyph_of};
+ghost use Rattle.bdf_font.specs.Outlines.{outline_font, outline_glyphs};
+ghost use Rattle.bdf_font.specs.Pixels.{contours_in};
+ghost use Rattle.bdf_font.specs.declared.glyphs.FontGlyph.{FontGlyph};
+ghost use Rattle.sfnt_font.specs.Ranges.{IsSfntFont};
+
+use ass_num::{FlatLists, Mem};
+use outline_points::GlyphPoint;
+use sfnt_font::{SfntFont, contours_of, is_blank};
+use std::alloc::Global;
+
+/// The code of the glyph of missing characters.
+pub const MISSING_CODE: i64 = -2;
+
+/// How far the glyph at a place advances the pen.
+pub fn outline_advance(font: &SfntFont, place: u32) -> i32
+    requires font { IsSfntFont font.now }
+    requires place { place < length (outline_glyphs font.now) }
+    ensures { result ≡ option_map_or (λ (glyph : FontGlyph). glyph.advance) (slice_get (outline_glyphs font.now) place) (pos 0) }
+{
+    i32::from(font.advance(font.glyph_at(place)))
+}
+
+/// Whether the glyph at a place has no bytes.
+pub fn outline_is_blank(font: &SfntFont, place: u32) -> bool
+    requires font { IsSfntFont font.now }
+    requires place { place < length (outline_glyphs font.now) }
+    ensures { result ≡ option_map_or (λ (glyph : FontGlyph). glyph.blank) (slice_get (outline_glyphs font.now) place) true }
+{
+    is_blank(font, font.glyph_at(place))
+}
+
+/// The contours of the glyph at a place.
+pub fn outline_contours(alloc: Global, font: &SfntFont, place: u32) -> Mem<FlatLists<GlyphPoint>>
+    requires font { IsSfntFont font.now }
+    requires place { place < length (outline_glyphs font.now) }
+    ensures { IfOk result (λ contours. contours
+        ≡ option_map_or (λ (glyph : FontGlyph). contours_in glyph.shape) (slice_get (outline_glyphs font.now) place) []) }
+{
+    contours_of(alloc, font, font.glyph_at(place))
+}
+
+/// The place of a character's glyph: of its code, or else the last one.
+pub fn outline_place(font: &SfntFont, c: char) -> Option<u32>
+    requires { IsSfntFont font.now }
+    ensures { result ≡ glyph_of (outline_font font.now) c }
+{
+    match font.place_of(u32::from(c)) {
+        Some(place) => Some(place),
+        None => Some(font.glyph_count() - 1),
+    }
+}

@@ -1,7 +1,0 @@
-use Rattle.std.proofs.Common.{◌≡◌, false}
-use Rattle.std.specs.List.{list_any, range_with_len}
-use Rattle.ass_num.specs.Bitmaps.{pixel_is_set}
-use Rattle.event_draws.proofs.marks.row_has_pixels.Given as goal
-
-abbrev pub invariant-loop-i : goal.invariant-loop-i
-invariant-loop-i l = list_any (λ i. pixel_is_set l.glyph.w l.glyph.bits i l.j) (range_with_len 0 l.i) ≡ false
