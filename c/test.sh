@@ -85,7 +85,7 @@ shared_alone() {
     printf 'NEEDED libc.so.6\nSONAME libvimalorua.so.1\n' | diff - "$work/needs"
     (cd "$work/plain" && "$cc" -o shared demo.o files.o "$shared" "-Wl,-rpath,${shared%/*}")
     "$work/plain/shared" 1000 5000 1500 320x180 "$top/examples/signs.ass" "$top/examples/subtitle.bdf" |
-        cmp - "$work/wanted-signs.ass.ppm"
+        cmp - "$work/wanted-signs.ass-subtitle.bdf.ppm"
 }
 
 # An image without the second line of its head, which is a comment.
@@ -101,7 +101,7 @@ no_comment() {
 # The frames that the program draws, once for both kinds.
 wanted() { # FROM TO STEP WxH SCRIPT FONT
     local ms into
-    into=$work/wanted-$(basename "$5").ppm
+    into=$work/wanted-$(basename "$5")-$(basename "$6").ppm
     [ ! -f "$into" ] || return 0
     for ((ms = $1; ms < $2; ms += $3)); do
         "${PROGRAM:-$top/vimalorua}" frame --at "$ms" --size "$4" "${@:5}" 2> "$work/log" | no_comment || {
@@ -115,7 +115,7 @@ wanted() { # FROM TO STEP WxH SCRIPT FONT
 frames() { # KIND FROM TO STEP WxH SCRIPT FONT
     wanted "${@:2}"
     "$work/$1/demo" "${@:2}" > "$work/demo.ppm"
-    cmp "$work/demo.ppm" "$work/wanted-$(basename "$6").ppm"
+    cmp "$work/demo.ppm" "$work/wanted-$(basename "$6")-$(basename "$7").ppm"
     "$work/$1/pictures" "${@:2}"
 }
 
@@ -192,6 +192,7 @@ for kind in $kinds; do
     for script in dialogue karaoke signs; do
         frames "$kind" 1000 5000 1500 320x180 "$top/examples/$script.ass" "$top/examples/subtitle.bdf"
     done
+    frames "$kind" 1000 8000 1500 320x180 "$top/examples/dialogue.ass" "$top/examples/letters.ttf"
     echo "test.sh: $kind passed"
 done
 shared_alone

@@ -25,7 +25,7 @@ _vimalorua() {
         -*) mapfile -t COMPREPLY < <(compgen -W "$options" -- "$word") ;;
         *)
             [ "${COMP_WORDS[1]}" = selftest ] || mapfile -t COMPREPLY < <(
-                compgen -f -X '!*.@(ass|ssa|bdf|ASS|SSA|BDF)' -- "$word"
+                compgen -f -X '!*.@(ass|ssa|bdf|ttf|ttc|ASS|SSA|BDF|TTF|TTC)' -- "$word"
                 compgen -d -- "$word"
             )
             compopt -o filenames 2> /dev/null

@@ -3,6 +3,8 @@
 import os
 import shutil
 
+import hand_font
+
 HEAD = """[Script Info]
 ScriptType: v4.00+
 PlayResX: 16
@@ -19,8 +21,30 @@ GLYPH = "STARTCHAR x\nENCODING {code}\nDWIDTH 1 0\nBBX 1 1 0 0\nBITMAP\n80\nENDC
 FONT = "STARTFONT 2.1\nFONT dot\nFONTBOUNDINGBOX 1 1 0 0\n{glyphs}ENDFONT\n"
 
 
+LETTERS = """[Script Info]
+ScriptType: v4.00+
+PlayResX: 640
+PlayResY: 360
+WrapStyle: 2
+[V4+ Styles]
+Format: Name, Fontname, Fontsize, PrimaryColour, OutlineColour, BackColour, BorderStyle, Outline, Shadow, Alignment
+Style: Default,hand,40,&H00FFFFFF,&H00000000,&H80000000,1,0,0,7
+[Events]
+Format: Layer, Start, End, Style, Name, MarginL, MarginR, MarginV, Effect, Text
+"""
+
+
 def line(start, end, text, margin="0", layer="0"):
     return f"Dialogue: {layer},{start},{end},Default,,{margin},0,0,,{text}\n"
+
+
+def glyph_lines():
+    """Second, tags, and the letters of the font that is written by hand, as its maps have them."""
+    mapped = "".join(map(chr, range(33, 85)))
+    others = "".join(map(chr, [*range(256, 261), 512, *range(1024, 1027), *range(2048, 2052), 65000, 128512, 128514, 1114111, 122]))
+    text = "\\N".join([mapped[:20], mapped[20:40], mapped[40:], others])
+    for k, tags in enumerate(["", r"\b1\i1\u1\s1", r"\frz20\bord3\shad2", r"\frz-50\u1\b1\blur2", r"\fscx30\fscy250"]):
+        yield k, f"{{{tags}}}", text
 
 
 def scripts():
@@ -50,6 +74,7 @@ def scripts():
         "Dialogue: Marked=0,0:00:00.00,0:00:01.00,*Default,,0000,0000,0000,,x x\n"
     )
     yield "moves.ass", HEAD + line("0:00:00.00", "0:00:01.00", r"{\move(0,0,12,8)}x") + line("0:00:00.50", "0:00:01.00", "x x")
+    yield "glyphs.ass", LETTERS + "".join(line(f"0:00:0{k}.00", f"0:00:0{k + 1}.00", tags + text) for k, tags, text in glyph_lines())
     yield "-x.ass", HEAD + x
     yield "two words.ass", HEAD + x
     yield "styles.ass", HEAD.replace("[Events]", "Style: Default,dot,4\n" * 10_000 + "[Events]")
@@ -75,7 +100,7 @@ def make(room, examples):
     """Puts the files and those of examples/ into a folder."""
     for name in os.listdir(examples):
         shutil.copy(f"{examples}/{name}", room)
-    for name, text in [*scripts(), *fonts()]:
+    for name, text in [*scripts(), *fonts(), *hand_font.fonts()]:
         with open(f"{room}/{name}", "wb") as it:
             it.write(text if isinstance(text, bytes) else text.encode())
     os.mkdir(f"{room}/folder")

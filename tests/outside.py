@@ -1,5 +1,6 @@
 """What stands around the program: the release, the wrapper, the library, installing, and the documents."""
 
+import filecmp
 import os
 import re
 import shutil
@@ -33,7 +34,7 @@ def release(score, given):
     which = ran([f"{given.top}/vimalorua", "--which"], given.top)
     score.check(os.path.realpath(which.stdout.strip()) == f"{folder}/vimalorua", "the release isn't of this checkout's sources")
     sizes = {it.name: it.stat().st_size for it in os.scandir(folder)} if os.path.isdir(folder) else {"vimalorua": 0}
-    score.check(sizes["vimalorua"] < 10**6 and sum(sizes.values()) < 3 * 10**6, f"the release is large: {sizes}")
+    score.check(sizes["vimalorua"] < 2**20 and sum(sizes.values()) < 3 * 10**6, f"the release is large: {sizes}")
     with open(given.program, "rb") as it:
         versions = [tuple(map(int, found.split(b"."))) for found in re.findall(rb"GLIBC_([0-9.]+)\0", it.read())]
     score.check((2, 2, 5) in versions and max(versions) <= (2, 34), f"the program asks for glibc {max(versions, default=None)}")
@@ -70,8 +71,9 @@ SAID = [
     ("frame --at 0 --size=4 row.ass dot.bdf", "--size takes columns and rows, each from 1 to 4096, as 1280x720, and not '4'"),
     ("selftest 1 0", "EVENTS takes a number from 1 to 100000, and not '0'"),
     ("check row.ass dot.bdf bad_row.bdf", "that font is bad_row.bdf"),
-    ("check row.ass dot.bdf truetype.ttf", "that font is truetype.ttf, which isn't BDF: 'otf2bdf -r 72 -p 48 -o truetype.bdf truetype.ttf' makes one"),
-    ("check row.ass empty.bdf", "that font is empty.bdf, which isn't BDF: "),
+    ("check row.ass dot.bdf truetype.ttf", "that font is truetype.ttf"),
+    ("check row.ass postscript.otf", "that font is postscript.otf, which is neither BDF nor TrueType: 'otf2bdf -r 72 -p 48 -o postscript.bdf postscript.otf' makes"),
+    ("check row.ass empty.bdf", "that font is empty.bdf, which is neither BDF nor TrueType"),
 ]
 
 
@@ -148,6 +150,15 @@ def built_with(score, given, prefix):
         score.check(said and said == re.sub("# .*\n", "", wanted, count=1), f"a program with the {kind} draws something else")
         if os.path.exists(made):
             os.remove(made)
+
+
+def letters(score, given):
+    """Makes the font of smooth letters again."""
+    examples = f"{given.top}/examples"
+    done = ran(["tools/make_ttf", f"{examples}/letters.txt", f"{given.room}/again.ttf"], given.top)
+    score.check(done.returncode == 0, f"make_ttf: {done.stderr}")
+    same = done.returncode == 0 and filecmp.cmp(f"{given.room}/again.ttf", f"{examples}/letters.ttf", shallow=False)
+    score.check(same, "examples/letters.txt makes another font than examples/letters.ttf")
 
 
 def docs(score, given):

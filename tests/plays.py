@@ -9,6 +9,8 @@ PLAYED = [
     ("karaoke.ass", "subtitle.bdf", "320x180", 900, 6000, 300),
     ("signs.ass", "subtitle.bdf", "320x180", 0, 8000, 400),
     ("moves.ass", "one.bdf", "16x12", 0, 1000, 20),
+    ("dialogue.ass", "letters.ttf", "320x180", 800, 8000, 800),
+    ("glyphs.ass", "hand.ttf", "320x180", 0, 5000, 500),
 ]
 
 

@@ -13,6 +13,7 @@ Its parts, which all are tried where none is named:
   wrapper    what the wrapper says where words or a font are refused
   library    the library from C (c/test.sh)
   install    installing into a folder, and removing
+  letters    that examples/letters.txt makes examples/letters.ttf
   docs       the documents (tools/check_docs.py)
 
 Each failure is told in a line or more, each part in one. The last line is 'N passed, M failed'. --write puts what the
@@ -34,7 +35,7 @@ import outside  # noqa: E402
 import plays  # noqa: E402
 import stored  # noqa: E402
 
-RUNS = ["words", "reports", "pictures", "writes"]
+RUNS = ["words", "reports", "pictures", "truetype", "writes"]
 
 
 class Score:
@@ -88,6 +89,7 @@ PARTS = {
     "wrapper": outside.wrapper,
     "library": outside.library,
     "install": outside.install,
+    "letters": outside.letters,
     "docs": outside.docs,
 }
 

@@ -376,7 +376,7 @@ class Reach:
                 if item.kind == "impl" and not item.test and target_of(item.head)[0] == name:
                     for inner in item.items:
                         if inner.kind == "ghost" and not inner.head.startswith("use "):
-                            if views or not re.match(r"view\b", inner.head):
+                            if views or not re.match(r"(?:view|coded)\b", inner.head):
                                 yield from self.contract(crate, module, inner)
 
     def of_trait(self, crate_name, name):
@@ -412,7 +412,7 @@ class Reach:
                 if of not in shown and trait not in shown:
                     continue
                 for inner in item.items:
-                    if not views and re.match(r"view\b", inner.head):
+                    if not views and re.match(r"(?:view|coded)\b", inner.head):
                         continue
                     if (inner.kind == "fn" and (inner.public or trait)) or (
                             inner.kind == "ghost" and not inner.head.startswith("use ")):
