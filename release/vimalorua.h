@@ -49,8 +49,8 @@ enum {
     VIMALORUA_MANY_LINES = 3,    /* *place: the most Dialogue lines, 1,000,000 */
     VIMALORUA_MANY_STYLES = 4,   /* *place: the most styles, 10,000 */
     VIMALORUA_OUT_OF_MEMORY = 5, /* the same call may be made again */
-    VIMALORUA_BAD_FONT = 6,      /* *place: the first line that leaves the format, from 1 */
-    VIMALORUA_LARGE_FONT = 7,    /* *place: the most glyphs, 131,072 */
+    VIMALORUA_BAD_FONT = 6,      /* *place: the first line that leaves BDF, from 1, or byte that leaves TrueType, from 0 */
+    VIMALORUA_LARGE_FONT = 7,    /* *place: the most glyphs, 131,072, or faces of a file, 64 */
     VIMALORUA_MANY_FONTS = 8,    /* *place: the most fonts, 64 */
     VIMALORUA_NO_FONT = 9,       /* nothing is drawn before a font was added */
     VIMALORUA_REPEATED = 10,     /* *place: the entry of the live event that has this ReadOrder */
@@ -110,8 +110,9 @@ uint32_t vimalorua_version(void);
 int32_t vimalorua_open(const uint8_t *script, size_t script_len, uint64_t budget, vimalorua **out,
                        size_t *place) VIMALORUA_NO_NULLS;
 
-/* Adds a font from the bytes of a BDF text (at most 67,108,864) behind the others, of which there are at most 63. Texts
- * in a style whose font isn't there are shown in font 0. What the caches had is dropped.
+/* Adds a font from the bytes of a file (at most 67,108,864), BDF or TrueType, behind the others, of which there are at
+ * most 63. Of a collection the first face is added. Texts in a style whose font isn't there are shown in font 0. What
+ * the caches had is dropped.
  *
  * DONE: *place is the font's number, from 0. BAD_FONT, LARGE_FONT, MANY_FONTS, OUT_OF_MEMORY, BAD_CALL, CLOSED:
  * nothing changes. */
