@@ -1,5 +1,12 @@
-mod FrontierLemmas
+mod ChainLemmas
 mod EllipseLemmas
+mod FrontierLemmas
+mod HeldLemmas
+mod PartLemmas
+mod ReachLemmas
 mod RowLemmas
 mod SideLemmas
+mod SortLemmas
+mod StripLemmas
+mod StripRowLemmas
 mod WideLemmas

@@ -25,12 +25,12 @@ abs_between k i w h = let a = h.0 in let b = h.1 in abs_le (k -ℤ i) w (omega (
     abs_le (pos n) w a b = omega (arith, ints)
     abs_le (negsuc n) w a b = omega (arith, ints)
 
-between_from : (i a : ℤ) (w : ℕ) → unsigned_abs a ≤ w → IsWithin w (i -ℤ (i +ℤ a))
+pub between_from : (i a : ℤ) (w : ℕ) → unsigned_abs a ≤ w → IsWithin w (i -ℤ (i +ℤ a))
 between_from i (pos n) w h = (omega (arith, ints), omega (arith, ints))
 between_from i (negsuc n) w h = (omega (arith, ints), omega (arith, ints))
 
 -- ---- the ellipse by its half widths
-reached_by : (region : RegionValue) (rx ry : ℕ) (widths : List ℕ) (i j k b : ℤ) → AreHalfWidths rx ry widths → unsigned_abs b ≤ ry → IsWithin (slice_index widths (unsigned_abs b)) (i -ℤ k) → member region.top region.rows k (j +ℤ b) ≡ true → in_widened (member region.top region.rows) rx ry i j ≡ true
+pub reached_by : (region : RegionValue) (rx ry : ℕ) (widths : List ℕ) (i j k b : ℤ) → AreHalfWidths rx ry widths → unsigned_abs b ≤ ry → IsWithin (slice_index widths (unsigned_abs b)) (i -ℤ k) → member region.top region.rows k (j +ℤ b) ≡ true → in_widened (member region.top region.rows) rx ry i j ≡ true
 reached_by region rx ry widths i j k b w l near m =
     let p = (w.each (unsigned_abs b) l (unsigned_abs (k -ℤ i))).0 (abs_between k i (slice_index widths (unsigned_abs b)) near) in
     let e : i +ℤ (k -ℤ i) ≡ k = omega (arith, ints) in
@@ -53,7 +53,7 @@ up region rx ry widths i j k d w r =
     reached_by region rx ry widths i j k (neg_ℤ (pos d)) w (omega arith) (rw a r.near) (rw e at r.seen)
 
 -- ---- the row
-bool_same : (x y : Bool) → (x ≡ true → y ≡ true) → (y ≡ true → x ≡ true) → x ≡ y
+pub bool_same : (x y : Bool) → (x ≡ true → y ≡ true) → (y ≡ true → x ≡ true) → x ≡ y
 bool_same true y h k = sym (h refl)
 bool_same false y h k = sym (false_from_ne_true y (λ e. false≢true (k e)))
 

@@ -86,7 +86,7 @@ widened_none w row = record {
 }
 
 -- the sample of a run that is nearest to i
-nearest : (w : ℕ) (r : Run) (i : ℤ) → r.from <ℤ r.to → (r.from -ℤ pos w) ≤ℤ i → i <ℤ (r.to +ℤ pos w) → (k : ℤ) × ((r.from ≤ℤ k) × (k <ℤ r.to)) × IsWithin w (i -ℤ k)
+pub nearest : (w : ℕ) (r : Run) (i : ℤ) → r.from <ℤ r.to → (r.from -ℤ pos w) ≤ℤ i → i <ℤ (r.to +ℤ pos w) → (k : ℤ) × ((r.from ≤ℤ k) × (k <ℤ r.to)) × IsWithin w (i -ℤ k)
 nearest w r i s a b =
     by_lt_z i r.from
     (λ (l : i <ℤ r.from). (r.from, (omega (arith, ints), s), (omega (arith, ints), omega (arith, ints))))

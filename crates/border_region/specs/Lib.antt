@@ -1,7 +1,12 @@
 pub mod Borders
 pub mod Ellipse
+pub mod Finders
 pub mod Frontier
+pub mod Held
 pub mod Keys
 pub mod Limits
+pub mod Reach
 pub mod Sides
+pub mod StripRows
+pub mod Strips
 pub mod Widths

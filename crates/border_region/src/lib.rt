@@ -5,6 +5,11 @@ mod border;
 mod ellipse;
 mod frontier;
 mod merge;
+mod profile;
+mod strip_rows;
+mod strips;
 mod wide_rows;
+mod wide_sides;
+mod wide_strips;
 
 pub use border::widened;

@@ -29,7 +29,7 @@ fn count_up_to(keys: &[i32], key: i32) -> usize
 }
 
 /// How many rows a greater key is further on.
-fn rows_between(key: i32, other: i32) -> usize
+pub fn rows_between(key: i32, other: i32) -> usize
     requires low { neg_ℤ (pos max_key) ≤ℤ key }
     requires ordered { key ≤ℤ other }
     requires high { other ≤ℤ pos max_key }

@@ -1,9 +1,16 @@
 -- A row counted run by run, and a pixel row counted row by row.
-use Rattle.std.proofs.Common.{◌≡◌, ℕ, zero, suc, ◌+◌, ◌-◌, ◌*◌, ◌<◌, ◌≤◌, true, ℤ, pos, negsuc, ◌+ℤ◌, ◌-ℤ◌, ◌<ℤ◌, ◌≤ℤ◌, refl, sym, ap, ◌∙◌, arith, List, [], ◌∷◌, ◌++◌, length, length-append, unsigned_abs, get_or, drop, drop-cons}
+use Rattle.std.proofs.Common.{◌≡◌, ℕ, zero, suc, ◌+◌, ◌-◌, ◌*◌, ◌<◌, ◌≤◌, Bool, true, false, not, ℤ, pos, negsuc, ◌+ℤ◌, ◌-ℤ◌, ◌<ℤ◌, ◌≤ℤ◌, refl, sym, ap, ◌∙◌, arith, List, [], ◌∷◌, ◌++◌, length, length-append, unsigned_abs, get_or, drop, drop-cons}
+use Rattle.std.proofs.Math.Nat.{mul-le-mul_left}
 use Rattle.std.proofs.lemmas.Int.{ints, by_lt_z}
 use Rattle.std.proofs.lemmas.List.{get_or_append_left, get_or_push, get_or_past}
+use Rattle.std.proofs.lemmas.Bool.{not-false}
+use Rattle.std.proofs.lemmas.Slice.Eq.{slice_eq-Decides}
+use Rattle.std.specs.Bool.{Decides}
+use Rattle.std.specs.Cmp.{signed_Decides}
+use Rattle.std.specs.Cmp.Lexicographic.{pointwise}
 use Rattle.ass_num.specs.Coverage.{sum_from, coverage_byte}
 use Rattle.ass_num.specs.Regions.{ascend, row_at}
+use Rattle.ass_num.specs.contracts.region.RunPartialEq.TheImpl as run
 use Rattle.ass_num.specs.declared.region.Run.{Run}
 use Rattle.ass_num.proofs.MaskLemmas.{cell_below}
 use Rattle.ass_num.proofs.RegionLemmas.{first_ascends, rest_ascends}
@@ -32,20 +39,38 @@ run_at runs k d h p =
     let cut : drop k runs ≡ get_or runs k d ∷ drop (suc k) runs = drop-cons runs k d p in
     (first_ascends (get_or runs k d) (drop (suc k) runs) (rw cut at (drop_ascends runs k h))).0
 
+-- the run at k is counted so many times
+pub drop_step_times : (runs : List Run) (k : ℕ) (d : Run) (left : ℤ) (a b c times : ℕ) → ascend runs ≡ true → k < length runs → (get_or runs k d).from ≡ left +ℤ pos a → (get_or runs k d).to ≡ left +ℤ pos b
+    → times * row_count (drop k runs) left c + times * samples_after b c ≡ times * row_count (drop (k + 1) runs) left c + times * samples_after a c
+drop_step_times runs k d left a b c times h p e f = both (row_count (drop k runs) left c) (samples_after b c) (row_count (drop (k + 1) runs) left c) (samples_after a c) times (drop_step runs k d left a b c h p e f)
+  where
+    spread : (t x y : ℕ) → t * x + t * y ≡ t * (x + y)
+    spread t x y = omega arith
+
+    both : (w x y z t : ℕ) → w + x ≡ y + z → t * w + t * x ≡ t * y + t * z
+    both w x y z t e = spread t w x ∙ ap (λ n. t * n) e ∙ sym (spread t y z)
+
 -- where a part of a row is counted, the counts stay small
-pub counts_now : (old now : List ℤ) (runs rest : List Run) (left : ℤ) → CountsWithin 240 old
-    → ((c : ℕ) → sum_first now (c + 1) +ℤ pos (row_count rest left c) ≡ sum_first old (c + 1) +ℤ pos (row_count runs left c))
+pub counts_now : (old now : List ℤ) (runs rest : List Run) (left : ℤ) (times : ℕ) → times ≤ 16 → CountsWithin (256 - 16 * times) old
+    → ((c : ℕ) → sum_first now (c + 1) +ℤ pos (times * row_count rest left c) ≡ sum_first old (c + 1) +ℤ pos (times * row_count runs left c))
     → ((c : ℕ) → sum_first old (c + 1) ≤ℤ sum_first now (c + 1)) → CountsWithin 256 now
-counts_now old now runs rest left h same more zero = let none = sum_first-none now in (omega (arith, ints, none), omega (arith, ints, none))
-counts_now old now runs rest left h same more (suc c) =
+counts_now old now runs rest left times few h same more zero = let none = sum_first-none now in (omega (arith, ints, none), omega (arith, ints, none))
+counts_now old now runs rest left times few h same more (suc c) =
     let next : c + 1 ≡ suc c = omega arith in
     let was = h (c + 1) in
-    let most = row_count-le runs left c in
+    let most = mul-le-mul_left times (row_count-le runs left c) in
     let here = same c in
     let least = more c in
-    rw (sym next) (omega (arith, ints, was.0), omega (arith, ints, was.1))
+    rw (sym next) (omega (arith, ints, was.0), omega (arith, ints, was.1, most))
 
 -- ---- pixel rows
+
+-- rows that aren't found different by `!=` are alike
+run_decides : (a b : Run) → Decides (run.ghosts.eq a b) (a ≡ b)
+run_decides a b = (λ e. grind (arith, signed_Decides a.from b.from, signed_Decides a.to b.to), λ e. rw e (grind (arith, signed_Decides b.from b.from, signed_Decides b.to b.to)))
+
+pub alike_if : (row first : List Run) (differ : Bool) → differ ≡ not (pointwise run.ghosts.eq row first) → differ ≡ false → row ≡ first
+alike_if row first differ is e = (slice_eq-Decides {E = run.ghosts.eq} run_decides row first (pointwise run.ghosts.eq row first) refl).0 (not-false (pointwise run.ghosts.eq row first) (sym is ∙ e))
 
 pub cell_count-none : (rows : List (List Run)) (left : ℤ) (above row c : ℕ) → cell_count rows left above row c 0 ≡ 0
 unfolding cell_count sum_from
@@ -64,6 +89,16 @@ pub cell_count-row : (rows : List (List Run)) (left : ℤ) (above row c n k : �
 cell_count-row rows left above row c n k e =
     let at : (pos (16 * row) -ℤ pos above) +ℤ pos n ≡ pos k = omega (arith, ints) in
     cell_count-next rows left above row c n ∙ ap (λ z. cell_count rows left above row c n + row_count (row_at rows z) left c) at
+
+-- rows that are alike are counted as one of them, so many times
+pub cell_count-alike : (rows : List (List Run)) (left : ℤ) (above row c b k n : ℕ) → 16 * row + b ≡ above + k → ((m : ℕ) → m < n → get_or rows (k + m) [] ≡ get_or rows k []) → cell_count rows left above row c (b + n) ≡ cell_count rows left above row c b + n * row_count (get_or rows k []) left c
+cell_count-alike rows left above row c b k zero e alike = let z : b + 0 ≡ b = omega arith in rw z (omega arith)
+cell_count-alike rows left above row c b k (suc n) e alike =
+    let rest = cell_count-alike rows left above row c b k n e (λ m l. alike m (omega arith)) in
+    let place : b + suc n ≡ (b + n) + 1 = omega arith in
+    let one = cell_count-row rows left above row c (b + n) (k + n) (omega arith) in
+    let same = ap (λ r. row_count r left c) (alike n (omega arith)) in
+    rw place (omega (arith, rest, one, same))
 
 pub cell_count-above : (rows : List (List Run)) (left : ℤ) (above row c n : ℕ) → 16 * row + n < above → cell_count rows left above row c (n + 1) ≡ cell_count rows left above row c n
 cell_count-above rows left above row c n e =

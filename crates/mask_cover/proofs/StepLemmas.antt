@@ -1,5 +1,5 @@
 -- Sums of first steps where a step changes, and how great steps are.
-use Rattle.std.proofs.Common.{◌≡◌, ℕ, zero, suc, ◌+◌, ◌-◌, ◌/◌, ◌%◌, ◌<◌, ◌≤◌, List, length, get_or, replicate, ℤ, pos, neg_ℤ, ◌+ℤ◌, ◌-ℤ◌, ◌<ℤ◌, ◌≤ℤ◌, refl, ap, arith}
+use Rattle.std.proofs.Common.{◌≡◌, ℕ, zero, suc, ◌+◌, ◌-◌, ◌*◌, ◌/◌, ◌%◌, ◌<◌, ◌≤◌, List, length, get_or, replicate, ℤ, pos, neg_ℤ, ◌+ℤ◌, ◌-ℤ◌, ◌<ℤ◌, ◌≤ℤ◌, refl, ap, ◌∙◌, arith}
 use Rattle.std.proofs.Math.ListN.{set}
 use Rattle.std.proofs.lemmas.List.{get_or-set_same, get_or-set_other}
 use Rattle.std.proofs.lemmas.Int.{ints, by_lt_z}
@@ -71,24 +71,59 @@ sum_first-none steps = refl
 pub behind_by : (steps : List ℤ) (k : ℕ) (v by : ℤ) (n : ℕ) → k < length steps → k < n → v ≡ get_or steps k (pos 0) +ℤ by → sum_first (set steps k v) n ≡ sum_first steps n +ℤ by
 behind_by steps k v by n i h e = omega (arith, ints, sum_first-set_behind steps k v n i h, e)
 
--- the sums behind two changed steps, where samples begin and where they end
-pub rise : (s t u one two : ℤ) (at c : ℕ) → one ≡ pos (16 - at % 16) → two ≡ pos (at % 16)
-    → (c + 1 ≤ at / 16 → t ≡ s) → (at / 16 < c + 1 → t ≡ s +ℤ one) → (c + 1 ≤ at / 16 + 1 → u ≡ t) → (at / 16 + 1 < c + 1 → u ≡ t +ℤ two)
-    → u ≡ s +ℤ pos (samples_after at c)
-rise s t u one two at c e f a b p q = by_lt_z (pos c) (pos (at / 16))
-    (λ (less : pos c <ℤ pos (at / 16)). let x = a (omega (arith, ints)) in let y = p (omega (arith, ints)) in omega (arith, ints, x, y))
-    (λ (order : pos (at / 16) ≤ℤ pos c). let x = b (omega (arith, ints)) in by_lt_z (pos (at / 16)) (pos c)
-    (λ (less : pos (at / 16) <ℤ pos c). let y = q (omega (arith, ints)) in omega (arith, ints, x, y))
-    (λ (same : pos c ≤ℤ pos (at / 16)). let y = p (omega (arith, ints)) in omega (arith, ints, x, y)))
+-- the samples of a pixel before a place and behind it, so many times
+parts : (times q : ℕ) → q ≤ 16 → times * (16 - q) + times * q ≡ times * 16
+parts times q h = let e : (16 - q) + q ≡ 16 = omega arith in spread times (16 - q) q ∙ ap (λ n. times * n) e
+  where
+    spread : (x y z : ℕ) → x * y + x * z ≡ x * (y + z)
+    spread x y z = omega arith
 
-pub fall : (s t u one two : ℤ) (at c : ℕ) → one +ℤ pos (16 - at % 16) ≡ pos 0 → two +ℤ pos (at % 16) ≡ pos 0
+-- the sums behind two changed steps, where samples begin and where they end
+pub rise : (s t u one two : ℤ) (at c times : ℕ) → one ≡ pos (times * (16 - at % 16)) → two ≡ pos (times * (at % 16))
     → (c + 1 ≤ at / 16 → t ≡ s) → (at / 16 < c + 1 → t ≡ s +ℤ one) → (c + 1 ≤ at / 16 + 1 → u ≡ t) → (at / 16 + 1 < c + 1 → u ≡ t +ℤ two)
-    → u +ℤ pos (samples_after at c) ≡ s
-fall s t u one two at c e f a b p q = by_lt_z (pos c) (pos (at / 16))
-    (λ (less : pos c <ℤ pos (at / 16)). let x = a (omega (arith, ints)) in let y = p (omega (arith, ints)) in omega (arith, ints, x, y))
+    → u ≡ s +ℤ pos (times * samples_after at c)
+rise s t u one two at c times e f a b p q = by_lt_z (pos c) (pos (at / 16))
+    (λ (less : pos c <ℤ pos (at / 16)).
+    let none : samples_after at c ≡ 0 = omega (arith, ints) in
+    let n = ap (λ z. times * z) none in
+    let x = a (omega (arith, ints)) in
+    let y = p (omega (arith, ints)) in
+    omega (arith, ints, x, y, n))
     (λ (order : pos (at / 16) ≤ℤ pos c). let x = b (omega (arith, ints)) in by_lt_z (pos (at / 16)) (pos c)
-    (λ (less : pos (at / 16) <ℤ pos c). let y = q (omega (arith, ints)) in omega (arith, ints, x, y))
-    (λ (same : pos c ≤ℤ pos (at / 16)). let y = p (omega (arith, ints)) in omega (arith, ints, x, y)))
+    (λ (less : pos (at / 16) <ℤ pos c).
+    let all : samples_after at c ≡ 16 = omega (arith, ints) in
+    let n = ap (λ z. times * z) all in
+    let whole = parts times (at % 16) (omega arith) in
+    let y = q (omega (arith, ints)) in
+    omega (arith, ints, x, y, n, whole))
+    (λ (same : pos c ≤ℤ pos (at / 16)).
+    let some : samples_after at c ≡ 16 - at % 16 = omega (arith, ints) in
+    let n = ap (λ z. times * z) some in
+    let y = p (omega (arith, ints)) in
+    omega (arith, ints, x, y, n)))
+
+pub fall : (s t u one two : ℤ) (at c times : ℕ) → one +ℤ pos (times * (16 - at % 16)) ≡ pos 0 → two +ℤ pos (times * (at % 16)) ≡ pos 0
+    → (c + 1 ≤ at / 16 → t ≡ s) → (at / 16 < c + 1 → t ≡ s +ℤ one) → (c + 1 ≤ at / 16 + 1 → u ≡ t) → (at / 16 + 1 < c + 1 → u ≡ t +ℤ two)
+    → u +ℤ pos (times * samples_after at c) ≡ s
+fall s t u one two at c times e f a b p q = by_lt_z (pos c) (pos (at / 16))
+    (λ (less : pos c <ℤ pos (at / 16)).
+    let none : samples_after at c ≡ 0 = omega (arith, ints) in
+    let n = ap (λ z. times * z) none in
+    let x = a (omega (arith, ints)) in
+    let y = p (omega (arith, ints)) in
+    omega (arith, ints, x, y, n))
+    (λ (order : pos (at / 16) ≤ℤ pos c). let x = b (omega (arith, ints)) in by_lt_z (pos (at / 16)) (pos c)
+    (λ (less : pos (at / 16) <ℤ pos c).
+    let all : samples_after at c ≡ 16 = omega (arith, ints) in
+    let n = ap (λ z. times * z) all in
+    let whole = parts times (at % 16) (omega arith) in
+    let y = q (omega (arith, ints)) in
+    omega (arith, ints, x, y, n, whole))
+    (λ (same : pos c ≤ℤ pos (at / 16)).
+    let some : samples_after at c ≡ 16 - at % 16 = omega (arith, ints) in
+    let n = ap (λ z. times * z) some in
+    let y = p (omega (arith, ints)) in
+    omega (arith, ints, x, y, n)))
 
 pub cleared : (steps : List ℤ) (count n : ℕ) → steps ≡ replicate count (pos 0) → sum_first steps n ≡ pos 0
 cleared steps count n e = sum_first-zero steps n (λ k. rw e (none count k))

@@ -1,10 +1,11 @@
-use Rattle.std.proofs.Common.{◌≡◌, ◌≤◌, pos, ◌+ℤ◌, get_or, drop, w32, w64, to_z, of_z, ap, arith, rules}
+use Rattle.std.proofs.Common.{◌≡◌, ◌≤◌, ◌*◌, pos, ◌+ℤ◌, get_or, drop, w32, w64, to_z, of_z, ap, arith, rules}
+use Rattle.std.proofs.Math.Nat.{mul-le-mul_left}
 use Rattle.std.proofs.lemmas.Int.{ints, to_z-of_z}
 use Rattle.std.specs.Int.RustNames.{FitsSigned}
-use Rattle.mask_cover.proofs.RowLemmas.{drop_step, run_at, counts_now, row_count-end}
+use Rattle.mask_cover.proofs.RowLemmas.{drop_step_times, run_at, counts_now, row_count-end}
 use Rattle.mask_cover.proofs.SpanLemmas.{none}
 use Rattle.mask_cover.proofs.StepLemmas.{AreStepsWithin-wider, AreStepsWithin-from_counts}
-use Rattle.mask_cover.specs.Steps.{row_count}
+use Rattle.mask_cover.specs.Steps.{row_count, samples_after}
 use Rattle.mask_cover.proofs.steps.add_row.Goals as goal
 
 pub place_of-requires-clause-behind : goal.place_of-requires-clause-behind
@@ -36,7 +37,7 @@ add_run-requires-clause-inside c =
 pub add_run-requires-clause-small : goal.add_run-requires-clause-small
 add_run-requires-clause-small c =
     AreStepsWithin-wider 256 300 c.loop-run.steps (omega arith) (AreStepsWithin-from_counts 256 c.loop-run.steps
-    (counts_now c.args.steps.now c.loop-run.steps c.args.runs.now (drop c.loop-run.run-index c.args.runs.now) (to_z w64 (of_z w64 c.args.left)) c.requires.counts c.loop-run.invariant.0 c.loop-run.invariant.1))
+    (counts_now c.args.steps.now c.loop-run.steps c.args.runs.now (drop c.loop-run.run-index c.args.runs.now) (to_z w64 (of_z w64 c.args.left)) c.args.times c.requires.times c.requires.counts c.loop-run.invariant.0 c.loop-run.invariant.1))
 
 pub loop-run-preserved : goal.loop-run-preserved
 loop-run-preserved c =
@@ -49,12 +50,15 @@ loop-run-preserved c =
     let e : (get_or runs k none).from ≡ to_z w64 (of_z w64 c.args.left) +ℤ pos c.place_of.result = omega (arith, ints, c.place_of.ensures) in
     let f : (get_or runs k none).to ≡ to_z w64 (of_z w64 c.args.left) +ℤ pos c.place_of-in-loop-run.result = omega (arith, ints, c.place_of-in-loop-run.ensures) in
     let ab : c.place_of.result ≤ c.place_of-in-loop-run.result = omega (arith, ints, order, e, f) in (
-      λ n. omega (arith, ints, c.loop-run.invariant.0 n, c.add_run.ensures.counts n, drop_step runs k none (to_z w64 (of_z w64 c.args.left)) c.place_of.result c.place_of-in-loop-run.result n c.requires.ascends c.loop-run-test.true e f),
-      λ n. omega (arith, ints, c.loop-run.invariant.1 n, c.add_run.ensures.counts n),
+      λ n. omega (arith, ints, c.loop-run.invariant.0 n, c.add_run.ensures.counts n, drop_step_times runs k none (to_z w64 (of_z w64 c.args.left)) c.place_of.result c.place_of-in-loop-run.result n c.args.times c.requires.ascends c.loop-run-test.true e f),
+      λ n.
+          let less : samples_after c.place_of-in-loop-run.result n ≤ samples_after c.place_of.result n = omega (arith, ab) in
+          omega (arith, ints, c.loop-run.invariant.1 n, c.add_run.ensures.counts n, mul-le-mul_left c.args.times less),
     )
 
 pub returns : goal.returns
 returns c = λ n.
     let same : to_z w64 (of_z w64 c.args.left) ≡ c.args.left = to_z-of_z w64 c.args.left c.ranges.left in
-    let here : row_count c.args.runs.now (to_z w64 (of_z w64 c.args.left)) n ≡ row_count c.args.runs.now c.args.left n = ap (λ z. row_count c.args.runs.now z n) same in
-    omega (arith, ints, c.loop-run.invariant.0 n, here, row_count-end c.args.runs.now c.loop-run.run-index (to_z w64 (of_z w64 c.args.left)) n c.loop-run-test.false)
+    let here : c.args.times * row_count c.args.runs.now (to_z w64 (of_z w64 c.args.left)) n ≡ c.args.times * row_count c.args.runs.now c.args.left n = ap (λ z. c.args.times * row_count c.args.runs.now z n) same in
+    let none = ap (λ z. c.args.times * z) (row_count-end c.args.runs.now c.loop-run.run-index (to_z w64 (of_z w64 c.args.left)) n c.loop-run-test.false) in
+    omega (arith, ints, c.loop-run.invariant.0 n, here, none)

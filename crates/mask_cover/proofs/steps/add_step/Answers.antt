@@ -15,4 +15,4 @@ pub returns-clause-small : goal.returns-clause-small
 returns-clause-small c = λ limit h.
     let small = c.requires.small c.args.k in
     let was = h c.args.k in
-    AreStepsWithin-set limit (limit + 16) c.args.steps.now c.args.k _ (omega arith) c.requires.place h (omega (arith, ints, small.0, small.1, was.0), omega (arith, ints, small.0, small.1, was.1))
+    AreStepsWithin-set limit (limit + 256) c.args.steps.now c.args.k _ (omega arith) c.requires.place h (omega (arith, ints, small.0, small.1, was.0), omega (arith, ints, small.0, small.1, was.1))
