@@ -10,6 +10,13 @@ class Broken(Exception):
     """A glyph that has no contours."""
 
 
+def near(value):
+    """A coordinate, unless it lies too far from 0."""
+    if abs(value) > FARTHEST:
+        raise Broken
+    return value
+
+
 class Font:
     def __init__(self, held):
         self.held = held
@@ -68,6 +75,8 @@ class Font:
                 found.append((KINDS.index(kind), sub))
         rank, sub = min(found, key=lambda it: it[0])
         pairs = self.groups(sub) if self.u16(sub) == 12 else self.segments(sub)
+        pairs = list(pairs)
+        self.listed_codes = [code for code, _ in pairs]
         return {code: glyph for code, glyph in pairs if 0 < glyph < self.count}, rank == len(KINDS) - 1
 
     def groups(self, sub):
@@ -83,8 +92,8 @@ class Font:
             for code in range(max(first, before + 1), last + 1):
                 if offset == 0:
                     yield code, (code + delta) % 65536
-                elif offset != 65535:
-                    glyph = self.listed(at + 2 + 6 * n + offset + 2 * (code - first))
+                else:
+                    glyph = self.listed(at + 2 + 6 * n + offset + 2 * (code - first)) if offset != 65535 else 0
                     yield code, (glyph + delta) % 65536 if glyph else 0
             before = last
 
@@ -116,10 +125,9 @@ class Font:
         """The contours of a glyph: points (x, y, on)."""
         try:
             found, shift = self.shape(g, 0, [0, 0])
+            return [[(near(x + shift), y, on) for x, y, on in contour] for contour in found]
         except (Broken, struct.error, IndexError):
             return []
-        found = [[(x + shift, y, on) for x, y, on in contour] for contour in found]
-        return [] if any(abs(v) > FARTHEST for contour in found for x, y, _ in contour for v in (x, y)) else found
 
     def shape(self, g, depth, room):
         """Contours before they are moved, and how far they are moved."""
@@ -152,7 +160,8 @@ class Font:
                 raise Broken
             contours, own = self.shape(g, depth + 1, room)
             for contour in contours:
-                found.append([((x * a + y * c + 8192) // 16384 + dx, (x * b + y * d + 8192) // 16384 + dy, on) for x, y, on in contour])
+                sums = [(x * a + y * c + 8192, x * b + y * d + 8192, on) for x, y, on in contour]
+                found.append([(near(x // 16384 + dx), near(y // 16384 + dy), on) for x, y, on in sums])
             shift = own if flags & 512 else shift
         return found, shift
 
@@ -185,7 +194,7 @@ def simple(held, count, room):
             elif not flag & same:
                 value += struct.unpack_from(">h", held, at)[0]
                 at += 2
-            column.append(value)
+            column.append(near(value))
         columns.append(column)
     points = [(x, y, bool(flag & 1)) for x, y, flag in zip(*columns, flags)]
     return [points[a:b] for a, b in zip([0, *(it + 1 for it in ends)], (it + 1 for it in ends))]

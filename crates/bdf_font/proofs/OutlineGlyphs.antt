@@ -14,8 +14,8 @@ use Rattle.sfnt_font.specs.Fonts.{place_of_code}
 use Rattle.sfnt_font.specs.Numbers.{IsFontBar}
 use Rattle.sfnt_font.specs.Ranges.{IsSfntFont}
 use Rattle.sfnt_font.proofs.CodeLemmas.{code_place, missing_place, font_codes_most}
-use Rattle.sfnt_font.proofs.ContourBounds.{contours_within}
-use Rattle.sfnt_font.proofs.RangeLemmas.{advance_most}
+use Rattle.sfnt_glyphs.proofs.ContourBounds.{contours_within}
+use Rattle.sfnt_glyphs.proofs.AdvanceLemmas.{advance_most}
 use Rattle.bdf_font.specs.Fonts.{place_from, glyph_of}
 use Rattle.bdf_font.specs.Outlines.{outline_glyph, outline_glyphs, outline_font}
 use Rattle.bdf_font.specs.Ranges.{IsBar, IsFont, IsGlyph}

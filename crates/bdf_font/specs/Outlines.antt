@@ -2,8 +2,8 @@
 use Rattle.std.specs.Prelude.{List, map, Some, ℤ, pos}
 use Rattle.sfnt_font.specs.declared.font.SfntFont.{SfntFont}
 use Rattle.sfnt_font.specs.Codes.{font_codes, glyph_of_code, missing_code}
-use Rattle.sfnt_font.specs.Glyphs.{contours_of, is_blank_glyph}
-use Rattle.sfnt_font.specs.Metrics.{advance_of}
+use Rattle.sfnt_glyphs.specs.Glyphs.{contours_of, is_blank_glyph}
+use Rattle.sfnt_glyphs.specs.Metrics.{advance_of}
 use Rattle.bdf_font.specs.declared.glyphs.FontGlyph.{FontGlyph}
 use Rattle.bdf_font.specs.declared.glyphs.GlyphShape.TheVariants as shape
 use Rattle.bdf_font.specs.Fonts.{FontValue}

@@ -9,35 +9,35 @@ ghost use Rattle.sfnt_font.specs.Fonts.{sfnt_of};
 
 use crate::cause::{FontFileRefusal, FontRefusal};
 use crate::font::Font;
-use crate::header::copied;
 use crate::read::read_font;
+use ass_num::Items;
 use sfnt_font::{SfntRefusal, is_sfnt, read_sfnt};
 use std::alloc::Global;
 
 /// The font that a file has: of its lines in BDF, or where its first four bytes are those of a TrueType file of the
-/// bytes of its first face. Out of memory is a refusal of the lines in both.
-pub fn read_font_file(alloc: Global, bytes: &[u8]) -> Result<Font, FontFileRefusal>
-    requires { length bytes.now ≤ max_file_bytes }
-    ensures answer { result ≢ Err (Lines FontRefusal.OutOfMemory) → IsFontFileAnswer bytes.now result }
+/// bytes of its first face. A TrueType font keeps the bytes, and none is copied. Out of memory is a refusal of the lines
+/// in both.
+pub fn read_font_file(alloc: Global, bytes: Items<u8>) -> Result<Font, FontFileRefusal>
+    requires { length bytes ≤ max_file_bytes }
+    ensures answer { result ≢ Err (Lines FontRefusal.OutOfMemory) → IsFontFileAnswer bytes result }
     ensures font { IfOk result IsFont }
 {
-    if is_sfnt(bytes) {
+    if is_sfnt(bytes.as_slice()) {
         return read_outlines(alloc, bytes);
     }
-    match read_font(alloc, bytes) {
+    match read_font(alloc, bytes.as_slice()) {
         Ok(font) => Ok(font),
         Err(refusal) => Err(FontFileRefusal::Lines(refusal)),
     }
 }
 
 /// The font of a TrueType file.
-fn read_outlines(alloc: Global, bytes: &[u8]) -> Result<Font, FontFileRefusal>
-    requires { length bytes.now ≤ max_file_bytes }
-    ensures answer { result ≢ Err (Lines FontRefusal.OutOfMemory) → result ≡ outlines_answer (sfnt_of bytes.now 0) }
+fn read_outlines(alloc: Global, bytes: Items<u8>) -> Result<Font, FontFileRefusal>
+    requires { length bytes ≤ max_file_bytes }
+    ensures answer { result ≢ Err (Lines FontRefusal.OutOfMemory) → result ≡ outlines_answer (sfnt_of bytes 0) }
     ensures font { IfOk result IsFont }
 {
-    let copy = copied(alloc, bytes)?;
-    match read_sfnt(alloc, copy, 0) {
+    match read_sfnt(alloc, bytes, 0) {
         Ok(font) => Ok(Font::of_outlines(alloc, font)?),
         Err(refusal) => Err(file_refusal(refusal)),
     }

@@ -29,7 +29,8 @@ pub struct Header {
     pub default_char: Option<i64>,
 }
 
-pub fn copied(alloc: Global, text: &[u8]) -> Mem<Items<u8>>
+/// A text for an owner of its own.
+fn copied(alloc: Global, text: &[u8]) -> Mem<Items<u8>>
     ensures { IfOk result (λ copy. copy ≡ text.now) }
 {
     Ok(Items::from_vec(Vec::from_slice(alloc, text)?))

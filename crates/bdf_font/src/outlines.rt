@@ -10,7 +10,8 @@ ghost use Rattle.sfnt_font.specs.Ranges.{IsSfntFont};
 
 use ass_num::{FlatLists, Mem};
 use outline_points::GlyphPoint;
-use sfnt_font::{SfntFont, contours_of, is_blank};
+use sfnt_font::SfntFont;
+use sfnt_glyphs::{advance_of, contours_of, is_blank};
 use std::alloc::Global;
 
 /// The code of the glyph of missing characters.
@@ -22,7 +23,7 @@ pub fn outline_advance(font: &SfntFont, place: u32) -> i32
     requires place { place < length (outline_glyphs font.now) }
     ensures { result ≡ option_map_or (λ (glyph : FontGlyph). glyph.advance) (slice_get (outline_glyphs font.now) place) (pos 0) }
 {
-    i32::from(font.advance(font.glyph_at(place)))
+    i32::from(advance_of(font, font.glyph_at(place)))
 }
 
 /// Whether the glyph at a place has no bytes.

@@ -3,21 +3,21 @@ use Rattle.std.proofs.Common.{◌≡◌, ℕ, zero, suc, ◌+◌, ◌-◌, ◌*�
 use Rattle.std.specs.Prelude.{nat_lt, ◌==◌, slice_index, IfSome, option_and_then}
 use Rattle.std.proofs.lemmas.Bool.{lt-ltb, ltb-true, ltb-false}
 use Rattle.sfnt_font.specs.declared.directory.Table.{Table}
-use Rattle.sfnt_font.specs.declared.drawn.Drawn.{Drawn}
-use Rattle.sfnt_font.specs.declared.drawn.Room.{Room}
+use Rattle.sfnt_glyphs.specs.declared.drawn.Drawn.{Drawn}
+use Rattle.sfnt_glyphs.specs.declared.drawn.Room.{Room}
 use Rattle.sfnt_font.specs.declared.maps.CharacterMap.{CharacterMap}
 use Rattle.sfnt_font.specs.declared.numbers.Numbers.{Numbers}
-use Rattle.sfnt_font.specs.declared.parts.Part.{Part}
-use Rattle.sfnt_font.specs.declared.points.Placing.{Placing}
+use Rattle.sfnt_glyphs.specs.declared.parts.Part.{Part}
+use Rattle.sfnt_glyphs.specs.declared.points.Placing.{Placing}
 use Rattle.sfnt_font.specs.declared.segments.Segment.{Segment}
-use Rattle.sfnt_font.specs.declared.simple.Coordinate.{Coordinate}
-use Rattle.sfnt_font.specs.declared.simple.FlagRun.{FlagRun}
-use Rattle.sfnt_font.specs.declared.stretch.Stretch.{Stretch}
+use Rattle.sfnt_glyphs.specs.declared.simple.Coordinate.{Coordinate}
+use Rattle.sfnt_glyphs.specs.declared.simple.FlagRun.{FlagRun}
+use Rattle.sfnt_glyphs.specs.declared.stretch.Stretch.{Stretch}
 use Rattle.sfnt_font.specs.declared.tables.Tables.{Tables}
 use Rattle.sfnt_font.specs.Bytes.{u8_at, u16_at, s16_at, s8_at}
 use Rattle.sfnt_font.specs.Directory.{table_end}
-use Rattle.sfnt_font.specs.Metrics.{bearing_of}
-use Rattle.sfnt_font.specs.Glyphs.{collected, next_size, size_of_run, no_size, sizes_at, has_flag, read_flag, next_flag, flag_step, flag_in, no_flag, flags_end, flags_at, held_unit, coordinate_at, short_step, long_step, next_coordinate, coordinate_step, value_in, point_in, no_coordinate, written_xs, written_points, no_points, points_only, points_with, flagged_points, points_behind, simple_points, sized_points, simple_glyph, shift_size, scale_size, placing_by, placing_at, flagged_part, part_at, room_for_part, joined_part, behind_part, drawn_part, parts_from, max_parts, max_points, max_depth, stretch_drawn, drawn_or_blank, glyph_drawn, glyph_stretch, glyph_place, shifted_contours, contours_or_none, contours_of}
+use Rattle.sfnt_glyphs.specs.Metrics.{bearing_of}
+use Rattle.sfnt_glyphs.specs.Glyphs.{collected, next_size, size_of_run, no_size, sizes_at, has_flag, read_flag, next_flag, flag_step, flag_in, no_flag, flags_end, flags_at, held_unit, coordinate_at, short_step, long_step, next_coordinate, coordinate_step, value_in, point_in, no_coordinate, written_xs, written_points, no_points, points_only, points_with, flagged_points, points_behind, simple_points, sized_points, simple_glyph, shift_size, scale_size, placing_by, placing_at, flagged_part, part_at, room_for_part, joined_part, behind_part, drawn_part, parts_from, max_parts, max_points, max_depth, stretch_drawn, drawn_or_blank, glyph_drawn, glyph_stretch, glyph_place, shifted_contours, contours_or_none, contours_of}
 use Rattle.font_laws.specs.Laws.{AgreeOn, AgreeOnTable}
 use Rattle.font_laws.proofs.Agreed.{u8_same, u16_same, s8_same, s16_same, agree_within, if_same}
 use Rattle.font_laws.proofs.SameTables.{AgreeOnTables}

@@ -10,14 +10,14 @@ use Rattle.sfnt_font.specs.declared.maps.MapFormat.{MapFormat}
 use Rattle.sfnt_font.specs.declared.maps.MapFormat.TheVariants.{Ranges, Groups}
 use Rattle.sfnt_font.specs.declared.numbers.Numbers.{Numbers}
 use Rattle.sfnt_font.specs.declared.segments.Segment.{Segment}
-use Rattle.sfnt_font.specs.declared.stretch.Stretch.{Stretch}
+use Rattle.sfnt_glyphs.specs.declared.stretch.Stretch.{Stretch}
 use Rattle.sfnt_font.specs.declared.tables.Tables.{Tables}
 use Rattle.sfnt_font.specs.Bytes.{u16_at, u32_at}
 use Rattle.sfnt_font.specs.Directory.{table_end}
 use Rattle.sfnt_font.specs.Maps.{group_place, first_code_place, shift_place, offset_place}
 use Rattle.sfnt_font.specs.Fonts.{segment_from, segment_of, shifted_glyph, listed_glyph, glyph_by_offset, segment_glyph, held_glyph, glyph_or_none, mapped_glyph, is_symbol_code, glyph_number}
-use Rattle.sfnt_font.specs.Metrics.{advance_at, entry_advance, bearing_at, bearing_in}
-use Rattle.sfnt_font.specs.Glyphs.{wide_place, narrow_place, stretch_between, glyph_stretch}
+use Rattle.sfnt_glyphs.specs.Metrics.{advance_at, entry_advance, bearing_at, bearing_in}
+use Rattle.sfnt_glyphs.specs.Glyphs.{wide_place, narrow_place, stretch_between, glyph_stretch}
 use Rattle.font_laws.specs.Laws.{AgreeOnTable}
 use Rattle.font_laws.proofs.Agreed.{u16_same, u32_same, s16_same, if_same}
 use Rattle.font_laws.proofs.SameTables.{AgreeOnTables}

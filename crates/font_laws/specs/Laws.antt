@@ -11,8 +11,8 @@ use Rattle.sfnt_font.specs.Directory.{directory_end, table_end, table_named, nam
 use Rattle.sfnt_font.specs.Names.{names_name}
 use Rattle.sfnt_font.specs.Fonts.{sfnt_of, glyph_number}
 use Rattle.sfnt_font.specs.Codes.{font_codes}
-use Rattle.sfnt_font.specs.Metrics.{advance_of}
-use Rattle.sfnt_font.specs.Glyphs.{contours_of, is_blank_glyph}
+use Rattle.sfnt_glyphs.specs.Metrics.{advance_of}
+use Rattle.sfnt_glyphs.specs.Glyphs.{contours_of, is_blank_glyph}
 use Rattle.sfnt_font.specs.Laws.{face_directory, is_collection}
 
 -- Two files agree from one place up to another.

@@ -4,7 +4,7 @@
 ghost use Rattle.ass_num.specs.Limits.{IsWithin, max_instant};
 
 use ass_io::MAX_FILE_BYTES;
-use ass_num::Size;
+use ass_num::{Items, Size};
 use bdf_font::read_font_file;
 use blend::Canvas;
 use player::Player;
@@ -49,12 +49,15 @@ ENDFONT
 
 const FRAME: Size = Size { w: 13, h: 9 };
 
-/// Gives a player a font, if the bytes are one.
+/// Gives a player a font, if the bytes are one. The font may keep them, so they are copied.
 fn add_font(alloc: Global, player: &mut Player, font: &[u8]) -> bool {
     if font.len() > MAX_FILE_BYTES || player.font_count() > 0 {
         return false;
     }
-    match read_font_file(alloc, font) {
+    let Ok(bytes) = Vec::from_slice(alloc, font) else {
+        return false;
+    };
+    match read_font_file(alloc, Items::from_vec(bytes)) {
         Ok(font) => player.add_font(alloc, font).is_ok(),
         Err(_) => false,
     }

@@ -60,7 +60,7 @@ pub fn fetch_font<S: Shelf>(
     ensures font { IfOk result IsFont }
 {
     let bytes = fetch_file(alloc, shelf, name)?;
-    match read_font_file(alloc, bytes.as_slice()) {
+    match read_font_file(alloc, bytes) {
         Ok(font) => Ok(font),
         Err(refusal) => Err(font_status(index, refusal)),
     }

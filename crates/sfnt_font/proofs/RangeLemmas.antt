@@ -1,37 +1,16 @@
 -- The ranges of what a font's bytes say.
-use Rattle.std.proofs.Common.{ℕ, ◌+◌, ◌-◌, ◌*◌, ◌<◌, ◌≤◌, List, Bool, true, false, cond, ℤ, pos, neg_ℤ, ◌+ℤ◌, ◌≤ℤ◌, ◌<ℤ◌, arith}
-use Rattle.std.specs.Prelude.{◌==◌, nat_lt}
+use Rattle.std.proofs.Common.{ℕ, ◌+◌, ◌<◌, ◌≤◌, List, ℤ, pos, neg_ℤ, ◌+ℤ◌, ◌≤ℤ◌, ◌<ℤ◌, arith}
 use Rattle.std.specs.Int.{int_max}
 use Rattle.std.proofs.lemmas.Int.{ints}
 use Rattle.ass_num.specs.Floor.{floor_div}
 use Rattle.ass_num.specs.Limits.{IsWithin}
 use Rattle.ass_num.proofs.Floor.{floor_div_within}
-use Rattle.sfnt_font.specs.declared.directory.Table.{Table}
-use Rattle.sfnt_font.specs.declared.font.SfntFont.{SfntFont}
 use Rattle.sfnt_font.specs.Bytes.{u8_at, u16_at}
 use Rattle.sfnt_font.specs.Numbers.{bar_at, IsHeight, IsFontBar}
-use Rattle.sfnt_font.specs.Metrics.{advance_at, advance_of}
-use Rattle.sfnt_font.specs.Ranges.{IsSfntFont}
 
 pub u16_at-most : (bytes : List ℕ) → ((i : ℕ) → u8_at bytes i < 256) → (i : ℕ) → u16_at bytes i ≤ 65535
 unfolding u16_at
 u16_at-most bytes fits i = omega (arith, fits i, fits (i + 1))
-
-either-most : (b : Bool) (x y most : ℕ) → x ≤ most → y ≤ most → cond b x y ≤ most
-either-most true x y most h k = h
-either-most false x y most h k = k
-
-advance_at-most : (bytes : List ℕ) → ((i : ℕ) → u8_at bytes i < 256) → (hmtx : Table) (i least : ℕ) → advance_at bytes hmtx i least ≤ 65535
-advance_at-most bytes fits hmtx i least = either-most (nat_lt hmtx.size (i + least)) 0 (u16_at bytes (hmtx.place + i)) 65535 (omega arith) (u16_at-most bytes fits (hmtx.place + i))
-
-pub advance_most : (font : SfntFont) (g : ℕ) → IsSfntFont font → advance_of font g ≤ 65535
-advance_most font g is =
-    let bytes = font.bytes in
-    let hmtx = font.tables.hmtx in
-    let n = font.numbers.advances in
-    let first = advance_at-most bytes is.bytes_fit hmtx (4 * g) 4 in
-    let last = advance_at-most bytes is.bytes_fit hmtx (4 * (n - 1)) 2 in
-    either-most (n == 0) 0 _ 65535 (omega arith) (either-most (nat_lt g n) (advance_at bytes hmtx (4 * g) 4) (advance_at bytes hmtx (4 * (n - 1)) 2) 65535 first last)
 
 -- ---- bars and heights
 

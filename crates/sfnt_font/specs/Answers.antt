@@ -1,5 +1,5 @@
 -- Public: how one reading follows another, and what a call answers that may find no memory.
-use Rattle.std.specs.Prelude.{◌≡◌, Result, Ok, Err}
+use Rattle.std.specs.Prelude.{◌≡◌, ◌≢◌, Result, Ok, Err}
 use Rattle.sfnt_font.specs.declared.cause.SfntRefusal.{SfntRefusal}
 use Rattle.sfnt_font.specs.declared.cause.SfntRefusal.TheVariants.{OutOfMemory}
 
@@ -12,3 +12,8 @@ then_read (Err refusal) next = Err refusal
 abbrev pub Answers : {T : Type 0} → Result T SfntRefusal → Result T SfntRefusal → Type 0
 Answers reading (Err OutOfMemory) = Unit {0}
 Answers reading answer = answer ≡ reading
+
+-- Memory is wanted only behind a reading that gives a value.
+abbrev pub WantsBehind : {T U : Type 0} → Result T SfntRefusal → Result U SfntRefusal → Type 0
+WantsBehind (Ok x) answer = Unit {0}
+WantsBehind (Err refusal) answer = answer ≢ Err OutOfMemory

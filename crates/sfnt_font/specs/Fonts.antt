@@ -24,6 +24,17 @@ font_of bytes directory =
     then_read (segments_of bytes character_map) (λ segments.
     Ok (record { bytes = bytes; tables = tables; numbers = numbers; character_map = character_map; segments = segments; name = font_name bytes directory })))))
 
+-- the map of the face whose directory this is, which is found before any memory is taken
+abbrev pub directory_map : List ℕ → Directory → Result CharacterMap SfntRefusal
+directory_map bytes directory =
+    then_read (tables_of bytes directory) (λ tables.
+    then_read (sfnt_numbers bytes directory tables) (λ numbers. map_of bytes tables.cmap))
+
+-- that of a face of a file
+abbrev pub face_map : List ℕ → ℕ → Result CharacterMap SfntRefusal
+face_map bytes face =
+    then_read (face_count bytes) (λ faces. then_read (directory_at bytes (face_place bytes face)) (directory_map bytes))
+
 -- the font of a face of a file, or the first fault
 abbrev pub sfnt_of : List ℕ → ℕ → Result SfntFont SfntRefusal
 sfnt_of bytes face =

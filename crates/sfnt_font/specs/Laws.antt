@@ -1,7 +1,6 @@
 -- Public: what holds of every file.
-use Rattle.std.specs.Prelude.{◌≡◌, ℕ, ◌+◌, ◌*◌, ◌/◌, ◌<◌, ◌≤◌, Bool, ◌&&◌, not, ◌==◌, nat_lt, if◌then◌else◌, List, [], ◌∷◌, ◌++◌, length, Option, Some, None, option_map, is_some, unwrap_or, Result, Ok, Err, All, IfOk, true}
+use Rattle.std.specs.Prelude.{◌≡◌, ℕ, ◌+◌, ◌*◌, ◌/◌, ◌<◌, ◌≤◌, Bool, ◌&&◌, not, ◌==◌, nat_lt, if◌then◌else◌, List, [], ◌∷◌, ◌++◌, length, Option, Some, None, option_map, is_some, unwrap_or, Result, Ok, Err, IfOk}
 use Rattle.std.specs.Option.{option_or}
-use Rattle.outline_points.specs.Contours.{IsGlyphPoint}
 use Rattle.sfnt_font.specs.declared.cause.Tag.{Tag}
 use Rattle.sfnt_font.specs.declared.cause.Tag.TheVariants.{Head, Maxp, Hhea, Hmtx, Loca, Glyf, Cmap}
 use Rattle.sfnt_font.specs.declared.cause.SfntCause.TheVariants.{Compressed, Ends, BadPlace, PostScript, NotSfnt, NoTable, ShortTable, BadNumber, NoMap, BadMap}
@@ -9,7 +8,6 @@ use Rattle.sfnt_font.specs.declared.cause.SfntRefusal.{SfntRefusal}
 use Rattle.sfnt_font.specs.declared.cause.SfntRefusal.TheVariants.{BadFont, TooLarge, OutOfMemory}
 use Rattle.sfnt_font.specs.declared.directory.Directory.{Directory}
 use Rattle.sfnt_font.specs.declared.directory.Table.{Table}
-use Rattle.sfnt_font.specs.declared.font.SfntFont.{SfntFont}
 use Rattle.sfnt_font.specs.declared.maps.CharacterMap.{CharacterMap}
 use Rattle.sfnt_font.specs.declared.maps.Choice.{Choice}
 use Rattle.sfnt_font.specs.declared.tables.Tables.{Tables}
@@ -18,7 +16,6 @@ use Rattle.sfnt_font.specs.Faces.{max_faces, bad_face, collection_kind, face_cou
 use Rattle.sfnt_font.specs.Directory.{directory_end, is_post_script, least_size, name_of, table_end, table_named}
 use Rattle.sfnt_font.specs.Maps.{best_map, no_choice, no_rank, groups_of, ranges_of, segments_of}
 use Rattle.sfnt_font.specs.Fonts.{sfnt_of}
-use Rattle.sfnt_font.specs.Glyphs.{contours_of, is_blank_glyph}
 
 -- What is read of a file: a value of which this holds, a fault at a byte that isn't past the end, or too many faces.
 abbrev pub IsReadIn : {T : Type 0} → List ℕ → (T → Type 0) → Result T SfntRefusal → Type 0
@@ -161,10 +158,3 @@ sfnt_rules bytes face =
 -- The fault of a file is that of the first rule that it breaks; a file that breaks none has a font.
 abbrev pub IsFirstBroken : Type 0
 IsFirstBroken = (bytes : List ℕ) (face : ℕ) → reading_fault (sfnt_of bytes face) ≡ first_broken (sfnt_rules bytes face)
-
--- ---- glyphs
-
--- Each glyph of each font has contours, of points that lie within 65,535 of 0, whatever its bytes are; one without bytes
--- has none.
-abbrev pub AreGlyphsTotal : Type 0
-AreGlyphsTotal = (font : SfntFont) (g : ℕ) → All (All IsGlyphPoint) (contours_of font g) × (is_blank_glyph font g ≡ true → contours_of font g ≡ [])

@@ -7,7 +7,5 @@ pub mod Names
 pub mod Maps
 pub mod Ranges
 pub mod Fonts
-pub mod Metrics
 pub mod Codes
 pub mod Laws
-pub mod Glyphs

@@ -1,14 +1,12 @@
 //! Fonts, and what is found in them.
 
-ghost use Rattle.std.specs.Prelude.{◌≡◌, ◌≤◌, neg_ℤ, pos, ◌≤ℤ◌};
+ghost use Rattle.std.specs.Prelude.{◌≡◌, ◌≤◌};
 ghost use Rattle.sfnt_font.specs.Maps.{max_code};
 ghost use Rattle.sfnt_font.specs.Fonts.{mapped_glyph, glyph_number, is_symbol_code, symbol_count, place_of_code};
-ghost use Rattle.sfnt_font.specs.Metrics.{advance_of, bearing_of};
 ghost use Rattle.sfnt_font.specs.Ranges.{IsSfntFont};
 
 use crate::characters::{held_glyph, segment_glyph};
 use crate::maps::CharacterMap;
-use crate::metrics::{bearing_in, entry_advance};
 use crate::numbers::Numbers;
 use crate::segments::{Segment, place_in, segment_of};
 use crate::tables::Tables;
@@ -28,10 +26,17 @@ pub struct SfntFont {
 
 impl SfntFont {
     /// The bytes of the font's file.
-    pub(crate) fn bytes(&self) -> &[u8]
+    pub fn bytes(&self) -> &[u8]
         ensures { result.now ≡ self.now.bytes }
     {
         self.bytes.as_slice()
+    }
+
+    /// Where the tables of the font are.
+    pub fn tables(&self) -> &Tables
+        ensures { result.now ≡ self.now.tables }
+    {
+        &self.tables
     }
 
     /// The numbers of the font.
@@ -46,24 +51,6 @@ impl SfntFont {
         ensures { result.now ≡ self.now.name }
     {
         self.name.as_slice()
-    }
-
-    /// How wide a glyph is.
-    pub fn advance(&self, g: u16) -> u16
-        requires { IsSfntFont self.now }
-        ensures { result ≡ advance_of self.now g }
-    {
-        entry_advance(self.bytes(), self.tables.hmtx, self.numbers.advances, g)
-    }
-
-    /// How far a glyph's least x lies from 0.
-    pub(crate) fn bearing(&self, g: u16) -> i32
-        requires { IsSfntFont self.now }
-        ensures value { result ≡ bearing_of self.now g }
-        ensures least { neg_ℤ (pos 32768) ≤ℤ result }
-        ensures most { result ≤ℤ pos 32767 }
-    {
-        bearing_in(self.bytes(), self.tables.hmtx, self.numbers.advances, g)
     }
 
     /// The glyph that the map gives a code, or else 0.

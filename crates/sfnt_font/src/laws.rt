@@ -1,6 +1,6 @@
 //! What holds of every file: the theorems above the definition of `read_sfnt`.
 
-ghost use Rattle.sfnt_font.specs.Laws.{OneFaceAnswer, IsFirstBroken, AreGlyphsTotal};
+ghost use Rattle.sfnt_font.specs.Laws.{OneFaceAnswer, IsFirstBroken};
 
 /// Each face of each file is exactly one of three: a font, refused at one byte that isn't past the end, or one of too
 /// many faces.
@@ -12,9 +12,4 @@ pub fn one_answer()
 /// breaks none has a font.
 pub fn first_fault()
     ensures { IsFirstBroken }
-{}
-
-/// Each glyph of each font has contours, whatever its bytes are; one without bytes has none.
-pub fn glyphs_are_total()
-    ensures { AreGlyphsTotal }
 {}

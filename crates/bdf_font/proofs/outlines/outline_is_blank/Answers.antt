@@ -1,6 +1,6 @@
 use Rattle.std.proofs.Common.{◌∙◌, ap, true, sym}
 use Rattle.std.specs.Option.{option_map_or}
-use Rattle.sfnt_font.specs.Glyphs.{is_blank_glyph}
+use Rattle.sfnt_glyphs.specs.Glyphs.{is_blank_glyph}
 use Rattle.bdf_font.specs.declared.glyphs.FontGlyph.{FontGlyph}
 use Rattle.bdf_font.proofs.OutlineGlyphs.{glyph_at_place}
 use Rattle.bdf_font.proofs.outlines.outline_is_blank.Goals as goal

@@ -4,11 +4,11 @@ use Rattle.run_status.proofs.files.fetch_font.Goals as goal
 
 pub returns-in-Ok-clause-read : goal.returns-in-Ok-clause-read
 returns-in-Ok-clause-read g c =
-    font_asked c.args.index c.args.name.now (g.S.Shelf.told c.args.shelf.now c.args.name.now) c.as_slice.result.now (Ok c.in-Ok.font)
+    font_asked c.args.index c.args.name.now (g.S.Shelf.told c.args.shelf.now c.args.name.now) c.in_ok-bytes.bytes (Ok c.in-Ok.font)
     (search rules) c.in-Ok.ensures.answer
 
-pub returns-clause-read : goal.returns-clause-read
-returns-clause-read g c =
+pub returns-in-Err-clause-read : goal.returns-in-Err-clause-read
+returns-in-Err-clause-read g c =
     rw c.font_status.ensures
-    (font_asked c.args.index c.args.name.now (g.S.Shelf.told c.args.shelf.now c.args.name.now) c.as_slice.result.now (Err c.in-Err.refusal)
+    (font_asked c.args.index c.args.name.now (g.S.Shelf.told c.args.shelf.now c.args.name.now) c.in_ok-bytes.bytes (Err c.in-Err.refusal)
     (search rules) c.in-Err.ensures.answer)

@@ -1,7 +1,0 @@
-//! Tests.
-#![tactic(auto)]
-
-#[cfg(test)]
-mod font_lists;
-#[cfg(test)]
-mod sfnt_fonts;

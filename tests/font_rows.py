@@ -1,0 +1,257 @@
+"""Writes the rows of crates/sfnt_vectors: fonts of hand_font.py and what is asked of them, and what a model answers.
+
+usage: python3 tests/font_rows.py
+
+It writes `stdin` there, and `stdout`: the glyphs, the codes and the numbers as truetype_model.py has them, and each
+fault with its byte as this file lists it.
+"""
+
+import os
+import sys
+
+import hand_font
+import truetype_model as model
+from hand_font import ADD_Y, ON, SCALE, SHIFT, UNIT, glyph, points, signed, words
+
+FOLDER = f"{hand_font.TOP}/crates/sfnt_vectors"
+LAST = (65535, 65535, 1, 0)
+
+
+def far_glyphs(number):
+    """Glyphs that reach as far as points may lie, and some that lie too far before they are moved back."""
+
+    def wide(bearing, last):
+        return 500, bearing, glyph(1, 0, points([2], [ON | ADD_Y] * 3, words(32767, 32767, last), b""))
+
+    def part(name, *scale):
+        return 500, 0, glyph(-1, 0, words(SHIFT | (SCALE if scale else 0), number(name)) + signed(0, 0) + words(*scale))
+
+    yield "the farthest point", *wide(0, 1)
+    yield "a point moved too far", *wide(1, 1)
+    yield "a far point moved back", *wide(-100, 2)
+    yield "the farthest point as a part", *part("the farthest point", UNIT // 2)
+    yield "a far point as a small part", *part("a far point moved back", UNIT // 2)
+    yield "a part that is not moved", *part("a point moved too far")
+
+
+def glyphs_of(number):
+    """The glyphs of hand_font.py, and before the last two of them the far ones."""
+    held = hand_font.glyphs(number)
+    return [*held[:-2], *far_glyphs(number), *held[-2:]]
+
+
+def numbered():
+    names = [name for name, *_ in glyphs_of(lambda name: 0)]
+    return glyphs_of(lambda name: names.index(name) if name in names else 999)
+
+
+def file_of(maps, **given):
+    return hand_font.maker().file_of(hand_font.tables_of(numbered(), maps, **given))
+
+
+def map_4(count):
+    return hand_font.cmap_of((1, 0, hand_font.OTHER_MAP), (3, 1, hand_font.format_4(hand_font.segments_of(count))))
+
+
+def map_12(count):
+    groups = hand_font.format_12(hand_font.groups_of(count))
+    return hand_font.cmap_of((3, 1, hand_font.format_4([LAST])), (3, 10, groups))
+
+
+def symbols():
+    return hand_font.cmap_of((3, 0, hand_font.format_4([(61472, 61500, 65536 - 61471, 0), LAST])))
+
+
+def names():
+    """The table of names: a Mac one, a full one, one outside the table, and two of Windows with a half pair and an odd byte."""
+    wide = "Zoë 😀".encode("utf-16-be") + b"\xd8\x3d\0"
+    texts = [(1, 0, 1, b"Caf\x8e \xf0"), (3, 1, 4, b"\0F"), (3, 1, 1, None), (3, 1, 1, wide), (3, 1, 1, "Andere".encode("utf-16-be"))]
+    records, store = b"", b""
+    for platform, encoding, kind, text in texts:
+        size, at = (9, 60000) if text is None else (len(text), len(store))
+        records += words(platform, encoding, 0, kind, size, at)
+        store += text or b""
+    return words(0, len(texts), 6 + len(records)) + records + store
+
+
+def named_font():
+    tables = hand_font.tables_of(hand_font.numbered(hand_font.SMALL), symbols(), small=True)
+    return hand_font.maker().file_of({**tables, "name": names()})
+
+
+class Rows:
+    """The questions and the answers."""
+
+    def __init__(self):
+        self.asked, self.told = [], []
+
+    def file(self, name, held):
+        self.held = held
+        self.asked += [f"file {name}", *(f"bytes {held[k : k + 50].hex()}" for k in range(0, len(held), 50))]
+        self.told.append(f"file {name}")
+
+    def ask(self, question, answer):
+        self.asked.append(question)
+        self.told.append(f"{question}: {answer}")
+
+
+def bar(found):
+    return f"Some(Bar {{ top: {found[0]}, size: {found[1]} }})" if found else "None"
+
+
+def codes_of(font):
+    """The codes of the list of glyphs."""
+    found = [*range(256)] if font.is_symbols else []
+    return found + font.listed_codes + [-2]
+
+
+def face_told(name, font):
+    numbers = (
+        f"units: {font.units}, glyphs: {font.count}, wide_places: {str(font.is_wide).lower()}, advances: {font.own}, "
+        f"ascent: {font.ascent}, descent: {font.descent}, underline: {bar(font.underline)}, strikeout: {bar(font.strikeout)}, "
+        f"bold_step: {font.bold_step}"
+    )
+    return f"[{name}] {len(codes_of(font))} Numbers {{ {numbers} }}"
+
+
+def glyph_told(font, g):
+    advance = font.metric(g)[0] if g < 65536 else 0
+    text = f"{advance}{' blank' if font.bytes_of(g) is None else ''}"
+    for contour in font.contours(g):
+        text += " |" + "".join(f" {x},{y}{'' if on else '~'}" for x, y, on in contour)
+    return text
+
+
+def codes_told(font, codes):
+    listed = codes_of(font)
+    return "".join(f" {font.glyph(code)}@{listed.index(code) if code in listed else '-'}" for code in codes)
+
+
+def places_told(font, places):
+    listed = codes_of(font)
+    found = [listed[it] if it < len(listed) else -2 for it in places]
+    return "".join(f" {code}={font.glyph(code) if code >= 0 else 0}" for code in found)
+
+
+CODES = [0, 31, 32, 33, 60, 84, 95, 96, 127, 255, 256, 257, 258, 259, 260, 261, 512, 520, 527, 1023, 1024, 1026, 2047, 2048, 2050, 2051, 61471, 61472, 61500, 61501]
+CODES += [65000, 65001, 65002, 65003, 65004, 65535, 65536, 128511, 128512, 128514, 128515, 128516, 1114110, 1114111]
+
+
+def ask_font(rows, name, family, held, glyphs):
+    rows.file(name, held)
+    font = model.Font(held)
+    rows.ask("face 0", face_told(family, font))
+    rows.ask("face 1", '"no face"')
+    for g in glyphs:
+        rows.ask(f"glyph {g}", glyph_told(font, g))
+    rows.ask(f"codes {' '.join(str(it) for it in CODES)}", codes_told(font, CODES))
+    count = len(codes_of(font))
+    places = [0, 1, 31, 32, 65, count // 2, count - 20, count - 7, count - 6, count - 5, count - 3, count - 2, count - 1, count]
+    rows.ask(f"places {' '.join(str(it) for it in places)}", places_told(font, places))
+
+
+def ask_names(rows):
+    held = named_font()
+    rows.file("named.ttf", held)
+    font, entries = model.Font(held), hand_font.directory_of(held)[0]
+    rows.ask("face 0", face_told("Zoë 😀\ufffd", font))
+    record = entries["name"].place + 6
+    kinds = [(record + 12 * k + 6, "0002") for k in (3, 4)]
+    rows.ask(f"with {kinds[0][0]} 0002", face_told("Andere", font))
+    # The two Windows names stand behind one another, so both kinds are changed at once
+    both = bytearray(held[kinds[0][0] : kinds[1][0] + 2])
+    both[:2] = both[-2:] = b"\0\2"
+    rows.ask(f"with {kinds[0][0]} {both.hex()}", face_told("Café \uf8ff", font))
+    rows.ask(f"with {record - 6} 00000000", face_told("", font))
+    rows.ask(f"with {entries['name'].entry} 4e616d65", face_told("", font))
+
+
+def fault_bytes(good):
+    """The fault of each of the fonts of hand_font.py that have one, and its byte."""
+    entries, end = hand_font.directory_of(good)
+    place = {tag: entry.place for tag, entry in entries.items()}
+    sub = place["cmap"] + 12
+    found = {
+        "compressed.woff": (0, "Compressed"),
+        "compressed.woff2": (0, "Compressed"),
+        "ends.ttf": (11, "Ends"),
+        "no_face.ttc": (8, "BadPlace"),
+        "ends.ttc": (16, "Ends"),
+        "face_outside.ttc": (16, "BadPlace"),
+        "postscript.otf": (0, "PostScript"),
+        "other_face.ttc": (16, "NotSfnt"),
+        "directory_ends.ttf": (end - 1, "Ends"),
+        "postscript.ttf": (end, "PostScript"),
+        "postscript_2.ttf": (end, "PostScript"),
+        "outside.ttf": (end, "NoTable(Loca)"),
+        "no_units.ttf": (place["head"] + 18, "BadNumber"),
+        "no_glyphs.ttf": (place["maxp"] + 4, "BadNumber"),
+        "map_records.ttf": (place["cmap"] + 2, "BadMap"),
+        "no_map.ttf": (place["cmap"], "NoMap"),
+        "map_4_head.ttf": (sub, "BadMap"),
+        "map_4_ends.ttf": (sub + 6, "BadMap"),
+        "map_4_order.ttf": (sub + 16, "BadMap"),
+        "map_4_first.ttf": (sub + 24, "BadMap"),
+        "map_12_head.ttf": (sub, "BadMap"),
+        "map_12_ends.ttf": (sub + 12, "BadMap"),
+        "map_12_order.ttf": (sub + 28, "BadMap"),
+        "map_12_last.ttf": (sub + 28, "BadMap"),
+        "map_12_codes.ttf": (sub + 28, "BadMap"),
+    }
+    for tag in ("head", "maxp", "hhea", "hmtx", "loca", "glyf", "cmap"):
+        found[f"no_{tag}.ttf"] = (end, f"NoTable({tag.title()})")
+        found[f"short_{tag}.ttf"] = (place[tag], f"ShortTable({tag.title()})")
+    return {name: f"BadFont({byte}, {cause})" for name, (byte, cause) in found.items()} | {"many_faces.ttc": "TooLarge(64)"}
+
+
+def ask_faults(rows):
+    """Each fault: of the small font with other bytes or with fewer, or of another file."""
+    good = hand_font.small_font()
+    rows.file("small.ttf", good)
+    rows.ask("face 0", face_told("", model.Font(good)))
+    answers, others = fault_bytes(good), []
+    for name, held in hand_font.faults():
+        changed = [k for k, (a, b) in enumerate(zip(good, held)) if a != b]
+        if name == "second_face.ttc":
+            others.append((name, held))
+        elif not changed:
+            rows.ask(f"cut {len(held)}", answers[name])
+        elif len(held) == len(good) and changed[-1] - changed[0] < 20:
+            rows.ask(f"with {changed[0]} {held[changed[0] : changed[-1] + 1].hex()}", answers[name])
+        else:
+            others.append((name, held))
+    for name, held in others:
+        rows.file(name, held)
+        rows.ask("face 0", answers.get(name) or face_told("", model.Font(held)))
+        if name == "second_face.ttc":
+            second = good_face(held)
+            rows.ask("face 1", f"BadFont({second}, NoTable(Hmtx))")
+            rows.ask("face 2", '"no face"')
+
+
+def good_face(held):
+    """Where the directory of the second face of a collection ends."""
+    at = int.from_bytes(held[16:20], "big")
+    return at + 12 + 16 * int.from_bytes(held[at + 4 : at + 6], "big")
+
+
+def main():
+    if len(sys.argv) != 1:
+        print(__doc__, file=sys.stderr)
+        return 2
+    rows, count = Rows(), len(numbered())
+    ask_font(rows, "hand.ttf", "Hand Letter", file_of(map_4(count)), [*range(count), count, 65535])
+    ask_font(rows, "wide.ttf", "", file_of(map_12(count), wide=True, small=True), [*range(18), *range(24, 40), *range(count - 9, count)])
+    ask_names(rows)
+    ask_font(rows, "symbol.ttf", "", file_of(symbols(), small=True), [2])
+    ask_faults(rows)
+    for name, lines in (("stdin", rows.asked), ("stdout", rows.told)):
+        with open(f"{FOLDER}/{name}", "w", encoding="utf-8") as it:
+            it.write("".join(f"{line}\n" for line in lines))
+    return 0
+
+
+if __name__ == "__main__":
+    sys.dont_write_bytecode = True
+    os.makedirs(FOLDER, exist_ok=True)
+    sys.exit(main())
