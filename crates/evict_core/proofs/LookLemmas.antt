@@ -1,13 +1,13 @@
 -- What a look for a pin says of the machine's answer, of the sums and of the length.
 use Rattle.std.proofs.Common.{◌≡◌, ℕ, ◌+◌, ◌-◌, ◌<◌, ◌≤◌, Bool, List, length, Option, Some, None, refl, arith}
 use Rattle.std.specs.Map.{lookup}
+use Rattle.std.specs.Option.{IsSome}
 use Rattle.std.proofs.lemmas.Bool.{lt-ltb, le-ltb}
 use Rattle.evict_core.specs.declared.look.Look.{Look}
 use Rattle.evict_core.specs.declared.look.Look.TheVariants.{Absent, Making, Full, OutOfMemory, Pinned}
 use Rattle.evict_core.specs.Machine.{Status, Flying, Ready, State, Hit, Crowded, max_pins, pins_in, one_pin_more, answer_at}
-use Rattle.evict_core.specs.Recency.{to_front}
-use Rattle.evict_core.specs.Asked.{ready_value}
-use Rattle.evict_core.specs.Sums.{AreSums, IsIdleAt}
+use Rattle.evict_core.specs.Asked.{ready_pins, ready_value}
+use Rattle.evict_core.specs.Sums.{AreSums}
 use Rattle.evict_core.specs.Looks.{idle_of, IsLookAt, after_look}
 use Rattle.evict_core.proofs.SumLemmas.{add-idle, add-busy, length-to_front}
 
@@ -16,6 +16,11 @@ module _ {K V : Type 0} where
   pinned-hits s None value is few = cc
   pinned-hits s (Some (Flying number)) value is few = cc
   pinned-hits s (Some (Ready pins cost v)) value is few = rw (lt-ltb pins max_pins few)
+
+  pub short-hits : (s : State K V) (o : Option (Status V)) → IsSome (ready_pins o) → pins_in o < max_pins → answer_at s o ≡ Some Hit
+  short-hits s None some few = cc
+  short-hits s (Some (Flying number)) some few = cc
+  short-hits s (Some (Ready pins cost v)) some few = rw (lt-ltb pins max_pins few)
 
   pub full-crowds : (s : State K V) (o : Option (Status V)) → max_pins ≤ pins_in o → answer_at s o ≡ Some Crowded
   full-crowds s None all = absurd (omega (arith, all))

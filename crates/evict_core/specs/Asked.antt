@@ -31,10 +31,10 @@ module _ {K V : Type 0} where
 
 module _ {K V : Type 0} (eq : K → K → Bool) (old : State K V) (key : K) where
   -- The step that the machine answers the ask with was made, but for a claim, which is a call of its own.
-  -- A key that may be claimed, one that is being made and out of memory change nothing
+  -- A key that may be claimed, one that is being made and out of memory change nothing; memory runs out only for a hit
   abbrev pub IsAskAnswer : Ask V → State K V → Type 0
   IsAskAnswer (Hit value) new = (ask_answer eq old key ≡ Some machine.Hit) × (ready_value (status_of eq old key) ≡ Some (arc_value value)) × ((number : ℕ) → new ≡ state_after eq old number (machine.Ask key machine.Hit))
   IsAskAnswer Claimable new = (ask_answer eq old key ≡ Some machine.Claim) × (new ≡ old)
   IsAskAnswer Crowded new = (ask_answer eq old key ≡ Some machine.Crowded) × ((number : ℕ) → new ≡ state_after eq old number (machine.Ask key machine.Crowded))
   IsAskAnswer (answered.Flying maker) new = (maker_in (status_of eq old key) ≡ Some maker) × (new ≡ old)
-  IsAskAnswer OutOfMemory new = new ≡ old
+  IsAskAnswer OutOfMemory new = (ask_answer eq old key ≡ Some machine.Hit) × (new ≡ old)

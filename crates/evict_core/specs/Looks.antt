@@ -1,9 +1,9 @@
 -- Inner: what a look for a pin finds, and what it leaves of the entries.
-use Rattle.std.specs.Prelude.{◌≡◌, Bool, ℕ, ◌<◌, ◌≤◌, List, Option, Some, None}
+use Rattle.std.specs.Prelude.{◌≡◌, Bool, ℕ, ◌<◌, ◌≤◌, List, Option, Some, None, IsSome}
 use Rattle.std.specs.Arc.{arc_value}
 use Rattle.evict_core.specs.Machine.{Status, max_pins, pins_in, maker_in, one_pin_more}
 use Rattle.evict_core.specs.Recency.{to_front}
-use Rattle.evict_core.specs.Asked.{ready_value}
+use Rattle.evict_core.specs.Asked.{ready_pins, ready_value}
 use Rattle.evict_core.specs.Sums.{IsIdleAt, IsBusyAt}
 use Rattle.evict_core.specs.declared.look.Look.{Look}
 use Rattle.evict_core.specs.declared.look.Look.TheVariants.{Absent, Making, Full, OutOfMemory, Pinned}
@@ -26,7 +26,7 @@ module _ {V : Type 0} where
   IsLookAt found Absent = found ≡ None
   IsLookAt found (Making maker) = maker_in found ≡ Some maker
   IsLookAt found Full = max_pins ≤ pins_in found
-  IsLookAt found OutOfMemory = Unit {0}
+  IsLookAt found OutOfMemory = IsSome (ready_pins found) × (pins_in found < max_pins)
   IsLookAt found (Pinned value idle) = (ready_value found ≡ Some (arc_value value)) × (pins_in found < max_pins) × IsIdleCost found idle
 
 module _ {K V : Type 0} (test : K → Bool) where

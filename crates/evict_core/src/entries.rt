@@ -67,7 +67,7 @@ impl<K: Eq + Hash, V> Entries<K, V> {
     }
 
     /// Asks for the key. A hit is the most recent entry from then on, and has one pin more. A key that may be claimed,
-    /// one that is being made and out of memory change nothing.
+    /// one that is being made and out of memory change nothing. Only a hit takes memory.
     pub fn ask(&mut self, key: &K) -> Ask<V>
         ensures { IsAskAnswer K.eq self.old key.now result self.new }
     {

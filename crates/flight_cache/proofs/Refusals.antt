@@ -1,5 +1,5 @@
 -- What a refusal of pinning several keys leaves, and that it is for one cause.
-use Rattle.std.proofs.Common.{◌≡◌, ℕ, zero, suc, ◌+◌, ◌<◌, ◌≤◌, ◌==◌, nat_lt, Bool, true, false, cond, ◌⊎◌, inl, inr, List, [], ◌∷◌, ◌++◌, slice_get, take, Some, None, refl, sym, ap, ◌∙◌, subst, arith}
+use Rattle.std.proofs.Common.{◌≡◌, ℕ, zero, suc, ◌+◌, ◌<◌, ◌≤◌, ◌==◌, nat_lt, Bool, true, false, cond, ◌⊎◌, ⊎_elim, inl, inr, List, [], ◌∷◌, ◌++◌, slice_get, take, Some, None, refl, sym, ap, ◌∙◌, subst, arith}
 use Rattle.std.specs.Bool.{MatchBool}
 use Rattle.std.specs.Cmp.{IsEquivalence}
 use Rattle.std.proofs.lemmas.Bool.{eq-eqb}
@@ -19,7 +19,7 @@ use Rattle.flight_cache.specs.declared.pinning.PinRefusal.{PinRefusal}
 use Rattle.flight_cache.specs.declared.pinning.PinRefusal.TheVariants.{TurnOut, NotReady, PinsFull, OutOfMemory}
 use Rattle.flight_cache.proofs.Asking.{gives-nothing}
 use Rattle.flight_cache.proofs.Four.{at-shard, at-each}
-use Rattle.flight_cache.proofs.Refusing.{below-four, named-key}
+use Rattle.flight_cache.proofs.Refusing.{below-four, named-key, same-nothing}
 use Rattle.flight_cache.proofs.Rows.{places_are_in_shard}
 
 module _ {K V T : Type 0} (eq : K → K → Bool) (meaning : Meaning K V T) (shard : ShardView T) (pass after : ShardPassView K T) where
@@ -42,19 +42,22 @@ module _ {K V T : Type 0} (eq : K → K → Bool) (meaning : Meaning K V T) (cac
   }
 
 module _ {K V T : Type 0} (eq : K → K → Bool) (meaning : Meaning K V T) (cache : CacheView T) (pass : CachePassView K T) (keys : List K) (after : CachePassView K T) where
-  stopped-nothing : (i : ℕ) (k : K) → IsStoppedAt eq meaning cache pass keys after i k → GivesNothing pass after
-  stopped-nothing i k h = record {
-    first = nothing-turned eq meaning cache.shards.first pass.first after.first _ h.0.first.turn;
-    second = nothing-turned eq meaning cache.shards.second pass.second after.second _ h.0.second.turn;
-    third = nothing-turned eq meaning cache.shards.third pass.third after.third _ h.0.third.turn;
-    fourth = nothing-turned eq meaning cache.shards.fourth pass.fourth after.fourth _ h.0.fourth.turn;
+  stops-nothing : (front : List K) → StopsBeforeAll eq meaning cache pass (shards_of meaning keys) after front → GivesNothing pass after
+  stops-nothing front h = record {
+    first = nothing-turned eq meaning cache.shards.first pass.first after.first _ h.first.turn;
+    second = nothing-turned eq meaning cache.shards.second pass.second after.second _ h.second.turn;
+    third = nothing-turned eq meaning cache.shards.third pass.third after.third _ h.third.turn;
+    fourth = nothing-turned eq meaning cache.shards.fourth pass.fourth after.fourth _ h.fourth.turn;
   }
+
+  stopped-nothing : (i : ℕ) (k : K) → IsStoppedAt eq meaning cache pass keys after i k → GivesNothing pass after
+  stopped-nothing i k h = stops-nothing (take i keys) h.0
 
   pub refused-nothing : (refusal : PinRefusal) → IsRefused eq meaning cache pass keys after refusal → GivesNothing pass after
   refused-nothing TurnOut h = out-nothing eq meaning cache pass (shards_of meaning keys) after h
   refused-nothing (NotReady i) h = stopped-nothing i h.0 h.1
   refused-nothing (PinsFull i) h = stopped-nothing i h.0 h.2
-  refused-nothing OutOfMemory h = h
+  refused-nothing OutOfMemory h = ⊎_elim (λ same. subst (λ (z : CachePassView K T). GivesNothing pass z) (sym same) (same-nothing pass)) (λ stops. stops-nothing keys stops) h
 
 -- two places, neither of which is before the other, are one
 same-place : (i j : ℕ) → (i < j → ⊥) → (j < i → ⊥) → i ≡ j

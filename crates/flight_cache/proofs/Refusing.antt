@@ -1,5 +1,5 @@
 -- From what is held to what a call that pins several keys gives.
-use Rattle.std.proofs.Common.{◌≡◌, ℕ, zero, suc, ◌<◌, ◌==◌, ◌||◌, Bool, true, false, List, [], ◌∷◌, slice_get, map, take, Some, option_map, refl, ap, ◌∙◌, arith}
+use Rattle.std.proofs.Common.{◌≡◌, ℕ, zero, suc, ◌<◌, ◌==◌, ◌||◌, Bool, true, false, List, [], ◌∷◌, slice_get, map, take, Some, option_map, refl, ap, ◌∙◌, arith, inr}
 use Rattle.std.proofs.lemmas.Bool.{eq-eqb}
 use Rattle.std.proofs.lemmas.Option.{slice_get-map}
 use Rattle.std.specs.Cmp.{IsEquivalence}
@@ -8,7 +8,7 @@ use Rattle.flight_cache.specs.Meaning.{Meaning, shard_count, shard_of}
 use Rattle.flight_cache.specs.Calls.{PinView}
 use Rattle.flight_cache.specs.Shards.{CacheView, CachePassView, AreShardsOf}
 use Rattle.flight_cache.specs.Pinning.{is_named, shards_of, GivesNothing, IsPinnedAll, IsRefused}
-use Rattle.flight_cache.specs.Holds.{passes_back, AreHoldsOf, ArePassesPinned, IsRefusalOf}
+use Rattle.flight_cache.specs.Holds.{passes_back, AreHoldsOf, ArePassesPinned, CanPinAll, IsRefusalOf}
 use Rattle.flight_cache.specs.declared.pinning.PinRefusal.{PinRefusal}
 use Rattle.flight_cache.specs.declared.pinning.PinRefusal.TheVariants.{TurnOut, NotReady, PinsFull, OutOfMemory}
 use Rattle.flight_cache.specs.declared.holds.Holds.{Holds}
@@ -49,6 +49,10 @@ module _ {M K V T : Type 0} (eq : K → K → Bool) (laws : IsEquivalence eq) (s
     r.5,
   )
   refused-of OutOfMemory r = absurd r
+
+  -- memory ran out where all the keys could have been pinned
+  pub short-of : CanPinAll eq meaning cache keys holds → IsRefused eq meaning cache pass keys (passes_back holds) OutOfMemory
+  short-of can = inr (back-stops-all eq laws same meaning (shards_of meaning keys) cache pass holds h keys can)
 
   pub pinned-of : (after : CachePassView K T) (pins : List (PinView K V)) → ArePassesPinned eq meaning cache keys holds after → map (λ p. p.key) pins ≡ keys → map (λ p. p.value) pins ≡ map (meaning.made cache.tag) keys
       → IsPinnedAll eq meaning cache pass keys after pins

@@ -1,5 +1,5 @@
 -- What a turn's value stands for after one step more, and what a turn adds to its pass.
-use Rattle.std.proofs.Common.{◌≡◌, ℕ, ◌+◌, ◌≤◌, Bool, true, false, List, [], ◌∷◌, ◌++◌, map, Option, Some, refl, sym, ap, ◌∙◌, subst, arith}
+use Rattle.std.proofs.Common.{◌≡◌, ℕ, ◌+◌, ◌≤◌, Bool, true, false, List, [], ◌∷◌, ◌++◌, map, Option, Some, None, refl, sym, ap, ◌∙◌, subst, arith}
 use Rattle.std.specs.Cmp.{IsEquivalence}
 use Rattle.std.specs.List.{All}
 use Rattle.std.specs.Option.{IsSome}
@@ -24,6 +24,7 @@ use Rattle.flight_cache.specs.declared.kept.Entry.{Entry}
 use Rattle.flight_cache.specs.declared.kept.Entry.TheVariants.{Fill, Fail, Unpin, Limits}
 use Rattle.flight_cache.specs.Histories.{value_under, step_of, steps_in, is_in, IsOfShard, AreMade, IsLegalUnder, left_by, Stands}
 use Rattle.flight_cache.specs.Calls.{ShardView, ShardPassView, own_steps, GivesSteps}
+use Rattle.flight_cache.specs.Answers.{IsShortAsk, takes_memory}
 use Rattle.flight_cache.proofs.Values.{made-when-legal, value-found}
 
 module _ {K V T : Type 0} (eq : K → K → Bool) (laws : IsEquivalence eq) (meaning : Meaning K V T) (under : Opening T) where
@@ -225,3 +226,18 @@ module _ {K V T : Type 0} (meaning : Meaning K V T) (under : Opening T) where
             → GivesSteps eq meaning shard pass after (kind key ∷ [])
         gives-key make kind step k key of shard after tag legal legal' is =
             subst (λ (z : Step K V). GivesSteps eq meaning shard pass after (z ∷ [])) (step k ∙ ap kind of) (gives-turn shard after (Some (make k)) tag legal legal' is)
+
+        -- a turn that gave no entry, at which memory ran out for an answer that takes some
+        pub short-ask : (now : Kept M K V T) → now ≡ turn.value → (shard : ShardView T) (after : ShardPassView K T) → shard.tag ≡ under
+            → IsLegalUnder eq meaning under pass.seen → IsLegalUnder eq meaning under after.seen
+            → after ≡ record turn.pass { seen = with_entry turn.list turn.pass.number None }
+            → (key : K) (answer : Answer) → takes_memory (Some answer) ≡ true → ask_answer eq now.entries key ≡ Some answer
+            → IsShortAsk eq meaning shard pass key after
+        short-ask now was shard after tag legal legal' is key answer takes answered =
+            let seen : after.seen ≡ turn.list = ap (λ (p : ShardPassView K T). p.seen) is in
+            let stood : now.entries ≡ left_by eq meaning under turn.list = (here now was).entries in
+            let left : now.entries ≡ left_by eq meaning shard.tag after.seen = stood ∙ (ap (left_by eq meaning under) (sym seen) ∙ ap (λ (o : Opening T). left_by eq meaning o after.seen) (sym tag)) in
+            record {
+              turn = gives-turn shard after None tag legal legal' is;
+              shown = subst (λ (s : State K V). takes_memory (ask_answer eq s key) ≡ true) left (ap takes_memory answered ∙ takes);
+            }

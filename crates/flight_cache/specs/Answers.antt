@@ -1,10 +1,9 @@
 -- Public: what an ask gives, by its answer.
-use Rattle.std.specs.Prelude.{◌≡◌, ◌∷◌, [], Bool, Some, None}
-use Rattle.turn_cell.specs.Passes.{Follows}
-use Rattle.evict_core.specs.Machine.{Step, Ask}
+use Rattle.std.specs.Prelude.{◌≡◌, ◌∷◌, [], ◌⊎◌, Bool, true, false, Option, Some, None}
+use Rattle.evict_core.specs.Machine.{Answer, Ask, ask_answer}
 use Rattle.evict_core.specs.Machine as machine
 use Rattle.flight_cache.specs.Meaning.{Meaning}
-use Rattle.flight_cache.specs.Histories.{value_under}
+use Rattle.flight_cache.specs.Histories.{left_by, value_under}
 use Rattle.flight_cache.specs.Calls.{ShardView, ShardPassView, GivesSteps}
 use Rattle.flight_cache.specs.declared.pins.Asked.{Asked}
 use Rattle.flight_cache.specs.declared.pins.Asked.TheVariants.{Hit, Make, OutOfMemory}
@@ -16,10 +15,29 @@ module _ {K V T : Type 0} (meaning : Meaning K V T) (tag : T) (key : K) where
   HasKeyValue (Make duty) = Unit {0}
   HasKeyValue OutOfMemory = Unit {0}
 
+-- what an ask takes memory for: the value of a hit, and the key of a claim
+abbrev pub takes_memory : Option Answer → Bool
+takes_memory (Some machine.Hit) = true
+takes_memory (Some machine.Claim) = true
+takes_memory (Some machine.Crowded) = false
+takes_memory None = false
+
 module _ {K V T : Type 0} (eq : K → K → Bool) (meaning : Meaning K V T) (shard : ShardView T) (pass : ShardPassView K T) (key : K) (after : ShardPassView K T) where
-  -- an ask is one entry, which says the answer; a hit has the key's value; out of memory is none
+  -- memory ran out at a turn: it gave no entry, and showed that the ask would be a hit or a claim
+  pub record IsShortAsk : Type 0 where
+    pub turn : GivesSteps eq meaning shard pass after []
+    pub shown : takes_memory (ask_answer eq (left_by eq meaning shard.tag after.seen) key) ≡ true
+
+  -- an ask at a turn is one entry, which says the answer; a hit has the key's value
+  abbrev pub IsAskedAtTurn : {M : Type 0} → Asked M K V T → Type 0
+  IsAskedAtTurn (Hit pin) = GivesSteps eq meaning shard pass after (Ask key machine.Hit ∷ []) × (pin.key ≡ key) × (pin.value ≡ value_under meaning shard.tag key)
+  IsAskedAtTurn (Make (Some ticket)) = GivesSteps eq meaning shard pass after (Ask key machine.Claim ∷ []) × (ticket.key ≡ key)
+  IsAskedAtTurn (Make None) = GivesSteps eq meaning shard pass after (Ask key machine.Crowded ∷ [])
+  IsAskedAtTurn OutOfMemory = IsShortAsk
+
+  -- an ask that waits; where memory ran out before it began, no turn was taken
   abbrev pub IsAsked : {M : Type 0} → Asked M K V T → Type 0
-  IsAsked (Hit pin) = GivesSteps eq meaning shard pass after (Ask key machine.Hit ∷ []) × (pin.key ≡ key) × (pin.value ≡ value_under meaning shard.tag key)
-  IsAsked (Make (Some ticket)) = GivesSteps eq meaning shard pass after (Ask key machine.Claim ∷ []) × (ticket.key ≡ key)
-  IsAsked (Make None) = GivesSteps eq meaning shard pass after (Ask key machine.Crowded ∷ [])
-  IsAsked OutOfMemory = Follows pass after []
+  IsAsked {M} (Hit pin) = IsAskedAtTurn {M = M} (Hit pin)
+  IsAsked {M} (Make (Some ticket)) = IsAskedAtTurn {M = M} (Make (Some ticket))
+  IsAsked {M} (Make None) = IsAskedAtTurn {M = M} (Make None)
+  IsAsked {M} OutOfMemory = (after ≡ pass) ⊎ IsShortAsk

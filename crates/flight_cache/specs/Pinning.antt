@@ -1,5 +1,5 @@
 -- Public: what a call that pins several keys at once gives.
-use Rattle.std.specs.Prelude.{◌≡◌, ℕ, ◌+◌, ◌<◌, ◌≤◌, ◌==◌, nat_lt, slice_get, Bool, true, MatchBool, List, [], ◌∷◌, map, filter, take, Option, Some, None}
+use Rattle.std.specs.Prelude.{◌≡◌, ◌⊎◌, ℕ, ◌+◌, ◌<◌, ◌≤◌, ◌==◌, nat_lt, slice_get, Bool, true, MatchBool, List, [], ◌∷◌, map, filter, take, Option, Some, None}
 use Rattle.std.specs.List.{list_any}
 use Rattle.turn_cell.specs.Passes.{Follows}
 use Rattle.evict_core.specs.Machine.{State, Step, PinAll, status_of, max_pins}
@@ -89,9 +89,10 @@ module _ {K V T : Type 0} (eq : K → K → Bool) (meaning : Meaning K V T) (cac
   abbrev pub pins_shown : K → Option ℕ
   pins_shown k = let n = shard_of (meaning.numbers k) in ready_pins (status_of eq (shown_state eq meaning (at cache.shards n) (at after n)) k)
 
-  -- the first named shard that is out lost a try; or the key at i isn't ready; or it has all its pins, once its places before i are counted
+  -- The first named shard that is out lost a try; or the key at i isn't ready; or it has all its pins, once its places before i are counted.
+  -- Memory ran out before any turn was tried for, or where all the keys could have been pinned
   abbrev pub IsRefused : PinRefusal → Type 0
   IsRefused TurnOut = (n : ℕ) × IsTurnOut eq meaning cache pass (shards_of meaning keys) after n
   IsRefused (NotReady i) = (k : K) × IsStoppedAt i k × (pins_shown k ≡ None)
   IsRefused (PinsFull i) = (k : K) × (pins : ℕ) × IsStoppedAt i k × (pins_shown k ≡ Some pins) × (max_pins ≤ pins + times_named eq k (take i keys))
-  IsRefused OutOfMemory = GivesNothing pass after
+  IsRefused OutOfMemory = (after ≡ pass) ⊎ StopsBeforeAll eq meaning cache pass (shards_of meaning keys) after keys

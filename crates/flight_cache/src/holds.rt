@@ -1,5 +1,5 @@
 //! What a call that pins several keys holds of each shard.
-ghost use Rattle.std.specs.Prelude.{◌≡◌, ℕ, ◌≤◌, ◌<◌, ◌+◌, true, map, take, length, option_map, IfOk, IfErr, IfSome, IfNone};
+ghost use Rattle.std.specs.Prelude.{◌≡◌, [], ℕ, ◌≤◌, ◌<◌, ◌+◌, true, map, take, length, option_map, IfOk, IfErr, IfSome, IfNone};
 ghost use Rattle.std.specs.Arc.{arc_value};
 ghost use Rattle.turn_cell.specs.Passes.{IsOf};
 ghost use Rattle.evict_core.specs.Machine.{HitsEach, hit_all};
@@ -17,7 +17,6 @@ use crate::pass::CachePass;
 use crate::pinning::PinRefusal;
 use crate::shard::{Shard, ShardPass};
 use ass_num::{Mem, OutOfMemory};
-use std::alloc::Global;
 use std::snapshot::Snapshot;
 use std::sync::Arc;
 use turn_cell::Turn;
@@ -197,19 +196,20 @@ impl<M: Made> Cache<M> {
         None
     }
 
-    /// The value of each key.
+    /// The value of each key, in a list that has none yet.
     pub(crate) fn values(
         &self,
-        alloc: Global,
+        spare: Vec<Arc<M::Value>>,
         holds: &Holds<M>,
         keys: &Vec<M::Key>,
         shards: &Vec<u32>,
     ) -> Mem<Vec<Arc<M::Value>>>
+        requires spare { spare.items ≡ [] }
         requires held { AreHeld M.Key.eq M.meaning self.now holds.now }
         requires shards { shards.now.items ≡ shards_of M.meaning keys.now.items }
         ensures { IfOk result (λ values. map arc_value values.items ≡ map (M.meaning.made self.now.tag) keys.now.items) }
     {
-        let mut values = Vec::new(alloc);
+        let mut values = spare;
         self.proof_numbered();
         for i in 0..keys.len() {
             let Some(value) = holds.of(shards[i]).value_of(&keys[i])? else {

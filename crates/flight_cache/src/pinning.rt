@@ -24,7 +24,7 @@ pub enum PinRefusal {
 
 impl<M: Made> Cache<M> {
     /// Pins all these keys, or none. It tries once for the turn of each shard that has one of them, and waits for
-    /// nobody. A refusal gives all turns back without an entry.
+    /// nobody. A refusal gives all turns back without an entry. Its lists are made before it tries for a turn.
     pub fn try_pin_all(
         &self,
         alloc: Global,
@@ -36,25 +36,55 @@ impl<M: Made> Cache<M> {
         ensures refused { IfErr result.1 (IsRefused M.Key.eq M.meaning self.now pass keys.items result.0) }
         ensures nothing { IfErr result.1 (λ refusal. GivesNothing pass result.0) }
     {
-        self.proof_numbered();
         let Ok(shards) = shard_numbers::<M>(alloc, &keys) else {
             return (pass, Err(PinRefusal::OutOfMemory));
         };
-        let holds = match self.try_hold(pass, &shards) {
-            Ok(holds) => holds,
-            Err(pass) => return (pass, Err(PinRefusal::TurnOut)),
-        };
-        if let Some(refusal) = self.refusal(&holds, &keys, &shards) {
-            return (self.let_go(holds), Err(refusal));
-        }
-        let Ok(values) = self.values(alloc, &holds, &keys, &shards) else {
-            return (self.let_go(holds), Err(PinRefusal::OutOfMemory));
+        let Ok(spare) = Vec::with_capacity(alloc, keys.len()) else {
+            return (pass, Err(PinRefusal::OutOfMemory));
         };
         let Ok(room) = room_for::<M>(alloc, keys.len()) else {
+            return (pass, Err(PinRefusal::OutOfMemory));
+        };
+        self.pin_with(pass, keys, &shards, spare, room)
+    }
+
+    /// The same, where there is room for the values and the pins: no list is made while turns are held.
+    fn pin_with(
+        &self,
+        pass: CachePass<M>,
+        keys: Vec<M::Key>,
+        shards: &Vec<u32>,
+        spare: Vec<Arc<M::Value>>,
+        room: Vec<Pin<M>>,
+    ) -> (CachePass<M>, Result<Vec<Pin<M>>, PinRefusal>)
+        requires cell { IsCacheOf self.now pass }
+        requires shards { shards.now.items ≡ shards_of M.meaning keys.items }
+        requires spare { spare.items ≡ [] }
+        requires empty { room.items ≡ [] }
+        requires len { vec_len room ≡ 0 }
+        requires room { length keys.items ≤ vec_capacity room }
+        ensures pinned { IfOk result.1 (λ pins. IsPinnedAll M.Key.eq M.meaning self.now pass keys.items result.0 pins.items) }
+        ensures refused { IfErr result.1 (IsRefused M.Key.eq M.meaning self.now pass keys.items result.0) }
+        ensures nothing { IfErr result.1 (λ refusal. GivesNothing pass result.0) }
+    {
+        self.proof_numbered();
+        let holds = match self.try_hold(pass, shards) {
+            Ok(holds) => holds,
+            Err(pass) => {
+                room.destroy_empty();
+                return (pass, Err(PinRefusal::TurnOut));
+            }
+        };
+        if let Some(refusal) = self.refusal(&holds, &keys, shards) {
+            room.destroy_empty();
+            return (self.let_go(holds), Err(refusal));
+        }
+        let Ok(values) = self.values(spare, &holds, &keys, shards) else {
+            room.destroy_empty();
             return (self.let_go(holds), Err(PinRefusal::OutOfMemory));
         };
-        let pass = self.pin_all(holds, &keys, &shards);
-        (pass, Ok(pins_with::<M>(keys, &shards, values, room)))
+        let pass = self.pin_all(holds, &keys, shards);
+        (pass, Ok(pins_with::<M>(keys, shards, values, room)))
     }
 }
 

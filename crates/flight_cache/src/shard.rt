@@ -8,7 +8,7 @@ ghost use Rattle.evict_core.specs.History.{has_open, pins_left};
 ghost use Rattle.evict_core.specs.Asked.{totals_of};
 ghost use Rattle.flight_cache.specs.Histories.{value_under, is_in, left_by, IsLegalUnder, Stands};
 ghost use Rattle.flight_cache.specs.Calls.{GivesSteps, own_steps};
-ghost use Rattle.flight_cache.specs.Answers.{IsAsked};
+ghost use Rattle.flight_cache.specs.Answers.{IsAsked, IsAskedAtTurn};
 
 use crate::boxed_entries::BoxedEntries;
 use crate::kept::{Entry, Kept, Opening};
@@ -95,7 +95,8 @@ impl<M: Made> Shard<M> {
         }
     }
 
-    /// Asks for the key, and waits while its value is being made.
+    /// Asks for the key, and waits while its value is being made. Memory may run out before, and at a turn that shows a
+    /// hit or a claim; a key that is being made, or has no room, is never answered so.
     pub fn ask<R: Wait>(
         &self,
         rt: &R,
@@ -137,7 +138,7 @@ impl<M: Made> Shard<M> {
     ) -> (ShardPass<M>, Result<Asked<M>, M::Key>)
         requires cell { IsOf self.now pass }
         requires shard { is_in M.meaning self.now.tag key ≡ true }
-        ensures asked { IfOk result.1 (IsAsked M.Key.eq M.meaning self.now pass key result.0) }
+        ensures asked { IfOk result.1 (IsAskedAtTurn M.Key.eq M.meaning self.now pass key result.0) }
         ensures flying { IfErr result.1 (λ k. (k ≡ key) × GivesSteps M.Key.eq M.meaning self.now pass result.0 []) }
     {
         let before = Snapshot::of(&pass);
@@ -157,7 +158,7 @@ impl<M: Made> Shard<M> {
         requires turn { IsTurnAfterTries (Stands M.Key.eq M.meaning) self.now.tag before.value turn }
         requires legal { IsLegalUnder M.Key.eq M.meaning self.now.tag before.value.seen }
         requires shard { is_in M.meaning self.now.tag key ≡ true }
-        ensures asked { IfOk result.1 (IsAsked M.Key.eq M.meaning self.now before.value key result.0) }
+        ensures asked { IfOk result.1 (IsAskedAtTurn M.Key.eq M.meaning self.now before.value key result.0) }
         ensures flying { IfErr result.1 (λ k. (k ≡ key) × GivesSteps M.Key.eq M.meaning self.now before.value result.0 []) }
     {
         let _ = before;

@@ -138,6 +138,11 @@ answer_accepted kept history e tells absent room =
     let test : nat_le max_live (length (events_of kept)) ≡ false = grind (arith, nat_tests) in
     sym (ap (λ o. answer_by o (length (events_of kept)) kept.entries) absent ∙ ap (λ b. cond b (Full max_live) (Accepted kept.entries)) test) ∙ by_events kept history e.order tells
 
+-- an event that memory is wanting for would have been accepted
+pub accepted_else : (kept : LiveEvents) (history : List Entry) (e : Event) → Tells kept history → position_of e.order (events_of kept) ≡ None → length (events_of kept) < max_live
+    → feed_answer history e ≡ Accepted (length history)
+accepted_else kept history e tells absent room = sym (answer_accepted kept history e tells absent room) ∙ ap Accepted tells.entries
+
 pub answer_done : (kept : LiveEvents) (history : List Entry) → Tells kept history → kept.flushes < max_flushes → Done kept.entries ≡ flush_answer history
 answer_done kept history tells room =
     let was = tells.flushes in let test : nat_le max_flushes (flushes_of history) ≡ false = grind (arith, nat_tests) in

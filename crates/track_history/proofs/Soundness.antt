@@ -11,6 +11,7 @@ use Rattle.ass_events.specs.declared.event.Event.{Event}
 use Rattle.ass_events.specs.Histories.{max_live, max_flushes}
 use Rattle.near_events.specs.declared.spans.EventSpan.{EventSpan}
 use Rattle.track_history.specs.declared.live_events.LiveEvents.{LiveEvents}
+use Rattle.track_history.specs.declared.near_index.NearIndex.{NearIndex}
 use Rattle.near_events.specs.Spans.{event_span}
 use Rattle.track_history.specs.Blocks.{IsNearIndex, IsInserted, spans_of}
 use Rattle.track_history.specs.Answers.{position_of}
@@ -94,25 +95,46 @@ sound_accepted old new e x sound room events index put is places entries flushes
       bounded = subst (λ f. new.entries ≤ f * (max_live + 1) + length (events_of new)) (sym flushes) (omega (arith, more, entries, bounded));
     }
 
-sound_empty : (kept : LiveEvents) → events_of kept ≡ [] → kept.index.blocks.items ≡ [] → IsEmpty kept.places → kept.flushes ≤ max_flushes → kept.entries ≤ kept.flushes * (max_live + 1) → IsSound kept
-sound_empty kept events blocks places few bounded =
+sound_bare : (kept : LiveEvents) → events_of kept ≡ [] → IsNearIndex kept.index.blocks.items → HaveSpans [] (spans_of kept.index.blocks.items) → ArePlaces kept.places []
+    → kept.flushes ≤ max_flushes → kept.entries ≤ kept.flushes * (max_live + 1) → IsSound kept
+sound_bare kept events index spans places few bounded =
     let none : length (events_of kept) ≡ 0 = ap length events in
     record {
-      index = no_index kept.index.blocks.items blocks;
-      spans = subst (λ es. HaveSpans es (spans_of kept.index.blocks.items)) (sym events) (no_spans (spans_of kept.index.blocks.items) (ap spans_of blocks));
-      places = subst (ArePlaces kept.places) (sym events) (no_places kept.places places);
+      index = index;
+      spans = subst (λ es. HaveSpans es (spans_of kept.index.blocks.items)) (sym events) spans;
+      places = subst (ArePlaces kept.places) (sym events) places;
       few = omega (arith, none);
       few_flushes = few;
       counted = omega (arith, none);
       bounded = omega (arith, none, bounded);
     }
 
+sound_empty : (kept : LiveEvents) → events_of kept ≡ [] → kept.index.blocks.items ≡ [] → IsEmpty kept.places → kept.flushes ≤ max_flushes → kept.entries ≤ kept.flushes * (max_live + 1) → IsSound kept
+sound_empty kept events blocks places few bounded =
+    sound_bare kept events (no_index kept.index.blocks.items blocks) (no_spans (spans_of kept.index.blocks.items) (ap spans_of blocks)) (no_places kept.places places) few bounded
+
 pub sound_new : (kept : LiveEvents) → events_of kept ≡ [] → kept.index.blocks.items ≡ [] → IsEmpty kept.places → kept.entries ≡ 0 → kept.flushes ≡ 0 → IsSound kept
 sound_new kept events blocks places entries flushes = sound_empty kept events blocks places (omega (arith, flushes)) (omega (arith, entries))
+
+few_flushed : (old new : LiveEvents) → IsSound old → old.flushes < max_flushes → new.entries ≡ old.entries + 1 → new.flushes ≡ old.flushes + 1
+    → (new.flushes ≤ max_flushes) × (new.entries ≤ new.flushes * (max_live + 1))
+few_flushed old new sound room entries flushes =
+    let few = sound.few in let bounded = sound.bounded in
+    (omega (arith, flushes, room), subst (λ f. new.entries ≤ f * (max_live + 1)) (sym flushes) (omega (arith, entries, few, bounded)))
 
 pub sound_flushed : (old new : LiveEvents) → IsSound old → old.flushes < max_flushes → events_of new ≡ [] → new.index.blocks.items ≡ [] → IsEmpty new.places
     → new.entries ≡ old.entries + 1 → new.flushes ≡ old.flushes + 1 → IsSound new
 sound_flushed old new sound room events blocks places entries flushes =
-    let few = sound.few in let bounded = sound.bounded in
-    sound_empty new events blocks places (omega (arith, flushes, room))
-    (subst (λ f. new.entries ≤ f * (max_live + 1)) (sym flushes) (omega (arith, entries, few, bounded)))
+    let few = few_flushed old new sound room entries flushes in sound_empty new events blocks places few.0 few.1
+
+-- what has no live events stands in place of what was live
+pub sound_swapped : (old bare new : LiveEvents) → IsSound old → old.flushes < max_flushes → IsSound bare → events_of bare ≡ [] → new.events ≡ bare.events → new.places ≡ bare.places → new.index ≡ bare.index
+    → new.entries ≡ old.entries + 1 → new.flushes ≡ old.flushes + 1 → IsSound new
+sound_swapped old bare new sound room kept none events places index entries flushes =
+    let few = few_flushed old new sound room entries flushes in
+    let live : events_of new ≡ [] = cc in
+    sound_bare new live
+    (subst (λ (i : NearIndex). IsNearIndex i.blocks.items) (sym index) kept.index)
+    (subst (λ (i : NearIndex). HaveSpans [] (spans_of i.blocks.items)) (sym index) (subst (λ es. HaveSpans es (spans_of bare.index.blocks.items)) none kept.spans))
+    (subst (λ (m : BTreeMap ℕ ℕ). ArePlaces m []) (sym places) (subst (ArePlaces bare.places) none kept.places))
+    few.0 few.1

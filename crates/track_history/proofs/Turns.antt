@@ -12,7 +12,7 @@ use Rattle.track_history.specs.declared.answers.Feed.{Feed}
 use Rattle.track_history.specs.declared.answers.Flushed.{Flushed}
 use Rattle.track_history.specs.declared.live_events.LiveEvents.{LiveEvents}
 use Rattle.track_history.specs.ShortEvents.{HaveShortEvents}
-use Rattle.track_history.specs.Answers.{IsFeedAnswer, entry_of, extended, fed_entry, flush_answer, flushed_entry}
+use Rattle.track_history.specs.Answers.{IsAcceptedElse, IsFeedAnswer, entry_of, extended, fed_entry, flush_answer, flushed_entry}
 use Rattle.track_history.specs.Calls.{TrackView, IsTurn, IsOffered, IsFlushed, history_of}
 use Rattle.track_history.proofs.Histories.{fed_after, flushed_after}
 
@@ -50,11 +50,12 @@ module _ (stands : Unit {0} → LiveEvents → History TrackEntry → Type 0) (t
   }
 
   pub offered : (event : Event) (answer : Feed) → option_map entry_of given ≡ fed_entry event answer → IsHistory (extended (history_of turn.list) (fed_entry event answer)) → HaveShortEvents (extended (history_of turn.list) (fed_entry event answer))
-      → IsFeedAnswer (history_of turn.list) event answer → IsOffered event p q answer
+      → IsFeedAnswer (history_of turn.list) event answer → IsAcceptedElse (history_of turn.list) event answer → IsOffered event p q answer
   unfolding turn_given
-  offered event answer is legal short answered = record {
+  offered event answer is legal short answered wanting = record {
     turn = turn_given (fed_entry event answer) is legal short;
     answered = answered;
+    wanting = wanting;
     history = λ fine. seen_then (fed_entry event answer) is ∙ (ap (λ a. extended (history_of turn.list) (fed_entry event a)) (answered fine) ∙ fed_after (history_of turn.list) event);
   }
 

@@ -47,6 +47,10 @@ feed_answer history event = answer_by (position_of event.order (live history)) (
 abbrev pub IsFeedAnswer : List Entry → Event → Feed → Type 0
 IsFeedAnswer history event answer = answer ≢ OutOfMemory → answer ≡ feed_answer history event
 
+-- Memory ran out only where the event would have been accepted: no other answer takes any.
+abbrev pub IsAcceptedElse : List Entry → Event → Feed → Type 0
+IsAcceptedElse history event answer = answer ≡ OutOfMemory → feed_answer history event ≡ Accepted (length history)
+
 -- what the feed of the event adds to the history
 abbrev pub fed_entry : Event → Feed → Option Entry
 fed_entry event (Accepted place) = Some (Chunk event)

@@ -16,7 +16,7 @@ use Rattle.track_history.specs.declared.answers.LookRefusal.TheVariants as look
 use Rattle.track_history.specs.declared.live_events.LiveEvents.{LiveEvents}
 use Rattle.track_history.specs.declared.scene.Scene.{Scene}
 use Rattle.track_history.specs.ShortEvents.{HaveShortEvents}
-use Rattle.track_history.specs.Answers.{IsFeedAnswer, IsSceneOf, entry_of, fed_entry, flush_answer, flushed_entry, refused_answer}
+use Rattle.track_history.specs.Answers.{IsAcceptedElse, IsFeedAnswer, IsSceneOf, entry_of, fed_entry, flush_answer, flushed_entry, refused_answer}
 use Rattle.track_history.specs.Tellings.{IsSound, Tells}
 
 -- a pass of a track
@@ -40,10 +40,11 @@ pub record IsTurn (pass after : TrackView) (entry : Option Entry) : Type 0 where
   pub legal : IsHistory (history_of after.seen)
   pub short : HaveShortEvents (history_of after.seen)
 
--- The event was offered at a turn, which found `turn.turn.list`. Where memory ran out before it, no turn was taken.
+-- The event was offered at a turn, which found `turn.turn.list`. Where memory ran out before it, no turn was taken; at it, the event would have been accepted.
 pub record IsOffered (event : Event) (pass after : TrackView) (answer : Feed) : Type 0 where
   pub turn : IsTurn pass after (fed_entry event answer)
   pub answered : IsFeedAnswer (history_of turn.turn.list) event answer
+  pub wanting : IsAcceptedElse (history_of turn.turn.list) event answer
   pub history : answer ≢ OutOfMemory → history_of after.seen ≡ rule.after (history_of turn.turn.list) event
 
 abbrev pub IsEventFed : Event → TrackView → TrackView → Feed → Type 0

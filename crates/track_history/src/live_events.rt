@@ -1,13 +1,13 @@
 //! What is kept of a track's history: the live events, and how many entries and flushes there were.
 
-ghost use Rattle.std.specs.Prelude.{◌≡◌, ◌+◌, ◌<◌, ◌≤◌, ◌++◌, ◌∷◌, List, [], None, IfOk, OnOk, OnErr, length, map};
+ghost use Rattle.std.specs.Prelude.{◌≡◌, ℕ, ◌+◌, ◌<◌, ◌≤◌, ◌++◌, ◌∷◌, List, [], None, IfOk, OnOk, OnErr, length, map};
 ghost use Rattle.std.specs.Arc.{arc_value};
 ghost use Rattle.ass_events.specs.Histories.{Entry, max_live};
 ghost use Rattle.ass_events.specs.NearEvents.{AreNear, span_of};
 ghost use Rattle.ass_num.specs.Limits.{max_text_bytes};
 ghost use Rattle.ass_events.specs.Ranges.{IsEvent, text_bytes};
 ghost use Rattle.near_events.specs.Spans.{AreNearSpans};
-ghost use Rattle.track_history.specs.Answers.{IsFeedAnswer, fed_entry, flush_answer, flushed_entry, extended, position_of, read_orders};
+ghost use Rattle.track_history.specs.Answers.{IsAcceptedElse, IsFeedAnswer, fed_entry, flush_answer, flushed_entry, extended, position_of, read_orders};
 ghost use Rattle.track_history.specs.Tellings.{IsSound, Tells, events_of};
 
 use crate::answers::{Feed, Flushed};
@@ -17,6 +17,7 @@ use ass_num::{Items, Mem};
 use near_events::{EventSpan, NearEvents, sort_by_layer};
 use std::alloc::Global;
 use std::collections::BTreeMap;
+use std::mem;
 use std::sync::Arc;
 
 /// The most live events of a track.
@@ -53,12 +54,14 @@ impl LiveEvents {
     }
 
     /// Accepts the event if no live event has its ReadOrder and there is room. Whatever else is answered, the history stays as it is.
+    /// Only where it would accept the event may memory run out.
     pub fn feed(&mut self, alloc: Global, event: &Arc<Event>) -> Feed
         requires sound { IsSound self.old }
         requires event { IsEvent event.now.value }
         requires short { text_bytes event.now.value ≤ max_text_bytes }
         ensures sound { IsSound self.new }
         ensures answer { (history : List Entry) → Tells self.old history → IsFeedAnswer history event.now.value result }
+        ensures wanting { (history : List Entry) → Tells self.old history → IsAcceptedElse history event.now.value result }
         ensures history { (history : List Entry) → Tells self.old history → Tells self.new (extended history (fed_entry event.now.value result)) }
     {
         if let Some(place) = self.place_of(event.order) {
@@ -125,6 +128,28 @@ impl LiveEvents {
         self.events.clear();
         self.places.clear();
         self.index.clear();
+        let place = self.entries;
+        self.entries += 1;
+        self.flushes += 1;
+        Flushed::Done(place)
+    }
+
+    /// Drops all live events as [`LiveEvents::flush`] does, but frees none: they are handed out in what has no event yet. So what
+    /// holds up others while it has `self` takes no longer for many events than for few.
+    pub fn flush_into(&mut self, dropped: &mut LiveEvents) -> Flushed
+        requires sound { IsSound self.old }
+        requires empty { IsSound dropped.old × (events_of dropped.old ≡ []) }
+        ensures sound { IsSound self.new }
+        ensures answer { (history : List Entry) → Tells self.old history → result ≡ flush_answer history }
+        ensures history { (history : List Entry) → Tells self.old history → Tells self.new (extended history (flushed_entry result)) }
+        ensures dropped { (place : ℕ) → result ≡ Flushed.Done place → events_of dropped.new ≡ events_of self.old }
+    {
+        if self.flushes >= MAX_FLUSHES {
+            return Flushed::TooMany(MAX_FLUSHES);
+        }
+        mem::swap(&mut self.events, &mut dropped.events);
+        mem::swap(&mut self.places, &mut dropped.places);
+        mem::swap(&mut self.index, &mut dropped.index);
         let place = self.entries;
         self.entries += 1;
         self.flushes += 1;

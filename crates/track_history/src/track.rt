@@ -117,14 +117,16 @@ impl Track {
         (TrackPass { pass }, answer)
     }
 
-    /// Drops all live events: the flush is an entry of the history. It takes no memory.
-    pub fn flush<R: Wait>(&self, rt: &R, pass: TrackPass) -> (TrackPass, Flushed)
+    /// Drops all live events: the flush is an entry of the history. It takes no memory, and frees the events once it has given the
+    /// turn back.
+    pub fn flush<R: Wait>(&self, rt: &R, alloc: Global, pass: TrackPass) -> (TrackPass, Flushed)
         requires { IsOf self.now pass }
         ensures { IsFlushed pass result.0 result.1 }
     {
+        let mut dropped = LiveEvents::new(alloc);
         let TrackPass { pass } = pass;
         let mut turn = self.cell.take(rt, pass);
-        let answer = turn.value_mut().flush();
+        let answer = turn.value_mut().flush_into(&mut dropped);
         let pass = self.cell.give(turn, answer.entry());
         (TrackPass { pass }, answer)
     }

@@ -1,6 +1,9 @@
 use Rattle.std.proofs.Common.{◌==◌, [], ◌∷◌, ◌∙◌}
 use Rattle.std.specs.Cmp.{nat_eq_equiv}
 use Rattle.evict_core.specs.Machine.{Ask, Hit, Claim}
+use Rattle.flight_cache.specs.Meaning.{shard_of}
+use Rattle.flight_cache.specs.Shards.{at}
+use Rattle.flight_cache.proofs.Asking.{short-follows}
 use Rattle.flight_cache.proofs.Visits.{call-stays, hit-held, fill-held, claim-open, after-hit, after-fail, after-fill, after-crowded, after-nothing}
 use Rattle.cache_bench.specs.Doubled.{doubled}
 use Rattle.cache_bench.proofs.visits.visit.Goals as goal
@@ -53,4 +56,6 @@ returns-in-None g c =
 pub returns-in-OutOfMemory : goal.returns-in-OutOfMemory
 returns-in-OutOfMemory g c =
     let asked = rw c.in-OutOfMemory.is at c.ask-pass.ensures.asked in
-    after-nothing (◌==◌) nat_eq_equiv doubled c.args.cache.now c.args.key c.args.pass c.ask-pass.result.0 c.requires asked c.ask-pass.ensures.others
+    let n = shard_of (c.args.key ∷ []) in
+    let none = short-follows (◌==◌) doubled (at c.args.cache.now.shards n) (at c.args.pass n) (at c.ask-pass.result.0 n) c.args.key asked in
+    after-nothing (◌==◌) nat_eq_equiv doubled c.args.cache.now c.args.key c.args.pass c.ask-pass.result.0 c.requires none c.ask-pass.ensures.others

@@ -58,3 +58,9 @@ returns-in-Full-clause-look g c =
     let found = lookup-found (λ p. p.index) (λ p. stored_status p.stored) g.K.PartialEq.eq g.met.K.Eq.laws _ _ _ c.self.invariant.0 c.args.key.now c.in-Some.number.now (sym c.in-Some.ensures.value) in
     let is = ap (lookup (g.K.PartialEq.eq c.args.key.now)) (sym c.self.view_is) ∙ (found ∙ ap (option_map (λ p. stored_status p.stored)) (sym c.in-Some-peek.ensures)) in
     rw is c.in-Full.ensures
+
+pub returns-in-OutOfMemory-clause-look : goal.returns-in-OutOfMemory-clause-look
+returns-in-OutOfMemory-clause-look g c =
+    let found = lookup-found (λ p. p.index) (λ p. stored_status p.stored) g.K.PartialEq.eq g.met.K.Eq.laws _ _ _ c.self.invariant.0 c.args.key.now c.in-Some.number.now (sym c.in-Some.ensures.value) in
+    let is = ap (lookup (g.K.PartialEq.eq c.args.key.now)) (sym c.self.view_is) ∙ (found ∙ ap (option_map (λ p. stored_status p.stored)) (sym c.in-Some-peek.ensures)) in
+    rw is c.in-OutOfMemory.ensures

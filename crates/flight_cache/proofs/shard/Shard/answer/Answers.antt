@@ -3,7 +3,7 @@ use Rattle.evict_core.specs.Machine as machine
 use Rattle.flight_cache.specs.declared.kept.Entry.TheVariants.{Hit, Claim, Crowded}
 use Rattle.flight_cache.specs.declared.kept.Kept.{Kept}
 use Rattle.flight_cache.proofs.Claiming.{on-ok, on-err, claimed}
-use Rattle.flight_cache.proofs.Standing.{stands-asked, stands-unchanged, hit-value, gives-key, gives-turn}
+use Rattle.flight_cache.proofs.Standing.{stands-asked, stands-unchanged, hit-value, gives-key, gives-turn, short-ask}
 use Rattle.flight_cache.proofs.shard.Shard.answer.Goals as goal
 
 pub give-pass-requires-clause-value : goal.give-pass-requires-clause-value
@@ -33,7 +33,7 @@ pub give-pass-requires-in-Flying-clause-value : goal.give-pass-requires-in-Flyin
 give-pass-requires-in-Flying-clause-value g c = stands-unchanged g.M.Made.meaning c.args.self.now.tag g.M.Key.PartialEq.eq g.met.M.Key.Eq.laws g.met.M.Made.same_key c.args.before.value c.args.turn c.requires.turn c.value_mut.result.now c.value_mut.ensures.value c.ask.new.self c.in-Flying.ensures.1
 
 pub give-pass-requires-in-OutOfMemory-clause-value : goal.give-pass-requires-in-OutOfMemory-clause-value
-give-pass-requires-in-OutOfMemory-clause-value g c = stands-unchanged g.M.Made.meaning c.args.self.now.tag g.M.Key.PartialEq.eq g.met.M.Key.Eq.laws g.met.M.Made.same_key c.args.before.value c.args.turn c.requires.turn c.value_mut.result.now c.value_mut.ensures.value c.ask.new.self c.in-OutOfMemory.ensures
+give-pass-requires-in-OutOfMemory-clause-value g c = stands-unchanged g.M.Made.meaning c.args.self.now.tag g.M.Key.PartialEq.eq g.met.M.Key.Eq.laws g.met.M.Made.same_key c.args.before.value c.args.turn c.requires.turn c.value_mut.result.now c.value_mut.ensures.value c.ask.new.self c.in-OutOfMemory.ensures.1
 
 pub give-pass-requires-in_default-clause-value : goal.give-pass-requires-in_default-clause-value
 give-pass-requires-in_default-clause-value g c = stands-unchanged g.M.Made.meaning c.args.self.now.tag g.M.Key.PartialEq.eq g.met.M.Key.Eq.laws g.met.M.Made.same_key c.args.before.value c.args.turn c.requires.turn c.value_mut.result.now c.value_mut.ensures.value c.ask.new.self c.in-Claimable.ensures.1
@@ -63,3 +63,18 @@ returns-in-Flying-clause-flying g c = (
   gives-turn g.M.Made.meaning c.args.self.now.tag g.M.Key.PartialEq.eq g.met.M.Key.Eq.laws g.met.M.Made.same_key c.args.before.value c.args.turn c.requires.turn
       c.args.self.now c.give-pass-in-Flying.result None refl c.requires.legal c.give-pass-in-Flying.ensures.legal c.give-pass-in-Flying.ensures.pass,
 )
+
+pub returns-clause-asked : goal.returns-clause-asked
+returns-clause-asked g c =
+    short-ask g.M.Made.meaning c.args.self.now.tag g.M.Key.PartialEq.eq g.met.M.Key.Eq.laws g.met.M.Made.same_key c.args.before.value c.args.turn c.requires.turn
+    c.value_mut.result.now c.value_mut.ensures.value c.args.self.now c.give-pass-in-OutOfMemory.result refl c.requires.legal c.give-pass-in-OutOfMemory.ensures.legal c.give-pass-in-OutOfMemory.ensures.pass c.args.key machine.Hit refl c.in-OutOfMemory.ensures.0
+
+pub returns-in_default-clause-asked : goal.returns-in_default-clause-asked
+returns-in_default-clause-asked g c =
+    short-ask g.M.Made.meaning c.args.self.now.tag g.M.Key.PartialEq.eq g.met.M.Key.Eq.laws g.met.M.Made.same_key c.args.before.value c.args.turn c.requires.turn
+    c.value_mut.result.now c.value_mut.ensures.value c.args.self.now c.give-pass-in_default.result refl c.requires.legal c.give-pass-in_default.ensures.legal c.give-pass-in_default.ensures.pass c.args.key machine.Claim refl c.in-Claimable.ensures.0
+
+pub returns-then-is_err-clause-asked : goal.returns-then-is_err-clause-asked
+returns-then-is_err-clause-asked g c =
+    short-ask g.M.Made.meaning c.args.self.now.tag g.M.Key.PartialEq.eq g.met.M.Key.Eq.laws g.met.M.Made.same_key c.args.before.value c.args.turn c.requires.turn
+    c.value_mut.result.now c.value_mut.ensures.value c.args.self.now c.give-pass-then-is_err.result refl c.requires.legal c.give-pass-then-is_err.ensures.legal c.give-pass-then-is_err.ensures.pass c.args.key machine.Claim refl c.in-Claimable.ensures.0

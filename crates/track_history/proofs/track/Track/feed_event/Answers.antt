@@ -24,4 +24,4 @@ returns g c =
     let tells : Tells c.value_mut.result.now history = subst (λ (k : LiveEvents). Tells k history) (sym c.value_mut.ensures.value) taken.turn_of.value.tells in
     inr (subst (λ (z : TrackView). IsOffered c.args.event z c.give-pass.result c.feed-answer.result) c.pass.view_is
     (subst (λ (z : Event). IsOffered z c.pass.inside.pass c.give-pass.result c.feed-answer.result) c.in-Ok.ensures.ok
-    (offered _ _ c.pass.inside.pass turn c.give-pass.result c.entry.result taken c.give-pass.ensures e c.feed-answer.result c.entry.ensures (told.history history tells).legal (told.history history tells).short (told.answer history tells))))
+    (offered _ _ c.pass.inside.pass turn c.give-pass.result c.entry.result taken c.give-pass.ensures e c.feed-answer.result c.entry.ensures (told.history history tells).legal (told.history history tells).short (told.answer history tells) (told.wanting history tells))))
