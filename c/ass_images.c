@@ -60,15 +60,15 @@ static int32_t copy_list(vimalorua *handle, ass_images *images, size_t count, si
     return status;
 }
 
-int32_t ass_images_render(vimalorua *handle, ass_images *images, int64_t ms, uint32_t w, uint32_t h, int32_t *change,
-                          ASS_Image **list) {
+int32_t ass_images_render_in(vimalorua *handle, ass_images *images, int64_t ms, const vimalorua_view *view,
+                             int32_t *change, ASS_Image **list) {
     size_t count = 0, bytes = 0;
     int32_t listed = VIMALORUA_OTHER_LIST;
     int missed = images->missed, has_nodes = images->nodes != NULL && !missed;
     *list = NULL;
     if (change != NULL)
         *change = VIMALORUA_OTHER_LIST;
-    int32_t status = vimalorua_images(handle, ms, w, h, &listed, &count, &bytes);
+    int32_t status = vimalorua_images_in(handle, ms, view, &listed, &count, &bytes);
     if (status == VIMALORUA_DONE && !(has_nodes && listed == VIMALORUA_SAME))
         status = copy_list(handle, images, count, bytes);
     images->missed = status != VIMALORUA_DONE;
@@ -79,4 +79,10 @@ int32_t ass_images_render(vimalorua *handle, ass_images *images, int64_t ms, uin
     if (count != 0)
         *list = images->nodes;
     return VIMALORUA_DONE;
+}
+
+int32_t ass_images_render(vimalorua *handle, ass_images *images, int64_t ms, uint32_t w, uint32_t h, int32_t *change,
+                          ASS_Image **list) {
+    vimalorua_view view = {.size = sizeof view, .w = w, .h = h};
+    return ass_images_render_in(handle, images, ms, &view, change, list);
 }

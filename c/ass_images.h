@@ -38,6 +38,10 @@ typedef struct ass_images {
 int32_t ass_images_render(vimalorua *handle, ass_images *images, int64_t ms, uint32_t w, uint32_t h, int32_t *change,
                           ASS_Image **list);
 
+/* The same as vimalorua_images_in does. */
+int32_t ass_images_render_in(vimalorua *handle, ass_images *images, int64_t ms, const vimalorua_view *view,
+                             int32_t *change, ASS_Image **list);
+
 /* Frees what `images` has, so that it has nothing. */
 void ass_images_free(ass_images *images);
 

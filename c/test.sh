@@ -73,14 +73,16 @@ archive_alone() {
         return 1
     fi
     sed -n 's/^\(u*int32_t\|void\) \(vimalorua_[a-z0-9_]*\)(.*/\2/p' "$here/vimalorua.h" | sort > "$work/declared"
-    nm -g "$archive" | awk '$2 == "T" && $3 ~ /^vimalorua_/ && $3 != "vimalorua_shut" { print $3 }' | sort > "$work/given"
+    nm -g "$archive" | awk '$2 == "T" && $3 ~ /^vimalorua_/ && $3 !~ /_shut$|_by_numbers$/ { print $3 }' | sort > "$work/given"
     diff "$work/declared" "$work/given"
 }
 
-# The shared library shows the header's calls and nothing else, has its name, and needs the C library alone. The demo
-# with it draws as with the archive.
+# The shared library shows the header's calls and nothing else, each with the version that it came with, has its name,
+# and needs the C library alone. The demo with it draws as with the archive.
 shared_alone() {
     nm -D --defined-only "$shared" | awk '$2 != "A" { sub(/@.*/, "", $3); print $3 }' | sort | diff "$work/declared" -
+    nm -D --defined-only "$shared" | sed -n 's/.* \(vimalorua_.*\)@@VIMALORUA_1.2$/\1/p' | sort > "$work/later"
+    printf '%s\n' vimalorua_draw_in vimalorua_images_in | diff - "$work/later"
     readelf -d "$shared" | sed -n 's/.*(\(SONAME\|NEEDED\)).*\[\(.*\)\]/\1 \2/p' | sort > "$work/needs"
     printf 'NEEDED libc.so.6\nSONAME libvimalorua.so.1\n' | diff - "$work/needs"
     (cd "$work/plain" && "$cc" -o shared demo.o files.o "$shared" "-Wl,-rpath,${shared%/*}")

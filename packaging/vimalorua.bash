@@ -8,8 +8,8 @@ _vimalorua() {
         return
     fi
     case ${COMP_WORDS[1]} in
-    frame) options='--at --size --budget' ;;
-    changes) options='--from --to --step --size --budget' ;;
+    frame) options='--at --size --storage --aspect --content --letters --scale --budget' ;;
+    changes) options='--from --to --step --size --storage --aspect --content --letters --scale --budget' ;;
     write) options='--later --earlier' ;;
     selftest) options='--workers' ;;
     play)
@@ -18,6 +18,7 @@ _vimalorua() {
     esac
     case $before in
     --mode) mapfile -t COMPREPLY < <(compgen -W 'live settled' -- "$word") ;;
+    --letters) mapfile -t COMPREPLY < <(compgen -W 'script aspect' -- "$word") ;;
     --size) mapfile -t COMPREPLY < <(compgen -W '640x360 1280x720 1920x1080 3840x2160' -- "$word") ;;
     --*) ;;
     *)

@@ -69,6 +69,8 @@ SAID = [
     ("frame --at 0 --size", "--size lacks its value: columns and rows, each from 1 to 4096, as 1280x720"),
     ("frame --at x --size 4x3 row.ass dot.bdf", "--at takes milliseconds from 0 to 4000000000000, and not 'x'"),
     ("frame --at 0 --size=4 row.ass dot.bdf", "--size takes columns and rows, each from 1 to 4096, as 1280x720, and not '4'"),
+    ("frame --at 0 --size 4x3 --aspect 4 row.ass dot.bdf", "--aspect takes the width and height of a pixel, each from 1 to 65536, as 64/45, and not '4'"),
+    ("frame --at 0 --size 4x3 --content -8,0,4x3 row.ass dot.bdf", "--content lacks its value: left, top and size, as 0,60,640x360, or behind a = as --content=-8,0,1296x720"),
     ("selftest 1 0", "EVENTS takes a number from 1 to 100000, and not '0'"),
     ("check row.ass dot.bdf bad_row.bdf", "that font is bad_row.bdf"),
     ("check row.ass dot.bdf truetype.ttf", "that font is truetype.ttf"),
@@ -129,7 +131,7 @@ def install(score, given):
 
 def completion(score, file):
     """What is completed behind some words."""
-    for words, wanted in (("vimalorua fr", "frame"), ("vimalorua play --mo", "--mode"), ("vimalorua play --mode l", "live")):
+    for words, wanted in (("vimalorua fr", "frame"), ("vimalorua play --mo", "--mode"), ("vimalorua play --mode l", "live"), ("vimalorua frame --letters a", "aspect")):
         script = f'. "{file}"; COMP_WORDS=({words}); COMP_CWORD=$((${{#COMP_WORDS[@]}} - 1)); _vimalorua; echo "${{COMPREPLY[*]}}"'
         said = ran(["bash", "-c", script], "/").stdout.strip()
         score.check(said == wanted, f"{words} is completed as {said!r}")

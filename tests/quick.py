@@ -7,6 +7,7 @@ usage: python3 tests/quick.py [--program FILE] [--archive FILE] [PART..]
 Its parts, which all are tried where none is named:
   release    the sums of the release, and that it is of this checkout
   runs       the runs of tests/runs/: words, reports, pictures, changes, scripts written again, selftests
+  views      that letters in the frames of several videos stand where libass has them
   writes     that scripts written again show the same pictures, and are written as the same bytes
   plays      plays by every number of threads, whose images are those of frames
   refusals   runs whose calls for memory are refused
@@ -34,6 +35,7 @@ import inputs  # noqa: E402
 import outside  # noqa: E402
 import plays  # noqa: E402
 import stored  # noqa: E402
+import views  # noqa: E402
 
 RUNS = ["words", "reports", "pictures", "truetype", "writes"]
 
@@ -83,6 +85,7 @@ def write_runs(given):
 PARTS = {
     "release": outside.release,
     "runs": runs,
+    "views": views.views,
     "writes": plays.writes,
     "plays": plays.plays,
     "refusals": outside.refusals,

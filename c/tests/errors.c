@@ -168,6 +168,63 @@ static void drawing(void) {
     vimalorua_close(handle);
 }
 
+/* A call with a view, and what it answers and leaves. */
+static void seen(int line, const vimalorua_view *view, int32_t wanted) {
+    static const uint8_t untouched[COUNT] = {0};
+    vimalorua *handle = ready();
+    uint8_t out[COUNT] = {0};
+    size_t count = 77, bytes = 77;
+    int32_t change = 77;
+    want(line, vimalorua_draw_in(handle, 500, view, out, COUNT), wanted);
+    want(line, memcmp(out, untouched, COUNT) != 0, wanted == VIMALORUA_DONE);
+    want(line, vimalorua_images_in(handle, 500, view, &change, &count, &bytes), wanted);
+    want(line, change == 77 && count == 77 && bytes == 77, wanted != VIMALORUA_DONE);
+    vimalorua_close(handle);
+}
+
+/* A view with one number that is another one. */
+#define SEEN(field, number, wanted)                                                                                    \
+    do {                                                                                                               \
+        vimalorua_view other = view;                                                                                   \
+        other.field = number;                                                                                          \
+        seen(__LINE__, &other, wanted);                                                                                \
+    } while (0)
+
+static void views(void) {
+    vimalorua_view plain = {.size = sizeof plain, .w = W, .h = H};
+    vimalorua_view view = {sizeof view, W, H, 0, 0, W, H, 65536, 65536, 65536, 65536, VIMALORUA_BY_ASPECT, 100000, 1, 0};
+    struct {
+        vimalorua_view view;
+        uint32_t more[2];
+    } later = {plain, {0, 0}};
+    seen(__LINE__, &plain, VIMALORUA_DONE);
+    plain.left = 5000;
+    seen(__LINE__, &plain, VIMALORUA_DONE);
+    plain.scale = UINT32_MAX;
+    plain.size = 16;
+    seen(__LINE__, &plain, VIMALORUA_DONE);
+    plain.size = 15;
+    seen(__LINE__, &plain, VIMALORUA_BAD_CALL);
+    later.view.size = sizeof later;
+    seen(__LINE__, &later.view, VIMALORUA_DONE);
+    later.more[1] = 1;
+    seen(__LINE__, &later.view, VIMALORUA_BAD_CALL);
+    seen(__LINE__, &view, VIMALORUA_DONE);
+    SEEN(w, 4097, VIMALORUA_BAD_CALL);
+    SEEN(left, -4097, VIMALORUA_BAD_CALL);
+    SEEN(top, 4097, VIMALORUA_BAD_CALL);
+    SEEN(content_w, 0, VIMALORUA_BAD_CALL);
+    SEEN(content_h, 4097, VIMALORUA_BAD_CALL);
+    SEEN(storage_h, 0, VIMALORUA_BAD_CALL);
+    SEEN(storage_w, 65537, VIMALORUA_BAD_CALL);
+    SEEN(aspect_high, 0, VIMALORUA_BAD_CALL);
+    SEEN(aspect_wide, 65537, VIMALORUA_BAD_CALL);
+    SEEN(letters, 2, VIMALORUA_BAD_CALL);
+    SEEN(scale, 100001, VIMALORUA_BAD_CALL);
+    SEEN(use_bars, 2, VIMALORUA_BAD_CALL);
+    SEEN(unused, 1, VIMALORUA_BAD_CALL);
+}
+
 /* Lists a frame, and wants such a change. */
 static void list_changes(vimalorua *handle, int64_t ms, int32_t wanted, size_t *count, size_t *bytes) {
     int32_t change = -1;
@@ -293,6 +350,7 @@ static int with_refusal(long n, const uint8_t *wanted) {
     uint8_t out[COUNT] = {0};
     vimalorua_image numbers[64];
     uint8_t masks[64 * COUNT] = {0};
+    vimalorua_view view = {.size = sizeof view, .w = W, .h = H};
     allowed = n;
     AGAIN(vimalorua_open(BYTES(script), 1 << 20, &handle, &place), handle == NULL && place == 0);
     AGAIN(vimalorua_add_font(handle, BYTES(font), &place), place == 0);
@@ -302,6 +360,8 @@ static int with_refusal(long n, const uint8_t *wanted) {
     AGAIN(vimalorua_feed(handle, BYTES(chunk), 1000, 1000, &field, &place), field == 0 && place == 0);
     WANT(place, 1);
     AGAIN(vimalorua_draw(handle, 500, W, H, out, COUNT), memcmp(out, untouched, COUNT) == 0);
+    WANT(memcmp(out, wanted, COUNT), 0);
+    AGAIN(vimalorua_draw_in(handle, 500, &view, out, COUNT), memcmp(out, wanted, COUNT) == 0);
     WANT(memcmp(out, wanted, COUNT), 0);
     AGAIN(vimalorua_images(handle, 500, W, H, &change, &count, &bytes), 1);
     WANT(change, VIMALORUA_OTHER_LIST);
@@ -338,6 +398,7 @@ int main(void) {
     adding_fonts();
     feeding();
     drawing();
+    views();
     listing();
     limits();
     WANT(blocks, 0);

@@ -1,5 +1,5 @@
 /* Frames, drawn and blended from their lists: both give the same bytes, each image lies in the frame, and the change
- * that is told is the one between the lists; by one thread, and then by four in turn.
+ * that is told is the one between the lists; by one thread, in other views, and then by four in turn.
  *
  *   pictures FROM TO STEP WxH SCRIPT FONT.. */
 #include "../ass_images.h"
@@ -128,6 +128,49 @@ static void by_one_thread(struct frames *frames) {
     ass_images_free(&images);
 }
 
+/* What the frame may be to the script: the size alone, square pixels, stretched ones, and a picture between bars. */
+static size_t views_of(uint32_t w, uint32_t h, vimalorua_view views[4]) {
+    vimalorua_view plain = {.size = sizeof plain, .w = w, .h = h};
+    for (size_t i = 0; i < 4; i++)
+        views[i] = plain;
+    views[1].letters = VIMALORUA_BY_ASPECT;
+    views[2].letters = VIMALORUA_BY_ASPECT;
+    views[2].storage_w = 720;
+    views[2].storage_h = 576;
+    views[2].scale = 1500;
+    views[3].top = (int32_t)(h / 4);
+    views[3].content_w = w;
+    views[3].content_h = h / 2 + 1;
+    views[3].aspect_wide = 64;
+    views[3].aspect_high = 45;
+    views[3].use_bars = 1;
+    return 4;
+}
+
+/* Draws a frame in each view, and blends its list. The first is that of the size alone. */
+static void in_views(const struct frames *frames, long long ms, const uint8_t *wanted) {
+    ass_images images = {0};
+    vimalorua_view views[4];
+    uint8_t *blended = need(malloc(frames->len + 1)), *drawn = need(malloc(frames->len + 1));
+    size_t count = views_of(frames->w, frames->h, views);
+    for (size_t i = 0; i < count; i++) {
+        ASS_Image *first = NULL;
+        memset(blended, 0, frames->len);
+        if (vimalorua_draw_in(frames->handle, ms, &views[i], drawn, frames->len) != VIMALORUA_DONE)
+            fail("nothing is drawn in a view", ms);
+        if (ass_images_render_in(frames->handle, &images, ms, &views[i], NULL, &first) != VIMALORUA_DONE)
+            fail("nothing is listed in a view", ms);
+        blend(first, blended, frames->w);
+        if (memcmp(blended, drawn, frames->len) != 0)
+            fail("the list makes another picture in a view", ms);
+        if (i == 0 && memcmp(drawn, wanted, frames->len) != 0)
+            fail("the view of a size alone is another picture", ms);
+    }
+    free(blended);
+    free(drawn);
+    ass_images_free(&images);
+}
+
 static void *in_turn(void *data) {
     struct frames *frames = data;
     uint8_t *drawn = need(malloc(frames->len + 1)), *wanted = frames->wanted;
@@ -177,6 +220,7 @@ int main(int argc, char **argv) {
     size_t count = (size_t)((frames.to - frames.from + frames.step - 1) / frames.step);
     frames.wanted = need(malloc(count * frames.len + 1));
     by_one_thread(&frames);
+    in_views(&frames, frames.from, frames.wanted);
     by_four_threads(&frames);
     vimalorua_close(frames.handle);
     free(frames.wanted);

@@ -8,7 +8,7 @@ use Rattle.std.proofs.lemmas.List.Elements.{All-append, All-from_get_or, All-hea
 use Rattle.std.proofs.lemmas.List.FromFn.{get_or-range_with_len, length-range_with_len}
 use Rattle.std.proofs.lemmas.Slice.Zip.{length-zip}
 use Rattle.ass_events.specs.declared.event.Event.{Event}
-use Rattle.ass_num.specs.declared.size.Size.{Size}
+use Rattle.frame_view.specs.declared.view.FrameView.{FrameView}
 use Rattle.ass_script.specs.Scripts.{ScriptValue}
 use Rattle.bdf_font.specs.Fonts.{FontValue}
 use Rattle.override_tags.specs.declared.view.EventView.{EventView}
@@ -16,6 +16,7 @@ use Rattle.text_layout.specs.Anchors.{IsBlockSide, edge_across, margins_of, wrap
 use Rattle.text_layout.specs.Clusters.{cluster_ends}
 use Rattle.text_layout.specs.Extents.{item_extents}
 use Rattle.text_layout.specs.Kinds.{chars_of, roles_of}
+use Rattle.text_layout.specs.LineScales.{line_scales}
 use Rattle.text_layout.specs.Layouts.{IsLaid, IsWithinBlock, laid_out}
 use Rattle.text_layout.specs.Lines.{IsLineWithin, IsPlacedWithin, advances_of, block_width, line_at, line_extents, lines_from, placed_from, placed_in, placed_item}
 use Rattle.text_layout.specs.Metrics.{all_metrics}
@@ -117,13 +118,14 @@ placed_within wide h =
     }
 
 -- A layout has its lines and items within the block, and its items follow its lines.
-pub drawn_layout : (script : ScriptValue) (fonts : List FontValue) (event : Event) (view : EventView) (size : Size) (laid : Laid) → view.wrap ≤ 3
-    → IsLaid script fonts event view size laid → IsWithinBlock (length view.items) laid → IsDrawnLayout (length view.items) laid
-drawn_layout script fonts event view size laid style is within =
-    let metrics = all_metrics script.header fonts view size in
+pub drawn_layout : (script : ScriptValue) (fonts : List FontValue) (event : Event) (view : EventView) (frame : FrameView) (laid : Laid) → view.wrap ≤ 3
+    → IsLaid script fonts event view frame laid → IsWithinBlock (length view.items) laid → IsDrawnLayout (length view.items) laid
+drawn_layout script fonts event view frame laid style is within =
+    let scales = line_scales script.header frame view in
+    let metrics = all_metrics scales fonts view in
     let items = item_extents fonts metrics view.wrap view.items in
     let roles = roles_of view.wrap view.items in
-    let max = wrapping_width script.header (margins_of script event) size in
+    let max = wrapping_width (margins_of script event) scales in
     let extents = line_extents metrics view.items items is.0 in
     let flags : length (cluster_ends (chars_of view.wrap view.items)) ≡ length view.items = length-ends_behind [] (chars_of view.wrap view.items) ∙ length-map view.items _ in
     let same : length (advances_of items) ≡ length view.items =

@@ -26,12 +26,12 @@ marked_is state glyphs place within = elim (slice_get_cases glyphs place).1 [
 ]
 
 pub mark_is : (stage : Stage) (state : State) (pen : Point) (path : Path) (segs : List Seg) (copy : Path) (m : Matrix) (extent : Extent) (shift : ℤ) (top : Point)
-    → (segs ≡ [] → ⊥) → copy ≡ path → m ≡ drawing_matrix stage.header state stage.size → extent ≡ drawn_extent m segs → shift ≡ drawing_shift state m.uy → top ≡ point_above pen extent.ascent
+    → (segs ≡ [] → ⊥) → copy ≡ path → m ≡ drawing_matrix stage.scales state → extent ≡ drawn_extent m segs → shift ≡ drawing_shift state m.uy → top ≡ point_above pen extent.ascent
     → Some (let mark : Mark = record { outline = Drawing copy m shift; pen = top } in mark) ≡ drawing_mark stage state pen path segs
 mark_is stage state pen path [] copy m extent shift top some a b d e f = absurd (some refl)
 mark_is stage state pen path (s ∷ segs) copy m extent shift top some a b d e f =
     let made = λ (p : Path) (z : Matrix) (down : ℤ) (at : Point). let mark : Mark = record { outline = Drawing p z down; pen = at } in Some mark in
-    let matrix = drawing_matrix stage.header state stage.size in
+    let matrix = drawing_matrix stage.scales state in
     let moved : shift ≡ drawing_shift state matrix.uy = e ∙ ap (λ (z : Matrix). drawing_shift state z.uy) b in
     let above : top ≡ point_above pen (drawn_extent matrix (s ∷ segs)).ascent = f ∙ ap (λ (x : Extent). point_above pen x.ascent) (d ∙ ap (λ (z : Matrix). drawn_extent z (s ∷ segs)) b) in
     ap (λ (p : Path). made p m shift top) a

@@ -5,15 +5,16 @@ use Rattle.ass_num.specs.Limits.{IsPointWithin, IsWithin}
 use Rattle.ass_num.specs.declared.geometry.Point.{Point}
 use Rattle.ass_num.proofs.LimitLemmas.{IsWithin-wider}
 use Rattle.text_layout.specs.Anchors.{IsBlockSide, anchor, block_corner, edge_across, edge_down}
+use Rattle.text_layout.specs.LineScales.{line_scales}
 use Rattle.text_layout.specs.Limits.{max_anchor, max_block}
 use Rattle.text_layout.proofs.BlockLemmas.{edge-inner}
 use Rattle.event_draws.specs.Limits.{max_block_corner, max_down}
 use Rattle.event_draws.specs.Stages.{moved_down, origin_by, stage_at}
 use Rattle.event_draws.specs.declared.stage.Stage.{Stage}
 use Rattle.ass_events.specs.declared.event.Event.{Event}
-use Rattle.ass_num.specs.declared.size.Size.{Size}
+use Rattle.frame_view.specs.declared.scales.Scales.{Scales}
+use Rattle.frame_view.specs.declared.view.FrameView.{FrameView}
 use Rattle.ass_script.specs.Scripts.{ScriptValue}
-use Rattle.ass_script.specs.declared.script.Header.{Header}
 use Rattle.override_tags.specs.declared.view.EventView.{EventView}
 use Rattle.tag_state.specs.Views.{elapsed_at}
 use Rattle.text_layout.specs.declared.laid.Laid.{Laid}
@@ -38,8 +39,9 @@ moved_within p shift h s =
     }
 
 -- the parts of where an event stands
-pub stage_is : (script : ScriptValue) (event : Event) (t : ℤ) (size : Size) (view : EventView) (laid : Laid) (shift : ℤ) (header : Header) (at corner moved origin : Point) (elapsed : ℤ)
-    → header ≡ script.header → at ≡ anchor script event view size → corner ≡ moved_down (block_corner at view.align laid.width laid.height) shift → moved ≡ moved_down at shift
-    → origin ≡ origin_by header size moved view.org → elapsed ≡ elapsed_at event t
-    → (let stage : Stage = record { header = header; size = size; corner = corner; origin = origin; elapsed = elapsed; fade = view.fade } in stage) ≡ stage_at script event t size view laid shift
-stage_is script event t size view laid shift header at corner moved origin elapsed a b d e f g = rw (g, f, d, e, a, b) refl
+pub stage_is : (script : ScriptValue) (event : Event) (t : ℤ) (frame : FrameView) (view : EventView) (laid : Laid) (shift : ℤ) (scales : Scales) (at corner moved origin : Point) (elapsed : ℤ)
+    → scales ≡ line_scales script.header frame view → at ≡ anchor script event view scales → corner ≡ moved_down (block_corner at view.align laid.width laid.height) shift
+    → moved ≡ moved_down at shift → origin ≡ origin_by scales moved view.org → elapsed ≡ elapsed_at event t
+    → (let stage : Stage = record { scales = scales; size = frame.size; corner = corner; origin = origin; elapsed = elapsed; fade = view.fade } in stage)
+    ≡ stage_at script event t frame view laid shift
+stage_is script event t frame view laid shift scales at corner moved origin elapsed a b d e f g = rw (g, f, d, e, b, a) refl

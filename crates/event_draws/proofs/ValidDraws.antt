@@ -9,9 +9,11 @@ use Rattle.std.proofs.lemmas.List.Elements.{All-cons, All-filter, All-map, All-n
 use Rattle.ass_num.specs.Floor.{floor_div, held}
 use Rattle.ass_num.specs.Limits.{IsFrameSize, IsWithin, max_frame_side}
 use Rattle.ass_num.specs.declared.size.Size.{Size}
+use Rattle.frame_view.specs.FrameScales.{magnified}
+use Rattle.frame_view.specs.declared.scales.Ratio.{Ratio}
+use Rattle.frame_view.specs.declared.scales.Scales.{Scales}
 use Rattle.ass_num.proofs.Floor.{held_within}
 use Rattle.ass_num.proofs.OrderLemmas.{le_is, lt_is}
-use Rattle.ass_script.specs.declared.script.Header.{Header}
 use Rattle.bdf_font.specs.Fonts.{FontValue}
 use Rattle.draw_numbers.specs.Colours.{back_colour, lacks_border, outline_colour, plain_paint}
 use Rattle.draw_numbers.specs.Limits.{max_reach, one_milli}
@@ -140,18 +142,21 @@ record IsSoftness (softness : Softness) : Type 0 where
   edges : softness.edges ≤ max_passes
   blur : softness.blur ≤ max_blur_radius
 
-radii_within : (header : Header) (state : State) (size : Size) → AreRadii (radii_of header state size)
-radii_within header state size = record {
-  x = held_abs max_border (in_samples header.scaled state.border_x size.w header.res_x);
-  y = held_abs max_border (in_samples header.scaled state.border_y size.h header.res_y);
+radii_within : (scales : Scales) (state : State) → AreRadii (radii_of scales state)
+radii_within scales state = record {
+  x = held_abs max_border (in_samples (magnified scales.letter_scale state.border_x) scales.borders.x);
+  y = held_abs max_border (in_samples (magnified scales.letter_scale state.border_y) scales.borders.y);
 }
 
-blur_within : (scaled : Bool) (blur : ℤ) (side res : ℕ) → blur_radius scaled blur side res ≤ max_blur_radius
-blur_within true blur side res = held_abs max_blur_radius (floor_div ((blur *ℤ pos (2 * side)) +ℤ pos (one_milli * res)) (pos (2 * (one_milli * res))))
-blur_within false blur side res = held_abs max_blur_radius (floor_div ((blur *ℤ pos 2) +ℤ pos one_milli) (pos (2 * one_milli)))
+blur_within : (blur : ℤ) (ratio : Ratio) → blur_radius blur ratio ≤ max_blur_radius
+blur_within blur ratio =
+    held_abs max_blur_radius (floor_div ((blur *ℤ pos (2 * ratio.pixels)) +ℤ pos (one_milli * ratio.units)) (pos (2 * (one_milli * ratio.units))))
 
-softness_within : (header : Header) (state : State) (size : Size) → IsSoftness (softness_of header state size)
-softness_within header state size = record { edges = held_abs max_passes (floor_div state.edges (pos one_milli)); blur = blur_within header.scaled state.blur size.h header.res_y }
+softness_within : (scales : Scales) (state : State) → IsSoftness (softness_of scales state)
+softness_within scales state = record {
+  edges = held_abs max_passes (floor_div state.edges (pos one_milli));
+  blur = blur_within (magnified scales.letter_scale state.blur) scales.blur;
+}
 
 radii_if : (b : Bool) (radii : Radii) → AreRadii radii → AreRadii (cond b no_radii radii)
 radii_if true radii h = record { x = omega arith; y = omega arith }
@@ -159,7 +164,7 @@ radii_if false radii h = h
 
 border_within : (stage : Stage) (boxed : Bool) (state : State) → AreRadii (border_radii stage boxed state)
 border_within stage boxed state =
-    radii_if (boxed || lacks_border stage.elapsed state.sung) (radii_of stage.header state stage.size) (radii_within stage.header state stage.size)
+    radii_if (boxed || lacks_border stage.elapsed state.sung) (radii_of stage.scales state) (radii_within stage.scales state)
 
 softness_if : (b : Bool) (softness : Softness) → IsSoftness softness → IsSoftness (cond b softness no_softness)
 softness_if true softness h = h
@@ -167,12 +172,12 @@ softness_if false softness h = record { edges = omega arith; blur = omega arith 
 
 fill_within : (stage : Stage) (boxed : Bool) (state : State) → IsSoftness (fill_softness stage boxed state)
 fill_within stage boxed state =
-    softness_if (are_no_radii (border_radii stage boxed state)) (softness_in stage state) (softness_within stage.header state stage.size)
+    softness_if (are_no_radii (border_radii stage boxed state)) (softness_in stage state) (softness_within stage.scales state)
 
 border_made : (stage : Stage) (boxed : Bool) (state : State) (offsets : Offsets) → IsValidMaking (border_making stage boxed state offsets)
 border_made stage boxed state offsets =
     let r = border_within stage boxed state in
-    let s = softness_within stage.header state stage.size in
+    let s = softness_within stage.scales state in
     record { rx = r.x; ry = r.y; edges = s.edges; blur = s.blur }
 
 fill_made : (stage : Stage) (boxed : Bool) (state : State) → IsValidMaking (fill_making stage boxed state)
@@ -182,7 +187,7 @@ fill_made stage boxed state =
 
 box_made : (stage : Stage) (state : State) (offsets : Offsets) → IsValidMaking (box_making stage state offsets)
 box_made stage state offsets =
-    let s = softness_within stage.header state stage.size in
+    let s = softness_within stage.scales state in
     record { rx = omega arith; ry = omega arith; edges = s.edges; blur = s.blur }
 
 -- What is drawn in a frame of a size, by valid marks, where the clip has a valid key.
@@ -217,8 +222,8 @@ side_within w r h k = (omega (arith, ints, h.from_zero), omega (arith, ints, h.m
 
 box_valid : (stage : Stage) (fonts : List FontValue) (line : Line) (state : State) → IsBlockLine line → All (IsValidMark fonts) (box_mark stage line state ∷ [])
 box_valid stage fonts line state h =
-    let r = radii_within stage.header state stage.size in
-    let radii = radii_of stage.header state stage.size in
+    let r = radii_within stage.scales state in
+    let radii = radii_of stage.scales state in
     All-cons (IsValidMark fonts) (box_mark stage line state) []
     (record { width = side_within line.width radii.x h.width r.x; height = side_within line.height radii.y h.height r.y })
     (All-nil (IsValidMark fonts))
@@ -239,17 +244,17 @@ box_border_valid stage fonts clip line state ground h =
 
 -- ---- clips
 
-pub clip_valid : (header : Header) (fonts : List FontValue) (size : Size) (clip : Option ClipTag) → IfSome clip IsClip → IsValidClip (glyph_counts fonts) (clip_by header size clip)
-clip_valid header fonts size None h = tt
-clip_valid header fonts size (Some (clip_tag.Rect corners inverse)) h = tt
-clip_valid header fonts size (Some (clip_tag.Drawn path scale inverse)) h =
+pub clip_valid : (scales : Scales) (fonts : List FontValue) (clip : Option ClipTag) → IfSome clip IsClip → IsValidClip (glyph_counts fonts) (clip_by scales clip)
+clip_valid scales fonts None h = tt
+clip_valid scales fonts (Some (clip_tag.Rect corners inverse)) h = tt
+clip_valid scales fonts (Some (clip_tag.Drawn path level inverse)) h =
     record {
       parts =
           All-cons (IsValidPart (glyph_counts fonts)) _ []
           (record {
             mask =
                 record {
-                  outline = record { segments = h.0; matrix = clip_is_matrix header scale size; shifted = (omega (arith, ints), omega (arith, ints)) };
+                  outline = record { segments = h.0; matrix = clip_is_matrix scales level; shifted = (omega (arith, ints), omega (arith, ints)) };
                   ranges = record { rx = omega arith; ry = omega arith; px = omega arith; py = omega arith; edges = omega arith; blur = omega arith };
                 };
             dx = (omega (arith, ints), omega (arith, ints));

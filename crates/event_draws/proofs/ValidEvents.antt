@@ -131,7 +131,7 @@ rows_plan stage fonts clip rows ground h =
 pub event_valid : (stage : Stage) (fonts : List FontValue) (view : EventView) (laid : Laid) → IsFrameSize stage.size → IsLayoutFontSet fonts → IsView view
     → IsDrawnLayout (length view.items) laid → IsValidPlan (glyph_counts fonts) (event_draws stage fonts view laid)
 event_valid stage fonts view laid framed set h within =
-    let clip = clip_by stage.header stage.size view.clip in
+    let clip = clip_by stage.scales view.clip in
     rows_plan stage fonts clip (draw_rows stage fonts view laid)
-    (record { framed = framed; clipped = clip_valid stage.header fonts stage.size view.clip h.clip })
+    (record { framed = framed; clipped = clip_valid stage.scales fonts view.clip h.clip })
     (rows_valid stage fonts view laid set.some h within)

@@ -11,9 +11,9 @@ use Rattle.ass_num.specs.Paths.{IsPath}
 use Rattle.ass_num.specs.declared.geometry.Path.{Path}
 use Rattle.ass_num.specs.declared.geometry.Point.{Point}
 use Rattle.ass_num.specs.declared.geometry.Seg.{Seg}
-use Rattle.ass_num.specs.declared.size.Size.{Size}
+use Rattle.frame_view.specs.FrameScales.{magnified}
+use Rattle.frame_view.specs.declared.scales.Scales.{Scales}
 use Rattle.ass_num.proofs.Floor.{held_within}
-use Rattle.ass_script.specs.declared.script.Header.{Header}
 use Rattle.bdf_font.specs.Fonts.{FontValue, font_named, glyph_of, named_from}
 use Rattle.bdf_font.proofs.PlaceLemmas.{glyph_within}
 use Rattle.mask_keys.specs.Keys.{IsValidOutline}
@@ -56,22 +56,24 @@ text_held size scale side res em = scale_held (floor_div ((size *ℤ scale) *ℤ
 drawing_held : (scale : ℤ) (level side res : ℕ) → IsScale (drawing_scale scale level side res)
 drawing_held scale level side res = scale_held (floor_div (scale *ℤ pos (fine_parts side)) (pos (whole_per_cent * res * level_parts level)))
 
-text_is_matrix : (header : Header) (font : FontValue) (state : State) (size : Size) → IsMatrix (text_matrix header font state size)
-text_is_matrix header font state size = record {
-  ux = text_held state.size state.scale_x size.w header.res_x (em_height font);
-  uy = text_held state.size state.scale_y size.h header.res_y (em_height font);
+text_is_matrix : (scales : Scales) (font : FontValue) (state : State) → IsMatrix (text_matrix scales font state)
+text_is_matrix scales font state =
+    let size = magnified scales.letter_scale state.size in
+    record {
+      ux = text_held size state.scale_x scales.letters.x.pixels scales.letters.x.units (em_height font);
+      uy = text_held size state.scale_y scales.letters.y.pixels scales.letters.y.units (em_height font);
+    }
+
+drawing_is_matrix : (scales : Scales) (state : State) → IsMatrix (drawing_matrix scales state)
+drawing_is_matrix scales state = record {
+  ux = drawing_held (magnified scales.letter_scale state.scale_x) state.draw scales.canvas.x.pixels scales.canvas.x.units;
+  uy = drawing_held (magnified scales.letter_scale state.scale_y) state.draw scales.canvas.y.pixels scales.canvas.y.units;
 }
 
-drawing_is_matrix : (header : Header) (state : State) (size : Size) → IsMatrix (drawing_matrix header state size)
-drawing_is_matrix header state size = record {
-  ux = drawing_held state.scale_x state.draw size.w header.res_x;
-  uy = drawing_held state.scale_y state.draw size.h header.res_y;
-}
-
-pub clip_is_matrix : (header : Header) (scale : ℕ) (size : Size) → IsMatrix (clip_matrix header scale size)
-clip_is_matrix header scale size = record {
-  ux = drawing_held (pos whole_per_cent) scale size.w header.res_x;
-  uy = drawing_held (pos whole_per_cent) scale size.h header.res_y;
+pub clip_is_matrix : (scales : Scales) (level : ℕ) → IsMatrix (clip_matrix scales level)
+clip_is_matrix scales level = record {
+  ux = drawing_held (pos whole_per_cent) level scales.canvas.x.pixels scales.canvas.x.units;
+  uy = drawing_held (pos whole_per_cent) level scales.canvas.y.pixels scales.canvas.y.units;
 }
 
 -- ---- fonts
@@ -108,11 +110,11 @@ glyph_valid stage fonts state number place within there =
     let n : length (glyph_counts fonts) ≡ length fonts = length-map fonts (λ (f : FontValue). length f.glyphs) in
     let e : slice_index (glyph_counts fonts) number ≡ length font.glyphs = get_or-map (λ (f : FontValue). length f.glyphs) fonts number no_font 0 within in
     marked_valid (glyph_counts fonts) (option_map_or (is_marked state) (slice_get font.glyphs place) false)
-    (Glyph number place (text_matrix stage.header font state stage.size) state.bold state.underline state.strikeout)
+    (Glyph number place (text_matrix stage.scales font state) state.bold state.underline state.strikeout)
     (record {
       in_fonts = subst (λ (k : ℕ). number < k) (sym n) within;
       in_font = subst (λ (k : ℕ). place < k) (sym e) there;
-      matrix = text_is_matrix stage.header font state stage.size;
+      matrix = text_is_matrix stage.scales font state;
     })
 
 found_valid : (stage : Stage) (fonts : List FontValue) (state : State) (number : ℕ) (o : Option ℕ) → number < length fonts
@@ -145,8 +147,8 @@ drawing_valid : (stage : Stage) (fonts : List FontValue) (names : ℕ) (state : 
     → IfSome (drawing_mark stage state pen path segs) (IsValidMark fonts)
 drawing_valid stage fonts names state pen path [] h held = tt
 drawing_valid stage fonts names state pen path (s ∷ segs) h held =
-    let m = drawing_is_matrix stage.header state stage.size in
-    record { segments = h; matrix = m; shifted = shift_within state (drawing_matrix stage.header state stage.size).uy held.offset m.uy }
+    let m = drawing_is_matrix stage.scales state in
+    record { segments = h; matrix = m; shifted = shift_within state (drawing_matrix stage.scales state).uy held.offset m.uy }
 
 by_valid : (stage : Stage) (fonts : List FontValue) (view : EventView) (state : State) (pen : Point) (kind : ShownKind) → 0 < length fonts → IsState (length view.names) state
     → IsShownKind kind → IfSome (mark_by stage fonts view state pen kind) (IsValidMark fonts)

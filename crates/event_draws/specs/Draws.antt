@@ -80,14 +80,14 @@ draw_of_marks stage making paint clip marks = draw_of making paint clip (stamps_
 -- ---- the draws of a run
 
 abbrev pub softness_in : Stage → State → Softness
-softness_in stage state = softness_of stage.header state stage.size
+softness_in stage state = softness_of stage.scales state
 
 abbrev pub offsets_in : Stage → State → Offsets
-offsets_in stage state = offsets_of stage.header state stage.size
+offsets_in stage state = offsets_of stage.scales state
 
 -- The radii of a run's border. In a line with a box there is none, and none before a syllable begins that its border comes with.
 abbrev pub border_radii : Stage → Bool → State → Radii
-border_radii stage boxed state = if boxed || lacks_border stage.elapsed state.sung then no_radii else radii_of stage.header state stage.size
+border_radii stage boxed state = if boxed || lacks_border stage.elapsed state.sung then no_radii else radii_of stage.scales state
 
 -- the border of a run, moved by offsets; without a border it is the softened fill
 abbrev pub border_making : Stage → Bool → State → Offsets → Making
@@ -135,7 +135,7 @@ box_pen stage line radii = record {
 -- the box of a line, by the radii of the state of its first item
 abbrev pub box_mark : Stage → Line → State → Mark
 box_mark stage line state =
-    let radii = radii_of stage.header state stage.size in
+    let radii = radii_of stage.scales state in
     record { outline = box_outline line state radii; pen = box_pen stage line radii }
 
 abbrev pub box_making : Stage → State → Offsets → Making

@@ -116,7 +116,7 @@ draws_of_rows stage clip rows = flat_map (row_shadows stage clip) rows ++ flat_m
 
 -- The draws of an event that is laid out and stands there.
 abbrev pub event_draws : Stage → List FontValue → EventView → Laid → List Draw
-event_draws stage fonts view laid = draws_of_rows stage (clip_by stage.header stage.size view.clip) (draw_rows stage fonts view laid)
+event_draws stage fonts view laid = draws_of_rows stage (clip_by stage.scales view.clip) (draw_rows stage fonts view laid)
 
 -- ---- ranges
 

@@ -36,7 +36,7 @@ is_marked state glyph = (state.underline || state.strikeout) || not glyph.blank
 abbrev pub glyph_outline : Stage → State → ℕ → FontValue → ℕ → Option OutlineKey
 glyph_outline stage state number font place =
     if option_map_or (is_marked state) (slice_get font.glyphs place) false
-    then Some (Glyph number place (text_matrix stage.header font state stage.size) state.bold state.underline state.strikeout)
+    then Some (Glyph number place (text_matrix stage.scales font state) state.bold state.underline state.strikeout)
     else None
 
 -- the outline of a character in a font; none without a glyph
@@ -64,7 +64,7 @@ drawing_shift state uy = floor_div (state.offset *ℤ uy) (pos path_unit)
 abbrev pub drawing_mark : Stage → State → Point → Path → List Seg → Option Mark
 drawing_mark stage state pen path [] = None
 drawing_mark stage state pen path segs =
-    let m = drawing_matrix stage.header state stage.size in
+    let m = drawing_matrix stage.scales state in
     Some (record { outline = Drawing path m (drawing_shift state m.uy); pen = point_above pen (drawn_extent m segs).ascent })
 
 -- the mark of a character, if it leaves any

@@ -224,7 +224,7 @@ fn border_radii(stage: &Stage, boxed: bool, state: &State) -> Radii
     if boxed || lacks_border(stage.elapsed, state.sung) {
         return NO_RADII;
     }
-    radii_of(&stage.header, state, &stage.size)
+    radii_of(&stage.scales, state)
 }
 
 /// How the border of a run is made, moved by offsets; without a border it is the softened fill.
@@ -236,7 +236,7 @@ fn border_making(stage: &Stage, boxed: bool, state: &State, offsets: Offsets) ->
     Making {
         angle: state.angle,
         radii: border_radii(stage, boxed, state),
-        softness: softness_of(&stage.header, state, &stage.size),
+        softness: softness_of(&stage.scales, state),
         offsets,
     }
 }
@@ -248,7 +248,7 @@ fn fill_softness(stage: &Stage, boxed: bool, state: &State) -> Softness
     ensures { result ≡ rule.fill_softness stage.now boxed state.now }
 {
     if is_no_border(&border_radii(stage, boxed, state)) {
-        return softness_of(&stage.header, state, &stage.size);
+        return softness_of(&stage.scales, state);
     }
     NO_SOFTNESS
 }
@@ -294,7 +294,7 @@ pub(crate) fn add_run_shadow(
     requires run { rule.IsDrawnRun run.now }
     ensures { OnOk result (draws.new ≡ draws.old ++ rule.run_shadow stage.now clip.now boxed run.now) }
 {
-    let offsets = offsets_of(&stage.header, &run.state, &stage.size);
+    let offsets = offsets_of(&stage.scales, &run.state);
     if is_no_move(&offsets) {
         return Ok(());
     }
@@ -430,7 +430,7 @@ fn box_mark(stage: &Stage, line: &Line, state: &State) -> Mark
     ensures value { result ≡ rule.box_mark stage.now line.now state.now }
     ensures range { IsMark result }
 {
-    let radii = radii_of(&stage.header, state, &stage.size);
+    let radii = radii_of(&stage.scales, state);
     Mark {
         outline: box_outline(line, state, radii),
         pen: box_pen(stage, line, radii),
@@ -446,7 +446,7 @@ fn box_making(stage: &Stage, state: &State, offsets: Offsets) -> Making
     Making {
         angle: state.angle,
         radii: NO_RADII,
-        softness: softness_of(&stage.header, state, &stage.size),
+        softness: softness_of(&stage.scales, state),
         offsets,
     }
 }
@@ -488,7 +488,7 @@ pub(crate) fn add_box_shadow(
     requires state { rule.IsDrawnState state.now }
     ensures { OnOk result (draws.new ≡ draws.old ++ rule.box_shadow stage.now clip.now line.now state.now) }
 {
-    let offsets = offsets_of(&stage.header, state, &stage.size);
+    let offsets = offsets_of(&stage.scales, state);
     if is_no_move(&offsets) {
         return Ok(());
     }

@@ -39,9 +39,9 @@ pub fn add_laid_event(
     requires shift { IsWithin max_down shift }
     requires shows { IsViewOf setting.now.script event.now t view.now }
     requires view { IsView view.now }
-    requires laid_out { IsLaid setting.now.script setting.now.fonts event.now view.now setting.now.size laid.now }
+    requires laid_out { IsLaid setting.now.script setting.now.fonts event.now view.now setting.now.frame laid.now }
     requires within { IsWithinBlock (length view.now.items) laid.now }
-    ensures draws { OnOk result (AddsMovedDraws setting.now.script setting.now.fonts event.now t setting.now.size shift draws.old draws.new) }
+    ensures draws { OnOk result (AddsMovedDraws setting.now.script setting.now.fonts event.now t setting.now.frame shift draws.old draws.new) }
     ensures valid { OnOk result (IsValidPlan (glyph_counts setting.now.fonts) draws.old → IsValidPlan (glyph_counts setting.now.fonts) draws.new) }
 {
     let stage = Stage::of(setting, event, t, view, laid, shift);
@@ -64,7 +64,7 @@ pub fn add_viewed_event(
     requires shift { IsWithin max_down shift }
     requires shows { IsViewOf setting.now.script event.now t view.now }
     requires view { IsView view.now }
-    ensures draws { OnOk result (AddsMovedDraws setting.now.script setting.now.fonts event.now t setting.now.size shift draws.old draws.new) }
+    ensures draws { OnOk result (AddsMovedDraws setting.now.script setting.now.fonts event.now t setting.now.frame shift draws.old draws.new) }
     ensures valid { OnOk result (IsValidPlan (glyph_counts setting.now.fonts) draws.old → IsValidPlan (glyph_counts setting.now.fonts) draws.new) }
 {
     let laid = layout(alloc, setting, event, view)?;

@@ -59,7 +59,7 @@ fn glyph_outline(
         return Some(OutlineKey::Glyph {
             font: number,
             glyph: place,
-            m: text_matrix(&stage.header, font, state, &stage.size),
+            m: text_matrix(&stage.scales, font, state),
             bold: state.bold,
             underline: state.underline,
             strikeout: state.strikeout,
@@ -167,7 +167,7 @@ fn drawing_mark(
     if path.segs.is_empty() {
         return Ok(None);
     }
-    let m = drawing_matrix(&stage.header, state, &stage.size);
+    let m = drawing_matrix(&stage.scales, state);
     let extent = drawn_extent(alloc, path, &m)?;
     let outline = OutlineKey::Drawing {
         path: Shared::new(alloc, path_copy(alloc, path)?)?,

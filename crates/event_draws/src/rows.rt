@@ -175,7 +175,7 @@ pub fn add_event_draws(
     ensures draws { OnOk result (draws.new ≡ draws.old ++ rule.event_draws stage.now fonts.now.fonts view.now laid.now) }
     ensures valid { OnOk result (IsValidPlan (glyph_counts fonts.now.fonts) draws.old → IsValidPlan (glyph_counts fonts.now.fonts) draws.new) }
 {
-    let clip = clip_of(alloc, &stage.header, &view.clip, &stage.size)?;
+    let clip = clip_of(alloc, &stage.scales, &view.clip)?;
     let rows = rows_of(alloc, stage, fonts, view, laid)?;
     add_draws(alloc, stage, &clip, rows.as_slice(), draws)
 }

@@ -1,9 +1,9 @@
 //! Where an event that is laid out stands in the frame at an instant.
 
 ghost use Rattle.std.specs.Prelude.{◌≡◌, ◌+◌, IfSome};
-ghost use Rattle.ass_num.specs.Limits.{IsFrameSize, IsPointWithin, IsWithin, max_instant};
-ghost use Rattle.ass_script.specs.Ranges.{IsScriptHeader};
+ghost use Rattle.ass_num.specs.Limits.{IsPointWithin, IsWithin, max_instant};
 ghost use Rattle.ass_events.specs.Ranges.{IsEvent};
+ghost use Rattle.frame_view.specs.FrameScales.{IsScales};
 ghost use Rattle.outline_points.specs.Limits.{max_length};
 ghost use Rattle.override_tags.specs.Views.{IsHeldPlace};
 ghost use Rattle.tag_state.specs.Views.{elapsed_at};
@@ -16,14 +16,15 @@ ghost use Rattle.event_draws.specs.Stages.{moved_down, origin_by};
 use crate::lengths::sum;
 use ass_events::Event;
 use ass_num::{Fix, Point, Size};
-use ass_script::Header;
+use frame_view::Scales;
 use override_tags::EventView;
-use text_layout::{Laid, Setting, anchor, block_corner, framed};
+use text_layout::{Laid, Setting, anchor, block_corner, frame_place, line_scales};
 
 /// Where an event stands in the frame at an instant.
 #[derive(Clone, Copy, Debug, PartialEq, Eq)]
 pub struct Stage {
-    pub header: Header,
+    pub scales: Scales,
+    /// The columns and the rows of the frame.
     pub size: Size,
     /// The upper left corner of the event's block, in 1/64 pixel.
     pub corner: Point,
@@ -55,16 +56,16 @@ impl Stage {
         requires width { IsBlockSide laid.now.width }
         requires height { IsBlockSide laid.now.height }
         requires shift { IsWithin max_down shift }
-        ensures value { result ≡ stage_at setting.now.script event.now t setting.now.size view.now laid.now shift }
+        ensures value { result ≡ stage_at setting.now.script event.now t setting.now.frame view.now laid.now shift }
         ensures range { IsStage result }
     {
-        let header = setting.script.header();
-        let at = anchor(setting.script, event, view, &setting.size);
+        let scales = line_scales(&setting.script.header(), &setting.frame, view);
+        let at = anchor(setting.script, event, view, &scales);
         Stage {
-            header,
-            size: setting.size,
+            scales,
+            size: setting.frame.size,
             corner: corner_of(at, view.align, laid, shift),
-            origin: origin_of(&header, view, &setting.size, moved_down(at, shift)),
+            origin: origin_of(&scales, view, moved_down(at, shift)),
             elapsed: elapsed_of(event, t),
             fade: view.fade,
         }
@@ -118,19 +119,15 @@ fn moved_down(p: Point, shift: Fix) -> Point
 
 /// The point of the frame about which an event is turned: that of `\org`, which no shift moves, or else the anchor (Aegisub tag
 /// reference, "\org").
-fn origin_of(header: &Header, view: &EventView, size: &Size, anchor: Point) -> Point
-    requires header { IsScriptHeader header.now }
+fn origin_of(scales: &Scales, view: &EventView, anchor: Point) -> Point
+    requires scales { IsScales scales.now }
     requires origin { IfSome view.now.org IsHeldPlace }
-    requires size { IsFrameSize size.now }
     requires anchor { IsPointWithin max_block_corner anchor }
-    ensures value { result ≡ origin_by header.now size.now anchor view.now.org }
+    ensures value { result ≡ origin_by scales.now anchor view.now.org }
     ensures within { IsPointWithin max_length result }
 {
     match view.org {
-        Some((x, y)) => Point {
-            x: framed(x, size.w, header.res_x),
-            y: framed(y, size.h, header.res_y),
-        },
+        Some(place) => frame_place(scales, place),
         None => anchor,
     }
 }

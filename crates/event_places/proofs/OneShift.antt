@@ -2,7 +2,7 @@
 use Rattle.std.proofs.Common.{◌≡◌, ◌∙◌, ap, sym, subst, ◌⊎◌, inl, inr, ⊎_elim, refl, ℤ, pos, neg_ℤ, Bool, true, false, cond, List, Contains, Option, Some, None, arith}
 use Rattle.std.proofs.lemmas.Int.{ints}
 use Rattle.std.proofs.lemmas.List.Elements.{All-contains, All-contains_itself, All-weaker}
-use Rattle.ass_num.specs.declared.size.Size.{Size}
+use Rattle.frame_view.specs.declared.view.FrameView.{FrameView}
 use Rattle.ass_events.specs.declared.event.Event.{Event}
 use Rattle.ass_script.specs.Scripts.{ScriptValue}
 use Rattle.bdf_font.specs.Fonts.{FontValue}
@@ -34,15 +34,15 @@ option_cases None = inl refl
 option_cases (Some a) = inr (a, refl)
 
 -- an event with a shift has a stand
-shift_stands : {script : ScriptValue} {fonts : List FontValue} {size : Size} {events : List Event} (e : Event) (s : Stand) (z : ℤ)
-    → HasShift script fonts size events e s z → IsStandOf script fonts size e s
+shift_stands : {script : ScriptValue} {fonts : List FontValue} {frame : FrameView} {events : List Event} (e : Event) (s : Stand) (z : ℤ)
+    → HasShift script fonts frame events e s z → IsStandOf script fonts frame e s
 shift_stands _ _ _ (Placed e stand others place_of shift stands points each boxes least) = stands
 
 -- Where the rivals have the same places, their boxes are the same.
-same_box : {script : ScriptValue} {fonts : List FontValue} {size : Size} {events : List Event} {e : Event} {box : Box2} → HaveOneStand script fonts size
+same_box : {script : ScriptValue} {fonts : List FontValue} {frame : FrameView} {events : List Event} {e : Event} {box : Box2} → HaveOneStand script fonts frame
     → (p q : Event → Option (Stand × ℤ))
-    → ((f : Event) (s : Stand) (z : ℤ) → IsRival events e f → p f ≡ Some (s, z) → IsStandOf script fonts size f s)
-    → ((f : Event) (s : Stand) (z : ℤ) → IsRival events e f → q f ≡ Some (s, z) → IsStandOf script fonts size f s)
+    → ((f : Event) (s : Stand) (z : ℤ) → IsRival events e f → p f ≡ Some (s, z) → IsStandOf script fonts frame f s)
+    → ((f : Event) (s : Stand) (z : ℤ) → IsRival events e f → q f ≡ Some (s, z) → IsStandOf script fonts frame f s)
     → ((f : Event) → IsRival events e f → q f ≡ None → HasPoint f)
     → ((f : Event) (s r : Stand) (y z : ℤ) → IsRival events e f → p f ≡ Some (s, y) → q f ≡ Some (r, z) → y ≡ z)
     → IsRivalBox events p e box → IsRivalBox events q e box
@@ -66,11 +66,11 @@ same_box one p q stood stood' points same h =
     })
     (option_cases (q f))
 
-pub one_shift : {script : ScriptValue} {fonts : List FontValue} {size : Size} {events : List Event} → HaveOneStand script fonts size
-    → (e : Event) (s r : Stand) (a b : ℤ) → HasShift script fonts size events e s a → HasShift script fonts size events e r b → a ≡ b
-one_shift {script} {fonts} {size} {events} one _ _ _ a b (Placed e stand others p _ stands points each boxes least) (Placed _ stand' others' q _ stands' points' each' boxes' least') =
-    let stood : (f : Event) (s : Stand) (z : ℤ) → IsRival events e f → p f ≡ Some (s, z) → IsStandOf script fonts size f s = λ f s z rival has. shift_stands f s z (each f s z rival has) in
-    let stood' : (f : Event) (s : Stand) (z : ℤ) → IsRival events e f → q f ≡ Some (s, z) → IsStandOf script fonts size f s = λ f s z rival has. shift_stands f s z (each' f s z rival has) in
+pub one_shift : {script : ScriptValue} {fonts : List FontValue} {frame : FrameView} {events : List Event} → HaveOneStand script fonts frame
+    → (e : Event) (s r : Stand) (a b : ℤ) → HasShift script fonts frame events e s a → HasShift script fonts frame events e r b → a ≡ b
+one_shift {script} {fonts} {frame} {events} one _ _ _ a b (Placed e stand others p _ stands points each boxes least) (Placed _ stand' others' q _ stands' points' each' boxes' least') =
+    let stood : (f : Event) (s : Stand) (z : ℤ) → IsRival events e f → p f ≡ Some (s, z) → IsStandOf script fonts frame f s = λ f s z rival has. shift_stands f s z (each f s z rival has) in
+    let stood' : (f : Event) (s : Stand) (z : ℤ) → IsRival events e f → q f ≡ Some (s, z) → IsStandOf script fonts frame f s = λ f s z rival has. shift_stands f s z (each' f s z rival has) in
     let same : (f : Event) (s r : Stand) (y z : ℤ) → IsRival events e f → p f ≡ Some (s, y) → q f ≡ Some (r, z) → y ≡ z =
     λ f s r y z rival has has'. one_shift one f s r y z (each f s y rival has) (each' f r z rival has')
     in
@@ -83,8 +83,8 @@ one_shift {script} {fonts} {size} {events} one _ _ _ a b (Placed e stand others 
     least moved
 
 -- Without rivals a shift is 0.
-no_shift : {script : ScriptValue} {fonts : List FontValue} {size : Size} {events : List Event} (e : Event) (s : Stand) (z : ℤ)
-    → ((f : Event) → IsRival events e f → ⊥) → HasShift script fonts size events e s z → z ≡ pos 0
+no_shift : {script : ScriptValue} {fonts : List FontValue} {frame : FrameView} {events : List Event} (e : Event) (s : Stand) (z : ℤ)
+    → ((f : Event) → IsRival events e f → ⊥) → HasShift script fonts frame events e s z → z ≡ pos 0
 no_shift _ _ z alone (Placed e stand others p _ stands points each boxes least) =
     let P : Box2 → Type 0 = λ other. Meet (moved_box stand.down (pos 0) stand.place) other → ⊥ in
     let clear : IsClear stand.place others stand.down (pos 0) =
@@ -97,12 +97,12 @@ no_shift _ _ z alone (Placed e stand others p _ stands points each boxes least) 
 unmoved_down : (s : Stand) → down_by s (pos 0) ≡ pos 0
 unmoved_down s = elim s.down as (λ b. cond b (pos 0) (neg_ℤ (pos 0)) ≡ pos 0) [ true ↦ refl | false ↦ refl ]
 
-still : {script : ScriptValue} {fonts : List FontValue} {size : Size} {events : List Event} (e : Event) (s : Stand) (z : ℤ)
-    → ((f : Event) → IsRival events e f → ⊥) → HasShift script fonts size events e s z → down_by s z ≡ pos 0
+still : {script : ScriptValue} {fonts : List FontValue} {frame : FrameView} {events : List Event} (e : Event) (s : Stand) (z : ℤ)
+    → ((f : Event) → IsRival events e f → ⊥) → HasShift script fonts frame events e s z → down_by s z ≡ pos 0
 still e s z alone h = ap (down_by s) (no_shift e s z alone h) ∙ unmoved_down s
 
-pub one_move : {script : ScriptValue} {fonts : List FontValue} {size : Size} {events : List Event} → HaveOneStand script fonts size
-    → (e : Event) (a b : ℤ) → IsMovedBy script fonts size events e a → IsMovedBy script fonts size events e b → a ≡ b
+pub one_move : {script : ScriptValue} {fonts : List FontValue} {frame : FrameView} {events : List Event} → HaveOneStand script fonts frame
+    → (e : Event) (a b : ℤ) → IsMovedBy script fonts frame events e a → IsMovedBy script fonts frame events e b → a ≡ b
 one_move one _ _ _ (Shifted e s z h) (Shifted _ r y k) =
     ap (λ (t : Stand). down_by t z) (one.one e s r (shift_stands e s z h) (shift_stands e r y k)) ∙ ap (down_by r) (one_shift one e s r z y h k)
 one_move one _ _ _ (Shifted e s z h) (Pointed _ point) = absurd (one.pointless e s (shift_stands e s z h) point)

@@ -1,7 +1,7 @@
 -- An event has one stand: what it shows at its start is the same in each view of it but for the numbers of states and names, and so is
 -- its layout.
 use Rattle.std.proofs.Common.{◌≡◌, ℕ, zero, suc, ◌-◌, ◌<◌, ◌≤◌, ℤ, pos, Bool, false, List, [], ◌∷◌, ◌++◌, length, map, refl, sym, ap, subst, ◌∙◌, arith, ◌⊎◌, inl, inr, Option, Some, None, cond}
-use Rattle.std.specs.Prelude.{slice_get, slice_index, slice_index_or, slice_range, ◌==◌, is_some}
+use Rattle.std.specs.Prelude.{slice_get, slice_index, slice_index_or, slice_range, ◌==◌, ◌||◌, is_some}
 use Rattle.std.specs.List.{All, zip}
 use Rattle.std.specs.Option.{option_map, option_map_or}
 use Rattle.std.proofs.lemmas.Bool.{false≢true}
@@ -10,7 +10,9 @@ use Rattle.std.proofs.lemmas.List.Elements.{All-head, All-tail, All-nil}
 use Rattle.std.proofs.lemmas.Option.{slice_get-map, get_or_from_slice_get}
 use Rattle.ass_num.specs.declared.geometry.Path.{Path}
 use Rattle.ass_num.specs.declared.geometry.Seg.{Seg}
-use Rattle.ass_num.specs.declared.size.Size.{Size}
+use Rattle.frame_view.specs.FrameScales.{scales_of}
+use Rattle.frame_view.specs.declared.scales.Scales.{Scales}
+use Rattle.frame_view.specs.declared.view.FrameView.{FrameView}
 use Rattle.ass_events.specs.declared.event.Event.{Event}
 use Rattle.ass_script.specs.Ranges.{IsScript}
 use Rattle.ass_script.specs.Scripts.{ScriptValue}
@@ -18,6 +20,7 @@ use Rattle.bdf_font.specs.Fonts.{FontValue, font_named}
 use Rattle.drawing_path.specs.Paths.{IsPathOf}
 use Rattle.drawing_path.proofs.LawLemmas.{one_path}
 use Rattle.override_tags.specs.declared.item.Item.{Item}
+use Rattle.override_tags.specs.declared.tag.ClipTag.{ClipTag}
 use Rattle.override_tags.specs.declared.item.ItemKind.{ItemKind}
 use Rattle.override_tags.specs.declared.item.ItemKind.TheVariants as item
 use Rattle.override_tags.specs.declared.view.EventView.{EventView}
@@ -41,7 +44,8 @@ use Rattle.text_layout.specs.Extents.{extent_of, item_extents, kind_extent}
 use Rattle.text_layout.specs.Fonts.{font_numbers}
 use Rattle.text_layout.specs.Kinds.{char_of, chars_of, role_of, roles_of}
 use Rattle.text_layout.specs.Clusters.{cluster_ends}
-use Rattle.text_layout.specs.Layouts.{IsLaid, laid_out}
+use Rattle.text_layout.specs.Layouts.{IsLaidBy, laid_out}
+use Rattle.text_layout.specs.LineScales.{is_typeset, line_scales}
 use Rattle.text_layout.specs.Lines.{advances_of, blank_extent, block_height, block_width, joined_extent, line_extent, line_extents, lines_from, placed_from, state_at}
 use Rattle.text_layout.specs.Metrics.{all_metrics, metrics_of, no_font, no_metrics, state_metrics}
 use Rattle.text_layout.specs.Spans.{AreLines, paragraphs_of}
@@ -120,14 +124,14 @@ module _ (text : List ℕ) (duration elapsed : ℤ) where
   ]
 
 -- ---- states behind the same effects have the same metrics
-module _ (script : ScriptValue) (own : List ℕ) (fonts : List FontValue) (size : Size) where
+module _ (script : ScriptValue) (own : List ℕ) (fonts : List FontValue) (scales : Scales) where
   same_state : (number : ℕ) (font : FontValue) (ns ms : List (List ℕ)) (before : List Effect) (a b : State) → IsStateAt script own ns before a → IsStateAt script own ms before b
-      → metrics_of script.header number font a size ≡ metrics_of script.header number font b size
+      → metrics_of scales number font a ≡ metrics_of scales number font b
   same_state number font ns ms before a b h k =
       let measure : (m : Measure) → measure_of m a ≡ measure_of m b = λ m. h.numbers m ∙ sym (k.numbers m) in
       let italic : a.italic ≡ b.italic = h.switches property.Italic ∙ sym (k.switches property.Italic) in
       let draw : a.draw ≡ b.draw = h.draw ∙ sym k.draw in
-      let M = λ (s : State). metrics_of script.header number font s size in
+      let M = λ (s : State). metrics_of scales number font s in
       ap (λ (z : ℤ). M (record b { size = z; scale_x = a.scale_x; scale_y = a.scale_y; spacing = a.spacing; angle = a.angle; italic = a.italic; draw = a.draw })) (measure property.Size)
       ∙ (ap (λ (z : ℤ). M (record b { scale_x = z; scale_y = a.scale_y; spacing = a.spacing; angle = a.angle; italic = a.italic; draw = a.draw })) (measure ScaleX)
       ∙ (ap (λ (z : ℤ). M (record b { scale_y = z; spacing = a.spacing; angle = a.angle; italic = a.italic; draw = a.draw })) (measure ScaleY)
@@ -142,17 +146,17 @@ module _ (script : ScriptValue) (own : List ℕ) (fonts : List FontValue) (size 
       get_or_from_slice_get (map f names) state.font (f name) 0 (slice_get-map f names state.font ∙ ap (option_map f) is)
 
   module _ (v w : EventView) (before : List Effect) (p q : ℕ) (h : HasState script own v.names v.states before p) (k : HasState script own w.names w.states before q) where
-    pub same_metrics : slice_index_or (all_metrics script.header fonts v size) p no_metrics ≡ slice_index_or (all_metrics script.header fonts w size) q no_metrics
+    pub same_metrics : slice_index_or (all_metrics scales fonts v) p no_metrics ≡ slice_index_or (all_metrics scales fonts w) q no_metrics
     same_metrics =
-        let f = state_metrics script.header fonts (font_numbers fonts v.names) size in
-        let g = state_metrics script.header fonts (font_numbers fonts w.names) size in
+        let f = state_metrics scales fonts (font_numbers fonts v.names) in
+        let g = state_metrics scales fonts (font_numbers fonts w.names) in
         let n = slice_index (font_numbers fonts v.names) (h.0).font in
         let m = slice_index (font_numbers fonts w.names) (k.0).font in
         let first = get_or_from_slice_get (map f v.states) p (f h.0) no_metrics (slice_get-map f v.states p ∙ ap (option_map f) h.1) in
         let other = get_or_from_slice_get (map g w.states) q (g k.0) no_metrics (slice_get-map g w.states q ∙ ap (option_map g) k.1) in
         let number : n ≡ m = number_of v.names h.0 _ h.2.font ∙ sym (number_of w.names k.0 _ k.2.font) in
         first
-        ∙ (ap (λ (z : ℕ). metrics_of script.header z (slice_index_or fonts z no_font) h.0 size) number
+        ∙ (ap (λ (z : ℕ). metrics_of scales z (slice_index_or fonts z no_font) h.0) number
         ∙ (same_state m (slice_index_or fonts m no_font) v.names w.names before h.0 k.0 h.2 k.2 ∙ sym other))
 
 -- ---- so the layouts are the same
@@ -166,7 +170,7 @@ map_same : {X Y : Type 0} (f g : X → Y) → ((x : X) → f x ≡ g x) → (xs 
 map_same f g h [] = refl
 map_same f g h (x ∷ xs) = ap (λ z. z ∷ map f xs) (h x) ∙ ap (λ z. g x ∷ z) (map_same f g h xs)
 
-module _ (script : ScriptValue) (own : List ℕ) (fonts : List FontValue) (size : Size) (v w : EventView) where
+module _ (script : ScriptValue) (own : List ℕ) (fonts : List FontValue) (scales : Scales) (v w : EventView) where
   abbrev SeenBy : EventView → List Shown → List Look → Type 0
   SeenBy view items seen = AreSeen script own view.names view.states items seen
 
@@ -182,7 +186,7 @@ module _ (script : ScriptValue) (own : List ℕ) (fonts : List FontValue) (size 
   same_kinds f (x ∷ xs) [] (look ∷ seen) h k = absurd k
 
   abbrev metrics_by : EventView → List Metrics
-  metrics_by view = all_metrics script.header fonts view size
+  metrics_by view = all_metrics scales fonts view
 
   same_extents : (wrap : ℕ) (xs ys : List Shown) (seen : List Look) (ends : List Bool) → SeenBy v xs seen → SeenBy w ys seen
       → map (λ (x : Shown × Bool). extent_of fonts (metrics_by v) wrap x.0 x.1) (zip xs ends) ≡ map (λ (x : Shown × Bool). extent_of fonts (metrics_by w) wrap x.0 x.1) (zip ys ends)
@@ -191,7 +195,7 @@ module _ (script : ScriptValue) (own : List ℕ) (fonts : List FontValue) (size 
   same_extents wrap (x ∷ xs) (y ∷ ys) (look ∷ seen) (end ∷ ends) h k =
       let E = λ (m : Metrics) (kind : ShownKind). kind_extent fonts m wrap end kind in
       let here : extent_of fonts (metrics_by v) wrap x end ≡ extent_of fonts (metrics_by w) wrap y end =
-      ap (λ (m : Metrics). E m x.kind) (same_metrics script own fonts size v w look.before x.state y.state h.0.state k.0.state)
+      ap (λ (m : Metrics). E m x.kind) (same_metrics script own fonts scales v w look.before x.state y.state h.0.state k.0.state)
       ∙ ap (E (slice_index_or (metrics_by w) y.state no_metrics)) (h.0.kind ∙ sym k.0.kind)
       in
       ap (λ (z : Extent). z ∷ map (λ (x : Shown × Bool). extent_of fonts (metrics_by v) wrap x.0 x.1) (zip xs ends)) here
@@ -207,8 +211,8 @@ module _ (script : ScriptValue) (own : List ℕ) (fonts : List FontValue) (size 
       → HasState script own v.names v.states before last → HasState script own w.names w.states before other
       → slice_index_or (metrics_by v) (option_map_or (λ (s : Shown). s.state) (slice_get xs place) last) no_metrics
       ≡ slice_index_or (metrics_by w) (option_map_or (λ (s : Shown). s.state) (slice_get ys place) other) no_metrics
-  same_at [] [] [] place last other before h k p q = same_metrics script own fonts size v w before last other p q
-  same_at (x ∷ xs) (y ∷ ys) (look ∷ seen) zero last other before h k p q = same_metrics script own fonts size v w look.before x.state y.state h.0.state k.0.state
+  same_at [] [] [] place last other before h k p q = same_metrics script own fonts scales v w before last other p q
+  same_at (x ∷ xs) (y ∷ ys) (look ∷ seen) zero last other before h k p q = same_metrics script own fonts scales v w look.before x.state y.state h.0.state k.0.state
   same_at (x ∷ xs) (y ∷ ys) (look ∷ seen) (suc place) last other before h k p q = same_at xs ys seen place last other before h.1 k.1 p q
   same_at [] (y ∷ ys) [] place last other before h k p q = absurd k
   same_at (x ∷ xs) [] [] place last other before h k p q = absurd h
@@ -221,8 +225,8 @@ module _ (script : ScriptValue) (own : List ℕ) (fonts : List FontValue) (size 
     same_blank : (place : ℕ) → blank_extent (metrics_by v) v.items place ≡ blank_extent (metrics_by w) w.items place
     same_blank place =
         let N = λ (n : ℕ) (view : EventView). slice_index_or (metrics_by view) (option_map_or (λ (s : Shown). s.state) (slice_get view.items place) (n - 1)) no_metrics in
-        let long = length-map v.states (state_metrics script.header fonts (font_numbers fonts v.names) size) in
-        let wide = length-map w.states (state_metrics script.header fonts (font_numbers fonts w.names) size) in
+        let long = length-map v.states (state_metrics scales fonts (font_numbers fonts v.names)) in
+        let wide = length-map w.states (state_metrics scales fonts (font_numbers fonts w.names)) in
         let m : slice_index_or (metrics_by v) (state_at (length (metrics_by v)) v.items place) no_metrics ≡ slice_index_or (metrics_by w) (state_at (length (metrics_by w)) w.items place) no_metrics =
         ap (λ (n : ℕ). N n v) long ∙ (same_at v.items w.items seen place (length v.states - 1) (length w.states - 1) before h k p q ∙ sym (ap (λ (n : ℕ). N n w) wide))
         in
@@ -239,9 +243,9 @@ module _ (script : ScriptValue) (own : List ℕ) (fonts : List FontValue) (size 
         ap (λ (z : List (Option ℕ)). map (λ (x : Shown × Bool). extent_of fonts (metrics_by v) wrap x.0 x.1) (zip v.items (cluster_ends z))) ends
         ∙ same_extents wrap v.items w.items seen (cluster_ends (chars_of wrap w.items)) h k
 
-    pub laid_alike : (event : Event) (laid : Laid) → v.align ≡ w.align → v.wrap ≡ w.wrap → IsLaid script fonts event w size laid → IsLaid script fonts event v size laid
+    pub laid_alike : (event : Event) (laid : Laid) → v.align ≡ w.align → v.wrap ≡ w.wrap → IsLaidBy script fonts event w scales laid → IsLaidBy script fonts event v scales laid
     laid_alike event laid align wrap l =
-        let max = wrapping_width script.header (margins_of script event) size in
+        let max = wrapping_width (margins_of script event) scales in
         let roles : roles_of v.wrap v.items ≡ roles_of w.wrap w.items = ap (λ (z : ℕ). roles_of z v.items) wrap ∙ same_kinds (role_of w.wrap) v.items w.items seen h k in
         let items : item_extents fonts (metrics_by v) v.wrap v.items ≡ item_extents fonts (metrics_by w) w.wrap w.items =
         ap (λ (z : ℕ). item_extents fonts (metrics_by v) z v.items) wrap ∙ same_items w.wrap in
@@ -259,18 +263,24 @@ module _ (script : ScriptValue) (own : List ℕ) (fonts : List FontValue) (size 
         (l.0, lines, l.2 ∙ out)
 
 -- ---- one stand
-same_stand : (script : ScriptValue) (event : Event) (v w : EventView) (laid : Laid) (size : Size) → v.align ≡ w.align → v.pos ≡ w.pos → stand_of script event v laid size ≡ stand_of script event w laid size
-same_stand script event v w laid size align place =
-    ap (λ (z : ℕ). stand_of script event (record w { align = z; pos = v.pos }) laid size) align
-    ∙ ap (λ (z : Option (ℤ × ℤ)). stand_of script event (record w { pos = z }) laid size) place
+pub same_typeset : (v w : EventView) → v.pos ≡ w.pos → v.org ≡ w.org → v.clip ≡ w.clip → is_typeset v ≡ is_typeset w
+same_typeset v w place origin clip =
+    ap (λ (z : Option (ℤ × ℤ)). is_some z || (is_some v.org || is_some v.clip)) place
+    ∙ (ap (λ (z : Option (ℤ × ℤ)). is_some w.pos || (is_some z || is_some v.clip)) origin
+    ∙ ap (λ (z : Option ClipTag). is_some w.pos || (is_some w.org || is_some z)) clip)
 
-module _ (script : ScriptValue) (fonts : List FontValue) (size : Size) (sound : IsScript script) where
+same_stand : (script : ScriptValue) (event : Event) (v w : EventView) (laid : Laid) (scales : Scales) → v.align ≡ w.align → v.pos ≡ w.pos → stand_of script event v laid scales ≡ stand_of script event w laid scales
+same_stand script event v w laid scales align place =
+    ap (λ (z : ℕ). stand_of script event (record w { align = z; pos = v.pos }) laid scales) align
+    ∙ ap (λ (z : Option (ℤ × ℤ)). stand_of script event (record w { pos = z }) laid scales) place
+
+module _ (script : ScriptValue) (fonts : List FontValue) (frame : FrameView) (sound : IsScript script) where
   pub view_wrap : (event : Event) (view : EventView) → IsViewOf script event event.start view → view.wrap ≤ 3
   view_wrap event view h =
       let effects = past_held event.duration (elapsed_at event event.start) [] h.items (All-nil IsHeldEffect) (items_held h.reading) in
       subst (λ (z : ℕ). z ≤ 3) (sym h.shown.wrap) (wrap_held script.header.wrap _ sound.header.wrap effects)
 
-  one : (e : Event) (a b : Stand) → IsStandOf script fonts size e a → IsStandOf script fonts size e b → a ≡ b
+  one : (e : Event) (a b : Stand) → IsStandOf script fonts frame e a → IsStandOf script fonts frame e b → a ≡ b
   one e a b h k =
       let v = h.view in
       let w = k.view in
@@ -281,14 +291,20 @@ module _ (script : ScriptValue) (fonts : List FontValue) (size : Size) (sound : 
       let align : v.align ≡ w.align = mine.align ∙ sym other.align in
       let wrap : v.wrap ≡ w.wrap = mine.wrap ∙ sym other.wrap in
       let also : AreSeen script e.style w.names w.states w.items mine.looks = subst (λ (z : List Look). AreSeen script e.style w.names w.states w.items z) (sym seen) other.seen in
-      let laid = laid_alike script e.style fonts size v w mine.looks _ mine.seen also mine.last other.last e k.laid align wrap k.laid_out in
-      let same : h.laid ≡ k.laid = one_laid script fonts e v size h.laid k.laid (view_wrap e v h.shows) h.laid_out laid in
+      let typeset : is_typeset v ≡ is_typeset w =
+      same_typeset v w (h.pointless ∙ sym k.pointless) (mine.origin ∙ sym other.origin) (mine.clip ∙ sym other.clip) in
+      let scales = line_scales script.header frame v in
+      let alike : line_scales script.header frame w ≡ scales = ap (scales_of script.header frame) (sym typeset) in
+      let laid_out : IsLaidBy script fonts e w scales k.laid = subst (λ (z : Scales). IsLaidBy script fonts e w z k.laid) alike k.laid_out in
+      let laid = laid_alike script e.style fonts scales v w mine.looks _ mine.seen also mine.last other.last e k.laid align wrap laid_out in
+      let same : h.laid ≡ k.laid = one_laid script fonts e v frame h.laid k.laid (view_wrap e v h.shows) h.laid_out laid in
       h.value
-      ∙ (ap (λ (z : Laid). stand_of script e v z size) same
-      ∙ (same_stand script e v w k.laid size align (h.pointless ∙ sym k.pointless) ∙ sym k.value))
+      ∙ (ap (λ (z : Laid). stand_of script e v z scales) same
+      ∙ (same_stand script e v w k.laid scales align (h.pointless ∙ sym k.pointless)
+      ∙ (ap (λ (z : Scales). stand_of script e w k.laid z) (sym alike) ∙ sym k.value)))
 
-  pointless : (e : Event) (a : Stand) → IsStandOf script fonts size e a → HasPoint e → ⊥
+  pointless : (e : Event) (a : Stand) → IsStandOf script fonts frame e a → HasPoint e → ⊥
   pointless e a h k = false≢true (sym (ap is_some h.pointless) ∙ (sym (point_shown k.items k.reading h.shows) ∙ k.point))
 
-  pub one_stand : HaveOneStand script fonts size
+  pub one_stand : HaveOneStand script fonts frame
   one_stand = record { one = one; pointless = pointless }

@@ -7,7 +7,7 @@ use Rattle.std.proofs.lemmas.Int.{ints}
 use Rattle.std.proofs.lemmas.List.{append_assoc, append-nil, map_push}
 use Rattle.std.proofs.lemmas.List.Elements.{All-contains, All-nil, All-push, Contains-append_left, Contains-append_right, Contains-push, Contains-push_cases, Contains-get_or}
 use Rattle.ass_num.specs.Limits.{IsWithin}
-use Rattle.ass_num.specs.declared.size.Size.{Size}
+use Rattle.frame_view.specs.declared.view.FrameView.{FrameView}
 use Rattle.ass_events.specs.declared.event.Event.{Event}
 use Rattle.ass_events.specs.Histories.{HaveOwnOrders, Pairwise}
 use Rattle.ass_script.specs.Scripts.{ScriptValue}
@@ -29,10 +29,10 @@ use Rattle.near_events.proofs.Orders.{not_before_itself}
 use Rattle.near_events.proofs.Pairs.{Contains-nil, Contains-head, Contains-tail, Pairwise-push}
 use Rattle.event_places.proofs.StepLemmas.{AreDone, AreCleared, DifferCleared, IsDone, IsKept, ClearedEvent, done_more, has_shift, kept_more, new_differs, no_rival, still_kept}
 
-module _ (script : ScriptValue) (fonts : List FontValue) (size : Size) (events : List Event) (t : ℤ) (near : List EventSpan) (orders : HaveOwnOrders events) (are : AreNearSpans events t near) where
+module _ (script : ScriptValue) (fonts : List FontValue) (frame : FrameView) (events : List Event) (t : ℤ) (near : List EventSpan) (orders : HaveOwnOrders events) (are : AreNearSpans events t near) where
   -- an event that isn't moved
-  still : (s : EventSpan) (e : Event) (read : Option (List Item)) → IfSome read (AreReadItems e.text) → slice_get events s.place ≡ Some e → IsMovedBy script fonts size events e (pos 0)
-      → IsPlacedEvent script fonts size events (unmoved s.place read)
+  still : (s : EventSpan) (e : Event) (read : Option (List Item)) → IfSome read (AreReadItems e.text) → slice_get events s.place ≡ Some e → IsMovedBy script fonts frame events e (pos 0)
+      → IsPlacedEvent script fonts frame events (unmoved s.place read)
   still s e read are_read at moved = record { event = e; stands = at; moved = moved; near = (omega (arith, ints), omega (arith, ints)); own = tt; read = are_read }
 
   places_more : (spans : List EventSpan) (placed : List PlacedEvent) (s : EventSpan) (one : PlacedEvent) → one.place ≡ s.place → placed_places placed ≡ map (λ (s : EventSpan). s.place) spans
@@ -41,8 +41,8 @@ module _ (script : ScriptValue) (fonts : List FontValue) (size : Size) (events :
       map_push (λ (p : PlacedEvent). p.place) placed one ∙ (ap (λ z. z ++ one.place ∷ []) h ∙ (ap (λ z. map (λ (s : EventSpan). s.place) spans ++ z ∷ []) same ∙ sym (map_push (λ (s : EventSpan). s.place) spans s)))
 
   -- where nothing was cleared
-  cleared_same : (spans : List EventSpan) (s : EventSpan) (cleared : List ClearedEvent) → AreCleared script fonts size events near spans cleared → IsDone events near cleared s
-      → AreCleared script fonts size events near (spans ++ s ∷ []) cleared
+  cleared_same : (spans : List EventSpan) (s : EventSpan) (cleared : List ClearedEvent) → AreCleared script fonts frame events near spans cleared → IsDone events near cleared s
+      → AreCleared script fonts frame events near (spans ++ s ∷ []) cleared
   cleared_same spans s cleared so d = record {
     spanned = λ x c. Contains-append_left spans (s ∷ []) x.span (so.spanned x c);
     shifted = so.shifted;
@@ -52,8 +52,8 @@ module _ (script : ScriptValue) (fonts : List FontValue) (size : Size) (events :
 
   -- where one more was
   cleared_more : (spans : List EventSpan) (s : EventSpan) (rest : List EventSpan) (cleared : List ClearedEvent) (kept : List PlacedBox) (e : Event) (stand : Stand) (shift : ℤ) → near ≡ spans ++ s ∷ rest
-      → AreCleared script fonts size events near spans cleared → IsKept (s ∷ rest) cleared kept → slice_get events s.place ≡ Some e → HasShift script fonts size events e stand shift
-      → AreCleared script fonts size events near (spans ++ s ∷ []) (cleared ++ record { span = s; stand = stand; shift = shift } ∷ [])
+      → AreCleared script fonts frame events near spans cleared → IsKept (s ∷ rest) cleared kept → slice_get events s.place ≡ Some e → HasShift script fonts frame events e stand shift
+      → AreCleared script fonts frame events near (spans ++ s ∷ []) (cleared ++ record { span = s; stand = stand; shift = shift } ∷ [])
   cleared_more spans s rest cleared kept e stand shift split so keep at has =
       let new : ClearedEvent = record { span = s; stand = stand; shift = shift } in
       record {
@@ -63,13 +63,13 @@ module _ (script : ScriptValue) (fonts : List FontValue) (size : Size) (events :
             (λ is.
             let own : slice_get events x.span.place ≡ Some e = subst (λ (y : ClearedEvent). slice_get events y.span.place ≡ Some e) is at in
             let same : e ≡ f = same_some e f (sym own ∙ there) in
-            subst (λ (y : ClearedEvent). HasShift script fonts size events f y.stand y.shift) is (subst (λ (g : Event). HasShift script fonts size events g stand shift) same has))
+            subst (λ (y : ClearedEvent). HasShift script fonts frame events f y.stand y.shift) is (subst (λ (g : Event). HasShift script fonts frame events g stand shift) same has))
             (Contains-push_cases cleared new x c);
         done = λ r c.
             ⊎_elim (λ old. done_more events near cleared new r (so.done r old))
             (λ is. inr (inr (new, Contains-push cleared new, is))) (Contains-push_cases spans s r c);
         differ = Pairwise-push DifferCleared cleared new so.differ
-            (λ k d lt. new_differs events t near orders are spans s rest split script fonts size cleared kept so keep e at (get_or cleared k d) (Contains-get_or cleared k d lt));
+            (λ k d lt. new_differs events t near orders are spans s rest split script fonts frame cleared kept so keep e at (get_or cleared k d) (Contains-get_or cleared k d lt));
       }
 
   -- a shift lies within the limit also upwards
@@ -80,45 +80,45 @@ module _ (script : ScriptValue) (fonts : List FontValue) (size : Size) (events :
       (cases_Bool stand.down)
 
   step_done : (spans : List EventSpan) (s : EventSpan) (rest : List EventSpan) (placed : List PlacedEvent) (kept : List PlacedBox) (e : Event) (one : PlacedEvent) (new : List PlacedBox)
-      → near ≡ spans ++ s ∷ rest → slice_get events s.place ≡ Some e → AreDone script fonts size events near spans (s ∷ rest) placed kept → IsPlacing script fonts size e s kept one new
-      → AreDone script fonts size events near (spans ++ s ∷ []) rest (placed ++ one ∷ []) new
+      → near ≡ spans ++ s ∷ rest → slice_get events s.place ≡ Some e → AreDone script fonts frame events near spans (s ∷ rest) placed kept → IsPlacing script fonts frame e s kept one new
+      → AreDone script fonts frame events near (spans ++ s ∷ []) rest (placed ++ one ∷ []) new
   step_done spans s rest placed kept e _ _ split at d (Pointed read are_read point) = record {
     cleared = d.cleared;
     clearing = cleared_same spans s d.cleared d.clearing
         (inr (inl (λ f there. subst HasPoint (same_some e f (sym at ∙ there)) point)));
-    is_kept = still_kept events t near orders are spans s rest split script fonts size d.cleared kept d.clearing d.is_kept;
-    each = All-push (IsPlacedEvent script fonts size events) placed (unmoved s.place (Some read)) d.each (still s e (Some read) are_read at (moved_by_point e point));
+    is_kept = still_kept events t near orders are spans s rest split script fonts frame d.cleared kept d.clearing d.is_kept;
+    each = All-push (IsPlacedEvent script fonts frame events) placed (unmoved s.place (Some read)) d.each (still s e (Some read) are_read at (moved_by_point e point));
     places = places_more spans placed s (unmoved s.place (Some read)) refl d.places;
   }
   step_done spans s rest placed kept e _ _ split at d (Shifted stand shift own new read are_read stands laid clearing) =
-      let has = has_shift events t near orders are spans s rest split script fonts size d.cleared kept d.clearing d.is_kept e at stand shift stands clearing.least in
+      let has = has_shift events t near orders are spans s rest split script fonts frame d.cleared kept d.clearing d.is_kept e at stand shift stands clearing.least in
       record {
         cleared = d.cleared ++ record { span = s; stand = stand; shift = shift } ∷ [];
         clearing = cleared_more spans s rest d.cleared kept e stand shift split d.clearing d.is_kept at has;
-        is_kept = kept_more events t near orders are spans s rest split script fonts size d.cleared kept d.clearing d.is_kept stand shift new clearing.members;
-        each = All-push (IsPlacedEvent script fonts size events) placed (placed_by s.place stand shift own read) d.each
+        is_kept = kept_more events t near orders are spans s rest split script fonts frame d.cleared kept d.clearing d.is_kept stand shift new clearing.members;
+        each = All-push (IsPlacedEvent script fonts frame events) placed (placed_by s.place stand shift own read) d.each
             record { event = e; stands = at; moved = moved_by_shift e stand shift has; near = down_within stand shift clearing.within; own = laid; read = are_read };
         places = places_more spans placed s (placed_by s.place stand shift own read) refl d.places;
       }
 
   step_more : (spans : List EventSpan) (s : EventSpan) (rest : List EventSpan) (placed : List PlacedEvent) (kept : List PlacedBox) (one : PlacedEvent) (new : List PlacedBox)
-      → near ≡ spans ++ s ∷ rest → AreDone script fonts size events near spans (s ∷ rest) placed kept → IsPlacingStep script fonts size events near s kept one new
-      → AreDone script fonts size events near (spans ++ s ∷ []) rest (placed ++ one ∷ []) new
+      → near ≡ spans ++ s ∷ rest → AreDone script fonts frame events near spans (s ∷ rest) placed kept → IsPlacingStep script fonts frame events near s kept one new
+      → AreDone script fonts frame events near (spans ++ s ∷ []) rest (placed ++ one ∷ []) new
   step_more spans s rest placed kept _ _ split d (Alone alone) =
       let here : Contains near s = subst (λ z. Contains z s) (sym split) (Contains-append_right spans (s ∷ rest) s (Contains-head s rest)) in
       let own = are.own s here in
       record {
         cleared = d.cleared;
         clearing = cleared_same spans s d.cleared d.clearing (inl alone);
-        is_kept = still_kept events t near orders are spans s rest split script fonts size d.cleared kept d.clearing d.is_kept;
-        each = All-push (IsPlacedEvent script fonts size events) placed (unmoved s.place None) d.each
+        is_kept = still_kept events t near orders are spans s rest split script fonts frame d.cleared kept d.clearing d.is_kept;
+        each = All-push (IsPlacedEvent script fonts frame events) placed (unmoved s.place None) d.each
             (still s own.event None tt own.stands (moved_alone own.event (λ f rival. no_rival events t near orders are spans s rest split own.event f own.stands alone rival)));
         places = places_more spans placed s (unmoved s.place None) refl d.places;
       }
   step_more spans s rest placed kept _ _ split d (Moved e one new at placing) = step_done spans s rest placed kept e one new split at d placing
 
-  steps_done : (rest spans : List EventSpan) (placed : List PlacedEvent) (kept : List PlacedBox) → near ≡ spans ++ rest → AreSteps script fonts size events near spans placed kept
-      → AreDone script fonts size events near spans rest placed kept
+  steps_done : (rest spans : List EventSpan) (placed : List PlacedEvent) (kept : List PlacedBox) → near ≡ spans ++ rest → AreSteps script fonts frame events near spans placed kept
+      → AreDone script fonts frame events near spans rest placed kept
   steps_done rest _ _ _ split First = record {
     cleared = [];
     clearing =
@@ -129,7 +129,7 @@ module _ (script : ScriptValue) (fonts : List FontValue) (size : Size) (events :
           differ = tt;
         };
     is_kept = record { own = λ k c. absurd (Contains-nil k c); all = λ x c. absurd (Contains-nil x c) };
-    each = All-nil (IsPlacedEvent script fonts size events);
+    each = All-nil (IsPlacedEvent script fonts frame events);
     places = refl;
   }
   steps_done rest _ _ _ split (Next spans placed kept s one more steps step) =
@@ -155,7 +155,7 @@ module _ (script : ScriptValue) (fonts : List FontValue) (size : Size) (events :
           let is : x ≡ y = mine.span ∙ (ap (λ (z : Event). event_span z x.place) event ∙ (ap (event_span other.event) place ∙ sym other.span)) in
           not_before_itself y (subst (λ z. StandsBefore z y) is (All-contains (StandsBefore x) xs y h.0 c.1))
 
-  pub placed_are : (placed : List PlacedEvent) → IsGoneThrough script fonts size events near placed → ArePlacedEvents script fonts size events t placed
+  pub placed_are : (placed : List PlacedEvent) → IsGoneThrough script fonts frame events near placed → ArePlacedEvents script fonts frame events t placed
   placed_are placed gone =
       let whole : near ≡ near ++ [] = sym (append-nil near) in
       let d = steps_done [] near placed gone.0 whole gone.1 in

@@ -1,6 +1,6 @@
 -- Two sets of events that agree on the rivals of the events that matter move these alike.
 use Rattle.std.proofs.Common.{ℤ, List, Contains, Option}
-use Rattle.ass_num.specs.declared.size.Size.{Size}
+use Rattle.frame_view.specs.declared.view.FrameView.{FrameView}
 use Rattle.ass_events.specs.NearEvents.{AreNear, IsNear, Shown, Chained, span_of}
 use Rattle.ass_events.specs.declared.event.Event.{Event}
 use Rattle.ass_script.specs.Scripts.{ScriptValue}
@@ -19,8 +19,8 @@ rival_box : {a b : List Event} {place_of : Event → Option (Stand × ℤ)} {e :
     → IsRivalBox a place_of e box → IsRivalBox b place_of e box
 rival_box over h = record { rival = h.rival; is_rival = over h.rival h.is_rival; stand = h.stand; shift = h.shift; stands = h.stands; moved = h.moved }
 
-shift_agrees : {script : ScriptValue} {fonts : List FontValue} {size : Size} {a b : List Event} (matters : Event → Type 0) → HaveSameRivals matters a b
-    → (e : Event) (stand : Stand) (shift : ℤ) → matters e → HasShift script fonts size a e stand shift → HasShift script fonts size b e stand shift
+shift_agrees : {script : ScriptValue} {fonts : List FontValue} {frame : FrameView} {a b : List Event} (matters : Event → Type 0) → HaveSameRivals matters a b
+    → (e : Event) (stand : Stand) (shift : ℤ) → matters e → HasShift script fonts frame a e stand shift → HasShift script fonts frame b e stand shift
 shift_agrees matters h _ _ _ m (Placed e stand others place_of shift stands points each boxes least) =
     Placed e stand others place_of shift stands
     (λ f rival none. points f (h.back e f m rival) none)
@@ -33,8 +33,8 @@ shift_agrees matters h _ _ _ m (Placed e stand others place_of shift stands poin
     ))
     least
 
-pub moved_agrees : {script : ScriptValue} {fonts : List FontValue} {size : Size} {a b : List Event} (matters : Event → Type 0) → HaveSameRivals matters a b
-    → (e : Event) (down : ℤ) → matters e → IsMovedBy script fonts size a e down → IsMovedBy script fonts size b e down
+pub moved_agrees : {script : ScriptValue} {fonts : List FontValue} {frame : FrameView} {a b : List Event} (matters : Event → Type 0) → HaveSameRivals matters a b
+    → (e : Event) (down : ℤ) → matters e → IsMovedBy script fonts frame a e down → IsMovedBy script fonts frame b e down
 moved_agrees matters h _ _ m (Shifted e stand shift shifted) = Shifted e stand shift (shift_agrees matters h e stand shift m shifted)
 moved_agrees matters h _ _ m (Pointed e point) = Pointed e point
 moved_agrees matters h _ _ m (Alone e alone) = Alone e (λ f r. alone f (h.back e f m r))

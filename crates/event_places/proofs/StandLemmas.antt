@@ -3,20 +3,23 @@ use Rattle.std.proofs.Common.{◌≡◌, ℕ, ◌+◌, ◌*◌, ◌≤◌, ℤ, 
 use Rattle.std.specs.Prelude.{Bool, true, false, cond, ◌%◌, ◌==◌, nat_le}
 use Rattle.std.specs.Int.{int_min}
 use Rattle.std.proofs.lemmas.Int.{int_min_is, ints}
-use Rattle.ass_num.specs.Limits.{IsFrameSize, IsPointWithin, IsWithin, max_frame_side, max_whole}
+use Rattle.ass_num.specs.Limits.{IsPointWithin, IsWithin, max_frame_side, max_whole}
 use Rattle.ass_num.specs.declared.geometry.Point.{Point}
-use Rattle.ass_num.specs.declared.size.Size.{Size}
+use Rattle.frame_view.specs.FrameScales.{IsScales}
+use Rattle.frame_view.specs.FrameViews.{IsLayoutSide}
+use Rattle.frame_view.specs.declared.scales.Scales.{Scales}
 use Rattle.ass_num.proofs.LimitLemmas.{IsWithin-wider}
 use Rattle.ass_events.specs.declared.event.Event.{Event}
 use Rattle.ass_events.specs.Ranges.{IsEvent}
-use Rattle.ass_script.specs.Ranges.{IsCanvasSide, IsScript}
+use Rattle.ass_script.specs.Ranges.{IsScript}
 use Rattle.ass_script.specs.Scripts.{ScriptValue, style_for}
 use Rattle.outline_points.proofs.Bounds.{within_product, within_quotient}
 use Rattle.override_tags.specs.declared.view.EventView.{EventView}
 use Rattle.event_places.specs.Placement.{IsPlaceableStand, max_height}
-use Rattle.text_layout.specs.Anchors.{IsBlockSide, IsMargins, anchor, anchor_by, block_corner, edge_across, edge_at, edge_down, edge_within, margin_anchor, margins_of, whole_pixels}
+use Rattle.text_layout.specs.Anchors.{IsBlockSide, IsMargins, anchor, anchor_by, block_corner, edge_across, edge_at, edge_down, edge_within, margin_anchor, margins_of, on_ground, whole_pixels}
 use Rattle.text_layout.specs.Limits.{max_block}
 use Rattle.text_layout.specs.Scales.{framed, pixel, whole_milli}
+use Rattle.text_layout.specs.declared.anchors.Margins.{Margins}
 use Rattle.text_layout.specs.declared.laid.Laid.{Laid}
 use Rattle.tag_state.proofs.RangeLemmas.{style_held}
 use Rattle.text_layout.proofs.AnchorLemmas.{margin_within}
@@ -46,7 +49,7 @@ max_margin = max_whole * max_units
 abbrev max_edge : ℕ
 max_edge = max_margin + max_units
 
-framed_margin : (margin : ℤ) (side res : ℕ) → IsWithin max_whole margin → side ≤ max_frame_side → IsCanvasSide res → IsWithin max_margin (framed (whole_pixels margin) side res)
+framed_margin : (margin : ℤ) (side res : ℕ) → IsWithin max_whole margin → side ≤ max_frame_side → IsLayoutSide res → IsWithin max_margin (framed (whole_pixels margin) side res)
 framed_margin margin side res h s r =
     let long : IsWithin (whole_milli * max_whole) (whole_pixels margin) = (omega (arith, ints, h.0), omega (arith, ints, h.1)) in
     within_quotient max_margin (whole_milli * res) (whole_pixels margin *ℤ pos (pixel * side)) (omega (arith, r.0))
@@ -68,21 +71,34 @@ across_within align limit near far h k = within_three limit near far h k (align 
 down_within : (align limit : ℕ) (near far : ℤ) → IsWithin limit near → IsWithin limit far → IsWithin limit (edge_at (edge_down align) near far)
 down_within align limit near far h k = within_three limit near far h k (nat_le 7 align) (nat_le 4 align)
 
-margin_anchor_within : (script : ScriptValue) (event : Event) (align : ℕ) (size : Size) → IsScript script → IsMargins (margins_of script event) → IsFrameSize size
-    → IsPointWithin max_edge (margin_anchor script.header (margins_of script event) align size)
-margin_anchor_within script event align size s m f =
-    let left = framed_margin (margins_of script event).left size.w script.header.res_x m.left f.wide s.header.width in
-    let right = framed_margin (margins_of script event).right size.w script.header.res_x m.right f.wide s.header.width in
-    let vertical = framed_margin (margins_of script event).vertical size.h script.header.res_y m.vertical f.high s.header.height in
+margin_anchor_within : (margins : Margins) (align : ℕ) (scales : Scales) → IsMargins margins → IsScales scales → IsPointWithin max_edge (margin_anchor margins align scales)
+margin_anchor_within margins align scales m f =
+    let x = f.canvas.x in
+    let y = f.canvas.y in
+    let left = framed_margin margins.left scales.canvas.x.pixels scales.canvas.x.units m.left x.pixels (x.some, x.units) in
+    let right = framed_margin margins.right scales.canvas.x.pixels scales.canvas.x.units m.right x.pixels (x.some, x.units) in
+    let vertical = framed_margin margins.vertical scales.canvas.y.pixels scales.canvas.y.units m.vertical y.pixels (y.some, y.units) in
     record {
-      x = across_within align max_edge _ _ (IsWithin-wider max_margin max_edge _ (omega arith) left) (far_within size.w _ f.wide right);
-      y = down_within align max_edge _ _ (IsWithin-wider max_margin max_edge _ (omega arith) vertical) (far_within size.h _ f.high vertical);
+      x = across_within align max_edge _ _ (IsWithin-wider max_margin max_edge _ (omega arith) left) (far_within scales.ground_rect.w _ f.wide right);
+      y = down_within align max_edge _ _ (IsWithin-wider max_margin max_edge _ (omega arith) vertical) (far_within scales.ground_rect.h _ f.high vertical);
     }
 
-anchor_within : (script : ScriptValue) (event : Event) (view : EventView) (size : Size) → IsScript script → IsMargins (margins_of script event) → IsFrameSize size → view.pos ≡ None
-    → IsPointWithin max_edge (anchor script event view size)
-anchor_within script event view size s m f pointless =
-    subst (λ point. IsPointWithin max_edge (anchor_by script.header (margins_of script event) view.align size point)) (sym pointless) (margin_anchor_within script event view.align size s m f)
+-- the farthest from 0 that an anchor by margins lies in the frame
+abbrev max_stood : ℕ
+max_stood = max_edge + max_units
+
+on_ground_within : (scales : Scales) (p : Point) → IsScales scales → IsPointWithin max_edge p → IsPointWithin max_stood (on_ground scales p)
+on_ground_within scales p f h = record {
+  x = (omega (arith, ints, f.left.0, h.x.0), omega (arith, ints, f.left.1, h.x.1));
+  y = (omega (arith, ints, f.top.0, h.y.0), omega (arith, ints, f.top.1, h.y.1));
+}
+
+anchor_within : (script : ScriptValue) (event : Event) (view : EventView) (scales : Scales) → IsMargins (margins_of script event) → IsScales scales → view.pos ≡ None
+    → IsPointWithin max_stood (anchor script event view scales)
+anchor_within script event view scales m f pointless =
+    on_ground_within scales (anchor_by (margins_of script event) view.align scales view.pos) f
+    (subst (λ point. IsPointWithin max_edge (anchor_by (margins_of script event) view.align scales point)) (sym pointless)
+    (margin_anchor_within (margins_of script event) view.align scales m f))
 
 -- ---- the corner and the box
 pub corner_within : (p : Point) (align : ℕ) (limit : ℕ) (w h : ℤ) → IsPointWithin limit p → IsBlockSide w → IsBlockSide h → IsPointWithin (limit + max_block) (block_corner p align w h)
@@ -102,11 +118,11 @@ lower h most =
 lower_from_zero : (h : ℤ) → pos 0 ≤ℤ h → pos 0 ≤ℤ int_min h (pos max_height)
 lower_from_zero h from = let is = int_min_is h (pos max_height) in first_of (omega (arith, ints, from), omega (arith, ints, is, from), grind (arith, ints))
 
-pub placeable : (script : ScriptValue) (event : Event) (view : EventView) (laid : Laid) (size : Size) → IsScript script → IsMargins (margins_of script event) → IsFrameSize size → view.pos ≡ None → IsBlockSide laid.width → IsBlockSide laid.height
-    → IsPlaceableStand (stand_of script event view laid size)
-placeable script event view laid size s m f pointless wide high =
-    let at = anchor_within script event view size s m f pointless in
-    let p = anchor script event view size in
+pub placeable : (script : ScriptValue) (event : Event) (view : EventView) (laid : Laid) (scales : Scales) → IsMargins (margins_of script event) → IsScales scales → view.pos ≡ None → IsBlockSide laid.width → IsBlockSide laid.height
+    → IsPlaceableStand (stand_of script event view laid scales)
+placeable script event view laid scales m f pointless wide high =
+    let at = anchor_within script event view scales m f pointless in
+    let p = anchor script event view scales in
     let across = edge-inner (edge_across view.align) laid.width wide.from_zero in
     let down = edge-inner (edge_down view.align) laid.height high.from_zero in
     let low = lower laid.height (pos max_height) in

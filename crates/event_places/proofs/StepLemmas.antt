@@ -10,7 +10,7 @@ use Rattle.std.proofs.lemmas.List.{take_more}
 use Rattle.std.proofs.lemmas.Option.{get_or_from_slice_get, slice_get-get_or}
 use Rattle.std.proofs.lemmas.List.Elements.{All-contains, Contains-append_left, Contains-append_right, Contains-append_cases, Contains-push, Contains-push_cases}
 use Rattle.std.proofs.lemmas.List.Sorted.{Contains-permutation, IsPermutation-sym}
-use Rattle.ass_num.specs.declared.size.Size.{Size}
+use Rattle.frame_view.specs.declared.view.FrameView.{FrameView}
 use Rattle.ass_events.specs.declared.event.Event.{Event}
 use Rattle.ass_events.specs.Histories.{HaveOwnOrders, Pairwise}
 use Rattle.ass_events.specs.NearEvents.{ComesBefore, IsEarlier, Chained, Span, span_of}
@@ -103,9 +103,9 @@ abbrev pub IsDone : List Event → List EventSpan → List ClearedEvent → Even
 IsDone events near cleared s =
     IsAlone near s ⊎ (((e : Event) → slice_get events s.place ≡ Some e → HasPoint e) ⊎ ((x : ClearedEvent) × Contains cleared x × (x.span ≡ s)))
 
-pub record AreCleared (script : ScriptValue) (fonts : List FontValue) (size : Size) (events : List Event) (near spans : List EventSpan) (cleared : List ClearedEvent) : Type 0 where
+pub record AreCleared (script : ScriptValue) (fonts : List FontValue) (frame : FrameView) (events : List Event) (near spans : List EventSpan) (cleared : List ClearedEvent) : Type 0 where
   pub spanned : (x : ClearedEvent) → Contains cleared x → Contains spans x.span
-  pub shifted : (x : ClearedEvent) (e : Event) → Contains cleared x → slice_get events x.span.place ≡ Some e → HasShift script fonts size events e x.stand x.shift
+  pub shifted : (x : ClearedEvent) (e : Event) → Contains cleared x → slice_get events x.span.place ≡ Some e → HasShift script fonts frame events e x.stand x.shift
   pub done : (s : EventSpan) → Contains spans s → IsDone events near cleared s
   pub differ : Pairwise DifferCleared cleared
 
@@ -114,11 +114,11 @@ pub record IsKept (rest : List EventSpan) (cleared : List ClearedEvent) (kept : 
   pub own : (k : PlacedBox) → Contains kept k → (x : ClearedEvent) × Contains cleared x × (cleared_box x ≡ k)
   pub all : (x : ClearedEvent) → Contains cleared x → Contains kept (cleared_box x) ⊎ ((r : EventSpan) → Contains rest r → is_in_way r (cleared_box x) ≡ false)
 
-pub record AreDone (script : ScriptValue) (fonts : List FontValue) (size : Size) (events : List Event) (near spans rest : List EventSpan) (placed : List PlacedEvent) (kept : List PlacedBox) : Type 0 where
+pub record AreDone (script : ScriptValue) (fonts : List FontValue) (frame : FrameView) (events : List Event) (near spans rest : List EventSpan) (placed : List PlacedEvent) (kept : List PlacedBox) : Type 0 where
   pub cleared : List ClearedEvent
-  pub clearing : AreCleared script fonts size events near spans cleared
+  pub clearing : AreCleared script fonts frame events near spans cleared
   pub is_kept : IsKept rest cleared kept
-  pub each : All (IsPlacedEvent script fonts size events) placed
+  pub each : All (IsPlacedEvent script fonts frame events) placed
   pub places : placed_places placed ≡ map (λ (s : EventSpan). s.place) spans
 
 pub done_more : (events : List Event) (near : List EventSpan) (cleared : List ClearedEvent) (x : ClearedEvent) (s : EventSpan) → IsDone events near cleared s → IsDone events near (cleared ++ x ∷ []) s
@@ -188,7 +188,7 @@ module _ (events : List Event) (t : ℤ) (near : List EventSpan) (orders : HaveO
     rival_not_alone : (r : EventSpan) → r.layer ≡ s.layer → StandsBefore r s → IsAlone near r → ⊥
     rival_not_alone r layer before alone = not_before_itself s (subst (λ z. StandsBefore z s) (sym (alone s here (sym layer))) before)
 
-    module _ (script : ScriptValue) (fonts : List FontValue) (size : Size) (cleared : List ClearedEvent) (kept : List PlacedBox) (so : AreCleared script fonts size events near spans cleared) (keep : IsKept (s ∷ rest) cleared kept) where
+    module _ (script : ScriptValue) (fonts : List FontValue) (frame : FrameView) (cleared : List ClearedEvent) (kept : List PlacedBox) (so : AreCleared script fonts frame events near spans cleared) (keep : IsKept (s ∷ rest) cleared kept) where
       -- where nothing was cleared
       pub still_kept : IsKept rest cleared kept
       still_kept = record {
@@ -227,7 +227,7 @@ module _ (events : List Event) (t : ℤ) (near : List EventSpan) (orders : HaveO
                 (Contains-push_cases cleared one x c);
           }
 
-    module _ (script : ScriptValue) (fonts : List FontValue) (size : Size) (cleared : List ClearedEvent) (kept : List PlacedBox) (so : AreCleared script fonts size events near spans cleared) (keep : IsKept (s ∷ rest) cleared kept) (e : Event) (at : slice_get events s.place ≡ Some e) where
+    module _ (script : ScriptValue) (fonts : List FontValue) (frame : FrameView) (cleared : List ClearedEvent) (kept : List PlacedBox) (so : AreCleared script fonts frame events near spans cleared) (keep : IsKept (s ∷ rest) cleared kept) (e : Event) (at : slice_get events s.place ≡ Some e) where
       -- what was cleared has an event
       event_of : (x : ClearedEvent) → Contains cleared x → IsSpanOf events x.span
       event_of x c = are.own x.span (earlier_near x.span (so.spanned x c))
@@ -252,13 +252,13 @@ module _ (events : List Event) (t : ℤ) (near : List EventSpan) (orders : HaveO
           absurd (none_some (entry x.0) (sym none ∙ (ap (place_in cleared) (sym order) ∙ place_of_cleared cleared x.0 so.differ x.1)))) b)
           (so.done r.0 (before_gone r.0 r.1 r.4))
 
-      shifts : (f : Event) (a : Stand) (z : ℤ) → IsRival events e f → place_in cleared f.order ≡ Some (a, z) → HasShift script fonts size events f a z
+      shifts : (f : Event) (a : Stand) (z : ℤ) → IsRival events e f → place_in cleared f.order ≡ Some (a, z) → HasShift script fonts frame events f a z
       shifts f a z rival has =
           let x = place_some cleared f.order (a, z) has in
           let own = event_of x.0 x.1 in
           let shift = so.shifted x.0 own.event x.1 own.stands in
-          let first : HasShift script fonts size events f (x.0).stand (x.0).shift = subst (λ (g : Event). HasShift script fonts size events g (x.0).stand (x.0).shift) (rival_of x.0 f x.1 rival x.2) shift in
-          subst (λ (p : Stand × ℤ). HasShift script fonts size events f p.0 p.1) x.3 first
+          let first : HasShift script fonts frame events f (x.0).stand (x.0).shift = subst (λ (g : Event). HasShift script fonts frame events g (x.0).stand (x.0).shift) (rival_of x.0 f x.1 rival x.2) shift in
+          subst (λ (p : Stand × ℤ). HasShift script fonts frame events f p.0 p.1) x.3 first
 
       box_rival : (box : Box2) → Contains (boxes_in_way s kept) box → IsRivalBox events (λ f. place_in cleared f.order) e box
       box_rival box c =
@@ -306,7 +306,7 @@ module _ (events : List Event) (t : ℤ) (near : List EventSpan) (orders : HaveO
           (λ ended. absurd (false≢true (sym (ended s (Contains-head s rest)) ∙ way)))
           (keep.all x.0 x.1)
 
-      pub has_shift : (stand : Stand) (shift : ℤ) → IsStandOf script fonts size e stand → IsLeastShift stand.place (boxes_in_way s kept) stand.down shift → HasShift script fonts size events e stand shift
+      pub has_shift : (stand : Stand) (shift : ℤ) → IsStandOf script fonts frame e stand → IsLeastShift stand.place (boxes_in_way s kept) stand.down shift → HasShift script fonts frame events e stand shift
       has_shift stand shift stands least =
           Placed e stand (boxes_in_way s kept) (λ f. place_in cleared f.order) shift stands points shifts (λ box. (box_rival box, rival_box box)) least
 
@@ -328,25 +328,25 @@ module _ (events : List Event) (t : ℤ) (near : List EventSpan) (orders : HaveO
         not_before_itself s (subst (λ z. StandsBefore z s) (alone r.0 r.1 layer) r.4)
 
 -- ---- one more step
-pub steps_more : (script : ScriptValue) (fonts : List FontValue) (size : Size) (events : List Event) (near : List EventSpan) (k : ℕ) (placed pushed : List PlacedEvent) (boxes more : List PlacedBox) (one : PlacedEvent)
-    → k < length near → AreSteps script fonts size events near (take k near) placed boxes
-    → ((span : EventSpan) → slice_get near k ≡ Some span → IsPlacingStep script fonts size events near span boxes one more)
-    → pushed ≡ placed ++ one ∷ [] → AreSteps script fonts size events near (take (k + 1) near) pushed more
-steps_more script fonts size events near k placed pushed boxes more one lt steps step is =
+pub steps_more : (script : ScriptValue) (fonts : List FontValue) (frame : FrameView) (events : List Event) (near : List EventSpan) (k : ℕ) (placed pushed : List PlacedEvent) (boxes more : List PlacedBox) (one : PlacedEvent)
+    → k < length near → AreSteps script fonts frame events near (take k near) placed boxes
+    → ((span : EventSpan) → slice_get near k ≡ Some span → IsPlacingStep script fonts frame events near span boxes one more)
+    → pushed ≡ placed ++ one ∷ [] → AreSteps script fonts frame events near (take (k + 1) near) pushed more
+steps_more script fonts frame events near k placed pushed boxes more one lt steps step is =
     let s = get_or near k no_span in
     let next = Next (take k near) placed boxes s one more steps (step s (slice_get-get_or near k no_span lt)) in
-    subst (λ z. AreSteps script fonts size events near z pushed more) (sym (take_more near k no_span lt))
-    (subst (λ z. AreSteps script fonts size events near (take k near ++ s ∷ []) z more) (sym is) next)
+    subst (λ z. AreSteps script fonts frame events near z pushed more) (sym (take_more near k no_span lt))
+    (subst (λ z. AreSteps script fonts frame events near (take k near ++ s ∷ []) z more) (sym is) next)
 
-pub step_alone : (script : ScriptValue) (fonts : List FontValue) (size : Size) (events : List Event) (near : List EventSpan) (k : ℕ) (span : EventSpan) (boxes : List PlacedBox) (one : PlacedEvent)
-    → slice_get near k ≡ Some span → IsAlone near span → one ≡ unmoved (get_or near k no_span).place None → IsPlacingStep script fonts size events near span boxes one boxes
-step_alone script fonts size events near k span boxes one at alone is =
+pub step_alone : (script : ScriptValue) (fonts : List FontValue) (frame : FrameView) (events : List Event) (near : List EventSpan) (k : ℕ) (span : EventSpan) (boxes : List PlacedBox) (one : PlacedEvent)
+    → slice_get near k ≡ Some span → IsAlone near span → one ≡ unmoved (get_or near k no_span).place None → IsPlacingStep script fonts frame events near span boxes one boxes
+step_alone script fonts frame events near k span boxes one at alone is =
     let same : get_or near k no_span ≡ span = get_or_from_slice_get near k span no_span at in
-    subst (λ (p : PlacedEvent). IsPlacingStep script fonts size events near span boxes p boxes) (sym (is ∙ ap (λ (s : EventSpan). unmoved s.place None) same)) (Alone alone)
+    subst (λ (p : PlacedEvent). IsPlacingStep script fonts frame events near span boxes p boxes) (sym (is ∙ ap (λ (s : EventSpan). unmoved s.place None) same)) (Alone alone)
 
-pub step_moved : (script : ScriptValue) (fonts : List FontValue) (size : Size) (events : List Event) (near : List EventSpan) (k : ℕ) (span : EventSpan) (boxes : List PlacedBox) (one : PlacedEvent) (more : List PlacedBox) (e : Event)
-    → k < length near → slice_get near k ≡ Some span → slice_get events (get_or near k no_span).place ≡ Some e → IsPlacing script fonts size e (get_or near k no_span) boxes one more
-    → IsPlacingStep script fonts size events near span boxes one more
-step_moved script fonts size events near k span boxes one more e lt at event placing =
+pub step_moved : (script : ScriptValue) (fonts : List FontValue) (frame : FrameView) (events : List Event) (near : List EventSpan) (k : ℕ) (span : EventSpan) (boxes : List PlacedBox) (one : PlacedEvent) (more : List PlacedBox) (e : Event)
+    → k < length near → slice_get near k ≡ Some span → slice_get events (get_or near k no_span).place ≡ Some e → IsPlacing script fonts frame e (get_or near k no_span) boxes one more
+    → IsPlacingStep script fonts frame events near span boxes one more
+step_moved script fonts frame events near k span boxes one more e lt at event placing =
     let same : get_or near k no_span ≡ span = get_or_from_slice_get near k span no_span at in
-    subst (λ (s : EventSpan). IsPlacingStep script fonts size events near s boxes one more) same (Moved e one more event placing)
+    subst (λ (s : EventSpan). IsPlacingStep script fonts frame events near s boxes one more) same (Moved e one more event placing)

@@ -2,7 +2,7 @@
 -- (Advanced SubStation Alpha, "Layer": within a layer, events don't overlap each other.)
 use Rattle.std.specs.Prelude.{◌≡◌, ◌≢◌, ◌↔◌, ℕ, List, Contains, All, IfSome, Some, length, map, slice_get, ℤ}
 use Rattle.ass_num.specs.Limits.{IsWithin}
-use Rattle.ass_num.specs.declared.size.Size.{Size}
+use Rattle.frame_view.specs.declared.view.FrameView.{FrameView}
 use Rattle.ass_events.specs.Histories.{Pairwise}
 use Rattle.ass_events.specs.NearEvents.{IsNear, span_of}
 use Rattle.ass_events.specs.declared.event.Event.{Event}
@@ -17,20 +17,20 @@ use Rattle.event_places.specs.declared.own.OwnLayout.{OwnLayout}
 use Rattle.event_places.specs.declared.placed.PlacedEvent.{PlacedEvent}
 
 -- The event looks so at its own start, laid out.
-pub record IsOwnLayout (script : ScriptValue) (fonts : List FontValue) (size : Size) (event : Event) (own : OwnLayout) : Type 0 where
+pub record IsOwnLayout (script : ScriptValue) (fonts : List FontValue) (frame : FrameView) (event : Event) (own : OwnLayout) : Type 0 where
   pub shows : IsViewOf script event event.start own.view
-  pub laid_out : IsLaid script fonts event own.view size own.laid
+  pub laid_out : IsLaid script fonts event own.view frame own.laid
   pub within : IsWithinBlock (length own.view.items) own.laid
   pub range : IsView own.view
 
 -- The event at its place among the events is moved so far among all of them; its own layout is right where there is one, and so is
 -- what was read of its text.
-pub record IsPlacedEvent (script : ScriptValue) (fonts : List FontValue) (size : Size) (events : List Event) (placed : PlacedEvent) : Type 0 where
+pub record IsPlacedEvent (script : ScriptValue) (fonts : List FontValue) (frame : FrameView) (events : List Event) (placed : PlacedEvent) : Type 0 where
   pub event : Event
   pub stands : slice_get events placed.place ≡ Some event
-  pub moved : IsMovedBy script fonts size events event placed.down
+  pub moved : IsMovedBy script fonts frame events event placed.down
   pub near : IsWithin max_shift placed.down
-  pub own : IfSome placed.own (IsOwnLayout script fonts size event)
+  pub own : IfSome placed.own (IsOwnLayout script fonts frame event)
   pub read : IfSome placed.read (AreReadItems event.text)
 
 -- The event at this place matters at t.
@@ -44,7 +44,7 @@ abbrev pub placed_places : List PlacedEvent → List ℕ
 placed_places placed = map (λ (one : PlacedEvent). one.place) placed
 
 -- These are the events that matter at t, each once, and moved.
-pub record ArePlacedEvents (script : ScriptValue) (fonts : List FontValue) (size : Size) (events : List Event) (t : ℤ) (placed : List PlacedEvent) : Type 0 where
-  pub each : All (IsPlacedEvent script fonts size events) placed
+pub record ArePlacedEvents (script : ScriptValue) (fonts : List FontValue) (frame : FrameView) (events : List Event) (t : ℤ) (placed : List PlacedEvent) : Type 0 where
+  pub each : All (IsPlacedEvent script fonts frame events) placed
   pub members : (place : ℕ) → Contains (placed_places placed) place ↔ IsNearPlace events t place
   pub once : Pairwise (λ a b. a ≢ b) (placed_places placed)

@@ -1,7 +1,7 @@
 -- Public: how far events are moved to stand clear of one another. Nothing depends on the order of the list of events.
 -- (Advanced SubStation Alpha, "Layer": within a layer, events don't overlap each other.)
 use Rattle.std.specs.Prelude.{◌≡◌, ◌↔◌, List, Contains, Option, Some, None, ℤ, pos, ◌<ℤ◌}
-use Rattle.ass_num.specs.declared.size.Size.{Size}
+use Rattle.frame_view.specs.declared.view.FrameView.{FrameView}
 use Rattle.ass_events.specs.NearEvents.{ComesBefore, span_of}
 use Rattle.ass_events.specs.declared.event.Event.{Event}
 use Rattle.ass_script.specs.Scripts.{ScriptValue}
@@ -28,34 +28,34 @@ pub record IsRivalBox (events : List Event) (place_of : Event → Option (Stand 
 
 -- The stand of an event among the events, and its shift: the least that keeps its box clear of the boxes of its rivals, moved by theirs.
 -- A rival with a point of its own has no place and is in nobody's way.
-pub data HasShift (script : ScriptValue) (fonts : List FontValue) (size : Size) (events : List Event) : Event → Stand → ℤ → Type 0 where
+pub data HasShift (script : ScriptValue) (fonts : List FontValue) (frame : FrameView) (events : List Event) : Event → Stand → ℤ → Type 0 where
   Placed : (e : Event) (stand : Stand) (others : List Box2) (place_of : Event → Option (Stand × ℤ)) (shift : ℤ)
-      → IsStandOf script fonts size e stand
+      → IsStandOf script fonts frame e stand
       → ((f : Event) → IsRival events e f → place_of f ≡ None → HasPoint f)
-      → ((f : Event) (s : Stand) (z : ℤ) → IsRival events e f → place_of f ≡ Some (s, z) → HasShift script fonts size events f s z)
+      → ((f : Event) (s : Stand) (z : ℤ) → IsRival events e f → place_of f ≡ Some (s, z) → HasShift script fonts frame events f s z)
       → ((box : Box2) → Contains others box ↔ IsRivalBox events place_of e box)
       → IsLeastShift stand.place others stand.down shift
-      → HasShift script fonts size events e stand shift
+      → HasShift script fonts frame events e stand shift
 
 -- How far down an event is moved: by its shift, down or up; one that has a point of its own, or no rivals, isn't moved.
-pub data IsMovedBy (script : ScriptValue) (fonts : List FontValue) (size : Size) (events : List Event) : Event → ℤ → Type 0 where
-  Shifted : (e : Event) (stand : Stand) (shift : ℤ) → HasShift script fonts size events e stand shift
-      → IsMovedBy script fonts size events e (down_by stand shift)
-  Pointed : (e : Event) → HasPoint e → IsMovedBy script fonts size events e (pos 0)
-  Alone : (e : Event) → ((f : Event) → IsRival events e f → ⊥) → IsMovedBy script fonts size events e (pos 0)
+pub data IsMovedBy (script : ScriptValue) (fonts : List FontValue) (frame : FrameView) (events : List Event) : Event → ℤ → Type 0 where
+  Shifted : (e : Event) (stand : Stand) (shift : ℤ) → HasShift script fonts frame events e stand shift
+      → IsMovedBy script fonts frame events e (down_by stand shift)
+  Pointed : (e : Event) → HasPoint e → IsMovedBy script fonts frame events e (pos 0)
+  Alone : (e : Event) → ((f : Event) → IsRival events e f → ⊥) → IsMovedBy script fonts frame events e (pos 0)
 
 -- ---- laws
 
 -- An event has at most one stand, and none where it has a point of its own.
-pub record HaveOneStand (script : ScriptValue) (fonts : List FontValue) (size : Size) : Type 0 where
-  pub one : (e : Event) (a b : Stand) → IsStandOf script fonts size e a → IsStandOf script fonts size e b → a ≡ b
-  pub pointless : (e : Event) (a : Stand) → IsStandOf script fonts size e a → HasPoint e → ⊥
+pub record HaveOneStand (script : ScriptValue) (fonts : List FontValue) (frame : FrameView) : Type 0 where
+  pub one : (e : Event) (a b : Stand) → IsStandOf script fonts frame e a → IsStandOf script fonts frame e b → a ≡ b
+  pub pointless : (e : Event) (a : Stand) → IsStandOf script fonts frame e a → HasPoint e → ⊥
 
 -- So it has at most one shift.
-abbrev pub HaveOneShift : ScriptValue → List FontValue → Size → Type 0
-HaveOneShift script fonts size =
-    (events : List Event) (e : Event) (s r : Stand) (a b : ℤ) → HasShift script fonts size events e s a → HasShift script fonts size events e r b → a ≡ b
+abbrev pub HaveOneShift : ScriptValue → List FontValue → FrameView → Type 0
+HaveOneShift script fonts frame =
+    (events : List Event) (e : Event) (s r : Stand) (a b : ℤ) → HasShift script fonts frame events e s a → HasShift script fonts frame events e r b → a ≡ b
 
 -- So there is one distance that it is moved by.
-abbrev pub HaveOneMove : ScriptValue → List FontValue → Size → Type 0
-HaveOneMove script fonts size = (events : List Event) (e : Event) (a b : ℤ) → IsMovedBy script fonts size events e a → IsMovedBy script fonts size events e b → a ≡ b
+abbrev pub HaveOneMove : ScriptValue → List FontValue → FrameView → Type 0
+HaveOneMove script fonts frame = (events : List Event) (e : Event) (a b : ℤ) → IsMovedBy script fonts frame events e a → IsMovedBy script fonts frame events e b → a ≡ b

@@ -3,7 +3,7 @@
 use Rattle.std.specs.Prelude.{◌≡◌, ℕ, nat_le, List, None, IsTrue, if◌then◌else◌, ℤ, pos, ◌+ℤ◌, neg_ℤ}
 use Rattle.std.specs.Int.{int_min}
 use Rattle.ass_num.specs.declared.geometry.Point.{Point}
-use Rattle.ass_num.specs.declared.size.Size.{Size}
+use Rattle.frame_view.specs.declared.view.FrameView.{FrameView}
 use Rattle.ass_events.specs.declared.event.Event.{Event}
 use Rattle.ass_script.specs.Scripts.{ScriptValue}
 use Rattle.bdf_font.specs.Fonts.{FontValue}
@@ -13,10 +13,12 @@ use Rattle.override_tags.specs.declared.view.EventView.{EventView}
 use Rattle.event_places.specs.Placement.{max_height}
 use Rattle.event_places.specs.declared.stands.Box2.{Box2}
 use Rattle.event_places.specs.declared.stands.Stand.{Stand}
+use Rattle.frame_view.specs.declared.scales.Scales.{Scales}
 use Rattle.tag_state.specs.Choices.{has_point}
 use Rattle.tag_state.specs.Views.{IsViewOf}
 use Rattle.text_layout.specs.Anchors.{anchor, block_corner}
 use Rattle.text_layout.specs.Layouts.{IsLaid}
+use Rattle.text_layout.specs.LineScales.{line_scales}
 use Rattle.text_layout.specs.declared.laid.Laid.{Laid}
 
 -- the least alignment that gives way downwards: 7, 8 and 9 stand at the top
@@ -33,25 +35,25 @@ box_at corner laid = record {
 }
 
 -- the upper left corner of the block of an event that is laid out so
-abbrev pub corner_of : ScriptValue → Event → EventView → Laid → Size → Point
-corner_of script event view laid size = block_corner (anchor script event view size) view.align laid.width laid.height
+abbrev pub corner_of : ScriptValue → Event → EventView → Laid → Scales → Point
+corner_of script event view laid scales = block_corner (anchor script event view scales) view.align laid.width laid.height
 
-abbrev pub stand_of : ScriptValue → Event → EventView → Laid → Size → Stand
-stand_of script event view laid size = record {
+abbrev pub stand_of : ScriptValue → Event → EventView → Laid → Scales → Stand
+stand_of script event view laid scales = record {
   start = event.start;
   end = event.start +ℤ event.duration;
-  place = box_at (corner_of script event view laid size) laid;
+  place = box_at (corner_of script event view laid scales) laid;
   down = nat_le least_top_align view.align;
 }
 
 -- The event has no point of its own, and stands there.
-pub record IsStandOf (script : ScriptValue) (fonts : List FontValue) (size : Size) (event : Event) (stand : Stand) : Type 0 where
+pub record IsStandOf (script : ScriptValue) (fonts : List FontValue) (frame : FrameView) (event : Event) (stand : Stand) : Type 0 where
   pub view : EventView
   pub shows : IsViewOf script event event.start view
   pub pointless : view.pos ≡ None
   pub laid : Laid
-  pub laid_out : IsLaid script fonts event view size laid
-  pub value : stand ≡ stand_of script event view laid size
+  pub laid_out : IsLaid script fonts event view frame laid
+  pub value : stand ≡ stand_of script event view laid (line_scales script.header frame view)
 
 -- The event has a point of its own, by a `\pos` or a `\move` of its text.
 pub record HasPoint (event : Event) : Type 0 where

@@ -4,7 +4,7 @@ use Rattle.std.specs.List.{AllPairs, filter}
 use Rattle.std.specs.List.Sorted.{IsPermutation}
 use Rattle.std.specs.Ordering.{int_eq}
 use Rattle.ass_num.specs.Limits.{IsWithin}
-use Rattle.ass_num.specs.declared.size.Size.{Size}
+use Rattle.frame_view.specs.declared.view.FrameView.{FrameView}
 use Rattle.ass_events.specs.Histories.{max_live}
 use Rattle.ass_events.specs.declared.event.Event.{Event}
 use Rattle.ass_script.specs.Scripts.{ScriptValue}
@@ -102,29 +102,29 @@ abbrev pub placed_by : ℕ → Stand → ℤ → OwnLayout → List Item → Pla
 placed_by place stand shift own read = record { place = place; down = down_by stand shift; own = Some own; read = Some read }
 
 -- How an event is moved, behind some that were moved.
-pub data IsPlacing (script : ScriptValue) (fonts : List FontValue) (size : Size) (event : Event) (span : EventSpan) (old : List PlacedBox) : PlacedEvent → List PlacedBox → Type 0 where
-  Pointed : (read : List Item) → AreReadItems event.text read → HasPoint event → IsPlacing script fonts size event span old (unmoved span.place (Some read)) old
+pub data IsPlacing (script : ScriptValue) (fonts : List FontValue) (frame : FrameView) (event : Event) (span : EventSpan) (old : List PlacedBox) : PlacedEvent → List PlacedBox → Type 0 where
+  Pointed : (read : List Item) → AreReadItems event.text read → HasPoint event → IsPlacing script fonts frame event span old (unmoved span.place (Some read)) old
   Shifted : (stand : Stand) (shift : ℤ) (own : OwnLayout) (new : List PlacedBox) (read : List Item)
       → AreReadItems event.text read
-      → IsStandOf script fonts size event stand
-      → IsOwnLayout script fonts size event own
+      → IsStandOf script fonts frame event stand
+      → IsOwnLayout script fonts frame event own
       → IsClearing span stand old shift new
-      → IsPlacing script fonts size event span old (placed_by span.place stand shift own read) new
+      → IsPlacing script fonts frame event span old (placed_by span.place stand shift own read) new
 
 -- The event of a span is moved, unless it has its layer for itself.
-pub data IsPlacingStep (script : ScriptValue) (fonts : List FontValue) (size : Size) (events : List Event) (near : List EventSpan) (span : EventSpan) (old : List PlacedBox) : PlacedEvent → List PlacedBox → Type 0 where
-  Alone : IsAlone near span → IsPlacingStep script fonts size events near span old (unmoved span.place None) old
-  Moved : (event : Event) (one : PlacedEvent) (new : List PlacedBox) → slice_get events span.place ≡ Some event → IsPlacing script fonts size event span old one new
-      → IsPlacingStep script fonts size events near span old one new
+pub data IsPlacingStep (script : ScriptValue) (fonts : List FontValue) (frame : FrameView) (events : List Event) (near : List EventSpan) (span : EventSpan) (old : List PlacedBox) : PlacedEvent → List PlacedBox → Type 0 where
+  Alone : IsAlone near span → IsPlacingStep script fonts frame events near span old (unmoved span.place None) old
+  Moved : (event : Event) (one : PlacedEvent) (new : List PlacedBox) → slice_get events span.place ≡ Some event → IsPlacing script fonts frame event span old one new
+      → IsPlacingStep script fonts frame events near span old one new
 
 -- The spans were gone through one after the other.
-pub data AreSteps (script : ScriptValue) (fonts : List FontValue) (size : Size) (events : List Event) (near : List EventSpan) : List EventSpan → List PlacedEvent → List PlacedBox → Type 0 where
-  First : AreSteps script fonts size events near [] [] []
+pub data AreSteps (script : ScriptValue) (fonts : List FontValue) (frame : FrameView) (events : List Event) (near : List EventSpan) : List EventSpan → List PlacedEvent → List PlacedBox → Type 0 where
+  First : AreSteps script fonts frame events near [] [] []
   Next : (spans : List EventSpan) (placed : List PlacedEvent) (boxes : List PlacedBox) (span : EventSpan) (one : PlacedEvent) (more : List PlacedBox)
-      → AreSteps script fonts size events near spans placed boxes
-      → IsPlacingStep script fonts size events near span boxes one more
-      → AreSteps script fonts size events near (spans ++ span ∷ []) (placed ++ one ∷ []) more
+      → AreSteps script fonts frame events near spans placed boxes
+      → IsPlacingStep script fonts frame events near span boxes one more
+      → AreSteps script fonts frame events near (spans ++ span ∷ []) (placed ++ one ∷ []) more
 
 -- All spans were gone through.
-abbrev pub IsGoneThrough : ScriptValue → List FontValue → Size → List Event → List EventSpan → List PlacedEvent → Type 0
-IsGoneThrough script fonts size events near placed = (boxes : List PlacedBox) × AreSteps script fonts size events near near placed boxes
+abbrev pub IsGoneThrough : ScriptValue → List FontValue → FrameView → List Event → List EventSpan → List PlacedEvent → Type 0
+IsGoneThrough script fonts frame events near placed = (boxes : List PlacedBox) × AreSteps script fonts frame events near near placed boxes

@@ -91,7 +91,7 @@ fn place_event(
     requires few { length event.now.text ≤ max_text_bytes }
     requires within { AreBoxesWithin most_before kept.old.boxes.items }
     requires kept { AreKeptBoxes kept.old }
-    ensures placed { IfOk result (λ one. IsPlacing setting.now.script setting.now.fonts setting.now.size event.now span.now kept.old.boxes.items one
+    ensures placed { IfOk result (λ one. IsPlacing setting.now.script setting.now.fonts setting.now.frame event.now span.now kept.old.boxes.items one
         kept.new.boxes.items) }
     ensures within { IfOk result (λ one. (count : ℕ) → AreBoxesWithin count kept.old.boxes.items → AreBoxesWithin (count + 1) kept.new.boxes.items) }
     ensures kept { IfOk result (λ one. AreKeptBoxes kept.new) }
@@ -131,7 +131,7 @@ fn place_next(
     requires within { AreBoxesWithin most_before kept.old.boxes.items }
     requires kept { AreKeptBoxes kept.old }
     ensures step { (span : EventSpan) → slice_get near.now index ≡ Some span → IfOk result
-        (λ one. IsPlacingStep setting.now.script setting.now.fonts setting.now.size (map arc_value events.now) near.now span kept.old.boxes.items one
+        (λ one. IsPlacingStep setting.now.script setting.now.fonts setting.now.frame (map arc_value events.now) near.now span kept.old.boxes.items one
         kept.new.boxes.items) }
     ensures within { IfOk result (λ one. (count : ℕ) → AreBoxesWithin count kept.old.boxes.items → AreBoxesWithin (count + 1) kept.new.boxes.items) }
     ensures kept { IfOk result (λ one. AreKeptBoxes kept.new) }
@@ -158,7 +158,7 @@ fn place_all(
     requires near { (s : EventSpan) → Contains near.now s → IsSpanOf (map arc_value events.now) s }
     requires sorted { Pairwise StandsBefore near.now }
     requires few_near { length near.now ≤ max_live }
-    ensures { IfOk result (λ placed. IsGoneThrough setting.now.script setting.now.fonts setting.now.size (map arc_value events.now) near.now placed.items) }
+    ensures { IfOk result (λ placed. IsGoneThrough setting.now.script setting.now.fonts setting.now.frame (map arc_value events.now) near.now placed.items) }
 {
     let mut placed = Vec::with_capacity(alloc, near.len())?;
     let mut kept = MovedBoxes::new(alloc);
@@ -185,7 +185,7 @@ pub fn placed_events(
     requires orders { HaveOwnOrders (map arc_value events.now) }
     requires near { (t : ℤ) × AreNearSpans (map arc_value events.now) t near.now }
     ensures { (t : ℤ) → AreNearSpans (map arc_value events.now) t near.now
-        → IfOk result (λ placed. ArePlacedEvents setting.now.script setting.now.fonts setting.now.size (map arc_value events.now) t placed.items) }
+        → IfOk result (λ placed. ArePlacedEvents setting.now.script setting.now.fonts setting.now.frame (map arc_value events.now) t placed.items) }
 {
     place_all(alloc, setting, events, near)
 }

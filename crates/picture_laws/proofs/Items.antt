@@ -2,7 +2,7 @@
 use Rattle.std.proofs.Common.{◌≡◌, ◌∙◌, sym, ap, subst, ℕ, zero, suc, ◌<◌, Bool, ◌&&◌, not, List, [], ◌∷◌, length, arith}
 use Rattle.std.specs.Prelude.{slice_index, slice_index_or}
 use Rattle.std.proofs.lemmas.Option.{get_or_from_slice_get, slice_get_within}
-use Rattle.ass_num.specs.declared.size.Size.{Size}
+use Rattle.frame_view.specs.declared.scales.Scales.{Scales}
 use Rattle.ass_script.specs.Scripts.{ScriptValue}
 use Rattle.bdf_font.specs.Fonts.{FontValue}
 use Rattle.override_tags.specs.declared.view.EventView.{EventView}
@@ -78,11 +78,11 @@ module _ (script : ScriptValue) (own : List ℕ) where
               (four_of w.names w.states before (shown_of w placed).state alike.colours_too (at.2).state);
         }
 
-    pub same_number : (fonts : List FontValue) (size : Size) (placed : Placed) → placed.item < length v.items
+    pub same_number : (fonts : List FontValue) (scales : Scales) (placed : Placed) → placed.item < length v.items
         → slice_index (font_numbers fonts v.names) (state_of v placed).font ≡ slice_index (font_numbers fonts w.names) (state_of w placed).font
-    same_number fonts size placed within =
+    same_number fonts scales placed within =
         let same = same_item placed within in
-        number_of script own fonts size v.names (state_of v placed) _ same.state.font ∙ sym (number_of script own fonts size w.names (state_of w placed) _ same.state_too.font)
+        number_of script own fonts scales v.names (state_of v placed) _ same.state.font ∙ sym (number_of script own fonts scales w.names (state_of w placed) _ same.state_too.font)
 
     pub same_joined : (p q : Placed) → p.item < length v.items → q.item < length v.items → are_joined v p q ≡ are_joined w p q
     same_joined p q within within_too =

@@ -5,7 +5,7 @@ use Rattle.std.proofs.lemmas.Bool.{cases_lt}
 use Rattle.std.proofs.lemmas.Int.{ints}
 use Rattle.std.proofs.lemmas.List.{get_or-map, length-map}
 use Rattle.std.proofs.lemmas.List.Elements.{All-contains, All-contains_itself, All-cons, All-head, All-nil, All-tail, All-weaker, Contains-append_right}
-use Rattle.ass_num.specs.declared.size.Size.{Size}
+use Rattle.frame_view.specs.declared.view.FrameView.{FrameView}
 use Rattle.ass_script.specs.Scripts.{ScriptValue}
 use Rattle.ass_script.specs.declared.script.EventField.{EventField}
 use Rattle.ass_events.specs.Histories.{Pairwise}
@@ -148,24 +148,24 @@ module _ (by : ℤ) (a b : List Event) (from : Event → Event) (h : Corresponds
         moved = r.moved ∙ sym (ap (λ (p : Stand × ℤ). moved_box p.0.down p.1 p.0.place) was.2);
       }
 
-  module _ (script : ScriptValue) (format : List EventField) (lines : List (List ℕ)) (fonts : List FontValue) (size : Size) where
-    stand_forth : (e g : Event) (stand : Stand) → Contains b g → from g ≡ e → IsStandOf script fonts size e stand → IsStandOf (with_lines script format lines) fonts size g (later_stand by stand)
+  module _ (script : ScriptValue) (format : List EventField) (lines : List (List ℕ)) (fonts : List FontValue) (frame : FrameView) where
+    stand_forth : (e g : Event) (stand : Stand) → Contains b g → from g ≡ e → IsStandOf script fonts frame e stand → IsStandOf (with_lines script format lines) fonts frame g (later_stand by stand)
     stand_forth e g stand c same is =
-        subst (λ z. IsStandOf (with_lines script format lines) fonts size z (later_stand by stand)) (sym (h.alike g c))
-        (stand_later script format lines by g.order (from g) fonts size stand (subst (λ z. IsStandOf script fonts size z stand) (sym same) is))
+        subst (λ z. IsStandOf (with_lines script format lines) fonts frame z (later_stand by stand)) (sym (h.alike g c))
+        (stand_later script format lines by g.order (from g) fonts frame stand (subst (λ z. IsStandOf script fonts frame z stand) (sym same) is))
 
     point_forth : (e g : Event) → Contains b g → from g ≡ e → HasPoint e → HasPoint g
     point_forth e g c same has = subst HasPoint (sym (h.alike g c)) (point_later by g.order (from g) (subst HasPoint (sym same) has))
 
-    shift_forth : (e : Event) (stand : Stand) (shift : ℤ) → HasShift script fonts size a e stand shift → (g : Event) → Contains b g → from g ≡ e →
-        HasShift (with_lines script format lines) fonts size b g (later_stand by stand) shift
+    shift_forth : (e : Event) (stand : Stand) (shift : ℤ) → HasShift script fonts frame a e stand shift → (g : Event) → Contains b g → from g ≡ e →
+        HasShift (with_lines script format lines) fonts frame b g (later_stand by stand) shift
     shift_forth _ _ _ (Placed e stand others place_of shift stands points each boxes least) g c same =
         Placed g (later_stand by stand) others (places_of place_of) shift
         (stand_forth e g stand c same stands)
         (λ f rival none. point_forth (from f) f rival.listed refl (points (from f) (rival_back e g f c same rival) (none_back later_place (place_of (from f)) none)))
         (λ f s z rival has.
         let was = some_back later_place (place_of (from f)) (s, z) has in
-        subst (λ (p : Stand × ℤ). HasShift (with_lines script format lines) fonts size b f p.0 p.1) was.2
+        subst (λ (p : Stand × ℤ). HasShift (with_lines script format lines) fonts frame b f p.0 p.1) was.2
         (shift_forth (from f) was.0.0 was.0.1 (each (from f) was.0.0 was.0.1 (rival_back e g f c same rival) was.1) f rival.listed refl))
         (λ box. (
           λ m. box_forth place_of e g box c same ((boxes box).0 m),
@@ -173,24 +173,24 @@ module _ (by : ℤ) (a b : List Event) (from : Event → Event) (h : Corresponds
         ))
         least
 
-    move_forth : (e : Event) (down : ℤ) → IsMovedBy script fonts size a e down → (g : Event) → Contains b g → from g ≡ e → IsMovedBy (with_lines script format lines) fonts size b g down
+    move_forth : (e : Event) (down : ℤ) → IsMovedBy script fonts frame a e down → (g : Event) → Contains b g → from g ≡ e → IsMovedBy (with_lines script format lines) fonts frame b g down
     move_forth _ _ (Shifted e stand shift shifted) g c same = Shifted g (later_stand by stand) shift (shift_forth e stand shift shifted g c same)
     move_forth _ _ (Pointed e point) g c same = Pointed g (point_forth e g c same point)
     move_forth _ _ (Alone e local) g c same = Alone g (λ f r. local (from f) (rival_back e g f c same r))
 
-    event_forth : (t : ℤ) (e g : Event) (draws : List Draw) → Contains b g → from g ≡ e → AreEventDraws script fonts a t size e draws → AreEventDraws (with_lines script format lines) fonts b (t +ℤ by) size g draws
+    event_forth : (t : ℤ) (e g : Event) (draws : List Draw) → Contains b g → from g ≡ e → AreEventDraws script fonts a t frame e draws → AreEventDraws (with_lines script format lines) fonts b (t +ℤ by) frame g draws
     event_forth t e g draws c same are =
-        let was : AreMovedDraws script fonts (from g) t size are.shift draws = subst (λ z. AreMovedDraws script fonts z t size are.shift draws) (sym same) are.drawn in
+        let was : AreMovedDraws script fonts (from g) t frame are.shift draws = subst (λ z. AreMovedDraws script fonts z t frame are.shift draws) (sym same) are.drawn in
         record {
           shift = are.shift;
           moved = move_forth e are.shift are.moved g c same;
           drawn =
-              subst (λ z. AreMovedDraws (with_lines script format lines) fonts z (t +ℤ by) size are.shift draws) (sym (h.alike g c))
-              (drawn_later script format lines by g.order (from g) fonts t size are.shift draws was);
+              subst (λ z. AreMovedDraws (with_lines script format lines) fonts z (t +ℤ by) frame are.shift draws) (sym (h.alike g c))
+              (drawn_later script format lines by g.order (from g) fonts t frame are.shift draws was);
         }
 
-    order_forth : (t : ℤ) (shown : List Event) (draws : List Draw) → AreDrawsInOrder script fonts a t size shown draws →
-        (now : List Event) → map from now ≡ shown → All (Contains b) now → AreDrawsInOrder (with_lines script format lines) fonts b (t +ℤ by) size now draws
+    order_forth : (t : ℤ) (shown : List Event) (draws : List Draw) → AreDrawsInOrder script fonts a t frame shown draws →
+        (now : List Event) → map from now ≡ shown → All (Contains b) now → AreDrawsInOrder (with_lines script format lines) fonts b (t +ℤ by) frame now draws
     order_forth t _ _ drawn.None [] is all = drawn.None
     order_forth t _ _ drawn.None (g ∷ now) is all = absurd cc
     order_forth t _ _ (drawn.Next event above draws rest first others) [] is all = absurd cc
@@ -239,9 +239,9 @@ module _ (by : ℤ) (a b : List Event) (from : Event → Event) (h : Corresponds
     sorted = sorted_forth now all are.sorted;
   }
 
-  pub picture_forth : (script : ScriptValue) (format : List EventField) (lines : List (List ℕ)) (fonts : List FontValue) (t : ℤ) (size : Size) (canvas : CanvasValue) →
-      IsPictureAt script fonts a t size canvas → IsPictureAt (with_lines script format lines) fonts b (t +ℤ by) size canvas
-  picture_forth script format lines fonts t size canvas is =
+  pub picture_forth : (script : ScriptValue) (format : List EventField) (lines : List (List ℕ)) (fonts : List FontValue) (t : ℤ) (frame : FrameView) (canvas : CanvasValue) →
+      IsPictureAt script fonts a t frame canvas → IsPictureAt (with_lines script format lines) fonts b (t +ℤ by) frame canvas
+  picture_forth script format lines fonts t frame canvas is =
       let shown = is.are_draws.shown in
       let of_a = All-weaker (Contains shown) (Contains a) (λ e c. ((is.are_draws.are_shown.members e).0 c).0) shown (All-contains_itself shown) in
       let now = chosen shown of_a in
@@ -250,7 +250,7 @@ module _ (by : ℤ) (a b : List Event) (from : Event → Event) (h : Corresponds
         are_draws = record {
           shown = now.0;
           are_shown = shown_now t now.0 now.2 (subst (AreShown a t) (sym now.1) is.are_draws.are_shown);
-          in_order = order_forth script format lines fonts size t shown is.draws is.are_draws.in_order now.0 now.1 now.2;
+          in_order = order_forth script format lines fonts frame t shown is.draws is.are_draws.in_order now.0 now.1 now.2;
         };
         value = is.value;
       }

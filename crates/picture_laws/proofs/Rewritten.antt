@@ -83,8 +83,8 @@ scripts_are_read_later scripts law script later earlier moved bytes spelled is_m
     let ascend : HaveAscendingOrders moved = subst HaveAscendingOrders same (moved_ascend by events are.ascend) in (
       script_read script moved,
       scripts script moved bytes spelled each (omega (arith, ap length same, length-map events (later_event by), are.few)) is_written,
-      λ fonts t size canvas picture.
-          read_shows law script fonts moved bytes (t +ℤ by) size canvas each ascend is_written (pictures_are_shifted script fonts later earlier events moved t size canvas is_moved picture),
+      λ fonts t frame canvas picture.
+          read_shows law script fonts moved bytes (t +ℤ by) frame canvas each ascend is_written (pictures_are_shifted script fonts later earlier events moved t frame canvas is_moved picture),
     )
 
 pub read_scripts_are_spelled : TextsSpellScripts → StylesAreSpelled → ReadScriptsAreSpelled

@@ -150,5 +150,5 @@ module _ (script : ScriptValue) (own : List ℕ) (v w : EventView) (alike : Show
 
   pub same_draws : (laid : Laid) → All IsItemOfView laid.placed → v.clip ≡ w.clip → event_draws stage fonts v laid ≡ event_draws stage fonts w laid
   same_draws laid all clip =
-      ap (λ (z : Option ClipTag). draws_of_rows stage (clip_by stage.header stage.size z) (draw_rows stage fonts v laid)) clip
-      ∙ same_rows laid all (clip_by stage.header stage.size w.clip)
+      ap (λ (z : Option ClipTag). draws_of_rows stage (clip_by stage.scales z) (draw_rows stage fonts v laid)) clip
+      ∙ same_rows laid all (clip_by stage.scales w.clip)

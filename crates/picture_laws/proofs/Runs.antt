@@ -146,7 +146,7 @@ module _ (script : ScriptValue) (own : List ℕ) (v w : EventView) (alike : Show
     same_mark : (line : Line) (placed : Placed) → IsItemOfView placed → mark_of stage fonts v line placed ≡ mark_of stage fonts w line placed
     same_mark line placed here =
         let same = same_item script own v w alike placed here in
-        let number = same_number script own v w alike fonts stage.size placed here in
+        let number = same_number script own v w alike fonts stage.scales placed here in
         same_mark_by (state_of v placed) (state_of w placed) (pen_on stage line placed) (shown_of v placed).kind same.alike number
         ∙ ap (λ (z : ShownKind). mark_by stage fonts w (state_of w placed) (pen_on stage line placed) z) same.kind
 

@@ -1,7 +1,8 @@
 -- What an event shows depends on how long it has been shown, and on the header and the styles of its script.
 use Rattle.std.proofs.Common.{◌≡◌, ℕ, ◌-◌, List, [], ◌∷◌, length, Some, ℤ, ◌+ℤ◌, nat_le, refl, sym, ap, ◌∙◌, subst, arith}
 use Rattle.std.proofs.lemmas.Int.{ints}
-use Rattle.ass_num.specs.declared.size.Size.{Size}
+use Rattle.frame_view.specs.declared.view.FrameView.{FrameView}
+use Rattle.text_layout.specs.LineScales.{line_scales}
 use Rattle.ass_script.specs.Scripts.{ScriptValue}
 use Rattle.ass_script.specs.declared.script.EventField.{EventField}
 use Rattle.ass_script.specs.declared.style.Style.{Style}
@@ -112,21 +113,21 @@ module _ (script : ScriptValue) (format : List EventField) (lines : List (List �
       once = is.once;
     }
 
-    pub drawn_later : (fonts : List FontValue) (t : ℤ) (size : Size) (shift : ℤ) (draws : List Draw) →
-        AreMovedDraws script fonts event t size shift draws → AreMovedDraws (with_lines script format lines) fonts (renumbered by order event) (t +ℤ by) size shift draws
-    drawn_later fonts t size shift draws are = record {
+    pub drawn_later : (fonts : List FontValue) (t : ℤ) (frame : FrameView) (shift : ℤ) (draws : List Draw) →
+        AreMovedDraws script fonts event t frame shift draws → AreMovedDraws (with_lines script format lines) fonts (renumbered by order event) (t +ℤ by) frame shift draws
+    drawn_later fonts t frame shift draws are = record {
       view = are.view;
       shows = view_of t are.view are.shows;
       colours = are.colours;
       laid = are.laid;
       laid_out = are.laid_out;
-      value = are.value ∙ ap (λ elapsed. event_draws (at_moment (stage_at script event t size are.view are.laid shift) elapsed) fonts are.view are.laid) (same_elapsed t);
+      value = are.value ∙ ap (λ elapsed. event_draws (at_moment (stage_at script event t frame are.view are.laid shift) elapsed) fonts are.view are.laid) (same_elapsed t);
     }
 
-    pub stand_later : (fonts : List FontValue) (size : Size) (stand : Stand) → IsStandOf script fonts size event stand → IsStandOf (with_lines script format lines) fonts size (renumbered by order event) (later_stand by stand)
-    stand_later fonts size stand is =
+    pub stand_later : (fonts : List FontValue) (frame : FrameView) (stand : Stand) → IsStandOf script fonts frame event stand → IsStandOf (with_lines script format lines) fonts frame (renumbered by order event) (later_stand by stand)
+    stand_later fonts frame stand is =
         let ends : (event.start +ℤ event.duration) +ℤ by ≡ (event.start +ℤ by) +ℤ event.duration = omega (arith, ints) in
-        let place = box_at (corner_of script event is.view is.laid size) is.laid in
+        let place = box_at (corner_of script event is.view is.laid (line_scales script.header frame is.view)) is.laid in
         record {
           view = is.view;
           shows = view_of event.start is.view is.shows;

@@ -6,7 +6,7 @@ use Rattle.std.proofs.lemmas.Int.{ints}
 use Rattle.std.proofs.lemmas.List.{get_or_default, length-map}
 use Rattle.std.proofs.lemmas.List.Elements.{All-contains, Contains-append_left, Contains-append_right, Contains-get_or}
 use Rattle.std.proofs.lemmas.Option.{slice_get-get_or}
-use Rattle.ass_num.specs.declared.size.Size.{Size}
+use Rattle.frame_view.specs.declared.view.FrameView.{FrameView}
 use Rattle.ass_script.specs.Fields.{usual_event_fields}
 use Rattle.ass_script.specs.Scripts.{ScriptValue}
 use Rattle.ass_script.specs.declared.lines.Version.TheVariants.{V4Plus}
@@ -63,12 +63,12 @@ ok_same : {Value Cause : Type 0} (a b : Value) → (let x : Result Value Cause =
 ok_same a b is = cc
 
 pub pictures_are_shifted : PicturesAreShifted
-pictures_are_shifted script fonts later earlier events moved t size canvas is picture =
+pictures_are_shifted script fonts later earlier events moved t frame canvas is picture =
     let by = later -ℤ earlier in
     let all : map (later_event by) events ≡ moved =
     ok_inside (λ order. Unwritable order field.Start) (first_outside by events) (map (later_event by) events) moved is in
-    subst (λ list. IsPictureAt script fonts list (t +ℤ by) size canvas) all
-    (picture_forth by events (map (later_event by) events) (earlier_event by) (shift_corresponds by events) script script.format script.lines fonts t size canvas picture)
+    subst (λ list. IsPictureAt script fonts list (t +ℤ by) frame canvas) all
+    (picture_forth by events (map (later_event by) events) (earlier_event by) (shift_corresponds by events) script script.format script.lines fonts t frame canvas picture)
 
 -- ---- events that are read back
 
@@ -149,16 +149,16 @@ module _ (script : ScriptValue) (events : List Event) (each : All IsEvent events
     back = λ f g cf cg less. under f.order g.order f g less (is_numbered g cg).0;
   }
 
-pub read_shows : EventsAreReadBack → (script : ScriptValue) (fonts : List FontValue) (events : List Event) (bytes : List ℕ) (t : ℤ) (size : Size) (canvas : CanvasValue)
-    → All IsEvent events → HaveAscendingOrders events → written script events ≡ Ok bytes → IsPictureAt script fonts events t size canvas
-    → IsPictureAt (script_read script events) fonts (line_events (script_read script events)) t size canvas
-read_shows law script fonts events bytes t size canvas each ascend is picture =
+pub read_shows : EventsAreReadBack → (script : ScriptValue) (fonts : List FontValue) (events : List Event) (bytes : List ℕ) (t : ℤ) (frame : FrameView) (canvas : CanvasValue)
+    → All IsEvent events → HaveAscendingOrders events → written script events ≡ Ok bytes → IsPictureAt script fonts events t frame canvas
+    → IsPictureAt (script_read script events) fonts (line_events (script_read script events)) t frame canvas
+read_shows law script fonts events bytes t frame canvas each ascend is picture =
     let read = script_read script events in
     let now : t +ℤ pos 0 ≡ t = omega (arith, ints) in
-    subst (λ instant. IsPictureAt read fonts (line_events read) instant size canvas) now
+    subst (λ instant. IsPictureAt read fonts (line_events read) instant frame canvas) now
     (picture_forth (pos 0) events (line_events read) (event_at script events each ascend bytes is law) (read_corresponds script events each ascend bytes is law)
-    script (usual_event_fields V4Plus) (map spoken events) fonts t size canvas picture)
+    script (usual_event_fields V4Plus) (map spoken events) fonts t frame canvas picture)
 
 pub pictures_are_read_back : ScriptsAreReadBack → EventsAreReadBack → PicturesAreReadBack
-pictures_are_read_back scripts law script fonts events bytes t size canvas spelled each ascend few is picture =
-    (script_read script events, scripts script events bytes spelled each few is, read_shows law script fonts events bytes t size canvas each ascend is picture)
+pictures_are_read_back scripts law script fonts events bytes t frame canvas spelled each ascend few is picture =
+    (script_read script events, scripts script events bytes spelled each few is, read_shows law script fonts events bytes t frame canvas each ascend is picture)

@@ -1,6 +1,6 @@
 -- Public: what written and shifted events show, and scripts that are written again.
 use Rattle.std.specs.Prelude.{◌≡◌, ℕ, ◌<◌, ◌≤◌, List, All, length, Ok, ℤ, ◌+ℤ◌, ◌-ℤ◌}
-use Rattle.ass_num.specs.declared.size.Size.{Size}
+use Rattle.frame_view.specs.declared.view.FrameView.{FrameView}
 use Rattle.ass_events.specs.Histories.{Pairwise}
 use Rattle.ass_events.specs.Ranges.{IsEvent}
 use Rattle.ass_events.specs.declared.event.Event.{Event}
@@ -22,17 +22,17 @@ HaveAscendingOrders events = Pairwise (λ e f. e.order < f.order) events
 -- The text that is written is read as a script whose lines' events show at each instant what these events show.
 abbrev pub PicturesAreReadBack : Type 0
 PicturesAreReadBack =
-    (script : ScriptValue) (fonts : List FontValue) (events : List Event) (bytes : List ℕ) (t : ℤ) (size : Size) (canvas : CanvasValue)
+    (script : ScriptValue) (fonts : List FontValue) (events : List Event) (bytes : List ℕ) (t : ℤ) (frame : FrameView) (canvas : CanvasValue)
     → IsSpelledScript script → All IsEvent events → HaveAscendingOrders events → length events ≤ max_lines → written script events ≡ Ok bytes
-    → IsPictureAt script fonts events t size canvas
-    → (read : ScriptValue) × (script_of bytes ≡ Ok read) × IsPictureAt read fonts (line_events read) t size canvas
+    → IsPictureAt script fonts events t frame canvas
+    → (read : ScriptValue) × (script_of bytes ≡ Ok read) × IsPictureAt read fonts (line_events read) t frame canvas
 
 -- Events that are so much later and so much earlier show at the instant that is so too what they showed at the old one.
 abbrev pub PicturesAreShifted : Type 0
 PicturesAreShifted =
-    (script : ScriptValue) (fonts : List FontValue) (later earlier : ℤ) (events moved : List Event) (t : ℤ) (size : Size) (canvas : CanvasValue)
+    (script : ScriptValue) (fonts : List FontValue) (later earlier : ℤ) (events moved : List Event) (t : ℤ) (frame : FrameView) (canvas : CanvasValue)
     → shifted later earlier events ≡ Ok moved
-    → IsPictureAt script fonts events t size canvas → IsPictureAt script fonts moved (t +ℤ (later -ℤ earlier)) size canvas
+    → IsPictureAt script fonts events t frame canvas → IsPictureAt script fonts moved (t +ℤ (later -ℤ earlier)) frame canvas
 
 -- What the events of a script are: each is one, their ReadOrders ascend, and there are no more of them than a script may have lines.
 pub record AreScriptEvents (events : List Event) : Type 0 where
@@ -47,11 +47,11 @@ ScriptsGiveEvents = (script : ScriptValue) → IsScript script → AreScriptEven
 abbrev pub ReadScriptsAreSpelled : Type 0
 ReadScriptsAreSpelled = (bytes : List ℕ) (script : ScriptValue) → script_of bytes ≡ Ok script → IsSpelledScript script
 
--- The second script shows so much later what the first one shows, at each instant, in whatever fonts and on a frame of whatever size.
+-- The second script shows so much later what the first one shows, at each instant, in whatever fonts and on whatever frame.
 abbrev pub ShowsLater : ℤ → ScriptValue → ScriptValue → Type 0
 ShowsLater by script read =
-    (fonts : List FontValue) (t : ℤ) (size : Size) (canvas : CanvasValue)
-    → IsPictureAt script fonts (line_events script) t size canvas → IsPictureAt read fonts (line_events read) (t +ℤ by) size canvas
+    (fonts : List FontValue) (t : ℤ) (frame : FrameView) (canvas : CanvasValue)
+    → IsPictureAt script fonts (line_events script) t frame canvas → IsPictureAt read fonts (line_events read) (t +ℤ by) frame canvas
 
 -- These bytes are read as a script that shows so much later what a script shows.
 abbrev pub AreReadLater : ℤ → ScriptValue → List ℕ → Type 0

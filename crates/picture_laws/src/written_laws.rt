@@ -7,7 +7,7 @@ use script_laws::texts_spell_scripts;
 use track_write::written_is_read_back;
 
 /// Where a text can be written, the script that it is read as shows the same picture at each instant, in whatever fonts and
-/// on a frame of whatever size. Where events are shifted, they show at the shifted instant what they showed at the old one.
+/// on whatever frame. Where events are shifted, they show at the shifted instant what they showed at the old one.
 pub fn written_events_show_the_same()
     ensures read_back { PicturesAreReadBack }
     ensures shifted { PicturesAreShifted }

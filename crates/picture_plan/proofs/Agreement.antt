@@ -1,7 +1,7 @@
 -- Two sets of events that agree on the events that are drawn, and on the rivals of these and of their rivals, draw the same.
 use Rattle.std.proofs.Common.{◌↔◌, ℤ, List, Contains, All}
 use Rattle.std.proofs.lemmas.List.Elements.{All-contains_itself, All-head, All-tail, All-weaker}
-use Rattle.ass_num.specs.declared.size.Size.{Size}
+use Rattle.frame_view.specs.declared.view.FrameView.{FrameView}
 use Rattle.ass_events.specs.NearEvents.{IsShownAt, span_of}
 use Rattle.ass_events.specs.declared.event.Event.{Event}
 use Rattle.ass_script.specs.Scripts.{ScriptValue}
@@ -16,15 +16,15 @@ pub record Agree (matters : Event → Type 0) (t : ℤ) (a b : List Event) : Typ
   pub shown : (e : Event) → IsShownAt (span_of e) t → Contains a e ↔ Contains b e
   pub drawn : (e : Event) → IsShownAt (span_of e) t → Contains a e → matters e
 
-event_agrees : {script : ScriptValue} {fonts : List FontValue} {size : Size} {a b : List Event} {t : ℤ} (matters : Event → Type 0)
+event_agrees : {script : ScriptValue} {fonts : List FontValue} {frame : FrameView} {a b : List Event} {t : ℤ} (matters : Event → Type 0)
     → Agree matters t a b
-    → (e : Event) (draws : List Draw) → matters e → AreEventDraws script fonts a t size e draws → AreEventDraws script fonts b t size e draws
+    → (e : Event) (draws : List Draw) → matters e → AreEventDraws script fonts a t frame e draws → AreEventDraws script fonts b t frame e draws
 event_agrees matters h e draws m d = record { shift = d.shift; moved = moved_agrees matters h.rivals e d.shift m d.moved; drawn = d.drawn }
 
-in_order_agrees : {script : ScriptValue} {fonts : List FontValue} {size : Size} {a b : List Event} {t : ℤ} (matters : Event → Type 0)
+in_order_agrees : {script : ScriptValue} {fonts : List FontValue} {frame : FrameView} {a b : List Event} {t : ℤ} (matters : Event → Type 0)
     → Agree matters t a b
     → (shown : List Event) (draws : List Draw) → All matters shown
-    → AreDrawsInOrder script fonts a t size shown draws → AreDrawsInOrder script fonts b t size shown draws
+    → AreDrawsInOrder script fonts a t frame shown draws → AreDrawsInOrder script fonts b t frame shown draws
 in_order_agrees matters h _ _ m None = None
 in_order_agrees matters h _ _ m (Next event above draws rest first others) =
     Next event above draws rest
@@ -45,8 +45,8 @@ shown_agrees matters h shown s = record {
 }
 
 -- So they draw the same.
-pub draws_agree : {script : ScriptValue} {fonts : List FontValue} {size : Size} {a b : List Event} {t : ℤ} {draws : List Draw} (matters : Event → Type 0)
-    → Agree matters t a b → AreDraws script fonts a t size draws → AreDraws script fonts b t size draws
+pub draws_agree : {script : ScriptValue} {fonts : List FontValue} {frame : FrameView} {a b : List Event} {t : ℤ} {draws : List Draw} (matters : Event → Type 0)
+    → Agree matters t a b → AreDraws script fonts a t frame draws → AreDraws script fonts b t frame draws
 draws_agree {draws} matters h d = record {
   shown = d.shown;
   are_shown = shown_agrees matters h d.shown d.are_shown;

@@ -1,12 +1,14 @@
 -- Views that are laid out alike, and what is shown and is equal by `==`.
-use Rattle.std.proofs.Common.{◌≡◌, refl, subst, ℕ, true, List, nat_eq, bytes_eq, arith}
+use Rattle.std.proofs.Common.{◌≡◌, refl, subst, ℕ, Bool, true, List, nat_eq, bytes_eq, arith}
 use Rattle.std.specs.Cmp.{unsigned_Decides}
 use Rattle.std.specs.Cmp.Lexicographic.{pointwise}
 use Rattle.std.proofs.lemmas.Slice.Eq.{bytes_eq-Decides}
 use Rattle.ass_num.specs.declared.geometry.Path.{Path}
 use Rattle.ass_num.specs.contracts.geometry.PathPartialEq.TheImpl as path
 use Rattle.ass_num.specs.contracts.geometry.SegPartialEq.TheImpl as seg
-use Rattle.ass_num.specs.declared.size.Size.{Size}
+use Rattle.frame_view.specs.FrameScales.{scales_of}
+use Rattle.frame_view.specs.declared.scales.Scales.{Scales}
+use Rattle.frame_view.specs.declared.view.FrameView.{FrameView}
 use Rattle.ass_events.specs.declared.event.Event.{Event}
 use Rattle.ass_script.specs.Scripts.{ScriptValue}
 use Rattle.bdf_font.specs.Fonts.{FontValue}
@@ -20,7 +22,8 @@ use Rattle.override_tags.specs.contracts.view.ShownPartialEq.TheImpl as item
 use Rattle.override_tags.specs.contracts.view.ShownKindPartialEq.TheImpl as kind
 use Rattle.override_tags.specs.contracts.view.StatePartialEq.TheImpl as state
 use Rattle.tag_state.proofs.StateEquality.{state_same}
-use Rattle.text_layout.specs.Layouts.{IsLaid}
+use Rattle.text_layout.specs.Layouts.{IsLaid, IsLaidBy}
+use Rattle.text_layout.specs.LineScales.{line_scales}
 use Rattle.text_layout.specs.declared.laid.Laid.{Laid}
 use Rattle.picture_plan.specs.Alike.{AreLaidAlike}
 use Rattle.std.proofs.lemmas.Bool.{and_parts}
@@ -56,13 +59,20 @@ all_names_same xs ys e = items_same bytes_eq name_same xs ys e
 
 -- ---- layout
 
--- What is laid out so is laid out so in every view that is laid out alike.
-pub laid_alike : (script : ScriptValue) (fonts : List FontValue) (event : Event) (a b : EventView) (size : Size) (laid : Laid) → AreLaidAlike a b
-    → IsLaid script fonts event a size laid → IsLaid script fonts event b size laid
-laid_alike script fonts event a b size laid alike h =
-    subst (λ (names : List (List ℕ)). IsLaid script fonts event (record b { names = names }) size laid) alike.names
-    (subst (λ (states : List State). IsLaid script fonts event (record b { names = a.names; states = states }) size laid) alike.states
-    (subst (λ (items : List Shown). IsLaid script fonts event (record b { names = a.names; states = a.states; items = items }) size laid) alike.items
-    (subst (λ (align : ℕ). IsLaid script fonts event (record b { names = a.names; states = a.states; items = a.items; align = align }) size laid) alike.align
-    (subst (λ (wrap : ℕ). IsLaid script fonts event (record b { names = a.names; states = a.states; items = a.items; align = a.align; wrap = wrap }) size laid) alike.wrap
+-- What is laid out so by some scales is laid out so in every view that is laid out alike.
+laid_by_alike : (script : ScriptValue) (fonts : List FontValue) (event : Event) (a b : EventView) (scales : Scales) (laid : Laid) → AreLaidAlike a b
+    → IsLaidBy script fonts event a scales laid → IsLaidBy script fonts event b scales laid
+laid_by_alike script fonts event a b scales laid alike h =
+    subst (λ (names : List (List ℕ)). IsLaidBy script fonts event (record b { names = names }) scales laid) alike.names
+    (subst (λ (states : List State). IsLaidBy script fonts event (record b { names = a.names; states = states }) scales laid) alike.states
+    (subst (λ (items : List Shown). IsLaidBy script fonts event (record b { names = a.names; states = a.states; items = items }) scales laid) alike.items
+    (subst (λ (align : ℕ). IsLaidBy script fonts event (record b { names = a.names; states = a.states; items = a.items; align = align }) scales laid) alike.align
+    (subst (λ (wrap : ℕ). IsLaidBy script fonts event (record b { names = a.names; states = a.states; items = a.items; align = a.align; wrap = wrap }) scales laid) alike.wrap
     h))))
+
+-- What is laid out so is, since both are typeset or neither.
+pub laid_alike : (script : ScriptValue) (fonts : List FontValue) (event : Event) (a b : EventView) (frame : FrameView) (laid : Laid) → AreLaidAlike a b
+    → IsLaid script fonts event a frame laid → IsLaid script fonts event b frame laid
+laid_alike script fonts event a b frame laid alike h =
+    subst (λ (typeset : Bool). IsLaidBy script fonts event b (scales_of script.header frame typeset) laid) alike.typeset
+    (laid_by_alike script fonts event a b (line_scales script.header frame a) laid alike h)

@@ -21,7 +21,7 @@ same_agree t a b same = record {
 }
 
 pub draws_of_a_set : (script : ScriptValue) (fonts : List FontValue) → DrawsOfASet script fonts
-draws_of_a_set script fonts a b t size draws same d = draws_agree always (same_agree t a b same) d
+draws_of_a_set script fonts a b t frame draws same d = draws_agree always (same_agree t a b same) d
 
 to_near : (t : ℤ) (events near : List Event) → AreNear span_of events t near → Agree (IsNear span_of events t) t events near
 to_near t events near h = record {
@@ -38,7 +38,7 @@ from_near t events near h = record {
 }
 
 pub draws_of_near_events : (script : ScriptValue) (fonts : List FontValue) → DrawsOfNearEvents script fonts
-draws_of_near_events script fonts events near t size draws h = (
+draws_of_near_events script fonts events near t frame draws h = (
   λ d. draws_agree (IsNear span_of events t) (from_near t events near h) d,
   λ d. draws_agree (IsNear span_of events t) (to_near t events near h) d,
 )
@@ -46,11 +46,11 @@ draws_of_near_events script fonts events near t size draws h = (
 -- ---- pictures
 
 pub pictures_of_a_set : (script : ScriptValue) (fonts : List FontValue) → PicturesOfASet script fonts
-pictures_of_a_set script fonts a b t size canvas same p =
-    record { draws = p.draws; are_draws = draws_of_a_set script fonts a b t size p.draws same p.are_draws; value = p.value }
+pictures_of_a_set script fonts a b t frame canvas same p =
+    record { draws = p.draws; are_draws = draws_of_a_set script fonts a b t frame p.draws same p.are_draws; value = p.value }
 
 pub pictures_of_near_events : (script : ScriptValue) (fonts : List FontValue) → PicturesOfNearEvents script fonts
-pictures_of_near_events script fonts events near t size canvas h = (
-  λ p. record { draws = p.draws; are_draws = (draws_of_near_events script fonts events near t size p.draws h).0 p.are_draws; value = p.value },
-  λ p. record { draws = p.draws; are_draws = (draws_of_near_events script fonts events near t size p.draws h).1 p.are_draws; value = p.value },
+pictures_of_near_events script fonts events near t frame canvas h = (
+  λ p. record { draws = p.draws; are_draws = (draws_of_near_events script fonts events near t frame p.draws h).0 p.are_draws; value = p.value },
+  λ p. record { draws = p.draws; are_draws = (draws_of_near_events script fonts events near t frame p.draws h).1 p.are_draws; value = p.value },
 )

@@ -1,7 +1,7 @@
 -- Public: the draws of a picture: those of the events shown at an instant, by layer, then ReadOrder.
 -- (Advanced SubStation Alpha, "Layer"; Matroska, "ReadOrder".)
 use Rattle.std.specs.Prelude.{◌≡◌, ◌↔◌, ◌⊎◌, ◌<◌, List, [], ◌∷◌, ◌++◌, Contains, ℤ, ◌<ℤ◌}
-use Rattle.ass_num.specs.declared.size.Size.{Size}
+use Rattle.frame_view.specs.declared.view.FrameView.{FrameView}
 use Rattle.ass_events.specs.Histories.{Pairwise}
 use Rattle.ass_events.specs.NearEvents.{AreNear, IsShownAt, span_of}
 use Rattle.ass_events.specs.declared.event.Event.{Event}
@@ -23,30 +23,30 @@ pub record AreShown (events : List Event) (t : ℤ) (shown : List Event) : Type 
   pub sorted : Pairwise IsDrawnBefore shown
 
 -- These are the draws of one of the events at t, which stands where it is moved to.
-pub record AreEventDraws (script : ScriptValue) (fonts : List FontValue) (events : List Event) (t : ℤ) (size : Size) (event : Event) (draws : List Draw) : Type 0 where
+pub record AreEventDraws (script : ScriptValue) (fonts : List FontValue) (events : List Event) (t : ℤ) (frame : FrameView) (event : Event) (draws : List Draw) : Type 0 where
   pub shift : ℤ
-  pub moved : IsMovedBy script fonts size events event shift
-  pub drawn : AreMovedDraws script fonts event t size shift draws
+  pub moved : IsMovedBy script fonts frame events event shift
+  pub drawn : AreMovedDraws script fonts event t frame shift draws
 
 -- These are the draws of events one after the other.
-pub data AreDrawsInOrder (script : ScriptValue) (fonts : List FontValue) (events : List Event) (t : ℤ) (size : Size) : List Event → List Draw → Type 0 where
-  None : AreDrawsInOrder script fonts events t size [] []
+pub data AreDrawsInOrder (script : ScriptValue) (fonts : List FontValue) (events : List Event) (t : ℤ) (frame : FrameView) : List Event → List Draw → Type 0 where
+  None : AreDrawsInOrder script fonts events t frame [] []
   Next : (event : Event) (above : List Event) (draws rest : List Draw)
-      → AreEventDraws script fonts events t size event draws
-      → AreDrawsInOrder script fonts events t size above rest
-      → AreDrawsInOrder script fonts events t size (event ∷ above) (draws ++ rest)
+      → AreEventDraws script fonts events t frame event draws
+      → AreDrawsInOrder script fonts events t frame above rest
+      → AreDrawsInOrder script fonts events t frame (event ∷ above) (draws ++ rest)
 
 -- These are the draws of the picture that a set of events shows at t, in milliseconds.
-pub record AreDraws (script : ScriptValue) (fonts : List FontValue) (events : List Event) (t : ℤ) (size : Size) (draws : List Draw) : Type 0 where
+pub record AreDraws (script : ScriptValue) (fonts : List FontValue) (events : List Event) (t : ℤ) (frame : FrameView) (draws : List Draw) : Type 0 where
   pub shown : List Event
   pub are_shown : AreShown events t shown
-  pub in_order : AreDrawsInOrder script fonts events t size shown draws
+  pub in_order : AreDrawsInOrder script fonts events t frame shown draws
 
 -- The canvas is the picture that a set of events shows at t, in milliseconds.
-pub record IsPictureAt (script : ScriptValue) (fonts : List FontValue) (events : List Event) (t : ℤ) (size : Size) (canvas : CanvasValue) : Type 0 where
+pub record IsPictureAt (script : ScriptValue) (fonts : List FontValue) (events : List Event) (t : ℤ) (frame : FrameView) (canvas : CanvasValue) : Type 0 where
   pub draws : List Draw
-  pub are_draws : AreDraws script fonts events t size draws
-  pub value : canvas ≡ picture fonts size draws
+  pub are_draws : AreDraws script fonts events t frame draws
+  pub value : canvas ≡ picture fonts frame.size draws
 
 -- ---- laws
 
@@ -57,21 +57,21 @@ HaveSameEvents a b = (e : Event) → Contains a e ↔ Contains b e
 -- What a set of events draws doesn't depend on the order in which they are listed.
 abbrev pub DrawsOfASet : ScriptValue → List FontValue → Type 0
 DrawsOfASet script fonts =
-    (a b : List Event) (t : ℤ) (size : Size) (draws : List Draw) → HaveSameEvents a b → AreDraws script fonts a t size draws → AreDraws script fonts b t size draws
+    (a b : List Event) (t : ℤ) (frame : FrameView) (draws : List Draw) → HaveSameEvents a b → AreDraws script fonts a t frame draws → AreDraws script fonts b t frame draws
 
 -- The events that matter at an instant draw what all events do.
 abbrev pub DrawsOfNearEvents : ScriptValue → List FontValue → Type 0
 DrawsOfNearEvents script fonts =
-    (events near : List Event) (t : ℤ) (size : Size) (draws : List Draw)
-    → AreNear span_of events t near → AreDraws script fonts near t size draws ↔ AreDraws script fonts events t size draws
+    (events near : List Event) (t : ℤ) (frame : FrameView) (draws : List Draw)
+    → AreNear span_of events t near → AreDraws script fonts near t frame draws ↔ AreDraws script fonts events t frame draws
 
 -- So are their pictures.
 abbrev pub PicturesOfASet : ScriptValue → List FontValue → Type 0
 PicturesOfASet script fonts =
-    (a b : List Event) (t : ℤ) (size : Size) (canvas : CanvasValue)
-    → HaveSameEvents a b → IsPictureAt script fonts a t size canvas → IsPictureAt script fonts b t size canvas
+    (a b : List Event) (t : ℤ) (frame : FrameView) (canvas : CanvasValue)
+    → HaveSameEvents a b → IsPictureAt script fonts a t frame canvas → IsPictureAt script fonts b t frame canvas
 
 abbrev pub PicturesOfNearEvents : ScriptValue → List FontValue → Type 0
 PicturesOfNearEvents script fonts =
-    (events near : List Event) (t : ℤ) (size : Size) (canvas : CanvasValue)
-    → AreNear span_of events t near → IsPictureAt script fonts near t size canvas ↔ IsPictureAt script fonts events t size canvas
+    (events near : List Event) (t : ℤ) (frame : FrameView) (canvas : CanvasValue)
+    → AreNear span_of events t near → IsPictureAt script fonts near t frame canvas ↔ IsPictureAt script fonts events t frame canvas

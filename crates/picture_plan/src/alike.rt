@@ -5,6 +5,7 @@ ghost use Rattle.picture_plan.specs.Alike.{AreLaidAlike};
 
 use ass_num::{Items, Text};
 use override_tags::{EventView, Shown, State};
+use text_layout::is_typeset;
 
 /// Whether names of fonts are the same.
 fn have_same_names(a: &Items<Text>, b: &Items<Text>) -> bool
@@ -33,6 +34,7 @@ pub(crate) fn are_laid_alike(a: &EventView, b: &EventView) -> bool
 {
     a.align == b.align
         && a.wrap == b.wrap
+        && is_typeset(a) == is_typeset(b)
         && have_same_items(&a.items, &b.items)
         && have_same_states(&a.states, &b.states)
         && have_same_names(&a.names, &b.names)

@@ -41,8 +41,8 @@ fn add_alike_event(
     requires shift { IsWithin max_shift shift }
     requires shows { IsViewOf setting.now.script event.now t view.now }
     requires view { IsView view.now }
-    requires own { IsOwnLayout setting.now.script setting.now.fonts setting.now.size event.now own.now }
-    ensures draws { OnOk result (AddsMovedDraws setting.now.script setting.now.fonts event.now t setting.now.size shift draws.old draws.new) }
+    requires own { IsOwnLayout setting.now.script setting.now.fonts setting.now.frame event.now own.now }
+    ensures draws { OnOk result (AddsMovedDraws setting.now.script setting.now.fonts event.now t setting.now.frame shift draws.old draws.new) }
     ensures valid { OnOk result (IsValidPlan (glyph_counts setting.now.fonts) draws.old → IsValidPlan (glyph_counts setting.now.fonts) draws.new) }
 {
     if are_laid_alike(&own.view, view) {
@@ -69,8 +69,8 @@ fn add_own_event(
     requires items { AreReadItems event.now.text items.now }
     requires instant { IsWithin max_instant t }
     requires shift { IsWithin max_shift shift }
-    requires own { IsOwnLayout setting.now.script setting.now.fonts setting.now.size event.now own.now }
-    ensures draws { OnOk result (AddsMovedDraws setting.now.script setting.now.fonts event.now t setting.now.size shift draws.old draws.new) }
+    requires own { IsOwnLayout setting.now.script setting.now.fonts setting.now.frame event.now own.now }
+    ensures draws { OnOk result (AddsMovedDraws setting.now.script setting.now.fonts event.now t setting.now.frame shift draws.old draws.new) }
     ensures valid { OnOk result (IsValidPlan (glyph_counts setting.now.fonts) draws.old → IsValidPlan (glyph_counts setting.now.fonts) draws.new) }
 {
     if is_still(items) {
@@ -97,8 +97,8 @@ fn add_read_event(
     requires items { AreReadItems event.now.text items.now }
     requires instant { IsWithin max_instant t }
     requires shift { IsWithin max_shift placed.now.down }
-    requires own { IfSome placed.now.own (IsOwnLayout setting.now.script setting.now.fonts setting.now.size event.now) }
-    ensures draws { OnOk result (AddsMovedDraws setting.now.script setting.now.fonts event.now t setting.now.size placed.now.down draws.old draws.new) }
+    requires own { IfSome placed.now.own (IsOwnLayout setting.now.script setting.now.fonts setting.now.frame event.now) }
+    ensures draws { OnOk result (AddsMovedDraws setting.now.script setting.now.fonts event.now t setting.now.frame placed.now.down draws.old draws.new) }
     ensures valid { OnOk result (IsValidPlan (glyph_counts setting.now.fonts) draws.old → IsValidPlan (glyph_counts setting.now.fonts) draws.new) }
 {
     match &placed.own {
@@ -126,9 +126,9 @@ pub(crate) fn add_placed_event(
     requires few { length event.now.text ≤ max_text_bytes }
     requires instant { IsWithin max_instant t }
     requires shift { IsWithin max_shift placed.now.down }
-    requires own { IfSome placed.now.own (IsOwnLayout setting.now.script setting.now.fonts setting.now.size event.now) }
+    requires own { IfSome placed.now.own (IsOwnLayout setting.now.script setting.now.fonts setting.now.frame event.now) }
     requires read { IfSome placed.now.read (AreReadItems event.now.text) }
-    ensures draws { OnOk result (AddsMovedDraws setting.now.script setting.now.fonts event.now t setting.now.size placed.now.down draws.old draws.new) }
+    ensures draws { OnOk result (AddsMovedDraws setting.now.script setting.now.fonts event.now t setting.now.frame placed.now.down draws.old draws.new) }
     ensures valid { OnOk result (IsValidPlan (glyph_counts setting.now.fonts) draws.old → IsValidPlan (glyph_counts setting.now.fonts) draws.new) }
 {
     match &placed.read {

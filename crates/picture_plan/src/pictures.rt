@@ -45,12 +45,12 @@ fn add_shown_event(
     requires places { All (λ (p : PlacedEvent). p.place < length events.now) placed.now }
     requires shifts { All (λ (p : PlacedEvent). IsWithin max_shift p.down) placed.now }
     requires own { All (λ (p : PlacedEvent). IfSome p.own
-        (IsOwnLayout setting.now.script setting.now.fonts setting.now.size (placed_event (map arc_value events.now) p))) placed.now }
+        (IsOwnLayout setting.now.script setting.now.fonts setting.now.frame (placed_event (map arc_value events.now) p))) placed.now }
     requires read { All (λ (p : PlacedEvent). IfSome p.read (AreReadItems (placed_event (map arc_value events.now) p).text)) placed.now }
     requires place { shown.now.place < length placed.now }
     requires instant { IsWithin max_instant t }
     ensures draws { OnOk result (AddsMovedDraws setting.now.script setting.now.fonts (event_shown (map arc_value events.now) placed.now shown.now) t
-        setting.now.size (slice_index_or placed.now shown.now.place no_placed).down draws.old draws.new) }
+        setting.now.frame (slice_index_or placed.now shown.now.place no_placed).down draws.old draws.new) }
     ensures valid { OnOk result (IsValidPlan (glyph_counts setting.now.fonts) draws.old → IsValidPlan (glyph_counts setting.now.fonts) draws.new) }
 {
     let one = &placed[shown.place];
@@ -70,9 +70,9 @@ fn placed_draws(
     requires events { All IsEvent (map arc_value events.now) }
     requires texts { All (λ (e : Event). length e.text ≤ max_text_bytes) (map arc_value events.now) }
     requires orders { HaveOwnOrders (map arc_value events.now) }
-    requires placed { ArePlacedEvents setting.now.script setting.now.fonts setting.now.size (map arc_value events.now) t placed.now }
+    requires placed { ArePlacedEvents setting.now.script setting.now.fonts setting.now.frame (map arc_value events.now) t placed.now }
     requires instant { IsWithin max_instant t }
-    ensures draws { IfOk result (λ draws. AreDraws setting.now.script setting.now.fonts (map arc_value events.now) t setting.now.size draws) }
+    ensures draws { IfOk result (λ draws. AreDraws setting.now.script setting.now.fonts (map arc_value events.now) t setting.now.frame draws) }
     ensures valid { IfOk result (λ draws. IsValidPlan (glyph_counts setting.now.fonts) draws) }
 {
     let shown = shown_events(alloc, events, placed, t)?;
@@ -92,7 +92,7 @@ pub fn plan(alloc: Global, setting: &Setting<'_>, events: &[Arc<Event>], t: i64)
     requires few { length events.now ≤ max_live }
     requires orders { HaveOwnOrders (map arc_value events.now) }
     requires instant { IsWithin max_instant t }
-    ensures draws { IfOk result (λ plan. AreDraws setting.now.script setting.now.fonts (map arc_value events.now) t setting.now.size plan.draws) }
+    ensures draws { IfOk result (λ plan. AreDraws setting.now.script setting.now.fonts (map arc_value events.now) t setting.now.frame plan.draws) }
     ensures valid { IfOk result (λ plan. IsValidPlan (glyph_counts setting.now.fonts) plan.draws) }
 {
     let near = near_spans(alloc, events, t)?;
@@ -114,7 +114,7 @@ pub fn plan_of_spans(
     requires orders { HaveOwnOrders (map arc_value events.now) }
     requires near { AreNearSpans (map arc_value events.now) t near.now }
     requires instant { IsWithin max_instant t }
-    ensures draws { IfOk result (λ plan. AreDraws setting.now.script setting.now.fonts (map arc_value events.now) t setting.now.size plan.draws) }
+    ensures draws { IfOk result (λ plan. AreDraws setting.now.script setting.now.fonts (map arc_value events.now) t setting.now.frame plan.draws) }
     ensures valid { IfOk result (λ plan. IsValidPlan (glyph_counts setting.now.fonts) plan.draws) }
 {
     let placed = placed_events(alloc, setting, events, near)?;

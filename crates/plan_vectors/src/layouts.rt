@@ -15,10 +15,13 @@ use ass_events::Event;
 use ass_num::{Matrix, Size};
 use ass_script::Script;
 use bdf_font::FontSet;
+use frame_view::{FrameView, scales_of};
 use override_tags::EventView;
 use std::alloc::Global;
 use std::io;
-use text_layout::{Laid, Line, Placed, Setting, anchor, block_corner, clip_matrix, layout};
+use text_layout::{
+    Laid, Line, Placed, Setting, anchor, block_corner, clip_matrix, layout, line_scales,
+};
 
 /// The script of a head and a Dialogue line of ten seconds that ends so, from its left margin on.
 fn script_of_line(alloc: Global, head: &str, tail: &str) -> io::Result<Script>
@@ -69,7 +72,8 @@ fn show_event(
 {
     match layout(rt.alloc(), setting, event, view) {
         Ok(laid) => {
-            let at = anchor(setting.script, event, view, &setting.size);
+            let scales = line_scales(&setting.script.header(), &setting.frame, view);
+            let at = anchor(setting.script, event, view, &scales);
             let corner = block_corner(at, view.align, laid.width, laid.height);
             let numbers = [laid.width, laid.height, corner.x, corner.y, at.x, at.y];
             show_numbers(rt, "  block", &numbers)?;
@@ -118,7 +122,7 @@ fn show(rt: &HostRuntime, fonts: &FontSet, head: &str, tail: &str, size: &Size) 
     let setting = Setting {
         script: &script,
         fonts,
-        size: *size,
+        frame: FrameView::plain(*size),
     };
     show_script(rt, &setting)
 }
@@ -126,7 +130,9 @@ fn show(rt: &HostRuntime, fonts: &FontSet, head: &str, tail: &str, size: &Size) 
 /// The matrix of a clip's drawing.
 fn clip(alloc: Global, head: &str, scale: u32) -> io::Result<Matrix> {
     let script = script_of_line(alloc, head, "0,0,0,,")?;
-    Ok(clip_matrix(&script.header(), scale.min(30), &Size { w: 96, h: 32 }))
+    let frame = FrameView::plain(Size { w: 96, h: 32 });
+    let scales = scales_of(&script.header(), &frame, true);
+    Ok(clip_matrix(&scales, scale.min(30)))
 }
 
 fn show_clip(rt: &HostRuntime, head: &str, scale: u32) -> io::Result<()> {

@@ -6,6 +6,7 @@ mod draws;
 mod inputs;
 mod layouts;
 mod plans;
+mod scales;
 mod shifts;
 mod telling;
 
@@ -13,6 +14,7 @@ use breaks::show_breaks;
 use inputs::fonts_of;
 use layouts::show_layouts;
 use plans::show_plans;
+use scales::show_scales;
 use shifts::show_shifts;
 use std::io;
 
@@ -51,6 +53,7 @@ fn show_row(rt: &HostRuntime, row: &str) -> io::Result<()> {
     let (kind, question) = row.split_once(' ').ok_or(unreadable())?;
     match kind {
         "breaks" => show_breaks(rt, question),
+        "scales" => show_scales(rt, question),
         "shifts" => show_shifts(rt, question),
         _ => Err(unreadable()),
     }

@@ -8,6 +8,7 @@ use crate::unreadable;
 use ass_events::events_of;
 use ass_num::Size;
 use bdf_font::FontSet;
+use frame_view::FrameView;
 use picture_plan::plan;
 use std::alloc::Global;
 use std::io;
@@ -37,7 +38,7 @@ fn show_plan(rt: &HostRuntime, fonts: &FontSet, head: &str, t: u16, lines: &str)
     let setting = Setting {
         script: &script,
         fonts,
-        size: Size { w: 48, h: 32 },
+        frame: FrameView::plain(Size { w: 48, h: 32 }),
     };
     let Ok(made) = plan(alloc, &setting, events.as_slice(), i64::from(t)) else {
         return Err(unreadable());

@@ -9,6 +9,7 @@ use Rattle.blend.specs.Blending.{Image}
 use Rattle.blend.specs.Canvases.{CanvasValue, black, drawn}
 use Rattle.mask_keys.specs.declared.plans.Draw.{Draw}
 use Rattle.mask_keys.specs.Pictures.{image_of_draw, with_draw}
+use Rattle.frame_view.specs.declared.view.FrameView.{FrameView}
 use Rattle.picture_plan.specs.Pictures.{AreDraws, IsPictureAt}
 use Rattle.plain_images.specs.PlainImages.{ArePlainImages, ArePlainOf, None, Next, PlainImagesMakeThePicture, with_plain_images}
 use Rattle.plain_images.specs.declared.plain.PlainImage.{PlainImage}
@@ -40,14 +41,16 @@ picture_is fonts size [] canvas = refl
 picture_is fonts size (draw ∷ draws) canvas = picture_is fonts size draws (with_draw fonts canvas draw)
 
 -- the listed images make the picture of their draws
-pub listed_picture : (script : ScriptValue) (fonts : List FontValue) (events : List Event) (t : ℤ) (size : Size) (draws : List Draw) (images : List PlainImage)
-    → PlainImagesMakeThePicture → AreDraws script fonts events t size draws → ArePlainImages size (map (image_of_draw fonts) draws) images
-    → IsPictureAt script fonts events t size (with_plain_images (black size.w size.h) images)
-listed_picture script fonts events t size draws images law are plain = record {
-  draws = draws;
-  are_draws = are;
-  value = law size (black size.w size.h) (map (image_of_draw fonts) draws) images refl refl (length-replicate (3 * (size.w * size.h)) 0) plain ∙ sym (picture_is fonts size draws (black size.w size.h));
-}
+pub listed_picture : (script : ScriptValue) (fonts : List FontValue) (events : List Event) (t : ℤ) (frame : FrameView) (draws : List Draw) (images : List PlainImage)
+    → PlainImagesMakeThePicture → AreDraws script fonts events t frame draws → ArePlainImages frame.size (map (image_of_draw fonts) draws) images
+    → IsPictureAt script fonts events t frame (with_plain_images (black frame.size.w frame.size.h) images)
+listed_picture script fonts events t frame draws images law are plain =
+    let size = frame.size in
+    record {
+      draws = draws;
+      are_draws = are;
+      value = law size (black size.w size.h) (map (image_of_draw fonts) draws) images refl refl (length-replicate (3 * (size.w * size.h)) 0) plain ∙ sym (picture_is fonts size draws (black size.w size.h));
+    }
 
 -- drawing keeps the size of a canvas
 pub kept_width : (fonts : List FontValue) (draws : List Draw) (canvas : CanvasValue) → (fold (with_draw fonts) canvas draws).w ≡ canvas.w

@@ -7,16 +7,17 @@ use Rattle.bdf_font.specs.Fonts.{FontValue}
 use Rattle.blend.specs.Blending.{Image}
 use Rattle.mask_keys.specs.declared.plans.Draw.{Draw}
 use Rattle.mask_keys.specs.Pictures.{image_of_draw}
+use Rattle.frame_view.specs.declared.view.FrameView.{FrameView}
 use Rattle.picture_plan.specs.Pictures.{AreDraws}
 use Rattle.plain_images.specs.PlainImages.{ArePlainImages, ArePlainOf}
 use Rattle.plain_images.specs.declared.plain.PlainImage.{PlainImage}
 use Rattle.player.specs.declared.player.Listed.{Listed}
 
--- The list has the plain images of the draws of what events show at t, in milliseconds, in a frame of a size: draw by draw, the lowest first.
-pub record IsListOf (script : ScriptValue) (fonts : List FontValue) (events : List Event) (t : ℤ) (size : Size) (images : List PlainImage) : Type 0 where
+-- The list has the plain images of the draws of what events show at t, in milliseconds, in a frame: draw by draw, the lowest first.
+pub record IsListOf (script : ScriptValue) (fonts : List FontValue) (events : List Event) (t : ℤ) (frame : FrameView) (images : List PlainImage) : Type 0 where
   pub draws : List Draw
-  pub are_draws : AreDraws script fonts events t size draws
-  pub are_plain : ArePlainImages size (map (image_of_draw fonts) draws) images
+  pub are_draws : AreDraws script fonts events t frame draws
+  pub are_plain : ArePlainImages frame.size (map (image_of_draw fonts) draws) images
 
 -- The plain images of an image were added to a list.
 abbrev pub AddsDraw : Size → Image → List PlainImage → List PlainImage → Type 0

@@ -6,6 +6,7 @@ ghost use Rattle.blend.specs.Canvases.{black};
 ghost use Rattle.mask_keys.specs.Keys.{IsValidPlan};
 ghost use Rattle.mask_keys.specs.Outlines.{glyph_counts};
 ghost use Rattle.mask_keys.specs.Pictures.{image_of_draw};
+ghost use Rattle.frame_view.specs.FrameViews.{IsFrameView, plain_frame};
 ghost use Rattle.picture_plan.specs.Pictures.{IsPictureAt};
 ghost use Rattle.plain_images.specs.PlainImages.{ArePlainImages, LiesInFrame, with_plain_images};
 ghost use Rattle.player.specs.Changes.{IsListChange};
@@ -17,6 +18,7 @@ use crate::listing::{byte_count, images_of_plan};
 use crate::player::{Listed, Player};
 use ass_num::{Mem, Size};
 use frame_change::ChangeKind;
+use frame_view::FrameView;
 use mask_keys::Plan;
 use plain_images::{PlainImage, laws};
 use std::alloc::Global;
@@ -62,29 +64,45 @@ impl Player {
         Ok(kind)
     }
 
-    /// Lists what the live events show at an instant, in milliseconds, in a frame of a size, as plain images
+    /// Lists what the live events show at an instant, in milliseconds, in a frame as the script sees it, as plain images
     /// (`ass_render_frame` in libass `ass.h`), and tells how the list differs from the one before, which at first is empty.
     /// An `Err` changes nothing.
-    pub fn images(&mut self, alloc: Global, t: i64, size: &Size) -> Mem<ChangeKind>
+    pub fn images_in(&mut self, alloc: Global, t: i64, frame: &FrameView) -> Mem<ChangeKind>
         requires fonts { 0 < length self.old.fonts }
         requires instant { IsWithin max_instant t }
-        requires size { IsFrameSize size.now }
+        requires frame { IsFrameView frame.now }
         // Painted in order, with nothing hidden, they make the picture, and all of them lie in the frame.
-        ensures picture { OnOk result (IsPictureAt self.old.script self.old.fonts self.old.track.events t size.now
-            (with_plain_images (black size.now.w size.now.h) self.new.images)) }
-        ensures frame { OnOk result (All (LiesInFrame size.now) self.new.images) }
+        ensures picture { OnOk result (IsPictureAt self.old.script self.old.fonts self.old.track.events t frame.now
+            (with_plain_images (black frame.now.size.w frame.now.size.h) self.new.images)) }
+        ensures within { OnOk result (All (LiesInFrame frame.now.size) self.new.images) }
         // Which they are.
-        ensures list { OnOk result (IsListOf self.old.script self.old.fonts self.old.track.events t size.now self.new.images) }
+        ensures list { OnOk result (IsListOf self.old.script self.old.fonts self.old.track.events t frame.now self.new.images) }
         ensures change { IfOk result (λ kind. IsListChange kind self.old.images self.new.images) }
         ensures else_same { OnOk result (self.new ≡ record self.old { images = self.new.images }) }
         ensures err { OnErr result (self.new ≡ self.old) }
     {
         laws::plain_images_make_the_picture();
-        let plan = self.plan_at(alloc, t, size)?;
-        if self.has_listed(&plan, size) {
+        let plan = self.plan_at(alloc, t, frame)?;
+        if self.has_listed(&plan, &frame.size) {
             return Ok(ChangeKind::Same);
         }
-        self.list_anew(alloc, plan, size)
+        self.list_anew(alloc, plan, &frame.size)
+    }
+
+    /// The same in a frame of which the size alone is known.
+    pub fn images(&mut self, alloc: Global, t: i64, size: &Size) -> Mem<ChangeKind>
+        requires fonts { 0 < length self.old.fonts }
+        requires instant { IsWithin max_instant t }
+        requires size { IsFrameSize size.now }
+        ensures picture { OnOk result (IsPictureAt self.old.script self.old.fonts self.old.track.events t (plain_frame size.now)
+            (with_plain_images (black size.now.w size.now.h) self.new.images)) }
+        ensures frame { OnOk result (All (LiesInFrame size.now) self.new.images) }
+        ensures list { OnOk result (IsListOf self.old.script self.old.fonts self.old.track.events t (plain_frame size.now) self.new.images) }
+        ensures change { IfOk result (λ kind. IsListChange kind self.old.images self.new.images) }
+        ensures else_same { OnOk result (self.new ≡ record self.old { images = self.new.images }) }
+        ensures err { OnErr result (self.new ≡ self.old) }
+    {
+        self.images_in(alloc, t, &FrameView::plain(*size))
     }
 
     /// The images that were listed last, the lowest first.

@@ -1,16 +1,20 @@
 -- The numbers of jobs are within their limits.
-use Rattle.std.proofs.Common.{◌≡◌, ℕ, ◌≤◌, ◌&&◌, Bool, true, false, cond, List, Option, Some, None, Result, Ok, Err, IfOk, nat_le, refl, subst, arith, leb-true}
-use Rattle.std.specs.Prelude.{IfSome, option_and_then, option_map, pos, unwrap_or}
+use Rattle.std.proofs.Common.{◌≡◌, ℕ, ◌≤◌, ◌&&◌, Bool, true, false, cond, List, Option, Some, None, Result, Ok, Err, IfOk, nat_le, [], ◌∷◌, ◌==◌, ℤ, refl, subst, arith, leb-true}
+use Rattle.std.specs.Prelude.{IfSome, neg_ℤ, option_and_then, option_map, pos, unwrap_or}
 use Rattle.std.specs.List.{after_first, before_first, list_any}
 use Rattle.std.proofs.lemmas.Int.{ints}
-use Rattle.ass_num.specs.Limits.{max_frame_side, max_instant}
+use Rattle.ass_num.specs.Limits.{IsWithin, max_frame_side, max_instant}
+use Rattle.ass_num.specs.declared.size.Size.{Size}
+use Rattle.ass_script.specs.Words.{is_comma}
+use Rattle.frame_view.specs.FrameViews.{IsAspect, IsContentRect, IsStorage}
+use Rattle.frame_view.specs.Limits.{max_aspect_parts, max_layout_side, max_letter_scale, whole_letter_scale}
 use Rattle.clap.specs.Walk.{Row}
 use Rattle.clap.specs.Simple.{subcommand_of}
 use Rattle.run_words.specs.Limits.{max_ahead, max_bands, max_batch, max_budget, max_events, max_seed, max_times, max_workers, usual_batch, usual_budget}
-use Rattle.run_words.specs.Asked.{budget_at, first_bad, job_for, play_of, size_at, smallest_size, text_at, unless_bad}
+use Rattle.run_words.specs.Asked.{budget_at, first_bad, frame_at, job_for, play_of, size_at, smallest_size, text_at, unless_bad}
 use Rattle.run_words.specs.Grammar.{is_taken, words_app}
-use Rattle.run_words.specs.Jobs.{IsNumberBetween, IsFrame, IsJob, IsPlay, IsMoment, IsStep}
-use Rattle.run_words.specs.Values.{is_x, number_in, number_within, sides_in, size_in}
+use Rattle.run_words.specs.Jobs.{IsNumberBetween, IsFrame, IsSeenFrame, IsJob, IsPlay, IsMoment, IsStep}
+use Rattle.run_words.specs.Values.{aspect_in, column_in, content_in, is_slash, is_x, number_in, number_within, pixel_in, rect_at, rect_behind, shape_in, sides_in, size_in, size_within, storage_in}
 use Rattle.run_words.specs.Words.{IsReading, command_named, job_in, job_of, reading_in}
 use Rattle.run_words.specs.declared.argument.Argument.{Argument}
 use Rattle.run_words.specs.declared.argument.Argument.TheVariants as argument
@@ -47,24 +51,97 @@ pub between : (least most : ℕ) (text : Option (List ℕ)) (absent : ℕ) → l
 between least most text absent low high =
     or_absent (IsNumberBetween least most) (option_and_then (number_within least most) text) absent (low, high) (given (IsNumberBetween least most) (number_within least most) text (within least most))
 
-sides : (w h : Option ℕ) → IfSome w (IsNumberBetween 1 max_frame_side) → IfSome h (IsNumberBetween 1 max_frame_side) →
-    IfSome (option_and_then (λ w. option_map (λ h. record { w = w; h = h }) h) w) IsFrame
-sides None h wide high = tt
-sides (Some w) None wide high = tt
-sides (Some w) (Some h) wide high = (wide, high)
+abbrev AreSides : ℕ → Size → Type 0
+AreSides most size = IsNumberBetween 1 most size.w × IsNumberBetween 1 most size.h
 
--- a size of a text is that of a frame
-pub frame_size : (text : List ℕ) → IfSome (size_in text) IsFrame
-frame_size text = cases (list_any is_x text)
+sides : (most : ℕ) (w h : Option ℕ) → IfSome w (IsNumberBetween 1 most) → IfSome h (IsNumberBetween 1 most)
+    → IfSome (option_and_then (λ w. option_map (λ h. record { w = w; h = h }) h) w) (AreSides most)
+sides most None h wide high = tt
+sides most (Some w) None wide high = tt
+sides most (Some w) (Some h) wide high = (wide, high)
+
+-- a size of a text has sides up to the most
+sides_within : (most : ℕ) (text : List ℕ) → IfSome (size_within most text) (AreSides most)
+sides_within most text = cases (list_any is_x text)
   where
-    cases : (b : Bool) → IfSome (cond b (sides_in (before_first is_x text) (after_first is_x text)) None) IsFrame
-    cases true = sides (number_within 1 max_frame_side (before_first is_x text)) (number_within 1 max_frame_side (after_first is_x text)) (within 1 max_frame_side (before_first is_x text)) (within 1 max_frame_side (after_first is_x text))
+    cases : (b : Bool) → IfSome (cond b (sides_in most (before_first is_x text) (after_first is_x text)) None) (AreSides most)
+    cases true = sides most (number_within 1 most (before_first is_x text)) (number_within 1 most (after_first is_x text)) (within 1 most (before_first is_x text)) (within 1 most (after_first is_x text))
     cases false = tt
 
-frame_at : (rows : List Row) → IsFrame (size_at rows)
-frame_at rows =
-    or_absent IsFrame (option_and_then size_in (text_at rows argument.Size)) smallest_size ((omega arith, omega arith), (omega arith, omega arith))
-    (given IsFrame size_in (text_at rows argument.Size) frame_size)
+storage_within : (size : Option Size) → IfSome size (AreSides max_layout_side) → IfSome size IsStorage
+storage_within None h = tt
+storage_within (Some size) h = record { wide = h.0; high = h.1 }
+
+shape : (wide high : Option ℕ) → IfSome wide (IsNumberBetween 1 max_aspect_parts) → IfSome high (IsNumberBetween 1 max_aspect_parts)
+    → IfSome (option_and_then (λ n. option_map (λ d. record { wide = n; high = d }) high) wide) IsAspect
+shape None high h k = tt
+shape (Some n) None h k = tt
+shape (Some n) (Some d) h k = record { some_wide = h.0; some_high = k.0; wide = h.1; high = k.1 }
+
+aspect_within : (text : List ℕ) → IfSome (aspect_in text) IsAspect
+aspect_within text = cases (list_any is_slash text)
+  where
+    cases : (b : Bool) → IfSome (cond b (shape_in (before_first is_slash text) (after_first is_slash text)) None) IsAspect
+    cases true = shape (number_within 1 max_aspect_parts (before_first is_slash text)) (number_within 1 max_aspect_parts (after_first is_slash text)) (within 1 max_aspect_parts (before_first is_slash text)) (within 1 max_aspect_parts (after_first is_slash text))
+    cases false = tt
+
+-- a place of a text lies in the frame or as far around it
+below_zero : (n : Option ℕ) → IfSome n (IsNumberBetween 0 max_frame_side) → IfSome (option_map neg_ℤ (option_map (λ n. pos n) n)) (IsWithin max_frame_side)
+below_zero None h = tt
+below_zero (Some n) h = (omega (arith, ints, h.1), omega (arith, ints, h.1))
+
+from_zero : (n : Option ℕ) → IfSome n (IsNumberBetween 0 max_frame_side) → IfSome (option_map (λ n. pos n) n) (IsWithin max_frame_side)
+from_zero None h = tt
+from_zero (Some n) h = (omega (arith, ints, h.1), omega (arith, ints, h.1))
+
+pixel_within : (text : List ℕ) → IfSome (pixel_in text) (IsWithin max_frame_side)
+pixel_within [] = tt
+pixel_within (c ∷ text) = cases (c == 45)
+  where
+    cases : (b : Bool) → IfSome (cond b (option_map neg_ℤ (column_in text)) (column_in (c ∷ text))) (IsWithin max_frame_side)
+    cases true = below_zero (number_within 0 max_frame_side text) (within 0 max_frame_side text)
+    cases false = from_zero (number_within 0 max_frame_side (c ∷ text)) (within 0 max_frame_side (c ∷ text))
+
+rect_within : (left top : Option ℤ) (size : Option Size) → IfSome left (IsWithin max_frame_side) → IfSome top (IsWithin max_frame_side) → IfSome size (AreSides max_frame_side)
+    → IfSome (rect_at left top size) IsContentRect
+rect_within None top size h k l = tt
+rect_within (Some x) None size h k l = tt
+rect_within (Some x) (Some y) None h k l = tt
+rect_within (Some x) (Some y) (Some s) h k l = record { left = h; top = k; some_column = l.0.0; some_row = l.1.0; wide = l.0.1; high = l.1.1 }
+
+behind_within : (left : Option ℤ) (text : List ℕ) → IfSome left (IsWithin max_frame_side) → IfSome (rect_behind left text) IsContentRect
+behind_within left text h = cases (list_any is_comma text)
+  where
+    cases : (b : Bool) → IfSome (cond b (rect_at left (pixel_in (before_first is_comma text)) (size_in (after_first is_comma text))) None) IsContentRect
+    cases true = rect_within left (pixel_in (before_first is_comma text)) (size_in (after_first is_comma text)) h (pixel_within (before_first is_comma text)) (sides_within max_frame_side (after_first is_comma text))
+    cases false = tt
+
+content_within : (text : List ℕ) → IfSome (content_in text) IsContentRect
+content_within text = cases (list_any is_comma text)
+  where
+    cases : (b : Bool) → IfSome (cond b (rect_behind (pixel_in (before_first is_comma text)) (after_first is_comma text)) None) IsContentRect
+    cases true = behind_within (pixel_in (before_first is_comma text)) (after_first is_comma text) (pixel_within (before_first is_comma text))
+    cases false = tt
+
+size_range : (rows : List Row) → IsFrame (size_at rows)
+size_range rows =
+    or_absent (AreSides max_frame_side) (option_and_then size_in (text_at rows argument.Size)) smallest_size ((omega arith, omega arith), (omega arith, omega arith))
+    (given (AreSides max_frame_side) size_in (text_at rows argument.Size) (sides_within max_frame_side))
+
+frame_within : (rows : List Row) → IsSeenFrame (frame_at rows)
+frame_within rows =
+    let size = size_range rows in
+    record {
+      size = size;
+      seen =
+          record {
+            size = record { wide = size.0.1; high = size.1.1 };
+            content = given IsContentRect content_in (text_at rows argument.Content) content_within;
+            storage = given IsStorage storage_in (text_at rows argument.Storage) (λ text. storage_within (storage_in text) (sides_within max_layout_side text));
+            aspect = given IsAspect aspect_in (text_at rows argument.Aspect) aspect_within;
+            scale = (between 0 max_letter_scale (text_at rows argument.Scale) whole_letter_scale (omega arith) (omega arith)).1;
+          };
+    }
 
 moment : (n : ℕ) → IsNumberBetween 0 max_instant n → IsMoment (pos n)
 moment n h = (omega (arith, ints), omega (arith, ints))
@@ -80,7 +157,7 @@ play_within rows = record {
   from = moment _ (between 0 max_instant (text_at rows argument.From) 0 (omega arith) (omega arith));
   to = moment _ (between 0 max_instant (text_at rows argument.To) 0 (omega arith) (omega arith));
   step = step _ (between 1 max_instant (text_at rows argument.Step) 1 (omega arith) (omega arith));
-  size = frame_at rows;
+  size = size_range rows;
   feeders = between 1 max_workers (text_at rows argument.Feeders) 1 (omega arith) (omega arith);
   renderers = between 1 max_workers (text_at rows argument.Renderers) 1 (omega arith) (omega arith);
   batch = between 1 max_batch (text_at rows argument.Batch) usual_batch (omega arith) (omega arith);
@@ -93,7 +170,7 @@ play_within rows = record {
 
 job_within : (rows : List Row) (command : Command) → IsJob (job_for rows command)
 job_within rows Check = tt
-job_within rows Frame = (moment _ (between 0 max_instant (text_at rows argument.At) 0 (omega arith) (omega arith)), frame_at rows, budget_at_most rows)
+job_within rows Frame = (moment _ (between 0 max_instant (text_at rows argument.At) 0 (omega arith) (omega arith)), frame_within rows, budget_at_most rows)
 job_within rows Play = play_within rows
 job_within rows Selftest = (
   (between 0 max_seed (text_at rows argument.Seed) 0 (omega arith) (omega arith)).1,
@@ -104,7 +181,7 @@ job_within rows Changes = (
   moment _ (between 0 max_instant (text_at rows argument.From) 0 (omega arith) (omega arith)),
   moment _ (between 0 max_instant (text_at rows argument.To) 0 (omega arith) (omega arith)),
   step _ (between 1 max_instant (text_at rows argument.Step) 1 (omega arith) (omega arith)),
-  frame_at rows,
+  frame_within rows,
   budget_at_most rows,
 )
 job_within rows Write = (

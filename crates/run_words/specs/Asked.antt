@@ -1,12 +1,16 @@
 -- Public: what a command is asked for, by what was found for its arguments.
-use Rattle.std.specs.Prelude.{ℕ, pos, Bool, true, not, List, [], Option, Some, None, Result, Ok, Err, find, unwrap_or, option_and_then}
+use Rattle.std.specs.Prelude.{◌≡◌, ℕ, pos, Bool, true, false, not, List, [], Option, Some, None, Result, Ok, Err, find, unwrap_or, option_and_then}
 use Rattle.std.specs.Option.{option_map_or}
 use Rattle.ass_num.specs.declared.size.Size.{Size}
+use Rattle.frame_view.specs.FrameViews.{plain_frame}
+use Rattle.frame_view.specs.Limits.{whole_letter_scale}
+use Rattle.frame_view.specs.declared.view.FrameView.{FrameView}
+use Rattle.frame_view.specs.declared.view.LetterWidth.TheVariants.{Canvas}
 use Rattle.clap.specs.Walk.{Row, all_of, first_of}
 use Rattle.run_words.specs.Arguments.{argument_name, argument_kind, shown_name}
 use Rattle.run_words.specs.Commands.{arguments_of}
 use Rattle.run_words.specs.Limits.{usual_batch, usual_budget}
-use Rattle.run_words.specs.Values.{is_of_kind, mode_in, number_within, size_in}
+use Rattle.run_words.specs.Values.{aspect_in, content_in, is_of_kind, letters_in, mode_in, number_within, size_in, storage_in}
 use Rattle.run_words.specs.declared.argument.Argument.{Argument}
 use Rattle.run_words.specs.declared.argument.Argument.TheVariants as argument
 use Rattle.run_words.specs.declared.argument.Kind.{Kind}
@@ -48,6 +52,18 @@ smallest_size = record { w = 1; h = 1 }
 abbrev pub size_at : List Row → Size
 size_at rows = unwrap_or (option_and_then size_in (text_at rows argument.Size)) smallest_size
 
+-- what the frames are to the script
+abbrev pub frame_at : List Row → FrameView
+frame_at rows = record {
+  size = size_at rows;
+  content = option_and_then content_in (text_at rows argument.Content);
+  storage = option_and_then storage_in (text_at rows argument.Storage);
+  aspect = option_and_then aspect_in (text_at rows argument.Aspect);
+  letters = unwrap_or (option_and_then letters_in (text_at rows argument.Letters)) Canvas;
+  scale = number_at rows argument.Scale whole_letter_scale;
+  bars = false;
+}
+
 abbrev pub mode_at : List Row → Mode
 mode_at rows = unwrap_or (option_and_then mode_in (text_at rows argument.Mode)) Settled
 
@@ -83,11 +99,11 @@ play_of rows = record {
 -- the job of a command
 abbrev pub job_for : List Row → Command → Job
 job_for rows command.Check = Check (script_at rows) (fonts_at rows)
-job_for rows command.Frame = Frame (pos (number_at rows argument.At 0)) (size_at rows) (budget_at rows) (script_at rows) (fonts_at rows)
+job_for rows command.Frame = Frame (pos (number_at rows argument.At 0)) (frame_at rows) (budget_at rows) (script_at rows) (fonts_at rows)
 job_for rows command.Play = Play (play_of rows) (script_at rows) (fonts_at rows)
 job_for rows command.Selftest = Selftest (number_at rows argument.Seed 0) (number_at rows argument.Events 1) (number_at rows argument.Workers 1)
 job_for rows command.Changes =
-    Changes (pos (number_at rows argument.From 0)) (pos (number_at rows argument.To 0)) (pos (number_at rows argument.Step 1)) (size_at rows) (budget_at rows) (script_at rows) (fonts_at rows)
+    Changes (pos (number_at rows argument.From 0)) (pos (number_at rows argument.To 0)) (pos (number_at rows argument.Step 1)) (frame_at rows) (budget_at rows) (script_at rows) (fonts_at rows)
 job_for rows command.Write = Write (pos (number_at rows argument.Later 0)) (pos (number_at rows argument.Earlier 0)) (script_at rows)
 
 abbrev pub unless_bad : Option Argument → Job → Result Job WordsFault
@@ -97,3 +113,11 @@ unless_bad (Some argument) job = Err (Value (shown_name argument))
 -- the job of a command, or the first of its arguments of which the text isn't of its rule
 abbrev pub command_reading : List Row → Command → Result Job WordsFault
 command_reading rows command = unless_bad (first_bad rows command) (job_for rows command)
+
+-- ---- a law
+
+-- Of a frame that has none of these words nothing but its size is known.
+abbrev pub PlainFramesStay : Type 0
+PlainFramesStay =
+    (rows : List Row) → text_at rows argument.Content ≡ None → text_at rows argument.Storage ≡ None → text_at rows argument.Aspect ≡ None
+    → text_at rows argument.Letters ≡ None → text_at rows argument.Scale ≡ None → frame_at rows ≡ plain_frame (size_at rows)

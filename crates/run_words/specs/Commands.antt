@@ -1,5 +1,5 @@
 -- Public: the commands, and the arguments that each takes (docs/PROGRAM.md).
-use Rattle.std.specs.Prelude.{ℕ, List, [], ◌∷◌, codes}
+use Rattle.std.specs.Prelude.{ℕ, List, [], ◌∷◌, ◌++◌, codes}
 use Rattle.run_words.specs.declared.argument.Argument.{Argument}
 use Rattle.run_words.specs.declared.argument.Argument.TheVariants as argument
 use Rattle.run_words.specs.declared.command.Command.{Command}
@@ -20,13 +20,17 @@ command_name Write = codes "write"
 abbrev pub file_arguments : List Argument
 file_arguments = argument.Script ∷ argument.Fonts ∷ []
 
+-- what a frame is to a script
+abbrev pub frame_arguments : List Argument
+frame_arguments = argument.Size ∷ argument.Storage ∷ argument.Aspect ∷ argument.Content ∷ argument.Letters ∷ argument.Scale ∷ []
+
 -- what a command takes: the options in the order in which their values are looked at, and then the positionals
 abbrev pub arguments_of : Command → List Argument
 arguments_of Check = file_arguments
-arguments_of Frame = argument.At ∷ argument.Size ∷ argument.Budget ∷ file_arguments
+arguments_of Frame = argument.At ∷ frame_arguments ++ argument.Budget ∷ file_arguments
 arguments_of Play =
     argument.From ∷ argument.To ∷ argument.Step ∷ argument.Size ∷ argument.Feeders ∷ argument.Renderers ∷ argument.Batch ∷ argument.Again
     ∷ argument.Times ∷ argument.Ahead ∷ argument.Bands ∷ argument.Budget ∷ argument.Mode ∷ file_arguments
 arguments_of Selftest = argument.Workers ∷ argument.Seed ∷ argument.Events ∷ []
-arguments_of Changes = argument.From ∷ argument.To ∷ argument.Step ∷ argument.Size ∷ argument.Budget ∷ file_arguments
+arguments_of Changes = argument.From ∷ argument.To ∷ argument.Step ∷ frame_arguments ++ argument.Budget ∷ file_arguments
 arguments_of Write = argument.Later ∷ argument.Earlier ∷ argument.Script ∷ []

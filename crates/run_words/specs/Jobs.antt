@@ -2,6 +2,8 @@
 use Rattle.std.specs.Prelude.{ℕ, ℤ, pos, ◌≤◌, ◌≤ℤ◌}
 use Rattle.ass_num.specs.Limits.{max_frame_side, max_instant}
 use Rattle.ass_num.specs.declared.size.Size.{Size}
+use Rattle.frame_view.specs.FrameViews.{IsFrameView}
+use Rattle.frame_view.specs.declared.view.FrameView.{FrameView}
 use Rattle.run_words.specs.Limits.{max_ahead, max_bands, max_batch, max_budget, max_events, max_seed, max_times, max_workers}
 use Rattle.run_words.specs.declared.job.Job.{Job}
 use Rattle.run_words.specs.declared.job.Job.TheVariants.{Check, Frame, Play, Selftest, Changes, Write}
@@ -23,6 +25,11 @@ IsStep t = (pos 1 ≤ℤ t) × (t ≤ℤ pos max_instant)
 abbrev pub IsFrame : Size → Type 0
 IsFrame size = IsNumberBetween 1 max_frame_side size.w × IsNumberBetween 1 max_frame_side size.h
 
+-- the same, as a script sees it
+pub record IsSeenFrame (frame : FrameView) : Type 0 where
+  pub size : IsFrame frame.size
+  pub seen : IsFrameView frame
+
 pub record IsPlay (play : PlayJob) : Type 0 where
   pub from : IsMoment play.from
   pub to : IsMoment play.to
@@ -40,8 +47,8 @@ pub record IsPlay (play : PlayJob) : Type 0 where
 -- The numbers of a job are within their limits.
 abbrev pub IsJob : Job → Type 0
 IsJob (Check script fonts) = Unit {0}
-IsJob (Frame at size budget script fonts) = IsMoment at × IsFrame size × (budget ≤ max_budget)
+IsJob (Frame at frame budget script fonts) = IsMoment at × IsSeenFrame frame × (budget ≤ max_budget)
 IsJob (Play play script fonts) = IsPlay play
 IsJob (Selftest seed events workers) = (seed ≤ max_seed) × IsNumberBetween 1 max_events events × IsNumberBetween 1 max_workers workers
-IsJob (Changes from to step size budget script fonts) = IsMoment from × IsMoment to × IsStep step × IsFrame size × (budget ≤ max_budget)
+IsJob (Changes from to step frame budget script fonts) = IsMoment from × IsMoment to × IsStep step × IsSeenFrame frame × (budget ≤ max_budget)
 IsJob (Write later earlier script) = IsMoment later × IsMoment earlier

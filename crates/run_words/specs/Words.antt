@@ -51,10 +51,10 @@ UsageIsOfGrammar = (words : List (List ℕ)) → (job_of words ≡ Err Usage) �
 -- the command that asks for the job
 abbrev pub command_asked : Job → Command
 command_asked (Check script fonts) = command.Check
-command_asked (Frame at size budget script fonts) = command.Frame
+command_asked (Frame at frame budget script fonts) = command.Frame
 command_asked (Play play script fonts) = command.Play
 command_asked (Selftest seed events workers) = command.Selftest
-command_asked (Changes from to step size budget script fonts) = command.Changes
+command_asked (Changes from to step frame budget script fonts) = command.Changes
 command_asked (Write later earlier script) = command.Write
 
 -- Words that ask for a job begin with the word that names its command.

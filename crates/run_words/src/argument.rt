@@ -12,6 +12,15 @@ pub const MAX_INSTANT: u64 = 4_000_000_000_000;
 /// The most columns and the most rows of a frame.
 pub const MAX_FRAME_SIDE: u64 = 4096;
 
+/// The most columns and the most rows of a video.
+pub const MAX_STORAGE_SIDE: u64 = 65_536;
+
+/// The most parts of a pixel's width, or of its height.
+pub const MAX_ASPECT_PARTS: u64 = 65_536;
+
+/// The largest size of letters, in thousandths.
+pub const MAX_LETTER_SCALE: u64 = 100_000;
+
 /// The most feeders, renderers or workers.
 pub const MAX_WORKERS: u64 = 8;
 
@@ -43,6 +52,14 @@ pub enum Kind {
     Number(u64, u64),
     /// The columns and the rows of a frame, with an `x` between.
     FrameSize,
+    /// Those of a video.
+    VideoSize,
+    /// The width and the height of a pixel, with a `/` between.
+    PixelShape,
+    /// The left and the top of a picture in the frame, and its size, with commas between.
+    PictureRect,
+    /// `script` or `aspect`.
+    LettersRule,
     /// `live` or `settled`.
     PlayMode,
     /// The name of a file, which is any text.
@@ -57,6 +74,11 @@ pub enum Argument {
     To,
     Step,
     Size,
+    Storage,
+    Aspect,
+    Content,
+    Letters,
+    Scale,
     Feeders,
     Renderers,
     Batch,
@@ -86,6 +108,11 @@ impl Argument {
             Argument::To => "to",
             Argument::Step => "step",
             Argument::Size => "size",
+            Argument::Storage => "storage",
+            Argument::Aspect => "aspect",
+            Argument::Content => "content",
+            Argument::Letters => "letters",
+            Argument::Scale => "scale",
             Argument::Feeders => "feeders",
             Argument::Renderers => "renderers",
             Argument::Batch => "batch",
@@ -134,6 +161,11 @@ impl Argument {
                 Kind::Number(0, MAX_INSTANT),
             Argument::Step => Kind::Number(1, MAX_INSTANT),
             Argument::Size => Kind::FrameSize,
+            Argument::Storage => Kind::VideoSize,
+            Argument::Aspect => Kind::PixelShape,
+            Argument::Content => Kind::PictureRect,
+            Argument::Letters => Kind::LettersRule,
+            Argument::Scale => Kind::Number(0, MAX_LETTER_SCALE),
             Argument::Feeders | Argument::Renderers | Argument::Workers => {
                 Kind::Number(1, MAX_WORKERS)
             }

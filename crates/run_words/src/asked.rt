@@ -1,16 +1,21 @@
 //! What a command is asked for, by what was found for its arguments.
 
-ghost use Rattle.std.specs.Prelude.{◌≡◌, ◌≤◌, ◌^◌, ◌<◌, IfOk, map, pos, option_map};
+ghost use Rattle.std.specs.Prelude.{◌≡◌, ◌≤◌, ◌^◌, ◌<◌, IfOk, map, pos, option_and_then, option_map, unwrap_or};
 ghost use Rattle.clap.specs.Words.{all_of, found_of, rows_of};
+ghost use Rattle.frame_view.specs.declared.view.LetterWidth.TheVariants.{Canvas};
 ghost use Rattle.run_words.specs.Arguments.{argument_name, most_of};
-ghost use Rattle.run_words.specs.Asked.{fits, first_bad, fonts_at, job_for, mode_at, number_at, play_of, script_at, size_at, text_at};
+ghost use Rattle.run_words.specs.Asked.{fits, first_bad, fonts_at, frame_at, job_for, mode_at, number_at, play_of, script_at, size_at, text_at};
+ghost use Rattle.run_words.specs.Values.{aspect_in, content_in, letters_in, storage_in};
 
 use crate::argument::{Argument, Kind};
 use crate::command::Command;
 use crate::job::{Job, Mode, PlayJob};
-use crate::values::{is_of_kind, mode_in, number_within, size_in};
+use crate::values::{
+    aspect_in, content_in, is_of_kind, letters_in, mode_in, number_within, size_in, storage_in,
+};
 use ass_num::{Items, Mem, Size, Text};
 use clap::ArgMatches;
+use frame_view::{FrameView, LetterWidth, PixelAspect, PixelRect};
 use std::alloc::Global;
 
 /// What stands for a budget that isn't given, in bytes.
@@ -96,6 +101,55 @@ fn size_at(found: &ArgMatches) -> Size
     }
 }
 
+/// Where the picture stands in the frames.
+fn content_at(found: &ArgMatches) -> Option<PixelRect>
+    ensures { result ≡ option_and_then content_in (text_at (rows_of (found_of found.now)) Argument.Content) }
+{
+    content_in(text_at(found, Argument::Content)?)
+}
+
+/// The size of the video.
+fn storage_at(found: &ArgMatches) -> Option<Size>
+    ensures { result ≡ option_and_then storage_in (text_at (rows_of (found_of found.now)) Argument.Storage) }
+{
+    storage_in(text_at(found, Argument::Storage)?)
+}
+
+/// The shape of its pixels.
+fn aspect_at(found: &ArgMatches) -> Option<PixelAspect>
+    ensures { result ≡ option_and_then aspect_in (text_at (rows_of (found_of found.now)) Argument.Aspect) }
+{
+    aspect_in(text_at(found, Argument::Aspect)?)
+}
+
+/// The rule of letters, or `Canvas`.
+fn letters_at(found: &ArgMatches) -> LetterWidth
+    ensures { result ≡ unwrap_or (option_and_then letters_in (text_at (rows_of (found_of found.now)) Argument.Letters)) Canvas }
+{
+    match text_at(found, Argument::Letters) {
+        Some(text) => match letters_in(text) {
+            Some(letters) => letters,
+            None => LetterWidth::Canvas,
+        },
+        None => LetterWidth::Canvas,
+    }
+}
+
+/// What the frames are to the script.
+fn frame_at(found: &ArgMatches) -> FrameView
+    ensures { result ≡ frame_at (rows_of (found_of found.now)) }
+{
+    FrameView {
+        size: size_at(found),
+        content: content_at(found),
+        storage: storage_at(found),
+        aspect: aspect_at(found),
+        letters: letters_at(found),
+        scale: count_at(found, Argument::Scale, 1_000),
+        bars: false,
+    }
+}
+
 /// The mode, or `Settled`.
 fn mode_at(found: &ArgMatches) -> Mode
     ensures { result ≡ mode_at (rows_of (found_of found.now)) }
@@ -176,7 +230,7 @@ pub fn job_for(alloc: Global, found: &ArgMatches, command: Command) -> Mem<Job>
         Command::Check => Ok(Job::Check(script_at(alloc, found)?, fonts_at(alloc, found)?)),
         Command::Frame => Ok(Job::Frame(
             instant_at(found, Argument::At, 0),
-            size_at(found),
+            frame_at(found),
             number_at(found, Argument::Budget, ABSENT_BUDGET),
             script_at(alloc, found)?,
             fonts_at(alloc, found)?,
@@ -195,7 +249,7 @@ pub fn job_for(alloc: Global, found: &ArgMatches, command: Command) -> Mem<Job>
             instant_at(found, Argument::From, 0),
             instant_at(found, Argument::To, 0),
             instant_at(found, Argument::Step, 1),
-            size_at(found),
+            frame_at(found),
             number_at(found, Argument::Budget, ABSENT_BUDGET),
             script_at(alloc, found)?,
             fonts_at(alloc, found)?,

@@ -28,9 +28,14 @@ static COMMANDS: [Command; 6] = [
 
 static CHECK: [Argument; 2] = [Argument::Script, Argument::Fonts];
 
-static FRAME: [Argument; 5] = [
+static FRAME: [Argument; 10] = [
     Argument::At,
     Argument::Size,
+    Argument::Storage,
+    Argument::Aspect,
+    Argument::Content,
+    Argument::Letters,
+    Argument::Scale,
     Argument::Budget,
     Argument::Script,
     Argument::Fonts,
@@ -56,11 +61,16 @@ static PLAY: [Argument; 15] = [
 
 static SELFTEST: [Argument; 3] = [Argument::Workers, Argument::Seed, Argument::Events];
 
-static CHANGES: [Argument; 7] = [
+static CHANGES: [Argument; 12] = [
     Argument::From,
     Argument::To,
     Argument::Step,
     Argument::Size,
+    Argument::Storage,
+    Argument::Aspect,
+    Argument::Content,
+    Argument::Letters,
+    Argument::Scale,
     Argument::Budget,
     Argument::Script,
     Argument::Fonts,

@@ -1,6 +1,7 @@
 //! Jobs.
 
 use ass_num::{Items, OutOfMemory, Size, Text};
+use frame_view::FrameView;
 use std::alloc::AllocError;
 
 /// How a `play` goes: each image of what was fed before it was made, or all of what was fed whole.
@@ -34,15 +35,15 @@ pub struct PlayJob {
 pub enum Job {
     /// A report on a script and fonts.
     Check(Text, Items<Text>),
-    /// The picture at an instant on a frame of a size, with a budget, of a script with fonts.
-    Frame(i64, Size, u64, Text, Items<Text>),
+    /// The picture at an instant on a frame, with a budget, of a script with fonts.
+    Frame(i64, FrameView, u64, Text, Items<Text>),
     /// The pictures of a script with fonts, fed and drawn by several workers.
     Play(PlayJob, Text, Items<Text>),
     /// A generated script, by its seed and number of events, played by so many workers.
     Selftest(u32, u32, u32),
-    /// What changes from picture to picture, from an instant to one, by a step, on a frame of a size, with a budget, of
-    /// a script with fonts.
-    Changes(i64, i64, i64, Size, u64, Text, Items<Text>),
+    /// What changes from picture to picture, from an instant to one, by a step, on a frame, with a budget, of a script
+    /// with fonts.
+    Changes(i64, i64, i64, FrameView, u64, Text, Items<Text>),
     /// The script written again, with its events so much later and so much earlier.
     Write(i64, i64, Text),
 }

@@ -10,4 +10,4 @@ mod values;
 mod words;
 
 pub use job::{Job, Mode, PlayJob, WordsFault, WordsRefusal};
-pub use words::{first_word_is_command, read_words, usage_is_of_grammar};
+pub use words::{first_word_is_command, plain_frames_stay, read_words, usage_is_of_grammar};

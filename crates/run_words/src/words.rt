@@ -2,7 +2,7 @@
 
 ghost use Rattle.std.specs.Prelude.{◌≡◌, IfOk, map};
 ghost use Rattle.clap.specs.Words.{found_of, rows_of, subcommand_rows_of};
-ghost use Rattle.run_words.specs.Asked.{command_reading};
+ghost use Rattle.run_words.specs.Asked.{PlainFramesStay, command_reading};
 ghost use Rattle.run_words.specs.Jobs.{IsJob};
 ghost use Rattle.run_words.specs.Words.{FirstWordIsCommand, IsReading, UsageIsOfGrammar, job_in, job_of, texts};
 
@@ -62,4 +62,9 @@ pub fn usage_is_of_grammar()
 /// Words that ask for a job begin with the word that names its command.
 pub fn first_word_is_command()
     ensures { FirstWordIsCommand }
+{}
+
+/// Words that say nothing of a frame but its size ask for the view of that size alone.
+pub fn plain_frames_stay()
+    ensures { PlainFramesStay }
 {}

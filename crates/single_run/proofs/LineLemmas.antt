@@ -12,6 +12,7 @@ use Rattle.frame_change.specs.declared.pixels.Changed.{Changed}
 use Rattle.mask_keys.specs.declared.plans.Draw.{Draw}
 use Rattle.mask_keys.specs.declared.plans.Plan.{Plan}
 use Rattle.mask_keys.specs.Pictures.{picture}
+use Rattle.frame_view.specs.declared.view.FrameView.{FrameView}
 use Rattle.picture_plan.specs.Pictures.{AreDraws}
 use Rattle.single_run.specs.Instants.{instant_at}
 use Rattle.single_run.specs.Laws.{SameDrawsChangeNothing}
@@ -51,21 +52,21 @@ changed_line fonts size t before now kind box a b line differs old new none some
 }
 
 -- before the first instant there are no lines
-pub no_lines : (script : ScriptValue) (fonts : List FontValue) (events : List Event) (instants : Instants) (size : Size) (draws : List Draw) (text : List ℕ) →
-    draws ≡ [] → text ≡ [] → AreChangeLines script fonts events instants size 0 draws text
-no_lines script fonts events instants size draws text no_draws no_text =
-    subst (λ d. AreChangeLines script fonts events instants size 0 d text) (sym no_draws)
-    (subst (AreChangeLines script fonts events instants size 0 []) (sym no_text) NoLine)
+pub no_lines : (script : ScriptValue) (fonts : List FontValue) (events : List Event) (instants : Instants) (view : FrameView) (draws : List Draw) (text : List ℕ) →
+    draws ≡ [] → text ≡ [] → AreChangeLines script fonts events instants view 0 draws text
+no_lines script fonts events instants view draws text no_draws no_text =
+    subst (λ d. AreChangeLines script fonts events instants view 0 d text) (sym no_draws)
+    (subst (AreChangeLines script fonts events instants view 0 []) (sym no_text) NoLine)
 
 -- one line more
-pub next_lines : (script : ScriptValue) (fonts : List FontValue) (events : List Event) (instants : Instants) (size : Size) (place t : ℕ) (before now : List Draw) (text line new : List ℕ) →
-    AreChangeLines script fonts events instants size place before text → t ≡ instant_at instants place → AreDraws script fonts events (pos t) size now →
-    IsChangeLine fonts size t before now line → new ≡ text ++ line → AreChangeLines script fonts events instants size (place + 1) now new
-next_lines script fonts events instants size place t before now text line new lines at draws told is =
-    subst (AreChangeLines script fonts events instants size (place + 1) now) (sym is)
+pub next_lines : (script : ScriptValue) (fonts : List FontValue) (events : List Event) (instants : Instants) (view : FrameView) (place t : ℕ) (before now : List Draw) (text line new : List ℕ) →
+    AreChangeLines script fonts events instants view place before text → t ≡ instant_at instants place → AreDraws script fonts events (pos t) view now →
+    IsChangeLine fonts view.size t before now line → new ≡ text ++ line → AreChangeLines script fonts events instants view (place + 1) now new
+next_lines script fonts events instants view place t before now text line new lines at draws told is =
+    subst (AreChangeLines script fonts events instants view (place + 1) now) (sym is)
     (NextLine place before now text line lines
-    (subst (λ n. AreDraws script fonts events (pos n) size now) at draws)
-    (subst (λ n. IsChangeLine fonts size n before now line) at told))
+    (subst (λ n. AreDraws script fonts events (pos n) view now) at draws)
+    (subst (λ n. IsChangeLine fonts view.size n before now line) at told))
 
 -- ---- equal pictures have no box
 

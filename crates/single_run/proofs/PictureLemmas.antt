@@ -8,6 +8,7 @@ use Rattle.blend.specs.Canvases.{CanvasValue, black}
 use Rattle.mask_keys.specs.declared.plans.Draw.{Draw}
 use Rattle.mask_keys.specs.Outlines.{IsFontSet}
 use Rattle.mask_keys.specs.Pictures.{with_draw}
+use Rattle.frame_view.specs.declared.view.FrameView.{FrameView}
 use Rattle.picture_plan.specs.Pictures.{AreDraws, IsPictureAt}
 use Rattle.ppm_text.specs.Images.{image_bytes}
 use Rattle.ass_events.specs.ScriptEvents.{line_events}
@@ -27,21 +28,21 @@ pub painted_height : (fonts : List FontValue) (size : Size) (draws : List Draw) 
 painted_height fonts size draws old new blank painted = ap (λ (c : CanvasValue). c.h) painted ∙ drawn_height fonts old draws ∙ ap (λ (c : CanvasValue). c.h) blank
 
 -- the draws of the events, painted on black, are their picture
-pub pictured : (script : ScriptValue) (fonts : List FontValue) (events : List Event) (t : ℤ) (size : Size) (draws : List Draw) (old new : CanvasValue) →
-    AreDraws script fonts events t size draws → old ≡ black size.w size.h → new ≡ fold (with_draw fonts) old draws → IsPictureAt script fonts events t size new
-pictured script fonts events t size draws old new are blank painted = record {
+pub pictured : (script : ScriptValue) (fonts : List FontValue) (events : List Event) (t : ℤ) (view : FrameView) (draws : List Draw) (old new : CanvasValue) →
+    AreDraws script fonts events t view draws → old ≡ black view.size.w view.size.h → new ≡ fold (with_draw fonts) old draws → IsPictureAt script fonts events t view new
+pictured script fonts events t view draws old new are blank painted = record {
   draws = draws;
   are_draws = are;
   value = painted ∙ ap (λ (c : CanvasValue). fold (with_draw fonts) c draws) blank;
 }
 
 -- the bytes of the picture of a script's events are its image
-pub imaged : (script : ScriptValue) (fonts : List FontValue) (at : ℕ) (size : Size) (canvas : CanvasValue) (events : List Event) (pixels bytes : List ℕ) (count : ℕ) →
-    IsPictureAt script fonts events (pos at) size canvas → events ≡ line_events script → pixels ≡ canvas.bytes → count ≡ length events →
-    bytes ≡ image_bytes size.w size.h pixels (pos at) count → IsFrameImage script fonts at size bytes
-imaged script fonts at size canvas events pixels bytes count is_picture all shown counted image = record {
+pub imaged : (script : ScriptValue) (fonts : List FontValue) (at : ℕ) (view : FrameView) (canvas : CanvasValue) (events : List Event) (pixels bytes : List ℕ) (count : ℕ) →
+    IsPictureAt script fonts events (pos at) view canvas → events ≡ line_events script → pixels ≡ canvas.bytes → count ≡ length events →
+    bytes ≡ image_bytes view.size.w view.size.h pixels (pos at) count → IsFrameImage script fonts at view bytes
+imaged script fonts at view canvas events pixels bytes count is_picture all shown counted image = record {
   canvas = canvas;
-  is_picture = subst (λ (e : List Event). IsPictureAt script fonts e (pos at) size canvas) all is_picture;
-  value = image ∙ ap (λ (p : List ℕ). image_bytes size.w size.h p (pos at) count) shown
-      ∙ ap (λ (n : ℕ). image_bytes size.w size.h canvas.bytes (pos at) n) (counted ∙ ap length all);
+  is_picture = subst (λ (e : List Event). IsPictureAt script fonts e (pos at) view canvas) all is_picture;
+  value = image ∙ ap (λ (p : List ℕ). image_bytes view.size.w view.size.h p (pos at) count) shown
+      ∙ ap (λ (n : ℕ). image_bytes view.size.w view.size.h canvas.bytes (pos at) n) (counted ∙ ap length all);
 }

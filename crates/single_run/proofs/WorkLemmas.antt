@@ -24,14 +24,14 @@ instants_suit from (pos m) (pos n) h k = record { forward = omega (arith, ints, 
 
 suits : (asked : Job) → IsJob asked → IfSome (work_of asked) IsWork
 suits (job.Check script fonts) h = tt
-suits (job.Frame at size budget script []) h = tt
-suits (job.Frame (negsuc n) size budget script (font ∷ fonts)) h = tt
-suits (job.Frame (pos n) size budget script (font ∷ fonts)) h =
-    (record { at = omega (arith, ints, h.0.1); size = record { wide = h.1.0.1; high = h.1.1.1 }; budget = h.2 }, omega arith)
+suits (job.Frame at view budget script []) h = tt
+suits (job.Frame (negsuc n) view budget script (font ∷ fonts)) h = tt
+suits (job.Frame (pos n) view budget script (font ∷ fonts)) h =
+    (record { at = omega (arith, ints, h.0.1); view = h.1.seen; budget = h.2 }, omega arith)
 suits (job.Play play script fonts) h = tt
 suits (job.Selftest seed events workers) h = tt
-suits (job.Changes from to step size budget script []) h = tt
-suits (job.Changes from to step size budget script (font ∷ fonts)) h = (record { instants = instants_suit from to step h.1 h.2; size = record { wide = h.3.0.1; high = h.3.1.1 }; budget = h.4 }, omega arith)
+suits (job.Changes from to step view budget script []) h = tt
+suits (job.Changes from to step view budget script (font ∷ fonts)) h = (record { instants = instants_suit from to step h.1 h.2; view = h.3.seen; budget = h.4 }, omega arith)
 suits (job.Write later earlier script) h = record { later = instant later h.0; earlier = instant earlier h.1 }
 
 pub work_suits : (asked : Job) (work : Work) → IsJob asked → work_of asked ≡ Some work → IsWork work

@@ -10,6 +10,7 @@ use Rattle.frame_change.specs.declared.pixels.Changed.{Changed}
 use Rattle.mask_keys.specs.declared.plans.Draw.{Draw}
 use Rattle.mask_keys.specs.declared.plans.Plan.{Plan}
 use Rattle.mask_keys.specs.Pictures.{picture}
+use Rattle.frame_view.specs.declared.view.FrameView.{FrameView}
 use Rattle.picture_plan.specs.Pictures.{AreDraws}
 use Rattle.ass_events.specs.ScriptEvents.{line_events}
 use Rattle.single_run.specs.Instants.{instant_at, instant_count}
@@ -33,15 +34,15 @@ pub record IsChangeLine (fonts : List FontValue) (size : Size) (t : ℕ) (before
   pub value : line ≡ change_line t kind box
 
 -- The text is the lines on the first instants, the last of which has these draws. The first of them is compared with no draws, which leave the frame black.
-pub data AreChangeLines (script : ScriptValue) (fonts : List FontValue) (events : List Event) (instants : Instants) (size : Size) : ℕ → List Draw → List ℕ → Type 0 where
-  NoLine : AreChangeLines script fonts events instants size 0 [] []
+pub data AreChangeLines (script : ScriptValue) (fonts : List FontValue) (events : List Event) (instants : Instants) (view : FrameView) : ℕ → List Draw → List ℕ → Type 0 where
+  NoLine : AreChangeLines script fonts events instants view 0 [] []
   NextLine : (place : ℕ) (before now : List Draw) (text line : List ℕ)
-      → AreChangeLines script fonts events instants size place before text
-      → AreDraws script fonts events (pos (instant_at instants place)) size now
-      → IsChangeLine fonts size (instant_at instants place) before now line
-      → AreChangeLines script fonts events instants size (place + 1) now (text ++ line)
+      → AreChangeLines script fonts events instants view place before text
+      → AreDraws script fonts events (pos (instant_at instants place)) view now
+      → IsChangeLine fonts view.size (instant_at instants place) before now line
+      → AreChangeLines script fonts events instants view (place + 1) now (text ++ line)
 
--- The report on what changes in the picture that the events of a script show in fonts, from instant to instant, on a frame of a size.
-abbrev pub IsChangesReport : ScriptValue → List FontValue → Instants → Size → List ℕ → Type 0
-IsChangesReport script fonts instants size text =
-    (last : List Draw) × AreChangeLines script fonts (line_events script) instants size (instant_count instants) last text
+-- The report on what changes in the picture that the events of a script show in fonts, from instant to instant, on a frame.
+abbrev pub IsChangesReport : ScriptValue → List FontValue → Instants → FrameView → List ℕ → Type 0
+IsChangesReport script fonts instants view text =
+    (last : List Draw) × AreChangeLines script fonts (line_events script) instants view (instant_count instants) last text

@@ -1,6 +1,6 @@
 -- Public: what a job may put to the two sinks.
 use Rattle.std.specs.Prelude.{◌≡◌, ℕ, pos, List, [], length, Result, Ok, Err}
-use Rattle.ass_num.specs.declared.size.Size.{Size}
+use Rattle.frame_view.specs.declared.view.FrameView.{FrameView}
 use Rattle.ass_script.specs.Scripts.{ScriptValue}
 use Rattle.ass_events.specs.declared.event.Event.{Event}
 use Rattle.bdf_font.specs.Fonts.{FontValue}
@@ -23,11 +23,11 @@ use Rattle.single_run.specs.declared.work.Task.{Task}
 use Rattle.single_run.specs.declared.work.Task.TheVariants.{Changes, Check, Frame, Write}
 use Rattle.single_run.specs.declared.work.WriteTask.{WriteTask}
 
--- These bytes are the image of the picture that the events of a script show in fonts at an instant in milliseconds, on a frame of a size; its comment counts these events.
-pub record IsFrameImage (script : ScriptValue) (fonts : List FontValue) (at : ℕ) (size : Size) (bytes : List ℕ) : Type 0 where
+-- These bytes are the image of the picture that the events of a script show in fonts at an instant in milliseconds, on a frame; its comment counts these events.
+pub record IsFrameImage (script : ScriptValue) (fonts : List FontValue) (at : ℕ) (view : FrameView) (bytes : List ℕ) : Type 0 where
   pub canvas : CanvasValue
-  pub is_picture : IsPictureAt script fonts (line_events script) (pos at) size canvas
-  pub value : bytes ≡ image_bytes size.w size.h canvas.bytes (pos at) (length (line_events script))
+  pub is_picture : IsPictureAt script fonts (line_events script) (pos at) view canvas
+  pub value : bytes ≡ image_bytes view.size.w view.size.h canvas.bytes (pos at) (length (line_events script))
 
 -- the text of a script with events, where they are some
 abbrev pub written_with : ScriptValue → Result (List Event) WriteRefusal → Result (List ℕ) WriteRefusal
@@ -51,7 +51,7 @@ task_status _ inputs = status.Done
 -- What a task may put to the frames sink: a report nothing, a picture its image, whatever the budget, and a script that is written again its text.
 abbrev pub IsFramesOf : Task → Inputs → List ℕ → Type 0
 IsFramesOf Check inputs bytes = bytes ≡ []
-IsFramesOf (Frame frame) inputs bytes = IsFrameImage inputs.script inputs.fonts frame.at frame.size bytes
+IsFramesOf (Frame frame) inputs bytes = IsFrameImage inputs.script inputs.fonts frame.at frame.view bytes
 IsFramesOf (Changes changes) inputs bytes = bytes ≡ []
 IsFramesOf (Write write) inputs bytes = rewritten write inputs.script ≡ Ok bytes
 
@@ -59,7 +59,7 @@ IsFramesOf (Write write) inputs bytes = rewritten write inputs.script ≡ Ok byt
 abbrev pub IsReportOf : Task → Inputs → List ℕ → Type 0
 IsReportOf Check inputs text = text ≡ check_text inputs.script inputs.fonts
 IsReportOf (Frame frame) inputs text = text ≡ []
-IsReportOf (Changes changes) inputs text = IsChangesReport inputs.script inputs.fonts changes.instants changes.size text
+IsReportOf (Changes changes) inputs text = IsChangesReport inputs.script inputs.fonts changes.instants changes.view text
 IsReportOf (Write write) inputs text = text ≡ []
 
 -- the sink that gets what a task is for

@@ -2,9 +2,10 @@
 use Rattle.std.specs.Prelude.{◌≡◌, ◌⊎◌, Bool, true, ◌&&◌, if◌then◌else◌, ℕ, ◌<◌, ◌≤◌, nat_le, nat_lt, ℤ, pos, negsuc, List, [], ◌∷◌, length, Option, Some, None, Result, Ok, Err, option_map}
 use Rattle.std.specs.Int.RustNames.{unsigned_abs}
 use Rattle.ass_events.specs.Events.{is_time}
-use Rattle.ass_num.specs.Limits.{IsFrameSize, IsInstant}
-use Rattle.ass_num.specs.declared.size.Size.{Size}
+use Rattle.ass_num.specs.Limits.{IsInstant}
 use Rattle.bdf_font.specs.Limits.{max_fonts}
+use Rattle.frame_view.specs.FrameViews.{IsFrameView}
+use Rattle.frame_view.specs.declared.view.FrameView.{FrameView}
 use Rattle.single_run.specs.Instants.{AreInstants, instant_count}
 use Rattle.run_status.specs.declared.inputs.Inputs.{Inputs}
 use Rattle.run_words.specs.Limits.{max_budget}
@@ -26,17 +27,17 @@ use Rattle.single_run.specs.declared.work.Work.{Work}
 use Rattle.single_run.specs.declared.work.WriteTask.{WriteTask}
 
 -- the picture at an instant, in fonts: words put no instant below 0, and name a font at least
-abbrev pub frame_task : ℤ → Size → ℕ → List (List ℕ) → Option Task
-frame_task at size budget [] = None
-frame_task (negsuc _) size budget (font ∷ fonts) = None
-frame_task (pos at) size budget (font ∷ fonts) = Some (Frame (record { at = at; size = size; budget = budget }))
+abbrev pub frame_task : ℤ → FrameView → ℕ → List (List ℕ) → Option Task
+frame_task at view budget [] = None
+frame_task (negsuc _) view budget (font ∷ fonts) = None
+frame_task (pos at) view budget (font ∷ fonts) = Some (Frame (record { at = at; view = view; budget = budget }))
 
 -- the report on what changes from picture to picture, in fonts, of which words name one at least; no instant of theirs is below 0
-abbrev pub changes_task : ℤ → ℤ → ℤ → Size → ℕ → List (List ℕ) → Option Task
-changes_task from to step size budget [] = None
-changes_task from to step size budget (font ∷ fonts) = Some (Changes (record {
+abbrev pub changes_task : ℤ → ℤ → ℤ → FrameView → ℕ → List (List ℕ) → Option Task
+changes_task from to step view budget [] = None
+changes_task from to step view budget (font ∷ fonts) = Some (Changes (record {
   instants = record { from = unsigned_abs from; to = unsigned_abs to; step = unsigned_abs step };
-  size = size;
+  view = view;
   budget = budget;
 }))
 
@@ -46,8 +47,8 @@ work_with script fonts task = record { task = task; script = script; fonts = fon
 -- the work of a job that waits for nobody, where words can ask for it
 abbrev pub work_of : Job → Option Work
 work_of (job.Check script fonts) = Some (work_with script fonts Check)
-work_of (job.Frame at size budget script fonts) = option_map (work_with script fonts) (frame_task at size budget fonts)
-work_of (job.Changes from to step size budget script fonts) = option_map (work_with script fonts) (changes_task from to step size budget fonts)
+work_of (job.Frame at view budget script fonts) = option_map (work_with script fonts) (frame_task at view budget fonts)
+work_of (job.Changes from to step view budget script fonts) = option_map (work_with script fonts) (changes_task from to step view budget fonts)
 work_of (job.Write later earlier script) = Some (work_with script [] (Write (record { later = later; earlier = earlier })))
 work_of _ = None
 
@@ -89,7 +90,7 @@ IsWorkRead asked answer = (answer ≡ asked) ⊎ (answer ≡ Err OutOfMemory)
 -- The numbers of a picture are within their limits.
 pub record IsFrameTask (frame : FrameTask) : Type 0 where
   pub at : IsInstant frame.at
-  pub size : IsFrameSize frame.size
+  pub view : IsFrameView frame.view
   pub budget : frame.budget ≤ max_budget
 
 -- Events may be that much later and that much earlier.
@@ -100,7 +101,7 @@ pub record IsWriteTask (write : WriteTask) : Type 0 where
 -- The numbers of a report on changes are within their limits.
 pub record IsChangesTask (changes : ChangesTask) : Type 0 where
   pub instants : AreInstants changes.instants
-  pub size : IsFrameSize changes.size
+  pub view : IsFrameView changes.view
   pub budget : changes.budget ≤ max_budget
 
 -- The numbers of a task are within their limits, and a picture has a font at least.

@@ -2,7 +2,7 @@
 
 ghost use Rattle.std.specs.Prelude.{◌≡◌, ◌++◌, ◌≤◌, ◌<◌, ℕ, List, length, map, All, IfOk, OnOk, pos, string_bytes};
 ghost use Rattle.std.specs.Arc.{arc_value};
-ghost use Rattle.ass_num.specs.Limits.{IsFrameSize, max_instant, max_text_bytes};
+ghost use Rattle.ass_num.specs.Limits.{max_instant, max_text_bytes};
 ghost use Rattle.ass_events.specs.Histories.{HaveOwnOrders, max_live};
 ghost use Rattle.ass_events.specs.Ranges.{IsEvent};
 ghost use Rattle.ass_events.specs.declared.event.Event.{Event};
@@ -10,6 +10,7 @@ ghost use Rattle.ass_script.specs.Ranges.{IsScript};
 ghost use Rattle.evict_core.specs.Machine.{max_budget};
 ghost use Rattle.mask_keys.specs.declared.plans.Draw.{Draw};
 ghost use Rattle.mask_keys.specs.Pictures.{picture};
+ghost use Rattle.frame_view.specs.FrameViews.{IsFrameView};
 ghost use Rattle.picture_plan.specs.Pictures.{AreDraws};
 ghost use Rattle.ass_events.specs.LineLaws.{HasShortLines};
 ghost use Rattle.text_layout.specs.Fonts.{IsLayoutFontSet};
@@ -20,9 +21,10 @@ ghost use Rattle.single_run.specs.ChangeReports.{AreChangeLines, IsChangeLine, I
 use crate::instants::Instants;
 use crate::screen::{Screen, blank, show};
 use ass_events::{Event, events_of};
-use ass_num::{Items, Mem, Size};
+use ass_num::{Items, Mem};
 use ass_script::Script;
 use bdf_font::{Font, FontSet};
+use frame_view::FrameView;
 use local_caches::LocalCaches;
 use picture_plan::plan;
 use std::alloc::Global;
@@ -46,15 +48,15 @@ fn add_instant(
     requires orders { HaveOwnOrders (map arc_value events.now) }
     requires instant { t ≤ max_instant }
     requires same { local.old.fonts ≡ setting.now.fonts }
-    requires screen { screen.old.canvas ≡ picture setting.now.fonts setting.now.size screen.old.plan.draws }
+    requires screen { screen.old.canvas ≡ picture setting.now.fonts setting.now.frame.size screen.old.plan.draws }
     ensures same { local.new.fonts ≡ local.old.fonts }
-    ensures screen { OnOk result (screen.new.canvas ≡ picture setting.now.fonts setting.now.size screen.new.plan.draws) }
-    ensures draws { OnOk result (AreDraws setting.now.script setting.now.fonts (map arc_value events.now) (pos t) setting.now.size screen.new.plan.draws) }
-    ensures line { OnOk result ((line : List ℕ) × IsChangeLine setting.now.fonts setting.now.size t screen.old.plan.draws screen.new.plan.draws line
+    ensures screen { OnOk result (screen.new.canvas ≡ picture setting.now.fonts setting.now.frame.size screen.new.plan.draws) }
+    ensures draws { OnOk result (AreDraws setting.now.script setting.now.fonts (map arc_value events.now) (pos t) setting.now.frame screen.new.plan.draws) }
+    ensures line { OnOk result ((line : List ℕ) × IsChangeLine setting.now.fonts setting.now.frame.size t screen.old.plan.draws screen.new.plan.draws line
         × (string_bytes report.new ≡ string_bytes report.old ++ line)) }
 {
     let plan = plan(alloc, setting, events, t as i64)?;
-    let line = show(alloc, local, &setting.size, t, plan, screen)?;
+    let line = show(alloc, local, &setting.frame.size, t, plan, screen)?;
     report.push_str(line.as_str())?;
     Ok(())
 }
@@ -76,10 +78,10 @@ fn lines_of(
     requires instants { AreInstants instants.now }
     requires same { local.old.fonts ≡ setting.now.fonts }
     ensures { IfOk result (λ text. (last : List Draw)
-        × AreChangeLines setting.now.script setting.now.fonts (map arc_value events.now) instants.now setting.now.size (instant_count instants.now) last
+        × AreChangeLines setting.now.script setting.now.fonts (map arc_value events.now) instants.now setting.now.frame (instant_count instants.now) last
         (string_bytes text)) }
 {
-    let mut screen = blank(alloc, &setting.size)?;
+    let mut screen = blank(alloc, &setting.frame.size)?;
     let mut report = String::new(alloc);
     for place in 0..instants.count() {
         let t = instants.at(place);
@@ -96,16 +98,16 @@ pub fn changes_report(
     script: &Script,
     fonts: Items<Font>,
     instants: &Instants,
-    size: &Size,
+    view: &FrameView,
     budget: u64,
 ) -> Mem<String>
     requires script { IsScript script.now }
     requires short { HasShortLines script.now }
     requires fonts { IsLayoutFontSet fonts }
     requires instants { AreInstants instants.now }
-    requires size { IsFrameSize size.now }
+    requires view { IsFrameView view.now }
     requires budget { budget ≤ max_budget }
-    ensures { IfOk result (λ text. IsChangesReport script.now fonts instants.now size.now (string_bytes text)) }
+    ensures { IfOk result (λ text. IsChangesReport script.now fonts instants.now view.now (string_bytes text)) }
 {
     let fonts = Arc::new(alloc, FontSet { fonts })?;
     let events = events_of(alloc, script)?;
@@ -113,7 +115,7 @@ pub fn changes_report(
     let setting = Setting {
         script,
         fonts: &fonts,
-        size: *size,
+        frame: *view,
     };
     lines_of(alloc, &setting, events.as_slice(), instants, &mut local)
 }

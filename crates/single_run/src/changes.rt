@@ -31,10 +31,10 @@ pub fn compare(alloc: Global, changes: &ChangesTask, inputs: Inputs) -> Outcome
     let Inputs { script, fonts } = inputs;
     let ChangesTask {
         instants,
-        size,
+        view,
         budget,
     } = changes;
-    match changes_report(alloc, &script, fonts, instants, size, *budget) {
+    match changes_report(alloc, &script, fonts, instants, view, *budget) {
         Ok(text) => Outcome::Found(text),
         Err(OutOfMemory) => Outcome::Ended(Status::OutOfMemory),
     }

@@ -47,18 +47,18 @@ fn picture_of(
     requires texts { All (λ (e : Event). length e.text ≤ max_text_bytes) (map arc_value events.now) }
     requires few { length events.now ≤ max_live }
     requires orders { HaveOwnOrders (map arc_value events.now) }
-    ensures picture { IfOk result (λ canvas. IsPictureAt script.now (arc_value fonts).fonts (map arc_value events.now) (pos frame.now.at) frame.now.size
+    ensures picture { IfOk result (λ canvas. IsPictureAt script.now (arc_value fonts).fonts (map arc_value events.now) (pos frame.now.at) frame.now.view
         canvas) }
-    ensures width { IfOk result (λ canvas. canvas.w ≡ frame.now.size.w) }
-    ensures height { IfOk result (λ canvas. canvas.h ≡ frame.now.size.h) }
+    ensures width { IfOk result (λ canvas. canvas.w ≡ frame.now.view.size.w) }
+    ensures height { IfOk result (λ canvas. canvas.h ≡ frame.now.view.size.h) }
 {
     let setting = Setting {
         script,
         fonts: &fonts,
-        size: frame.size,
+        frame: frame.view,
     };
     let plan = plan(alloc, &setting, events, frame.at as i64)?;
-    let mut canvas = Canvas::new(alloc, &frame.size)?;
+    let mut canvas = Canvas::new(alloc, &frame.view.size)?;
     let mut local = LocalCaches::open(alloc, fonts, frame.budget)?;
     local.paint(alloc, &plan, &mut canvas)?;
     Ok(canvas)
@@ -71,7 +71,7 @@ fn image_of(alloc: Global, frame: &FrameTask, inputs: Inputs) -> Mem<Vec<u8>>
     requires script { IsScript inputs.script }
     requires short { HasShortLines inputs.script }
     requires fonts { IsLayoutFontSet inputs.fonts }
-    ensures { IfOk result (λ image. IsFrameImage inputs.script inputs.fonts frame.now.at frame.now.size image.items) }
+    ensures { IfOk result (λ image. IsFrameImage inputs.script inputs.fonts frame.now.at frame.now.view image.items) }
 {
     let Inputs { script, fonts } = inputs;
     let fonts = Arc::new(alloc, FontSet { fonts })?;
@@ -79,7 +79,7 @@ fn image_of(alloc: Global, frame: &FrameTask, inputs: Inputs) -> Mem<Vec<u8>>
     let canvas = picture_of(alloc, frame, &script, fonts, events.as_slice())?;
     ppm_bytes(
         alloc,
-        &frame.size,
+        &frame.view.size,
         canvas.pixels(),
         frame.at as i64,
         events.len(),
@@ -93,7 +93,7 @@ pub fn draw<F: Sink>(alloc: Global, frame: &FrameTask, inputs: Inputs, frames: &
     requires short { HasShortLines inputs.script }
     requires fonts { IsLayoutFontSet inputs.fonts }
     ensures answered { IsOrFault Which.Frames done_status result }
-    ensures shown { IsShown result (F.held frames.old) (F.held frames.new) (IsFrameImage inputs.script inputs.fonts frame.now.at frame.now.size) }
+    ensures shown { IsShown result (F.held frames.old) (F.held frames.new) (IsFrameImage inputs.script inputs.fonts frame.now.at frame.now.view) }
     ensures once { IsFramesPutCount Which.Frames result (F.puts frames.old) (F.puts frames.new) }
     ensures counted { IsWriteCounted result (F.faults frames.old) (F.faults frames.new) }
     ensures own { result ≢ Status.WriteFault Which.Report }

@@ -6,7 +6,8 @@ ghost use Rattle.run_words.specs.Jobs.{IsJob};
 ghost use Rattle.run_words.specs.Words.{texts};
 
 use crate::Instants;
-use ass_num::{Items, Size, Text};
+use ass_num::{Items, Text};
+use frame_view::FrameView;
 use run_status::{MAX_FONTS, Status, What};
 use run_words::{Job, WordsFault, WordsRefusal, read_words};
 use std::alloc::Global;
@@ -14,19 +15,19 @@ use std::alloc::Global;
 /// The most pictures that a task compares.
 const MAX_FRAMES: usize = 1_000_000;
 
-/// The picture at an instant, in milliseconds, on a frame of a size, and the bytes that each of its caches may keep.
+/// The picture at an instant, in milliseconds, on a frame, and the bytes that each of its caches may keep.
 #[derive(Clone, Copy, Debug)]
 pub struct FrameTask {
     pub at: u64,
-    pub size: Size,
+    pub view: FrameView,
     pub budget: u64,
 }
 
-/// The pictures at instants on a frame of a size, and the bytes that each of the caches may keep.
+/// The pictures at instants on a frame, and the bytes that each of the caches may keep.
 #[derive(Clone, Copy, Debug)]
 pub struct ChangesTask {
     pub instants: Instants,
-    pub size: Size,
+    pub view: FrameView,
     pub budget: u64,
 }
 
@@ -59,11 +60,11 @@ pub struct Work {
 }
 
 /// The task of a picture in fonts.
-fn frame_task(at: i64, size: Size, budget: u64, fonts: &[Text]) -> Option<Task>
-    ensures { result ≡ frame_task at size budget fonts.now }
+fn frame_task(at: i64, view: FrameView, budget: u64, fonts: &[Text]) -> Option<Task>
+    ensures { result ≡ frame_task at view budget fonts.now }
 {
     match (fonts, u64::try_from(at)) {
-        ([_, ..], Ok(at)) => Some(Task::Frame(FrameTask { at, size, budget })),
+        ([_, ..], Ok(at)) => Some(Task::Frame(FrameTask { at, view, budget })),
         ([], _) | (_, Err(_)) => None,
     }
 }
@@ -73,11 +74,11 @@ fn changes_task(
     from: i64,
     to: i64,
     step: i64,
-    size: Size,
+    view: FrameView,
     budget: u64,
     fonts: &[Text],
 ) -> Option<Task>
-    ensures { result ≡ changes_task from to step size budget fonts.now }
+    ensures { result ≡ changes_task from to step view budget fonts.now }
 {
     match fonts {
         [] => None,
@@ -87,7 +88,7 @@ fn changes_task(
                 to: to.unsigned_abs(),
                 step: step.unsigned_abs(),
             },
-            size,
+            view,
             budget,
         })),
     }
@@ -103,8 +104,8 @@ pub fn work_of(alloc: Global, job: Job) -> Option<Work>
             script,
             fonts,
         }),
-        Job::Frame(at, size, budget, script, fonts) => {
-            let task = frame_task(at, size, budget, fonts.as_slice())?;
+        Job::Frame(at, view, budget, script, fonts) => {
+            let task = frame_task(at, view, budget, fonts.as_slice())?;
             Some(Work {
                 task,
                 script,
@@ -116,8 +117,8 @@ pub fn work_of(alloc: Global, job: Job) -> Option<Work>
             script,
             fonts: Items::new(alloc),
         }),
-        Job::Changes(from, to, step, size, budget, script, fonts) => {
-            let task = changes_task(from, to, step, size, budget, fonts.as_slice())?;
+        Job::Changes(from, to, step, view, budget, script, fonts) => {
+            let task = changes_task(from, to, step, view, budget, fonts.as_slice())?;
             Some(Work {
                 task,
                 script,

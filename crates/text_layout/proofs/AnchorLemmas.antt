@@ -4,11 +4,11 @@ use Rattle.std.specs.Ordering.{int_eq}
 use Rattle.std.proofs.lemmas.Int.{ints}
 use Rattle.ass_num.specs.Limits.{IsWithin, max_frame_side, max_whole}
 use Rattle.ass_num.proofs.LimitLemmas.{IsWithin-wider}
-use Rattle.ass_script.specs.Ranges.{IsCanvasSide}
+use Rattle.frame_view.specs.FrameViews.{IsLayoutSide}
 use Rattle.text_layout.proofs.BitLemmas.{bits_32, bits_64, framed_bits, place_bits, whole_bits}
 use Rattle.text_layout.specs.declared.anchors.AnchorSide.{AnchorSide}
 use Rattle.text_layout.specs.Anchors.{IsBlockSide, edge_at, event_margin_or, whole_pixels}
-use Rattle.text_layout.specs.Limits.{max_anchor, max_framed, max_block_place, max_script_length}
+use Rattle.text_layout.specs.Limits.{max_anchor, max_framed, max_ground_place, max_block_place, max_script_length}
 use Rattle.text_layout.specs.Scales.{pixel}
 
 -- ---- margins
@@ -42,10 +42,10 @@ pixels_bits n m h is =
     ap (λ z. bits_64 (whole_pixels z)) is
     ∙ place_bits (whole_pixels n) (IsWithin-wider max_script_length max_block_place (whole_pixels n) (omega arith) (pixels_within n h))
 
-pub inner_within : (res : ℕ) (left right : ℤ) → IsCanvasSide res → IsWithin max_whole left → IsWithin max_whole right → IsWithin max_inner ((pos res -ℤ left) -ℤ right)
+pub inner_within : (res : ℕ) (left right : ℤ) → IsLayoutSide res → IsWithin max_whole left → IsWithin max_whole right → IsWithin max_inner ((pos res -ℤ left) -ℤ right)
 inner_within res left right few h k = (omega (arith, ints), omega (arith, ints))
 
-pub inner_bits : (res : ℕ) (left right a b d : ℤ) → IsCanvasSide res → IsWithin max_whole left → IsWithin max_whole right
+pub inner_bits : (res : ℕ) (left right a b d : ℤ) → IsLayoutSide res → IsWithin max_whole left → IsWithin max_whole right
     → a ≡ pos res → b ≡ bits_32 left → d ≡ bits_32 right → bits_64 (bits_64 (bits_64 a -ℤ bits_64 b) -ℤ bits_64 d) ≡ (pos res -ℤ left) -ℤ right
 inner_bits res left right a b d few h k ea eb ed =
     let x : bits_64 a ≡ pos res = ap bits_64 ea ∙ place_bits (pos res) (omega (arith, ints), omega (arith, ints)) in
@@ -56,7 +56,7 @@ inner_bits res left right a b d few h k ea eb ed =
 
 -- ---- edges
 
-pub far_within : (side : ℕ) (margin : ℤ) → side ≤ max_frame_side → IsWithin max_framed margin → IsWithin max_anchor (pos (pixel * side) -ℤ margin)
+pub far_within : (side : ℕ) (margin : ℤ) → side ≤ max_frame_side → IsWithin max_framed margin → IsWithin max_ground_place (pos (pixel * side) -ℤ margin)
 far_within side margin few h = (omega (arith, ints), omega (arith, ints))
 
 pub far_bits : (side : ℕ) (a margin : ℤ) → side ≤ max_frame_side → a ≡ pos side → IsWithin max_framed margin
@@ -66,7 +66,7 @@ far_bits side a margin few is h =
     let y : bits_64 (pos 64 *ℤ bits_64 a) ≡ pos (pixel * side) =
     ap (λ z. bits_64 (pos 64 *ℤ z)) x ∙ place_bits (pos (pixel * side)) (omega (arith, ints), omega (arith, ints)) in
     ap bits_64 (ap₂ ◌-ℤ◌ y (framed_bits margin h))
-    ∙ place_bits (pos (pixel * side) -ℤ margin) (IsWithin-wider max_anchor max_block_place (pos (pixel * side) -ℤ margin) (omega arith) (far_within side margin few h))
+    ∙ place_bits (pos (pixel * side) -ℤ margin) (IsWithin-wider max_ground_place max_block_place (pos (pixel * side) -ℤ margin) (omega arith) (far_within side margin few h))
 
 pub edge_same : (r near far a b : ℤ) (e f : AnchorSide) → r ≡ edge_at e a b → e ≡ f → a ≡ near → b ≡ far → r ≡ edge_at f near far
 edge_same r near far a b e f is p q s = is ∙ ap (λ (edge : AnchorSide). edge_at edge a b) p ∙ ap₂ (edge_at f) q s

@@ -1,8 +1,9 @@
 -- Numbers in the bits that hold them.
-use Rattle.std.proofs.Common.{◌≡◌, ℤ, FitsSigned, w32, w64, to_z, of_z, to_z-of_z, arith}
+use Rattle.std.proofs.Common.{◌≡◌, ◌∙◌, ℕ, ℤ, ap, FitsSigned, w32, w64, to_z, of_z, to_z-of_z, arith}
 use Rattle.std.proofs.lemmas.Int.{ints}
 use Rattle.ass_num.specs.Limits.{IsHeldNumber, IsWithin, max_held, max_whole}
 use Rattle.ass_num.proofs.LimitLemmas.{IsWithin-wider}
+use Rattle.frame_view.specs.FrameScales.{magnified}
 use Rattle.outline_points.proofs.Bounds.{scale_within}
 use Rattle.outline_points.specs.Limits.{max_scale}
 use Rattle.outline_points.specs.Placing.{IsScale}
@@ -30,6 +31,10 @@ framed_bits z h = place_bits z (IsWithin-wider max_framed max_block_place z (ome
 
 pub held_bits : (z : ℤ) → IsHeldNumber z → bits_64 z ≡ z
 held_bits z h = place_bits z (IsWithin-wider max_held max_block_place z (omega arith) h)
+
+-- a number at a size of letters
+pub magnified_bits : (letter_scale : ℕ) (number r : ℤ) → IsHeldNumber number → IsHeldNumber r → r ≡ magnified letter_scale (bits_64 number) → bits_64 r ≡ magnified letter_scale number
+magnified_bits letter_scale number r h k is = held_bits r k ∙ is ∙ ap (magnified letter_scale) (held_bits number h)
 
 pub scale_bits : (z : ℤ) → IsScale z → bits_64 z ≡ z
 scale_bits z h = place_bits z (IsWithin-wider max_scale max_block_place z (omega arith) (scale_within z h))

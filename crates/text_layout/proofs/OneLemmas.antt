@@ -1,6 +1,6 @@
 -- There is one layout.
-use Rattle.std.proofs.Common.{◌≡◌, ℕ, ◌+◌, ◌≤◌, List, [], ◌∷◌, ◌++◌, map, slice_range, ℤ, inl, inr, refl, sym, ap, ap₂, ◌∙◌}
-use Rattle.ass_num.specs.declared.size.Size.{Size}
+use Rattle.std.proofs.Common.{◌≡◌, ℕ, ◌+◌, ◌≤◌, List, [], ◌∷◌, ◌++◌, map, slice_range, ℤ, inl, inr, sym, ap, ap₂, ◌∙◌}
+use Rattle.frame_view.specs.declared.view.FrameView.{FrameView}
 use Rattle.ass_script.specs.Scripts.{ScriptValue}
 use Rattle.ass_events.specs.declared.event.Event.{Event}
 use Rattle.bdf_font.specs.Fonts.{FontValue}
@@ -13,18 +13,19 @@ use Rattle.text_layout.specs.declared.spans.Span.{Span}
 use Rattle.text_layout.specs.Extents.{item_extents}
 use Rattle.text_layout.specs.Kinds.{roles_of}
 use Rattle.text_layout.specs.Anchors.{margins_of, wrapping_width}
+use Rattle.text_layout.specs.LineScales.{line_scales}
 use Rattle.text_layout.specs.Layouts.{IsLaid, laid_out}
 use Rattle.text_layout.specs.Lines.{advances_of}
 use Rattle.text_layout.specs.Metrics.{all_metrics}
 use Rattle.text_layout.specs.Spans.{AreChosen, AreLines, AreLinesOf, paragraphs_of, places_of, spans_between}
-use Rattle.text_layout.proofs.SpanLemmas.{wrap_cases}
+use Rattle.text_layout.proofs.SpanLemmas.{unbroken, wrap_cases}
 
 one_chosen : (wrap : ℕ) (widths : List ℤ) (spaces : List ℕ) (max : ℤ) (xs ys : List ℕ) → wrap ≤ 3 → AreChosen wrap widths spaces max xs → AreChosen wrap widths spaces max ys → xs ≡ ys
 one_chosen wrap widths spaces max xs ys style h k =
     elim (wrap_cases wrap style) [
       | inl e ↦ one_best widths spaces max _ xs ys (h.greatest e) (k.greatest e)
       | inr (inl e) ↦ one_filling widths spaces max 0 xs ys (h.filled e) (k.filled e)
-      | inr (inr (inl e)) ↦ h.none e ∙ sym (k.none e)
+      | inr (inr (inl e)) ↦ unbroken wrap widths spaces max xs e h ∙ sym (unbroken wrap widths spaces max ys e k)
       | inr (inr (inr e)) ↦ one_best widths spaces max _ xs ys (h.least e) (k.least e)
     ]
 
@@ -42,12 +43,13 @@ one_set_of_lines wrap roles advances max (p ∷ ps) xs ys style h k =
     let rest = one_set_of_lines wrap roles advances max ps h.1 k.1 style h.3 k.3 in
     h.4 ∙ ap₂ (λ (a b : List Span). a ++ b) front rest ∙ sym k.4
 
-pub one_laid : (script : ScriptValue) (fonts : List FontValue) (event : Event) (view : EventView) (size : Size) (a b : Laid) → view.wrap ≤ 3
-    → IsLaid script fonts event view size a → IsLaid script fonts event view size b → a ≡ b
-one_laid script fonts event view size a b style h k =
-    let metrics = all_metrics script.header fonts view size in
+pub one_laid : (script : ScriptValue) (fonts : List FontValue) (event : Event) (view : EventView) (frame : FrameView) (a b : Laid) → view.wrap ≤ 3
+    → IsLaid script fonts event view frame a → IsLaid script fonts event view frame b → a ≡ b
+one_laid script fonts event view frame a b style h k =
+    let scales = line_scales script.header frame view in
+    let metrics = all_metrics scales fonts view in
     let items = item_extents fonts metrics view.wrap view.items in
     let roles = roles_of view.wrap view.items in
-    let max = wrapping_width script.header (margins_of script event) size in
+    let max = wrapping_width (margins_of script event) scales in
     let spans = one_set_of_lines view.wrap roles (advances_of items) max (paragraphs_of roles) h.0 k.0 style h.1 k.1 in
     h.2 ∙ ap (laid_out view metrics items) spans ∙ sym k.2

@@ -4,7 +4,7 @@ use Rattle.std.proofs.lemmas.Int.{ints}
 use Rattle.ass_num.specs.Floor.{floor_div}
 use Rattle.ass_num.specs.Limits.{IsWithin, IsHeldLength, IsHeldNumber, max_frame_side, max_held, one_16}
 use Rattle.ass_num.proofs.LimitLemmas.{IsWithin-wider}
-use Rattle.ass_script.specs.Ranges.{IsCanvasSide}
+use Rattle.frame_view.specs.FrameViews.{IsLayoutSide}
 use Rattle.outline_points.proofs.Bounds.{scale_within, within_product, within_quotient}
 use Rattle.outline_points.specs.Limits.{max_pixel, max_scale}
 use Rattle.outline_points.specs.Placing.{IsScale}
@@ -32,13 +32,13 @@ length_fits z h = omega (arith, ints)
 abbrev max_units : ℕ
 max_units = 262144
 
-pub framed_within : (len : ℤ) (side res : ℕ) → IsWithin max_script_length len → side ≤ max_frame_side → IsCanvasSide res → IsWithin max_framed (framed len side res)
+pub framed_within : (len : ℤ) (side res : ℕ) → IsWithin max_script_length len → side ≤ max_frame_side → IsLayoutSide res → IsWithin max_framed (framed len side res)
 framed_within len side res h s r =
     within_quotient max_framed (whole_milli * res) (len *ℤ pos (pixel * side)) (omega (arith, r.0))
     (IsWithin-wider (max_script_length * max_units) (max_framed * (whole_milli * res)) (len *ℤ pos (pixel * side)) (omega (arith, r.0))
     (within_product max_script_length max_units len (pos (pixel * side)) h (factor_within (pixel * side) max_units (omega arith))))
 
-pub spacing_within : (spacing scale : ℤ) (side res : ℕ) → IsHeldNumber spacing → IsHeldNumber scale → side ≤ max_frame_side → IsCanvasSide res → IsWithin max_framed (spacing_of spacing scale side res)
+pub spacing_within : (spacing scale : ℤ) (side res : ℕ) → IsHeldNumber spacing → IsHeldNumber scale → side ≤ max_frame_side → IsLayoutSide res → IsWithin max_framed (spacing_of spacing scale side res)
 spacing_within spacing scale side res h k s r =
     within_quotient max_framed (whole_milli * whole_per_cent * res) ((spacing *ℤ scale) *ℤ pos (pixel * side)) (omega (arith, r.0))
     (IsWithin-wider (max_dividend * max_units) (max_framed * (whole_milli * whole_per_cent * res)) ((spacing *ℤ scale) *ℤ pos (pixel * side)) (omega (arith, r.0))

@@ -1,5 +1,5 @@
 -- Places in order, spans between them, and the lines of paragraphs.
-use Rattle.std.proofs.Common.{◌≡◌, ℕ, zero, suc, ◌+◌, ◌-◌, ◌<◌, ◌≤◌, true, false, cond, List, [], ◌∷◌, ◌++◌, map, length, get_or, ℤ, refl, sym, ap, ap₂, subst, ◌∙◌, arith, append_assoc, append-nil, inl, inr, ◌⊎◌, drop, take}
+use Rattle.std.proofs.Common.{◌≡◌, ◌≢◌, ℕ, zero, suc, ◌+◌, ◌-◌, ◌<◌, ◌≤◌, true, false, cond, List, [], ◌∷◌, ◌++◌, map, length, get_or, ℤ, refl, sym, ap, ap₂, subst, ◌∙◌, arith, append_assoc, append-nil, inl, inr, ◌⊎◌, drop, take}
 use Rattle.std.proofs.lemmas.List.{drop-map, drop_all, drop_more, length-drop, length-map, length-take, take-map, take_more}
 use Rattle.std.proofs.lemmas.List.Elements.{All-drop, All-take}
 use Rattle.std.specs.List.{All}
@@ -114,6 +114,18 @@ wrap_cases (suc zero) l = inr (inl refl)
 wrap_cases (suc (suc zero)) l = inr (inr (inl refl))
 wrap_cases (suc (suc (suc n))) l = inr (inr (inr (let e : suc (suc (suc n)) ≡ 3 = omega arith in e)))
 
+pub two_of_wraps : (wrap : ℕ) → wrap ≤ 3 → wrap ≢ 0 → wrap ≢ 1 → wrap ≢ 3 → wrap ≡ 2
+two_of_wraps wrap l greatest filled least =
+    elim (wrap_cases wrap l) [
+      | inl e ↦ absurd (greatest e)
+      | inr (inl e) ↦ absurd (filled e)
+      | inr (inr (inl e)) ↦ e
+      | inr (inr (inr e)) ↦ absurd (least e)
+    ]
+
+pub unbroken : (wrap : ℕ) (widths : List ℤ) (spaces : List ℕ) (max : ℤ) (places : List ℕ) → wrap ≡ 2 → AreChosen wrap widths spaces max places → places ≡ []
+unbroken wrap widths spaces max places two h = h.none (λ e. omega (arith, two, e)) (λ e. omega (arith, two, e)) (λ e. omega (arith, two, e))
+
 -- Break places in order make a paragraph of widths.
 pub paragraph_of : (widths : List ℤ) (spaces : List ℕ) → length widths ≤ max_text_bytes → All IsItemWidth widths → ArePlacesInOrder 0 (length widths) spaces → IsParagraph widths spaces
 paragraph_of widths spaces l h order = record {
@@ -131,7 +143,7 @@ chosen-order wrap widths spaces max places l order h =
     elim (wrap_cases wrap l) [
       | inl e ↦ AreInOrder-from spaces 0 (length widths) places below (omega arith) (h.greatest e).chosen
       | inr (inl e) ↦ AreInOrder-filled widths spaces max 0 (length widths) places below (omega arith) (h.filled e)
-      | inr (inr (inl e)) ↦ subst (ArePlacesInOrder 0 (length widths)) (sym (h.none e)) (omega arith)
+      | inr (inr (inl e)) ↦ subst (ArePlacesInOrder 0 (length widths)) (sym (unbroken wrap widths spaces max places e h)) (omega arith)
       | inr (inr (inr e)) ↦ AreInOrder-from spaces 0 (length widths) places below (omega arith) (h.least e).chosen
     ]
 

@@ -1,6 +1,6 @@
 -- Public: margins, the width for wrapping, and where the block stands in the frame. Places are in 1/64 pixel.
 -- (Advanced SubStation Alpha, "MarginL", "Alignment"; Aegisub tag reference, "\an", "\pos".)
-use Rattle.std.specs.Prelude.{ℕ, ◌*◌, ◌%◌, ◌==◌, nat_le, if◌then◌else◌, Option, Some, None, ℤ, pos, ◌+ℤ◌, ◌-ℤ◌, ◌*ℤ◌, ◌≤ℤ◌}
+use Rattle.std.specs.Prelude.{◌≡◌, ℕ, ◌*◌, ◌%◌, ◌==◌, nat_le, if◌then◌else◌, Option, Some, None, ℤ, pos, ◌+ℤ◌, ◌-ℤ◌, ◌*ℤ◌, ◌≤ℤ◌}
 use Rattle.std.specs.Int.{int_max}
 use Rattle.std.specs.Ordering.{int_eq}
 use Rattle.ass_num.specs.Floor.{floor_div}
@@ -8,8 +8,10 @@ use Rattle.ass_num.specs.Limits.{IsWithin, max_whole}
 use Rattle.ass_num.specs.declared.geometry.Point.{Point}
 use Rattle.ass_num.specs.declared.size.Size.{Size}
 use Rattle.ass_script.specs.Scripts.{ScriptValue, style_for}
-use Rattle.ass_script.specs.declared.script.Header.{Header}
 use Rattle.ass_events.specs.declared.event.Event.{Event}
+use Rattle.frame_view.specs.FrameScales.{plain_scales}
+use Rattle.frame_view.specs.Limits.{whole_letter_scale}
+use Rattle.frame_view.specs.declared.scales.Scales.{Scales}
 use Rattle.override_tags.specs.declared.view.EventView.{EventView}
 use Rattle.text_layout.specs.declared.anchors.AnchorSide.{AnchorSide}
 use Rattle.text_layout.specs.declared.anchors.AnchorSide.TheVariants.{Near, Middle, Far}
@@ -34,10 +36,17 @@ margins_of script event =
 abbrev pub whole_pixels : ℤ → ℤ
 whole_pixels n = pos whole_milli *ℤ n
 
--- the width that lines are wrapped at: what the margins leave, or nothing
-abbrev pub wrapping_width : Header → Margins → Size → ℤ
-wrapping_width header margins size =
-    int_max (framed (whole_pixels ((pos header.res_x -ℤ margins.left) -ℤ margins.right)) size.w header.res_x) (pos 0)
+-- a length of the script across the frame, and down it
+abbrev pub across : Scales → ℤ → ℤ
+across scales len = framed len scales.canvas.x.pixels scales.canvas.x.units
+
+abbrev pub down : Scales → ℤ → ℤ
+down scales len = framed len scales.canvas.y.pixels scales.canvas.y.units
+
+-- the width that lines are wrapped at: what the margins leave of the canvas and of the columns that it doesn't fill, or nothing
+abbrev pub wrapping_width : Margins → Scales → ℤ
+wrapping_width margins scales =
+    int_max (across scales (whole_pixels ((pos scales.canvas.x.units -ℤ margins.left) -ℤ margins.right)) +ℤ pos (pixel * scales.spare)) (pos 0)
 
 -- where an alignment puts the block across the frame: 1, 4 and 7 at the left, 2, 5 and 8 in the middle, 3, 6 and 9 at the right
 abbrev pub edge_across : ℕ → AnchorSide
@@ -57,24 +66,32 @@ edge_at Far near far = far
 abbrev pub edge_within : AnchorSide → ℤ → ℤ
 edge_within edge len = edge_at edge (pos 0) len
 
--- the anchor by the margins: what is in the middle stands halfway between them
-abbrev pub margin_anchor : Header → Margins → ℕ → Size → Point
-margin_anchor header margins align size =
-    let left = framed (whole_pixels margins.left) size.w header.res_x in
-    let right = framed (whole_pixels margins.right) size.w header.res_x in
-    let vertical = framed (whole_pixels margins.vertical) size.h header.res_y in
+-- the anchor by the margins, from the ground's corner on: what is in the middle stands halfway between them
+abbrev pub margin_anchor : Margins → ℕ → Scales → Point
+margin_anchor margins align scales =
+    let left = across scales (whole_pixels margins.left) in
+    let right = across scales (whole_pixels margins.right) in
+    let vertical = down scales (whole_pixels margins.vertical) in
     record {
-      x = edge_at (edge_across align) left (pos (pixel * size.w) -ℤ right);
-      y = edge_at (edge_down align) vertical (pos (pixel * size.h) -ℤ vertical);
+      x = edge_at (edge_across align) left (pos (pixel * scales.ground_rect.w) -ℤ right);
+      y = edge_at (edge_down align) vertical (pos (pixel * scales.ground_rect.h) -ℤ vertical);
     }
 
--- the anchor by the point of `\pos` or `\move`, or else by the margins
-abbrev pub anchor_by : Header → Margins → ℕ → Size → Option (ℤ × ℤ) → Point
-anchor_by header margins align size (Some place) = record { x = framed place.0 size.w header.res_x; y = framed place.1 size.h header.res_y }
-anchor_by header margins align size None = margin_anchor header margins align size
+-- a place of the script, likewise
+abbrev pub script_place : Scales → ℤ × ℤ → Point
+script_place scales place = record { x = across scales place.0; y = down scales place.1 }
 
-abbrev pub anchor : ScriptValue → Event → EventView → Size → Point
-anchor script event view size = anchor_by script.header (margins_of script event) view.align size view.pos
+-- the anchor by the point of `\pos` or `\move`, or else by the margins
+abbrev pub anchor_by : Margins → ℕ → Scales → Option (ℤ × ℤ) → Point
+anchor_by margins align scales (Some place) = script_place scales place
+anchor_by margins align scales None = margin_anchor margins align scales
+
+-- the place in the frame of a point that counts from the ground's corner
+abbrev pub on_ground : Scales → Point → Point
+on_ground scales p = record { x = (pos pixel *ℤ scales.ground_rect.left) +ℤ p.x; y = (pos pixel *ℤ scales.ground_rect.top) +ℤ p.y }
+
+abbrev pub anchor : ScriptValue → Event → EventView → Scales → Point
+anchor script event view scales = on_ground scales (anchor_by (margins_of script event) view.align scales view.pos)
 
 -- the upper left corner of a block of this width and height at an anchor
 abbrev pub block_corner : Point → ℕ → ℤ → ℤ → Point
@@ -82,6 +99,14 @@ block_corner anchor align width height = record {
   x = anchor.x -ℤ edge_within (edge_across align) width;
   y = anchor.y -ℤ edge_within (edge_down align) height;
 }
+
+-- ---- a law
+
+-- On the whole of a frame of which the size alone is known, places count from its corner, and lines are wrapped between their margins.
+pub record StandsOnSize (script : ScriptValue) (size : Size) : Type 0 where
+  pub places : (p : Point) → on_ground (plain_scales script.header size whole_letter_scale) p ≡ p
+  pub widths : (margins : Margins) → wrapping_width margins (plain_scales script.header size whole_letter_scale)
+      ≡ int_max (framed (whole_pixels ((pos script.header.res_x -ℤ margins.left) -ℤ margins.right)) size.w script.header.res_x) (pos 0)
 
 -- ---- ranges
 

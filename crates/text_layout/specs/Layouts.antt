@@ -1,9 +1,10 @@
 -- Public: the layout of what an event shows.
 use Rattle.std.specs.Prelude.{◌≡◌, ℕ, ◌+◌, ◌<◌, ◌≤◌, List, length, pos, All}
-use Rattle.ass_num.specs.declared.size.Size.{Size}
 use Rattle.ass_script.specs.Scripts.{ScriptValue}
 use Rattle.ass_events.specs.declared.event.Event.{Event}
 use Rattle.bdf_font.specs.Fonts.{FontValue}
+use Rattle.frame_view.specs.declared.scales.Scales.{Scales}
+use Rattle.frame_view.specs.declared.view.FrameView.{FrameView}
 use Rattle.override_tags.specs.declared.view.EventView.{EventView}
 use Rattle.text_layout.specs.declared.extents.Extent.{Extent}
 use Rattle.text_layout.specs.declared.laid.Laid.{Laid}
@@ -13,6 +14,7 @@ use Rattle.text_layout.specs.Anchors.{IsBlockSide, edge_across, margins_of, wrap
 use Rattle.text_layout.specs.Extents.{item_extents}
 use Rattle.text_layout.specs.Metrics.{all_metrics}
 use Rattle.text_layout.specs.Kinds.{roles_of}
+use Rattle.text_layout.specs.LineScales.{line_scales}
 use Rattle.text_layout.specs.Lines.{IsLineWithin, IsPlacedWithin, advances_of, block_height, block_width, line_extents, lines_from, placed_from}
 use Rattle.text_layout.specs.Spans.{AreLines, paragraphs_of}
 
@@ -26,13 +28,17 @@ laid_out view metrics items spans =
 
 -- The text of an event is laid out: its paragraphs are broken by the wrap style at the width that the margins leave, and the lines stand
 -- in a block. (The lines are of one kind only, since there is one best way to break a paragraph.)
-abbrev pub IsLaid : ScriptValue → List FontValue → Event → EventView → Size → Laid → Type 0
-IsLaid script fonts event view size laid =
-    let metrics = all_metrics script.header fonts view size in
+abbrev pub IsLaidBy : ScriptValue → List FontValue → Event → EventView → Scales → Laid → Type 0
+IsLaidBy script fonts event view scales laid =
+    let metrics = all_metrics scales fonts view in
     let items = item_extents fonts metrics view.wrap view.items in
     let roles = roles_of view.wrap view.items in
-    let max = wrapping_width script.header (margins_of script event) size in
+    let max = wrapping_width (margins_of script event) scales in
     (spans : List Span) × AreLines view.wrap roles (advances_of items) max (paragraphs_of roles) spans × (laid ≡ laid_out view metrics items spans)
+
+-- by the scales of its lines in a frame
+abbrev pub IsLaid : ScriptValue → List FontValue → Event → EventView → FrameView → Laid → Type 0
+IsLaid script fonts event view frame laid = IsLaidBy script fonts event view (line_scales script.header frame view) laid
 
 -- ---- ranges
 

@@ -5,6 +5,7 @@ pub mod Fonts
 pub mod Kinds
 pub mod Layouts
 pub mod Limits
+pub mod LineScales
 pub mod Lines
 pub mod Metrics
 pub mod Scales

@@ -4,9 +4,9 @@ use Rattle.std.specs.Prelude.{ℕ, ◌*◌, ◌<◌, false, None, List, [], map,
 use Rattle.ass_num.specs.Floor.{floor_div, held}
 use Rattle.ass_num.specs.Limits.{one_16, IsWithin}
 use Rattle.ass_num.specs.declared.geometry.Matrix.{Matrix}
-use Rattle.ass_num.specs.declared.size.Size.{Size}
-use Rattle.ass_script.specs.declared.script.Header.{Header}
 use Rattle.bdf_font.specs.Fonts.{FontValue}
+use Rattle.frame_view.specs.FrameScales.{magnified}
+use Rattle.frame_view.specs.declared.scales.Scales.{Scales}
 use Rattle.line_layout.specs.Breaks.{max_width, IsItemWidth}
 use Rattle.outline_points.specs.Placing.{IsMatrix, IsScale}
 use Rattle.override_tags.specs.declared.view.EventView.{EventView}
@@ -29,16 +29,16 @@ abbrev pub spacing_of : ℤ → ℤ → ℕ → ℕ → ℤ
 spacing_of spacing scale side res = floor_div ((spacing *ℤ scale) *ℤ pos (pixel * side)) (pos (whole_milli * whole_per_cent * res))
 
 -- what the items of a state have in common; its characters have this font
-abbrev pub metrics_of : Header → ℕ → FontValue → State → Size → Metrics
-metrics_of header number font state size =
-    let m = text_matrix header font state size in
+abbrev pub metrics_of : Scales → ℕ → FontValue → State → Metrics
+metrics_of scales number font state =
+    let m = text_matrix scales font state in
     record {
       font = number;
       ux = m.ux;
       ascent = held_extent (scaled_pixels font.ascent m.uy);
       descent = held_extent (scaled_pixels font.descent m.uy);
-      spacing = spacing_of state.spacing state.scale_x size.w header.res_x;
-      drawing = drawing_matrix header state size;
+      spacing = spacing_of (magnified scales.letter_scale state.spacing) state.scale_x scales.canvas.x.pixels scales.canvas.x.units;
+      drawing = drawing_matrix scales state;
     }
 
 -- a font without glyphs, which stands for none
@@ -46,14 +46,14 @@ abbrev pub no_font : FontValue
 no_font = record { name = []; ascent = pos 0; descent = pos 0; default_char = None; glyphs = []; underline = None; strikeout = None; bold_step = pos 0 }
 
 -- the metrics of a state, whose font is the one of its name
-abbrev pub state_metrics : Header → List FontValue → List ℕ → Size → State → Metrics
-state_metrics header fonts numbers size state =
+abbrev pub state_metrics : Scales → List FontValue → List ℕ → State → Metrics
+state_metrics scales fonts numbers state =
     let number = slice_index numbers state.font in
-    metrics_of header number (slice_index_or fonts number no_font) state size
+    metrics_of scales number (slice_index_or fonts number no_font) state
 
 -- the metrics of each state of a view
-abbrev pub all_metrics : Header → List FontValue → EventView → Size → List Metrics
-all_metrics header fonts view size = map (state_metrics header fonts (font_numbers fonts view.names) size) view.states
+abbrev pub all_metrics : Scales → List FontValue → EventView → List Metrics
+all_metrics scales fonts view = map (state_metrics scales fonts (font_numbers fonts view.names)) view.states
 
 abbrev pub no_matrix : Matrix
 no_matrix = record { ux = pos 0; uy = pos 0; italic = false; turn = pos 0 }

@@ -5,9 +5,9 @@ use Rattle.std.specs.Int.{int_max, int_rem_euclid}
 use Rattle.ass_num.specs.Floor.{floor_div, held}
 use Rattle.ass_num.specs.Limits.{one_16}
 use Rattle.ass_num.specs.declared.geometry.Matrix.{Matrix}
-use Rattle.ass_num.specs.declared.size.Size.{Size}
-use Rattle.ass_script.specs.declared.script.Header.{Header}
 use Rattle.bdf_font.specs.Fonts.{FontValue}
+use Rattle.frame_view.specs.FrameScales.{magnified}
+use Rattle.frame_view.specs.declared.scales.Scales.{Scales}
 use Rattle.outline_points.specs.Limits.{max_scale}
 use Rattle.override_tags.specs.declared.view.State.{State}
 
@@ -59,28 +59,28 @@ abbrev pub turn_of : ℤ → ℤ
 turn_of angle = int_rem_euclid angle (pos whole_turn)
 
 -- the matrix of characters in a state with this font
-abbrev pub text_matrix : Header → FontValue → State → Size → Matrix
-text_matrix header font state size = record {
-  ux = text_scale state.size state.scale_x size.w header.res_x (em_height font);
-  uy = text_scale state.size state.scale_y size.h header.res_y (em_height font);
+abbrev pub text_matrix : Scales → FontValue → State → Matrix
+text_matrix scales font state = record {
+  ux = text_scale (magnified scales.letter_scale state.size) state.scale_x scales.letters.x.pixels scales.letters.x.units (em_height font);
+  uy = text_scale (magnified scales.letter_scale state.size) state.scale_y scales.letters.y.pixels scales.letters.y.units (em_height font);
   italic = state.italic;
   turn = turn_of state.angle;
 }
 
 -- the matrix of drawings in a state
-abbrev pub drawing_matrix : Header → State → Size → Matrix
-drawing_matrix header state size = record {
-  ux = drawing_scale state.scale_x state.draw size.w header.res_x;
-  uy = drawing_scale state.scale_y state.draw size.h header.res_y;
+abbrev pub drawing_matrix : Scales → State → Matrix
+drawing_matrix scales state = record {
+  ux = drawing_scale (magnified scales.letter_scale state.scale_x) state.draw scales.canvas.x.pixels scales.canvas.x.units;
+  uy = drawing_scale (magnified scales.letter_scale state.scale_y) state.draw scales.canvas.y.pixels scales.canvas.y.units;
   italic = false;
   turn = turn_of state.angle;
 }
 
 -- the matrix of the drawing of a clip, whose scale is a level
-abbrev pub clip_matrix : Header → ℕ → Size → Matrix
-clip_matrix header scale size = record {
-  ux = drawing_scale (pos whole_per_cent) scale size.w header.res_x;
-  uy = drawing_scale (pos whole_per_cent) scale size.h header.res_y;
+abbrev pub clip_matrix : Scales → ℕ → Matrix
+clip_matrix scales level = record {
+  ux = drawing_scale (pos whole_per_cent) level scales.canvas.x.pixels scales.canvas.x.units;
+  uy = drawing_scale (pos whole_per_cent) level scales.canvas.y.pixels scales.canvas.y.units;
   italic = false;
   turn = pos 0;
 }

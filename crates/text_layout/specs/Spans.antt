@@ -1,7 +1,6 @@
 -- Public: paragraphs, and how they are broken into lines. A span has the items from its first place up to its last, which isn't in it.
-use Rattle.std.specs.Prelude.{◌≡◌, ℕ, ◌+◌, ◌<◌, ◌≤◌, Bool, true, false, if◌then◌else◌, List, [], ◌∷◌, ◌++◌, map, length, slice_range, ℤ}
+use Rattle.std.specs.Prelude.{◌≡◌, ◌≢◌, ℕ, ◌+◌, ◌<◌, ◌≤◌, Bool, true, false, if◌then◌else◌, List, [], ◌∷◌, ◌++◌, map, length, slice_range, ℤ}
 use Rattle.line_layout.specs.Breaks.{AreFilled, IsBest}
-use Rattle.text_layout.specs.Kinds.{unwrapped}
 use Rattle.text_layout.specs.declared.kinds.BreakRole.{BreakRole}
 use Rattle.text_layout.specs.declared.kinds.BreakRole.TheVariants.{Word, Space, Break}
 use Rattle.text_layout.specs.declared.spans.Span.{Span}
@@ -29,11 +28,11 @@ spans_between first to (place ∷ places) = record { first = first; last = place
 abbrev pub paragraphs_of : List BreakRole → List Span
 paragraphs_of roles = spans_between 0 (length roles) (places_of Break roles)
 
--- The places are where a wrap style breaks a paragraph of these widths and break places.
+-- The places are where a wrap style breaks a paragraph of these widths and break places. Any other style breaks nowhere.
 pub record AreChosen (wrap : ℕ) (widths : List ℤ) (spaces : List ℕ) (max : ℤ) (places : List ℕ) : Type 0 where
   pub greatest : wrap ≡ 0 → IsBest widths spaces max true places
   pub filled : wrap ≡ 1 → AreFilled widths spaces max 0 places
-  pub none : wrap ≡ unwrapped → places ≡ []
+  pub none : wrap ≢ 0 → wrap ≢ 1 → wrap ≢ 3 → places ≡ []
   pub least : wrap ≡ 3 → IsBest widths spaces max false places
 
 -- The spans are the lines of a paragraph, which is broken at chosen spaces.

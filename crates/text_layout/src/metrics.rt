@@ -2,9 +2,10 @@
 //! clusters, and the matrix of drawings.
 
 ghost use Rattle.std.specs.Prelude.{◌≡◌, ◌≤◌, ◌<◌, length, All, IfOk};
-ghost use Rattle.ass_num.specs.Limits.{IsFrameSize, IsHeldLength, IsHeldNumber, IsWithin, max_frame_side};
-ghost use Rattle.ass_script.specs.Ranges.{IsCanvasSide, IsScriptHeader};
+ghost use Rattle.ass_num.specs.Limits.{IsHeldLength, IsHeldNumber, IsWithin, max_frame_side};
 ghost use Rattle.bdf_font.specs.Ranges.{IsFont};
+ghost use Rattle.frame_view.specs.FrameScales.{IsScales};
+ghost use Rattle.frame_view.specs.FrameViews.{IsLayoutSide};
 ghost use Rattle.line_layout.specs.Breaks.{IsItemWidth};
 ghost use Rattle.outline_points.specs.Limits.{max_pixel};
 ghost use Rattle.outline_points.specs.Placing.{IsScale};
@@ -15,9 +16,9 @@ ghost use Rattle.text_layout.specs.Metrics.{HasFont, IsMetrics, all_metrics, hel
 ghost use Rattle.text_layout.specs.Limits.{max_framed};
 
 use crate::scales::{divided, drawing_matrix, product, text_matrix};
-use ass_num::{Fix, Matrix, Mem, Milli, Size, div_floor, hold};
-use ass_script::Header;
+use ass_num::{Fix, Matrix, Mem, Milli, div_floor, hold};
 use bdf_font::{Font, FontSet, find_font};
+use frame_view::{Scales, magnified};
 use override_tags::{EventView, State};
 use std::alloc::Global;
 
@@ -61,36 +62,37 @@ fn spacing_of(spacing: Milli, scale: Milli, side: u32, res: u32) -> Fix
     requires spacing { IsHeldNumber spacing }
     requires scale { IsHeldLength scale }
     requires side { side ≤ max_frame_side }
-    requires res { IsCanvasSide res }
+    requires res { IsLayoutSide res }
     ensures value { result ≡ spacing_of spacing scale side res }
     ensures within { IsWithin max_framed result }
 {
-    let divisor = 100_000_000 * u64::from(res);
+    let divisor = 100_000_000 * u128::from(res);
     divided(product(spacing, scale), 64 * u64::from(side), divisor) as Fix
 }
 
 /// What the items of a state have in common; its characters have this font.
-fn metrics_of(header: &Header, number: u32, font: &Font, state: &State, size: &Size) -> Metrics
-    requires header { IsScriptHeader header.now }
+fn metrics_of(scales: &Scales, number: u32, font: &Font, state: &State) -> Metrics
+    requires scales { IsScales scales.now }
     requires font { IsFont font.now }
     requires scale_x { IsHeldLength state.now.scale_x }
     requires scale_y { IsHeldLength state.now.scale_y }
     requires height { IsHeldLength state.now.size }
     requires spacing { IsHeldNumber state.now.spacing }
     requires level { state.now.draw ≤ max_tag_scale }
-    requires size { IsFrameSize size.now }
-    ensures value { result ≡ metrics_of header.now number font.now state.now size.now }
+    ensures value { result ≡ metrics_of scales.now number font.now state.now }
     ensures number { result.font ≡ number }
     ensures range { IsMetrics result }
 {
-    let m = text_matrix(header, font, state, size);
+    let m = text_matrix(scales, font, state);
+    let across = scales.canvas.x;
+    let spacing = magnified(scales.letter_scale, state.spacing);
     Metrics {
         font: number,
         ux: m.ux,
         ascent: held_extent(scaled_pixels(font.ascent(), m.uy)),
         descent: held_extent(scaled_pixels(font.descent(), m.uy)),
-        spacing: spacing_of(state.spacing, state.scale_x, size.w, header.res_x),
-        drawing: drawing_matrix(header, state, size),
+        spacing: spacing_of(spacing, state.scale_x, across.pixels, across.units),
+        drawing: drawing_matrix(scales, state),
     }
 }
 
@@ -109,47 +111,38 @@ fn font_numbers(alloc: Global, fonts: &FontSet, view: &EventView) -> Mem<Vec<u32
 }
 
 /// The metrics of a state, whose font is the one of its name.
-fn state_metrics(
-    header: &Header,
-    fonts: &FontSet,
-    numbers: &[u32],
-    state: &State,
-    size: &Size,
-) -> Metrics
-    requires header { IsScriptHeader header.now }
+fn state_metrics(scales: &Scales, fonts: &FontSet, numbers: &[u32], state: &State) -> Metrics
+    requires scales { IsScales scales.now }
     requires fonts { IsLayoutFontSet fonts.now.fonts }
     requires numbers { All (λ number. number < length fonts.now.fonts) numbers.now }
     requires state { IsState (length numbers.now) state.now }
-    requires size { IsFrameSize size.now }
-    ensures value { result ≡ state_metrics header.now fonts.now.fonts numbers.now size.now state.now }
+    ensures value { result ≡ state_metrics scales.now fonts.now.fonts numbers.now state.now }
     ensures range { IsMetrics result }
     ensures font { HasFont (length fonts.now.fonts) result }
 {
     let number = numbers[state.font as usize];
     let font = &fonts.fonts.as_slice()[number as usize];
-    metrics_of(header, number, font, state, size)
+    metrics_of(scales, number, font, state)
 }
 
 /// The metrics of each state of a view.
 pub fn all_metrics(
     alloc: Global,
-    header: &Header,
+    scales: &Scales,
     fonts: &FontSet,
     view: &EventView,
-    size: &Size,
 ) -> Mem<Vec<Metrics>>
-    requires header { IsScriptHeader header.now }
+    requires scales { IsScales scales.now }
     requires fonts { IsLayoutFontSet fonts.now.fonts }
     requires states { All (IsState (length view.now.names)) view.now.states }
-    requires size { IsFrameSize size.now }
-    ensures value { IfOk result (λ metrics. metrics.items ≡ all_metrics header.now fonts.now.fonts view.now size.now) }
+    ensures value { IfOk result (λ metrics. metrics.items ≡ all_metrics scales.now fonts.now.fonts view.now) }
     ensures range { IfOk result (λ metrics. All IsMetrics metrics.items) }
     ensures fonts { IfOk result (λ metrics. All (HasFont (length fonts.now.fonts)) metrics.items) }
 {
     let numbers = font_numbers(alloc, fonts, view)?;
     let mut metrics = Vec::with_capacity(alloc, view.states.len())?;
     for state in view.states.as_slice() {
-        metrics.push(state_metrics(header, fonts, numbers.as_slice(), state, size))?;
+        metrics.push(state_metrics(scales, fonts, numbers.as_slice(), state))?;
     }
     Ok(metrics)
 }

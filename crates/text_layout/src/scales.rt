@@ -2,18 +2,20 @@
 
 ghost use Rattle.std.specs.Prelude.{◌≡◌, ◌≤◌, ◌<◌, pos, ◌*ℤ◌};
 ghost use Rattle.ass_num.specs.Floor.{floor_div};
-ghost use Rattle.ass_num.specs.Limits.{IsFrameSize, IsHeldLength, IsHeldNumber, IsWithin, max_frame_side};
-ghost use Rattle.ass_script.specs.Ranges.{IsCanvasSide, IsScriptHeader};
+ghost use Rattle.ass_num.specs.Limits.{IsHeldLength, IsHeldNumber, IsWithin, max_frame_side};
 ghost use Rattle.bdf_font.specs.Ranges.{IsFont};
+ghost use Rattle.frame_view.specs.FrameScales.{IsScales};
+ghost use Rattle.frame_view.specs.FrameViews.{IsLayoutSide};
+ghost use Rattle.frame_view.specs.Limits.{max_ratio_number};
 ghost use Rattle.outline_points.specs.Placing.{IsMatrix, IsScale};
 ghost use Rattle.override_tags.specs.Limits.{max_tag_scale};
-ghost use Rattle.text_layout.specs.Limits.{max_dividend, max_em, max_factor, max_framed, max_level_parts, max_script_length};
+ghost use Rattle.text_layout.specs.Limits.{max_dividend, max_divisor, max_em, max_factor, max_framed, max_level_parts, max_script_length};
 ghost use Rattle.text_layout.specs.Scales.{clip_matrix, drawing_matrix, drawing_scale, em_height, fine_parts, framed, held_scale, level_parts, text_matrix};
 ghost use Rattle.text_layout.specs.Scales.{text_scale, turn_of};
 
-use ass_num::{Fix, Matrix, Milli, Size, div_floor, hold};
-use ass_script::Header;
+use ass_num::{Fix, Matrix, Milli, div_floor, hold};
 use bdf_font::Font;
+use frame_view::{Scales, magnified};
 use override_tags::State;
 
 /// The largest scale of a matrix: 2^40.
@@ -30,13 +32,14 @@ pub(crate) fn product(a: Milli, b: Milli) -> i128
 }
 
 /// A multiple of a number, divided and rounded down.
-pub(crate) fn divided(a: i128, factor: u64, divisor: u64) -> i128
+pub(crate) fn divided(a: i128, factor: u64, divisor: u128) -> i128
     requires number { IsWithin max_dividend a }
     requires factor { factor ≤ max_factor }
     requires divisor { 0 < divisor }
+    requires most { divisor ≤ max_divisor }
     ensures { result ≡ floor_div (a *ℤ pos factor) (pos divisor) }
 {
-    div_floor(a * i128::from(factor), i128::from(divisor))
+    div_floor(a * i128::from(factor), divisor as i128)
 }
 
 /// A length of the script, in thousandths of its pixels, in 1/64 pixel of a frame whose `side` pixels show `res` pixels of the script
@@ -44,14 +47,14 @@ pub(crate) fn divided(a: i128, factor: u64, divisor: u64) -> i128
 pub fn framed(length: Milli, side: u32, res: u32) -> Fix
     requires length { IsWithin max_script_length length }
     requires side { side ≤ max_frame_side }
-    requires res { IsCanvasSide res }
+    requires res { IsLayoutSide res }
     ensures value { result ≡ framed length side res }
     ensures within { IsWithin max_framed result }
 {
     divided(
         i128::from(length),
         64 * u64::from(side),
-        1_000 * u64::from(res),
+        1_000 * u128::from(res),
     ) as Fix
 }
 
@@ -77,7 +80,7 @@ fn held_scale(quotient: i128) -> i64
 
 /// How many parts of 65,536 of 1/64 pixel a side of the frame has.
 fn fine_parts(side: u32) -> u64
-    requires { side ≤ max_frame_side }
+    requires { side ≤ max_ratio_number }
     ensures value { result ≡ fine_parts side }
     ensures within { result ≤ max_factor }
 {
@@ -88,14 +91,15 @@ fn fine_parts(side: u32) -> u64
 fn text_scale(size: Milli, scale: Milli, side: u32, res: u32, em: u64) -> i64
     requires size { IsHeldLength size }
     requires scale { IsHeldLength scale }
-    requires side { side ≤ max_frame_side }
-    requires res { IsCanvasSide res }
+    requires side { side ≤ max_ratio_number }
+    requires some_unit { 0 < res }
+    requires res { res ≤ max_ratio_number }
     requires some { 0 < em }
     requires most { em ≤ max_em }
     ensures value { result ≡ text_scale size scale side res em }
     ensures range { IsScale result }
 {
-    let divisor = 100_000_000 * u64::from(res) * em;
+    let divisor = 100_000_000 * u128::from(res) * u128::from(em);
     held_scale(divided(product(size, scale), fine_parts(side), divisor))
 }
 
@@ -104,11 +108,11 @@ fn drawing_scale(scale: Milli, level: u32, side: u32, res: u32) -> i64
     requires scale { IsHeldLength scale }
     requires level { level ≤ max_tag_scale }
     requires side { side ≤ max_frame_side }
-    requires res { IsCanvasSide res }
+    requires res { IsLayoutSide res }
     ensures value { result ≡ drawing_scale scale level side res }
     ensures range { IsScale result }
 {
-    let divisor = 100_000 * u64::from(res) * level_parts(level);
+    let divisor = 100_000 * u128::from(res) * u128::from(level_parts(level));
     held_scale(divided(i128::from(scale), fine_parts(side), divisor))
 }
 
@@ -130,54 +134,60 @@ fn turn_of(angle: Milli) -> Milli
 }
 
 /// The matrix of characters in a state with this font.
-pub fn text_matrix(header: &Header, font: &Font, state: &State, size: &Size) -> Matrix
-    requires header { IsScriptHeader header.now }
+pub fn text_matrix(scales: &Scales, font: &Font, state: &State) -> Matrix
+    requires scales { IsScales scales.now }
     requires font { IsFont font.now }
     requires scale_x { IsHeldLength state.now.scale_x }
     requires scale_y { IsHeldLength state.now.scale_y }
     requires height { IsHeldLength state.now.size }
-    requires size { IsFrameSize size.now }
-    ensures value { result ≡ text_matrix header.now font.now state.now size.now }
+    ensures value { result ≡ text_matrix scales.now font.now state.now }
     ensures range { IsMatrix result }
 {
     let em = em_height(font);
+    let size = magnified(scales.letter_scale, state.size);
+    let across = scales.letters.x;
+    let down = scales.letters.y;
     Matrix {
-        ux: text_scale(state.size, state.scale_x, size.w, header.res_x, em),
-        uy: text_scale(state.size, state.scale_y, size.h, header.res_y, em),
+        ux: text_scale(size, state.scale_x, across.pixels, across.units, em),
+        uy: text_scale(size, state.scale_y, down.pixels, down.units, em),
         italic: state.italic,
         turn: turn_of(state.angle),
     }
 }
 
 /// The matrix of drawings in a state.
-pub fn drawing_matrix(header: &Header, state: &State, size: &Size) -> Matrix
-    requires header { IsScriptHeader header.now }
+pub fn drawing_matrix(scales: &Scales, state: &State) -> Matrix
+    requires scales { IsScales scales.now }
     requires scale_x { IsHeldLength state.now.scale_x }
     requires scale_y { IsHeldLength state.now.scale_y }
     requires level { state.now.draw ≤ max_tag_scale }
-    requires size { IsFrameSize size.now }
-    ensures value { result ≡ drawing_matrix header.now state.now size.now }
+    ensures value { result ≡ drawing_matrix scales.now state.now }
     ensures range { IsMatrix result }
 {
+    let scale_x = magnified(scales.letter_scale, state.scale_x);
+    let scale_y = magnified(scales.letter_scale, state.scale_y);
+    let across = scales.canvas.x;
+    let down = scales.canvas.y;
     Matrix {
-        ux: drawing_scale(state.scale_x, state.draw, size.w, header.res_x),
-        uy: drawing_scale(state.scale_y, state.draw, size.h, header.res_y),
+        ux: drawing_scale(scale_x, state.draw, across.pixels, across.units),
+        uy: drawing_scale(scale_y, state.draw, down.pixels, down.units),
         italic: false,
         turn: turn_of(state.angle),
     }
 }
 
-/// The matrix of the drawing of a clip at a scale.
-pub fn clip_matrix(header: &Header, scale: u32, size: &Size) -> Matrix
-    requires header { IsScriptHeader header.now }
-    requires scale { scale ≤ max_tag_scale }
-    requires size { IsFrameSize size.now }
-    ensures value { result ≡ clip_matrix header.now scale size.now }
+/// The matrix of the drawing of a clip at a level.
+pub fn clip_matrix(scales: &Scales, level: u32) -> Matrix
+    requires scales { IsScales scales.now }
+    requires level { level ≤ max_tag_scale }
+    ensures value { result ≡ clip_matrix scales.now level }
     ensures range { IsMatrix result }
 {
+    let across = scales.canvas.x;
+    let down = scales.canvas.y;
     Matrix {
-        ux: drawing_scale(100_000, scale, size.w, header.res_x),
-        uy: drawing_scale(100_000, scale, size.h, header.res_y),
+        ux: drawing_scale(100_000, level, across.pixels, across.units),
+        uy: drawing_scale(100_000, level, down.pixels, down.units),
         italic: false,
         turn: 0,
     }

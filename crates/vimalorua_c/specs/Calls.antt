@@ -2,7 +2,7 @@
 use Rattle.std.specs.Prelude.{◌≡◌, ◌≢◌, ◌↔◌, ◌⊎◌, ℕ, ◌*◌, ◌+◌, ◌<◌, ◌≤◌, ℤ, pos, neg_ℤ, ◌<ℤ◌, List, [], ◌∷◌, ◌++◌, length, All, flat_map, fold, Option, Some, None, Ok, Err}
 use Rattle.track_history.specs.LocalFeeding.{AreFrontOffered, IsChunkOffered, IsFlushedLocally, with_offer}
 use Rattle.ass_events.specs.Events.{event_of}
-use Rattle.ass_num.specs.Limits.{max_file_bytes, max_frame_side, max_instant}
+use Rattle.ass_num.specs.Limits.{IsWithin, max_file_bytes, max_frame_side, max_instant}
 use Rattle.ass_num.specs.declared.size.Size.{Size}
 use Rattle.ass_script.specs.Scripts.{ScriptValue, script_of}
 use Rattle.ass_script.specs.declared.refusal.ScriptRefusal.{ScriptRefusal}
@@ -13,6 +13,7 @@ use Rattle.bdf_font.specs.declared.cause.FontFileRefusal.{FontFileRefusal}
 use Rattle.blend.specs.Canvases.{CanvasValue, black}
 use Rattle.evict_core.specs.Machine.{max_budget}
 use Rattle.frame_change.specs.declared.kinds.ChangeKind.{ChangeKind}
+use Rattle.frame_view.specs.declared.view.FrameView.{FrameView}
 use Rattle.picture_plan.specs.Pictures.{IsPictureAt}
 use Rattle.plain_images.specs.PlainImages.{LiesInFrame, with_plain_images}
 use Rattle.plain_images.specs.declared.plain.PlainImage.{PlainImage}
@@ -23,10 +24,12 @@ use Rattle.ass_events.specs.ScriptEvents.{line_events}
 use Rattle.track_history.specs.declared.answers.Feed.{Feed}
 use Rattle.track_history.specs.declared.answers.Flushed.{Flushed}
 use Rattle.vimalorua_c.specs.Statuses.{bad_call_status, change_number, closed_status, done_status, fed_field, feed_told, flush_told, font_told, many_fonts_status, no_font_status, out_of_memory_status, script_told, told}
+use Rattle.vimalorua_c.specs.Views.{AreViewNumbers}
 use Rattle.vimalorua_c.specs.declared.handle.Handle.{Handle}
 use Rattle.vimalorua_c.specs.declared.kept.HeldPlayer.{HeldPlayer}
 use Rattle.vimalorua_c.specs.declared.listing.ImageNumbers.{ImageNumbers}
 use Rattle.vimalorua_c.specs.declared.status.Told.{Told}
+use Rattle.vimalorua_c.specs.declared.views.ViewNumbers.{ViewNumbers}
 
 -- ---- all calls
 
@@ -37,11 +40,15 @@ IsMadeOf IsUntold call status None None = (status ≡ closed_status) × IsUntold
 IsMadeOf IsUntold call status (Some old) None = ⊥
 IsMadeOf IsUntold call status None (Some new) = ⊥
 
--- A call of a handle: a bad one changes and tells nothing, nor does one for which memory ran out before it was made.
+-- A call of a handle whose numbers are good: where memory ran out before it was made, it changes and tells nothing.
+abbrev pub IsGoodCall : Type 0 → (PlayerView → PlayerView → Type 0) → ℤ → HeldPlayer → HeldPlayer → Type 0
+IsGoodCall IsUntold call status old new =
+    ((status ≡ out_of_memory_status) × (new ≡ old) × IsUntold) ⊎ IsMadeOf IsUntold call status old.player new.player
+
+-- A call of a handle: a bad one changes and tells nothing.
 abbrev pub IsCall : Type 0 → Type 0 → (PlayerView → PlayerView → Type 0) → ℤ → HeldPlayer → HeldPlayer → Type 0
 IsCall IsBad IsUntold call status old new =
-    (IsBad × (status ≡ bad_call_status) × (new ≡ old) × IsUntold)
-    ⊎ ((IsBad → ⊥) × (((status ≡ out_of_memory_status) × (new ≡ old) × IsUntold) ⊎ IsMadeOf IsUntold call status old.player new.player))
+    (IsBad × (status ≡ bad_call_status) × (new ≡ old) × IsUntold) ⊎ ((IsBad → ⊥) × IsGoodCall IsUntold call status old new)
 
 -- ---- opening
 
@@ -107,20 +114,27 @@ IsBeyond at size = (max_frame_side < size.w) ⊎ ((max_frame_side < size.h) ⊎ 
 abbrev pub IsBadDraw : ℤ → Size → List ℕ → Type 0
 IsBadDraw at size out = IsBeyond at size ⊎ (length out ≢ 3 * (size.w * size.h))
 
+-- Numbers say no view, or no picture is asked for at this instant.
+abbrev pub IsBadView : ℤ → ViewNumbers → Type 0
+IsBadView at numbers = AreViewNumbers numbers × IsWithin max_instant at → ⊥
+
+abbrev pub IsBadDrawIn : ℤ → ViewNumbers → List ℕ → Type 0
+IsBadDrawIn at numbers out = IsBadView at numbers ⊎ (length out ≢ 3 * (numbers.w * numbers.h))
+
 -- The bytes are those of the picture; or there is no font, or memory ran out, and they are as before. The player stays as it is.
-pub record IsDrawn (at : ℤ) (size : Size) (before after : List ℕ) (status : ℤ) (old new : PlayerView) : Type 0 where
+pub record IsDrawn (at : ℤ) (frame : FrameView) (before after : List ℕ) (status : ℤ) (old new : PlayerView) : Type 0 where
   pub same : new ≡ old
   pub fonts : (status ≡ no_font_status) ↔ (old.fonts ≡ [])
-  pub picture : status ≡ done_status → (canvas : CanvasValue) × IsPictureAt old.script old.fonts old.track.events at size canvas × (after ≡ canvas.bytes)
+  pub picture : status ≡ done_status → (canvas : CanvasValue) × IsPictureAt old.script old.fonts old.track.events at frame canvas × (after ≡ canvas.bytes)
   pub else_same : status ≢ done_status → after ≡ before
   pub others : status ≢ done_status → status ≢ no_font_status → status ≡ out_of_memory_status
 
 -- The images were listed; or there is no font, or memory ran out, and the player stays as it is.
-pub record AreImagesTold (at : ℤ) (size : Size) (status before change : ℤ) (count bytes : ℕ) (old new : PlayerView) : Type 0 where
+pub record AreImagesTold (at : ℤ) (frame : FrameView) (status before change : ℤ) (count bytes : ℕ) (old new : PlayerView) : Type 0 where
   pub fonts : (status ≡ no_font_status) ↔ (old.fonts ≡ [])
-  pub picture : status ≡ done_status → IsPictureAt old.script old.fonts old.track.events at size (with_plain_images (black size.w size.h) new.images)
-  pub frame : status ≡ done_status → All (LiesInFrame size) new.images
-  pub list : status ≡ done_status → IsListOf old.script old.fonts old.track.events at size new.images
+  pub picture : status ≡ done_status → IsPictureAt old.script old.fonts old.track.events at frame (with_plain_images (black frame.size.w frame.size.h) new.images)
+  pub within : status ≡ done_status → All (LiesInFrame frame.size) new.images
+  pub list : status ≡ done_status → IsListOf old.script old.fonts old.track.events at frame new.images
   pub changed : status ≡ done_status → (kind : ChangeKind) × IsListChange kind old.images new.images × (change ≡ change_number kind)
   pub else_same : status ≢ done_status → (new ≡ old) × (change ≡ before)
   pub only_images : new ≡ record old { images = new.images }

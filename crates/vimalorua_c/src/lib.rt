@@ -11,3 +11,4 @@ mod parts;
 mod ranges;
 mod status;
 mod taking;
+pub mod views;

@@ -1,17 +1,21 @@
 //! Images of one colour each, copied into the caller's arrays.
 
 ghost use Rattle.std.specs.Prelude.{◌≡◌, ◌≤◌, ◌+◌, ◌++◌, length, take, flat_map};
-ghost use Rattle.ass_num.specs.Limits.{IsFrameSize, IsWithin, max_instant};
+ghost use Rattle.ass_num.specs.Limits.{IsWithin, max_instant};
+ghost use Rattle.frame_view.specs.FrameViews.{IsFrameView, plain_frame};
 ghost use Rattle.plain_images.specs.declared.plain.PlainImage.{PlainImage};
 ghost use Rattle.player.specs.Players.{mask_bytes};
 ghost use Rattle.vimalorua_c.specs.Calls as rule;
-ghost use Rattle.vimalorua_c.specs.Calls.{AreImagesCopied, AreImagesTold, IsBeyond, IsCall};
+ghost use Rattle.vimalorua_c.specs.Calls.{AreImagesCopied, AreImagesTold, IsBadView, IsBeyond, IsCall, IsGoodCall};
+ghost use Rattle.vimalorua_c.specs.Views.{view_numbered};
 
 use crate::handle::Handle;
 use crate::ranges::may_be_shown;
 use crate::status::{BAD_CALL, CLOSED, DONE, NO_FONT, OUT_OF_MEMORY, change_number};
 use crate::taking::{put_back, take};
+use crate::views::{ViewNumbers, may_be_seen, view_numbered};
 use ass_num::Size;
+use frame_view::FrameView;
 use plain_images::PlainImage;
 use player::Player;
 use std::alloc::Global;
@@ -75,21 +79,53 @@ fn copy_images(images: &[PlainImage], numbers: &mut [ImageNumbers], masks: &mut 
 }
 
 /// Lists what is shown at an instant, and tells how the list differs from the one before.
-fn listed(alloc: Global, player: &mut Player, at: i64, size: &Size, change: &mut i32) -> i32
+fn listed(alloc: Global, player: &mut Player, at: i64, frame: &FrameView, change: &mut i32) -> i32
     requires instant { IsWithin max_instant at }
-    requires size { IsFrameSize size.now }
-    ensures { AreImagesTold at size.now result change.old change.new (length player.new.images) (mask_bytes player.new.images) player.old player.new }
+    requires frame { IsFrameView frame.now }
+    ensures { AreImagesTold at frame.now result change.old change.new (length player.new.images) (mask_bytes player.new.images) player.old player.new }
 {
     if player.font_count() == 0 {
         return NO_FONT;
     }
-    match player.images(alloc, at, size) {
+    match player.images_in(alloc, at, frame) {
         Ok(kind) => {
             *change = change_number(kind);
             DONE
         }
         Err(_) => OUT_OF_MEMORY,
     }
+}
+
+/// Lists what is shown at an instant in a frame, and tells of the list.
+fn list_behind(
+    alloc: Global,
+    handle: &mut Handle,
+    at: i64,
+    frame: &FrameView,
+    change: &mut i32,
+    count: &mut usize,
+    bytes: &mut usize,
+) -> i32
+    requires instant { IsWithin max_instant at }
+    requires frame { IsFrameView frame.now }
+    ensures { IsGoodCall ((change.new ≡ change.old) × (count.new ≡ count.old) × (bytes.new ≡ bytes.old))
+        (AreImagesTold at frame.now result change.old change.new count.new bytes.new) result handle.old.value handle.new.value }
+{
+    let Ok(kept) = take(alloc, handle) else {
+        return OUT_OF_MEMORY;
+    };
+    let mut kept = kept;
+    let status = match &mut kept.player {
+        Some(player) => {
+            let status = listed(alloc, player, at, frame, change);
+            *count = player.listed_images().len();
+            *bytes = player.listed_bytes();
+            status
+        }
+        None => CLOSED,
+    };
+    put_back(handle, kept);
+    status
 }
 
 /// Lists what is shown at an instant as images of one colour each, and tells how the list differs from the one before, how many
@@ -106,27 +142,49 @@ pub extern "C" fn vimalorua_images(
     bytes: &mut usize,
 ) -> i32
     ensures { IsCall (IsBeyond at (record { w = w; h = h })) ((change.new ≡ change.old) × (count.new ≡ count.old) × (bytes.new ≡ bytes.old))
-        (AreImagesTold at (record { w = w; h = h }) result change.old change.new count.new bytes.new) result handle.old.value handle.new.value }
+        (AreImagesTold at (plain_frame (record { w = w; h = h })) result change.old change.new count.new bytes.new) result handle.old.value handle.new.value }
 {
     let size = Size { w, h };
     if !may_be_shown(at, &size) {
         return BAD_CALL;
     }
-    let Ok(kept) = take(alloc, handle) else {
-        return OUT_OF_MEMORY;
-    };
-    let mut kept = kept;
-    let status = match &mut kept.player {
-        Some(player) => {
-            let status = listed(alloc, player, at, &size, change);
-            *count = player.listed_images().len();
-            *bytes = player.listed_bytes();
-            status
-        }
-        None => CLOSED,
-    };
-    put_back(handle, kept);
-    status
+    list_behind(
+        alloc,
+        handle,
+        at,
+        &FrameView::plain(size),
+        change,
+        count,
+        bytes,
+    )
+}
+
+/// The same in a frame as the script sees it. c/views.c makes the numbers whole.
+#[unsafe(no_mangle)]
+pub extern "C" fn vimalorua_images_by_numbers(
+    alloc: Global,
+    handle: &mut Handle,
+    at: i64,
+    numbers: &ViewNumbers,
+    change: &mut i32,
+    count: &mut usize,
+    bytes: &mut usize,
+) -> i32
+    ensures { IsCall (IsBadView at numbers.now) ((change.new ≡ change.old) × (count.new ≡ count.old) × (bytes.new ≡ bytes.old))
+        (AreImagesTold at (view_numbered numbers.now) result change.old change.new count.new bytes.new) result handle.old.value handle.new.value }
+{
+    if !may_be_seen(at, numbers) {
+        return BAD_CALL;
+    }
+    list_behind(
+        alloc,
+        handle,
+        at,
+        &view_numbered(numbers),
+        change,
+        count,
+        bytes,
+    )
 }
 
 /// Copies the images that were listed last, in order, and the bytes of their masks one after the other, into arrays of just these

@@ -1,7 +1,10 @@
 //! Opening and closing handles, their fonts and their budget.
 
-ghost use Rattle.std.specs.Prelude.{◌≡◌, ◌≢◌, ◌≤◌, ◌<◌, length, IfOk, IfErr};
+ghost use Rattle.std.specs.Prelude.{◌≡◌, ◌≢◌, ◌≤◌, ◌<◌, length, Err, IfOk, IfErr};
 ghost use Rattle.ass_num.specs.Limits.{max_file_bytes};
+ghost use Rattle.bdf_font.specs.Files.{IsFontFileAnswer};
+ghost use Rattle.bdf_font.specs.Ranges.{IsFont};
+ghost use Rattle.bdf_font.specs.declared.cause.FontFileRefusal.TheVariants.{Lines};
 ghost use Rattle.evict_core.specs.Machine.{max_budget};
 ghost use Rattle.vimalorua_c.specs.Calls.{IsBudgetSet, IsCall, IsFontAdded, IsLongFile, IsNewHandle, IsOpened, IsScriptTold};
 ghost use Rattle.vimalorua_c.specs.Statuses as rule;
@@ -11,7 +14,8 @@ use crate::status::{
     BAD_CALL, CLOSED, DONE, MANY_FONTS, OUT_OF_MEMORY, Told, font_told, script_told, told_at,
 };
 use crate::taking::{handle_of, put_back, take};
-use bdf_font::read_font_file;
+use ass_num::Items;
+use bdf_font::{Font, FontFileRefusal, FontRefusal, read_font_file};
 use player::Player;
 use std::alloc::Global;
 
@@ -81,6 +85,18 @@ pub extern "C" fn vimalorua_open(
     }
 }
 
+/// The font of a file's bytes, which are the caller's. A font may keep its bytes, so they are copied.
+fn font_of(alloc: Global, bytes: &[u8]) -> Result<Font, FontFileRefusal>
+    requires { length bytes.now ≤ max_file_bytes }
+    ensures answer { result ≢ Err (Lines FontRefusal.OutOfMemory) → IsFontFileAnswer bytes.now result }
+    ensures font { IfOk result IsFont }
+{
+    match Vec::from_slice(alloc, bytes) {
+        Ok(copy) => read_font_file(alloc, Items::from_vec(copy)),
+        Err(_) => Err(FontFileRefusal::Lines(FontRefusal::OutOfMemory)),
+    }
+}
+
 /// Adds a font to a player.
 fn font_added(alloc: Global, player: &mut Player, font: &[u8]) -> Told
     requires { length font.now ≤ max_file_bytes }
@@ -90,7 +106,7 @@ fn font_added(alloc: Global, player: &mut Player, font: &[u8]) -> Told
     if count >= MAX_FONTS {
         return told_at(MANY_FONTS, MAX_FONTS);
     }
-    let font = match read_font_file(alloc, font) {
+    let font = match font_of(alloc, font) {
         Ok(font) => font,
         Err(refusal) => return font_told(refusal),
     };

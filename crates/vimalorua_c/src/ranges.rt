@@ -9,9 +9,16 @@ const MAX_FRAME_SIDE: u32 = 4096;
 
 const MAX_INSTANT: i64 = 4_000_000_000_000;
 
+/// Whether a picture may be asked for at this instant.
+pub fn is_instant(at: i64) -> bool
+    ensures { Decides result (IsWithin max_instant at) }
+{
+    -MAX_INSTANT <= at && at <= MAX_INSTANT
+}
+
 /// Whether a frame may have this size, and a picture be asked for at this instant.
 pub fn may_be_shown(at: i64, size: &Size) -> bool
     ensures { Decides result (IsFrameSize size.now × IsWithin max_instant at) }
 {
-    size.w <= MAX_FRAME_SIDE && size.h <= MAX_FRAME_SIDE && -MAX_INSTANT <= at && at <= MAX_INSTANT
+    size.w <= MAX_FRAME_SIDE && size.h <= MAX_FRAME_SIDE && is_instant(at)
 }

@@ -16,7 +16,7 @@ four_colours names states h = All-weaker (IsState names) (λ (state : State). le
 
 pub add_event_draws-requires-clause-laid : goal.add_event_draws-requires-clause-laid
 add_event_draws-requires-clause-laid c =
-    drawn_layout c.setting.inside.script.now c.setting.inside.fonts.now.fonts c.args.event.now c.args.view.now c.setting.inside.size c.args.laid.now c.requires.view.wrap
+    drawn_layout c.setting.inside.script.now c.setting.inside.fonts.now.fonts c.args.event.now c.args.view.now c.setting.inside.frame c.args.laid.now c.requires.view.wrap
     (rw (← c.setting.view_is) at c.requires.laid_out) c.requires.within
 
 pub returns-clause-draws : goal.returns-clause-draws
@@ -25,8 +25,8 @@ returns-clause-draws c =
     let fonts = setting.fonts.now.fonts in
     let view = c.args.view.now in
     let laid = c.args.laid.now in
-    let placed : c.of-stage.result ≡ stage_at c.args.setting.now.script c.args.event.now c.args.t c.args.setting.now.size view laid c.args.shift = first_of (search rules, grind (arith, common_steps)) in
-    let stands : c.of-stage.result ≡ stage_at setting.script.now c.args.event.now c.args.t setting.size view laid c.args.shift = rw (← c.setting.view_is) at placed in
+    let placed : c.of-stage.result ≡ stage_at c.args.setting.now.script c.args.event.now c.args.t c.args.setting.now.frame view laid c.args.shift = first_of (search rules, grind (arith, common_steps)) in
+    let stands : c.of-stage.result ≡ stage_at setting.script.now c.args.event.now c.args.t setting.frame view laid c.args.shift = rw (← c.setting.view_is) at placed in
     rw (← c.setting.view_is)
     (on_ok_weaker c.add_event_draws.result
     (λ e. record {

@@ -1,14 +1,5 @@
-use Rattle.std.proofs.Common.{rules, arith}
-use Rattle.std.proofs.lemmas.Grind.{common_steps}
-use Rattle.event_places.proofs.StandLemmas.{margins_within, placeable}
+use Rattle.std.proofs.Common.{rules}
 use Rattle.event_places.proofs.own.stand_of.Goals as goal
 
 pub returns-clause-value : goal.returns-clause-value
-returns-clause-value c = first_of (search rules, grind (arith, common_steps))
-
-pub returns-clause-range : goal.returns-clause-range
-returns-clause-range c =
-    let own = c.args.own.now in
-    rw (returns-clause-value c)
-    (placeable c.args.setting.now.script c.args.event.now own.view own.laid c.args.setting.now.size c.requires.setting.script
-    (margins_within c.args.setting.now.script c.args.event.now c.requires.setting.script c.requires.event) c.requires.setting.size c.requires.pointless c.requires.width c.requires.height)
+returns-clause-value c = rw (← c.setting.view_is) (search rules)

@@ -17,7 +17,7 @@ loop-index-preserved c =
     let inv = c.loop-index.invariant in
     record {
       steps =
-          steps_more c.args.setting.now.script c.args.setting.now.fonts c.args.setting.now.size (map arc_value c.args.events.now) c.args.near.now c.loop-index.index c.loop-index.placed.items c.push.new.self.items
+          steps_more c.args.setting.now.script c.args.setting.now.fonts c.args.setting.now.frame (map arc_value c.args.events.now) c.args.near.now c.loop-index.index c.loop-index.placed.items c.push.new.self.items
           c.loop-index.kept.boxes.items c.place_next.new.kept.boxes.items c.in_ok-one.one c.loop-index-test.true inv.steps c.in_ok-one.ensures.step c.in_ok-push.ensures.items;
       within = c.in_ok-one.ensures.within c.loop-index.index inv.within;
       known = c.in_ok-one.ensures.kept;

@@ -13,7 +13,7 @@ use Rattle.event_places.proofs.placed.place_next.Goals as goal
 
 pub returns-then-is_alone-clause-step : goal.returns-then-is_alone-clause-step
 returns-then-is_alone-clause-step c span at =
-    step_alone c.args.setting.now.script c.args.setting.now.fonts c.args.setting.now.size (map arc_value c.args.events.now) c.args.near.now c.args.index span c.args.kept.now.boxes.items c.unmoved.result at
+    step_alone c.args.setting.now.script c.args.setting.now.fonts c.args.setting.now.frame (map arc_value c.args.events.now) c.args.near.now c.args.index span c.args.kept.now.boxes.items c.unmoved.result at
     (c.is_alone.ensures span at c.if-is_alone.true) c.unmoved.ensures
 
 pub bounds-events-span : goal.bounds-events-span
@@ -49,7 +49,7 @@ returns-clause-step c span at =
     let own = c.requires.near s (Contains-get_or c.args.near.now c.args.index no_span c.requires.index) in
     let within : s.place < length c.args.events.now = place_in_list arc_value c.args.events.now s.place own.event own.stands in
     let event : slice_get (map arc_value c.args.events.now) s.place ≡ Some c.deref.result.now = rw c.deref.ensures (value_read arc_value c.args.events.now s.place c.index-events-span.result within c.index-events-span.is) in
-    step_moved c.args.setting.now.script c.args.setting.now.fonts c.args.setting.now.size (map arc_value c.args.events.now) c.args.near.now c.args.index span c.args.kept.now.boxes.items c.in_ok-one.one c.place_event.new.kept.boxes.items
+    step_moved c.args.setting.now.script c.args.setting.now.fonts c.args.setting.now.frame (map arc_value c.args.events.now) c.args.near.now c.args.index span c.args.kept.now.boxes.items c.in_ok-one.one c.place_event.new.kept.boxes.items
     c.deref.result.now c.requires.index at event c.in_ok-one.ensures.placed
 
 pub returns-then-is_alone-clause-within : goal.returns-then-is_alone-clause-within

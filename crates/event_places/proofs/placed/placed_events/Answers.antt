@@ -19,6 +19,6 @@ place_all-requires-clause-few_near c = let few = c.requires.near.1.few in omega 
 pub returns : goal.returns
 returns c t near =
     let events = map arc_value c.args.events.now in
-    IfOk-weaker c.place_all.result (λ placed. IsGoneThrough c.args.setting.now.script c.args.setting.now.fonts c.args.setting.now.size events c.args.near.now placed.items)
-    (λ placed. ArePlacedEvents c.args.setting.now.script c.args.setting.now.fonts c.args.setting.now.size events t placed.items)
-    (λ placed gone. placed_are c.args.setting.now.script c.args.setting.now.fonts c.args.setting.now.size events t c.args.near.now c.requires.orders near placed.items gone) c.place_all.ensures
+    IfOk-weaker c.place_all.result (λ placed. IsGoneThrough c.args.setting.now.script c.args.setting.now.fonts c.args.setting.now.frame events c.args.near.now placed.items)
+    (λ placed. ArePlacedEvents c.args.setting.now.script c.args.setting.now.fonts c.args.setting.now.frame events t placed.items)
+    (λ placed gone. placed_are c.args.setting.now.script c.args.setting.now.fonts c.args.setting.now.frame events t c.args.near.now c.requires.orders near placed.items gone) c.place_all.ensures

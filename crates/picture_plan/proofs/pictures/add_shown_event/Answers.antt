@@ -19,8 +19,8 @@ add_placed_event-requires-clause-own c =
     let one = c.index-placed-shown.result in
     let here : one ≡ get_or c.args.placed.now place no_placed = c.index-placed-shown.is ∙ get_or_default c.args.placed.now place one no_placed c.requires.place in
     let at : c.event_of-event.result.now ≡ event_shown events c.args.placed.now c.args.shown.now = first_of (search rules, grind (arith, common_steps)) in
-    subst (λ (e : Event). IfSome one.own (IsOwnLayout c.args.setting.now.script c.args.setting.now.fonts c.args.setting.now.size e)) (sym at)
-    (subst (λ (p : PlacedEvent). IfSome p.own (IsOwnLayout c.args.setting.now.script c.args.setting.now.fonts c.args.setting.now.size (placed_event events (get_or c.args.placed.now place no_placed)))) (sym here)
+    subst (λ (e : Event). IfSome one.own (IsOwnLayout c.args.setting.now.script c.args.setting.now.fonts c.args.setting.now.frame e)) (sym at)
+    (subst (λ (p : PlacedEvent). IfSome p.own (IsOwnLayout c.args.setting.now.script c.args.setting.now.fonts c.args.setting.now.frame (placed_event events (get_or c.args.placed.now place no_placed)))) (sym here)
     (c.requires.own place no_placed c.requires.place))
 
 pub add_placed_event-requires-clause-read : goal.add_placed_event-requires-clause-read
@@ -43,7 +43,7 @@ returns-clause-draws c =
     let at : c.event_of-event.result.now ≡ event = first_of (search rules, grind (arith, common_steps)) in
     on_ok_weaker c.add_placed_event.result
     (λ h.
-    subst (λ (p : PlacedEvent). AddsMovedDraws c.args.setting.now.script c.args.setting.now.fonts event c.args.t c.args.setting.now.size p.down c.args.draws.now c.add_placed_event.new.draws) here
-    (subst (λ (e : Event). AddsMovedDraws c.args.setting.now.script c.args.setting.now.fonts e c.args.t c.args.setting.now.size one.down c.args.draws.now c.add_placed_event.new.draws) at
+    subst (λ (p : PlacedEvent). AddsMovedDraws c.args.setting.now.script c.args.setting.now.fonts event c.args.t c.args.setting.now.frame p.down c.args.draws.now c.add_placed_event.new.draws) here
+    (subst (λ (e : Event). AddsMovedDraws c.args.setting.now.script c.args.setting.now.fonts e c.args.t c.args.setting.now.frame one.down c.args.draws.now c.add_placed_event.new.draws) at
     (rw (to_z-of_z c.ranges.t) at h)))
     c.add_placed_event.ensures.draws

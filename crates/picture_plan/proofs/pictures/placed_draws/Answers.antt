@@ -51,7 +51,7 @@ loop-one-preserved c =
     let are : AreShownPlaces events placed c.args.t (length placed) items =
     subst (AreShownPlaces events placed c.args.t (length placed)) (sym c.as_slice-one-items.ensures.value) (rw (to_z-of_z c.ranges.t) at c.in_ok-shown.ensures.shown)
     in
-    let adds : AddsMovedDraws c.args.setting.now.script c.args.setting.now.fonts (event_shown events placed one) c.args.t c.args.setting.now.size (get_or placed one.place no_placed).down c.loop-one.draws c.add_shown_event.new.draws =
+    let adds : AddsMovedDraws c.args.setting.now.script c.args.setting.now.fonts (event_shown events placed one) c.args.t c.args.setting.now.frame (get_or placed one.place no_placed).down c.loop-one.draws c.add_shown_event.new.draws =
     rw (to_z-of_z c.ranges.t) at c.in_ok-add_shown_event.ensures.draws
     in
     rw (to_z-of_z c.ranges.t)

@@ -8,6 +8,6 @@ use Rattle.picture_plan.proofs.pictures.placed_draws.Given as goal
 
 abbrev pub invariant-loop-one : goal.invariant-loop-one
 invariant-loop-one l = record {
-  drawn : AreDrawsInOrder l.setting.script l.setting.fonts (map arc_value l.events) l.t l.setting.size (map (event_shown (map arc_value l.events) l.placed) (take l.one-index l.one-items)) l.draws;
+  drawn : AreDrawsInOrder l.setting.script l.setting.fonts (map arc_value l.events) l.t l.setting.frame (map (event_shown (map arc_value l.events) l.placed) (take l.one-index l.one-items)) l.draws;
   valid : IsValidPlan (glyph_counts l.setting.fonts) l.draws;
 }

@@ -4,7 +4,7 @@ use Rattle.single_run.proofs.change_report.add_instant.Goals as goal
 
 pub show-requires-clause-screen : goal.show-requires-clause-screen
 show-requires-clause-screen c =
-    let size : c.setting.inside.size ≡ c.args.setting.now.size = ap (λ (s : SettingValue). s.size) c.setting.view_is in
+    let size : c.setting.inside.frame.size ≡ c.args.setting.now.frame.size = ap (λ (s : SettingValue). s.frame.size) c.setting.view_is in
     rw (c.requires.same, size) c.requires.screen
 
 pub returns-clause-screen : goal.returns-clause-screen

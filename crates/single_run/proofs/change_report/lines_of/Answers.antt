@@ -12,7 +12,7 @@ loop-place-preserved c =
     let draws = c.add_instant.new.screen.plan.draws in
     let line = c.in_ok-add_instant.ensures.line in
     record {
-      lines = next_lines setting.script setting.fonts (map arc_value c.args.events.now) c.args.instants.now setting.size c.loop-place.place c.at-t.result c.loop-place.screen.plan.draws draws
+      lines = next_lines setting.script setting.fonts (map arc_value c.args.events.now) c.args.instants.now setting.frame c.loop-place.place c.at-t.result c.loop-place.screen.plan.draws draws
           (string_bytes c.loop-place.report) line.0 (string_bytes c.add_instant.new.report) c.loop-place.invariant.lines c.at-t.ensures.at c.in_ok-add_instant.ensures.draws line.1 line.2;
       screen = c.in_ok-add_instant.ensures.screen;
       fonts = c.in_ok-add_instant.ensures.same ∙ c.loop-place.invariant.fonts;
@@ -22,7 +22,7 @@ pub returns : goal.returns
 returns c =
     let setting = c.args.setting.now in
     let all : c.loop-place.place ≡ instant_count c.args.instants.now = omega (arith, c.loop-place-test.false, c.loop-place.auto.place-end, c.count-place-end.ensures) in
-    (c.loop-place.screen.plan.draws, subst (λ n. AreChangeLines setting.script setting.fonts (map arc_value c.args.events.now) c.args.instants.now setting.size n c.loop-place.screen.plan.draws (string_bytes c.loop-place.report)) all c.loop-place.invariant.lines)
+    (c.loop-place.screen.plan.draws, subst (λ n. AreChangeLines setting.script setting.fonts (map arc_value c.args.events.now) c.args.instants.now setting.frame n c.loop-place.screen.plan.draws (string_bytes c.loop-place.report)) all c.loop-place.invariant.lines)
 
 pub loop-place-init : goal.loop-place-init
 loop-place-init c =
@@ -30,6 +30,6 @@ loop-place-init c =
     record {
       lines = search (rules, no_lines);
       screen = rw (← c.setting.view_is)
-          (blank_picture c.setting.inside.fonts.now.fonts c.setting.inside.size screen.plan.draws screen.canvas c.in_ok-screen.ensures.draws c.in_ok-screen.ensures.picture);
+          (blank_picture c.setting.inside.fonts.now.fonts c.setting.inside.frame.size screen.plan.draws screen.canvas c.in_ok-screen.ensures.draws c.in_ok-screen.ensures.picture);
       fonts = c.requires.same;
     }

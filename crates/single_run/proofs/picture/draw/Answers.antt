@@ -5,7 +5,7 @@ use Rattle.single_run.proofs.picture.draw.Goals as goal
 
 pub returns-in-Ok-clause-shown : goal.returns-in-Ok-clause-shown
 returns-in-Ok-clause-shown g c =
-    let may = IsFrameImage c.args.inputs.script c.args.inputs.fonts c.args.frame.now.at c.args.frame.now.size in
+    let may = IsFrameImage c.args.inputs.script c.args.inputs.fonts c.args.frame.now.at c.args.frame.now.view in
     shown_more c.show.result _ _ _ may (λ bytes is. subst may (sym is) (subst may (sym c.as_slice.ensures.value) c.in-Ok.ensures)) c.show.ensures.shown
 
 pub returns-in-Err-clause-shown : goal.returns-in-Err-clause-shown

@@ -1,98 +1,16 @@
-use Rattle.std.proofs.Common.{◌≡◌, ◌∙◌, ℕ, List, length, ℤ, sym, ap, ap₂, subst, FitsSigned, w64, to_z-of_z, rules}
-use Rattle.std.proofs.lemmas.List.{length-map}
-use Rattle.std.proofs.lemmas.Result.{IfOk-weaker}
-use Rattle.std.specs.List.{All}
+use Rattle.std.proofs.Common.{◌≡◌, ◌∙◌, ap, subst}
 use Rattle.std.specs.Result.{IfOk}
-use Rattle.ass_num.specs.declared.size.Size.{Size}
-use Rattle.ass_script.specs.Scripts.{ScriptValue}
 use Rattle.ass_script.specs.declared.script.Header.{Header}
-use Rattle.ass_events.specs.declared.event.Event.{Event}
-use Rattle.bdf_font.specs.Fonts.{FontValue}
-use Rattle.line_layout.specs.Breaks.{IsItemWidth}
-use Rattle.override_tags.specs.Views.{IsShownItem}
-use Rattle.override_tags.specs.declared.view.EventView.{EventView}
-use Rattle.override_tags.specs.declared.view.Shown.{Shown}
-use Rattle.text_layout.specs.declared.anchors.Margins.{Margins}
-use Rattle.text_layout.specs.declared.extents.Extent.{Extent}
-use Rattle.text_layout.specs.declared.laid.Laid.{Laid}
-use Rattle.text_layout.specs.declared.metrics.Metrics.{Metrics}
-use Rattle.text_layout.specs.declared.spans.Span.{Span}
-use Rattle.text_layout.specs.Anchors.{margins_of, wrapping_width}
-use Rattle.text_layout.specs.Extents.{IsItemExtent, item_extents}
-use Rattle.text_layout.specs.Fonts.{font_numbers}
-use Rattle.text_layout.specs.Kinds.{roles_of}
-use Rattle.text_layout.specs.Layouts.{IsLaid, IsWithinBlock, laid_out}
-use Rattle.text_layout.specs.Lines.{advances_of}
-use Rattle.text_layout.specs.Metrics.{IsMetrics, all_metrics, state_metrics}
-use Rattle.text_layout.specs.Spans.{AreLines, paragraphs_of}
-use Rattle.text_layout.proofs.BlockLemmas.{advances-within}
+use Rattle.frame_view.specs.declared.scales.Scales.{Scales}
+use Rattle.text_layout.specs.Layouts.{IsLaidBy}
+use Rattle.text_layout.specs.LineScales.{line_scales}
 use Rattle.text_layout.proofs.layouts.layout.Goals as goal
-
--- a view has metrics for each of its states
-metrics_count : (header : Header) (fonts : List FontValue) (view : EventView) (size : Size) → length (all_metrics header fonts view size) ≡ length view.states
-metrics_count header fonts view size = length-map view.states (state_metrics header fonts (font_numbers fonts view.names) size)
-
--- a layout by the stages before it
-laid_by : (script : ScriptValue) (fonts : List FontValue) (event : Event) (view : EventView) (size : Size) (metrics : List Metrics) (extents : List Extent) (advances : List ℤ)
-    (items : List Shown) (max : ℤ) (spans shown : List Span) (laid : Laid) → metrics ≡ all_metrics script.header fonts view size
-    → extents ≡ item_extents fonts (all_metrics script.header fonts view size) view.wrap view.items
-    → advances ≡ advances_of (item_extents fonts (all_metrics script.header fonts view size) view.wrap view.items) → items ≡ view.items
-    → max ≡ wrapping_width script.header (margins_of script event) size → shown ≡ spans
-    → AreLines view.wrap (roles_of view.wrap items) advances max (paragraphs_of (roles_of view.wrap items)) spans
-    → laid ≡ laid_out view metrics extents shown → IsLaid script fonts event view size laid
-laid_by script fonts event view size metrics extents advances items max spans shown laid m e a i w s lines is =
-    let all = all_metrics script.header fonts view size in
-    let each = item_extents fonts all view.wrap view.items in
-    let width = wrapping_width script.header (margins_of script event) size in
-    let lines_by = λ (xs : List Shown) (ws : List ℤ) (z : ℤ). AreLines view.wrap (roles_of view.wrap xs) ws z (paragraphs_of (roles_of view.wrap xs)) spans in (
-      spans,
-      subst (λ (xs : List Shown). lines_by xs (advances_of each) width) i
-          (subst (λ (z : ℤ). lines_by items (advances_of each) z) w (subst (λ (ws : List ℤ). lines_by items ws max) a lines)),
-      is ∙ ap₂ (λ (x : List Metrics) (y : List Extent). laid_out view x y shown) m e ∙ ap (laid_out view all each) s,
-    )
-
-pub margins_of-requires-clause-styles : goal.margins_of-requires-clause-styles
-margins_of-requires-clause-styles c = rw (← c.setting.view_is) at c.requires.setting.script.styles
-
-pub line_spans-requires-clause-widths : goal.line_spans-requires-clause-widths
-line_spans-requires-clause-widths c =
-    subst (All IsItemWidth) (sym (c.as_slice-3.ensures.value ∙ c.in_ok-advances.ensures))
-    (advances-within c.as_slice-2.result.now (subst (All IsItemExtent) (sym c.as_slice-2.ensures.value) c.in_ok-extents.ensures.range))
-
-pub laid_out-requires-clause-metrics : goal.laid_out-requires-clause-metrics
-laid_out-requires-clause-metrics c = subst (All IsMetrics) (sym c.as_slice-4.ensures.value) c.in_ok-metrics.ensures.range
-
-pub laid_out-requires-clause-items : goal.laid_out-requires-clause-items
-laid_out-requires-clause-items c =
-    let view = c.args.view.now in
-    let count = ap length (c.as_slice-4.ensures.value ∙ c.in_ok-metrics.ensures.value) ∙ metrics_count c.header-header.result c.setting.inside.fonts.now.fonts view c.setting.inside.size in
-    subst (λ (n : ℕ). All (IsShownItem n) view.items) (sym count) c.requires.view.items
-
-pub laid_out-requires-clause-extents : goal.laid_out-requires-clause-extents
-laid_out-requires-clause-extents c = subst (All IsItemExtent) (sym c.as_slice-5.ensures.value) c.in_ok-extents.ensures.range
 
 pub returns-clause-laid : goal.returns-clause-laid
 returns-clause-laid c =
-    let setting = c.setting.inside in
-    let script = setting.script.now in
-    let fonts = setting.fonts.now.fonts in
+    let inside = c.setting.inside in
     let view = c.args.view.now in
-    let size = setting.size in
-    let all = all_metrics script.header fonts view size in
-    let metrics = c.in_ok-metrics.ensures.value ∙ ap (λ (h : Header). all_metrics h fonts view size) c.header-header.ensures in
-    let extents =
-    c.in_ok-extents.ensures.value ∙ ap₂ (λ (ms : List Metrics) (xs : List Shown). item_extents fonts ms view.wrap xs) (c.as_slice.ensures.value ∙ metrics) c.as_slice-items.ensures in
-    let advances = c.as_slice-3.ensures.value ∙ c.in_ok-advances.ensures ∙ ap advances_of (c.as_slice-2.ensures.value ∙ extents) in
-    let fits : FitsSigned w64 c.wrapping_width-max.result = search rules in
-    let max =
-    to_z-of_z fits ∙ c.wrapping_width-max.ensures
-    ∙ ap₂ (λ (h : Header) (m : Margins). wrapping_width h m size) c.header-header.ensures c.margins_of.ensures.value in
+    let scales : c.line_scales-scales.result ≡ line_scales inside.script.now.header inside.frame view =
+    c.line_scales-scales.ensures.value ∙ ap (λ (h : Header). line_scales h inside.frame view) c.header.ensures in
     rw (← c.setting.view_is)
-    (IfOk-weaker c.laid_out.result _ _ (λ laid is. laid_by script fonts c.args.event.now view size c.as_slice-4.result.now c.as_slice-5.result.now c.as_slice-3.result.now
-    c.as_slice-items.result.now _ c.in_ok-spans.spans.items c.as_slice-6.result.now laid (c.as_slice-4.ensures.value ∙ metrics) (c.as_slice-5.ensures.value ∙ extents) advances
-    c.as_slice-items.ensures max c.as_slice-6.ensures.value c.in_ok-spans.ensures.lines is) c.laid_out.ensures.value)
-
-pub returns-clause-within : goal.returns-clause-within
-returns-clause-within c =
-    let count = ap length c.as_slice-5.ensures.value ∙ c.in_ok-extents.ensures.count ∙ ap length c.as_slice-items.ensures in
-    subst (λ (n : ℕ). IfOk c.laid_out.result (IsWithinBlock n)) count c.laid_out.ensures.within
+    (subst (λ (z : Scales). IfOk c.layout_by.result (IsLaidBy inside.script.now inside.fonts.now.fonts c.args.event.now view z)) scales c.layout_by.ensures.laid)

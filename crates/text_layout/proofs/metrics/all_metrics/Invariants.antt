@@ -5,7 +5,7 @@ use Rattle.text_layout.proofs.metrics.all_metrics.Given as goal
 
 abbrev pub invariant-loop-state : goal.invariant-loop-state
 invariant-loop-state l = record {
-  value : l.metrics.items ≡ map (state_metrics l.header l.fonts.fonts l.numbers.items l.size) (take l.state-index l.state-items);
+  value : l.metrics.items ≡ map (state_metrics l.scales l.fonts.fonts l.numbers.items) (take l.state-index l.state-items);
   range : All IsMetrics l.metrics.items;
   fonts : All (HasFont (length l.fonts.fonts)) l.metrics.items;
 }

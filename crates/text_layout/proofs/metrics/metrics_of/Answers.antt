@@ -2,14 +2,15 @@ use Rattle.std.proofs.Common.{◌≡◌, ◌∙◌, ap, ap₂, FitsSigned, w32, 
 use Rattle.ass_num.specs.declared.geometry.Matrix.{Matrix}
 use Rattle.text_layout.specs.Metrics.{held_extent, scaled_pixels, spacing_of}
 use Rattle.text_layout.specs.Scales.{text_matrix}
-use Rattle.text_layout.proofs.BitLemmas.{bits_64, held_bits, scale_bits}
+use Rattle.text_layout.proofs.BitLemmas.{bits_64, held_bits, magnified_bits, scale_bits}
 use Rattle.text_layout.proofs.ScaleLemmas.{held_is_number}
 use Rattle.text_layout.proofs.metrics.metrics_of.Goals as goal
 use mir.Syntax.{w128}
 
 pub returns-clause-value : goal.returns-clause-value
 returns-clause-value c =
-    let m = text_matrix c.args.header.now c.args.font.now c.args.state.now c.args.size.now in
+    let scales = c.args.scales.now in
+    let m = text_matrix scales c.args.font.now c.args.state.now in
     let matrix = c.text_matrix-m.ensures.value in
     let ux : bits_64 c.text_matrix-m.result.ux ≡ m.ux = scale_bits _ c.text_matrix-m.ensures.range.ux ∙ ap (λ (t : Matrix). t.ux) matrix in
     let uy : bits_64 c.text_matrix-m.result.uy ≡ m.uy = scale_bits _ c.text_matrix-m.ensures.range.uy ∙ ap (λ (t : Matrix). t.uy) matrix in
@@ -28,7 +29,7 @@ returns-clause-value c =
     ∙ ap held_extent (to_z-of_z g2 ∙ c.scaled_pixels-2.ensures.value ∙ ap₂ scaled_pixels (to_z-of_z g1 ∙ c.descent.ensures) uy) in
     let spacing =
     to_z-of_z h ∙ c.spacing_of.ensures.value
-    ∙ ap₂ (λ a b. spacing_of a b c.args.size.now.w c.args.header.now.res_x)
-    (held_bits c.args.state.now.spacing c.requires.spacing)
+    ∙ ap₂ (λ a b. spacing_of a b scales.canvas.x.pixels scales.canvas.x.units)
+    (magnified_bits scales.letter_scale c.args.state.now.spacing c.magnified-spacing.result c.requires.spacing c.magnified-spacing.ensures.range c.magnified-spacing.ensures.value)
     (held_bits c.args.state.now.scale_x (held_is_number c.args.state.now.scale_x c.requires.scale_x)) in
     rw (ux, ascent, descent, spacing, c.drawing_matrix.ensures.value) refl

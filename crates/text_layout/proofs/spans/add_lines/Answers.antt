@@ -1,7 +1,7 @@
 use Rattle.std.proofs.Common.{◌≡◌, ℕ, ℤ, List, ◌+◌, ◌-◌, ◌∙◌, ◌++◌, map, take, drop, sym, ap, subst, to_z, of_z, to_z-of_z, w64, refl}
 use Rattle.text_layout.specs.Spans.{AreChosen, places_of, spans_between}
 use Rattle.text_layout.specs.declared.kinds.BreakRole.TheVariants.{Space}
-use Rattle.text_layout.proofs.SpanLemmas.{AreInOrder-placed, AreSpans-between, chosen-slice, paragraph-slice, roles-slice}
+use Rattle.text_layout.proofs.SpanLemmas.{AreInOrder-placed, AreSpans-between, chosen-slice, paragraph-slice, roles-slice, two_of_wraps}
 use Rattle.text_layout.proofs.spans.add_lines.Goals as goal
 
 -- What `choose_breaks` chose, of the break places and the limit that it was given.
@@ -24,7 +24,7 @@ add_spans-requires-clause-order c =
     let places = c.in_ok-chosen.chosen.items in
     let e = c.in_ok-chosen.ensures in
     let given : AreChosen c.args.wrap widths c.as_slice.result.now (to_z w64 (of_z w64 c.args.max)) places =
-    record { greatest = e.greatest; filled = e.filled; none = e.none; least = e.least } in
+    record { greatest = e.greatest; filled = e.filled; none = λ a b d. e.none (two_of_wraps c.args.wrap c.requires.wrap a b d); least = e.least } in
     let chosen = chosen_from c.args.wrap widths _ c.in_ok-spaces.spaces.items _ c.args.max places c.as_slice.ensures.value (to_z-of_z c.ranges.max) given in
     rw c.as_slice-2.ensures.value
     (chosen-slice c.args.wrap c.args.advances.now c.args.items.now a b c.in_ok-spaces.spaces.items c.args.max places
@@ -40,7 +40,7 @@ returns c =
     let places = c.in_ok-chosen.chosen.items in
     let e = c.in_ok-chosen.ensures in
     let given : AreChosen wrap widths c.as_slice.result.now (to_z w64 (of_z w64 c.args.max)) places =
-    record { greatest = e.greatest; filled = e.filled; none = e.none; least = e.least } in
+    record { greatest = e.greatest; filled = e.filled; none = λ a b d. e.none (two_of_wraps c.args.wrap c.requires.wrap a b d); least = e.least } in
     let spaces = c.in_ok-spaces.ensures.value ∙ ap (places_of Space) (sym (roles-slice wrap items a b)) in
     let chosen = chosen_from wrap widths _ c.in_ok-spaces.spaces.items _ c.args.max places c.as_slice.ensures.value (to_z-of_z c.ranges.max) given in
     let ordered =

@@ -5,5 +5,5 @@ plan_of_spans-requires-clause-setting c =
     record {
       script = c.self.invariant.is_script;
       fonts = rw c.deref.ensures (record { some = rw (← c.self.view_is) at c.requires.fonts; few = c.self.invariant.font_set.few; each = c.self.invariant.font_set.whole });
-      size = c.requires.size;
+      frame = c.requires.frame;
     }

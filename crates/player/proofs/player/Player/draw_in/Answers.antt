@@ -1,7 +1,7 @@
 use Rattle.std.proofs.Common.{ap, ◌∙◌}
 use Rattle.blend.specs.Canvases.{CanvasValue}
 use Rattle.player.proofs.ListLemmas.{kept_height, kept_width}
-use Rattle.player.proofs.player.Player.draw.Goals as goal
+use Rattle.player.proofs.player.Player.draw_in.Goals as goal
 
 pub returns-clause-width : goal.returns-clause-width
 returns-clause-width c =
