@@ -9,7 +9,7 @@ use crate::laps::Laps;
 use crate::outlines::{font, font_of, matrix};
 use crate::stop::Stop;
 use crate::telling::tell;
-use ass_num::{Matrix, Mem, Region};
+use ass_num::{Items, Matrix, Mem, Region};
 use bdf_font::Font;
 use fixed_outline::runs_of;
 use mask_cover::cover;
@@ -31,7 +31,7 @@ fn ring_font(alloc: Global) -> Result<Font, Stop>
     ensures { IfOk result IsFont }
 {
     match hex::decode(alloc, RING) {
-        Ok(bytes) => font_of(alloc, bytes.as_slice()),
+        Ok(bytes) => font_of(alloc, Items::from_vec(bytes)),
         Err(_) => Err(Stop::OutOfMemory),
     }
 }

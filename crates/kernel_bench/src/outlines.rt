@@ -8,7 +8,7 @@ ghost use Rattle.outline_points.specs.Placing.{IsMatrix};
 use crate::laps::Laps;
 use crate::stop::Stop;
 use crate::telling::tell;
-use ass_num::{Matrix, Path};
+use ass_num::{Items, Matrix, Path};
 use bdf_font::{Font, read_font_file};
 use drawing_path::read_path;
 use fixed_outline::{outline_of_path, quads_of, runs_of};
@@ -41,7 +41,7 @@ fn repeated(alloc: Global, head: &str, piece: &str, count: u32) -> Result<String
 }
 
 /// The font of a file's bytes.
-pub fn font_of(alloc: Global, bytes: &[u8]) -> Result<Font, Stop>
+pub fn font_of(alloc: Global, bytes: Items<u8>) -> Result<Font, Stop>
     ensures { IfOk result IsFont }
 {
     if bytes.len() > MAX_BYTES {
@@ -63,7 +63,7 @@ pub fn font(alloc: Global, rows: u8) -> Result<Font, Stop>
     )?;
     let mut text = repeated(alloc, head.as_str(), "FFFFFFFFFFFF\n", u32::from(rows))?;
     text.push_str("ENDCHAR\nENDFONT\n")?;
-    font_of(alloc, text.as_bytes())
+    font_of(alloc, Items::from_vec(text.into_bytes()))
 }
 
 /// A path of so many curves.

@@ -22,7 +22,7 @@ use Rattle.local_caches.specs.Keeping.{LocalCacheView, IsAtRest}
 pub record LocalCachesView : Type 0 where
   pub fonts : List FontValue
   pub budget : ℕ
-  pub outlines : State RegionKey RegionValue
+  pub regions : State RegionKey RegionValue
   pub masks : State MaskKey MaskValue
   pub composites : State CompositeKey MaskValue
 
@@ -31,25 +31,25 @@ abbrev pub no_entries : List FontValue → ℕ → LocalCachesView
 no_entries fonts budget = record {
   fonts = fonts;
   budget = budget;
-  outlines = opening (entry_limit budget) budget;
+  regions = opening (entry_limit budget) budget;
   masks = opening (entry_limit budget) budget;
   composites = opening (entry_limit budget) budget;
 }
 
 -- Each entry of each cache is ready with the value of its key, no pin holds it and none is being made; and each cache is within the budget.
 pub record AreAtRest (caches : LocalCachesView) : Type 0 where
-  pub outlines : IsAtRest equal_regions (region_value caches.fonts) region_cost caches.outlines
+  pub regions : IsAtRest equal_regions (region_value caches.fonts) region_cost caches.regions
   pub masks : IsAtRest equal_masks (mask_value caches.fonts) mask_cost caches.masks
   pub composites : IsAtRest equal_composites (composite_value caches.fonts) mask_cost caches.composites
-  pub outlines_budget : caches.outlines.budget ≡ caches.budget
+  pub regions_budget : caches.regions.budget ≡ caches.budget
   pub masks_budget : caches.masks.budget ≡ caches.budget
   pub composites_budget : caches.composites.budget ≡ caches.budget
 
 -- the three caches make their values from these fonts, and have one budget
-pub record AreOfOne {I J K V W Z : Type 0} (fonts : Arc FontSet Z) (outlines : LocalCacheView I V (Arc FontSet Z)) (masks : LocalCacheView J W (Arc FontSet Z)) (composites : LocalCacheView K W (Arc FontSet Z)) : Type 0 where
+pub record AreOfOne {I J K V W Z : Type 0} (fonts : Arc FontSet Z) (regions : LocalCacheView I V (Arc FontSet Z)) (masks : LocalCacheView J W (Arc FontSet Z)) (composites : LocalCacheView K W (Arc FontSet Z)) : Type 0 where
   pub whole : IsFontSet (arc_value fonts).fonts
-  pub outlines_tag : outlines.tag ≡ fonts
+  pub regions_tag : regions.tag ≡ fonts
   pub masks_tag : masks.tag ≡ fonts
   pub composites_tag : composites.tag ≡ fonts
-  pub masks_budget : masks.entries.budget ≡ outlines.entries.budget
-  pub composites_budget : composites.entries.budget ≡ outlines.entries.budget
+  pub masks_budget : masks.entries.budget ≡ regions.entries.budget
+  pub composites_budget : composites.entries.budget ≡ regions.entries.budget

@@ -19,7 +19,7 @@ use std::sync::Arc;
 #[derive(Drop)]
 pub struct LocalCaches {
     pub(crate) fonts: Arc<FontSet>,
-    pub(crate) outlines: LocalCache<RegionMade>,
+    pub(crate) regions: LocalCache<RegionMade>,
     pub(crate) masks: LocalCache<MaskMade>,
     pub(crate) composites: LocalCache<CompositeMade>,
 }
@@ -32,13 +32,13 @@ impl Model for LocalCaches {
 
     ghost view = { λ a. record {
       fonts = (arc_value a.fonts).fonts;
-      budget = a.outlines.entries.budget;
-      outlines = a.outlines.entries;
+      budget = a.regions.entries.budget;
+      regions = a.regions.entries;
       masks = a.masks.entries;
       composites = a.composites.entries;
     } };
 
-    ghost invariant = { λ a. AreOfOne a.fonts a.outlines a.masks a.composites };
+    ghost invariant = { λ a. AreOfOne a.fonts a.regions a.masks a.composites };
 }
 
 impl LocalCaches {
@@ -49,12 +49,12 @@ impl LocalCaches {
         requires budget { budget ≤ max_budget }
         ensures { IfOk result (λ a. a ≡ no_entries (arc_value fonts).fonts budget) }
     {
-        let outlines = LocalCache::open(alloc, &fonts, budget)?;
+        let regions = LocalCache::open(alloc, &fonts, budget)?;
         let masks = LocalCache::open(alloc, &fonts, budget)?;
         let composites = LocalCache::open(alloc, &fonts, budget)?;
         Ok(LocalCaches {
             fonts,
-            outlines,
+            regions,
             masks,
             composites,
         })
@@ -66,11 +66,11 @@ impl LocalCaches {
         requires { budget ≤ max_budget }
         ensures fonts { self.new.fonts ≡ self.old.fonts }
         ensures budget { self.new.budget ≡ budget }
-        ensures outlines { self.new.outlines ≡ state_after equal_regions self.old.outlines 0 (Limits (entry_limit budget) budget) }
+        ensures regions { self.new.regions ≡ state_after equal_regions self.old.regions 0 (Limits (entry_limit budget) budget) }
         ensures masks { self.new.masks ≡ state_after equal_masks self.old.masks 0 (Limits (entry_limit budget) budget) }
         ensures composites { self.new.composites ≡ state_after equal_composites self.old.composites 0 (Limits (entry_limit budget) budget) }
     {
-        self.outlines.set_budget(budget);
+        self.regions.set_budget(budget);
         self.masks.set_budget(budget);
         self.composites.set_budget(budget);
     }
@@ -80,7 +80,7 @@ impl LocalCaches {
     pub fn proof_at_rest(&self)
         ensures { AreAtRest self.now }
     {
-        self.outlines.proof_at_rest();
+        self.regions.proof_at_rest();
         self.masks.proof_at_rest();
         self.composites.proof_at_rest();
     }

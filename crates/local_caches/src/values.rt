@@ -24,11 +24,11 @@ impl LocalCaches {
         ensures fonts { self.new.fonts ≡ self.old.fonts }
         ensures budget { self.new.budget ≡ self.old.budget }
     {
-        if let Some(region) = self.outlines.find(key)? {
+        if let Some(region) = self.regions.find(key)? {
             return Ok(region);
         }
         let region = outline_from(alloc, &self.fonts, key)?;
-        self.outlines.keep(alloc, key, region)
+        self.regions.keep(alloc, key, region)
     }
 
     /// The region of an outline with a border, made from that of the outline.
@@ -38,13 +38,13 @@ impl LocalCaches {
         ensures fonts { self.new.fonts ≡ self.old.fonts }
         ensures budget { self.new.budget ≡ self.old.budget }
     {
-        if let Some(region) = self.outlines.find(key)? {
+        if let Some(region) = self.regions.find(key)? {
             return Ok(region);
         }
         let outline_key = unwidened(alloc, key)?;
         let outline = self.outline(alloc, &outline_key)?;
         let region = border_from(alloc, &outline, key)?;
-        self.outlines.keep(alloc, key, region)
+        self.regions.keep(alloc, key, region)
     }
 
     /// The region of a key, widened or not.

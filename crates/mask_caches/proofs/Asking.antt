@@ -4,6 +4,7 @@ use Rattle.std.specs.Cmp.{IsEquivalence}
 use Rattle.evict_core.specs.Machine as machine
 use Rattle.flight_cache.specs.Meaning.{Meaning, shard_of}
 use Rattle.flight_cache.specs.Answers.{HasKeyValue, IsAsked}
+use Rattle.flight_cache.proofs.Asking.{short-follows}
 use Rattle.flight_cache.specs.Shards.{CacheView, CachePassView, at, with_at}
 use Rattle.flight_cache.specs.declared.pins.Asked.{Asked}
 use Rattle.flight_cache.specs.declared.pins.Asked.TheVariants.{Hit, Make, OutOfMemory}
@@ -20,7 +21,7 @@ module _ {M K V T : Type 0} (eq : K → K → Bool) (laws : IsEquivalence eq) (s
   ask-steps (Hit pin) asked others = adds-ask eq same meaning cache key machine.Hit pass after (asked.0, others)
   ask-steps (Make (Some ticket)) asked others = adds-ask eq same meaning cache key machine.Claim pass after (asked.0, others)
   ask-steps (Make None) asked others = adds-ask eq same meaning cache key machine.Crowded pass after (asked, others)
-  ask-steps OutOfMemory asked others = adds-nothing eq meaning cache key pass after asked others
+  ask-steps OutOfMemory asked others = let n = shard_of (meaning.numbers key) in adds-nothing eq meaning cache key pass after (short-follows eq meaning (at cache.shards n) (at pass n) (at after n) key asked) others
 
   pub ask-key : (answer : Asked M K V T) → IsAnswer answer → HasKeyValue meaning cache.tag key answer → IsForKey meaning cache.tag key answer
   ask-key (Hit pin) asked value = (asked.1, value)

@@ -141,9 +141,9 @@ module _ {Z : Type 0} (cache : CacheView (Arc FontSet Z)) (p q : CachePassView R
     tt,
   )
 
-module _ {Z : Type 0} (regions : CacheView (Arc FontSet Z)) (cache : CacheView (Arc FontSet Z)) (key : MaskKey) (o t : CachePassView RegionKey (Arc FontSet Z)) (p q : CachePassView MaskKey (Arc FontSet Z)) where
-  pub found-mask : (pin : PinView MaskKey MaskValue) → Adds equal_regions region_meaning regions o t [] → Adds equal_masks mask_meaning cache p q (Ask key Hit ∷ []) → (pin.key ≡ key) × (pin.value ≡ mask_meaning.made cache.tag key)
-      → (visit : MaskVisit) × IsMaskVisit visit × (visit.key ≡ key) × Adds equal_regions region_meaning regions o t (steps_of_its_region regions.tag visit) × Adds equal_masks mask_meaning cache p q (mask_steps cache.tag visit) × ((has_pin visit.course ≡ true) × (pin.key ≡ key) × (pin.value ≡ mask_meaning.made cache.tag key))
+module _ {Z : Type 0} (store : CacheView (Arc FontSet Z)) (cache : CacheView (Arc FontSet Z)) (key : MaskKey) (o t : CachePassView RegionKey (Arc FontSet Z)) (p q : CachePassView MaskKey (Arc FontSet Z)) where
+  pub found-mask : (pin : PinView MaskKey MaskValue) → Adds equal_regions region_meaning store o t [] → Adds equal_masks mask_meaning cache p q (Ask key Hit ∷ []) → (pin.key ≡ key) × (pin.value ≡ mask_meaning.made cache.tag key)
+      → (visit : MaskVisit) × IsMaskVisit visit × (visit.key ≡ key) × Adds equal_regions region_meaning store o t (steps_of_its_region store.tag visit) × Adds equal_masks mask_meaning cache p q (mask_steps cache.tag visit) × ((has_pin visit.course ≡ true) × (pin.key ≡ key) × (pin.value ≡ mask_meaning.made cache.tag key))
   found-mask pin none asks need = (
     record { key = key; course = Found; region = no-visit },
     record { region = λ no. absurd (both-true true false refl no); had = λ no has. absurd (both-true true false refl no) },
@@ -153,8 +153,8 @@ module _ {Z : Type 0} (regions : CacheView (Arc FontSet Z)) (cache : CacheView (
     (refl, need.0, need.1),
   )
 
-  pub unasked-mask : Adds equal_regions region_meaning regions o t [] → Adds equal_masks mask_meaning cache p q []
-      → (visit : MaskVisit) × IsMaskVisit visit × (visit.key ≡ key) × Adds equal_regions region_meaning regions o t (steps_of_its_region regions.tag visit) × Adds equal_masks mask_meaning cache p q (mask_steps cache.tag visit) × (has_value visit.course ≡ false)
+  pub unasked-mask : Adds equal_regions region_meaning store o t [] → Adds equal_masks mask_meaning cache p q []
+      → (visit : MaskVisit) × IsMaskVisit visit × (visit.key ≡ key) × Adds equal_regions region_meaning store o t (steps_of_its_region store.tag visit) × Adds equal_masks mask_meaning cache p q (mask_steps cache.tag visit) × (has_value visit.course ≡ false)
   unasked-mask none asks = (
     record { key = key; course = Unasked; region = no-visit },
     record { region = λ no. absurd (both-true true false refl no); had = λ no has. absurd (both-true true false refl no) },
@@ -164,16 +164,16 @@ module _ {Z : Type 0} (regions : CacheView (Arc FontSet Z)) (cache : CacheView (
     refl,
   )
 
-module _ {M E Z : Type 0} (regions : CacheView (Arc FontSet Z)) (cache : CacheView (Arc FontSet Z)) (key : MaskKey) (o t : CachePassView RegionKey (Arc FontSet Z)) (p q : CachePassView MaskKey (Arc FontSet Z)) where
+module _ {M E Z : Type 0} (store : CacheView (Arc FontSet Z)) (cache : CacheView (Arc FontSet Z)) (key : MaskKey) (o t : CachePassView RegionKey (Arc FontSet Z)) (p q : CachePassView MaskKey (Arc FontSet Z)) where
   abbrev pub MaskVisited : CachePassView MaskKey (Arc FontSet Z) → Result (Lease M MaskKey MaskValue (Arc FontSet Z)) E → Type 0
   MaskVisited s had = (visit : MaskVisit) × IsMaskVisit visit × (visit.key ≡ key)
-      × Adds equal_regions region_meaning regions o t (steps_of_its_region regions.tag visit)
+      × Adds equal_regions region_meaning store o t (steps_of_its_region store.tag visit)
       × Adds equal_masks mask_meaning cache p s (mask_steps cache.tag visit)
       × IsHadBy mask_meaning cache.tag key visit.course had
 
   pub made-mask : (s : CachePassView MaskKey (Arc FontSet Z)) (duty : Option (TicketView MaskKey)) (made : Result (Arc MaskValue Z) E) (had : Result (Lease M MaskKey MaskValue (Arc FontSet Z)) E)
       → Adds equal_masks mask_meaning cache p q (duty_steps (mask_meaning {Z = Z}) key duty) → IsDutyOf (mask_meaning {Z = Z}) key duty
-      → (visit : RegionVisit) × IsRegionVisit (region_key key) visit × Adds equal_regions region_meaning regions o t (region_use_steps regions.tag (region_key key) visit) × OnOk made (has_value visit.course ≡ true)
+      → (visit : RegionVisit) × IsRegionVisit (region_key key) visit × Adds equal_regions region_meaning store o t (region_use_steps store.tag (region_key key) visit) × OnOk made (has_value visit.course ≡ true)
       → Adds equal_masks mask_meaning cache q s (settled_steps mask_meaning cache.tag duty had) → IsSettled mask_meaning cache.tag duty made had
       → IfOk made (λ a. arc_value a ≡ mask_meaning.made cache.tag key)
       → MaskVisited s had
@@ -182,7 +182,7 @@ module _ {M E Z : Type 0} (regions : CacheView (Arc FontSet Z)) (cache : CacheVi
         record { key = key; course = v.0; region = inner.0 },
         record { region = λ is. inner.1; had = λ is has. v.4 has },
         refl,
-        subst (λ (b : Bool). Adds equal_regions region_meaning regions o t (if b then region_use_steps regions.tag (region_key key) inner.0 else [])) (sym v.3) inner.2,
+        subst (λ (b : Bool). Adds equal_regions region_meaning store o t (if b then region_use_steps store.tag (region_key key) inner.0 else [])) (sym v.3) inner.2,
         v.1,
         v.2,
       )
@@ -190,30 +190,30 @@ module _ {M E Z : Type 0} (regions : CacheView (Arc FontSet Z)) (cache : CacheVi
 -- A composed mask
 module _ {M E : Type 0} (caches : Caches) (key : CompositeKey) (passes after : ThreePasses (Arc FontSet Global)) where
   pub found-composite : (pin : PinView CompositeKey MaskValue) → Adds equal_composites composite_meaning caches.composites passes.composites after.composites (Ask key Hit ∷ [])
-      → (pin.key ≡ key) × (pin.value ≡ composite_meaning.made caches.composites.tag key) → after.masks ≡ passes.masks → after.outlines ≡ passes.outlines → IsComposed {M = M} {E = E} caches passes key after (Ok (Pinned pin))
-  found-composite pin asks need masks outlines = record {
+      → (pin.key ≡ key) × (pin.value ≡ composite_meaning.made caches.composites.tag key) → after.masks ≡ passes.masks → after.regions ≡ passes.regions → IsComposed {M = M} {E = E} caches passes key after (Ok (Pinned pin))
+  found-composite pin asks need masks regions = record {
     visit = record { course = Found; masks = [] };
     is_visit = record { masks = λ no. absurd (both-true true false refl no); all = λ no. absurd (both-true true false refl no); had = λ no. absurd (both-true true false refl no) };
     composites = asks;
     masks = subst (λ (p : CachePassView MaskKey (Arc FontSet Global)). Adds equal_masks mask_meaning caches.masks passes.masks p []) (sym masks) (adds-none equal_masks mask_meaning caches.masks passes.masks);
-    outlines = subst (λ (p : CachePassView RegionKey (Arc FontSet Global)). Adds equal_regions region_meaning caches.outlines passes.outlines p []) (sym outlines) (adds-none equal_regions region_meaning caches.outlines passes.outlines);
+    regions = subst (λ (p : CachePassView RegionKey (Arc FontSet Global)). Adds equal_regions region_meaning caches.regions passes.regions p []) (sym regions) (adds-none equal_regions region_meaning caches.regions passes.regions);
     had_by = (refl, need.0, need.1);
   }
 
-  pub unasked-composite : (refused : E) → Adds equal_composites composite_meaning caches.composites passes.composites after.composites [] → after.masks ≡ passes.masks → after.outlines ≡ passes.outlines → IsComposed {M = M} {E = E} caches passes key after (Err refused)
-  unasked-composite refused asks masks outlines = record {
+  pub unasked-composite : (refused : E) → Adds equal_composites composite_meaning caches.composites passes.composites after.composites [] → after.masks ≡ passes.masks → after.regions ≡ passes.regions → IsComposed {M = M} {E = E} caches passes key after (Err refused)
+  unasked-composite refused asks masks regions = record {
     visit = record { course = Unasked; masks = [] };
     is_visit = record { masks = λ no. absurd (both-true true false refl no); all = λ no. absurd (both-true true false refl no); had = λ no. absurd (both-true true false refl no) };
     composites = asks;
     masks = subst (λ (p : CachePassView MaskKey (Arc FontSet Global)). Adds equal_masks mask_meaning caches.masks passes.masks p []) (sym masks) (adds-none equal_masks mask_meaning caches.masks passes.masks);
-    outlines = subst (λ (p : CachePassView RegionKey (Arc FontSet Global)). Adds equal_regions region_meaning caches.outlines passes.outlines p []) (sym outlines) (adds-none equal_regions region_meaning caches.outlines passes.outlines);
+    regions = subst (λ (p : CachePassView RegionKey (Arc FontSet Global)). Adds equal_regions region_meaning caches.regions passes.regions p []) (sym regions) (adds-none equal_regions region_meaning caches.regions passes.regions);
     had_by = refl;
   }
 
   pub made-composite : (q : CachePassView CompositeKey (Arc FontSet Global)) (duty : Option (TicketView CompositeKey)) (made : Result (Arc MaskValue Global) E) (had : Result (Lease M CompositeKey MaskValue (Arc FontSet Global)) E)
       → Adds equal_composites composite_meaning caches.composites passes.composites q (duty_steps (composite_meaning {Z = Global}) key duty) → IsDutyOf (composite_meaning {Z = Global}) key duty
       → (visits : List MaskVisit) × AreMaskVisits key.parts visits
-      × Adds equal_regions region_meaning caches.outlines passes.outlines after.outlines (region_steps_of caches.outlines.tag visits)
+      × Adds equal_regions region_meaning caches.regions passes.regions after.regions (region_steps_of caches.regions.tag visits)
       × Adds equal_masks mask_meaning caches.masks passes.masks after.masks (mask_steps_of caches.masks.tag visits)
       × OnOk made (AreAllHad key.parts visits)
       → Adds equal_composites composite_meaning caches.composites q after.composites (settled_steps composite_meaning caches.composites.tag duty had) → IsSettled composite_meaning caches.composites.tag duty made had
@@ -226,6 +226,6 @@ module _ {M E : Type 0} (caches : Caches) (key : CompositeKey) (passes after : T
         is_visit = record { masks = λ is. inner.1; all = λ is has. (v.4 has).as_many; had = λ is has. (v.4 has).had };
         composites = v.1;
         masks = subst (λ (b : Bool). Adds equal_masks mask_meaning caches.masks passes.masks after.masks (if b then mask_steps_of caches.masks.tag inner.0 else [])) (sym v.3) inner.3;
-        outlines = subst (λ (b : Bool). Adds equal_regions region_meaning caches.outlines passes.outlines after.outlines (if b then region_steps_of caches.outlines.tag inner.0 else [])) (sym v.3) inner.2;
+        regions = subst (λ (b : Bool). Adds equal_regions region_meaning caches.regions passes.regions after.regions (if b then region_steps_of caches.regions.tag inner.0 else [])) (sym v.3) inner.2;
         had_by = v.2;
       }

@@ -56,7 +56,7 @@ module _ {Z : Type 0} (cache : CacheView (Arc FontSet Z)) where
       ap (flat_map (mask_unpins cache.tag)) (reverse-append visits (v ∷ []))
       ∙ ap (λ (l : List (Step MaskKey MaskValue)). l ++ flat_map (mask_unpins cache.tag) (reverse visits)) (no-unpins equal_masks mask_laws.laws-law mask_same mask_meaning cache v.key v.course none)
 
-module _ {M Z : Type 0} (fonts : List FontValue) (regions cache : CacheView (Arc FontSet Z))
+module _ {M Z : Type 0} (fonts : List FontValue) (store cache : CacheView (Arc FontSet Z))
     (o : CachePassView RegionKey (Arc FontSet Z)) (p : CachePassView MaskKey (Arc FontSet Z)) where
   -- the masks of these parts were had
   pub record AreHad (done : List Part) (t : CachePassView RegionKey (Arc FontSet Z)) (s : CachePassView MaskKey (Arc FontSet Z)) (leases : List (Lease M MaskKey MaskValue (Arc FontSet Z))) : Type 0 where
@@ -64,9 +64,9 @@ module _ {M Z : Type 0} (fonts : List FontValue) (regions cache : CacheView (Arc
     pub keys : map (λ v. v.key) visits ≡ map (λ part. part.mask) done
     pub each : All IsMaskVisit visits
     pub had : All (λ v. has_value v.course ≡ true) visits
-    pub outlines : Adds equal_regions region_meaning regions o t (region_steps_of regions.tag visits)
+    pub regions : Adds equal_regions region_meaning store o t (region_steps_of store.tag visits)
     pub masks : Adds equal_masks mask_meaning cache p s (flat_map (mask_steps cache.tag) visits)
-    pub outlines_hold : HoldsAsMuch equal_regions region_meaning regions o t
+    pub regions_hold : HoldsAsMuch equal_regions region_meaning store o t
     pub masks_hold : HoldsMore equal_masks mask_meaning cache p s (pinned_keys leases)
     pub given : all_given_steps leases ≡ flat_map (mask_unpins cache.tag) (reverse visits)
     pub values : map lease_value leases ≡ masks_of fonts done
@@ -77,9 +77,9 @@ module _ {M Z : Type 0} (fonts : List FontValue) (regions cache : CacheView (Arc
     keys = refl;
     each = All-nil IsMaskVisit;
     had = All-nil (λ v. has_value v.course ≡ true);
-    outlines = adds-none equal_regions region_meaning regions o;
+    regions = adds-none equal_regions region_meaning store o;
     masks = adds-none equal_masks mask_meaning cache p;
-    outlines_hold = record { pins = λ k. refl; claims = λ k. refl };
+    regions_hold = record { pins = λ k. refl; claims = λ k. refl };
     masks_hold = record { pins = λ k. omega arith; claims = λ k. refl };
     given = refl;
     values = refl;
@@ -100,10 +100,10 @@ module _ {M Z : Type 0} (fonts : List FontValue) (regions cache : CacheView (Arc
       → (arc_value cache.tag).fonts ≡ fonts
       → AreHad done t q leases
       → (visit : MaskVisit) × IsMaskVisit visit × (visit.key ≡ part.mask)
-      × Adds equal_regions region_meaning regions t u (steps_of_its_region regions.tag visit)
+      × Adds equal_regions region_meaning store t u (steps_of_its_region store.tag visit)
       × Adds equal_masks mask_meaning cache q s (mask_steps cache.tag visit)
       × IsLeaseOf mask_meaning cache.tag part.mask visit.course lease
-      → HoldsAsMuch equal_regions region_meaning regions t u → HoldsTheLease {E = E} equal_masks mask_meaning cache q s (Ok lease)
+      → HoldsAsMuch equal_regions region_meaning store t u → HoldsTheLease {E = E} equal_masks mask_meaning cache q s (Ok lease)
       → AreHad (done ++ part ∷ []) u s (leases ++ lease ∷ [])
   one-then {E} done part t u q s leases lease tagged h v much holds =
       let unpins : given_steps lease ≡ mask_unpins cache.tag v.0 = given-course equal_masks mask_laws.laws-law mask_same mask_meaning cache part.mask v.0.course lease v.5 ∙ ap (λ k. mask_unpins cache.tag (record { key = k; course = v.0.course; region = v.0.region })) (sym v.2) in
@@ -112,9 +112,9 @@ module _ {M Z : Type 0} (fonts : List FontValue) (regions cache : CacheView (Arc
         keys = map-append (λ (x : MaskVisit). x.key) h.visits (v.0 ∷ []) ∙ (ap (λ l. l ++ v.0.key ∷ []) h.keys ∙ (ap (λ (k : MaskKey). map (λ (x : Part). x.mask) done ++ k ∷ []) v.2 ∙ sym (map-append (λ (x : Part). x.mask) done (part ∷ []))));
         each = All-push IsMaskVisit h.visits v.0 h.each v.1;
         had = All-push (λ x. has_value x.course ≡ true) h.visits v.0 h.had (had-value equal_masks mask_laws.laws-law mask_same mask_meaning cache part.mask v.0.course lease v.5);
-        outlines = subst (λ l. Adds equal_regions region_meaning regions o u l) (sym (flat-more (steps_of_its_region regions.tag) h.visits v.0)) (adds-then equal_regions region_meaning regions o t u _ _ h.outlines v.3);
+        regions = subst (λ l. Adds equal_regions region_meaning store o u l) (sym (flat-more (steps_of_its_region store.tag) h.visits v.0)) (adds-then equal_regions region_meaning store o t u _ _ h.regions v.3);
         masks = subst (λ l. Adds equal_masks mask_meaning cache p s l) (sym (flat-more (mask_steps cache.tag) h.visits v.0)) (adds-then equal_masks mask_meaning cache p q s _ _ h.masks v.4);
-        outlines_hold = record { pins = λ k. much.pins k ∙ h.outlines_hold.pins k; claims = λ k. much.claims k ∙ h.outlines_hold.claims k };
+        regions_hold = record { pins = λ k. much.pins k ∙ h.regions_hold.pins k; claims = λ k. much.claims k ∙ h.regions_hold.claims k };
         masks_hold = pins-more {E = E} q s leases lease h.masks_hold holds;
         given = ap (flat_map given_steps) (reverse-append leases (lease ∷ [])) ∙ (ap (λ l. given_steps lease ++ l) h.given ∙ (ap (λ l. l ++ flat_map (mask_unpins cache.tag) (reverse h.visits)) unpins ∙ sym (ap (flat_map (mask_unpins cache.tag)) (reverse-append h.visits (v.0 ∷ [])))));
         values = map-append lease_value leases (lease ∷ []) ∙ (ap (λ l. l ++ lease_value lease ∷ []) h.values
@@ -127,10 +127,10 @@ module _ {M Z : Type 0} (fonts : List FontValue) (regions cache : CacheView (Arc
       → n < length parts → part ≡ get_or parts n part → after ≡ leases ++ lease ∷ [] → (arc_value cache.tag).fonts ≡ fonts
       → AreHad (take n parts) t q leases
       → (visit : MaskVisit) × IsMaskVisit visit × (visit.key ≡ part.mask)
-      × Adds equal_regions region_meaning regions t u (steps_of_its_region regions.tag visit)
+      × Adds equal_regions region_meaning store t u (steps_of_its_region store.tag visit)
       × Adds equal_masks mask_meaning cache q s (mask_steps cache.tag visit)
       × IsLeaseOf mask_meaning cache.tag part.mask visit.course lease
-      → HoldsAsMuch equal_regions region_meaning regions t u → HoldsTheLease {E = E} equal_masks mask_meaning cache q s (Ok lease)
+      → HoldsAsMuch equal_regions region_meaning store t u → HoldsTheLease {E = E} equal_masks mask_meaning cache q s (Ok lease)
       → AreHad (take (n + 1) parts) u s after
   one-more {E} parts n part t u q s leases after lease there is pushed tagged h v much holds =
       subst (λ (l : List Part). AreHad l u s after) (sym (take_more parts n part there ∙ ap (λ (x : Part). take n parts ++ x ∷ []) (sym is)))
@@ -154,9 +154,9 @@ module _ {M Z : Type 0} (fonts : List FontValue) (regions cache : CacheView (Arc
   pub record AreRefused (parts : List Part) (t : CachePassView RegionKey (Arc FontSet Z)) (s : CachePassView MaskKey (Arc FontSet Z)) (leases : List (Lease M MaskKey MaskValue (Arc FontSet Z))) : Type 0 where
     pub visits : List MaskVisit
     pub are : AreMaskVisits parts visits
-    pub outlines : Adds equal_regions region_meaning regions o t (region_steps_of regions.tag visits)
+    pub regions : Adds equal_regions region_meaning store o t (region_steps_of store.tag visits)
     pub masks : Adds equal_masks mask_meaning cache p s (flat_map (mask_steps cache.tag) visits)
-    pub outlines_hold : HoldsAsMuch equal_regions region_meaning regions o t
+    pub regions_hold : HoldsAsMuch equal_regions region_meaning store o t
     pub masks_hold : HoldsMore equal_masks mask_meaning cache p s (pinned_keys leases)
     pub given : all_given_steps leases ≡ flat_map (mask_unpins cache.tag) (reverse visits)
 
@@ -164,10 +164,10 @@ module _ {M Z : Type 0} (fonts : List FontValue) (regions cache : CacheView (Arc
       → n < length parts → part ≡ get_or parts n part
       → AreHad (take n parts) t q leases
       → (visit : MaskVisit) × IsMaskVisit visit × (visit.key ≡ part.mask)
-      × Adds equal_regions region_meaning regions t u (steps_of_its_region regions.tag visit)
+      × Adds equal_regions region_meaning store t u (steps_of_its_region store.tag visit)
       × Adds equal_masks mask_meaning cache q s (mask_steps cache.tag visit)
       × (has_value visit.course ≡ false)
-      → HoldsAsMuch equal_regions region_meaning regions t u → HoldsAsMuch equal_masks mask_meaning cache q s
+      → HoldsAsMuch equal_regions region_meaning store t u → HoldsAsMuch equal_masks mask_meaning cache q s
       → AreRefused parts u s leases
   one-refused parts n part t u q s leases there is h v much same =
       let more : take (n + 1) parts ≡ take n parts ++ part ∷ [] = take_more parts n part there ∙ ap (λ (x : Part). take n parts ++ x ∷ []) (sym is) in
@@ -181,9 +181,9 @@ module _ {M Z : Type 0} (fonts : List FontValue) (regions cache : CacheView (Arc
           each = All-push IsMaskVisit h.visits v.0 h.each v.1;
           had = subst (λ (l : List MaskVisit). All (λ x. has_value x.course ≡ true) l) (sym (front-of h.visits v.0)) h.had;
         };
-        outlines = subst (λ (l : List (Step RegionKey RegionValue)). Adds equal_regions region_meaning regions o u l) (sym (flat-more (steps_of_its_region regions.tag) h.visits v.0)) (adds-then equal_regions region_meaning regions o t u _ _ h.outlines v.3);
+        regions = subst (λ (l : List (Step RegionKey RegionValue)). Adds equal_regions region_meaning store o u l) (sym (flat-more (steps_of_its_region store.tag) h.visits v.0)) (adds-then equal_regions region_meaning store o t u _ _ h.regions v.3);
         masks = subst (λ (l : List (Step MaskKey MaskValue)). Adds equal_masks mask_meaning cache p s l) (sym (flat-more (mask_steps cache.tag) h.visits v.0)) (adds-then equal_masks mask_meaning cache p q s _ _ h.masks v.4);
-        outlines_hold = record { pins = λ k. much.pins k ∙ h.outlines_hold.pins k; claims = λ k. much.claims k ∙ h.outlines_hold.claims k };
+        regions_hold = record { pins = λ k. much.pins k ∙ h.regions_hold.pins k; claims = λ k. much.claims k ∙ h.regions_hold.claims k };
         masks_hold = record { pins = λ k. same.pins k ∙ h.masks_hold.pins k; claims = λ k. same.claims k ∙ h.masks_hold.claims k };
         given = h.given ∙ sym (failed-given cache v.0 h.visits v.5);
       }

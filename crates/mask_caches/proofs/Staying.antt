@@ -6,8 +6,8 @@ use Rattle.mask_caches.specs.Together.{AreTogether}
 
 module _ {J K L T : Type 0} where
   pub together-later : (o p : CachePassView J T) (m n : CachePassView K T) (c d : CachePassView L T) → AreTogether o m c → IsLater o p → IsLater m n → IsLater c d → AreTogether p n d
-  together-later o p m n c d t outlines masks composites =
-      let of = outlines.first.1 in
+  together-later o p m n c d t regions masks composites =
+      let of = regions.first.1 in
       let on = masks.first.1 in
       let oc = composites.first.1 in
       record {

@@ -91,11 +91,11 @@ module _ {K V T : Type 0} (eq : K → K → Bool) (laws : IsEquivalence eq) (mea
 
 pub three_balance : ThreeBalance
 three_balance caches pass legal gave =
-    let outlines = shown_totals equal_regions region_meaning caches.outlines pass.outlines in
+    let regions = shown_totals equal_regions region_meaning caches.regions pass.regions in
     let masks = shown_totals equal_masks mask_meaning caches.masks pass.masks in
     let composites = shown_totals equal_composites composite_meaning caches.composites pass.composites in
-    All-cons IsAccounted outlines (masks ∷ composites ∷ [])
-    (caches_balance equal_regions region_laws.laws-law region_meaning caches.outlines pass.outlines legal.outlines gave.outlines)
+    All-cons IsAccounted regions (masks ∷ composites ∷ [])
+    (caches_balance equal_regions region_laws.laws-law region_meaning caches.regions pass.regions legal.regions gave.regions)
     (All-cons IsAccounted masks (composites ∷ [])
     (caches_balance equal_masks mask_laws.laws-law mask_meaning caches.masks pass.masks legal.masks gave.masks)
     (All-cons IsAccounted composites []

@@ -34,14 +34,14 @@ use Rattle.mask_caches.specs.Warming.{KeyVisit, AddsWarming, AreWarmed, key_step
 module _ (caches : Caches) where
   pub before-itself : (p : CachesPass) → HoldsAsBefore caches p p
   before-itself p = record {
-    outlines = much-itself equal_regions region_meaning caches.outlines p.outlines;
+    regions = much-itself equal_regions region_meaning caches.regions p.regions;
     masks = much-itself equal_masks mask_meaning caches.masks p.masks;
     composites = much-itself equal_composites composite_meaning caches.composites p.composites;
   }
 
   pub before-then : (p q r : CachesPass) → HoldsAsBefore caches p q → HoldsAsBefore caches q r → HoldsAsBefore caches p r
   before-then p q r f g = record {
-    outlines = much-then equal_regions region_meaning caches.outlines p.outlines q.outlines r.outlines f.outlines g.outlines;
+    regions = much-then equal_regions region_meaning caches.regions p.regions q.regions r.regions f.regions g.regions;
     masks = much-then equal_masks mask_meaning caches.masks p.masks q.masks r.masks f.masks g.masks;
     composites = much-then equal_composites composite_meaning caches.composites p.composites q.composites r.composites f.composites g.composites;
   }
@@ -51,34 +51,34 @@ module _ (caches : Caches) (pass mid after : CachesPass) where
   warming-then xs ys f g = record {
     composites = subst (λ l. Adds equal_composites composite_meaning caches.composites pass.composites after.composites l) (sym (flat_map-append (key_steps caches.composites.tag) xs ys)) (adds-then equal_composites composite_meaning caches.composites pass.composites mid.composites after.composites _ _ f.composites g.composites);
     masks = subst (λ l. Adds equal_masks mask_meaning caches.masks pass.masks after.masks l) (sym (flat_map-append (λ (v : KeyVisit). steps_of_its_masks caches.masks.tag v.visit) xs ys)) (adds-then equal_masks mask_meaning caches.masks pass.masks mid.masks after.masks _ _ f.masks g.masks);
-    outlines = subst (λ l. Adds equal_regions region_meaning caches.outlines pass.outlines after.outlines l) (sym (flat_map-append (λ (v : KeyVisit). steps_of_its_regions caches.outlines.tag v.visit) xs ys)) (adds-then equal_regions region_meaning caches.outlines pass.outlines mid.outlines after.outlines _ _ f.outlines g.outlines);
+    regions = subst (λ l. Adds equal_regions region_meaning caches.regions pass.regions after.regions l) (sym (flat_map-append (λ (v : KeyVisit). steps_of_its_regions caches.regions.tag v.visit) xs ys)) (adds-then equal_regions region_meaning caches.regions pass.regions mid.regions after.regions _ _ f.regions g.regions);
   }
 
 -- one key
 module _ {M E : Type 0} (caches : Caches) (pass mid after : CachesPass) (key : CompositeKey) where
   -- the lease was given back
   pub one-warmed : (lease : Lease M CompositeKey MaskValue (Arc FontSet Global)) (t : IsComposed {E = E} caches (three_of pass) key (three_of mid) (Ok lease))
-      → Adds equal_composites composite_meaning caches.composites mid.composites after.composites (given_steps lease) → after.masks ≡ mid.masks → after.outlines ≡ mid.outlines
+      → Adds equal_composites composite_meaning caches.composites mid.composites after.composites (given_steps lease) → after.masks ≡ mid.masks → after.regions ≡ mid.regions
       → AddsWarming caches pass after (record { key = key; visit = t.visit } ∷ []) × (has_value t.visit.course ≡ true)
-  one-warmed lease t gives masks outlines =
+  one-warmed lease t gives masks regions =
       let used = had-use equal_composites composite_laws.laws-law composite_same composite_meaning caches.composites key t.visit.course [] pass.composites mid.composites after.composites lease t.had_by t.composites gives in (
         record {
           composites = subst (λ l. Adds equal_composites composite_meaning caches.composites pass.composites after.composites l) (sym (append-nil (key_steps caches.composites.tag (record { key = key; visit = t.visit })))) used;
           masks = subst (λ (p : CachePassView MaskKey (Arc FontSet Global)). Adds equal_masks mask_meaning caches.masks pass.masks p (steps_of_its_masks caches.masks.tag t.visit ++ [])) (sym masks)
               (subst (λ l. Adds equal_masks mask_meaning caches.masks pass.masks mid.masks l) (sym (append-nil (steps_of_its_masks caches.masks.tag t.visit))) t.masks);
-          outlines = subst (λ (p : CachePassView RegionKey (Arc FontSet Global)). Adds equal_regions region_meaning caches.outlines pass.outlines p (steps_of_its_regions caches.outlines.tag t.visit ++ [])) (sym outlines)
-              (subst (λ l. Adds equal_regions region_meaning caches.outlines pass.outlines mid.outlines l) (sym (append-nil (steps_of_its_regions caches.outlines.tag t.visit))) t.outlines);
+          regions = subst (λ (p : CachePassView RegionKey (Arc FontSet Global)). Adds equal_regions region_meaning caches.regions pass.regions p (steps_of_its_regions caches.regions.tag t.visit ++ [])) (sym regions)
+              (subst (λ l. Adds equal_regions region_meaning caches.regions pass.regions mid.regions l) (sym (append-nil (steps_of_its_regions caches.regions.tag t.visit))) t.regions);
         },
         had-value equal_composites composite_laws.laws-law composite_same composite_meaning caches.composites key t.visit.course lease t.had_by,
       )
 
   pub one-much : (lease : Lease M CompositeKey MaskValue (Arc FontSet Global)) → HoldsJustTheLease {E = E} caches (three_of pass) key (three_of mid) (Ok lease)
-      → Adds equal_composites composite_meaning caches.composites mid.composites after.composites (given_steps lease) → after.masks ≡ mid.masks → after.outlines ≡ mid.outlines
+      → Adds equal_composites composite_meaning caches.composites mid.composites after.composites (given_steps lease) → after.masks ≡ mid.masks → after.regions ≡ mid.regions
       → HoldsAsBefore caches pass after
-  one-much lease t gives masks outlines = record {
+  one-much lease t gives masks regions = record {
     composites = given-again equal_composites composite_laws.laws-law composite_same composite_meaning caches.composites pass.composites mid.composites after.composites lease t.composites gives;
     masks = subst (λ (p : CachePassView MaskKey (Arc FontSet Global)). HoldsAsMuch equal_masks mask_meaning caches.masks pass.masks p) (sym masks) t.masks;
-    outlines = subst (λ (p : CachePassView RegionKey (Arc FontSet Global)). HoldsAsMuch equal_regions region_meaning caches.outlines pass.outlines p) (sym outlines) t.outlines;
+    regions = subst (λ (p : CachePassView RegionKey (Arc FontSet Global)). HoldsAsMuch equal_regions region_meaning caches.regions pass.regions p) (sym regions) t.regions;
   }
 
 module _ {M E : Type 0} (caches : Caches) (pass mid : CachesPass) (key : CompositeKey) where
@@ -89,7 +89,7 @@ module _ {M E : Type 0} (caches : Caches) (pass mid : CachesPass) (key : Composi
         record {
           composites = subst (λ l. Adds equal_composites composite_meaning caches.composites pass.composites mid.composites l) (sym (append-nil (key_steps caches.composites.tag (record { key = key; visit = t.visit })))) used;
           masks = subst (λ l. Adds equal_masks mask_meaning caches.masks pass.masks mid.masks l) (sym (append-nil (steps_of_its_masks caches.masks.tag t.visit))) t.masks;
-          outlines = subst (λ l. Adds equal_regions region_meaning caches.outlines pass.outlines mid.outlines l) (sym (append-nil (steps_of_its_regions caches.outlines.tag t.visit))) t.outlines;
+          regions = subst (λ l. Adds equal_regions region_meaning caches.regions pass.regions mid.regions l) (sym (append-nil (steps_of_its_regions caches.regions.tag t.visit))) t.regions;
         },
         t.had_by,
       )
@@ -98,7 +98,7 @@ module _ {M E : Type 0} (caches : Caches) (pass mid : CachesPass) (key : Composi
   refused-holds refused t = record {
     composites = refused-much {M = M} equal_composites composite_laws.laws-law composite_same composite_meaning caches.composites pass.composites mid.composites refused t.composites;
     masks = t.masks;
-    outlines = t.outlines;
+    regions = t.regions;
   }
 
 module _ (caches : Caches) (pass : CachesPass) where
@@ -120,7 +120,7 @@ module _ (caches : Caches) (pass : CachesPass) where
     adds = record {
       composites = adds-none equal_composites composite_meaning caches.composites pass.composites;
       masks = adds-none equal_masks mask_meaning caches.masks pass.masks;
-      outlines = adds-none equal_regions region_meaning caches.outlines pass.outlines;
+      regions = adds-none equal_regions region_meaning caches.regions pass.regions;
     };
     holds = before-itself caches pass;
   }

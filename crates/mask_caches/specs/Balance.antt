@@ -36,12 +36,12 @@ module _ {K V T : Type 0} (eq : K → K → Bool) (meaning : Meaning K V T) wher
 
 -- and in each of the three caches
 pub record AllCachesGaveBack (caches : Caches) (pass : CachesPass) : Type 0 where
-  pub outlines : EachAllGaveBack equal_regions region_meaning caches.outlines pass.outlines
+  pub regions : EachAllGaveBack equal_regions region_meaning caches.regions pass.regions
   pub masks : EachAllGaveBack equal_masks mask_meaning caches.masks pass.masks
   pub composites : EachAllGaveBack equal_composites composite_meaning caches.composites pass.composites
 
 -- the pass after calls that neither split nor join
 pub record AreLater (pass after : CachesPass) : Type 0 where
-  pub outlines : IsLater pass.outlines after.outlines
+  pub regions : IsLater pass.regions after.regions
   pub masks : IsLater pass.masks after.masks
   pub composites : IsLater pass.composites after.composites

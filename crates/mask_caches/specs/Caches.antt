@@ -15,25 +15,25 @@ use Rattle.mask_caches.specs.declared.passes.CachesPass.{CachesPass}
 
 -- the pass comes from the caches
 pub record IsPassOf (caches : Caches) (pass : CachesPass) : Type 0 where
-  pub outlines : IsCacheOf caches.outlines pass.outlines
+  pub regions : IsCacheOf caches.regions pass.regions
   pub masks : IsCacheOf caches.masks pass.masks
   pub composites : IsCacheOf caches.composites pass.composites
 
 -- one pass is what the other was
 pub record IsSamePass (pass after : CachesPass) : Type 0 where
-  pub outlines : after.outlines ≡ pass.outlines
+  pub regions : after.regions ≡ pass.regions
   pub masks : after.masks ≡ pass.masks
   pub composites : after.composites ≡ pass.composites
 
 -- the pass holds no pin and has no claim open
 pub record HasAllGivenBack (caches : Caches) (pass : CachesPass) : Type 0 where
-  pub outlines : EachHasGivenBack equal_regions region_meaning caches.outlines.shards pass.outlines
+  pub regions : EachHasGivenBack equal_regions region_meaning caches.regions.shards pass.regions
   pub masks : EachHasGivenBack equal_masks mask_meaning caches.masks.shards pass.masks
   pub composites : EachHasGivenBack equal_composites composite_meaning caches.composites.shards pass.composites
 
 -- the pass holds in each cache what it held before, and has open what it had before
 pub record HoldsAsBefore (caches : Caches) (pass after : CachesPass) : Type 0 where
-  pub outlines : HoldsAsMuch equal_regions region_meaning caches.outlines pass.outlines after.outlines
+  pub regions : HoldsAsMuch equal_regions region_meaning caches.regions pass.regions after.regions
   pub masks : HoldsAsMuch equal_masks mask_meaning caches.masks pass.masks after.masks
   pub composites : HoldsAsMuch equal_composites composite_meaning caches.composites pass.composites after.composites
 
@@ -43,13 +43,13 @@ HoldsNothingAgain caches after = (pass : CachesPass) → HasAllGivenBack caches 
 
 -- what the pass has seen of each shard is legal
 pub record AreLegal (caches : Caches) (pass : CachesPass) : Type 0 where
-  pub outlines : EachIsLegal equal_regions region_meaning caches.outlines.shards pass.outlines
+  pub regions : EachIsLegal equal_regions region_meaning caches.regions.shards pass.regions
   pub masks : EachIsLegal equal_masks mask_meaning caches.masks.shards pass.masks
   pub composites : EachIsLegal equal_composites composite_meaning caches.composites.shards pass.composites
 
 -- the shards of each cache have their numbers, and its tag
 pub record AreNumbered (caches : Caches) : Type 0 where
-  pub outlines : AreShardsOf caches.outlines.tag caches.outlines.shards
+  pub regions : AreShardsOf caches.regions.tag caches.regions.shards
   pub masks : AreShardsOf caches.masks.tag caches.masks.shards
   pub composites : AreShardsOf caches.composites.tag caches.composites.shards
 
@@ -61,7 +61,7 @@ pub record IsNewCache {K T : Type 0} (cache : CacheView T) (pass : CachePassView
 
 -- each of the caches is new, with the whole budget
 pub record AreNew (caches : Caches) (pass : CachesPass) (budget : ℕ) : Type 0 where
-  pub outlines : IsNewCache caches.outlines pass.outlines budget
+  pub regions : IsNewCache caches.regions pass.regions budget
   pub masks : IsNewCache caches.masks pass.masks budget
   pub composites : IsNewCache caches.composites pass.composites budget
 
@@ -74,7 +74,7 @@ pub record IsSplitIn {K V T : Type 0} (meaning : Meaning K V T) (cache : CacheVi
   pub first_below : EachIsBelow (λ p. p.next) first
 
 pub record IsSplit (caches : Caches) (pass first new : CachesPass) : Type 0 where
-  pub outlines : IsSplitIn region_meaning caches.outlines pass.outlines first.outlines new.outlines
+  pub regions : IsSplitIn region_meaning caches.regions pass.regions first.regions new.regions
   pub masks : IsSplitIn mask_meaning caches.masks pass.masks first.masks new.masks
   pub composites : IsSplitIn composite_meaning caches.composites pass.composites first.composites new.composites
 
@@ -87,7 +87,7 @@ pub record IsJoinedIn {K V T : Type 0} (meaning : Meaning K V T) (cache : CacheV
   pub itself : EachExtends joined
 
 pub record AreJoined (caches : Caches) (pass other joined : CachesPass) : Type 0 where
-  pub outlines : IsJoinedIn region_meaning caches.outlines pass.outlines other.outlines joined.outlines
+  pub regions : IsJoinedIn region_meaning caches.regions pass.regions other.regions joined.regions
   pub masks : IsJoinedIn mask_meaning caches.masks pass.masks other.masks joined.masks
   pub composites : IsJoinedIn composite_meaning caches.composites pass.composites other.composites joined.composites
 
@@ -95,10 +95,10 @@ pub record AreJoined (caches : Caches) (pass other joined : CachesPass) : Type 0
 abbrev pub shown_totals : {K V T : Type 0} → (K → K → Bool) → Meaning K V T → CacheView T → CachePassView K T → Totals
 shown_totals eq meaning cache after = sum_of_totals (both (λ shard own. totals_of (left_by eq meaning shard.tag own.seen)) cache.shards after)
 
--- those of the three, the outlines first
+-- those of the three, the regions first
 abbrev pub all_totals : Caches → CachesPass → List Totals
 all_totals caches after =
-    shown_totals equal_regions region_meaning caches.outlines after.outlines
+    shown_totals equal_regions region_meaning caches.regions after.regions
     ∷ shown_totals equal_masks mask_meaning caches.masks after.masks
     ∷ shown_totals equal_composites composite_meaning caches.composites after.composites
     ∷ []

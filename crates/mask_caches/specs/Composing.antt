@@ -18,7 +18,7 @@ use Rattle.mask_caches.specs.declared.lease.Lease.{Lease}
 
 -- the passes of the three caches
 pub record ThreePasses (T : Type 0) : Type 0 where
-  pub outlines : CachePassView RegionKey T
+  pub regions : CachePassView RegionKey T
   pub masks : CachePassView MaskKey T
   pub composites : CachePassView CompositeKey T
 
@@ -29,11 +29,11 @@ module _ {M E : Type 0} (caches : Caches) (pass : ThreePasses (Arc FontSet Globa
     pub is_visit : IsCompositeVisit key visit
     pub composites : Adds equal_composites composite_meaning caches.composites pass.composites after.composites (composite_steps caches.composites.tag key visit)
     pub masks : Adds equal_masks mask_meaning caches.masks pass.masks after.masks (steps_of_its_masks caches.masks.tag visit)
-    pub outlines : Adds equal_regions region_meaning caches.outlines pass.outlines after.outlines (steps_of_its_regions caches.outlines.tag visit)
+    pub regions : Adds equal_regions region_meaning caches.regions pass.regions after.regions (steps_of_its_regions caches.regions.tag visit)
     pub had_by : IsHadBy composite_meaning caches.composites.tag key visit.course had
 
   -- The pass holds just the lease's pin more in the cache of composed masks, in the other two what it held before, and has open what it had before
   pub record HoldsJustTheLease : Type 0 where
     pub composites : HoldsTheLease equal_composites composite_meaning caches.composites pass.composites after.composites had
     pub masks : HoldsAsMuch equal_masks mask_meaning caches.masks pass.masks after.masks
-    pub outlines : HoldsAsMuch equal_regions region_meaning caches.outlines pass.outlines after.outlines
+    pub regions : HoldsAsMuch equal_regions region_meaning caches.regions pass.regions after.regions

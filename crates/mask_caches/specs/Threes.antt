@@ -7,7 +7,7 @@ use Rattle.mask_caches.specs.declared.composites.Passes.{Passes}
 use Rattle.mask_caches.specs.declared.passes.CachesPass.{CachesPass}
 
 abbrev pub three_of : CachesPass → ThreePasses (Arc FontSet Global)
-three_of pass = record { outlines = pass.outlines; masks = pass.masks; composites = pass.composites }
+three_of pass = record { regions = pass.regions; masks = pass.masks; composites = pass.composites }
 
 abbrev pub three : Passes → ThreePasses (Arc FontSet Global)
-three passes = record { outlines = passes.outlines; masks = passes.masks; composites = passes.composites }
+three passes = record { regions = passes.regions; masks = passes.masks; composites = passes.composites }

@@ -41,7 +41,7 @@ module _ {Z : Type 0} (fonts : Arc FontSet Z) where
 pub record AddsWarming (caches : Caches) (pass after : CachesPass) (visits : List KeyVisit) : Type 0 where
   pub composites : Adds equal_composites composite_meaning caches.composites pass.composites after.composites (warming_steps caches.composites.tag visits)
   pub masks : Adds equal_masks mask_meaning caches.masks pass.masks after.masks (visit_mask_steps caches.masks.tag visits)
-  pub outlines : Adds equal_regions region_meaning caches.outlines pass.outlines after.outlines (visit_region_steps caches.outlines.tag visits)
+  pub regions : Adds equal_regions region_meaning caches.regions pass.regions after.regions (visit_region_steps caches.regions.tag visits)
 
 -- The first n of these keys were warmed, in their order. Where they aren't all, the next one was asked for, and its composed mask wasn't had
 pub record AreWarmed (caches : Caches) (pass : CachesPass) (keys : List CompositeKey) (after : CachesPass) (n : ℕ) : Type 0 where

@@ -12,9 +12,9 @@ use std::sync::Arc;
 /// The caches of regions, of masks and of composed masks, which threads ask by `&`.
 pub struct Caches {
     pub(crate) fonts: Arc<FontSet>,
-    pub(crate) outlines: Cache<RegionMade>,
+    pub(crate) regions: Cache<RegionMade>,
     pub(crate) masks: Cache<MaskMade>,
     pub(crate) composites: Cache<CompositeMade>,
-    ghost tags: { HaveFonts fonts outlines.tag masks.tag composites.tag },
+    ghost tags: { HaveFonts fonts regions.tag masks.tag composites.tag },
     ghost whole: { IsFontSet (arc_value fonts).fonts } by { Prim.hlevel font_props },
 }

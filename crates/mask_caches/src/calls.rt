@@ -58,27 +58,27 @@ impl Caches {
         ensures pass { IfOk result (λ r. IsPassOf r.0 r.1) }
         ensures given { IfOk result (λ r. HasAllGivenBack r.0 r.1) }
     {
-        let of_outlines = Arc::try_clone(&fonts)?;
+        let of_regions = Arc::try_clone(&fonts)?;
         let of_masks = Arc::try_clone(&fonts)?;
         let of_composites = Arc::try_clone(&fonts)?;
-        let (outlines, outlines_pass) = open_cache(alloc, of_outlines, budget)?;
+        let (regions, regions_pass) = open_cache(alloc, of_regions, budget)?;
         let Ok((masks, masks_pass)) = open_cache(alloc, of_masks, budget) else {
-            outlines.close(outlines_pass);
+            regions.close(regions_pass);
             return Err(OutOfMemory);
         };
         let Ok((composites, composites_pass)) = open_cache(alloc, of_composites, budget) else {
-            outlines.close(outlines_pass);
+            regions.close(regions_pass);
             masks.close(masks_pass);
             return Err(OutOfMemory);
         };
         let caches = Caches {
             fonts,
-            outlines,
+            regions,
             masks,
             composites,
         };
         let pass = CachesPass {
-            outlines: outlines_pass,
+            regions: regions_pass,
             masks: masks_pass,
             composites: composites_pass,
         };
@@ -90,7 +90,7 @@ impl Caches {
         requires pass { IsPassOf self.now pass }
         requires budget { budget ≤ max_budget }
         ensures pass { IsPassOf self.now result }
-        ensures outlines { EachGives equal_regions region_meaning self.now.outlines.shards pass.outlines result.outlines
+        ensures regions { EachGives equal_regions region_meaning self.now.regions.shards pass.regions result.regions
             (λ n. Limits (part (entry_limit budget) n) (part budget n) ∷ []) }
         ensures masks { EachGives equal_masks mask_meaning self.now.masks.shards pass.masks result.masks
             (λ n. Limits (part (entry_limit budget) n) (part budget n) ∷ []) }
@@ -99,26 +99,26 @@ impl Caches {
         ensures holds { HoldsAsBefore self.now pass result }
     {
         let CachesPass {
-            outlines,
+            regions,
             masks,
             composites,
         } = pass;
         let entries = entry_limit(budget);
-        let outlines = self.outlines.set_limits(rt, outlines, entries, budget);
+        let regions = self.regions.set_limits(rt, regions, entries, budget);
         let masks = self.masks.set_limits(rt, masks, entries, budget);
         let composites = self.composites.set_limits(rt, composites, entries, budget);
         CachesPass {
-            outlines,
+            regions,
             masks,
             composites,
         }
     }
 
-    /// The totals of the outlines, the masks and the composed masks, in this order.
+    /// The totals of the regions, the masks and the composed masks, in this order.
     pub fn totals<R: Wait>(&self, rt: &R, pass: CachesPass) -> (CachesPass, [Totals; 3])
         requires { IsPassOf self.now pass }
         ensures pass { IsPassOf self.now result.0 }
-        ensures outlines { EachGives equal_regions region_meaning self.now.outlines.shards pass.outlines result.0.outlines (λ n. []) }
+        ensures regions { EachGives equal_regions region_meaning self.now.regions.shards pass.regions result.0.regions (λ n. []) }
         ensures masks { EachGives equal_masks mask_meaning self.now.masks.shards pass.masks result.0.masks (λ n. []) }
         ensures composites { EachGives equal_composites composite_meaning self.now.composites.shards pass.composites result.0.composites (λ n. []) }
         ensures totals { result.1 ≡ all_totals self.now result.0 }
@@ -126,20 +126,20 @@ impl Caches {
         ensures holds { HoldsAsBefore self.now pass result.0 }
     {
         let CachesPass {
-            outlines,
+            regions,
             masks,
             composites,
         } = pass;
-        let (outlines, of_outlines) = self.outlines.totals(rt, outlines);
+        let (regions, of_regions) = self.regions.totals(rt, regions);
         let (masks, of_masks) = self.masks.totals(rt, masks);
         let (composites, of_composites) = self.composites.totals(rt, composites);
         (
             CachesPass {
-                outlines,
+                regions,
                 masks,
                 composites,
             },
-            [of_outlines, of_masks, of_composites],
+            [of_regions, of_masks, of_composites],
         )
     }
 
@@ -156,16 +156,16 @@ impl Caches {
         ensures composites { Adds equal_composites composite_meaning self.now.composites pass.composites result.composites (given_steps lease) }
         ensures own { is_pinned lease ≡ false → result.composites ≡ pass.composites }
         ensures masks { result.masks ≡ pass.masks }
-        ensures outlines { result.outlines ≡ pass.outlines }
+        ensures regions { result.regions ≡ pass.regions }
     {
         let CachesPass {
-            outlines,
+            regions,
             masks,
             composites,
         } = pass;
         let composites = give_back(&self.composites, rt, composites, lease);
         CachesPass {
-            outlines,
+            regions,
             masks,
             composites,
         }
@@ -174,38 +174,38 @@ impl Caches {
     /// A new pass. The first one comes back alone where no number is left.
     pub fn split(&self, pass: CachesPass) -> Result<(CachesPass, CachesPass), CachesPass>
         requires pass { IsPassOf self.now pass }
-        requires first { pass.outlines.first.number ≡ 0 }
+        requires first { pass.regions.first.number ≡ 0 }
         ensures passes { IfOk result (λ r. IsSplit self.now pass r.0 r.1) }
         ensures cells { IfOk result (λ r. IsPassOf self.now r.0 × IsPassOf self.now r.1) }
         ensures given { IfOk result (λ r. HasAllGivenBack self.now r.1) }
-        ensures room { OnOk result (pass.outlines.first.next < u32.MAX) }
-        ensures refused { IfErr result (λ p. (pass.outlines.first.next ≡ u32.MAX) × IsSamePass pass p) }
+        ensures room { OnOk result (pass.regions.first.next < u32.MAX) }
+        ensures refused { IfErr result (λ p. (pass.regions.first.next ≡ u32.MAX) × IsSamePass pass p) }
     {
         let CachesPass {
-            outlines,
+            regions,
             masks,
             composites,
         } = pass;
-        match self.outlines.split(outlines) {
+        match self.regions.split(regions) {
             Ok(two) => {
-                let (outlines, new_outlines) = two;
+                let (regions, new_regions) = two;
                 let (masks, new_masks) = split_with_room(&self.masks, masks);
                 let (composites, new_composites) = split_with_room(&self.composites, composites);
                 let first = CachesPass {
-                    outlines,
+                    regions,
                     masks,
                     composites,
                 };
                 let new = CachesPass {
-                    outlines: new_outlines,
+                    regions: new_regions,
                     masks: new_masks,
                     composites: new_composites,
                 };
                 Ok((first, new))
             }
-            Err(outlines) => {
+            Err(regions) => {
                 let pass = CachesPass {
-                    outlines,
+                    regions,
                     masks,
                     composites,
                 };
@@ -217,26 +217,26 @@ impl Caches {
     /// Spends the other pass, which holds no pin and has no claim open.
     pub fn join(&self, pass: CachesPass, other: CachesPass) -> CachesPass
         requires passes { IsPassOf self.now pass × IsPassOf self.now other }
-        requires first { pass.outlines.first.number ≡ 0 }
+        requires first { pass.regions.first.number ≡ 0 }
         requires given { HasAllGivenBack self.now other }
         ensures joined { AreJoined self.now pass other result }
         ensures pass { IsPassOf self.now result }
     {
         let CachesPass {
-            outlines,
+            regions,
             masks,
             composites,
         } = pass;
         let CachesPass {
-            outlines: other_outlines,
+            regions: other_regions,
             masks: other_masks,
             composites: other_composites,
         } = other;
-        let outlines = self.outlines.join(outlines, other_outlines);
+        let regions = self.regions.join(regions, other_regions);
         let masks = self.masks.join(masks, other_masks);
         let composites = self.composites.join(composites, other_composites);
         CachesPass {
-            outlines,
+            regions,
             masks,
             composites,
         }
@@ -245,20 +245,20 @@ impl Caches {
     /// Spends the last pass.
     pub fn close(self, pass: CachesPass)
         requires pass { IsPassOf self pass }
-        requires first { pass.outlines.first.number ≡ 0 }
+        requires first { pass.regions.first.number ≡ 0 }
     {
         let Caches {
             fonts: _,
-            outlines,
+            regions,
             masks,
             composites,
         } = self;
         let CachesPass {
-            outlines: outlines_pass,
+            regions: regions_pass,
             masks: masks_pass,
             composites: composites_pass,
         } = pass;
-        outlines.close(outlines_pass);
+        regions.close(regions_pass);
         masks.close(masks_pass);
         composites.close(composites_pass);
     }
@@ -271,10 +271,10 @@ impl Caches {
         ensures numbered { AreNumbered self.now }
         ensures nothing { HoldsNothingAgain self.now pass.now }
     {
-        self.outlines.proof_legal(&pass.outlines);
+        self.regions.proof_legal(&pass.regions);
         self.masks.proof_legal(&pass.masks);
         self.composites.proof_legal(&pass.composites);
-        self.outlines.proof_numbered();
+        self.regions.proof_numbered();
         self.masks.proof_numbered();
         self.composites.proof_numbered();
     }

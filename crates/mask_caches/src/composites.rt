@@ -86,7 +86,7 @@ fn give_all_back<R: Wait>(
 
 /// What is had of the masks of parts, and whether all were.
 struct Masks {
-    outlines: CachePass<RegionMade>,
+    regions: CachePass<RegionMade>,
     masks: CachePass<MaskMade>,
     leases: Vec<Lease<MaskMade>>,
     are_all: bool,
@@ -94,7 +94,7 @@ struct Masks {
 
 /// The passes of the three caches, of whatever numbers.
 struct Passes {
-    outlines: CachePass<RegionMade>,
+    regions: CachePass<RegionMade>,
     masks: CachePass<MaskMade>,
     composites: CachePass<CompositeMade>,
 }
@@ -105,38 +105,38 @@ impl Caches {
         &self,
         rt: &R,
         alloc: Global,
-        outlines: CachePass<RegionMade>,
+        regions: CachePass<RegionMade>,
         masks: CachePass<MaskMade>,
         parts: &[Part],
         leases: Vec<Lease<MaskMade>>,
         hook: &H,
     ) -> Masks
-        requires outlines { IsCacheOf self.now.outlines outlines }
+        requires regions { IsCacheOf self.now.regions regions }
         requires masks { IsCacheOf self.now.masks masks }
         requires parts { All (IsValidPart (glyph_counts (arc_value self.now.fonts).fonts)) parts.now }
         requires empty { leases.items ≡ [] }
         requires len { vec_len leases ≡ 0 }
         requires room { length parts.now ≤ vec_capacity leases }
         ensures visits { (visits : List MaskVisit) × AreVisited self.now parts.now visits result
-            × Adds equal_regions region_meaning self.now.outlines outlines result.outlines (region_steps_of self.now.outlines.tag visits)
+            × Adds equal_regions region_meaning self.now.regions regions result.regions (region_steps_of self.now.regions.tag visits)
             × Adds equal_masks mask_meaning self.now.masks masks result.masks (flat_map (mask_steps self.now.masks.tag) visits) }
-        ensures outlines { HoldsAsMuch equal_regions region_meaning self.now.outlines outlines result.outlines }
+        ensures regions { HoldsAsMuch equal_regions region_meaning self.now.regions regions result.regions }
         ensures holds { HoldsMore equal_masks mask_meaning self.now.masks masks result.masks (pinned_keys result.leases.items) }
     {
-        let mut outlines = outlines;
+        let mut regions = regions;
         let mut masks = masks;
         let mut leases = leases;
         for part in parts {
-            let (next_outlines, next_masks, had) = self.mask(
-                rt, alloc, outlines, masks, &part.mask, hook,
+            let (next_regions, next_masks, had) = self.mask(
+                rt, alloc, regions, masks, &part.mask, hook,
             );
-            outlines = next_outlines;
+            regions = next_regions;
             masks = next_masks;
             match had {
                 Ok(lease) => leases.push_reserved(lease),
                 Err(_) => {
                     return Masks {
-                        outlines,
+                        regions,
                         masks,
                         leases,
                         are_all: false,
@@ -145,7 +145,7 @@ impl Caches {
             }
         }
         Masks {
-            outlines,
+            regions,
             masks,
             leases,
             are_all: true,
@@ -157,19 +157,19 @@ impl Caches {
         &self,
         rt: &R,
         alloc: Global,
-        outlines: CachePass<RegionMade>,
+        regions: CachePass<RegionMade>,
         masks: CachePass<MaskMade>,
         key: &CompositeKey,
         hook: &H,
     ) -> (CachePass<RegionMade>, CachePass<MaskMade>, Mem<Arc<Mask>>)
-        requires outlines { IsCacheOf self.now.outlines outlines }
+        requires regions { IsCacheOf self.now.regions regions }
         requires masks { IsCacheOf self.now.masks masks }
         requires key { IsValidComposite (glyph_counts (arc_value self.now.fonts).fonts) key.now }
         ensures visits { (visits : List MaskVisit) × AreMaskVisits key.now.parts visits
-            × Adds equal_regions region_meaning self.now.outlines outlines result.0 (region_steps_of self.now.outlines.tag visits)
+            × Adds equal_regions region_meaning self.now.regions regions result.0 (region_steps_of self.now.regions.tag visits)
             × Adds equal_masks mask_meaning self.now.masks masks result.1 (mask_steps_of self.now.masks.tag visits)
             × OnOk result.2 (AreAllHad key.now.parts visits) }
-        ensures outlines { HoldsAsMuch equal_regions region_meaning self.now.outlines outlines result.0 }
+        ensures regions { HoldsAsMuch equal_regions region_meaning self.now.regions regions result.0 }
         ensures holds { HoldsAsMuch equal_masks mask_meaning self.now.masks masks result.1 }
         ensures value { IfOk result.2 (λ a. arc_value a ≡ composite_value (arc_value self.now.fonts).fonts key.now) }
     {
@@ -177,17 +177,17 @@ impl Caches {
         let mut leases = Vec::new(alloc);
         if leases.reserve(parts.len()).is_err() {
             leases.destroy_empty();
-            return (outlines, masks, Err(OutOfMemory));
+            return (regions, masks, Err(OutOfMemory));
         }
         let Masks {
-            outlines,
+            regions,
             masks,
             leases,
             are_all,
-        } = self.visit_masks(rt, alloc, outlines, masks, parts, leases, hook);
+        } = self.visit_masks(rt, alloc, regions, masks, parts, leases, hook);
         let made = composed(alloc, parts, &leases, are_all, hook);
         let masks = give_all_back(&self.masks, rt, masks, leases);
-        (outlines, masks, made)
+        (regions, masks, made)
     }
 
     /// What `composite` does, on the passes themselves.
@@ -199,7 +199,7 @@ impl Caches {
         key: &CompositeKey,
         hook: &H,
     ) -> (Passes, Mem<Lease<CompositeMade>>)
-        requires outlines { IsCacheOf self.now.outlines passes.outlines }
+        requires regions { IsCacheOf self.now.regions passes.regions }
         requires masks { IsCacheOf self.now.masks passes.masks }
         requires composites { IsCacheOf self.now.composites passes.composites }
         requires key { IsValidComposite (glyph_counts (arc_value self.now.fonts).fonts) key.now }
@@ -207,7 +207,7 @@ impl Caches {
         ensures holds { HoldsJustTheLease self.now (three passes) key.now (three result.0) result.1 }
     {
         let Passes {
-            outlines,
+            regions,
             masks,
             composites,
         } = passes;
@@ -215,19 +215,19 @@ impl Caches {
         match asked {
             Asked::Hit(pin) => {
                 let passes = Passes {
-                    outlines,
+                    regions,
                     masks,
                     composites,
                 };
                 (passes, Ok(Lease::Pinned(pin)))
             }
             Asked::Make(duty) => {
-                let (outlines, masks, made) = self.make_composite(
-                    rt, alloc, outlines, masks, key, hook,
+                let (regions, masks, made) = self.make_composite(
+                    rt, alloc, regions, masks, key, hook,
                 );
                 let (composites, had) = settle(&self.composites, rt, composites, duty, made);
                 let passes = Passes {
-                    outlines,
+                    regions,
                     masks,
                     composites,
                 };
@@ -235,7 +235,7 @@ impl Caches {
             }
             Asked::OutOfMemory => {
                 let passes = Passes {
-                    outlines,
+                    regions,
                     masks,
                     composites,
                 };
@@ -265,23 +265,23 @@ impl Caches {
         ensures held { IfOk result.1 (HoldsLease equal_composites composite_meaning self.now.composites result.0.composites) }
     {
         let CachesPass {
-            outlines,
+            regions,
             masks,
             composites,
         } = pass;
         let passes = Passes {
-            outlines,
+            regions,
             masks,
             composites,
         };
         let (passes, had) = self.visit_composite(rt, alloc, passes, key, hook);
         let Passes {
-            outlines,
+            regions,
             masks,
             composites,
         } = passes;
         let pass = CachesPass {
-            outlines,
+            regions,
             masks,
             composites,
         };

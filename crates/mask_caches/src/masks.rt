@@ -29,29 +29,29 @@ impl Caches {
         &self,
         rt: &R,
         alloc: Global,
-        outlines: CachePass<RegionMade>,
+        regions: CachePass<RegionMade>,
         key: &MaskKey,
         hook: &H,
     ) -> (CachePass<RegionMade>, Mem<Arc<Mask>>)
-        requires pass { IsCacheOf self.now.outlines outlines }
+        requires pass { IsCacheOf self.now.regions regions }
         requires key { IsValidMask (glyph_counts (arc_value self.now.fonts).fonts) key.now }
         ensures region { (visit : RegionVisit) × IsRegionVisit (region_key key.now) visit
-            × Adds equal_regions region_meaning self.now.outlines outlines result.0 (region_use_steps self.now.outlines.tag (region_key key.now) visit)
+            × Adds equal_regions region_meaning self.now.regions regions result.0 (region_use_steps self.now.regions.tag (region_key key.now) visit)
             × OnOk result.1 (has_value visit.course ≡ true) }
-        ensures holds { HoldsAsMuch equal_regions region_meaning self.now.outlines outlines result.0 }
+        ensures holds { HoldsAsMuch equal_regions region_meaning self.now.regions regions result.0 }
         ensures value { IfOk result.1 (λ a. arc_value a ≡ mask_value (arc_value self.now.fonts).fonts key.now) }
     {
         let Ok(region_key) = region_key_of(alloc, key) else {
-            return (outlines, Err(OutOfMemory));
+            return (regions, Err(OutOfMemory));
         };
-        let (outlines, had) = self.region(rt, alloc, outlines, &region_key, hook);
+        let (regions, had) = self.region(rt, alloc, regions, &region_key, hook);
         match had {
             Ok(lease) => {
                 hook.at(HookPoint::BeforeMake(ValueKind::Mask));
                 let made = mask_from(alloc, lease.value(), key);
-                (give_back(&self.outlines, rt, outlines, lease), made)
+                (give_back(&self.regions, rt, regions, lease), made)
             }
-            Err(refused) => (outlines, Err(refused)),
+            Err(refused) => (regions, Err(refused)),
         }
     }
 
@@ -60,7 +60,7 @@ impl Caches {
         &self,
         rt: &R,
         alloc: Global,
-        outlines: CachePass<RegionMade>,
+        regions: CachePass<RegionMade>,
         masks: CachePass<MaskMade>,
         key: &MaskKey,
         hook: &H,
@@ -69,25 +69,25 @@ impl Caches {
         CachePass<MaskMade>,
         Mem<Lease<MaskMade>>,
     )
-        requires outlines { IsCacheOf self.now.outlines outlines }
+        requires regions { IsCacheOf self.now.regions regions }
         requires masks { IsCacheOf self.now.masks masks }
         requires key { IsValidMask (glyph_counts (arc_value self.now.fonts).fonts) key.now }
         ensures visit { (visit : MaskVisit) × IsMaskVisit visit × (visit.key ≡ key.now)
-            × Adds equal_regions region_meaning self.now.outlines outlines result.0 (steps_of_its_region self.now.outlines.tag visit)
+            × Adds equal_regions region_meaning self.now.regions regions result.0 (steps_of_its_region self.now.regions.tag visit)
             × Adds equal_masks mask_meaning self.now.masks masks result.1 (mask_steps self.now.masks.tag visit)
             × IsHadBy mask_meaning self.now.masks.tag key.now visit.course result.2 }
-        ensures outlines { HoldsAsMuch equal_regions region_meaning self.now.outlines outlines result.0 }
+        ensures regions { HoldsAsMuch equal_regions region_meaning self.now.regions regions result.0 }
         ensures holds { HoldsTheLease equal_masks mask_meaning self.now.masks masks result.1 result.2 }
     {
         let (masks, asked) = ask(&self.masks, rt, alloc, masks, key);
         match asked {
-            Asked::Hit(pin) => (outlines, masks, Ok(Lease::Pinned(pin))),
+            Asked::Hit(pin) => (regions, masks, Ok(Lease::Pinned(pin))),
             Asked::Make(duty) => {
-                let (outlines, made) = self.make_mask(rt, alloc, outlines, key, hook);
+                let (regions, made) = self.make_mask(rt, alloc, regions, key, hook);
                 let (masks, had) = settle(&self.masks, rt, masks, duty, made);
-                (outlines, masks, had)
+                (regions, masks, had)
             }
-            Asked::OutOfMemory => (outlines, masks, Err(OutOfMemory)),
+            Asked::OutOfMemory => (regions, masks, Err(OutOfMemory)),
         }
     }
 }

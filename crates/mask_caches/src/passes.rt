@@ -6,8 +6,8 @@ use flight_cache::CachePass;
 
 /// The right to use the three caches: a pass of each.
 pub struct CachesPass {
-    pub(crate) outlines: CachePass<RegionMade>,
+    pub(crate) regions: CachePass<RegionMade>,
     pub(crate) masks: CachePass<MaskMade>,
     pub(crate) composites: CachePass<CompositeMade>,
-    ghost together: { AreTogether outlines masks composites },
+    ghost together: { AreTogether regions masks composites },
 }

@@ -52,7 +52,7 @@ impl Caches {
         ensures nothing { IfErr result.1 (λ refusal. GivesNothing pass.composites result.0.composites) }
         ensures holds { IfErr result.1 (λ refusal. HoldsAsMuch equal_composites composite_meaning self.now.composites pass.composites result.0.composites) }
         ensures masks { result.0.masks ≡ pass.masks }
-        ensures outlines { result.0.outlines ≡ pass.outlines }
+        ensures regions { result.0.regions ≡ pass.regions }
         ensures pass { IsPassOf self.now result.0 }
     {
         let mut leases = Vec::new(alloc);
@@ -61,14 +61,14 @@ impl Caches {
             return (pass, Err(PinRefusal::OutOfMemory));
         }
         let CachesPass {
-            outlines,
+            regions,
             masks,
             composites,
         } = pass;
         self.composites.proof_numbered();
         let (composites, tried) = self.composites.try_pin_all(alloc, composites, keys);
         let pass = CachesPass {
-            outlines,
+            regions,
             masks,
             composites,
         };

@@ -50,21 +50,21 @@ impl Caches {
         key: &RegionKey,
         hook: &H,
     ) -> (CachePass<RegionMade>, Mem<Lease<RegionMade>>)
-        requires pass { IsCacheOf self.now.outlines pass }
+        requires pass { IsCacheOf self.now.regions pass }
         requires key { IsValidRegion (glyph_counts (arc_value self.now.fonts).fonts) key.now }
         requires outline { is_widened key.now ≡ false }
         ensures visit { (course : Course)
-            × Adds equal_regions region_meaning self.now.outlines pass result.0 (course_steps region_meaning self.now.outlines.tag key.now course [])
-            × IsHadBy region_meaning self.now.outlines.tag key.now course result.1 }
-        ensures holds { HoldsTheLease equal_regions region_meaning self.now.outlines pass result.0 result.1 }
+            × Adds equal_regions region_meaning self.now.regions pass result.0 (course_steps region_meaning self.now.regions.tag key.now course [])
+            × IsHadBy region_meaning self.now.regions.tag key.now course result.1 }
+        ensures holds { HoldsTheLease equal_regions region_meaning self.now.regions pass result.0 result.1 }
     {
-        let (pass, asked) = ask(&self.outlines, rt, alloc, pass, key);
+        let (pass, asked) = ask(&self.regions, rt, alloc, pass, key);
         match asked {
             Asked::Hit(pin) => (pass, Ok(Lease::Pinned(pin))),
             Asked::Make(duty) => {
                 hook.at(HookPoint::BeforeMake(ValueKind::Outline));
                 let made = self.make_outline(alloc, key);
-                settle(&self.outlines, rt, pass, duty, made)
+                settle(&self.regions, rt, pass, duty, made)
             }
             Asked::OutOfMemory => (pass, Err(OutOfMemory)),
         }
@@ -79,12 +79,12 @@ impl Caches {
         key: &RegionKey,
         hook: &H,
     ) -> (CachePass<RegionMade>, Mem<Arc<Region>>)
-        requires pass { IsCacheOf self.now.outlines pass }
+        requires pass { IsCacheOf self.now.regions pass }
         requires key { IsValidRegion (glyph_counts (arc_value self.now.fonts).fonts) key.now }
         ensures outline { (course : Course)
-            × Adds equal_regions region_meaning self.now.outlines pass result.0 (use_steps region_meaning self.now.outlines.tag (unwidened key.now) course [])
+            × Adds equal_regions region_meaning self.now.regions pass result.0 (use_steps region_meaning self.now.regions.tag (unwidened key.now) course [])
             × OnOk result.1 (has_value course ≡ true) }
-        ensures holds { HoldsAsMuch equal_regions region_meaning self.now.outlines pass result.0 }
+        ensures holds { HoldsAsMuch equal_regions region_meaning self.now.regions pass result.0 }
         ensures value { IfOk result.1 (λ a. arc_value a ≡ region_value (arc_value self.now.fonts).fonts key.now) }
     {
         let Ok(outline) = unwidened(alloc, key) else {
@@ -95,7 +95,7 @@ impl Caches {
             Ok(lease) => {
                 hook.at(HookPoint::BeforeMake(ValueKind::Outline));
                 let made = border_from(alloc, lease.value(), key);
-                (give_back(&self.outlines, rt, pass, lease), made)
+                (give_back(&self.regions, rt, pass, lease), made)
             }
             Err(refused) => (pass, Err(refused)),
         }
@@ -110,20 +110,20 @@ impl Caches {
         key: &RegionKey,
         hook: &H,
     ) -> (CachePass<RegionMade>, Mem<Lease<RegionMade>>)
-        requires pass { IsCacheOf self.now.outlines pass }
+        requires pass { IsCacheOf self.now.regions pass }
         requires key { IsValidRegion (glyph_counts (arc_value self.now.fonts).fonts) key.now }
         requires widened { is_widened key.now ≡ true }
         ensures visit { (visit : RegionVisit) × IsRegionVisit key.now visit
-            × Adds equal_regions region_meaning self.now.outlines pass result.0 (region_steps self.now.outlines.tag key.now visit)
-            × IsHadBy region_meaning self.now.outlines.tag key.now visit.course result.1 }
-        ensures holds { HoldsTheLease equal_regions region_meaning self.now.outlines pass result.0 result.1 }
+            × Adds equal_regions region_meaning self.now.regions pass result.0 (region_steps self.now.regions.tag key.now visit)
+            × IsHadBy region_meaning self.now.regions.tag key.now visit.course result.1 }
+        ensures holds { HoldsTheLease equal_regions region_meaning self.now.regions pass result.0 result.1 }
     {
-        let (pass, asked) = ask(&self.outlines, rt, alloc, pass, key);
+        let (pass, asked) = ask(&self.regions, rt, alloc, pass, key);
         match asked {
             Asked::Hit(pin) => (pass, Ok(Lease::Pinned(pin))),
             Asked::Make(duty) => {
                 let (pass, made) = self.make_widened(rt, alloc, pass, key, hook);
-                settle(&self.outlines, rt, pass, duty, made)
+                settle(&self.regions, rt, pass, duty, made)
             }
             Asked::OutOfMemory => (pass, Err(OutOfMemory)),
         }
@@ -138,12 +138,12 @@ impl Caches {
         key: &RegionKey,
         hook: &H,
     ) -> (CachePass<RegionMade>, Mem<Lease<RegionMade>>)
-        requires pass { IsCacheOf self.now.outlines pass }
+        requires pass { IsCacheOf self.now.regions pass }
         requires key { IsValidRegion (glyph_counts (arc_value self.now.fonts).fonts) key.now }
         ensures visit { (visit : RegionVisit) × IsRegionVisit key.now visit
-            × Adds equal_regions region_meaning self.now.outlines pass result.0 (region_steps self.now.outlines.tag key.now visit)
-            × IsHadBy region_meaning self.now.outlines.tag key.now visit.course result.1 }
-        ensures holds { HoldsTheLease equal_regions region_meaning self.now.outlines pass result.0 result.1 }
+            × Adds equal_regions region_meaning self.now.regions pass result.0 (region_steps self.now.regions.tag key.now visit)
+            × IsHadBy region_meaning self.now.regions.tag key.now visit.course result.1 }
+        ensures holds { HoldsTheLease equal_regions region_meaning self.now.regions pass result.0 result.1 }
     {
         if is_widened(key) {
             self.widened(rt, alloc, pass, key, hook)

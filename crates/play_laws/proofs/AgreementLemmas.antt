@@ -11,6 +11,7 @@ use Rattle.ass_script.specs.Scripts.{ScriptValue}
 use Rattle.bdf_font.specs.Fonts.{FontValue}
 use Rattle.blend.specs.Canvases.{CanvasValue}
 use Rattle.picture_laws.specs.OnePicture.{HaveOnePicture}
+use Rattle.frame_view.specs.FrameViews.{plain_frame}
 use Rattle.picture_plan.specs.Pictures.{IsPictureAt}
 use Rattle.run_status.specs.Laws.{IsReadDecided}
 use Rattle.play_command.proofs.RunLemmas.{reading_one}
@@ -34,13 +35,13 @@ Law = (script : ScriptValue) (fonts : List FontValue) → IsScript script → Ha
 -- The bytes are the image of what all events of a script show.
 abbrev pub IsAt : ScriptValue → List FontValue → Size → ℤ → ℕ → List ℕ → Type 0
 IsAt script fonts size t q bytes =
-    (canvas : CanvasValue) × IsPictureAt script fonts (line_events script) t size canvas
+    (canvas : CanvasValue) × IsPictureAt script fonts (line_events script) t (plain_frame size) canvas
     × (bytes ≡ image_bytes size.w size.h canvas.bytes t (q * (length (line_events script) + 1) + length (line_events script)))
 
 pub one_image : Law → (script : ScriptValue) (fonts : List FontValue) (size : Size) (t : ℤ) (q : ℕ) (x y : List ℕ) → IsScript script → IsAt script fonts size t q x → IsAt script fonts size t q y → x ≡ y
 one_image law script fonts size t q x y sound a b =
     a.2
-    ∙ ap (λ (c : CanvasValue). image_bytes size.w size.h c.bytes t (q * (length (line_events script) + 1) + length (line_events script))) (law script fonts sound (line_events script) t size a.0 b.0 a.1 b.1)
+    ∙ ap (λ (c : CanvasValue). image_bytes size.w size.h c.bytes t (q * (length (line_events script) + 1) + length (line_events script))) (law script fonts sound (line_events script) t (plain_frame size) a.0 b.0 a.1 b.1)
     ∙ sym b.2
 
 pub at_place : (play : PlayView) (q i : ℕ) (bytes : List ℕ) → IsSettledImage play q i bytes → IsAt play.script play.fonts play.job.size (play_instant play.job i) q bytes

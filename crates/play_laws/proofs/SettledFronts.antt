@@ -7,6 +7,7 @@ use Rattle.std.proofs.lemmas.Nat.{div-add-mod', mod_below}
 use Rattle.std.proofs.Math.Nat.{lt_of_mul-lt-mul_right}
 use Rattle.std.proofs.Math.Seq.{take-append_seam}
 use Rattle.ass_events.specs.Histories.{Entry, live}
+use Rattle.frame_view.specs.FrameViews.{plain_frame}
 use Rattle.picture_plan.proofs.DrawLaws.{pictures_of_a_set}
 use Rattle.play_laws.proofs.AgreementLemmas.{Law, at_place, moved, one_image, positive, same_count, same_frames}
 use Rattle.play_laws.specs.Agreement.{PlayAlike}
@@ -54,7 +55,7 @@ module _ (play : PlayView) (playable : IsPlayable play) (settled : play.job.mode
   settled_at : IsSettledImage play q i piece
   settled_at = record {
     canvas = of_all.canvas;
-    is_picture = pictures_of_a_set play.script play.fonts (live until) (line_events play.script) (play_instant play.job i) play.job.size of_all.canvas
+    is_picture = pictures_of_a_set play.script play.fonts (live until) (line_events play.script) (play_instant play.job i) (plain_frame play.job.size) of_all.canvas
         (whole_time play own.old own.time some own.dead own.holds) of_all.is_picture;
     value = of_all.value ∙ ap (image_bytes play.job.size.w play.job.size.h of_all.canvas.bytes (play_instant play.job i)) (until_long ∙ ap (λ n. q * (n + 1) + n) (good_is play some));
   }

@@ -3,6 +3,7 @@ use Rattle.std.specs.Prelude.{◌≡◌, ℕ, ◌≤◌, ℤ, List, ◌++◌, le
 use Rattle.std.specs.List.{flat_map}
 use Rattle.ass_events.specs.Histories.{Entry, live}
 use Rattle.blend.specs.Canvases.{CanvasValue}
+use Rattle.frame_view.specs.FrameViews.{plain_frame}
 use Rattle.picture_plan.specs.Pictures.{IsPictureAt}
 use Rattle.play_laws.specs.Agreement.{PlayAlike}
 use Rattle.play_model.specs.Outputs.{AreImages, IsFrontOfPlay, IsShownPlay}
@@ -29,7 +30,7 @@ FrontsGoOn = (play : PlayView) (bytes : List ℕ) → IsFrontOfPlay play bytes �
 abbrev pub HavePictures : PlayView → Type 0
 HavePictures play =
     (times : List (List Entry)) (n : ℕ) (t : ℤ) → All (IsTimeOf play) times
-    → (canvas : CanvasValue) × IsPictureAt play.script play.fonts (live (take n (history_of_times times))) t play.job.size canvas
+    → (canvas : CanvasValue) × IsPictureAt play.script play.fonts (live (take n (history_of_times times))) t (plain_frame play.job.size) canvas
 
 -- So where there are pictures, what was written is a prefix of the bytes of a whole play.
 abbrev pub FrontsAreOfPlays : Type 0

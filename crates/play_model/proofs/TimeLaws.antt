@@ -5,6 +5,7 @@ use Rattle.std.specs.List.{All, slice_index_or}
 use Rattle.std.proofs.lemmas.List.Elements.{All-head, All-tail}
 use Rattle.std.proofs.lemmas.Nat.{mul-le}
 use Rattle.ass_events.specs.Histories.{Entry, Flush, live}
+use Rattle.frame_view.specs.FrameViews.{plain_frame}
 use Rattle.picture_plan.proofs.DrawLaws.{pictures_of_a_set}
 use Rattle.play_shares.specs.Instants.{instant_count, play_instant}
 use Rattle.run_words.specs.declared.job.Mode.{Mode}
@@ -100,7 +101,7 @@ module _ (play : PlayView) (times : List (List Entry)) (bytes : List ℕ) (playa
     pub settled_image : IsSettledImage play q i piece
     settled_image = record {
       canvas = own_image.canvas;
-      is_picture = pictures_of_a_set play.script play.fonts (live (here.old ++ here.time)) (line_events play.script) (play_instant play.job i) play.job.size own_image.canvas
+      is_picture = pictures_of_a_set play.script play.fonts (live (here.old ++ here.time)) (line_events play.script) (play_instant play.job i) (plain_frame play.job.size) own_image.canvas
           (whole_time play here.old here.time some here.dead here.holds) own_image.is_picture;
       value = own_image.value ∙ ap (image_bytes play.job.size.w play.job.size.h own_image.canvas.bytes (play_instant play.job i)) entries;
     }

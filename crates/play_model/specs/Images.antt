@@ -5,6 +5,7 @@ use Rattle.blend.specs.Canvases.{CanvasValue}
 use Rattle.mask_keys.specs.declared.plans.Clip.{Clip}
 use Rattle.mask_keys.specs.declared.plans.Clip.TheVariants.{Free, Rect, Drawn}
 use Rattle.mask_keys.specs.declared.plans.Draw.{Draw}
+use Rattle.frame_view.specs.FrameViews.{plain_frame}
 use Rattle.picture_plan.specs.Pictures.{IsPictureAt}
 use Rattle.play_shares.specs.Instants.{play_instant}
 use Rattle.run_words.specs.declared.job.Mode.{Mode}
@@ -16,7 +17,7 @@ use Rattle.play_model.specs.Plays.{PlayView, good_before, good_count}
 -- The bytes are the image of what a history shows at t; its comment counts the history's entries.
 pub record IsImageOf (play : PlayView) (history : List Entry) (t : ℤ) (bytes : List ℕ) : Type 0 where
   pub canvas : CanvasValue
-  pub is_picture : IsPictureAt play.script play.fonts (live history) t play.job.size canvas
+  pub is_picture : IsPictureAt play.script play.fonts (live history) t (plain_frame play.job.size) canvas
   pub value : bytes ≡ image_bytes play.job.size.w play.job.size.h canvas.bytes t (length history)
 
 -- how many entries stand before those of time q
@@ -74,5 +75,5 @@ all_masks images = sum_by (λ image. image.masks) images
 -- The bytes are the image of what all events of the script show at the instant of place i, with the comment of time q. There is one picture of these events.
 pub record IsSettledImage (play : PlayView) (q i : ℕ) (bytes : List ℕ) : Type 0 where
   pub canvas : CanvasValue
-  pub is_picture : IsPictureAt play.script play.fonts (line_events play.script) (play_instant play.job i) play.job.size canvas
+  pub is_picture : IsPictureAt play.script play.fonts (line_events play.script) (play_instant play.job i) (plain_frame play.job.size) canvas
   pub value : bytes ≡ image_bytes play.job.size.w play.job.size.h canvas.bytes (play_instant play.job i) (q * (length (line_events play.script) + 1) + length (line_events play.script))

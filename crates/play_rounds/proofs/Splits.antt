@@ -94,7 +94,7 @@ module _ {K T : Type 0} where
 pub renders_none : (renderer : RendererView) (first : RenderView) (passes : ℕ → RenderView) → AreRendersSplit renderer first 0 passes first
 renders_none renderer first passes = record {
   track = none_split first.track (λ i. (passes i).track);
-  outlines = caches_none_split first.caches.outlines (λ i. (passes i).caches.outlines);
+  regions = caches_none_split first.caches.regions (λ i. (passes i).caches.regions);
   masks = caches_none_split first.caches.masks (λ i. (passes i).caches.masks);
   composites = caches_none_split first.caches.composites (λ i. (passes i).caches.composites);
   each_of = λ i lt. absurd (omega arith);
@@ -106,8 +106,8 @@ pub renders_more : (renderer : RendererView) (first now kept new : RenderView) (
 renders_more renderer first now kept new count passes so_far split named =
     let caches = renderer.caches in record {
       track = split_more first.track now.track kept.track new.track count (λ i. (passes i).track) so_far.track split.track.first_is split.track.new_is (ap (λ (p : RenderView). p.track) named);
-      outlines = caches_split_more region_meaning caches.outlines first.caches.outlines now.caches.outlines kept.caches.outlines new.caches.outlines count (λ i. (passes i).caches.outlines)
-          so_far.outlines split.caches.outlines (ap (λ (p : RenderView). p.caches.outlines) named);
+      regions = caches_split_more region_meaning caches.regions first.caches.regions now.caches.regions kept.caches.regions new.caches.regions count (λ i. (passes i).caches.regions)
+          so_far.regions split.caches.regions (ap (λ (p : RenderView). p.caches.regions) named);
       masks = caches_split_more mask_meaning caches.masks first.caches.masks now.caches.masks kept.caches.masks new.caches.masks count (λ i. (passes i).caches.masks)
           so_far.masks split.caches.masks (ap (λ (p : RenderView). p.caches.masks) named);
       composites = caches_split_more composite_meaning caches.composites first.caches.composites now.caches.composites kept.caches.composites new.caches.composites count (λ i. (passes i).caches.composites)
@@ -123,7 +123,7 @@ renders_more renderer first now kept new count passes so_far split named =
 pub joins_none : (renderer : RendererView) (first : RenderView) (passes : ℕ → RenderView) → ExtendsItself first → AreRendersJoined renderer first 0 passes first
 joins_none renderer first passes itself = record {
   track = none_joined first.track (λ i. (passes i).track) itself.track;
-  outlines = caches_none_joined first.caches.outlines (λ i. (passes i).caches.outlines) itself.outlines;
+  regions = caches_none_joined first.caches.regions (λ i. (passes i).caches.regions) itself.regions;
   masks = caches_none_joined first.caches.masks (λ i. (passes i).caches.masks) itself.masks;
   composites = caches_none_joined first.caches.composites (λ i. (passes i).caches.composites) itself.composites;
   nothing = λ i lt. absurd (omega arith);
@@ -135,8 +135,8 @@ joins_more renderer first now pass after count passes so_far join nothing named 
     let caches = renderer.caches in record {
       track = joined_step first.track now.track pass.track after.track count (λ i. (passes i).track) so_far.track (ap (λ (p : RenderView). p.track) named)
           join.track.is join.track.begins join.track.begins_other join.track.own join.track.itself;
-      outlines = caches_join_more region_meaning caches.outlines first.caches.outlines now.caches.outlines pass.caches.outlines after.caches.outlines count (λ i. (passes i).caches.outlines)
-          so_far.outlines join.caches.outlines (ap (λ (p : RenderView). p.caches.outlines) named);
+      regions = caches_join_more region_meaning caches.regions first.caches.regions now.caches.regions pass.caches.regions after.caches.regions count (λ i. (passes i).caches.regions)
+          so_far.regions join.caches.regions (ap (λ (p : RenderView). p.caches.regions) named);
       masks = caches_join_more mask_meaning caches.masks first.caches.masks now.caches.masks pass.caches.masks after.caches.masks count (λ i. (passes i).caches.masks)
           so_far.masks join.caches.masks (ap (λ (p : RenderView). p.caches.masks) named);
       composites = caches_join_more composite_meaning caches.composites first.caches.composites now.caches.composites pass.caches.composites after.caches.composites count (λ i. (passes i).caches.composites)

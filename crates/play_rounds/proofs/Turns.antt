@@ -40,7 +40,7 @@ module _ (renderer : RendererView) (first after : RenderView) (entry : Option En
     some = let next = turn.turn.follows.next in let some = home.some in omega (arith, next, some);
     itself = TakesTurn_itself first.track after.track turn.given home.number home.some turn.turn;
     whole = whole_follows first.track after.track (entry_list turn.given) home.whole turn.turn.follows;
-    outlines = subst (λ (p : CachesPass). IsCacheHome equal_regions region_meaning renderer.caches.outlines p.outlines) (sym caches) home.outlines;
+    regions = subst (λ (p : CachesPass). IsCacheHome equal_regions region_meaning renderer.caches.regions p.regions) (sym caches) home.regions;
     masks = subst (λ (p : CachesPass). IsCacheHome equal_masks mask_meaning renderer.caches.masks p.masks) (sym caches) home.masks;
     composites = subst (λ (p : CachesPass). IsCacheHome equal_composites composite_meaning renderer.caches.composites p.composites) (sym caches) home.composites;
   }
@@ -54,14 +54,14 @@ home_new renderer first budget new =
       some = let next : first.track.next ≡ 1 = ap (λ (p : TrackView). p.next) is in omega (arith, next);
       itself = first_itself renderer.track first.track is;
       whole = whole_first renderer.track first.track is;
-      outlines = cache_new equal_regions region_meaning renderer.caches.outlines first.caches.outlines budget new.caches.outlines;
+      regions = cache_new equal_regions region_meaning renderer.caches.regions first.caches.regions budget new.caches.regions;
       masks = cache_new equal_masks mask_meaning renderer.caches.masks first.caches.masks budget new.caches.masks;
       composites = cache_new equal_composites composite_meaning renderer.caches.composites first.caches.composites budget new.caches.composites;
     }
 
 -- turns of the shards that gave nothing, at which the totals were read
 module _ (renderer : RendererView) (first after : RenderView) (home : IsHome renderer first) (is_of : IsPassOfRenderer renderer after) (track : after.track ≡ first.track)
-    (outlines : EachGives equal_regions region_meaning renderer.caches.outlines.shards first.caches.outlines after.caches.outlines (λ n. []))
+    (regions : EachGives equal_regions region_meaning renderer.caches.regions.shards first.caches.regions after.caches.regions (λ n. []))
     (masks : EachGives equal_masks mask_meaning renderer.caches.masks.shards first.caches.masks after.caches.masks (λ n. []))
     (composites : EachGives equal_composites composite_meaning renderer.caches.composites.shards first.caches.composites after.caches.composites (λ n. [])) where
   pub home_read : IsHome renderer after
@@ -71,14 +71,14 @@ module _ (renderer : RendererView) (first after : RenderView) (home : IsHome ren
     some = subst (λ (p : TrackView). 0 < p.next) (sym track) home.some;
     itself = subst (λ (p : TrackView). Extends p p.seen) (sym track) home.itself;
     whole = subst (λ (p : TrackView). IsWholePass p) (sym track) home.whole;
-    outlines = cache_turn equal_regions region_meaning renderer.caches.outlines first.caches.outlines after.caches.outlines outlines home.outlines;
+    regions = cache_turn equal_regions region_meaning renderer.caches.regions first.caches.regions after.caches.regions regions home.regions;
     masks = cache_turn equal_masks mask_meaning renderer.caches.masks first.caches.masks after.caches.masks masks home.masks;
     composites = cache_turn equal_composites composite_meaning renderer.caches.composites first.caches.composites after.caches.composites composites home.composites;
   }
 
   pub known : AreLegal renderer.caches after.caches
   known = record {
-    outlines = record { first = outlines.first.legal; second = outlines.second.legal; third = outlines.third.legal; fourth = outlines.fourth.legal };
+    regions = record { first = regions.first.legal; second = regions.second.legal; third = regions.third.legal; fourth = regions.fourth.legal };
     masks = record { first = masks.first.legal; second = masks.second.legal; third = masks.third.legal; fourth = masks.fourth.legal };
     composites = record { first = composites.first.legal; second = composites.second.legal; third = composites.third.legal; fourth = composites.fourth.legal };
   }
@@ -86,7 +86,7 @@ module _ (renderer : RendererView) (first after : RenderView) (home : IsHome ren
   -- each claim was filled or failed, and what was evicted had been filled
   pub totals_balance : All IsAccounted (all_totals renderer.caches after.caches)
   totals_balance = three_balance renderer.caches after.caches known record {
-    outlines = λ n. (home_read.outlines n).given;
+    regions = λ n. (home_read.regions n).given;
     masks = λ n. (home_read.masks n).given;
     composites = λ n. (home_read.composites n).given;
   }

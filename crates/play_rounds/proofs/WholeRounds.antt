@@ -77,7 +77,7 @@ module _ (stage : PlayStage) (round : ℕ) (first split : RenderView) (handed wo
   pub split_itself : IsHome stage.renderer first → ExtendsItself split
   split_itself home = record {
     track = subst (λ (p : TrackView). Extends p p.seen) (sym begun_split.track.first_is) (extends_later first.track count home.itself);
-    outlines = caches_itself_later first.caches.outlines split.caches.outlines count (λ i. (begun i).caches.outlines) begun_split.outlines (λ n. (home.outlines n).itself);
+    regions = caches_itself_later first.caches.regions split.caches.regions count (λ i. (begun i).caches.regions) begun_split.regions (λ n. (home.regions n).itself);
     masks = caches_itself_later first.caches.masks split.caches.masks count (λ i. (begun i).caches.masks) begun_split.masks (λ n. (home.masks n).itself);
     composites = caches_itself_later first.caches.composites split.caches.composites count (λ i. (begun i).caches.composites) begun_split.composites (λ n. (home.composites n).itself);
   }
@@ -165,8 +165,8 @@ module _ (stage : PlayStage) (round : ℕ) (first : RenderView) (workers : List 
     some = let next = joined_track.next in let some = home.some in omega (arith, next, some);
     itself = joined_track.itself;
     whole = news.3;
-    outlines = cache_home equal_regions region_meaning caches.outlines first.caches.outlines one.split.caches.outlines after.caches.outlines (length workers) (λ i. (one.begun i).caches.outlines) (λ i. (one.passes i).caches.outlines)
-        home.outlines one.are_split.outlines one.joined.outlines (λ i lt. (one.done i nobody lt).later.outlines) (λ i lt. (one.joined.nothing i lt).outlines);
+    regions = cache_home equal_regions region_meaning caches.regions first.caches.regions one.split.caches.regions after.caches.regions (length workers) (λ i. (one.begun i).caches.regions) (λ i. (one.passes i).caches.regions)
+        home.regions one.are_split.regions one.joined.regions (λ i lt. (one.done i nobody lt).later.regions) (λ i lt. (one.joined.nothing i lt).regions);
     masks = cache_home equal_masks mask_meaning caches.masks first.caches.masks one.split.caches.masks after.caches.masks (length workers) (λ i. (one.begun i).caches.masks) (λ i. (one.passes i).caches.masks)
         home.masks one.are_split.masks one.joined.masks (λ i lt. (one.done i nobody lt).later.masks) (λ i lt. (one.joined.nothing i lt).masks);
     composites = cache_home equal_composites composite_meaning caches.composites first.caches.composites one.split.caches.composites after.caches.composites (length workers) (λ i. (one.begun i).caches.composites) (λ i. (one.passes i).caches.composites)

@@ -45,7 +45,7 @@ module _ {K V T : Type 0} (eq : K → K → Bool) (meaning : Meaning K V T) wher
 -- The first pass of a renderer after so many passes were split off it, which hold nothing.
 pub record AreRendersSplit (renderer : RendererView) (before : RenderView) (count : ℕ) (passes : ℕ → RenderView) (after : RenderView) : Type 0 where
   pub track : ArePassesSplit before.track count (λ i. (passes i).track) after.track
-  pub outlines : AreCachePassesSplit before.caches.outlines count (λ i. (passes i).caches.outlines) after.caches.outlines
+  pub regions : AreCachePassesSplit before.caches.regions count (λ i. (passes i).caches.regions) after.caches.regions
   pub masks : AreCachePassesSplit before.caches.masks count (λ i. (passes i).caches.masks) after.caches.masks
   pub composites : AreCachePassesSplit before.caches.composites count (λ i. (passes i).caches.composites) after.caches.composites
   pub each_of : (i : ℕ) → i < count → IsPassOfRenderer renderer (passes i)
@@ -54,7 +54,7 @@ pub record AreRendersSplit (renderer : RendererView) (before : RenderView) (coun
 -- The first pass of a renderer after it took in so many passes, which held nothing.
 pub record AreRendersJoined (renderer : RendererView) (before : RenderView) (count : ℕ) (passes : ℕ → RenderView) (after : RenderView) : Type 0 where
   pub track : ArePassesJoined before.track count (λ i. (passes i).track) after.track
-  pub outlines : AreCachePassesJoined before.caches.outlines count (λ i. (passes i).caches.outlines) after.caches.outlines
+  pub regions : AreCachePassesJoined before.caches.regions count (λ i. (passes i).caches.regions) after.caches.regions
   pub masks : AreCachePassesJoined before.caches.masks count (λ i. (passes i).caches.masks) after.caches.masks
   pub composites : AreCachePassesJoined before.caches.composites count (λ i. (passes i).caches.composites) after.caches.composites
   pub nothing : (i : ℕ) → i < count → HoldsNothing renderer (passes i)
@@ -62,7 +62,7 @@ pub record AreRendersJoined (renderer : RendererView) (before : RenderView) (cou
 -- What the pass has seen of the track and of each shard goes on from what it knows.
 pub record ExtendsItself (pass : RenderView) : Type 0 where
   pub track : Extends pass.track pass.track.seen
-  pub outlines : EachExtendsItself pass.caches.outlines
+  pub regions : EachExtendsItself pass.caches.regions
   pub masks : EachExtendsItself pass.caches.masks
   pub composites : EachExtendsItself pass.caches.composites
 
@@ -73,7 +73,7 @@ pub record IsHome (renderer : RendererView) (first : RenderView) : Type 0 where
   pub some : 0 < first.track.next
   pub itself : Extends first.track first.track.seen
   pub whole : IsWholePass first.track
-  pub outlines : IsCacheHome equal_regions region_meaning renderer.caches.outlines first.caches.outlines
+  pub regions : IsCacheHome equal_regions region_meaning renderer.caches.regions first.caches.regions
   pub masks : IsCacheHome equal_masks mask_meaning renderer.caches.masks first.caches.masks
   pub composites : IsCacheHome equal_composites composite_meaning renderer.caches.composites first.caches.composites
 

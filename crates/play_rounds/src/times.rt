@@ -90,7 +90,13 @@ fn play_once<R: Threads + Wait + Sync, F: Sink, H: TestHook + Sync>(
 }
 
 /// Drops what earlier times fed, where there was one.
-fn begin_time<R: Wait>(rt: &R, stage: &PlayStage, time: u32, first: RenderPass) -> RenderPass
+fn begin_time<R: Wait>(
+    rt: &R,
+    alloc: Global,
+    stage: &PlayStage,
+    time: u32,
+    first: RenderPass,
+) -> RenderPass
     requires stage { IsPlayStage stage.now }
     requires time { time < max_times }
     requires home { IsHome stage.now.renderer first }
@@ -102,7 +108,7 @@ fn begin_time<R: Wait>(rt: &R, stage: &PlayStage, time: u32, first: RenderPass) 
     if time == 0 {
         return first;
     }
-    let (first, _) = stage.renderer.flush(rt, first);
+    let (first, _) = stage.renderer.flush(rt, alloc, first);
     first
 }
 
@@ -130,7 +136,7 @@ fn one_time<R: Threads + Wait + Sync, F: Sink, H: TestHook + Sync>(
         (λ bytes. IsCutOff stop (instant_count stage.now.job) bytes (F.held frames.old) (F.held frames.new) (F.faults frames.old) (F.faults frames.new)
         (F.puts frames.old) (F.puts frames.new))) }
 {
-    let first = begin_time(rt, stage, time, first);
+    let first = begin_time(rt, alloc, stage, time, first);
     let (first, played) = play_once(rt, alloc, stage, first, frames, hook);
     let repeated = match played {
         Ok(repeated) => repeated,

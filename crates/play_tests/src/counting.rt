@@ -6,7 +6,7 @@ use test_hook::{HookPoint, TestHook, ValueKind};
 /// How many values of each kind threads began to make.
 #[derive(Drop)]
 pub struct Makings {
-    outlines: AtomicU64,
+    regions: AtomicU64,
     masks: AtomicU64,
     composites: AtomicU64,
 }
@@ -15,16 +15,16 @@ impl Makings {
     /// Nothing was begun yet.
     pub fn new() -> Makings {
         Makings {
-            outlines: AtomicU64::new(0),
+            regions: AtomicU64::new(0),
             masks: AtomicU64::new(0),
             composites: AtomicU64::new(0),
         }
     }
 
-    /// The counts of outlines, of masks and of composites.
+    /// The counts of regions, of masks and of composites.
     pub fn counts(&self) -> [u64; 3] {
         [
-            self.outlines.load(Ordering::SeqCst),
+            self.regions.load(Ordering::SeqCst),
             self.masks.load(Ordering::SeqCst),
             self.composites.load(Ordering::SeqCst),
         ]
@@ -34,7 +34,7 @@ impl Makings {
 impl TestHook for Makings {
     fn at(&self, point: HookPoint) {
         let count = match point {
-            HookPoint::BeforeMake(ValueKind::Outline) => &self.outlines,
+            HookPoint::BeforeMake(ValueKind::Outline) => &self.regions,
             HookPoint::BeforeMake(ValueKind::Mask) => &self.masks,
             HookPoint::BeforeMake(ValueKind::Composite) => &self.composites,
             _ => return,

@@ -32,41 +32,41 @@ later_same pass after same = subst (IsLater pass) (sym same) (later_none pass)
 
 pub caches_same : (pass after : CachesPass) → after ≡ pass → AreLater pass after
 caches_same pass after same = subst (AreLater pass) (sym same) record {
-  outlines = later_none pass.outlines;
+  regions = later_none pass.regions;
   masks = later_none pass.masks;
   composites = later_none pass.composites;
 }
 
 pub caches_then : (pass mid after : CachesPass) → AreLater pass mid → AreLater mid after → AreLater pass after
 caches_then pass mid after one two = record {
-  outlines = later_is_later pass.outlines mid.outlines after.outlines one.outlines two.outlines;
+  regions = later_is_later pass.regions mid.regions after.regions one.regions two.regions;
   masks = later_is_later pass.masks mid.masks after.masks one.masks two.masks;
   composites = later_is_later pass.composites mid.composites after.composites one.composites two.composites;
 }
 
 -- the other two caches are as they were
-composites_later : (pass after : CachesPass) → after.masks ≡ pass.masks → after.outlines ≡ pass.outlines → IsLater pass.composites after.composites → AreLater pass after
-composites_later pass after masks outlines later = record {
-  outlines = later_same pass.outlines after.outlines outlines;
+composites_later : (pass after : CachesPass) → after.masks ≡ pass.masks → after.regions ≡ pass.regions → IsLater pass.composites after.composites → AreLater pass after
+composites_later pass after masks regions later = record {
+  regions = later_same pass.regions after.regions regions;
   masks = later_same pass.masks after.masks masks;
   composites = later;
 }
 
 pub nothing_later : (renderer : RendererView) (pass after : CachesPass) → AddsNothing renderer pass after → AreLater pass after
-nothing_later renderer pass after h = composites_later pass after h.others.masks h.others.outlines
+nothing_later renderer pass after h = composites_later pass after h.others.masks h.others.regions
     record { first = ([], h.nothing.first); second = ([], h.nothing.second); third = ([], h.nothing.third); fourth = ([], h.nothing.fourth) }
 
 visits_later : (caches : Caches) (pass after : CachesPass) (visits : List KeyVisit) (given : List (Step CompositeKey MaskValue)) → AddsVisits caches pass after visits given → AreLater pass after
-visits_later caches pass after visits given adds = record { outlines = adds.outlines.later; masks = adds.masks.later; composites = adds.composites.later }
+visits_later caches pass after visits given adds = record { regions = adds.regions.later; masks = adds.masks.later; composites = adds.composites.later }
 
 warming_later : (caches : Caches) (pass after : CachesPass) (visits : List KeyVisit) → AddsWarming caches pass after visits → AreLater pass after
-warming_later caches pass after visits adds = record { outlines = adds.outlines.later; masks = adds.masks.later; composites = adds.composites.later }
+warming_later caches pass after visits adds = record { regions = adds.regions.later; masks = adds.masks.later; composites = adds.composites.later }
 
 -- ---- calls of a renderer
 
 tried_later : (renderer : RendererView) (pass after : RenderView) (t : ℤ) (size : Size) (frame : Frame) → IsTriedFrame renderer pass after t size frame → AreLater pass.caches after.caches
 tried_later renderer pass after t size frame h =
-    composites_later pass.caches after.caches h.others.masks h.others.outlines (pinned_later equal_composites composite_meaning renderer.caches.composites pass.caches.composites after.caches.composites _ h.pinned.pins h.pinned.pinned)
+    composites_later pass.caches after.caches h.others.masks h.others.regions (pinned_later equal_composites composite_meaning renderer.caches.composites pass.caches.composites after.caches.composites _ h.pinned.pins h.pinned.pinned)
 
 rendered_later : {E : Type 0} (renderer : RendererView) (pass after : RenderView) (t : ℤ) (size : Size) (answer : Result Frame E) → IsRendered renderer pass after t size answer → AreLater pass.caches after.caches
 rendered_later renderer pass after t size (Ok frame) h = visits_later renderer.caches pass.caches after.caches h.leased.visits [] h.leased.adds
@@ -87,8 +87,8 @@ soon_later {E} renderer pass after t size (Ok frame) h = ⊎_elim (λ tried. tri
 soon_later {E} renderer pass after t size (Err wanting) h = ⊎_elim (λ none. nothing_later renderer pass.caches after.caches none.nothing) (λ then. then_later {E = E} renderer pass after t size (Err wanting) then) h
 
 pub released_later : (renderer : RendererView) (pass after : RenderView) (steps : List (Step CompositeKey MaskValue)) → Adds equal_composites composite_meaning renderer.caches.composites pass.caches.composites after.caches.composites steps
-    → after.caches.masks ≡ pass.caches.masks → after.caches.outlines ≡ pass.caches.outlines → AreLater pass.caches after.caches
-released_later renderer pass after steps adds masks outlines = composites_later pass.caches after.caches masks outlines adds.later
+    → after.caches.masks ≡ pass.caches.masks → after.caches.regions ≡ pass.caches.regions → AreLater pass.caches after.caches
+released_later renderer pass after steps adds masks regions = composites_later pass.caches after.caches masks regions adds.later
 
 pub warmed_later : {E : Type 0} (renderer : RendererView) (pass after : RenderView) (instants : List ℤ) (size : Size) (answer : Result ℕ E) → IsWarmed renderer pass after instants size answer → AreLater pass.caches after.caches
 warmed_later renderer pass after instants size (Ok count) h = warming_later renderer.caches pass.caches after.caches _ h.2.warmed.adds
@@ -96,7 +96,7 @@ warmed_later renderer pass after instants size (Err refused) h = cold h
   where
     cold : IsColdAt renderer pass after instants size → AreLater pass.caches after.caches
     cold (Unplanned none) = record {
-      outlines = later_same pass.caches.outlines after.caches.outlines none.caches.outlines;
+      regions = later_same pass.caches.regions after.caches.regions none.caches.regions;
       masks = later_same pass.caches.masks after.caches.masks none.caches.masks;
       composites = later_same pass.caches.composites after.caches.composites none.caches.composites;
     }

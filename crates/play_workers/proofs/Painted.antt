@@ -11,6 +11,7 @@ use Rattle.renderer.specs.ShownFrames.{canvas_of, image_shown}
 use Rattle.renderer.specs.declared.frames.Frame.{Frame}
 use Rattle.mask_caches.specs.Caches.{HoldsAsBefore}
 use Rattle.mask_keys.specs.Pictures.{picture}
+use Rattle.frame_view.specs.FrameViews.{plain_frame}
 use Rattle.picture_plan.specs.Pictures.{AreDraws}
 use Rattle.ppm_text.specs.Images.{image_bytes}
 use Rattle.renderer.specs.Frames.{IsFrameOf}
@@ -66,7 +67,7 @@ module _ (play : PlayView) (script : ScriptValue) (same : script ≡ play.script
       canvas = canvas_of frame;
       is_picture = record {
         draws = is.draws;
-        are_draws = subst (λ (s : ScriptValue). AreDraws s play.fonts (live history) t play.job.size is.draws) same is.are_draws;
+        are_draws = subst (λ (s : ScriptValue). AreDraws s play.fonts (live history) t (plain_frame play.job.size) is.draws) same is.are_draws;
         value = canvas-picture play.fonts is.draws frame is.images ∙ ap (λ (s : Size). picture play.fonts s is.draws) is.size_is;
       };
       value = written ∙ ap (λ p. image_bytes frame.size.w frame.size.h p frame.t frame.n) (shown ∙ ap (λ (c : CanvasValue). c.bytes) painted)

@@ -11,6 +11,7 @@ use Rattle.bdf_font.specs.Fonts.{FontValue}
 use Rattle.mask_keys.specs.declared.plans.Draw.{Draw}
 use Rattle.mask_keys.specs.declared.plans.Plan.{Plan}
 use Rattle.mask_caches.specs.declared.passes.CachesPass.{CachesPass}
+use Rattle.frame_view.specs.FrameViews.{plain_frame}
 use Rattle.picture_plan.specs.Pictures.{AreDraws}
 use Rattle.picture_plan.proofs.DrawLaws.{draws_of_near_events}
 use Rattle.track_history.specs.Answers.{IsSceneOf}
@@ -42,9 +43,9 @@ module _ (history : List Entry) (t : ℤ) (scene : Scene) (h : IsSceneOf history
   scene-orders legal = near_orders history (map arc_value scene.events) t legal h.events
 
   -- what is near draws what is live
-  pub scene-plan : {E : Type 0} (script : ScriptValue) (fonts : List FontValue) (size : Size) (planned : Result Plan E) → IfOk planned (λ plan. AreDraws script fonts (map arc_value scene.events) t size plan.draws)
-      → IfOk planned (λ plan. AreDraws script fonts (live history) t size plan.draws)
-  scene-plan script fonts size (Ok plan) are = (draws_of_near_events script fonts (live history) (map arc_value scene.events) t size plan.draws h.events).0 are
+  pub scene-plan : {E : Type 0} (script : ScriptValue) (fonts : List FontValue) (size : Size) (planned : Result Plan E) → IfOk planned (λ plan. AreDraws script fonts (map arc_value scene.events) t (plain_frame size) plan.draws)
+      → IfOk planned (λ plan. AreDraws script fonts (live history) t (plain_frame size) plan.draws)
+  scene-plan script fonts size (Ok plan) are = (draws_of_near_events script fonts (live history) (map arc_value scene.events) t (plain_frame size) plan.draws h.events).0 are
   scene-plan script fonts size (Err refused) are = tt
 
 -- the same scene, at the instant that it has
@@ -55,7 +56,7 @@ scene-itself history t scene h = subst (λ (s : ℤ). IsSceneOf history s scene)
 
 -- what is had of the draws of events, or what a out of memory leaves
 pub lent-images : {E : Type 0} (renderer : RendererView) (old new : CachesPass) (events : List Event) (t : ℤ) (size : Size) (draws : List Draw) (had : Result (List FrameImage) E) (fonts : List FontValue)
-    → AreDraws renderer.script renderer.fonts events t size draws → fonts ≡ renderer.fonts
+    → AreDraws renderer.script renderer.fonts events t (plain_frame size) draws → fonts ≡ renderer.fonts
     → IfOk had (λ images. IsLent renderer.caches old new (plan_keys draws) (leases_of images)) → OnErr had (IsUnlent renderer.caches old new (plan_keys draws))
     → IfOk had (λ images. map image_shown images ≡ map (image_of_draw fonts) draws) → AreImagesLent renderer old new events t size had
 lent-images renderer old new events t size draws (Ok images) fonts are same lent unlent shown = record {

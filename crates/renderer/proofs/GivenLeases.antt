@@ -23,7 +23,7 @@ pub record GivesLeases (caches : Caches) (p q : CachesPass) (leases : List MaskL
   pub composites : Adds equal_composites composite_meaning caches.composites p.composites q.composites (all_given_steps leases)
   pub fewer : HoldsFewer equal_composites composite_meaning caches.composites p.composites q.composites (pinned_keys leases)
   pub masks : q.masks ≡ p.masks
-  pub outlines : q.outlines ≡ p.outlines
+  pub regions : q.regions ≡ p.regions
 
 module _ (caches : Caches) where
   pub gives-none : (p : CachesPass) → GivesLeases caches p p []
@@ -31,20 +31,20 @@ module _ (caches : Caches) where
     composites = adds-none equal_composites composite_meaning caches.composites p.composites;
     fewer = fewer-none equal_composites composite_meaning caches.composites p.composites;
     masks = refl;
-    outlines = refl;
+    regions = refl;
   }
 
   given-one : (lease : MaskLease) → all_given_steps (lease ∷ []) ≡ given_steps lease
   given-one lease = append-nil (given_steps lease)
 
-  pub gives-one : (p q : CachesPass) (lease : MaskLease) → Adds equal_composites composite_meaning caches.composites p.composites q.composites (given_steps lease) → q.masks ≡ p.masks → q.outlines ≡ p.outlines
+  pub gives-one : (p q : CachesPass) (lease : MaskLease) → Adds equal_composites composite_meaning caches.composites p.composites q.composites (given_steps lease) → q.masks ≡ p.masks → q.regions ≡ p.regions
       → GivesLeases caches p q (lease ∷ [])
-  gives-one p q lease gives masks outlines = record {
+  gives-one p q lease gives masks regions = record {
     composites = subst (λ (l : List (Step CompositeKey MaskValue)). Adds equal_composites composite_meaning caches.composites p.composites q.composites l) (sym (given-one lease)) gives;
     fewer = subst (λ (l : List CompositeKey). HoldsFewer equal_composites composite_meaning caches.composites p.composites q.composites l) (sym (append-nil (pinned_key lease)))
         (given-fewer equal_composites composite_meaning caches.composites p.composites q.composites lease gives);
     masks = masks;
-    outlines = outlines;
+    regions = regions;
   }
 
   -- the later ones first
@@ -55,14 +55,14 @@ module _ (caches : Caches) where
     fewer = subst (λ (l : List CompositeKey). HoldsFewer equal_composites composite_meaning caches.composites p.composites r.composites l) (sym (pinned-append front back))
         (fewer-then equal_composites composite_meaning caches.composites p.composites q.composites r.composites (pinned_keys front) (pinned_keys back) f.fewer g.fewer);
     masks = g.masks ∙ f.masks;
-    outlines = g.outlines ∙ f.outlines;
+    regions = g.regions ∙ f.regions;
   }
 
   pub gives-fewer : (p q : CachesPass) (leases : List MaskLease) → GivesLeases caches p q leases → HoldsLeasesFewer caches p q leases
   gives-fewer p q leases f = record {
     composites = f.fewer;
     masks = rw f.masks (much-itself equal_masks mask_meaning caches.masks p.masks);
-    outlines = rw f.outlines (much-itself equal_regions region_meaning caches.outlines p.outlines);
+    regions = rw f.regions (much-itself equal_regions region_meaning caches.regions p.regions);
   }
 
   -- of leases that are held the last ones are, and once they are given back the first ones still are

@@ -17,14 +17,14 @@ module _ (caches : Caches) where
 
   pub leases-given : (p q r : CachesPass) (leases : List MaskLease) → HoldsLeasesMore caches p q leases → HoldsLeasesFewer caches q r leases → HoldsAsBefore caches p r
   leases-given p q r leases f g = record {
-    outlines = much-then equal_regions region_meaning caches.outlines p.outlines q.outlines r.outlines f.outlines g.outlines;
+    regions = much-then equal_regions region_meaning caches.regions p.regions q.regions r.regions f.regions g.regions;
     masks = much-then equal_masks mask_meaning caches.masks p.masks q.masks r.masks f.masks g.masks;
     composites = more-fewer equal_composites composite_meaning caches.composites p.composites q.composites r.composites (pinned_keys leases) f.composites g.composites;
   }
 
   pub nothing-again : (p q : CachesPass) → HasAllGivenBack caches p → HoldsAsBefore caches p q → AreNumbered caches → AreLegal caches q → HasAllGivenBack caches q
   nothing-again p q before same numbered legal = record {
-    outlines = given-again equal_regions region_same region_meaning caches.outlines p.outlines q.outlines before.outlines same.outlines numbered.outlines legal.outlines;
+    regions = given-again equal_regions region_same region_meaning caches.regions p.regions q.regions before.regions same.regions numbered.regions legal.regions;
     masks = given-again equal_masks mask_same mask_meaning caches.masks p.masks q.masks before.masks same.masks numbered.masks legal.masks;
     composites = given-again equal_composites composite_same composite_meaning caches.composites p.composites q.composites before.composites same.composites numbered.composites legal.composites;
   }

@@ -168,7 +168,7 @@ module _ (caches : Caches) where
   adds-no-visit p = record {
     composites = adds-none equal_composites composite_meaning caches.composites p.composites;
     masks = adds-none equal_masks mask_meaning caches.masks p.masks;
-    outlines = adds-none equal_regions region_meaning caches.outlines p.outlines;
+    regions = adds-none equal_regions region_meaning caches.regions p.regions;
   }
 
   adds-visits : (p q r : CachesPass) (visits later : List KeyVisit) (given : List (Step CompositeKey MaskValue)) → AddsVisits caches p q visits [] → AddsVisits caches q r later given → AddsVisits caches p r (visits ++ later) given
@@ -182,18 +182,18 @@ module _ (caches : Caches) where
             (adds-then equal_composites composite_meaning caches.composites p.composites q.composites r.composites (visit_steps tag visits ++ []) (visit_steps tag later ++ given) f.composites g.composites);
         masks = subst (λ (l : List (Step MaskKey MaskValue)). Adds equal_masks mask_meaning caches.masks p.masks r.masks l) (sym (flat_map-append (λ (v : KeyVisit). steps_of_its_masks caches.masks.tag v.visit) visits later))
             (adds-then equal_masks mask_meaning caches.masks p.masks q.masks r.masks (visit_mask_steps caches.masks.tag visits) (visit_mask_steps caches.masks.tag later) f.masks g.masks);
-        outlines = subst (λ (l : List (Step RegionKey RegionValue)). Adds equal_regions region_meaning caches.outlines p.outlines r.outlines l) (sym (flat_map-append (λ (v : KeyVisit). steps_of_its_regions caches.outlines.tag v.visit) visits later))
-            (adds-then equal_regions region_meaning caches.outlines p.outlines q.outlines r.outlines (visit_region_steps caches.outlines.tag visits) (visit_region_steps caches.outlines.tag later) f.outlines g.outlines);
+        regions = subst (λ (l : List (Step RegionKey RegionValue)). Adds equal_regions region_meaning caches.regions p.regions r.regions l) (sym (flat_map-append (λ (v : KeyVisit). steps_of_its_regions caches.regions.tag v.visit) visits later))
+            (adds-then equal_regions region_meaning caches.regions p.regions q.regions r.regions (visit_region_steps caches.regions.tag visits) (visit_region_steps caches.regions.tag later) f.regions g.regions);
       }
 
   -- some composed masks are given back after them
-  adds-given : (p q r : CachesPass) (visits : List KeyVisit) (given more : List (Step CompositeKey MaskValue)) → AddsVisits caches p q visits given → Adds equal_composites composite_meaning caches.composites q.composites r.composites more → r.masks ≡ q.masks → r.outlines ≡ q.outlines
+  adds-given : (p q r : CachesPass) (visits : List KeyVisit) (given more : List (Step CompositeKey MaskValue)) → AddsVisits caches p q visits given → Adds equal_composites composite_meaning caches.composites q.composites r.composites more → r.masks ≡ q.masks → r.regions ≡ q.regions
       → AddsVisits caches p r visits (given ++ more)
-  adds-given p q r visits given more f g masks outlines = record {
+  adds-given p q r visits given more f g masks regions = record {
     composites = subst (λ (l : List (Step CompositeKey MaskValue)). Adds equal_composites composite_meaning caches.composites p.composites r.composites l) (append_assoc (visit_steps caches.composites.tag visits) given more)
         (adds-then equal_composites composite_meaning caches.composites p.composites q.composites r.composites (visit_steps caches.composites.tag visits ++ given) more f.composites g);
     masks = rw masks f.masks;
-    outlines = rw outlines f.outlines;
+    regions = rw regions f.regions;
   }
 
   -- ---- one key
@@ -204,13 +204,13 @@ module _ (caches : Caches) where
   adds-one : (p q : CachesPass) (key : CompositeKey) (visit : CompositeVisit)
       → Adds equal_composites composite_meaning caches.composites p.composites q.composites (composite_steps caches.composites.tag key visit)
       → Adds equal_masks mask_meaning caches.masks p.masks q.masks (steps_of_its_masks caches.masks.tag visit)
-      → Adds equal_regions region_meaning caches.outlines p.outlines q.outlines (steps_of_its_regions caches.outlines.tag visit)
+      → Adds equal_regions region_meaning caches.regions p.regions q.regions (steps_of_its_regions caches.regions.tag visit)
       → AddsVisits caches p q (one_visit key visit) []
-  adds-one p q key visit composites masks outlines = record {
+  adds-one p q key visit composites masks regions = record {
     composites = subst (λ (l : List (Step CompositeKey MaskValue)). Adds equal_composites composite_meaning caches.composites p.composites q.composites l)
         (sym (append-nil (composite_steps caches.composites.tag key visit ++ []) ∙ append-nil (composite_steps caches.composites.tag key visit))) composites;
     masks = subst (λ (l : List (Step MaskKey MaskValue)). Adds equal_masks mask_meaning caches.masks p.masks q.masks l) (sym (append-nil (steps_of_its_masks caches.masks.tag visit))) masks;
-    outlines = subst (λ (l : List (Step RegionKey RegionValue)). Adds equal_regions region_meaning caches.outlines p.outlines q.outlines l) (sym (append-nil (steps_of_its_regions caches.outlines.tag visit))) outlines;
+    regions = subst (λ (l : List (Step RegionKey RegionValue)). Adds equal_regions region_meaning caches.regions p.regions q.regions l) (sym (append-nil (steps_of_its_regions caches.regions.tag visit))) regions;
   }
 
   visit-one : (key : CompositeKey) (visit : CompositeVisit) → IsCompositeVisit key visit → AreKeyVisits (key ∷ []) (one_visit key visit)
@@ -228,7 +228,7 @@ module _ (caches : Caches) where
       as_many = refl;
       had = All-cons IsHad (record { key = key; visit = h.visit }) [] (lease-has-value caches.composites.tag key h.visit.course lease h.had_by) (All-nil IsHad);
     };
-    adds = adds-one p q key h.visit h.composites h.masks h.outlines;
+    adds = adds-one p q key h.visit h.composites h.masks h.regions;
     are = (h.had_by, tt);
   }
 
@@ -245,7 +245,7 @@ module _ (caches : Caches) where
     visits = one_visit key h.visit;
     are_visits = visit-one key h.visit h.is_visit;
     adds = subst (λ (l : List (Step CompositeKey MaskValue)). AddsVisits caches p q (one_visit key h.visit) l) (sym (append-nil (unpin_steps composite_meaning caches.composites.tag key h.visit.course) ∙ unpins-none key h.visit.course h.had_by))
-        (adds-one p q key h.visit h.composites h.masks h.outlines);
+        (adds-one p q key h.visit h.composites h.masks h.regions);
   }
 
   -- ---- several keys
@@ -275,7 +275,7 @@ module _ (caches : Caches) where
     are_visits = visits-then keys more f.visits g.visits f.all g.are_visits;
     adds = subst (λ (l : List (Step CompositeKey MaskValue)). AddsVisits caches p s (f.visits ++ g.visits) l)
         (ap (λ (l : List (Step CompositeKey MaskValue)). visit_unpins caches.composites.tag g.visits ++ l) (given-of-leases caches.composites.tag f.visits leases f.are) ∙ sym (unpins-then caches.composites.tag f.visits g.visits))
-        (adds-given p r s (f.visits ++ g.visits) (visit_unpins caches.composites.tag g.visits) (all_given_steps leases) (adds-visits p q r f.visits g.visits (visit_unpins caches.composites.tag g.visits) f.adds g.adds) back.composites back.masks back.outlines);
+        (adds-given p r s (f.visits ++ g.visits) (visit_unpins caches.composites.tag g.visits) (all_given_steps leases) (adds-visits p q r f.visits g.visits (visit_unpins caches.composites.tag g.visits) f.adds g.adds) back.composites back.masks back.regions);
   }
 
   unleased-front : (p q : CachesPass) (keys more : List CompositeKey) → AreUnleased caches p q keys → AreUnleased caches p q (keys ++ more)
@@ -301,7 +301,7 @@ module _ (caches : Caches) where
     holds = record {
       composites = more-none equal_composites composite_meaning caches.composites p.composites;
       masks = much-itself equal_masks mask_meaning caches.masks p.masks;
-      outlines = much-itself equal_regions region_meaning caches.outlines p.outlines;
+      regions = much-itself equal_regions region_meaning caches.regions p.regions;
     };
   }
 
@@ -310,7 +310,7 @@ module _ (caches : Caches) where
   lent-one {E} p q key lease of h holds = record {
     of = of;
     leased = leased-one {E = E} p q key lease h;
-    holds = record { composites = held-one {E = E} p q lease holds.composites; masks = holds.masks; outlines = holds.outlines };
+    holds = record { composites = held-one {E = E} p q lease holds.composites; masks = holds.masks; regions = holds.regions };
   }
 
   unlent-one : {E : Type 0} (p q : CachesPass) (key : CompositeKey) (refused : E) → IsPassOf caches q → IsComposed {M = CompositeMade} caches (three_of p) key (three_of q) (Err refused)
@@ -318,7 +318,7 @@ module _ (caches : Caches) where
   unlent-one {E} p q key refused of h holds = record {
     of = of;
     unleased = unleased-one p q key refused h;
-    holds = record { outlines = holds.outlines; masks = holds.masks; composites = held-none p q refused holds.composites };
+    holds = record { regions = holds.regions; masks = holds.masks; composites = held-none p q refused holds.composites };
   }
 
   -- what is had of a key, and what a out of memory leaves
@@ -340,7 +340,7 @@ module _ (caches : Caches) where
       composites = subst (λ (l : List CompositeKey). HoldsMore equal_composites composite_meaning caches.composites p.composites r.composites l) (sym (pinned-append leases later))
           (more-then equal_composites composite_meaning caches.composites p.composites q.composites r.composites (pinned_keys leases) (pinned_keys later) f.holds.composites g.holds.composites);
       masks = much-then equal_masks mask_meaning caches.masks p.masks q.masks r.masks f.holds.masks g.holds.masks;
-      outlines = much-then equal_regions region_meaning caches.outlines p.outlines q.outlines r.outlines f.holds.outlines g.holds.outlines;
+      regions = much-then equal_regions region_meaning caches.regions p.regions q.regions r.regions f.holds.regions g.holds.regions;
     };
   }
 
@@ -349,7 +349,7 @@ module _ (caches : Caches) where
   still-more p q r leases f g = record {
     composites = more-much equal_composites composite_meaning caches.composites p.composites q.composites r.composites (pinned_keys leases) f.composites g.composites;
     masks = much-then equal_masks mask_meaning caches.masks p.masks q.masks r.masks f.masks g.masks;
-    outlines = much-then equal_regions region_meaning caches.outlines p.outlines q.outlines r.outlines f.outlines g.outlines;
+    regions = much-then equal_regions region_meaning caches.regions p.regions q.regions r.regions f.regions g.regions;
   }
 
   pub lent-held : (p q r : CachesPass) (keys more : List CompositeKey) (leases : List MaskLease) → IsLent caches p q keys leases → IsUnlent caches q r more → HoldsLeases caches r leases

@@ -6,6 +6,7 @@ use Rattle.ass_num.specs.declared.size.Size.{Size}
 use Rattle.ass_script.specs.Scripts.{ScriptValue}
 use Rattle.bdf_font.specs.Fonts.{FontValue}
 use Rattle.mask_keys.specs.Pictures.{picture}
+use Rattle.frame_view.specs.FrameViews.{plain_frame}
 use Rattle.picture_plan.specs.Pictures.{IsPictureAt}
 use Rattle.turn_cell.specs.History.{entries_of, entry_list}
 use Rattle.turn_cell.specs.Passes.{Follows, mine}
@@ -21,7 +22,7 @@ use Rattle.renderer.specs.declared.frames.Frame.{Frame}
 use Rattle.track_history.proofs.LawLemmas.{none_given}
 
 pub frame-picture : (script : ScriptValue) (fonts : List FontValue) (history : List Entry) (t : ℤ) (size : Size) (frame : Frame) → IsFrameOf script fonts history t size frame
-    → IsPictureAt script fonts (live history) t size (canvas_of frame)
+    → IsPictureAt script fonts (live history) t (plain_frame size) (canvas_of frame)
 frame-picture script fonts history t size frame f = record {
   draws = f.draws;
   are_draws = f.are_draws;

@@ -26,7 +26,7 @@ track-of renderer pass old new caches given of is f =
 pub turn-of : (renderer : RendererView) (old new : TrackView) (entry : Option Entry) → IsOf renderer.track old → IsTurn old new entry → IsOf renderer.track new
 turn-of renderer old new entry of turn = let gives = turn_follows old new entry turn in IsOf-Follows renderer.track old new gives.0 of gives.2
 
-pub caches-together : (track : TrackView) (old new : CachesPass) → GoTogether (pass_of track old) → IsLater old.outlines new.outlines → GoTogether (pass_of track new)
+pub caches-together : (track : TrackView) (old new : CachesPass) → GoTogether (pass_of track old) → IsLater old.regions new.regions → GoTogether (pass_of track new)
 caches-together track old new g later =
     let f = later.first.1 in
     record { number = f.number ∙ g.number; next = f.next ∙ g.next }

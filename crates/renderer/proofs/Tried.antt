@@ -1,5 +1,5 @@
 -- What a call that tries for a frame gives.
-use Rattle.std.proofs.Common.{◌≡◌, ℤ, ◌+◌, List, [], ◌∷◌, length, map, None, Result, Ok, Err, IsErrAnd, MatchResult, refl, sym, ap, ◌∙◌, subst, arith}
+use Rattle.std.proofs.Common.{◌≡◌, ℤ, ◌+◌, List, [], ◌∷◌, length, map, None, Result, Ok, Err, IsErrAnd, MatchResult, inl, inr, refl, sym, ap, ◌∙◌, subst, arith}
 use Rattle.std.specs.Arc.{arc_value}
 use Rattle.std.proofs.lemmas.List.{length-map}
 use Rattle.ass_events.specs.Histories.{live}
@@ -27,6 +27,7 @@ use Rattle.mask_caches.specs.declared.lease.Lease.TheVariants.{Pinned}
 use Rattle.mask_caches.specs.declared.passes.CachesPass.{CachesPass}
 use Rattle.mask_caches.proofs.Holding.{much-itself}
 use Rattle.mask_caches.proofs.Pinned.{nothing-much}
+use Rattle.frame_view.specs.FrameViews.{plain_frame}
 use Rattle.picture_plan.specs.Pictures.{AreDraws}
 use Rattle.turn_cell.specs.Passes.{Follows, IsOf}
 use Rattle.turn_cell.proofs.Passes.{Follows_same, Follows_tries, IsOf-Follows}
@@ -45,7 +46,7 @@ use Rattle.renderer.specs.Holding.{HoldsFrameMore, HoldsLeasesMore, HoldsTheSame
 use Rattle.renderer.specs.OneHistory.{ShowsOneHistory}
 use Rattle.renderer.specs.Passes.{IsPassOfRenderer, RendererView}
 use Rattle.renderer.specs.declared.trying.TryRefusal.{TryRefusal}
-use Rattle.renderer.specs.Trying.{AddsNothing, AreDrawsPinned, AreImagesRefused, AreImagesTried, IsTried, IsTriedFrame, LeavesOthers, look_refusal, pin_refusal}
+use Rattle.renderer.specs.Trying.{AddsNothing, AreDrawsPinned, AreImagesRefused, AreImagesTried, AreImagesWanting, IsTried, IsTriedFrame, LeavesOthers, look_refusal, pin_refusal}
 use Rattle.renderer.proofs.Framed.{IsFrameGiven}
 use Rattle.renderer.proofs.Pictures.{frame-history}
 use Rattle.renderer.proofs.Together.{pass_of}
@@ -80,7 +81,7 @@ module _ (caches : Caches) (old new : CachesPass) (keys : List CompositeKey) (le
     composites = subst (λ (l : List CompositeKey). HoldsMore equal_composites composite_meaning caches.composites old.composites new.composites l)
         (sym (ap pinned_keys h.are ∙ (keys-of-pins h.pins ∙ h.pinned.keys_are))) h.holds;
     masks = rw others.masks (much-itself equal_masks mask_meaning caches.masks old.masks);
-    outlines = rw others.outlines (much-itself equal_regions region_meaning caches.outlines old.outlines);
+    regions = rw others.regions (much-itself equal_regions region_meaning caches.regions old.regions);
   }
 
 -- ---- nothing added
@@ -89,20 +90,24 @@ pub nothing-itself : (renderer : RendererView) (p : CachesPass) → IsPassOf ren
 nothing-itself renderer p of = record {
   of = of;
   nothing = record { first = Follows_same p.composites.first; second = Follows_same p.composites.second; third = Follows_same p.composites.third; fourth = Follows_same p.composites.fourth };
-  others = record { masks = refl; outlines = refl };
+  others = record { masks = refl; regions = refl };
 }
 
 pub nothing-holds : (renderer : RendererView) (old new : CachesPass) → AddsNothing renderer old new → HoldsAsBefore renderer.caches old new
 nothing-holds renderer old new h = record {
-  outlines = rw h.others.outlines (much-itself equal_regions region_meaning renderer.caches.outlines old.outlines);
+  regions = rw h.others.regions (much-itself equal_regions region_meaning renderer.caches.regions old.regions);
   masks = rw h.others.masks (much-itself equal_masks mask_meaning renderer.caches.masks old.masks);
   composites = nothing-much equal_composites composite_meaning renderer.caches.composites old.composites new.composites h.nothing;
 }
 
+-- memory ran out before any turn of a shard
+pub wanting-itself : (renderer : RendererView) (p : CachesPass) (events : List Event) (t : ℤ) (size : Size) → IsPassOf renderer.caches p → AreImagesWanting renderer p p events t size
+wanting-itself renderer p events t size of = record { nothing = nothing-itself renderer p of; cause = inl refl }
+
 -- ---- images
 
 module _ (renderer : RendererView) (old new : CachesPass) (events : List Event) (t : ℤ) (size : Size) where
-  module _ (draws : List Draw) (are : AreDraws renderer.script renderer.fonts events t size draws) (of : IsPassOf renderer.caches new) (masks : new.masks ≡ old.masks) (outlines : new.outlines ≡ old.outlines) where
+  module _ (draws : List Draw) (are : AreDraws renderer.script renderer.fonts events t (plain_frame size) draws) (of : IsPassOf renderer.caches new) (masks : new.masks ≡ old.masks) (regions : new.regions ≡ old.regions) where
     pub pinned-images : (images : List FrameImage) (leases : List MaskLease) → leases_of images ≡ leases
         → ArePinned equal_composites composite_meaning renderer.caches.composites old.composites (plan_keys draws) new.composites leases
         → map image_shown images ≡ map (image_of_draw renderer.fonts) draws → AreDrawsPinned renderer old new events t size images
@@ -112,21 +117,23 @@ module _ (renderer : RendererView) (old new : CachesPass) (events : List Event) 
       shown = shown;
       of = of;
       pinned = subst (λ (l : List MaskLease). ArePinned equal_composites composite_meaning renderer.caches.composites old.composites (plan_keys draws) new.composites l) (sym same) pinned;
-      others = record { masks = masks; outlines = outlines };
+      others = record { masks = masks; regions = regions };
     }
 
     pub refused-images : (refusal : PinRefusal) → IsRefused equal_composites composite_meaning renderer.caches.composites old.composites (plan_keys draws) new.composites refusal → GivesNothing old.composites new.composites
         → AreImagesRefused renderer old new events t size refusal
-    refused-images refused.TurnOut is nothing = record { draws = draws; are_draws = are; refused = is; nothing = record { of = of; nothing = nothing; others = record { masks = masks; outlines = outlines } } }
-    refused-images (refused.NotReady place) is nothing = record { draws = draws; are_draws = are; refused = is; nothing = record { of = of; nothing = nothing; others = record { masks = masks; outlines = outlines } } }
-    refused-images (refused.PinsFull place) is nothing = record { draws = draws; are_draws = are; refused = is; nothing = record { of = of; nothing = nothing; others = record { masks = masks; outlines = outlines } } }
-    refused-images refused.OutOfMemory is nothing = record { of = of; nothing = nothing; others = record { masks = masks; outlines = outlines } }
+    refused-images refused.TurnOut is nothing = record { draws = draws; are_draws = are; refused = is; nothing = record { of = of; nothing = nothing; others = record { masks = masks; regions = regions } } }
+    refused-images (refused.NotReady place) is nothing = record { draws = draws; are_draws = are; refused = is; nothing = record { of = of; nothing = nothing; others = record { masks = masks; regions = regions } } }
+    refused-images (refused.PinsFull place) is nothing = record { draws = draws; are_draws = are; refused = is; nothing = record { of = of; nothing = nothing; others = record { masks = masks; regions = regions } } }
+    refused-images refused.OutOfMemory is nothing =
+        let added : AddsNothing renderer old new = record { of = of; nothing = nothing; others = record { masks = masks; regions = regions } } in
+        record { nothing = added; cause = inr (record { draws = draws; are_draws = are; refused = is; nothing = added }) }
 
   refused-nothing : (refusal : PinRefusal) → AreImagesRefused renderer old new events t size refusal → AddsNothing renderer old new
   refused-nothing refused.TurnOut h = h.nothing
   refused-nothing (refused.NotReady place) h = h.nothing
   refused-nothing (refused.PinsFull place) h = h.nothing
-  refused-nothing refused.OutOfMemory h = h
+  refused-nothing refused.OutOfMemory h = h.nothing
 
 -- ---- passes
 
@@ -173,7 +180,7 @@ module _ (renderer : RendererView) (track later : TrackView) (old new : CachesPa
   pins-tried refused.TurnOut turn h = record { turn = turn; refused = h }
   pins-tried (refused.NotReady place) turn h = record { turn = turn; refused = h }
   pins-tried (refused.PinsFull place) turn h = record { turn = turn; refused = h }
-  pins-tried refused.OutOfMemory turn h = record { turn = turn; nothing = h }
+  pins-tried refused.OutOfMemory turn h = record { turn = turn; nothing = h.nothing; cause = h.cause }
 
   pub pins-refused : (refusal : PinRefusal) → IsTurn track later None → AreImagesRefused renderer old new (live (history_of later.seen)) t size refusal → IsTryRefused (pin_refusal refusal)
   pins-refused refusal turn h =
@@ -200,7 +207,7 @@ module _ (renderer : RendererView) (track later : TrackView) (old new : CachesPa
 module _ (renderer : RendererView) (track later : TrackView) (caches : CachesPass) (t : ℤ) (size : Size) (of : IsPassOfRenderer renderer (pass_of track caches)) where
   look-tried : (refusal : LookRefusal) → IsTriedLook track t later (Err refusal) → IsTried renderer (pass_of track caches) (pass_of later caches) t size (Err (look_refusal refusal))
   look-tried look.TurnOut h = record { track = h; caches = refl }
-  look-tried look.OutOfMemory h = record { turn = h; nothing = nothing-itself renderer caches of.caches }
+  look-tried look.OutOfMemory h = record { turn = h; nothing = nothing-itself renderer caches of.caches; cause = inl refl }
 
   pub look-refused : (refusal : LookRefusal) → IsTriedLook track t later (Err refusal) → IsTryRefused renderer track later caches caches t size of (look_refusal refusal)
   look-refused refusal h =

@@ -27,7 +27,7 @@ use Rattle.renderer.specs.Trying.{AreDrawsRefused, AreImagesRefused}
 use Rattle.renderer.proofs.Framed.{IsFrameGiven, framed}
 use Rattle.renderer.proofs.Pictures.{frame-history}
 use Rattle.renderer.proofs.Together.{pass_of, turn-of}
-use Rattle.renderer.proofs.Tried.{frame-tried, nothing-holds, nothing-itself}
+use Rattle.renderer.proofs.Tried.{frame-tried, nothing-holds, wanting-itself}
 use Rattle.mask_caches.proofs.Warmed.{before-then}
 
 -- what is held more behind calls that hold as much
@@ -35,14 +35,14 @@ pub leases-behind : (caches : Caches) (p q r : CachesPass) (leases : List MaskLe
 leases-behind caches p q r leases f g = record {
   composites = record { pins = λ k. let one = f.composites.pins k in let two = g.composites.pins k in omega arith; claims = λ k. g.composites.claims k ∙ f.composites.claims k };
   masks = much-then equal_masks mask_meaning caches.masks p.masks q.masks r.masks f.masks g.masks;
-  outlines = much-then equal_regions region_meaning caches.outlines p.outlines q.outlines r.outlines f.outlines g.outlines;
+  regions = much-then equal_regions region_meaning caches.regions p.regions q.regions r.regions f.regions g.regions;
 }
 
 -- ---- images
 
 -- memory ran out, and no key was asked for
 pub wanting-soon : (renderer : RendererView) (p : CachesPass) (events : List Event) (t : ℤ) (size : Size) → IsPassOf renderer.caches p → (wanting : OutOfMemory) → AreImagesSoon renderer p p events t size (Err wanting)
-wanting-soon renderer p events t size of wanting = inl (nothing-itself renderer p of)
+wanting-soon renderer p events t size of wanting = inl (wanting-itself renderer p events t size of)
 
 module _ (renderer : RendererView) (old between new : CachesPass) (events : List Event) (t : ℤ) (size : Size) where
   -- where it isn't for lack of memory, the cache refused the keys of the draws
@@ -91,10 +91,10 @@ module _ (renderer : RendererView) (track later : TrackView) (old new : CachesPa
     pub holds : HoldsTheSame renderer (pass_of track old) (pass_of later new)
 
   pub frame-wanting : (wanting : OutOfMemory) → IsTurn track later None → AreImagesSoon renderer old new (live (history_of later.seen)) t size (Err wanting) → IsFrameWanting wanting
-  frame-wanting wanting turn (inl nothing) = record {
-    pass = record { track = turn-of renderer track later None of.track turn; caches = nothing.of };
-    rendered = inl (record { turn = turn; nothing = nothing });
-    holds = nothing-holds renderer old new nothing;
+  frame-wanting wanting turn (inl short) = record {
+    pass = record { track = turn-of renderer track later None of.track turn; caches = short.nothing.of };
+    rendered = inl (record { turn = turn; nothing = short.nothing; cause = short.cause });
+    holds = nothing-holds renderer old new short.nothing;
   }
   frame-wanting wanting turn (inr h) = record {
     pass = record { track = turn-of renderer track later None of.track turn; caches = h.lent.of };

@@ -12,6 +12,7 @@ use Rattle.mask_keys.specs.contracts.composite_key.CompositeKeyEq.TheImpl.Laws a
 use Rattle.mask_keys.specs.declared.composite_key.CompositeKey.{CompositeKey}
 use Rattle.mask_keys.specs.declared.plans.Draw.{Draw}
 use Rattle.mask_caches.specs.declared.passes.CachesPass.{CachesPass}
+use Rattle.frame_view.specs.FrameViews.{plain_frame}
 use Rattle.picture_plan.specs.Pictures.{AreDraws}
 use Rattle.track_history.specs.Calls.{IsTurn, TrackView, history_of}
 use Rattle.track_history.specs.declared.answers.LookRefusal.TheVariants as look
@@ -33,7 +34,7 @@ use Rattle.renderer.proofs.Together.{pass_of}
 
 -- one instant more
 pub plans-more : {renderer : RendererView} {size : Size} (seen last shown : History TrackEntry) (instants : List ℤ) (plans : List (List Draw)) (t : ℤ) (plan : List Draw)
-    → ArePlansSeen renderer size seen instants plans last → IsPrefix last shown → AreDraws renderer.script renderer.fonts (live (history_of shown)) t size plan
+    → ArePlansSeen renderer size seen instants plans last → IsPrefix last shown → AreDraws renderer.script renderer.fonts (live (history_of shown)) t (plain_frame size) plan
     → ArePlansSeen renderer size seen (instants ++ t ∷ []) (plans ++ plan ∷ []) shown
 plans-more _ _ shown _ _ t plan (NoneSeen seen) begins draws = Next seen shown shown t [] plan [] begins draws (NoneSeen shown)
 plans-more _ _ shown _ _ t plan (Next seen first last u later before plans p d rest) begins draws =
@@ -79,7 +80,7 @@ module _ (renderer : RendererView) (size : Size) (pass : TrackView) where
   none-seen ahead is = record { follows = Follows_same pass; turns = omega arith; plans = []; are_plans = NoneSeen pass.seen; keys = is }
 
   module _ (later after : TrackView) (t : ℤ) (ahead next : AheadView) (turn : IsTurn later after None)
-      (adds : (plan : List Draw) × AreDraws renderer.script renderer.fonts (live (history_of after.seen)) t size plan × (next.keys ≡ firsts equal_composites (ahead.keys ++ plan_keys plan)))
+      (adds : (plan : List Draw) × AreDraws renderer.script renderer.fonts (live (history_of after.seen)) t (plain_frame size) plan × (next.keys ≡ firsts equal_composites (ahead.keys ++ plan_keys plan)))
       (place : next.place ≡ ahead.place) where
     seen-one : (instants : List ℤ) → WereSeen later instants ahead → WereSeen after (instants ++ t ∷ []) next
     seen-one instants were =

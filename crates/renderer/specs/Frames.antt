@@ -7,6 +7,7 @@ use Rattle.bdf_font.specs.Fonts.{FontValue}
 use Rattle.renderer.specs.declared.frames.Frame.{Frame}
 use Rattle.renderer.specs.ShownFrames.{FrameImage, ShowsDraws}
 use Rattle.mask_keys.specs.declared.plans.Draw.{Draw}
+use Rattle.frame_view.specs.FrameViews.{plain_frame}
 use Rattle.picture_plan.specs.Pictures.{AreDraws}
 use Rattle.track_history.specs.declared.scene.Scene.{Scene}
 
@@ -16,7 +17,7 @@ pub record IsFrameOf (script : ScriptValue) (fonts : List FontValue) (history : 
   pub instant : frame.t ≡ t
   pub size_is : frame.size ≡ size
   pub draws : List Draw
-  pub are_draws : AreDraws script fonts (live history) t size draws
+  pub are_draws : AreDraws script fonts (live history) t (plain_frame size) draws
   pub images : ShowsDraws fonts draws frame
 
 -- the frame of a scene in a size with these images, or why there are none

@@ -22,13 +22,13 @@ module _ (caches : Caches) (pass after : CachesPass) where
   pub record HoldsLeasesMore (leases : List MaskLease) : Type 0 where
     pub composites : HoldsMore equal_composites composite_meaning caches.composites pass.composites after.composites (pinned_keys leases)
     pub masks : HoldsAsMuch equal_masks mask_meaning caches.masks pass.masks after.masks
-    pub outlines : HoldsAsMuch equal_regions region_meaning caches.outlines pass.outlines after.outlines
+    pub regions : HoldsAsMuch equal_regions region_meaning caches.regions pass.regions after.regions
 
   -- just these less
   pub record HoldsLeasesFewer (leases : List MaskLease) : Type 0 where
     pub composites : HoldsFewer equal_composites composite_meaning caches.composites pass.composites after.composites (pinned_keys leases)
     pub masks : HoldsAsMuch equal_masks mask_meaning caches.masks pass.masks after.masks
-    pub outlines : HoldsAsMuch equal_regions region_meaning caches.outlines pass.outlines after.outlines
+    pub regions : HoldsAsMuch equal_regions region_meaning caches.regions pass.regions after.regions
 
 -- ---- of a renderer
 

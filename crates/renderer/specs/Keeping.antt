@@ -32,6 +32,6 @@ module _ {K V T : Type 0} (eq : K → K → Bool) (meaning : Meaning K V T) wher
 -- So it is with the twelve shards, which have their numbers.
 pub record CachesAreKept (renderer : RendererView) (pass : RenderView) : Type 0 where
   pub numbered : AreNumbered renderer.caches
-  pub outlines : AreShardsKept equal_regions region_meaning renderer.caches.outlines pass.caches.outlines
+  pub regions : AreShardsKept equal_regions region_meaning renderer.caches.regions pass.caches.regions
   pub masks : AreShardsKept equal_masks mask_meaning renderer.caches.masks pass.caches.masks
   pub composites : AreShardsKept equal_composites composite_meaning renderer.caches.composites pass.caches.composites

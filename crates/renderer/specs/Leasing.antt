@@ -43,7 +43,7 @@ module _ {Z : Type 0} (fonts : Arc FontSet Z) where
 pub record AddsVisits (caches : Caches) (pass after : CachesPass) (visits : List KeyVisit) (given : List (Step CompositeKey MaskValue)) : Type 0 where
   pub composites : Adds equal_composites composite_meaning caches.composites pass.composites after.composites (visit_steps caches.composites.tag visits ++ given)
   pub masks : Adds equal_masks mask_meaning caches.masks pass.masks after.masks (visit_mask_steps caches.masks.tag visits)
-  pub outlines : Adds equal_regions region_meaning caches.outlines pass.outlines after.outlines (visit_region_steps caches.outlines.tag visits)
+  pub regions : Adds equal_regions region_meaning caches.regions pass.regions after.regions (visit_region_steps caches.regions.tag visits)
 
 -- The leases are what was had of the keys, in their order: a pin of the key's composed mask, or where the cache had no room the mask itself.
 abbrev pub AreLeasesBy : Arc FontSet Global → List KeyVisit → List MaskLease → Type 0

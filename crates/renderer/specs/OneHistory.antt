@@ -2,6 +2,7 @@
 use Rattle.std.specs.Prelude.{◌≡◌, ◌+◌, ℤ, length}
 use Rattle.ass_events.specs.Histories.{IsHistory, live}
 use Rattle.ass_num.specs.declared.size.Size.{Size}
+use Rattle.frame_view.specs.FrameViews.{plain_frame}
 use Rattle.picture_plan.specs.Pictures.{IsPictureAt}
 use Rattle.track_history.specs.Calls.{history_of}
 use Rattle.turn_cell.specs.History.{IsPrefix, entries_of}
@@ -19,4 +20,4 @@ pub record ShowsOneHistory (renderer : RendererView) (pass after : RenderView) (
   pub own : entries_of pass.track.number after.track.seen ≡ mine pass.track
   pub legal : IsHistory (history_of after.track.seen)
   pub fresh : after.track.turns ≡ pass.track.turns + 1
-  pub picture : IsPictureAt renderer.script renderer.fonts (live (history_of after.track.seen)) t size (canvas_of frame)
+  pub picture : IsPictureAt renderer.script renderer.fonts (live (history_of after.track.seen)) t (plain_frame size) (canvas_of frame)

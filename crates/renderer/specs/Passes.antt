@@ -32,8 +32,8 @@ pub record IsWholeRenderer (renderer : RendererView) : Type 0 where
 
 -- the two passes have one number, and drew as many numbers
 pub record GoTogether (pass : RenderView) : Type 0 where
-  pub number : pass.caches.outlines.first.number ≡ pass.track.number
-  pub next : pass.caches.outlines.first.next ≡ pass.track.next
+  pub number : pass.caches.regions.first.number ≡ pass.track.number
+  pub next : pass.caches.regions.first.next ≡ pass.track.next
 
 -- the pass comes from the renderer
 pub record IsPassOfRenderer (renderer : RendererView) (pass : RenderView) : Type 0 where

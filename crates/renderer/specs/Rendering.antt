@@ -7,6 +7,7 @@ use Rattle.mask_caches.specs.Caches.{HoldsAsBefore, IsPassOf}
 use Rattle.mask_caches.specs.declared.passes.CachesPass.{CachesPass}
 use Rattle.mask_keys.specs.declared.plans.Draw.{Draw}
 use Rattle.mask_keys.specs.Pictures.{image_of_draw}
+use Rattle.frame_view.specs.FrameViews.{plain_frame}
 use Rattle.picture_plan.specs.Pictures.{AreDraws}
 use Rattle.track_history.specs.Calls.{IsTurn, history_of}
 use Rattle.renderer.specs.ShownFrames.{FrameImage, image_shown, leases_of}
@@ -22,7 +23,7 @@ module _ (renderer : RendererView) (pass after : CachesPass) (events : List Even
   -- The images are the draws of these events, with leases of their keys.
   pub record AreDrawsLent (images : List FrameImage) : Type 0 where
     pub draws : List Draw
-    pub are_draws : AreDraws renderer.script renderer.fonts events t size draws
+    pub are_draws : AreDraws renderer.script renderer.fonts events t (plain_frame size) draws
     pub shown : map image_shown images ≡ map (image_of_draw renderer.fonts) draws
     pub lent : IsLent renderer.caches pass after (plan_keys draws) (leases_of images)
 
@@ -30,7 +31,7 @@ module _ (renderer : RendererView) (pass after : CachesPass) (events : List Even
   pub record AreDrawsUnlent : Type 0 where
     pub of : IsPassOf renderer.caches after
     pub holds : HoldsAsBefore renderer.caches pass after
-    pub unleased : (after ≡ pass) ⊎ ((draws : List Draw) × AreDraws renderer.script renderer.fonts events t size draws × AreUnleased renderer.caches pass after (plan_keys draws))
+    pub unleased : (after ≡ pass) ⊎ ((draws : List Draw) × AreDraws renderer.script renderer.fonts events t (plain_frame size) draws × AreUnleased renderer.caches pass after (plan_keys draws))
 
   abbrev pub AreImagesLent : {E : Type 0} → Result (List FrameImage) E → Type 0
   AreImagesLent (Ok images) = AreDrawsLent images
@@ -49,7 +50,7 @@ module _ (renderer : RendererView) (pass after : RenderView) (t : ℤ) (size : S
   pub record IsUnrendered : Type 0 where
     pub turn : IsTurn pass.track after.track None
     pub unleased : (after.caches ≡ pass.caches)
-        ⊎ ((draws : List Draw) × AreDraws renderer.script renderer.fonts (live (history_of after.track.seen)) t size draws × AreUnleased renderer.caches pass.caches after.caches (plan_keys draws))
+        ⊎ ((draws : List Draw) × AreDraws renderer.script renderer.fonts (live (history_of after.track.seen)) t (plain_frame size) draws × AreUnleased renderer.caches pass.caches after.caches (plan_keys draws))
 
   abbrev pub IsRendered : {E : Type 0} → Result Frame E → Type 0
   IsRendered (Ok frame) = IsRenderedFrame frame

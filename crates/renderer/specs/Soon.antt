@@ -11,7 +11,7 @@ use Rattle.renderer.specs.ShownFrames.{FrameImage}
 use Rattle.renderer.specs.declared.frames.Frame.{Frame}
 use Rattle.renderer.specs.Passes.{RenderView, RendererView}
 use Rattle.renderer.specs.Rendering.{AreImagesLent, IsRendered}
-use Rattle.renderer.specs.Trying.{AddsNothing, AreDrawsPinned, AreDrawsRefused, IsTriedFrame, IsWanting}
+use Rattle.renderer.specs.Trying.{AreDrawsPinned, AreDrawsRefused, AreImagesWanting, IsTriedFrame, IsWanting}
 
 -- ---- a part of a frame
 
@@ -28,7 +28,7 @@ module _ (renderer : RendererView) (pass after : CachesPass) (events : List Even
   -- Memory was wanting for the pins, and nothing was added, or for what was to be lent then.
   abbrev pub AreImagesSoon : {E : Type 0} → Result (List FrameImage) E → Type 0
   AreImagesSoon {E} (Ok images) = AreDrawsPinned renderer pass after events t size images ⊎ AreImagesLentThen {E = E} (Ok images)
-  AreImagesSoon {E} (Err refused) = AddsNothing renderer pass after ⊎ AreImagesLentThen {E = E} (Err refused)
+  AreImagesSoon {E} (Err refused) = AreImagesWanting renderer pass after events t size ⊎ AreImagesLentThen {E = E} (Err refused)
 
 -- ---- frames
 

@@ -1,5 +1,5 @@
 -- Public: what a call that tries for a frame gives, and what it adds to the track's history and to the caches.
-use Rattle.std.specs.Prelude.{◌≡◌, ◌+◌, ℤ, List, map, Result, Ok, Err, None}
+use Rattle.std.specs.Prelude.{◌≡◌, ◌⊎◌, ◌+◌, ℤ, List, map, Result, Ok, Err, None}
 use Rattle.ass_events.specs.Histories.{live}
 use Rattle.ass_events.specs.declared.event.Event.{Event}
 use Rattle.ass_num.specs.declared.size.Size.{Size}
@@ -13,6 +13,7 @@ use Rattle.mask_caches.specs.declared.passes.CachesPass.{CachesPass}
 use Rattle.mask_keys.specs.Equality.{equal_composites}
 use Rattle.mask_keys.specs.declared.plans.Draw.{Draw}
 use Rattle.mask_keys.specs.Pictures.{image_of_draw}
+use Rattle.frame_view.specs.FrameViews.{plain_frame}
 use Rattle.picture_plan.specs.Pictures.{AreDraws}
 use Rattle.track_history.specs.Calls.{IsTurn, history_of}
 use Rattle.track_history.specs.declared.answers.LookRefusal.{LookRefusal}
@@ -45,7 +46,7 @@ pin_refusal refused.OutOfMemory = OutOfMemory
 -- the other two caches are as they were
 pub record LeavesOthers (pass after : CachesPass) : Type 0 where
   pub masks : after.masks ≡ pass.masks
-  pub outlines : after.outlines ≡ pass.outlines
+  pub regions : after.regions ≡ pass.regions
 
 -- nothing was added to any cache
 pub record AddsNothing (renderer : RendererView) (pass after : CachesPass) : Type 0 where
@@ -57,7 +58,7 @@ module _ (renderer : RendererView) (pass after : CachesPass) (events : List Even
   -- The images are the draws of these events, each with pins of its keys, had all at once.
   pub record AreDrawsPinned (images : List FrameImage) : Type 0 where
     pub draws : List Draw
-    pub are_draws : AreDraws renderer.script renderer.fonts events t size draws
+    pub are_draws : AreDraws renderer.script renderer.fonts events t (plain_frame size) draws
     pub shown : map image_shown images ≡ map (image_of_draw renderer.fonts) draws
     pub of : IsPassOf renderer.caches after
     pub pinned : ArePinned equal_composites composite_meaning renderer.caches.composites pass.composites (plan_keys draws) after.composites (leases_of images)
@@ -66,16 +67,20 @@ module _ (renderer : RendererView) (pass after : CachesPass) (events : List Even
   -- The cache of composed masks refused the keys of the draws so, and nothing was added.
   pub record AreDrawsRefused (refusal : PinRefusal) : Type 0 where
     pub draws : List Draw
-    pub are_draws : AreDraws renderer.script renderer.fonts events t size draws
+    pub are_draws : AreDraws renderer.script renderer.fonts events t (plain_frame size) draws
     pub refused : IsRefused equal_composites composite_meaning renderer.caches.composites pass.composites (plan_keys draws) after.composites refusal
     pub nothing : AddsNothing renderer pass after
 
-  -- for lack of memory it may be that there were no draws yet
+  -- Memory was wanting: before the turn of a shard was tried for, or where the masks of all keys of the draws could have been pinned. Nothing was added.
+  pub record AreImagesWanting : Type 0 where
+    pub nothing : AddsNothing renderer pass after
+    pub cause : (after ≡ pass) ⊎ AreDrawsRefused refused.OutOfMemory
+
   abbrev pub AreImagesRefused : PinRefusal → Type 0
   AreImagesRefused refused.TurnOut = AreDrawsRefused refused.TurnOut
   AreImagesRefused (refused.NotReady place) = AreDrawsRefused (refused.NotReady place)
   AreImagesRefused (refused.PinsFull place) = AreDrawsRefused (refused.PinsFull place)
-  AreImagesRefused refused.OutOfMemory = AddsNothing renderer pass after
+  AreImagesRefused refused.OutOfMemory = AreImagesWanting
 
   abbrev pub AreImagesTried : Result (List FrameImage) PinRefusal → Type 0
   AreImagesTried (Ok images) = AreDrawsPinned images
@@ -101,10 +106,11 @@ module _ (renderer : RendererView) (pass after : RenderView) (t : ℤ) (size : S
     pub track : after.track ≡ record pass.track { lost = pass.track.lost + 1 }
     pub caches : after.caches ≡ pass.caches
 
-  -- Memory was wanting: the turn of the track was taken, and nothing was added.
+  -- Memory was wanting: the turn of the track was taken, and nothing was added. No turn of a shard was tried for then, or the masks of all keys of the draws could have been pinned.
   pub record IsWanting : Type 0 where
     pub turn : IsTurn pass.track after.track None
     pub nothing : AddsNothing renderer pass.caches after.caches
+    pub cause : (after.caches ≡ pass.caches) ⊎ AreDrawsRefused renderer pass.caches after.caches (live (history_of after.track.seen)) t size refused.OutOfMemory
 
   abbrev pub IsTried : Result Frame TryRefusal → Type 0
   IsTried (Ok frame) = IsTriedFrame frame

@@ -6,6 +6,7 @@ use Rattle.mask_caches.specs.Caches.{IsSamePass}
 use Rattle.mask_keys.specs.Equality.{equal_composites}
 use Rattle.mask_keys.specs.declared.composite_key.CompositeKey.{CompositeKey}
 use Rattle.mask_keys.specs.declared.plans.Draw.{Draw}
+use Rattle.frame_view.specs.FrameViews.{plain_frame}
 use Rattle.picture_plan.specs.Pictures.{AreDraws}
 use Rattle.track_history.specs.Calls.{history_of}
 use Rattle.track_history.specs.declared.answers.TrackEntry.{TrackEntry}
@@ -24,7 +25,7 @@ keys_ahead plans = firsts equal_composites (flat_map plan_keys plans)
 pub data ArePlansSeen (renderer : RendererView) (size : Size) : History TrackEntry → List ℤ → List (List Draw) → History TrackEntry → Type 0 where
   None : (seen : History TrackEntry) → ArePlansSeen renderer size seen [] [] seen
   Next : (seen shown last : History TrackEntry) (t : ℤ) (later : List ℤ) (plan : List Draw) (plans : List (List Draw))
-      → IsPrefix seen shown → AreDraws renderer.script renderer.fonts (live (history_of shown)) t size plan
+      → IsPrefix seen shown → AreDraws renderer.script renderer.fonts (live (history_of shown)) t (plain_frame size) plan
       → ArePlansSeen renderer size shown later plans last → ArePlansSeen renderer size seen (t ∷ later) (plan ∷ plans) last
 
 module _ (renderer : RendererView) (pass after : RenderView) (instants : List ℤ) (size : Size) where

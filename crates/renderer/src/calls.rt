@@ -89,15 +89,16 @@ impl Renderer {
         (pass, answer)
     }
 
-    /// Drops all live events: the flush is an entry of the track's history. It takes no memory, and the caches stay as they are.
-    pub fn flush<R: Wait>(&self, rt: &R, pass: RenderPass) -> (RenderPass, Flushed)
+    /// Drops all live events: the flush is an entry of the track's history. It takes no memory, and frees the events once others may
+    /// have the track's turn. The caches stay as they are.
+    pub fn flush<R: Wait>(&self, rt: &R, alloc: Global, pass: RenderPass) -> (RenderPass, Flushed)
         requires { IsPassOfRenderer self.now pass }
         ensures pass { IsPassOfRenderer self.now result.0 }
         ensures flushed { IsFlushed pass.track result.0.track result.1 }
         ensures caches { result.0.caches ≡ pass.caches }
     {
         let RenderPass { track, caches } = pass;
-        let (track, answer) = self.track.flush(rt, track);
+        let (track, answer) = self.track.flush(rt, alloc, track);
         let pass = RenderPass { track, caches };
         (pass, answer)
     }
@@ -111,7 +112,7 @@ impl Renderer {
         ensures composites { Adds equal_composites composite_meaning self.now.caches.composites pass.caches.composites result.caches.composites
             (all_given_steps (leases_of frame.images)) }
         ensures masks { result.caches.masks ≡ pass.caches.masks }
-        ensures outlines { result.caches.outlines ≡ pass.caches.outlines }
+        ensures regions { result.caches.regions ≡ pass.caches.regions }
         ensures holds { HoldsFrameFewer self.now pass result frame }
     {
         let RenderPass { track, caches } = pass;
@@ -131,7 +132,7 @@ impl Renderer {
         requires budget { budget ≤ max_budget }
         ensures pass { IsPassOfRenderer self.now result }
         ensures track { result.track ≡ pass.track }
-        ensures outlines { EachGives equal_regions region_meaning self.now.caches.outlines.shards pass.caches.outlines result.caches.outlines
+        ensures regions { EachGives equal_regions region_meaning self.now.caches.regions.shards pass.caches.regions result.caches.regions
             (λ n. Limits (part (entry_limit budget) n) (part budget n) ∷ []) }
         ensures masks { EachGives equal_masks mask_meaning self.now.caches.masks.shards pass.caches.masks result.caches.masks
             (λ n. Limits (part (entry_limit budget) n) (part budget n) ∷ []) }
@@ -168,7 +169,7 @@ impl Renderer {
         requires { IsPassOfRenderer self.now pass }
         ensures pass { IsPassOfRenderer self.now result.0 }
         ensures track { result.0.track ≡ pass.track }
-        ensures outlines { EachGives equal_regions region_meaning self.now.caches.outlines.shards pass.caches.outlines result.0.caches.outlines (λ n. []) }
+        ensures regions { EachGives equal_regions region_meaning self.now.caches.regions.shards pass.caches.regions result.0.caches.regions (λ n. []) }
         ensures masks { EachGives equal_masks mask_meaning self.now.caches.masks.shards pass.caches.masks result.0.caches.masks (λ n. []) }
         ensures composites { EachGives equal_composites composite_meaning self.now.caches.composites.shards pass.caches.composites result.0.caches.composites
             (λ n. []) }

@@ -4,6 +4,7 @@ ghost use Rattle.ass_events.specs.Histories.{Entry, live};
 ghost use Rattle.ass_num.specs.declared.size.Size.{Size};
 ghost use Rattle.ass_script.specs.Scripts.{ScriptValue};
 ghost use Rattle.bdf_font.specs.Fonts.{FontValue};
+ghost use Rattle.frame_view.specs.FrameViews.{plain_frame};
 ghost use Rattle.picture_plan.specs.Pictures.{IsPictureAt};
 ghost use Rattle.track_history.specs.Calls.{IsTurn, history_of};
 ghost use Rattle.renderer.specs.ShownFrames.{canvas_of};
@@ -18,7 +19,7 @@ ghost use Rattle.renderer.specs.declared.frames.Frame.{Frame};
 pub fn frames_are_pictures()
     ensures picture { (script : ScriptValue) (fonts : List FontValue) (history : List Entry) (t : ℤ) (size : Size) (frame : Frame)
         → IsFrameOf script fonts history t size frame
-        → IsPictureAt script fonts (live history) t size (canvas_of frame) }
+        → IsPictureAt script fonts (live history) t (plain_frame size) (canvas_of frame) }
     ensures turn { (renderer : RendererView) (pass after : RenderView) (t : ℤ) (size : Size) (frame : Frame) → IsTurn pass.track after.track None
         → IsFrameOf renderer.script renderer.fonts (history_of after.track.seen) t size frame → ShowsOneHistory renderer pass after t size frame }
 {}

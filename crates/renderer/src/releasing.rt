@@ -26,7 +26,7 @@ fn release_clip<R: Wait>(
     ensures composites { Adds equal_composites composite_meaning caches.now.composites pass.composites result.composites
         (all_given_steps (leases_of_clip clip)) }
     ensures masks { result.masks ≡ pass.masks }
-    ensures outlines { result.outlines ≡ pass.outlines }
+    ensures regions { result.regions ≡ pass.regions }
     ensures holds { HoldsLeasesFewer caches.now pass result (leases_of_clip clip) }
 {
     match clip {
@@ -60,7 +60,7 @@ fn release_image<R: Wait>(
     ensures composites { Adds equal_composites composite_meaning caches.now.composites pass.composites result.composites
         (all_given_steps (leases_of_image image)) }
     ensures masks { result.masks ≡ pass.masks }
-    ensures outlines { result.outlines ≡ pass.outlines }
+    ensures regions { result.regions ≡ pass.regions }
     ensures holds { HoldsLeasesFewer caches.now pass result (leases_of_image image) }
 {
     let Image {
@@ -89,7 +89,7 @@ pub(crate) fn release_images<R: Wait>(
     ensures composites { Adds equal_composites composite_meaning caches.now.composites pass.composites result.composites
         (all_given_steps (leases_of images.items)) }
     ensures masks { result.masks ≡ pass.masks }
-    ensures outlines { result.outlines ≡ pass.outlines }
+    ensures regions { result.regions ≡ pass.regions }
     ensures holds { HoldsLeasesFewer caches.now pass result (leases_of images.items) }
 {
     let mut images = images;

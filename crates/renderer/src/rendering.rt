@@ -7,6 +7,7 @@ ghost use Rattle.ass_num.specs.declared.size.Size.{Size};
 ghost use Rattle.mask_caches.specs.Caches.{IsPassOf};
 ghost use Rattle.mask_keys.specs.Keys.{IsValidPlan};
 ghost use Rattle.mask_keys.specs.Outlines.{glyph_counts};
+ghost use Rattle.frame_view.specs.FrameViews.{plain_frame};
 ghost use Rattle.picture_plan.specs.Pictures.{AreDraws};
 ghost use Rattle.track_history.specs.Answers.{IsSceneOf};
 ghost use Rattle.renderer.specs.Frames.{frame_with};
@@ -20,6 +21,7 @@ use crate::passes::RenderPass;
 use crate::renderer::Renderer;
 use crate::{Frame, FrameImage};
 use ass_num::{Items, Mem, Size};
+use frame_view::FrameView;
 use mask_caches::CachesPass;
 use mask_keys::{Draw, Plan};
 use picture_plan::plan_of_spans;
@@ -55,13 +57,13 @@ impl Renderer {
         requires instant { IsWithin max_instant scene.now.t }
         requires size { IsFrameSize size.now }
         ensures draws { (history : List Entry) → IsSceneOf history scene.now.t scene.now
-            → IfOk result (λ plan. AreDraws self.now.script self.now.fonts (live history) scene.now.t size.now plan.draws) }
+            → IfOk result (λ plan. AreDraws self.now.script self.now.fonts (live history) scene.now.t (plain_frame size.now) plan.draws) }
         ensures valid { IfOk result (λ plan. IsValidPlan (glyph_counts self.now.fonts) plan.draws) }
     {
         let setting = Setting {
             script: &self.script,
             fonts: &self.fonts,
-            size: *size,
+            frame: FrameView::plain(*size),
         };
         let spans = scene.spans.as_slice();
         plan_of_spans(alloc, &setting, scene.events.as_slice(), spans, scene.t)
@@ -78,7 +80,7 @@ impl Renderer {
     ) -> (CachesPass, Mem<Items<FrameImage>>)
         requires pass { IsPassOf self.now.caches pass }
         requires valid { IsValidPlan (glyph_counts self.now.fonts) draws.now }
-        ensures { (events : List Event) (t : ℤ) (size : Size) → AreDraws self.now.script self.now.fonts events t size draws.now
+        ensures { (events : List Event) (t : ℤ) (size : Size) → AreDraws self.now.script self.now.fonts events t (plain_frame size) draws.now
             → AreImagesLent self.now pass result.0 events t size result.1 }
     {
         lend_images(&self.caches, rt, alloc, pass, draws, hook)

@@ -7,6 +7,7 @@ ghost use Rattle.ass_num.specs.declared.size.Size.{Size};
 ghost use Rattle.mask_caches.specs.Caches.{IsPassOf};
 ghost use Rattle.mask_keys.specs.Keys.{IsValidPlan};
 ghost use Rattle.mask_keys.specs.Outlines.{glyph_counts};
+ghost use Rattle.frame_view.specs.FrameViews.{plain_frame};
 ghost use Rattle.picture_plan.specs.Pictures.{AreDraws};
 ghost use Rattle.track_history.specs.Answers.{IsSceneOf};
 ghost use Rattle.mask_keys.specs.PlanKeys.{plan_keys};
@@ -83,7 +84,7 @@ impl Renderer {
         requires instant { IsWithin max_instant scene.now.t }
         requires size { IsFrameSize size.now }
         ensures draws { (history : List Entry) → IsSceneOf history scene.now.t scene.now
-            → IfOk result (λ r. AreDraws self.now.script self.now.fonts (live history) scene.now.t size.now r.plan.draws) }
+            → IfOk result (λ r. AreDraws self.now.script self.now.fonts (live history) scene.now.t (plain_frame size.now) r.plan.draws) }
         ensures valid { IfOk result (λ r. IsValidPlan (glyph_counts self.now.fonts) r.plan.draws) }
         ensures keys { IfOk result (λ r. r.keys.items ≡ plan_keys r.plan.draws) }
         ensures empty { IfOk result (λ r. r.room.items ≡ []) }
@@ -115,7 +116,7 @@ impl Renderer {
         requires len { vec_len room ≡ 0 }
         requires room { length draws.now ≤ vec_capacity room }
         ensures pass { IsPassOf self.now.caches result.0 }
-        ensures tried { (events : List Event) (t : ℤ) (size : Size) → AreDraws self.now.script self.now.fonts events t size draws.now
+        ensures tried { (events : List Event) (t : ℤ) (size : Size) → AreDraws self.now.script self.now.fonts events t (plain_frame size) draws.now
             → AreImagesTried self.now pass result.0 events t size result.1 }
     {
         let (pass, tried) = self.caches.try_composites(alloc, pass, keys);

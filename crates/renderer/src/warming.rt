@@ -6,6 +6,7 @@ ghost use Rattle.mask_keys.specs.Equality.{equal_composites};
 ghost use Rattle.mask_keys.specs.Keys.{IsValidComposite, IsValidPlan};
 ghost use Rattle.mask_keys.specs.declared.plans.Draw.{Draw};
 ghost use Rattle.mask_keys.specs.Outlines.{glyph_counts};
+ghost use Rattle.frame_view.specs.FrameViews.{plain_frame};
 ghost use Rattle.picture_plan.specs.Pictures.{AreDraws};
 ghost use Rattle.track_history.specs.Calls.{IsTurn, history_of};
 ghost use Rattle.turn_cell.specs.Passes.{Follows, IsOf};
@@ -39,7 +40,7 @@ impl Renderer {
         requires instant { IsWithin max_instant t }
         requires size { IsFrameSize size.now }
         ensures turn { IsTurn pass result.0 None }
-        ensures draws { IfOk result.1 (λ plan. AreDraws self.now.script self.now.fonts (live (history_of result.0.seen)) t size.now plan.draws) }
+        ensures draws { IfOk result.1 (λ plan. AreDraws self.now.script self.now.fonts (live (history_of result.0.seen)) t (plain_frame size.now) plan.draws) }
         ensures valid { IfOk result.1 (λ plan. IsValidPlan (glyph_counts self.now.fonts) plan.draws) }
     {
         let (pass, scene) = self.track.look(rt, alloc, pass, t);
@@ -64,7 +65,7 @@ impl Renderer {
         requires size { IsFrameSize size.now }
         requires valid { All (IsValidComposite (glyph_counts self.now.fonts)) ahead.old.keys }
         ensures turn { IsTurn pass result.0 None }
-        ensures keys { OnOk result.1 ((plan : List Draw) × AreDraws self.now.script self.now.fonts (live (history_of result.0.seen)) t size.now plan
+        ensures keys { OnOk result.1 ((plan : List Draw) × AreDraws self.now.script self.now.fonts (live (history_of result.0.seen)) t (plain_frame size.now) plan
             × (ahead.new.keys ≡ firsts equal_composites (ahead.old.keys ++ plan_keys plan))) }
         ensures place { ahead.new.place ≡ ahead.old.place }
         ensures valid { All (IsValidComposite (glyph_counts self.now.fonts)) ahead.new.keys }

@@ -7,6 +7,7 @@ ghost use Rattle.ass_events.specs.Histories.{live};
 ghost use Rattle.ass_num.specs.Limits.{IsFrameSize, IsWithin, max_instant};
 ghost use Rattle.ass_script.specs.Ranges.{IsScript};
 ghost use Rattle.bdf_font.specs.Ranges.{IsFont};
+ghost use Rattle.frame_view.specs.FrameViews.{plain_frame};
 ghost use Rattle.picture_plan.specs.Pictures.{IsPictureAt};
 ghost use Rattle.text_layout.specs.Fonts.{IsLayoutFontSet};
 ghost use Rattle.renderer.specs.Passes.{HoldsNothing, IsFirstPass, IsPassOfRenderer};
@@ -99,7 +100,10 @@ fn fonts_of(alloc: Global) -> Option<Arc<FontSet>>
     if FONT.len() > MAX_FILE_BYTES {
         return None;
     }
-    match read_font_file(alloc, FONT) {
+    let Ok(bytes) = Vec::from_slice(alloc, FONT) else {
+        return None;
+    };
+    match read_font_file(alloc, Items::from_vec(bytes)) {
         Ok(font) => set_of(alloc, font),
         Err(_) => None,
     }
@@ -166,7 +170,7 @@ fn draw<R: Wait>(
     requires size { IsFrameSize size.now }
     ensures pass { IsPassOfRenderer renderer.now result.0 }
     ensures first { IsFirstPass result.0 }
-    ensures picture { IfSome result.1 (IsPictureAt renderer.now.script renderer.now.fonts (live (history_of result.0.track.seen)) t size.now) }
+    ensures picture { IfSome result.1 (IsPictureAt renderer.now.script renderer.now.fonts (live (history_of result.0.track.seen)) t (plain_frame size.now)) }
 {
     laws::frames_are_given_back();
     let (pass, frame) = renderer.frame(rt, alloc, pass, t, size, &NoHook);

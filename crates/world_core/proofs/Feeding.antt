@@ -7,11 +7,11 @@ use Rattle.ass_events.specs.NearEvents.{AreNear, span_of}
 use Rattle.ass_events.specs.declared.event.ChunkRefusal.{ChunkRefusal}
 use Rattle.ass_events.specs.declared.event.ChunkRefusal.TheVariants as refusal
 use Rattle.ass_events.specs.declared.event.Event.{Event}
-use Rattle.ass_num.specs.declared.size.Size.{Size}
 use Rattle.ass_script.specs.Scripts.{ScriptValue}
 use Rattle.ass_script.specs.declared.script.EventField.{EventField}
 use Rattle.bdf_font.specs.Fonts.{FontValue}
 use Rattle.mask_keys.specs.declared.plans.Plan.{Plan}
+use Rattle.frame_view.specs.declared.view.FrameView.{FrameView}
 use Rattle.picture_plan.proofs.DrawLaws.{draws_of_near_events}
 use Rattle.picture_plan.specs.Pictures.{AreDraws}
 use Rattle.track_history.proofs.Histories.{fed_after, flushed_after}
@@ -67,7 +67,7 @@ module _ (track : LiveEvents) (history : List Entry) (tells : Tells track histor
   near-few = near_few history near t tells.legal near-live
 
   -- it draws what is live
-  pub near-plan : {E : Type 0} (script : ScriptValue) (fonts : List FontValue) (size : Size) (planned : Result Plan E) → IfOk planned (λ plan. AreDraws script fonts near t size plan.draws)
-      → IfOk planned (λ plan. AreDraws script fonts (live history) t size plan.draws)
-  near-plan script fonts size (Ok plan) drawn = (draws_of_near_events script fonts (live history) near t size plan.draws near-live).0 drawn
-  near-plan script fonts size (Err refused) drawn = tt
+  pub near-plan : {E : Type 0} (script : ScriptValue) (fonts : List FontValue) (frame : FrameView) (planned : Result Plan E) → IfOk planned (λ plan. AreDraws script fonts near t frame plan.draws)
+      → IfOk planned (λ plan. AreDraws script fonts (live history) t frame plan.draws)
+  near-plan script fonts frame (Ok plan) drawn = (draws_of_near_events script fonts (live history) near t frame plan.draws near-live).0 drawn
+  near-plan script fonts frame (Err refused) drawn = tt

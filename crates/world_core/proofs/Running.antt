@@ -8,6 +8,7 @@ use Rattle.std.proofs.lemmas.List.Elements.{All-take}
 use Rattle.ass_events.specs.Histories.{Entry, live}
 use Rattle.ass_script.specs.Scripts.{ScriptValue}
 use Rattle.bdf_font.specs.Fonts.{FontValue}
+use Rattle.frame_view.specs.FrameViews.{plain_frame}
 use Rattle.picture_plan.specs.Pictures.{AreDraws}
 use Rattle.world_core.specs.Keys.{world_meaning}
 use Rattle.world_core.specs.Laws.{KeepsLaws, KeepsLawsFor}
@@ -63,7 +64,7 @@ module _ (script : ScriptValue) (fonts : List FontValue) where
       look = look;
       last = is;
       draws = shown.draws;
-      are_draws = subst (λ (h : List Entry). AreDraws script fonts (live h) look.instant look.size shown.draws) (sym (first-seen look is shown.seen_is)) shown.are_draws;
+      are_draws = subst (λ (h : List Entry). AreDraws script fonts (live h) look.instant (plain_frame look.size) shown.draws) (sym (first-seen look is shown.seen_is)) shown.are_draws;
       pixels_are = shown.bytes_are;
     }
 

@@ -15,6 +15,7 @@ use Rattle.mask_keys.specs.declared.plans.Clip.TheVariants as clip
 use Rattle.mask_keys.specs.declared.plans.Draw.{Draw}
 use Rattle.mask_keys.specs.Pictures.{picture}
 use Rattle.mask_keys.specs.Values.{composite_value}
+use Rattle.frame_view.specs.FrameViews.{plain_frame}
 use Rattle.picture_plan.specs.Pictures.{AreDraws}
 use Rattle.track_history.specs.Answers.{feed_answer, flush_answer, refused_answer}
 use Rattle.track_history.specs.declared.answers.Feed.{Feed}
@@ -102,7 +103,7 @@ module _ (script : ScriptValue) (fonts : List FontValue) where
     -- The actor holds all masks of the look's draws; the caches have them; and the bytes are the pixels of the picture without caches
     pub record IsPictureShown (seen : ℕ) (bytes : List ℕ) : Type 0 where
       pub draws : List Draw
-      pub are_draws : AreDraws script fonts (rule.live look.history) look.instant look.size draws
+      pub are_draws : AreDraws script fonts (rule.live look.history) look.instant (plain_frame look.size) draws
       pub held : HoldsAll caches actor draws
       pub kept : All (KeepsDraw fonts caches) draws
       pub seen_is : seen ≡ length look.history
@@ -111,7 +112,7 @@ module _ (script : ScriptValue) (fonts : List FontValue) where
     -- a mask of the look's draws isn't held
     pub record IsMaskLacking : Type 0 where
       pub draws : List Draw
-      pub are_draws : AreDraws script fonts (rule.live look.history) look.instant look.size draws
+      pub are_draws : AreDraws script fonts (rule.live look.history) look.instant (plain_frame look.size) draws
       pub lacks : HoldsAll caches actor draws → ⊥
 
     abbrev pub IsLookReply : Reply → Type 0

@@ -5,6 +5,7 @@ use Rattle.ass_events.specs.Histories.{live}
 use Rattle.bdf_font.specs.Fonts.{FontValue}
 use Rattle.mask_keys.specs.declared.plans.Draw.{Draw}
 use Rattle.mask_keys.specs.Pictures.{picture}
+use Rattle.frame_view.specs.FrameViews.{plain_frame}
 use Rattle.picture_plan.specs.Pictures.{AreDraws}
 use Rattle.world_core.specs.Keys.{world_meaning}
 use Rattle.world_core.specs.Histories.{ShardHistories, with_steps_of}
@@ -32,7 +33,7 @@ module _ (script : ScriptValue) (fonts : List FontValue) where
     pub look : LookState
     pub last : s.looks actor ≡ Some look
     pub draws : List Draw
-    pub are_draws : AreDraws script fonts (live (take n s.history)) look.instant look.size draws
+    pub are_draws : AreDraws script fonts (live (take n s.history)) look.instant (plain_frame look.size) draws
     pub pixels_are : pixels ≡ (picture fonts look.size draws).bytes
 
   -- so it is with each picture that is shown

@@ -15,6 +15,7 @@ use Rattle.evict_core.specs.Machine.{max_entries, max_budget}
 use Rattle.flight_cache.specs.Meaning.{shard_count}
 use Rattle.mask_keys.specs.Keys.{IsValidRegion, IsValidMask, IsValidComposite}
 use Rattle.mask_keys.specs.Outlines.{glyph_counts}
+use Rattle.frame_view.specs.FrameViews.{plain_frame}
 use Rattle.picture_plan.specs.Pictures.{AreDraws}
 use Rattle.text_layout.specs.Fonts.{IsLayoutFontSet}
 use Rattle.track_history.specs.Tellings as track
@@ -52,7 +53,7 @@ pub record TellsLook (script : ScriptValue) (fonts : List FontValue) (kept : Act
   pub n : kept.n ≡ length look.history
   pub size : kept.size ≡ look.size
   pub frame : IsFrameSize look.size
-  pub draws : AreDraws script fonts (live look.history) look.instant look.size kept.plan.draws
+  pub draws : AreDraws script fonts (live look.history) look.instant (plain_frame look.size) kept.plan.draws
 
 abbrev pub TellsLastLook : ScriptValue → List FontValue → Option ActorLook → Option LookState → Type 0
 TellsLastLook script fonts None None = Unit {0}

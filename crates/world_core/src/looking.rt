@@ -5,6 +5,7 @@ ghost use Rattle.ass_events.specs.Histories.{Entry, live};
 ghost use Rattle.ass_events.specs.Histories as histories;
 ghost use Rattle.ass_events.specs.Ranges.{IsEvent, text_bytes};
 ghost use Rattle.ass_num.specs.Limits.{IsWithin, max_instant, max_text_bytes};
+ghost use Rattle.frame_view.specs.FrameViews.{plain_frame};
 ghost use Rattle.picture_plan.specs.Pictures.{AreDraws};
 ghost use Rattle.text_layout.specs.Settings.{IsSetting};
 ghost use Rattle.track_history.specs.Answers.{flush_answer};
@@ -82,7 +83,7 @@ pub(crate) fn plan_at(alloc: Global, setting: &Setting<'_>, track: &LiveEvents, 
     requires history { (history : List Entry) × Tells track.now history }
     requires instant { IsWithin max_instant t }
     ensures { (history : List Entry) → Tells track.now history
-        → IfOk result (λ plan. AreDraws setting.now.script setting.now.fonts (live history) t setting.now.size plan.draws) }
+        → IfOk result (λ plan. AreDraws setting.now.script setting.now.fonts (live history) t setting.now.frame plan.draws) }
 {
     let near = track.near(alloc, t)?;
     let spans = near.spans.as_slice();
@@ -97,16 +98,17 @@ pub(crate) fn look_at(
     t: i64,
 ) -> Mem<ActorLook>
     requires setting { IsSetting setting.now }
+    requires plain { setting.now.frame ≡ plain_frame setting.now.frame.size }
     requires sound { IsSound track.now }
     requires history { (history : List Entry) × Tells track.now history }
     requires instant { IsWithin max_instant t }
     ensures { (history : List Entry) → Tells track.now history
-        → IfOk result (λ kept. TellsLook setting.now.script setting.now.fonts kept (record { history = history; instant = t; size = setting.now.size })) }
+        → IfOk result (λ kept. TellsLook setting.now.script setting.now.fonts kept (record { history = history; instant = t; size = setting.now.frame.size })) }
 {
     let plan = plan_at(alloc, setting, track, t)?;
     Ok(ActorLook {
         n: track.entries(),
-        size: setting.size,
+        size: setting.frame.size,
         plan,
     })
 }

@@ -34,6 +34,7 @@ use ass_events::Chunk;
 use ass_num::{Mem, Size};
 use ass_script::Script;
 use bdf_font::FontSet;
+use frame_view::FrameView;
 use mask_keys::{CompositeKey, MaskKey, RegionKey, key_copy, mask_key_copy, region_key_copy};
 use std::alloc::Global;
 use std::collections::BTreeMap;
@@ -194,7 +195,7 @@ impl World {
         let setting = Setting {
             script: &self.script,
             fonts: &self.fonts,
-            size: *size,
+            frame: FrameView::plain(*size),
         };
         let look = look_at(alloc, &setting, &self.track, t)?;
         self.looks.insert(actor, look)?;

@@ -15,6 +15,7 @@ use ass_events::{events_of, line_laws};
 use ass_num::{Items, Size};
 use ass_script::{Script, read_script};
 use bdf_font::{Font, FontSet};
+use frame_view::FrameView;
 use mask_keys::{CompositeKey, Draw, Plan, key_copy, plan_keys};
 use picture_plan::plan;
 use std::alloc::Global;
@@ -109,7 +110,7 @@ pub fn inputs_of(alloc: Global, text: &[u8], font: Font, size: Size, t: u16) -> 
     let setting = Setting {
         script: &script,
         fonts: &fonts,
-        size,
+        frame: FrameView::plain(size),
     };
     let keys = keys_at(alloc, &setting, t)?;
     Ok(Inputs {

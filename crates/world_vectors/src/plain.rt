@@ -5,6 +5,7 @@ ghost use Rattle.world_vectors.specs.Given.{AreInputs, fonts_in};
 
 use crate::inputs::{Inputs, plan_at};
 use blend::Canvas;
+use frame_view::FrameView;
 use local_caches::LocalCaches;
 use mask_keys::Plan;
 use std::alloc::Global;
@@ -39,7 +40,7 @@ pub fn picture(alloc: Global, inputs: &Inputs, t: u16) -> Result<Vec<u8>, Fail>
     let setting = Setting {
         script: &inputs.script,
         fonts: &inputs.fonts,
-        size: inputs.size,
+        frame: FrameView::plain(inputs.size),
     };
     let plan = plan_at(alloc, &setting, t)?;
     painted(alloc, inputs, &plan)

@@ -8,11 +8,11 @@ returns-in-Ok g c =
     let before = c.args.pass in
     let mid = c.composite-pass.result.0 in
     let after = c.give_back.result in
-    let w = one-warmed c.args.caches.now before mid after c.args.key.now c.in-Ok.lease t c.give_back.ensures.composites c.give_back.ensures.masks c.give_back.ensures.outlines in
+    let w = one-warmed c.args.caches.now before mid after c.args.key.now c.in-Ok.lease t c.give_back.ensures.composites c.give_back.ensures.masks c.give_back.ensures.regions in
     record {
       pass = c.give_back.ensures.pass;
       visit = (t.visit, t.is_visit, w.0, w.1, tt);
-      holds = one-much c.args.caches.now before mid after c.args.key.now c.in-Ok.lease holds c.give_back.ensures.composites c.give_back.ensures.masks c.give_back.ensures.outlines;
+      holds = one-much c.args.caches.now before mid after c.args.key.now c.in-Ok.lease holds c.give_back.ensures.composites c.give_back.ensures.masks c.give_back.ensures.regions;
     }
 
 pub returns-in-Err : goal.returns-in-Err

@@ -22,13 +22,13 @@ returns-clause-totals g c budget asks opening opened few =
       first = opening.caches;
       opened = opened.caches;
       last = c.totals.result.0.caches;
-      legal = known c.args.renderer.now c.args.first c.totals.result.0 c.requires told.pass told.track told.outlines told.masks told.composites;
+      legal = known c.args.renderer.now c.args.first c.totals.result.0 c.requires told.pass told.track told.regions told.masks told.composites;
       are = told.totals;
       three = ap length told.totals;
       budgets = told.budgets;
       accounted = subst (λ (totals : List Totals). All IsAccounted totals) (sym told.totals)
-          (totals_balance c.args.renderer.now c.args.first c.totals.result.0 c.requires told.pass told.track told.outlines told.masks told.composites);
+          (totals_balance c.args.renderer.now c.args.first c.totals.result.0 c.requires told.pass told.track told.regions told.masks told.composites);
       asked = λ d. subst (λ (totals : List Totals). HasAsks asks (slice_index_or totals 2 d)) (sym told.totals)
           (fewer_asks asks (masks_seen c.args.renderer.now c.args.first) (shown_totals equal_composites composite_meaning c.args.renderer.now.caches.composites c.totals.result.0.caches.composites) few
-          (totals_count_asks c.args.renderer.now c.args.first c.totals.result.0 c.requires told.pass told.track told.outlines told.masks told.composites));
+          (totals_count_asks c.args.renderer.now c.args.first c.totals.result.0 c.requires told.pass told.track told.regions told.masks told.composites));
     }

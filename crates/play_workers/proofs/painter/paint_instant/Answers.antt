@@ -20,7 +20,7 @@ pub returns-in-Ok-clause-later : goal.returns-in-Ok-clause-later
 returns-in-Ok-clause-later g c =
     let framed = c.frame_at-pass.result.0 in let after = c.release-pass.result in
     caches_then c.args.pass.caches framed.caches after.caches c.frame_at-pass.ensures.later
-    (released_later c.args.stage.now.renderer framed after _ c.release-pass.ensures.composites c.release-pass.ensures.masks c.release-pass.ensures.outlines)
+    (released_later c.args.stage.now.renderer framed after _ c.release-pass.ensures.composites c.release-pass.ensures.masks c.release-pass.ensures.regions)
 
 pub returns-in-Ok-clause-image : goal.returns-in-Ok-clause-image
 returns-in-Ok-clause-image g c =
@@ -28,7 +28,7 @@ returns-in-Ok-clause-image g c =
     let asked = rw (c.in-Ok.is, to_z-of_z c.ranges.t) at c.frame_at-pass.ensures.frame in
     subst (λ (k : TrackView). IfOk c.image_of-image.result (λ image. IsImageAsked (play_on c.args.stage.now) renderer c.args.pass after (history_of k.seen) c.args.t image.items)) (sym c.release-pass.ensures.track)
     (image_asked (play_on c.args.stage.now) renderer c.args.pass framed after (history_of framed.track.seen) c.args.t asked.is.draws c.image_of-image.result asked.asked
-    (released_later renderer framed after _ c.release-pass.ensures.composites c.release-pass.ensures.masks c.release-pass.ensures.outlines)
+    (released_later renderer framed after _ c.release-pass.ensures.composites c.release-pass.ensures.masks c.release-pass.ensures.regions)
     (c.image_of-image.ensures (history_of framed.track.seen) c.args.t asked.is))
 
 pub returns-in-Ok-clause-holds : goal.returns-in-Ok-clause-holds

@@ -36,4 +36,4 @@ returns-in-Err-clip-clause-refused g c =
     let f = rw c.in-Err-clip.is at c.lend_clip-pass.ensures in
     let back = c.give_back.ensures in
     unlent-then caches c.args.pass c.lend_mask-pass.result.0 c.lend_clip-pass.result.0 c.give_back.result (draw.key ∷ []) (clip_keys draw.clip) (lease ∷ []) e.lent f.refused back.pass
-    (gives-one caches c.lend_clip-pass.result.0 c.give_back.result lease back.composites back.masks back.outlines)
+    (gives-one caches c.lend_clip-pass.result.0 c.give_back.result lease back.composites back.masks back.regions)

@@ -29,7 +29,7 @@ returns-in-Err-clause-refused g c =
     let there : i < length draws = search rules in
     let e = rw c.in-Err.is at c.lend_image-next.ensures in
     let back = c.release_images.ensures in
-    let gives : GivesLeases caches r s (leases_of c.loop-draw.images.items) = record { composites = back.composites; fewer = back.holds.composites; masks = back.masks; outlines = back.outlines } in
+    let gives : GivesLeases caches r s (leases_of c.loop-draw.images.items) = record { composites = back.composites; fewer = back.holds.composites; masks = back.masks; regions = back.regions } in
     subst (λ (l : List Draw). IsUnlent caches c.args.pass s (plan_keys l)) c.as_slice-draw-items.ensures
     (images-refused caches (arc_value caches.fonts).fonts c.args.pass draws q r s i c.draw-item.result c.loop-draw.images.items there c.draw-item.is c.loop-draw.invariant.had e.refused back.pass gives)
 

@@ -18,7 +18,7 @@ returns-clause-again c = λ renderer p q r f g. before-then renderer.caches p.ca
 pub returns-clause-nothing : goal.returns-clause-nothing
 returns-clause-nothing c = λ renderer pass after before same kept.
     nothing-again renderer.caches pass.caches after.caches before same kept.numbered record {
-      outlines = shards-legal equal_regions region_meaning renderer.caches.outlines after.caches.outlines kept.outlines;
+      regions = shards-legal equal_regions region_meaning renderer.caches.regions after.caches.regions kept.regions;
       masks = shards-legal equal_masks mask_meaning renderer.caches.masks after.caches.masks kept.masks;
       composites = shards-legal equal_composites composite_meaning renderer.caches.composites after.caches.composites kept.composites;
     }

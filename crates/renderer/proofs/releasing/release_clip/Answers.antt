@@ -12,7 +12,7 @@ returns-in-Free g c =
       pass = c.requires.pass;
       composites = none.composites;
       masks = none.masks;
-      outlines = none.outlines;
+      regions = none.regions;
       holds = gives-fewer c.args.caches.now c.args.pass c.args.pass [] none;
     })
 
@@ -23,18 +23,18 @@ returns-in-Rect g c =
       pass = c.requires.pass;
       composites = none.composites;
       masks = none.masks;
-      outlines = none.outlines;
+      regions = none.regions;
       holds = gives-fewer c.args.caches.now c.args.pass c.args.pass [] none;
     })
 
 pub returns-in-Drawn : goal.returns-in-Drawn
 returns-in-Drawn g c =
     let f = c.give_back.ensures in
-    let one = gives-one c.args.caches.now c.args.pass c.give_back.result c.in-Drawn.mask f.composites f.masks f.outlines in
+    let one = gives-one c.args.caches.now c.args.pass c.give_back.result c.in-Drawn.mask f.composites f.masks f.regions in
     rw c.in-Drawn.is (record {
       pass = f.pass;
       composites = one.composites;
       masks = one.masks;
-      outlines = one.outlines;
+      regions = one.regions;
       holds = gives-fewer c.args.caches.now c.args.pass c.give_back.result (c.in-Drawn.mask ∷ []) one;
     })

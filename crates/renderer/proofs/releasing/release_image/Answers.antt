@@ -10,19 +10,19 @@ pub give_back-requires-clause-held : goal.give_back-requires-clause-held
 give_back-requires-clause-held g c =
     let caches = c.args.caches.now in let lease = c.args.image.mask in let clip = leases_of_clip c.args.image.stencil in
     let given = c.release_clip-pass.result in let e = c.release_clip-pass.ensures in
-    let gives : GivesLeases caches c.args.pass given clip = record { composites = e.composites; fewer = e.holds.composites; masks = e.masks; outlines = e.outlines } in
+    let gives : GivesLeases caches c.args.pass given clip = record { composites = e.composites; fewer = e.holds.composites; masks = e.masks; regions = e.regions } in
     lease-held caches given lease (leases-first caches c.args.pass given (lease ∷ []) clip c.requires.held gives)
 
 pub returns : goal.returns
 returns g c =
     let caches = c.args.caches.now in let lease = c.args.image.mask in let clip = leases_of_clip c.args.image.stencil in
     let given = c.release_clip-pass.result in let e = c.release_clip-pass.ensures in let f = c.give_back.ensures in
-    let gives : GivesLeases caches c.args.pass given clip = record { composites = e.composites; fewer = e.holds.composites; masks = e.masks; outlines = e.outlines } in
-    let all = gives-then caches c.args.pass given c.give_back.result (lease ∷ []) clip gives (gives-one caches given c.give_back.result lease f.composites f.masks f.outlines) in
+    let gives : GivesLeases caches c.args.pass given clip = record { composites = e.composites; fewer = e.holds.composites; masks = e.masks; regions = e.regions } in
+    let all = gives-then caches c.args.pass given c.give_back.result (lease ∷ []) clip gives (gives-one caches given c.give_back.result lease f.composites f.masks f.regions) in
     record {
       pass = f.pass;
       composites = all.composites;
       masks = all.masks;
-      outlines = all.outlines;
+      regions = all.regions;
       holds = gives-fewer caches c.args.pass c.give_back.result (lease ∷ clip) all;
     }

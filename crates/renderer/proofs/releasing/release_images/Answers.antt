@@ -23,7 +23,7 @@ loop-image-preserved g c =
     let left = c.pop.new.self.items in let image = c.in-Some.image in let e = c.release_image-pass.ensures in
     let split = ap leases_of c.in-Some.ensures.items ∙ images-leases left image in
     let gives : GivesLeases c.args.caches.now c.loop-image.pass c.release_image-pass.result (leases_of_image image) =
-    record { composites = e.composites; fewer = e.holds.composites; masks = e.masks; outlines = e.outlines } in
+    record { composites = e.composites; fewer = e.holds.composites; masks = e.masks; regions = e.regions } in
     record {
       of = e.pass;
       held = leases-first c.args.caches.now c.loop-image.pass c.release_image-pass.result (leases_of left) (leases_of_image image)
@@ -38,6 +38,6 @@ returns g c =
       pass = c.loop-image.invariant.of;
       composites = all.composites;
       masks = all.masks;
-      outlines = all.outlines;
+      regions = all.regions;
       holds = gives-fewer c.args.caches.now c.args.pass c.loop-image.pass (leases_of c.args.images.items) all;
     }

@@ -25,4 +25,4 @@ plan_of_spans-requires-clause-near c = rw (c.as_slice-spans.ensures, c.as_slice.
 
 pub returns : goal.returns
 returns c = λ history tells.
-    near-plan c.args.track.now history tells c.args.t (map arc_value c.in_ok-near.near.events) (rw (to_z-of_z c.ranges.t) at c.in_ok-near.ensures.events) c.args.setting.now.script c.args.setting.now.fonts c.args.setting.now.size c.plan_of_spans.result (rw (c.as_slice.ensures, to_z-of_z c.ranges.t) at c.plan_of_spans.ensures.draws)
+    near-plan c.args.track.now history tells c.args.t (map arc_value c.in_ok-near.near.events) (rw (to_z-of_z c.ranges.t) at c.in_ok-near.ensures.events) c.args.setting.now.script c.args.setting.now.fonts c.args.setting.now.frame c.plan_of_spans.result (rw (c.as_slice.ensures, to_z-of_z c.ranges.t) at c.plan_of_spans.ensures.draws)

@@ -16,4 +16,4 @@ returns c =
 
 pub keys_at-requires-clause-setting : goal.keys_at-requires-clause-setting
 keys_at-requires-clause-setting c =
-    record { script = rw c.deref.ensures c.in_ok-script.ensures.script; fonts = rw c.deref-2.ensures c.in_ok-fonts.ensures; size = c.requires.size }
+    record { script = rw c.deref.ensures c.in_ok-script.ensures.script; fonts = rw c.deref-2.ensures c.in_ok-fonts.ensures; frame = c.plain.ensures.range c.requires.size }

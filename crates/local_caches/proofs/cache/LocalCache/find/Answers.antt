@@ -24,7 +24,7 @@ invariant_of-self-in-Crowded g c =
     absurd (never-crowded g.M.Key.PartialEq.eq g.met.M.Key.Eq.laws (g.M.Made.meaning.made c.self.inside.tag.value) g.M.Made.meaning.cost c.self.inside.entries c.self.invariant c.args.key.now c.in-Crowded.ensures.0)
 
 pub invariant_of-self-in-OutOfMemory : goal.invariant_of-self-in-OutOfMemory
-invariant_of-self-in-OutOfMemory g c = rw c.in-OutOfMemory.ensures c.self.invariant
+invariant_of-self-in-OutOfMemory g c = rw c.in-OutOfMemory.ensures.1 c.self.invariant
 
 pub returns-in-Hit-clause-here : goal.returns-in-Hit-clause-here
 returns-in-Hit-clause-here g c = rw (← c.self.view_is) (sym c.in-Hit.ensures.1)
@@ -83,10 +83,10 @@ pub returns-in-Flying-clause-budget : goal.returns-in-Flying-clause-budget
 returns-in-Flying-clause-budget g c = rw (← c.self.view_is, c.in-Flying.ensures.1) refl
 
 pub returns-in-OutOfMemory-clause-budget : goal.returns-in-OutOfMemory-clause-budget
-returns-in-OutOfMemory-clause-budget g c = rw (← c.self.view_is, c.in-OutOfMemory.ensures) refl
+returns-in-OutOfMemory-clause-budget g c = rw (← c.self.view_is, c.in-OutOfMemory.ensures.1) refl
 
 pub returns-in-OutOfMemory-clause-err : goal.returns-in-OutOfMemory-clause-err
-returns-in-OutOfMemory-clause-err g c = rw c.in-OutOfMemory.ensures c.self.view_is
+returns-in-OutOfMemory-clause-err g c = rw c.in-OutOfMemory.ensures.1 c.self.view_is
 
 pub returns-in-Hit-clause-tag : goal.returns-in-Hit-clause-tag
 returns-in-Hit-clause-tag g c = rw (← c.self.view_is) refl

@@ -18,4 +18,4 @@ keep-requires-clause-value c =
     let same : (arc_value c.self-2.inside.fonts).fonts ≡ fonts = ap (λ (v : LocalCachesView). v.fonts) c.self-2.view_is ∙ c.in_ok-outline.ensures.fonts in
     let read = outline-read fonts c.args.key.now c.in_ok-outline_key.outline_key (arc_value c.in_ok-outline.outline) c.deref.result.now c.in_ok-outline_key.ensures c.in_ok-outline.ensures.value c.deref.ensures in
     border-made fonts c.args.key.now c.deref.result.now (arc_value c.in_ok-region-2.region) read c.in_ok-region-2.ensures
-    ∙ sym (region-tagged c.self-2.inside.outlines.tag c.self-2.inside.fonts c.self-2.invariant.outlines_tag c.args.key.now ∙ ap (λ (f : List FontValue). region_value f c.args.key.now) same)
+    ∙ sym (region-tagged c.self-2.inside.regions.tag c.self-2.inside.fonts c.self-2.invariant.regions_tag c.args.key.now ∙ ap (λ (f : List FontValue). region_value f c.args.key.now) same)

@@ -12,8 +12,8 @@ pub invariant_of-pass : goal.invariant_of-pass
 invariant_of-pass g c =
     let t = c.visit_composite-passes.ensures.composed in
     record {
-      together = together-later c.args.pass.outlines c.visit_composite-passes.result.0.outlines c.args.pass.masks c.visit_composite-passes.result.0.masks c.args.pass.composites c.visit_composite-passes.result.0.composites
-          c.args.pass.together t.outlines.later t.masks.later t.composites.later;
+      together = together-later c.args.pass.regions c.visit_composite-passes.result.0.regions c.args.pass.masks c.visit_composite-passes.result.0.masks c.args.pass.composites c.visit_composite-passes.result.0.composites
+          c.args.pass.together t.regions.later t.masks.later t.composites.later;
     }
 
 pub returns-clause-value : goal.returns-clause-value
@@ -25,7 +25,7 @@ pub returns-clause-pass : goal.returns-clause-pass
 returns-clause-pass g c =
     let t = c.visit_composite-passes.ensures.composed in
     record {
-      outlines = adds-stays equal_regions region_meaning c.args.self.now.outlines c.args.pass.outlines c.visit_composite-passes.result.0.outlines _ c.requires.pass.outlines t.outlines;
+      regions = adds-stays equal_regions region_meaning c.args.self.now.regions c.args.pass.regions c.visit_composite-passes.result.0.regions _ c.requires.pass.regions t.regions;
       masks = adds-stays equal_masks mask_meaning c.args.self.now.masks c.args.pass.masks c.visit_composite-passes.result.0.masks _ c.requires.pass.masks t.masks;
       composites = adds-stays equal_composites composite_meaning c.args.self.now.composites c.args.pass.composites c.visit_composite-passes.result.0.composites _ c.requires.pass.composites t.composites;
     }

@@ -5,7 +5,7 @@ use Rattle.mask_caches.proofs.caches.Caches.give_back.Goals as goal
 
 pub returns-clause-pass : goal.returns-clause-pass
 returns-clause-pass g c = record {
-  outlines = c.requires.pass.outlines;
+  regions = c.requires.pass.regions;
   masks = c.requires.pass.masks;
   composites = adds-stays equal_composites composite_meaning c.args.self.now.composites c.args.pass.composites c.give_back-composites.result _ c.requires.pass.composites c.give_back-composites.ensures.steps;
 }

@@ -15,8 +15,8 @@ returns-in-Hit g c =
     let asks = rw c.in-Hit.is at c.ask-masks.ensures.steps in
     let need = rw c.in-Hit.is at c.ask-masks.ensures.asked in
     record {
-      visit = found-mask c.args.self.now.outlines c.args.self.now.masks c.args.key.now c.args.outlines c.args.outlines c.args.masks c.ask-masks.result.0 c.in-Hit.pin (adds-none equal_regions region_meaning c.args.self.now.outlines c.args.outlines) asks need;
-      outlines = much-itself equal_regions region_meaning c.args.self.now.outlines c.args.outlines;
+      visit = found-mask c.args.self.now.regions c.args.self.now.masks c.args.key.now c.args.regions c.args.regions c.args.masks c.ask-masks.result.0 c.in-Hit.pin (adds-none equal_regions region_meaning c.args.self.now.regions c.args.regions) asks need;
+      regions = much-itself equal_regions region_meaning c.args.self.now.regions c.args.regions;
       holds = found-holds equal_masks mask_laws.laws-law mask_same mask_meaning c.args.self.now.masks c.args.key.now c.args.masks c.ask-masks.result.0 c.in-Hit.pin asks need;
     }
 
@@ -24,13 +24,13 @@ pub settle-masks-requires : goal.settle-masks-requires
 settle-masks-requires g c =
     let asks = rw c.in-Make.is at c.ask-masks.ensures.steps in
     let need = rw c.in-Make.is at c.ask-masks.ensures.asked in
-    let made = c.make_mask-outlines.result.1 in
+    let made = c.make_mask-regions.result.1 in
     let q = c.ask-masks.result.0 in
     record {
       cell = adds-stays equal_masks mask_meaning c.args.self.now.masks c.args.masks q _ c.requires.masks asks;
       claimed = duty-open equal_masks mask_laws.laws-law mask_same mask_meaning c.args.self.now.masks c.args.key.now c.args.masks q q c.in-Make.duty asks need (much-itself equal_masks mask_meaning c.args.self.now.masks q);
       value = duty-value equal_masks mask_laws.laws-law mask_same mask_meaning c.args.self.now.masks c.args.key.now c.in-Make.duty made need
-          (mask-tagged c.args.self.now.fonts c.args.self.now.masks.tag c.args.key.now made c.args.self.now.tags.masks_have c.make_mask-outlines.ensures.value);
+          (mask-tagged c.args.self.now.fonts c.args.self.now.masks.tag c.args.key.now made c.args.self.now.tags.masks_have c.make_mask-regions.ensures.value);
       cost = mask-cost made;
     }
 
@@ -41,13 +41,13 @@ returns-in-Make g c =
     let new = rw c.in-Make.is at c.ask-masks.ensures.new in
     let cache = c.args.self.now.masks in
     let q = c.ask-masks.result.0 in
-    let made = c.make_mask-outlines.result.1 in
+    let made = c.make_mask-regions.result.1 in
     let had = c.settle-masks.result.1 in
     record {
-      visit = made-mask c.args.self.now.outlines cache c.args.key.now c.args.outlines c.make_mask-outlines.result.0 c.args.masks q c.settle-masks.result.0 c.in-Make.duty made had
-          asks need c.make_mask-outlines.ensures.region c.settle-masks.ensures.steps c.settle-masks.ensures.settled
-          (mask-tagged c.args.self.now.fonts cache.tag c.args.key.now made c.args.self.now.tags.masks_have c.make_mask-outlines.ensures.value);
-      outlines = c.make_mask-outlines.ensures.holds;
+      visit = made-mask c.args.self.now.regions cache c.args.key.now c.args.regions c.make_mask-regions.result.0 c.args.masks q c.settle-masks.result.0 c.in-Make.duty made had
+          asks need c.make_mask-regions.ensures.region c.settle-masks.ensures.steps c.settle-masks.ensures.settled
+          (mask-tagged c.args.self.now.fonts cache.tag c.args.key.now made c.args.self.now.tags.masks_have c.make_mask-regions.ensures.value);
+      regions = c.make_mask-regions.ensures.holds;
       holds = settled-holds equal_masks mask_laws.laws-law mask_same mask_meaning cache c.args.key.now c.args.masks q q c.settle-masks.result.0 c.in-Make.duty made had
           asks need new (much-itself equal_masks mask_meaning cache q) c.settle-masks.ensures.steps c.settle-masks.ensures.settled;
     }
@@ -56,7 +56,7 @@ pub returns-in-OutOfMemory : goal.returns-in-OutOfMemory
 returns-in-OutOfMemory g c =
     let asks = rw c.in-OutOfMemory.is at c.ask-masks.ensures.steps in
     record {
-      visit = unasked-mask c.args.self.now.outlines c.args.self.now.masks c.args.key.now c.args.outlines c.args.outlines c.args.masks c.ask-masks.result.0 (adds-none equal_regions region_meaning c.args.self.now.outlines c.args.outlines) asks;
-      outlines = much-itself equal_regions region_meaning c.args.self.now.outlines c.args.outlines;
+      visit = unasked-mask c.args.self.now.regions c.args.self.now.masks c.args.key.now c.args.regions c.args.regions c.args.masks c.ask-masks.result.0 (adds-none equal_regions region_meaning c.args.self.now.regions c.args.regions) asks;
+      regions = much-itself equal_regions region_meaning c.args.self.now.regions c.args.regions;
       holds = unasked-holds equal_masks mask_laws.laws-law mask_same mask_meaning c.args.self.now.masks c.args.masks c.ask-masks.result.0 _ asks;
     }

@@ -7,14 +7,14 @@ use Rattle.mask_caches.proofs.caches.Caches.set_budgets.Goals as goal
 
 pub returns-clause-pass : goal.returns-clause-pass
 returns-clause-pass g c = record {
-  outlines = each-of equal_regions region_meaning c.args.self.now.outlines c.args.pass.outlines c.set_limits-outlines.result _ c.requires.pass.outlines c.set_limits-outlines.ensures;
+  regions = each-of equal_regions region_meaning c.args.self.now.regions c.args.pass.regions c.set_limits-regions.result _ c.requires.pass.regions c.set_limits-regions.ensures;
   masks = each-of equal_masks mask_meaning c.args.self.now.masks c.args.pass.masks c.set_limits-masks.result _ c.requires.pass.masks c.set_limits-masks.ensures;
   composites = each-of equal_composites composite_meaning c.args.self.now.composites c.args.pass.composites c.set_limits-composites.result _ c.requires.pass.composites c.set_limits-composites.ensures;
 }
 
 pub returns-clause-holds : goal.returns-clause-holds
 returns-clause-holds g c = record {
-  outlines = each-much equal_regions region_meaning c.args.self.now.outlines c.args.pass.outlines c.set_limits-outlines.result _ c.set_limits-outlines.ensures (λ n k. refl) (λ n k. refl) (λ n k was. refl);
+  regions = each-much equal_regions region_meaning c.args.self.now.regions c.args.pass.regions c.set_limits-regions.result _ c.set_limits-regions.ensures (λ n k. refl) (λ n k. refl) (λ n k was. refl);
   masks = each-much equal_masks mask_meaning c.args.self.now.masks c.args.pass.masks c.set_limits-masks.result _ c.set_limits-masks.ensures (λ n k. refl) (λ n k. refl) (λ n k was. refl);
   composites = each-much equal_composites composite_meaning c.args.self.now.composites c.args.pass.composites c.set_limits-composites.result _ c.set_limits-composites.ensures (λ n k. refl) (λ n k. refl) (λ n k was. refl);
 }

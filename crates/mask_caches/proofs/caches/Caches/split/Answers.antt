@@ -8,12 +8,12 @@ pub returns-in-Ok-clause-cells : goal.returns-in-Ok-clause-cells
 returns-in-Ok-clause-cells c =
     let caches = c.args.self.now in let pass = c.args.pass in let of = c.requires.pass in (
       record {
-        outlines = split-of caches.outlines pass.outlines c.in-Ok.two.0 of.outlines c.in-Ok.ensures.passes.0;
+        regions = split-of caches.regions pass.regions c.in-Ok.two.0 of.regions c.in-Ok.ensures.passes.0;
         masks = split-of caches.masks pass.masks c.split_with_room-masks.result.0 of.masks c.split_with_room-masks.ensures.first_is;
         composites = split-of caches.composites pass.composites c.split_with_room-composites.result.0 of.composites c.split_with_room-composites.ensures.first_is;
       },
       record {
-        outlines = new-of caches.outlines pass.outlines c.in-Ok.two.1 of.outlines c.in-Ok.ensures.passes.1;
+        regions = new-of caches.regions pass.regions c.in-Ok.two.1 of.regions c.in-Ok.ensures.passes.1;
         masks = new-of caches.masks pass.masks c.split_with_room-masks.result.1 of.masks c.split_with_room-masks.ensures.new_is;
         composites = new-of caches.composites pass.composites c.split_with_room-composites.result.1 of.composites c.split_with_room-composites.ensures.new_is;
       },
@@ -21,7 +21,7 @@ returns-in-Ok-clause-cells c =
 
 pub returns-in-Ok-clause-given : goal.returns-in-Ok-clause-given
 returns-in-Ok-clause-given c = record {
-  outlines = nothing_is_given_back equal_regions region_meaning c.args.self.now.outlines.shards c.in-Ok.two.1 c.in-Ok.ensures.empty;
+  regions = nothing_is_given_back equal_regions region_meaning c.args.self.now.regions.shards c.in-Ok.two.1 c.in-Ok.ensures.empty;
   masks = nothing_is_given_back equal_masks mask_meaning c.args.self.now.masks.shards c.split_with_room-masks.result.1 c.split_with_room-masks.ensures.nothing;
   composites = nothing_is_given_back equal_composites composite_meaning c.args.self.now.composites.shards c.split_with_room-composites.result.1 c.split_with_room-composites.ensures.nothing;
 }

@@ -1,4 +1,4 @@
-use Rattle.std.proofs.Common.{refl, sym, ◌∙◌, arith}
+use Rattle.std.proofs.Common.{inl, refl, sym, ◌∙◌, arith}
 use Rattle.turn_cell.proofs.Passes.{Follows_same}
 use Rattle.flight_cache.specs.Pinning.{GivesNothing}
 use Rattle.flight_cache.proofs.Claiming.{on-ok}
@@ -19,11 +19,11 @@ returns-then-is_err c =
     let same : GivesNothing p p = record { first = Follows_same p.first; second = Follows_same p.second; third = Follows_same p.third; fourth = Follows_same p.fourth } in
     record {
       pinned = tt;
-      refused = same;
+      refused = inl refl;
       nothing = same;
       holds = much-itself equal_composites composite_meaning c.args.self.now.composites p;
       masks = refl;
-      outlines = refl;
+      regions = refl;
       pass = c.requires;
     }
 
@@ -31,8 +31,8 @@ pub invariant_of-pass : goal.invariant_of-pass
 invariant_of-pass c =
     let cache = c.args.self.now.composites in
     record {
-      together = together-later c.args.pass.outlines c.args.pass.outlines c.args.pass.masks c.args.pass.masks c.args.pass.composites c.try_pin_all-composites.result.0
-          c.args.pass.together (later-itself equal_regions region_meaning c.args.self.now.outlines c.args.pass.outlines) (later-itself equal_masks mask_meaning c.args.self.now.masks c.args.pass.masks)
+      together = together-later c.args.pass.regions c.args.pass.regions c.args.pass.masks c.args.pass.masks c.args.pass.composites c.try_pin_all-composites.result.0
+          c.args.pass.together (later-itself equal_regions region_meaning c.args.self.now.regions c.args.pass.regions) (later-itself equal_masks mask_meaning c.args.self.now.masks c.args.pass.masks)
           (tried-later equal_composites composite_meaning cache c.args.pass.composites c.try_pin_all-composites.result.0 composite_laws.laws-law composite_same c.proof_numbered.ensures c.args.keys.items
           (λ pins. pins.items) c.try_pin_all-composites.result.1 c.try_pin_all-composites.ensures.pinned c.try_pin_all-composites.ensures.nothing);
     }
@@ -57,9 +57,9 @@ returns-in-Ok c =
       nothing = tt;
       holds = tt;
       masks = refl;
-      outlines = refl;
+      regions = refl;
       pass = record {
-        outlines = c.requires.outlines;
+        regions = c.requires.regions;
         masks = c.requires.masks;
         composites = stays_of_cache c.args.self.now.composites c.args.pass.composites c.try_pin_all-composites.result.0 c.requires.composites
             (tried-later equal_composites composite_meaning c.args.self.now.composites c.args.pass.composites c.try_pin_all-composites.result.0 composite_laws.laws-law composite_same c.proof_numbered.ensures c.args.keys.items
@@ -77,9 +77,9 @@ returns-in-Err c =
       nothing = nothing;
       holds = nothing-much equal_composites composite_meaning c.args.self.now.composites c.args.pass.composites c.try_pin_all-composites.result.0 nothing;
       masks = refl;
-      outlines = refl;
+      regions = refl;
       pass = record {
-        outlines = c.requires.outlines;
+        regions = c.requires.regions;
         masks = c.requires.masks;
         composites = stays_of_cache c.args.self.now.composites c.args.pass.composites c.try_pin_all-composites.result.0 c.requires.composites
             (tried-later equal_composites composite_meaning c.args.self.now.composites c.args.pass.composites c.try_pin_all-composites.result.0 composite_laws.laws-law composite_same c.proof_numbered.ensures c.args.keys.items

@@ -21,7 +21,7 @@ returns-in-Hit g c =
       holds = record {
         composites = found-holds equal_composites composite_laws.laws-law composite_same composite_meaning c.args.self.now.composites c.args.key.now c.args.passes.composites c.ask-composites.result.0 c.in-Hit.pin asks need;
         masks = much-itself equal_masks mask_meaning c.args.self.now.masks c.args.passes.masks;
-        outlines = much-itself equal_regions region_meaning c.args.self.now.outlines c.args.passes.outlines;
+        regions = much-itself equal_regions region_meaning c.args.self.now.regions c.args.passes.regions;
       };
     }
 
@@ -31,12 +31,12 @@ settle-composites-requires g c =
     let need = rw c.in-Make.is at c.ask-composites.ensures.asked in
     let cache = c.args.self.now.composites in
     let q = c.ask-composites.result.0 in
-    let made = c.make_composite-outlines.result.2 in
+    let made = c.make_composite-regions.result.2 in
     record {
       cell = adds-stays equal_composites composite_meaning cache c.args.passes.composites q _ c.requires.composites asks;
       claimed = duty-open equal_composites composite_laws.laws-law composite_same composite_meaning cache c.args.key.now c.args.passes.composites q q c.in-Make.duty asks need (much-itself equal_composites composite_meaning cache q);
       value = duty-value equal_composites composite_laws.laws-law composite_same composite_meaning cache c.args.key.now c.in-Make.duty made need
-          (composite-tagged c.args.self.now.fonts cache.tag c.args.key.now made c.args.self.now.tags.composites_have c.make_composite-outlines.ensures.value);
+          (composite-tagged c.args.self.now.fonts cache.tag c.args.key.now made c.args.self.now.tags.composites_have c.make_composite-regions.ensures.value);
       cost = mask-cost made;
     }
 
@@ -47,16 +47,16 @@ returns-in-Make g c =
     let new = rw c.in-Make.is at c.ask-composites.ensures.new in
     let cache = c.args.self.now.composites in
     let q = c.ask-composites.result.0 in
-    let made = c.make_composite-outlines.result.2 in
+    let made = c.make_composite-regions.result.2 in
     let had = c.settle-composites.result.1 in
     record {
-      composed = made-composite c.args.self.now c.args.key.now _ _ q c.in-Make.duty made had asks need c.make_composite-outlines.ensures.visits c.settle-composites.ensures.steps c.settle-composites.ensures.settled
-          (composite-tagged c.args.self.now.fonts cache.tag c.args.key.now made c.args.self.now.tags.composites_have c.make_composite-outlines.ensures.value);
+      composed = made-composite c.args.self.now c.args.key.now _ _ q c.in-Make.duty made had asks need c.make_composite-regions.ensures.visits c.settle-composites.ensures.steps c.settle-composites.ensures.settled
+          (composite-tagged c.args.self.now.fonts cache.tag c.args.key.now made c.args.self.now.tags.composites_have c.make_composite-regions.ensures.value);
       holds = record {
         composites = settled-holds equal_composites composite_laws.laws-law composite_same composite_meaning cache c.args.key.now c.args.passes.composites q q c.settle-composites.result.0 c.in-Make.duty made had
             asks need new (much-itself equal_composites composite_meaning cache q) c.settle-composites.ensures.steps c.settle-composites.ensures.settled;
-        masks = c.make_composite-outlines.ensures.holds;
-        outlines = c.make_composite-outlines.ensures.outlines;
+        masks = c.make_composite-regions.ensures.holds;
+        regions = c.make_composite-regions.ensures.regions;
       };
     }
 
@@ -68,6 +68,6 @@ returns-in-OutOfMemory g c =
       holds = record {
         composites = unasked-holds equal_composites composite_laws.laws-law composite_same composite_meaning c.args.self.now.composites c.args.passes.composites c.ask-composites.result.0 _ asks;
         masks = much-itself equal_masks mask_meaning c.args.self.now.masks c.args.passes.masks;
-        outlines = much-itself equal_regions region_meaning c.args.self.now.outlines c.args.passes.outlines;
+        regions = much-itself equal_regions region_meaning c.args.self.now.regions c.args.passes.regions;
       };
     }

@@ -23,10 +23,10 @@ pub loop-part-init : goal.loop-part-init
 loop-part-init g c = record {
   len = c.requires.len;
   room = c.requires.room;
-  outlines_of = c.requires.outlines;
+  regions_of = c.requires.regions;
   masks_of = c.requires.masks;
-  had = subst (λ (l : List (Lease MaskMade MaskKey MaskValue (Arc FontSet Global))). AreHad (arc_value c.args.self.now.fonts).fonts c.args.self.now.outlines c.args.self.now.masks c.args.outlines c.args.masks [] c.args.outlines c.args.masks l) (sym c.requires.empty)
-      (none-had (arc_value c.args.self.now.fonts).fonts c.args.self.now.outlines c.args.self.now.masks c.args.outlines c.args.masks);
+  had = subst (λ (l : List (Lease MaskMade MaskKey MaskValue (Arc FontSet Global))). AreHad (arc_value c.args.self.now.fonts).fonts c.args.self.now.regions c.args.self.now.masks c.args.regions c.args.masks [] c.args.regions c.args.masks l) (sym c.requires.empty)
+      (none-had (arc_value c.args.self.now.fonts).fonts c.args.self.now.regions c.args.self.now.masks c.args.regions c.args.masks);
 }
 
 pub loop-part-preserved : goal.loop-part-preserved
@@ -34,19 +34,19 @@ loop-part-preserved g c =
     let xs = c.args.parts.now in
     let i = c.loop-part.part-index in
     let there : i < length xs = search rules in
-    let v = rw c.in-Ok.is at c.mask-next_outlines.ensures.visit in
-    let holds = rw c.in-Ok.is at c.mask-next_outlines.ensures.holds in
+    let v = rw c.in-Ok.is at c.mask-next_regions.ensures.visit in
+    let holds = rw c.in-Ok.is at c.mask-next_regions.ensures.holds in
     let fonts = c.args.self.now.fonts in
-    let regions = c.args.self.now.outlines in
+    let store = c.args.self.now.regions in
     let cache = c.args.self.now.masks in
     record {
       len = omega (arith, c.push_reserved.ensures.len, c.loop-part.invariant.len);
       room = omega (arith, c.push_reserved.ensures.capacity, c.loop-part.invariant.room);
-      outlines_of = adds-stays equal_regions region_meaning regions c.loop-part.outlines c.mask-next_outlines.result.0 _ c.loop-part.invariant.outlines_of v.3;
-      masks_of = adds-stays equal_masks mask_meaning cache c.loop-part.masks c.mask-next_outlines.result.1 _ c.loop-part.invariant.masks_of v.4;
-      had = one-more (arc_value fonts).fonts regions cache c.args.outlines c.args.masks xs i c.part-item.result c.loop-part.outlines c.mask-next_outlines.result.0 c.loop-part.masks c.mask-next_outlines.result.1
+      regions_of = adds-stays equal_regions region_meaning store c.loop-part.regions c.mask-next_regions.result.0 _ c.loop-part.invariant.regions_of v.3;
+      masks_of = adds-stays equal_masks mask_meaning cache c.loop-part.masks c.mask-next_regions.result.1 _ c.loop-part.invariant.masks_of v.4;
+      had = one-more (arc_value fonts).fonts store cache c.args.regions c.args.masks xs i c.part-item.result c.loop-part.regions c.mask-next_regions.result.0 c.loop-part.masks c.mask-next_regions.result.1
           c.loop-part.leases.items c.push_reserved.new.self.items c.in-Ok.lease there c.part-item.is c.push_reserved.ensures.items (ap (λ (s : FontSet). s.fonts) c.args.self.now.tags.masks_have)
-          c.loop-part.invariant.had v c.mask-next_outlines.ensures.outlines holds;
+          c.loop-part.invariant.had v c.mask-next_regions.ensures.regions holds;
     }
 
 pub returns-in-Err : goal.returns-in-Err
@@ -54,25 +54,25 @@ returns-in-Err g c =
     let xs = c.args.parts.now in
     let i = c.loop-part.part-index in
     let there : i < length xs = search rules in
-    let v = rw c.in-Err.is at c.mask-next_outlines.ensures.visit in
-    let holds = rw c.in-Err.is at c.mask-next_outlines.ensures.holds in
-    let regions = c.args.self.now.outlines in
+    let v = rw c.in-Err.is at c.mask-next_regions.ensures.visit in
+    let holds = rw c.in-Err.is at c.mask-next_regions.ensures.holds in
+    let store = c.args.self.now.regions in
     let cache = c.args.self.now.masks in
-    let same = refused-much equal_masks mask_laws.laws-law mask_same mask_meaning cache c.loop-part.masks c.mask-next_outlines.result.1 _ holds in
-    let r = one-refused (arc_value c.args.self.now.fonts).fonts regions cache c.args.outlines c.args.masks xs i c.part-item.result c.loop-part.outlines c.mask-next_outlines.result.0 c.loop-part.masks c.mask-next_outlines.result.1
-    c.loop-part.leases.items there c.part-item.is c.loop-part.invariant.had v c.mask-next_outlines.ensures.outlines same in
+    let same = refused-much equal_masks mask_laws.laws-law mask_same mask_meaning cache c.loop-part.masks c.mask-next_regions.result.1 _ holds in
+    let r = one-refused (arc_value c.args.self.now.fonts).fonts store cache c.args.regions c.args.masks xs i c.part-item.result c.loop-part.regions c.mask-next_regions.result.0 c.loop-part.masks c.mask-next_regions.result.1
+    c.loop-part.leases.items there c.part-item.is c.loop-part.invariant.had v c.mask-next_regions.ensures.regions same in
     record {
-      visits = (r.visits, record { are = r.are; given = r.given; all = λ no. absurd {A = AreAllHad xs r.visits} (false-true no); values = λ no. absurd {A = map lease_value c.loop-part.leases.items ≡ masks_of (arc_value c.args.self.now.fonts).fonts xs} (false-true no) }, r.outlines, r.masks);
-      outlines = r.outlines_hold;
+      visits = (r.visits, record { are = r.are; given = r.given; all = λ no. absurd {A = AreAllHad xs r.visits} (false-true no); values = λ no. absurd {A = map lease_value c.loop-part.leases.items ≡ masks_of (arc_value c.args.self.now.fonts).fonts xs} (false-true no) }, r.regions, r.masks);
+      regions = r.regions_hold;
       holds = r.masks_hold;
     }
 
 pub returns : goal.returns
 returns g c =
     let h = c.loop-part.invariant.had in
-    let a = all-had (arc_value c.args.self.now.fonts).fonts c.args.self.now.outlines c.args.self.now.masks c.args.outlines c.args.masks c.args.parts.now c.loop-part.part-index c.loop-part.outlines c.loop-part.masks c.loop-part.leases.items (search rules) h in
+    let a = all-had (arc_value c.args.self.now.fonts).fonts c.args.self.now.regions c.args.self.now.masks c.args.regions c.args.masks c.args.parts.now c.loop-part.part-index c.loop-part.regions c.loop-part.masks c.loop-part.leases.items (search rules) h in
     record {
-      visits = (h.visits, record { are = a.0; given = h.given; all = λ yes. a.1; values = λ yes. a.2 }, h.outlines, h.masks);
-      outlines = h.outlines_hold;
+      visits = (h.visits, record { are = a.0; given = h.given; all = λ yes. a.1; values = λ yes. a.2 }, h.regions, h.masks);
+      regions = h.regions_hold;
       holds = h.masks_hold;
     }

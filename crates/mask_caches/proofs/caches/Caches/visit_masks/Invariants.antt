@@ -9,7 +9,7 @@ abbrev pub invariant-loop-part : goal.invariant-loop-part
 invariant-loop-part g l = record {
   len : vec_len l.leases ≡ l.part-index;
   room : length l.parts ≤ vec_capacity l.leases;
-  outlines_of : IsCacheOf l.self.outlines l.outlines;
+  regions_of : IsCacheOf l.self.regions l.regions;
   masks_of : IsCacheOf l.self.masks l.masks;
-  had : AreHad (arc_value l.self.fonts).fonts l.self.outlines l.self.masks l.fn.outlines l.fn.masks (take l.part-index l.parts) l.outlines l.masks l.leases.items;
+  had : AreHad (arc_value l.self.fonts).fonts l.self.regions l.self.masks l.fn.regions l.fn.masks (take l.part-index l.parts) l.regions l.masks l.leases.items;
 }

@@ -19,9 +19,9 @@ plan_of_spans-requires-clause-near c =
 pub returns-clause-draws : goal.returns-clause-draws
 returns-clause-draws c = λ history h.
     let fits : FitsSigned w64 c.args.scene.now.t = search rules in
-    let are = rw (c.deref.ensures, c.deref-2.ensures, c.as_slice.ensures, to_z-of_z fits) at c.plan_of_spans.ensures.draws in
+    let are = rw (c.deref.ensures, c.deref-2.ensures, c.as_slice.ensures, c.plain.ensures.value, to_z-of_z fits) at c.plan_of_spans.ensures.draws in
     rw (← c.self.view_is) (scene-plan history c.args.scene.now.t c.args.scene.now h (arc_value c.self.inside.script) (arc_value c.self.inside.fonts).fonts c.args.size.now c.plan_of_spans.result are)
 
 pub plan_of_spans-requires-clause-setting : goal.plan_of_spans-requires-clause-setting
 plan_of_spans-requires-clause-setting c =
-    record { script = rw c.deref.ensures c.self.invariant.script; fonts = rw c.deref-2.ensures c.self.invariant.fonts; size = c.requires.size }
+    record { script = rw c.deref.ensures c.self.invariant.script; fonts = rw c.deref-2.ensures c.self.invariant.fonts; frame = c.plain.ensures.range c.requires.size }

@@ -11,7 +11,7 @@ returns c =
     let caches = c.self.inside.caches in let pass = c.pass.inside.caches in let legal = c.proof_legal.ensures.legal in
     rw (← c.self.view_is, ← c.pass.view_is) (record {
       numbered = c.proof_legal.ensures.numbered;
-      outlines = shards-kept equal_regions region_laws.laws-law region_meaning caches.outlines pass.outlines legal.outlines;
+      regions = shards-kept equal_regions region_laws.laws-law region_meaning caches.regions pass.regions legal.regions;
       masks = shards-kept equal_masks mask_laws.laws-law mask_meaning caches.masks pass.masks legal.masks;
       composites = shards-kept equal_composites composite_laws.laws-law composite_meaning caches.composites pass.composites legal.composites;
     })

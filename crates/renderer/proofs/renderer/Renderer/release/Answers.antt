@@ -8,7 +8,7 @@ release_images-caches-requires-clause-held g c =
 
 pub invariant_of-result : goal.invariant_of-result
 invariant_of-result g c =
-    let same = c.release_images-caches.ensures.outlines in
+    let same = c.release_images-caches.ensures.regions in
     record {
       number = ap (λ o. o.first.number) same ∙ c.pass.invariant.number;
       next = ap (λ o. o.first.next) same ∙ c.pass.invariant.next;
@@ -23,6 +23,6 @@ returns g c =
       track = refl;
       composites = e.composites;
       masks = e.masks;
-      outlines = e.outlines;
+      regions = e.regions;
       holds = e.holds;
     })

@@ -8,7 +8,7 @@ use Rattle.renderer.proofs.renderer.Renderer.totals.Goals as goal
 pub invariant_of-pass : goal.invariant_of-pass
 invariant_of-pass g c =
     let old = c.pass.inside.caches in let new = c.totals-caches.result.0 in
-    caches-together c.pass.inside.track old new c.pass.invariant (each_is_later equal_regions region_meaning c.self.inside.caches.outlines.shards old.outlines new.outlines _ c.totals-caches.ensures.outlines)
+    caches-together c.pass.inside.track old new c.pass.invariant (each_is_later equal_regions region_meaning c.self.inside.caches.regions.shards old.regions new.regions _ c.totals-caches.ensures.regions)
 
 pub returns : goal.returns
 returns g c =
@@ -17,7 +17,7 @@ returns g c =
     rw (← c.self.view_is, ← c.pass.view_is) (record {
       pass = record { track = of.track; caches = e.pass };
       track = refl;
-      outlines = e.outlines;
+      regions = e.regions;
       masks = e.masks;
       composites = e.composites;
       totals = e.totals;
