@@ -5,9 +5,9 @@ usage: python3 bench/fonts.py [--program FILE] [--runs N] [--large FONT]
 
 The large font is the first there is of Debian's packages fonts-hanazono and fonts-dejavu-core, the second with zeros
 behind it up to 20 MB; zeros that no table has change nothing. Times are on the processors, the least of N runs (20).
-What reading the font takes, beyond the copy of its bytes that it keeps, is the difference from a file of the same size
-that is refused as compressed; the memory of the copy that from one that is refused at its first line. What a new letter
-takes is the difference of two plays: one shows another letter in each image, the other the same one always.
+What reading the font takes, beyond its file, whose bytes it keeps, is the difference from a file of the same size that is
+refused as compressed; in memory that from one that is refused at its first line. What a new letter takes is the
+difference of two plays: one shows another letter in each image, the other the same one always.
 The bitmap font has the same letters, drawn by otf2bdf at 40 pixels, where that is at hand.
 """
 
@@ -73,9 +73,9 @@ def reading(given, room):
     font, packed = put(f"{room}/large.ttf", held), put(f"{room}/large.woff", b"wOFF" + held[4:])
     lines = put(f"{room}/large.txt", b"line\n" + held[5:])
     words = [given.program, "check", put(f"{room}/small.ass", script(["x"]).encode())]
-    known, copied = (least([*words, it], given.runs, end) for it, end in ((font, 0), (packed, 6)))
+    known, refused = (least([*words, it], given.runs, end) for it, end in ((font, 0), (packed, 6)))
     peaks = [peak([*words, it]) for it in (font, lines)]
-    print(f"a font of {len(held) / 10**6:.1f} MB: {known - copied:.2f} ms, of {known:.2f} with its file")
+    print(f"a font of {len(held) / 10**6:.1f} MB: {known - refused:.2f} ms, of {known:.2f} with its file")
     print(f"its memory: {peaks[0]:.1f} MB, of a file of its size {peaks[1]:.1f} MB")
 
 
