@@ -99,6 +99,30 @@ typedef struct vimalorua_image {
     size_t at;
 } vimalorua_image;
 
+/* By what the width of letters goes. */
+enum {
+    VIMALORUA_BY_CANVAS = 0, /* by the columns of the script's canvas, as all else across the frame */
+    VIMALORUA_BY_ASPECT = 1  /* by its rows and the shape of the video's pixels: letters keep their shape, as libass's do */
+};
+
+/* What a frame is to a script: where the video's picture stands in it, and what is known of the video. `size` is
+ * sizeof(vimalorua_view) as the program was built with it: what it doesn't reach is taken as 0, so that the struct may
+ * grow. Where all is 0 but size, w and h, the size alone is known, as in vimalorua_draw.
+ *
+ * A line is typeset where its event has \pos, \move, \org or a clip. */
+typedef struct vimalorua_view {
+    size_t size;                       /* 16 at least */
+    uint32_t w, h;                     /* the frame's columns and rows, at most 4,096 each */
+    int32_t left, top;                 /* the upper left corner of the picture in it, each within 4,096 of 0 */
+    uint32_t content_w, content_h;     /* the picture's columns and rows, from 1 to 4,096; both 0: it fills the frame */
+    uint32_t storage_w, storage_h;     /* those of the video as it is stored, from 1 to 65,536; both 0: not known */
+    uint32_t aspect_wide, aspect_high; /* the shape of its pixels, 1 to 65,536 parts each; both 0: not known */
+    uint32_t letters;                  /* VIMALORUA_BY_CANVAS or VIMALORUA_BY_ASPECT */
+    uint32_t scale;                    /* of lines that aren't typeset, in thousandths, to 100,000; 0: 1,000 */
+    uint32_t use_bars;                 /* 1: such lines may stand in the bars beside the picture; 0: they may not */
+    uint32_t unused;                   /* 0 */
+} vimalorua_view;
+
 /* The library's number: it is that of its header. It takes no memory. */
 uint32_t vimalorua_version(void);
 
@@ -162,8 +186,17 @@ int32_t vimalorua_draw(vimalorua *handle, int64_t ms, uint32_t w, uint32_t h, ui
 int32_t vimalorua_images(vimalorua *handle, int64_t ms, uint32_t w, uint32_t h, int32_t *change, size_t *count,
                          size_t *bytes) VIMALORUA_NO_NULLS;
 
+/* The same two in a frame as the script sees it, so that text isn't stretched where the video's shape isn't that of the
+ * script's canvas: a script that was made of SRT has a canvas of 384 by 288. A view that is out of its limits, or that
+ * says more than the library knows, is a BAD_CALL. They came with version 1.2. */
+int32_t vimalorua_draw_in(vimalorua *handle, int64_t ms, const vimalorua_view *view, uint8_t *out,
+                          size_t out_len) VIMALORUA_NO_NULLS;
+int32_t vimalorua_images_in(vimalorua *handle, int64_t ms, const vimalorua_view *view, int32_t *change, size_t *count,
+                            size_t *bytes) VIMALORUA_NO_NULLS;
+
 /* Copies the list that is kept into just as many images, and just as many bytes for their masks, one image's behind the
- * other's, as vimalorua_images told. It may be copied again: only a vimalorua_images that is DONE changes it.
+ * other's, as vimalorua_images told. It may be copied again: only a vimalorua_images or
+ * vimalorua_images_in that is DONE changes it.
  *
  * DONE. OUT_OF_MEMORY, BAD_CALL, CLOSED: what the pointers have stays. */
 int32_t vimalorua_copy_images(vimalorua *handle, vimalorua_image *images, size_t count, uint8_t *masks,
