@@ -74,6 +74,7 @@ class Proved:
         if self.keeps and self.kept is None:
             self.kept = self.rt.Kept(wanted)
         for it in wanted:
+            hold_stamp(it)
             if it.name in self.given or any(low.name not in self.given for low in it.below()):
                 continue
             if (self.kept and self.kept.give(it, False, self.kept.key(it))) or self.give_left(it):
@@ -107,6 +108,12 @@ class Proved:
         """Whether something that a run of rt made is newer than all that these crates are made of."""
         files = ["crates.txt", *(file for it in crates for file in files_of(self.top, it))]
         return os.path.exists(made) and all(os.path.getmtime(f"{self.top}/{it}") <= os.path.getmtime(made) for it in files)
+
+
+def hold_stamp(crate):
+    """Finds a crate's stamp once. It reads those of the crates below, so it is to be held for these first."""
+    stamp = crate.stamp()
+    crate.stamp = lambda: stamp
 
 
 def link_or_copy(source, to):
