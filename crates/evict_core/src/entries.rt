@@ -86,7 +86,7 @@ impl<K: Eq + Hash, V> Entries<K, V> {
         }
     }
 
-    /// Takes the leave to make the value of a key, which the number then does. Want of memory changes nothing here, but
+    /// Takes the leave to make the value of a key, which the number then does. Out of memory changes nothing here, but
     /// the key is gone.
     pub fn claim(&mut self, key: K, number: u32) -> Mem<()>
     where

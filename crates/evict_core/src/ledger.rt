@@ -145,7 +145,7 @@ impl<K: Eq + Hash, V> Ledger<K, V> {
         self.entries.fill(key, cost, value);
     }
 
-    /// Puts a key in front, which is being made. Want of memory leaves the list as it is, and then the key is gone.
+    /// Puts a key in front, which is being made. Out of memory, it leaves the list as it is, and then the key is gone.
     pub fn insert(&mut self, key: K, maker: u32) -> Result<(), AllocError>
     where
         K: Drop,

@@ -1,6 +1,7 @@
 //! Counts of the samples in the pixels of a row, kept by their steps: the count of a pixel is the sum of the steps up to it.
 
-ghost use Rattle.std.specs.Prelude.{◌≡◌, ℕ, pos, neg_ℤ, true, length, [], ◌<◌, ◌≤◌, ◌+◌, ◌-◌, ◌*◌, ◌^◌, ◌+ℤ◌, ◌-ℤ◌, ◌<ℤ◌, ◌≤ℤ◌, All, IfOk, slice_index, slice_index_or};
+ghost use Rattle.std.specs.Prelude.{◌≡◌, ℕ, pos, neg_ℤ, true, length, []};
+ghost use Rattle.std.specs.Prelude.{◌<◌, ◌≤◌, ◌+◌, ◌-◌, ◌*◌, ◌^◌, ◌+ℤ◌, ◌-ℤ◌, ◌<ℤ◌, ◌≤ℤ◌, All, IfOk, slice_index, slice_index_or};
 ghost use Rattle.std.specs.Prelude.{unsigned_abs};
 ghost use Rattle.ass_num.specs.Regions.{ascend, all_ascend};
 ghost use Rattle.ass_num.specs.Coverage.{coverage_byte};
@@ -45,7 +46,8 @@ fn add_run(steps: &mut [i16], from: usize, to: usize, times: u8)
     requires inside { to + 16 < 16 * length steps.old }
     requires small { AreStepsWithin 300 steps.old }
     requires times { times ≤ 16 }
-    ensures counts { (c : ℕ) → sum_first steps.new (c + 1) +ℤ pos (times * samples_after to c) ≡ sum_first steps.old (c + 1) +ℤ pos (times * samples_after from c) }
+    ensures counts { (c : ℕ) → sum_first steps.new (c + 1) +ℤ pos (times * samples_after to c)
+        ≡ sum_first steps.old (c + 1) +ℤ pos (times * samples_after from c) }
 {
     add_step(steps, from / 16, counted(times, 16 - from % 16));
     add_step(steps, from / 16 + 1, counted(times, from % 16));

@@ -65,7 +65,8 @@ impl Renderer {
         requires size { IsFrameSize size.now }
         requires valid { All (IsValidComposite (glyph_counts self.now.fonts)) ahead.old.keys }
         ensures turn { IsTurn pass result.0 None }
-        ensures keys { OnOk result.1 ((plan : List Draw) × AreDraws self.now.script self.now.fonts (live (history_of result.0.seen)) t (plain_frame size.now) plan
+        ensures keys { OnOk result.1 ((plan : List Draw)
+            × AreDraws self.now.script self.now.fonts (live (history_of result.0.seen)) t (plain_frame size.now) plan
             × (ahead.new.keys ≡ firsts equal_composites (ahead.old.keys ++ plan_keys plan))) }
         ensures place { ahead.new.place ≡ ahead.old.place }
         ensures valid { All (IsValidComposite (glyph_counts self.now.fonts)) ahead.new.keys }

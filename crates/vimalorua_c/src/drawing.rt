@@ -68,8 +68,8 @@ pub extern "C" fn vimalorua_draw_proved(
     h: u32,
     out: &mut [u8],
 ) -> i32
-    ensures { IsCall (IsBadDraw at (record { w = w; h = h }) out.old) (out.new ≡ out.old) (IsDrawn at (plain_frame (record { w = w; h = h })) out.old out.new result)
-        result handle.old.value handle.new.value }
+    ensures { IsCall (IsBadDraw at (record { w = w; h = h }) out.old) (out.new ≡ out.old)
+        (IsDrawn at (plain_frame (record { w = w; h = h })) out.old out.new result) result handle.old.value handle.new.value }
 {
     let size = Size { w, h };
     if !may_be_shown(at, &size) || out.len() != 3 * (w as usize * h as usize) {

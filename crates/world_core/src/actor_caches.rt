@@ -56,7 +56,7 @@ impl<M: Made> ActorCaches<M> {
         }
     }
 
-    /// One shard more, with a limit of entries from 1 to 65,536 and a budget of at most 2^40. Want of memory changes nothing.
+    /// One shard more, with a limit of entries from 1 to 65,536 and a budget of at most 2^40. Out of memory changes nothing.
     pub fn add_shard(&mut self, alloc: Global, entries: u32, budget: u64) -> Mem<()>
         requires least { 1 ≤ entries }
         requires most { entries ≤ max_entries }
@@ -90,7 +90,7 @@ impl<M: Made> ActorCaches<M> {
         self.pins.as_slice()
     }
 
-    /// The actor asks for a key of a shard. Want of memory changes nothing.
+    /// The actor asks for a key of a shard. Out of memory changes nothing.
     pub fn ask(&mut self, alloc: Global, actor: u32, shard: usize, key: &M::Key) -> Mem<ActorAnswer>
         requires { shard < length self.old.shards }
         ensures answer { IfOk result (λ a. IsActorAnswer M.Key.eq (record { actor = actor; shard = shard; key = key.now }) self.old a) }
@@ -127,7 +127,7 @@ impl<M: Made> ActorCaches<M> {
         Ok(ActorAnswer::Claim)
     }
 
-    /// Spends the ticket at this place for the value of its key. Its actor has a pin then. Want of memory changes nothing.
+    /// Spends the ticket at this place for the value of its key. Its actor has a pin then. Out of memory changes nothing.
     pub fn fill(&mut self, place: usize, value: Arc<M::Value>) -> Mem<()>
         requires place { place < length self.old.tickets }
         requires value { (h : Holding M.Key) → slice_get self.old.tickets place ≡ Some h → arc_value value ≡ M.meaning.made self.old.tag h.key }

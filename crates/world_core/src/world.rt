@@ -76,7 +76,7 @@ pub fn open(alloc: Global, script: Arc<Script>, fonts: Arc<FontSet>, budget: u64
     })
 }
 
-/// One step. Want of memory gives back the world as it was, and comes of no step that takes none.
+/// One step. Out of memory gives back the world as it was, and comes of no step that takes none.
 pub fn one_step(alloc: Global, mut world: World, step: &Step) -> Result<(World, Reply), World>
     requires told { IsWorld world }
     requires step { IsValidStep (arc_value world.fonts).fonts step.now }
@@ -97,7 +97,7 @@ pub fn one_step(alloc: Global, mut world: World, step: &Step) -> Result<(World, 
 }
 
 /// Steps, one after another, and their replies. After each step the laws hold, and what is shown is the picture without caches of the
-/// first entries of the track's history. Want of memory gives back the world after the steps that were done.
+/// first entries of the track's history. Out of memory gives back the world after the steps that were done.
 pub fn run(alloc: Global, mut world: World, steps: &[Step]) -> Result<(World, Vec<Reply>), World>
     requires told { IsWorld world }
     requires steps { All (IsValidStep (arc_value world.fonts).fonts) steps.now }
