@@ -1,4 +1,4 @@
--- Public: counts that stop at their last value.
+-- Inner: counts that stop at their last value.
 use Rattle.std.specs.Prelude.{ℕ, ◌+◌, ◌≤◌}
 use Rattle.ass_num.specs.Causes.{Rose}
 

@@ -4,5 +4,6 @@ pub mod Fetched
 pub mod Files
 pub mod MemoryShelves
 pub mod MemorySinks
+pub mod Sinks
 pub mod StdSinks
 pub mod Written

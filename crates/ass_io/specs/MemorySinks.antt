@@ -6,6 +6,6 @@ use Rattle.ass_io.specs.declared.memory_sink.MemorySink.{MemorySink}
 abbrev pub bytes_of : MemorySink → List ℕ
 bytes_of sink = sink.bytes.items
 
--- how many puts were asked of it
-abbrev pub puts_of : MemorySink → ℕ
-puts_of sink = sink.puts
+-- the pieces that it was asked to put
+abbrev pub asked_of : MemorySink → List (List ℕ)
+asked_of sink = sink.asked.pieces

@@ -4,6 +4,7 @@ ghost use Rattle.std.specs.Prelude.{Some};
 
 use crate::count::count_one;
 use crate::memory_sink::MemorySink;
+use crate::piece_log::PieceLog;
 use crate::plan::Plan;
 use crate::sink::{Put, Sink};
 
@@ -14,6 +15,7 @@ pub struct FailingSink {
     sink: MemorySink,
     plan: Plan,
     faults: u64,
+    asked: PieceLog,
 }
 
 impl FailingSink {
@@ -31,6 +33,7 @@ impl FailingSink {
             sink,
             plan: Plan::new(fails),
             faults: 0,
+            asked: PieceLog::new(),
         }
     }
 
@@ -43,15 +46,12 @@ impl FailingSink {
 }
 
 impl Sink for FailingSink {
-    ghost use Rattle.ass_io.specs.Failing.{asked_puts, bytes_in};
+    ghost use Rattle.ass_io.specs.Failing.{bytes_in};
 
-    ghost held = { λ s. Some (bytes_in s) };
-
-    ghost faults = { λ s. s.faults };
-
-    ghost puts = { asked_puts };
+    ghost state = { λ s. record { held = Some (bytes_in s); faults = s.faults; asked = s.asked.pieces } };
 
     fn put(&mut self, piece: &[u8]) -> Put {
+        self.asked.note(piece);
         if !self.plan.next_fails() {
             return self.sink.put(piece);
         }

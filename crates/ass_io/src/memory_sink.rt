@@ -2,7 +2,7 @@
 
 ghost use Rattle.std.specs.Prelude.{Some};
 
-use crate::count::count_one;
+use crate::piece_log::PieceLog;
 use crate::sink::{Put, Sink};
 use std::alloc::Global;
 
@@ -10,21 +10,21 @@ use std::alloc::Global;
 #[derive(Drop)]
 pub struct MemorySink {
     bytes: Vec<u8>,
-    puts: u64,
+    asked: PieceLog,
 }
 
 impl MemorySink {
     ghost use Rattle.std.specs.Prelude.{◌≡◌, []};
-    ghost use Rattle.ass_io.specs.MemorySinks.{bytes_of, puts_of};
+    ghost use Rattle.ass_io.specs.MemorySinks.{asked_of, bytes_of};
 
     /// An empty sink, which takes no memory.
     pub fn new(alloc: Global) -> MemorySink
         ensures bytes { bytes_of result ≡ [] }
-        ensures puts { puts_of result ≡ 0 }
+        ensures asked { asked_of result ≡ [] }
     {
         MemorySink {
             bytes: Vec::new(alloc),
-            puts: 0,
+            asked: PieceLog::new(),
         }
     }
 
@@ -34,26 +34,15 @@ impl MemorySink {
     {
         self.bytes.as_slice()
     }
-
-    /// How many puts were asked of it.
-    pub fn puts(&self) -> u64
-        ensures { result ≡ puts_of self.now }
-    {
-        self.puts
-    }
 }
 
 impl Sink for MemorySink {
-    ghost use Rattle.ass_io.specs.MemorySinks.{bytes_of, puts_of};
+    ghost use Rattle.ass_io.specs.MemorySinks.{asked_of, bytes_of};
 
-    ghost held = { λ s. Some (bytes_of s) };
-
-    ghost faults = { λ _. 0 };
-
-    ghost puts = { puts_of };
+    ghost state = { λ s. record { held = Some (bytes_of s); faults = 0; asked = asked_of s } };
 
     fn put(&mut self, piece: &[u8]) -> Put {
-        count_one(&mut self.puts);
+        self.asked.note(piece);
         match self.bytes.extend_from_slice(piece) {
             Ok(()) => Put::Done,
             Err(_) => Put::OutOfMemory,

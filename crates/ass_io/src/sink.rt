@@ -1,9 +1,6 @@
 //! Where bytes go.
 
-ghost use Rattle.std.specs.Prelude.{ℕ, List};
-ghost use Rattle.std.specs.declared.option.Option.{Option};
-ghost use Rattle.ass_io.specs.Counts.{IsOneMore};
-ghost use Rattle.ass_io.specs.Written.{IsPut, IsPutCounted};
+ghost use Rattle.ass_io.specs.Sinks.{IsAskedFor, SinkState};
 
 /// How a put ended.
 #[derive(Clone, Copy, Debug, PartialEq, Eq)]
@@ -16,18 +13,12 @@ pub enum Put {
     OutOfMemory,
 }
 
-/// A sink, by the bytes that it holds, where it tells them, by a count of its faults, and by a count
-/// of the puts that were asked of it.
+/// A sink, by the bytes that it holds, where it tells them, by a count of its faults, and by the pieces that it was asked
+/// to put, which real streams have too.
 pub trait Sink {
-    ghost held: { Self → Option (List ℕ) };
-
-    ghost faults: { Self → ℕ };
-
-    ghost puts: { Self → ℕ };
+    ghost state: { Self → SinkState };
 
     /// Appends a piece.
     fn put(&mut self, piece: &[u8]) -> Put
-        ensures put { IsPut result (held self.old) (held self.new) piece.now }
-        ensures counted { IsPutCounted result (faults self.old) (faults self.new) }
-        ensures once { IsOneMore (puts self.old) (puts self.new) };
+        ensures { IsAskedFor piece.now result (state self.old) (state self.new) };
 }

@@ -2,10 +2,10 @@
 
 ghost use Rattle.std.specs.Prelude.{◌≡◌, None, OnOk};
 ghost use Rattle.std.specs.Io.KnownBytes.{Appends};
-ghost use Rattle.ass_io.specs.Counts.{IsOneMore};
-ghost use Rattle.ass_io.specs.Written.{IsPut, IsPutCounted};
+ghost use Rattle.ass_io.specs.Sinks.{IsAskedFor};
 
 use crate::count::count_one;
+use crate::piece_log::PieceLog;
 use crate::sink::{Put, Sink};
 use std::io::{self, Write};
 
@@ -15,7 +15,7 @@ use std::io::{self, Write};
 pub struct StdSink<W: Write + Drop> {
     stream: W,
     faults: u64,
-    puts: u64,
+    asked: PieceLog,
 }
 
 impl<W: Write + Drop> StdSink<W> {
@@ -28,7 +28,7 @@ impl<W: Write + Drop> StdSink<W> {
         StdSink {
             stream,
             faults: 0,
-            puts: 0,
+            asked: PieceLog::new(),
         }
     }
 }
@@ -36,22 +36,17 @@ impl<W: Write + Drop> StdSink<W> {
 impl<W: Write + Drop> Sink for StdSink<W> {
     ghost use Rattle.ass_io.specs.StdSinks.{stream_of};
 
-    ghost held = { λ _. None };
-
-    ghost faults = { λ s. s.faults };
-
-    ghost puts = { λ s. s.puts };
+    ghost state = { λ s. record { held = None; faults = s.faults; asked = s.asked.pieces } };
 
     fn put(&mut self, piece: &[u8]) -> Put
-        ensures put { IsPut result None None piece.now }
-        ensures counted { IsPutCounted result self.old.faults self.new.faults }
-        ensures once { IsOneMore self.old.puts self.new.puts }
+        ensures put { IsAskedFor piece.now result (record { held = None; faults = self.old.faults; asked = self.old.asked.pieces })
+            (record { held = None; faults = self.new.faults; asked = self.new.asked.pieces }) }
 
         // A stream that tells what it holds has the whole piece at `Done`.
         ensures written { result ≡ Put.Done →
             Appends (W.contents (stream_of self.old)) (W.contents (stream_of self.new)) piece.now }
     {
-        count_one(&mut self.puts);
+        self.asked.note(piece);
         match write_through(&mut self.stream, piece) {
             Ok(()) => Put::Done,
             Err(_) => {

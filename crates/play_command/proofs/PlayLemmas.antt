@@ -2,6 +2,7 @@
 use Rattle.std.proofs.Common.{◌≡◌, inl, inr, ℕ, Bool, true, false, cond, List, [], ◌∷◌, Option, Some, None, Ok, Err, refl, sym, subst, arith}
 use Rattle.std.specs.Prelude.{IfSome}
 use Rattle.ass_io.specs.Fetched.{Told}
+use Rattle.ass_io.specs.Sinks.{SinkState}
 use Rattle.single_run.proofs.Runs.{IsRefusal, keeps, read_kind}
 use Rattle.single_run.specs.Outcomes.{IsReportable, IsStatusReadCounted, IsWriteCounted, status_if_put}
 use Rattle.single_run.specs.Runs.{sink_change}
@@ -18,62 +19,46 @@ use Rattle.run_words.specs.declared.job.PlayJob.{PlayJob}
 use Rattle.run_status.specs.declared.status.Status.{Status}
 use Rattle.run_status.specs.declared.status.Status.TheVariants as status
 use Rattle.run_status.specs.declared.status.What.TheVariants.{Frames as images}
-use Rattle.play_command.specs.PlayRuns.{AreReadUnless, IsPlayPutCount, IsPlayRead, has_too_many, play_refusal, view_of}
+use Rattle.play_command.specs.PlayRuns.{AreReadUnless, IsPlayRead, has_too_many, play_refusal, view_of}
 use Rattle.play_command.specs.Working.{IsPlayShown, IsPlayWorked, IsSpoken, IsToldOf}
 
 -- ---- what is shown
 
-shown : (play : PlayView) (end : PlayEnd) (outcome : Outcome) (held held' : Option (List ℕ)) (faults faults' puts puts' : ℕ) →
-    IsPlayed play end held held' faults faults' puts puts' → IsToldOf end outcome → IsPlayShown play (sink_change held held' faults faults') outcome
-shown play (play_end.Done report) (Found text) held held' faults faults' puts puts' h told =
-    (h.0, record { report = report; whole = h.1; value = told }, h.2)
-shown play (play_end.Done report) (Ended why) held held' faults faults' puts puts' h told =
-    subst (λ (o : Outcome). IsPlayShown play (sink_change held held' faults faults') o) (sym told)
-    (h.0, inr (_, record { report = report; whole = h.1; value = refl }), h.2)
-shown play play_end.WriteFault outcome held held' faults faults' puts puts' h told =
-    subst (λ (o : Outcome). IsPlayShown play (sink_change held held' faults faults') o) (sym told) (h.0, h.1, h.2.0)
-shown play play_end.OutOfMemory outcome held held' faults faults' puts puts' h told =
-    subst (λ (o : Outcome). IsPlayShown play (sink_change held held' faults faults') o) (sym told) (h.0, inl h.1, h.2.0)
-
--- How often the frames sink was asked.
-puts_of : (play : PlayView) (inputs : Inputs) (end : PlayEnd) (outcome : Outcome) (held held' : Option (List ℕ)) (faults faults' puts puts' : ℕ) →
-    IsPlayed play end held held' faults faults' puts puts' → IsToldOf end outcome → IsPlayPutCount play.job (Ok inputs) (status_if_put outcome) puts puts'
-puts_of play inputs (play_end.Done report) (Found text) held held' faults faults' puts puts' h told = h.4
-puts_of play inputs (play_end.Done report) (Ended why) held held' faults faults' puts puts' h told =
-    subst (λ (o : Outcome). IsPlayPutCount play.job (Ok inputs) (status_if_put o) puts puts') (sym told) (h.4.1, h.4.2)
-puts_of play inputs play_end.WriteFault outcome held held' faults faults' puts puts' h told =
-    subst (λ (o : Outcome). IsPlayPutCount play.job (Ok inputs) (status_if_put o) puts puts') (sym told) (h.2.2, h.2.3)
-puts_of play inputs play_end.OutOfMemory outcome held held' faults faults' puts puts' h told =
-    subst (λ (o : Outcome). IsPlayPutCount play.job (Ok inputs) (status_if_put o) puts puts') (sym told) (h.2.2, h.2.3)
+shown : (play : PlayView) (end : PlayEnd) (outcome : Outcome) (old new : SinkState) → IsPlayed play end old new → IsToldOf end outcome → IsPlayShown play (sink_change old new) outcome
+shown play (play_end.Done report) (Found text) old new h told = (h.bytes, record { report = report; whole = h.whole; value = told }, h.held, h.asked)
+shown play (play_end.Done report) (Ended why) old new h told =
+    subst (λ (o : Outcome). IsPlayShown play (sink_change old new) o) (sym told)
+    (h.bytes, inr (_, record { report = report; whole = h.whole; value = refl }), h.held, h.asked)
+shown play play_end.WriteFault outcome old new h told =
+    subst (λ (o : Outcome). IsPlayShown play (sink_change old new) o) (sym told) (h.bytes, h.front, h.held, h.asked)
+shown play play_end.OutOfMemory outcome old new h told =
+    subst (λ (o : Outcome). IsPlayShown play (sink_change old new) o) (sym told) (h.bytes, inl h.front, h.held, h.asked)
 
 -- A play with what was read for it.
-pub played : (told : List ℕ → Told) (job : PlayJob) (script : List ℕ) (fonts : List (List ℕ)) (inputs : Inputs) (end : PlayEnd) (outcome : Outcome)
-    (held held' : Option (List ℕ)) (faults faults' puts puts' : ℕ) → IsPlayRead told job script fonts (Ok inputs) → IsPlayable (view_of job inputs) →
-    IsPlayed (view_of job inputs) end held held' faults faults' puts puts' → IsToldOf end outcome →
-    IsPlayWorked told job script fonts (sink_change held held' faults faults') puts puts' outcome
-played told job script fonts inputs end outcome held held' faults faults' puts puts' read playable h tells = record {
+pub played : (told : List ℕ → Told) (job : PlayJob) (script : List ℕ) (fonts : List (List ℕ)) (inputs : Inputs) (end : PlayEnd) (outcome : Outcome) (old new : SinkState) →
+    IsPlayRead told job script fonts (Ok inputs) → IsPlayable (view_of job inputs) → IsPlayed (view_of job inputs) end old new → IsToldOf end outcome →
+    IsPlayWorked told job script fonts (sink_change old new) outcome
+played told job script fonts inputs end outcome old new read playable h tells = record {
   reading = Ok inputs;
   read = read;
-  shown = (playable, shown (view_of job inputs) end outcome held held' faults faults' puts puts' h tells);
-  puts = puts_of (view_of job inputs) inputs end outcome held held' faults faults' puts puts' h tells;
+  shown = (playable, shown (view_of job inputs) end outcome old new h tells);
 }
 
 -- A play whose files are refused.
-pub refused : (told : List ℕ → Told) (job : PlayJob) (script : List ℕ) (fonts : List (List ℕ)) (why : Status) (held : Option (List ℕ)) (faults puts : ℕ) →
-    IsPlayRead told job script fonts (Err why) → IsPlayWorked told job script fonts (sink_change held held faults faults) puts puts (Ended why)
-refused told job script fonts why held faults puts read = record { reading = Err why; read = read; shown = (inl refl, keeps held); puts = refl }
+pub refused : (told : List ℕ → Told) (job : PlayJob) (script : List ℕ) (fonts : List (List ℕ)) (why : Status) (state : SinkState) →
+    IsPlayRead told job script fonts (Err why) → IsPlayWorked told job script fonts (sink_change state state) (Ended why)
+refused told job script fonts why state read = record { reading = Err why; read = read; shown = (inl refl, keeps state.held, refl) }
 
 -- ---- counts
 
-pub faults_of : (play : PlayView) (end : PlayEnd) (outcome : Outcome) (held held' : Option (List ℕ)) (faults faults' puts puts' : ℕ) →
-    IsPlayed play end held held' faults faults' puts puts' → IsToldOf end outcome → IsWriteCounted (status_if_put outcome) faults faults'
-faults_of play (play_end.Done report) (Found text) held held' faults faults' puts puts' h told = h.3
-faults_of play (play_end.Done report) (Ended why) held held' faults faults' puts puts' h told =
-    subst (λ (o : Outcome). IsWriteCounted (status_if_put o) faults faults') (sym told) (let same : faults' ≡ faults = h.3 in omega arith)
-faults_of play play_end.WriteFault outcome held held' faults faults' puts puts' h told =
-    subst (λ (o : Outcome). IsWriteCounted (status_if_put o) faults faults') (sym told) h.2.1
-faults_of play play_end.OutOfMemory outcome held held' faults faults' puts puts' h told =
-    subst (λ (o : Outcome). IsWriteCounted (status_if_put o) faults faults') (sym told) (let same : faults' ≡ faults = h.2.1 in omega arith)
+pub faults_of : (play : PlayView) (end : PlayEnd) (outcome : Outcome) (old new : SinkState) → IsPlayed play end old new → IsToldOf end outcome →
+    IsWriteCounted (status_if_put outcome) old.faults new.faults
+faults_of play (play_end.Done report) (Found text) old new h told = h.faults
+faults_of play (play_end.Done report) (Ended why) old new h told =
+    subst (λ (o : Outcome). IsWriteCounted (status_if_put o) old.faults new.faults) (sym told) (let same = h.faults in omega (arith, same))
+faults_of play play_end.WriteFault outcome old new h told = subst (λ (o : Outcome). IsWriteCounted (status_if_put o) old.faults new.faults) (sym told) h.counted
+faults_of play play_end.OutOfMemory outcome old new h told =
+    subst (λ (o : Outcome). IsWriteCounted (status_if_put o) old.faults new.faults) (sym told) (let same = h.counted in omega (arith, same))
 
 -- No file was refused in a play, and the report didn't fail yet.
 pub read_of : (end : PlayEnd) (outcome : Outcome) (before now : ℕ) → IsToldOf end outcome → now ≡ before → IsStatusReadCounted (status_if_put outcome) before now

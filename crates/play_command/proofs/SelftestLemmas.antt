@@ -9,6 +9,7 @@ use Rattle.std.proofs.lemmas.List.{length-map}
 use Rattle.std.proofs.lemmas.List.Elements.{All-cons, All-head, All-nil, All-tail}
 use Rattle.ass_events.specs.Histories.{Chunk, Entry, Flush, live, live_after}
 use Rattle.ass_events.specs.declared.event.Event.{Event}
+use Rattle.ass_io.specs.Sinks.{SinkState}
 use Rattle.ass_num.specs.Limits.{max_file_bytes}
 use Rattle.ass_script.specs.Scripts.{ScriptValue, script_of}
 use Rattle.ass_script.specs.declared.refusal.ScriptRefusal.{ScriptRefusal}
@@ -171,18 +172,18 @@ worked : (seed events : ℕ) (script : ScriptValue) (text : String Global) → I
 worked seed events script text read said = record { reading = Ok script; read = read; answered = inl (inl refl); text = λ done. said; own = tt }
 
 -- A selftest whose play was whole.
-done : (seed events workers : ℕ) (inputs : Inputs) (job : PlayJob) (before after : List ℕ) (faults faults' puts puts' : ℕ) (report : PlayReport) (text : String Global) →
+done : (seed events workers : ℕ) (inputs : Inputs) (job : PlayJob) (old new : SinkState) (before after : List ℕ) (report : PlayReport) (text : String Global) →
     IsJob (Selftest seed events workers) → IsSelftestRead seed events (Ok inputs.script) → AreSelftestInputs inputs → job ≡ selftest_job events workers → before ≡ [] →
-    IsPlayed (view_of job inputs) (play_end.Done report) (Some before) (Some after) faults faults' puts puts' →
+    old.held ≡ Some before → new.held ≡ Some after → IsPlayed (view_of job inputs) (play_end.Done report) old new →
     string_bytes text ≡ summary_text seed events (length (accepted_first report)) report.frames (digest_after 0 after) → IsSelftestWorked seed events (Found text)
-done seed events workers inputs job before after faults faults' puts puts' report text within read suits is none played said =
+done seed events workers inputs job old new before after report text within read suits is none holds_old holds_new played said =
     let least = within.1.0 in
     let view : view_of job inputs ≡ selftest_play inputs.script events workers = rw (is, suits.fonts) refl in
     let playable = subst IsPlayable view (inputs_playable seed events workers inputs job is within suits) in
-    let whole = subst (λ (v : PlayView). IsPlayed v (play_end.Done report) (Some before) (Some after) faults faults' puts puts') view played in
-    let holds : after ≡ whole.0 = held_all before after whole.0 none whole.2 in
+    let whole = subst (λ (v : PlayView). IsPlayed v (play_end.Done report) old new) view played in
+    let holds : after ≡ whole.bytes = held_all before after whole.bytes none (subst (λ h. Appends h (Some after) whole.bytes) holds_old (subst (λ h. Appends old.held h whole.bytes) holds_new whole.held)) in
     worked seed events inputs.script text read
-    (summary inputs.script seed events workers whole.0 report playable (omega (arith, least)) whole.1 (string_bytes text)
+    (summary inputs.script seed events workers whole.bytes report playable (omega (arith, least)) whole.whole (string_bytes text)
     (said ∙ ap (λ b. summary_text seed events (length (accepted_first report)) report.frames (digest_after 0 b)) holds))
 
 pub wanting : (seed events : ℕ) (reading : Result ScriptValue Status) → IsSelftestRead seed events reading → IsSelftestWorked seed events (Ended status.OutOfMemory)
@@ -195,21 +196,21 @@ wanting seed events reading read = record {
 }
 
 -- No play fails at a sink that never fails.
-pub never_fails : (play : PlayView) (held held' : Option (List ℕ)) (puts puts' : ℕ) (end : PlayEnd) → IsPlayed play end held held' 0 0 puts puts' → end ≡ play_end.WriteFault → ⊥
-never_fails play held held' puts puts' (play_end.Done report) played is = cc
-never_fails play held held' puts puts' play_end.WriteFault played is = let rose = played.2.1.0 in absurd (omega (arith, rose))
-never_fails play held held' puts puts' play_end.OutOfMemory played is = cc
+pub never_fails : (play : PlayView) (old new : SinkState) (end : PlayEnd) → old.faults ≡ 0 → new.faults ≡ 0 → IsPlayed play end old new → end ≡ play_end.WriteFault → ⊥
+never_fails play old new (play_end.Done report) before now played is = cc
+never_fails play old new play_end.WriteFault before now played is = let rose = played.counted.0 in absurd (omega (arith, before, now, rose))
+never_fails play old new play_end.OutOfMemory before now played is = cc
 
 -- A selftest, however its play ended.
-pub played_out : (seed events workers : ℕ) (inputs : Inputs) (job : PlayJob) (before after : List ℕ) (faults faults' puts puts' : ℕ) (end : PlayEnd) (outcome : Outcome) →
+pub played_out : (seed events workers : ℕ) (inputs : Inputs) (job : PlayJob) (old new : SinkState) (before after : List ℕ) (end : PlayEnd) (outcome : Outcome) →
     IsJob (Selftest seed events workers) → IsSelftestRead seed events (Ok inputs.script) → AreSelftestInputs inputs → job ≡ selftest_job events workers → before ≡ [] →
-    IsPlayed (view_of job inputs) end (Some before) (Some after) faults faults' puts puts' → IsSummedOf seed events after end outcome → IsSelftestWorked seed events outcome
-played_out seed events workers inputs job before after faults faults' puts puts' (play_end.Done report) (Found text) within read suits is none played said =
-    done seed events workers inputs job before after faults faults' puts puts' report text within read suits is none played said
-played_out seed events workers inputs job before after faults faults' puts puts' (play_end.Done report) (Ended why) within read suits is none played said =
+    old.held ≡ Some before → new.held ≡ Some after → IsPlayed (view_of job inputs) end old new → IsSummedOf seed events after end outcome → IsSelftestWorked seed events outcome
+played_out seed events workers inputs job old new before after (play_end.Done report) (Found text) within read suits is none holds_old holds_new played said =
+    done seed events workers inputs job old new before after report text within read suits is none holds_old holds_new played said
+played_out seed events workers inputs job old new before after (play_end.Done report) (Ended why) within read suits is none holds_old holds_new played said =
     subst (λ (o : Outcome). IsSelftestWorked seed events o) (sym said) (wanting seed events (Ok inputs.script) read)
-played_out seed events workers inputs job before after faults faults' puts puts' play_end.WriteFault outcome within read suits is none played said = absurd said
-played_out seed events workers inputs job before after faults faults' puts puts' play_end.OutOfMemory outcome within read suits is none played said =
+played_out seed events workers inputs job old new before after play_end.WriteFault outcome within read suits is none holds_old holds_new played said = absurd said
+played_out seed events workers inputs job old new before after play_end.OutOfMemory outcome within read suits is none holds_old holds_new played said =
     subst (λ (o : Outcome). IsSelftestWorked seed events o) (sym said) (wanting seed events (Ok inputs.script) read)
 
 -- ---- what a selftest leaves alone

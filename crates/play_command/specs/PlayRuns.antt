@@ -1,11 +1,11 @@
 -- Public: a whole run of a play.
-use Rattle.std.specs.Prelude.{◌≡◌, ◌⊎◌, Bool, ◌&&◌, if◌then◌else◌, nat_le, nat_lt, ℕ, ◌+◌, ◌≤◌, List, [], length, Option, Some, None, Result, Ok, Err}
+use Rattle.std.specs.Prelude.{◌≡◌, ◌⊎◌, inl, inr, Bool, ◌&&◌, if◌then◌else◌, nat_le, nat_lt, ℕ, ◌≤◌, List, [], ◌∷◌, ◌++◌, length, Option, Some, None, Result, Ok, Err}
 use Rattle.std.specs.Io.KnownBytes.{Appends, Keeps}
 use Rattle.ass_io.specs.Fetched.{Told}
 use Rattle.ass_io.specs.Written.{AppendsFront}
 use Rattle.ass_num.specs.Causes.{Rose}
 use Rattle.bdf_font.specs.Limits.{max_fonts}
-use Rattle.single_run.specs.Outcomes.{IsLineReported, IsMemoryReported, IsOrMemory, IsReported}
+use Rattle.single_run.specs.Outcomes.{ArePiecesTold, AreSomeTold, IsLineReported, IsMemoryReported, IsOrMemory, IsReported}
 use Rattle.single_run.specs.Runs.{SinkChange}
 use Rattle.run_status.specs.Inputs.{AreRead}
 use Rattle.run_status.specs.Laws.{AreTold, IsReadDecided}
@@ -14,11 +14,12 @@ use Rattle.play_model.specs.Outputs.{IsFrontOfPlay}
 use Rattle.play_model.specs.Plays.{IsPlayable, PlayView}
 use Rattle.play_report.specs.Reports.{report_text}
 use Rattle.play_report.specs.declared.report.PlayReport.{PlayReport}
-use Rattle.play_rounds.specs.Outputs.{IsMoreBy, IsWholePlay}
+use Rattle.play_rounds.specs.Outputs.{IsWholePlay}
 use Rattle.play_shares.specs.Instants.{frame_count}
 use Rattle.play_shares.specs.Limits.{max_frames}
 use Rattle.run_words.specs.declared.job.PlayJob.{PlayJob}
 use Rattle.run_words.specs.declared.job.WordsFault.TheVariants.{Usage}
+use Rattle.run_status.specs.Statuses.{status_line}
 use Rattle.run_status.specs.declared.status.Status.{Status}
 use Rattle.run_status.specs.declared.status.Status.TheVariants.{BadWords, Done, OutOfMemory, TooLarge, WriteFault}
 use Rattle.run_status.specs.declared.status.What.TheVariants.{Frames as images}
@@ -51,42 +52,51 @@ pub record IsPlayOutput (play : PlayView) (bytes text : List ℕ) : Type 0 where
   pub whole : IsWholePlay play bytes report
   pub value : text ≡ report_text report
 
--- What the sinks got of a play at each status: all; a prefix of what may be shown; all that is shown, and a prefix of the report; or a prefix of both.
+-- What a play has shown where memory ran out: the first images, or all.
+abbrev pub IsEarlyOutput : PlayView → List ℕ → Type 0
+IsEarlyOutput play bytes = IsFrontOfPlay play bytes ⊎ ((text : List ℕ) × IsPlayOutput play bytes text)
+
+abbrev pub early_images : (play : PlayView) (bytes : List ℕ) → IsEarlyOutput play bytes → List (List ℕ)
+early_images play bytes (inl front) = front.images
+early_images play bytes (inr (text, output)) = output.whole.shown.images
+
+-- The text is a report of the whole play.
+abbrev pub IsPlayText : PlayView → List ℕ → Type 0
+IsPlayText play text = (bytes : List ℕ) × IsPlayOutput play bytes text
+
+-- What the sinks got of a play at each status, and the pieces that they were asked to put: all; a prefix of what may be shown; all that is shown, and a prefix of the report; or a prefix of both.
 abbrev pub IsPlayPut : PlayView → SinkChange → SinkChange → Status → Type 0
 IsPlayPut play frames report Done =
-    (bytes text : List ℕ) × IsPlayOutput play bytes text × Appends frames.held_before frames.held_now bytes
-    × Appends report.held_before report.held_now text × (report.faults_now ≡ report.faults_before)
+    (bytes text : List ℕ) × (output : IsPlayOutput play bytes text) × Appends frames.before.held frames.now.held bytes
+    × Appends report.before.held report.now.held text × (report.now.faults ≡ report.before.faults)
+    × (frames.now.asked ≡ frames.before.asked ++ output.whole.shown.images) × (report.now.asked ≡ report.before.asked ++ text ∷ [])
 IsPlayPut play frames report (WriteFault Frames) =
-    (bytes : List ℕ) × IsFrontOfPlay play bytes × Appends frames.held_before frames.held_now bytes
-    × IsLineReported (WriteFault Frames) report.held_before report.held_now report.faults_before report.faults_now
+    (bytes : List ℕ) × (front : IsFrontOfPlay play bytes) × Appends frames.before.held frames.now.held bytes
+    × IsLineReported (WriteFault Frames) report.before.held report.now.held report.before.faults report.now.faults
+    × (frames.now.asked ≡ frames.before.asked ++ front.images) × (report.now.asked ≡ report.before.asked ++ status_line (WriteFault Frames) ∷ [])
 IsPlayPut play frames report (WriteFault Report) =
-    (bytes text : List ℕ) × IsPlayOutput play bytes text × Appends frames.held_before frames.held_now bytes
-    × AppendsFront report.held_before report.held_now text × Rose report.faults_before report.faults_now × (report.faults_before ≤ report.faults_now)
+    (bytes text : List ℕ) × (output : IsPlayOutput play bytes text) × Appends frames.before.held frames.now.held bytes
+    × AppendsFront report.before.held report.now.held text × Rose report.before.faults report.now.faults × (report.before.faults ≤ report.now.faults)
+    × (frames.now.asked ≡ frames.before.asked ++ output.whole.shown.images) × (report.now.asked ≡ report.before.asked ++ text ∷ [])
 IsPlayPut play frames report OutOfMemory =
-    (bytes : List ℕ) × (IsFrontOfPlay play bytes ⊎ ((text : List ℕ) × IsPlayOutput play bytes text)) × Appends frames.held_before frames.held_now bytes
-    × IsMemoryReported report.held_before report.held_now report.faults_before report.faults_now
+    (bytes : List ℕ) × (early : IsEarlyOutput play bytes) × Appends frames.before.held frames.now.held bytes
+    × IsMemoryReported report.before.held report.now.held report.before.faults report.now.faults
+    × (frames.now.asked ≡ frames.before.asked ++ early_images play bytes early) × AreSomeTold (IsPlayText play) report.before.asked report.now.asked
 IsPlayPut play frames report _ = ⊥
 
 -- What they got after an answer about the files. A play whose files are read is within its limits.
 abbrev pub IsPlayAsked : PlayJob → Result Inputs Status → SinkChange → SinkChange → Status → Type 0
 IsPlayAsked job (Err refusal) frames report status =
-    IsOrMemory refusal status × Keeps frames.held_before frames.held_now
-    × IsReported status report.held_before report.held_now report.faults_before report.faults_now (λ text. text ≡ [])
+    IsOrMemory refusal status × Keeps frames.before.held frames.now.held
+    × IsReported status report.before.held report.now.held report.before.faults report.now.faults (λ text. text ≡ [])
+    × (frames.now.asked ≡ frames.before.asked) × ArePiecesTold Report status (λ text. text ≡ []) report.before.asked report.now.asked
 IsPlayAsked job (Ok inputs) frames report status = IsPlayable (view_of job inputs) × IsPlayPut (view_of job inputs) frames report status
 
--- How often the frames sink was asked after it: not at all where the files are refused, once for each image of a whole play, and else for each at most.
-abbrev pub IsPlayPutCount : PlayJob → Result Inputs Status → Status → ℕ → ℕ → Type 0
-IsPlayPutCount job (Err refusal) status before now = now ≡ before
-IsPlayPutCount job (Ok inputs) Done before now = IsMoreBy (frame_count job) before now
-IsPlayPutCount job (Ok inputs) (WriteFault Report) before now = IsMoreBy (frame_count job) before now
-IsPlayPutCount job (Ok inputs) _ before now = (before ≤ now) × (now ≤ before + frame_count job)
-
--- A run of a play. Its files are read with one answer, as far as it is told what they hold; that answer asks for the status, for what the sinks may get, and for how often the frames sink is asked.
-pub record IsPlayRun (told : List ℕ → Told) (job : PlayJob) (script : List ℕ) (fonts : List (List ℕ)) (frames report : SinkChange) (puts_before puts_now : ℕ) (status : Status) : Type 0 where
+-- A run of a play. Its files are read with one answer, as far as it is told what they hold; that answer asks for the status, for what the sinks may get, and for the pieces that they are asked to put.
+pub record IsPlayRun (told : List ℕ → Told) (job : PlayJob) (script : List ℕ) (fonts : List (List ℕ)) (frames report : SinkChange) (status : Status) : Type 0 where
   pub reading : Result Inputs Status
   pub read : IsPlayRead told job script fonts reading
   pub asked : IsPlayAsked job reading frames report status
-  pub puts : IsPlayPutCount job reading status puts_before puts_now
 
 -- the status that an answer about the files asks for
 abbrev pub status_read : {Value : Type 0} → Result Value Status → Status

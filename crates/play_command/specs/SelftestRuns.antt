@@ -3,7 +3,7 @@ use Rattle.std.specs.Prelude.{◌≡◌, ◌⊎◌, ℕ, ◌*◌, ◌<◌, pos, 
 use Rattle.ass_script.specs.Ranges.{IsScript}
 use Rattle.ass_script.specs.Scripts.{ScriptValue}
 use Rattle.bdf_font.specs.Fonts.{FontValue}
-use Rattle.single_run.specs.Outcomes.{IsOrFault, IsOrMemory, IsReported}
+use Rattle.single_run.specs.Outcomes.{ArePiecesTold, IsOrFault, IsOrMemory, IsReported}
 use Rattle.single_run.specs.Runs.{SinkChange}
 use Rattle.generated_script.specs.Generated.{generated}
 use Rattle.generated_script.specs.Grid.{grid_font}
@@ -83,7 +83,8 @@ pub record IsSelftestRun (seed events : ℕ) (report : SinkChange) (status : Sta
   pub reading : Result ScriptValue Status
   pub read : IsSelftestRead seed events reading
   pub answered : IsOrFault Report (status_read reading) status
-  pub reported : IsReported status report.held_before report.held_now report.faults_before report.faults_now (IsSelftestReport seed events reading)
+  pub reported : IsReported status report.before.held report.now.held report.before.faults report.now.faults (IsSelftestReport seed events reading)
+  pub pieces : ArePiecesTold Report status (IsSelftestReport seed events reading) report.before.asked report.now.asked
 
 -- The generated script decides a run where the report didn't fail: what its reading asks for, or out of memory.
 abbrev pub DecidesSelftest : ℕ → ℕ → Status → Type 0

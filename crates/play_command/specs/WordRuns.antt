@@ -6,7 +6,8 @@ use Rattle.run_status.specs.declared.status.Status.{Status}
 use Rattle.run_words.specs.Words.{job_of}
 use Rattle.run_words.specs.declared.job.Job.TheVariants.{Play, Selftest}
 use Rattle.run_words.specs.declared.job.PlayJob.{PlayJob}
-use Rattle.single_run.specs.Outcomes.{IsOrMemory, IsReported}
+use Rattle.single_run.specs.Outcomes.{ArePiecesFinished, IsOrMemory, IsReported}
+use Rattle.single_run.specs.declared.outcome.Outcome.TheVariants.{Ended}
 use Rattle.single_run.specs.Runs.{IsJobRun, SinkChange}
 use Rattle.single_run.specs.Works.{work_asked}
 use Rattle.single_run.specs.declared.work.Work.{Work}
@@ -16,13 +17,15 @@ use Rattle.play_command.specs.SelftestRuns.{IsSelftestRun}
 -- The words were refused, nothing was shown, and the report got no more than a line.
 pub record IsRefusedRun (why : Status) (frames report : SinkChange) (status : Status) : Type 0 where
   pub answered : IsOrMemory why status
-  pub shown : Keeps frames.held_before frames.held_now
-  pub reported : IsReported status report.held_before report.held_now report.faults_before report.faults_now (λ text. text ≡ [])
+  pub shown : Keeps frames.before.held frames.now.held
+  pub reported : IsReported status report.before.held report.now.held report.before.faults report.now.faults (λ text. text ≡ [])
+  pub pieces_shown : frames.now.asked ≡ frames.before.asked
+  pub pieces_told : ArePiecesFinished (Ended why) status report.before.asked report.now.asked
 
 -- A run that ended with this status: what the words ask for was done, or they were refused.
-pub record IsRunOfWords (told : List ℕ → Told) (words : List (List ℕ)) (frames report : SinkChange) (puts_before puts_now : ℕ) (status : Status) : Type 0 where
+pub record IsRunOfWords (told : List ℕ → Told) (words : List (List ℕ)) (frames report : SinkChange) (status : Status) : Type 0 where
   pub refused : (why : Status) → work_asked words ≡ Err why → IsRefusedRun why frames report status
   pub work : (work : Work) → work_asked words ≡ Ok (Some work) → IsJobRun told work frames report status
   pub play : (job : PlayJob) (script : List ℕ) (fonts : List (List ℕ)) → job_of words ≡ Ok (Play job script fonts)
-      → IsPlayRun told job script fonts frames report puts_before puts_now status
+      → IsPlayRun told job script fonts frames report status
   pub selftest : (seed events workers : ℕ) → job_of words ≡ Ok (Selftest seed events workers) → IsSelftestRun seed events report status

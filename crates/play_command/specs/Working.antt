@@ -1,5 +1,5 @@
 -- Inner: plays and selftests up to what is to be reported of them.
-use Rattle.std.specs.Prelude.{◌≡◌, ◌⊎◌, ℕ, ◌≤◌, List, All, length, Result, Ok, Err, string_bytes}
+use Rattle.std.specs.Prelude.{◌≡◌, ◌⊎◌, ℕ, ◌≤◌, List, ◌++◌, All, length, Result, Ok, Err, string_bytes}
 use Rattle.std.specs.Io.KnownBytes.{Appends, Keeps}
 use Rattle.ass_io.specs.Fetched.{Told}
 use Rattle.ass_num.specs.Limits.{max_file_bytes}
@@ -23,7 +23,7 @@ use Rattle.run_status.specs.declared.status.Status.{Status}
 use Rattle.run_status.specs.declared.status.Status.TheVariants.{Done, OutOfMemory, WriteFault}
 use Rattle.run_status.specs.declared.status.Which.TheVariants.{Frames, Report}
 use Rattle.text_layout.specs.Fonts.{IsLayoutFontSet}
-use Rattle.play_command.specs.PlayRuns.{IsPlayOutput, IsPlayPutCount, IsPlayRead, status_read, view_of}
+use Rattle.play_command.specs.PlayRuns.{IsEarlyOutput, IsPlayOutput, IsPlayRead, early_images, status_read, view_of}
 use Rattle.play_command.specs.SelftestRuns.{IsSelftestRead, IsSelftestReport, accepted_first, selftest_fonts}
 
 -- There is something to report: a text, or the line of a status.
@@ -41,22 +41,25 @@ IsToldOf play_end.OutOfMemory outcome = outcome ≡ out_of_memory
 -- What the frames sink got of a play that came so far.
 abbrev pub IsPlayShown : PlayView → SinkChange → Outcome → Type 0
 IsPlayShown play frames (Found text) =
-    (bytes : List ℕ) × IsPlayOutput play bytes (string_bytes text) × Appends frames.held_before frames.held_now bytes
-IsPlayShown play frames (Ended (WriteFault Frames)) = (bytes : List ℕ) × IsFrontOfPlay play bytes × Appends frames.held_before frames.held_now bytes
+    (bytes : List ℕ) × (output : IsPlayOutput play bytes (string_bytes text)) × Appends frames.before.held frames.now.held bytes
+    × (frames.now.asked ≡ frames.before.asked ++ output.whole.shown.images)
+IsPlayShown play frames (Ended (WriteFault Frames)) =
+    (bytes : List ℕ) × (front : IsFrontOfPlay play bytes) × Appends frames.before.held frames.now.held bytes × (frames.now.asked ≡ frames.before.asked ++ front.images)
 IsPlayShown play frames (Ended OutOfMemory) =
-    (bytes : List ℕ) × (IsFrontOfPlay play bytes ⊎ ((text : List ℕ) × IsPlayOutput play bytes text)) × Appends frames.held_before frames.held_now bytes
+    (bytes : List ℕ) × (early : IsEarlyOutput play bytes) × Appends frames.before.held frames.now.held bytes
+    × (frames.now.asked ≡ frames.before.asked ++ early_images play bytes early)
 IsPlayShown play frames _ = ⊥
 
 abbrev pub IsShownAfter : PlayJob → Result Inputs Status → SinkChange → Outcome → Type 0
-IsShownAfter job (Err refusal) frames outcome = ((outcome ≡ Ended refusal) ⊎ (outcome ≡ out_of_memory)) × Keeps frames.held_before frames.held_now
+IsShownAfter job (Err refusal) frames outcome =
+    ((outcome ≡ Ended refusal) ⊎ (outcome ≡ out_of_memory)) × Keeps frames.before.held frames.now.held × (frames.now.asked ≡ frames.before.asked)
 IsShownAfter job (Ok inputs) frames outcome = IsPlayable (view_of job inputs) × IsPlayShown (view_of job inputs) frames outcome
 
 -- A play before anything is reported.
-pub record IsPlayWorked (told : List ℕ → Told) (job : PlayJob) (script : List ℕ) (fonts : List (List ℕ)) (frames : SinkChange) (puts_before puts_now : ℕ) (outcome : Outcome) : Type 0 where
+pub record IsPlayWorked (told : List ℕ → Told) (job : PlayJob) (script : List ℕ) (fonts : List (List ℕ)) (frames : SinkChange) (outcome : Outcome) : Type 0 where
   pub reading : Result Inputs Status
   pub read : IsPlayRead told job script fonts reading
   pub shown : IsShownAfter job reading frames outcome
-  pub puts : IsPlayPutCount job reading (status_if_put outcome) puts_before puts_now
 
 -- the script of what was read
 abbrev pub script_alone : Result Inputs Status → Result ScriptValue Status
@@ -98,7 +101,7 @@ IsShared (Selftest seed events workers) = Unit {0}
 IsShared _ = ⊥
 
 -- Such a job before anything is reported.
-abbrev pub IsJobWorked : (List ℕ → Told) → Job → SinkChange → ℕ → ℕ → Outcome → Type 0
-IsJobWorked told (Play play script fonts) frames puts_before puts_now outcome = IsPlayWorked told play script fonts frames puts_before puts_now outcome
-IsJobWorked told (Selftest seed events workers) frames puts_before puts_now outcome = IsSelftestWorked seed events outcome
-IsJobWorked told _ frames puts_before puts_now outcome = ⊥
+abbrev pub IsJobWorked : (List ℕ → Told) → Job → SinkChange → Outcome → Type 0
+IsJobWorked told (Play play script fonts) frames outcome = IsPlayWorked told play script fonts frames outcome
+IsJobWorked told (Selftest seed events workers) frames outcome = IsSelftestWorked seed events outcome
+IsJobWorked told _ frames outcome = ⊥

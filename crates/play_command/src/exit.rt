@@ -24,9 +24,8 @@ pub fn exit_of_words<S: Shelf, F: Sink, R: Sink, H: TestHook + Sync>(
     hook: &H,
 ) -> u8
     ensures { (status : StatusValue) × (result ≡ exit_status_of status) × IsRunOfWords (S.told shelf.old) (texts words.now)
-        (sink_change (F.held frames.old) (F.held frames.new) (F.faults frames.old) (F.faults frames.new))
-        (sink_change (R.held report.old) (R.held report.new) (R.faults report.old) (R.faults report.new))
-        (F.puts frames.old) (F.puts frames.new) status }
+        (sink_change (F.state frames.old) (F.state frames.new))
+        (sink_change (R.state report.old) (R.state report.new)) status }
 {
     top(rt, alloc, words, shelf, frames, report, hook).exit_status()
 }

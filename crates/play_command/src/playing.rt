@@ -45,8 +45,7 @@ pub fn play_with<F: Sink, H: TestHook + Sync>(
     hook: &H,
 ) -> PlayEnd
     requires { IsPlayable (view_of job inputs) }
-    ensures { IsPlayed (view_of job inputs) result (F.held frames.old) (F.held frames.new) (F.faults frames.old) (F.faults frames.new) (F.puts frames.old)
-        (F.puts frames.new) }
+    ensures { IsPlayed (view_of job inputs) result (F.state frames.old) (F.state frames.new) }
 {
     match shared(alloc, inputs) {
         Ok((script, fonts)) => play(rt, alloc, job, script, fonts, frames, hook),
@@ -81,9 +80,9 @@ pub fn play_files<S: Shelf, F: Sink, H: TestHook + Sync>(
 ) -> Outcome
     requires { IsPlay job }
     ensures run { IsPlayWorked (S.told shelf.old) job script.now fonts.now
-        (sink_change (F.held frames.old) (F.held frames.new) (F.faults frames.old) (F.faults frames.new)) (F.puts frames.old) (F.puts frames.new) result }
+        (sink_change (F.state frames.old) (F.state frames.new)) result }
     ensures read { IsStatusReadCounted (status_if_put result) (S.faults shelf.old) (S.faults shelf.new) }
-    ensures write { IsWriteCounted (status_if_put result) (F.faults frames.old) (F.faults frames.new) }
+    ensures write { IsWriteCounted (status_if_put result) (F.state frames.old).faults (F.state frames.new).faults }
     ensures reportable { IsReportable result }
     ensures spoken { IsSpoken result }
 {

@@ -2,9 +2,8 @@
 
 ghost use Rattle.std.specs.Prelude.{◌≡◌, ◌≢◌, ◌⊎◌, [], ℕ, List, None, Ok, Some};
 ghost use Rattle.ass_num.specs.Causes.{Rose};
-ghost use Rattle.single_run.specs.Outcomes.{IsFinishPutCount, IsFramesPutCount, IsOrMemory, IsReportPutCount, IsReportable, IsReported};
+ghost use Rattle.single_run.specs.Outcomes.{ArePiecesFinished, IsOrMemory, IsReportable, IsReported};
 ghost use Rattle.single_run.specs.Outcomes.{IsStatusReadCounted, IsWriteCounted, out_of_memory, status_if_put};
-ghost use Rattle.single_run.specs.Outputs.{sink_of};
 ghost use Rattle.single_run.specs.Runs.{Decides, IsJobRun, sink_change};
 ghost use Rattle.single_run.specs.Works.{work_asked};
 ghost use Rattle.single_run.specs.declared.work.Work.{Work};
@@ -15,7 +14,6 @@ ghost use Rattle.run_words.specs.Jobs.{IsJob};
 ghost use Rattle.run_words.specs.Words.{job_of, texts};
 ghost use Rattle.run_words.specs.declared.job.Job.TheVariants.{Play as a_play, Selftest as a_selftest};
 ghost use Rattle.run_words.specs.declared.job.PlayJob.{PlayJob};
-ghost use Rattle.run_status.specs.declared.status.Which.TheVariants.{Report as the_report};
 
 use crate::playing::play_files;
 use crate::selftest::do_selftest;
@@ -37,12 +35,11 @@ fn do_job<S: Shelf, F: Sink, H: TestHook + Sync>(
 ) -> Outcome
     requires within { IsJob job }
     requires shared { IsShared job }
-    ensures worked { IsJobWorked (S.told shelf.old) job (sink_change (F.held frames.old) (F.held frames.new) (F.faults frames.old) (F.faults frames.new))
-        (F.puts frames.old) (F.puts frames.new) result }
+    ensures worked { IsJobWorked (S.told shelf.old) job (sink_change (F.state frames.old) (F.state frames.new)) result }
     ensures selftest_shelf { (seed events workers : ℕ) → job ≡ a_selftest seed events workers → shelf.new ≡ shelf.old }
     ensures selftest_frames { (seed events workers : ℕ) → job ≡ a_selftest seed events workers → frames.new ≡ frames.old }
     ensures read { IsStatusReadCounted (status_if_put result) (S.faults shelf.old) (S.faults shelf.new) }
-    ensures write { IsWriteCounted (status_if_put result) (F.faults frames.old) (F.faults frames.new) }
+    ensures write { IsWriteCounted (status_if_put result) (F.state frames.old).faults (F.state frames.new).faults }
     ensures reportable { IsReportable result }
     ensures spoken { IsSpoken result }
 {
@@ -72,12 +69,11 @@ fn do_shared<S: Shelf, F: Sink, H: TestHook + Sync>(
 ) -> Outcome
     requires { work_asked (texts words.now) ≡ Ok None }
     ensures worked { (job : Job) → job_of (texts words.now) ≡ Ok job
-        → IsJobWorked (S.told shelf.old) job (sink_change (F.held frames.old) (F.held frames.new) (F.faults frames.old) (F.faults frames.new))
-        (F.puts frames.old) (F.puts frames.new) result }
+        → IsJobWorked (S.told shelf.old) job (sink_change (F.state frames.old) (F.state frames.new)) result }
     ensures selftest_shelf { (seed events workers : ℕ) → job_of (texts words.now) ≡ Ok (a_selftest seed events workers) → shelf.new ≡ shelf.old }
     ensures selftest_frames { (seed events workers : ℕ) → job_of (texts words.now) ≡ Ok (a_selftest seed events workers) → frames.new ≡ frames.old }
     ensures read { IsStatusReadCounted (status_if_put result) (S.faults shelf.old) (S.faults shelf.new) }
-    ensures write { IsWriteCounted (status_if_put result) (F.faults frames.old) (F.faults frames.new) }
+    ensures write { IsWriteCounted (status_if_put result) (F.state frames.old).faults (F.state frames.new).faults }
     ensures reportable { IsReportable result }
     ensures spoken { IsSpoken result }
 {
@@ -102,55 +98,45 @@ pub fn top<S: Shelf, F: Sink, R: Sink, H: TestHook + Sync>(
     ensures other_words { (status : Status) → work_asked (texts words.now) ≡ Err status → IsOrMemory status result }
     ensures other_shelf { (status : Status) → work_asked (texts words.now) ≡ Err status → shelf.new ≡ shelf.old }
     ensures other_frames { (status : Status) → work_asked (texts words.now) ≡ Err status → frames.new ≡ frames.old }
-    ensures other_report { (status : Status) → work_asked (texts words.now) ≡ Err status → IsReported result (R.held report.old) (R.held report.new)
-        (R.faults report.old) (R.faults report.new) (λ text. text ≡ []) }
-    ensures other_once { (status : Status) → work_asked (texts words.now) ≡ Err status
-        → IsFinishPutCount (Outcome.Ended status) result (R.puts report.old) (R.puts report.new) }
+    ensures other_report { (status : Status) → work_asked (texts words.now) ≡ Err status → IsReported result (R.state report.old).held (R.state report.new).held
+        (R.state report.old).faults (R.state report.new).faults (λ text. text ≡ []) }
+    ensures other_pieces { (status : Status) → work_asked (texts words.now) ≡ Err status
+        → ArePiecesFinished (Outcome.Ended status) result (R.state report.old).asked (R.state report.new).asked }
 
-    // The files are read in order, and what they hold asks for the answer and for what both sinks get.
+    // The files are read in order, and what they hold asks for the answer, for what both sinks get, and for the pieces that they are asked to put.
     ensures run { (work : Work) → work_asked (texts words.now) ≡ Ok (Some work) → IsJobRun (S.told shelf.old) work
-        (sink_change (F.held frames.old) (F.held frames.new) (F.faults frames.old) (F.faults frames.new))
-        (sink_change (R.held report.old) (R.held report.new) (R.faults report.old) (R.faults report.new)) result }
+        (sink_change (F.state frames.old) (F.state frames.new))
+        (sink_change (R.state report.old) (R.state report.new)) result }
 
     // Where all files are told and no count of faults rose, they decide the answer.
     ensures decided { (work : Work) → work_asked (texts words.now) ≡ Ok (Some work)
         → (Rose (S.faults shelf.old) (S.faults shelf.new) → ⊥)
-        → (Rose (F.faults frames.old) (F.faults frames.new) → ⊥)
-        → (Rose (R.faults report.old) (R.faults report.new) → ⊥)
+        → (Rose (F.state frames.old).faults (F.state frames.new).faults → ⊥)
+        → (Rose (R.state report.old).faults (R.state report.new).faults → ⊥)
         → Decides (S.told shelf.old) work result }
 
-    // Each sink gets what it gets by one put.
-    ensures shown_once { (work : Work) → work_asked (texts words.now) ≡ Ok (Some work)
-        → IsFramesPutCount (sink_of work.task) result (F.puts frames.old) (F.puts frames.new) }
-    ensures reported_once { (work : Work) → work_asked (texts words.now) ≡ Ok (Some work)
-        → IsReportPutCount (sink_of work.task) result (R.puts report.old) (R.puts report.new) }
-
-    // So it is with a play, which puts as often as it has images.
+    // So it is with a play, which puts an image each.
     ensures play { (job : PlayJob) (script : List ℕ) (fonts : List (List ℕ)) → job_of (texts words.now) ≡ Ok (a_play job script fonts)
         → IsPlayRun (S.told shelf.old) job script fonts
-        (sink_change (F.held frames.old) (F.held frames.new) (F.faults frames.old) (F.faults frames.new))
-        (sink_change (R.held report.old) (R.held report.new) (R.faults report.old) (R.faults report.new))
-        (F.puts frames.old) (F.puts frames.new) result }
+        (sink_change (F.state frames.old) (F.state frames.new))
+        (sink_change (R.state report.old) (R.state report.new)) result }
     ensures play_decided { (job : PlayJob) (script : List ℕ) (fonts : List (List ℕ)) → job_of (texts words.now) ≡ Ok (a_play job script fonts)
         → (Rose (S.faults shelf.old) (S.faults shelf.new) → ⊥)
-        → (Rose (F.faults frames.old) (F.faults frames.new) → ⊥)
-        → (Rose (R.faults report.old) (R.faults report.new) → ⊥)
+        → (Rose (F.state frames.old).faults (F.state frames.new).faults → ⊥)
+        → (Rose (R.state report.old).faults (R.state report.new).faults → ⊥)
         → DecidesPlay (S.told shelf.old) job script fonts result }
 
     // The report of a selftest is decided by its words but for their workers. It fetches and shows nothing.
     ensures selftest { (seed events workers : ℕ) → job_of (texts words.now) ≡ Ok (a_selftest seed events workers)
-        → IsSelftestRun seed events (sink_change (R.held report.old) (R.held report.new) (R.faults report.old) (R.faults report.new)) result }
+        → IsSelftestRun seed events (sink_change (R.state report.old) (R.state report.new)) result }
     ensures selftest_decided { (seed events workers : ℕ) → job_of (texts words.now) ≡ Ok (a_selftest seed events workers)
-        → (Rose (R.faults report.old) (R.faults report.new) → ⊥) → DecidesSelftest seed events result }
+        → (Rose (R.state report.old).faults (R.state report.new).faults → ⊥) → DecidesSelftest seed events result }
     ensures selftest_shelf { (seed events workers : ℕ) → job_of (texts words.now) ≡ Ok (a_selftest seed events workers) → shelf.new ≡ shelf.old }
     ensures selftest_frames { (seed events workers : ℕ) → job_of (texts words.now) ≡ Ok (a_selftest seed events workers) → frames.new ≡ frames.old }
 
-    // What either has to report is put once.
-    ensures told_once { work_asked (texts words.now) ≡ Ok None → IsReportPutCount the_report result (R.puts report.old) (R.puts report.new) }
-
     // A fault is answered only where its object's count rose.
     ensures read { IsStatusReadCounted result (S.faults shelf.old) (S.faults shelf.new) }
-    ensures write { IsWriteCounted result (F.faults frames.old) (F.faults frames.new) }
+    ensures write { IsWriteCounted result (F.state frames.old).faults (F.state frames.new).faults }
 {
     files_decide();
     match calm(alloc, words, shelf, frames, report) {

@@ -104,12 +104,12 @@ module _ (told : List ℕ → Told) (script : List ℕ) (fonts : List (List ℕ)
           (record { script = ap (λ (i : Inputs). i.script) same; fonts = ap (λ (i : Inputs). i.fonts) same; jobs = alike })
           settled too ((x.put).2).whole.shown ((y.put).2).whole.shown
 
-      both_got : (bytes : List ℕ) × Appends frames.held_before frames.held_now bytes × Appends more.held_before more.held_now bytes
-      both_got = ((x.put).0, (x.put).3, subst (λ (bytes : List ℕ). Appends more.held_before more.held_now bytes) (sym same_bytes) (y.put).3)
+      both_got : (bytes : List ℕ) × Appends frames.before.held frames.now.held bytes × Appends more.before.held more.now.held bytes
+      both_got = ((x.put).0, (x.put).3, subst (λ (bytes : List ℕ). Appends more.before.held more.now.held bytes) (sym same_bytes) (y.put).3)
 
-    pub runs_agree : (one other : PlayJob) (frames report more said : SinkChange) (before now begun ended : ℕ) → JobsAlike one other → one.mode ≡ Settled → other.mode ≡ Settled
-        → IsPlayRun told one script fonts frames report before now Done → IsPlayRun told other script fonts more said begun ended Done
-        → (bytes : List ℕ) × Appends frames.held_before frames.held_now bytes × Appends more.held_before more.held_now bytes
-    runs_agree one other frames report more said before now begun ended alike settled too first second =
+    pub runs_agree : (one other : PlayJob) (frames report more said : SinkChange) → JobsAlike one other → one.mode ≡ Settled → other.mode ≡ Settled
+        → IsPlayRun told one script fonts frames report Done → IsPlayRun told other script fonts more said Done
+        → (bytes : List ℕ) × Appends frames.before.held frames.now.held bytes × Appends more.before.held more.now.held bytes
+    runs_agree one other frames report more said alike settled too first second =
         both_got one other frames report more said alike settled too
         (done_run one first.reading frames report first.read first.asked) (done_run other second.reading more said second.read second.asked)

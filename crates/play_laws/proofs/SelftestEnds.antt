@@ -67,6 +67,6 @@ module _ (read : GeneratedScriptsAreRead) (give : GeneratedLinesGiveEvents) (fit
         | inl e ↦
             let said : IsSelftestText is.0 seed events run.reported.0 = subst (λ (r : Result ScriptValue Status). IsSelftestReport seed events r run.reported.0) e run.reported.1 in
             let digest = digest_after 0 (flat_map (λ piece. piece) said.pieces) in
-            (digest, subst (Appends report.held_before report.held_now) (said.value ∙ ap (λ n. summary_text seed events n image_count digest) count) run.reported.2)
+            (digest, subst (Appends report.before.held report.now.held) (said.value ∙ ap (λ n. summary_text seed events n image_count digest) count) run.reported.2)
         | inr e ↦ absurd (never_done (subst (λ (r : Result ScriptValue Status). IsOrFault Report (status_read r) Done) e run.answered))
       ]

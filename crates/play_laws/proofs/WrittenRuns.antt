@@ -53,7 +53,7 @@ module _ (law : ReadScriptsAreReadLater) (told : List ℕ → Told) (name : List
       law source.0 script write.later write.earlier both.0 bytes source.1 both.1 both.2
 
   put_after : (reading : Result Inputs Status) (bytes : List ℕ) → AreRead told name fonts reading → IsOrFault (sink_of (Write write)) (status_asked (Write write) reading) Done
-      → IsFramesAsked (Write write) reading bytes → Appends frames.held_before frames.held_now bytes → IsWrittenLater told name write frames
+      → IsFramesAsked (Write write) reading bytes → Appends frames.before.held frames.now.held bytes → IsWrittenLater told name write frames
   put_after (Ok inputs) bytes read answered asked put =
       let is_read = script_is_read told name fonts inputs read in
       record { script = inputs.script; is_read = is_read; bytes = bytes; put = put; shows = read_later inputs.script bytes is_read asked }

@@ -37,18 +37,18 @@ SettledPlaysAgree =
 -- Two settled runs over the same files, of which it is told what they hold, by such jobs: where both are done, both sinks got the same bytes.
 abbrev pub SettledRunsAgree : Type 0
 SettledRunsAgree =
-    (told : List ℕ → Told) (script : List ℕ) (fonts : List (List ℕ)) (one other : PlayJob) (frames report more said : SinkChange) (before now begun ended : ℕ)
+    (told : List ℕ → Told) (script : List ℕ) (fonts : List (List ℕ)) (one other : PlayJob) (frames report more said : SinkChange)
     → AreTold told script fonts → JobsAlike one other → one.mode ≡ Settled → other.mode ≡ Settled
-    → IsPlayRun told one script fonts frames report before now Done → IsPlayRun told other script fonts more said begun ended Done
-    → (bytes : List ℕ) × Appends frames.held_before frames.held_now bytes × Appends more.held_before more.held_now bytes
+    → IsPlayRun told one script fonts frames report Done → IsPlayRun told other script fonts more said Done
+    → (bytes : List ℕ) × Appends frames.before.held frames.now.held bytes × Appends more.before.held more.now.held bytes
 
 -- What a settled run over such files has put before it ended in any way is a prefix of what each one puts that is done.
 abbrev pub EarlyRunsAgree : Type 0
 EarlyRunsAgree =
-    (told : List ℕ → Told) (script : List ℕ) (fonts : List (List ℕ)) (one other : PlayJob) (frames report more said : SinkChange) (before now begun ended : ℕ) (status : Status)
+    (told : List ℕ → Told) (script : List ℕ) (fonts : List (List ℕ)) (one other : PlayJob) (frames report more said : SinkChange) (status : Status)
     → AreTold told script fonts → JobsAlike one other → one.mode ≡ Settled → other.mode ≡ Settled
-    → IsPlayRun told one script fonts frames report before now status → IsPlayRun told other script fonts more said begun ended Done
-    → (front rest : List ℕ) × Appends frames.held_before frames.held_now front × Appends more.held_before more.held_now (front ++ rest)
+    → IsPlayRun told one script fonts frames report status → IsPlayRun told other script fonts more said Done
+    → (front rest : List ℕ) × Appends frames.before.held frames.now.held front × Appends more.before.held more.now.held (front ++ rest)
 
 -- A seed and a number of events have one report, of all readings of the generated script for which memory sufficed.
 abbrev pub SelftestsAgree : Type 0

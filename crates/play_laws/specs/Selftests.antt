@@ -22,4 +22,4 @@ abbrev pub SelftestsAcceptAll : Type 0
 SelftestsAcceptAll =
     (words : List (List ℕ)) (seed events workers : ℕ) (report : SinkChange) → job_of words ≡ Ok (Selftest seed events workers)
     → IsSelftestRun seed events report Done
-    → (digest : ℕ) × Appends report.held_before report.held_now (summary_text seed events events image_count digest)
+    → (digest : ℕ) × Appends report.before.held report.now.held (summary_text seed events events image_count digest)

@@ -16,7 +16,7 @@ pub record IsWrittenLater (told : List ℕ → Told) (name : List ℕ) (write : 
   pub script : ScriptValue
   pub is_read : IsScriptRead told name (Ok script)
   pub bytes : List ℕ
-  pub put : Appends frames.held_before frames.held_now bytes
+  pub put : Appends frames.before.held frames.now.held bytes
   pub shows : AreReadLater (write.later -ℤ write.earlier) script bytes
 
 -- So does each run of such a command that is done.

@@ -1,21 +1,20 @@
 -- Times, one after another.
 use Rattle.std.proofs.Common.{◌≡◌, ℕ, ◌+◌, ◌*◌, ◌<◌, ◌≤◌, List, [], ◌∷◌, ◌++◌, length, sym, ap, subst, ◌∙◌, arith, length-append, add-mul}
 use Rattle.std.specs.List.{All}
-use Rattle.std.proofs.lemmas.List.{take_all}
 use Rattle.std.proofs.lemmas.List.Elements.{All-push}
 use Rattle.std.proofs.lemmas.Nat.{mul-le}
 use Rattle.ass_events.specs.Histories.{Entry, live}
 use Rattle.track_history.specs.Answers.{read_orders}
 use Rattle.play_shares.specs.Instants.{instant_count}
 use Rattle.play_model.specs.Images.{ShownImage, entries_before, shown_pieces}
-use Rattle.play_model.specs.Outputs.{AreShownImages, IsFrontOfPlay}
+use Rattle.play_model.specs.Outputs.{AreShownImages}
 use Rattle.play_model.specs.Plays.{IsTimeOf, PlayView, history_of_times}
 use Rattle.play_model.specs.Times.{AreFirstShown, history_before}
 use Rattle.play_model.proofs.MoreTimes.{dead_before, entries_many, first_shown_are, shown_are, shown_follow, stopped_front, time_more}
 use Rattle.play_model.proofs.SettledLaws.{live_behind}
 use Rattle.play_rounds.specs.Playing.{AreFirstImages, IsShiftStopped}
-use Rattle.play_rounds.specs.Times.{AreTimesPlayed, BeginsTime, IsTimeMore, IsTimePlayed, PlaysTime, PlaysTimes, StopsInTime, StopsInTimes}
-use Rattle.play_rounds.proofs.Puts.{length-pieces, shown}
+use Rattle.play_rounds.specs.Times.{AreFrontImages, AreTimesPlayed, BeginsTime, IsTimeMore, IsTimePlayed, PlaysTime, PlaysTimes, StopsInTime, StopsInTimes}
+use Rattle.play_rounds.proofs.Puts.{length-pieces, pieces-append}
 
 module _ (play : PlayView) where
   abbrev count : ℕ
@@ -46,12 +45,13 @@ module _ (play : PlayView) where
       earlier = subst (λ (h : List Entry). AreShownImages play h images) played.is played.are
 
       -- a front, where so much of a time was played
-      front_of : (bytes : List ℕ) → IsShiftStopped play history' (length times) bytes → IsFrontOfPlay play (shown images ++ bytes)
-      front_of bytes s = subst (λ (z : List ℕ). IsFrontOfPlay play (shown images ++ z)) (sym s.value)
-          (stopped_front play times s.fresh (shown_pieces images) (shown_pieces s.images) (shown_are play (history_of_times times) images earlier) (length-pieces images ∙ played.many)
-          (first_shown_are play (history_before times ++ s.fresh) (length times) s.images
-          (firsts (history_before times ++ s.fresh) (length times) (length s.images) s.images (subst (λ (h : List Entry). AreFirstImages play (h ++ s.fresh) (length times) (length s.images) s.images) before s.are)))
-          (let long = length-pieces s.images in let few = s.few in omega (arith, long, few)) s.rounds s.cut played.each (omega (arith, many, early)) s.fed)
+      front_of : (next : List ShownImage) → IsShiftStopped play history' (length times) next → AreFrontImages play (shown_pieces (images ++ next))
+      front_of next s =
+          let front = stopped_front play times s.fresh (shown_pieces images) (shown_pieces next) (shown_are play (history_of_times times) images earlier) (length-pieces images ∙ played.many)
+          (first_shown_are play (history_before times ++ s.fresh) (length times) next
+          (firsts (history_before times ++ s.fresh) (length times) (length next) next (subst (λ (h : List Entry). AreFirstImages play (h ++ s.fresh) (length times) (length next) next) before s.are)))
+          (let long = length-pieces next in let few = s.few in omega (arith, long, few)) s.rounds 0 played.each (omega (arith, many, early)) s.fed in
+          subst (AreFrontImages play) (sym (pieces-append images next)) (record { history = front.history; so_far = front.so_far; few = front.few; are = front.are })
 
       module _ (history'' : List Entry) (repeated : ℕ) (next : List ShownImage) (t : IsTimePlayed play history' (length times) history'' repeated next) where
         own : length next ≡ count
@@ -80,16 +80,13 @@ module _ (play : PlayView) where
               orders_are = orders_are ∙ ap read_orders (ap live t.is ∙ live_behind history' t.time dead);
             }
 
-        stopped_after : IsShiftStopped play history' (length times) (shown next)
+        stopped_after : IsShiftStopped play history' (length times) next
         stopped_after = record {
           rounds = t.rounds;
           fresh = t.time;
           fed = t.fed;
-          images = next;
           few = (let mine = own in omega (arith, mine));
           are = subst (λ (h : List Entry). AreFirstImages play h (length times) (length next) next) t.is (subst (λ (n : ℕ). AreFirstImages play history'' (length times) n next) (sym own) t.images_are);
-          cut = length (shown next);
-          value = sym (take_all (length (shown next)) (shown next) (omega arith));
         }
 
     -- a time more
@@ -99,22 +96,21 @@ module _ (play : PlayView) where
         let one = plays (length times) (dead times images many played) (long times images many played) in
         (one.0, time_after times images many played history'' repeated one.0 one.1 orders orders_are, one.2)
 
-    pub stop_time : (CutOff : List ℕ → Type 0) → StopsInTime play history' CutOff → StopsInTimes play time history CutOff
+    pub stop_time : (CutOff : List ShownImage → Type 0) → StopsInTime play history' CutOff → StopsInTimes play time history CutOff
     stop_time CutOff stops = λ times images many played.
         let one = stops (length times) (dead times images many played) (long times images many played) in
         (one.0, front_of times images many played one.0 one.1, one.2)
 
     -- the time was played whole, and then memory ran out
-    pub stop_behind : (history'' : List Entry) (repeated : ℕ) (Written : List ShownImage → Type 0) (CutOff : List ℕ → Type 0) → PlaysTime play history' history'' repeated Written
-        → ((next : List ShownImage) → length next ≤ count → Written next → CutOff (shown next)) → StopsInTimes play time history CutOff
+    pub stop_behind : (history'' : List Entry) (repeated : ℕ) (Written CutOff : List ShownImage → Type 0) → PlaysTime play history' history'' repeated Written
+        → ((next : List ShownImage) → Written next → CutOff next) → StopsInTimes play time history CutOff
     stop_behind history'' repeated Written CutOff plays cut = λ times images many played.
         let one = plays (length times) (dead times images many played) (long times images many played) in
-        let mine = own times images many played history'' repeated one.0 one.1 in
-        (shown one.0, front_of times images many played (shown one.0) (stopped_after times images many played history'' repeated one.0 one.1), cut one.0 (omega (arith, mine)) one.2)
+        (one.0, front_of times images many played one.0 (stopped_after times images many played history'' repeated one.0 one.1), cut one.0 one.2)
 
   -- times were played, the last of which is this, and then memory ran out
   pub front_whole : (times : List (List Entry)) (images next : List ShownImage) (history : List Entry) (repeated : ℕ) (orders : List ℕ) → length times < play.job.times → All (IsTimeOf play) times
-      → IsTimeMore play times images history repeated orders next → IsFrontOfPlay play (shown (images ++ next))
+      → IsTimeMore play times images history repeated orders next → AreFrontImages play (shown_pieces (images ++ next))
   front_whole times images next history repeated orders few each more =
       let all = more.all in
       let rows : (length times + 1) * count ≤ play.job.times * count = mul-le (length times + 1) count play.job.times count (omega (arith, few)) (omega arith) in
@@ -123,9 +119,6 @@ module _ (play : PlayView) where
       let many = all.many in record {
         history = history;
         so_far = record { times = times; few = few; each = each; rounds = more.rounds; last = more.time; fed = more.fed; value = all.is };
-        images = shown_pieces (images ++ next);
         few = (let long = length-pieces (images ++ next) in omega (arith, rows, row, total, many, long));
         are = shown_are play history (images ++ next) all.are;
-        cut = length (shown (images ++ next));
-        value = sym (take_all (length (shown (images ++ next))) (shown (images ++ next)) (omega arith));
       }

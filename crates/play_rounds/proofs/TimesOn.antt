@@ -1,5 +1,5 @@
 -- The shifts of a time, from its beginning to its end.
-use Rattle.std.proofs.Common.{◌≡◌, ℕ, ◌+◌, ◌-◌, ◌*◌, ◌<◌, ◌≤◌, List, [], length, min, Option, refl, sym, ap, subst, ◌∙◌, arith, append-nil, le_refl}
+use Rattle.std.proofs.Common.{◌≡◌, ℕ, ◌+◌, ◌*◌, ◌<◌, ◌≤◌, List, [], length, min, refl, sym, ap, subst, ◌∙◌, arith, append-nil, le_refl}
 use Rattle.std.specs.Arc.{arc_value}
 use Rattle.ass_events.specs.Histories.{Entry, live}
 use Rattle.play_shares.specs.Instants.{instant_count}
@@ -10,7 +10,8 @@ use Rattle.play_shares.proofs.RoundPlaces.{all_reached, none_before, some_images
 use Rattle.run_words.specs.declared.job.Mode.{Mode}
 use Rattle.run_words.specs.declared.job.Mode.TheVariants.{Live, Settled}
 use Rattle.std.proofs.lemmas.Nat.{mul-le}
-use Rattle.play_model.specs.Images.{ShownImage, entries_before}
+use Rattle.ass_io.specs.Sinks.{SinkState}
+use Rattle.play_model.specs.Images.{ShownImage, entries_before, shown_pieces}
 use Rattle.play_model.specs.Plays.{IsPlayable, PlayView, all_feeding, repeated_before}
 use Rattle.play_model.proofs.JoinedPasses.{nil_of}
 use Rattle.play_model.proofs.Rounds.{feeds_all, nothing_fed, repeats_all}
@@ -105,10 +106,10 @@ module _ (play : PlayView) where
 
 -- ---- a time
 
-module _ (h h' h'' : Option (List ℕ)) (f f' f'' p p' p'' a a' a'' : ℕ) (play : PlayView) (playable : IsPlayable play) (count : ℕ) (all : count ≡ length play.script.lines) where
+module _ (s s' s'' : SinkState) (a a' a'' : ℕ) (play : PlayView) (playable : IsPlayable play) (count : ℕ) (all : count ≡ length play.script.lines) where
   pub live_time : (history history' : List Entry) (more : ℕ) → play.job.mode ≡ Live
-      → PlaysOn play (crew_of play.job Both) 0 (rounds_of play.job count Both) history history' more (λ next. AreImagesWritten next h h' f f' p p' a a')
-      → PlaysTime play history history' more (λ images. AreImagesWritten images h h' f f' p p' a a')
+      → PlaysOn play (crew_of play.job Both) 0 (rounds_of play.job count Both) history history' more (λ next. AreImagesWritten next s s' a a')
+      → PlaysTime play history history' more (λ images. AreImagesWritten images s s' a a')
   live_time history history' more mode plays = λ q dead long.
       let one = plays history q Both 0 [] refl (live_begins play history q mode dead long) in
       let rounds : rounds_of play.job count Both ≡ rounds_of play.job (length play.script.lines) Both = ap (λ (n : ℕ). rounds_of play.job n Both) all in
@@ -119,25 +120,21 @@ module _ (h h' h'' : Option (List ℕ)) (f f' f'' p p' p'' a a' a'' : ℕ) (play
         one.2,
       )
 
-  pub live_stop : (s : Stop) (history : List Entry) → play.job.mode ≡ Live → StopsIn play (crew_of play.job Both) 0 history (λ most bytes. IsCutOff s most bytes h h' f f' p p')
-      → StopsInTime play history (λ bytes. IsCutOff s (instant_count play.job) bytes h h' f f' p p')
-  live_stop s history mode stops = λ q dead long.
-      let one = stops history q Both 0 [] refl (live_begins play history q mode dead long) in
-      let most : instant_count play.job - 0 ≡ instant_count play.job = omega arith in
-      (one.0, one.1, subst (λ (n : ℕ). IsCutOff s n one.0 h h' f f' p p') most one.2)
+  pub live_stop : (e : Stop) (history : List Entry) → play.job.mode ≡ Live → StopsIn play (crew_of play.job Both) 0 history (λ next. IsCutOff e (shown_pieces next) s s')
+      → StopsInTime play history (λ images. IsCutOff e (shown_pieces images) s s')
+  live_stop e history mode stops = λ q dead long.
+      stops history q Both 0 [] refl (live_begins play history q mode dead long)
 
-  pub feed_stop : (s : Stop) (history : List Entry) → play.job.mode ≡ Settled → StopsIn play (crew_of play.job Feed) 0 history (λ most bytes. IsCutOff s most bytes h h' f f' p p')
-      → StopsInTime play history (λ bytes. IsCutOff s (instant_count play.job) bytes h h' f f' p p')
-  feed_stop s history mode stops = λ q dead long.
-      let one = stops history q Feed 0 [] refl (feed_begins play history q mode dead long) in
-      let most : instant_count play.job - 0 ≡ instant_count play.job = omega arith in
-      (one.0, one.1, subst (λ (n : ℕ). IsCutOff s n one.0 h h' f f' p p') most one.2)
+  pub feed_stop : (e : Stop) (history : List Entry) → play.job.mode ≡ Settled → StopsIn play (crew_of play.job Feed) 0 history (λ next. IsCutOff e (shown_pieces next) s s')
+      → StopsInTime play history (λ images. IsCutOff e (shown_pieces images) s s')
+  feed_stop e history mode stops = λ q dead long.
+      stops history q Feed 0 [] refl (feed_begins play history q mode dead long)
 
   module _ (history history' : List Entry) (fed : ℕ) (mode : play.job.mode ≡ Settled)
-      (feeds : PlaysOn play (crew_of play.job Feed) 0 (rounds_of play.job count Feed) history history' fed (λ next. AreImagesWritten next h h' f f' p p' a a')) where
+      (feeds : PlaysOn play (crew_of play.job Feed) 0 (rounds_of play.job count Feed) history history' fed (λ next. AreImagesWritten next s s' a a')) where
     -- after all lines were fed nothing is written yet
     fed_first : (q : ℕ) → live history ≡ [] → length history ≡ entries_before play q
-        → IsShiftPlayed play history q Feed (all_feeding play) history' fed [] × AreImagesWritten [] h h' f f' p p' a a'
+        → IsShiftPlayed play history q Feed (all_feeding play) history' fed [] × AreImagesWritten [] s s' a a'
     fed_first q dead long =
         let one = feeds history q Feed 0 [] refl (feed_begins play history q mode dead long) in
         let rounds : rounds_of play.job count Feed ≡ all_feeding play = ap (λ (n : ℕ). rounds_of play.job n Feed) all in
@@ -145,12 +142,12 @@ module _ (h h' h'' : Option (List ℕ)) (f f' f'' p p' p'' a a' a'' : ℕ) (play
         let none : one.0 ≡ [] = nil_of one.0 one.1.images_are.many in (
           subst (IsShiftPlayed play history q Feed (all_feeding play) history' fed) none
               (subst (λ (n : ℕ). IsShiftPlayed play history q Feed n history' fed one.0) rounds (subst (λ (n : ℕ). IsShiftPlayed play history q Feed (rounds_of play.job count Feed) history' n one.0) sum one.1)),
-          subst (λ (xs : List ShownImage). AreImagesWritten xs h h' f f' p p' a a') none one.2,
+          subst (λ (xs : List ShownImage). AreImagesWritten xs s s' a a') none one.2,
         )
 
     pub settled_time : (history'' : List Entry) (more : ℕ)
-        → PlaysOn play (crew_of play.job Paint) 0 (rounds_of play.job count Paint) history' history'' more (λ next. AreImagesWritten next h' h'' f' f'' p' p'' a' a'')
-        → PlaysTime play history history'' (fed + more) (λ images. AreImagesWritten images h h'' f f'' p p'' a a'')
+        → PlaysOn play (crew_of play.job Paint) 0 (rounds_of play.job count Paint) history' history'' more (λ next. AreImagesWritten next s' s'' a' a'')
+        → PlaysTime play history history'' (fed + more) (λ images. AreImagesWritten images s s'' a a'')
     settled_time history'' more paints = λ q dead long.
         let first = fed_first q dead long in
         let two = paints history q Paint 0 [] refl (paint_begins play history q history' fed [] mode first.0) in
@@ -158,12 +155,12 @@ module _ (h h' h'' : Option (List ℕ)) (f f' f'' p p' p'' a a' a'' : ℕ) (play
           two.0,
           paint_ends play playable history q (rounds_of play.job count Paint) history'' fed more two.0 (omega arith) first.0.repeated_are
               (subst (λ (n : ℕ). IsShiftPlayed play history q Paint (rounds_of play.job count Paint) history'' n two.0) sum two.1),
-          shown_then h h' h'' f f' f'' p p' p'' a a' a'' [] two.0 first.1 two.2,
+          shown_then s s' s'' a a' a'' [] two.0 first.1 two.2,
         )
 
-    pub paint_stop : (s : Stop) → StopsIn play (crew_of play.job Paint) 0 history' (λ most bytes. IsCutOff s most bytes h' h'' f' f'' p' p'')
-        → StopsInTime play history (λ bytes. IsCutOff s (instant_count play.job) bytes h h'' f f'' p p'')
-    paint_stop s stops = λ q dead long.
+    pub paint_stop : (e : Stop) → StopsIn play (crew_of play.job Paint) 0 history' (λ next. IsCutOff e (shown_pieces next) s' s'')
+        → StopsInTime play history (λ images. IsCutOff e (shown_pieces images) s s'')
+    paint_stop e stops = λ q dead long.
         let first = fed_first q dead long in
         let two = stops history q Paint 0 [] refl (paint_begins play history q history' fed [] mode first.0) in
-        (two.0, two.1, shown_cut h h' h'' f f' f'' p p' p'' a a' a'' s [] (instant_count play.job - 0) (instant_count play.job) two.0 first.1 two.2 (omega arith))
+        (two.0, two.1, shown_cut s s' s'' a a' a'' e [] two.0 first.1 two.2)

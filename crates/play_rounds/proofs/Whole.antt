@@ -1,7 +1,9 @@
 -- How a whole play ends.
-use Rattle.std.proofs.Common.{◌≡◌, ℕ, ◌*◌, ◌<◌, ◌≤◌, Bool, List, [], length, Option, Result, Ok, Err, refl, sym, ap, subst, ◌∙◌, arith}
+use Rattle.std.proofs.Common.{◌≡◌, ℕ, ◌*◌, ◌<◌, ◌≤◌, Bool, List, [], length, Result, Ok, Err, refl, sym, ap, subst, ◌∙◌, arith, append-nil}
 use Rattle.std.specs.List.{filter}
 use Rattle.std.specs.Prelude.{not}
+use Rattle.std.proofs.KnownBytes.{Appends-nil}
+use Rattle.ass_io.specs.Sinks.{SinkState}
 use Rattle.ass_events.specs.Histories.{Entry}
 use Rattle.ass_script.specs.Scripts.{ScriptValue}
 use Rattle.bdf_font.specs.Fonts.{FontValue}
@@ -16,14 +18,14 @@ use Rattle.play_model.specs.Plays.{IsTimeOf, PlayView, good_flags, history_of_ti
 use Rattle.play_model.proofs.MoreTimes.{shown_are}
 use Rattle.play_model.proofs.Rounds.{nothing_fed}
 use Rattle.std.proofs.lemmas.List.Elements.{All-nil}
-use Rattle.play_rounds.specs.Outputs.{AreLastTotals, AreImagesWritten, IsMoreBy, IsPlayed, IsStopped}
+use Rattle.play_rounds.specs.Outputs.{AreLastTotals, AreImagesWritten, IsPlayed, IsStopped}
 use Rattle.play_rounds.specs.Times.{EndsAs, HavePlayed}
 use Rattle.play_rounds.specs.declared.ends.PlayEnd.{PlayEnd}
 use Rattle.play_rounds.specs.declared.ends.PlayEnd.TheVariants.{Done, WriteFault, OutOfMemory}
 use Rattle.play_rounds.specs.declared.ends.Played.{Played}
 use Rattle.play_rounds.specs.declared.ends.Stop.{Stop}
 use Rattle.play_rounds.specs.declared.ends.Stop.TheVariants as stop
-use Rattle.play_rounds.proofs.Puts.{length-pieces, nothing_cut, shown}
+use Rattle.play_rounds.proofs.Puts.{length-pieces, shown}
 
 abbrev pub play_view : PlayJob → ScriptValue → List FontValue → PlayView
 play_view job script fonts = record { job = job; script = script; fonts = fonts }
@@ -46,15 +48,15 @@ front_none play some = record {
   value = refl;
 }
 
-module _ (play : PlayView) (history : List Entry) (h h' : Option (List ℕ)) (f f' p p' a a' : ℕ) (good : List Bool) (good_is : good ≡ good_flags play.script) (totals : List Totals)
+module _ (play : PlayView) (history : List Entry) (s s' : SinkState) (a a' : ℕ) (good : List Bool) (good_is : good ≡ good_flags play.script) (totals : List Totals)
     (last : (asks : ℕ) → asks ≤ a' → AreLastTotals play.job.budget asks totals) where
-  done_played : (played : Played) (report : PlayReport) → EndsAs play.job good (Ok played) totals (Done report) → HavePlayed play play.job.times history played (λ images. AreImagesWritten images h h' f f' p p' a a') → IsPlayed play (Done report) h h' f f' p p'
+  done_played : (played : Played) (report : PlayReport) → EndsAs play.job good (Ok played) totals (Done report) → HavePlayed play play.job.times history played (λ images. AreImagesWritten images s s' a a') → IsPlayed play (Done report) s s'
   done_played played report ends has =
       let images = has.2.0 in let times = has.2.1 in let written = has.2.2 in
       let all : length (shown_pieces images) ≡ frame_count play.job = length-pieces images ∙ (times.many ∙ ap (λ (n : ℕ). n * instant_count play.job) has.1) in
-      let asked = written.1 in (
-        shown images,
-        record {
+      let asked = written.1 in record {
+        bytes = shown images;
+        whole = record {
           times = has.0;
           shown = record {
             as_many = has.1;
@@ -72,14 +74,14 @@ module _ (play : PlayView) (history : List Entry) (h h' : Option (List ℕ)) (f 
           pieces = refl;
           are = subst (λ (x : List Entry). AreShownImages play x images) times.is times.are;
           totals = subst (AreLastTotals play.job.budget (all_masks images)) (sym ends.4) (last (all_masks images) (omega (arith, asked)));
-        },
-        written.0.0,
-        written.0.1,
-        subst (λ (n : ℕ). IsMoreBy n p p') all written.0.2,
-      )
+        };
+        held = written.0.held;
+        faults = written.0.faults;
+        asked = written.0.asked;
+      }
 
   pub play_ends : (played : Result Played Stop) (end : PlayEnd) → EndsAs play.job good played totals end
-      → ((one : Played) → played ≡ Ok one → HavePlayed play play.job.times history one (λ images. AreImagesWritten images h h' f f' p p' a a')) → ((s : Stop) → played ≡ Err s → IsStopped play s h h' f f' p p') → IsPlayed play end h h' f f' p p'
+      → ((one : Played) → played ≡ Ok one → HavePlayed play play.job.times history one (λ images. AreImagesWritten images s s' a a')) → ((e : Stop) → played ≡ Err e → IsStopped play e s s') → IsPlayed play end s s'
   play_ends (Ok played) (Done report) ends has stopped = done_played played report ends (has played refl)
   play_ends (Ok played) WriteFault ends has stopped = absurd ends
   play_ends (Ok played) OutOfMemory ends has stopped = absurd ends
@@ -91,5 +93,5 @@ module _ (play : PlayView) (history : List Entry) (h h' : Option (List ℕ)) (f 
   play_ends (Err stop.OutOfMemory) OutOfMemory ends has stopped = stopped stop.OutOfMemory refl
 
 -- nothing was begun
-pub play_refused : (play : PlayView) (h : Option (List ℕ)) (f p : ℕ) → 0 < play.job.times → IsPlayed play OutOfMemory h h f f p p
-play_refused play h f p some = ([], front_none play some, nothing_cut h h h f f f p p p (frame_count play.job))
+pub play_refused : (play : PlayView) (s : SinkState) → 0 < play.job.times → IsPlayed play OutOfMemory s s
+play_refused play s some = record { bytes = []; front = front_none play some; held = Appends-nil s.held; counted = refl; asked = sym (append-nil s.asked) }

@@ -1,8 +1,10 @@
 -- Public: what a play writes and reports.
-use Rattle.std.specs.Prelude.{◌≡◌, ℕ, ◌+◌, ◌-◌, ◌*◌, ◌^◌, ◌≤◌, min, not, List, length, map, filter, take, All, Option, slice_index_or}
+use Rattle.std.specs.Prelude.{◌≡◌, ℕ, ◌+◌, ◌*◌, ◌≤◌, not, List, ◌++◌, length, map, filter, take, All, slice_index_or}
 use Rattle.std.specs.Io.KnownBytes.{Appends}
 use Rattle.std.specs.List.{flat_map}
 use Rattle.ass_events.specs.Histories.{Entry, live}
+use Rattle.ass_io.specs.Sinks.{SinkState}
+use Rattle.ass_io.specs.Written.{AppendsFront}
 use Rattle.ass_io.specs.declared.sink.Put.{Put}
 use Rattle.ass_io.specs.declared.sink.Put.TheVariants as put
 use Rattle.ass_num.specs.Causes.{Rose}
@@ -25,40 +27,36 @@ use Rattle.play_rounds.specs.declared.ends.Stop.TheVariants as stop
 
 -- ---- puts
 
--- The count is so many more, or stands at its last value.
-abbrev pub IsMoreBy : ℕ → ℕ → ℕ → Type 0
-IsMoreBy count before now = (min (before + count) (2 ^ 64 - 1) ≤ now) × (before ≤ now) × (now ≤ before + count)
-
--- The sink got these pieces whole, by as many puts as there are.
-abbrev pub AreWritten : List (List ℕ) → Option (List ℕ) → Option (List ℕ) → ℕ → ℕ → ℕ → ℕ → Type 0
-AreWritten pieces held held' faults faults' puts puts' =
-    Appends held held' (flat_map (λ piece. piece) pieces) × (faults' ≡ faults) × IsMoreBy (length pieces) puts puts'
+-- The sink was asked to put these pieces, one after another, and got them whole.
+pub record AreWritten (pieces : List (List ℕ)) (old new : SinkState) : Type 0 where
+  pub held : Appends old.held new.held (flat_map (λ piece. piece) pieces)
+  pub faults : new.faults ≡ old.faults
+  pub asked : new.asked ≡ old.asked ++ pieces
 
 -- The count of faults rose at `WriteFault`, and is as it was where memory ran out.
 abbrev pub IsStopCounted : Stop → ℕ → ℕ → Type 0
 IsStopCounted stop.WriteFault faults faults' = Rose faults faults' × (faults ≤ faults')
 IsStopCounted stop.OutOfMemory faults faults' = faults' ≡ faults
 
--- The sink got these bytes before the play stopped, by so many puts at most.
-abbrev pub IsCutOff : Stop → ℕ → List ℕ → Option (List ℕ) → Option (List ℕ) → ℕ → ℕ → ℕ → ℕ → Type 0
-IsCutOff stop most bytes held held' faults faults' puts puts' =
-    Appends held held' bytes × IsStopCounted stop faults faults' × (puts ≤ puts') × (puts' ≤ puts + most)
+-- The sink was asked to put these pieces before the play stopped, and got a prefix of their bytes.
+pub record IsCutOff (stop : Stop) (pieces : List (List ℕ)) (old new : SinkState) : Type 0 where
+  pub held : AppendsFront old.held new.held (flat_map (λ piece. piece) pieces)
+  pub counted : IsStopCounted stop old.faults new.faults
+  pub asked : new.asked ≡ old.asked ++ pieces
 
--- The sink got a prefix of the pieces, by a put for each at most.
-abbrev pub AreCutOff : Stop → List (List ℕ) → Option (List ℕ) → Option (List ℕ) → ℕ → ℕ → ℕ → ℕ → Type 0
-AreCutOff stop pieces held held' faults faults' puts puts' =
-    (cut : ℕ) × IsCutOff stop (length pieces) (take cut (flat_map (λ piece. piece) pieces)) held held' faults faults' puts puts'
+-- It was asked to put the first of these pieces before the play stopped.
+abbrev pub AreCutOff : Stop → List (List ℕ) → SinkState → SinkState → Type 0
+AreCutOff stop pieces old new = (count : ℕ) × IsCutOff stop (take count pieces) old new
 
--- The sink got pieces one after another: all of them by as many puts, or a front.
-abbrev pub ArePut : List (List ℕ) → Put → Option (List ℕ) → Option (List ℕ) → ℕ → ℕ → ℕ → ℕ → Type 0
-ArePut pieces put.Done held held' faults faults' puts puts' = AreWritten pieces held held' faults faults' puts puts'
-ArePut pieces put.Failed held held' faults faults' puts puts' = AreCutOff stop.WriteFault pieces held held' faults faults' puts puts'
-ArePut pieces put.OutOfMemory held held' faults faults' puts puts' = AreCutOff stop.OutOfMemory pieces held held' faults faults' puts puts'
+-- The sink was asked to put pieces one after another: all of them, or the first until one wasn't put whole.
+abbrev pub ArePut : List (List ℕ) → Put → SinkState → SinkState → Type 0
+ArePut pieces put.Done old new = AreWritten pieces old new
+ArePut pieces put.Failed old new = AreCutOff stop.WriteFault pieces old new
+ArePut pieces put.OutOfMemory old new = AreCutOff stop.OutOfMemory pieces old new
 
--- The sink got these images whole, by as many puts as there are. So many composed masks were asked for before and after: what the images need was.
-abbrev pub AreImagesWritten : List ShownImage → Option (List ℕ) → Option (List ℕ) → ℕ → ℕ → ℕ → ℕ → ℕ → ℕ → Type 0
-AreImagesWritten images held held' faults faults' puts puts' asked asked' =
-    AreWritten (shown_pieces images) held held' faults faults' puts puts' × (asked + all_masks images ≤ asked')
+-- The sink was asked to put these images, and got them whole. So many composed masks were asked for before and after: what the images need was.
+abbrev pub AreImagesWritten : List ShownImage → SinkState → SinkState → ℕ → ℕ → Type 0
+AreImagesWritten images old new asked asked' = AreWritten (shown_pieces images) old new × (asked + all_masks images ≤ asked')
 
 -- ---- what a whole play has written and reports
 
@@ -88,14 +86,24 @@ pub record IsWholePlay (play : PlayView) (bytes : List ℕ) (report : PlayReport
   pub are : AreShownImages play (history_of_times times) images
   pub totals : AreLastTotals play.job.budget (all_masks images) report.totals
 
--- The play stopped, and what the sink got is a prefix of what it may show.
-abbrev pub IsStopped : PlayView → Stop → Option (List ℕ) → Option (List ℕ) → ℕ → ℕ → ℕ → ℕ → Type 0
-IsStopped play stop held held' faults faults' puts puts' =
-    (bytes : List ℕ) × IsFrontOfPlay play bytes × IsCutOff stop (frame_count play.job) bytes held held' faults faults' puts puts'
+-- The play stopped. The sink was asked to put the first images, and got a prefix of their bytes.
+pub record IsStopped (play : PlayView) (stop : Stop) (old new : SinkState) : Type 0 where
+  pub bytes : List ℕ
+  pub front : IsFrontOfPlay play bytes
+  pub held : Appends old.held new.held bytes
+  pub counted : IsStopCounted stop old.faults new.faults
+  pub asked : new.asked ≡ old.asked ++ front.images
 
--- How a play ended, and what the sink of its images got: all images by as many puts, or a front.
-abbrev pub IsPlayed : PlayView → PlayEnd → Option (List ℕ) → Option (List ℕ) → ℕ → ℕ → ℕ → ℕ → Type 0
-IsPlayed play (Done report) held held' faults faults' puts puts' =
-    (bytes : List ℕ) × IsWholePlay play bytes report × Appends held held' bytes × (faults' ≡ faults) × IsMoreBy (frame_count play.job) puts puts'
-IsPlayed play WriteFault held held' faults faults' puts puts' = IsStopped play stop.WriteFault held held' faults faults' puts puts'
-IsPlayed play OutOfMemory held held' faults faults' puts puts' = IsStopped play stop.OutOfMemory held held' faults faults' puts puts'
+-- The play was whole. The sink was asked to put its images, and got them whole.
+pub record IsDonePlay (play : PlayView) (report : PlayReport) (old new : SinkState) : Type 0 where
+  pub bytes : List ℕ
+  pub whole : IsWholePlay play bytes report
+  pub held : Appends old.held new.held bytes
+  pub faults : new.faults ≡ old.faults
+  pub asked : new.asked ≡ old.asked ++ whole.shown.images
+
+-- How a play ended, and what the sink of its images was asked to put.
+abbrev pub IsPlayed : PlayView → PlayEnd → SinkState → SinkState → Type 0
+IsPlayed play (Done report) old new = IsDonePlay play report old new
+IsPlayed play WriteFault old new = IsStopped play stop.WriteFault old new
+IsPlayed play OutOfMemory old new = IsStopped play stop.OutOfMemory old new

@@ -1,11 +1,10 @@
 -- Inner: what was played of a shift.
-use Rattle.std.specs.Prelude.{◌≡◌, ℕ, ◌+◌, ◌-◌, ◌<◌, ◌≤◌, List, [], ◌++◌, length, take, min, slice_index_or}
-use Rattle.std.specs.List.{flat_map}
+use Rattle.std.specs.Prelude.{◌≡◌, ℕ, ◌+◌, ◌<◌, ◌≤◌, List, [], ◌++◌, length, min, slice_index_or}
 use Rattle.ass_events.specs.Histories.{Entry, live}
 use Rattle.play_shares.specs.Instants.{instant_count}
 use Rattle.play_shares.specs.Renderers.{first_place}
 use Rattle.run_words.specs.declared.job.PlayJob.{PlayJob}
-use Rattle.play_model.specs.Images.{IsShownImage, ShownImage, entries_before, shown_pieces}
+use Rattle.play_model.specs.Images.{IsShownImage, ShownImage, entries_before}
 use Rattle.play_model.specs.Plays.{IsFedTo, PlayView, all_feeding, repeated_before}
 use Rattle.play_workers.specs.declared.worker.Role.{Role}
 use Rattle.play_rounds.specs.Shifts.{IsShiftOf, crew_of}
@@ -46,16 +45,13 @@ pub record IsShiftPlayed (play : PlayView) (old : List Entry) (q : ℕ) (shift :
   pub repeated_are : repeated ≡ repeats_before play shift rounds
   pub images_are : AreFirstImages play history q (images_before shift play.job rounds) images
 
--- A shift ended early: so many rounds were fed whole, and the first images of time q and a prefix of the next were written, all of that history.
-pub record IsShiftStopped (play : PlayView) (old : List Entry) (q : ℕ) (bytes : List ℕ) : Type 0 where
+-- A shift ended early: so many rounds were fed whole, and these are the first images of time q, all of that history.
+pub record IsShiftStopped (play : PlayView) (old : List Entry) (q : ℕ) (images : List ShownImage) : Type 0 where
   pub rounds : ℕ
   pub fresh : List Entry
   pub fed : IsFedTo play rounds fresh
-  pub images : List ShownImage
   pub few : length images ≤ instant_count play.job
   pub are : AreFirstImages play (old ++ fresh) q (length images) images
-  pub cut : ℕ
-  pub value : bytes ≡ take cut (flat_map (λ piece. piece) (shown_pieces images))
 
 -- What rounds of a shift come to, of whatever shift the crew is, and whatever was played before: so many events more were repeated, and images were written.
 abbrev pub PlaysOn : PlayView → List Role → ℕ → ℕ → List Entry → List Entry → ℕ → (List ShownImage → Type 0) → Type 0
@@ -63,8 +59,8 @@ PlaysOn play roles round rounds history history' more Written =
     (old : List Entry) (q : ℕ) (shift : Shift) (repeated : ℕ) (images : List ShownImage) → roles ≡ crew_of play.job shift → IsShiftPlayed play old q shift round history repeated images
     → (next : List ShownImage) × IsShiftPlayed play old q shift rounds history' (repeated + more) (images ++ next) × Written next
 
--- What they come to where the play stops in them. So many images may have been begun at most.
-abbrev pub StopsIn : PlayView → List Role → ℕ → List Entry → (ℕ → List ℕ → Type 0) → Type 0
+-- What they come to where the play stops in them, after these images were begun.
+abbrev pub StopsIn : PlayView → List Role → ℕ → List Entry → (List ShownImage → Type 0) → Type 0
 StopsIn play roles round history CutOff =
     (old : List Entry) (q : ℕ) (shift : Shift) (repeated : ℕ) (images : List ShownImage) → roles ≡ crew_of play.job shift → IsShiftPlayed play old q shift round history repeated images
-    → (bytes : List ℕ) × IsShiftStopped play old q (flat_map (λ piece. piece) (shown_pieces images) ++ bytes) × CutOff (instant_count play.job - length images) bytes
+    → (next : List ShownImage) × IsShiftStopped play old q (images ++ next) × CutOff next

@@ -1,12 +1,11 @@
 -- Inner: the times of a play.
-use Rattle.std.specs.Prelude.{◌≡◌, ℕ, ◌*◌, List, [], ◌∷◌, ◌++◌, length, map, filter, not, All, Bool, Result, Ok, Err}
-use Rattle.std.specs.List.{flat_map}
+use Rattle.std.specs.Prelude.{◌≡◌, ℕ, ◌*◌, ◌≤◌, List, [], ◌∷◌, ◌++◌, length, map, filter, not, All, Bool, Result, Ok, Err}
 use Rattle.ass_events.specs.Histories.{Entry, live}
 use Rattle.evict_core.specs.declared.counts.Totals.{Totals}
 use Rattle.run_words.specs.declared.job.PlayJob.{PlayJob}
 use Rattle.play_shares.specs.Instants.{frame_count, instant_count}
 use Rattle.play_model.specs.Images.{ShownImage, entries_before, shown_pieces}
-use Rattle.play_model.specs.Outputs.{AreShownImages, IsFrontOfPlay}
+use Rattle.play_model.specs.Outputs.{AreImages, AreShownImages, IsPlayedSoFar}
 use Rattle.play_model.specs.Times.{history_before}
 use Rattle.play_model.specs.Plays.{IsFedTo, IsTimeOf, PlayView, history_of_times, repeated_count}
 use Rattle.play_rounds.specs.Playing.{AreFirstImages, IsShiftStopped}
@@ -50,9 +49,16 @@ PlaysTime play history history' more Written =
     → (images : List ShownImage) × IsTimePlayed play history q history' more images × Written images
 
 -- What it comes to where the play stops in it.
-abbrev pub StopsInTime : PlayView → List Entry → (List ℕ → Type 0) → Type 0
+abbrev pub StopsInTime : PlayView → List Entry → (List ShownImage → Type 0) → Type 0
 StopsInTime play history CutOff =
-    (q : ℕ) → live history ≡ [] → length history ≡ entries_before play q → (bytes : List ℕ) × IsShiftStopped play history q bytes × CutOff bytes
+    (q : ℕ) → live history ≡ [] → length history ≡ entries_before play q → (images : List ShownImage) × IsShiftStopped play history q images × CutOff images
+
+-- A play that ended in any way has begun these images.
+pub record AreFrontImages (play : PlayView) (images : List (List ℕ)) : Type 0 where
+  pub history : List Entry
+  pub so_far : IsPlayedSoFar play history
+  pub few : length images ≤ frame_count play.job
+  pub are : AreImages play history images
 
 -- The history is that before a time more, whatever times were played whole before.
 abbrev pub BeginsTime : PlayView → ℕ → List Entry → List Entry → Type 0
@@ -66,10 +72,10 @@ PlaysTimes play time history history' repeated orders Written =
     → (next : List ShownImage) × IsTimeMore play times images history' repeated orders next × Written next
 
 -- What it comes to where the play stops in it.
-abbrev pub StopsInTimes : PlayView → ℕ → List Entry → (List ℕ → Type 0) → Type 0
+abbrev pub StopsInTimes : PlayView → ℕ → List Entry → (List ShownImage → Type 0) → Type 0
 StopsInTimes play time history CutOff =
     (times : List (List Entry)) (images : List ShownImage) → length times ≡ time → AreTimesPlayed play times history images
-    → (bytes : List ℕ) × IsFrontOfPlay play (flat_map (λ piece. piece) (shown_pieces images) ++ bytes) × CutOff bytes
+    → (next : List ShownImage) × AreFrontImages play (shown_pieces (images ++ next)) × CutOff next
 
 -- So many times were played whole, and this came of them. Their images were written.
 abbrev pub HavePlayed : PlayView → ℕ → List Entry → Played → (List ShownImage → Type 0) → Type 0

@@ -35,8 +35,7 @@ pub fn count_repeated(workers: &[Worker]) -> usize
 
 /// Puts the images of a round, in the order of the workers, by as many puts as there are.
 pub fn put_images<F: Sink>(workers: &[Worker], frames: &mut F) -> Put
-    ensures { ArePut (flat_map (λ (w : Worker). images_by w.outcome) workers.now) result (F.held frames.old) (F.held frames.new)
-        (F.faults frames.old) (F.faults frames.new) (F.puts frames.old) (F.puts frames.new) }
+    ensures { ArePut (flat_map (λ (w : Worker). images_by w.outcome) workers.now) result (F.state frames.old) (F.state frames.new) }
 {
     for worker in workers {
         match put_outcome(&worker.outcome, frames) {
@@ -49,8 +48,7 @@ pub fn put_images<F: Sink>(workers: &[Worker], frames: &mut F) -> Put
 
 /// Puts the images of an outcome, if it has some.
 fn put_outcome<F: Sink>(outcome: &Outcome, frames: &mut F) -> Put
-    ensures { ArePut (images_by outcome.now) result (F.held frames.old) (F.held frames.new)
-        (F.faults frames.old) (F.faults frames.new) (F.puts frames.old) (F.puts frames.new) }
+    ensures { ArePut (images_by outcome.now) result (F.state frames.old) (F.state frames.new) }
 {
     match outcome {
         Outcome::Shown(images) => put_each(images.as_slice(), frames),
@@ -60,8 +58,7 @@ fn put_outcome<F: Sink>(outcome: &Outcome, frames: &mut F) -> Put
 
 /// Puts images in order, by as many puts as there are.
 fn put_each<F: Sink>(images: &[Vec<u8>], frames: &mut F) -> Put
-    ensures { ArePut (painted_bytes images.now) result (F.held frames.old) (F.held frames.new)
-        (F.faults frames.old) (F.faults frames.new) (F.puts frames.old) (F.puts frames.new) }
+    ensures { ArePut (painted_bytes images.now) result (F.state frames.old) (F.state frames.new) }
 {
     for image in images {
         match frames.put(image.as_slice()) {

@@ -1,6 +1,7 @@
 //! The rounds of a shift.
 
 ghost use Rattle.std.specs.Prelude.{◌≡◌, ◌+◌, ◌*◌, ◌<◌, ◌≤◌, length, All, IfErr, IfOk};
+ghost use Rattle.play_model.specs.Images.{shown_pieces};
 ghost use Rattle.play_workers.specs.Asks.{masks_seen};
 ghost use Rattle.play_rounds.specs.Passes.{IsHome};
 ghost use Rattle.play_rounds.specs.Rounds.{worker_roles};
@@ -55,11 +56,9 @@ fn one_round<R: Threads + Wait + Sync, F: Sink, H: TestHook + Sync>(
     ensures few { IfOk result.1 (λ more. more ≤ u32.MAX) }
     ensures played { IfOk result.1 (λ more. PlaysOn (play_on stage.now) (worker_roles workers.old) round (round + 1) (history_of first.track.seen)
         (history_of result.0.track.seen) more
-        (λ next. AreImagesWritten next (F.held frames.old) (F.held frames.new) (F.faults frames.old) (F.faults frames.new) (F.puts frames.old)
-        (F.puts frames.new) (masks_seen stage.now.renderer first) (masks_seen stage.now.renderer result.0))) }
+        (λ next. AreImagesWritten next (F.state frames.old) (F.state frames.new) (masks_seen stage.now.renderer first) (masks_seen stage.now.renderer result.0))) }
     ensures stopped { IfErr result.1 (λ stop. StopsIn (play_on stage.now) (worker_roles workers.old) round (history_of first.track.seen)
-        (λ most bytes. IsCutOff stop most bytes (F.held frames.old) (F.held frames.new) (F.faults frames.old) (F.faults frames.new) (F.puts frames.old)
-        (F.puts frames.new))) }
+        (λ next. IsCutOff stop (shown_pieces next) (F.state frames.old) (F.state frames.new))) }
 {
     let first = play_round(rt, alloc, stage, round, first, workers, permits, hook);
     if !are_fine(workers) {
@@ -98,11 +97,9 @@ fn all_rounds<R: Threads + Wait + Sync, F: Sink, H: TestHook + Sync>(
     ensures few { IfOk result.1 (λ more. more ≤ rounds * u32.MAX) }
     ensures played { IfOk result.1 (λ more. PlaysOn (play_on stage.now) (worker_roles workers.old) 0 rounds (history_of first.track.seen)
         (history_of result.0.track.seen) more
-        (λ next. AreImagesWritten next (F.held frames.old) (F.held frames.new) (F.faults frames.old) (F.faults frames.new) (F.puts frames.old)
-        (F.puts frames.new) (masks_seen stage.now.renderer first) (masks_seen stage.now.renderer result.0))) }
+        (λ next. AreImagesWritten next (F.state frames.old) (F.state frames.new) (masks_seen stage.now.renderer first) (masks_seen stage.now.renderer result.0))) }
     ensures stopped { IfErr result.1 (λ stop. StopsIn (play_on stage.now) (worker_roles workers.old) 0 (history_of first.track.seen)
-        (λ most bytes. IsCutOff stop most bytes (F.held frames.old) (F.held frames.new) (F.faults frames.old) (F.faults frames.new) (F.puts frames.old)
-        (F.puts frames.new))) }
+        (λ next. IsCutOff stop (shown_pieces next) (F.state frames.old) (F.state frames.new))) }
 {
     let mut first = first;
     let mut repeated = 0;
@@ -137,11 +134,9 @@ pub fn play_shift<R: Threads + Wait + Sync, F: Sink, H: TestHook + Sync>(
     ensures few { IfOk result.1 (λ more. more ≤ max_rounds * u32.MAX) }
     ensures played { IfOk result.1 (λ more. PlaysOn (play_on stage.now) (crew_of stage.now.job shift) 0 (rounds_of stage.now.job (length stage.now.good) shift)
         (history_of first.track.seen) (history_of result.0.track.seen) more
-        (λ next. AreImagesWritten next (F.held frames.old) (F.held frames.new) (F.faults frames.old) (F.faults frames.new) (F.puts frames.old)
-        (F.puts frames.new) (masks_seen stage.now.renderer first) (masks_seen stage.now.renderer result.0))) }
+        (λ next. AreImagesWritten next (F.state frames.old) (F.state frames.new) (masks_seen stage.now.renderer first) (masks_seen stage.now.renderer result.0))) }
     ensures stopped { IfErr result.1 (λ stop. StopsIn (play_on stage.now) (crew_of stage.now.job shift) 0 (history_of first.track.seen)
-        (λ most bytes. IsCutOff stop most bytes (F.held frames.old) (F.held frames.new) (F.faults frames.old) (F.faults frames.new) (F.puts frames.old)
-        (F.puts frames.new))) }
+        (λ next. IsCutOff stop (shown_pieces next) (F.state frames.old) (F.state frames.new))) }
 {
     let mut workers = match crew_of(alloc, stage, shift) {
         Ok(workers) => workers,

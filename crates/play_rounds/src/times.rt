@@ -1,6 +1,7 @@
 //! The times of a play.
 
 ghost use Rattle.std.specs.Prelude.{◌≡◌, ◌+◌, ◌*◌, ◌<◌, ◌≤◌, [], IfErr, IfOk};
+ghost use Rattle.play_model.specs.Images.{shown_pieces};
 ghost use Rattle.play_workers.specs.Asks.{masks_seen};
 ghost use Rattle.play_rounds.specs.Passes.{IsHome};
 ghost use Rattle.play_shares.specs.Instants.{instant_count};
@@ -43,11 +44,9 @@ fn play_settled<R: Threads + Wait + Sync, F: Sink, H: TestHook + Sync>(
     ensures drawn { result.0.track.next ≤ first.track.next + 2 * max_drawn }
     ensures few { IfOk result.1 (λ more. more ≤ 2 * (max_rounds * u32.MAX)) }
     ensures played { IfOk result.1 (λ more. PlaysTime (play_on stage.now) (history_of first.track.seen) (history_of result.0.track.seen) more
-        (λ images. AreImagesWritten images (F.held frames.old) (F.held frames.new) (F.faults frames.old) (F.faults frames.new) (F.puts frames.old)
-        (F.puts frames.new) (masks_seen stage.now.renderer first) (masks_seen stage.now.renderer result.0))) }
+        (λ images. AreImagesWritten images (F.state frames.old) (F.state frames.new) (masks_seen stage.now.renderer first) (masks_seen stage.now.renderer result.0))) }
     ensures stopped { IfErr result.1 (λ stop. StopsInTime (play_on stage.now) (history_of first.track.seen)
-        (λ bytes. IsCutOff stop (instant_count stage.now.job) bytes (F.held frames.old) (F.held frames.new) (F.faults frames.old) (F.faults frames.new)
-        (F.puts frames.old) (F.puts frames.new))) }
+        (λ images. IsCutOff stop (shown_pieces images) (F.state frames.old) (F.state frames.new))) }
 {
     let (first, fed) = play_shift(rt, alloc, stage, Shift::Feed, first, frames, hook);
     let repeated = match fed {
@@ -77,11 +76,9 @@ fn play_once<R: Threads + Wait + Sync, F: Sink, H: TestHook + Sync>(
     ensures drawn { result.0.track.next ≤ first.track.next + 2 * max_drawn }
     ensures few { IfOk result.1 (λ more. more ≤ 2 * (max_rounds * u32.MAX)) }
     ensures played { IfOk result.1 (λ more. PlaysTime (play_on stage.now) (history_of first.track.seen) (history_of result.0.track.seen) more
-        (λ images. AreImagesWritten images (F.held frames.old) (F.held frames.new) (F.faults frames.old) (F.faults frames.new) (F.puts frames.old)
-        (F.puts frames.new) (masks_seen stage.now.renderer first) (masks_seen stage.now.renderer result.0))) }
+        (λ images. AreImagesWritten images (F.state frames.old) (F.state frames.new) (masks_seen stage.now.renderer first) (masks_seen stage.now.renderer result.0))) }
     ensures stopped { IfErr result.1 (λ stop. StopsInTime (play_on stage.now) (history_of first.track.seen)
-        (λ bytes. IsCutOff stop (instant_count stage.now.job) bytes (F.held frames.old) (F.held frames.new) (F.faults frames.old) (F.faults frames.new)
-        (F.puts frames.old) (F.puts frames.new))) }
+        (λ images. IsCutOff stop (shown_pieces images) (F.state frames.old) (F.state frames.new))) }
 {
     match stage.job.mode {
         Mode::Live => play_shift(rt, alloc, stage, Shift::Both, first, frames, hook),
@@ -130,11 +127,9 @@ fn one_time<R: Threads + Wait + Sync, F: Sink, H: TestHook + Sync>(
     ensures drawn { result.0.track.next ≤ first.track.next + 2 * max_drawn }
     ensures few { IfOk result.1 (λ more. more.0 ≤ 2 * (max_rounds * u32.MAX)) }
     ensures played { IfOk result.1 (λ more. PlaysTimes (play_on stage.now) time (history_of first.track.seen) (history_of result.0.track.seen) more.0 more.1
-        (λ next. AreImagesWritten next (F.held frames.old) (F.held frames.new) (F.faults frames.old) (F.faults frames.new) (F.puts frames.old)
-        (F.puts frames.new) (masks_seen stage.now.renderer first) (masks_seen stage.now.renderer result.0))) }
+        (λ next. AreImagesWritten next (F.state frames.old) (F.state frames.new) (masks_seen stage.now.renderer first) (masks_seen stage.now.renderer result.0))) }
     ensures stopped { IfErr result.1 (λ stop. StopsInTimes (play_on stage.now) time (history_of first.track.seen)
-        (λ bytes. IsCutOff stop (instant_count stage.now.job) bytes (F.held frames.old) (F.held frames.new) (F.faults frames.old) (F.faults frames.new)
-        (F.puts frames.old) (F.puts frames.new))) }
+        (λ images. IsCutOff stop (shown_pieces images) (F.state frames.old) (F.state frames.new))) }
 {
     let first = begin_time(rt, alloc, stage, time, first);
     let (first, played) = play_once(rt, alloc, stage, first, frames, hook);
@@ -164,10 +159,8 @@ pub fn all_times<R: Threads + Wait + Sync, F: Sink, H: TestHook + Sync>(
     requires next { first.track.next ≡ 1 }
     ensures home { IsHome stage.now.renderer result.0 }
     ensures played { IfOk result.1 (λ played. HavePlayed (play_on stage.now) stage.now.job.times (history_of result.0.track.seen) played
-        (λ images. AreImagesWritten images (F.held frames.old) (F.held frames.new) (F.faults frames.old) (F.faults frames.new) (F.puts frames.old)
-        (F.puts frames.new) (masks_seen stage.now.renderer first) (masks_seen stage.now.renderer result.0))) }
-    ensures stopped { IfErr result.1 (λ stop. IsStopped (play_on stage.now) stop (F.held frames.old) (F.held frames.new) (F.faults frames.old)
-        (F.faults frames.new) (F.puts frames.old) (F.puts frames.new)) }
+        (λ images. AreImagesWritten images (F.state frames.old) (F.state frames.new) (masks_seen stage.now.renderer first) (masks_seen stage.now.renderer result.0))) }
+    ensures stopped { IfErr result.1 (λ stop. IsStopped (play_on stage.now) stop (F.state frames.old) (F.state frames.new)) }
 {
     let mut first = first;
     let mut played = Played {

@@ -109,8 +109,7 @@ pub fn play<R: Threads + Wait + Sync, F: Sink, H: TestHook + Sync>(
     hook: &H,
 ) -> PlayEnd
     requires playable { IsPlayable (record { job = job; script = arc_value script; fonts = (arc_value fonts).fonts }) }
-    ensures played { IsPlayed (record { job = job; script = arc_value script; fonts = (arc_value fonts).fonts }) result (F.held frames.old)
-        (F.held frames.new) (F.faults frames.old) (F.faults frames.new) (F.puts frames.old) (F.puts frames.new) }
+    ensures played { IsPlayed (record { job = job; script = arc_value script; fonts = (arc_value fonts).fonts }) result (F.state frames.old) (F.state frames.new) }
 {
     let (stage, first) = match set_stage(alloc, job, script, fonts) {
         Ok(set) => set,

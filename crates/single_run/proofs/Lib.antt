@@ -1,4 +1,5 @@
-pub mod CountLemmas
+pub mod Ends
+pub mod PieceLemmas
 pub mod InputLemmas
 pub mod PictureLemmas
 pub mod RewriteLemmas

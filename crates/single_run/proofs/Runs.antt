@@ -1,10 +1,11 @@
 -- How the parts of a run make the whole.
-use Rattle.std.proofs.Common.{◌≡◌, ◌⊎◌, inl, inr, ℕ, ◌≤◌, List, [], ◌++◌, length, slice_index_or, Option, Some, None, Result, Ok, Err, refl, sym, ap, subst, ◌∙◌, append-nil, arith}
+use Rattle.std.proofs.Common.{◌≡◌, ◌⊎◌, inl, inr, ℕ, ◌≤◌, List, [], ◌++◌, length, slice_index_or, Option, Some, None, Result, Ok, Err, refl, sym, ap, subst, ◌∙◌, ◌∷◌, append-nil, append_assoc, arith}
 use Rattle.std.specs.Io.KnownBytes.{Appends, Keeps}
 use Rattle.std.proofs.KnownBytes.{Keeps-trans}
 use Rattle.std.proofs.lemmas.Bool.{cases_lt}
 use Rattle.ass_num.specs.Causes.{Rose}
 use Rattle.ass_io.specs.Fetched.{Told}
+use Rattle.ass_io.specs.Sinks.{SinkState}
 use Rattle.ass_io.specs.Written.{AppendsFront, IsPut, IsPutCounted}
 use Rattle.ass_io.specs.declared.sink.Put.{Put}
 use Rattle.ass_io.specs.declared.sink.Put.TheVariants as put
@@ -23,11 +24,13 @@ use Rattle.run_status.specs.declared.status.Which.{Which}
 use Rattle.run_status.specs.declared.status.Which.TheVariants.{Frames, Report}
 use Rattle.track_write.specs.declared.refusal.WriteRefusal.{WriteRefusal}
 use Rattle.track_write.specs.declared.refusal.WriteRefusal.TheVariants.{OutOfMemory, Unwritable}
-use Rattle.single_run.specs.Outcomes.{IsEnded, IsOrFault, IsOrMemory, SuitsSink, IsStatusReadCounted, IsMemoryReported, IsReported, IsShown, IsFramesPutCount, IsWriteCounted, out_of_memory, status_if_put, text_to_report}
+use Rattle.single_run.specs.Outcomes.{ArePiecesFinished, ArePiecesShown, IsEnded, IsOrFault, IsOrMemory, SuitsSink, IsStatusReadCounted, IsMemoryReported, IsReported, IsShown, IsWriteCounted, out_of_memory, status_if_put, text_to_report}
 use Rattle.single_run.specs.Outputs.{IsFramesAsked, IsReportAsked, rewritten, sink_of, status_asked, task_status, written_status}
 use Rattle.single_run.specs.Runs.{Decides, IsJobRun, IsWorked, SinkChange, sink_change}
 use Rattle.single_run.specs.declared.outcome.Outcome.{Outcome}
 use Rattle.single_run.specs.declared.outcome.Outcome.TheVariants.{Ended, Found}
+use Rattle.single_run.proofs.Ends.{ended}
+use Rattle.single_run.proofs.PieceLemmas.{pieces_after, told_after}
 
 -- ---- what sinks got
 
@@ -129,6 +132,10 @@ memory_behind old mid new before between now k same (inr (inl ((front, rest, spl
     inr (inl ((front, rest, split, kept_appends old mid new front k h), subst (λ n. Rose n now) same rose, omega (arith, same, le)))
 memory_behind old mid new before between now k same (inr (inr (h, e))) = inr (inr (Keeps-trans old mid new k h, e ∙ same))
 
+-- Its piece comes behind the one whose put wanted memory.
+pub asked_behind : (old mid new : List (List ℕ)) (first last : List ℕ) → mid ≡ old ++ first ∷ [] → new ≡ mid ++ last ∷ [] → new ≡ old ++ first ∷ last ∷ []
+asked_behind old mid new first last one two = two ∙ (ap (λ l. l ++ last ∷ []) one ∙ append_assoc old (first ∷ []) (last ∷ []))
+
 -- Words that ask for no work have nothing to report.
 nothing_to_report : (asked : Result (Option Work) Status) (outcome : Outcome) → ((why : Status) → asked ≡ Err why → (outcome ≡ Ended why) ⊎ (outcome ≡ out_of_memory)) →
     (asked ≡ Ok None → outcome ≡ out_of_memory) → ((work : Work) → asked ≡ Ok (Some work) → ⊥) → text_to_report outcome ≡ []
@@ -198,26 +205,42 @@ own_refusal sink (status.WriteFault which) h = absurd h
 own_refusal sink (status.BadWords why) h = absurd h
 own_refusal sink (status.Unwritable order field) h = absurd h
 
+-- A refusal asks the frames sink for nothing.
+pub nothing_put : (sink : Which) (answer : Status) (may : List ℕ → Type 0) (asked : List (List ℕ)) → IsRefusal answer → ArePiecesShown sink answer may asked asked
+nothing_put sink status.Done may asked h = absurd h
+nothing_put sink (status.NoSuchFile name) may asked h = refl
+nothing_put sink (status.ReadFault name) may asked h = refl
+nothing_put sink (status.BadScript cause) may asked h = refl
+nothing_put sink (status.BadFont index fault) may asked h = refl
+nothing_put sink (status.WriteFault which) may asked h = absurd h
+nothing_put sink (status.TooLarge what limit) may asked h = refl
+nothing_put Report status.OutOfMemory may asked h = refl
+nothing_put Frames status.OutOfMemory may asked h = inl refl
+nothing_put sink (status.BadWords why) may asked h = absurd h
+nothing_put sink (status.Unwritable order field) may asked h = absurd h
+
 -- A job whose files are refused.
-pub refused_worked : (told : List ℕ → Told) (work : Work) (answer : Status) (held : Option (List ℕ)) (faults : ℕ) →
-    AreRead told work.script work.fonts (Err answer) → IsWorked told work (sink_change held held faults faults) (Ended answer)
-refused_worked told work answer held faults read = record {
+pub refused_worked : (told : List ℕ → Told) (work : Work) (answer : Status) (state : SinkState) →
+    AreRead told work.script work.fonts (Err answer) → IsWorked told work (sink_change state state) (Ended answer)
+refused_worked told work answer state read = record {
   reading = Err answer;
   read = read;
   answered = inl (inl refl);
-  shown = shown_none answer held (IsFramesAsked work.task (Err answer)) refl;
+  shown = shown_none answer state.held (IsFramesAsked work.task (Err answer)) refl;
+  pieces = nothing_put (sink_of work.task) answer (IsFramesAsked work.task (Err answer)) state.asked (read_kind told work.script work.fonts answer read);
   text = λ done. refl;
   own = own_refusal (sink_of work.task) answer (read_kind told work.script work.fonts answer read);
 }
 
 -- A job for which memory ran out before its files were read.
-pub memory_worked : (told : List ℕ → Told) (work : Work) (held : Option (List ℕ)) (faults : ℕ) → IsWorked told work (sink_change held held faults faults) out_of_memory
-memory_worked told work held faults = elim (cases_lt 64 (length work.fonts)) [
+pub memory_worked : (told : List ℕ → Told) (work : Work) (state : SinkState) → IsWorked told work (sink_change state state) out_of_memory
+memory_worked told work state = elim (cases_lt 64 (length work.fonts)) [
   | inl many ↦ record {
     reading = Err (status.TooLarge Fonts 64);
     read = inr (many, refl);
     answered = inl (inr refl);
-    shown = inl (keeps held);
+    shown = inl (keeps state.held);
+    pieces = nothing_put (sink_of work.task) status.OutOfMemory (IsFramesAsked work.task (Err (status.TooLarge Fonts 64))) state.asked tt;
     text = λ done. refl;
     own = own_refusal (sink_of work.task) status.OutOfMemory tt;
   }
@@ -225,26 +248,14 @@ memory_worked told work held faults = elim (cases_lt 64 (length work.fonts)) [
     reading = Err status.OutOfMemory;
     read = inl (few, inl tt);
     answered = inl (inl refl);
-    shown = inl (keeps held);
+    shown = inl (keeps state.held);
+    pieces = nothing_put (sink_of work.task) status.OutOfMemory (IsFramesAsked work.task (Err status.OutOfMemory)) state.asked tt;
     text = λ done. refl;
     own = own_refusal (sink_of work.task) status.OutOfMemory tt;
   }
 ]
 
 -- ---- from an outcome to the run
-
--- A status ends as it is, or memory ran out.
-pub ended : (before answer : Status) → IsEnded (Ended before) answer → IsOrMemory before answer
-ended status.Done answer h = inl h
-ended (status.NoSuchFile name) answer h = h
-ended (status.ReadFault name) answer h = h
-ended (status.BadScript cause) answer h = h
-ended (status.BadFont index fault) answer h = h
-ended (status.WriteFault which) answer h = h
-ended (status.TooLarge what limit) answer h = h
-ended status.OutOfMemory answer h = h
-ended (status.BadWords why) answer h = h
-ended (status.Unwritable order field) answer h = h
 
 pub answered_after : (sink : Which) (wanted : Status) (outcome : Outcome) (answer : Status) → SuitsSink sink outcome →
     IsOrFault sink wanted (status_if_put outcome) → IsEnded outcome answer → IsOrFault sink wanted answer
@@ -313,16 +324,18 @@ found_before sink (Found text) answer own e fault = refl
 -- A job and what is reported of it are a run.
 pub run_after : (told : List ℕ → Told) (work : Work) (frames report : SinkChange) (outcome : Outcome) (answer : Status) →
     IsWorked told work frames outcome → IsEnded outcome answer →
-    IsReported answer report.held_before report.held_now report.faults_before report.faults_now (λ text. text ≡ text_to_report outcome) →
-    IsJobRun told work frames report answer
-run_after told work frames report outcome answer worked ended reported = record {
+    IsReported answer report.before.held report.now.held report.before.faults report.now.faults (λ text. text ≡ text_to_report outcome) →
+    ArePiecesFinished outcome answer report.before.asked report.now.asked → IsJobRun told work frames report answer
+run_after told work frames report outcome answer worked ended reported finished = record {
   reading = worked.reading;
   read = worked.read;
   answered = answered_after (sink_of work.task) _ outcome answer worked.own worked.answered ended;
   shown = shown_after (sink_of work.task) (IsFramesAsked work.task worked.reading) outcome answer _ _ (nothing_shown work.task worked.reading) worked.own ended worked.shown;
+  pieces_shown = pieces_after (sink_of work.task) (IsFramesAsked work.task worked.reading) outcome answer _ _ worked.own ended worked.pieces;
   reported = reported_as answer _ _ _ _ (text_to_report outcome) (IsReportAsked work.task worked.reading)
       (λ done. worked.text (done_before outcome answer ended done))
       (λ fault. worked.text (found_before (sink_of work.task) outcome answer worked.own ended fault)) reported;
+  pieces_told = told_after (sink_of work.task) (IsReportAsked work.task worked.reading) outcome answer _ _ worked.text worked.own ended finished;
 }
 
 -- ---- the counts
@@ -389,19 +402,6 @@ written_after (Found text) answer before now (inr fault) h = subst (λ s. IsWrit
 
 -- ---- refusals leave the frames sink
 
-once_of : (sink : Which) (answer : Status) (n : ℕ) → IsRefusal answer → IsFramesPutCount sink answer n n
-once_of sink status.Done n h = absurd h
-once_of sink (status.NoSuchFile name) n h = refl
-once_of sink (status.ReadFault name) n h = refl
-once_of sink (status.BadScript cause) n h = refl
-once_of sink (status.BadFont index fault) n h = refl
-once_of sink (status.WriteFault which) n h = absurd h
-once_of sink (status.TooLarge what limit) n h = refl
-once_of Report status.OutOfMemory n h = refl
-once_of Frames status.OutOfMemory n h = (omega arith, omega arith)
-once_of sink (status.BadWords why) n h = absurd h
-once_of sink (status.Unwritable order field) n h = absurd h
-
 written_of : (answer : Status) (n : ℕ) → IsRefusal answer → IsWriteCounted answer n n
 written_of status.Done n h = absurd h
 written_of (status.NoSuchFile name) n h = refl
@@ -413,9 +413,6 @@ written_of (status.TooLarge what limit) n h = refl
 written_of status.OutOfMemory n h = omega arith
 written_of (status.BadWords why) n h = absurd h
 written_of (status.Unwritable order field) n h = absurd h
-
-pub refused_once : (told : List ℕ → Told) (work : Work) (answer : Status) (n : ℕ) → AreRead told work.script work.fonts (Err answer) → IsFramesPutCount (sink_of work.task) answer n n
-refused_once told work answer n read = once_of (sink_of work.task) answer n (read_kind told work.script work.fonts answer read)
 
 pub refused_written : (told : List ℕ → Told) (work : Work) (answer : Status) (n : ℕ) → AreRead told work.script work.fonts (Err answer) → IsWriteCounted answer n n
 refused_written told work answer n read = written_of answer n (read_kind told work.script work.fonts answer read)
@@ -440,11 +437,11 @@ fault_or_decided (Err (status.Unwritable order field)) = inl tt
 
 -- A task's sink fails only where its count rises.
 sink_rose : (sink : Which) (answer : Status) (frames report : SinkChange) (may : List ℕ → Type 0) → answer ≡ status.WriteFault sink →
-    IsWriteCounted answer frames.faults_before frames.faults_now →
-    IsReported answer report.held_before report.held_now report.faults_before report.faults_now may →
-    Rose frames.faults_before frames.faults_now ⊎ Rose report.faults_before report.faults_now
-sink_rose Report answer frames report may fault written reported = inr (subst (λ s. IsReported s report.held_before report.held_now report.faults_before report.faults_now may) fault reported).3
-sink_rose Frames answer frames report may fault written reported = inl (subst (λ s. IsWriteCounted s frames.faults_before frames.faults_now) fault written).0
+    IsWriteCounted answer frames.before.faults frames.now.faults →
+    IsReported answer report.before.held report.now.held report.before.faults report.now.faults may →
+    Rose frames.before.faults frames.now.faults ⊎ Rose report.before.faults report.now.faults
+sink_rose Report answer frames report may fault written reported = inr (subst (λ s. IsReported s report.before.held report.now.held report.before.faults report.now.faults may) fault reported).3
+sink_rose Frames answer frames report may fault written reported = inl (subst (λ s. IsWriteCounted s frames.before.faults frames.now.faults) fault written).0
 
 unfailed : (sink : Which) (wanted answer : Status) → (answer ≡ status.WriteFault sink → ⊥) → IsOrFault sink wanted answer → IsOrMemory wanted answer
 unfailed sink wanted answer fails (inl h) = h
@@ -463,8 +460,8 @@ wanting sink answer (inr (done, fault)) = absurd cc
 
 -- Files that are told decide a run without a fault.
 pub decides : FilesDecide → (told : List ℕ → Told) (work : Work) (frames report : SinkChange) (before now : ℕ) (answer : Status) →
-    IsJobRun told work frames report answer → IsStatusReadCounted answer before now → IsWriteCounted answer frames.faults_before frames.faults_now →
-    (Rose before now → ⊥) → (Rose frames.faults_before frames.faults_now → ⊥) → (Rose report.faults_before report.faults_now → ⊥) → Decides told work answer
+    IsJobRun told work frames report answer → IsStatusReadCounted answer before now → IsWriteCounted answer frames.before.faults frames.now.faults →
+    (Rose before now → ⊥) → (Rose frames.before.faults frames.now.faults → ⊥) → (Rose report.before.faults report.now.faults → ⊥) → Decides told work answer
 decides law told work frames report before now answer run counted written stays shows reports = λ reading known read decided.
     let sink = sink_of work.task in
     elim (fault_or_decided run.reading) [

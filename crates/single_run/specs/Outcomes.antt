@@ -1,8 +1,7 @@
 -- Public: what each status says of the counts of faults and of what the sinks got.
-use Rattle.std.specs.Prelude.{◌≡◌, ◌⊎◌, ℕ, ◌+◌, ◌≤◌, List, [], Option, string_bytes}
+use Rattle.std.specs.Prelude.{◌≡◌, ◌⊎◌, ℕ, ◌≤◌, List, [], ◌∷◌, ◌++◌, Option, string_bytes}
 use Rattle.std.specs.Io.KnownBytes.{Appends, Keeps}
 use Rattle.ass_num.specs.Causes.{Rose}
-use Rattle.ass_io.specs.Counts.{IsOneMore}
 use Rattle.ass_io.specs.Written.{AppendsFront}
 use Rattle.run_status.specs.Statuses.{status_line}
 use Rattle.run_status.specs.declared.status.Status.{Status}
@@ -39,22 +38,26 @@ IsShown (WriteFault Frames) old new may = (bytes : List ℕ) × may bytes × App
 IsShown OutOfMemory old new may = Keeps old new ⊎ ((bytes : List ℕ) × may bytes × AppendsFront old new bytes)
 IsShown _ old new may = Keeps old new
 
--- How often the frames sink was asked by a task that was done whole: once where the task is for it, and else not at all.
-abbrev pub IsWholePutCount : Which → ℕ → ℕ → Type 0
-IsWholePutCount Frames before now = IsOneMore before now
-IsWholePutCount Report before now = now ≡ before
+-- A sink was asked to put one piece more, which is one that it may get.
+abbrev pub IsOnePiece : (List ℕ → Type 0) → List (List ℕ) → List (List ℕ) → Type 0
+IsOnePiece may old new = (piece : List ℕ) × may piece × (new ≡ old ++ piece ∷ [])
 
--- How often it was asked by a task for which memory ran out.
-abbrev pub IsUnfinishedPutCount : Which → ℕ → ℕ → Type 0
-IsUnfinishedPutCount Frames before now = (before ≤ now) × (now ≤ before + 1)
-IsUnfinishedPutCount Report before now = now ≡ before
+-- The pieces that the frames sink was asked to put by a task that was done whole: one where the task is for it, and else none.
+abbrev pub AreAllShown : Which → (List ℕ → Type 0) → List (List ℕ) → List (List ℕ) → Type 0
+AreAllShown Frames may old new = IsOnePiece may old new
+AreAllShown Report may old new = new ≡ old
 
--- How often it was asked at each status by a task for a sink: not at all at a refusal.
-abbrev pub IsFramesPutCount : Which → Status → ℕ → ℕ → Type 0
-IsFramesPutCount sink Done before now = IsWholePutCount sink before now
-IsFramesPutCount sink (WriteFault Frames) before now = IsOneMore before now
-IsFramesPutCount sink OutOfMemory before now = IsUnfinishedPutCount sink before now
-IsFramesPutCount sink _ before now = now ≡ before
+-- Those of a task for which memory ran out.
+abbrev pub AreSomeShown : Which → (List ℕ → Type 0) → List (List ℕ) → List (List ℕ) → Type 0
+AreSomeShown Frames may old new = (new ≡ old) ⊎ IsOnePiece may old new
+AreSomeShown Report may old new = new ≡ old
+
+-- The pieces that it was asked to put at each status by a task for a sink: none at a refusal.
+abbrev pub ArePiecesShown : Which → Status → (List ℕ → Type 0) → List (List ℕ) → List (List ℕ) → Type 0
+ArePiecesShown sink Done may old new = AreAllShown sink may old new
+ArePiecesShown sink (WriteFault Frames) may old new = IsOnePiece may old new
+ArePiecesShown sink OutOfMemory may old new = AreSomeShown sink may old new
+ArePiecesShown sink _ may old new = new ≡ old
 
 -- The report got the line of the status, or a prefix of it where its count rose.
 abbrev pub IsLineReported : Status → Option (List ℕ) → Option (List ℕ) → ℕ → ℕ → Type 0
@@ -74,16 +77,28 @@ IsReported (WriteFault Report) old new before now may = (text : List ℕ) × may
 IsReported OutOfMemory old new before now may = IsMemoryReported old new before now
 IsReported status old new before now may = IsLineReported status old new before now
 
--- How often the report was asked by a task that was done whole: once where the task is for it, and else not at all.
-abbrev pub IsTextPutCount : Which → ℕ → ℕ → Type 0
-IsTextPutCount Frames before now = now ≡ before
-IsTextPutCount Report before now = IsOneMore before now
+abbrev pub memory_line : List ℕ
+memory_line = status_line OutOfMemory
 
--- How often it was asked at each status by a task for a sink: once for its line. Where that put wanted memory, the line of that is put too.
-abbrev pub IsReportPutCount : Which → Status → ℕ → ℕ → Type 0
-IsReportPutCount sink Done before now = IsTextPutCount sink before now
-IsReportPutCount sink OutOfMemory before now = Rose before now × (before ≤ now) × (now ≤ before + 2)
-IsReportPutCount sink _ before now = IsOneMore before now
+-- A piece that the report may be asked to put: a text that it may get, or the line of a status.
+abbrev pub IsTextOrLine : (List ℕ → Type 0) → List ℕ → Type 0
+IsTextOrLine may piece = may piece ⊎ ((status : Status) × (piece ≡ status_line status))
+
+-- The pieces that the report was asked to put by a task that was done whole: one where the task is for it, and else none.
+abbrev pub AreAllTold : Which → (List ℕ → Type 0) → List (List ℕ) → List (List ℕ) → Type 0
+AreAllTold Frames may old new = new ≡ old
+AreAllTold Report may old new = IsOnePiece may old new
+
+-- Those where memory ran out: the line of that is the last one. It may come behind a piece whose put wanted memory.
+abbrev pub AreSomeTold : (List ℕ → Type 0) → List (List ℕ) → List (List ℕ) → Type 0
+AreSomeTold may old new = (new ≡ old ++ memory_line ∷ []) ⊎ ((piece : List ℕ) × IsTextOrLine may piece × (new ≡ old ++ piece ∷ memory_line ∷ []))
+
+-- The pieces that it was asked to put at each status by a task for a sink: a text that it may get, or the line of the status.
+abbrev pub ArePiecesTold : Which → Status → (List ℕ → Type 0) → List (List ℕ) → List (List ℕ) → Type 0
+ArePiecesTold sink Done may old new = AreAllTold sink may old new
+ArePiecesTold sink (WriteFault Report) may old new = IsOnePiece may old new
+ArePiecesTold sink OutOfMemory may old new = AreSomeTold may old new
+ArePiecesTold sink status may old new = new ≡ old ++ status_line status ∷ []
 
 abbrev pub out_of_memory : Outcome
 out_of_memory = Ended OutOfMemory
@@ -117,8 +132,14 @@ IsEnded (Ended Done) answer = answer ≡ Done
 IsEnded (Ended status) answer = IsOrMemory status answer
 IsEnded (Found text) answer = IsOrMemory Done answer ⊎ (answer ≡ WriteFault Report)
 
--- How often the report was asked at the end of a run after an outcome.
-abbrev pub IsFinishPutCount : Outcome → Status → ℕ → ℕ → Type 0
-IsFinishPutCount (Ended Done) answer before now = now ≡ before
-IsFinishPutCount outcome OutOfMemory before now = Rose before now × (before ≤ now) × (now ≤ before + 2)
-IsFinishPutCount outcome answer before now = IsOneMore before now
+-- what an outcome is told by: its text, or the line of its status
+abbrev pub told_by : Outcome → List ℕ
+told_by (Ended status) = status_line status
+told_by (Found text) = string_bytes text
+
+-- The pieces that the report was asked to put at the end of a run after an outcome. Where memory ran out, the line of that is the last one.
+abbrev pub ArePiecesFinished : Outcome → Status → List (List ℕ) → List (List ℕ) → Type 0
+ArePiecesFinished (Ended Done) answer old new = new ≡ old
+ArePiecesFinished (Ended OutOfMemory) answer old new = new ≡ old ++ memory_line ∷ []
+ArePiecesFinished outcome OutOfMemory old new = (new ≡ old ++ memory_line ∷ []) ⊎ (new ≡ old ++ told_by outcome ∷ memory_line ∷ [])
+ArePiecesFinished outcome answer old new = new ≡ old ++ told_by outcome ∷ []

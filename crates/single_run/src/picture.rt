@@ -10,7 +10,7 @@ ghost use Rattle.ass_script.specs.Ranges.{IsScript};
 ghost use Rattle.picture_plan.specs.Pictures.{IsPictureAt};
 ghost use Rattle.ass_events.specs.LineLaws.{HasShortLines};
 ghost use Rattle.text_layout.specs.Fonts.{IsLayoutFontSet};
-ghost use Rattle.single_run.specs.Outcomes.{IsFramesPutCount, IsOrFault, IsShown, IsWriteCounted};
+ghost use Rattle.single_run.specs.Outcomes.{ArePiecesShown, IsOrFault, IsShown, IsWriteCounted};
 ghost use Rattle.single_run.specs.Outputs.{IsFrameImage};
 ghost use Rattle.single_run.specs.Works.{IsFrameTask};
 ghost use Rattle.run_status.specs.declared.status.Status.TheVariants.{Done as done_status};
@@ -93,9 +93,10 @@ pub fn draw<F: Sink>(alloc: Global, frame: &FrameTask, inputs: Inputs, frames: &
     requires short { HasShortLines inputs.script }
     requires fonts { IsLayoutFontSet inputs.fonts }
     ensures answered { IsOrFault Which.Frames done_status result }
-    ensures shown { IsShown result (F.held frames.old) (F.held frames.new) (IsFrameImage inputs.script inputs.fonts frame.now.at frame.now.view) }
-    ensures once { IsFramesPutCount Which.Frames result (F.puts frames.old) (F.puts frames.new) }
-    ensures counted { IsWriteCounted result (F.faults frames.old) (F.faults frames.new) }
+    ensures shown { IsShown result (F.state frames.old).held (F.state frames.new).held (IsFrameImage inputs.script inputs.fonts frame.now.at frame.now.view) }
+    ensures pieces { ArePiecesShown Which.Frames result (IsFrameImage inputs.script inputs.fonts frame.now.at frame.now.view) (F.state frames.old).asked
+        (F.state frames.new).asked }
+    ensures counted { IsWriteCounted result (F.state frames.old).faults (F.state frames.new).faults }
     ensures own { result ≢ Status.WriteFault Which.Report }
 {
     match image_of(alloc, frame, inputs) {

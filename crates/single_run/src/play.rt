@@ -2,9 +2,8 @@
 
 ghost use Rattle.std.specs.Prelude.{◌≡◌, ◌≢◌, ◌⊎◌, [], IfSome, IsSomeAnd, None, Ok, Some};
 ghost use Rattle.ass_num.specs.Causes.{Rose};
-ghost use Rattle.single_run.specs.Outcomes.{IsOrMemory, IsStatusReadCounted, IsFinishPutCount, IsReportable, IsReported, IsReportPutCount};
-ghost use Rattle.single_run.specs.Outcomes.{IsFramesPutCount, IsWriteCounted, out_of_memory, status_if_put};
-ghost use Rattle.single_run.specs.Outputs.{sink_of};
+ghost use Rattle.single_run.specs.Outcomes.{ArePiecesFinished, IsOrMemory, IsStatusReadCounted, IsReportable, IsReported, IsWriteCounted};
+ghost use Rattle.single_run.specs.Outcomes.{out_of_memory, status_if_put};
 ghost use Rattle.single_run.specs.Runs.{Decides, IsJobRun, IsWorked, sink_change};
 ghost use Rattle.single_run.specs.Works.{work_asked};
 ghost use Rattle.run_words.specs.Words.{texts};
@@ -31,39 +30,33 @@ pub fn calm<S: Shelf, F: Sink, R: Sink>(
     ensures other_shelf { ((work : Work) → work_asked (texts words.now) ≢ Ok (Some work)) → shelf.new ≡ shelf.old }
     ensures other_frames { ((work : Work) → work_asked (texts words.now) ≢ Ok (Some work)) → frames.new ≡ frames.old }
     ensures other_report { ((work : Work) → work_asked (texts words.now) ≢ Ok (Some work))
-        → IfSome result (λ status. IsReported status (R.held report.old) (R.held report.new)
-        (R.faults report.old) (R.faults report.new) (λ text. text ≡ [])) }
-    ensures other_once { (status : Status) → work_asked (texts words.now) ≡ Err status
-        → IsSomeAnd result (λ answer. IsFinishPutCount (Outcome.Ended status) answer (R.puts report.old) (R.puts report.new)) }
+        → IfSome result (λ status. IsReported status (R.state report.old).held (R.state report.new).held
+        (R.state report.old).faults (R.state report.new).faults (λ text. text ≡ [])) }
+    ensures other_pieces { (status : Status) → work_asked (texts words.now) ≡ Err status
+        → IsSomeAnd result (λ answer. ArePiecesFinished (Outcome.Ended status) answer (R.state report.old).asked (R.state report.new).asked) }
 
     // A play and a selftest are left, and nothing is touched.
     ensures left { work_asked (texts words.now) ≡ Ok None → IfSome result (λ status. status ≡ Status.OutOfMemory) }
-    ensures left_once { work_asked (texts words.now) ≡ Ok None
-        → IfSome result (λ answer. IsFinishPutCount out_of_memory answer (R.puts report.old) (R.puts report.new)) }
+    ensures left_pieces { work_asked (texts words.now) ≡ Ok None
+        → IfSome result (λ answer. ArePiecesFinished out_of_memory answer (R.state report.old).asked (R.state report.new).asked) }
     ensures none { result ≡ None → work_asked (texts words.now) ≡ Ok None }
     ensures untouched { result ≡ None → (shelf.new ≡ shelf.old) × (frames.new ≡ frames.old) × (report.new ≡ report.old) }
 
-    // The files are read in order, and what they hold asks for the answer and for what both sinks get.
+    // The files are read in order, and what they hold asks for the answer, for what both sinks get, and for the pieces that they are asked to put.
     ensures run { (work : Work) → work_asked (texts words.now) ≡ Ok (Some work) → IsSomeAnd result (IsJobRun (S.told shelf.old) work
-        (sink_change (F.held frames.old) (F.held frames.new) (F.faults frames.old) (F.faults frames.new))
-        (sink_change (R.held report.old) (R.held report.new) (R.faults report.old) (R.faults report.new))) }
+        (sink_change (F.state frames.old) (F.state frames.new))
+        (sink_change (R.state report.old) (R.state report.new))) }
 
     // Where all files are told and no count of faults rose, they decide the answer.
     ensures decided { (work : Work) → work_asked (texts words.now) ≡ Ok (Some work)
         → (Rose (S.faults shelf.old) (S.faults shelf.new) → ⊥)
-        → (Rose (F.faults frames.old) (F.faults frames.new) → ⊥)
-        → (Rose (R.faults report.old) (R.faults report.new) → ⊥)
+        → (Rose (F.state frames.old).faults (F.state frames.new).faults → ⊥)
+        → (Rose (R.state report.old).faults (R.state report.new).faults → ⊥)
         → IsSomeAnd result (Decides (S.told shelf.old) work) }
 
     // A fault is answered only where its object's count rose.
     ensures read { IfSome result (λ status. IsStatusReadCounted status (S.faults shelf.old) (S.faults shelf.new)) }
-    ensures write { IfSome result (λ status. IsWriteCounted status (F.faults frames.old) (F.faults frames.new)) }
-
-    // Each sink gets what it gets by one put.
-    ensures shown_once { (work : Work) → work_asked (texts words.now) ≡ Ok (Some work)
-        → IsSomeAnd result (λ status. IsFramesPutCount (sink_of work.task) status (F.puts frames.old) (F.puts frames.new)) }
-    ensures reported_once { (work : Work) → work_asked (texts words.now) ≡ Ok (Some work)
-        → IsSomeAnd result (λ status. IsReportPutCount (sink_of work.task) status (R.puts report.old) (R.puts report.new)) }
+    ensures write { IfSome result (λ status. IsWriteCounted status (F.state frames.old).faults (F.state frames.new).faults) }
 {
     files_decide();
     match do_words(alloc, words, shelf, frames) {
@@ -86,11 +79,9 @@ fn do_words<S: Shelf, F: Sink>(
     ensures left { work_asked (texts words.now) ≡ Ok None → IfSome result (λ outcome. outcome ≡ out_of_memory) }
     ensures none { result ≡ None → work_asked (texts words.now) ≡ Ok None }
     ensures run { (work : Work) → work_asked (texts words.now) ≡ Ok (Some work) → IsSomeAnd result (IsWorked (S.told shelf.old) work
-        (sink_change (F.held frames.old) (F.held frames.new) (F.faults frames.old) (F.faults frames.new))) }
+        (sink_change (F.state frames.old) (F.state frames.new))) }
     ensures read { IfSome result (λ outcome. IsStatusReadCounted (status_if_put outcome) (S.faults shelf.old) (S.faults shelf.new)) }
-    ensures once { (work : Work) → work_asked (texts words.now) ≡ Ok (Some work)
-        → IsSomeAnd result (λ outcome. IsFramesPutCount (sink_of work.task) (status_if_put outcome) (F.puts frames.old) (F.puts frames.new)) }
-    ensures write { IfSome result (λ outcome. IsWriteCounted (status_if_put outcome) (F.faults frames.old) (F.faults frames.new)) }
+    ensures write { IfSome result (λ outcome. IsWriteCounted (status_if_put outcome) (F.state frames.old).faults (F.state frames.new).faults) }
     ensures reportable { IfSome result IsReportable }
 {
     match read_work(alloc, words) {

@@ -1,8 +1,7 @@
 //! What the report gets.
 
-ghost use Rattle.std.specs.Prelude.{◌≡◌};
-ghost use Rattle.ass_io.specs.Counts.{IsOneMore};
-ghost use Rattle.single_run.specs.Outcomes.{IsEnded, IsFinishPutCount, IsMemoryReported, IsReportable, IsReported, text_to_report};
+ghost use Rattle.std.specs.Prelude.{◌≡◌, ◌++◌, ◌∷◌, []};
+ghost use Rattle.single_run.specs.Outcomes.{ArePiecesFinished, IsEnded, IsMemoryReported, IsReportable, IsReported, memory_line, text_to_report};
 
 use crate::outcome::Outcome;
 use ass_io::{Put, Sink};
@@ -13,13 +12,13 @@ use std::alloc::Global;
 /// Puts what is to be reported of an outcome, and answers how the run ended: what was found, or the line of a status that
 /// isn't `Done`. Where memory runs out for the line or for its put, out of memory is answered in its place, and its
 /// line is put.
-#[tactic(auto, using(crate::proofs::Runs::told_whole, crate::proofs::Runs::told_part, crate::proofs::Runs::told_nothing, crate::proofs::Runs::memory_behind))]
+#[tactic(auto, using(crate::proofs::Runs::told_whole, crate::proofs::Runs::told_part, crate::proofs::Runs::told_nothing, crate::proofs::Runs::memory_behind, crate::proofs::Runs::asked_behind))]
 pub fn finish<R: Sink>(alloc: Global, outcome: Outcome, report: &mut R) -> Status
     requires { IsReportable outcome }
     ensures answer { IsEnded outcome result }
-    ensures report { IsReported result (R.held report.old) (R.held report.new)
-        (R.faults report.old) (R.faults report.new) (λ text. text ≡ text_to_report outcome) }
-    ensures once { IsFinishPutCount outcome result (R.puts report.old) (R.puts report.new) }
+    ensures report { IsReported result (R.state report.old).held (R.state report.new).held
+        (R.state report.old).faults (R.state report.new).faults (λ text. text ≡ text_to_report outcome) }
+    ensures pieces { ArePiecesFinished outcome result (R.state report.old).asked (R.state report.new).asked }
 {
     match outcome {
         Outcome::Found(text) => match report.put(text.as_bytes()) {
@@ -39,12 +38,12 @@ pub fn finish<R: Sink>(alloc: Global, outcome: Outcome, report: &mut R) -> Statu
     }
 }
 
-/// Puts the line of a out of memory. It takes no memory.
+/// Puts the line of out of memory. It takes no memory.
 #[tactic(auto, using(crate::proofs::Runs::memory_told))]
 pub fn give_up<R: Sink>(report: &mut R) -> Status
     ensures answer { result ≡ Status.OutOfMemory }
-    ensures report { IsMemoryReported (R.held report.old) (R.held report.new) (R.faults report.old) (R.faults report.new) }
-    ensures once { IsOneMore (R.puts report.old) (R.puts report.new) }
+    ensures report { IsMemoryReported (R.state report.old).held (R.state report.new).held (R.state report.old).faults (R.state report.new).faults }
+    ensures pieces { (R.state report.new).asked ≡ (R.state report.old).asked ++ memory_line ∷ [] }
 {
     match report.put(b"out of memory\n") {
         Put::Done | Put::Failed | Put::OutOfMemory => Status::OutOfMemory,

@@ -4,7 +4,7 @@ ghost use Rattle.std.specs.Prelude.{◌≡◌, ◌≢◌, Ok};
 ghost use Rattle.ass_script.specs.Ranges.{IsScript};
 ghost use Rattle.ass_events.specs.LineLaws.{HasShortLines};
 ghost use Rattle.track_write.specs.Texts.{IsWriteAnswer};
-ghost use Rattle.single_run.specs.Outcomes.{IsFramesPutCount, IsOrFault, IsShown, IsWriteCounted};
+ghost use Rattle.single_run.specs.Outcomes.{ArePiecesShown, IsOrFault, IsShown, IsWriteCounted};
 ghost use Rattle.single_run.specs.Outputs.{rewritten, written_status};
 ghost use Rattle.single_run.specs.Works.{IsWriteTask};
 
@@ -35,9 +35,10 @@ pub fn rewrite<F: Sink>(alloc: Global, write: &WriteTask, script: &Script, frame
     requires script { IsScript script.now }
     requires short { HasShortLines script.now }
     ensures answered { IsOrFault Which.Frames (written_status (rewritten write.now script.now)) result }
-    ensures shown { IsShown result (F.held frames.old) (F.held frames.new) (λ bytes. rewritten write.now script.now ≡ Ok bytes) }
-    ensures once { IsFramesPutCount Which.Frames result (F.puts frames.old) (F.puts frames.new) }
-    ensures counted { IsWriteCounted result (F.faults frames.old) (F.faults frames.new) }
+    ensures shown { IsShown result (F.state frames.old).held (F.state frames.new).held (λ bytes. rewritten write.now script.now ≡ Ok bytes) }
+    ensures pieces { ArePiecesShown Which.Frames result (λ bytes. rewritten write.now script.now ≡ Ok bytes) (F.state frames.old).asked
+        (F.state frames.new).asked }
+    ensures counted { IsWriteCounted result (F.state frames.old).faults (F.state frames.new).faults }
     ensures own { result ≢ Status.WriteFault Which.Report }
 {
     match text_of(alloc, write, script) {

@@ -1,7 +1,7 @@
 //! What the frames sink gets.
 
 ghost use Rattle.std.specs.Prelude.{◌≡◌, ◌≢◌};
-ghost use Rattle.single_run.specs.Outcomes.{IsFramesPutCount, IsOrFault, IsShown, IsWriteCounted};
+ghost use Rattle.single_run.specs.Outcomes.{ArePiecesShown, IsOrFault, IsShown, IsWriteCounted};
 ghost use Rattle.run_status.specs.declared.status.Status.TheVariants.{Done as done_status};
 
 use ass_io::{Put, Sink};
@@ -11,9 +11,9 @@ use run_status::{Status, Which};
 #[tactic(auto, using(crate::proofs::Runs::shown_whole, crate::proofs::Runs::shown_part, crate::proofs::Runs::shown_kept))]
 pub fn show<F: Sink>(bytes: &[u8], frames: &mut F) -> Status
     ensures answered { IsOrFault Which.Frames done_status result }
-    ensures shown { IsShown result (F.held frames.old) (F.held frames.new) (λ shown. shown ≡ bytes.now) }
-    ensures once { IsFramesPutCount Which.Frames result (F.puts frames.old) (F.puts frames.new) }
-    ensures counted { IsWriteCounted result (F.faults frames.old) (F.faults frames.new) }
+    ensures shown { IsShown result (F.state frames.old).held (F.state frames.new).held (λ shown. shown ≡ bytes.now) }
+    ensures pieces { ArePiecesShown Which.Frames result (λ shown. shown ≡ bytes.now) (F.state frames.old).asked (F.state frames.new).asked }
+    ensures counted { IsWriteCounted result (F.state frames.old).faults (F.state frames.new).faults }
     ensures own { result ≢ Status.WriteFault Which.Report }
 {
     match frames.put(bytes) {

@@ -2,7 +2,7 @@
 
 ghost use Rattle.std.specs.Prelude.{◌≡◌, ◌≢◌, Ok, string_bytes};
 ghost use Rattle.ass_script.specs.Ranges.{IsScript};
-ghost use Rattle.single_run.specs.Outcomes.{IsFramesPutCount, IsOrFault, IsShown, IsStatusReadCounted, IsWriteCounted, SuitsSink, status_if_put};
+ghost use Rattle.single_run.specs.Outcomes.{ArePiecesShown, IsOrFault, IsShown, IsStatusReadCounted, IsWriteCounted, SuitsSink, status_if_put};
 ghost use Rattle.single_run.specs.Outcomes.{text_to_report};
 ghost use Rattle.single_run.specs.Outputs.{IsFramesOf, IsReportOf, sink_of, task_status};
 ghost use Rattle.single_run.specs.Runs.{IsWorked, sink_change};
@@ -41,9 +41,10 @@ fn do_task<F: Sink>(alloc: Global, task: &Task, inputs: Inputs, frames: &mut F) 
     requires script { IsScript inputs.script }
     requires inputs { AreInputsOf task.now inputs }
     ensures answered { IsOrFault (sink_of task.now) (task_status task.now inputs) (status_if_put result) }
-    ensures shown { IsShown (status_if_put result) (F.held frames.old) (F.held frames.new) (IsFramesOf task.now inputs) }
-    ensures once { IsFramesPutCount (sink_of task.now) (status_if_put result) (F.puts frames.old) (F.puts frames.new) }
-    ensures counted { IsWriteCounted (status_if_put result) (F.faults frames.old) (F.faults frames.new) }
+    ensures shown { IsShown (status_if_put result) (F.state frames.old).held (F.state frames.new).held (IsFramesOf task.now inputs) }
+    ensures pieces { ArePiecesShown (sink_of task.now) (status_if_put result) (IsFramesOf task.now inputs) (F.state frames.old).asked
+        (F.state frames.new).asked }
+    ensures counted { IsWriteCounted (status_if_put result) (F.state frames.old).faults (F.state frames.new).faults }
     ensures text { status_if_put result ≡ done_status → IsReportOf task.now inputs (text_to_report result) }
     ensures own { SuitsSink (sink_of task.now) result }
 {
@@ -63,11 +64,10 @@ pub fn do_work<S: Shelf, F: Sink>(
     frames: &mut F,
 ) -> Outcome
     requires { IsWork work.now }
-    ensures run { IsWorked (S.told shelf.old) work.now (sink_change (F.held frames.old) (F.held frames.new) (F.faults frames.old) (F.faults frames.new))
+    ensures run { IsWorked (S.told shelf.old) work.now (sink_change (F.state frames.old) (F.state frames.new))
         result }
     ensures read { IsStatusReadCounted (status_if_put result) (S.faults shelf.old) (S.faults shelf.new) }
-    ensures once { IsFramesPutCount (sink_of work.now.task) (status_if_put result) (F.puts frames.old) (F.puts frames.new) }
-    ensures write { IsWriteCounted (status_if_put result) (F.faults frames.old) (F.faults frames.new) }
+    ensures write { IsWriteCounted (status_if_put result) (F.state frames.old).faults (F.state frames.new).faults }
 {
     line_laws::lines_fit_their_text();
     match read_inputs(alloc, shelf, &work.script, work.fonts.as_slice()) {

@@ -41,11 +41,7 @@ impl<S: Sink + Drop, W: Write + Drop> CountedSink<S, W> {
 }
 
 impl<S: Sink + Drop, W: Write + Drop> Sink for CountedSink<S, W> {
-    ghost held = { λ s. S.held s.sink };
-
-    ghost faults = { λ s. S.faults s.sink };
-
-    ghost puts = { λ s. S.puts s.sink };
+    ghost state = { λ s. S.state s.sink };
 
     fn put(&mut self, piece: &[u8]) -> Put {
         let put = self.sink.put(piece);

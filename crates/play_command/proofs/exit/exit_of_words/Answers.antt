@@ -1,7 +1,6 @@
-use Rattle.std.proofs.Common.{ap, ◌∙◌}
+use Rattle.std.proofs.Common.{ap, subst, sym}
 use Rattle.single_run.proofs.Runs.{keeps}
 use Rattle.std.specs.Io.KnownBytes.{Keeps}
-use Rattle.std.proofs.Common.{subst, sym}
 use Rattle.play_command.proofs.exit.exit_of_words.Goals as goal
 
 pub returns : goal.returns
@@ -12,8 +11,10 @@ returns g c =
       record {
         refused = λ why asked. record {
           answered = run.other_words why asked;
-          shown = subst (λ frames. Keeps (g.F.Sink.held c.args.frames.now) (g.F.Sink.held frames)) (sym (run.other_frames why asked)) (keeps (g.F.Sink.held c.args.frames.now));
+          shown = subst (λ frames. Keeps (g.F.Sink.state c.args.frames.now).held (g.F.Sink.state frames).held) (sym (run.other_frames why asked)) (keeps (g.F.Sink.state c.args.frames.now).held);
           reported = run.other_report why asked;
+          pieces_shown = ap (λ frames. (g.F.Sink.state frames).asked) (run.other_frames why asked);
+          pieces_told = run.other_pieces why asked;
         };
         work = run.run;
         play = run.play;

@@ -12,10 +12,9 @@ play-requires g c =
 
 pub returns-in-Ok : goal.returns-in-Ok
 returns-in-Ok g c =
-    subst (λ (v : PlayView). IsPlayed v c.play.result (g.F.Sink.held c.args.frames.now) (g.F.Sink.held c.play.new.frames) (g.F.Sink.faults c.args.frames.now) (g.F.Sink.faults c.play.new.frames)
-    (g.F.Sink.puts c.args.frames.now) (g.F.Sink.puts c.play.new.frames)) (view_same c.args.job c.args.inputs _ _ c.in-Ok.ensures.script c.in-Ok.ensures.fonts) c.play.ensures.played
+    subst (λ (v : PlayView). IsPlayed v c.play.result (g.F.Sink.state c.args.frames.now) (g.F.Sink.state c.play.new.frames)) (view_same c.args.job c.args.inputs _ _ c.in-Ok.ensures.script c.in-Ok.ensures.fonts) c.play.ensures.played
 
 pub returns-in-Err : goal.returns-in-Err
 returns-in-Err g c =
     let some = c.requires.job.times.0 in
-    play_refused _ (g.F.Sink.held c.args.frames.now) (g.F.Sink.faults c.args.frames.now) (g.F.Sink.puts c.args.frames.now) (omega (arith, some))
+    play_refused _ (g.F.Sink.state c.args.frames.now) (omega (arith, some))

@@ -23,9 +23,9 @@ returns-in-Play-clause-worked g c =
     let told = g.S.Shelf.told c.args.shelf.now in
     let old = c.args.frames.now in
     let new = c.play_files.new.frames in
-    let change = sink_change (g.F.Sink.held old) (g.F.Sink.held new) (g.F.Sink.faults old) (g.F.Sink.faults new) in
-    subst (λ (job : Job). IsJobWorked told job change (g.F.Sink.puts old) (g.F.Sink.puts new) c.play_files.result) (sym c.in-Play.is)
-    (subst (λ fonts. IsPlayWorked told c.in-Play.play c.in-Play.script fonts change (g.F.Sink.puts old) (g.F.Sink.puts new) c.play_files.result) c.as_slice-fonts.ensures c.play_files.ensures.run)
+    let change = sink_change (g.F.Sink.state old) (g.F.Sink.state new) in
+    subst (λ (job : Job). IsJobWorked told job change c.play_files.result) (sym c.in-Play.is)
+    (subst (λ fonts. IsPlayWorked told c.in-Play.play c.in-Play.script fonts change c.play_files.result) c.as_slice-fonts.ensures c.play_files.ensures.run)
 
 pub returns-in-Play-clause-selftest_shelf : goal.returns-in-Play-clause-selftest_shelf
 returns-in-Play-clause-selftest_shelf g c = λ seed events workers is. absurd (not_selftest _ _ _ seed events workers (sym c.in-Play.is ∙ is))
@@ -36,8 +36,8 @@ returns-in-Play-clause-selftest_frames g c = λ seed events workers is. absurd (
 pub returns-in-Selftest-clause-worked : goal.returns-in-Selftest-clause-worked
 returns-in-Selftest-clause-worked g c =
     let frames = c.args.frames.now in
-    let change = sink_change (g.F.Sink.held frames) (g.F.Sink.held frames) (g.F.Sink.faults frames) (g.F.Sink.faults frames) in
-    subst (λ (job : Job). IsJobWorked (g.S.Shelf.told c.args.shelf.now) job change (g.F.Sink.puts frames) (g.F.Sink.puts frames) c.do_selftest.result) (sym c.in-Selftest.is) c.do_selftest.ensures
+    let change = sink_change (g.F.Sink.state frames) (g.F.Sink.state frames) in
+    subst (λ (job : Job). IsJobWorked (g.S.Shelf.told c.args.shelf.now) job change c.do_selftest.result) (sym c.in-Selftest.is) c.do_selftest.ensures
 
 pub returns-in-Selftest-clause-read : goal.returns-in-Selftest-clause-read
 returns-in-Selftest-clause-read g c = (worked_kind c.in-Selftest.seed c.in-Selftest.events c.do_selftest.result _ 0 c.do_selftest.ensures).0

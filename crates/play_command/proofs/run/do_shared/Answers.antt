@@ -14,8 +14,8 @@ pub returns-in-Ok-clause-worked : goal.returns-in-Ok-clause-worked
 returns-in-Ok-clause-worked g c = λ job asked.
     let old = c.args.frames.now in
     let new = c.do_job.new.frames in
-    let change = sink_change (g.F.Sink.held old) (g.F.Sink.held new) (g.F.Sink.faults old) (g.F.Sink.faults new) in
-    subst (λ (it : Job). IsJobWorked (g.S.Shelf.told c.args.shelf.now) it change (g.F.Sink.puts old) (g.F.Sink.puts new) c.do_job.result)
+    let change = sink_change (g.F.Sink.state old) (g.F.Sink.state new) in
+    subst (λ (it : Job). IsJobWorked (g.S.Shelf.told c.args.shelf.now) it change c.do_job.result)
     (same_job (job_of (texts c.args.words.now)) c.in-Ok.job job c.in-Ok.ensures.read asked) c.do_job.ensures.worked
 
 pub returns-in-Ok-clause-selftest_shelf : goal.returns-in-Ok-clause-selftest_shelf
@@ -27,4 +27,4 @@ returns-in-Ok-clause-selftest_frames g c = λ seed events workers asked.
     c.do_job.ensures.selftest_frames seed events workers (same_job (job_of (texts c.args.words.now)) c.in-Ok.job (Selftest seed events workers) c.in-Ok.ensures.read asked)
 
 pub returns-in-Err-clause-worked : goal.returns-in-Err-clause-worked
-returns-in-Err-clause-worked g c = λ job asked. job_wanting _ job _ _ _ (job_left (texts c.args.words.now) job asked c.requires)
+returns-in-Err-clause-worked g c = λ job asked. job_wanting _ job _ (job_left (texts c.args.words.now) job asked c.requires)

@@ -3,7 +3,7 @@ use Rattle.single_run.proofs.Runs.{read_after, written_after}
 use Rattle.single_run.specs.Runs.{sink_change}
 use Rattle.single_run.specs.Works.{work_asked}
 use Rattle.run_words.specs.Words.{texts}
-use Rattle.play_command.proofs.RunLemmas.{left_no_work, left_not_refused, play_decides, play_left, play_run, play_wanting, refused_no_work, selftest_decides, selftest_left, selftest_run, selftest_wanting, told_once, wanting_once}
+use Rattle.play_command.proofs.RunLemmas.{left_no_work, left_not_refused, play_decides, play_left, play_run, play_wanting, refused_no_work, selftest_decides, selftest_left, selftest_run, selftest_wanting}
 use Rattle.run_words.specs.declared.job.Job.TheVariants.{Play, Selftest}
 use Rattle.play_command.proofs.run.top.Goals as goal
 
@@ -25,7 +25,7 @@ returns-in-Some-clause-play g c = λ job script fonts asked.
     let left = play_left _ job script fonts asked in
     let none = left_no_work _ left in
     let frames = c.in-Some.ensures.other_frames none in
-    rw frames (play_wanting _ job script fonts _ _ _ _ c.in-Some.status (c.in-Some.ensures.left left) (c.in-Some.ensures.other_report none))
+    rw frames (play_wanting _ job script fonts _ _ c.in-Some.status (c.in-Some.ensures.left left) (c.in-Some.ensures.other_report none) (c.in-Some.ensures.left_pieces left))
 
 pub returns-in-Some-clause-play_decided : goal.returns-in-Some-clause-play_decided
 returns-in-Some-clause-play_decided g c = λ job script fonts asked stays shows reports reading known read decided.
@@ -34,7 +34,7 @@ returns-in-Some-clause-play_decided g c = λ job script fonts asked stays shows 
 pub returns-in-Some-clause-selftest : goal.returns-in-Some-clause-selftest
 returns-in-Some-clause-selftest g c = λ seed events workers asked.
     let left = selftest_left _ seed events workers asked in
-    selftest_wanting seed events _ c.in-Some.status (c.in-Some.ensures.left left) (c.in-Some.ensures.other_report (left_no_work _ left))
+    selftest_wanting seed events _ c.in-Some.status (c.in-Some.ensures.left left) (c.in-Some.ensures.other_report (left_no_work _ left)) (c.in-Some.ensures.left_pieces left)
 
 pub returns-in-Some-clause-selftest_decided : goal.returns-in-Some-clause-selftest_decided
 returns-in-Some-clause-selftest_decided g c = λ seed events workers asked reports reading read decided.
@@ -45,9 +45,6 @@ returns-in-Some-clause-selftest_shelf g c = λ seed events workers asked. c.in-S
 
 pub returns-in-Some-clause-selftest_frames : goal.returns-in-Some-clause-selftest_frames
 returns-in-Some-clause-selftest_frames g c = λ seed events workers asked. c.in-Some.ensures.other_frames (left_no_work _ (selftest_left _ seed events workers asked))
-
-pub returns-in-Some-clause-told_once : goal.returns-in-Some-clause-told_once
-returns-in-Some-clause-told_once g c = λ left. wanting_once c.in-Some.status _ _ (c.in-Some.ensures.left left) (c.in-Some.ensures.left_once left)
 
 -- ---- a play or a selftest
 
@@ -68,8 +65,8 @@ returns-in-None-clause-other_frames g c = λ why asked. absurd (left_not_refused
 pub returns-in-None-clause-other_report : goal.returns-in-None-clause-other_report
 returns-in-None-clause-other_report g c = λ why asked. absurd (left_not_refused _ why (c.in-None.ensures.none refl) asked)
 
-pub returns-in-None-clause-other_once : goal.returns-in-None-clause-other_once
-returns-in-None-clause-other_once g c = λ why asked. absurd (left_not_refused _ why (c.in-None.ensures.none refl) asked)
+pub returns-in-None-clause-other_pieces : goal.returns-in-None-clause-other_pieces
+returns-in-None-clause-other_pieces g c = λ why asked. absurd (left_not_refused _ why (c.in-None.ensures.none refl) asked)
 
 pub returns-in-None-clause-run : goal.returns-in-None-clause-run
 returns-in-None-clause-run g c = λ work asked. absurd (left_no_work _ (c.in-None.ensures.none refl) work asked)
@@ -77,22 +74,16 @@ returns-in-None-clause-run g c = λ work asked. absurd (left_no_work _ (c.in-Non
 pub returns-in-None-clause-decided : goal.returns-in-None-clause-decided
 returns-in-None-clause-decided g c = λ work asked stays shows reports. absurd (left_no_work _ (c.in-None.ensures.none refl) work asked)
 
-pub returns-in-None-clause-shown_once : goal.returns-in-None-clause-shown_once
-returns-in-None-clause-shown_once g c = λ work asked. absurd (left_no_work _ (c.in-None.ensures.none refl) work asked)
-
-pub returns-in-None-clause-reported_once : goal.returns-in-None-clause-reported_once
-returns-in-None-clause-reported_once g c = λ work asked. absurd (left_no_work _ (c.in-None.ensures.none refl) work asked)
-
 pub returns-in-None-clause-play : goal.returns-in-None-clause-play
 returns-in-None-clause-play g c = λ job script fonts asked.
     let same = c.in-None.ensures.untouched refl in
-    rw (← same.0, ← same.1, ← same.2) (play_run _ job script fonts _ _ _ _ c.do_shared-outcome.result c.finish.result (c.do_shared-outcome.ensures.worked (Play job script fonts) asked) c.finish.ensures.answer c.finish.ensures.report)
+    rw (← same.0, ← same.1, ← same.2) (play_run _ job script fonts _ _ c.do_shared-outcome.result c.finish.result (c.do_shared-outcome.ensures.worked (Play job script fonts) asked) c.do_shared-outcome.ensures.reportable c.do_shared-outcome.ensures.spoken c.finish.ensures.answer c.finish.ensures.report c.finish.ensures.pieces)
 
 pub returns-in-None-clause-play_decided : goal.returns-in-None-clause-play_decided
 returns-in-None-clause-play_decided g c = λ job script fonts asked stays shows reports.
     let same = c.in-None.ensures.untouched refl in
-    let run = play_run _ job script fonts _ _ _ _ c.do_shared-outcome.result c.finish.result (c.do_shared-outcome.ensures.worked (Play job script fonts) asked) c.finish.ensures.answer c.finish.ensures.report in
-    rw (← same.0) (play_decides c.files_decide.ensures.one _ job script fonts _ _ _ _ _ _ c.finish.result run
+    let run = play_run _ job script fonts _ _ c.do_shared-outcome.result c.finish.result (c.do_shared-outcome.ensures.worked (Play job script fonts) asked) c.do_shared-outcome.ensures.reportable c.do_shared-outcome.ensures.spoken c.finish.ensures.answer c.finish.ensures.report c.finish.ensures.pieces in
+    rw (← same.0) (play_decides c.files_decide.ensures.one _ job script fonts _ _ _ _ c.finish.result run
     (read_after c.do_shared-outcome.result c.finish.result _ _ c.finish.ensures.answer c.do_shared-outcome.ensures.read)
     (written_after c.do_shared-outcome.result c.finish.result _ _ c.finish.ensures.answer c.do_shared-outcome.ensures.write)
     (rw same.0 stays) (rw same.1 shows) (rw same.2 reports))
@@ -100,31 +91,16 @@ returns-in-None-clause-play_decided g c = λ job script fonts asked stays shows 
 pub returns-in-None-clause-selftest : goal.returns-in-None-clause-selftest
 returns-in-None-clause-selftest g c = λ seed events workers asked.
     let same = c.in-None.ensures.untouched refl in
-    rw (← same.2) (selftest_run seed events _ c.do_shared-outcome.result c.finish.result (c.do_shared-outcome.ensures.worked (Selftest seed events workers) asked) c.finish.ensures.answer c.finish.ensures.report)
+    rw (← same.2) (selftest_run seed events _ c.do_shared-outcome.result c.finish.result (c.do_shared-outcome.ensures.worked (Selftest seed events workers) asked) c.finish.ensures.answer c.finish.ensures.report c.finish.ensures.pieces)
 
 pub returns-in-None-clause-selftest_decided : goal.returns-in-None-clause-selftest_decided
 returns-in-None-clause-selftest_decided g c = λ seed events workers asked reports.
     let same = c.in-None.ensures.untouched refl in
     selftest_decides seed events _ c.finish.result
-    (selftest_run seed events _ c.do_shared-outcome.result c.finish.result (c.do_shared-outcome.ensures.worked (Selftest seed events workers) asked) c.finish.ensures.answer c.finish.ensures.report) (rw same.2 reports)
+    (selftest_run seed events _ c.do_shared-outcome.result c.finish.result (c.do_shared-outcome.ensures.worked (Selftest seed events workers) asked) c.finish.ensures.answer c.finish.ensures.report c.finish.ensures.pieces) (rw same.2 reports)
 
 pub returns-in-None-clause-selftest_shelf : goal.returns-in-None-clause-selftest_shelf
 returns-in-None-clause-selftest_shelf g c = λ seed events workers asked. c.do_shared-outcome.ensures.selftest_shelf seed events workers asked ∙ (c.in-None.ensures.untouched refl).0
 
 pub returns-in-None-clause-selftest_frames : goal.returns-in-None-clause-selftest_frames
 returns-in-None-clause-selftest_frames g c = λ seed events workers asked. c.do_shared-outcome.ensures.selftest_frames seed events workers asked ∙ (c.in-None.ensures.untouched refl).1
-
-pub returns-in-None-clause-told_once : goal.returns-in-None-clause-told_once
-returns-in-None-clause-told_once g c = λ left.
-    let same = c.in-None.ensures.untouched refl in
-    rw (← same.2) (told_once c.do_shared-outcome.result c.finish.result _ _ c.do_shared-outcome.ensures.reportable c.do_shared-outcome.ensures.spoken c.finish.ensures.answer c.finish.ensures.once)
-
-pub returns-in-None-clause-read : goal.returns-in-None-clause-read
-returns-in-None-clause-read g c =
-    let same = c.in-None.ensures.untouched refl in
-    rw (← same.0) (read_after c.do_shared-outcome.result c.finish.result _ _ c.finish.ensures.answer c.do_shared-outcome.ensures.read)
-
-pub returns-in-None-clause-write : goal.returns-in-None-clause-write
-returns-in-None-clause-write g c =
-    let same = c.in-None.ensures.untouched refl in
-    rw (← same.1) (written_after c.do_shared-outcome.result c.finish.result _ _ c.finish.ensures.answer c.do_shared-outcome.ensures.write)

@@ -5,5 +5,4 @@ use Rattle.play_rounds.proofs.Puts.{one_piece}
 use Rattle.play_rounds.proofs.gather.put_each.Given as goal
 
 abbrev pub invariant-loop-image : goal.invariant-loop-image
-invariant-loop-image g l = AreWritten (flat_map one_piece (take l.image-index l.images)) (g.F.Sink.held l.initial.frames) (g.F.Sink.held l.frames)
-    (g.F.Sink.faults l.initial.frames) (g.F.Sink.faults l.frames) (g.F.Sink.puts l.initial.frames) (g.F.Sink.puts l.frames)
+invariant-loop-image g l = AreWritten (flat_map one_piece (take l.image-index l.images)) (g.F.Sink.state l.initial.frames) (g.F.Sink.state l.frames)

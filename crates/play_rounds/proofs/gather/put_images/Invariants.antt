@@ -6,5 +6,4 @@ use Rattle.play_rounds.specs.Outputs.{AreWritten}
 use Rattle.play_rounds.proofs.gather.put_images.Given as goal
 
 abbrev pub invariant-loop-worker : goal.invariant-loop-worker
-invariant-loop-worker g l = AreWritten (flat_map (λ (w : Worker). images_by w.outcome) (take l.worker-index l.workers)) (g.F.Sink.held l.initial.frames) (g.F.Sink.held l.frames)
-    (g.F.Sink.faults l.initial.frames) (g.F.Sink.faults l.frames) (g.F.Sink.puts l.initial.frames) (g.F.Sink.puts l.frames)
+invariant-loop-worker g l = AreWritten (flat_map (λ (w : Worker). images_by w.outcome) (take l.worker-index l.workers)) (g.F.Sink.state l.initial.frames) (g.F.Sink.state l.frames)

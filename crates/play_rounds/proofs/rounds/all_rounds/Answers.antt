@@ -14,7 +14,7 @@ loop-round-init g c = record {
   idle = c.requires.idle;
   crew = refl;
   few = omega arith;
-  played = plays_none (g.F.Sink.held c.args.frames.now) (g.F.Sink.faults c.args.frames.now) (g.F.Sink.puts c.args.frames.now) (masks_seen c.args.stage.now.renderer c.args.first) (play_on c.args.stage.now) (worker_roles c.args.workers.now) 0 (history_of c.args.first.track.seen);
+  played = plays_none (g.F.Sink.state c.args.frames.now) (masks_seen c.args.stage.now.renderer c.args.first) (play_on c.args.stage.now) (worker_roles c.args.workers.now) 0 (history_of c.args.first.track.seen);
 }
 
 pub one_round-next-requires-clause-room : goal.one_round-next-requires-clause-room
@@ -43,7 +43,7 @@ loop-round-preserved g c =
       idle = one.idle;
       crew = one.crew ∙ kept.crew;
       few = (let before = kept.few in let more = e.few in omega (arith, before, more));
-      played = plays_then (g.F.Sink.held c.args.frames.now) (g.F.Sink.held c.loop-round.frames) (g.F.Sink.held c.one_round-next.new.frames) (g.F.Sink.faults c.args.frames.now) (g.F.Sink.faults c.loop-round.frames) (g.F.Sink.faults c.one_round-next.new.frames) (g.F.Sink.puts c.args.frames.now) (g.F.Sink.puts c.loop-round.frames) (g.F.Sink.puts c.one_round-next.new.frames) (masks_seen c.args.stage.now.renderer c.args.first) (masks_seen c.args.stage.now.renderer c.loop-round.first) (masks_seen c.args.stage.now.renderer c.one_round-next.result.0)
+      played = plays_then (g.F.Sink.state c.args.frames.now) (g.F.Sink.state c.loop-round.frames) (g.F.Sink.state c.one_round-next.new.frames) (masks_seen c.args.stage.now.renderer c.args.first) (masks_seen c.args.stage.now.renderer c.loop-round.first) (masks_seen c.args.stage.now.renderer c.one_round-next.result.0)
           (play_on c.args.stage.now) (worker_roles c.args.workers.now) 0 c.loop-round.round (history_of c.args.first.track.seen) (history_of c.loop-round.first.track.seen) c.loop-round.repeated kept.played
           (c.loop-round.round + 1) (history_of c.one_round-next.result.0.track.seen) c.in-Ok.more (rw kept.crew at e.played);
     }
@@ -52,7 +52,7 @@ pub returns-in-Err-clause-stopped : goal.returns-in-Err-clause-stopped
 returns-in-Err-clause-stopped g c =
     let kept = c.loop-round.invariant in
     let e = rw c.in-Err.is at c.one_round-next.ensures in
-    stops_then (g.F.Sink.held c.args.frames.now) (g.F.Sink.held c.loop-round.frames) (g.F.Sink.held c.one_round-next.new.frames) (g.F.Sink.faults c.args.frames.now) (g.F.Sink.faults c.loop-round.frames) (g.F.Sink.faults c.one_round-next.new.frames) (g.F.Sink.puts c.args.frames.now) (g.F.Sink.puts c.loop-round.frames) (g.F.Sink.puts c.one_round-next.new.frames) (masks_seen c.args.stage.now.renderer c.args.first) (masks_seen c.args.stage.now.renderer c.loop-round.first) (masks_seen c.args.stage.now.renderer c.one_round-next.result.0)
+    stops_then (g.F.Sink.state c.args.frames.now) (g.F.Sink.state c.loop-round.frames) (g.F.Sink.state c.one_round-next.new.frames) (masks_seen c.args.stage.now.renderer c.args.first) (masks_seen c.args.stage.now.renderer c.loop-round.first) (masks_seen c.args.stage.now.renderer c.one_round-next.result.0)
     (play_on c.args.stage.now) (worker_roles c.args.workers.now) 0 c.loop-round.round (history_of c.args.first.track.seen) (history_of c.loop-round.first.track.seen) c.loop-round.repeated kept.played
     c.in-Err.stop (rw kept.crew at e.stopped)
 

@@ -19,5 +19,5 @@ invariant-loop-round g l = record {
   crew : worker_roles l.workers ≡ worker_roles l.initial.workers;
   few : l.repeated ≤ l.round * 4294967295;
   played : PlaysOn (play_on l.stage) (worker_roles l.initial.workers) 0 l.round (history_of l.fn.first.track.seen) (history_of l.first.track.seen) l.repeated
-      (λ next. AreImagesWritten next (g.F.Sink.held l.initial.frames) (g.F.Sink.held l.frames) (g.F.Sink.faults l.initial.frames) (g.F.Sink.faults l.frames) (g.F.Sink.puts l.initial.frames) (g.F.Sink.puts l.frames) (masks_seen l.stage.renderer l.fn.first) (masks_seen l.stage.renderer l.first));
+      (λ next. AreImagesWritten next (g.F.Sink.state l.initial.frames) (g.F.Sink.state l.frames) (masks_seen l.stage.renderer l.fn.first) (masks_seen l.stage.renderer l.first));
 }

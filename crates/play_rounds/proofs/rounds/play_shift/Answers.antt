@@ -7,7 +7,7 @@ use Rattle.play_rounds.proofs.Plays.{stops_now}
 use Rattle.play_rounds.proofs.rounds.play_shift.Goals as goal
 
 pub returns-in-Err-clause-stopped : goal.returns-in-Err-clause-stopped
-returns-in-Err-clause-stopped g c = stops_now (g.F.Sink.held c.args.frames.now) (g.F.Sink.faults c.args.frames.now) (g.F.Sink.puts c.args.frames.now)
+returns-in-Err-clause-stopped g c = stops_now (g.F.Sink.state c.args.frames.now)
     (play_on c.args.stage.now) (crew_of c.args.stage.now.job c.args.shift) 0 (history_of c.args.first.track.seen)
 
 pub at_once-requires-clause-some : goal.at_once-requires-clause-some

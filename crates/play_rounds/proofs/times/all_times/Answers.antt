@@ -13,7 +13,7 @@ loop-time-init g c = record {
   home = c.requires.home;
   drawn = let next = c.requires.next in omega (arith, next);
   few = omega arith;
-  so_far = none_played (g.F.Sink.held c.args.frames.now) (g.F.Sink.faults c.args.frames.now) (g.F.Sink.puts c.args.frames.now) (masks_seen c.args.stage.now.renderer c.args.first) (play_on c.args.stage.now) (history_of c.args.first.track.seen) _ c.requires.new c.new.ensures refl;
+  so_far = none_played (g.F.Sink.state c.args.frames.now) (masks_seen c.args.stage.now.renderer c.args.first) (play_on c.args.stage.now) (history_of c.args.first.track.seen) _ c.requires.new c.new.ensures refl;
 }
 
 pub one_time-next-requires-clause-time : goal.one_time-next-requires-clause-time
@@ -31,35 +31,35 @@ overflow_add-played g c =
 pub returns-in-Err-clause-stopped : goal.returns-in-Err-clause-stopped
 returns-in-Err-clause-stopped g c =
     let stage = c.args.stage.now in let old = c.args.frames.now in let mid = c.loop-time.frames in let new = c.one_time-next.new.frames in
-    let held = g.F.Sink.held in let faults = g.F.Sink.faults in let puts = g.F.Sink.puts in let seen = masks_seen stage.renderer in
-    stops_after (held old) (held mid) (held new) (faults old) (faults mid) (faults new) (puts old) (puts mid) (puts new) (seen c.args.first) (seen c.loop-time.first) (seen c.one_time-next.result.0) (play_on stage) c.loop-time.time (history_of c.loop-time.first.track.seen) c.loop-time.played
+    let state = g.F.Sink.state in let seen = masks_seen stage.renderer in
+    stops_after (state old) (state mid) (state new) (seen c.args.first) (seen c.loop-time.first) (seen c.one_time-next.result.0) (play_on stage) c.loop-time.time (history_of c.loop-time.first.track.seen) c.loop-time.played
     c.loop-time.invariant.so_far c.loop-time-test.true c.in-Err.stop (rw c.in-Err.is at c.one_time-next.ensures.stopped)
 
 pub returns-in-Err-push-clause-stopped : goal.returns-in-Err-push-clause-stopped
 returns-in-Err-push-clause-stopped g c =
     let stage = c.args.stage.now in let old = c.args.frames.now in let mid = c.loop-time.frames in let new = c.one_time-next.new.frames in
-    let held = g.F.Sink.held in let faults = g.F.Sink.faults in let puts = g.F.Sink.puts in let seen = masks_seen stage.renderer in
-    stops_behind (held old) (held mid) (held new) (faults old) (faults mid) (faults new) (puts old) (puts mid) (puts new) (seen c.args.first) (seen c.loop-time.first) (seen c.one_time-next.result.0) (play_on stage) c.loop-time.time (history_of c.loop-time.first.track.seen) c.loop-time.played
+    let state = g.F.Sink.state in let seen = masks_seen stage.renderer in
+    stops_behind (state old) (state mid) (state new) (seen c.args.first) (seen c.loop-time.first) (seen c.one_time-next.result.0) (play_on stage) c.loop-time.time (history_of c.loop-time.first.track.seen) c.loop-time.played
     c.loop-time.invariant.so_far c.loop-time-test.true (history_of c.one_time-next.result.0.track.seen) c.in-Ok.more.0 c.in-Ok.more.1 (rw c.in-Ok.is at c.one_time-next.ensures.played)
 
 pub loop-time-preserved : goal.loop-time-preserved
 loop-time-preserved g c =
     let stage = c.args.stage.now in let old = c.args.frames.now in let mid = c.loop-time.frames in let new = c.one_time-next.new.frames in
-    let held = g.F.Sink.held in let faults = g.F.Sink.faults in let puts = g.F.Sink.puts in let seen = masks_seen stage.renderer in
+    let state = g.F.Sink.state in let seen = masks_seen stage.renderer in
     let more = rw c.in-Ok.is at c.one_time-next.ensures.few in let were = c.loop-time.invariant.few in
     let drawn = c.one_time-next.ensures.drawn in let before = c.loop-time.invariant.drawn in
     record {
       home = c.one_time-next.ensures.home;
       drawn = omega (arith, drawn, before);
       few = omega (arith, more, were);
-      so_far = more_played (held old) (held mid) (held new) (faults old) (faults mid) (faults new) (puts old) (puts mid) (puts new) (seen c.args.first) (seen c.loop-time.first) (seen c.one_time-next.result.0) (play_on stage) c.loop-time.time (history_of c.loop-time.first.track.seen) c.loop-time.played
+      so_far = more_played (state old) (state mid) (state new) (seen c.args.first) (seen c.loop-time.first) (seen c.one_time-next.result.0) (play_on stage) c.loop-time.time (history_of c.loop-time.first.track.seen) c.loop-time.played
           c.loop-time.invariant.so_far (history_of c.one_time-next.result.0.track.seen) c.in-Ok.more.0 c.in-Ok.more.1 _ (rw c.in-Ok.is at c.one_time-next.ensures.played) c.in-Ok-push.ensures.ok refl;
     }
 
 pub returns-clause-played : goal.returns-clause-played
 returns-clause-played g c =
     let stage = c.args.stage.now in let old = c.args.frames.now in let new = c.loop-time.frames in
-    let held = g.F.Sink.held in let faults = g.F.Sink.faults in let puts = g.F.Sink.puts in let seen = masks_seen stage.renderer in
+    let state = g.F.Sink.state in let seen = masks_seen stage.renderer in
     let end : c.loop-time.time ≡ stage.job.times = (let no = c.loop-time-test.false in omega (arith, no)) in
     subst (λ (n : ℕ). HavePlayed (play_on stage) n (history_of c.loop-time.first.track.seen) c.loop-time.played
-    (λ (images : List ShownImage). AreImagesWritten images (held old) (held new) (faults old) (faults new) (puts old) (puts new) (seen c.args.first) (seen c.loop-time.first))) end c.loop-time.invariant.so_far
+    (λ (images : List ShownImage). AreImagesWritten images (state old) (state new) (seen c.args.first) (seen c.loop-time.first))) end c.loop-time.invariant.so_far

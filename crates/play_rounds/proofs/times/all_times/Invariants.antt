@@ -15,5 +15,5 @@ invariant-loop-time g l = record {
   drawn : l.first.track.next ≤ 1 + l.time * (2 * max_drawn);
   few : l.played.repeated ≤ l.time * (2 * (max_rounds * 4294967295));
   so_far : HavePlayed (play_on l.stage) l.time (history_of l.first.track.seen) l.played
-      (λ images. AreImagesWritten images (g.F.Sink.held l.initial.frames) (g.F.Sink.held l.frames) (g.F.Sink.faults l.initial.frames) (g.F.Sink.faults l.frames) (g.F.Sink.puts l.initial.frames) (g.F.Sink.puts l.frames) (masks_seen l.stage.renderer l.fn.first) (masks_seen l.stage.renderer l.first));
+      (λ images. AreImagesWritten images (g.F.Sink.state l.initial.frames) (g.F.Sink.state l.frames) (masks_seen l.stage.renderer l.fn.first) (masks_seen l.stage.renderer l.first));
 }

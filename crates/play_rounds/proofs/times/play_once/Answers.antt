@@ -13,17 +13,17 @@ returns-in-Live-clause-few g c = IfOk-weaker c.play_shift.result.1 (λ (more : �
 pub returns-in-Live-clause-played : goal.returns-in-Live-clause-played
 returns-in-Live-clause-played g c =
     let stage = c.args.stage.now in let old = c.args.frames.now in let new = c.play_shift.new.frames in
-    let held = g.F.Sink.held in let faults = g.F.Sink.faults in let puts = g.F.Sink.puts in let seen = masks_seen stage.renderer in
+    let state = g.F.Sink.state in let seen = masks_seen stage.renderer in
     IfOk-weaker c.play_shift.result.1 _ _
-    (λ more plays. live_time (held old) (held new) (held new) (faults old) (faults new) (faults new) (puts old) (puts new) (puts new) (seen c.args.first) (seen c.play_shift.result.0) (seen c.play_shift.result.0) (play_on stage) c.requires.stage.playable (length stage.good) (lines_are stage c.requires.stage)
+    (λ more plays. live_time (state old) (state new) (state new) (seen c.args.first) (seen c.play_shift.result.0) (seen c.play_shift.result.0) (play_on stage) c.requires.stage.playable (length stage.good) (lines_are stage c.requires.stage)
     (history_of c.args.first.track.seen) (history_of c.play_shift.result.0.track.seen) more c.in-Live.is plays)
     c.play_shift.ensures.played
 
 pub returns-in-Live-clause-stopped : goal.returns-in-Live-clause-stopped
 returns-in-Live-clause-stopped g c =
     let stage = c.args.stage.now in let old = c.args.frames.now in let new = c.play_shift.new.frames in
-    let held = g.F.Sink.held in let faults = g.F.Sink.faults in let puts = g.F.Sink.puts in let seen = masks_seen stage.renderer in
+    let state = g.F.Sink.state in let seen = masks_seen stage.renderer in
     IfErr-weaker c.play_shift.result.1 _ _
-    (λ s stops. live_stop (held old) (held new) (held new) (faults old) (faults new) (faults new) (puts old) (puts new) (puts new) (seen c.args.first) (seen c.play_shift.result.0) (seen c.play_shift.result.0) (play_on stage) c.requires.stage.playable (length stage.good) (lines_are stage c.requires.stage)
+    (λ s stops. live_stop (state old) (state new) (state new) (seen c.args.first) (seen c.play_shift.result.0) (seen c.play_shift.result.0) (play_on stage) c.requires.stage.playable (length stage.good) (lines_are stage c.requires.stage)
     s (history_of c.args.first.track.seen) c.in-Live.is stops)
     c.play_shift.ensures.stopped

@@ -18,6 +18,6 @@ pub returns-in-Err-clause-run : goal.returns-in-Err-clause-run
 returns-in-Err-clause-run g c = λ work asked.
     let told = g.S.Shelf.told c.args.shelf.now in
     let frames = c.args.frames.now in
-    let change = sink_change (g.F.Sink.held frames) (g.F.Sink.held frames) (g.F.Sink.faults frames) (g.F.Sink.faults frames) in
+    let change = sink_change (g.F.Sink.state frames) (g.F.Sink.state frames) in
     subst (λ why. IsWorked told work change (Ended why)) (sym (memory_alone (work_asked (texts c.args.words.now)) c.in-Err.status work c.in-Err.ensures.asked asked))
-    (memory_worked told work (g.F.Sink.held frames) (g.F.Sink.faults frames))
+    (memory_worked told work (g.F.Sink.state frames))

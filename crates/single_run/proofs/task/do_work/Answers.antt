@@ -2,7 +2,7 @@ use Rattle.std.proofs.Common.{Err, Ok, subst}
 use Rattle.run_status.specs.Inputs.{AreRead}
 use Rattle.single_run.specs.Outcomes.{status_if_put}
 use Rattle.single_run.proofs.InputLemmas.{inputs_suit}
-use Rattle.single_run.proofs.Runs.{read_same, refused_once, refused_worked, refused_written}
+use Rattle.single_run.proofs.Runs.{read_same, refused_worked, refused_written}
 use Rattle.single_run.proofs.task.do_work.Goals as goal
 
 pub do_task-requires-clause-inputs : goal.do_task-requires-clause-inputs
@@ -14,13 +14,7 @@ do_task-requires-clause-inputs g c =
 pub returns-in-Err-clause-run : goal.returns-in-Err-clause-run
 returns-in-Err-clause-run g c =
     let told = g.S.Shelf.told c.args.shelf.now in
-    refused_worked told c.args.work.now c.in-Err.status _ _
-    (subst (λ fonts. AreRead told c.args.work.now.script fonts (Err c.in-Err.status)) c.as_slice.ensures c.in-Err.ensures.read)
-
-pub returns-in-Err-clause-once : goal.returns-in-Err-clause-once
-returns-in-Err-clause-once g c =
-    let told = g.S.Shelf.told c.args.shelf.now in
-    refused_once told c.args.work.now c.in-Err.status _
+    refused_worked told c.args.work.now c.in-Err.status _
     (subst (λ fonts. AreRead told c.args.work.now.script fonts (Err c.in-Err.status)) c.as_slice.ensures c.in-Err.ensures.read)
 
 pub returns-in-Err-clause-write : goal.returns-in-Err-clause-write
@@ -37,6 +31,7 @@ returns-in-Ok-clause-run g c =
       read = subst (λ fonts. AreRead told c.args.work.now.script fonts (Ok c.in-Ok.inputs)) c.as_slice.ensures c.in-Ok.ensures.read;
       answered = c.do_task.ensures.answered;
       shown = c.do_task.ensures.shown;
+      pieces = c.do_task.ensures.pieces;
       text = c.do_task.ensures.text;
       own = c.do_task.ensures.own;
     }

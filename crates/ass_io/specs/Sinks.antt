@@ -1,0 +1,16 @@
+-- Public: what is seen of a sink.
+use Rattle.std.specs.Prelude.{◌≡◌, ℕ, List, [], ◌∷◌, ◌++◌, Option}
+use Rattle.ass_io.specs.Written.{IsPut, IsPutCounted}
+use Rattle.ass_io.specs.declared.sink.Put.{Put}
+
+-- The bytes that a sink holds, where it tells them, how often it failed, and the pieces that it was asked to put, in order.
+pub record SinkState : Type 0 where
+  pub held : Option (List ℕ)
+  pub faults : ℕ
+  pub asked : List (List ℕ)
+
+-- A put of this piece was answered so.
+pub record IsAskedFor (piece : List ℕ) (answer : Put) (old new : SinkState) : Type 0 where
+  pub put : IsPut answer old.held new.held piece
+  pub counted : IsPutCounted answer old.faults new.faults
+  pub asked : new.asked ≡ old.asked ++ piece ∷ []
