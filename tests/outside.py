@@ -3,6 +3,7 @@
 import filecmp
 import os
 import re
+import resource
 import shutil
 import subprocess
 import tempfile
@@ -98,6 +99,25 @@ def words_of_wrapper(score, given, program):
     score.check(version.stdout == f"vimalorua {read(f'{given.top}/VERSION')}", f"--version says {version.stdout!r}")
     usage, none = ran([program, "help"], given.room), ran([program], given.room)
     score.check(usage.returncode == 0 and none.returncode == 2 and usage.stdout == none.stderr, "no words aren't answered by the help")
+    file_limit(score, given, program)
+
+
+def file_limit(score, given, program):
+    """A write past the system's limit of a file's size is a fault of writing, and the bytes below the limit were written."""
+    words, most = "frame --at 0 --size 40x30 row.ass dot.bdf".split(), 1024
+    whole = subprocess.run([given.program, *words], cwd=given.room, stdout=subprocess.PIPE).stdout
+    with tempfile.TemporaryFile() as file:
+        done = subprocess.run(
+            [program, *words],
+            cwd=given.room,
+            stdout=file,
+            stderr=subprocess.PIPE,
+            preexec_fn=lambda: resource.setrlimit(resource.RLIMIT_FSIZE, (most, most)),
+        )
+        file.seek(0)
+        front = file.read()
+    score.check((done.returncode, done.stderr) == (7, b"write fault: frames\n"), f"past a limit of file size: {done.returncode} {done.stderr!r}")
+    score.check(len(whole) > most and front == whole[:most], "below a limit of file size other bytes were written")
 
 
 def library(score, given):
