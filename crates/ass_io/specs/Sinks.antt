@@ -10,7 +10,7 @@ pub record SinkState : Type 0 where
   pub asked : List (List ℕ)
 
 -- A put of this piece was answered so.
-pub record IsAskedFor (piece : List ℕ) (answer : Put) (old new : SinkState) : Type 0 where
+pub record IsPutAnswered (piece : List ℕ) (answer : Put) (old new : SinkState) : Type 0 where
   pub put : IsPut answer old.held new.held piece
   pub counted : IsPutCounted answer old.faults new.faults
   pub asked : new.asked ≡ old.asked ++ piece ∷ []

@@ -1,6 +1,6 @@
 //! Where bytes go.
 
-ghost use Rattle.ass_io.specs.Sinks.{IsAskedFor, SinkState};
+ghost use Rattle.ass_io.specs.Sinks.{IsPutAnswered, SinkState};
 
 /// How a put ended.
 #[derive(Clone, Copy, Debug, PartialEq, Eq)]
@@ -20,5 +20,5 @@ pub trait Sink {
 
     /// Appends a piece.
     fn put(&mut self, piece: &[u8]) -> Put
-        ensures { IsAskedFor piece.now result (state self.old) (state self.new) };
+        ensures { IsPutAnswered piece.now result (state self.old) (state self.new) };
 }

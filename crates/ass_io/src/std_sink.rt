@@ -2,7 +2,7 @@
 
 ghost use Rattle.std.specs.Prelude.{◌≡◌, None, OnOk};
 ghost use Rattle.std.specs.Io.KnownBytes.{Appends};
-ghost use Rattle.ass_io.specs.Sinks.{IsAskedFor};
+ghost use Rattle.ass_io.specs.Sinks.{IsPutAnswered};
 
 use crate::count::count_one;
 use crate::piece_log::PieceLog;
@@ -39,7 +39,7 @@ impl<W: Write + Drop> Sink for StdSink<W> {
     ghost state = { λ s. record { held = None; faults = s.faults; asked = s.asked.pieces } };
 
     fn put(&mut self, piece: &[u8]) -> Put
-        ensures put { IsAskedFor piece.now result (record { held = None; faults = self.old.faults; asked = self.old.asked.pieces })
+        ensures put { IsPutAnswered piece.now result (record { held = None; faults = self.old.faults; asked = self.old.asked.pieces })
             (record { held = None; faults = self.new.faults; asked = self.new.asked.pieces }) }
 
         // A stream that tells what it holds has the whole piece at `Done`.

@@ -8,7 +8,7 @@ use Rattle.std.proofs.Math.Seq.{take-append-add}
 use Rattle.std.proofs.lemmas.Grind.{flat_map-append}
 use Rattle.std.proofs.lemmas.List.{length-map, map-append, take-append-drop, take-append-le, take_min, take_more}
 use Rattle.std.proofs.lemmas.List.Sums.{sum_by-append}
-use Rattle.ass_io.specs.Sinks.{IsAskedFor, SinkState}
+use Rattle.ass_io.specs.Sinks.{IsPutAnswered, SinkState}
 use Rattle.ass_io.specs.Written.{AppendsFront}
 use Rattle.ass_io.specs.declared.sink.Put.{Put}
 use Rattle.ass_io.specs.declared.sink.Put.TheVariants as put
@@ -90,7 +90,7 @@ kept_nothing (Some xs) None kept = absurd kept
 kept_nothing (Some xs) (Some ys) kept = kept ∙ sym (append-nil xs)
 
 -- one piece
-pub one_put : (result : Put) (piece : List ℕ) (s s' : SinkState) → IsAskedFor piece result s s' → ArePut (piece ∷ []) result s s'
+pub one_put : (result : Put) (piece : List ℕ) (s s' : SinkState) → IsPutAnswered piece result s s' → ArePut (piece ∷ []) result s s'
 one_put put.Done piece s s' is = record { held = subst (Appends s.held s'.held) (sym (append-nil piece)) is.put; faults = is.counted; asked = is.asked }
 one_put put.Failed piece s s' is = (1, record { held = (is.put.0, is.put.1, append-nil piece ∙ is.put.2, is.put.3); counted = is.counted; asked = is.asked })
 one_put put.OutOfMemory piece s s' is = (1, record { held = ([], piece ++ [], refl, kept_nothing s.held s'.held is.put); counted = is.counted; asked = is.asked })
