@@ -1,4 +1,4 @@
-//! Hooks that hold threads: one that makes a value, until others have fed and framed, and the first one that feeds, until another did.
+//! Hooks that hold threads: one that makes a value, until others have fed and framed, and the first one that feeds or makes, until another does.
 
 use crossbeam_utils::Backoff;
 use std::sync::atomic::{AtomicBool, Ordering};
@@ -71,18 +71,29 @@ impl TestHook for HoldingHook {
     }
 }
 
-/// Holds the first thread that fed an event until another one did.
+/// Holds the first thread that comes to a point of a kind until another one came there.
 #[derive(Drop)]
 pub struct MeetingHook {
+    is_of_feeders: bool,
     begun: AtomicBool,
     met: AtomicBool,
     late: AtomicBool,
 }
 
 impl MeetingHook {
-    /// Nothing was fed yet.
-    pub fn new() -> MeetingHook {
+    /// Threads meet that have fed an event.
+    pub fn of_feeders() -> MeetingHook {
+        MeetingHook::of(true)
+    }
+
+    /// Threads meet that are going to make a value.
+    pub fn of_makers() -> MeetingHook {
+        MeetingHook::of(false)
+    }
+
+    fn of(is_of_feeders: bool) -> MeetingHook {
         MeetingHook {
+            is_of_feeders,
             begun: AtomicBool::new(false),
             met: AtomicBool::new(false),
             late: AtomicBool::new(false),
@@ -93,16 +104,25 @@ impl MeetingHook {
     pub fn is_late(&self) -> bool {
         self.late.load(Ordering::SeqCst)
     }
+
+    fn is_met_at(&self, point: HookPoint) -> bool {
+        match point {
+            HookPoint::AfterFeed(_) => self.is_of_feeders,
+            HookPoint::BeforeMake(_) => !self.is_of_feeders,
+            HookPoint::AfterFrame(_) => false,
+        }
+    }
 }
 
 impl TestHook for MeetingHook {
     fn at(&self, point: HookPoint) {
-        if let HookPoint::AfterFeed(_) = point {
-            if self.begun.swap(true, Ordering::SeqCst) {
-                self.met.store(true, Ordering::SeqCst);
-            } else if !await_flag(&self.met) {
-                self.late.store(true, Ordering::SeqCst);
-            }
+        if !self.is_met_at(point) {
+            return;
+        }
+        if self.begun.swap(true, Ordering::SeqCst) {
+            self.met.store(true, Ordering::SeqCst);
+        } else if !await_flag(&self.met) {
+            self.late.store(true, Ordering::SeqCst);
         }
     }
 }

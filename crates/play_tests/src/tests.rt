@@ -14,6 +14,10 @@ Dialogue: 0,0:00:00.03,0:00:00.04,Default,,0,0,0,,{\pos(0,0)\fscx50}x
 Dialogue: 0,0:00:00.06,0:00:00.07,Default,,0,0,0,,{\pos(0,0)}x
 ";
 
+const TWO: &str = r"Dialogue: 0,0:00:00.00,0:00:00.01,Default,,0,0,0,,{\pos(0,0)}x
+Dialogue: 0,0:00:00.01,0:00:00.02,Default,,0,0,0,,{\pos(0,0)\fscx50}x
+";
+
 const NOTHING_KEPT: &str = "accepted 0
 malformed 0
 repeated 0
@@ -68,8 +72,20 @@ fn kept_values_are_made_once(rt: HostRuntime) -> Result<(), Fail> {
 /// Two workers of a selftest feed at once.
 #[test]
 fn workers_of_a_selftest_work_at_once(rt: HostRuntime) -> Result<(), Fail> {
-    let hook = MeetingHook::new();
+    let hook = MeetingHook::of_feeders();
     let ran = run(&rt, rt.alloc(), "selftest 7 40 --workers 2", "", &hook)?;
+    assert_eq!(rt; ran.exit, 0);
+    assert!(rt; !hook.is_late());
+    Ok(())
+}
+
+/// While one renderer makes a value for its picture, the values of the next one are made.
+#[test]
+fn values_are_made_ahead(rt: HostRuntime) -> Result<(), Fail> {
+    let hook = MeetingHook::of_makers();
+    let words =
+        "play --from 0 --to 20 --step 10 --size 4x3 --ahead 1 --mode settled a.ass f.bdf";
+    let ran = run(&rt, rt.alloc(), words, TWO, &hook)?;
     assert_eq!(rt; ran.exit, 0);
     assert!(rt; !hook.is_late());
     Ok(())
