@@ -331,11 +331,11 @@ run_after told work frames report outcome answer worked ended reported finished 
   read = worked.read;
   answered = answered_after (sink_of work.task) _ outcome answer worked.own worked.answered ended;
   shown = shown_after (sink_of work.task) (IsFramesAsked work.task worked.reading) outcome answer _ _ (nothing_shown work.task worked.reading) worked.own ended worked.shown;
-  pieces_shown = pieces_after (sink_of work.task) (IsFramesAsked work.task worked.reading) outcome answer _ _ worked.own ended worked.pieces;
+  pieces_shown = pieces_after (IsFramesAsked work.task worked.reading) frames.before.asked frames.now.asked (sink_of work.task) outcome answer worked.own ended worked.pieces;
   reported = reported_as answer _ _ _ _ (text_to_report outcome) (IsReportAsked work.task worked.reading)
       (λ done. worked.text (done_before outcome answer ended done))
       (λ fault. worked.text (found_before (sink_of work.task) outcome answer worked.own ended fault)) reported;
-  pieces_told = told_after (sink_of work.task) (IsReportAsked work.task worked.reading) outcome answer _ _ worked.text worked.own ended finished;
+  pieces_told = told_after (IsReportAsked work.task worked.reading) report.before.asked report.now.asked (sink_of work.task) outcome answer worked.text worked.own ended finished;
 }
 
 -- ---- the counts
