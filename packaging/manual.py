@@ -125,7 +125,7 @@ def page():
         lines += [f".SH {escaped(name.replace('`', '')).upper()}"]
         for kind, part in parts:
             lines += block(kind, part)
-    lines += [".SH SEE ALSO", "\\fBotf2bdf\\fR(1), \\fBpcf2bdf\\fR(1), \\fBffmpeg\\fR(1)"]
+    lines += [".SH SEE ALSO", "\\fBvimalorua\\fR(3), \\fBotf2bdf\\fR(1), \\fBpcf2bdf\\fR(1), \\fBffmpeg\\fR(1)"]
     return "\n".join(lines) + "\n"
 
 
