@@ -1,0 +1,30 @@
+//! Passes that are split off the first one, and joined to it again.
+
+ghost use Rattle.std.specs.Prelude.{IfSome};
+ghost use Rattle.renderer_tests.specs.Passes.{IsFirst, IsIdle};
+
+use renderer::{RenderPass, Renderer};
+
+/// A new pass.
+pub fn lend(renderer: &Renderer, first: RenderPass) -> (RenderPass, Option<RenderPass>)
+    requires { IsFirst renderer.now first }
+    ensures first { IsFirst renderer.now result.0 }
+    ensures lent { IfSome result.1 (IsIdle renderer.now) }
+{
+    match renderer.split(first) {
+        Ok((first, new)) => (first, Some(new)),
+        Err(first) => (first, None),
+    }
+}
+
+/// Takes it in again.
+pub fn take_back(renderer: &Renderer, first: RenderPass, lent: Option<RenderPass>) -> RenderPass
+    requires first { IsFirst renderer.now first }
+    requires lent { IfSome lent (IsIdle renderer.now) }
+    ensures { IsFirst renderer.now result }
+{
+    match lent {
+        Some(pass) => renderer.join(first, pass),
+        None => first,
+    }
+}
