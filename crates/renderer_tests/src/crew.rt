@@ -162,8 +162,12 @@ fn work_by_four<R: Threads + Wait + Sync, H: TestHook + Sync>(
     let Four { left, right } = four;
     join_mut(
         rt,
-        &mut || work_by_pair(rt, alloc, renderer, left, hook),
-        &mut || work_by_pair(rt, alloc, renderer, right, hook),
+        &mut ||
+            requires { IsPairIdle renderer.now left.now }
+        { work_by_pair(rt, alloc, renderer, left, hook) },
+        &mut ||
+            requires { IsPairIdle renderer.now right.now }
+        { work_by_pair(rt, alloc, renderer, right, hook) },
     );
 }
 
@@ -183,8 +187,12 @@ pub fn work_by_eight<R: Threads + Wait + Sync, H: TestHook + Sync>(
 {
     join_mut(
         rt,
-        &mut || work_by_four(rt, alloc, renderer, left, hook),
-        &mut || work_by_four(rt, alloc, renderer, right, hook),
+        &mut ||
+            requires { AreFourIdle renderer.now left.now }
+        { work_by_four(rt, alloc, renderer, left, hook) },
+        &mut ||
+            requires { AreFourIdle renderer.now right.now }
+        { work_by_four(rt, alloc, renderer, right, hook) },
     );
 }
 

@@ -95,24 +95,34 @@ fn totals_of_eight<R: Threads + Wait + Sync + Print>(
     totals
 }
 
+/// How the values of the cache of composed masks were come by.
+fn tell_counts<R: Print>(rt: &R, totals: &[Totals; 3]) {
+    let counts = totals[2].counts;
+    let numbers = [counts.claims, counts.fills, counts.fails, counts.crowded];
+    tell(rt, "claims, fills, fails, crowded", &numbers);
+}
+
+/// How many values are kept.
+fn tell_entries<R: Print>(rt: &R, totals: &[Totals; 3]) {
+    let entries = [totals[0].entries, totals[1].entries, totals[2].entries];
+    tell(rt, "entries", &entries);
+}
+
 /// A maker is held until each thread has fed, so that the others ask for what it makes. Each value is made once.
 pub fn run_with_masks_kept<R: Threads + Wait + Sync + Print>(rt: &R, alloc: Global) {
     let gate = Gate::new(8);
-    let Some([_, _, composites]) = totals_of_eight(rt, alloc, 1_000_000, &gate) else {
-        return;
-    };
+    let totals = totals_of_eight(rt, alloc, 1_000_000, &gate);
     tell(rt, "makings", &gate.makings());
-    let counts = composites.counts;
-    let numbers = [counts.claims, counts.fills, counts.fails, counts.crowded];
-    tell(rt, "claims, fills, fails, crowded", &numbers);
+    if let Some(totals) = totals {
+        tell_counts(rt, &totals);
+    }
 }
 
 /// Nothing is kept, so each value may be made more than once.
 pub fn run_with_no_mask_kept<R: Threads + Wait + Sync + Print>(rt: &R, alloc: Global) {
     let gate = Gate::new(8);
-    let Some([regions, masks, composites]) = totals_of_eight(rt, alloc, 0, &gate) else {
-        return;
-    };
-    let entries = [regions.entries, masks.entries, composites.entries];
-    tell(rt, "entries", &entries);
+    let totals = totals_of_eight(rt, alloc, 0, &gate);
+    if let Some(totals) = totals {
+        tell_entries(rt, &totals);
+    }
 }
