@@ -165,23 +165,23 @@ asked : (job : PlayJob) (reading : Result Inputs Status) (frames report : SinkCh
 asked job (Ok inputs) frames report outcome answer h r s e told f = (h.0, put (view_of job inputs) frames report answer outcome h.1 e told f)
 asked job (Err why) frames report outcome answer h r s e told f = elim h.0 [
   | inl same ↦ (
-    let end : IsEnded (Ended why) answer = subst (λ (o : Outcome). IsEnded o answer) same e in (
-      ended why answer end,
-      h.1,
-      subst (λ (o : Outcome). IsToldBy report answer (text_to_report o)) same told,
-      h.2,
-      refused_told why answer report (subst IsReportable same r) (subst IsSpoken same s) end (subst (λ (o : Outcome). IsFinishedBy report o answer) same f),
-    )
-  )
+      let end : IsEnded (Ended why) answer = subst (λ (o : Outcome). IsEnded o answer) same e in (
+        ended why answer end,
+        h.1,
+        subst (λ (o : Outcome). IsToldBy report answer (text_to_report o)) same told,
+        h.2,
+        refused_told why answer report (subst IsReportable same r) (subst IsSpoken same s) end (subst (λ (o : Outcome). IsFinishedBy report o answer) same f),
+      )
+      )
   | inr memory ↦ (
-    let end : IsEnded out_of_memory answer = subst (λ (o : Outcome). IsEnded o answer) memory e in (
-      inr (memory_either answer end),
-      h.1,
-      subst (λ (o : Outcome). IsToldBy report answer (text_to_report o)) memory told,
-      h.2,
-      refused_told status.OutOfMemory answer report tt tt end (subst (λ (o : Outcome). IsFinishedBy report o answer) memory f),
-    )
-  )
+      let end : IsEnded out_of_memory answer = subst (λ (o : Outcome). IsEnded o answer) memory e in (
+        inr (memory_either answer end),
+        h.1,
+        subst (λ (o : Outcome). IsToldBy report answer (text_to_report o)) memory told,
+        h.2,
+        refused_told status.OutOfMemory answer report tt tt end (subst (λ (o : Outcome). IsFinishedBy report o answer) memory f),
+      )
+      )
 ]
 
 -- A play and what is reported of it are a run.

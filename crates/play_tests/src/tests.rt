@@ -83,8 +83,7 @@ fn workers_of_a_selftest_work_at_once(rt: HostRuntime) -> Result<(), Fail> {
 #[test]
 fn values_are_made_ahead(rt: HostRuntime) -> Result<(), Fail> {
     let hook = MeetingHook::of_makers();
-    let words =
-        "play --from 0 --to 20 --step 10 --size 4x3 --ahead 1 --mode settled a.ass f.bdf";
+    let words = "play --from 0 --to 20 --step 10 --size 4x3 --ahead 1 --mode settled a.ass f.bdf";
     let ran = run(&rt, rt.alloc(), words, TWO, &hook)?;
     assert_eq!(rt; ran.exit, 0);
     assert!(rt; !hook.is_late());
