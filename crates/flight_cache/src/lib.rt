@@ -4,6 +4,7 @@
 //! is legal for the cache machine of `evict_core`. docs/CACHES.md explains the words.
 #![tactic(auto)]
 
+mod bell;
 mod boxed_entries;
 mod cache;
 mod holds;

@@ -10,6 +10,7 @@ ghost use Rattle.flight_cache.specs.Histories.{value_under, is_in, left_by, IsLe
 ghost use Rattle.flight_cache.specs.Calls.{GivesSteps, own_steps};
 ghost use Rattle.flight_cache.specs.Answers.{IsAsked, IsAskedAtTurn};
 
+use crate::bell::Bell;
 use crate::boxed_entries::BoxedEntries;
 use crate::kept::{Entry, Kept, Opening};
 use crate::made::Made;
@@ -49,6 +50,7 @@ pub struct Shard<M: Made> {
     pub(crate) cell: TurnCell<Kept<M>>,
     pub(crate) number: u32,
     pub(crate) gap: Box<[u64; GAP]>,
+    pub(crate) bell: Bell,
 }
 
 impl<M: Made> Model for Shard<M> {
@@ -90,13 +92,22 @@ impl<M: Made> Shard<M> {
             budget,
         };
         match TurnCell::open(alloc, opening, kept) {
-            Ok((cell, pass)) => Ok((Shard { cell, number, gap }, ShardPass { pass })),
+            Ok((cell, pass)) => Ok((
+                Shard {
+                    cell,
+                    number,
+                    gap,
+                    bell: Bell::new(),
+                },
+                ShardPass { pass },
+            )),
             Err(_) => Err(OutOfMemory),
         }
     }
 
-    /// Asks for the key, and waits while its value is being made. Memory may run out before, and at a turn that shows a
-    /// hit or a claim; a key that is being made, or has no room, is never answered so.
+    /// Asks for the key, and waits while its value is being made: for some tries by short pauses, then asleep until a
+    /// making ends. Memory may run out before, and at a turn that shows a hit or a claim; a key that is being made, or has
+    /// no room, is never answered so.
     pub fn ask<R: Wait>(
         &self,
         rt: &R,
@@ -115,6 +126,7 @@ impl<M: Made> Shard<M> {
         let mut waiting = pass;
         let mut own = copy;
         for _ in rt.forever() {
+            let count = self.count_if(rt, backoff.is_completed());
             let (pass, answer) = self.ask_once(rt, alloc, waiting, own);
             match answer {
                 Ok(asked) => return (pass, asked),
@@ -123,9 +135,26 @@ impl<M: Made> Shard<M> {
                     own = key;
                 }
             }
-            backoff.snooze();
+            self.pause(rt, &backoff, count);
         }
         unreachable!()
+    }
+
+    /// How often a making has ended, if that is asked for.
+    fn count_if<R: Wait>(&self, rt: &R, is_asked: bool) -> Option<u64> {
+        if is_asked {
+            Some(self.bell.count(rt))
+        } else {
+            None
+        }
+    }
+
+    /// Waits a moment; or, where the makings were counted before the ask, until another one ends.
+    fn pause<R: Wait>(&self, rt: &R, backoff: &Backoff, count: Option<u64>) {
+        match count {
+            Some(count) => self.bell.sleep(rt, count),
+            None => backoff.snooze(),
+        }
     }
 
     /// One ask. The key comes back where its value is being made.
@@ -220,6 +249,7 @@ impl<M: Made> Shard<M> {
         let mut turn = self.take(rt, pass);
         turn.value_mut().entries.fill(&key, kept, cost);
         let pass = self.give(turn, Some(Entry::Fill(Snapshot::of(&key))));
+        self.bell.ring(rt);
         (
             pass,
             Pin {
@@ -240,7 +270,9 @@ impl<M: Made> Shard<M> {
         let Ticket { key, shard: _ } = ticket;
         let mut turn = self.take(rt, pass);
         turn.value_mut().entries.fail(&key);
-        self.give(turn, Some(Entry::Fail(Snapshot::of(&key))))
+        let pass = self.give(turn, Some(Entry::Fail(Snapshot::of(&key))));
+        self.bell.ring(rt);
+        pass
     }
 
     /// Gives a pin back.
@@ -348,6 +380,7 @@ impl<M: Made> Shard<M> {
             cell,
             number: _,
             gap: _,
+            bell: _,
         } = self;
         let ShardPass { pass } = pass;
         cell.close(pass);
