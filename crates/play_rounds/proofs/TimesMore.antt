@@ -1,5 +1,5 @@
 -- Times, one after another.
-use Rattle.std.proofs.Common.{◌≡◌, ℕ, ◌+◌, ◌*◌, ◌<◌, ◌≤◌, List, [], ◌∷◌, ◌++◌, length, sym, ap, subst, ◌∙◌, arith, length-append, add-mul}
+use Rattle.std.proofs.Common.{◌≡◌, ℕ, ◌+◌, ◌*◌, ◌<◌, ◌≤◌, List, [], ◌∷◌, ◌++◌, length, refl, sym, ap, subst, ◌∙◌, arith, length-append, add-mul}
 use Rattle.std.specs.List.{All}
 use Rattle.std.proofs.lemmas.List.Elements.{All-push}
 use Rattle.std.proofs.lemmas.Nat.{mul-le}
@@ -10,7 +10,7 @@ use Rattle.play_model.specs.Images.{ShownImage, entries_before, shown_pieces}
 use Rattle.play_model.specs.Outputs.{AreShownImages}
 use Rattle.play_model.specs.Plays.{IsTimeOf, PlayView, history_of_times}
 use Rattle.play_model.specs.Times.{AreFirstShown, history_before}
-use Rattle.play_model.proofs.MoreTimes.{dead_before, entries_many, first_shown_are, shown_are, shown_follow, stopped_front, time_more}
+use Rattle.play_model.proofs.MoreTimes.{dead_before, entries_many, first_shown_are, images_follow, shown_are, shown_follow, time_more}
 use Rattle.play_model.proofs.SettledLaws.{live_behind}
 use Rattle.play_rounds.specs.Playing.{AreFirstImages, IsShiftStopped}
 use Rattle.play_rounds.specs.Times.{AreFrontImages, AreTimesPlayed, BeginsTime, IsTimeMore, IsTimePlayed, PlaysTime, PlaysTimes, StopsInTime, StopsInTimes}
@@ -47,11 +47,21 @@ module _ (play : PlayView) where
       -- a front, where so much of a time was played
       front_of : (next : List ShownImage) → IsShiftStopped play history' (length times) next → AreFrontImages play (shown_pieces (images ++ next))
       front_of next s =
-          let front = stopped_front play times s.fresh (shown_pieces images) (shown_pieces next) (shown_are play (history_of_times times) images earlier) (length-pieces images ∙ played.many)
+          let own : length (shown_pieces next) ≤ count = (let long = length-pieces next in let few = s.few in omega (arith, long, few)) in
+          let all : length (shown_pieces images) ≡ length times * count = length-pieces images ∙ played.many in
+          let follow = images_follow play times s.fresh (shown_pieces images) (shown_pieces next) (shown_are play (history_of_times times) images earlier) all
           (first_shown_are play (history_before times ++ s.fresh) (length times) next
           (firsts (history_before times ++ s.fresh) (length times) (length next) next (subst (λ (h : List Entry). AreFirstImages play (h ++ s.fresh) (length times) (length next) next) before s.are)))
-          (let long = length-pieces next in let few = s.few in omega (arith, long, few)) s.rounds 0 played.each (omega (arith, many, early)) s.fed in
-          subst (AreFrontImages play) (sym (pieces-append images next)) (record { history = front.history; so_far = front.so_far; few = front.few; are = front.are })
+          own in
+          let long = length-append (shown_pieces images) (shown_pieces next) in
+          let row = add-mul (length times) 1 count in
+          let rows : (length times + 1) * count ≤ play.job.times * count = mul-le (length times + 1) count play.job.times count (omega (arith, many, early)) (omega arith) in
+          subst (AreFrontImages play) (sym (pieces-append images next)) (record {
+            history = history_of_times (times ++ s.fresh ∷ []);
+            so_far = record { times = times; few = omega (arith, many, early); each = played.each; rounds = s.rounds; last = s.fresh; fed = s.fed; value = refl };
+            few = omega (arith, long, all, own, row, rows);
+            are = follow;
+          })
 
       module _ (history'' : List Entry) (repeated : ℕ) (next : List ShownImage) (t : IsTimePlayed play history' (length times) history'' repeated next) where
         own : length next ≡ count

@@ -94,4 +94,5 @@ module _ (play : PlayView) (history : List Entry) (s s' : SinkState) (a a' : ℕ
 
 -- nothing was begun
 pub play_refused : (play : PlayView) (s : SinkState) → 0 < play.job.times → IsPlayed play OutOfMemory s s
+unfolding front_none
 play_refused play s some = record { bytes = []; front = front_none play some; held = Appends-nil s.held; counted = refl; asked = sym (append-nil s.asked) }
