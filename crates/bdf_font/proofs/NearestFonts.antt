@@ -102,10 +102,10 @@ module _ (name : List ℕ) (bold italic : Bool) where
 
   some_far : (o : Option ℕ) → IsSome o → (far : ℕ) × (o ≡ Some far)
   some_far (Some far) is = (far, refl)
-  some_far None is = absurd is
+  some_far None is = absurd cc
 
   pub nearest_answers : (fonts : List FontValue) → Any (λ font. IsSome (name_distance name bold italic font)) fonts → IsNearest name bold italic fonts (font_chosen name bold italic fonts)
-  nearest_answers fonts (k, (font, (less, (at, is)))) =
+  nearest_answers fonts (k, font, less, at, is) =
       let own : slice_index_or fonts k no_font ≡ font = get_or_default fonts k no_font font less ∙ at in
       let far = some_far (name_distance name bold italic font) is in
       answers fonts (nearest_from name bold italic 0 fonts) (nearest_is 0 fonts) k far.0 less (ap (name_distance name bold italic) own ∙ far.1)

@@ -34,6 +34,7 @@ bitmap_distance bold italic = abs_diff regular_weight (wanted_weight bold) + abs
 
 distance_is : (name : List ℕ) (bold italic : Bool) (font : FontValue) → IsFoundByName font →
     name_distance name bold italic font ≡ cond (same_name font.name name) (Some (bitmap_distance bold italic)) None
+unfolding bitmap_distance
 distance_is name bold italic font is =
     ap (λ b. cond b (Some (style_distance bold italic font)) (cond (has_full_name name font) (Some 0) None)) (family_is_name name font is)
     ∙ (ap (λ b. cond (same_name font.name name) (Some (style_distance bold italic font)) (cond b (Some 0) None)) (no_full_name name font is)

@@ -56,7 +56,7 @@ nearest_within name bold italic n (font ∷ fonts) =
     nearer_of (λ candidate. candidate.place < n + suc (length fonts)) (candidate_at name bold italic n font) (nearest_from name bold italic (n + 1) fonts)
     (here (name_distance name bold italic font)) (later (nearest_from name bold italic (n + 1) fonts) (nearest_within name bold italic (n + 1) fonts))
   where
-    here : (o : Option ℕ) → IfSome (option_map (λ (distance : ℕ). record { place = n; distance = distance }) o) (λ candidate. candidate.place < n + suc (length fonts))
+    here : (o : Option ℕ) → IfSome {T = Candidate} (option_map (λ (distance : ℕ). record { place = n; distance = distance }) o) (λ candidate. candidate.place < n + suc (length fonts))
     here (Some distance) = omega arith
     here None = tt
 
@@ -125,7 +125,7 @@ mapped_from_within all c n (font ∷ fonts) h =
     or_within (IsGlyphPlaceIn all) (glyph_place_in n (mapped_place font c)) (mapped_from c (n + 1) fonts)
     (placed_within all n (mapped_place font c) (omega (arith, h.few)) within) (mapped_from_within all c (n + 1) fonts (stand_next all n font fonts h))
 
-elsewhere_within : (fonts : List FontValue) (c : ℕ) → IfSome (glyph_elsewhere fonts c) (IsGlyphPlaceIn fonts)
+pub elsewhere_within : (fonts : List FontValue) (c : ℕ) → IfSome (glyph_elsewhere fonts c) (IsGlyphPlaceIn fonts)
 elsewhere_within fonts c = unless (has_outlines fonts) (mapped_from c 0 fonts) (mapped_from_within fonts c 0 fonts (stand_all fonts))
   where
     unless : (b : Bool) (o : Option GlyphPlace) → IfSome o (IsGlyphPlaceIn fonts) → IfSome (cond b o None) (IsGlyphPlaceIn fonts)
