@@ -14,3 +14,4 @@ pub mod Walk
 pub mod SetLemmas
 pub mod SetLaws
 mod NearestFonts
+mod OutlineLists
