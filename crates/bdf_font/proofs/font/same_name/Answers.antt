@@ -3,12 +3,10 @@ use Rattle.std.specs.Bool.{Decides}
 use Rattle.std.specs.Str.{bytes_eq}
 use Rattle.std.specs.Char.{to_ascii_lowercase}
 use Rattle.std.proofs.lemmas.Slice.Eq.{bytes_eq-Decides}
-use Rattle.bdf_font.proofs.font.is_named.Goals as goal
+use Rattle.bdf_font.proofs.font.same_name.Goals as goal
 
 decided : (xs ys : List ℕ) (r : Bool) → Decides r (xs ≡ ys) → r ≡ bytes_eq xs ys
 decided xs ys r h = search (rules, bytes_eq-Decides)
 
 pub returns : goal.returns
-returns c =
-    rw (← c.name.ensures, ← c.as_bytes.ensures.value)
-    (decided (map to_ascii_lowercase c.name.result.now) (map to_ascii_lowercase c.as_bytes.result.now) _ c.eq_ignore_ascii_case.ensures.test)
+returns c = decided (map to_ascii_lowercase c.args.a.now) (map to_ascii_lowercase c.args.b.now) _ c.eq_ignore_ascii_case.ensures.test
