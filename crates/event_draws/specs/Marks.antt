@@ -9,7 +9,7 @@ use Rattle.ass_num.specs.declared.geometry.Point.{Point}
 use Rattle.ass_num.specs.declared.geometry.Seg.{Seg}
 use Rattle.bdf_font.specs.Fonts.{FontValue}
 use Rattle.bdf_font.specs.Sets.{no_font, set_glyph_of}
-use Rattle.bdf_font.specs.declared.font.GlyphPlace.{GlyphPlace}
+use Rattle.bdf_font.specs.declared.sets.GlyphPlace.{GlyphPlace}
 use Rattle.bdf_font.specs.declared.glyphs.FontGlyph.{FontGlyph}
 use Rattle.mask_keys.specs.declared.outline_key.OutlineKey.{OutlineKey}
 use Rattle.mask_keys.specs.declared.outline_key.OutlineKey.TheVariants.{Glyph, Drawing}

@@ -1,10 +1,10 @@
 //! What the items of a line leave on the frame: their outlines, and the pens at which these stand.
 
-ghost use Rattle.std.specs.Prelude.{◌≡◌, ◌<◌, ◌≤◌, ◌+◌, ◌++◌, false, length, All, IfOk, IfSome, OnOk, slice_get, slice_index_or};
+ghost use Rattle.std.specs.Prelude.{◌≡◌, ◌<◌, ◌≤◌, ◌+◌, ◌++◌, false, length, All, IfOk, IfSome, OnOk, slice_get};
 ghost use Rattle.ass_num.specs.Limits.{IsHeldNumber, IsPointWithin, IsWithin};
 ghost use Rattle.std.specs.Option.{option_map_or, option_to_list};
 ghost use Rattle.ass_num.specs.Paths.{IsPath};
-ghost use Rattle.bdf_font.specs.Sets.{no_font};
+ghost use Rattle.bdf_font.specs.Sets.{IsGlyphPlaceIn};
 ghost use Rattle.outline_points.specs.Limits.{max_length};
 ghost use Rattle.outline_points.specs.Placing.{IsScale};
 ghost use Rattle.override_tags.specs.Views.{IsShownItem, IsShownKind, IsState, IsView};
@@ -51,8 +51,7 @@ fn glyph_outline(
     requires stage { IsStage stage.now }
     requires state { IsState (state.now.font + 1) state.now }
     requires fonts { IsLayoutFontSet fonts.now.fonts }
-    requires font { place.font < length fonts.now.fonts }
-    requires glyph { place.glyph < length (slice_index_or fonts.now.fonts place.font no_font).glyphs }
+    requires place { IsGlyphPlaceIn fonts.now.fonts place }
     ensures { result ≡ rule.glyph_outline stage.now fonts.now.fonts state.now place }
 {
     let font = &fonts.fonts.as_slice()[place.font as usize];

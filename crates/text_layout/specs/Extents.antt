@@ -6,7 +6,7 @@ use Rattle.ass_num.specs.declared.geometry.Matrix.{Matrix}
 use Rattle.ass_num.specs.declared.geometry.Seg.{Seg}
 use Rattle.bdf_font.specs.Fonts.{FontValue}
 use Rattle.bdf_font.specs.Sets.{no_font, set_glyph_of}
-use Rattle.bdf_font.specs.declared.font.GlyphPlace.{GlyphPlace}
+use Rattle.bdf_font.specs.declared.sets.GlyphPlace.{GlyphPlace}
 use Rattle.bdf_font.specs.declared.glyphs.FontGlyph.{FontGlyph}
 use Rattle.line_layout.specs.Breaks.{IsItemWidth}
 use Rattle.outline_points.specs.Drawings.{drawing_extent}

@@ -3,7 +3,7 @@
 ghost use Rattle.std.specs.Prelude.{◌≡◌, ◌<◌, length, All, IfOk, Some, slice_index_or};
 ghost use Rattle.ass_num.specs.Limits.{IsWithin};
 ghost use Rattle.ass_num.specs.Paths.{IsPath};
-ghost use Rattle.bdf_font.specs.Sets.{no_font, set_glyph_of};
+ghost use Rattle.bdf_font.specs.Sets.{IsGlyphPlaceIn, no_font, set_glyph_of};
 ghost use Rattle.line_layout.specs.Breaks.{IsItemWidth};
 ghost use Rattle.outline_points.specs.Placing.{IsMatrix, IsScale};
 ghost use Rattle.override_tags.specs.Views.{IsShownItem, IsShownKind};
@@ -57,7 +57,7 @@ fn glyph_advance(fonts: &FontSet, metrics: &Metrics, place: GlyphPlace) -> i128
     requires fonts { IsLayoutFontSet fonts.now.fonts }
     requires metrics { IsMetrics metrics.now }
     requires font { HasFont fonts.now.fonts metrics.now }
-    requires place { IsGlyphPlace fonts.now.fonts place }
+    requires place { IsGlyphPlaceIn fonts.now.fonts place }
     ensures value { result ≡ found_advance fonts.now.fonts metrics.now (Some place) }
     ensures within { IsWithin max_framed result }
 {
