@@ -1,7 +1,7 @@
 -- Public: sets of fonts: which font a name finds, and which glyph a character.
 use Rattle.std.specs.Prelude.{◌≡◌, ℕ, ◌+◌, ◌<◌, Bool, true, false, ◌==◌, nat_lt, if◌then◌else◌, List, [], ◌∷◌, length, All, Option, Some, None, option_map, option_and_then, unwrap_or, slice_get, slice_index_or, pos}
 use Rattle.std.specs.Int.{abs_diff}
-use Rattle.std.specs.List.{list_any, position}
+use Rattle.std.specs.List.{list_any}
 use Rattle.std.specs.Option.{option_map_or, option_or}
 use Rattle.ass_num.specs.Names.{same_name}
 use Rattle.bdf_font.specs.declared.glyphs.FontGlyph.{FontGlyph}
@@ -46,6 +46,11 @@ is_among name names = list_any (λ own. same_name own name) names
 abbrev pub has_full_name : List ℕ → FontValue → Bool
 has_full_name name font = is_among (asked_name name font) font.full_names
 
+-- the place of the first font with this full name, where the first of the fonts has the place n
+abbrev pub full_named_from : List ℕ → ℕ → List FontValue → Option ℕ
+full_named_from name n [] = None
+full_named_from name n (font ∷ fonts) = if has_full_name name font then Some n else full_named_from name (n + 1) fonts
+
 -- whether it is of this family
 abbrev pub is_of_family : List ℕ → FontValue → Bool
 is_of_family name font = is_among (asked_name name font) font.families
@@ -84,7 +89,7 @@ nearest_of_family name bold italic fonts = option_map (λ candidate. candidate.p
 -- of the nearest font of this family, or else 0.
 abbrev pub font_chosen : List ℕ → Bool → Bool → List FontValue → ℕ
 font_chosen name bold italic fonts =
-    unwrap_or (option_or (position (has_full_name name) fonts) (nearest_of_family name bold italic fonts)) 0
+    unwrap_or (option_or (full_named_from name 0 fonts) (nearest_of_family name bold italic fonts)) 0
 
 -- ---- the glyph of a character
 

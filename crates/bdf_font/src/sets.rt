@@ -2,9 +2,8 @@
 
 ghost use Rattle.std.specs.Prelude.{◌≡◌, ◌<◌, ◌≤◌, length, IfSome};
 ghost use Rattle.bdf_font.specs.Limits.{max_fonts};
-ghost use Rattle.bdf_font.specs.Sets.{candidate_at, font_chosen, glyph_elsewhere, has_full_name, has_outlines, mapped_from, mapped_place, nearer};
+ghost use Rattle.bdf_font.specs.Sets.{candidate_at, font_chosen, full_named_from, glyph_elsewhere, has_outlines, mapped_from, mapped_place, nearer};
 ghost use Rattle.bdf_font.specs.Sets.{IsGlyphPlaceIn, nearest_of_family, placed_in, set_glyph_of, slant_distance, style_distance};
-ghost use Rattle.std.specs.List.{position};
 
 use crate::font::{Font, REGULAR, glyph};
 use ass_num::Items;
@@ -38,7 +37,7 @@ pub struct GlyphPlace {
 /// The place of the first font with this full name.
 fn full_named(set: &FontSet, name: &str) -> Option<u32>
     requires { length set.now.fonts ≤ max_fonts }
-    ensures { result ≡ position (has_full_name name.now) set.now.fonts }
+    ensures { result ≡ full_named_from name.now 0 set.now.fonts }
 {
     for (place, font) in set.fonts.as_slice().iter().enumerate() {
         if font.has_full_name(name) {

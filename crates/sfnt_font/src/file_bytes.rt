@@ -14,7 +14,7 @@ pub struct FileBytes {
 }
 
 impl Model for FileBytes {
-    ghost use Rattle.std.specs.Prelude.{List, ℕ, Unit};
+    ghost use Rattle.std.specs.Prelude.{List, ℕ};
     ghost use Rattle.std.specs.Arc.{arc_value};
 
     ghost Value = { List ℕ };

@@ -9,7 +9,7 @@ use sfnt_font::{FileBytes, SfntFont, face_count, read_sfnt};
 use std::alloc::Global;
 
 /// The most bytes of a file here.
-const MOST_BYTES: usize = 1_000_000;
+pub const MOST_BYTES: usize = 1_000_000;
 
 /// The font of a face, or why there is none.
 pub fn font_of(alloc: Global, bytes: &[u8], face: u32) -> Mem<Result<SfntFont, String>>
