@@ -56,7 +56,7 @@ module _ (fonts : List FontValue) (metrics : Metrics) (has : HasFont fonts metri
   own_extents keep bitmaps ends_cluster c =
       let glyph = glyph_of (slice_index_or fonts metrics.font no_font) c in
       let advance : found_advance fonts metrics (set_glyph_of fonts metrics.font c)
-          ≡ scaled_pixels (option_map_or (glyph_advance (slice_index_or fonts metrics.font no_font).glyphs) glyph (pos 0)) metrics.ux =
+      ≡ scaled_pixels (option_map_or (glyph_advance (slice_index_or fonts metrics.font no_font).glyphs) glyph (pos 0)) metrics.ux =
       ap (found_advance fonts metrics) (keep fonts bitmaps metrics.font c) ∙ own_advance glyph in
       ap (λ (z : ℤ). let e : Extent = record { advance = held_extent (z +ℤ spacing_behind metrics ends_cluster); ascent = metrics.ascent; descent = metrics.descent } in e) advance
 

@@ -107,7 +107,13 @@ pub(crate) fn scale_across(size: &TextSize, font: &Font) -> i64
     ensures range { IsScale result }
 {
     let across = size.across;
-    text_scale(size.height, size.scale_x, across.pixels, across.units, em_height(font))
+    text_scale(
+        size.height,
+        size.scale_x,
+        across.pixels,
+        across.units,
+        em_height(font),
+    )
 }
 
 /// What the items of a state have in common; its font is this one.
