@@ -68,12 +68,12 @@ class Face:
 
 HAND = (768, 256)
 FACES = [
-    Face("Hand", "Hand Regular", 400, False, HAND, {"A": 512}),
+    Face("Hand", "Hand", 400, False, HAND, {"A": 512}),
     Face("Hand", "Hand Bold", 700, False, HAND, {"A": 640}),
     Face("Hand", "Hand Italic", 400, True, HAND, {"A": 448}),
     Face("Hand", "Hand Bold Italic", 700, True, HAND, {"A": 576}),
     Face("Plain", "Plain Medium", 549, False, (1792, 256), {"A": 1280, "B": 1024}),
-    Face("Half", "Half", 550, False, HAND, {"A": 512}),
+    Face("Half", "Half Medium", 550, False, HAND, {"A": 512}),
     Face("Half", "Half Bold", 700, False, HAND, {"A": 512}),
 ]
 
@@ -84,16 +84,17 @@ class Letter:
     def __init__(self, tags, letter, name="Hand", bold=False, italic=False):
         self.tags, self.letter, self.name, self.bold, self.italic = tags, letter, name, bold, italic
 
-    def face(self):
-        """The place of the face: by its full name, or else the nearest of its family."""
+    def distance(self, face):
+        """How far a face is from what is asked for: of the family by weight and slant, by its full name not at all."""
         name = self.name.lower().removeprefix("@")
-        for k, face in enumerate(FACES):
-            if face.full.lower() == name:
-                return k
-        wanted = 700 if self.bold else 400
-        far = [abs(it.weight - wanted) + 1000 * (it.slanted != self.italic) for it in FACES]
-        near = [k for k, it in enumerate(FACES) if it.family.lower() == name]
-        return min(near, key=lambda k: far[k]) if near else 0
+        if face.family.lower() == name:
+            return abs(face.weight - (700 if self.bold else 400)) + abs(110 * face.slanted - 100 * self.italic)
+        return 0 if face.full.lower() == name else None
+
+    def face(self):
+        """The place of the first of the nearest faces, or 0."""
+        far = [(self.distance(it), k) for k, it in enumerate(FACES)]
+        return min((it for it in far if it[0] is not None), default=(0, 0))[1]
 
     def glyph(self):
         """The face of the glyph, the glyph's place in the list, and its advance."""
@@ -140,9 +141,10 @@ ROWS = [
         Letter(r"\i1", "A", "Hand Bold", italic=True),
         Letter(r"\fnHandItalicPS", "A", "HandItalicPS", italic=True),
     ],
-    # weights; a full name goes before a family
+    # weights, by a full name and by families
     [
-        Letter(r"\fnHalf\b1", "A", "Half", bold=True),
+        Letter(r"\fnHalf Medium\b1", "A", "Half Medium", bold=True),
+        Letter(r"\fnHalf", "A", "Half", bold=True),
         Letter(r"\fnPlain\b600", "A", "Plain", bold=True),
         Letter(r"\b500", "A", "Plain"),
         Letter(r"\fnHand", "A"),
