@@ -9,7 +9,7 @@ use Rattle.ass_num.specs.Limits.{one_16}
 use Rattle.ass_num.specs.declared.geometry.Matrix.{Matrix}
 use Rattle.bdf_font.specs.Fonts.{FontValue, glyph_of}
 use Rattle.bdf_font.specs.Laws.{BitmapsAreFoundByName, BitmapsKeepTheirGlyphs}
-use Rattle.bdf_font.specs.Sets.{AreBitmapFonts, IsFoundByName, no_font, placed_in, set_glyph_of}
+use Rattle.bdf_font.specs.Sets.{AreBitmapFonts, IsFoundByName, no_font, glyph_place_in, set_glyph_of}
 use Rattle.bdf_font.specs.declared.sets.GlyphPlace.{GlyphPlace}
 use Rattle.bdf_font.proofs.SetLemmas.{chosen_within}
 use Rattle.frame_view.specs.declared.scales.Scales.{Scales}
@@ -46,7 +46,7 @@ none_wide scale =
 -- ---- advances
 
 module _ (fonts : List FontValue) (metrics : Metrics) (has : HasFont fonts metrics) where
-  own_advance : (o : Option ℕ) → found_advance fonts metrics (placed_in metrics.font o)
+  own_advance : (o : Option ℕ) → found_advance fonts metrics (glyph_place_in metrics.font o)
       ≡ scaled_pixels (option_map_or (glyph_advance (slice_index_or fonts metrics.font no_font).glyphs) o (pos 0)) metrics.ux
   own_advance None = none_wide metrics.ux
   own_advance (Some place) = ap (λ (z : ℤ). scaled_pixels (glyph_advance (slice_index_or fonts metrics.font no_font).glyphs place) z) (sym has.scale)
@@ -74,7 +74,7 @@ module _ (stage : Stage) (fonts : List FontValue) (state : State) (number : ℕ)
       let matrix : Matrix = record { ux = m.ux; uy = m.uy; italic = slanted; turn = turn_of state.angle } in
       cond (option_map_or (is_marked state) (slice_get own.glyphs place) false) (Some (Glyph number place matrix widened state.underline state.strikeout)) None
 
-  own_outline : IsFoundByName own → (o : Option ℕ) → option_and_then (glyph_outline stage fonts state) (placed_in number o) ≡ option_and_then (own_glyph_outline stage state number own) o
+  own_outline : IsFoundByName own → (o : Option ℕ) → option_and_then (glyph_outline stage fonts state) (glyph_place_in number o) ≡ option_and_then (own_glyph_outline stage state number own) o
   own_outline named None = refl
   own_outline named (Some place) = ap₂ (outline_with place) (slants own state named) (widens own state named)
 
