@@ -1,4 +1,4 @@
-use Rattle.std.proofs.Common.{◌≡◌, ◌∙◌, ℕ, ◌<◌, ℤ, true, List, [], length, get_or, pos, sym, ap, ap₂, subst, FitsSigned, to_z-of_z, rules, arith}
+use Rattle.std.proofs.Common.{◌≡◌, ◌∙◌, ℕ, ◌<◌, true, List, [], length, get_or, pos, sym, ap, subst, arith}
 use Rattle.std.proofs.lemmas.List.{get_or_default}
 use Rattle.std.proofs.lemmas.Option.{slice_get-get_or}
 use Rattle.std.specs.List.{All}
@@ -13,10 +13,8 @@ use Rattle.bdf_font.specs.declared.glyphs.FontGlyph.{FontGlyph}
 use Rattle.bdf_font.specs.declared.glyphs.GlyphShape.TheVariants as shape
 use Rattle.outline_points.specs.Limits.{max_pixel}
 use Rattle.text_layout.specs.Extents.{glyph_advance}
-use Rattle.text_layout.specs.Metrics.{scaled_pixels}
-use Rattle.text_layout.proofs.BitLemmas.{bits_32, scale_bits, whole_bits}
+use Rattle.text_layout.proofs.BitLemmas.{bits_32, whole_bits}
 use Rattle.text_layout.proofs.extents.glyph_advance.Goals as goal
-use mir.Syntax.{w128}
 
 no_glyph : FontGlyph
 no_glyph = record { code = pos 0; advance = pos 0; blank = true; missing = true; shape = shape.Contours [] }
@@ -46,9 +44,3 @@ bits c = whole_bits c.advance_at.result (IsWithin-wider max_measure max_whole c.
 
 pub scaled_pixels-requires-clause-pixels : goal.scaled_pixels-requires-clause-pixels
 scaled_pixels-requires-clause-pixels c = subst (IsWithin max_pixel) (sym (bits c)) (IsWithin-wider max_measure max_pixel c.advance_at.result (omega arith) (near c))
-
-pub returns-clause-value : goal.returns-clause-value
-returns-clause-value c =
-    let fits : FitsSigned w128 c.scaled_pixels.result = search rules in
-    let scale = scale_bits c.scale_in-scale.result c.scale_in-scale.ensures.range ∙ c.scale_in-scale.ensures.value in
-    to_z-of_z fits ∙ c.scaled_pixels.ensures.value ∙ ap₂ scaled_pixels (bits c ∙ advance_is c) scale
