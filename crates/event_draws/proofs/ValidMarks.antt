@@ -28,7 +28,7 @@ use Rattle.override_tags.specs.declared.view.EventView.{EventView}
 use Rattle.override_tags.specs.declared.view.ShownKind.{ShownKind}
 use Rattle.override_tags.specs.declared.view.ShownKind.TheVariants as shown
 use Rattle.override_tags.specs.declared.view.State.{State}
-use Rattle.text_layout.specs.Fonts.{font_of_state, is_widened}
+use Rattle.text_layout.specs.Fonts.{font_of_state, needs_bold_step}
 use Rattle.text_layout.specs.Kinds.{char_of}
 use Rattle.text_layout.specs.Scales.{clip_matrix, drawing_matrix, drawing_scale, em_height, fine_parts, held_scale, level_parts, text_matrix, text_scale, whole_milli, whole_per_cent}
 use Rattle.text_layout.specs.declared.laid.Line.{Line}
@@ -90,7 +90,7 @@ glyph_valid stage fonts state place there =
     let n : length (glyph_counts fonts) ≡ length fonts = length-map fonts (λ (f : FontValue). length f.glyphs) in
     let e : slice_index (glyph_counts fonts) place.font ≡ length font.glyphs = get_or-map (λ (f : FontValue). length f.glyphs) fonts place.font no_font 0 there.0 in
     marked_valid (glyph_counts fonts) (option_map_or (is_marked state) (slice_get font.glyphs place.glyph) false)
-    (Glyph place.font place.glyph (text_matrix stage.scales font state) (is_widened font state) state.underline state.strikeout)
+    (Glyph place.font place.glyph (text_matrix stage.scales font state) (needs_bold_step font state) state.underline state.strikeout)
     (record {
       in_fonts = subst (λ (k : ℕ). place.font < k) (sym n) there.0;
       in_font = subst (λ (k : ℕ). place.glyph < k) (sym e) there.1;

@@ -19,7 +19,7 @@ use Rattle.override_tags.specs.declared.view.ShownKind.{ShownKind}
 use Rattle.override_tags.specs.declared.view.ShownKind.TheVariants as shown
 use Rattle.override_tags.specs.declared.view.State.{State}
 use Rattle.text_layout.specs.Extents.{drawn_extent}
-use Rattle.text_layout.specs.Fonts.{font_of_state, is_widened}
+use Rattle.text_layout.specs.Fonts.{font_of_state, needs_bold_step}
 use Rattle.text_layout.specs.Kinds.{char_of}
 use Rattle.text_layout.specs.Scales.{drawing_matrix, text_matrix}
 use Rattle.text_layout.specs.declared.laid.Line.{Line}
@@ -38,7 +38,7 @@ abbrev pub glyph_outline : Stage → List FontValue → State → GlyphPlace →
 glyph_outline stage fonts state place =
     let font = slice_index_or fonts place.font no_font in
     if option_map_or (is_marked state) (slice_get font.glyphs place.glyph) false
-    then Some (Glyph place.font place.glyph (text_matrix stage.scales font state) (is_widened font state) state.underline state.strikeout)
+    then Some (Glyph place.font place.glyph (text_matrix stage.scales font state) (needs_bold_step font state) state.underline state.strikeout)
     else None
 
 -- the outline of a character in a font, or in another one that has it; none without a glyph

@@ -24,7 +24,9 @@ use bdf_font::{Font, FontSet, GlyphPlace, set_glyph};
 use mask_keys::{OutlineKey, Shared};
 use override_tags::{EventView, Shown, ShownKind, State};
 use std::alloc::Global;
-use text_layout::{Line, Placed, char_of, drawing_matrix, drawn_extent, is_widened, text_matrix};
+use text_layout::{
+    Line, Placed, char_of, drawing_matrix, drawn_extent, needs_bold_step, text_matrix,
+};
 
 /// An outline, and its pen before turning, in 1/64 pixel of the frame.
 #[derive(Debug, Drop)]
@@ -60,7 +62,7 @@ fn glyph_outline(
             font: place.font,
             glyph: place.glyph,
             m: text_matrix(&stage.scales, font, state),
-            bold: is_widened(font, state),
+            bold: needs_bold_step(font, state),
             underline: state.underline,
             strikeout: state.strikeout,
         });

@@ -1,5 +1,6 @@
 -- In a set of bitmaps alone each state has the first font of its name, and each character a glyph of that font or none.
 use Rattle.std.proofs.Common.{◌≡◌, ◌∙◌, refl, sym, ap, ap₂, ℕ, ◌<◌, Bool, true, false, cond, not, ◌&&◌, List, [], length, Option, Some, None, option_and_then, ℤ, pos, ◌*ℤ◌, ◌+ℤ◌, arith}
+use Rattle.std.proofs.Math.Bool.{and-true}
 use Rattle.std.proofs.lemmas.Int.{ints}
 use Rattle.std.specs.Prelude.{nat_lt, slice_get, slice_index_or}
 use Rattle.std.specs.Option.{option_map_or}
@@ -17,7 +18,7 @@ use Rattle.mask_keys.specs.declared.outline_key.OutlineKey.{OutlineKey}
 use Rattle.mask_keys.specs.declared.outline_key.OutlineKey.TheVariants.{Glyph}
 use Rattle.override_tags.specs.declared.view.State.{State}
 use Rattle.text_layout.specs.Extents.{char_extent, found_advance, glyph_advance, spacing_behind}
-use Rattle.text_layout.specs.Fonts.{font_of_state, is_slanted, is_widened, least_bold_weight}
+use Rattle.text_layout.specs.Fonts.{font_of_state, needs_slant, needs_bold_step, least_bold_weight}
 use Rattle.text_layout.specs.Metrics.{HasFont, held_extent, metrics_of, scaled_pixels}
 use Rattle.text_layout.specs.Scales.{text_matrix, turn_of}
 use Rattle.text_layout.specs.declared.extents.Extent.{Extent}
@@ -28,15 +29,11 @@ use Rattle.picture_laws.specs.BitmapSets.{AreDrawnAsNamed, own_extent, own_glyph
 
 -- ---- one font
 
-still : (b : Bool) → (b && true) ≡ b
-still true = refl
-still false = refl
+slants : (font : FontValue) (state : State) → IsFoundByName font → needs_slant font state ≡ state.italic
+slants font state named = ap (λ (z : Bool). state.italic && not z) named.slanted ∙ and-true state.italic
 
-slants : (font : FontValue) (state : State) → IsFoundByName font → is_slanted font state ≡ state.italic
-slants font state named = ap (λ (z : Bool). state.italic && not z) named.slanted ∙ still state.italic
-
-widens : (font : FontValue) (state : State) → IsFoundByName font → is_widened font state ≡ state.bold
-widens font state named = ap (λ (z : ℕ). state.bold && nat_lt z least_bold_weight) named.weight ∙ still state.bold
+widens : (font : FontValue) (state : State) → IsFoundByName font → needs_bold_step font state ≡ state.bold
+widens font state named = ap (λ (z : ℕ). state.bold && nat_lt z least_bold_weight) named.weight ∙ and-true state.bold
 
 none_wide : (scale : ℤ) → pos 0 ≡ scaled_pixels (pos 0) scale
 none_wide scale =

@@ -18,13 +18,13 @@ use Rattle.event_draws.specs.Marks.{char_outline, is_marked}
 use Rattle.event_draws.specs.declared.stage.Stage.{Stage}
 
 -- the place of the first font with the name of a state
-abbrev pub named_font : List FontValue → List (List ℕ) → State → ℕ
-named_font fonts names state = font_named (slice_index_or names state.font []) fonts
+abbrev pub font_of_name : List FontValue → List (List ℕ) → State → ℕ
+font_of_name fonts names state = font_named (slice_index_or names state.font []) fonts
 
 -- the metrics of a state in that font
 abbrev pub named_metrics : Scales → List FontValue → List (List ℕ) → State → Metrics
 named_metrics scales fonts names state =
-    let number = named_font fonts names state in
+    let number = font_of_name fonts names state in
     metrics_of scales number (slice_index_or fonts number no_font) state
 
 -- the extent of a character by the glyph of one font
@@ -54,7 +54,7 @@ own_glyph_outline stage state number font place =
 -- the outline of a character in the first font with the name of its state
 abbrev pub named_outline : Stage → List FontValue → List (List ℕ) → State → ℕ → Option OutlineKey
 named_outline stage fonts names state c =
-    let number = named_font fonts names state in
+    let number = font_of_name fonts names state in
     let font = slice_index_or fonts number no_font in
     option_and_then (own_glyph_outline stage state number font) (glyph_of font c)
 

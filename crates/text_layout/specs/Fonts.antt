@@ -26,10 +26,10 @@ state_fonts fonts view = map (font_of_state fonts view.names) view.states
 abbrev pub least_bold_weight : ℕ
 least_bold_weight = 550
 
--- Letters of a state are slanted where their font isn't.
-abbrev pub is_slanted : FontValue → State → Bool
-is_slanted font state = state.italic && not font.slanted
+-- Letters of an italic state are slanted where their font isn't so itself.
+abbrev pub needs_slant : FontValue → State → Bool
+needs_slant font state = state.italic && not font.slanted
 
 -- Bold letters are drawn a step wider where their font isn't bold.
-abbrev pub is_widened : FontValue → State → Bool
-is_widened font state = state.bold && nat_lt font.weight least_bold_weight
+abbrev pub needs_bold_step : FontValue → State → Bool
+needs_bold_step font state = state.bold && nat_lt font.weight least_bold_weight

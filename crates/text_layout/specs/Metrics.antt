@@ -69,11 +69,11 @@ no_matrix = record { ux = pos 0; uy = pos 0; italic = false; turn = pos 0 }
 abbrev pub no_ratio : Ratio
 no_ratio = record { pixels = 0; units = 0 }
 
-abbrev pub no_size : TextSize
-no_size = record { height = pos 0; scale_x = pos 0; across = no_ratio }
+abbrev pub no_text_size : TextSize
+no_text_size = record { height = pos 0; scale_x = pos 0; across = no_ratio }
 
 abbrev pub no_metrics : Metrics
-no_metrics = record { font = 0; size = no_size; ux = pos 0; ascent = pos 0; descent = pos 0; spacing = pos 0; drawing = no_matrix }
+no_metrics = record { font = 0; size = no_text_size; ux = pos 0; ascent = pos 0; descent = pos 0; spacing = pos 0; drawing = no_matrix }
 
 -- ---- ranges
 

@@ -10,7 +10,7 @@ use Rattle.frame_view.specs.FrameScales.{magnified}
 use Rattle.frame_view.specs.declared.scales.Scales.{Scales}
 use Rattle.outline_points.specs.Limits.{max_scale}
 use Rattle.override_tags.specs.declared.view.State.{State}
-use Rattle.text_layout.specs.Fonts.{is_slanted}
+use Rattle.text_layout.specs.Fonts.{needs_slant}
 
 -- a pixel, in the unit of all lengths of the frame
 abbrev pub pixel : ℕ
@@ -64,7 +64,7 @@ abbrev pub text_matrix : Scales → FontValue → State → Matrix
 text_matrix scales font state = record {
   ux = text_scale (magnified scales.letter_scale state.size) state.scale_x scales.letters.x.pixels scales.letters.x.units (em_height font);
   uy = text_scale (magnified scales.letter_scale state.size) state.scale_y scales.letters.y.pixels scales.letters.y.units (em_height font);
-  italic = is_slanted font state;
+  italic = needs_slant font state;
   turn = turn_of state.angle;
 }
 

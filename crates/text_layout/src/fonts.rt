@@ -2,7 +2,7 @@
 
 ghost use Rattle.std.specs.Prelude.{◌≡◌, ◌<◌, length, All, IfOk};
 ghost use Rattle.override_tags.specs.Views.{IsState};
-ghost use Rattle.text_layout.specs.Fonts.{IsLayoutFontSet, font_of_state, is_slanted, is_widened, state_fonts};
+ghost use Rattle.text_layout.specs.Fonts.{IsLayoutFontSet, font_of_state, needs_slant, needs_bold_step, state_fonts};
 
 use ass_num::Mem;
 use bdf_font::{Font, FontSet, find_font};
@@ -36,16 +36,16 @@ pub fn state_fonts(alloc: Global, fonts: &FontSet, view: &EventView) -> Mem<Vec<
     Ok(numbers)
 }
 
-/// Whether letters of a state are slanted: it is italic, and their font isn't slanted.
-pub(crate) fn is_slanted(font: &Font, state: &State) -> bool
-    ensures { result ≡ is_slanted font.now state.now }
+/// Whether letters of a state are to be slanted: it is italic, and their font isn't slanted.
+pub(crate) fn needs_slant(font: &Font, state: &State) -> bool
+    ensures { result ≡ needs_slant font.now state.now }
 {
     state.italic && !font.is_slanted()
 }
 
-/// Whether letters of a state are drawn a step wider: it is bold, and their font isn't.
-pub fn is_widened(font: &Font, state: &State) -> bool
-    ensures { result ≡ is_widened font.now state.now }
+/// Whether letters of a state are to be drawn a step wider: it is bold, and their font's weight is below 550.
+pub fn needs_bold_step(font: &Font, state: &State) -> bool
+    ensures { result ≡ needs_bold_step font.now state.now }
 {
     state.bold && font.weight() < LEAST_BOLD_WEIGHT
 }

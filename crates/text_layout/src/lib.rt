@@ -20,7 +20,7 @@ pub use anchors::{Margins, anchor, block_corner, frame_place, margins_of, wrappi
 pub use ass_num::{Matrix, Point, Size};
 pub use clusters::cluster_ends;
 pub use extents::{Extent, drawn_extent, item_extents};
-pub use fonts::{is_widened, state_fonts};
+pub use fonts::{needs_bold_step, state_fonts};
 pub use kinds::char_of;
 pub use laid::{Laid, Line, Placed};
 pub use laws::{one_layout, stands_on_size};

@@ -13,7 +13,7 @@ ghost use Rattle.text_layout.specs.Limits.{max_dividend, max_divisor, max_em, ma
 ghost use Rattle.text_layout.specs.Scales.{clip_matrix, drawing_matrix, drawing_scale, em_height, fine_parts, framed, held_scale, level_parts, text_matrix};
 ghost use Rattle.text_layout.specs.Scales.{text_scale, turn_of};
 
-use crate::fonts::is_slanted;
+use crate::fonts::needs_slant;
 use ass_num::{Fix, Matrix, Milli, div_floor, hold};
 use bdf_font::Font;
 use frame_view::{Scales, magnified};
@@ -151,7 +151,7 @@ pub fn text_matrix(scales: &Scales, font: &Font, state: &State) -> Matrix
     Matrix {
         ux: text_scale(size, state.scale_x, across.pixels, across.units, em),
         uy: text_scale(size, state.scale_y, down.pixels, down.units, em),
-        italic: is_slanted(font, state),
+        italic: needs_slant(font, state),
         turn: turn_of(state.angle),
     }
 }
