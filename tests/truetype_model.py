@@ -212,13 +212,13 @@ def same_name(a, b):
 
 def chosen(fonts, name, bold, italic):
     """The place of the font that a name finds."""
-    asked = name.removeprefix("@")
+    asked, far = name.removeprefix("@"), {}
     for place, font in enumerate(fonts):
-        if any(same_name(it, asked) for it in font.full_names):
-            return place
-    wanted = 700 if bold else 400
-    family = [place for place, font in enumerate(fonts) if any(same_name(it, asked) for it in font.families)]
-    return min(family, key=lambda it: abs(fonts[it].weight - wanted) + 1000 * (fonts[it].slanted != italic), default=0)
+        if any(same_name(it, asked) for it in font.families):
+            far[place] = abs(font.weight - (700 if bold else 400)) + abs((110 if font.slanted else 0) - (100 if italic else 0))
+        elif any(same_name(it, asked) for it in font.full_names):
+            far[place] = 0
+    return min(far, key=far.get, default=0)
 
 
 def simple(held, count, room):

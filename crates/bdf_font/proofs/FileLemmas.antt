@@ -1,7 +1,11 @@
 -- Each file has one answer.
-use Rattle.std.proofs.Common.{◌≡◌, ℕ, Bool, true, false, List, [], ◌∷◌, Result, Ok, Err, refl, ap, sym, ◌∙◌}
+use Rattle.std.proofs.Common.{◌≡◌, ℕ, ◌<◌, ◌≤◌, Bool, true, false, List, [], ◌∷◌, length, map, Result, Ok, Err, refl, ap, sym, ◌∙◌, arith}
+use Rattle.std.specs.Prelude.{IfOk}
+use Rattle.std.proofs.lemmas.List.{length-map}
+use Rattle.sfnt_font.specs.declared.cause.SfntRefusal.{SfntRefusal}
+use Rattle.sfnt_font.specs.declared.font.SfntFont.{SfntFont}
 use Rattle.sfnt_font.specs.Bytes.{u32_at}
-use Rattle.sfnt_font.specs.Faces.{is_sfnt_kind}
+use Rattle.sfnt_font.specs.Faces.{is_sfnt_kind, max_faces}
 use Rattle.sfnt_font.specs.Fonts.{sfnts_of}
 use Rattle.bdf_font.specs.declared.cause.FontFileRefusal.{FontFileRefusal}
 use Rattle.bdf_font.specs.declared.cause.FontFileRefusal.TheVariants.{Lines, Bytes}
@@ -9,7 +13,10 @@ use Rattle.bdf_font.specs.declared.cause.FontRefusal.{FontRefusal}
 use Rattle.bdf_font.specs.Files.{IsKindAnswer, IsLinesAnswer, outlines_answer}
 use Rattle.bdf_font.specs.Fonts.{FontValue}
 use Rattle.bdf_font.specs.Grammar.{IsFontAnswer}
-use Rattle.bdf_font.specs.Laws.{OneFileAnswer}
+use Rattle.bdf_font.specs.Laws.{FilesHaveFonts, OneFileAnswer}
+use Rattle.bdf_font.specs.Limits.{max_fonts}
+use Rattle.bdf_font.specs.Outlines.{outline_font}
+use Rattle.sfnt_font.proofs.ReadLemmas.{fonts_counted}
 use Rattle.bdf_font.specs.Lines.{text_lines}
 use Rattle.bdf_font.specs.Steps.{no_font_lines}
 use Rattle.bdf_font.proofs.Walk.{lines_read}
@@ -37,3 +44,23 @@ one_by false bytes =
 
 pub one_file_answer : OneFileAnswer
 one_file_answer bytes = one_by (is_sfnt_kind (u32_at bytes 0)) bytes
+
+-- ---- how many fonts a file has
+
+-- the fonts of faces are as many as these
+outlines_counted : (r : Result (List SfntFont) SfntRefusal) (fonts : List FontValue) → IfOk r (λ faces. (0 < length faces) × (length faces ≤ max_faces)) →
+    Ok fonts ≡ outlines_answer r → (0 < length fonts) × (length fonts ≤ max_fonts)
+outlines_counted (Ok faces) fonts is e =
+    let same : fonts ≡ map outline_font faces = cc in
+    let counted : length fonts ≡ length faces = ap length same ∙ length-map faces outline_font in
+    (omega (arith, is.0, counted), omega (arith, is.1, counted))
+outlines_counted (Err refused) fonts is e = absurd cc
+
+kind_has_fonts : (is_sfnt : Bool) (bytes : List ℕ) (fonts : List FontValue) → IsKindAnswer is_sfnt bytes (Ok fonts) → (0 < length fonts) × (length fonts ≤ max_fonts)
+kind_has_fonts true bytes fonts is = outlines_counted (sfnts_of bytes) fonts (fonts_counted bytes) is
+kind_has_fonts false bytes fonts (font, only, is) =
+    let counted : length fonts ≡ 1 = ap length only in
+    (omega (arith, counted), omega (arith, counted))
+
+pub files_have_fonts : FilesHaveFonts
+files_have_fonts bytes fonts is = kind_has_fonts (is_sfnt_kind (u32_at bytes 0)) bytes fonts is

@@ -16,7 +16,7 @@ use Rattle.sfnt_font.specs.Ranges.{IsSfntFont}
 use Rattle.sfnt_font.proofs.CodeLemmas.{code_place, missing_place, font_codes_most}
 use Rattle.sfnt_glyphs.proofs.ContourBounds.{contours_within}
 use Rattle.sfnt_glyphs.proofs.AdvanceLemmas.{advance_most}
-use Rattle.bdf_font.specs.Fonts.{place_from, glyph_of}
+use Rattle.bdf_font.specs.Fonts.{place_from, place_of, glyph_of}
 use Rattle.bdf_font.specs.Outlines.{outline_glyph, outline_glyphs, outline_font}
 use Rattle.bdf_font.specs.Ranges.{IsBar, IsFont, IsGlyph}
 
@@ -32,9 +32,12 @@ from-codes : (font : SfntFont) (n : ℕ) (code : ℤ) (codes : List ℤ) → pla
 from-codes font n code [] = refl
 from-codes font n code (c ∷ codes) = ap (cond (int_eq c code) (Some n)) (from-codes font (n + 1) code codes)
 
+pub outline_place_of : (font : SfntFont) (c : ℕ) → IsSfntFont font → place_of (outline_glyphs font) (pos c) ≡ place_of_code font c
+outline_place_of font c is = from-codes font 0 (pos c) (font_codes font) ∙ code_place font c is
+
 pub outline_found : (font : SfntFont) (c : ℕ) → IsSfntFont font → glyph_of (outline_font font) c ≡ option_or (place_of_code font c) (Some (length (font_codes font) - 1))
 outline_found font c is =
-    ap₂ option_or (from-codes font 0 (pos c) (font_codes font) ∙ code_place font c is)
+    ap₂ option_or (outline_place_of font c is)
     (from-codes font 0 missing_code (font_codes font) ∙ missing_place font is)
 
 -- ---- ranges

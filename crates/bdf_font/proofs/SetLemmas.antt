@@ -1,26 +1,18 @@
 -- Sets of fonts: the places that a name and a character find lie in the set.
 use Rattle.std.proofs.Common.{◌≡◌, ℕ, zero, suc, ◌+◌, ◌<◌, ◌≤◌, le_refl, Bool, true, false, cond, List, [], ◌∷◌, length, Option, Some, None, refl, ap, sym, ◌∙◌, subst, arith, zero-add, ℤ, pos, negsuc}
-use Rattle.std.specs.Prelude.{nat_lt, slice_index_or, IfSome, option_map, option_and_then, unwrap_or}
+use Rattle.std.specs.Prelude.{nat_lt, slice_index_or, IfSome, option_map, option_and_then}
 use Rattle.std.specs.Option.{option_or}
 use Rattle.std.specs.Ordering.{int_eq}
+use Rattle.std.proofs.lemmas.Bool.Decides.{nat_tests}
 use Rattle.bdf_font.specs.declared.glyphs.FontGlyph.{FontGlyph}
 use Rattle.bdf_font.specs.declared.sets.Candidate.{Candidate}
 use Rattle.bdf_font.specs.declared.sets.GlyphPlace.{GlyphPlace}
 use Rattle.bdf_font.specs.Fonts.{FontValue, glyph_of, place_from, place_of}
-use Rattle.bdf_font.specs.Sets.{IsGlyphPlaceIn, candidate_at, font_chosen, full_named_from, glyph_elsewhere, has_full_name, has_outlines, is_missing_at, is_of_family}
-use Rattle.bdf_font.specs.Sets.{mapped_from, mapped_place, nearer, nearest_from, nearest_of_family, no_font, placed_in, set_glyph_of, style_distance, unless_missing}
+use Rattle.bdf_font.specs.Sets.{IsGlyphPlaceIn, candidate_at, candidate_place, font_chosen, glyph_elsewhere, has_outlines, is_missing_at, name_distance}
+use Rattle.bdf_font.specs.Sets.{mapped_from, mapped_place, nearer, nearest_from, no_font, placed_in, set_glyph_of, unless_missing}
 use Rattle.bdf_font.proofs.PlaceLemmas.{first_within, glyph_within}
 
 -- ---- the font of a name
-
-full_named_within : (name : List ℕ) (n : ℕ) (fonts : List FontValue) → IfSome (full_named_from name n fonts) (λ k. k < n + length fonts)
-full_named_within name n [] = tt
-full_named_within name n (font ∷ fonts) = either (has_full_name name font) (full_named_from name (n + 1) fonts) (full_named_within name (n + 1) fonts)
-  where
-    either : (b : Bool) (o : Option ℕ) → IfSome o (λ k. k < (n + 1) + length fonts) → IfSome (cond b (Some n) o) (λ k. k < n + suc (length fonts))
-    either true o inside = omega arith
-    either false (Some k) inside = omega (arith, inside)
-    either false None inside = tt
 
 -- what holds of both holds of the nearer
 pub nearer_of : (P : Candidate → Type 0) (first second : Option Candidate) → IfSome first P → IfSome second P → IfSome (nearer first second) P
@@ -32,29 +24,52 @@ nearer_of P (Some x) (Some y) a b = either (nat_lt y.distance x.distance)
     either true = b
     either false = a
 
+pub nearer_none : (o : Option Candidate) → nearer o None ≡ o
+nearer_none None = refl
+nearer_none (Some candidate) = refl
+
+-- of three it doesn't matter which two come first
+pub nearer_assoc : (a b c : Option Candidate) → nearer a (nearer b c) ≡ nearer (nearer a b) c
+nearer_assoc None b c = refl
+nearer_assoc (Some x) None c = refl
+nearer_assoc (Some x) (Some y) None = nearer_none_both (nat_lt y.distance x.distance)
+  where
+    nearer_none_both : (q : Bool) → cond q (Some y) (Some x) ≡ nearer (cond q (Some y) (Some x)) None
+    nearer_none_both true = refl
+    nearer_none_both false = refl
+nearer_assoc (Some x) (Some y) (Some z) = cases (nat_lt z.distance y.distance) (nat_lt y.distance x.distance) refl refl
+  where
+    cases : (p q : Bool) → nat_lt z.distance y.distance ≡ p → nat_lt y.distance x.distance ≡ q →
+        nearer (Some x) (cond p (Some z) (Some y)) ≡ nearer (cond q (Some y) (Some x)) (Some z)
+    cases true true e f =
+        let far : nat_lt z.distance x.distance ≡ true = grind (arith, nat_tests, e, f) in
+        ap (λ b. cond b (Some z) (Some x)) far ∙ sym (ap (λ b. cond b (Some z) (Some y)) e)
+    cases true false e f = refl
+    cases false true e f = ap (λ b. cond b (Some y) (Some x)) f ∙ sym (ap (λ b. cond b (Some z) (Some y)) e)
+    cases false false e f =
+        let far : nat_lt z.distance x.distance ≡ false = grind (arith, nat_tests, e, f) in
+        ap (λ b. cond b (Some y) (Some x)) f ∙ sym (ap (λ b. cond b (Some z) (Some x)) far)
+
 nearest_within : (name : List ℕ) (bold italic : Bool) (n : ℕ) (fonts : List FontValue) → IfSome (nearest_from name bold italic n fonts) (λ candidate. candidate.place < n + length fonts)
 nearest_within name bold italic n [] = tt
 nearest_within name bold italic n (font ∷ fonts) =
     nearer_of (λ candidate. candidate.place < n + suc (length fonts)) (candidate_at name bold italic n font) (nearest_from name bold italic (n + 1) fonts)
-    (here (is_of_family name font)) (later (nearest_from name bold italic (n + 1) fonts) (nearest_within name bold italic (n + 1) fonts))
+    (here (name_distance name bold italic font)) (later (nearest_from name bold italic (n + 1) fonts) (nearest_within name bold italic (n + 1) fonts))
   where
-    here : (b : Bool) → IfSome (cond b (Some (record { place = n; distance = style_distance bold italic font })) None) (λ candidate. candidate.place < n + suc (length fonts))
-    here true = omega arith
-    here false = tt
+    here : (o : Option ℕ) → IfSome (option_map (λ (distance : ℕ). record { place = n; distance = distance }) o) (λ candidate. candidate.place < n + suc (length fonts))
+    here (Some distance) = omega arith
+    here None = tt
 
     later : (o : Option Candidate) → IfSome o (λ candidate. candidate.place < (n + 1) + length fonts) → IfSome o (λ candidate. candidate.place < n + suc (length fonts))
     later (Some candidate) inside = omega (arith, inside)
     later None inside = tt
 
 pub chosen_within : (name : List ℕ) (bold italic : Bool) (fonts : List FontValue) → 0 < length fonts → font_chosen name bold italic fonts < length fonts
-chosen_within name bold italic fonts some =
-    cases (full_named_from name 0 fonts) (nearest_from name bold italic 0 fonts) (full_named_within name 0 fonts) (nearest_within name bold italic 0 fonts)
+chosen_within name bold italic fonts some = cases (nearest_from name bold italic 0 fonts) (nearest_within name bold italic 0 fonts)
   where
-    cases : (o : Option ℕ) (p : Option Candidate) → IfSome o (λ k. k < 0 + length fonts) → IfSome p (λ candidate. candidate.place < 0 + length fonts) →
-        unwrap_or (option_or o (option_map (λ candidate. candidate.place) p)) 0 < length fonts
-    cases (Some k) p inside within = omega (arith, inside)
-    cases None (Some candidate) inside within = omega (arith, within)
-    cases None None inside within = some
+    cases : (o : Option Candidate) → IfSome o (λ candidate. candidate.place < 0 + length fonts) → candidate_place o < length fonts
+    cases (Some candidate) within = omega (arith, within)
+    cases None within = some
 
 -- ---- the glyph of a character
 

@@ -1,5 +1,6 @@
 -- Public: what holds of every text, in the words of its lines, and of every file.
-use Rattle.std.specs.Prelude.{◌≡◌, ℕ, ◌+◌, ◌<◌, ◌≤◌, Bool, true, false, if◌then◌else◌, List, [], ◌∷◌, ◌++◌, length, slice_index_or, All, Any, Result, Ok, Err, ℤ, pos, ◌+ℤ◌}
+use Rattle.std.specs.Prelude.{◌≡◌, ℕ, ◌+◌, ◌<◌, ◌≤◌, Bool, true, false, if◌then◌else◌, List, [], ◌∷◌, ◌++◌, length, slice_index_or, All, Some, IsSome, Result, Ok, Err, ℤ, pos, ◌+ℤ◌}
+use Rattle.std.specs.List.{Any}
 use Rattle.ass_num.specs.declared.geometry.Point.{Point}
 use Rattle.ass_num.specs.declared.geometry.Matrix.{Matrix}
 use Rattle.outline_points.specs.Glyphs.{Bitmap, bitmap_quads, quad}
@@ -20,7 +21,8 @@ use Rattle.bdf_font.specs.Files.{IsFontFileAnswer}
 use Rattle.bdf_font.specs.Fonts.{FontValue, glyph_of, strikeout_top}
 use Rattle.bdf_font.specs.GlyphRings.{bitmap_of, rings_of_glyph}
 use Rattle.bdf_font.specs.Grammar.{IsFontAnswer, says, is_read, open_after, glyph_in, font_said}
-use Rattle.bdf_font.specs.Sets.{AreBitmapFonts, IsBitmapFont, font_chosen, font_named, has_full_name, is_of_family, no_font, placed_in, set_glyph_of, style_distance}
+use Rattle.bdf_font.specs.Limits.{max_fonts}
+use Rattle.bdf_font.specs.Sets.{AreBitmapFonts, IsBitmapFont, font_chosen, font_named, name_distance, no_font, placed_in, set_glyph_of}
 
 -- Each list of lines has exactly one answer.
 abbrev pub OneAnswer : Type 0
@@ -30,6 +32,10 @@ OneAnswer = (lines : List (List ℕ)) → (answer : Result FontValue FontRefusal
 abbrev pub OneFileAnswer : Type 0
 OneFileAnswer = (bytes : List ℕ) → (answer : Result (List FontValue) FontFileRefusal) × IsFontFileAnswer bytes answer
     × ((other : Result (List FontValue) FontFileRefusal) → IsFontFileAnswer bytes other → other ≡ answer)
+
+-- A file that isn't refused has from 1 to 64 fonts.
+abbrev pub FilesHaveFonts : Type 0
+FilesHaveFonts = (bytes : List ℕ) (fonts : List FontValue) → IsFontFileAnswer bytes (Ok fonts) → (0 < length fonts) × (length fonts ≤ max_fonts)
 
 -- What follows the end of a font changes nothing.
 abbrev pub EndsTheFont : Type 0
@@ -98,16 +104,15 @@ abbrev pub BitmapsKeepTheirGlyphs : Type 0
 BitmapsKeepTheirGlyphs = (fonts : List FontValue) → AreBitmapFonts fonts → (number c : ℕ) →
     set_glyph_of fonts number c ≡ placed_in number (glyph_of (slice_index_or fonts number no_font) c)
 
--- The font at a place is of this family, no other of the family is nearer to what is wanted, and none before it is as near.
+-- The font at a place answers to the name, none that does is nearer to what is asked for, and none before it is as near.
 pub record IsNearest (name : List ℕ) (bold italic : Bool) (fonts : List FontValue) (place : ℕ) : Type 0 where
   pub within : place < length fonts
-  pub of_family : is_of_family name (slice_index_or fonts place no_font) ≡ true
-  pub nearest : (other : ℕ) → other < length fonts → is_of_family name (slice_index_or fonts other no_font) ≡ true →
-      style_distance bold italic (slice_index_or fonts place no_font) ≤ style_distance bold italic (slice_index_or fonts other no_font)
-  pub first : (other : ℕ) → other < place → is_of_family name (slice_index_or fonts other no_font) ≡ true →
-      style_distance bold italic (slice_index_or fonts place no_font) < style_distance bold italic (slice_index_or fonts other no_font)
+  pub distance : ℕ
+  pub found : name_distance name bold italic (slice_index_or fonts place no_font) ≡ Some distance
+  pub nearest : (other far : ℕ) → other < length fonts → name_distance name bold italic (slice_index_or fonts other no_font) ≡ Some far → distance ≤ far
+  pub first : (other far : ℕ) → other < place → name_distance name bold italic (slice_index_or fonts other no_font) ≡ Some far → distance < far
 
--- Where no font has this full name, a family that the set has finds its nearest font.
-abbrev pub NearestOfFamilyIsFound : Type 0
-NearestOfFamilyIsFound = (fonts : List FontValue) (name : List ℕ) (bold italic : Bool) → All (λ font. has_full_name name font ≡ false) fonts →
-    Any (λ font. is_of_family name font ≡ true) fonts → IsNearest name bold italic fonts (font_chosen name bold italic fonts)
+-- A name to which a font of the set answers finds the nearest.
+abbrev pub NearestIsFound : Type 0
+NearestIsFound = (fonts : List FontValue) (name : List ℕ) (bold italic : Bool) →
+    Any (λ font. IsSome (name_distance name bold italic font)) fonts → IsNearest name bold italic fonts (font_chosen name bold italic fonts)

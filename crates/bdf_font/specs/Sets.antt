@@ -1,5 +1,5 @@
 -- Public: sets of fonts: which font a name finds, and which glyph a character.
-use Rattle.std.specs.Prelude.{◌≡◌, ℕ, ◌+◌, ◌<◌, Bool, true, false, ◌==◌, nat_lt, if◌then◌else◌, List, [], ◌∷◌, length, All, Option, Some, None, option_map, option_and_then, unwrap_or, slice_get, slice_index_or, pos}
+use Rattle.std.specs.Prelude.{◌≡◌, ℕ, ◌+◌, ◌<◌, Bool, true, false, ◌==◌, nat_lt, if◌then◌else◌, List, [], ◌∷◌, length, All, Option, Some, None, option_map, option_and_then, slice_get, slice_index_or, pos}
 use Rattle.std.specs.Int.{abs_diff}
 use Rattle.std.specs.List.{list_any}
 use Rattle.std.specs.Option.{option_map_or, option_or}
@@ -46,29 +46,32 @@ is_among name names = list_any (λ own. same_name own name) names
 abbrev pub has_full_name : List ℕ → FontValue → Bool
 has_full_name name font = is_among (asked_name name font) font.full_names
 
--- the place of the first font with this full name, where the first of the fonts has the place n
-abbrev pub full_named_from : List ℕ → ℕ → List FontValue → Option ℕ
-full_named_from name n [] = None
-full_named_from name n (font ∷ fonts) = if has_full_name name font then Some n else full_named_from name (n + 1) fonts
-
 -- whether it is of this family
 abbrev pub is_of_family : List ℕ → FontValue → Bool
 is_of_family name font = is_among (asked_name name font) font.families
 
--- how far the slant of a font is from the one that is wanted
-abbrev pub slant_distance : Bool → Bool → ℕ
-slant_distance true true = 0
-slant_distance false false = 0
-slant_distance slanted italic = 1000
+-- the slant of letters, in hundredths: of oblique letters, and the one that is wanted of italic ones
+abbrev pub slant_of : Bool → ℕ
+slant_of slanted = if slanted then 110 else 0
+
+abbrev pub wanted_slant : Bool → ℕ
+wanted_slant italic = if italic then 100 else 0
+
+abbrev pub wanted_weight : Bool → ℕ
+wanted_weight bold = if bold then bold_weight else regular_weight
 
 -- how far a font is from the weight and the slant that are wanted
 abbrev pub style_distance : Bool → Bool → FontValue → ℕ
-style_distance bold italic font = abs_diff font.weight (if bold then bold_weight else regular_weight) + slant_distance font.slanted italic
+style_distance bold italic font = abs_diff font.weight (wanted_weight bold) + abs_diff (slant_of font.slanted) (wanted_slant italic)
 
--- the font at a place, if it is of this family
+-- How far a font is from what is asked for: one of the family by its weight and its slant, any other with this full name not at all.
+abbrev pub name_distance : List ℕ → Bool → Bool → FontValue → Option ℕ
+name_distance name bold italic font =
+    if is_of_family name font then Some (style_distance bold italic font) else if has_full_name name font then Some 0 else None
+
+-- the font at a place, if it answers to the name
 abbrev pub candidate_at : List ℕ → Bool → Bool → ℕ → FontValue → Option Candidate
-candidate_at name bold italic n font =
-    if is_of_family name font then Some (record { place = n; distance = style_distance bold italic font }) else None
+candidate_at name bold italic n font = option_map (λ distance. record { place = n; distance = distance }) (name_distance name bold italic font)
 
 -- the nearer of two; of two as near as one another the first
 abbrev pub nearer : Option Candidate → Option Candidate → Option Candidate
@@ -76,20 +79,19 @@ nearer None second = second
 nearer first None = first
 nearer (Some first) (Some second) = if nat_lt second.distance first.distance then Some second else Some first
 
--- the nearest of the fonts of this family, where the first of the fonts has the place n
+-- the nearest of the fonts that answer to the name, where the first of the fonts has the place n
 abbrev pub nearest_from : List ℕ → Bool → Bool → ℕ → List FontValue → Option Candidate
 nearest_from name bold italic n [] = None
 nearest_from name bold italic n (font ∷ fonts) = nearer (candidate_at name bold italic n font) (nearest_from name bold italic (n + 1) fonts)
 
--- the place of the nearest font of a family; the first of those as near as one another
-abbrev pub nearest_of_family : List ℕ → Bool → Bool → List FontValue → Option ℕ
-nearest_of_family name bold italic fonts = option_map (λ candidate. candidate.place) (nearest_from name bold italic 0 fonts)
+-- the place of a candidate; 0 where there is none
+abbrev pub candidate_place : Option Candidate → ℕ
+candidate_place None = 0
+candidate_place (Some candidate) = candidate.place
 
--- The place of the font that a name finds, bold or not and italic or not: of the first font with this full name, or else
--- of the nearest font of this family, or else 0.
+-- The place of the font that a name finds, bold or not and italic or not: of the nearest that answers to it, the first of those as near as one another, or else 0.
 abbrev pub font_chosen : List ℕ → Bool → Bool → List FontValue → ℕ
-font_chosen name bold italic fonts =
-    unwrap_or (option_or (full_named_from name 0 fonts) (nearest_of_family name bold italic fonts)) 0
+font_chosen name bold italic fonts = candidate_place (nearest_from name bold italic 0 fonts)
 
 -- ---- the glyph of a character
 

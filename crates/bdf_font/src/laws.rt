@@ -1,15 +1,16 @@
 //! What holds of every text and every file: the theorems above the definitions of `read_font`, `read_fonts`,
 //! `find_font` and `set_glyph`.
 
-ghost use Rattle.bdf_font.specs.Laws.{OneAnswer, OneFileAnswer, EndsTheFont, IsFirstFault, StaysRefused};
+ghost use Rattle.bdf_font.specs.Laws.{OneAnswer, OneFileAnswer, FilesHaveFonts, EndsTheFont, IsFirstFault, StaysRefused};
 ghost use Rattle.bdf_font.specs.Laws.{LaterFontLineCounts, LaterPropertyCounts, LaterGlyphLineCounts, BitmapRingsStay};
-ghost use Rattle.bdf_font.specs.Laws.{LinesSpellBitmapFonts, BitmapsAreFoundByName, BitmapsKeepTheirGlyphs, NearestOfFamilyIsFound};
+ghost use Rattle.bdf_font.specs.Laws.{LinesSpellBitmapFonts, BitmapsAreFoundByName, BitmapsKeepTheirGlyphs, NearestIsFound};
 
 /// Each text is exactly one of three: a font, refused at one line for one cause, or of too many glyphs; and what follows the font isn't read.
-/// So each file has exactly one answer.
+/// So each file has exactly one answer, and from 1 to 64 fonts where it isn't refused.
 pub fn one_answer()
     ensures one { OneAnswer }
     ensures files { OneFileAnswer }
+    ensures fonts { FilesHaveFonts }
     ensures ends { EndsTheFont }
 {}
 
@@ -40,8 +41,8 @@ pub fn bitmaps_stay_found()
     ensures glyphs { BitmapsKeepTheirGlyphs }
 {}
 
-/// Where no font has the name as a full one, and the set has the family, the font that is found is of the family, none of
-/// it is nearer to what is wanted, and none before it is as near.
+/// Where a font of the set answers to the name, the font that is found does, none that does is nearer to what is asked
+/// for, and none before it is as near.
 pub fn nearest_is_found()
-    ensures { NearestOfFamilyIsFound }
+    ensures { NearestIsFound }
 {}

@@ -2,8 +2,8 @@
 
 ghost use Rattle.std.specs.Prelude.{◌≡◌, ◌<◌, ◌≤◌, length, IfSome};
 ghost use Rattle.bdf_font.specs.Limits.{max_fonts};
-ghost use Rattle.bdf_font.specs.Sets.{candidate_at, font_chosen, full_named_from, glyph_elsewhere, has_outlines, mapped_from, mapped_place, nearer};
-ghost use Rattle.bdf_font.specs.Sets.{IsGlyphPlaceIn, nearest_of_family, placed_in, set_glyph_of, slant_distance, style_distance};
+ghost use Rattle.bdf_font.specs.Sets.{candidate_at, font_chosen, glyph_elsewhere, has_outlines, mapped_from, mapped_place, name_distance, nearer};
+ghost use Rattle.bdf_font.specs.Sets.{IsGlyphPlaceIn, nearest_from, placed_in, set_glyph_of, style_distance};
 
 use crate::font::{Font, REGULAR, glyph};
 use ass_num::Items;
@@ -11,8 +11,11 @@ use ass_num::Items;
 /// The weight of bold letters.
 const BOLD: u16 = 700;
 
-/// How far letters that slant are from upright ones.
-const SLANT: u32 = 1000;
+/// The slant of oblique letters.
+const OBLIQUE: u16 = 110;
+
+/// The slant that is wanted of italic letters.
+const ITALIC: u16 = 100;
 
 /// Fonts, of which there are from 1 to 64.
 #[derive(Debug, Drop)]
@@ -20,7 +23,7 @@ pub struct FontSet {
     pub fonts: Items<Font>,
 }
 
-/// A font of a family: its place, and how far it is from the weight and the slant that are wanted.
+/// A font that answers to a name: its place, and how far it is from what is asked for.
 #[derive(Clone, Copy, Debug)]
 pub struct Candidate {
     pub place: u32,
@@ -34,45 +37,35 @@ pub struct GlyphPlace {
     pub glyph: u32,
 }
 
-/// The place of the first font with this full name.
-fn full_named(set: &FontSet, name: &str) -> Option<u32>
-    requires { length set.now.fonts ≤ max_fonts }
-    ensures { result ≡ full_named_from name.now 0 set.now.fonts }
-{
-    for (place, font) in set.fonts.as_slice().iter().enumerate() {
-        if font.has_full_name(name) {
-            return Some(place as u32);
-        }
-    }
-    None
-}
-
-/// How far the slant of a font is from the one that is wanted.
-fn slant_distance(slanted: bool, italic: bool) -> u32
-    ensures { result ≡ slant_distance slanted italic }
-{
-    if slanted == italic { 0 } else { SLANT }
-}
-
 /// How far a font is from the weight and the slant that are wanted.
 fn style_distance(bold: bool, italic: bool, font: &Font) -> u32
     ensures { result ≡ style_distance bold italic font.now }
 {
-    let weight = if bold { BOLD } else { REGULAR };
-    u32::from(font.weight().abs_diff(weight)) + slant_distance(font.is_slanted(), italic)
+    let weight: u16 = if bold { BOLD } else { REGULAR };
+    let slant: u16 = if font.is_slanted() { OBLIQUE } else { 0 };
+    let wanted: u16 = if italic { ITALIC } else { 0 };
+    u32::from(font.weight().abs_diff(weight)) + u32::from(slant.abs_diff(wanted))
 }
 
-/// The font at a place, if it is of this family.
+/// How far a font is from what is asked for: one of the family by its weight and its slant, any other with this full
+/// name not at all.
+fn name_distance(name: &str, bold: bool, italic: bool, font: &Font) -> Option<u32>
+    ensures { result ≡ name_distance name.now bold italic font.now }
+{
+    if font.is_of_family(name) {
+        return Some(style_distance(bold, italic, font));
+    }
+    if font.has_full_name(name) { Some(0) } else { None }
+}
+
+/// The font at a place, if it answers to the name.
 fn candidate_at(name: &str, bold: bool, italic: bool, place: u32, font: &Font) -> Option<Candidate>
     ensures { result ≡ candidate_at name.now bold italic place font.now }
 {
-    if font.is_of_family(name) {
-        return Some(Candidate {
-            place,
-            distance: style_distance(bold, italic, font),
-        });
+    match name_distance(name, bold, italic, font) {
+        Some(distance) => Some(Candidate { place, distance }),
+        None => None,
     }
-    None
 }
 
 /// The nearer of two; of two as near as one another the first.
@@ -92,32 +85,29 @@ fn nearer(first: Option<Candidate>, second: Option<Candidate>) -> Option<Candida
     }
 }
 
-/// The place of the font of a family that is nearest to what is wanted; the first of those as near as one another.
-fn nearest_of_family(set: &FontSet, name: &str, bold: bool, italic: bool) -> Option<u32>
+/// The nearest of the fonts that answer to a name.
+fn nearest(set: &FontSet, name: &str, bold: bool, italic: bool) -> Option<Candidate>
     requires { length set.now.fonts ≤ max_fonts }
-    ensures { result ≡ nearest_of_family name.now bold italic set.now.fonts }
+    ensures { result ≡ nearest_from name.now bold italic 0 set.now.fonts }
 {
-    let mut nearest = None;
+    let mut best = None;
     for (place, font) in set.fonts.as_slice().iter().enumerate() {
-        nearest = nearer(nearest, candidate_at(name, bold, italic, place as u32, font));
+        best = nearer(best, candidate_at(name, bold, italic, place as u32, font));
     }
-    match nearest {
-        Some(candidate) => Some(candidate.place),
-        None => None,
-    }
+    best
 }
 
-/// The place of the font that a name finds, without regard to ASCII case: of the first with this full name, or else of
-/// the font of this family whose weight and slant are nearest to what is wanted, or else 0. A leading `@`, which asks for
-/// vertical writing, is passed over by TrueType fonts.
+/// The place of the font that a name finds, without regard to ASCII case: of those of the family the one whose weight and
+/// slant are nearest to what is wanted, the first of those as near as one another, where one with this full name alone is
+/// as near as can be; or else 0. A leading `@`, which asks for vertical writing, is passed over by TrueType fonts.
 pub fn find_font(set: &FontSet, name: &str, bold: bool, italic: bool) -> u32
     requires { length set.now.fonts ≤ max_fonts }
     ensures place { result ≡ font_chosen name.now bold italic set.now.fonts }
     ensures within { 0 < length set.now.fonts → result < length set.now.fonts }
 {
-    match full_named(set, name) {
-        Some(place) => place,
-        None => nearest_of_family(set, name, bold, italic).unwrap_or(0),
+    match nearest(set, name, bold, italic) {
+        Some(candidate) => candidate.place,
+        None => 0,
     }
 }
 
