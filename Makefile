@@ -3,7 +3,7 @@
 #   make install [PREFIX=/usr/local] [LIBDIR=$(PREFIX)/lib] [DESTDIR=]
 #   make uninstall, with the same words
 #
-# It takes a shell, and python3 for the manual page.
+# It takes a shell, and python3 for the manual pages.
 
 PREFIX = /usr/local
 BINDIR = $(PREFIX)/bin
@@ -30,7 +30,7 @@ install:
 	@grep -qx "code $$(./vimalorua --sum)" release/SOURCES || \
 	    { echo 'release/ is missing or of other sources: tools/release make makes it' >&2; exit 1; }
 	cd release && sha256sum --check --quiet SHA256SUMS
-	install -d $(bin) $(lib)/vimalorua $(lib)/pkgconfig $(include) $(data)/man/man1
+	install -d $(bin) $(lib)/vimalorua $(lib)/pkgconfig $(include) $(data)/man/man1 $(data)/man/man3
 	install -d $(data)/bash-completion/completions $(data)/doc/vimalorua/examples
 	install -m 755 release/vimalorua $(lib)/vimalorua/vimalorua
 	sed -e 's|^installed=.*|installed=$(LIBDIR)/vimalorua/vimalorua|' -e 's|^version=.*|version=$(VERSION)|' \
@@ -42,6 +42,9 @@ install:
 	sed -e 's|@PREFIX@|$(PREFIX)|' -e 's|@LIBDIR@|$(LIBDIR)|' -e 's|@INCLUDEDIR@|$(INCLUDEDIR)|' \
 	    -e 's|@VERSION@|$(VERSION)|' packaging/vimalorua.pc.in > $(lib)/pkgconfig/vimalorua.pc
 	python3 packaging/manual.py | gzip -9n > $(data)/man/man1/vimalorua.1.gz
+	python3 packaging/library_manual.py | gzip -9n > $(data)/man/man3/vimalorua.3.gz
+	for name in $$(python3 packaging/library_manual.py --names); do \
+	    ln -sf vimalorua.3.gz $(data)/man/man3/$$name.3.gz || exit 1; done
 	install -m 644 packaging/vimalorua.bash $(data)/bash-completion/completions/vimalorua
 	install -m 644 $(DOCS) $(data)/doc/vimalorua
 	install -m 644 $(EXAMPLES) $(data)/doc/vimalorua/examples
@@ -51,6 +54,7 @@ uninstall:
 	rm -rf $(lib)/vimalorua $(data)/doc/vimalorua
 	rm -f $(bin)/vimalorua $(include)/vimalorua.h $(lib)/libvimalorua.a $(lib)/libvimalorua.so
 	rm -f $(lib)/libvimalorua.so.$(INTERFACE) $(lib)/pkgconfig/vimalorua.pc $(data)/man/man1/vimalorua.1.gz
+	rm -f $(data)/man/man3/vimalorua.3.gz $(data)/man/man3/vimalorua_*.3.gz
 	rm -f $(data)/bash-completion/completions/vimalorua
 	[ -n '$(DESTDIR)' ] || [ "$$(id -u)" -ne 0 ] || PATH="$$PATH:/usr/sbin:/sbin" ldconfig
 

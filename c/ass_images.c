@@ -37,7 +37,7 @@ static int32_t make_room(ass_images *images, size_t count, size_t bytes) {
 static void make_nodes(ass_images *images, size_t count) {
     for (size_t i = 0; i < count; i++) {
         const vimalorua_image *from = &images->numbers[i];
-        ASS_Image *node = &images->nodes[i];
+        vimalorua_node *node = &images->nodes[i];
         node->w = (int)from->w;
         node->h = (int)from->h;
         node->stride = (int)from->w;
@@ -46,7 +46,7 @@ static void make_nodes(ass_images *images, size_t count) {
         node->dst_x = from->x;
         node->dst_y = from->y;
         node->next = i + 1 < count ? node + 1 : NULL;
-        node->type = IMAGE_TYPE_CHARACTER;
+        node->type = 0;
     }
 }
 
@@ -61,7 +61,7 @@ static int32_t copy_list(vimalorua *handle, ass_images *images, size_t count, si
 }
 
 int32_t ass_images_render_in(vimalorua *handle, ass_images *images, int64_t ms, const vimalorua_view *view,
-                             int32_t *change, ASS_Image **list) {
+                             int32_t *change, vimalorua_node **list) {
     size_t count = 0, bytes = 0;
     int32_t listed = VIMALORUA_OTHER_LIST;
     int missed = images->missed, has_nodes = images->nodes != NULL && !missed;
@@ -82,7 +82,7 @@ int32_t ass_images_render_in(vimalorua *handle, ass_images *images, int64_t ms, 
 }
 
 int32_t ass_images_render(vimalorua *handle, ass_images *images, int64_t ms, uint32_t w, uint32_t h, int32_t *change,
-                          ASS_Image **list) {
+                          vimalorua_node **list) {
     vimalorua_view view = {.size = sizeof view, .w = w, .h = h};
     return ass_images_render_in(handle, images, ms, &view, change, list);
 }

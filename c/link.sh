@@ -33,13 +33,13 @@ void free(void *block);
 LINES
 
 cd "$room"
-for name in rattle_heap close views; do
+for name in rattle_heap vimalorua; do
     "$kit/bin/clang" --no-default-config --target=x86_64-unknown-linux-gnu -march=x86-64 -nostdinc -isystem include \
-        -std=c11 -O2 -fPIC -Wall -Wextra -Werror -c -o "vimalorua_$name.o" -x c - -I"$here" < "$here/$name.c"
+        -std=c11 -O2 -fPIC -Wall -Wextra -Werror -c -o "$name.o" -x c - -I"$here" < "$here/$name.c"
 done
 cp "$proved" libvimalorua.a
 chmod 644 libvimalorua.a
-"$kit/bin/llvm-ar" rsD libvimalorua.a vimalorua_rattle_heap.o vimalorua_close.o vimalorua_views.o
+"$kit/bin/llvm-ar" rsD libvimalorua.a rattle_heap.o vimalorua.o
 "$kit/bin/ld.lld" -shared -soname libvimalorua.so.1 --version-script "$here/vimalorua.map" -z defs -z relro -z now \
     -z noexecstack --gc-sections --build-id=none -o libvimalorua.so.1 \
     --whole-archive libvimalorua.a --no-whole-archive "$kit/lib/libgcc.a" "$kit/lib/libc.so.6"

@@ -1,7 +1,8 @@
 #!/usr/bin/env bash
 # Tests the library from C: the demo's frames beside those of `./vimalorua frame`, pictures beside their lists, by one
 # thread and by four in turn, every status, and every call for memory refused; plainly, and under the sanitizers where
-# the compiler has them. Then the shared library beside the archive, and what both show of names.
+# the compiler has them. Then the shared library beside the archive, what both show of names, the headers in each C and
+# C++, and the library from Python and Rust.
 #
 #   c/test.sh [ARCHIVE]     without it release/libvimalorua.a
 #
@@ -72,8 +73,8 @@ archive_alone() {
         printf 'test.sh: other names in the archive:\n%s\n' "$others" >&2
         return 1
     fi
-    sed -n 's/^\(u*int32_t\|void\) \(vimalorua_[a-z0-9_]*\)(.*/\2/p' "$here/vimalorua.h" | sort > "$work/declared"
-    nm -g "$archive" | awk '$2 == "T" && $3 ~ /^vimalorua_/ && $3 !~ /_shut$|_by_numbers$/ { print $3 }' | sort > "$work/given"
+    sed -n 's/^[a-z].*[ *]\(vimalorua_[a-z0-9_]*\)(.*/\1/p' "$here/vimalorua.h" | sort > "$work/declared"
+    nm -g "$archive" | awk '$2 == "T" && $3 ~ /^vimalorua_/ && $3 !~ /_shut$|_by_numbers$|_proved$/ { print $3 }' | sort > "$work/given"
     diff "$work/declared" "$work/given"
 }
 
@@ -81,8 +82,8 @@ archive_alone() {
 # and needs the C library alone. The demo with it draws as with the archive.
 shared_alone() {
     nm -D --defined-only "$shared" | awk '$2 != "A" { sub(/@.*/, "", $3); print $3 }' | sort | diff "$work/declared" -
-    nm -D --defined-only "$shared" | sed -n 's/.* \(vimalorua_.*\)@@VIMALORUA_1.2$/\1/p' | sort > "$work/later"
-    printf '%s\n' vimalorua_draw_in vimalorua_images_in | diff - "$work/later"
+    nm -D --defined-only "$shared" | sed -n 's/.* vimalorua_\(.*\)@@VIMALORUA_\(1[.].*\)$/\2 \1/p' | sort > "$work/later"
+    printf '%s\n' '1.2 draw_in' '1.2 images_in' '1.3 status_text' | diff - "$work/later"
     readelf -d "$shared" | sed -n 's/.*(\(SONAME\|NEEDED\)).*\[\(.*\)\]/\1 \2/p' | sort > "$work/needs"
     printf 'NEEDED libc.so.6\nSONAME libvimalorua.so.1\n' | diff - "$work/needs"
     (cd "$work/plain" && "$cc" -o shared demo.o files.o "$shared" "-Wl,-rpath,${shared%/*}")
@@ -164,6 +165,53 @@ END
     )
 }
 
+# The headers alone in every C and C++, and beside libass's in either order: that of the machine, where it is there, and
+# what it declares of nodes.
+headers() {
+    local words order
+    mkdir -p "$work/libass/ass"
+    cat > "$work/libass/ass/ass.h" << 'END'
+#ifndef LIBASS_ASS_H
+#define LIBASS_ASS_H
+#include <stdint.h>
+typedef struct ass_image {
+    int w, h;
+    int stride;
+    unsigned char *bitmap;
+    uint32_t color;
+    int dst_x, dst_y;
+    struct ass_image *next;
+    enum { IMAGE_TYPE_CHARACTER, IMAGE_TYPE_OUTLINE, IMAGE_TYPE_SHADOW } type;
+} ASS_Image;
+#endif
+END
+    for words in "$cc -x c -std=c89" "$cc -x c -std=c99" "$cc -x c -std=c11" "$@"; do
+        echo '#include "vimalorua.h"' > "$work/header.c"
+        # shellcheck disable=SC2086
+        $words -Wall -Wextra -Wpadded -Werror -pedantic -I"$here" -c -o "$work/header.o" "$work/header.c"
+        for order in '<ass/ass.h> "ass_images.h"' '"ass_images.h" <ass/ass.h>'; do
+            # shellcheck disable=SC2086
+            printf '#include %s\n' $order > "$work/header.c"
+            printf 'int is_node(const vimalorua_node *a, const ASS_Image *b);\n' >> "$work/header.c"
+            printf 'int is_node(const vimalorua_node *a, const ASS_Image *b) { return sizeof *a == sizeof *b; }\n' >> "$work/header.c"
+            # shellcheck disable=SC2086
+            $words -Wall -Wextra -Werror -pedantic -I"$here" -isystem "$work/libass" -c -o "$work/header.o" "$work/header.c"
+            # shellcheck disable=SC2086
+            if echo '#include <ass/ass.h>' | $words -E - > "$work/log" 2>&1; then
+                $words -Wall -Wextra -Werror -I"$here" -c -o "$work/header.o" "$work/header.c"
+            fi
+        done
+    done
+}
+
+# The shared library from another language: its picture is the demo's.
+from_other() { # NAME WORDS..
+    local at=(2500 320x180 "$top/examples/dialogue.ass" "$top/examples/letters.ttf")
+    "${@:2}" "${at[@]}" > "$work/other.ppm"
+    "$work/plain/demo" 2500 2501 1 "${at[@]:1}" | cmp - "$work/other.ppm"
+    echo "test.sh: $1 passed"
+}
+
 # The header from C++, in a program that is linked.
 from_cxx() {
     cat > "$work/calls.cc" << 'END'
@@ -201,7 +249,25 @@ shared_alone
 echo 'test.sh: the shared library passed'
 from_page
 echo 'test.sh: the lines and commands of docs/EMBEDDING-C.md passed'
-if command -v "${CXX:-c++}" > "$work/log"; then
-    from_cxx "${CXX:-c++}"
+cxx=${CXX:-c++}
+if command -v "$cxx" > "$work/log"; then
+    from_cxx "$cxx"
     echo 'test.sh: C++ passed'
+    headers "$cxx -x c++ -std=c++98" "$cxx -x c++ -std=c++17"
+else
+    echo 'test.sh: there is no C++ here, so C++ is left out' >&2
+    headers
+fi
+echo 'test.sh: the headers passed'
+if python3 -c 'import ctypes' 2> "$work/log"; then
+    from_other Python python3 "$here/tests/client.py" "$shared"
+else
+    echo 'test.sh: there is no ctypes here, so Python is left out' >&2
+fi
+if command -v rustc > "$work/log"; then
+    ln -s "$shared" "$work/libvimalorua.so"
+    rustc --edition 2021 -D warnings -L "$work" -C link-arg="-Wl,-rpath,${shared%/*}" -o "$work/client" "$here/tests/client.rs"
+    from_other Rust "$work/client"
+else
+    echo 'test.sh: there is no rustc here, so Rust is left out' >&2
 fi

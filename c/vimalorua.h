@@ -12,9 +12,9 @@
  * a lock, a thread's start or join, or a sequentially consistent atomic orders its calls. After vimalorua_close it is
  * gone.
  *
- * No pointer is null, not even one to 0 items, but that vimalorua_close takes a null handle. Each is aligned for its
- * type. A pointer with a length behind it has that many items. What a call writes overlaps nothing else that it is
- * given.
+ * A pointer with a length behind it has that many items, and may be null where that is 0. No other pointer is null, but
+ * that vimalorua_close takes a null handle. Each is aligned for its type. What a call writes overlaps nothing else that
+ * it is given.
  *
  * malloc, realloc and free, which the library calls, are one allocator, and align a block to each power of two up to
  * 16 that divides its size. No call is made from a signal handler, nor in the forked child of a process with threads.
@@ -34,17 +34,17 @@ extern "C" {
  * vimalorua_version tells that of the library. */
 #define VIMALORUA_VERSION 1
 
-/* Compilers warn of null pointers then, and the sanitizer of undefined behaviour finds them. */
+/* Compilers warn of null pointers at these places then, and the sanitizer of undefined behaviour finds them. */
 #if defined(__GNUC__) || defined(__clang__)
-#define VIMALORUA_NO_NULLS __attribute__((nonnull))
+#define VIMALORUA_NO_NULLS(places) __attribute__((nonnull places))
 #else
-#define VIMALORUA_NO_NULLS
+#define VIMALORUA_NO_NULLS(places)
 #endif
 
 /* Statuses. Where one tells a place, it stands beside it; where it tells none, a call that has a place writes 0. */
 enum {
     VIMALORUA_DONE = 0,
-    VIMALORUA_NOT_UTF8 = 1,      /* *place: how many bytes the longest front has that is UTF-8 */
+    VIMALORUA_NOT_UTF8 = 1,      /* *place: how many bytes the longest prefix has that is UTF-8 */
     VIMALORUA_NO_EVENTS = 2,     /* no line is the heading [Events] */
     VIMALORUA_MANY_LINES = 3,    /* *place: the most Dialogue lines, 1,000,000 */
     VIMALORUA_MANY_STYLES = 4,   /* *place: the most styles, 10,000 */
@@ -76,7 +76,7 @@ enum {
     VIMALORUA_MARGIN_V = 10,
     VIMALORUA_EFFECT = 11,
     VIMALORUA_TEXT = 12,
-    VIMALORUA_UTF8 = 13, /* not UTF-8; *place is how many bytes the longest front has that is */
+    VIMALORUA_UTF8 = 13, /* not UTF-8; *place is how many bytes the longest prefix has that is */
     VIMALORUA_OTHER = 14
 };
 
@@ -96,6 +96,7 @@ typedef struct vimalorua_image {
     int32_t x, y;
     uint32_t w, h;
     uint8_t r, g, b, a;
+    uint32_t unused; /* 0 */
     size_t at;
 } vimalorua_image;
 
@@ -126,13 +127,17 @@ typedef struct vimalorua_view {
 /* The library's number: it is that of its header. It takes no memory. */
 uint32_t vimalorua_version(void);
 
+/* A status in a few English words, in small letters and without a stop: "out of memory". It is a text of the library's,
+ * which stays, and is never null: of another number it says that. It takes no memory. It came with version 1.3. */
+const char *vimalorua_status_text(int32_t status);
+
 /* Opens a handle, *out, of the bytes of a script (at most 67,108,864), with a budget in bytes for each of its three
  * caches (at most 2^40). It has no font yet, and no event: see vimalorua_feed_lines.
  *
  * DONE: *out is the caller's to close. NOT_UTF8, NO_EVENTS, MANY_LINES, MANY_STYLES, OUT_OF_MEMORY, BAD_CALL: *out
  * stays. */
 int32_t vimalorua_open(const uint8_t *script, size_t script_len, uint64_t budget, vimalorua **out,
-                       size_t *place) VIMALORUA_NO_NULLS;
+                       size_t *place) VIMALORUA_NO_NULLS((4, 5));
 
 /* Adds a font from the bytes of a file (at most 67,108,864), BDF or TrueType, behind the others, of which there are at
  * most 63. Of a collection the first face is added. Texts in a style whose font isn't there are shown in font 0. What
@@ -140,14 +145,15 @@ int32_t vimalorua_open(const uint8_t *script, size_t script_len, uint64_t budget
  *
  * DONE: *place is the font's number, from 0. BAD_FONT, LARGE_FONT, MANY_FONTS, OUT_OF_MEMORY, BAD_CALL, CLOSED:
  * nothing changes. */
-int32_t vimalorua_add_font(vimalorua *handle, const uint8_t *font, size_t font_len, size_t *place) VIMALORUA_NO_NULLS;
+int32_t vimalorua_add_font(vimalorua *handle, const uint8_t *font, size_t font_len,
+                           size_t *place) VIMALORUA_NO_NULLS((1, 4));
 
 /* Offers the events of the script's own Dialogue lines, each with the place of its line, from 0, as its ReadOrder.
  * Lines that give no event are passed over, and so are events that vimalorua_feed would answer by REPEATED or FULL.
  *
  * DONE: *place is how many entries the track's history has then. OUT_OF_MEMORY: some events were offered, from the
  * first on; *place may be that number or 0; the call may be made again, and offers the others. CLOSED. */
-int32_t vimalorua_feed_lines(vimalorua *handle, size_t *place) VIMALORUA_NO_NULLS;
+int32_t vimalorua_feed_lines(vimalorua *handle, size_t *place) VIMALORUA_NO_NULLS((1, 2));
 
 /* Offers the event of a chunk, ReadOrder,Layer,Style,Name,MarginL,MarginR,MarginV,Effect,Text (at most 134,217,728
  * bytes), shown from `start` on for `duration`, each from 0 to 4 * 10^12 milliseconds.
@@ -155,24 +161,24 @@ int32_t vimalorua_feed_lines(vimalorua *handle, size_t *place) VIMALORUA_NO_NULL
  * DONE: the event is live; *place is its entry in the track's history, from 0. REPEATED, MALFORMED, FULL,
  * OUT_OF_MEMORY, BAD_CALL, CLOSED: nothing changes. *field is 0 but for MALFORMED. */
 int32_t vimalorua_feed(vimalorua *handle, const uint8_t *chunk, size_t chunk_len, int64_t start, int64_t duration,
-                       uint32_t *field, size_t *place) VIMALORUA_NO_NULLS;
+                       uint32_t *field, size_t *place) VIMALORUA_NO_NULLS((1, 6, 7));
 
 /* Drops all live events, as a player does before it seeks.
  *
  * DONE: *place is the flush's entry in the track's history. MANY_FLUSHES, OUT_OF_MEMORY, CLOSED: nothing changes. */
-int32_t vimalorua_flush(vimalorua *handle, size_t *place) VIMALORUA_NO_NULLS;
+int32_t vimalorua_flush(vimalorua *handle, size_t *place) VIMALORUA_NO_NULLS((1, 2));
 
 /* Gives each cache a budget in bytes (at most 2^40). Pictures are the same for each.
  *
  * DONE. OUT_OF_MEMORY, BAD_CALL, CLOSED: nothing changes. */
-int32_t vimalorua_set_budget(vimalorua *handle, uint64_t budget) VIMALORUA_NO_NULLS;
+int32_t vimalorua_set_budget(vimalorua *handle, uint64_t budget) VIMALORUA_NO_NULLS((1));
 
 /* Draws what is shown at `ms` milliseconds (within 4 * 10^12 of 0) on a black frame of w by h pixels (at most 4,096
  * each) into just 3 * w * h bytes: red, green and blue of each pixel, row by row.
  *
  * DONE. NO_FONT, OUT_OF_MEMORY, BAD_CALL, CLOSED: the bytes stay. */
 int32_t vimalorua_draw(vimalorua *handle, int64_t ms, uint32_t w, uint32_t h, uint8_t *out,
-                       size_t out_len) VIMALORUA_NO_NULLS;
+                       size_t out_len) VIMALORUA_NO_NULLS((1));
 
 /* Lists what is shown at `ms` milliseconds in a frame of w by h pixels as images of one colour each, the lowest first,
  * and keeps the list for vimalorua_copy_images. Instants and sizes are those of vimalorua_draw. Blended in order onto
@@ -184,23 +190,23 @@ int32_t vimalorua_draw(vimalorua *handle, int64_t ms, uint32_t w, uint32_t h, ui
  * many images it has, and *bytes how many bytes their masks have together. NO_FONT, OUT_OF_MEMORY, BAD_CALL, CLOSED:
  * the list that was kept stays, and *change, *count and *bytes tell nothing. */
 int32_t vimalorua_images(vimalorua *handle, int64_t ms, uint32_t w, uint32_t h, int32_t *change, size_t *count,
-                         size_t *bytes) VIMALORUA_NO_NULLS;
+                         size_t *bytes) VIMALORUA_NO_NULLS((1, 5, 6, 7));
 
 /* The same two in a frame as the script sees it, so that text isn't stretched where the video's shape isn't that of the
  * script's canvas: a script that was made of SRT has a canvas of 384 by 288. A view that is out of its limits, or that
  * says more than the library knows, is a BAD_CALL. They came with version 1.2. */
 int32_t vimalorua_draw_in(vimalorua *handle, int64_t ms, const vimalorua_view *view, uint8_t *out,
-                          size_t out_len) VIMALORUA_NO_NULLS;
+                          size_t out_len) VIMALORUA_NO_NULLS((1, 3));
 int32_t vimalorua_images_in(vimalorua *handle, int64_t ms, const vimalorua_view *view, int32_t *change, size_t *count,
-                            size_t *bytes) VIMALORUA_NO_NULLS;
+                            size_t *bytes) VIMALORUA_NO_NULLS((1, 3, 4, 5, 6));
 
 /* Copies the list that is kept into just as many images, and just as many bytes for their masks, one image's behind the
- * other's, as vimalorua_images told. It may be copied again: only a vimalorua_images or
- * vimalorua_images_in that is DONE changes it.
+ * other's, as vimalorua_images told. It may be copied again: only a vimalorua_images or vimalorua_images_in that is
+ * DONE changes it.
  *
  * DONE. OUT_OF_MEMORY, BAD_CALL, CLOSED: what the pointers have stays. */
 int32_t vimalorua_copy_images(vimalorua *handle, vimalorua_image *images, size_t count, uint8_t *masks,
-                              size_t bytes) VIMALORUA_NO_NULLS;
+                              size_t bytes) VIMALORUA_NO_NULLS((1));
 
 /* Frees a handle. Of a null one it does nothing. */
 void vimalorua_close(vimalorua *handle);

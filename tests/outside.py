@@ -123,6 +123,8 @@ def install(score, given):
         completion(score, f"{room}/usr/share/bash-completion/completions/vimalorua")
         page = ran(["gzip", "-cd", f"{room}/usr/share/man/man1/vimalorua.1.gz"], room).stdout
         score.check(".SH EXIT STATUS" in page and ".SH SYNOPSIS" in page, "the manual page has no statuses or no synopsis")
+        page = ran(["gzip", "-cd", f"{room}/usr/share/man/man3/vimalorua_open.3.gz"], room).stdout
+        score.check(".SH FUNCTIONS" in page and "\nint32_t vimalorua_open(" not in page, "the library's manual page has no calls")
         built_with(score, given, f"{room}/usr")
         done = ran([*words, "uninstall"], given.top, env={**env, "PATH": os.environ["PATH"]})
         left = [name for _, _, names in os.walk(f"{room}/usr") for name in names]
@@ -141,6 +143,10 @@ def built_with(score, given, prefix):
     """A program in C by what was installed, with the archive and with the shared library."""
     pc = read(f"{prefix}/lib/pkgconfig/vimalorua.pc")
     flags = [it.replace("${libdir}", f"{prefix}/lib").replace("${includedir}", f"{prefix}/include") for it in re.findall(r"-[IlL]\S+", pc)]
+    if shutil.which("pkg-config"):
+        env = {**os.environ, "PKG_CONFIG_PATH": f"{prefix}/lib/pkgconfig", "PKG_CONFIG_ALLOW_SYSTEM_CFLAGS": "1", "PKG_CONFIG_ALLOW_SYSTEM_LIBS": "1"}
+        said = ran(["pkg-config", "--cflags", "--libs", "vimalorua"], "/", env=env).stdout.split()
+        score.check(sorted(said) == sorted(flags), f"pkg-config says {said}, and the file {flags}")
     doc = f"{prefix}/share/doc/vimalorua/examples"
     cc = os.environ.get("CC", "cc")
     wanted = ran([given.program, "frame", "--at", "2000", "--size", "64x36", "hello.ass", "letter.bdf"], doc).stdout

@@ -66,6 +66,7 @@ static void opening(void) {
     WANT(vimalorua_version(), VIMALORUA_VERSION);
     WANT(vimalorua_open(BYTES("[Events]\n\xff"), 0, &handle, &place), VIMALORUA_NOT_UTF8);
     WANT(place, 9);
+    WANT(vimalorua_open(NULL, 0, 0, &handle, &place), VIMALORUA_NO_EVENTS);
     WANT(vimalorua_open(BYTES("nothing"), 0, &handle, &place), VIMALORUA_NO_EVENTS);
     WANT(place, 0);
     WANT(vimalorua_open(BYTES(script), (UINT64_C(1) << 40) + 1, &handle, &place), VIMALORUA_BAD_CALL);
@@ -84,6 +85,8 @@ static void adding_fonts(void) {
     uint8_t *large = zeros(67108865);
     WANT(vimalorua_add_font(handle, BYTES("STARTFONT 2.1\nFONT x\nBITMAP\n"), &place), VIMALORUA_BAD_FONT);
     WANT(place, 3);
+    WANT(vimalorua_add_font(handle, NULL, 0, &place), VIMALORUA_BAD_FONT);
+    WANT(place, 1);
     WANT(vimalorua_add_font(handle, large, 67108865, &place), VIMALORUA_BAD_CALL);
     WANT(place, 0);
     free(large);
@@ -125,6 +128,9 @@ static void feeding(void) {
     WANT(vimalorua_feed(handle, BYTES(chunk), 1000, 1000, &field, &place), VIMALORUA_REPEATED);
     WANT(field, 0);
     WANT(place, 1);
+    WANT(vimalorua_feed(handle, NULL, 0, 0, 1, &field, &place), VIMALORUA_MALFORMED);
+    WANT(field, VIMALORUA_READ_ORDER);
+    WANT(place, 0);
     refused_feed(handle, "x,0,Default,,0,0,0,,a", 0, 1, VIMALORUA_READ_ORDER, 0);
     refused_feed(handle, "8,x,Default,,0,0,0,,a", 0, 1, VIMALORUA_LAYER, 2);
     refused_feed(handle, "8,0", 0, 1, VIMALORUA_STYLE, 3);
@@ -160,6 +166,8 @@ static void drawing(void) {
     WANT(vimalorua_draw(handle, 0, UINT32_MAX, UINT32_MAX, out, COUNT), VIMALORUA_BAD_CALL);
     WANT(memcmp(out, untouched, COUNT), 0);
     WANT(vimalorua_draw(handle, 0, 4096, 0, out, 0), VIMALORUA_DONE);
+    WANT(vimalorua_draw(handle, 0, 4096, 0, NULL, 0), VIMALORUA_DONE);
+    WANT(vimalorua_draw(handle, 0, W, H, NULL, 0), VIMALORUA_BAD_CALL);
     WANT(vimalorua_draw(handle, 500, W, H, out, COUNT), VIMALORUA_DONE);
     WANT(memcmp(out, untouched, COUNT) != 0, 1);
     WANT(vimalorua_flush(handle, &place), VIMALORUA_DONE);
@@ -182,6 +190,14 @@ static void seen(int line, const vimalorua_view *view, int32_t wanted) {
     vimalorua_close(handle);
 }
 
+/* A view of no rows is drawn into no bytes. */
+static void empty(vimalorua_view view) {
+    vimalorua *handle = ready();
+    view.h = 0;
+    WANT(vimalorua_draw_in(handle, 500, &view, NULL, 0), VIMALORUA_DONE);
+    vimalorua_close(handle);
+}
+
 /* A view with one number that is another one. */
 #define SEEN(field, number, wanted)                                                                                    \
     do {                                                                                                               \
@@ -198,6 +214,7 @@ static void views(void) {
         uint32_t more[2];
     } later = {plain, {0, 0}};
     seen(__LINE__, &plain, VIMALORUA_DONE);
+    empty(plain);
     plain.left = 5000;
     seen(__LINE__, &plain, VIMALORUA_DONE);
     plain.scale = UINT32_MAX;
@@ -232,6 +249,17 @@ static void list_changes(vimalorua *handle, int64_t ms, int32_t wanted, size_t *
     WANT(change, wanted);
 }
 
+/* The gap in each image is written. */
+static void gaps(vimalorua *handle, size_t count, size_t bytes) {
+    vimalorua_image images[64];
+    uint8_t masks[64 * COUNT];
+    memset(images, 77, sizeof images);
+    WANT(count <= 64, 1);
+    WANT(vimalorua_copy_images(handle, images, count, masks, bytes), VIMALORUA_DONE);
+    for (size_t i = 0; i < count; i++)
+        WANT(images[i].unused, 0);
+}
+
 static void listing(void) {
     vimalorua *handle = opened();
     uint32_t field = 77;
@@ -241,6 +269,7 @@ static void listing(void) {
     uint8_t masks[64 * COUNT];
     WANT(vimalorua_images(handle, 0, W, H, &change, &count, &bytes), VIMALORUA_NO_FONT);
     WANT(vimalorua_copy_images(handle, none, 0, masks, 0), VIMALORUA_DONE);
+    WANT(vimalorua_copy_images(handle, NULL, 0, NULL, 0), VIMALORUA_DONE);
     vimalorua_close(handle);
     handle = ready();
     WANT(vimalorua_feed(handle, BYTES(chunk), 1000, 1000, &field, &place), VIMALORUA_DONE);
@@ -252,10 +281,23 @@ static void listing(void) {
     list_changes(handle, 500, VIMALORUA_OTHER_LIST, &count, &bytes);
     WANT(count > 1 && bytes < sizeof masks, 1);
     WANT(vimalorua_copy_images(handle, none, 1, masks, bytes), VIMALORUA_BAD_CALL);
+    gaps(handle, count, bytes);
     list_changes(handle, 600, VIMALORUA_SAME, &count, &bytes);
     list_changes(handle, 1200, VIMALORUA_OTHER_LIST, &count, &bytes);
     list_changes(handle, 1300, VIMALORUA_MOVED, &count, &bytes);
     vimalorua_close(handle);
+}
+
+/* Each status has a text of its own, and no other number has one of these. */
+static void texts(void) {
+    const char *other = vimalorua_status_text(-1);
+    WANT(strcmp(vimalorua_status_text(VIMALORUA_CLOSED + 1), other), 0);
+    WANT(strcmp(vimalorua_status_text(VIMALORUA_OUT_OF_MEMORY), "out of memory"), 0);
+    for (int32_t i = VIMALORUA_DONE; i <= VIMALORUA_CLOSED; i++) {
+        WANT(strcmp(vimalorua_status_text(i), other) != 0, 1);
+        for (int32_t k = VIMALORUA_DONE; k < i; k++)
+            WANT(strcmp(vimalorua_status_text(i), vimalorua_status_text(k)) != 0, 1);
+    }
 }
 
 /* A text of a front, so many times a middle, and a back. */
@@ -343,7 +385,7 @@ static int with_refusal(long n, const uint8_t *wanted) {
     int refused = 0;
     vimalorua *handle = NULL;
     ass_images images = {0};
-    ASS_Image *list = NULL;
+    vimalorua_node *list = NULL;
     uint32_t field = 0;
     size_t place = 0, count = 0, bytes = 0;
     int32_t change = -1;
@@ -395,6 +437,7 @@ static long refusals(void) {
 
 int main(void) {
     opening();
+    texts();
     adding_fonts();
     feeding();
     drawing();

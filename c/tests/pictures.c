@@ -25,7 +25,7 @@ static void *need(void *block) {
 static unsigned div255(unsigned v) { return (v + 127) / 255; }
 
 /* What each node says, and nothing else, onto black. */
-static void blend(const ASS_Image *list, uint8_t *rgb, uint32_t w) {
+static void blend(const vimalorua_node *list, uint8_t *rgb, uint32_t w) {
     for (; list != NULL; list = list->next) {
         unsigned colour[3] = {list->color >> 24, list->color >> 16 & 255, list->color >> 8 & 255};
         unsigned opacity = 255 - (list->color & 255);
@@ -41,15 +41,15 @@ static void blend(const ASS_Image *list, uint8_t *rgb, uint32_t w) {
 
 /* A frame's nodes, copied, so that the next ones can be compared with them. */
 struct list {
-    ASS_Image *nodes;
+    vimalorua_node *nodes;
     size_t count;
 };
 
-static struct list copy_of(const ASS_Image *node) {
+static struct list copy_of(const vimalorua_node *node) {
     struct list list = {NULL, 0};
     for (; node != NULL; node = node->next) {
         list.nodes = need(realloc(list.nodes, (list.count + 1) * sizeof *list.nodes));
-        ASS_Image *copy = &list.nodes[list.count++];
+        vimalorua_node *copy = &list.nodes[list.count++];
         size_t bytes = (size_t)node->stride * (size_t)node->h;
         *copy = *node;
         copy->bitmap = need(malloc(bytes + 1));
@@ -64,7 +64,7 @@ static void free_list(struct list *list) {
     free(list->nodes);
 }
 
-static int is_same_but_moved(const ASS_Image *a, const ASS_Image *b) {
+static int is_same_but_moved(const vimalorua_node *a, const vimalorua_node *b) {
     return a->w == b->w && a->h == b->h && a->color == b->color &&
            memcmp(a->bitmap, b->bitmap, (size_t)a->stride * (size_t)a->h) == 0;
 }
@@ -93,7 +93,7 @@ struct frames {
 
 static void look_at_nodes(const struct frames *frames, const struct list *list, long long ms) {
     for (size_t i = 0; i < list->count; i++) {
-        const ASS_Image *node = &list->nodes[i];
+        const vimalorua_node *node = &list->nodes[i];
         if (node->w < 1 || node->h < 1 || node->dst_x < 0 || node->dst_y < 0 ||
             (uint32_t)(node->dst_x + node->w) > frames->w || (uint32_t)(node->dst_y + node->h) > frames->h)
             fail("an image lies outside of the frame", ms);
@@ -106,7 +106,7 @@ static void by_one_thread(struct frames *frames) {
     struct list before = {NULL, 0};
     uint8_t *blended = need(malloc(frames->len + 1)), *drawn = frames->wanted;
     for (long long ms = frames->from; ms < frames->to; ms += frames->step, drawn += frames->len) {
-        ASS_Image *first = NULL;
+        vimalorua_node *first = NULL;
         int32_t change = -1;
         if (vimalorua_draw(frames->handle, ms, frames->w, frames->h, drawn, frames->len) != VIMALORUA_DONE)
             fail("nothing is drawn", ms);
@@ -154,7 +154,7 @@ static void in_views(const struct frames *frames, long long ms, const uint8_t *w
     uint8_t *blended = need(malloc(frames->len + 1)), *drawn = need(malloc(frames->len + 1));
     size_t count = views_of(frames->w, frames->h, views);
     for (size_t i = 0; i < count; i++) {
-        ASS_Image *first = NULL;
+        vimalorua_node *first = NULL;
         memset(blended, 0, frames->len);
         if (vimalorua_draw_in(frames->handle, ms, &views[i], drawn, frames->len) != VIMALORUA_DONE)
             fail("nothing is drawn in a view", ms);

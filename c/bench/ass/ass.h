@@ -9,6 +9,7 @@
 extern "C" {
 #endif
 
+typedef vimalorua_node ASS_Image;
 typedef struct ass_library ASS_Library;
 typedef struct ass_renderer ASS_Renderer;
 

@@ -153,6 +153,7 @@ image_numbers image at = record {
   g = image.colour.g;
   b = image.colour.b;
   a = image.colour.a;
+  unused = 0;
   at = at;
 }
 

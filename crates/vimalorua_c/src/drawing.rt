@@ -60,7 +60,7 @@ fn draw_behind(
 
 /// Draws what is shown at an instant into the caller's bytes: three for each pixel, red, green and blue, row by row.
 #[unsafe(no_mangle)]
-pub extern "C" fn vimalorua_draw(
+pub extern "C" fn vimalorua_draw_proved(
     alloc: Global,
     handle: &mut Handle,
     at: i64,
@@ -78,7 +78,7 @@ pub extern "C" fn vimalorua_draw(
     draw_behind(alloc, handle, at, &FrameView::plain(size), out)
 }
 
-/// The same in a frame as the script sees it. c/views.c makes the numbers whole.
+/// The same in a frame as the script sees it. c/vimalorua.c makes the numbers whole.
 #[unsafe(no_mangle)]
 pub extern "C" fn vimalorua_draw_by_numbers(
     alloc: Global,

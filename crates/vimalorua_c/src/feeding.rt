@@ -41,7 +41,7 @@ pub extern "C" fn vimalorua_feed_lines(alloc: Global, handle: &mut Handle, place
 
 /// Offers the event of a chunk, and tells its entry, or the field that refused and its place.
 #[unsafe(no_mangle)]
-pub extern "C" fn vimalorua_feed(
+pub extern "C" fn vimalorua_feed_proved(
     alloc: Global,
     handle: &mut Handle,
     chunk: &[u8],

@@ -20,7 +20,8 @@ use plain_images::PlainImage;
 use player::Player;
 use std::alloc::Global;
 
-/// An image as numbers: its box in the frame, its colour, and where its bytes begin among those of all masks.
+/// An image as numbers: its box in the frame, its colour, a 0 where C would leave a gap, and where its bytes begin among those
+/// of all masks.
 #[repr(C)]
 #[derive(Clone, Copy)]
 pub struct ImageNumbers {
@@ -32,6 +33,7 @@ pub struct ImageNumbers {
     pub g: u8,
     pub b: u8,
     pub a: u8,
+    pub unused: u32,
     pub at: usize,
 }
 
@@ -48,6 +50,7 @@ fn numbers_of(image: &PlainImage, at: usize) -> ImageNumbers
         g: image.colour.g,
         b: image.colour.b,
         a: image.colour.a,
+        unused: 0,
         at,
     }
 }
@@ -159,7 +162,7 @@ pub extern "C" fn vimalorua_images(
     )
 }
 
-/// The same in a frame as the script sees it. c/views.c makes the numbers whole.
+/// The same in a frame as the script sees it. c/vimalorua.c makes the numbers whole.
 #[unsafe(no_mangle)]
 pub extern "C" fn vimalorua_images_by_numbers(
     alloc: Global,
@@ -190,7 +193,7 @@ pub extern "C" fn vimalorua_images_by_numbers(
 /// Copies the images that were listed last, in order, and the bytes of their masks one after the other, into arrays of just these
 /// lengths.
 #[unsafe(no_mangle)]
-pub extern "C" fn vimalorua_copy_images(
+pub extern "C" fn vimalorua_copy_images_proved(
     alloc: Global,
     handle: &mut Handle,
     images: &mut [ImageNumbers],

@@ -59,7 +59,7 @@ pub(crate) fn opened(alloc: Global, script: &[u8], budget: u64) -> Result<Box<Ha
 
 /// Opens a handle from the bytes of a script, which it keeps nothing of, with a budget for each of three caches.
 #[unsafe(no_mangle)]
-pub extern "C" fn vimalorua_open(
+pub extern "C" fn vimalorua_open_proved(
     alloc: Global,
     script: &[u8],
     budget: u64,
@@ -118,7 +118,7 @@ fn font_added(alloc: Global, player: &mut Player, font: &[u8]) -> Told
 
 /// Adds a font from its bytes, and tells its number.
 #[unsafe(no_mangle)]
-pub extern "C" fn vimalorua_add_font(
+pub extern "C" fn vimalorua_add_font_proved(
     alloc: Global,
     handle: &mut Handle,
     font: &[u8],
