@@ -1,5 +1,6 @@
 -- What a set of fonts finds: among bitmaps what it found by names alone, and of a family the nearest font.
 use Rattle.std.proofs.Common.{◌≡◌, ℕ, zero, suc, ◌+◌, ◌<◌, Bool, true, false, ◌||◌, cond, List, [], ◌∷◌, length, All, Option, Some, None, refl, ap, ap₂, sym, ◌∙◌, subst, arith, pos}
+use Rattle.std.proofs.Math.Bool.{or-false}
 use Rattle.std.specs.Prelude.{nat_lt, slice_index_or, IfSome, option_map, option_and_then}
 use Rattle.std.specs.Int.{abs_diff}
 use Rattle.std.specs.Option.{option_map_or, option_or}
@@ -13,7 +14,7 @@ use Rattle.bdf_font.specs.declared.sets.GlyphPlace.{GlyphPlace}
 use Rattle.bdf_font.specs.Fonts.{FontValue, glyph_of, place_of, place_of_default, regular_weight}
 use Rattle.bdf_font.specs.Laws.{BitmapsAreFoundByName, BitmapsKeepTheirGlyphs, LinesSpellBitmapFonts}
 use Rattle.bdf_font.specs.Sets.{AreBitmapFonts, IsBitmapFont, IsFoundByName, asked_name, candidate_place, glyph_elsewhere, has_full_name, has_outlines, is_among, is_missing_at, is_of_family}
-use Rattle.bdf_font.specs.Sets.{mapped_from, mapped_place, name_distance, named_from, nearer, nearest_from, no_font, placed_in, slant_of, style_distance, unless_missing, wanted_slant, wanted_weight, without_at}
+use Rattle.bdf_font.specs.Sets.{mapped_from, mapped_place, name_distance, named_from, nearer, nearest_from, no_font, glyph_place_in, slant_of, style_distance, unless_missing, wanted_slant, wanted_weight, without_at}
 use Rattle.bdf_font.proofs.BitmapFonts.{all_bitmaps}
 use Rattle.bdf_font.proofs.SetLemmas.{place_within}
 
@@ -22,14 +23,10 @@ use Rattle.bdf_font.proofs.SetLemmas.{place_within}
 no_full_name : (name : List ℕ) (font : FontValue) → IsFoundByName font → has_full_name name font ≡ false
 no_full_name name font is = ap (is_among (asked_name name font)) is.full_names
 
-or_false : (b : Bool) → (b || false) ≡ b
-or_false true = refl
-or_false false = refl
-
 -- the family of a bitmap is its name, as it is asked for
 family_is_name : (name : List ℕ) (font : FontValue) → IsFoundByName font → is_of_family name font ≡ same_name font.name name
 family_is_name name font is =
-    ap₂ is_among (ap (λ b. cond b (without_at name) name) is.is_outline) is.families ∙ or_false (same_name font.name name)
+    ap₂ is_among (ap (λ b. cond b (without_at name) name) is.is_outline) is.families ∙ or-false (same_name font.name name)
 
 -- how far each bitmap is
 bitmap_distance : Bool → Bool → ℕ
@@ -84,7 +81,7 @@ none_missing (first ∷ glyphs) (Some k) h inside =
         ∙ All-get_or (λ (glyph : FontGlyph). glyph.missing ≡ false) (first ∷ glyphs) k first inside h in
     ap (λ b. cond b None (Some k)) is
 
-own_glyph : (number : ℕ) (o p : Option ℕ) → option_or (placed_in number o) (placed_in number (option_or o p)) ≡ placed_in number (option_or o p)
+own_glyph : (number : ℕ) (o p : Option ℕ) → option_or (glyph_place_in number o) (glyph_place_in number (option_or o p)) ≡ glyph_place_in number (option_or o p)
 own_glyph number (Some k) p = refl
 own_glyph number None p = refl
 
@@ -106,7 +103,7 @@ keep_glyphs fonts h number c =
     let found = place_of font.glyphs (pos c) in
     let mapped : mapped_place font c ≡ found = none_missing font.glyphs found (none_missing_in fonts number h) (place_within font.glyphs (pos c)) in
     let elsewhere : glyph_elsewhere fonts c ≡ None = ap (λ b. cond b (mapped_from c 0 fonts) None) (no_outlines fonts h) in
-    ap₂ (λ (o : Option ℕ) (p : Option GlyphPlace). option_or (placed_in number o) (option_or p (placed_in number (glyph_of font c)))) mapped elsewhere
+    ap₂ (λ (o : Option ℕ) (p : Option GlyphPlace). option_or (glyph_place_in number o) (option_or p (glyph_place_in number (glyph_of font c)))) mapped elsewhere
     ∙ own_glyph number found (place_of_default font.default_char font.glyphs)
 
 -- ---- what lines spell

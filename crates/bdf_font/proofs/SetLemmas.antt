@@ -9,7 +9,7 @@ use Rattle.bdf_font.specs.declared.sets.Candidate.{Candidate}
 use Rattle.bdf_font.specs.declared.sets.GlyphPlace.{GlyphPlace}
 use Rattle.bdf_font.specs.Fonts.{FontValue, glyph_of, place_from, place_of}
 use Rattle.bdf_font.specs.Sets.{IsGlyphPlaceIn, candidate_at, candidate_place, font_chosen, glyph_elsewhere, has_outlines, is_missing_at, name_distance}
-use Rattle.bdf_font.specs.Sets.{mapped_from, mapped_place, nearer, nearest_from, no_font, placed_in, set_glyph_of, unless_missing}
+use Rattle.bdf_font.specs.Sets.{mapped_from, mapped_place, nearer, nearest_from, no_font, glyph_place_in, set_glyph_of, unless_missing}
 use Rattle.bdf_font.proofs.PlaceLemmas.{first_within, glyph_within}
 
 -- ---- the font of a name
@@ -109,7 +109,7 @@ pub stand_all : (fonts : List FontValue) → StandFrom fonts 0 fonts
 stand_all fonts = record { at = λ k. ap (λ i. slice_index_or fonts i no_font) (zero-add k); few = omega arith }
 
 placed_within : (fonts : List FontValue) (number : ℕ) (o : Option ℕ) → number < length fonts → IfSome o (λ k. k < length (slice_index_or fonts number no_font).glyphs) →
-    IfSome (placed_in number o) (IsGlyphPlaceIn fonts)
+    IfSome (glyph_place_in number o) (IsGlyphPlaceIn fonts)
 placed_within fonts number (Some k) less inside = (less, inside)
 placed_within fonts number None less inside = tt
 
@@ -122,7 +122,7 @@ mapped_from_within all c n [] h = tt
 mapped_from_within all c n (font ∷ fonts) h =
     let within : IfSome (mapped_place font c) (λ k. k < length (slice_index_or all n no_font).glyphs) =
         subst (λ (own : FontValue). IfSome (mapped_place font c) (λ k. k < length own.glyphs)) (sym (stand_first all n font fonts h)) (mapped_within font c) in
-    or_within (IsGlyphPlaceIn all) (placed_in n (mapped_place font c)) (mapped_from c (n + 1) fonts)
+    or_within (IsGlyphPlaceIn all) (glyph_place_in n (mapped_place font c)) (mapped_from c (n + 1) fonts)
     (placed_within all n (mapped_place font c) (omega (arith, h.few)) within) (mapped_from_within all c (n + 1) fonts (stand_next all n font fonts h))
 
 elsewhere_within : (fonts : List FontValue) (c : ℕ) → IfSome (glyph_elsewhere fonts c) (IsGlyphPlaceIn fonts)
@@ -135,7 +135,7 @@ elsewhere_within fonts c = unless (has_outlines fonts) (mapped_from c 0 fonts) (
 pub set_glyph_within : (fonts : List FontValue) (number c : ℕ) → number < length fonts → IfSome (set_glyph_of fonts number c) (IsGlyphPlaceIn fonts)
 set_glyph_within fonts number c less =
     let font = slice_index_or fonts number no_font in
-    or_within (IsGlyphPlaceIn fonts) (placed_in number (mapped_place font c)) (option_or (glyph_elsewhere fonts c) (placed_in number (glyph_of font c)))
+    or_within (IsGlyphPlaceIn fonts) (glyph_place_in number (mapped_place font c)) (option_or (glyph_elsewhere fonts c) (glyph_place_in number (glyph_of font c)))
     (placed_within fonts number (mapped_place font c) less (mapped_within font c))
-    (or_within (IsGlyphPlaceIn fonts) (glyph_elsewhere fonts c) (placed_in number (glyph_of font c)) (elsewhere_within fonts c)
+    (or_within (IsGlyphPlaceIn fonts) (glyph_elsewhere fonts c) (glyph_place_in number (glyph_of font c)) (elsewhere_within fonts c)
     (placed_within fonts number (glyph_of font c) less (glyph_within font c)))

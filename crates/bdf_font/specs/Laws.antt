@@ -22,7 +22,7 @@ use Rattle.bdf_font.specs.Fonts.{FontValue, glyph_of, strikeout_top}
 use Rattle.bdf_font.specs.GlyphRings.{bitmap_of, rings_of_glyph}
 use Rattle.bdf_font.specs.Grammar.{IsFontAnswer, says, is_read, open_after, glyph_in, font_said}
 use Rattle.bdf_font.specs.Limits.{max_fonts}
-use Rattle.bdf_font.specs.Sets.{AreBitmapFonts, IsBitmapFont, font_chosen, font_named, name_distance, no_font, placed_in, set_glyph_of}
+use Rattle.bdf_font.specs.Sets.{AreBitmapFonts, IsBitmapFont, font_chosen, font_named, name_distance, no_font, glyph_place_in, set_glyph_of}
 
 -- Each list of lines has exactly one answer.
 abbrev pub OneAnswer : Type 0
@@ -102,7 +102,7 @@ BitmapsAreFoundByName = (fonts : List FontValue) → AreBitmapFonts fonts → (n
 -- Among bitmaps the glyph of a character is that of the font itself.
 abbrev pub BitmapsKeepTheirGlyphs : Type 0
 BitmapsKeepTheirGlyphs = (fonts : List FontValue) → AreBitmapFonts fonts → (number c : ℕ) →
-    set_glyph_of fonts number c ≡ placed_in number (glyph_of (slice_index_or fonts number no_font) c)
+    set_glyph_of fonts number c ≡ glyph_place_in number (glyph_of (slice_index_or fonts number no_font) c)
 
 -- The font at a place answers to the name, none that does is nearer to what is asked for, and none before it is as near.
 pub record IsNearest (name : List ℕ) (bold italic : Bool) (fonts : List FontValue) (place : ℕ) : Type 0 where

@@ -108,13 +108,13 @@ abbrev pub mapped_place : FontValue → ℕ → Option ℕ
 mapped_place font c = option_and_then (unless_missing font.glyphs) (place_of font.glyphs (pos c))
 
 -- a place of a font's glyph among those of a set
-abbrev pub placed_in : ℕ → Option ℕ → Option GlyphPlace
-placed_in number found = option_map (λ place. record { font = number; glyph = place }) found
+abbrev pub glyph_place_in : ℕ → Option ℕ → Option GlyphPlace
+glyph_place_in number found = option_map (λ place. record { font = number; glyph = place }) found
 
 -- the glyph of the first font that has one for a character itself, where the first of the fonts has the place n
 abbrev pub mapped_from : ℕ → ℕ → List FontValue → Option GlyphPlace
 mapped_from c n [] = None
-mapped_from c n (font ∷ fonts) = option_or (placed_in n (mapped_place font c)) (mapped_from c (n + 1) fonts)
+mapped_from c n (font ∷ fonts) = option_or (glyph_place_in n (mapped_place font c)) (mapped_from c (n + 1) fonts)
 
 -- whether a font of a set has outlines
 abbrev pub has_outlines : List FontValue → Bool
@@ -129,7 +129,7 @@ glyph_elsewhere fonts c = if has_outlines fonts then mapped_from c 0 fonts else 
 abbrev pub set_glyph_of : List FontValue → ℕ → ℕ → Option GlyphPlace
 set_glyph_of fonts number c =
     let font = slice_index_or fonts number no_font in
-    option_or (placed_in number (mapped_place font c)) (option_or (glyph_elsewhere fonts c) (placed_in number (glyph_of font c)))
+    option_or (glyph_place_in number (mapped_place font c)) (option_or (glyph_elsewhere fonts c) (glyph_place_in number (glyph_of font c)))
 
 -- A glyph of a set: its font is one of the set, and it is one of the font's.
 abbrev pub IsGlyphPlaceIn : List FontValue → GlyphPlace → Type 0

@@ -3,7 +3,7 @@
 ghost use Rattle.std.specs.Prelude.{◌≡◌, ◌<◌, ◌≤◌, length, IfSome};
 ghost use Rattle.bdf_font.specs.Limits.{max_fonts};
 ghost use Rattle.bdf_font.specs.Sets.{candidate_at, font_chosen, glyph_elsewhere, has_outlines, mapped_from, mapped_place, name_distance, nearer};
-ghost use Rattle.bdf_font.specs.Sets.{IsGlyphPlaceIn, nearest_from, placed_in, set_glyph_of, style_distance};
+ghost use Rattle.bdf_font.specs.Sets.{IsGlyphPlaceIn, nearest_from, glyph_place_in, set_glyph_of, style_distance};
 
 use crate::font::{Font, REGULAR, glyph};
 use ass_num::Items;
@@ -163,8 +163,8 @@ fn glyph_elsewhere(set: &FontSet, c: char) -> Option<GlyphPlace>
 }
 
 /// A place of a font's glyph among those of a set.
-fn placed_in(number: u32, found: Option<u32>) -> Option<GlyphPlace>
-    ensures { result ≡ placed_in number found }
+fn glyph_place_in(number: u32, found: Option<u32>) -> Option<GlyphPlace>
+    ensures { result ≡ glyph_place_in number found }
 {
     match found {
         Some(glyph) => Some(GlyphPlace {
@@ -186,10 +186,10 @@ pub fn set_glyph(set: &FontSet, number: u32, c: char) -> Option<GlyphPlace>
 {
     let font = &set.fonts.as_slice()[number as usize];
     if let Some(place) = mapped_place(font, c) {
-        return placed_in(number, Some(place));
+        return glyph_place_in(number, Some(place));
     }
     match glyph_elsewhere(set, c) {
         Some(found) => Some(found),
-        None => placed_in(number, glyph(font, c)),
+        None => glyph_place_in(number, glyph(font, c)),
     }
 }

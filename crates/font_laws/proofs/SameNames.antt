@@ -6,7 +6,7 @@ use Rattle.std.proofs.lemmas.Bool.{and_parts, leb-true}
 use Rattle.sfnt_font.specs.declared.directory.Table.{Table}
 use Rattle.sfnt_font.specs.Bytes.{u8_at, u16_at}
 use Rattle.sfnt_font.specs.Directory.{table_end, table_named, unless_short}
-use Rattle.sfnt_font.specs.Names.{names_name, least_names, max_names, family_kind, full_kind, name_rank, text_place, is_whole_name, is_name, records_from, mac_character, narrow_unit, wide_unit, narrow_units, wide_units, name_units, spelled, record_name, names_of, names_or_none, font_names}
+use Rattle.sfnt_font.specs.Names.{names_name, least_names, max_names, family_kind, full_kind, name_rank, text_place, is_whole_name, is_name, records_from, mac_character, narrow_unit, wide_unit, narrow_units, wide_units, name_units, spelled, record_name, ranked_names, names_or_none, font_names}
 use Rattle.sfnt_font.specs.Laws.{face_directory}
 use Rattle.font_laws.specs.Laws.{AgreeOn, AgreeOnDirectory}
 use Rattle.font_laws.proofs.Agreed.{u8_same, u16_same, and_same}
@@ -119,7 +119,7 @@ from_same a b names kind rank at (suc n) m h low =
     names-step (record_name a names) (record_name b names) at m (is_name a names kind rank at) (is_name b names kind rank at) (records_from a names kind rank (at + 12) n) (records_from b names kind rank (at + 12) n)
     (name_same a b names kind rank at h low) (record_same a b names kind rank at h low) (λ m. from_same a b names kind rank (at + 12) n m h (omega arith))
 
-names_same : (a b : List ℕ) (names : Table) (kind rank most : ℕ) → AgreeOnLong a b 6 names → names_of a names kind rank most ≡ names_of b names kind rank most
+names_same : (a b : List ℕ) (names : Table) (kind rank most : ℕ) → AgreeOnLong a b 6 names → ranked_names a names kind rank most ≡ ranked_names b names kind rank most
 names_same a b names kind rank most (h, long) =
     let count : u16_at a (names.place + 2) ≡ u16_at b (names.place + 2) = u16_same a b names.place (table_end names) (names.place + 2) h (omega arith) (omega (arith, long)) in
     from_same a b names kind rank (names.place + 6) (u16_at a (names.place + 2)) most (h, long) (omega arith)
@@ -128,9 +128,9 @@ names_same a b names kind rank most (h, long) =
 table_names_same : (a b : List ℕ) (o : Option Table) → IfSome o (AgreeOnLong a b 6) → names_or_none a o ≡ names_or_none b o
 table_names_same a b None h = refl
 table_names_same a b (Some names) h =
-    let families : names_of a names family_kind 0 max_names ≡ names_of b names family_kind 0 max_names = names_same a b names family_kind 0 max_names h in
-    let others : names_of a names family_kind 1 1 ≡ names_of b names family_kind 1 1 = names_same a b names family_kind 1 1 h in
-    let full : names_of a names full_kind 0 max_names ≡ names_of b names full_kind 0 max_names = names_same a b names full_kind 0 max_names h in
+    let families : ranked_names a names family_kind 0 max_names ≡ ranked_names b names family_kind 0 max_names = names_same a b names family_kind 0 max_names h in
+    let others : ranked_names a names family_kind 1 1 ≡ ranked_names b names family_kind 1 1 = names_same a b names family_kind 1 1 h in
+    let full : ranked_names a names full_kind 0 max_names ≡ ranked_names b names full_kind 0 max_names = names_same a b names full_kind 0 max_names h in
     rw (families, others, full)
 
 pub font_names_same : (a b : List ℕ) (place : ℕ) → AgreeOnDirectory a b place → font_names a (face_directory a place) ≡ font_names b (face_directory a place)

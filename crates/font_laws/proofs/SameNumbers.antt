@@ -6,7 +6,7 @@ use Rattle.sfnt_font.specs.declared.numbers.Bar.{Bar}
 use Rattle.sfnt_font.specs.declared.tables.Tables.{Tables}
 use Rattle.sfnt_font.specs.Bytes.{u16_at, s16_at}
 use Rattle.sfnt_font.specs.Directory.{table_named, unless_short, table_end, metrics_name, post_name}
-use Rattle.sfnt_font.specs.Numbers.{window_heights, typographic_heights, line_heights, box_heights, font_heights, bar_or, underline_of, strikeout_of, made_numbers, sfnt_numbers, is_odd, style_weight, weight_of, is_slanted}
+use Rattle.sfnt_font.specs.Numbers.{window_heights, typographic_heights, line_heights, box_heights, font_heights, bar_or, underline_of, strikeout_of, made_numbers, sfnt_numbers, has_low_bit, style_weight, weight_of, is_slanted}
 use Rattle.sfnt_font.specs.Laws.{face_directory}
 use Rattle.font_laws.specs.Laws.{AgreeOnDirectory}
 use Rattle.font_laws.proofs.Agreed.{u16_same, s16_same}
@@ -64,15 +64,15 @@ bar_same a b least (Some table) middle size other h room space =
     cc
 
 weight_same : (a b : List ℕ) (head : Table) (metrics : Option Table) → AgreeOnLong a b 54 head → IfSome metrics (AgreeOnLong a b 78) → weight_of a head metrics ≡ weight_of b head metrics
-weight_same a b head None h k = ap (λ n. if is_odd n then 700 else 400) (u16_in_table_same a b 54 head 44 h (omega arith))
+weight_same a b head None h k = ap (λ n. if has_low_bit n then 700 else 400) (u16_in_table_same a b 54 head 44 h (omega arith))
 weight_same a b head (Some metrics) h k =
-    let style : style_weight a head ≡ style_weight b head = ap (λ n. if is_odd n then 700 else 400) (u16_in_table_same a b 54 head 44 h (omega arith)) in
+    let style : style_weight a head ≡ style_weight b head = ap (λ n. if has_low_bit n then 700 else 400) (u16_in_table_same a b 54 head 44 h (omega arith)) in
     let weight : u16_at a (metrics.place + 4) ≡ u16_at b (metrics.place + 4) = u16_in_table_same a b 78 metrics 4 k (omega arith) in
     cc
 
 slant_same : (a b : List ℕ) (head : Table) (metrics : Option Table) → AgreeOnLong a b 54 head → IfSome metrics (AgreeOnLong a b 78) → is_slanted a head metrics ≡ is_slanted b head metrics
-slant_same a b head None h k = ap (λ n. is_odd (n / 2)) (u16_in_table_same a b 54 head 44 h (omega arith))
-slant_same a b head (Some metrics) h k = ap is_odd (u16_in_table_same a b 78 metrics 62 k (omega arith))
+slant_same a b head None h k = ap (λ n. has_low_bit (n / 2)) (u16_in_table_same a b 54 head 44 h (omega arith))
+slant_same a b head (Some metrics) h k = ap has_low_bit (u16_in_table_same a b 78 metrics 62 k (omega arith))
 
 made_same : (a b : List ℕ) (tables : Tables) (metrics post : Option Table) → AgreeOnTables a b tables → IfSome metrics (AgreeOnLong a b 78) → IfSome post (AgreeOnLong a b 12) →
     made_numbers a tables metrics post ≡ made_numbers b tables metrics post

@@ -5,11 +5,16 @@ use Rattle.std.proofs.lemmas.Bool.Decides.{nat_tests}
 use Rattle.std.proofs.lemmas.List.{append_assoc, append-nil}
 use Rattle.sfnt_font.specs.declared.cause.SfntRefusal.{SfntRefusal}
 use Rattle.sfnt_font.specs.declared.font.SfntFont.{SfntFont}
-use Rattle.sfnt_font.specs.Answers.{then_read}
+use Rattle.sfnt_font.specs.declared.cause.SfntRefusal.TheVariants.{BadFont, OutOfMemory, TooLarge}
+use Rattle.sfnt_font.specs.declared.maps.CharacterMap.{CharacterMap}
+use Rattle.sfnt_font.specs.Answers.{Answers, WantsBehind, then_read}
+use Rattle.sfnt_font.specs.Directory.{directory_at, tables_of}
+use Rattle.sfnt_font.specs.Numbers.{sfnt_numbers}
 use Rattle.sfnt_font.specs.Bytes.{u32_at}
-use Rattle.sfnt_font.specs.Faces.{bad_face, collection_count, collection_kind, face_count, is_compressed, max_faces, unless_misplaced}
-use Rattle.sfnt_font.specs.Fonts.{sfnt_of, sfnts_from, sfnts_of}
+use Rattle.sfnt_font.specs.Faces.{bad_face, collection_count, collection_kind, face_count, is_compressed, max_faces, unless_misplaced, face_place}
+use Rattle.sfnt_font.specs.Fonts.{directory_map, face_map, font_of, sfnt_of, sfnts_from, sfnts_of}
 use Rattle.sfnt_font.specs.Ranges.{IsSfntFont}
+use Rattle.sfnt_font.proofs.Refusals.{map_wants_no_memory}
 
 -- ---- how many faces there are
 
@@ -96,6 +101,46 @@ file_read bytes count counted = ap (λ r. then_read r (sfnts_from bytes 0)) coun
 
 pub none_read : (bytes : List ℕ) (count : ℕ) → with_rest [] (sfnts_from bytes 0 (count - 0)) ≡ sfnts_from bytes 0 count
 none_read bytes count = none_before (sfnts_from bytes 0 (count - 0)) ∙ ap (sfnts_from bytes 0) (omega arith)
+
+-- ---- a first face without a map
+
+then_refused : {T U V : Type 0} (r : Result T SfntRefusal) (f : T → Result U SfntRefusal) (g : T → Result V SfntRefusal) (refusal : SfntRefusal) →
+    ((x : T) → f x ≡ Err refusal → g x ≡ Err refusal) → then_read r f ≡ Err refusal → then_read r g ≡ Err refusal
+then_refused (Ok x) f g refusal h e = h x e
+then_refused {U = U} {V = V} (Err other) f g refusal h e =
+    let same : other ≡ refusal = cc in
+    ap Err same
+
+map_refused : (bytes : List ℕ) (face : ℕ) (refusal : SfntRefusal) → face_map bytes face ≡ Err refusal → sfnt_of bytes face ≡ Err refusal
+map_refused bytes face refusal =
+    then_refused (face_count bytes) _ _ refusal (λ faces.
+    then_refused (directory_at bytes (face_place bytes face)) (directory_map bytes) (font_of bytes) refusal (λ directory.
+    then_refused (tables_of bytes directory) _ _ refusal (λ tables.
+    then_refused (sfnt_numbers bytes directory tables) _ _ refusal (λ numbers e.
+    ap (λ r. then_read r _) e))))
+
+-- a call that answers so answers the reading
+answers_are : {T : Type 0} (reading result : Result T SfntRefusal) → result ≡ reading → Answers reading result
+answers_are reading (Ok x) e = e
+answers_are reading (Err (BadFont at cause)) e = e
+answers_are reading (Err (TooLarge most)) e = e
+answers_are reading (Err OutOfMemory) e = tt
+
+first_refused : (bytes : List ℕ) (count : ℕ) (refusal : SfntRefusal) → IfOk (face_count bytes) IsCount → face_count bytes ≡ Ok count → sfnt_of bytes 0 ≡ Err refusal → sfnts_of bytes ≡ Err refusal
+first_refused bytes count refusal is counted e =
+    let some : 0 < count = (subst (λ (r : Result ℕ SfntRefusal). IfOk r IsCount) counted is).0 in
+    let more : count ≡ suc (count - 1) = omega (arith, some) in
+    file_read bytes count counted ∙ (ap (sfnts_from bytes 0) more ∙ ap (λ r. then_read r (λ font. then_read (sfnts_from bytes 1 (count - 1)) (λ fonts. Ok (font ∷ fonts)))) e)
+
+pub refused_first : (bytes : List ℕ) (count : ℕ) (refusal : SfntRefusal) → face_count bytes ≡ Ok count → face_map bytes 0 ≡ Err refusal → Answers (sfnts_of bytes) (Err refusal)
+refused_first bytes count refusal counted e =
+    answers_are (sfnts_of bytes) (Err refusal) (sym (first_refused bytes count refusal (faces_counted bytes) counted (map_refused bytes 0 refusal e)))
+
+pub refused_without_memory : (bytes : List ℕ) (refusal : SfntRefusal) → face_map bytes 0 ≡ Err refusal → WantsBehind (face_map bytes 0) (Err refusal)
+refused_without_memory bytes refusal e =
+    subst (λ (r : Result CharacterMap SfntRefusal). WantsBehind r (Err refusal)) (sym e) (λ memory.
+    let out : refusal ≡ OutOfMemory = cc in
+    map_wants_no_memory bytes 0 (e ∙ ap Err out))
 
 -- ---- how many fonts a file gives
 

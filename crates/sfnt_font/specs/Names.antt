@@ -110,8 +110,8 @@ abbrev pub max_names : ℕ
 max_names = 64
 
 -- the first names of this kind and rank, at most so many
-abbrev pub names_of : List ℕ → Table → ℕ → ℕ → ℕ → List (List ℕ)
-names_of bytes names kind rank most = map (record_name bytes names) (take most (records_of bytes names kind rank))
+abbrev pub ranked_names : List ℕ → Table → ℕ → ℕ → ℕ → List (List ℕ)
+ranked_names bytes names kind rank most = map (record_name bytes names) (take most (records_of bytes names kind rank))
 
 -- a list, or another one where it is empty
 abbrev pub unless_empty : List (List ℕ) → List (List ℕ) → List (List ℕ)
@@ -121,8 +121,8 @@ unless_empty (name ∷ names) others = name ∷ names
 -- The names that a table gives. The families are those of Windows, or else the first of the others; the full names are those of Windows alone.
 abbrev pub table_names : List ℕ → Table → FontNames
 table_names bytes names = record {
-  families = unless_empty (names_of bytes names family_kind 0 max_names) (names_of bytes names family_kind 1 1);
-  full_names = names_of bytes names full_kind 0 max_names;
+  families = unless_empty (ranked_names bytes names family_kind 0 max_names) (ranked_names bytes names family_kind 1 1);
+  full_names = ranked_names bytes names full_kind 0 max_names;
 }
 
 abbrev pub no_names : FontNames

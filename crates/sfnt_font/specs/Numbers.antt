@@ -70,12 +70,12 @@ strikeout_of bytes units metrics = bar_or bytes metrics 28 26 (bar_of (pos (unit
 -- ---- weight and slant
 
 -- the lowest bit of a number
-abbrev pub is_odd : ℕ → Bool
-is_odd n = n % 2 == 1
+abbrev pub has_low_bit : ℕ → Bool
+has_low_bit n = n % 2 == 1
 
 -- the weight by the style of `head`
 abbrev pub style_weight : List ℕ → Table → ℕ
-style_weight bytes head = if is_odd (u16_at bytes (head.place + 44)) then 700 else 400
+style_weight bytes head = if has_low_bit (u16_at bytes (head.place + 44)) then 700 else 400
 
 -- a weight from 1 to 1,000, or else another one
 abbrev pub weight_or : ℕ → ℕ → ℕ
@@ -88,8 +88,8 @@ weight_of bytes head (Some metrics) = weight_or (u16_at bytes (metrics.place + 4
 
 -- whether a font is slanted, by `OS/2`, or without it by the style of `head`
 abbrev pub is_slanted : List ℕ → Table → Option Table → Bool
-is_slanted bytes head None = is_odd (u16_at bytes (head.place + 44) / 2)
-is_slanted bytes head (Some metrics) = is_odd (u16_at bytes (metrics.place + 62))
+is_slanted bytes head None = has_low_bit (u16_at bytes (head.place + 44) / 2)
+is_slanted bytes head (Some metrics) = has_low_bit (u16_at bytes (metrics.place + 62))
 
 -- the numbers of a font with these units, so many glyphs and these heights
 abbrev pub made_numbers : List ℕ → Tables → Option Table → Option Table → Numbers

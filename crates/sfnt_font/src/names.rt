@@ -4,7 +4,7 @@ ghost use Rattle.std.specs.Prelude.{◌≡◌, ◌<◌, ◌≤◌, ◌^◌, leng
 ghost use Rattle.ass_num.specs.Limits.{max_file_bytes};
 ghost use Rattle.sfnt_font.specs.Directory.{IsDirectory, IsTableIn};
 ghost use Rattle.sfnt_font.specs.Names.{name_rank, text_place, is_whole_name, is_name, mac_character};
-ghost use Rattle.sfnt_font.specs.Names.{narrow_units, wide_units, name_units, spelled, record_name, names_of, table_names, font_names, first_name};
+ghost use Rattle.sfnt_font.specs.Names.{narrow_units, wide_units, name_units, spelled, record_name, ranked_names, table_names, font_names, first_name};
 
 use crate::bytes::{u8_at, u16_at};
 use crate::directory::{Directory, Table, long_table};
@@ -178,7 +178,7 @@ fn record_name(alloc: Global, bytes: &[u8], names: Table, at: usize) -> Mem<Item
 }
 
 /// The first names of this kind and rank, at most so many.
-fn names_of(
+fn ranked_names(
     alloc: Global,
     bytes: &[u8],
     names: Table,
@@ -188,7 +188,7 @@ fn names_of(
 ) -> Mem<FlatLists<u8>>
     requires names { IsTableIn bytes.now names }
     requires short { length bytes.now ≤ max_file_bytes }
-    ensures { IfOk result (λ found. found ≡ names_of bytes.now names kind rank most) }
+    ensures { IfOk result (λ found. found ≡ ranked_names bytes.now names kind rank most) }
 {
     let mut found = FlatLists::new(alloc);
     for k in 0..u16_at(bytes, names.place + 2) {
@@ -206,11 +206,11 @@ fn families_of(alloc: Global, bytes: &[u8], names: Table) -> Mem<FlatLists<u8>>
     requires short { length bytes.now ≤ max_file_bytes }
     ensures { IfOk result (λ families. families ≡ (table_names bytes.now names).families) }
 {
-    let families = names_of(alloc, bytes, names, FAMILY, WINDOWS, MAX_NAMES)?;
+    let families = ranked_names(alloc, bytes, names, FAMILY, WINDOWS, MAX_NAMES)?;
     if families.len() > 0 {
         return Ok(families);
     }
-    names_of(alloc, bytes, names, FAMILY, OTHER, 1)
+    ranked_names(alloc, bytes, names, FAMILY, OTHER, 1)
 }
 
 /// The names that a table gives.
@@ -221,7 +221,7 @@ fn table_names(alloc: Global, bytes: &[u8], names: Table) -> Mem<FontNames>
 {
     Ok(FontNames {
         families: families_of(alloc, bytes, names)?,
-        full_names: names_of(alloc, bytes, names, FULL, WINDOWS, MAX_NAMES)?,
+        full_names: ranked_names(alloc, bytes, names, FULL, WINDOWS, MAX_NAMES)?,
     })
 }
 
