@@ -98,24 +98,29 @@ before_short n (Err refusal) more h k = tt
 before_short n (Ok font) (Err refusal) h k = tt
 before_short n (Ok font) (Ok fonts) h k = All-cons (IsShortFont n) font fonts h k
 
-fonts_short : (n : ℕ) (here : Bool) (number : ℕ) (lines : List (List ℕ)) → length (concat lines) ≤ n → AreShort n (attached_fonts (attached here number lines))
-fonts_short n here number [] few = All-nil (IsShortFont n)
-fonts_short n here number (line ∷ lines) few = heading (begins_section line)
-  where
-    rest : length (concat lines) ≤ n
-    rest = omega (arith, length-append line (concat lines), few)
+abbrev AllShort : ℕ → ℕ → List (List ℕ) → Type 0
+AllShort n number lines = (here : Bool) → AreShort n (attached_fonts (attached here number lines))
 
+line_short : (n number : ℕ) (line : List ℕ) (lines : List (List ℕ)) → length (concat lines) ≤ n → AllShort n (number + 1) lines → AllShort n number (line ∷ lines)
+line_short n number line lines few rest here = heading (begins_section line)
+  where
     font : (b : Bool) → AreShort n (attached_fonts (cond b (record { name = file_name_in line; line = number; data_lines = before_first ends_font lines } ∷ attached here (number + 1) lines) (attached here (number + 1) lines)))
     font true =
         before_short n (attached_font (record { name = file_name_in line; line = number; data_lines = before_first ends_font lines })) (attached_fonts (attached here (number + 1) lines))
-        (attached_short (record { name = file_name_in line; line = number; data_lines = before_first ends_font lines }) n (omega (arith, first_lines_shorter (position_or_len ends_font lines) lines, rest)))
-        (fonts_short n here (number + 1) lines rest)
-    font false = fonts_short n here (number + 1) lines rest
+        (attached_short (record { name = file_name_in line; line = number; data_lines = before_first ends_font lines }) n (omega (arith, first_lines_shorter (position_or_len ends_font lines) lines, few)))
+        (rest here)
+    font false = rest here
 
     heading : (b : Bool) →
         AreShort n (attached_fonts (cond b (attached (begins_fonts line) (number + 1) lines) (cond (here && begins_font line) (record { name = file_name_in line; line = number; data_lines = before_first ends_font lines } ∷ attached here (number + 1) lines) (attached here (number + 1) lines))))
-    heading true = fonts_short n (begins_fonts line) (number + 1) lines rest
+    heading true = rest (begins_fonts line)
     heading false = font (here && begins_font line)
 
+fonts_short : (n number : ℕ) (lines : List (List ℕ)) → length (concat lines) ≤ n → AllShort n number lines
+fonts_short n number [] few = λ here. All-nil (IsShortFont n)
+fonts_short n number (line ∷ lines) few =
+    let less : length (concat lines) ≤ n = omega (arith, length-append line (concat lines), few) in
+    line_short n number line lines less (fonts_short n (number + 1) lines less)
+
 pub fonts_fit : FontsFitTheirText
-fonts_fit bytes fonts e = subst (AreShort (length bytes)) e (fonts_short (length bytes) false 1 (bare_lines bytes) (all_shorter bytes))
+fonts_fit bytes fonts e = subst (AreShort (length bytes)) e (fonts_short (length bytes) 1 (bare_lines bytes) (all_shorter bytes) false)

@@ -69,15 +69,15 @@ decoded_back (x ∷ []) all =
     let small : x < 256 = All-head IsByte x [] all in
     let n = number_of_bytes x 0 0 in
     let zeros : number_coded (character_of 262144 n) (character_of 4096 n) 33 33 ≡ n =
-        ap (λ c. number_coded (character_of 262144 n) (character_of 4096 n) c 33) (sym (no_more_bits x))
-        ∙ (ap (λ d. number_coded (character_of 262144 n) (character_of 4096 n) (character_of 64 n) d) (sym (no_low_bits x 0)) ∙ number_back n (fits x 0 0 small (omega arith) (omega arith))) in
+    ap (λ c. number_coded (character_of 262144 n) (character_of 4096 n) c 33) (sym (no_more_bits x))
+    ∙ (ap (λ d. number_coded (character_of 262144 n) (character_of 4096 n) (character_of 64 n) d) (sym (no_low_bits x 0)) ∙ number_back n (fits x 0 0 small (omega arith) (omega arith))) in
     ap (λ m. high_byte m ∷ []) zeros ∙ ap (λ b. b ∷ []) (high_back x 0 0 small (omega arith) (omega arith))
 decoded_back (x ∷ y ∷ []) all =
     let small : x < 256 = All-head IsByte x (y ∷ []) all in
     let small_y : y < 256 = All-head IsByte y [] (All-tail IsByte x (y ∷ []) all) in
     let n = number_of_bytes x y 0 in
     let zeros : number_coded (character_of 262144 n) (character_of 4096 n) (character_of 64 n) 33 ≡ n =
-        ap (λ d. number_coded (character_of 262144 n) (character_of 4096 n) (character_of 64 n) d) (sym (no_low_bits x y)) ∙ number_back n (fits x y 0 small small_y (omega arith)) in
+    ap (λ d. number_coded (character_of 262144 n) (character_of 4096 n) (character_of 64 n) d) (sym (no_low_bits x y)) ∙ number_back n (fits x y 0 small small_y (omega arith)) in
     ap (λ m. high_byte m ∷ middle_byte m ∷ []) zeros
     ∙ (ap (λ b. b ∷ middle_byte n ∷ []) (high_back x y 0 small small_y (omega arith)) ∙ ap (λ b. x ∷ b ∷ []) (middle_back x y 0 small small_y (omega arith)))
 decoded_back (x ∷ y ∷ z ∷ more) all =

@@ -16,7 +16,7 @@ pub loop-line-init : goal.loop-line-init
 loop-line-init c =
     let marked = c.past_mark.ensures in
     let given : c.into_iter-line-iterator.result ≡ map without_terminator (lines_of (past_mark c.args.bytes.now)) =
-        c.into_iter-line-iterator.ensures.into_iter_gives ∙ (c.lines-line-items.ensures.value ∙ ap (λ (bytes : List ℕ). map without_terminator (lines_of bytes)) marked) in
+    c.into_iter-line-iterator.ensures.into_iter_gives ∙ (c.lines-line-items.ensures.value ∙ ap (λ (bytes : List ℕ). map without_terminator (lines_of bytes)) marked) in
     let first : c.new-reading.result.number ≡ 1 = ap (λ (r : Reading). r.number) c.new-reading.ensures in
     record {
       read = ap (λ (r : Reading). answer_from r (map trimmed c.into_iter-line-iterator.result)) c.new-reading.ensures
@@ -38,7 +38,7 @@ loop-line-preserved c =
     let next = c.in_ok-reading.reading in
     let here = ap (λ (lines : List (List ℕ)). answer_from c.loop-line.reading (map trimmed lines)) (sym c.in-Some.ensures.steps) ∙ c.loop-line.invariant.read in
     let stepped : line_step (trimmed c.in-Some.line.now) c.loop-line.reading ≡ Ok next =
-        subst (λ (line : List ℕ). line_step line c.loop-line.reading ≡ Ok next) c.trimmed.ensures c.in_ok-reading.ensures in
+    subst (λ (line : List ℕ). line_step line c.loop-line.reading ≡ Ok next) c.trimmed.ensures c.in_ok-reading.ensures in
     let number = number_after (trimmed c.in-Some.line.now) c.loop-line.reading next stepped in
     record {
       read = sym (read_on (trimmed c.in-Some.line.now) (map trimmed c.next.new.self) c.loop-line.reading next stepped) ∙ here;
