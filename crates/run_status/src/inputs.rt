@@ -1,6 +1,6 @@
 //! What a job works on.
 
-ghost use Rattle.std.specs.Prelude.{◌≡◌, ◌<◌, All, IfOk, length};
+ghost use Rattle.std.specs.Prelude.{◌≡◌, ◌<◌, ◌++◌, All, IfOk, OnOk, length};
 ghost use Rattle.ass_script.specs.Ranges.{IsScript};
 ghost use Rattle.bdf_font.specs.Ranges.{IsFont};
 ghost use Rattle.run_status.specs.Files.{IsAnswerReadCounted};
@@ -9,7 +9,7 @@ ghost use Rattle.run_status.specs.Inputs.{AreFilesRead, AreFontFilesRead, AreRea
 use crate::files::{fetch_fonts, fetch_script};
 use crate::{Status, What};
 use ass_io::Shelf;
-use ass_num::{Items, Text};
+use ass_num::{Items, Mem, Text};
 use ass_script::Script;
 use bdf_font::Font;
 use std::alloc::Global;
@@ -40,6 +40,14 @@ fn fetch_fonts_at<S: Shelf>(
     fetch_fonts(alloc, shelf, index, &names[index])
 }
 
+/// Puts the fonts of a file behind others.
+fn append_fonts(all: &mut Vec<Font>, file: Items<Font>) -> Mem<()>
+    ensures { OnOk result (all.new.items ≡ all.old.items ++ file) }
+{
+    all.append(&mut file.into_vec())?;
+    Ok(())
+}
+
 /// The fonts of all files together.
 fn fetch_all_fonts<S: Shelf>(
     alloc: Global,
@@ -51,15 +59,15 @@ fn fetch_all_fonts<S: Shelf>(
     ensures counted { IsAnswerReadCounted result (S.faults shelf.old) (S.faults shelf.new) }
     ensures fonts { IfOk result (All IsFont) }
 {
-    let mut fonts = Vec::new(alloc);
+    let mut all = Vec::new(alloc);
     for index in 0..names.len() {
         let file = fetch_fonts_at(alloc, shelf, names, index)?;
-        fonts.append(&mut file.into_vec())?;
+        append_fonts(&mut all, file)?;
     }
-    if fonts.len() > MAX_FONTS {
+    if all.len() > MAX_FONTS {
         return Err(Status::TooLarge(What::Fonts, MAX_FONTS));
     }
-    Ok(Items::from_vec(fonts))
+    Ok(Items::from_vec(all))
 }
 
 /// The script and the fonts of files.

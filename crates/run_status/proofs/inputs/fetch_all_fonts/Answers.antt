@@ -10,8 +10,8 @@ pub loop-index-init : goal.loop-index-init
 loop-index-init g c = record {
   told = refl;
   faults = refl;
-  found = read_none _ _ _ c.new-fonts.ensures.items;
-  each = subst (All IsFont) (sym c.new-fonts.ensures.items) (All-nil IsFont);
+  found = read_none _ _ _ c.new-all.ensures.items;
+  each = subst (All IsFont) (sym c.new-all.ensures.items) (All-nil IsFont);
 }
 
 pub returns-in_err-file-clause-read : goal.returns-in_err-file-clause-read
@@ -26,10 +26,10 @@ pub loop-index-preserved : goal.loop-index-preserved
 loop-index-preserved g c =
     let kept = c.loop-index.invariant in
     let file = c.in_ok-file.file in
-    let more : c.append.new.self.items ≡ c.loop-index.fonts.items ++ file = grind (arith, common_steps) in
+    let more : c.append_fonts.new.all.items ≡ c.loop-index.all.items ++ file = c.in_ok-append_fonts.ensures in
     record {
       told = c.fetch_fonts_at.ensures.kept ∙ kept.told;
       faults = c.in_ok-file.ensures.counted ∙ kept.faults;
-      found = read_more (g.S.Shelf.told c.args.shelf.now) (g.S.Shelf.told c.loop-index.shelf) c.args.names.now c.loop-index.index c.loop-index.fonts.items c.append.new.self.items file kept.told kept.found c.in_ok-file.ensures.read more;
-      each = subst (All IsFont) (sym more) (All-append IsFont c.loop-index.fonts.items file kept.each c.in_ok-file.ensures.fonts);
+      found = read_more (g.S.Shelf.told c.args.shelf.now) (g.S.Shelf.told c.loop-index.shelf) c.args.names.now c.loop-index.index c.loop-index.all.items c.append_fonts.new.all.items file kept.told kept.found c.in_ok-file.ensures.read more;
+      each = subst (All IsFont) (sym more) (All-append IsFont c.loop-index.all.items file kept.each c.in_ok-file.ensures.fonts);
     }

@@ -7,6 +7,6 @@ abbrev pub invariant-loop-index : goal.invariant-loop-index
 invariant-loop-index g l = record {
   told : g.S.Shelf.told l.shelf ≡ g.S.Shelf.told l.initial.shelf;
   faults : g.S.Shelf.faults l.shelf ≡ g.S.Shelf.faults l.initial.shelf;
-  found : ReadSoFar (g.S.Shelf.told l.initial.shelf) l.names l.index l.fonts.items;
-  each : All IsFont l.fonts.items;
+  found : ReadSoFar (g.S.Shelf.told l.initial.shelf) l.names l.index l.all.items;
+  each : All IsFont l.all.items;
 }
