@@ -1,5 +1,5 @@
 -- What is read is no longer than the script.
-use Rattle.std.proofs.Common.{◌≡◌, ℕ, suc, ◌+◌, ◌-◌, ◌%◌, ◌<◌, ◌≤◌, zero, Bool, true, false, cond, ◌&&◌, List, [], ◌∷◌, ◌++◌, length, map, take, drop, Result, Ok, Err, Option, Some, None, refl, sym, ap, ◌∙◌, subst, arith, length-append, length-drop, length-take}
+use Rattle.std.proofs.Common.{ℕ, suc, ◌+◌, ◌-◌, ◌%◌, ◌≤◌, zero, Bool, true, false, cond, ◌&&◌, List, [], ◌∷◌, length, map, take, drop, Result, Ok, Err, Option, Some, None, ap, subst, arith, length-append, length-drop, length-take}
 use Rattle.std.specs.Prelude.{All, ◌==◌, nat_lt, slice_index}
 use Rattle.std.specs.List.{before_first, concat, prefix_len, position_or_len, suffix_len, starts_with}
 use Rattle.std.specs.Bool.{nat_eq}

@@ -1,5 +1,5 @@
 -- Inner: what one line does to what was read of the lines before it. What a script holds stands in Attachments.
-use Rattle.std.specs.Prelude.{ℕ, ◌+◌, ◌&&◌, Bool, true, false, if◌then◌else◌, List, [], ◌∷◌, ◌++◌, Result, Ok, Err}
+use Rattle.std.specs.Prelude.{ℕ, ◌+◌, Bool, true, false, if◌then◌else◌, List, [], ◌∷◌, ◌++◌, Result, Ok, Err}
 use Rattle.script_fonts.specs.Attachments.{is_data, begins_section, begins_fonts, begins_font, file_name_in, font_of_characters}
 use Rattle.script_fonts.specs.declared.font.ScriptFont.{ScriptFont}
 use Rattle.script_fonts.specs.declared.refusal.ScriptFontsRefusal.{ScriptFontsRefusal}

@@ -1,4 +1,4 @@
-use Rattle.std.proofs.Common.{◌≡◌, ◌+◌, ◌∷◌, [], Err, Ok, map, length, sym, ◌∙◌, ap, subst, arith, rules}
+use Rattle.std.proofs.Common.{◌≡◌, Err, Ok, map, length, sym, ◌∙◌, ap, subst, arith, rules}
 use Rattle.std.specs.Prelude.{ℕ, List, Result}
 use Rattle.bstr.specs.Text.{lines_of, without_terminator}
 use Rattle.ass_num.specs.Blanks.{trimmed}
