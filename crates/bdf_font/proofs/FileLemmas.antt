@@ -1,5 +1,5 @@
 -- Each file has one answer.
-use Rattle.std.proofs.Common.{◌≡◌, ℕ, ◌<◌, ◌≤◌, Bool, true, false, List, [], ◌∷◌, length, map, Result, Ok, Err, refl, ap, sym, ◌∙◌, arith}
+use Rattle.std.proofs.Common.{◌≡◌, ℕ, ◌<◌, ◌≤◌, Bool, true, false, List, [], ◌∷◌, length, map, Result, Ok, Err, All, refl, ap, sym, ◌∙◌, subst, arith}
 use Rattle.std.specs.Prelude.{IfOk}
 use Rattle.std.proofs.lemmas.List.{length-map}
 use Rattle.sfnt_font.specs.declared.cause.SfntRefusal.{SfntRefusal}
@@ -10,7 +10,7 @@ use Rattle.sfnt_font.specs.Fonts.{sfnts_of}
 use Rattle.bdf_font.specs.declared.cause.FontFileRefusal.{FontFileRefusal}
 use Rattle.bdf_font.specs.declared.cause.FontFileRefusal.TheVariants.{Lines, Bytes}
 use Rattle.bdf_font.specs.declared.cause.FontRefusal.{FontRefusal}
-use Rattle.bdf_font.specs.Files.{IsKindAnswer, IsLinesAnswer, outlines_answer}
+use Rattle.bdf_font.specs.Files.{IsFontFileAnswer, IsKindAnswer, IsLinesAnswer, outlines_answer}
 use Rattle.bdf_font.specs.Fonts.{FontValue}
 use Rattle.bdf_font.specs.Grammar.{IsFontAnswer}
 use Rattle.bdf_font.specs.Laws.{FilesHaveFonts, OneFileAnswer}
@@ -18,6 +18,8 @@ use Rattle.bdf_font.specs.Limits.{max_fonts}
 use Rattle.bdf_font.specs.Outlines.{outline_font}
 use Rattle.sfnt_font.proofs.ReadLemmas.{fonts_counted}
 use Rattle.bdf_font.specs.Lines.{text_lines}
+use Rattle.bdf_font.specs.Ranges.{IsFont}
+use Rattle.std.proofs.lemmas.List.Elements.{All-cons, All-nil}
 use Rattle.bdf_font.specs.Steps.{no_font_lines}
 use Rattle.bdf_font.proofs.Walk.{lines_read}
 use Rattle.bdf_font.proofs.Answering.{one_answer, read_answer}
@@ -64,3 +66,18 @@ kind_has_fonts false bytes fonts (font, only, is) =
 
 pub files_have_fonts : FilesHaveFonts
 files_have_fonts bytes fonts is = kind_has_fonts (is_sfnt_kind (u32_at bytes 0)) bytes fonts is
+
+-- ---- what the calls that read a file answer
+
+pub lines_file : (bytes : List ℕ) (fonts : List FontValue) (font : FontValue) → is_sfnt_kind (u32_at bytes 0) ≡ false → fonts ≡ font ∷ [] → IsFontAnswer (text_lines bytes) (Ok font) →
+    IsFontFileAnswer bytes (Ok fonts)
+lines_file bytes fonts font other e is = subst (λ (b : Bool). IsKindAnswer b bytes (Ok fonts)) (sym other) (font, e, is)
+
+pub lines_refused : (bytes : List ℕ) (refused : FontRefusal) → is_sfnt_kind (u32_at bytes 0) ≡ false → IsFontAnswer (text_lines bytes) (Err refused) → IsFontFileAnswer bytes (Err (Lines refused))
+lines_refused bytes refused other is = subst (λ (b : Bool). IsKindAnswer b bytes (Err (Lines refused))) (sym other) is
+
+pub outlines_file : (bytes : List ℕ) (answer : Result (List FontValue) FontFileRefusal) → is_sfnt_kind (u32_at bytes 0) ≡ true → answer ≡ outlines_answer (sfnts_of bytes) → IsFontFileAnswer bytes answer
+outlines_file bytes answer is e = subst (λ (b : Bool). IsKindAnswer b bytes answer) (sym is) e
+
+pub one_sound : (fonts : List FontValue) (font : FontValue) → fonts ≡ font ∷ [] → IsFont font → All IsFont fonts
+one_sound fonts font e is = subst (All IsFont) (sym e) (All-cons IsFont font [] is (All-nil IsFont))

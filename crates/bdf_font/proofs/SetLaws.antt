@@ -63,7 +63,7 @@ tied name bold italic n (font ∷ fonts) h =
     let is = All-head IsBitmapFont font fonts h in
     let d = bitmap_distance bold italic in
     subst (λ (o : Option ℕ). AreTied d (cond (same_name font.name name) n (named_from (n + 1) name fonts))
-        (nearer (option_map (λ (distance : ℕ). record { place = n; distance = distance }) o) (nearest_from name bold italic (n + 1) fonts))) (sym (distance_is name bold italic font is.by_name))
+    (nearer (option_map (λ (distance : ℕ). record { place = n; distance = distance }) o) (nearest_from name bold italic (n + 1) fonts))) (sym (distance_is name bold italic font is.by_name))
     (tied_step d n (named_from (n + 1) name fonts) (same_name font.name name) (nearest_from name bold italic (n + 1) fonts) (tied name bold italic (n + 1) fonts (All-tail IsBitmapFont font fonts h)))
 
 pub found_by_name : BitmapsAreFoundByName
@@ -77,8 +77,8 @@ none_missing glyphs None h inside = refl
 none_missing [] (Some k) h inside = absurd (omega (arith, inside))
 none_missing (first ∷ glyphs) (Some k) h inside =
     let is : is_missing_at (first ∷ glyphs) k ≡ false =
-        ap (λ o. option_map_or (λ (glyph : FontGlyph). glyph.missing) o true) (slice_get-get_or (first ∷ glyphs) k first inside)
-        ∙ All-get_or (λ (glyph : FontGlyph). glyph.missing ≡ false) (first ∷ glyphs) k first inside h in
+    ap (λ o. option_map_or (λ (glyph : FontGlyph). glyph.missing) o true) (slice_get-get_or (first ∷ glyphs) k first inside)
+    ∙ All-get_or (λ (glyph : FontGlyph). glyph.missing ≡ false) (first ∷ glyphs) k first inside h in
     ap (λ b. cond b None (Some k)) is
 
 own_glyph : (number : ℕ) (o p : Option ℕ) → option_or (glyph_place_in number o) (glyph_place_in number (option_or o p)) ≡ glyph_place_in number (option_or o p)

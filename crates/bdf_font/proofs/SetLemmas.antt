@@ -121,7 +121,7 @@ mapped_from_within : (all : List FontValue) (c n : ℕ) (fonts : List FontValue)
 mapped_from_within all c n [] h = tt
 mapped_from_within all c n (font ∷ fonts) h =
     let within : IfSome (mapped_place font c) (λ k. k < length (slice_index_or all n no_font).glyphs) =
-        subst (λ (own : FontValue). IfSome (mapped_place font c) (λ k. k < length own.glyphs)) (sym (stand_first all n font fonts h)) (mapped_within font c) in
+    subst (λ (own : FontValue). IfSome (mapped_place font c) (λ k. k < length own.glyphs)) (sym (stand_first all n font fonts h)) (mapped_within font c) in
     or_within (IsGlyphPlaceIn all) (glyph_place_in n (mapped_place font c)) (mapped_from c (n + 1) fonts)
     (placed_within all n (mapped_place font c) (omega (arith, h.few)) within) (mapped_from_within all c (n + 1) fonts (stand_next all n font fonts h))
 

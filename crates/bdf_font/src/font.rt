@@ -378,8 +378,9 @@ fn is_among(name: &[u8], names: &FlatLists<u8>) -> bool
 fn without_at(name: &[u8]) -> &[u8]
     ensures { result.now ≡ without_at name.now }
 {
-    match name {
-        [b'@', rest @ ..] => rest,
-        _ => name,
+    if name.len() > 0 && name[0] == b'@' {
+        &name[1..]
+    } else {
+        name
     }
 }

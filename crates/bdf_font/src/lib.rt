@@ -22,6 +22,9 @@ pub use cause::{FontCause, FontFileRefusal, FontRefusal};
 pub use file::read_fonts;
 pub use font::{Font, glyph};
 pub use glyphs::{FontGlyph, GlyphShape, Pixels};
-pub use laws::{bitmap_rings_stay, bitmaps_stay_found, first_fault, last_line_counts, nearest_is_found, one_answer};
+pub use laws::{
+    bitmap_rings_stay, bitmaps_stay_found, first_fault, last_line_counts, nearest_is_found,
+    one_answer,
+};
 pub use read::read_font;
 pub use sets::{FontSet, GlyphPlace, find_font, set_glyph};

@@ -55,7 +55,11 @@ fn name_distance(name: &str, bold: bool, italic: bool, font: &Font) -> Option<u3
     if font.is_of_family(name) {
         return Some(style_distance(bold, italic, font));
     }
-    if font.has_full_name(name) { Some(0) } else { None }
+    if font.has_full_name(name) {
+        Some(0)
+    } else {
+        None
+    }
 }
 
 /// The font at a place, if it answers to the name.

@@ -1,5 +1,5 @@
 -- Files that agree on the tables of a font have the same numbers.
-use Rattle.std.proofs.Common.{◌≡◌, ℕ, ◌+◌, ◌≤◌, List, Option, Some, None, Ok, refl, ap, ◌∙◌, arith}
+use Rattle.std.proofs.Common.{◌≡◌, ℕ, ◌+◌, ◌/◌, ◌≤◌, cond, List, Option, Some, None, Ok, refl, ap, ◌∙◌, arith}
 use Rattle.std.specs.Prelude.{◌==◌, IfSome}
 use Rattle.sfnt_font.specs.declared.directory.Table.{Table}
 use Rattle.sfnt_font.specs.declared.numbers.Bar.{Bar}
@@ -64,9 +64,9 @@ bar_same a b least (Some table) middle size other h room space =
     cc
 
 weight_same : (a b : List ℕ) (head : Table) (metrics : Option Table) → AgreeOnLong a b 54 head → IfSome metrics (AgreeOnLong a b 78) → weight_of a head metrics ≡ weight_of b head metrics
-weight_same a b head None h k = ap (λ n. if has_low_bit n then 700 else 400) (u16_in_table_same a b 54 head 44 h (omega arith))
+weight_same a b head None h k = ap (λ n. cond (has_low_bit n) 700 400) (u16_in_table_same a b 54 head 44 h (omega arith))
 weight_same a b head (Some metrics) h k =
-    let style : style_weight a head ≡ style_weight b head = ap (λ n. if has_low_bit n then 700 else 400) (u16_in_table_same a b 54 head 44 h (omega arith)) in
+    let style : style_weight a head ≡ style_weight b head = ap (λ n. cond (has_low_bit n) 700 400) (u16_in_table_same a b 54 head 44 h (omega arith)) in
     let weight : u16_at a (metrics.place + 4) ≡ u16_at b (metrics.place + 4) = u16_in_table_same a b 78 metrics 4 k (omega arith) in
     cc
 

@@ -2,13 +2,16 @@
 use Rattle.std.proofs.Common.{◌≡◌, ℕ, zero, suc, ◌+◌, ◌-◌, ◌*◌, ◌<◌, ◌≤◌, Bool, true, false, cond, List, [], ◌∷◌, ◌++◌, length, All, Option, Some, None, Result, Ok, Err, refl, ap, sym, ◌∙◌, subst, arith}
 use Rattle.std.specs.Prelude.{◌==◌, nat_lt, IfOk}
 use Rattle.std.proofs.lemmas.Bool.Decides.{nat_tests}
-use Rattle.std.proofs.lemmas.List.{append_assoc, append-nil}
+use Rattle.std.proofs.lemmas.List.{append_assoc, append-nil, length-append}
+use Rattle.std.proofs.lemmas.List.Elements.{All-push}
 use Rattle.sfnt_font.specs.declared.cause.SfntRefusal.{SfntRefusal}
 use Rattle.sfnt_font.specs.declared.font.SfntFont.{SfntFont}
 use Rattle.sfnt_font.specs.declared.cause.SfntRefusal.TheVariants.{BadFont, OutOfMemory, TooLarge}
 use Rattle.sfnt_font.specs.declared.maps.CharacterMap.{CharacterMap}
 use Rattle.sfnt_font.specs.Answers.{Answers, WantsBehind, then_read}
 use Rattle.sfnt_font.specs.Directory.{directory_at, tables_of}
+use Rattle.sfnt_font.specs.Maps.{segments_of}
+use Rattle.sfnt_font.specs.Names.{font_names}
 use Rattle.sfnt_font.specs.Numbers.{sfnt_numbers}
 use Rattle.sfnt_font.specs.Bytes.{u32_at}
 use Rattle.sfnt_font.specs.Faces.{bad_face, collection_count, collection_kind, face_count, is_compressed, max_faces, unless_misplaced, face_place}
@@ -102,6 +105,26 @@ file_read bytes count counted = ap (λ r. then_read r (sfnts_from bytes 0)) coun
 pub none_read : (bytes : List ℕ) (count : ℕ) → with_rest [] (sfnts_from bytes 0 (count - 0)) ≡ sfnts_from bytes 0 count
 none_read bytes count = none_before (sfnts_from bytes 0 (count - 0)) ∙ ap (sfnts_from bytes 0) (omega arith)
 
+-- what the calls that read the faces answer
+pub read_next : (bytes : List ℕ) (count face : ℕ) (fonts : List SfntFont) (font : SfntFont) → AreRead bytes count face fonts → face < count → sfnt_of bytes face ≡ Ok font → IsSfntFont font →
+    AreRead bytes count (face + 1) (fonts ++ font ∷ [])
+read_next bytes count face fonts font h less is sound = record {
+  joined = face_read bytes count face fonts font less is ∙ h.joined;
+  sound = All-push IsSfntFont fonts font h.sound sound;
+  counted = length-append fonts (font ∷ []) ∙ ap (λ n. n + 1) h.counted;
+}
+
+pub refused_later : (bytes : List ℕ) (count face : ℕ) (fonts : List SfntFont) (refusal : SfntRefusal) → face_count bytes ≡ Ok count → AreRead bytes count face fonts → face < count →
+    Answers (sfnt_of bytes face) (Err refusal) → Answers (sfnts_of bytes) (Err refusal)
+refused_later bytes count face fonts (BadFont at cause) counted h less e =
+    sym (file_read bytes count counted ∙ (sym h.joined ∙ face_refused bytes count face fonts (BadFont at cause) less (sym e)))
+refused_later bytes count face fonts (TooLarge most) counted h less e =
+    sym (file_read bytes count counted ∙ (sym h.joined ∙ face_refused bytes count face fonts (TooLarge most) less (sym e)))
+refused_later bytes count face fonts OutOfMemory counted h less e = tt
+
+pub all_faces : (bytes : List ℕ) (count face : ℕ) (fonts : List SfntFont) → face_count bytes ≡ Ok count → AreRead bytes count face fonts → count ≤ face → Ok fonts ≡ sfnts_of bytes
+all_faces bytes count face fonts counted h end = sym (file_read bytes count counted ∙ (sym h.joined ∙ all_read bytes count face fonts end))
+
 -- ---- a first face without a map
 
 then_refused : {T U V : Type 0} (r : Result T SfntRefusal) (f : T → Result U SfntRefusal) (g : T → Result V SfntRefusal) (refusal : SfntRefusal) →
@@ -117,7 +140,8 @@ map_refused bytes face refusal =
     then_refused (directory_at bytes (face_place bytes face)) (directory_map bytes) (font_of bytes) refusal (λ directory.
     then_refused (tables_of bytes directory) _ _ refusal (λ tables.
     then_refused (sfnt_numbers bytes directory tables) _ _ refusal (λ numbers e.
-    ap (λ r. then_read r _) e))))
+    ap (λ r. then_read r (λ m. then_read (segments_of bytes m) (λ segments.
+    Ok (record { bytes = bytes; tables = tables; numbers = numbers; character_map = m; segments = segments; names = font_names bytes directory })))) e))))
 
 -- a call that answers so answers the reading
 answers_are : {T : Type 0} (reading result : Result T SfntRefusal) → result ≡ reading → Answers reading result
@@ -132,13 +156,14 @@ first_refused bytes count refusal is counted e =
     let more : count ≡ suc (count - 1) = omega (arith, some) in
     file_read bytes count counted ∙ (ap (sfnts_from bytes 0) more ∙ ap (λ r. then_read r (λ font. then_read (sfnts_from bytes 1 (count - 1)) (λ fonts. Ok (font ∷ fonts)))) e)
 
-pub refused_first : (bytes : List ℕ) (count : ℕ) (refusal : SfntRefusal) → face_count bytes ≡ Ok count → face_map bytes 0 ≡ Err refusal → Answers (sfnts_of bytes) (Err refusal)
-refused_first bytes count refusal counted e =
-    answers_are (sfnts_of bytes) (Err refusal) (sym (first_refused bytes count refusal (faces_counted bytes) counted (map_refused bytes 0 refusal e)))
+pub refused_first : (bytes : List ℕ) (count : ℕ) (refusal : SfntRefusal) (result : Result (List SfntFont) SfntRefusal) → face_count bytes ≡ Ok count → face_map bytes 0 ≡ Err refusal →
+    result ≡ Err refusal → Answers (sfnts_of bytes) result
+refused_first bytes count refusal result counted e is =
+    answers_are (sfnts_of bytes) result (is ∙ sym (first_refused bytes count refusal (faces_counted bytes) counted (map_refused bytes 0 refusal e)))
 
-pub refused_without_memory : (bytes : List ℕ) (refusal : SfntRefusal) → face_map bytes 0 ≡ Err refusal → WantsBehind (face_map bytes 0) (Err refusal)
+pub refused_without_memory : (bytes : List ℕ) (refusal : SfntRefusal) → face_map bytes 0 ≡ Err refusal → WantsBehind {U = List SfntFont} (face_map bytes 0) (Err refusal)
 refused_without_memory bytes refusal e =
-    subst (λ (r : Result CharacterMap SfntRefusal). WantsBehind r (Err refusal)) (sym e) (λ memory.
+    subst (λ (r : Result CharacterMap SfntRefusal). WantsBehind {U = List SfntFont} r (Err refusal)) (sym e) (λ memory.
     let out : refusal ≡ OutOfMemory = cc in
     map_wants_no_memory bytes 0 (e ∙ ap Err out))
 
@@ -146,15 +171,15 @@ refused_without_memory bytes refusal e =
 
 pub sfnts_counted : (bytes : List ℕ) (face n : ℕ) → IfOk (sfnts_from bytes face n) (λ fonts. length fonts ≡ n)
 sfnts_counted bytes face zero = refl
-sfnts_counted bytes face (suc n) = first (sfnt_of bytes face)
+sfnts_counted bytes face (suc n) = first (sfnt_of bytes face) (sfnts_counted bytes (face + 1) n)
   where
     more : (font : SfntFont) (r : Result (List SfntFont) SfntRefusal) → IfOk r (λ fonts. length fonts ≡ n) → IfOk (then_read r (λ fonts. Ok (font ∷ fonts))) (λ fonts. length fonts ≡ suc n)
     more font (Ok fonts) counted = ap suc counted
     more font (Err refusal) counted = tt
 
-    first : (r : Result SfntFont SfntRefusal) → IfOk (then_read r (λ font. then_read (sfnts_from bytes (face + 1) n) (λ fonts. Ok (font ∷ fonts)))) (λ fonts. length fonts ≡ suc n)
-    first (Ok font) = more font (sfnts_from bytes (face + 1) n) (sfnts_counted bytes (face + 1) n)
-    first (Err refusal) = tt
+    first : (r : Result SfntFont SfntRefusal) → IfOk (sfnts_from bytes (face + 1) n) (λ fonts. length fonts ≡ n) → IfOk (then_read r (λ font. then_read (sfnts_from bytes (face + 1) n) (λ fonts. Ok (font ∷ fonts)))) (λ fonts. length fonts ≡ suc n)
+    first (Ok font) counted = more font (sfnts_from bytes (face + 1) n) counted
+    first (Err refusal) counted = tt
 
 counted_by : (bytes : List ℕ) (r : Result ℕ SfntRefusal) → IfOk r IsCount → IfOk (then_read r (sfnts_from bytes 0)) (λ fonts. IsCount (length fonts))
 counted_by bytes (Err refusal) is = tt

@@ -15,6 +15,7 @@ names_name = 1851878757
 
 abbrev pub least_names : ℕ
 least_names = 6
+
 -- ---- which records count
 
 -- the numbers of a family's name and of a full name, as records have them
@@ -52,7 +53,6 @@ records_from bytes names kind rank at (suc n) =
 -- all records that are
 abbrev pub records_of : List ℕ → Table → ℕ → ℕ → List ℕ
 records_of bytes names kind rank = records_from bytes names kind rank (names.place + 6) (u16_at bytes (names.place + 2))
-
 
 -- ---- the text of a record
 
