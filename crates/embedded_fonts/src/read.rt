@@ -10,7 +10,7 @@ ghost use Rattle.embedded_fonts.specs.Embedded.{AreHeldFonts, IsEmbeddedAnswer, 
 ghost use Rattle.embedded_fonts.specs.declared.refusal.EmbeddedRefusal.TheVariants.{Data};
 
 use crate::refusal::EmbeddedRefusal;
-use ass_num::{Items, Mem};
+use ass_num::Items;
 use bdf_font::{Font, FontFileRefusal, FontRefusal, read_fonts};
 use script_fonts::{ScriptFont, ScriptFontsRefusal, fonts_fit_their_text, read_script_fonts};
 use std::alloc::Global;
@@ -42,8 +42,14 @@ fn few_fonts(fonts: Result<Items<Font>, EmbeddedRefusal>) -> Result<Items<Font>,
     ensures { result ≡ at_most_a_set fonts }
 {
     match fonts {
-        Ok(fonts) if fonts.len() > MAX_FONTS => Err(EmbeddedRefusal::TooMany),
-        fonts => fonts,
+        Ok(fonts) => {
+            if fonts.len() > MAX_FONTS {
+                Err(EmbeddedRefusal::TooMany)
+            } else {
+                Ok(fonts)
+            }
+        }
+        Err(refusal) => Err(refusal),
     }
 }
 
@@ -56,8 +62,7 @@ fn fonts_held(
     ensures answer { result ≢ Err (Data memory_refusal) → AreHeldFonts 0 files result }
     ensures fonts { IfOk result (All IsFont) }
 {
-    let count = files.len();
-    let mut fonts = Vec::new(alloc);
+    let mut fonts = Vec::with_capacity(alloc, files.len())?;
     let mut place = 0;
     for file in files.into_vec() {
         let more = fonts_of_file(alloc, place, file.bytes)?;
