@@ -50,8 +50,12 @@ held_next files place fonts more file left h is each = record {
 pub held_small : (files : List ScriptFont) (place : ℕ) (fonts : List FontValue) (file : ScriptFont) (left : List ScriptFont) → HeldSoFar files place fonts (file ∷ left) → length file.bytes ≤ max_file_bytes
 held_small files place fonts file left h = All-head IsSmall file left h.small
 
-pub held_all : (files : List ScriptFont) (place : ℕ) (fonts : List FontValue) → HeldSoFar files place fonts [] → AreHeldFonts 0 files (Ok fonts)
+held_all : (files : List ScriptFont) (place : ℕ) (fonts : List FontValue) → HeldSoFar files place fonts [] → AreHeldFonts 0 files (Ok fonts)
 held_all files place fonts h = subst (λ all. AreHeldFonts 0 files (Ok all)) (append-nil fonts) (h.answers (Ok []) refl)
+
+pub held_done : (files : List ScriptFont) (place : ℕ) (fonts : List FontValue) (left : List ScriptFont) → HeldSoFar files place fonts left → length left ≡ 0 → AreHeldFonts 0 files (Ok fonts)
+held_done files place fonts [] h none = held_all files place fonts h
+held_done files place fonts (file ∷ left) h none = absurd (omega (arith, none))
 
 -- The first file that isn't read decides.
 pub held_stopped : (files : List ScriptFont) (place : ℕ) (fonts : List FontValue) (file : ScriptFont) (left : List ScriptFont) (why : EmbeddedRefusal) → HeldSoFar files place fonts (file ∷ left) →
