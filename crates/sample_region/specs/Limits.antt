@@ -8,3 +8,10 @@ max_inside = 65536
 -- the farthest from 0 that a row may lie that is swept
 abbrev pub max_swept : ℕ
 max_swept = 100000
+
+-- the farthest from 0 that a number may be that is divided to find where an edge crosses a row, and what it is divided by
+abbrev pub max_divided : ℕ
+max_divided = 2199023255552
+
+abbrev pub max_divisor : ℕ
+max_divisor = 2097152
