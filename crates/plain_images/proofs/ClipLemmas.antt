@@ -1,7 +1,8 @@
 -- Rows of masks under a drawn clip: left of its box, in it and right of it.
-use Rattle.std.proofs.Common.{◌≡◌, ℕ, ◌+◌, ◌-◌, ◌*◌, ◌<◌, ◌≤◌, ◌⊎◌, inl, inr, ⊎_elim, ℤ, pos, ◌+ℤ◌, ◌-ℤ◌, Bool, true, false, ◌&&◌, if◌then◌else◌, List, length, slice_index, take, drop, refl, sym, ◌∙◌, arith}
+use Rattle.std.proofs.Common.{◌≡◌, ℕ, ◌+◌, ◌-◌, ◌*◌, ◌<◌, ◌≤◌, ◌⊎◌, inl, inr, ⊎_elim, ℤ, pos, ◌+ℤ◌, ◌-ℤ◌, Bool, true, false, ◌&&◌, if◌then◌else◌, List, ◌++◌, length, length-append, get_or, slice_index, take, drop, refl, sym, ap, ◌∙◌, arith}
 use Rattle.std.proofs.lemmas.Bool.{cases_lt}
 use Rattle.std.proofs.lemmas.Int.{ints}
+use Rattle.std.proofs.lemmas.List.{append-nil, drop_all, get_or_append_left, get_or-append-add, take_all}
 use Rattle.ass_num.specs.Masks.{MaskValue}
 use Rattle.blend.specs.Areas.{in_moved_box}
 use Rattle.blend.specs.Blending.{by_255}
@@ -89,6 +90,25 @@ adds_both f g n m old mid new first second same =
           rw at (second.added (k - n) (omega arith) ∙ rw number at (same (k - n) (omega arith))))
           (cases_lt k n);
     }
+
+-- bytes of a row that were put under those of a clip
+pub adds_clipped : (inverse : Bool) (row over old mid new : List ℕ) → mid ≡ old ++ row → length row ≡ length over → length new ≡ length mid
+    → ((k : ℕ) → k < length old → slice_index new k ≡ slice_index mid k)
+    → ((k : ℕ) → k < length over → slice_index new (length old + k) ≡ by_255 (slice_index mid (length old + k) * (if inverse then 255 - slice_index over k else slice_index over k)))
+    → AddsBytes (λ k. by_255 (slice_index row k * (if inverse then 255 - slice_index over k else slice_index over k))) (length row) old new
+adds_clipped inverse row over old mid new is count long same clipped =
+    let n : length mid ≡ length old + length row = ap length is ∙ length-append old row in
+    record {
+      count = omega arith;
+      kept = λ k h. same k h ∙ ap (λ (xs : List ℕ). get_or xs k 0) is ∙ get_or_append_left old row 0 k h;
+      added = λ k h. clipped k (omega arith)
+          ∙ ap (λ (m : ℕ). by_255 (m * (if inverse then 255 - slice_index over k else slice_index over k))) (ap (λ (xs : List ℕ). get_or xs (length old + k) 0) is ∙ get_or-append-add old row k 0);
+    }
+
+-- what is written back into a vector of the same length
+pub written : (n : ℕ) (new old : List ℕ) → length new ≡ length old → n ≡ length old → take n (new ++ drop (length new) old) ≡ new
+written n new old same whole =
+    ap (λ xs. take n (new ++ xs)) (drop_all (length new) old (omega arith)) ∙ ap (take n) (append-nil new) ∙ take_all n new (omega arith)
 
 -- outside the box nothing is left of a byte, or all of it
 pub under_none : (inverse : Bool) (m over : ℕ) → over ≡ 0 → (if inverse then m else 0) ≡ by_255 (m * (if inverse then 255 - over else over))

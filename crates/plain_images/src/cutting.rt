@@ -93,6 +93,29 @@ fn add_outside(bytes: &mut Vec<u8>, row: &[u8], inverse: bool) -> Mem<()>
     Ok(())
 }
 
+/// Adds what a drawn clip leaves of the bytes of a row from column `x` on, of which this part lies in its box.
+fn add_parts(
+    bytes: &mut Vec<u8>,
+    row: &[u8],
+    x: u32,
+    j: u32,
+    clip: DrawnClip<'_>,
+    part: Part,
+) -> Mem<()>
+    requires frame { x + length row.now ≤ max_frame_side }
+    requires part { IsPartInBox (placed_of clip.over) x j (length row.now) part }
+    requires some { part.from < part.to }
+    ensures { OnOk result (AddsBytes (λ k. stencilled (Drawn clip.entry.over.mask.now clip.entry.over.x clip.entry.over.y clip.entry.inverse) (x + k) j
+        (slice_index row.now k))
+        (length row.now) bytes.old.items bytes.new.items) }
+{
+    let over = cover(clip.over, x + part.from as u32, x + part.to as u32, j);
+    add_outside(bytes, &row[..part.from], clip.inverse)?;
+    add_inside(bytes, &row[part.from..part.to], over, clip.inverse)?;
+    add_outside(bytes, &row[part.to..], clip.inverse)?;
+    Ok(())
+}
+
 /// Adds what a drawn clip leaves of the bytes of a row from column `x` on.
 fn add_under(bytes: &mut Vec<u8>, row: &[u8], x: u32, j: u32, clip: DrawnClip<'_>) -> Mem<()>
     requires { x + length row.now ≤ max_frame_side }
@@ -101,13 +124,11 @@ fn add_under(bytes: &mut Vec<u8>, row: &[u8], x: u32, j: u32, clip: DrawnClip<'_
         (length row.now) bytes.old.items bytes.new.items) }
 {
     let part = part_in_box(clip.over, x, row.len(), j);
-    if part.from == part.to {
-        return add_outside(bytes, row, clip.inverse);
+    if part.from < part.to {
+        return add_parts(bytes, row, x, j, clip, part);
     }
-    let over = cover(clip.over, x + part.from as u32, x + part.to as u32, j);
-    add_outside(bytes, &row[..part.from], clip.inverse)?;
-    add_inside(bytes, &row[part.from..part.to], over, clip.inverse)?;
-    add_outside(bytes, &row[part.to..], clip.inverse)
+    add_outside(bytes, row, clip.inverse)?;
+    Ok(())
 }
 
 /// Adds what a drawn clip leaves of `w` pixels of a mask's box, from column `x` of row `j` on.

@@ -54,7 +54,7 @@ divisor_small y e divisor number growth is =
     let d = is.divisor in
     let u = is.crossed.edge.upper in
     let v = is.crossed.edge.lower in
-    let begun = is.crossed.begun in
+    let starts = is.crossed.begun in
     let unended = is.crossed.unended in
     (omega (arith, ints), omega (arith, ints))
 

@@ -8,7 +8,7 @@ pub quotient-at-requires-clause-positive : goal.quotient-at-requires-clause-posi
 quotient-at-requires-clause-positive c =
     let u = c.requires.edge.upper in
     let v = c.requires.edge.lower in
-    let begun = c.requires.begun in
+    let starts = c.requires.begun in
     let unended = c.requires.unended in
     omega (arith, ints)
 
@@ -16,7 +16,7 @@ pub quotient-at-requires-clause-small : goal.quotient-at-requires-clause-small
 quotient-at-requires-clause-small c =
     let u = c.requires.edge.upper in
     let v = c.requires.edge.lower in
-    let begun = c.requires.begun in
+    let starts = c.requires.begun in
     let unended = c.requires.unended in
     omega (arith, ints)
 
@@ -24,7 +24,7 @@ pub overflow_sub-growth : goal.overflow_sub-growth
 overflow_sub-growth c =
     let u = c.requires.edge.upper in
     let v = c.requires.edge.lower in
-    let begun = c.requires.begun in
+    let starts = c.requires.begun in
     let unended = c.requires.unended in
     omega (arith, ints)
 
@@ -32,7 +32,7 @@ pub overflow_mul-growth : goal.overflow_mul-growth
 overflow_mul-growth c =
     let u = c.requires.edge.upper in
     let v = c.requires.edge.lower in
-    let begun = c.requires.begun in
+    let starts = c.requires.begun in
     let unended = c.requires.unended in
     omega (arith, ints)
 
@@ -40,7 +40,7 @@ pub quotient-step-requires-clause-low : goal.quotient-step-requires-clause-low
 quotient-step-requires-clause-low c =
     let u = c.requires.edge.upper in
     let v = c.requires.edge.lower in
-    let begun = c.requires.begun in
+    let starts = c.requires.begun in
     let unended = c.requires.unended in
     omega (arith, ints)
 
@@ -48,7 +48,7 @@ pub quotient-step-requires-clause-high : goal.quotient-step-requires-clause-high
 quotient-step-requires-clause-high c =
     let u = c.requires.edge.upper in
     let v = c.requires.edge.lower in
-    let begun = c.requires.begun in
+    let starts = c.requires.begun in
     let unended = c.requires.unended in
     omega (arith, ints)
 
@@ -56,7 +56,7 @@ pub quotient-step-requires-clause-small : goal.quotient-step-requires-clause-sma
 quotient-step-requires-clause-small c =
     let u = c.requires.edge.upper in
     let v = c.requires.edge.lower in
-    let begun = c.requires.begun in
+    let starts = c.requires.begun in
     let unended = c.requires.unended in
     omega (arith, ints)
 
@@ -64,7 +64,7 @@ pub rest-requires-clause-small : goal.rest-requires-clause-small
 rest-requires-clause-small c =
     let u = c.requires.edge.upper in
     let v = c.requires.edge.lower in
-    let begun = c.requires.begun in
+    let starts = c.requires.begun in
     let unended = c.requires.unended in
     omega (arith, ints)
 
@@ -72,7 +72,7 @@ pub rest-requires-2-clause-low : goal.rest-requires-2-clause-low
 rest-requires-2-clause-low c =
     let u = c.requires.edge.upper in
     let v = c.requires.edge.lower in
-    let begun = c.requires.begun in
+    let starts = c.requires.begun in
     let unended = c.requires.unended in
     omega (arith, ints)
 
@@ -80,7 +80,7 @@ pub rest-requires-2-clause-high : goal.rest-requires-2-clause-high
 rest-requires-2-clause-high c =
     let u = c.requires.edge.upper in
     let v = c.requires.edge.lower in
-    let begun = c.requires.begun in
+    let starts = c.requires.begun in
     let unended = c.requires.unended in
     omega (arith, ints)
 
@@ -88,7 +88,7 @@ pub rest-requires-2-clause-small : goal.rest-requires-2-clause-small
 rest-requires-2-clause-small c =
     let u = c.requires.edge.upper in
     let v = c.requires.edge.lower in
-    let begun = c.requires.begun in
+    let starts = c.requires.begun in
     let unended = c.requires.unended in
     omega (arith, ints)
 
@@ -96,7 +96,7 @@ pub overflow_cast-result : goal.overflow_cast-result
 overflow_cast-result c =
     let u = c.requires.edge.upper in
     let v = c.requires.edge.lower in
-    let begun = c.requires.begun in
+    let starts = c.requires.begun in
     let unended = c.requires.unended in
     let e = c.args.e in
     let fa : FitsSigned w64 e.upper.x = omega (arith, ints) in
@@ -126,7 +126,7 @@ pub overflow_cast-result-2 : goal.overflow_cast-result-2
 overflow_cast-result-2 c =
     let u = c.requires.edge.upper in
     let v = c.requires.edge.lower in
-    let begun = c.requires.begun in
+    let starts = c.requires.begun in
     let unended = c.requires.unended in
     let e = c.args.e in
     let fa : FitsSigned w64 e.upper.x = omega (arith, ints) in
@@ -156,7 +156,7 @@ pub returns-clause-carried : goal.returns-clause-carried
 returns-clause-carried c =
     let u = c.requires.edge.upper in
     let v = c.requires.edge.lower in
-    let begun = c.requires.begun in
+    let starts = c.requires.begun in
     let unended = c.requires.unended in
     let e = c.args.e in
     let fa : FitsSigned w64 e.upper.x = omega (arith, ints) in
