@@ -1,5 +1,6 @@
 -- Rows of masks under a drawn clip: left of its box, in it and right of it.
 use Rattle.std.proofs.Common.{◌≡◌, ℕ, ◌+◌, ◌-◌, ◌*◌, ◌<◌, ◌≤◌, ◌⊎◌, inl, inr, ⊎_elim, ℤ, pos, ◌+ℤ◌, ◌-ℤ◌, Bool, true, false, ◌&&◌, if◌then◌else◌, List, ◌++◌, length, length-append, get_or, slice_index, take, drop, refl, sym, ap, ◌∙◌, arith}
+use Rattle.std.proofs.Math.Bool.{and-true}
 use Rattle.std.proofs.lemmas.Bool.{cases_lt}
 use Rattle.std.proofs.lemmas.Int.{ints}
 use Rattle.std.proofs.lemmas.List.{append-nil, drop_all, get_or_append_left, get_or-append-add, take_all}
@@ -20,10 +21,6 @@ pub record IsRowPane (row : Pane) (x j count : ℕ) : Type 0 where
   pub top : row.y1 ≡ pos j
   pub bottom : row.y2 ≡ pos (j + 1)
 
-and_true : (b : Bool) → (b && true) ≡ b
-and_true true = refl
-and_true false = refl
-
 -- a pixel of the row lies in the box where it lies in what both have
 in_part : (moved : MaskValue × ℤ × ℤ) (row part : Pane) (x j count k : ℕ) → IsRowPane row x j count → part ≡ both_panes (box_pane moved.0 moved.1 moved.2) row
     → k < count → in_pane part (pos (x + k)) (pos j) ≡ in_moved_box moved (x + k) j
@@ -33,7 +30,7 @@ in_part moved row part x j count k is e l =
         (omega (arith, ints, is.left)) (omega (arith, ints, is.right)) (omega (arith, ints, is.top)) (omega (arith, ints, is.bottom)) in
     let both : in_pane (both_panes box row) (pos (x + k)) (pos j) ≡ (in_pane box (pos (x + k)) (pos j) && in_pane row (pos (x + k)) (pos j)) =
     in_both box row (pos (x + k)) (pos j) in
-    rw e (both ∙ rw here (and_true (in_pane box (pos (x + k)) (pos j))))
+    rw e (both ∙ rw here (and-true (in_pane box (pos (x + k)) (pos j))))
 
 -- the row doesn't meet the box
 pub part_none : (moved : MaskValue × ℤ × ℤ) (row part : Pane) (x j count : ℕ) → IsRowPane row x j count → part ≡ both_panes (box_pane moved.0 moved.1 moved.2) row

@@ -3,7 +3,7 @@ use Rattle.std.proofs.Common.{◌≡◌, ℤ, pos, negsuc, neg_ℤ, ◌+ℤ◌, 
 use Rattle.std.proofs.lemmas.Int.{ints}
 use Rattle.sample_region.specs.Carried.{IsCarriedTo, cut_number}
 use Rattle.sample_region.specs.Edges.{IsCrossed}
-use Rattle.sample_region.specs.Limits.{max_divided, max_divisor}
+use Rattle.sample_region.specs.Limits.{max_divided, max_fourfold_height}
 use Rattle.sample_region.specs.declared.carried.LiveEdge.{LiveEdge}
 use Rattle.sample_region.specs.declared.edges.SweepEdge.{SweepEdge}
 use Rattle.sample_region.proofs.CarryLemmas.{cut_near, whole_near}
@@ -49,7 +49,7 @@ begun_near y e divisor number growth at step is whole steps =
     cut_near y live (begun y e divisor number growth at step is whole steps)
 
 -- the divisor is small and above 0
-pub divisor_small : (y : ℤ) (e : SweepEdge) (divisor number growth : ℤ) → IsDividedFor y e divisor number growth → (pos 0 <ℤ divisor) × (divisor ≤ℤ pos max_divisor)
+pub divisor_small : (y : ℤ) (e : SweepEdge) (divisor number growth : ℤ) → IsDividedFor y e divisor number growth → (pos 0 <ℤ divisor) × (divisor ≤ℤ pos max_fourfold_height)
 divisor_small y e divisor number growth is =
     let d = is.divisor in
     let u = is.crossed.edge.upper in
@@ -58,7 +58,7 @@ divisor_small y e divisor number growth is =
     let unended = is.crossed.unended in
     (omega (arith, ints), omega (arith, ints))
 
-pub growth_small : (y : ℤ) (e : SweepEdge) (divisor number growth : ℤ) → IsDividedFor y e divisor number growth → (neg_ℤ (pos max_divisor) ≤ℤ growth) × (growth ≤ℤ pos max_divisor)
+pub growth_small : (y : ℤ) (e : SweepEdge) (divisor number growth : ℤ) → IsDividedFor y e divisor number growth → (neg_ℤ (pos max_fourfold_height) ≤ℤ growth) × (growth ≤ℤ pos max_fourfold_height)
 growth_small y e divisor number growth is =
     let g = is.growth in
     let u = is.crossed.edge.upper in
@@ -66,8 +66,8 @@ growth_small y e divisor number growth is =
     (omega (arith, ints), omega (arith, ints))
 
 -- so does what it grows by
-pub step_near : (y : ℤ) (e : SweepEdge) (divisor number growth step : ℤ) → IsDividedFor y e divisor number growth → IsWhole growth divisor step → (neg_ℤ (pos max_divisor) ≤ℤ step) × (step ≤ℤ pos max_divisor)
+pub step_near : (y : ℤ) (e : SweepEdge) (divisor number growth step : ℤ) → IsDividedFor y e divisor number growth → IsWhole growth divisor step → (neg_ℤ (pos max_fourfold_height) ≤ℤ step) × (step ≤ℤ pos max_fourfold_height)
 step_near y e divisor number growth step is steps =
     let d = divisor_small y e divisor number growth is in
     let g = growth_small y e divisor number growth is in
-    whole_near growth divisor step max_divisor d.0 g.0 g.1 steps.least steps.most
+    whole_near growth divisor step max_fourfold_height d.0 g.0 g.1 steps.least steps.most

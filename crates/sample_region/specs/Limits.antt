@@ -9,9 +9,10 @@ max_inside = 65536
 abbrev pub max_swept : ℕ
 max_swept = 100000
 
--- the farthest from 0 that a number may be that is divided to find where an edge crosses a row, and what it is divided by
+-- the farthest from 0 that a number may be that is divided to find where an edge crosses a row
 abbrev pub max_divided : ℕ
 max_divided = 2199023255552
 
-abbrev pub max_divisor : ℕ
-max_divisor = 2097152
+-- the most that four times the height of an edge may be, by which it is divided
+abbrev pub max_fourfold_height : ℕ
+max_fourfold_height = 2097152

@@ -4,7 +4,7 @@ ghost use Rattle.std.specs.Prelude.{◌≡◌, ℤ, pos, neg_ℤ, ◌+ℤ◌, �
 ghost use Rattle.std.specs.Int.{int_div_euclid};
 ghost use Rattle.sample_region.specs.Carried.{GoOnFrom, IsCarriedTo};
 ghost use Rattle.sample_region.specs.Edges.{IsCrossed};
-ghost use Rattle.sample_region.specs.Limits.{max_divided, max_divisor};
+ghost use Rattle.sample_region.specs.Limits.{max_divided, max_fourfold_height};
 
 use crate::cut::number_of;
 use crate::edges::SweepEdge;
@@ -25,7 +25,7 @@ fn quotient(number: i64, divisor: i64) -> i64
     requires low { neg_ℤ (pos max_divided) ≤ℤ number }
     requires high { number ≤ℤ pos max_divided }
     requires positive { pos 0 <ℤ divisor }
-    requires small { divisor ≤ℤ pos max_divisor }
+    requires small { divisor ≤ℤ pos max_fourfold_height }
     ensures value { result ≡ int_div_euclid number divisor }
     ensures least { (result *ℤ divisor) ≤ℤ number }
     ensures most { number <ℤ (result *ℤ divisor +ℤ divisor) }
@@ -38,7 +38,7 @@ fn rest(number: i64, divisor: i64, whole: i64) -> i64
     requires low { neg_ℤ (pos max_divided) ≤ℤ number }
     requires high { number ≤ℤ pos max_divided }
     requires positive { pos 0 <ℤ divisor }
-    requires small { divisor ≤ℤ pos max_divisor }
+    requires small { divisor ≤ℤ pos max_fourfold_height }
     requires least { (whole *ℤ divisor) ≤ℤ number }
     requires most { number <ℤ (whole *ℤ divisor +ℤ divisor) }
     ensures { result ≡ number -ℤ whole *ℤ divisor }

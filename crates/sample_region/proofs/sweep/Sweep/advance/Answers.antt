@@ -59,3 +59,6 @@ returns-clause-swept_to c =
     let u = simp (to_z-of_z c.ranges.y) at c.in_ok-begin_edges.ensures.above in
     let b = simp (to_z-of_z c.ranges.y) at c.in_ok-begin_edges.ensures.below in
     record { active_is = a; above = u; below = b; within = c.in_ok-begin_edges.ensures.within }
+
+pub returns-clause-carried : goal.returns-clause-carried
+returns-clause-carried c = simp (to_z-of_z c.ranges.y) at c.in_ok-begin_edges.ensures.carried
