@@ -11,9 +11,9 @@ use Rattle.sample_region.proofs.CarryLemmas.{cut_near, whole_near}
 -- What is divided for an edge: by which divisor, for where it crosses, and for by how much that grows.
 pub record IsDividedFor (y : ℤ) (e : SweepEdge) (divisor number growth : ℤ) : Type 0 where
   pub crossed : IsCrossed y e
-  pub divisor : divisor ≡ pos 4 *ℤ (e.lower.y -ℤ e.upper.y)
-  pub number : number ≡ cut_number e.upper e.lower y
-  pub growth : growth ≡ pos 4 *ℤ (e.lower.x -ℤ e.upper.x)
+  pub divisor_is : divisor ≡ pos 4 *ℤ (e.lower.y -ℤ e.upper.y)
+  pub number_is : number ≡ cut_number e.upper e.lower y
+  pub growth_is : growth ≡ pos 4 *ℤ (e.lower.x -ℤ e.upper.x)
 
 -- A quotient, by what it leaves.
 pub record IsWhole (number divisor whole : ℤ) : Type 0 where
@@ -32,11 +32,11 @@ begun y e divisor number growth at step is whole steps =
     let step_most = steps.most in
     record {
       crossed = is.crossed;
-      divisor = is.divisor;
-      sum = put_back (at *ℤ divisor) number ∙ is.number;
+      divisor = is.divisor_is;
+      sum = put_back (at *ℤ divisor) number ∙ is.number_is;
       low = omega (arith, ints);
       high = omega (arith, ints);
-      step_sum = put_back (step *ℤ divisor) growth ∙ is.growth;
+      step_sum = put_back (step *ℤ divisor) growth ∙ is.growth_is;
       step_low = omega (arith, ints);
       step_high = omega (arith, ints);
     }
@@ -51,7 +51,7 @@ begun_near y e divisor number growth at step is whole steps =
 -- the divisor is small and above 0
 pub divisor_small : (y : ℤ) (e : SweepEdge) (divisor number growth : ℤ) → IsDividedFor y e divisor number growth → (pos 0 <ℤ divisor) × (divisor ≤ℤ pos max_fourfold_height)
 divisor_small y e divisor number growth is =
-    let d = is.divisor in
+    let d = is.divisor_is in
     let u = is.crossed.edge.upper in
     let v = is.crossed.edge.lower in
     let starts = is.crossed.begun in
@@ -60,7 +60,7 @@ divisor_small y e divisor number growth is =
 
 pub growth_small : (y : ℤ) (e : SweepEdge) (divisor number growth : ℤ) → IsDividedFor y e divisor number growth → (neg_ℤ (pos max_fourfold_height) ≤ℤ growth) × (growth ≤ℤ pos max_fourfold_height)
 growth_small y e divisor number growth is =
-    let g = is.growth in
+    let g = is.growth_is in
     let u = is.crossed.edge.upper in
     let v = is.crossed.edge.lower in
     (omega (arith, ints), omega (arith, ints))
@@ -71,3 +71,11 @@ step_near y e divisor number growth step is steps =
     let d = divisor_small y e divisor number growth is in
     let g = growth_small y e divisor number growth is in
     whole_near growth divisor step max_fourfold_height d.0 g.0 g.1 steps.least steps.most
+
+-- what is divided for by how much the crossing grows
+pub growth_divided : (y : ℤ) (e : SweepEdge) → IsCrossed y e
+    → (neg_ℤ (pos max_divided) ≤ℤ (pos 4 *ℤ (e.lower.x -ℤ e.upper.x))) × ((pos 4 *ℤ (e.lower.x -ℤ e.upper.x)) ≤ℤ pos max_divided) × ((pos 4 *ℤ (e.lower.y -ℤ e.upper.y)) ≤ℤ pos max_fourfold_height)
+growth_divided y e crossed =
+    let u = crossed.edge.upper in
+    let v = crossed.edge.lower in
+    (omega (arith, ints), omega (arith, ints), omega (arith, ints))

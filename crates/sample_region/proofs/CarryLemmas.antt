@@ -1,7 +1,7 @@
 -- Quotients and rests, carried from row to row.
-use Rattle.std.proofs.Common.{◌≡◌, ℕ, zero, suc, ◌+◌, ◌*◌, ◌/◌, ◌<◌, ◌≤◌, ℤ, pos, negsuc, neg_ℤ, ◌+ℤ◌, ◌-ℤ◌, ◌*ℤ◌, ◌≤ℤ◌, ◌<ℤ◌, ◌⊎◌, inl, inr, ⊎_elim, refl, sym, ap, ◌∙◌, arith, Bool, true, false, cond, int_lt, List, [], ◌∷◌, ◌++◌, All, length, get_or, take, drop, map, filter}
+use Rattle.std.proofs.Common.{◌≡◌, ℕ, zero, suc, ◌+◌, ◌*◌, ◌/◌, ◌<◌, ◌≤◌, ℤ, pos, negsuc, neg_ℤ, ◌+ℤ◌, ◌-ℤ◌, ◌*ℤ◌, ◌≤ℤ◌, ◌<ℤ◌, ◌⊎◌, inl, inr, ⊎_elim, refl, sym, ap, ◌∙◌, arith, Bool, true, false, cond, int_lt, FitsSigned, w32, w64, List, [], ◌∷◌, ◌++◌, All, length, get_or, take, drop, map, filter}
 use Rattle.std.proofs.Math.Nat.{div-mul-le_self, lt-div-mul-add, mul-le-mul_left}
-use Rattle.std.proofs.Math.IntN.{*ℤ_comm, suc_ℤ, suc_ℤ-*ℤ, zero-*ℤ}
+use Rattle.std.proofs.Math.IntN.{*ℤ_comm, +ℤ_one, suc_ℤ-*ℤ, zero-*ℤ}
 use Rattle.std.proofs.lemmas.Int.{ints, by_lt_z}
 use Rattle.std.specs.Int.{int_div_euclid}
 use Rattle.ass_num.specs.declared.geometry.Point.{Point}
@@ -70,7 +70,7 @@ next_number a b y =
     ap (λ z. (b.x -ℤ a.x) *ℤ z +ℤ (a.x +ℤ pos 2) *ℤ (b.y -ℤ a.y) -ℤ pos 1) e ∙ omega (arith, ints, f)
   where
     one_more : (z x : ℤ) → (z +ℤ pos 1) *ℤ x ≡ z *ℤ x +ℤ x
-    one_more z x = let e : z +ℤ pos 1 ≡ suc_ℤ z = omega (arith, ints) in rw e (suc_ℤ-*ℤ z x)
+    one_more z x = ap (λ k. k *ℤ x) (+ℤ_one z) ∙ suc_ℤ-*ℤ z x
 
     spread : (x z : ℤ) → x *ℤ (z +ℤ pos 4) ≡ x *ℤ z +ℤ pos 4 *ℤ x
     spread x z =
@@ -289,6 +289,21 @@ next_at_over y live more g =
     let k = from_positive live.divisor o3 in
     let new : LiveEdge = record live { at = (live.at +ℤ live.step) +ℤ pos 1; over = (live.over +ℤ live.step_over) -ℤ live.divisor } in
     cut_near (y +ℤ pos 4) new (carried_over y live new k.0 k.2 refl refl refl refl refl refl more g.1 g.0)
+
+-- what is over once the divisor is taken off
+pub over_less : (y : ℤ) (live : LiveEdge) → live.divisor ≤ℤ (live.over +ℤ live.step_over) → GoOnFrom y live → FitsSigned w64 ((live.over +ℤ live.step_over) -ℤ live.divisor)
+over_less y live more g =
+    let o = next_over y live g in
+    let o1 = o.1 in
+    let o3 = o.3 in
+    omega (arith, ints)
+
+-- such numbers fit a sample's type
+pub fits_sample : (z : ℤ) → negsuc 65535 ≤ℤ z → z ≤ℤ pos 65536 → FitsSigned w32 z
+fits_sample z low high = omega (arith, ints)
+
+pub fits_before : (z : ℤ) → negsuc 65535 ≤ℤ (z +ℤ pos 1) → (z +ℤ pos 1) ≤ℤ pos 65536 → FitsSigned w32 z
+fits_before z low high = omega (arith, ints)
 
 abbrev pub no_live : LiveEdge
 no_live = record { edge = record { upper = record { x = pos 0; y = pos 0 }; lower = record { x = pos 0; y = pos 0 }; down = false }; at = pos 0; over = pos 0; step = pos 0; step_over = pos 0; divisor = pos 0 }

@@ -27,7 +27,7 @@ pub fn number_of(a: Point, b: Point, y: i64) -> i64
     requires above { a.y ≤ℤ y }
     requires below { y <ℤ b.y }
     ensures value { result ≡ cut_number a b y }
-    ensures low { negsuc 2199023255551 ≤ℤ result }
+    ensures low { negsuc 2199023255552 ≤ℤ result }
     ensures high { result ≤ℤ pos 2199023255552 }
 {
     let right = multiplied(b.x - a.x, y - a.y);

@@ -1,7 +1,7 @@
 use Rattle.std.proofs.Common.{arith, rules, refl, to_z-of_z, FitsSigned, ℤ, pos, ◌≡◌, ◌+ℤ◌, ◌-ℤ◌, ◌*ℤ◌, ◌≤ℤ◌, ◌<ℤ◌, w32, w64}
 use Rattle.std.proofs.lemmas.Int.{ints}
 use Rattle.sample_region.specs.Carried.{cut_number}
-use Rattle.sample_region.proofs.BegunLemmas.{IsDividedFor, IsWhole, begun, begun_near, step_near}
+use Rattle.sample_region.proofs.BegunLemmas.{IsDividedFor, IsWhole, begun, begun_near, growth_divided, step_near}
 use Rattle.sample_region.proofs.carried.begun_edge.Goals as goal
 
 pub quotient-at-requires-clause-positive : goal.quotient-at-requires-clause-positive
@@ -72,25 +72,46 @@ pub rest-requires-2-clause-low : goal.rest-requires-2-clause-low
 rest-requires-2-clause-low c =
     let u = c.requires.edge.upper in
     let v = c.requires.edge.lower in
-    let starts = c.requires.begun in
-    let unended = c.requires.unended in
-    omega (arith, ints)
+    let e = c.args.e in
+    let fa : FitsSigned w64 e.upper.x = omega (arith, ints) in
+    let fb : FitsSigned w64 e.upper.y = omega (arith, ints) in
+    let fc : FitsSigned w64 e.lower.x = omega (arith, ints) in
+    let fd : FitsSigned w64 e.lower.y = omega (arith, ints) in
+    let fh : FitsSigned w64 (e.lower.y -ℤ e.upper.y) = omega (arith, ints) in
+    let fw : FitsSigned w64 (e.lower.x -ℤ e.upper.x) = omega (arith, ints) in
+    let fi : FitsSigned w64 (pos 4 *ℤ (e.lower.y -ℤ e.upper.y)) = omega (arith, ints) in
+    let fg : FitsSigned w64 (pos 4 *ℤ (e.lower.x -ℤ e.upper.x)) = omega (arith, ints) in
+    simp to_z-of_z (growth_divided c.args.y c.args.e c.requires).0
 
 pub rest-requires-2-clause-high : goal.rest-requires-2-clause-high
 rest-requires-2-clause-high c =
     let u = c.requires.edge.upper in
     let v = c.requires.edge.lower in
-    let starts = c.requires.begun in
-    let unended = c.requires.unended in
-    omega (arith, ints)
+    let e = c.args.e in
+    let fa : FitsSigned w64 e.upper.x = omega (arith, ints) in
+    let fb : FitsSigned w64 e.upper.y = omega (arith, ints) in
+    let fc : FitsSigned w64 e.lower.x = omega (arith, ints) in
+    let fd : FitsSigned w64 e.lower.y = omega (arith, ints) in
+    let fh : FitsSigned w64 (e.lower.y -ℤ e.upper.y) = omega (arith, ints) in
+    let fw : FitsSigned w64 (e.lower.x -ℤ e.upper.x) = omega (arith, ints) in
+    let fi : FitsSigned w64 (pos 4 *ℤ (e.lower.y -ℤ e.upper.y)) = omega (arith, ints) in
+    let fg : FitsSigned w64 (pos 4 *ℤ (e.lower.x -ℤ e.upper.x)) = omega (arith, ints) in
+    simp to_z-of_z (growth_divided c.args.y c.args.e c.requires).1
 
 pub rest-requires-2-clause-small : goal.rest-requires-2-clause-small
 rest-requires-2-clause-small c =
     let u = c.requires.edge.upper in
     let v = c.requires.edge.lower in
-    let starts = c.requires.begun in
-    let unended = c.requires.unended in
-    omega (arith, ints)
+    let e = c.args.e in
+    let fa : FitsSigned w64 e.upper.x = omega (arith, ints) in
+    let fb : FitsSigned w64 e.upper.y = omega (arith, ints) in
+    let fc : FitsSigned w64 e.lower.x = omega (arith, ints) in
+    let fd : FitsSigned w64 e.lower.y = omega (arith, ints) in
+    let fh : FitsSigned w64 (e.lower.y -ℤ e.upper.y) = omega (arith, ints) in
+    let fw : FitsSigned w64 (e.lower.x -ℤ e.upper.x) = omega (arith, ints) in
+    let fi : FitsSigned w64 (pos 4 *ℤ (e.lower.y -ℤ e.upper.y)) = omega (arith, ints) in
+    let fg : FitsSigned w64 (pos 4 *ℤ (e.lower.x -ℤ e.upper.x)) = omega (arith, ints) in
+    simp to_z-of_z (growth_divided c.args.y c.args.e c.requires).2
 
 pub overflow_cast-result : goal.overflow_cast-result
 overflow_cast-result c =
@@ -112,7 +133,7 @@ overflow_cast-result c =
     let fq : FitsSigned w64 c.quotient-at.result = search rules in
     let fs : FitsSigned w64 c.quotient-step.result = search rules in
     let is : IsDividedFor c.args.y e (pos 4 *ℤ (e.lower.y -ℤ e.upper.y)) c.number_of-number.result (pos 4 *ℤ (e.lower.x -ℤ e.upper.x)) =
-    record { crossed = c.requires; divisor = refl; number = simp to_z-of_z at c.number_of-number.ensures.value; growth = refl } in
+    record { crossed = c.requires; divisor_is = refl; number_is = simp to_z-of_z at c.number_of-number.ensures.value; growth_is = refl } in
     let whole : IsWhole c.number_of-number.result (pos 4 *ℤ (e.lower.y -ℤ e.upper.y)) c.quotient-at.result =
     record { least = simp to_z-of_z at c.quotient-at.ensures.least; most = simp to_z-of_z at c.quotient-at.ensures.most } in
     let steps : IsWhole (pos 4 *ℤ (e.lower.x -ℤ e.upper.x)) (pos 4 *ℤ (e.lower.y -ℤ e.upper.y)) c.quotient-step.result =
@@ -142,7 +163,7 @@ overflow_cast-result-2 c =
     let fq : FitsSigned w64 c.quotient-at.result = search rules in
     let fs : FitsSigned w64 c.quotient-step.result = search rules in
     let is : IsDividedFor c.args.y e (pos 4 *ℤ (e.lower.y -ℤ e.upper.y)) c.number_of-number.result (pos 4 *ℤ (e.lower.x -ℤ e.upper.x)) =
-    record { crossed = c.requires; divisor = refl; number = simp to_z-of_z at c.number_of-number.ensures.value; growth = refl } in
+    record { crossed = c.requires; divisor_is = refl; number_is = simp to_z-of_z at c.number_of-number.ensures.value; growth_is = refl } in
     let whole : IsWhole c.number_of-number.result (pos 4 *ℤ (e.lower.y -ℤ e.upper.y)) c.quotient-at.result =
     record { least = simp to_z-of_z at c.quotient-at.ensures.least; most = simp to_z-of_z at c.quotient-at.ensures.most } in
     let steps : IsWhole (pos 4 *ℤ (e.lower.x -ℤ e.upper.x)) (pos 4 *ℤ (e.lower.y -ℤ e.upper.y)) c.quotient-step.result =
@@ -172,7 +193,7 @@ returns-clause-carried c =
     let fq : FitsSigned w64 c.quotient-at.result = search rules in
     let fs : FitsSigned w64 c.quotient-step.result = search rules in
     let is : IsDividedFor c.args.y e (pos 4 *ℤ (e.lower.y -ℤ e.upper.y)) c.number_of-number.result (pos 4 *ℤ (e.lower.x -ℤ e.upper.x)) =
-    record { crossed = c.requires; divisor = refl; number = simp to_z-of_z at c.number_of-number.ensures.value; growth = refl } in
+    record { crossed = c.requires; divisor_is = refl; number_is = simp to_z-of_z at c.number_of-number.ensures.value; growth_is = refl } in
     let whole : IsWhole c.number_of-number.result (pos 4 *ℤ (e.lower.y -ℤ e.upper.y)) c.quotient-at.result =
     record { least = simp to_z-of_z at c.quotient-at.ensures.least; most = simp to_z-of_z at c.quotient-at.ensures.most } in
     let steps : IsWhole (pos 4 *ℤ (e.lower.x -ℤ e.upper.x)) (pos 4 *ℤ (e.lower.y -ℤ e.upper.y)) c.quotient-step.result =

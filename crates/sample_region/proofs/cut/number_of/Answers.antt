@@ -1,4 +1,4 @@
-use Rattle.std.proofs.Common.{arith, rules, to_z-of_z, FitsSigned, pos, ◌≡◌, ◌+ℤ◌, ◌-ℤ◌, ◌*ℤ◌, w64}
+use Rattle.std.proofs.Common.{arith, rules, to_z-of_z, FitsSigned, pos, ◌≡◌, ◌+ℤ◌, ◌-ℤ◌, ◌*ℤ◌, ◌≤ℤ◌, negsuc, w64}
 use Rattle.std.proofs.lemmas.Int.{ints}
 use Rattle.sample_region.specs.Carried.{cut_number}
 use Rattle.sample_region.proofs.SignedLemmas.{same_sum}
@@ -26,10 +26,26 @@ pub overflow_sub-result : goal.overflow_sub-result
 overflow_sub-result c = omega (arith, ints)
 
 pub returns-clause-low : goal.returns-clause-low
-returns-clause-low c = omega (arith, ints)
+returns-clause-low c =
+    let fj : FitsSigned w64 c.multiplied-right.result = search rules in
+    let fk : FitsSigned w64 c.multiplied-start.result = search rules in
+    let fl : FitsSigned w64 (c.multiplied-right.result +ℤ c.multiplied-start.result) = omega (arith, ints) in
+    let fm : FitsSigned w64 (c.multiplied-right.result +ℤ c.multiplied-start.result -ℤ pos 1) = omega (arith, ints) in
+    let r = c.multiplied-right.ensures.low in
+    let s = c.multiplied-start.ensures.low in
+    let bound : negsuc 2199023255552 ≤ℤ (c.multiplied-right.result +ℤ c.multiplied-start.result -ℤ pos 1) = omega (arith, ints) in
+    simp to_z-of_z bound
 
 pub returns-clause-high : goal.returns-clause-high
-returns-clause-high c = omega (arith, ints)
+returns-clause-high c =
+    let fj : FitsSigned w64 c.multiplied-right.result = search rules in
+    let fk : FitsSigned w64 c.multiplied-start.result = search rules in
+    let fl : FitsSigned w64 (c.multiplied-right.result +ℤ c.multiplied-start.result) = omega (arith, ints) in
+    let fm : FitsSigned w64 (c.multiplied-right.result +ℤ c.multiplied-start.result -ℤ pos 1) = omega (arith, ints) in
+    let r = c.multiplied-right.ensures.high in
+    let s = c.multiplied-start.ensures.high in
+    let bound : (c.multiplied-right.result +ℤ c.multiplied-start.result -ℤ pos 1) ≤ℤ pos 2199023255552 = omega (arith, ints) in
+    simp to_z-of_z bound
 
 pub returns-clause-value : goal.returns-clause-value
 returns-clause-value c =

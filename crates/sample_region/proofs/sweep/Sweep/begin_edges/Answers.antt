@@ -21,6 +21,9 @@ returns-then-y-e-clause-below c =
     let h : c.args.y <ℤ e.upper.y = lt_is c.args.y e.upper.y (rw (to_z-of_z c.ranges.y, to_z-of_z f) at c.if-y-e.true) in
     rw c.loop-k.invariant.begun (all_below c.args.y c.args.edges.now c.loop-k.k none c.requires.sweepable.ordered c.loop-k-test.true h)
 
+pub returns-then-y-e-clause-carried : goal.returns-then-y-e-clause-carried
+returns-then-y-e-clause-carried c = rw (to_z-of_z c.ranges.y) at c.loop-k.invariant.carried
+
 pub take_in-requires-clause-begun : goal.take_in-requires-clause-begun
 take_in-requires-clause-begun c =
     let e = get_or c.args.edges.now c.loop-k.k none in
