@@ -16,3 +16,6 @@ returns-then-is_steady-clause-carried c =
     let e = rw (to_z-of_z c.ranges.j) at c.height_of.ensures in
     let s = rw (to_z-of_z f, e) at (c.if-is_steady.ensures (search rules)) in
     steady_carried (place (c.args.j -ℤ pos 1)) (place c.args.j) c.args.self.now.sweep.active.items (omega (arith, ints)) s.upright c.requires.carried
+
+pub returns-clause-carried : goal.returns-clause-carried
+returns-clause-carried c = rw (to_z-of_z c.ranges.j) at c.sweep_row.ensures.carried
