@@ -27,7 +27,7 @@ in_part : (moved : MaskValue × ℤ × ℤ) (row part : Pane) (x j count k : ℕ
 in_part moved row part x j count k is e l =
     let box = box_pane moved.0 moved.1 moved.2 in
     let here : in_pane row (pos (x + k)) (pos j) ≡ true = has row (pos (x + k)) (pos j)
-        (omega (arith, ints, is.left)) (omega (arith, ints, is.right)) (omega (arith, ints, is.top)) (omega (arith, ints, is.bottom)) in
+    (omega (arith, ints, is.left)) (omega (arith, ints, is.right)) (omega (arith, ints, is.top)) (omega (arith, ints, is.bottom)) in
     let both : in_pane (both_panes box row) (pos (x + k)) (pos j) ≡ (in_pane box (pos (x + k)) (pos j) && in_pane row (pos (x + k)) (pos j)) =
     in_both box row (pos (x + k)) (pos j) in
     rw e (both ∙ rw here (and-true (in_pane box (pos (x + k)) (pos j))))
@@ -125,13 +125,13 @@ pub under_parts : (inverse : Bool) (value : ℕ → ℕ) (row head part tail ove
 under_parts inverse value row head part tail over old mid late new from to ascends within before inside behind hn hs pn ps tn ts ha pa ta =
     let f = λ (k : ℕ). by_255 (slice_index row k * (if inverse then 255 - value k else value k)) in
     let a : AddsBytes f from old mid = adds_same (λ k. if inverse then slice_index head k else 0) f (length head) from old mid ha hn
-        (λ k l. rw (hs k l) (under_none inverse (slice_index row k) (value k) (before k l))) in
+    (λ k l. rw (hs k l) (under_none inverse (slice_index row k) (value k) (before k l))) in
     let b : AddsBytes (λ k. f (from + k)) (to - from) mid late =
     adds_same (λ k. by_255 (slice_index part k * (if inverse then 255 - slice_index over k else slice_index over k))) (λ k. f (from + k)) (length part) (to - from) mid late pa pn
-        (λ k l. rw (ps k l, inside k l) refl) in
+    (λ k l. rw (ps k l, inside k l) refl) in
     let c : AddsBytes (λ k. f (to + k)) (length row - to) late new =
     adds_same (λ k. if inverse then slice_index tail k else 0) (λ k. f (to + k)) (length tail) (length row - to) late new ta tn
-        (λ k l. rw (ts k l) (under_none inverse (slice_index row (to + k)) (value (to + k)) (behind (to + k) (omega arith) (omega arith)))) in
+    (λ k l. rw (ts k l) (under_none inverse (slice_index row (to + k)) (value (to + k)) (behind (to + k) (omega arith) (omega arith)))) in
     let up : from + (to - from) ≡ to = omega arith in
     let whole : to + (length row - to) ≡ length row = omega arith in
     let ab : AddsBytes f to old late = rw up at (adds_both f (λ k. f (from + k)) from (to - from) old mid late a b (λ k l. refl)) in
@@ -143,4 +143,4 @@ pub under_outside : (inverse : Bool) (value : ℕ → ℕ) (row old new : List �
     → AddsBytes (λ k. by_255 (slice_index row k * (if inverse then 255 - value k else value k))) (length row) old new
 under_outside inverse value row old new none adds =
     adds_same (λ k. if inverse then slice_index row k else 0) (λ k. by_255 (slice_index row k * (if inverse then 255 - value k else value k))) (length row) (length row) old new adds refl
-        (λ k l. under_none inverse (slice_index row k) (value k) (none k l))
+    (λ k l. under_none inverse (slice_index row k) (value k) (none k l))

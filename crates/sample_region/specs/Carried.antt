@@ -2,12 +2,19 @@
 use Rattle.std.specs.Prelude.{◌≡◌, ℤ, pos, ◌+ℤ◌, ◌-ℤ◌, ◌*ℤ◌, ◌≤ℤ◌, ◌<ℤ◌, List, map, All}
 use Rattle.ass_num.specs.declared.geometry.Point.{Point}
 use Rattle.sample_region.specs.Edges.{IsCrossed}
+use Rattle.sample_region.specs.declared.carried.Division.{Division}
 use Rattle.sample_region.specs.declared.carried.LiveEdge.{LiveEdge}
 use Rattle.sample_region.specs.declared.edges.SweepEdge.{SweepEdge}
 
 -- `cut_of` is its quotient by four times the height of the edge
 abbrev pub cut_number : Point → Point → ℤ → ℤ
 cut_number a b y = (b.x -ℤ a.x) *ℤ (y -ℤ a.y) +ℤ (a.x +ℤ pos 2) *ℤ (b.y -ℤ a.y) -ℤ pos 1
+
+-- the quotient is rounded down, and what is over is below the divisor
+pub record IsDivision (number divisor : ℤ) (division : Division) : Type 0 where
+  pub sum : division.whole *ℤ divisor +ℤ division.over ≡ number
+  pub low : pos 0 ≤ℤ division.over
+  pub high : division.over <ℤ divisor
 
 -- quotient and rest of what makes up the crossing with the row at y, and of what it grows by to the next row
 pub record IsCarriedTo (y : ℤ) (live : LiveEdge) : Type 0 where

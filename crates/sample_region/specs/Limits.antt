@@ -13,6 +13,6 @@ max_swept = 100000
 abbrev pub max_divided : ℕ
 max_divided = 2199023255553
 
--- the most that four times the height of an edge may be, by which it is divided
-abbrev pub max_fourfold_height : ℕ
-max_fourfold_height = 2097152
+-- the farthest from 0 that four times the height or the width of an edge may be
+abbrev pub max_fourfold : ℕ
+max_fourfold = 2097152

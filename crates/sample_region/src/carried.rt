@@ -2,9 +2,10 @@
 
 ghost use Rattle.std.specs.Prelude.{◌≡◌, ℤ, pos, neg_ℤ, ◌+ℤ◌, ◌-ℤ◌, ◌*ℤ◌, ◌≤ℤ◌, ◌<ℤ◌};
 ghost use Rattle.std.specs.Int.{int_div_euclid};
-ghost use Rattle.sample_region.specs.Carried.{GoOnFrom, IsCarriedTo};
+ghost use Rattle.ass_num.specs.Limits.{max_coordinate};
+ghost use Rattle.sample_region.specs.Carried.{GoOnFrom, IsCarriedTo, IsDivision};
 ghost use Rattle.sample_region.specs.Edges.{IsCrossed};
-ghost use Rattle.sample_region.specs.Limits.{max_divided, max_fourfold_height};
+ghost use Rattle.sample_region.specs.Limits.{max_divided, max_fourfold};
 
 use crate::cut::number_of;
 use crate::edges::SweepEdge;
@@ -20,12 +21,19 @@ pub struct LiveEdge {
     pub divisor: i64,
 }
 
+/// A quotient rounded down, and what is over.
+#[derive(Clone, Copy)]
+struct Division {
+    whole: i64,
+    over: i64,
+}
+
 /// A quotient rounded down.
 fn quotient(number: i64, divisor: i64) -> i64
     requires low { neg_ℤ (pos max_divided) ≤ℤ number }
     requires high { number ≤ℤ pos max_divided }
     requires positive { pos 0 <ℤ divisor }
-    requires small { divisor ≤ℤ pos max_fourfold_height }
+    requires small { divisor ≤ℤ pos max_fourfold }
     ensures value { result ≡ int_div_euclid number divisor }
     ensures least { (result *ℤ divisor) ≤ℤ number }
     ensures most { number <ℤ (result *ℤ divisor +ℤ divisor) }
@@ -38,12 +46,41 @@ fn rest(number: i64, divisor: i64, whole: i64) -> i64
     requires low { neg_ℤ (pos max_divided) ≤ℤ number }
     requires high { number ≤ℤ pos max_divided }
     requires positive { pos 0 <ℤ divisor }
-    requires small { divisor ≤ℤ pos max_fourfold_height }
+    requires small { divisor ≤ℤ pos max_fourfold }
     requires least { (whole *ℤ divisor) ≤ℤ number }
     requires most { number <ℤ (whole *ℤ divisor +ℤ divisor) }
     ensures { result ≡ number -ℤ whole *ℤ divisor }
 {
     number - whole * divisor
+}
+
+/// A division rounded down.
+fn divided(number: i64, divisor: i64) -> Division
+    requires low { neg_ℤ (pos max_divided) ≤ℤ number }
+    requires high { number ≤ℤ pos max_divided }
+    requires positive { pos 0 <ℤ divisor }
+    requires small { divisor ≤ℤ pos max_fourfold }
+    ensures { IsDivision number divisor result }
+{
+    let whole = quotient(number, divisor);
+    Division {
+        whole,
+        over: rest(number, divisor, whole),
+    }
+}
+
+/// Four times the way from one coordinate to another.
+fn fourfold(from: i64, to: i64) -> i64
+    requires low_from { neg_ℤ (pos max_coordinate) ≤ℤ from }
+    requires high_from { from ≤ℤ pos max_coordinate }
+    requires low_to { neg_ℤ (pos max_coordinate) ≤ℤ to }
+    requires high_to { to ≤ℤ pos max_coordinate }
+    ensures value { result ≡ pos 4 *ℤ (to -ℤ from) }
+    ensures low { neg_ℤ (pos max_fourfold) ≤ℤ result }
+    ensures high { result ≤ℤ pos max_fourfold }
+{
+    let way = to - from;
+    4 * way
 }
 
 /// An edge that crosses the row at `y`.
@@ -52,17 +89,17 @@ pub fn begun_edge(e: SweepEdge, y: i64) -> LiveEdge
     ensures carried { IsCarriedTo y result }
     ensures edge { result.edge ≡ e }
 {
-    let divisor = 4 * (e.lower.y - e.upper.y);
+    let divisor = fourfold(e.upper.y, e.lower.y);
     let number = number_of(e.upper, e.lower, y);
-    let at = quotient(number, divisor);
-    let growth = 4 * (e.lower.x - e.upper.x);
-    let step = quotient(growth, divisor);
+    let at = divided(number, divisor);
+    let growth = fourfold(e.upper.x, e.lower.x);
+    let step = divided(growth, divisor);
     LiveEdge {
         edge: e,
-        at: at as i32,
-        over: rest(number, divisor, at),
-        step: step as i32,
-        step_over: rest(growth, divisor, step),
+        at: at.whole as i32,
+        over: at.over,
+        step: step.whole as i32,
+        step_over: step.over,
         divisor,
     }
 }

@@ -1,7 +1,6 @@
-use Rattle.std.proofs.Common.{arith, rules, refl, to_z-of_z, FitsSigned, pos, ◌≡◌, ◌+ℤ◌, ◌-ℤ◌, ◌≤ℤ◌, ◌<ℤ◌, w32, w64}
+use Rattle.std.proofs.Common.{arith, rules, refl, to_z-of_z, FitsSigned, pos, ◌+ℤ◌, ◌-ℤ◌, ◌≤ℤ◌, ◌<ℤ◌, w32, w64}
 use Rattle.std.proofs.lemmas.Int.{ints}
 use Rattle.ass_num.proofs.OrderLemmas.{lt_is, lt_not}
-use Rattle.sample_region.specs.declared.carried.LiveEdge.{LiveEdge}
 use Rattle.sample_region.proofs.CarryLemmas.{carried_on, carried_over, fits_before, fits_sample, from_positive, next_at, next_at_over, next_over, over_less}
 use Rattle.sample_region.proofs.carried.next_row.Goals as goal
 

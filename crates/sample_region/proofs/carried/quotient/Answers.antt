@@ -1,5 +1,4 @@
-use Rattle.std.proofs.Common.{rules, to_z-of_z, FitsSigned, w64, ◌≡◌}
-use Rattle.std.specs.Int.{int_div_euclid}
+use Rattle.std.proofs.Common.{rules, to_z-of_z, FitsSigned, w64}
 use Rattle.sample_region.proofs.CarryLemmas.{quotient_parts}
 use Rattle.sample_region.proofs.carried.quotient.Goals as goal
 

@@ -1,6 +1,5 @@
-use Rattle.std.proofs.Common.{arith, rules, to_z-of_z, FitsSigned, pos, ◌≡◌, ◌+ℤ◌, ◌-ℤ◌, ◌*ℤ◌, ◌≤ℤ◌, negsuc, w64}
+use Rattle.std.proofs.Common.{arith, rules, to_z-of_z, FitsSigned, pos, ◌+ℤ◌, ◌-ℤ◌, ◌≤ℤ◌, negsuc, w64}
 use Rattle.std.proofs.lemmas.Int.{ints}
-use Rattle.sample_region.specs.Carried.{cut_number}
 use Rattle.sample_region.proofs.SignedLemmas.{same_sum}
 use Rattle.sample_region.proofs.cut.number_of.Goals as goal
 

@@ -1,6 +1,5 @@
-use Rattle.std.proofs.Common.{rules, pos, false, to_z-of_z}
+use Rattle.std.proofs.Common.{rules, false, to_z-of_z}
 use Rattle.std.proofs.lemmas.List.{take_all}
-use Rattle.sample_region.specs.declared.carried.LiveEdge.{LiveEdge}
 use Rattle.sample_region.proofs.CarryLemmas.{no_live, upright_more}
 use Rattle.sample_region.proofs.sweep.are_upright_past.Goals as goal
 

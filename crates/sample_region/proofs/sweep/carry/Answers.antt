@@ -1,4 +1,4 @@
-use Rattle.std.proofs.Common.{arith, rules, ◌≡◌, ◌<◌, ◌≤◌, pos, get_or, length, false}
+use Rattle.std.proofs.Common.{arith, ◌<◌, length}
 use Rattle.sample_region.proofs.CarryLemmas.{moved_all, moved_edges, moved_more, moved_none, no_live}
 use Rattle.sample_region.proofs.sweep.carry.Goals as goal
 

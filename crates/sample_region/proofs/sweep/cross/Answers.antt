@@ -1,7 +1,5 @@
-use Rattle.std.proofs.Common.{◌∙◌, ap, map}
+use Rattle.std.proofs.Common.{◌∙◌}
 use Rattle.std.proofs.lemmas.List.{take_all}
-use Rattle.sample_region.specs.declared.carried.LiveEdge.{LiveEdge}
-use Rattle.sample_region.specs.declared.sweep.Crossing.{Crossing}
 use Rattle.sample_region.proofs.CarryLemmas.{crossings_carried}
 use Rattle.sample_region.proofs.sweep.cross.Goals as goal
 

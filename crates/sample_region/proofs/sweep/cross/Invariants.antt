@@ -1,6 +1,5 @@
 use Rattle.std.proofs.Common.{◌≡◌, map, take}
 use Rattle.sample_region.specs.declared.carried.LiveEdge.{LiveEdge}
-use Rattle.sample_region.specs.declared.sweep.Crossing.{Crossing}
 use Rattle.sample_region.proofs.sweep.cross.Given as goal
 
 abbrev pub invariant-loop-live : goal.invariant-loop-live

@@ -1,4 +1,4 @@
-use Rattle.std.proofs.Common.{arith, rules, to_z-of_z, FitsSigned, w64, ◌<ℤ◌, ◌≤ℤ◌}
+use Rattle.std.proofs.Common.{arith, to_z-of_z, FitsSigned, w64, ◌<ℤ◌, ◌≤ℤ◌}
 use Rattle.std.proofs.lemmas.Int.{ints}
 use Rattle.std.proofs.lemmas.List.Elements.{All-push}
 use Rattle.ass_num.proofs.OrderLemmas.{lt_is, lt_not}
