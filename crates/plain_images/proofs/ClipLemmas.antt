@@ -1,5 +1,5 @@
 -- Rows of masks under a drawn clip: left of its box, in it and right of it.
-use Rattle.std.proofs.Common.{◌≡◌, ℕ, ◌+◌, ◌-◌, ◌*◌, ◌<◌, ◌≤◌, ◌⊎◌, inl, inr, ⊎_elim, ℤ, pos, ◌+ℤ◌, ◌-ℤ◌, Bool, true, false, ◌&&◌, if◌then◌else◌, List, ◌++◌, length, length-append, get_or, slice_index, take, drop, refl, sym, ap, ◌∙◌, arith}
+use Rattle.std.proofs.Common.{◌≡◌, ℕ, ◌+◌, ◌-◌, ◌*◌, ◌<◌, ◌≤◌, inl, inr, ⊎_elim, ℤ, pos, Bool, true, false, ◌&&◌, if◌then◌else◌, ◌≤ℤ◌, List, ◌++◌, length, length-append, get_or, slice_index, take, drop, refl, sym, ap, ◌∙◌, arith}
 use Rattle.std.proofs.Math.Bool.{and-true}
 use Rattle.std.proofs.lemmas.Bool.{cases_lt}
 use Rattle.std.proofs.lemmas.Int.{ints}
@@ -7,22 +7,14 @@ use Rattle.std.proofs.lemmas.List.{append-nil, drop_all, get_or_append_left, get
 use Rattle.ass_num.specs.Masks.{MaskValue}
 use Rattle.blend.specs.Areas.{in_moved_box}
 use Rattle.blend.specs.Blending.{by_255}
-use Rattle.plain_images.specs.Cutting.{AddsBytes, IsPartInBox}
-use Rattle.plain_images.specs.Panes.{HasSides, IsPartOf, box_pane, both_panes, in_pane, is_empty_pane}
-use Rattle.plain_images.specs.declared.cutting.Part.{Part}
+use Rattle.plain_images.specs.Cutting.{AddsBytes, IsPartInBox, IsRowPane}
+use Rattle.plain_images.specs.Panes.{IsPartOf, box_pane, both_panes, in_pane, is_empty_pane}
 use Rattle.plain_images.specs.declared.panes.Pane.{Pane}
 use Rattle.plain_images.proofs.ByteLemmas.{adds_same}
-use Rattle.plain_images.proofs.PaneLemmas.{both_part, empty_lacks, has, in_both, lacks, other_part, sides}
-
--- The pane has the pixels of row j from column x on, count of them.
-pub record IsRowPane (row : Pane) (x j count : ℕ) : Type 0 where
-  pub left : row.x1 ≡ pos x
-  pub right : row.x2 ≡ pos (x + count)
-  pub top : row.y1 ≡ pos j
-  pub bottom : row.y2 ≡ pos (j + 1)
+use Rattle.plain_images.proofs.PaneLemmas.{empty_lacks, has, in_both, lacks, other_part, sides}
 
 -- a pixel of the row lies in the box where it lies in what both have
-in_part : (moved : MaskValue × ℤ × ℤ) (row part : Pane) (x j count k : ℕ) → IsRowPane row x j count → part ≡ both_panes (box_pane moved.0 moved.1 moved.2) row
+in_part : (moved : MaskValue × ℤ × ℤ) (row part : Pane) (x j count k : ℕ) → IsRowPane x j count row → part ≡ both_panes (box_pane moved.0 moved.1 moved.2) row
     → k < count → in_pane part (pos (x + k)) (pos j) ≡ in_moved_box moved (x + k) j
 in_part moved row part x j count k is e l =
     let box = box_pane moved.0 moved.1 moved.2 in
@@ -33,7 +25,7 @@ in_part moved row part x j count k is e l =
     rw e (both ∙ rw here (and-true (in_pane box (pos (x + k)) (pos j))))
 
 -- the row doesn't meet the box
-pub part_none : (moved : MaskValue × ℤ × ℤ) (row part : Pane) (x j count : ℕ) → IsRowPane row x j count → part ≡ both_panes (box_pane moved.0 moved.1 moved.2) row
+pub part_none : (moved : MaskValue × ℤ × ℤ) (row part : Pane) (x j count : ℕ) → IsRowPane x j count row → part ≡ both_panes (box_pane moved.0 moved.1 moved.2) row
     → is_empty_pane part ≡ true → IsPartInBox moved x j count (record { from = count; to = count })
 part_none moved row part x j count is e empty = record {
   ordered = omega arith;
@@ -43,8 +35,19 @@ part_none moved row part x j count is e empty = record {
   behind = λ k l h. absurd (omega arith);
 }
 
+-- it meets the box in some columns of the row
+pub part_columns : (moved : MaskValue × ℤ × ℤ) (row part : Pane) (x j count : ℕ) → IsRowPane x j count row → part ≡ both_panes (box_pane moved.0 moved.1 moved.2) row
+    → is_empty_pane part ≡ false → (row.x1 ≤ℤ part.x1) × (part.x1 ≤ℤ part.x2) × (part.x2 ≤ℤ pos (x + count))
+part_columns moved row part x j count is e some =
+    let wide = (sides part some).wide in
+    let inner : IsPartOf part row = rw e (other_part (box_pane moved.0 moved.1 moved.2) row) in
+    let left = inner.left in
+    let right = inner.right in
+    let end = is.right in
+    (left, omega (arith, ints), omega (arith, ints))
+
 -- it meets the box in these columns
-pub part_some : (moved : MaskValue × ℤ × ℤ) (row part : Pane) (x j count from to : ℕ) → IsRowPane row x j count → part ≡ both_panes (box_pane moved.0 moved.1 moved.2) row
+pub part_some : (moved : MaskValue × ℤ × ℤ) (row part : Pane) (x j count from to : ℕ) → IsRowPane x j count row → part ≡ both_panes (box_pane moved.0 moved.1 moved.2) row
     → is_empty_pane part ≡ false → pos (x + from) ≡ part.x1 → pos (x + to) ≡ part.x2 → IsPartInBox moved x j count (record { from = from; to = to })
 part_some moved row part x j count from to is e some first last =
     let box = box_pane moved.0 moved.1 moved.2 in

@@ -29,6 +29,13 @@ pub record IsRowCovered (moved : MaskValue × ℤ × ℤ) (x w j : ℕ) : Type 0
   pub first : in_pane (box_pane moved.0 moved.1 moved.2) (pos x) (pos j) ≡ true
   pub last : in_pane (box_pane moved.0 moved.1 moved.2) (pos (x + w - 1)) (pos j) ≡ true
 
+-- The pane has the pixels of row j from column x on, count of them.
+pub record IsRowPane (x j count : ℕ) (row : Pane) : Type 0 where
+  pub left : row.x1 ≡ pos x
+  pub right : row.x2 ≡ pos (x + count)
+  pub top : row.y1 ≡ pos j
+  pub bottom : row.y2 ≡ pos (j + 1)
+
 -- Of the `count` pixels of row j from column x on, those of the part lie in the box of a moved mask, and no others.
 pub record IsPartInBox (moved : MaskValue × ℤ × ℤ) (x j count : ℕ) (part : Part) : Type 0 where
   pub ordered : part.from ≤ part.to

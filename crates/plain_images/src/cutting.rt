@@ -1,10 +1,10 @@
 //! Cutting panes out of masks.
 
-ghost use Rattle.std.specs.Prelude.{◌≡◌, ◌≤◌, ◌<◌, ◌+◌, ◌-◌, ◌*◌, ℕ, pos, length, slice_index, if◌then◌else◌, IfOk, OnOk};
+ghost use Rattle.std.specs.Prelude.{◌≡◌, ◌≤◌, ◌<◌, ◌+◌, ◌-◌, ◌*◌, ◌-ℤ◌, ◌≤ℤ◌, ℕ, pos, length, slice_index, if◌then◌else◌, IfOk, OnOk};
 ghost use Rattle.ass_num.specs.Limits.{max_frame_side};
 ghost use Rattle.blend.specs.Areas.{placed_of};
 ghost use Rattle.blend.specs.Blending.{by_255, Drawn, stencilled};
-ghost use Rattle.plain_images.specs.Cutting.{AddsBytes, AreRowsOf, IsCutOf, IsCuttable, IsPartInBox, IsRowCovered, clip_stencil, stencilled_at};
+ghost use Rattle.plain_images.specs.Cutting.{AddsBytes, AreRowsOf, IsCutOf, IsCuttable, IsPartInBox, IsRowCovered, IsRowPane, clip_stencil, stencilled_at};
 ghost use Rattle.plain_images.specs.Panes.{HasSides};
 
 use crate::panes::{Pane, box_pane};
@@ -26,17 +26,35 @@ struct Part {
     to: usize,
 }
 
+/// The `count` pixels of row `j` from column `x` on.
+fn row_pane(x: u32, count: usize, j: u32) -> Pane
+    requires { x + count ≤ max_frame_side }
+    ensures { IsRowPane x j count result }
+{
+    Pane {
+        x1: i64::from(x),
+        y1: i64::from(j),
+        x2: i64::from(x) + count as i64,
+        y2: i64::from(j) + 1,
+    }
+}
+
+/// How many columns of a frame lie from one on up to another.
+fn columns_between(first: i64, end: i64) -> usize
+    requires low { pos 0 ≤ℤ first }
+    requires ordered { first ≤ℤ end }
+    requires high { end ≤ℤ pos max_frame_side }
+    ensures { pos result ≡ end -ℤ first }
+{
+    (end - first) as usize
+}
+
 /// Which of `count` pixels from column `x` of row `j` on lie in the box of a placed mask.
 fn part_in_box(placed: Placed<'_>, x: u32, count: usize, j: u32) -> Part
     requires { x + count ≤ max_frame_side }
     ensures { IsPartInBox (placed_of placed.entry) x j count result }
 {
-    let row = Pane {
-        x1: i64::from(x),
-        y1: i64::from(j),
-        x2: i64::from(x) + count as i64,
-        y2: i64::from(j) + 1,
-    };
+    let row = row_pane(x, count, j);
     let part = box_pane(placed).both(row);
     if part.is_empty() {
         return Part {
@@ -45,8 +63,8 @@ fn part_in_box(placed: Placed<'_>, x: u32, count: usize, j: u32) -> Part
         };
     }
     Part {
-        from: (part.x1 - row.x1) as usize,
-        to: (part.x2 - row.x1) as usize,
+        from: columns_between(row.x1, part.x1),
+        to: columns_between(row.x1, part.x2),
     }
 }
 

@@ -1,4 +1,4 @@
-use Rattle.std.proofs.Common.{◌≡◌, ℕ, ◌-◌, ◌*◌, if◌then◌else◌, length, length-append, slice_index, ◌∙◌, ap, sym, subst, rules, arith}
+use Rattle.std.proofs.Common.{◌≡◌, ◌-◌, ◌*◌, if◌then◌else◌, length, length-append, slice_index, ◌∙◌, ap, sym, subst, rules, arith}
 use Rattle.std.proofs.lemmas.Grind.{common_steps}
 use Rattle.blend.specs.Blending.{by_255}
 use Rattle.plain_images.specs.Cutting.{AddsBytes}

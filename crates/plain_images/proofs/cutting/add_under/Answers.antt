@@ -1,4 +1,4 @@
-use Rattle.std.proofs.Common.{◌≡◌, ℕ, ◌+◌, ◌<◌, ◌≤◌, pos, ⊎_elim, arith}
+use Rattle.std.proofs.Common.{◌+◌, ◌<◌, ◌≤◌, pos, ⊎_elim, arith}
 use Rattle.std.proofs.lemmas.Bool.{cases_lt}
 use Rattle.ass_num.specs.Coverage.{moved_value}
 use Rattle.blend.specs.Areas.{placed_of}

@@ -1,4 +1,4 @@
-use Rattle.std.proofs.Common.{rules, false, to_z-of_z}
+use Rattle.std.proofs.Common.{rules, to_z-of_z}
 use Rattle.std.proofs.lemmas.List.{take_all}
 use Rattle.sample_region.proofs.CarryLemmas.{no_live, upright_more}
 use Rattle.sample_region.proofs.sweep.are_upright_past.Goals as goal
