@@ -1,5 +1,4 @@
 pub mod ByteLemmas
-pub mod ClipLemmas
 pub mod FrameLemmas
 pub mod ListingLemmas
 pub mod PaintLemmas
