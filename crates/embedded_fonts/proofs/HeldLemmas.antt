@@ -1,7 +1,7 @@
 -- The files that a script holds, one after another.
 use Rattle.std.proofs.Common.{◌≡◌, ◌≢◌, ℕ, ◌+◌, ◌≤◌, List, [], ◌∷◌, ◌++◌, length, All, Result, Ok, Err, inl, inr, refl, sym, ap, subst, append_assoc, arith}
 use Rattle.std.proofs.lemmas.List.{append-nil}
-use Rattle.std.proofs.lemmas.List.Elements.{All-append, All-head, All-nil, All-tail, All-weaker}
+use Rattle.std.proofs.lemmas.List.Elements.{All-append, All-head, All-nil, All-tail}
 use Rattle.ass_num.specs.Limits.{max_file_bytes}
 use Rattle.bdf_font.specs.Files.{IsFontFileAnswer}
 use Rattle.bdf_font.specs.Fonts.{FontValue}
