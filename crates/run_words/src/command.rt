@@ -26,11 +26,7 @@ static COMMANDS: [Command; 6] = [
     Command::Write,
 ];
 
-static CHECK: [Argument; 3] = [
-    Argument::ScriptFonts,
-    Argument::Script,
-    Argument::Fonts,
-];
+static CHECK: [Argument; 3] = [Argument::ScriptFonts, Argument::Script, Argument::Fonts];
 
 static FRAME: [Argument; 11] = [
     Argument::At,
