@@ -1,5 +1,5 @@
-use Rattle.std.proofs.Common.{◌≡◌, ◌+◌, ◌-◌, true, pos, drop, arith}
-use Rattle.std.proofs.lemmas.List.{get_or-take, get_or-drop, length-take-le, length-drop}
+use Rattle.std.proofs.Common.{◌≡◌, ◌+◌, ◌-◌, true, pos, drop, length, arith}
+use Rattle.std.proofs.lemmas.List.{get_or-take, length-take-le, length-drop}
 use Rattle.ass_num.specs.Coverage.{moved_value}
 use Rattle.blend.specs.Areas.{in_moved_box, placed_of}
 use Rattle.blend.proofs.AreaLemmas.{moved_value-outside}
@@ -7,13 +7,13 @@ use Rattle.blend.proofs.BlockLemmas.{get_or-part}
 use Rattle.plain_images.proofs.ClipLemmas.{under_parts}
 use Rattle.plain_images.proofs.cutting.add_parts.Goals as goal
 
-pub cover-requires-clause-first : goal.cover-requires-clause-first
-cover-requires-clause-first c =
+pub cover-over-requires-clause-first : goal.cover-over-requires-clause-first
+cover-over-requires-clause-first c =
     let some = c.requires.some in
     c.requires.part.inside c.args.part.from (omega arith) (omega arith)
 
-pub cover-requires-clause-last : goal.cover-requires-clause-last
-cover-requires-clause-last c =
+pub cover-over-requires-clause-last : goal.cover-over-requires-clause-last
+cover-over-requires-clause-last c =
     let some = c.requires.some in
     let last : c.args.x + (c.args.part.to - 1) ≡ c.args.x + c.args.part.to - 1 = omega arith in
     let inside : in_moved_box (placed_of c.args.clip.over) (c.args.x + (c.args.part.to - 1)) c.args.j ≡ true = c.requires.part.inside (c.args.part.to - 1) (omega arith) (omega arith) in
@@ -39,6 +39,6 @@ returns c =
     (λ k l. get_or-take from row k 0 l)
     (length-take-le (to - from) (drop from row) (let rest = length-drop from row in omega arith))
     (λ k l. get_or-part row from (to - from) k l)
-    (length-drop to row)
-    (λ k l. get_or-drop to row k 0)
+    (length-take-le (length row - to) (drop to row) (let rest = length-drop to row in omega arith))
+    (λ k l. get_or-part row to (length row - to) k l)
     c.in_ok-add_outside.ensures c.in_ok-add_inside.ensures c.in_ok-add_outside-2.ensures

@@ -10,7 +10,7 @@ pub returns : goal.returns
 returns c =
     let is = c.part_in_box-part.ensures in
     let part = c.part_in_box-part.result in
-    let none : part.to ≤ part.from = c.if-part-part.false in
+    let none : part.to ≤ part.from = c.if-part.false in
     let over = placed_of c.args.clip.over in
     under_outside c.args.clip.inverse (λ k. moved_value over (pos (c.args.x + k)) (pos c.args.j)) c.args.row.now c.args.bytes.now.items c.add_outside.new.bytes.items
     (λ k l. moved_value-outside over (c.args.x + k) c.args.j

@@ -1,7 +1,6 @@
-use Rattle.std.proofs.Common.{◌≡◌, ◌+◌, ℤ, pos, true, false, ◌-ℤ◌, ◌≤ℤ◌, sym, ◌∙◌, arith}
+use Rattle.std.proofs.Common.{sym, ◌∙◌, arith}
 use Rattle.std.proofs.lemmas.Int.{ints}
 use Rattle.blend.specs.Areas.{placed_of}
-use Rattle.plain_images.specs.Panes.{both_panes, box_pane}
 use Rattle.plain_images.proofs.ClipLemmas.{part_columns, part_none, part_some}
 use Rattle.plain_images.proofs.cutting.part_in_box.Goals as goal
 
