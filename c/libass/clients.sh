@@ -93,9 +93,11 @@ compare 'ffmpeg force_style' 2
 
 # A font that is attached to a video.
 client ffmpeg -nostdin -v error -y -f lavfi -i color=black:s=640x360:r=10:d=4 -i "$examples/dialogue.ass" \
-    -map 0 -map 1 -c:v ffv1 -pix_fmt bgr0 -c:s ass -attach "$examples/letters.ttf" -metadata:s:t mimetype=application/x-truetype-font "$work/video.mkv" > "$work/log" 2>&1
+    -map 0 -map 1 -c:v ffv1 -pix_fmt bgr0 -c:s ass -attach "$examples/letters.ttf" \
+    -metadata:s:t mimetype=application/x-truetype-font "$work/video.mkv" > "$work/log" 2>&1
 client ffmpeg -nostdin -v warning -i "$work/video.mkv" \
-    -vf "select=eq(n\\,20),format=rgb24,subtitles=$work/video.mkv:fontsdir=$work/none" -fps_mode passthrough -frames:v 1 -y "$work/client.ppm" > "$work/log" 2>&1
+    -vf "select=eq(n\\,20),format=rgb24,subtitles=$work/video.mkv:fontsdir=$work/none" \
+    -fps_mode passthrough -frames:v 1 -y "$work/client.ppm" > "$work/log" 2>&1
 by_program 2000 640x360 "$examples/dialogue.ass" "$examples/letters.ttf"
 compare 'ffmpeg with an attached font' 2
 

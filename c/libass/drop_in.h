@@ -57,7 +57,7 @@ struct parser_priv {
     uint64_t text_sum; /* of the header and the styles that the text gave */
     vimalorua *handle;
     const ASS_Renderer *lister; /* by which the handle was last listed */
-    uint64_t opened_sum; /* of what the handle was opened with */
+    uint64_t opened_sum;        /* of what the handle was opened with */
     struct fed *fed;
     int fed_count, fed_room;
     size_t font_count; /* how many of the library's fonts the handle was offered */

@@ -175,8 +175,10 @@ static vimalorua_view view_of(const ASS_Renderer *renderer) {
         view.storage_h = (uint32_t)renderer->storage_h;
     }
     if (aspect > 0) {
-        view.aspect_wide = aspect < 1 ? (uint32_t)within((long long)(aspect * MOST_PARTS + 0.5), 1, MOST_PARTS) : MOST_PARTS;
-        view.aspect_high = aspect < 1 ? MOST_PARTS : (uint32_t)within((long long)(MOST_PARTS / aspect + 0.5), 1, MOST_PARTS);
+        view.aspect_wide =
+            aspect < 1 ? (uint32_t)within((long long)(aspect * MOST_PARTS + 0.5), 1, MOST_PARTS) : MOST_PARTS;
+        view.aspect_high =
+            aspect < 1 ? MOST_PARTS : (uint32_t)within((long long)(MOST_PARTS / aspect + 0.5), 1, MOST_PARTS);
     }
     view.scale = (uint32_t)within((long long)(renderer->font_scale * 1000 + 0.5), 1, 100000);
     view.use_bars = renderer->use_margins != 0;
@@ -223,7 +225,8 @@ static int list_frame(ASS_Renderer *renderer, ASS_Track *track, long long now, i
     vimalorua *handle = track->parser_priv->handle;
     vimalorua_view view = view_of(renderer);
     size_t bytes = 0;
-    int32_t status = vimalorua_images_in(handle, within(now, -LAST_INSTANT, LAST_INSTANT), &view, change, count, &bytes);
+    int32_t status =
+        vimalorua_images_in(handle, within(now, -LAST_INSTANT, LAST_INSTANT), &view, change, count, &bytes);
     if (status == VIMALORUA_DONE && !make_room(renderer, *count, bytes))
         status = VIMALORUA_OUT_OF_MEMORY;
     if (status == VIMALORUA_DONE)

@@ -163,7 +163,8 @@ SHOWN ASS_Renderer *ass_renderer_init(ASS_Library *library) {
     renderer->library = library;
     renderer->font_scale = 1;
     renderer->budget = USUAL_BUDGET;
-    tell(library, 4, "[vimalorua] interface %u, in the place of libass %#x", (unsigned)vimalorua_version(), LIBASS_VERSION);
+    tell(library, 4, "[vimalorua] interface %u, in the place of libass %#x", (unsigned)vimalorua_version(),
+         LIBASS_VERSION);
     return renderer;
 }
 
@@ -209,7 +210,9 @@ SHOWN void ass_set_cache_limits(ASS_Renderer *renderer, int glyphs, int megabyte
     renderer->budget = megabytes > 0 ? (uint64_t)megabytes << 20 : USUAL_BUDGET;
 }
 
-SHOWN void ass_set_selective_style_override_enabled(ASS_Renderer *renderer, int bits) { renderer->override_bits = bits; }
+SHOWN void ass_set_selective_style_override_enabled(ASS_Renderer *renderer, int bits) {
+    renderer->override_bits = bits;
+}
 
 SHOWN void ass_set_selective_style_override(ASS_Renderer *renderer, ASS_Style *style) {
     free(renderer->override.FontName);

@@ -56,7 +56,8 @@ static int to_keypad(int alignment) {
 
 /* The fields of a style that are numbers. */
 enum { A_DOUBLE, AN_INT, A_COLOUR };
-#define FIELD(name, field, kind) {name, offsetof(ASS_Style, field), kind}
+#define FIELD(name, field, kind) \
+    { name, offsetof(ASS_Style, field), kind }
 static const struct {
     const char *name;
     size_t at;
@@ -209,7 +210,7 @@ int read_event(ASS_Track *track, ASS_Event *event, const char *format, const cha
 }
 
 static void read_matrix(ASS_Track *track, const char *value) {
-    static const char *const names[] = {"None",   "TV.601",  "PC.601",  "TV.709", "PC.709",
+    static const char *const names[] = {"None",    "TV.601",  "PC.601", "TV.709", "PC.709",
                                         "TV.240M", "PC.240M", "TV.FCC", "PC.FCC"};
     track->YCbCrMatrix = YCBCR_UNKNOWN;
     for (int i = 0; i < 9; i++)
@@ -241,9 +242,9 @@ static void read_info(ASS_Track *track, const char *key, const char *value) {
 }
 
 static const char *event_format(const ASS_Track *track) {
-    return track->event_format                      ? track->event_format
+    return track->event_format                   ? track->event_format
            : track->track_type == TRACK_TYPE_SSA ? SSA_EVENT_FORMAT
-                                                    : EVENT_FORMAT;
+                                                 : EVENT_FORMAT;
 }
 
 static void read_dialogue(ASS_Track *track, const char *from, const char *end) {
@@ -321,7 +322,8 @@ static void write_colour(FILE *to, uint32_t colour) {
 }
 
 static void write_style(FILE *to, const char *name, const ASS_Style *style) {
-    fprintf(to, "Style: %s,%s,%.10g", name ? name : "Default", style->FontName ? style->FontName : "Arial", style->FontSize);
+    fprintf(to, "Style: %s,%s,%.10g", name ? name : "Default", style->FontName ? style->FontName : "Arial",
+            style->FontSize);
     write_colour(to, style->PrimaryColour);
     write_colour(to, style->SecondaryColour);
     write_colour(to, style->OutlineColour);
@@ -353,9 +355,9 @@ char *written_chunk(const ASS_Track *track, const ASS_Event *event, int order, s
     FILE *to = open_memstream(&text, len);
     if (!to)
         return NULL;
-    fprintf(to, "%d,%d,%s,%s,%d,%d,%d,%s,", order, event->Layer, has_style ? track->styles[event->Style].Name : "Default",
-            event->Name ? event->Name : "", event->MarginL, event->MarginR, event->MarginV,
-            event->Effect ? event->Effect : "");
+    fprintf(to, "%d,%d,%s,%s,%d,%d,%d,%s,", order, event->Layer,
+            has_style ? track->styles[event->Style].Name : "Default", event->Name ? event->Name : "", event->MarginL,
+            event->MarginR, event->MarginV, event->Effect ? event->Effect : "");
     for (const char *at = event->Text ? event->Text : ""; *at; at++)
         if (*at != '\r' && *at != '\n')
             fputc(*at, to);
@@ -364,7 +366,11 @@ char *written_chunk(const ASS_Track *track, const ASS_Event *event, int order, s
 
 /* How many bytes the character at a place has, or 0 where none is UTF-8's. */
 static size_t character_len(const unsigned char *at, const unsigned char *end) {
-    size_t len = *at < 0x80 ? 1 : *at >= 0xc2 && *at < 0xe0 ? 2 : *at >= 0xe0 && *at < 0xf0 ? 3 : *at >= 0xf0 && *at < 0xf5 ? 4 : 0;
+    size_t len = *at < 0x80                  ? 1
+                 : *at >= 0xc2 && *at < 0xe0 ? 2
+                 : *at >= 0xe0 && *at < 0xf0 ? 3
+                 : *at >= 0xf0 && *at < 0xf5 ? 4
+                                             : 0;
     if (len == 0 || (size_t)(end - at) < len)
         return 0;
     for (size_t i = 1; i < len; i++)

@@ -106,13 +106,16 @@ static void seeks(char *script, size_t len) {
 static void streamed(void) {
     ASS_Track *track = stream();
     feed(track, 0, 0, 2000, "first");
-    check(frame(renderer, track, 1000) == lines_frame("Dialogue: 0,0:00:00.00,0:00:02.00,Default,,0,0,0,,first\n", 1000), "the first chunk", 1000);
+    check(frame(renderer, track, 1000) ==
+              lines_frame("Dialogue: 0,0:00:00.00,0:00:02.00,Default,,0,0,0,,first\n", 1000),
+          "the first chunk", 1000);
     feed(track, 0, 0, 2000, "first");
     feed(track, 1, 1000, 2000, "second");
     check(track->n_events == 2, "a chunk that came again is an event", track->n_events);
-    check(frame(renderer, track, 1500) ==
-              lines_frame("Dialogue: 0,0:00:00.00,0:00:02.00,Default,,0,0,0,,first\n"
-                          "Dialogue: 0,0:00:01.00,0:00:03.00,Default,,0,0,0,,second\n", 1500), "the second chunk", 1500);
+    check(frame(renderer, track, 1500) == lines_frame("Dialogue: 0,0:00:00.00,0:00:02.00,Default,,0,0,0,,first\n"
+                                                      "Dialogue: 0,0:00:01.00,0:00:03.00,Default,,0,0,0,,second\n",
+                                                      1500),
+          "the second chunk", 1500);
     ass_free_track(track);
 }
 

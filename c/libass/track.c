@@ -21,7 +21,7 @@ static uint64_t sum_of_text(uint64_t before, const char *text) {
 }
 
 uint64_t header_sum(const ASS_Track *track) {
-    int numbers[] = {track->PlayResX,   track->PlayResY, track->WrapStyle, track->ScaledBorderAndShadow,
+    int numbers[] = {track->PlayResX, track->PlayResY,       track->WrapStyle, track->ScaledBorderAndShadow,
                      track->n_styles, (int)track->track_type};
     uint64_t sum = sum_of(SUM_OF_NOTHING, numbers, sizeof numbers);
     for (int i = 0; i < track->n_styles; i++) {
@@ -300,7 +300,8 @@ SHOWN int ass_read_styles(ASS_Track *track, char *name, char *codepage) {
     return 0;
 }
 
-/* The event next to an instant: the last that ended before it, the first that begins behind it, or the last that began. */
+/* The event next to an instant: the last that ended before it, the first that begins behind it, or the last that began.
+ */
 static const ASS_Event *next_to(const ASS_Track *track, long long target, int direction, long long *at) {
     const ASS_Event *closest = NULL;
     for (int i = 0; i < track->n_events; i++) {
