@@ -20,6 +20,9 @@ struct ass_library {
     char *fonts_dir;
     char **overrides; /* "Style.Field=value" or "Field=value", and null behind the last */
     int has_files;    /* the fonts of the folder and of the environment were added */
+    int asks_system;  /* whether fonts of the system are looked for */
+    char **asked;     /* the names of those that were */
+    size_t asked_count;
     void (*message)(int level, const char *format, va_list words, void *data);
     void *message_data;
 };
@@ -72,6 +75,19 @@ int is_done(ASS_Library *library, const char *what, int32_t status, size_t place
 
 /* A file's bytes and a 0 behind them; null where it is no plain file or can't be read. */
 uint8_t *read_whole(const char *name, size_t *len);
+
+/* Adds the font of a file. */
+void add_file(ASS_Library *library, const char *name);
+
+/* Adds the system's font of a name, once, where fonts of the system are looked for. Where `may_differ`, one of another
+ * name may stand for it. */
+void find_font(ASS_Library *library, const char *name, int may_differ);
+
+/* Those that \fn names in a text. */
+void find_fonts_of_text(ASS_Library *library, const char *text);
+
+/* Forgets which names were looked for. */
+void forget_names(ASS_Library *library);
 
 /* A text's copy of so many bytes, and a 0; null where memory runs out. */
 char *copy_of(const char *from, size_t len);

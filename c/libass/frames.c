@@ -100,6 +100,7 @@ static int feed_from(ASS_Track *track, int from) {
         if (status == VIMALORUA_REPEATED)
             status = feed_chunk(track, event, OTHER_ORDERS + i, &place);
         is_done(track->library, "an event", status, place);
+        find_fonts_of_text(track->library, event->Text ? event->Text : "");
         if (status == VIMALORUA_OUT_OF_MEMORY || !remember(track->parser_priv, event))
             return 0;
     }
@@ -154,10 +155,14 @@ static int make_ready(const ASS_Renderer *renderer, ASS_Track *track) {
             return 0;
         own->opened_sum = wanted;
     }
-    add_fonts(track);
+    for (int i = 0; i < track->n_styles; i++)
+        find_font(track->library, track->styles[i].FontName ? track->styles[i].FontName : "", 0);
     if (own->budget != renderer->budget && vimalorua_set_budget(own->handle, renderer->budget) == VIMALORUA_DONE)
         own->budget = renderer->budget;
-    return feed_changes(track);
+    if (!feed_changes(track))
+        return 0;
+    add_fonts(track);
+    return 1;
 }
 
 /* The frame as the renderer's settings say it. */

@@ -59,6 +59,7 @@ SHOWN void ass_clear_fonts(ASS_Library *library) {
     free(library->fonts);
     library->fonts = NULL;
     library->font_count = 0;
+    forget_names(library);
 }
 
 SHOWN void ass_set_style_overrides(ASS_Library *library, char **list) {
@@ -111,7 +112,7 @@ static void keep_font(ASS_Library *library, const char *name, uint8_t *bytes, si
     fonts[library->font_count++] = (struct font){copy, bytes, len};
 }
 
-static void add_file(ASS_Library *library, const char *name) {
+void add_file(ASS_Library *library, const char *name) {
     size_t len = 0;
     uint8_t *bytes = read_whole(name, &len);
     if (bytes)
@@ -222,7 +223,7 @@ SHOWN void ass_set_selective_style_override(ASS_Renderer *renderer, ASS_Style *s
 }
 
 /* The fonts of the folder that was set, of the environment, and the one that stands for others. */
-static void add_files(ASS_Library *library, const char *usual) {
+static void add_files(ASS_Library *library, const char *usual, const char *family) {
     const char *more = getenv("VIMALORUA_FONTS");
     char *names = more ? copy_of(more, strlen(more)) : NULL, *rest = NULL;
     if (library->fonts_dir)
@@ -233,6 +234,8 @@ static void add_files(ASS_Library *library, const char *usual) {
     if (usual && *usual)
         add_file(library, usual);
     if (library->font_count == 0)
+        find_font(library, family, 1);
+    if (library->font_count == 0)
         add_file(library, "/usr/share/fonts/truetype/dejavu/DejaVuSans.ttf");
     if (library->font_count == 0)
         tell(library, 1, "[vimalorua] there is no font, so nothing is shown: VIMALORUA_FONTS names files");
@@ -240,11 +243,13 @@ static void add_files(ASS_Library *library, const char *usual) {
 
 SHOWN void ass_set_fonts(ASS_Renderer *renderer, const char *font, const char *family, int provider, const char *config,
                          int update) {
-    (void)family, (void)provider, (void)config, (void)update;
-    if (renderer->library->has_files)
+    ASS_Library *library = renderer->library;
+    (void)config, (void)update;
+    if (library->has_files)
         return;
-    renderer->library->has_files = 1;
-    add_files(renderer->library, font);
+    library->has_files = 1;
+    library->asks_system = provider != ASS_FONTPROVIDER_NONE;
+    add_files(library, font, family && *family ? family : "sans-serif");
 }
 
 /* What has no meaning here. */
