@@ -42,11 +42,13 @@ struct ass_renderer {
     int has_failed; /* a frame failed, and that was told */
 };
 
-/* An event as it was fed. */
+/* An event as it was fed: its texts stand in one block, the text and then the effect, each with a 0 behind it. A null
+ * text is as an empty one. */
 struct fed {
     long long start, duration;
     int order, layer, style, margin_l, margin_r, margin_v;
-    char *text, *effect;
+    char *texts;
+    size_t text_len;
 };
 
 /* What stands behind a track beside its public fields. */

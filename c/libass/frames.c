@@ -5,6 +5,7 @@
 
 #define LAST_INSTANT INT64_C(4000000000000)
 #define MOST_PARTS 65536
+#define AHEAD 8
 #define OTHER_ORDERS 0x40000000 /* from here on, for events whose ReadOrder is another one's */
 
 static long long within(long long number, long long least, long long most) {
@@ -39,42 +40,56 @@ static int32_t open_handle(ASS_Track *track, const ASS_Style *override, int is_a
     return status;
 }
 
-static int is_text(const char *a, const char *b) { return a && b ? !strcmp(a, b) : a == b; }
+static int is_text(const char *kept, const char *text) { return text ? !strcmp(kept, text) : *kept == 0; }
 
 static int is_as_fed(const struct fed *fed, const ASS_Event *event) {
     return fed->start == event->Start && fed->duration == event->Duration && fed->order == event->ReadOrder &&
            fed->layer == event->Layer && fed->style == event->Style && fed->margin_l == event->MarginL &&
-           fed->margin_r == event->MarginR && fed->margin_v == event->MarginV && is_text(fed->text, event->Text) &&
-           is_text(fed->effect, event->Effect);
+           fed->margin_r == event->MarginR && fed->margin_v == event->MarginV && is_text(fed->texts, event->Text) &&
+           is_text(fed->texts + fed->text_len + 1, event->Effect);
+}
+
+/* How many events are as they were fed, from the first on. Texts a few events ahead are fetched meanwhile. */
+static int count_same(const struct fed *fed, int fed_count, const ASS_Event *events, int count) {
+    int most = fed_count < count ? fed_count : count, same = 0;
+    while (same < most && is_as_fed(&fed[same], &events[same])) {
+        int ahead = same + AHEAD < most ? same + AHEAD : same;
+        __builtin_prefetch(events[ahead].Text);
+        __builtin_prefetch(events[ahead].Effect);
+        __builtin_prefetch(fed[ahead].texts);
+        same++;
+    }
+    return same;
 }
 
 /* Forgets what was fed from an event on. */
 static void forget(struct parser_priv *own, int from) {
-    for (int i = from; i < own->fed_count; i++) {
-        free(own->fed[i].text);
-        free(own->fed[i].effect);
-    }
+    for (int i = from; i < own->fed_count; i++)
+        free(own->fed[i].texts);
     own->fed_count = from;
 }
 
 /* Keeps how an event was fed. Whether there was memory for it. */
 static int remember(struct parser_priv *own, const ASS_Event *event) {
-    if (own->fed_count == own->fed_room) {
+    const char *text = event->Text ? event->Text : "", *effect = event->Effect ? event->Effect : "";
+    size_t text_len = strlen(text), effect_len = strlen(effect);
+    char *texts = malloc(text_len + effect_len + 2);
+    if (texts && own->fed_count == own->fed_room) {
         struct fed *more = realloc(own->fed, (size_t)(own->fed_room * 2 + 16) * sizeof *more);
-        if (!more)
+        if (!more) {
+            free(texts);
             return 0;
+        }
         own->fed = more;
         own->fed_room = own->fed_room * 2 + 16;
     }
-    struct fed fed = {event->Start,   event->Duration, event->ReadOrder, event->Layer, event->Style,
-                      event->MarginL, event->MarginR,  event->MarginV,   NULL,         NULL};
-    if (event->Text && !(fed.text = copy_of(event->Text, strlen(event->Text))))
+    if (!texts)
         return 0;
-    if (event->Effect && !(fed.effect = copy_of(event->Effect, strlen(event->Effect)))) {
-        free(fed.text);
-        return 0;
-    }
-    own->fed[own->fed_count++] = fed;
+    memcpy(texts, text, text_len + 1);
+    memcpy(texts + text_len + 1, effect, effect_len + 1);
+    own->fed[own->fed_count++] =
+        (struct fed){event->Start,   event->Duration, event->ReadOrder, event->Layer, event->Style,
+                     event->MarginL, event->MarginR,  event->MarginV,   texts,        text_len};
     return 1;
 }
 
@@ -111,10 +126,8 @@ static int feed_from(ASS_Track *track, int from) {
  * changed or taken away. */
 static int feed_changes(ASS_Track *track) {
     struct parser_priv *own = track->parser_priv;
-    int same = 0;
     size_t place = 0;
-    while (same < own->fed_count && same < track->n_events && is_as_fed(&own->fed[same], &track->events[same]))
-        same++;
+    int same = count_same(own->fed, own->fed_count, track->events, track->n_events);
     if (same < own->fed_count) {
         int32_t status = vimalorua_flush(own->handle, &place);
         forget(own, 0);

@@ -134,10 +134,8 @@ SHOWN void ass_free_track(ASS_Track *track) {
     ass_flush_events(track);
     for (int i = 0; i < track->n_styles; i++)
         ass_free_style(track, i);
-    for (int i = 0; i < own->fed_count; i++) {
-        free(own->fed[i].text);
-        free(own->fed[i].effect);
-    }
+    for (int i = 0; i < own->fed_count; i++)
+        free(own->fed[i].texts);
     free(own->fed);
     vimalorua_close(own->handle);
     free(own->text);
