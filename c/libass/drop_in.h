@@ -4,6 +4,11 @@
 #define VIMALORUA_DROP_IN_H
 #include "vimalorua.h"
 #include <ass/ass.h>
+#include <locale.h>
+
+/* Whether the library chooses faces by weight and slant, and adds all fonts of a file. It is 1 as soon as vimalorua.h has
+ * vimalorua_add_fonts: then the system's bold and italic faces are added too. */
+#define CHOOSES_FACES 0
 
 /* What libass's header declares is shown; all else stays inside. */
 #define SHOWN __attribute__((visibility("default")))
@@ -15,11 +20,13 @@ struct font {
 };
 
 struct ass_library {
-    struct font *fonts;
+    struct font *fonts; /* the first stands for names that aren't found */
     size_t font_count;
+    uint64_t list_number; /* another one where fonts were taken away, or put before others */
     char *fonts_dir;
     char **overrides; /* "Style.Field=value" or "Field=value", and null behind the last */
     int has_files;    /* the fonts of the folder and of the environment were added */
+    int has_last;     /* and the one for where there was none that can be drawn */
     int asks_system;  /* whether fonts of the system are looked for */
     char **asked;     /* the names of those that were */
     size_t asked_count;
@@ -53,7 +60,8 @@ struct fed {
 
 /* What stands behind a track beside its public fields. */
 struct parser_priv {
-    int section, line_count;
+    int section;
+    int says_borders; /* the header says whether borders are scaled */
     int checks_order;
     uint32_t *orders; /* a bit for each ReadOrder that a chunk had */
     size_t order_words;
@@ -65,7 +73,8 @@ struct parser_priv {
     uint64_t opened_sum;        /* of what the handle was opened with */
     struct fed *fed;
     int fed_count, fed_room;
-    size_t font_count; /* how many of the library's fonts the handle was offered */
+    size_t font_count; /* how many of the library's fonts the handle was offered, */
+    size_t taken;      /* and how many it took */
     uint64_t budget;
 };
 
@@ -78,15 +87,20 @@ int is_done(ASS_Library *library, const char *what, int32_t status, size_t place
 /* A file's bytes and a 0 behind them; null where it is no plain file or can't be read. */
 uint8_t *read_whole(const char *name, size_t *len);
 
-/* Adds the font of a file. */
-void add_file(ASS_Library *library, const char *name);
+/* Adds the font of a file at a place of the list. Whether it could be read. */
+int add_file(ASS_Library *library, size_t place, const char *name);
 
-/* Adds the system's font of a name, once, where fonts of the system are looked for. Where `may_differ`, one of another
- * name may stand for it. */
-void find_font(ASS_Library *library, const char *name, int may_differ);
+/* Adds a font for where no other can be drawn, once. Whether one was added. */
+int add_last_font(ASS_Library *library);
 
-/* Those that \fn names in a text. */
-void find_fonts_of_text(ASS_Library *library, const char *text);
+/* Adds the fonts that the system has of a family, once, where fonts of the system are looked for. */
+void find_family(ASS_Library *library, const char *name);
+
+/* Adds the font that the system has in place of a family at a place of the list. Whether there is one. */
+int find_usual_font(ASS_Library *library, size_t place, const char *name);
+
+/* The families that \fn names in a text. */
+void find_families_of_text(ASS_Library *library, const char *text);
 
 /* Forgets which names were looked for. */
 void forget_names(ASS_Library *library);
@@ -94,14 +108,28 @@ void forget_names(ASS_Library *library);
 /* A text's copy of so many bytes, and a 0; null where memory runs out. */
 char *copy_of(const char *from, size_t len);
 
-/* Reads lines of a script into the track. */
-void read_text(ASS_Track *track, const char *text, size_t len);
+/* Reads lines of a script into the track, up to a 0. */
+void read_text(ASS_Track *track, const char *text);
 
 /* Reads an event's fields by a format; the last goes on to the end. Whether it has all of them. */
 int read_event(ASS_Track *track, ASS_Event *event, const char *format, const char *from, const char *end);
 
-/* Sets a field of a style by its name in a Format line. Whether there is one of that name. */
-int set_style_field(ASS_Style *style, const char *name, const char *value, int is_ssa);
+/* The usual Format lines of ASS. */
+extern const char STYLE_FORMAT[], EVENT_FORMAT[];
+
+/* Sets a field of a style by its name in a Format line, as the number stands there. Whether there is one of that name. */
+int set_style_field(ASS_Style *style, const char *name, const char *value);
+
+/* Whether a word of a header says yes. */
+int is_yes(const char *text);
+
+/* Sets what YCbCr Matrix says. */
+void read_matrix(ASS_Track *track, const char *value);
+
+/* Numbers are read and written as in C's own locale from here on, in this thread; the locale that was before. */
+locale_t begin_plain_numbers(void);
+
+void end_plain_numbers(locale_t before);
 
 /* The script of a track's header and styles, or of one style in place of them all, without events. */
 char *written_script(const ASS_Track *track, const ASS_Style *override, size_t *len);
@@ -111,6 +139,11 @@ char *written_chunk(const ASS_Track *track, const ASS_Event *event, int order, s
 
 /* Writes '?' for each byte that isn't of UTF-8. */
 void make_utf8(char *text, size_t len);
+
+/* Writes the canvas into a track whose header doesn't say it, or says half of it. */
+void complete_canvas(ASS_Track *track);
+
+long long within(long long number, long long least, long long most);
 
 /* A sum of the header and the styles, as a program may have written them. */
 uint64_t header_sum(const ASS_Track *track);

@@ -8,7 +8,7 @@
 #define AHEAD 8
 #define OTHER_ORDERS 0x40000000 /* from here on, for events whose ReadOrder is another one's */
 
-static long long within(long long number, long long least, long long most) {
+long long within(long long number, long long least, long long most) {
     return number < least ? least : number > most ? most : number;
 }
 
@@ -21,7 +21,7 @@ static int32_t open_handle(ASS_Track *track, const ASS_Style *override, int is_a
     int32_t status = VIMALORUA_NO_EVENTS;
     vimalorua_close(own->handle);
     own->handle = NULL;
-    own->font_count = 0;
+    own->font_count = own->taken = 0;
     own->budget = budget;
     if (is_as_read)
         status = vimalorua_open((uint8_t *)own->text, own->text_len, budget, &own->handle, &place);
@@ -115,89 +115,120 @@ static int feed_from(ASS_Track *track, int from) {
         if (status == VIMALORUA_REPEATED)
             status = feed_chunk(track, event, OTHER_ORDERS + i, &place);
         is_done(track->library, "an event", status, place);
-        find_fonts_of_text(track->library, event->Text ? event->Text : "");
+        find_families_of_text(track->library, event->Text ? event->Text : "");
         if (status == VIMALORUA_OUT_OF_MEMORY || !remember(track->parser_priv, event))
             return 0;
     }
     return 1;
 }
 
-/* Feeds what the handle hasn't of the track's events: those behind the last that was fed, or all of them where one was
- * changed or taken away. */
-static int feed_changes(ASS_Track *track) {
+/* Drops what was fed where an event of it was changed or taken away. Whether that could be done. */
+static int drop_changed(ASS_Track *track) {
     struct parser_priv *own = track->parser_priv;
     size_t place = 0;
-    int same = count_same(own->fed, own->fed_count, track->events, track->n_events);
-    if (same < own->fed_count) {
-        int32_t status = vimalorua_flush(own->handle, &place);
-        forget(own, 0);
-        if (status != VIMALORUA_DONE) { /* a handle has so many flushes; a new one begins anew */
-            vimalorua_close(own->handle);
-            own->handle = NULL;
-            return 0;
-        }
-    }
-    return feed_from(track, own->fed_count);
+    if (count_same(own->fed, own->fed_count, track->events, track->n_events) == own->fed_count)
+        return 1;
+    forget(own, 0);
+    return vimalorua_flush(own->handle, &place) == VIMALORUA_DONE;
 }
 
-static void add_fonts(ASS_Track *track) {
+/* Offers a handle the fonts of a file. How many it took. */
+static size_t offer_font(vimalorua *handle, const struct font *font, ASS_Library *library) {
+    size_t place = 0, count = 1;
+#if CHOOSES_FACES
+    int32_t status = vimalorua_add_fonts(handle, font->bytes, font->len, &place, &count);
+#else
+    int32_t status = vimalorua_add_font(handle, font->bytes, font->len, &place);
+#endif
+    return is_done(library, font->name, status, place) ? count : 0;
+}
+
+/* Offers the handle those of the library's fonts that it wasn't offered yet. */
+static void offer_fonts(ASS_Track *track) {
     struct parser_priv *own = track->parser_priv;
     ASS_Library *library = track->library;
-    for (; own->font_count < library->font_count; own->font_count++) {
-        const struct font *font = &library->fonts[own->font_count];
-        size_t place = 0;
-        is_done(library, font->name, vimalorua_add_font(own->handle, font->bytes, font->len, &place), place);
-    }
+    for (; own->font_count < library->font_count; own->font_count++)
+        own->taken += offer_font(own->handle, &library->fonts[own->font_count], library);
+}
+
+/* The style that stands in place of all others, or null. */
+static const ASS_Style *override_of(const ASS_Renderer *renderer) {
+    return renderer->override_bits & (ASS_OVERRIDE_BIT_STYLE | ASS_OVERRIDE_FULL_STYLE) ? &renderer->override : NULL;
+}
+
+/* A sum of what a handle is opened with beside the header: the style that stands for others, and the fonts' list. */
+static uint64_t opening_sum(uint64_t header, const ASS_Style *override, const ASS_Library *library) {
+    uint64_t sum = sum_of(header, &library->list_number, sizeof library->list_number);
+    if (override)
+        sum = sum_of(sum, &override->FontSize, sizeof *override - offsetof(ASS_Style, FontSize));
+    if (override && override->FontName)
+        sum = sum_of(sum, override->FontName, strlen(override->FontName));
+    return sum;
+}
+
+/* Opens the handle where there is none, or where the header, the styles or the fonts' list became others. */
+static int open_as_needed(const ASS_Renderer *renderer, ASS_Track *track) {
+    struct parser_priv *own = track->parser_priv;
+    const ASS_Style *override = override_of(renderer);
+    uint64_t header = header_sum(track), wanted = opening_sum(header, override, track->library);
+    if (own->handle && wanted == own->opened_sum)
+        return 1;
+    forget(own, 0);
+    own->opened_sum = wanted;
+    return open_handle(track, override, own->text && header == own->text_sum && !override, renderer->budget) ==
+           VIMALORUA_DONE;
 }
 
 /* Makes the handle one of the track as it now is, for this renderer. */
 static int make_ready(const ASS_Renderer *renderer, ASS_Track *track) {
     struct parser_priv *own = track->parser_priv;
-    const ASS_Style *override = NULL;
-    uint64_t header = header_sum(track), wanted = header;
-    if (renderer->override_bits & (ASS_OVERRIDE_BIT_STYLE | ASS_OVERRIDE_FULL_STYLE)) {
-        override = &renderer->override;
-        wanted = sum_of(wanted, &override->FontSize, sizeof *override - offsetof(ASS_Style, FontSize));
-        if (override->FontName)
-            wanted = sum_of(wanted, override->FontName, strlen(override->FontName));
-    }
-    if (!own->handle || wanted != own->opened_sum) {
-        int is_as_read = own->text && header == own->text_sum && !override;
-        forget(own, 0);
-        if (open_handle(track, override, is_as_read, renderer->budget) != VIMALORUA_DONE)
-            return 0;
-        own->opened_sum = wanted;
-    }
+    complete_canvas(track);
     for (int i = 0; i < track->n_styles; i++)
-        find_font(track->library, track->styles[i].FontName ? track->styles[i].FontName : "", 0);
+        find_family(track->library, track->styles[i].FontName ? track->styles[i].FontName : "");
+    if (!open_as_needed(renderer, track))
+        return 0;
+    if (!drop_changed(track)) { /* a handle has so many flushes */
+        vimalorua_close(own->handle);
+        own->handle = NULL;
+        if (!open_as_needed(renderer, track))
+            return 0;
+    }
     if (own->budget != renderer->budget && vimalorua_set_budget(own->handle, renderer->budget) == VIMALORUA_DONE)
         own->budget = renderer->budget;
-    if (!feed_changes(track))
+    if (!feed_from(track, own->fed_count))
         return 0;
-    add_fonts(track);
+    offer_fonts(track);
+    if (own->taken == 0 && add_last_font(track->library))
+        offer_fonts(track);
     return 1;
 }
 
-/* The frame as the renderer's settings say it. */
-static vimalorua_view view_of(const ASS_Renderer *renderer) {
+/* The shape of the video's pixels, in parts of up to 65,536. */
+static void set_aspect(vimalorua_view *view, double aspect) {
+    double wide = aspect < 1 ? aspect * MOST_PARTS : MOST_PARTS, high = aspect < 1 ? MOST_PARTS : MOST_PARTS / aspect;
+    view->aspect_wide = (uint32_t)within((long long)(wide + 0.5), 1, MOST_PARTS);
+    view->aspect_high = (uint32_t)within((long long)(high + 0.5), 1, MOST_PARTS);
+}
+
+/* The frame as the renderer's settings say it, and the layout size of a script that has one: it counts in place of the
+ * video's size and of the shape of its pixels. */
+static vimalorua_view view_of(const ASS_Renderer *renderer, const ASS_Track *track) {
     vimalorua_view view = {.size = sizeof view, .letters = VIMALORUA_BY_ASPECT};
-    double aspect = renderer->pixel_aspect;
+    int has_layout = track->LayoutResX > 0 && track->LayoutResY > 0;
+    int storage_w = has_layout ? track->LayoutResX : renderer->storage_w;
+    int storage_h = has_layout ? track->LayoutResY : renderer->storage_h;
     view.w = (uint32_t)renderer->w;
     view.h = (uint32_t)renderer->h;
     view.left = renderer->left;
     view.top = renderer->top;
     view.content_w = (uint32_t)(renderer->w - renderer->left - renderer->right);
     view.content_h = (uint32_t)(renderer->h - renderer->top - renderer->bottom);
-    if (renderer->storage_w > 0 && renderer->storage_h > 0) {
-        view.storage_w = (uint32_t)renderer->storage_w;
-        view.storage_h = (uint32_t)renderer->storage_h;
+    if (storage_w > 0 && storage_h > 0) {
+        view.storage_w = (uint32_t)storage_w;
+        view.storage_h = (uint32_t)storage_h;
     }
-    if (aspect > 0) {
-        view.aspect_wide =
-            aspect < 1 ? (uint32_t)within((long long)(aspect * MOST_PARTS + 0.5), 1, MOST_PARTS) : MOST_PARTS;
-        view.aspect_high =
-            aspect < 1 ? MOST_PARTS : (uint32_t)within((long long)(MOST_PARTS / aspect + 0.5), 1, MOST_PARTS);
-    }
+    if (!has_layout && renderer->pixel_aspect > 0)
+        set_aspect(&view, renderer->pixel_aspect);
     view.scale = (uint32_t)within((long long)(renderer->font_scale * 1000 + 0.5), 1, 100000);
     view.use_bars = renderer->use_margins != 0;
     return view;
@@ -241,7 +272,7 @@ static ASS_Image *make_nodes(ASS_Renderer *renderer, size_t count) {
 /* The list of a frame. Whether there is one; a failure is told once. */
 static int list_frame(ASS_Renderer *renderer, ASS_Track *track, long long now, int32_t *change, size_t *count) {
     vimalorua *handle = track->parser_priv->handle;
-    vimalorua_view view = view_of(renderer);
+    vimalorua_view view = view_of(renderer, track);
     size_t bytes = 0;
     int32_t status =
         vimalorua_images_in(handle, within(now, -LAST_INSTANT, LAST_INSTANT), &view, change, count, &bytes);

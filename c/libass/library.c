@@ -59,6 +59,7 @@ SHOWN void ass_clear_fonts(ASS_Library *library) {
     free(library->fonts);
     library->fonts = NULL;
     library->font_count = 0;
+    library->list_number++;
     forget_names(library);
 }
 
@@ -98,8 +99,9 @@ SHOWN void ass_set_message_cb(ASS_Library *library, void (*call)(int, const char
     library->message_data = data;
 }
 
-/* Keeps a font's bytes, which are the library's then. Tracks are offered it when they are drawn. */
-static void keep_font(ASS_Library *library, const char *name, uint8_t *bytes, size_t len) {
+/* Keeps a font's bytes, which are the library's then, at a place of the list. Tracks are offered it when they are drawn;
+ * where it isn't the last one, they begin anew. */
+static void keep_font(ASS_Library *library, size_t place, const char *name, uint8_t *bytes, size_t len) {
     struct font *fonts = realloc(library->fonts, (library->font_count + 1) * sizeof *fonts);
     char *copy = copy_of(name, strlen(name));
     if (fonts)
@@ -109,16 +111,20 @@ static void keep_font(ASS_Library *library, const char *name, uint8_t *bytes, si
         free(copy);
         return;
     }
-    fonts[library->font_count++] = (struct font){copy, bytes, len};
+    memmove(fonts + place + 1, fonts + place, (library->font_count - place) * sizeof *fonts);
+    library->list_number += place < library->font_count;
+    library->font_count++;
+    fonts[place] = (struct font){copy, bytes, len};
 }
 
-void add_file(ASS_Library *library, const char *name) {
+int add_file(ASS_Library *library, size_t place, const char *name) {
     size_t len = 0;
     uint8_t *bytes = read_whole(name, &len);
     if (bytes)
-        keep_font(library, name, bytes, len);
+        keep_font(library, place, name, bytes, len);
     else
         tell(library, 2, "[vimalorua] font %s: it can't be read", name);
+    return bytes != NULL;
 }
 
 static int by_name(const void *a, const void *b) { return strcmp(*(char *const *)a, *(char *const *)b); }
@@ -136,7 +142,7 @@ static void add_folder(ASS_Library *library, const char *folder) {
     qsort(names, count, sizeof *names, by_name);
     for (size_t i = 0; i < count; i++) {
         snprintf(path, sizeof path, "%s/%s", folder, names[i]);
-        add_file(library, path);
+        add_file(library, library->font_count, path);
         free(names[i]);
     }
 }
@@ -144,7 +150,7 @@ static void add_folder(ASS_Library *library, const char *folder) {
 SHOWN void ass_add_font(ASS_Library *library, const char *name, const char *data, int size) {
     uint8_t *bytes = data && size > 0 ? (uint8_t *)copy_of(data, (size_t)size) : NULL;
     if (bytes)
-        keep_font(library, name ? name : "a font", bytes, (size_t)size);
+        keep_font(library, library->font_count, name ? name : "a font", bytes, (size_t)size);
 }
 
 SHOWN void ass_get_available_font_providers(ASS_Library *library, ASS_DefaultFontProvider **list, size_t *count) {
@@ -222,23 +228,26 @@ SHOWN void ass_set_selective_style_override(ASS_Renderer *renderer, ASS_Style *s
     renderer->override.FontName = style->FontName ? copy_of(style->FontName, strlen(style->FontName)) : NULL;
 }
 
-/* The fonts of the folder that was set, of the environment, and the one that stands for others. */
-static void add_files(ASS_Library *library, const char *usual, const char *family) {
-    const char *more = getenv("VIMALORUA_FONTS");
-    char *names = more ? copy_of(more, strlen(more)) : NULL, *rest = NULL;
-    if (library->fonts_dir)
-        add_folder(library, library->fonts_dir);
+/* The fonts of the environment. The first one stands for names that aren't found. Whether there is one. */
+static int add_named_files(ASS_Library *library) {
+    const char *said = getenv("VIMALORUA_FONTS");
+    char *names = said ? copy_of(said, strlen(said)) : NULL, *rest = NULL;
+    int has_first = 0;
     for (char *name = names ? strtok_r(names, ":", &rest) : NULL; name; name = strtok_r(NULL, ":", &rest))
-        add_file(library, name);
+        has_first |= add_file(library, has_first ? library->font_count : 0, name);
     free(names);
-    if (usual && *usual)
-        add_file(library, usual);
-    if (library->font_count == 0)
-        find_font(library, family, 1);
-    if (library->font_count == 0)
-        add_file(library, "/usr/share/fonts/truetype/dejavu/DejaVuSans.ttf");
-    if (library->font_count == 0)
-        tell(library, 1, "[vimalorua] there is no font, so nothing is shown: VIMALORUA_FONTS names files");
+    return has_first;
+}
+
+int add_last_font(ASS_Library *library) {
+    if (library->has_last)
+        return 0;
+    library->has_last = 1;
+    if (find_usual_font(library, library->font_count, "sans-serif") ||
+        add_file(library, library->font_count, "/usr/share/fonts/truetype/dejavu/DejaVuSans.ttf"))
+        return 1;
+    tell(library, 1, "[vimalorua] there is no font, so nothing is shown: VIMALORUA_FONTS names files");
+    return 0;
 }
 
 SHOWN void ass_set_fonts(ASS_Renderer *renderer, const char *font, const char *family, int provider, const char *config,
@@ -249,7 +258,10 @@ SHOWN void ass_set_fonts(ASS_Renderer *renderer, const char *font, const char *f
         return;
     library->has_files = 1;
     library->asks_system = provider != ASS_FONTPROVIDER_NONE;
-    add_files(library, font, family && *family ? family : "sans-serif");
+    if (!add_named_files(library) && !(font && *font && add_file(library, 0, font)) && library->asks_system)
+        find_usual_font(library, 0, family && *family ? family : "sans-serif");
+    if (library->fonts_dir)
+        add_folder(library, library->fonts_dir);
 }
 
 /* What has no meaning here. */

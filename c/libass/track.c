@@ -1,5 +1,6 @@
 /* Tracks: their events and styles, as programs read and write them. */
 #include "drop_in.h"
+#include <limits.h>
 #include <stdlib.h>
 #include <string.h>
 #include <strings.h>
@@ -20,9 +21,23 @@ static uint64_t sum_of_text(uint64_t before, const char *text) {
     return text ? sum_of(before, text, strlen(text) + 1) : sum_of(before, "\1", 1);
 }
 
+/* Tells the canvas: what the header doesn't say of it is libass's. */
+static void canvas_of(const ASS_Track *track, int *w, int *h) {
+    int has_w = track->PlayResX > 0, has_h = track->PlayResY > 0;
+    *w = has_w ? track->PlayResX : 384;
+    *h = has_h ? track->PlayResY : 288;
+    if (has_w && !has_h)
+        *h = *w == 1280 ? 1024 : (int)within(*w * 3LL / 4, 1, INT_MAX);
+    if (has_h && !has_w)
+        *w = *h == 1024 ? 1280 : (int)within(*h * 4LL / 3, 1, INT_MAX);
+}
+
+void complete_canvas(ASS_Track *track) { canvas_of(track, &track->PlayResX, &track->PlayResY); }
+
 uint64_t header_sum(const ASS_Track *track) {
-    int numbers[] = {track->PlayResX, track->PlayResY,       track->WrapStyle, track->ScaledBorderAndShadow,
-                     track->n_styles, (int)track->track_type};
+    int w, h;
+    canvas_of(track, &w, &h);
+    int numbers[] = {w, h, track->WrapStyle, track->ScaledBorderAndShadow, track->n_styles, (int)track->track_type};
     uint64_t sum = sum_of(SUM_OF_NOTHING, numbers, sizeof numbers);
     for (int i = 0; i < track->n_styles; i++) {
         const ASS_Style *style = &track->styles[i];
@@ -40,7 +55,7 @@ static int add_default_style(ASS_Track *track) {
     track->styles[id] = (ASS_Style){
         .Name = text_of("Default"),
         .FontName = text_of("Arial"),
-        .FontSize = 20,
+        .FontSize = 18,
         .PrimaryColour = 0xffffff00,
         .SecondaryColour = 0x00ffff00,
         .OutlineColour = 0,
@@ -66,9 +81,6 @@ SHOWN ASS_Track *ass_new_track(ASS_Library *library) {
         return NULL;
     }
     track->library = library;
-    track->PlayResX = 384;
-    track->PlayResY = 288;
-    track->Timer = 100;
     track->parser_priv->checks_order = 1;
     if (add_default_style(track))
         return track;
@@ -155,43 +167,65 @@ SHOWN int ass_track_set_feature(ASS_Track *track, ASS_Feature feature, int enabl
 
 SHOWN void ass_set_check_readorder(ASS_Track *track, int check) { track->parser_priv->checks_order = check; }
 
-/* One override, of the header or of styles, whose parts are texts of their own. */
-static void apply_override(ASS_Track *track, const char *style, const char *field, const char *value) {
-    if (!strcasecmp(field, "PlayResX"))
+/* An override of the header. Whether its name is one of the header's. */
+static int apply_to_header(ASS_Track *track, const char *name, const char *value) {
+    if (!strcasecmp(name, "PlayResX"))
         track->PlayResX = atoi(value);
-    else if (!strcasecmp(field, "PlayResY"))
+    else if (!strcasecmp(name, "PlayResY"))
         track->PlayResY = atoi(value);
-    else if (!strcasecmp(field, "WrapStyle"))
+    else if (!strcasecmp(name, "LayoutResX"))
+        track->LayoutResX = atoi(value);
+    else if (!strcasecmp(name, "LayoutResY"))
+        track->LayoutResY = atoi(value);
+    else if (!strcasecmp(name, "Timer"))
+        track->Timer = atof(value);
+    else if (!strcasecmp(name, "WrapStyle"))
         track->WrapStyle = atoi(value);
-    else if (!strcasecmp(field, "ScaledBorderAndShadow"))
-        track->ScaledBorderAndShadow = !strcasecmp(value, "yes") || atoi(value) > 0;
+    else if (!strcasecmp(name, "ScaledBorderAndShadow"))
+        track->ScaledBorderAndShadow = is_yes(value);
+    else if (!strcasecmp(name, "Kerning"))
+        track->Kerning = is_yes(value);
+    else if (!strcasecmp(name, "YCbCr Matrix"))
+        read_matrix(track, value);
     else
-        for (int i = 0; i < track->n_styles; i++)
-            if (!style || (track->styles[i].Name && !strcasecmp(track->styles[i].Name, style)))
-                set_style_field(&track->styles[i], field, value, track->track_type == TRACK_TYPE_SSA);
+        return 0;
+    return 1;
+}
+
+/* One override: Field=value of the header, or of all styles, or Style.Field=value. */
+static void apply_override(ASS_Track *track, char *text) {
+    char *value = strrchr(text, '=');
+    if (!value)
+        return;
+    *value++ = 0;
+    if (apply_to_header(track, text, value))
+        return;
+    char *field = strrchr(text, '.');
+    const char *style = field ? text : NULL;
+    if (field)
+        *field++ = 0;
+    for (int i = 0; i < track->n_styles; i++)
+        if (!style || (track->styles[i].Name && !strcasecmp(track->styles[i].Name, style)))
+            set_style_field(&track->styles[i], field ? field : text, value);
 }
 
 void apply_overrides(ASS_Track *track) {
+    locale_t before = begin_plain_numbers();
     for (char **at = track->library->overrides; at && *at; at++) {
-        char *text = text_of(*at), *equals = text ? strrchr(text, '=') : NULL;
-        if (equals) {
-            char *dot = strchr(text, '.');
-            *equals = 0;
-            if (dot && dot < equals)
-                *dot = 0;
-            else
-                dot = NULL;
-            apply_override(track, dot ? text : NULL, dot ? dot + 1 : text, equals + 1);
-        }
+        char *text = text_of(*at);
+        if (text)
+            apply_override(track, text);
         free(text);
     }
+    end_plain_numbers(before);
 }
 
 SHOWN void ass_process_force_style(ASS_Track *track) { apply_overrides(track); }
 
-/* Reads more of a script, and keeps its text. */
-static void take_text(ASS_Track *track, const char *bytes, size_t len) {
+/* Reads more of a script, up to a 0 or so many bytes, and keeps its text. */
+static void take_text(ASS_Track *track, const char *bytes, size_t most) {
     struct parser_priv *own = track->parser_priv;
+    size_t len = strnlen(bytes, most);
     char *text = realloc(own->text, own->text_len + len + 1);
     if (!text)
         return;
@@ -199,7 +233,7 @@ static void take_text(ASS_Track *track, const char *bytes, size_t len) {
     memcpy(text + own->text_len, bytes, len);
     text[own->text_len + len] = 0;
     make_utf8(text + own->text_len, len);
-    read_text(track, text + own->text_len, len);
+    read_text(track, text + own->text_len);
     own->text_len += len;
     own->text_sum = header_sum(track);
     apply_overrides(track);
@@ -291,21 +325,21 @@ SHOWN int ass_read_styles(ASS_Track *track, char *name, char *codepage) {
         return 1;
     make_utf8((char *)bytes, len);
     track->parser_priv->section = 3;
-    read_text(track, (char *)bytes, len);
+    read_text(track, (char *)bytes);
     track->parser_priv->section = section;
     free(bytes);
     apply_overrides(track);
     return 0;
 }
 
-/* The event next to an instant: the last that ended before it, the first that begins behind it, or the last that began.
- */
+/* The event next to an instant: the last that ended before it, the first that begins behind it, or the last that began
+ * before it. */
 static const ASS_Event *next_to(const ASS_Track *track, long long target, int direction, long long *at) {
     const ASS_Event *closest = NULL;
     for (int i = 0; i < track->n_events; i++) {
         const ASS_Event *event = &track->events[i];
         long long mark = direction < 0 ? event->Start + event->Duration : event->Start;
-        int is_there = direction < 0 ? mark < target : direction > 0 ? mark > target : mark <= target;
+        int is_there = direction < 0 ? mark < target : direction > 0 ? mark > target : mark < target;
         if (is_there && (!closest || (direction > 0 ? mark < *at : direction < 0 ? mark > *at : mark >= *at))) {
             closest = event;
             *at = mark;
