@@ -6,8 +6,8 @@
 #include <ass/ass.h>
 #include <locale.h>
 
-/* Whether the library chooses faces by weight and slant, and adds all fonts of a file. It is 1 as soon as vimalorua.h has
- * vimalorua_add_fonts: then the system's bold and italic faces are added too. */
+/* Whether the library chooses faces by weight and slant, and adds all fonts of a file. It is 1 as soon as vimalorua.h
+ * has vimalorua_add_fonts: then the system's bold and italic faces are added too. */
 #define CHOOSES_FACES 0
 
 /* What libass's header declares is shown; all else stays inside. */
@@ -117,7 +117,7 @@ int read_event(ASS_Track *track, ASS_Event *event, const char *format, const cha
 /* The usual Format lines of ASS. */
 extern const char STYLE_FORMAT[], EVENT_FORMAT[];
 
-/* Sets a field of a style by its name in a Format line, as the number stands there. Whether there is one of that name. */
+/* Sets a field of a style by its name in a Format line, as the number stands there. Whether there is one so named. */
 int set_style_field(ASS_Style *style, const char *name, const char *value);
 
 /* Whether a word of a header says yes. */

@@ -9,6 +9,7 @@
 
 #define USUAL_BUDGET (UINT64_C(64) << 20)
 #define MOST_FILES 256
+#define PLACED_VERSION 0x01701000 /* of libass, whose functions these are: 0.17.1 */
 
 void tell(ASS_Library *library, int level, const char *format, ...) {
     va_list words;
@@ -47,7 +48,7 @@ uint8_t *read_whole(const char *name, size_t *len) {
     return bytes;
 }
 
-SHOWN int ass_library_version(void) { return LIBASS_VERSION; }
+SHOWN int ass_library_version(void) { return PLACED_VERSION; }
 
 SHOWN ASS_Library *ass_library_init(void) { return calloc(1, sizeof(ASS_Library)); }
 
@@ -99,8 +100,8 @@ SHOWN void ass_set_message_cb(ASS_Library *library, void (*call)(int, const char
     library->message_data = data;
 }
 
-/* Keeps a font's bytes, which are the library's then, at a place of the list. Tracks are offered it when they are drawn;
- * where it isn't the last one, they begin anew. */
+/* Keeps a font's bytes, which are the library's then, at a place of the list. Tracks are offered it when they are
+ * drawn; where it isn't the last one, they begin anew. */
 static void keep_font(ASS_Library *library, size_t place, const char *name, uint8_t *bytes, size_t len) {
     struct font *fonts = realloc(library->fonts, (library->font_count + 1) * sizeof *fonts);
     char *copy = copy_of(name, strlen(name));
@@ -171,7 +172,7 @@ SHOWN ASS_Renderer *ass_renderer_init(ASS_Library *library) {
     renderer->font_scale = 1;
     renderer->budget = USUAL_BUDGET;
     tell(library, 4, "[vimalorua] interface %u, in the place of libass %#x", (unsigned)vimalorua_version(),
-         LIBASS_VERSION);
+         PLACED_VERSION);
     return renderer;
 }
 

@@ -64,10 +64,17 @@ static uint64_t fresh_frame(char *script, size_t len, long long ms) {
     return sum;
 }
 
-static const char head[] = "[Script Info]\nScriptType: v4.00+\nPlayResX: 640\nPlayResY: 360\n\n[V4+ Styles]\n"
-                           "Format: Name, Fontname, Fontsize, PrimaryColour, Alignment\n"
-                           "Style: Default,Letters,40,&H00FFFFFF,2\n\n[Events]\n"
-                           "Format: Layer, Start, End, Style, Name, MarginL, MarginR, MarginV, Effect, Text\n";
+/* A script's header, of words of its own, with a style that says all. */
+#define HEAD(words, size, colour, alignment)                                                                         \
+    "[Script Info]\nScriptType: v4.00+\nPlayResX: 640\nPlayResY: 360\n" words "\n[V4+ Styles]\n"                     \
+    "Format: Name, Fontname, Fontsize, PrimaryColour, SecondaryColour, OutlineColour, BackColour, Bold, Italic, "    \
+    "Underline, StrikeOut, ScaleX, ScaleY, Spacing, Angle, BorderStyle, Outline, Shadow, Alignment, MarginL, MarginR, "\
+    "MarginV, Encoding\n"                                                                                            \
+    "Style: Default,Letters," size "," colour ",&H0000FFFF,&H00402010,&H80203040,0,-1,0,0,90,100,0.5,0,1,3,1.5,"     \
+    alignment ",10,20,30,1\n\n[Events]\n"                                                                            \
+    "Format: Layer, Start, End, Style, Name, MarginL, MarginR, MarginV, Effect, Text\n"
+#define LINE(text) "Dialogue: 0,0:00:00.00,0:01:00.00,Default,,0,0,0,," text "\n"
+static const char head[] = HEAD("", "40", "&H00FFFFFF", "2");
 
 /* A track of the head, and a script that has these lines. */
 static ASS_Track *stream(void) {
@@ -156,6 +163,60 @@ static void changes(void) {
     ass_free_track(second);
 }
 
+static ASS_Track *read_text(const char *text) {
+    return ass_read_memory(library, (char *)(size_t)text, strlen(text), NULL);
+}
+
+/* A track's frame, and that of a script in its place. */
+static void compare(ASS_Track *track, const char *script, const char *what) {
+    ASS_Track *wanted = read_text(script);
+    check(frame(renderer, track, 0) == frame(other, wanted, 0), what, 0);
+    ass_free_track(wanted);
+    ass_free_track(track);
+}
+
+/* What is written into a track, or forced on it, is as if its script said so. */
+static void written(void) {
+    static const char plain[] = HEAD("", "40", "&H00FFFFFF", "2") LINE("text");
+    char *forced[] = {"Fontsize=60", "Default.PrimaryColour=&H0000FF", "Alignment=6", "None.Fontsize=9", NULL};
+    ASS_Track *track = read_text(plain);
+    frame(renderer, track, 0);
+    strcpy(track->events[0].Text, "more");
+    compare(track, HEAD("", "40", "&H00FFFFFF", "2") LINE("more"), "an event that was changed");
+    track = read_text(plain);
+    frame(renderer, track, 0);
+    track->styles[1].FontSize = 60.5;
+    compare(track, HEAD("", "60.5", "&H00FFFFFF", "2") LINE("text"), "a style that was changed");
+    track = read_text(plain);
+    track->styles[1].Blur = 3;
+    compare(track, HEAD("", "40", "&H00FFFFFF", "2") LINE("{\\blur3}text"), "a style's blur");
+    ass_set_style_overrides(library, forced);
+    track = read_text(plain);
+    ass_set_style_overrides(library, NULL);
+    compare(track, HEAD("", "60", "&H0000FF", "8") LINE("text"), "forced styles");
+}
+
+/* A script's layout size counts in place of the video's. */
+static void layout(void) {
+    ASS_Track *track = read_text(HEAD("LayoutResX: 640\nLayoutResY: 640\n", "40", "&H00FFFFFF", "2") LINE("text"));
+    ass_set_storage_size(other, 640, 640);
+    compare(track, HEAD("", "40", "&H00FFFFFF", "2") LINE("text"), "a layout size");
+    ass_set_storage_size(other, W, H);
+}
+
+/* Fonts that come and go while a track is shown. */
+static void fonts(const char *font, size_t len) {
+    ASS_Track *track = read_text(HEAD("", "40", "&H00FFFFFF", "2") LINE("text"));
+    uint64_t before = frame(renderer, track, 0);
+    ass_add_font(library, "no font", "none", 4);
+    ass_add_font(library, "letters again", font, (int)len);
+    check(frame(renderer, track, 0) == before, "fonts behind the first one change a picture", 0);
+    ass_clear_fonts(library);
+    ass_add_font(library, "letters", font, (int)len);
+    check(frame(renderer, track, 0) == before, "the same font has another picture", 0);
+    ass_free_track(track);
+}
+
 static ASS_Renderer *new_renderer(void) {
     ASS_Renderer *made = ass_renderer_init(library);
     ass_set_fonts(made, NULL, "sans-serif", ASS_FONTPROVIDER_NONE, NULL, 1);
@@ -169,6 +230,7 @@ int main(int argc, char **argv) {
     if (argc != 3)
         return 2;
     char *script = read_file(argv[1], &script_len), *font = read_file(argv[2], &font_len);
+    unsetenv("VIMALORUA_FONTS");
     library = ass_library_init();
     ass_set_message_cb(library, message, NULL);
     ass_add_font(library, "letters", font, (int)font_len);
@@ -178,6 +240,9 @@ int main(int argc, char **argv) {
     streamed();
     flushed();
     changes();
+    written();
+    layout();
+    fonts(font, font_len);
     ass_renderer_done(renderer);
     ass_renderer_done(other);
     ass_library_done(library);

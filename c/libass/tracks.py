@@ -3,8 +3,8 @@
 
 usage: python3 c/libass/tracks.py LIBASS PLACED PROGRAM EXAMPLES
 
-LIBASS is the system's libass.so.9, PLACED the one that is made here. Compared are all fields of tracks: of scripts, also
-odd ones, of styles that are forced on them, of chunks and steps. Then frames by PLACED alone, blended by the library's
+LIBASS is the system's libass.so.9, PLACED the one that is made here. Compared are all fields of tracks: of scripts,
+also odd ones, of styles that are forced on them, of chunks and steps. Then frames by PLACED alone, blended by the library's
 rule, are compared with those of PROGRAM, byte for byte. The last line is 'N passed, M failed'.
 """
 
@@ -176,7 +176,8 @@ def timed():
     lines = [f"Dialogue: {i},{it},0:00:10.00,Default,N, 1,-2,003,eff, te,xt \n" for i, it in enumerate(times)]
     front = "0,0:00:05.00,0:00:02.00,Default,,0,0"
     lines += [f"Dialogue: {front}\n", f"Comment: {front},0,,no\n", f"dialogue: {front},0,,low\n", f"Dialogue:{front},0,,near\n"]
-    lines += [f"Dialogue:   {front},0,,   blanks\n", f" Dialogue: {front},0,,front\n", f"Dialogue: {front},0,,\n", f"Dialogue: {front},0,,end\r\n"]
+    lines += [f"Dialogue:   {front},0,,   blanks\n", f" Dialogue: {front},0,,front\n", f"Dialogue: {front},0,,\n"]
+    lines += [f"Dialogue: {front},0,,end\r\n"]
     return HEAD + STYLES + style("Default") + EVENTS + "".join(lines) + LINE.strip()
 
 
@@ -198,15 +199,17 @@ def scripts():
         "no text": "",
         "a mark of byte order": "\xef\xbb\xbf" + small,
         "lines of CRLF": small.replace("\n", "\r\n"),
-        "blank lines and other sections": HEAD + "\n\n" + STYLES + "\n" + style("Default") + "\n[Fonts]\nfontname: x\nABC\n\n" + EVENTS + "\n" + LINE + "\n[Graphics]\nfoo: bar\n",
+        "blank lines and other sections": HEAD + "\n\n" + STYLES + "\n" + style("Default") + "\n[Fonts]\nfontname: x\n\n" + EVENTS + "\n" + LINE + "\n[Other]\na: b\n",
         "small headings": HEAD + "[v4+ styles]\nFormat: Name, Fontname, ScaleX, Blur, Justify, Encoding\nStyle: D,@Tall,50,3,2,128\n[EVENTS]\n" + LINE,
     }
     return {name: text.encode("latin1") for name, text in made.items()}
 
 
-FORCED = ["Fontname=Other", "Default.FontSize=33.5", "Alignment=6", "ScaleX=1.5", "Bold=1", "s3.PrimaryColour=&H0000FF", "OutlineColour=255", "PlayResX=777", "WrapStyle=1"]
-FORCED += ["ScaledBorderAndShadow=yes", "Blur=2", "Justify=1", "LayoutResX=5", "a.b.MarginV=7", "MarginL=-4", "nothing", "Kerning=yes", "YCbCr Matrix=PC.709", "Timer=50"]
-CHUNKS = ["3,1,Default,who,1,2,3,eff,te,xt ", "3,0,Default,,0,0,0,,again", "x,y,none,,,,,,odd", "5,0,Default,,0,0", "-1,0,*Default,,0,0,0,,below 0", "7,0,Default,,0,0,0,,a\\Nb\r\n"]
+FORCED = "Fontname=Other Default.FontSize=33.5 Alignment=6 ScaleX=1.5 Bold=1 s3.PrimaryColour=&H0000FF OutlineColour=255".split()
+FORCED += "PlayResX=777 WrapStyle=1 ScaledBorderAndShadow=yes Blur=2 Justify=1 LayoutResX=5 a.b.MarginV=7 MarginL=-4".split()
+FORCED += ["nothing", "Kerning=yes", "YCbCr Matrix=PC.709", "Timer=50"]
+CHUNKS = ["3,1,Default,who,1,2,3,eff,te,xt ", "3,0,Default,,0,0,0,,again", "x,y,none,,,,,,odd", "5,0,Default,,0,0"]
+CHUNKS += ["-1,0,*Default,,0,0,0,,below 0", "7,0,Default,,0,0,0,,a\\Nb\r\n"]
 
 
 def forced(libass):
