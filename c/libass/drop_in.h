@@ -6,8 +6,9 @@
 #include <ass/ass.h>
 #include <locale.h>
 
-/* Whether the library chooses faces by weight and slant, and adds all fonts of a file. It is 1 as soon as vimalorua.h
- * has vimalorua_add_fonts: then the system's bold and italic faces are added too. */
+/* Whether the library chooses faces by weight and slant, takes all fonts of a file, and those of a script. It is 1 as
+ * soon as vimalorua.h has vimalorua_add_fonts and vimalorua_add_script_fonts: then the system's bold and italic faces
+ * are looked for too. */
 #define CHOOSES_FACES 0
 
 /* What libass's header declares is shown; all else stays inside. */
@@ -24,11 +25,12 @@ struct ass_library {
     size_t font_count;
     uint64_t list_number; /* another one where fonts were taken away, or put before others */
     char *fonts_dir;
-    char **overrides; /* "Style.Field=value" or "Field=value", and null behind the last */
-    int has_files;    /* the fonts of the folder and of the environment were added */
-    int has_last;     /* and the one for where there was none that can be drawn */
-    int asks_system;  /* whether fonts of the system are looked for */
-    char **asked;     /* the names of those that were */
+    char **overrides;       /* "Style.Field=value" or "Field=value", and null behind the last */
+    int takes_script_fonts; /* whether fonts inside of scripts are taken */
+    int has_files;          /* the fonts of the folder and of the environment were added */
+    int has_last;           /* and the one for where there was none that can be drawn */
+    int asks_system;        /* whether fonts of the system are looked for */
+    char **asked;           /* the names of those that were */
     size_t asked_count;
     void (*message)(int level, const char *format, va_list words, void *data);
     void *message_data;
@@ -73,8 +75,9 @@ struct parser_priv {
     uint64_t opened_sum;        /* of what the handle was opened with */
     struct fed *fed;
     int fed_count, fed_room;
-    size_t font_count; /* how many of the library's fonts the handle was offered, */
-    size_t taken;      /* and how many it took */
+    size_t font_count;    /* how many of the library's fonts the handle was offered */
+    int has_script_fonts; /* and whether those of the script were */
+    size_t taken;         /* how many it took of all of them */
     uint64_t budget;
 };
 

@@ -22,6 +22,7 @@ static int32_t open_handle(ASS_Track *track, const ASS_Style *override, int is_a
     vimalorua_close(own->handle);
     own->handle = NULL;
     own->font_count = own->taken = 0;
+    own->has_script_fonts = 0;
     own->budget = budget;
     if (is_as_read)
         status = vimalorua_open((uint8_t *)own->text, own->text_len, budget, &own->handle, &place);
@@ -143,12 +144,28 @@ static size_t offer_font(vimalorua *handle, const struct font *font, ASS_Library
     return is_done(library, font->name, status, place) ? count : 0;
 }
 
-/* Offers the handle those of the library's fonts that it wasn't offered yet. */
+/* Offers a handle the fonts of the script that its track was read from. How many it took. */
+static size_t offer_script_fonts(const struct parser_priv *own, ASS_Library *library) {
+    size_t place = 0, count = 0;
+#if CHOOSES_FACES
+    if (own->text && library->takes_script_fonts)
+        is_done(library, "fonts of a script",
+                vimalorua_add_script_fonts(own->handle, (uint8_t *)own->text, own->text_len, &place, &count), place);
+#else
+    (void)own, (void)library, (void)place;
+#endif
+    return count;
+}
+
+/* Offers the handle those of the library's fonts that it wasn't offered yet, and the script's own. */
 static void offer_fonts(ASS_Track *track) {
     struct parser_priv *own = track->parser_priv;
     ASS_Library *library = track->library;
     for (; own->font_count < library->font_count; own->font_count++)
         own->taken += offer_font(own->handle, &library->fonts[own->font_count], library);
+    if (!own->has_script_fonts)
+        own->taken += offer_script_fonts(own, library);
+    own->has_script_fonts = 1;
 }
 
 /* The style that stands in place of all others, or null. */

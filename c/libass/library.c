@@ -93,7 +93,7 @@ SHOWN void ass_set_fonts_dir(ASS_Library *library, const char *folder) {
     library->has_files = 0;
 }
 
-SHOWN void ass_set_extract_fonts(ASS_Library *library, int extract) { (void)library, (void)extract; }
+SHOWN void ass_set_extract_fonts(ASS_Library *library, int extract) { library->takes_script_fonts = extract != 0; }
 
 SHOWN void ass_set_message_cb(ASS_Library *library, void (*call)(int, const char *, va_list, void *), void *data) {
     library->message = call;
