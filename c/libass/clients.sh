@@ -40,7 +40,7 @@ has() {
 }
 
 client() {
-    LD_LIBRARY_PATH=$libass LD_PRELOAD=${PRELOAD-} VIMALORUA_FONTS=${FONTS-} "$@"
+    LD_LIBRARY_PATH=$libass LD_PRELOAD=${PRELOAD-} VIMALORUA_FONTS=${FONTS-} timeout 300 "$@"
 }
 
 by_program() { # MS SIZE SCRIPT FONT WORDS..
@@ -131,7 +131,7 @@ by_mpv() { # WORDS..
         --sub-font-provider=none --sub-ass-vsfilter-color-compat=no "$@" "$work/video.mkv" > "$work/log" 2>&1 ||
         cat "$work/log"
     last=$(find "$work/shown" -name '*.png' | sort | tail -1)
-    ffmpeg -nostdin -v error -y -i "$last" -pix_fmt rgb24 "$work/client.ppm"
+    ffmpeg -nostdin -v error -y -i "$last" -pix_fmt rgb24 "$work/client.ppm" || :
 }
 
 run_mpv() {
@@ -188,7 +188,7 @@ run_vlc() {
         "$work/jpeg.mkv" vlc://quit > "$work/log" 2>&1 || cat "$work/log"
     while read -r frame ms; do
         ffmpeg -nostdin -v error -y -f png_pipe -i "$work/vlc/frames.png" -frames:v 1 -fps_mode passthrough \
-            -vf "select=eq(n\\,$frame),format=rgb24,colorchannelmixer=rr=0:rb=1:br=1:bb=0" "$work/client.ppm"
+            -vf "select=eq(n\\,$frame),format=rgb24,colorchannelmixer=rr=0:rb=1:br=1:bb=0" "$work/client.ppm" || :
         by_program "$ms" 640x360 "$work/dialogue.ass" "$font"
         compare "VLC at $ms" 2
     done << 'LINES'

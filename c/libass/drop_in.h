@@ -81,7 +81,7 @@ struct parser_priv {
     uint64_t budget;
 };
 
-/* Tells a message at one of libass's levels: 1 errors, 2 warnings, 4 information. */
+/* Tells a message at one of libass's levels: 1 errors, 2 warnings, 4 information, 6 details. */
 void tell(ASS_Library *library, int level, const char *format, ...) __attribute__((format(printf, 3, 4)));
 
 /* Whether a status is DONE. Another one is told. */

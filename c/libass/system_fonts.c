@@ -143,7 +143,7 @@ void find_family(ASS_Library *library, const char *name) {
         if (file && !has_font(library, file))
             add_file(library, library->font_count, file);
         else if (!file && i == 0)
-            tell(library, 4, "[vimalorua] font %s: the system has none of this name", name);
+            tell(library, 6, "[vimalorua] font %s: the system has none of this name", name);
         free(file);
     }
 }

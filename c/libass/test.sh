@@ -16,7 +16,7 @@ flags=(-std=c99 -D_POSIX_C_SOURCE=200809L -Wall -Wextra -Wpedantic -Wconversion 
 cd "$here"
 
 # The names that it shows are functions of the header.
-shared_library() {
+names() {
     "${MAKE:-make}" -s ARCHIVE="$archive" FOLDER="$work" CC="$cc" CFLAGS='-O2 -Wconversion -Werror'
     nm -D --defined-only "$work/libass.so.9" | awk '{ print $NF }' | sort > "$work/shown"
     echo '#include <ass/ass.h>' | "$cc" -E - | grep -oE '\bass_[a-z_]+ *\(' | tr -d ' (' | sort -u > "$work/declared"
@@ -35,7 +35,7 @@ sanitized() {
     "$work/sanitized" "$top/examples/signs.ass" "$top/examples/letters.ttf"
 }
 
-kinds='shared_library plain'
+kinds='names plain'
 echo 'int main(void) { return 0; }' > "$work/empty.c"
 if "$cc" -fsanitize=address,undefined -o "$work/empty" "$work/empty.c" 2> "$work/log" && "$work/empty"; then
     kinds="$kinds sanitized"
@@ -44,5 +44,5 @@ else
 fi
 for kind in $kinds; do
     "$kind"
-    echo "test.sh: libass's calls, $kind: passed"
+    echo "test.sh: libass's calls, $kind passed"
 done
