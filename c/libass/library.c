@@ -74,8 +74,8 @@ SHOWN void ass_set_style_overrides(ASS_Library *library, char **list) {
         count++;
     if (count == 0 || !(library->overrides = calloc(count + 1, sizeof *list)))
         return;
-    for (size_t i = 0; i < count; i++)
-        library->overrides[i] = copy_of(list[i], strlen(list[i]));
+    for (size_t i = 0; i < count && (library->overrides[i] = copy_of(list[i], strlen(list[i]))); i++) {
+    }
 }
 
 SHOWN void ass_library_done(ASS_Library *library) {
@@ -244,8 +244,9 @@ int add_last_font(ASS_Library *library) {
     if (library->has_last)
         return 0;
     library->has_last = 1;
-    if (find_usual_font(library, library->font_count, "sans-serif") ||
-        add_file(library, library->font_count, "/usr/share/fonts/truetype/dejavu/DejaVuSans.ttf"))
+    if (library->asks_system &&
+        (find_usual_font(library, library->font_count, "sans-serif") ||
+         add_file(library, library->font_count, "/usr/share/fonts/truetype/dejavu/DejaVuSans.ttf")))
         return 1;
     tell(library, 1, "[vimalorua] there is no font, so nothing is shown: VIMALORUA_FONTS names files");
     return 0;
