@@ -79,6 +79,24 @@ static void opening(void) {
     vimalorua_close(NULL);
 }
 
+/* The name of the font, in just enough room, in too little, and in more. */
+static void names(vimalorua *handle) {
+    uint8_t out[8] = "aaaaaaaa";
+    size_t len = 77;
+    WANT(vimalorua_font_names(handle, 64, out, 8, &len), VIMALORUA_BAD_CALL);
+    WANT(len, 0);
+    WANT(vimalorua_font_names(handle, 0, NULL, 0, &len), VIMALORUA_DONE);
+    WANT(len, 4);
+    WANT(vimalorua_font_names(handle, 63, out, 3, &len), VIMALORUA_DONE);
+    WANT(len, 4);
+    WANT(memcmp(out, "aaaaaaaa", 8), 0);
+    WANT(vimalorua_font_names(handle, 63, out, 4, &len), VIMALORUA_DONE);
+    WANT(memcmp(out, "dot\0aaaa", 8), 0);
+    WANT(vimalorua_font_names(handle, 1, out, 8, &len), VIMALORUA_DONE);
+    WANT(len, 4);
+    WANT(memcmp(out, "dot\0aaaa", 8), 0);
+}
+
 static void adding_fonts(void) {
     vimalorua *handle = opened();
     size_t place = 77, count = 77;
@@ -98,6 +116,7 @@ static void adding_fonts(void) {
         WANT(place, i);
         WANT(count, 1);
     }
+    names(handle);
     WANT(vimalorua_add_font(handle, BYTES(font), &place), VIMALORUA_MANY_FONTS);
     WANT(place, 64);
     WANT(vimalorua_set_budget(handle, (UINT64_C(1) << 40) + 1), VIMALORUA_BAD_CALL);
@@ -400,6 +419,9 @@ static int with_refusal(long n, const uint8_t *wanted) {
     allowed = n;
     AGAIN(vimalorua_open(BYTES(script), 1 << 20, &handle, &place), handle == NULL && place == 0);
     AGAIN(vimalorua_add_font(handle, BYTES(font), &place), place == 0);
+    AGAIN(vimalorua_font_names(handle, 0, out, COUNT, &count), count == 0 && memcmp(out, untouched, COUNT) == 0);
+    WANT(count, 4);
+    memset(out, 0, COUNT);
     AGAIN(vimalorua_set_budget(handle, 1 << 16), 1);
     AGAIN(vimalorua_feed_lines(handle, &place), place == 0);
     WANT(place, 1);

@@ -1,11 +1,12 @@
 //! Opening a player, its fonts and its budget.
 
-ghost use Rattle.std.specs.Prelude.{◌≡◌, ◌≤◌, ◌+◌, ◌++◌, length, All, Ok, Err, IfOk, IfErr, OnOk, OnErr};
+ghost use Rattle.std.specs.Prelude.{◌≡◌, ◌<◌, ◌≤◌, ◌+◌, ◌++◌, length, slice_index_or, All, Ok, Err, IfOk, IfErr, OnOk, OnErr};
 ghost use Rattle.ass_num.specs.Limits.{max_file_bytes};
 ghost use Rattle.ass_script.specs.Ranges.{IsScript};
 ghost use Rattle.ass_script.specs.Scripts.{IsScriptAnswer, ScriptValue, script_of};
 ghost use Rattle.bdf_font.specs.Limits.{max_fonts};
 ghost use Rattle.bdf_font.specs.Ranges.{IsFont};
+ghost use Rattle.bdf_font.specs.Sets.{no_font};
 ghost use Rattle.evict_core.specs.Machine.{max_budget};
 ghost use Rattle.player.specs.Players.{new_player};
 ghost use Rattle.ass_events.specs.LineLaws.{HasShortLines};
@@ -72,6 +73,14 @@ impl Player {
         ensures { result ≡ length self.now.fonts }
     {
         self.fonts.fonts.len()
+    }
+
+    /// A font, by its number.
+    pub fn font(&self, number: usize) -> &Font
+        requires { number < length self.now.fonts }
+        ensures { result.now ≡ slice_index_or self.now.fonts number no_font }
+    {
+        &self.fonts.fonts.as_slice()[number]
     }
 
     /// Puts fonts behind the others, such as all that a file has; together they are at most 64 (`ass_add_font` in libass

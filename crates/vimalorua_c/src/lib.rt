@@ -6,6 +6,7 @@ pub mod feeding;
 mod handle;
 mod kept;
 pub mod listing;
+pub mod names;
 pub mod opening;
 mod parts;
 mod ranges;
