@@ -3,7 +3,7 @@ use Rattle.std.proofs.Common.{◌≡◌, ℕ, ◌+◌, ◌<◌, List, [], ◌∷
 use Rattle.std.proofs.lemmas.List.{flat_map_more, take_more}
 use Rattle.std.specs.List.{flat_map}
 use Rattle.std.specs.Prelude.{slice_index_or}
-use Rattle.vimalorua_c.specs.Calls.{ended_name}
+use Rattle.vimalorua_c.specs.Fonts.{ended_name}
 
 -- one name more
 pub names_more : (front : List ℕ) (names : List (List ℕ)) (k : ℕ) → k < length names

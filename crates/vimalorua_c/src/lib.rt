@@ -3,6 +3,7 @@
 
 pub mod drawing;
 pub mod feeding;
+pub mod fonts;
 mod handle;
 mod kept;
 pub mod listing;

@@ -2,7 +2,8 @@
 
 ghost use Rattle.std.specs.Prelude.{◌≡◌, ◌++◌, length, flat_map, slice_index_or, IfOk, OnOk};
 ghost use Rattle.bdf_font.specs.Sets.{no_font};
-ghost use Rattle.vimalorua_c.specs.Calls.{AreNamesTold, IsCall, ended_name, font_names, placed_where_fit};
+ghost use Rattle.vimalorua_c.specs.Calls.{IsCall};
+ghost use Rattle.vimalorua_c.specs.Fonts.{AreNamesTold, ended_name, font_names, placed_where_fit};
 
 use crate::handle::Handle;
 use crate::status::{BAD_CALL, CLOSED, DONE, OUT_OF_MEMORY};

@@ -1,6 +1,6 @@
 use Rattle.std.proofs.Common.{◌≡◌, ◌++◌, take}
 use Rattle.std.specs.List.{flat_map}
-use Rattle.vimalorua_c.specs.Calls.{ended_name}
+use Rattle.vimalorua_c.specs.Fonts.{ended_name}
 use Rattle.vimalorua_c.proofs.names.add_families.Given as goal
 
 abbrev pub invariant-loop-k : goal.invariant-loop-k
