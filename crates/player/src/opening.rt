@@ -8,6 +8,7 @@ ghost use Rattle.bdf_font.specs.Limits.{max_fonts};
 ghost use Rattle.bdf_font.specs.Ranges.{IsFont};
 ghost use Rattle.bdf_font.specs.Sets.{no_font};
 ghost use Rattle.evict_core.specs.Machine.{max_budget};
+ghost use Rattle.player.specs.Added.{AreScriptFontsAdded};
 ghost use Rattle.player.specs.Players.{new_player};
 ghost use Rattle.ass_events.specs.LineLaws.{HasShortLines};
 
@@ -17,10 +18,15 @@ use ass_events::line_laws;
 use ass_num::{Items, Mem};
 use ass_script::{Script, ScriptRefusal, read_script};
 use bdf_font::{Font, FontSet};
+use embedded_fonts::{EmbeddedRefusal, read_embedded_fonts};
 use local_caches::LocalCaches;
+use script_fonts::ScriptFontsRefusal;
 use std::alloc::Global;
 use std::sync::Arc;
 use track_history::LocalTrack;
+
+/// The most fonts of a player.
+const MAX_FONTS: usize = 64;
 
 impl Player {
     /// A player of the script that bytes spell, at most 67,108,864 of them, without fonts and without events: the script's
@@ -99,6 +105,30 @@ impl Player {
         self.local = local;
         self.listed = None;
         Ok(())
+    }
+
+    /// Puts the fonts that a script holds behind the others, and tells how many they are (`ass_set_extract_fonts` in
+    /// libass `ass.h`). `TooMany` is refused where together they were more than 64. An `Err` changes nothing.
+    pub fn add_script_fonts(
+        &mut self,
+        alloc: Global,
+        script: &[u8],
+    ) -> Result<usize, EmbeddedRefusal>
+        requires { length script.now ≤ max_file_bytes }
+        ensures { AreScriptFontsAdded script.now self.old self.new result }
+    {
+        let fonts = match read_embedded_fonts(alloc, script) {
+            Ok(fonts) => fonts,
+            Err(refusal) => return Err(refusal),
+        };
+        let count = fonts.len();
+        if self.font_count() > MAX_FONTS - count {
+            return Err(EmbeddedRefusal::TooMany);
+        }
+        match self.add_fonts(alloc, fonts) {
+            Ok(()) => Ok(count),
+            Err(_) => Err(EmbeddedRefusal::Data(ScriptFontsRefusal::OutOfMemory)),
+        }
     }
 
     /// A new budget for each cache, at most 2^40 (`ass_set_cache_limits` in libass `ass.h`). As few entries are evicted as

@@ -1,51 +1,45 @@
 -- Public: what the calls for the fonts of a handle answer.
-use Rattle.std.specs.Prelude.{◌≡◌, ◌≢◌, ◌↔◌, ◌⊎◌, ℕ, ◌+◌, ◌<◌, ◌≤◌, nat_le, if◌then◌else◌, List, [], ◌∷◌, ◌++◌, length, drop, slice_index_or, flat_map, ℤ, Ok, Err}
+use Rattle.std.specs.Prelude.{◌≡◌, ◌≢◌, ◌↔◌, ◌⊎◌, ℕ, ◌+◌, ◌<◌, ◌≤◌, nat_le, if◌then◌else◌, List, [], ◌∷◌, ◌++◌, length, drop, slice_index_or, flat_map, ℤ, Result, Ok, Err}
 use Rattle.bdf_font.specs.Files.{IsFontFileAnswer}
 use Rattle.bdf_font.specs.Fonts.{FontValue}
 use Rattle.bdf_font.specs.Limits.{max_fonts}
 use Rattle.bdf_font.specs.Sets.{no_font}
 use Rattle.bdf_font.specs.declared.cause.FontFileRefusal.{FontFileRefusal}
-use Rattle.embedded_fonts.specs.Embedded.{AreEmbeddedFonts}
 use Rattle.embedded_fonts.specs.declared.refusal.EmbeddedRefusal.{EmbeddedRefusal}
-use Rattle.embedded_fonts.specs.declared.refusal.EmbeddedRefusal.TheVariants.{TooMany}
+use Rattle.player.specs.Added.{AreScriptFontsAdded}
 use Rattle.player.specs.Players.{PlayerView}
 use Rattle.vimalorua_c.specs.Statuses.{bad_call_status, done_status, embedded_told, font_told, many_fonts_status, out_of_memory_status, told}
 use Rattle.vimalorua_c.specs.declared.status.Told.{Told}
 
 -- ---- adding fonts
 
--- Fonts were put behind the others, the number of the first and how many they are is told, and no more than 64 stand there.
-abbrev pub AreFontsPut : List FontValue → ℕ → ℕ → PlayerView → PlayerView → Type 0
-AreFontsPut fonts first count old new =
-    (first ≡ length old.fonts) × (count ≡ length fonts) × (length old.fonts + length fonts ≤ max_fonts) × (new ≡ record old { fonts = old.fonts ++ fonts })
-
--- Fonts were put behind the others; or they are too many, or memory ran out, and nothing changed.
-pub record AreFontsOffered (fonts : List FontValue) (answer : Told) (count : ℕ) (old new : PlayerView) : Type 0 where
-  pub put : answer.status ≡ done_status → AreFontsPut fonts answer.place count old new
-  pub many : answer.status ≡ many_fonts_status → (max_fonts < length old.fonts + length fonts) × (answer.place ≡ max_fonts)
-  pub else_same : answer.status ≢ done_status → (new ≡ old) × (count ≡ 0)
-  pub others : answer.status ≢ done_status → answer.status ≢ many_fonts_status → answer ≡ told out_of_memory_status 0
-
--- The fonts of a file were put behind the others, or why they weren't, and nothing changed.
+-- The fonts of a file were put behind the others, and the number of the first and how many they are is told; or nothing changed. No more than 64 fonts stand there.
 pub record AreFontsAdded (bytes : List ℕ) (answer : Told) (count : ℕ) (old new : PlayerView) : Type 0 where
   pub full : max_fonts ≤ length old.fonts → answer.status ≡ many_fonts_status
   pub many : answer.status ≡ many_fonts_status
       → (max_fonts ≤ length old.fonts) ⊎ ((fonts : List FontValue) × IsFontFileAnswer bytes (Ok fonts) × (max_fonts < length old.fonts + length fonts))
   pub most : answer.status ≡ many_fonts_status → answer.place ≡ max_fonts
-  pub added : answer.status ≡ done_status → (fonts : List FontValue) × IsFontFileAnswer bytes (Ok fonts) × AreFontsPut fonts answer.place count old new
+  pub added : answer.status ≡ done_status → (fonts : List FontValue) × IsFontFileAnswer bytes (Ok fonts)
+      × (answer.place ≡ length old.fonts) × (count ≡ length fonts) × (length old.fonts + length fonts ≤ max_fonts) × (new ≡ record old { fonts = old.fonts ++ fonts })
   pub else_same : answer.status ≢ done_status → (new ≡ old) × (count ≡ 0)
   pub refused : answer.status ≢ done_status → answer.status ≢ many_fonts_status → answer.status ≢ out_of_memory_status
       → (refusal : FontFileRefusal) × IsFontFileAnswer bytes (Err refusal) × (answer ≡ font_told refusal)
 
--- The fonts that a script holds were put behind the others, or why they weren't, and nothing changed.
-pub record AreScriptFontsAdded (bytes : List ℕ) (answer : Told) (count : ℕ) (old new : PlayerView) : Type 0 where
-  pub many : answer.status ≡ many_fonts_status
-      → AreEmbeddedFonts bytes (Err TooMany) ⊎ ((fonts : List FontValue) × AreEmbeddedFonts bytes (Ok fonts) × (max_fonts < length old.fonts + length fonts))
-  pub most : answer.status ≡ many_fonts_status → answer.place ≡ max_fonts
-  pub added : answer.status ≡ done_status → (fonts : List FontValue) × AreEmbeddedFonts bytes (Ok fonts) × AreFontsPut fonts answer.place count old new
-  pub else_same : answer.status ≢ done_status → (new ≡ old) × (count ≡ 0)
-  pub refused : answer.status ≢ done_status → answer.status ≢ many_fonts_status → answer.status ≢ out_of_memory_status
-      → (refusal : EmbeddedRefusal) × AreEmbeddedFonts bytes (Err refusal) × (answer ≡ embedded_told refusal)
+-- what is told where so many fonts of a script were added, of which the first has a number, or why they weren't; and how many they are
+abbrev pub held_told : ℕ → Result ℕ EmbeddedRefusal → Told
+held_told first (Ok count) = told done_status first
+held_told first (Err refusal) = embedded_told refusal
+
+abbrev pub held_count : Result ℕ EmbeddedRefusal → ℕ
+held_count (Ok count) = count
+held_count (Err refusal) = 0
+
+-- The fonts that a script holds were put behind the others, or why they weren't; and the answer is told.
+pub record AreScriptFontsTold (bytes : List ℕ) (answer : Told) (count : ℕ) (old new : PlayerView) : Type 0 where
+  pub added : Result ℕ EmbeddedRefusal
+  pub is_added : AreScriptFontsAdded bytes old new added
+  pub is_told : held_told (length old.fonts) added ≡ answer
+  pub is_count : held_count added ≡ count
 
 -- ---- the names of a font
 

@@ -7,7 +7,7 @@ ghost use Rattle.bdf_font.specs.Limits.{max_fonts};
 ghost use Rattle.bdf_font.specs.Ranges.{IsFont};
 ghost use Rattle.bdf_font.specs.declared.cause.FontFileRefusal.TheVariants.{Lines};
 ghost use Rattle.vimalorua_c.specs.Calls.{IsCall, IsLongFile};
-ghost use Rattle.vimalorua_c.specs.Fonts.{AreFontsAdded, AreFontsOffered, AreScriptFontsAdded};
+ghost use Rattle.vimalorua_c.specs.Fonts.{AreFontsAdded, AreScriptFontsTold};
 ghost use Rattle.vimalorua_c.specs.Statuses as rule;
 
 use crate::handle::Handle;
@@ -19,7 +19,6 @@ use crate::status::{
 use crate::taking::{put_back, take};
 use ass_num::Items;
 use bdf_font::{Font, FontFileRefusal, FontRefusal, read_fonts};
-use embedded_fonts::read_embedded_fonts;
 use player::Player;
 use std::alloc::Global;
 
@@ -36,15 +35,21 @@ fn fonts_of(alloc: Global, bytes: &[u8]) -> Result<Items<Font>, FontFileRefusal>
     }
 }
 
-/// Puts fonts behind those of a player, if there is room for all: what is told, and how many they are.
-fn fonts_offered(alloc: Global, player: &mut Player, fonts: Items<Font>) -> (Told, usize)
-    requires each { All IsFont fonts }
-    requires few { length fonts ≤ max_fonts }
-    ensures { AreFontsOffered fonts result.0 result.1 player.old player.new }
+/// Adds the fonts of a file to a player: what is told, and how many they are.
+fn fonts_added(alloc: Global, player: &mut Player, file: &[u8]) -> (Told, usize)
+    requires { length file.now ≤ max_file_bytes }
+    ensures { AreFontsAdded file.now result.0 result.1 player.old player.new }
 {
     let first = player.font_count();
+    if first >= MAX_FONTS {
+        return (told_at(MANY_FONTS, MAX_FONTS), 0);
+    }
+    let fonts = match fonts_of(alloc, file) {
+        Ok(fonts) => fonts,
+        Err(refusal) => return (font_told(refusal), 0),
+    };
     let count = fonts.len();
-    if first > MAX_FONTS - count {
+    if first + count > MAX_FONTS {
         return (told_at(MANY_FONTS, MAX_FONTS), 0);
     }
     match player.add_fonts(alloc, fonts) {
@@ -53,27 +58,14 @@ fn fonts_offered(alloc: Global, player: &mut Player, fonts: Items<Font>) -> (Tol
     }
 }
 
-/// Adds the fonts of a file to a player: what is told, and how many they are.
-fn fonts_added(alloc: Global, player: &mut Player, file: &[u8]) -> (Told, usize)
-    requires { length file.now ≤ max_file_bytes }
-    ensures { AreFontsAdded file.now result.0 result.1 player.old player.new }
-{
-    if player.font_count() >= MAX_FONTS {
-        return (told_at(MANY_FONTS, MAX_FONTS), 0);
-    }
-    match fonts_of(alloc, file) {
-        Ok(fonts) => fonts_offered(alloc, player, fonts),
-        Err(refusal) => (font_told(refusal), 0),
-    }
-}
-
 /// Adds the fonts that a script holds to a player: what is told, and how many they are.
 fn script_fonts_added(alloc: Global, player: &mut Player, script: &[u8]) -> (Told, usize)
     requires { length script.now ≤ max_file_bytes }
-    ensures { AreScriptFontsAdded script.now result.0 result.1 player.old player.new }
+    ensures { AreScriptFontsTold script.now result.0 result.1 player.old player.new }
 {
-    match read_embedded_fonts(alloc, script) {
-        Ok(fonts) => fonts_offered(alloc, player, fonts),
+    let first = player.font_count();
+    match player.add_script_fonts(alloc, script) {
+        Ok(count) => (told_at(DONE, first), count),
         Err(refusal) => (embedded_told(refusal), 0),
     }
 }
@@ -117,7 +109,7 @@ pub extern "C" fn vimalorua_add_script_fonts_proved(
     place: &mut usize,
     count: &mut usize,
 ) -> i32
-    ensures { IsCall (IsLongFile script.now) ((place.new ≡ 0) × (count.new ≡ 0)) (AreScriptFontsAdded script.now (rule.told result place.new) count.new) result handle.old.value handle.new.value }
+    ensures { IsCall (IsLongFile script.now) ((place.new ≡ 0) × (count.new ≡ 0)) (AreScriptFontsTold script.now (rule.told result place.new) count.new) result handle.old.value handle.new.value }
 {
     *place = 0;
     *count = 0;
