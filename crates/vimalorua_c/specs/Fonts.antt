@@ -47,8 +47,8 @@ abbrev pub ended_name : List ℕ → List ℕ
 ended_name name = name ++ 0 ∷ []
 
 -- the names that a font answers to, its families first, each with a zero byte behind it
-abbrev pub font_names : FontValue → List ℕ
-font_names font = flat_map ended_name font.families ++ flat_map ended_name font.full_names
+abbrev pub ended_names : FontValue → List ℕ
+ended_names font = flat_map ended_name font.families ++ flat_map ended_name font.full_names
 
 -- other bytes with these at their front, if there is room for all
 abbrev pub placed_where_fit : List ℕ → List ℕ → List ℕ
@@ -59,7 +59,7 @@ placed_where_fit bytes out = if nat_le (length bytes) (length out) then bytes ++
 pub record AreNamesTold (number : ℕ) (before after : List ℕ) (len : ℕ) (status : ℤ) (old new : PlayerView) : Type 0 where
   pub same : new ≡ old
   pub bad : (status ≡ bad_call_status) ↔ (length old.fonts ≤ number)
-  pub count : status ≡ done_status → len ≡ length (font_names (slice_index_or old.fonts number no_font))
-  pub written : status ≡ done_status → after ≡ placed_where_fit (font_names (slice_index_or old.fonts number no_font)) before
+  pub count : status ≡ done_status → len ≡ length (ended_names (slice_index_or old.fonts number no_font))
+  pub written : status ≡ done_status → after ≡ placed_where_fit (ended_names (slice_index_or old.fonts number no_font)) before
   pub else_same : status ≢ done_status → (after ≡ before) × (len ≡ 0)
   pub others : status ≢ done_status → status ≢ bad_call_status → status ≡ out_of_memory_status

@@ -3,7 +3,7 @@
 ghost use Rattle.std.specs.Prelude.{◌≡◌, ◌++◌, length, flat_map, slice_index_or, IfOk, OnOk};
 ghost use Rattle.bdf_font.specs.Sets.{no_font};
 ghost use Rattle.vimalorua_c.specs.Calls.{IsCall};
-ghost use Rattle.vimalorua_c.specs.Fonts.{AreNamesTold, ended_name, font_names, placed_where_fit};
+ghost use Rattle.vimalorua_c.specs.Fonts.{AreNamesTold, ended_name, ended_names, placed_where_fit};
 
 use crate::handle::Handle;
 use crate::status::{BAD_CALL, CLOSED, DONE, OUT_OF_MEMORY};
@@ -42,7 +42,7 @@ fn add_full_names(names: &mut Vec<u8>, font: &Font) -> Mem<()>
 
 /// The names of a font: its families, then its full names.
 fn names_of(alloc: Global, font: &Font) -> Mem<Vec<u8>>
-    ensures { IfOk result (λ names. names.items ≡ font_names font.now) }
+    ensures { IfOk result (λ names. names.items ≡ ended_names font.now) }
 {
     let mut names = Vec::new(alloc);
     add_families(&mut names, font)?;
