@@ -109,6 +109,7 @@ impl Player {
 
     /// Puts the fonts that a script holds behind the others, and tells how many they are (`ass_set_extract_fonts` in
     /// libass `ass.h`). `TooMany` is refused where together they were more than 64. An `Err` changes nothing.
+    #[tactic(auto, using(crate::proofs::AddedLemmas::held_refused, crate::proofs::AddedLemmas::held_too_many))]
     pub fn add_script_fonts(
         &mut self,
         alloc: Global,
