@@ -1,7 +1,7 @@
 -- The files that a script holds, one after another.
 use Rattle.std.proofs.Common.{◌≡◌, ◌≢◌, ℕ, ◌+◌, ◌≤◌, List, [], ◌∷◌, ◌++◌, length, All, Result, Ok, Err, inl, inr, refl, sym, ap, subst, append_assoc, arith}
 use Rattle.std.proofs.lemmas.List.{append-nil}
-use Rattle.std.proofs.lemmas.List.Elements.{All-append, All-head, All-nil, All-tail, All-weaker}
+use Rattle.std.proofs.lemmas.List.Elements.{All-append, All-head, All-nil, All-tail}
 use Rattle.ass_num.specs.Limits.{max_file_bytes}
 use Rattle.bdf_font.specs.Files.{IsFontFileAnswer}
 use Rattle.bdf_font.specs.Fonts.{FontValue}
@@ -50,8 +50,12 @@ held_next files place fonts more file left h is each = record {
 pub held_small : (files : List ScriptFont) (place : ℕ) (fonts : List FontValue) (file : ScriptFont) (left : List ScriptFont) → HeldSoFar files place fonts (file ∷ left) → length file.bytes ≤ max_file_bytes
 held_small files place fonts file left h = All-head IsSmall file left h.small
 
-pub held_all : (files : List ScriptFont) (place : ℕ) (fonts : List FontValue) → HeldSoFar files place fonts [] → AreHeldFonts 0 files (Ok fonts)
+held_all : (files : List ScriptFont) (place : ℕ) (fonts : List FontValue) → HeldSoFar files place fonts [] → AreHeldFonts 0 files (Ok fonts)
 held_all files place fonts h = subst (λ all. AreHeldFonts 0 files (Ok all)) (append-nil fonts) (h.answers (Ok []) refl)
+
+pub held_done : (files : List ScriptFont) (place : ℕ) (fonts : List FontValue) (left : List ScriptFont) → HeldSoFar files place fonts left → length left ≡ 0 → AreHeldFonts 0 files (Ok fonts)
+held_done files place fonts [] h none = held_all files place fonts h
+held_done files place fonts (file ∷ left) h none = absurd (omega (arith, none))
 
 -- The first file that isn't read decides.
 pub held_stopped : (files : List ScriptFont) (place : ℕ) (fonts : List FontValue) (file : ScriptFont) (left : List ScriptFont) (why : EmbeddedRefusal) → HeldSoFar files place fonts (file ∷ left) →

@@ -1,5 +1,5 @@
 -- Each script has one answer.
-use Rattle.std.proofs.Common.{◌≡◌, ◌≢◌, ◌⊎◌, ℕ, ◌+◌, ◌%◌, Bool, true, false, List, [], ◌∷◌, ◌==◌, length, Option, Some, None, Result, Ok, Err, inl, inr, refl, sym, ap, ◌∙◌, subst}
+use Rattle.std.proofs.Common.{◌≡◌, ◌≢◌, ℕ, ◌+◌, ◌%◌, Bool, true, false, List, [], ◌∷◌, ◌==◌, length, Option, Some, None, Result, Ok, Err, inl, inr, refl, ap, ◌∙◌}
 use Rattle.std.specs.Prelude.{nat_le, if◌then◌else◌}
 use Rattle.std.specs.List.{concat}
 use Rattle.std.specs.Option.{option_map_or}
@@ -27,15 +27,18 @@ memory = Err (Data OutOfMemory)
 
 -- ---- no script asks for want of memory
 
+abbrev by_length : Bool → List ℕ → ℕ → List ℕ → Result ScriptFont ScriptFontsRefusal
+by_length one_left name n characters = if one_left then Err (BadLength n) else Ok (record { name = name; bytes = decoded characters })
+
 characters_want_none : (name : List ℕ) (n : ℕ) (characters : List ℕ) → font_of_characters name n characters ≢ Err OutOfMemory
-characters_want_none name n characters = cases (length characters % 4 == 1)
+characters_want_none name n characters e = cases (length characters % 4 == 1) e
   where
-    cases : (b : Bool) → (if b then Err (BadLength n) else Ok (record { name = name; bytes = decoded characters })) ≢ Err OutOfMemory
+    cases : (b : Bool) → by_length b name n characters ≢ Err OutOfMemory
     cases true e = cc
     cases false e = cc
 
 font_wants_none : (a : Attachment) → attached_font a ≢ Err OutOfMemory
-font_wants_none a = cases (first_bad_line (a.line + 1) a.data_lines)
+font_wants_none a e = cases (first_bad_line (a.line + 1) a.data_lines) e
   where
     cases : (bad : Option ℕ) → option_map_or (λ n. Err (BadCharacter n)) bad (font_of_characters a.name a.line (concat a.data_lines)) ≢ Err OutOfMemory
     cases (Some n) e = cc
@@ -49,7 +52,7 @@ before_wants_none (Ok font) (Ok fonts) first rest e = cc
 
 fonts_want_none : (all : List Attachment) → attached_fonts all ≢ Err OutOfMemory
 fonts_want_none [] e = cc
-fonts_want_none (a ∷ more) = before_wants_none (attached_font a) (attached_fonts more) (font_wants_none a) (fonts_want_none more)
+fonts_want_none (a ∷ more) e = before_wants_none (attached_font a) (attached_fonts more) (font_wants_none a) (fonts_want_none more) e
 
 -- ---- one answer
 
@@ -85,18 +88,21 @@ abbrev HasOne : (Answer → Type 0) → Type 0
 HasOne Is = (answer : Answer) × Only Is answer
 
 one_held : OneFileAnswer → (place : ℕ) (files : List ScriptFont) → HasOne (AreHeldFonts place files)
-one_held law place [] = (Ok [], refl, (λ e. cc), (λ other is. is))
-one_held law place (file ∷ files) = let read = law file.bytes in cases read.0 read.1 read.2
+one_held law place [] = (Ok [], (refl, (λ e. cc), (λ other is. is)))
+one_held law place (file ∷ files) = let read = law file.bytes in cases (one_held law (place + 1) files) read.0 read.1 read.2
   where
-    cases : (read : Result (List FontValue) FontFileRefusal) → IsFontFileAnswer file.bytes read → ((other : Result (List FontValue) FontFileRefusal) → IsFontFileAnswer file.bytes other → other ≡ read) →
+    cases : HasOne (AreHeldFonts (place + 1) files) → (read : Result (List FontValue) FontFileRefusal) → IsFontFileAnswer file.bytes read → ((other : Result (List FontValue) FontFileRefusal) → IsFontFileAnswer file.bytes other → other ≡ read) →
         HasOne (AreHeldFonts place (file ∷ files))
-    cases (Ok fonts) is one = let rest = one_held law (place + 1) files in (fonts_before fonts rest.0, only_read place file files fonts is one rest.0 rest.1)
-    cases (Err why) is one = (Err (Font place why), only_refused place file files why is one)
+    cases rest (Ok fonts) is one = (fonts_before fonts rest.0, only_read place file files fonts is one rest.0 rest.1)
+    cases rest (Err why) is one = (Err (Font place why), only_refused place file files why is one)
+
+abbrev by_count : Bool → List FontValue → Answer
+by_count fits fonts = if fits then Ok fonts else Err TooMany
 
 set_memory : (read : Answer) → read ≢ memory → at_most_a_set read ≢ memory
-set_memory (Ok fonts) other = cases (nat_le (length fonts) max_fonts)
+set_memory (Ok fonts) other e = cases (nat_le (length fonts) max_fonts) e
   where
-    cases : (b : Bool) → (if b then Ok fonts else Err TooMany) ≢ memory
+    cases : (b : Bool) → by_count b fonts ≢ memory
     cases true e = cc
     cases false e = cc
 set_memory (Err why) other e = other e
@@ -104,8 +110,10 @@ set_memory (Err why) other e = other e
 one_of_held : OneFileAnswer → (held : Result (List ScriptFont) ScriptFontsRefusal) → held ≢ Err OutOfMemory → HasOne (AreFontsOfHeld held)
 one_of_held law (Ok files) some =
     let one = one_held law 0 files in
-    (at_most_a_set one.0, (one.0, one.1, refl), set_memory one.0 one.2, λ other is. is.2 ∙ ap at_most_a_set (one.3 is.0 is.1))
-one_of_held law (Err why) some = (Err (Data why), refl, (λ e. let same : why ≡ OutOfMemory = cc in some (ap Err same)), (λ other is. is))
+    (at_most_a_set one.0, ((one.0, one.1.0, refl), set_memory one.0 one.1.1, λ other is. is.2 ∙ ap at_most_a_set (one.1.2 is.0 is.1)))
+one_of_held law (Err why) some = (Err (Data why), (refl, (λ e. let same : why ≡ OutOfMemory = cc in some (ap Err same)), (λ other is. is)))
 
 pub one_embedded : OneEmbeddedAnswer
-one_embedded bytes = one_of_held one_file_answer (script_fonts_of bytes) (fonts_want_none (attached false 1 (bare_lines bytes)))
+one_embedded bytes =
+    let one = one_of_held one_file_answer (script_fonts_of bytes) (fonts_want_none (attached false 1 (bare_lines bytes))) in
+    (one.0, one.1.0, one.1.1, one.1.2)

@@ -21,7 +21,7 @@ abbrev pub AreHeldFonts : ℕ → List ScriptFont → Result (List FontValue) Em
 AreHeldFonts place [] answer = answer ≡ Ok []
 AreHeldFonts place (file ∷ files) answer =
     ((fonts : List FontValue) × IsFontFileAnswer file.bytes (Ok fonts)
-        × ((more : Result (List FontValue) EmbeddedRefusal) × AreHeldFonts (place + 1) files more × (answer ≡ fonts_before fonts more)))
+    × ((more : Result (List FontValue) EmbeddedRefusal) × AreHeldFonts (place + 1) files more × (answer ≡ fonts_before fonts more)))
     ⊎ ((refusal : FontFileRefusal) × IsFontFileAnswer file.bytes (Err refusal) × (answer ≡ Err (Font place refusal)))
 
 -- the fonts, unless they are more than a set has

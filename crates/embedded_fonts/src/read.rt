@@ -21,10 +21,7 @@ const MAX_FONTS: usize = 64;
 /// The fonts that the script of these bytes holds, in its order: all faces of each file. `Data` names the line of the
 /// first data that leave their format; else `Font` names the first file that is none of fonts, by its place among those
 /// of the script; else `TooMany` comes where the fonts are more than 64.
-pub fn read_embedded_fonts(
-    alloc: Global,
-    script: &[u8],
-) -> Result<Items<Font>, EmbeddedRefusal>
+pub fn read_embedded_fonts(alloc: Global, script: &[u8]) -> Result<Items<Font>, EmbeddedRefusal>
     requires { length script.now ≤ max_file_bytes }
     ensures answer { IsEmbeddedAnswer script.now result }
     ensures fonts { IfOk result (All IsFont) }
@@ -54,10 +51,7 @@ fn few_fonts(fonts: Result<Items<Font>, EmbeddedRefusal>) -> Result<Items<Font>,
 }
 
 /// The fonts of the files that a script holds.
-fn fonts_held(
-    alloc: Global,
-    files: Items<ScriptFont>,
-) -> Result<Items<Font>, EmbeddedRefusal>
+fn fonts_held(alloc: Global, files: Items<ScriptFont>) -> Result<Items<Font>, EmbeddedRefusal>
     requires { All (λ (file : ScriptFont). length file.bytes ≤ max_file_bytes) files }
     ensures answer { result ≢ Err (Data memory_refusal) → AreHeldFonts 0 files result }
     ensures fonts { IfOk result (All IsFont) }
