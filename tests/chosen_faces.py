@@ -1,15 +1,17 @@
 #!/usr/bin/env python3
 """Which face of a set a style finds, here and by libass 0.17: the rows of the table in docs/DIFFERENCES.md.
 
-usage: python3 tests/chosen_faces.py LIBRARY
+usage: python3 tests/chosen_faces.py PROGRAM
 
-LIBRARY is libvimalorua.so. Wants libass.so.9, and Debian's fonts-dejavu. Here the face that is found is the one that,
-alone, gives the picture which the whole set gives; libass tells it.
+Wants libass.so.9, and Debian's fonts-dejavu. The face that PROGRAM finds is the one that, alone, gives the picture which
+the whole set gives; libass tells its own.
 """
 
 import ctypes
 import re
+import subprocess
 import sys
+import tempfile
 
 FOLDER = "/usr/share/fonts/truetype/dejavu"
 W, H = 320, 80
@@ -51,31 +53,23 @@ def script_of(name, tags):
     return (HEAD + f"Style: Default,{name},40,&Hffffff,0,0,0,0,1\n" + EVENT % tags).encode()
 
 
-def bytes_of(face):
-    with open(f"{FOLDER}/DejaVu{face}.ttf", "rb") as it:
-        return it.read()
+def path_of(face):
+    return f"{FOLDER}/DejaVu{face}.ttf"
 
 
-def picture(lib, fonts, script):
-    """The picture of a script in fonts."""
-    handle, place = ctypes.c_void_p(), ctypes.c_size_t()
-    rgb = ctypes.create_string_buffer(3 * W * H)
-    done = lib.vimalorua_open(script, ctypes.c_size_t(len(script)), ctypes.c_uint64(1 << 20), ctypes.byref(handle), ctypes.byref(place))
-    for font in fonts:
-        done = done or lib.vimalorua_add_font(handle, font, ctypes.c_size_t(len(font)), ctypes.byref(place))
-    done = done or lib.vimalorua_feed_lines(handle, ctypes.byref(place))
-    done = done or lib.vimalorua_draw(handle, ctypes.c_int64(500), W, H, rgb, ctypes.c_size_t(len(rgb)))
-    lib.vimalorua_close(handle)
-    if done or not any(rgb.raw):
-        sys.exit(f"status {done}, or nothing was drawn")
-    return rgb.raw
+def picture(program, faces, script):
+    """The picture of a script in faces."""
+    with tempfile.NamedTemporaryFile(suffix=".ass") as it:
+        it.write(script)
+        it.flush()
+        ask = [program, "frame", "--at", "500", "--size", f"{W}x{H}", it.name, *map(path_of, faces)]
+        return subprocess.run(ask, stdin=subprocess.DEVNULL, stdout=subprocess.PIPE, check=True, timeout=600).stdout
 
 
-def chosen_here(lib, faces, script):
+def chosen_here(program, faces, script):
     """The face whose picture is that of the whole set."""
-    fonts = [bytes_of(face) for face in faces]
-    whole = picture(lib, fonts, script)
-    [found] = [face for face, font in zip(faces, fonts, strict=True) if picture(lib, [font], script) == whole]
+    whole = picture(program, faces, script)
+    [found] = [face for face in faces if picture(program, [face], script) == whole]
     return found
 
 
@@ -92,7 +86,8 @@ def chosen_by_libass(lib, faces, script):
     library = ctypes.c_void_p(lib.ass_library_init())
     lib.ass_set_message_cb(library, note, None)
     for face in faces:
-        font = bytes_of(face)
+        with open(path_of(face), "rb") as it:
+            font = it.read()
         lib.ass_add_font(library, face.encode(), font, len(font))
     renderer = ctypes.c_void_p(lib.ass_renderer_init(library))
     lib.ass_set_frame_size(renderer, W, H)
@@ -111,7 +106,6 @@ def main(words):
     if len(words) != 1:
         print(__doc__.strip(), file=sys.stderr)
         return 2
-    here = ctypes.CDLL(words[0])
     libass = ctypes.CDLL("libass.so.9")
     for name in ("ass_library_init", "ass_renderer_init", "ass_read_memory"):
         getattr(libass, name).restype = ctypes.c_void_p
@@ -119,7 +113,7 @@ def main(words):
         print(f"{', '.join(faces)}:")
         for name, tags in rows:
             script = script_of(name, tags)
-            print(f"| {name} | {tags and '`' + tags + '`'} | {chosen_here(here, faces, script)} | {chosen_by_libass(libass, faces, script)} |")
+            print(f"| {name} | {tags and '`' + tags + '`'} | {chosen_here(words[0], faces, script)} | {chosen_by_libass(libass, faces, script)} |")
     return 0
 
 
