@@ -1,13 +1,10 @@
 -- A set of fonts that was read isn't empty.
-use Rattle.std.proofs.Common.{◌≡◌, ℕ, ◌<◌, ◌≤◌, List, [], ◌∷◌, ◌++◌, length, Some, None, Ok, Err, Result, inl, inr, sym, ap, subst, length-append, arith}
+use Rattle.std.proofs.Common.{◌≡◌, ℕ, ◌<◌, ◌≤◌, List, [], ◌∷◌, length, Some, None, Ok, Err, inl, inr, sym, ap, subst, length-append, arith}
 use Rattle.ass_io.specs.Fetched.{Held, Told}
 use Rattle.bdf_font.specs.Fonts.{FontValue}
 use Rattle.bdf_font.proofs.FileLemmas.{files_have_fonts}
 use Rattle.bdf_font.specs.Limits.{max_fonts}
-use Rattle.bdf_font.specs.declared.cause.FontFileRefusal.{FontFileRefusal}
-use Rattle.run_status.specs.declared.status.Status.{Status}
-use Rattle.run_status.specs.Causes.{font_status, with_status}
-use Rattle.run_status.specs.Files.{AsksFonts, FontsAsked}
+use Rattle.run_status.specs.Files.{AsksFonts}
 use Rattle.run_status.specs.Inputs.{AreFirstFiles, AreFontsRead, IsFontFileRead, fonts_of_files}
 
 asked_some : (index : ℕ) (name : List ℕ) (held : Held) (file : List FontValue) → AsksFonts index name held (Ok file) → 0 < length file

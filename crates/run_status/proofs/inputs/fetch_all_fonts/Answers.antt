@@ -1,8 +1,6 @@
-use Rattle.std.proofs.Common.{◌≡◌, ◌∙◌, ◌+◌, ◌++◌, ◌<◌, ◌≤◌, [], ◌∷◌, All, Err, Ok, ap, refl, rules, inl, inr, length, subst, sym, arith}
-use Rattle.std.proofs.lemmas.Grind.{common_steps}
+use Rattle.std.proofs.Common.{◌≡◌, ◌∙◌, ◌++◌, All, Err, refl, rules, inl, subst, sym}
 use Rattle.std.proofs.lemmas.List.Elements.{All-append, All-nil}
 use Rattle.bdf_font.specs.Ranges.{IsFont}
-use Rattle.run_status.specs.Inputs.{fonts_of_files}
 use Rattle.run_status.proofs.FontLemmas.{read_more, read_none, stopped}
 use Rattle.run_status.proofs.inputs.fetch_all_fonts.Goals as goal
 

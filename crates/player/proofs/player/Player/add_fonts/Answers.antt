@@ -1,7 +1,7 @@
 use Rattle.std.proofs.Common.{◌≡◌, List, ◌++◌, length, ap, ◌∙◌, arith}
 use Rattle.std.specs.Arc.{arc_value}
 use Rattle.bdf_font.specs.Fonts.{FontValue}
-use Rattle.bdf_font.specs.declared.font.FontSet.{FontSet}
+use Rattle.bdf_font.specs.declared.sets.FontSet.{FontSet}
 use Rattle.player.specs.Players.{PlayerView}
 use Rattle.player.proofs.PlayerLemmas.{more_font_set}
 use Rattle.player.proofs.player.Player.add_fonts.Goals as goal
