@@ -3,6 +3,7 @@
 import os
 import shutil
 
+import face_rows
 import hand_font
 
 HEAD = """[Script Info]
@@ -47,6 +48,14 @@ def glyph_lines():
         yield k, f"{{{tags}}}", text
 
 
+FACE_TAGS = ["", r"\b1", r"\i1", r"\b1\i1"]
+
+
+def family(lines):
+    """A script of lines, a second each, in the family of four faces."""
+    return LETTERS + "".join(line(f"0:00:0{k}.00", f"0:00:0{k + 1}.00", text) for k, text in enumerate(lines))
+
+
 def scripts():
     x = line("0:00:00.00", "0:00:01.00", "x")
     yield "empty.ass", ""
@@ -75,6 +84,10 @@ def scripts():
     )
     yield "moves.ass", HEAD + line("0:00:00.00", "0:00:01.00", r"{\move(0,0,12,8)}x") + line("0:00:00.50", "0:00:01.00", "x x")
     yield "glyphs.ass", LETTERS + "".join(line(f"0:00:0{k}.00", f"0:00:0{k + 1}.00", tags + text) for k, tags, text in glyph_lines())
+    mixed = "".join(f"{{{tags}}}AA" for tags in ["", r"\b1", r"\i1", r"\b0"])
+    yield "faces.ass", family([*(f"{{{tags}}}AAAA" for tags in FACE_TAGS), mixed, "A B", r"{\fnPlain}B"])
+    yield "face.ass", family(["AAAA"])
+    yield "full_names.ass", family([r"{\fnHand Bold}AAAA", r"{\i1\fnHand Bold}AAAA", r"{\fn@hand\b500}AAAA", r"{\fnHandBoldPS\b1}AAAA"])
     yield "-x.ass", HEAD + x
     yield "two words.ass", HEAD + x
     yield "styles.ass", HEAD.replace("[Events]", "Style: Default,dot,4\n" * 10_000 + "[Events]")
@@ -96,11 +109,18 @@ def fonts():
     yield "glyphs.bdf", FONT.format(glyphs=x * 131_073)
 
 
+def faces():
+    """A family of four faces, in one file and each in its own, and a face of another family."""
+    held = [face.file() for face in face_rows.FACES[:5]]
+    yield "family.ttc", hand_font.collection(*held[:4])
+    yield from zip(["regular.ttf", "bold.ttf", "italic.ttf", "bold_italic.ttf", "other.ttf"], held, strict=True)
+
+
 def make(room, examples):
     """Puts the files and those of examples/ into a folder."""
     for name in os.listdir(examples):
         shutil.copy(f"{examples}/{name}", room)
-    for name, text in [*scripts(), *fonts(), *hand_font.fonts()]:
+    for name, text in [*scripts(), *fonts(), *hand_font.fonts(), *faces()]:
         with open(f"{room}/{name}", "wb") as it:
             it.write(text if isinstance(text, bytes) else text.encode())
     os.mkdir(f"{room}/folder")
