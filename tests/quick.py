@@ -14,7 +14,7 @@ Its parts, which all are tried where none is named:
   wrapper    what the wrapper says where words or a font are refused
   library    the library from C (c/test.sh)
   install    installing into a folder, and removing
-  letters    that examples/letters.txt makes examples/letters.ttf
+  letters    that examples/letters.txt makes examples/letters.ttf, which examples/attached.ass holds
   docs       the documents (tools/check_docs.py)
 
 Each failure is told in a line or more, each part in one. The last line is 'N passed, M failed'. --write puts what the

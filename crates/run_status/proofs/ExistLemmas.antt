@@ -1,5 +1,5 @@
 -- Files that are told have an answer.
-use Rattle.std.proofs.Common.{◌≡◌, ◌≢◌, ◌⊎◌, Bool, true, false, ap, ℕ, zero, suc, ◌+◌, ◌<◌, ◌≤◌, inl, inr, List, [], ◌∷◌, ◌++◌, length, slice_index_or, Some, None, Result, Ok, Err, refl, sym, subst, length-append, arith}
+use Rattle.std.proofs.Common.{◌≡◌, ◌≢◌, ◌⊎◌, Bool, true, false, ap, ℕ, zero, suc, ◌+◌, ◌<◌, ◌≤◌, inl, inr, List, [], ◌∷◌, ◌++◌, length, slice_index_or, Some, None, Result, Ok, Err, refl, sym, subst, ◌∙◌, length-append, arith}
 use Rattle.std.proofs.lemmas.Bool.{cases_lt}
 use Rattle.std.proofs.lemmas.List.{get_or_default}
 use Rattle.ass_num.specs.Limits.{max_file_bytes}
@@ -53,16 +53,16 @@ script_answered name held (Err script.OutOfMemory) suffices h = absurd (suffices
 -- No face asks for want of memory, and not all together.
 some_want_no_memory : (all : List ℕ) (face n : ℕ) → sfnts_from all face n ≡ Err bytes.OutOfMemory → ⊥
 some_want_no_memory all face zero e = cc
-some_want_no_memory all face (suc n) e = first (sfnt_of all face) (reading_wants_no_memory all face) e
+some_want_no_memory all face (suc n) e = first (sfnt_of all face) (reading_wants_no_memory all face) (some_want_no_memory all (face + 1) n) e
   where
     rest : (font : SfntFont) (read : Result (List SfntFont) SfntRefusal) → (read ≡ Err bytes.OutOfMemory → ⊥) → then_read read (λ fonts. Ok (font ∷ fonts)) ≡ Err bytes.OutOfMemory → ⊥
     rest font (Ok fonts) never e = cc
     rest font (Err why) never e = let same : why ≡ bytes.OutOfMemory = cc in never (ap Err same)
 
-    first : (read : Result SfntFont SfntRefusal) → (read ≡ Err bytes.OutOfMemory → ⊥) →
+    first : (read : Result SfntFont SfntRefusal) → (read ≡ Err bytes.OutOfMemory → ⊥) → (sfnts_from all (face + 1) n ≡ Err bytes.OutOfMemory → ⊥) →
         then_read read (λ font. then_read (sfnts_from all (face + 1) n) (λ fonts. Ok (font ∷ fonts))) ≡ Err bytes.OutOfMemory → ⊥
-    first (Ok font) never e = rest font (sfnts_from all (face + 1) n) (some_want_no_memory all (face + 1) n) e
-    first (Err why) never e = let same : why ≡ bytes.OutOfMemory = cc in never (ap Err same)
+    first (Ok font) never others e = rest font (sfnts_from all (face + 1) n) others e
+    first (Err why) never others e = let same : why ≡ bytes.OutOfMemory = cc in never (ap Err same)
 
 faces_want_no_memory : (all : List ℕ) → sfnts_of all ≡ Err bytes.OutOfMemory → ⊥
 faces_want_no_memory all e = cases (face_count all) refl e

@@ -4,7 +4,7 @@ ghost use Rattle.std.specs.Prelude.{◌≡◌, ◌<◌, ◌++◌, All, IfOk, OnO
 ghost use Rattle.ass_script.specs.Ranges.{IsScript};
 ghost use Rattle.bdf_font.specs.Ranges.{IsFont};
 ghost use Rattle.run_status.specs.Files.{IsAnswerReadCounted};
-ghost use Rattle.run_status.specs.Inputs.{AreFilesRead, AreFontFilesRead, AreRead, IsFontFileRead};
+ghost use Rattle.run_status.specs.Inputs.{AreFilesRead, AreFontsRead, AreRead, IsFontFileRead};
 
 use crate::files::{fetch_fonts, fetch_script};
 use crate::{Status, What};

@@ -15,7 +15,8 @@ loop-face-preserved c =
     let one_less = c.in-Some.ensures.steps.1 in
     let lengths = ap length steps in
     let pushed : c.push.new.self ≡ at.fonts ++ outline_font face ∷ [] =
-    c.in_ok-push.ensures.ok ∙ ap (λ (font : FontValue). at.fonts ++ font ∷ []) c.in_ok-of_outlines.ensures in
-    (subst (λ (fonts : List FontValue). AreMade c.args.faces fonts left) (sym pushed)
-    (made_next c.args.faces at.fonts face left (subst (λ (rest : List SfntFont). AreMade c.args.faces at.fonts rest) steps at.invariant.0)),
-    omega (arith, at.invariant.1, one_less, lengths))
+    c.in_ok-push.ensures.ok ∙ ap (λ (font : FontValue). at.fonts ++ font ∷ []) c.in_ok-of_outlines.ensures in (
+      subst (λ (fonts : List FontValue). AreMade c.args.faces fonts left) (sym pushed)
+          (made_next c.args.faces at.fonts face left (subst (λ (rest : List SfntFont). AreMade c.args.faces at.fonts rest) steps at.invariant.0)),
+      omega (arith, at.invariant.1, one_less, lengths),
+    )

@@ -29,6 +29,6 @@ returns-in-Outlines-clause-within c =
     let e : outline_font font ≡ c.args.self.now = ap font_value (sym c.in-Outlines.is) ∙ c.data.ensures.value in
     let sound : IsSfntFont font = search rules in
     let value : c.place_of.result ≡ place_of c.args.self.now.glyphs (pos c.args.c) =
-        (c.place_of.ensures ∙ ap (place_of_code font) c.from.ensures)
-        ∙ (sym (outline_place_of font c.args.c sound) ∙ ap (λ (f : FontValue). place_of f.glyphs (pos c.args.c)) e) in
+    (c.place_of.ensures ∙ ap (place_of_code font) c.from.ensures)
+    ∙ (sym (outline_place_of font c.args.c sound) ∙ ap (λ (f : FontValue). place_of f.glyphs (pos c.args.c)) e) in
     subst (λ (o : Option ℕ). IfSome o (λ place. place < length c.args.self.now.glyphs)) (sym value) (place_within c.args.self.now.glyphs (pos c.args.c))
