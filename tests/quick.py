@@ -38,7 +38,7 @@ import plays  # noqa: E402
 import stored  # noqa: E402
 import views  # noqa: E402
 
-RUNS = ["words", "reports", "pictures", "truetype", "writes"]
+RUNS = ["words", "reports", "pictures", "truetype", "faces", "writes"]
 
 
 class Score:
