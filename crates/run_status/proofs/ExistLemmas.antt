@@ -177,7 +177,7 @@ own_has : OneEmbeddedAnswer → (used : Bool) (all : List ℕ) → HasOwn used a
 own_has law false all = record { answer = Ok []; decided = tt; asked = refl }
 own_has law true all = let one = law all in own_decided all one.0 one.1 one.2
 
-script_cause : (why : ScriptRefusal) → (Err {A = ScriptValue} why ≡ Err script.OutOfMemory → ⊥) → IsCause (script_status why)
+script_cause : (why : ScriptRefusal) → why ≢ script.OutOfMemory → IsCause (script_status why)
 script_cause (script.NotUtf8 n) some = tt
 script_cause script.NoEvents some = tt
 script_cause (script.TooManyLines n) some = tt
@@ -207,7 +207,7 @@ module _ (used : Bool) (name all : List ℕ) (few : length all ≤ max_file_byte
   script_answered (Ok script) is some (Err why) decided own =
       refused_has why decided (own_kind used all why own) (Err why, own, sym (ap (λ read. script_with (with_status script_status read) (Err why)) is))
   script_answered (Err why) is some fonts decided own =
-      refused_has (script_status why) (script_cause why some) (of_script why) (fonts, own, sym (ap (λ read. script_with (with_status script_status read) fonts) is))
+      refused_has (script_status why) (script_cause why (λ e. some (ap Err e))) (of_script why) (fonts, own, sym (ap (λ read. script_with (with_status script_status read) fonts) is))
 
 script_has : OneEmbeddedAnswer → (used : Bool) (name : List ℕ) (held : Held) → HasAnswer (AsksScript used name) name held
 script_has law used name held =

@@ -1,13 +1,16 @@
 -- Fonts that are read one after another.
-use Rattle.std.proofs.Common.{◌≡◌, ℕ, ◌+◌, ◌<◌, refl, List, [], ◌∷◌, ◌++◌, length, Ok, arith}
+use Rattle.std.proofs.Common.{◌≡◌, ◌≢◌, ℕ, ◌+◌, ◌<◌, refl, List, [], ◌∷◌, ◌++◌, length, Result, Ok, arith}
 use Rattle.std.proofs.Common.{inl, inr, Err, length-append, subst, sym, ap, ◌∙◌, append_assoc}
 use Rattle.std.proofs.Math.Seq.{get_or-append_seam}
 use Rattle.std.proofs.lemmas.Bool.{cases_eq}
 use Rattle.std.proofs.lemmas.List.{append-nil, get_or_append_left}
 use Rattle.ass_io.specs.Fetched.{Told}
 use Rattle.bdf_font.specs.Fonts.{FontValue}
+use Rattle.run_words.specs.declared.job.ScriptSource.{ScriptSource}
+use Rattle.run_status.specs.declared.inputs.Inputs.{Inputs}
 use Rattle.run_status.specs.declared.status.Status.{Status}
-use Rattle.run_status.specs.Inputs.{AreFirstFiles, AreFontFilesRead, IsFontFileRead, fonts_of_files}
+use Rattle.run_status.specs.declared.status.Status.TheVariants as status
+use Rattle.run_status.specs.Inputs.{AreFilesRead, AreFirstFiles, AreFontFilesRead, AreFontsRead, IsFontFileRead, IsScriptRead, fonts_of_files}
 
 -- One file more is read.
 pub first_more : (told : List ℕ → Told) (names : List (List ℕ)) (files : List (List FontValue)) (file : List FontValue) →
@@ -55,3 +58,20 @@ read_more told now names index fonts all file same so next e = record {
   first = next_first told now names so.files index file same so.count so.first next;
   fonts_are = e ∙ (ap (λ fonts. fonts ++ file) so.fonts_are ∙ sym (files_more so.files file));
 }
+
+abbrev pub no_fonts : Status → Result (List FontValue) Status
+no_fonts why = Err why
+
+-- Fonts that can't be read behind a script that is; of want of memory nothing is said.
+pub fonts_refused : (told : List ℕ → Told) (script : ScriptSource) (fonts : List (List ℕ)) (read : Inputs) (why : Status) → IsScriptRead told script (Ok read) →
+    (no_fonts why ≢ no_fonts status.OutOfMemory → AreFontsRead told fonts read.fonts (Err why)) → AreFilesRead told script fonts (Err why)
+fonts_refused told script fonts read status.OutOfMemory is h = inl tt
+fonts_refused told script fonts read status.Done is h = inr (read, is, h (λ e. cc))
+fonts_refused told script fonts read (status.BadWords fault) is h = inr (read, is, h (λ e. cc))
+fonts_refused told script fonts read (status.NoSuchFile name) is h = inr (read, is, h (λ e. cc))
+fonts_refused told script fonts read (status.ReadFault name) is h = inr (read, is, h (λ e. cc))
+fonts_refused told script fonts read (status.BadScript cause) is h = inr (read, is, h (λ e. cc))
+fonts_refused told script fonts read (status.BadFont place fault) is h = inr (read, is, h (λ e. cc))
+fonts_refused told script fonts read (status.WriteFault which) is h = inr (read, is, h (λ e. cc))
+fonts_refused told script fonts read (status.TooLarge what limit) is h = inr (read, is, h (λ e. cc))
+fonts_refused told script fonts read (status.Unwritable order field) is h = inr (read, is, h (λ e. cc))

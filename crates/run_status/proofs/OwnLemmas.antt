@@ -1,7 +1,7 @@
 -- A script with the fonts that it holds.
 use Rattle.std.proofs.Common.{◌≡◌, ◌≢◌, ℕ, Bool, true, false, List, [], Result, Ok, Err, refl, sym, ap, ◌∙◌, subst}
 use Rattle.ass_io.specs.Fetched.{Told}
-use Rattle.ass_script.specs.Scripts.{ScriptValue, script_of}
+use Rattle.ass_script.specs.Scripts.{IsScriptAnswer, ScriptValue, script_of}
 use Rattle.ass_script.specs.declared.refusal.ScriptRefusal.{ScriptRefusal}
 use Rattle.ass_script.specs.declared.refusal.ScriptRefusal.TheVariants as script
 use Rattle.bdf_font.specs.Fonts.{FontValue}
@@ -85,11 +85,27 @@ module _ (used : Bool) (name : List ℕ) (told : Told) (all : List ℕ) where
   script_asked (Err (status.WriteFault which)) h asks = absurd (script_kind used all (status.WriteFault which) (asks (λ e. cc)))
   script_asked (Err (status.Unwritable order field)) h asks = absurd (script_kind used all (status.Unwritable order field) (asks (λ e. cc)))
 
--- The status of bytes that were read for it is no fault of a file.
-pub script_uncounted : (used : Bool) (all : List ℕ) (answer : Result Inputs Status) → (answer ≢ Err status.OutOfMemory → ScriptAsked used all answer) →
-    (other : List ℕ) → answer ≢ Err (status.ReadFault other)
-script_uncounted used all answer asks other e =
-    script_kind used all (status.ReadFault other) (subst (ScriptAsked used all) e (asks (λ k. let wrong : Err (status.ReadFault other) ≡ Err status.OutOfMemory = sym e ∙ k in absurd cc)))
+-- ---- a script that is refused
+
+some_own : OneEmbeddedAnswer → (used : Bool) (all : List ℕ) → (fonts : Result (List FontValue) Status) × OwnFontsAsked used all fonts
+some_own law false all = (Ok [], refl)
+some_own law true all = let one = law all in (with_status embedded_status one.0, (one.0, one.1, refl))
+
+abbrev refused_as : Status → Result Inputs Status
+refused_as why = Err why
+
+refused_asked : OneEmbeddedAnswer → (used : Bool) (all : List ℕ) (refusal : ScriptRefusal) (why : Status) → script_of all ≡ Err refusal → why ≡ script_status refusal → ScriptAsked used all (Err why)
+refused_asked law used all refusal why is same =
+    let some = some_own law used all in
+    (some.0, some.1, ap refused_as same ∙ sym (ap (λ (read : Result ScriptValue ScriptRefusal). script_with (with_status script_status read) some.0) is))
+
+pub script_refused : OneEmbeddedAnswer → (used : Bool) (all : List ℕ) (refusal : ScriptRefusal) (why : Status) → IsScriptAnswer (Err refusal) (script_of all) → why ≡ script_status refusal →
+    refused_as why ≢ Err status.OutOfMemory → ScriptAsked used all (Err why)
+script_refused law used all (script.NotUtf8 n) why is same some = refused_asked law used all _ why is same
+script_refused law used all script.NoEvents why is same some = refused_asked law used all _ why is same
+script_refused law used all (script.TooManyLines n) why is same some = refused_asked law used all _ why is same
+script_refused law used all (script.TooManyStyles n) why is same some = refused_asked law used all _ why is same
+script_refused law used all script.OutOfMemory why is same some = absurd (some (ap refused_as same))
 
 -- ---- one answer
 

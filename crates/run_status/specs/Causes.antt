@@ -1,5 +1,5 @@
 -- Public: the statuses of what can't be read.
-use Rattle.std.specs.Prelude.{ℕ, Result, Ok, Err}
+use Rattle.std.specs.Prelude.{Result, Ok, Err}
 use Rattle.ass_script.specs.declared.refusal.ScriptRefusal.{ScriptRefusal}
 use Rattle.ass_script.specs.declared.refusal.ScriptRefusal.TheVariants as script
 use Rattle.bdf_font.specs.declared.cause.FontFileRefusal.{FontFileRefusal}

@@ -48,10 +48,10 @@ place_text (Named index) = decimal index
 place_text (Held index) = decimal index ++ codes " of the script"
 
 -- the line on a font that leaves its format at line or at byte n
-abbrev pub bad_font_line : FontPlace → List ℕ → ℕ → List ℕ → List ℕ
-bad_font_line place part n cause = codes "bad font " ++ place_text place ++ codes " " ++ part ++ codes " " ++ decimal n ++ codes ": " ++ cause ++ codes "\n"
+abbrev pub bad_font_line : List ℕ → List ℕ → ℕ → List ℕ → List ℕ
+bad_font_line font part n cause = codes "bad font " ++ font ++ codes " " ++ part ++ codes " " ++ decimal n ++ codes ": " ++ cause ++ codes "\n"
 
 -- the same of a fault of the font that has this place
 abbrev pub fault_line : FontPlace → FontFault → List ℕ
-fault_line place (Line n cause) = bad_font_line place (codes "line") n (line_cause_text cause)
-fault_line place (Byte n cause) = bad_font_line place (codes "byte") n (byte_cause_text cause)
+fault_line place (Line n cause) = bad_font_line (place_text place) (codes "line") n (line_cause_text cause)
+fault_line place (Byte n cause) = bad_font_line (place_text place) (codes "byte") n (byte_cause_text cause)

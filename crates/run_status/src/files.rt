@@ -15,7 +15,7 @@ use ass_io::{Fetch, MAX_FILE_BYTES, Shelf};
 use ass_num::{Items, Text};
 use ass_script::read_script;
 use bdf_font::{Font, read_fonts};
-use embedded_fonts::read_embedded_fonts;
+use embedded_fonts::{one_embedded_answer, read_embedded_fonts};
 use run_words::ScriptSource;
 use std::alloc::Global;
 
@@ -60,6 +60,7 @@ fn script_in(alloc: Global, own: bool, bytes: &[u8]) -> Result<Inputs, Status>
     ensures script { IfOk result (λ inputs. IsScript inputs.script) }
     ensures fonts { IfOk result (λ inputs. All IsFont inputs.fonts) }
 {
+    one_embedded_answer();
     let script = match read_script(alloc, bytes) {
         Ok(script) => script,
         Err(refusal) => return Err(script_status(refusal)),

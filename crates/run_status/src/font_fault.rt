@@ -98,17 +98,9 @@ fn place_text(alloc: Global, place: FontPlace) -> Mem<String>
 }
 
 /// The line of the report on a font that leaves its format at line or at byte n.
-fn bad_font_line(
-    alloc: Global,
-    place: FontPlace,
-    part: &str,
-    n: usize,
-    cause: &str,
-) -> Mem<String>
-    ensures { IfOk result (λ text. string_bytes text ≡ bad_font_line place part.now n cause.now) }
+fn bad_font_line(alloc: Global, font: &str, part: &str, n: usize, cause: &str) -> Mem<String>
+    ensures { IfOk result (λ text. string_bytes text ≡ bad_font_line font.now part.now n cause.now) }
 {
-    let font = place_text(alloc, place)?;
-    let font = font.as_str();
     Ok(format!(in alloc; "bad font {font} {part} {n}: {cause}\n")?)
 }
 
@@ -120,12 +112,14 @@ impl FontFault {
     pub(crate) fn line(self, alloc: Global, place: FontPlace) -> Mem<String>
         ensures { IfOk result (λ line. string_bytes line ≡ fault_line place self) }
     {
+        let font = place_text(alloc, place)?;
+        let font = font.as_str();
         match self {
             FontFault::Line(n, cause) => {
-                bad_font_line(alloc, place, "line", n, line_cause_text(cause))
+                bad_font_line(alloc, font, "line", n, line_cause_text(cause))
             }
             FontFault::Byte(n, cause) => {
-                bad_font_line(alloc, place, "byte", n, byte_cause_text(cause))
+                bad_font_line(alloc, font, "byte", n, byte_cause_text(cause))
             }
         }
     }

@@ -1,9 +1,10 @@
 //! What a job works on.
 
-ghost use Rattle.std.specs.Prelude.{◌≡◌, ◌<◌, ◌++◌, All, IfOk, OnOk, length};
+ghost use Rattle.std.specs.Prelude.{◌≡◌, ◌≢◌, ◌<◌, ◌++◌, All, Err, IfOk, OnOk, length};
 ghost use Rattle.ass_script.specs.Ranges.{IsScript};
 ghost use Rattle.bdf_font.specs.Ranges.{IsFont};
 ghost use Rattle.run_status.specs.Files.{IsAnswerReadCounted};
+ghost use Rattle.run_status.specs.declared.status.Status.TheVariants.{OutOfMemory as memory_status};
 ghost use Rattle.run_status.specs.Inputs.{AreFilesRead, AreFontsRead, AreRead, IsFontFileRead};
 
 use crate::files::{fetch_fonts, fetch_script};
@@ -56,8 +57,9 @@ fn fetch_all_fonts<S: Shelf>(
     names: &[Text],
     own: Items<Font>,
 ) -> Result<Items<Font>, Status>
+    requires { All IsFont own }
     ensures kept { S.told shelf.new ≡ S.told shelf.old }
-    ensures read { AreFontsRead (S.told shelf.old) names.now own result }
+    ensures read { result ≢ Err memory_status → AreFontsRead (S.told shelf.old) names.now own result }
     ensures counted { IsAnswerReadCounted result (S.faults shelf.old) (S.faults shelf.new) }
     ensures fonts { IfOk result (All IsFont) }
 {

@@ -18,7 +18,7 @@ returns-in_err-file-clause-read g c =
     let why = c.in_err-file.field-0.0 in
     let same : c.from_residual.result ≡ Err why = search rules in
     rw same
-    (inl (stopped (g.S.Shelf.told c.args.shelf.now) (g.S.Shelf.told c.loop-index.shelf) c.args.names.now kept.found.files c.loop-index.index why kept.told kept.found.count c.loop-index-test.true kept.found.first c.in_err-file.ensures.read))
+    (λ other. inl (stopped (g.S.Shelf.told c.args.shelf.now) (g.S.Shelf.told c.loop-index.shelf) c.args.names.now kept.found.files c.loop-index.index why kept.told kept.found.count c.loop-index-test.true kept.found.first c.in_err-file.ensures.read))
 
 pub loop-index-preserved : goal.loop-index-preserved
 loop-index-preserved g c =
@@ -31,3 +31,11 @@ loop-index-preserved g c =
       found = read_more (g.S.Shelf.told c.args.shelf.now) (g.S.Shelf.told c.loop-index.shelf) c.args.names.now c.loop-index.index c.loop-index.all.items c.append_fonts.new.all.items file kept.told kept.found c.in_ok-file.ensures.read more;
       each = subst (All IsFont) (sym more) (All-append IsFont c.loop-index.all.items file kept.each c.in_ok-file.ensures.fonts);
     }
+
+pub returns-clause-fonts : goal.returns-clause-fonts
+returns-clause-fonts g c =
+    let at = c.loop-index in
+    let put = c.in_ok-append_fonts-2.ensures in
+    let whole = c.from_vec.ensures in
+    let made : c.from_vec.result ≡ at.all.items ++ c.args.own = cc in
+    subst (All IsFont) (sym made) (All-append IsFont at.all.items c.args.own at.invariant.each c.requires)

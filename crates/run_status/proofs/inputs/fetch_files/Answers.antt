@@ -1,5 +1,7 @@
-use Rattle.std.proofs.Common.{◌≡◌, Err, Ok, inl, inr, refl, rules, subst}
+use Rattle.std.proofs.Common.{◌≡◌, ◌≢◌, Err, Ok, inl, refl, rules, subst}
 use Rattle.run_status.specs.Inputs.{AreFontsRead}
+use Rattle.run_status.specs.declared.status.Status.TheVariants.{OutOfMemory as memory_status}
+use Rattle.run_status.proofs.FontLemmas.{fonts_refused, no_fonts}
 use Rattle.run_status.proofs.inputs.fetch_files.Goals as goal
 
 pub returns-in_err-read-clause-read : goal.returns-in_err-read-clause-read
@@ -9,9 +11,12 @@ returns-in_err-read-clause-read g c =
 
 pub returns-clause-read : goal.returns-clause-read
 returns-clause-read g c =
-    (c.in_ok-read.read, c.in_ok-read.ensures.read, refl, subst (λ told. AreFontsRead told c.args.fonts.now c.in_ok-read.read.fonts (Ok c.in_ok-fonts.fonts)) c.fetch_script.ensures.kept c.in_ok-fonts.ensures.read)
+    (c.in_ok-read.read, c.in_ok-read.ensures.read, refl, subst (λ told. AreFontsRead told c.args.fonts.now c.in_ok-read.read.fonts (Ok c.in_ok-fonts.fonts)) c.fetch_script.ensures.kept (c.in_ok-fonts.ensures.read (λ e. cc)))
 
 pub returns-in_err-fonts-clause-read : goal.returns-in_err-fonts-clause-read
 returns-in_err-fonts-clause-read g c =
     let same : c.from_residual-in_err-fonts.result ≡ Err c.in_err-fonts.field-0.0 = search rules in
-    rw same (inr (c.in_ok-read.read, c.in_ok-read.ensures.read, subst (λ told. AreFontsRead told c.args.fonts.now c.in_ok-read.read.fonts (Err c.in_err-fonts.field-0.0)) c.fetch_script.ensures.kept c.in_err-fonts.ensures.read))
+    let why = c.in_err-fonts.field-0.0 in
+    rw same
+    (fonts_refused (g.S.Shelf.told c.args.shelf.now) c.args.script.now c.args.fonts.now c.in_ok-read.read why c.in_ok-read.ensures.read
+    (subst (λ told. no_fonts why ≢ no_fonts memory_status → AreFontsRead told c.args.fonts.now c.in_ok-read.read.fonts (Err why)) c.fetch_script.ensures.kept c.in_err-fonts.ensures.read))
