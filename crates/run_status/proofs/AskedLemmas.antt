@@ -10,6 +10,7 @@ use Rattle.bdf_font.specs.declared.cause.FontFileRefusal.{FontFileRefusal}
 use Rattle.bdf_font.specs.declared.cause.FontFileRefusal.TheVariants as file
 use Rattle.bdf_font.specs.declared.cause.FontRefusal.TheVariants as lines
 use Rattle.sfnt_font.specs.declared.cause.SfntRefusal.TheVariants as bytes
+use Rattle.run_status.specs.declared.font_fault.FontPlace.TheVariants.{Named}
 use Rattle.run_status.specs.declared.status.Status.{Status}
 use Rattle.run_status.specs.declared.status.Status.TheVariants as status
 use Rattle.run_status.specs.declared.status.What.TheVariants.{Bytes}
@@ -47,7 +48,7 @@ asked_of asks name told bytes answer (Some held, told_is, inr (many, same)) aske
 
 -- The file of fonts that is held asks for the fonts, or for the status of its refusal.
 pub font_asked : (index : ℕ) (name : List ℕ) (told : Told) (all : List ℕ) (read : Result (List FontValue) FontFileRefusal) → IsAskedFor (AsksBytes name) told (Ok all) →
-    (read ≢ Err (file.Lines lines.OutOfMemory) → IsFontFileAnswer all read) → IsAnswered (AsksFonts index name) told name (with_status (font_status index) read)
+    (read ≢ Err (file.Lines lines.OutOfMemory) → IsFontFileAnswer all read) → IsAnswered (AsksFonts index name) told name (with_status (font_status (Named index)) read)
 font_asked index name told all (Ok font) h answer = asked_of (FontsAsked index) name told all (Ok font) h (Ok font, answer (λ e. cc), refl)
 font_asked index name told all (Err (file.Lines (lines.BadFont line cause))) h answer =
     asked_of (FontsAsked index) name told all _ h (Err (file.Lines (lines.BadFont line cause)), answer (λ e. cc), refl)

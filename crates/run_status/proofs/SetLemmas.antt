@@ -23,7 +23,7 @@ files_some told names (file ∷ files) some first =
     omega (arith, here, length-append file (fonts_of_files files))
 
 -- Where there are files there are from 1 to 64 fonts.
-pub fonts_some : (told : List ℕ → Told) (names : List (List ℕ)) (fonts : List FontValue) → 0 < length names → AreFontsRead told names (Ok fonts) →
+pub fonts_some : (told : List ℕ → Told) (names : List (List ℕ)) (own fonts : List FontValue) → 0 < length names → AreFontsRead told names own (Ok fonts) →
     (0 < length fonts) × (length fonts ≤ max_fonts)
-fonts_some told names fonts some (files, (count, first), are, few) =
-    (omega (arith, files_some told names files (omega (arith, count, some)) first, ap length are), few)
+fonts_some told names own fonts some (files, (count, first), are, few) =
+    (omega (arith, files_some told names files (omega (arith, count, some)) first, ap length are, length-append (fonts_of_files files) own), few)

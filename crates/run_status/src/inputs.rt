@@ -12,6 +12,7 @@ use ass_io::Shelf;
 use ass_num::{Items, Mem, Text};
 use ass_script::Script;
 use bdf_font::Font;
+use run_words::ScriptSource;
 use std::alloc::Global;
 
 /// The most fonts of a job.
@@ -48,14 +49,15 @@ fn append_fonts(all: &mut Vec<Font>, file: Items<Font>) -> Mem<()>
     Ok(())
 }
 
-/// The fonts of all files together.
+/// The fonts of all files together, and behind them those of the script.
 fn fetch_all_fonts<S: Shelf>(
     alloc: Global,
     shelf: &mut S,
     names: &[Text],
+    own: Items<Font>,
 ) -> Result<Items<Font>, Status>
     ensures kept { S.told shelf.new ≡ S.told shelf.old }
-    ensures read { AreFontsRead (S.told shelf.old) names.now result }
+    ensures read { AreFontsRead (S.told shelf.old) names.now own result }
     ensures counted { IsAnswerReadCounted result (S.faults shelf.old) (S.faults shelf.new) }
     ensures fonts { IfOk result (All IsFont) }
 {
@@ -64,6 +66,7 @@ fn fetch_all_fonts<S: Shelf>(
         let file = fetch_fonts_at(alloc, shelf, names, index)?;
         append_fonts(&mut all, file)?;
     }
+    append_fonts(&mut all, own)?;
     if all.len() > MAX_FONTS {
         return Err(Status::TooLarge(What::Fonts, MAX_FONTS));
     }
@@ -74,7 +77,7 @@ fn fetch_all_fonts<S: Shelf>(
 fn fetch_files<S: Shelf>(
     alloc: Global,
     shelf: &mut S,
-    script: &Text,
+    script: &ScriptSource,
     fonts: &[Text],
 ) -> Result<Inputs, Status>
     ensures kept { S.told shelf.new ≡ S.told shelf.old }
@@ -83,18 +86,22 @@ fn fetch_files<S: Shelf>(
     ensures script { IfOk result (λ inputs. IsScript inputs.script) }
     ensures fonts { IfOk result (λ inputs. All IsFont inputs.fonts) }
 {
-    let script = fetch_script(alloc, shelf, script)?;
-    let fonts = fetch_all_fonts(alloc, shelf, fonts)?;
-    Ok(Inputs { script, fonts })
+    let read = fetch_script(alloc, shelf, script)?;
+    let fonts = fetch_all_fonts(alloc, shelf, fonts, read.fonts)?;
+    Ok(Inputs {
+        script: read.script,
+        fonts,
+    })
 }
 
-/// Reads the script of this name, and then all fonts of the files of these names, in order. The first file that can't be
-/// read decides the answer. `TooLarge(Fonts, 64)` comes before any of them where there are more names of fonts than that,
-/// and behind all of them where these have more fonts together.
+/// Reads the script of this name with its own fonts, where these are used, and then all fonts of the files of these
+/// names, in order, behind which its own stand. The first file that can't be read decides the answer.
+/// `TooLarge(Fonts, 64)` comes before any of them where there are more names of fonts than that, and behind all of them
+/// where there are more fonts together.
 pub fn read_inputs<S: Shelf>(
     alloc: Global,
     shelf: &mut S,
-    script: &Text,
+    script: &ScriptSource,
     fonts: &[Text],
 ) -> Result<Inputs, Status>
     ensures kept { S.told shelf.new ≡ S.told shelf.old }
