@@ -1,9 +1,10 @@
 # Installs the release:
 #
 #   make install [PREFIX=/usr/local] [LIBDIR=$(PREFIX)/lib] [DESTDIR=]
-#   make uninstall, with the same words
+#   make install-libass, with the same words: libass.so.9 of c/libass, in a folder where no program looks by itself
+#   make uninstall, with the same words, of both
 #
-# It takes a shell, and python3 for the manual pages.
+# It takes a shell, and python3 for the manual pages; install-libass a C compiler and libass's header.
 
 PREFIX = /usr/local
 BINDIR = $(PREFIX)/bin
@@ -50,6 +51,11 @@ install:
 	install -m 644 $(EXAMPLES) $(data)/doc/vimalorua/examples
 	[ -n '$(DESTDIR)' ] || [ "$$(id -u)" -ne 0 ] || PATH="$$PATH:/usr/sbin:/sbin" ldconfig
 
+install-libass:
+	$(MAKE) -C c/libass
+	install -d $(lib)/vimalorua/libass
+	install -m 644 out/libass/libass.so.9 $(lib)/vimalorua/libass
+
 uninstall:
 	rm -rf $(lib)/vimalorua $(data)/doc/vimalorua
 	rm -f $(bin)/vimalorua $(include)/vimalorua.h $(lib)/libvimalorua.a $(lib)/libvimalorua.so
@@ -61,4 +67,4 @@ uninstall:
 test:
 	./test
 
-.PHONY: all install uninstall test
+.PHONY: all install install-libass uninstall test

@@ -120,12 +120,25 @@ def file_limit(score, given, program):
     score.check(len(whole) > most and front == whole[:most], "below a limit of file size other bytes were written")
 
 
-def library(score, given):
-    done = ran([f"{given.top}/c/test.sh", given.archive], given.top, env={**os.environ, "PROGRAM": given.program})
+def scripted(score, script, given):
+    """Takes the parts of a test in shell that passed, of which each is told in a line."""
+    done = ran([f"{given.top}/{script}", given.archive], given.top, env={**os.environ, "PROGRAM": given.program})
     passed = re.findall(r"^test.sh: .* passed$", done.stdout, re.M)
     if done.returncode:
         print(done.stdout + done.stderr, end="", flush=True)
     score.add(len(passed), 1 if done.returncode or not passed else 0)
+
+
+def library(score, given):
+    scripted(score, "c/test.sh", given)
+
+
+def players(score, given):
+    header = subprocess.run([os.environ.get("CC", "cc"), "-E", "-"], input=b"#include <ass/ass.h>", capture_output=True)
+    if header.returncode or not shutil.which("make"):
+        print("players: there is no header of libass here, or no make, so libass's calls aren't tried")
+        return
+    scripted(score, "c/libass/test.sh", given)
 
 
 def install(score, given):

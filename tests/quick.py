@@ -13,6 +13,7 @@ Its parts, which all are tried where none is named:
   refusals   runs whose calls for memory are refused
   wrapper    what the wrapper says where words or a font are refused
   library    the library from C (c/test.sh)
+  players    libass's calls over it (c/libass/test.sh), where libass's header and make are
   install    installing into a folder, and removing
   letters    that examples/letters.txt makes examples/letters.ttf, which examples/attached.ass holds
   docs       the documents (tools/check_docs.py)
@@ -37,7 +38,7 @@ import plays  # noqa: E402
 import stored  # noqa: E402
 import views  # noqa: E402
 
-RUNS = ["words", "reports", "pictures", "truetype", "writes"]
+RUNS = ["words", "reports", "pictures", "truetype", "faces", "writes"]
 
 
 class Score:
@@ -91,6 +92,7 @@ PARTS = {
     "refusals": outside.refusals,
     "wrapper": outside.wrapper,
     "library": outside.library,
+    "players": outside.players,
     "install": outside.install,
     "letters": outside.letters,
     "docs": outside.docs,
