@@ -83,7 +83,8 @@ archive_alone() {
 shared_alone() {
     nm -D --defined-only "$shared" | awk '$2 != "A" { sub(/@.*/, "", $3); print $3 }' | sort | diff "$work/declared" -
     nm -D --defined-only "$shared" | sed -n 's/.* vimalorua_\(.*\)@@VIMALORUA_\(1[.].*\)$/\2 \1/p' | sort > "$work/later"
-    printf '%s\n' '1.2 draw_in' '1.2 images_in' '1.3 status_text' | diff - "$work/later"
+    printf '%s\n' '1.2 draw_in' '1.2 images_in' '1.3 status_text' '1.4 add_fonts' '1.4 add_script_fonts' \
+        '1.4 font_names' | diff - "$work/later"
     readelf -d "$shared" | sed -n 's/.*(\(SONAME\|NEEDED\)).*\[\(.*\)\]/\1 \2/p' | sort > "$work/needs"
     printf 'NEEDED libc.so.6\nSONAME libvimalorua.so.1\n' | diff - "$work/needs"
     (cd "$work/plain" && "$cc" -o shared demo.o files.o "$shared" "-Wl,-rpath,${shared%/*}")

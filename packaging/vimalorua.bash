@@ -8,18 +8,20 @@ _vimalorua() {
         return
     fi
     case ${COMP_WORDS[1]} in
-    frame) options='--at --size --storage --aspect --content --letters --scale --budget' ;;
-    changes) options='--from --to --step --size --storage --aspect --content --letters --scale --budget' ;;
+    check) options='--script-fonts' ;;
+    frame) options='--at --size --storage --aspect --content --letters --scale --budget --script-fonts' ;;
+    changes) options='--from --to --step --size --storage --aspect --content --letters --scale --budget --script-fonts' ;;
     write) options='--later --earlier' ;;
     selftest) options='--workers' ;;
     play)
-        options='--from --to --step --size --feeders --renderers --batch --again --times --ahead --bands --budget --mode'
+        options='--from --to --step --size --feeders --renderers --batch --again --times --ahead --bands --budget --mode --script-fonts'
         ;;
     esac
     case $before in
     --mode) mapfile -t COMPREPLY < <(compgen -W 'live settled' -- "$word") ;;
     --letters) mapfile -t COMPREPLY < <(compgen -W 'script aspect' -- "$word") ;;
     --size) mapfile -t COMPREPLY < <(compgen -W '640x360 1280x720 1920x1080 3840x2160' -- "$word") ;;
+    --script-fonts) mapfile -t COMPREPLY < <(compgen -W "$options" -- "$word") ;;
     --*) ;;
     *)
         case $word in

@@ -62,10 +62,8 @@ def symbols():
     return hand_font.cmap_of((3, 0, hand_font.format_4([(61472, 61500, 65536 - 61471, 0), LAST])))
 
 
-def names():
-    """The table of names: a Mac one, a full one, one outside the table, and two of Windows with a half pair and an odd byte."""
-    wide = "Zoë 😀".encode("utf-16-be") + b"\xd8\x3d\0"
-    texts = [(1, 0, 1, b"Caf\x8e \xf0"), (3, 1, 4, b"\0F"), (3, 1, 1, None), (3, 1, 1, wide), (3, 1, 1, "Andere".encode("utf-16-be"))]
+def name_table(*texts):
+    """A table of names of (platform, encoding, kind, text); one without a text lies outside the table."""
     records, store = b"", b""
     for platform, encoding, kind, text in texts:
         size, at = (9, 60000) if text is None else (len(text), len(store))
@@ -74,9 +72,27 @@ def names():
     return words(0, len(texts), 6 + len(records)) + records + store
 
 
-def named_font():
+def wide(text):
+    return text.encode("utf-16-be")
+
+
+NAMES = [(1, 0, 1, b"Caf\x8e \xf0"), (3, 1, 4, b"\0F"), (3, 1, 1, None), (3, 1, 1, wide("Zoë 😀") + b"\xd8\x3d\0"), (3, 1, 1, wide("Andere"))]
+
+
+def with_names(*texts, **given):
+    """The small glyphs with a map of symbols, and with these names and tables."""
     tables = hand_font.tables_of(hand_font.numbered(hand_font.SMALL), symbols(), small=True)
-    return hand_font.maker().file_of({**tables, "name": names()})
+    return hand_font.maker().file_of({**tables, "name": name_table(*texts), **given})
+
+
+def styled(family, full_name, weight, bits, first=65, count=3):
+    """A face of a family: its weight and its style in `OS/2`, and some of the glyphs from the code `first` on."""
+    maps = hand_font.cmap_of((3, 1, hand_font.format_4([(first, first + count - 1, 2 - first, 0), LAST])))
+    tables = hand_font.tables_of(hand_font.numbered(hand_font.SMALL), maps)
+    os2 = bytearray(tables["OS/2"])
+    os2[4:6], os2[62:64] = words(weight), words(bits)
+    names = name_table((3, 1, 1, wide(family)), (3, 1, 4, wide(full_name)))
+    return hand_font.maker().file_of({**tables, "OS/2": bytes(os2), "name": names})
 
 
 class Rows:
@@ -105,13 +121,17 @@ def codes_of(font):
     return found + font.listed_codes + [-2]
 
 
-def face_told(name, font):
+def names_told(names):
+    return "".join(f"[{name}]" for name in names)
+
+
+def face_told(font):
     numbers = (
         f"units: {font.units}, glyphs: {font.count}, wide_places: {str(font.is_wide).lower()}, advances: {font.own}, "
         f"ascent: {font.ascent}, descent: {font.descent}, underline: {bar(font.underline)}, strikeout: {bar(font.strikeout)}, "
-        f"bold_step: {font.bold_step}"
+        f"bold_step: {font.bold_step}, weight: {font.weight}, slanted: {str(font.slanted).lower()}"
     )
-    return f"[{name}] {len(codes_of(font))} Numbers {{ {numbers} }}"
+    return f"{names_told(font.families)}/{names_told(font.full_names)} {len(codes_of(font))} Numbers {{ {numbers} }}"
 
 
 def glyph_told(font, g):
@@ -137,10 +157,10 @@ CODES = [0, 31, 32, 33, 60, 84, 95, 96, 127, 255, 256, 257, 258, 259, 260, 261, 
 CODES += [65000, 65001, 65002, 65003, 65004, 65535, 65536, 128511, 128512, 128514, 128515, 128516, 1114110, 1114111]
 
 
-def ask_font(rows, name, family, held, glyphs):
+def ask_font(rows, name, held, glyphs):
     rows.file(name, held)
     font = model.Font(held)
-    rows.ask("face 0", face_told(family, font))
+    rows.ask("face 0", face_told(font))
     rows.ask("face 1", '"no face"')
     for g in glyphs:
         rows.ask(f"glyph {g}", glyph_told(font, g))
@@ -150,20 +170,140 @@ def ask_font(rows, name, family, held, glyphs):
     rows.ask(f"places {' '.join(str(it) for it in places)}", places_told(font, places))
 
 
+def ask_changed(rows, held, at, text):
+    """What the file is read as that has these bytes from a place on."""
+    font = model.Font(held[:at] + text + held[at + len(text) :])
+    rows.ask(f"with {at} {text.hex()}", face_told(font))
+    return font
+
+
 def ask_names(rows):
-    held = named_font()
+    """Names by their platforms: those of Windows first, in their order."""
+    held = with_names(*NAMES)
     rows.file("named.ttf", held)
     font, entries = model.Font(held), hand_font.directory_of(held)[0]
-    rows.ask("face 0", face_told("Zoë 😀\ufffd", font))
+    assert (font.families, font.full_names) == (["Zoë 😀\ufffd", "Andere"], ["F"])
+    rows.ask("face 0", face_told(font))
     record = entries["name"].place + 6
-    kinds = [(record + 12 * k + 6, "0002") for k in (3, 4)]
-    rows.ask(f"with {kinds[0][0]} 0002", face_told("Andere", font))
+    assert ask_changed(rows, held, record + 12 * 3 + 6, words(2)).families == ["Andere"]
     # The two Windows names stand behind one another, so both kinds are changed at once
-    both = bytearray(held[kinds[0][0] : kinds[1][0] + 2])
-    both[:2] = both[-2:] = b"\0\2"
-    rows.ask(f"with {kinds[0][0]} {both.hex()}", face_told("Café \uf8ff", font))
-    rows.ask(f"with {record - 6} 00000000", face_told("", font))
-    rows.ask(f"with {entries['name'].entry} 4e616d65", face_told("", font))
+    both = bytearray(held[record + 12 * 3 + 6 : record + 12 * 4 + 8])
+    both[:2] = both[-2:] = words(2)
+    assert ask_changed(rows, held, record + 12 * 3 + 6, bytes(both)).families == ["Café \uf8ff"]
+    assert ask_changed(rows, held, record - 6, words(0, 0)).full_names == []
+    assert ask_changed(rows, held, entries["name"].entry, b"Name").families == []
+    many = [(3, 1, kind, wide(f"{kind}.{k}")) for k in range(66) for kind in (4, 1)]
+    held = with_names((0, 3, 1, wide("other")), *many)
+    rows.file("many_names.ttf", held)
+    font = model.Font(held)
+    assert (len(font.families), len(font.full_names), font.families[-1]) == (64, 64, "1.63")
+    rows.ask("face 0", face_told(font))
+
+
+def ask_styles(rows):
+    """Weights and slants, with `OS/2` and without it."""
+    held = styled("Hand", "Hand", 400, 0)
+    rows.file("styled.ttf", held)
+    entries = hand_font.directory_of(held)[0]
+    os2, head = entries["OS/2"].place, entries["head"].place
+    for at, text in ((os2 + 4, 1), (os2 + 4, 1000), (os2 + 4, 1001), (os2 + 4, 0), (os2 + 62, 1), (os2 + 62, 2), (head + 44, 3)):
+        ask_changed(rows, held, at, words(text))
+    held = with_names()
+    rows.file("plain.ttf", held)
+    head = hand_font.directory_of(held)[0]["head"].place
+    for bits in range(4):
+        ask_changed(rows, held, head + 44, words(bits))
+    # With the style of bold letters, and a weight that is none
+    held = styled("Hand", "Hand", 0, 0)
+    rows.file("no_weight.ttf", held)
+    assert ask_changed(rows, held, hand_font.directory_of(held)[0]["head"].place + 44, words(1)).weight == 700
+
+
+FACES = [
+    ("Sans", "Sans Bold", 700, 0, 65),
+    ("Sans", "Sans Italic", 400, 1, 66),
+    ("Sans", "Sans Regular", 400, 0, 67),
+    ("Sans", "Sans Bold Italic", 700, 1, 68),
+    ("Serif", "Serif", 400, 0, 80),
+    ("Light", "Sans", 300, 0, 90),
+    ("Heavy", "Heavy Black", 900, 0, 66),
+    ("Heavy", "Heavy Semi", 600, 0, 66),
+    ("Heavy", "Heavy Fifty", 550, 0, 66),
+    ("Heavy", "Heavy Slanted", 500, 1, 66),
+]
+ASKED = ["Serif", "serif", "SANS BOLD", "Sans Bold Italic", "Sans", "@Serif", "@Sans Bold", "@@Serif", "Sans-Bold", "", "@", "Light", "Heavy", "Nonesuch"]
+
+
+BITMAPS = b"""STARTFONT 2.1
+FONT grid
+STARTCHAR A
+ENCODING 65
+BBX 1 1 0 0
+BITMAP
+80
+ENDCHAR
+STARTCHAR a
+ENCODING 97
+BBX 1 1 0 0
+BITMAP
+80
+ENDCHAR
+ENDFONT
+"""
+
+
+def glyph_told_in(fonts, number, code):
+    """Where the glyph of a code is in a set."""
+    found = next((k for k in (number, *range(len(fonts))) if fonts[k].glyph(code) != 0), number)
+    listed = codes_of(fonts[found])
+    return f" {found}:{listed.index(code) if code in listed else len(listed) - 1}"
+
+
+def ask_set(rows, fonts, numbers):
+    for style in ("-", "b", "i", "bi"):
+        for name in ASKED:
+            rows.ask(f"find {style} {name}", model.chosen(fonts, name, "b" in style, "i" in style))
+    codes = [32, 64, 65, 66, 67, 68, 69, 70, 80, 82, 83, 90, 255, 256, 61475]
+    for number in numbers:
+        rows.ask(f"char {number} {' '.join(str(it) for it in codes)}", "".join(glyph_told_in(fonts, number, it) for it in codes))
+
+
+def ask_sets(rows):
+    """Which font a name finds, and where the glyphs of characters are."""
+    fonts = []
+    rows.ask("set", "")
+    for k, face in enumerate(FACES):
+        held = styled(*face)
+        rows.file(f"face {k}", held)
+        fonts.append(model.Font(held))
+        rows.ask("add", len(fonts))
+        if k == 3:
+            ask_set(rows, fonts, [0, 3])
+    ask_set(rows, fonts, [0, 4, 9])
+    held = hand_font.collection(styled(*FACES[1]), styled(*FACES[0]), with_names(*NAMES))
+    rows.file("three.ttc", held)
+    rows.ask("set", "")
+    fonts = [model.Font(held, face) for face in range(3)]
+    rows.ask("add", 3)
+    for face, font in enumerate(fonts):
+        rows.ask(f"face {face}", face_told(font))
+    ask_set(rows, fonts, [0, 2])
+    # The second face of a collection has a fault, so none is added
+    held = dict(hand_font.faults())["second_face.ttc"]
+    rows.file("second_face.ttc", held)
+    rows.ask("add", f"Bytes(BadFont({good_face(held)}, NoTable(Hmtx)))")
+    rows.file("no font", b"STARTFONT 2.1\nSTARTCHAR A\nENDFONT\n")
+    rows.ask("add", "Lines(BadFont(3, Misplaced))")
+    rows.file("bitmaps", BITMAPS)
+    rows.ask("add", 4)
+    for style, name in (("bi", "grid"), ("-", "GRID"), ("-", "@grid"), ("-", "@Sans"), ("b", "Sans")):
+        rows.ask(f"find {style} {name}", 3 if name.lower() == "grid" else model.chosen(fonts, name, "b" in style, "i" in style))
+    rows.ask("char 3 65 66 67 68 97", " 3:0 0:0 0:1 0:2 3:1")
+    rows.ask("char 0 97 98", f" 3:1 0:{len(codes_of(fonts[0])) - 1}")
+    rows.ask("set", "")
+    rows.ask("add", 1)
+    rows.ask("char 0 65 66", " 0:0 -")
+    rows.ask("find bi @Sans", 0)
 
 
 def fault_bytes(good):
@@ -208,7 +348,7 @@ def ask_faults(rows):
     """Each fault: of the small font with other bytes or with fewer, or of another file."""
     good = hand_font.small_font()
     rows.file("small.ttf", good)
-    rows.ask("face 0", face_told("", model.Font(good)))
+    rows.ask("face 0", face_told(model.Font(good)))
     answers, others = fault_bytes(good), []
     for name, held in hand_font.faults():
         changed = [k for k, (a, b) in enumerate(zip(good, held)) if a != b]
@@ -222,7 +362,7 @@ def ask_faults(rows):
             others.append((name, held))
     for name, held in others:
         rows.file(name, held)
-        rows.ask("face 0", answers.get(name) or face_told("", model.Font(held)))
+        rows.ask("face 0", answers.get(name) or face_told(model.Font(held)))
         if name == "second_face.ttc":
             second = good_face(held)
             rows.ask("face 1", f"BadFont({second}, NoTable(Hmtx))")
@@ -240,11 +380,13 @@ def main():
         print(__doc__, file=sys.stderr)
         return 2
     rows, count = Rows(), len(numbered())
-    ask_font(rows, "hand.ttf", "Hand Letter", file_of(map_4(count)), [*range(count), count, 65535])
-    ask_font(rows, "wide.ttf", "", file_of(map_12(count), wide=True, small=True), [*range(18), *range(24, 40), *range(count - 9, count)])
+    ask_font(rows, "hand.ttf", file_of(map_4(count)), [*range(count), count, 65535])
+    ask_font(rows, "wide.ttf", file_of(map_12(count), wide=True, small=True), [*range(18), *range(24, 40), *range(count - 9, count)])
     ask_names(rows)
-    ask_font(rows, "symbol.ttf", "", file_of(symbols(), small=True), [2])
+    ask_styles(rows)
+    ask_font(rows, "symbol.ttf", file_of(symbols(), small=True), [2])
     ask_faults(rows)
+    ask_sets(rows)
     for name, lines in (("stdin", rows.asked), ("stdout", rows.told)):
         with open(f"{FOLDER}/{name}", "w", encoding="utf-8") as it:
             it.write("".join(f"{line}\n" for line in lines))

@@ -3,6 +3,7 @@
 import os
 import shutil
 
+import face_rows
 import hand_font
 
 HEAD = """[Script Info]
@@ -39,12 +40,24 @@ def line(start, end, text, margin="0", layer="0"):
 
 
 def glyph_lines():
-    """Second, tags, and the letters of the font that is written by hand, as its maps have them."""
+    """Tags, and the letters of the font that is written by hand, as its maps have them."""
     mapped = "".join(map(chr, range(33, 85)))
     others = "".join(map(chr, [*range(256, 261), 512, *range(1024, 1027), *range(2048, 2052), 65000, 128512, 128514, 1114111, 122]))
     text = "\\N".join([mapped[:20], mapped[20:40], mapped[40:], others])
-    for k, tags in enumerate(["", r"\b1\i1\u1\s1", r"\frz20\bord3\shad2", r"\frz-50\u1\b1\blur2", r"\fscx30\fscy250"]):
-        yield k, f"{{{tags}}}", text
+    for tags in ["", r"\b1\i1\u1\s1", r"\frz20\bord3\shad2", r"\frz-50\u1\b1\blur2", r"\fscx30\fscy250"]:
+        yield f"{{{tags}}}", text
+
+
+def face_lines():
+    """Letters in the four faces of a family, in all of them, in a face of another family, and by full names."""
+    yield from (f"{{{tags}}}AAAA" for tags in ["", r"\b1", r"\i1", r"\b1\i1"])
+    yield from [r"AA{\b1}AA{\i1}AA{\b0}AA", "A B", r"{\fnPlain}B"]
+    yield from (f"{{{tags}}}AAAA" for tags in [r"\fnHand Bold", r"\fnHand Bold\i1", r"\fn@hand\b500", r"\fnHandBoldPS\b1"])
+
+
+def in_turn(lines):
+    """A script of lines, a second each."""
+    return LETTERS + "".join(line(f"0:00:{k:02}.00", f"0:00:{k + 1:02}.00", text) for k, text in enumerate(lines))
 
 
 def scripts():
@@ -74,7 +87,9 @@ def scripts():
         "Dialogue: Marked=0,0:00:00.00,0:00:01.00,*Default,,0000,0000,0000,,x x\n"
     )
     yield "moves.ass", HEAD + line("0:00:00.00", "0:00:01.00", r"{\move(0,0,12,8)}x") + line("0:00:00.50", "0:00:01.00", "x x")
-    yield "glyphs.ass", LETTERS + "".join(line(f"0:00:0{k}.00", f"0:00:0{k + 1}.00", tags + text) for k, tags, text in glyph_lines())
+    yield "glyphs.ass", in_turn(tags + text for tags, text in glyph_lines())
+    yield "faces.ass", in_turn(face_lines())
+    yield "face.ass", in_turn("AAAA" for _ in face_lines())
     yield "-x.ass", HEAD + x
     yield "two words.ass", HEAD + x
     yield "styles.ass", HEAD.replace("[Events]", "Style: Default,dot,4\n" * 10_000 + "[Events]")
@@ -96,11 +111,18 @@ def fonts():
     yield "glyphs.bdf", FONT.format(glyphs=x * 131_073)
 
 
+def faces():
+    """A family of four faces, in one file and each in its own, and a face of another family."""
+    held = [face.file() for face in face_rows.FACES[:5]]
+    yield "family.ttc", hand_font.collection(*held[:4])
+    yield from zip(["regular.ttf", "bold.ttf", "italic.ttf", "bold_italic.ttf", "other.ttf"], held, strict=True)
+
+
 def make(room, examples):
     """Puts the files and those of examples/ into a folder."""
     for name in os.listdir(examples):
         shutil.copy(f"{examples}/{name}", room)
-    for name, text in [*scripts(), *fonts(), *hand_font.fonts()]:
+    for name, text in [*scripts(), *fonts(), *hand_font.fonts(), *faces()]:
         with open(f"{room}/{name}", "wb") as it:
             it.write(text if isinstance(text, bytes) else text.encode())
     os.mkdir(f"{room}/folder")

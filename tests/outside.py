@@ -194,12 +194,16 @@ def built_with(score, given, prefix):
 
 
 def letters(score, given):
-    """Makes the font of smooth letters again."""
+    """Makes the font of smooth letters again, and the script that holds it."""
     examples = f"{given.top}/examples"
     done = ran(["tools/make_ttf", f"{examples}/letters.txt", f"{given.room}/again.ttf"], given.top)
     score.check(done.returncode == 0, f"make_ttf: {done.stderr}")
     same = done.returncode == 0 and filecmp.cmp(f"{given.room}/again.ttf", f"{examples}/letters.ttf", shallow=False)
     score.check(same, "examples/letters.txt makes another font than examples/letters.ttf")
+    again = shutil.copy(f"{examples}/attached.ass", f"{given.room}/attached.ass")
+    done = ran(["tools/attach_fonts", again, f"{examples}/letters.ttf"], given.top)
+    score.check(done.returncode == 0, f"attach_fonts: {done.stderr}")
+    score.check(filecmp.cmp(again, f"{examples}/attached.ass", shallow=False), "examples/attached.ass holds another font than examples/letters.ttf")
 
 
 def docs(score, given):

@@ -15,7 +15,7 @@ Its parts, which all are tried where none is named:
   library    the library from C (c/test.sh)
   players    libass's calls over it (c/libass/test.sh), where libass's header and make are
   install    installing into a folder, and removing
-  letters    that examples/letters.txt makes examples/letters.ttf
+  letters    that examples/letters.txt makes examples/letters.ttf, which examples/attached.ass holds
   docs       the documents (tools/check_docs.py)
 
 Each failure is told in a line or more, each part in one. The last line is 'N passed, M failed'. --write puts what the
@@ -38,7 +38,7 @@ import plays  # noqa: E402
 import stored  # noqa: E402
 import views  # noqa: E402
 
-RUNS = ["words", "reports", "pictures", "truetype", "writes"]
+RUNS = ["words", "reports", "pictures", "truetype", "faces", "writes"]
 
 
 class Score:

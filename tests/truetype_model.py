@@ -18,9 +18,9 @@ def near(value):
 
 
 class Font:
-    def __init__(self, held):
+    def __init__(self, held, face=0):
         self.held = held
-        self.face = self.u32(12) if held[:4] == b"ttcf" else 0
+        self.face = self.u32(12 + 4 * face) if held[:4] == b"ttcf" else 0
         self.tables = {}
         for e in range(self.face + 12, self.face + 12 + 16 * self.u16(self.face + 4), 16):
             place, size = self.u32(e + 8), self.u32(e + 12)
@@ -33,6 +33,8 @@ class Font:
         self.underline = self.bar("post", 12, 8, 10, -self.units // 10)
         self.strikeout = self.bar("OS/2", 78, 28, 26, self.units // 4)
         self.bold_step = max(1, self.units // 40)
+        self.weight, self.slanted = self.style(head)
+        self.families, self.full_names = self.names()
         self.codes, self.is_symbols = self.mapped()
 
     def u16(self, at):
@@ -64,6 +66,31 @@ class Font:
             return -(self.s16(place + middle) + self.s16(place + size) // 2), self.s16(place + size)
         size = self.units // 20
         return (-(other + size // 2), size) if size > 0 else None
+
+    def style(self, head):
+        """The weight, and whether the letters slant."""
+        bits, os2 = self.u16(head + 44), self.table("OS/2", 78)
+        weight = 700 if bits & 1 else 400
+        if os2 is None:
+            return weight, bits & 2 != 0
+        given = self.u16(os2 + 4)
+        return given if 1 <= given <= 1000 else weight, self.u16(os2 + 62) & 1 != 0
+
+    def names(self):
+        """Families and full names: those of Windows, at most 64 of each, or else one family of the others."""
+        place = self.table("name", 6)
+        if place is None:
+            return [], []
+        end, found = place + self.tables["name"][1], {}
+        for at in range(place + 6, place + 6 + 12 * self.u16(place + 2), 12):
+            if at + 12 <= end:
+                platform, encoding, _, kind, size, text = struct.unpack_from(">6H", self.held, at)
+                text += place + self.u16(place + 4)
+                whose = "windows" if platform == 3 else "other" if platform == 0 or (platform, encoding) == (1, 0) else None
+                if text + size <= end:
+                    found.setdefault((whose, kind), []).append(spelled(self.held[text : text + size], platform == 1))
+        families = found.get(("windows", 1), [])[:64] or found.get(("other", 1), [])[:1]
+        return families, found.get(("windows", 4), [])[:64]
 
     def mapped(self):
         """The glyphs of all codes that have one."""
@@ -164,6 +191,34 @@ class Font:
                 found.append([(near(x // 16384 + dx), near(y // 16384 + dy), on) for x, y, on in sums])
             shift = own if flags & 512 else shift
         return found, shift
+
+
+def spelled(held, is_roman):
+    """A name; half a pair is U+FFFD, an odd last byte isn't read."""
+    if is_roman:
+        return held.decode("mac_roman")
+    units, found = struct.unpack(f">{len(held) // 2}H", held[: len(held) // 2 * 2]), []
+    while len(units) > 0:
+        size = 2 if len(units) > 1 and units[0] >> 10 == 0x36 and units[1] >> 10 == 0x37 else 1
+        found.append(struct.pack(f">{size}H", *units[:size]).decode("utf-16-be", "replace"))
+        units = units[size:]
+    return "".join(found)
+
+
+def same_name(a, b):
+    """Whether names are one without regard to ASCII case."""
+    return a.encode().lower() == b.encode().lower()
+
+
+def chosen(fonts, name, bold, italic):
+    """The place of the font that a name finds."""
+    asked, far = name.removeprefix("@"), {}
+    for place, font in enumerate(fonts):
+        if any(same_name(it, asked) for it in font.families):
+            far[place] = abs(font.weight - (700 if bold else 400)) + abs((110 if font.slanted else 0) - (100 if italic else 0))
+        elif any(same_name(it, asked) for it in font.full_names):
+            far[place] = 0
+    return min(far, key=far.get, default=0)
 
 
 def simple(held, count, room):

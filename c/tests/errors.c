@@ -79,21 +79,96 @@ static void opening(void) {
     vimalorua_close(NULL);
 }
 
+/* Puts the font behind a script as one that it holds, in lines of 80 characters, and tells how long it is then. */
+static size_t with_held_font(char *text) {
+    size_t at = strlen(strcat(text, "[Fonts]\nfontname: dot.bdf"));
+    for (size_t i = 0; i < sizeof font - 1; i += 3) {
+        uint32_t three = 0;
+        for (size_t k = i; k < i + 3; k++)
+            three = three << 8 | (k < sizeof font - 1 ? (uint8_t)font[k] : '\n');
+        if (i % 60 == 0)
+            text[at++] = '\n';
+        for (int shift = 18; shift >= 0; shift -= 6)
+            text[at++] = (char)(33 + (three >> shift & 63));
+    }
+    text[at++] = '\n';
+    text[at] = 0;
+    return at;
+}
+
+/* Adds the fonts that a text holds, and wants a status, a place and a count. */
+static void holding(vimalorua *handle, const char *text, int32_t status, size_t place, size_t count) {
+    size_t is_place = 77, is_count = 77;
+    WANT(vimalorua_add_script_fonts(handle, (const uint8_t *)text, strlen(text), &is_place, &is_count), status);
+    WANT(is_place, place);
+    WANT(is_count, count);
+}
+
+static void held_fonts(void) {
+    vimalorua *handle = opened();
+    size_t place = 77, count = 77;
+    uint8_t *large = zeros(67108865);
+    char text[2048] = "";
+    WANT(vimalorua_add_script_fonts(handle, large, 67108865, &place, &count), VIMALORUA_BAD_CALL);
+    WANT(place, 0);
+    WANT(count, 0);
+    free(large);
+    WANT(vimalorua_add_script_fonts(handle, NULL, 0, &place, &count), VIMALORUA_DONE);
+    holding(handle, script, VIMALORUA_DONE, 0, 0);
+    holding(handle, "[Fonts]\nfontname: a\nab cd\n", VIMALORUA_BAD_FONT_DATA, 3, 0);
+    holding(handle, "[Fonts]\nfontname: a\n!!!!!\n", VIMALORUA_BAD_FONT_DATA, 2, 0);
+    with_held_font(text);
+    holding(handle, text, VIMALORUA_DONE, 0, 1);
+    with_held_font(text);
+    holding(handle, text, VIMALORUA_DONE, 1, 2);
+    holding(handle, strcat(text, "fontname: a\n!!!!\n"), VIMALORUA_BAD_FONT, 2, 0);
+    for (size_t i = 3; i < 64; i++)
+        WANT(vimalorua_add_font(handle, BYTES(font), &place), VIMALORUA_DONE);
+    holding(handle, script, VIMALORUA_DONE, 64, 0);
+    text[0] = 0;
+    with_held_font(text);
+    holding(handle, text, VIMALORUA_MANY_FONTS, 64, 0);
+    vimalorua_close(handle);
+}
+
+/* The name of the font, in just enough room, in too little, and in more. */
+static void names(vimalorua *handle) {
+    uint8_t out[8] = "aaaaaaaa";
+    size_t len = 77;
+    WANT(vimalorua_font_names(handle, 64, out, 8, &len), VIMALORUA_BAD_CALL);
+    WANT(len, 0);
+    WANT(vimalorua_font_names(handle, 0, NULL, 0, &len), VIMALORUA_DONE);
+    WANT(len, 4);
+    WANT(vimalorua_font_names(handle, 63, out, 3, &len), VIMALORUA_DONE);
+    WANT(len, 4);
+    WANT(memcmp(out, "aaaaaaaa", 8), 0);
+    WANT(vimalorua_font_names(handle, 63, out, 4, &len), VIMALORUA_DONE);
+    WANT(memcmp(out, "dot\0aaaa", 8), 0);
+    WANT(vimalorua_font_names(handle, 1, out, 8, &len), VIMALORUA_DONE);
+    WANT(len, 4);
+    WANT(memcmp(out, "dot\0aaaa", 8), 0);
+}
+
 static void adding_fonts(void) {
     vimalorua *handle = opened();
-    size_t place = 77;
+    size_t place = 77, count = 77;
     uint8_t *large = zeros(67108865);
     WANT(vimalorua_add_font(handle, BYTES("STARTFONT 2.1\nFONT x\nBITMAP\n"), &place), VIMALORUA_BAD_FONT);
     WANT(place, 3);
+    WANT(vimalorua_add_fonts(handle, BYTES("STARTFONT 2.1\nFONT x\nBITMAP\n"), &place, &count), VIMALORUA_BAD_FONT);
+    WANT(place, 3);
+    WANT(count, 0);
     WANT(vimalorua_add_font(handle, NULL, 0, &place), VIMALORUA_BAD_FONT);
     WANT(place, 1);
     WANT(vimalorua_add_font(handle, large, 67108865, &place), VIMALORUA_BAD_CALL);
     WANT(place, 0);
     free(large);
     for (size_t i = 0; i < 64; i++) {
-        WANT(vimalorua_add_font(handle, BYTES(font), &place), VIMALORUA_DONE);
+        WANT(vimalorua_add_fonts(handle, BYTES(font), &place, &count), VIMALORUA_DONE);
         WANT(place, i);
+        WANT(count, 1);
     }
+    names(handle);
     WANT(vimalorua_add_font(handle, BYTES(font), &place), VIMALORUA_MANY_FONTS);
     WANT(place, 64);
     WANT(vimalorua_set_budget(handle, (UINT64_C(1) << 40) + 1), VIMALORUA_BAD_CALL);
@@ -291,9 +366,9 @@ static void listing(void) {
 /* Each status has a text of its own, and no other number has one of these. */
 static void texts(void) {
     const char *other = vimalorua_status_text(-1);
-    WANT(strcmp(vimalorua_status_text(VIMALORUA_CLOSED + 1), other), 0);
+    WANT(strcmp(vimalorua_status_text(VIMALORUA_BAD_FONT_DATA + 1), other), 0);
     WANT(strcmp(vimalorua_status_text(VIMALORUA_OUT_OF_MEMORY), "out of memory"), 0);
-    for (int32_t i = VIMALORUA_DONE; i <= VIMALORUA_CLOSED; i++) {
+    for (int32_t i = VIMALORUA_DONE; i <= VIMALORUA_BAD_FONT_DATA; i++) {
         WANT(strcmp(vimalorua_status_text(i), other) != 0, 1);
         for (int32_t k = VIMALORUA_DONE; k < i; k++)
             WANT(strcmp(vimalorua_status_text(i), vimalorua_status_text(k)) != 0, 1);
@@ -393,9 +468,17 @@ static int with_refusal(long n, const uint8_t *wanted) {
     vimalorua_image numbers[64];
     uint8_t masks[64 * COUNT] = {0};
     vimalorua_view view = {.size = sizeof view, .w = W, .h = H};
+    char held[1024] = "";
+    size_t held_len = with_held_font(held);
     allowed = n;
     AGAIN(vimalorua_open(BYTES(script), 1 << 20, &handle, &place), handle == NULL && place == 0);
     AGAIN(vimalorua_add_font(handle, BYTES(font), &place), place == 0);
+    AGAIN(vimalorua_add_script_fonts(handle, (uint8_t *)held, held_len, &place, &count), place == 0 && count == 0);
+    WANT(place, 1);
+    WANT(count, 1);
+    AGAIN(vimalorua_font_names(handle, 0, out, COUNT, &count), count == 0 && memcmp(out, untouched, COUNT) == 0);
+    WANT(count, 4);
+    memset(out, 0, COUNT);
     AGAIN(vimalorua_set_budget(handle, 1 << 16), 1);
     AGAIN(vimalorua_feed_lines(handle, &place), place == 0);
     WANT(place, 1);
@@ -439,6 +522,7 @@ int main(void) {
     opening();
     texts();
     adding_fonts();
+    held_fonts();
     feeding();
     drawing();
     views();

@@ -11,3 +11,7 @@ pub mod PlaceLemmas
 pub mod ReadLemmas
 pub mod States
 pub mod Walk
+pub mod SetLemmas
+pub mod SetLaws
+mod NearestFonts
+mod OutlineLists

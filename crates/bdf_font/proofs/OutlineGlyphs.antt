@@ -1,12 +1,12 @@
 -- The glyphs of a TrueType font in its list: what stands at a place, where a character's stands, and in which ranges they are.
-use Rattle.std.proofs.Common.{◌≡◌, ℕ, ◌+◌, ◌-◌, ◌<◌, List, [], ◌∷◌, length, cond, Option, Some, None, refl, ap, ap₂, ◌∙◌, ℤ, pos, arith, map}
+use Rattle.std.proofs.Common.{◌≡◌, ℕ, ◌+◌, ◌-◌, ◌<◌, List, [], ◌∷◌, length, cond, Option, Some, None, refl, ap, ap₂, ◌∙◌, ℤ, pos, arith, map, All}
 use Rattle.std.specs.Prelude.{slice_get, IfSome, option_map}
 use Rattle.std.specs.Option.{option_or}
 use Rattle.std.specs.Ordering.{int_eq}
 use Rattle.std.proofs.lemmas.Int.{ints}
 use Rattle.std.proofs.lemmas.List.{length-map}
 use Rattle.std.proofs.lemmas.Option.{slice_get-map, slice_get-get_or}
-use Rattle.std.proofs.lemmas.List.Elements.{All-map}
+use Rattle.std.proofs.lemmas.List.Elements.{All-cons, All-head, All-map, All-nil, All-tail}
 use Rattle.sfnt_font.specs.declared.font.SfntFont.{SfntFont}
 use Rattle.sfnt_font.specs.declared.numbers.Bar.{Bar}
 use Rattle.sfnt_font.specs.Codes.{font_codes, code_of_place, code_place_from, glyph_of_code, missing_code}
@@ -16,7 +16,7 @@ use Rattle.sfnt_font.specs.Ranges.{IsSfntFont}
 use Rattle.sfnt_font.proofs.CodeLemmas.{code_place, missing_place, font_codes_most}
 use Rattle.sfnt_glyphs.proofs.ContourBounds.{contours_within}
 use Rattle.sfnt_glyphs.proofs.AdvanceLemmas.{advance_most}
-use Rattle.bdf_font.specs.Fonts.{place_from, glyph_of}
+use Rattle.bdf_font.specs.Fonts.{place_from, place_of, glyph_of}
 use Rattle.bdf_font.specs.Outlines.{outline_glyph, outline_glyphs, outline_font}
 use Rattle.bdf_font.specs.Ranges.{IsBar, IsFont, IsGlyph}
 
@@ -32,9 +32,12 @@ from-codes : (font : SfntFont) (n : ℕ) (code : ℤ) (codes : List ℤ) → pla
 from-codes font n code [] = refl
 from-codes font n code (c ∷ codes) = ap (cond (int_eq c code) (Some n)) (from-codes font (n + 1) code codes)
 
+pub outline_place_of : (font : SfntFont) (c : ℕ) → IsSfntFont font → place_of (outline_glyphs font) (pos c) ≡ place_of_code font c
+outline_place_of font c is = from-codes font 0 (pos c) (font_codes font) ∙ code_place font c is
+
 pub outline_found : (font : SfntFont) (c : ℕ) → IsSfntFont font → glyph_of (outline_font font) c ≡ option_or (place_of_code font c) (Some (length (font_codes font) - 1))
 outline_found font c is =
-    ap₂ option_or (from-codes font 0 (pos c) (font_codes font) ∙ code_place font c is)
+    ap₂ option_or (outline_place_of font c is)
     (from-codes font 0 missing_code (font_codes font) ∙ missing_place font is)
 
 -- ---- ranges
@@ -61,3 +64,8 @@ outlines_sound font is = record {
   strikeout = bar_sound font.numbers.strikeout is.numbers.strikeout;
   bold_step = (omega (arith, ints), omega (arith, ints, is.numbers.bold_most));
 }
+
+pub all_outlines_sound : (fonts : List SfntFont) → All IsSfntFont fonts → All IsFont (map outline_font fonts)
+all_outlines_sound [] h = All-nil IsFont
+all_outlines_sound (font ∷ fonts) h =
+    All-cons IsFont (outline_font font) (map outline_font fonts) (outlines_sound font (All-head IsSfntFont font fonts h)) (all_outlines_sound fonts (All-tail IsSfntFont font fonts h))

@@ -138,7 +138,7 @@ from_within n code (g ∷ glyphs) = either (int_eq g.code code) (place_from (n +
     either false (Some k) inside = omega arith
     either false None inside = tt
 
-first_within : (code : ℤ) (glyphs : List FontGlyph) → IfSome (place_from 0 code glyphs) (λ k. k < length glyphs)
+pub first_within : (code : ℤ) (glyphs : List FontGlyph) → IfSome (place_from 0 code glyphs) (λ k. k < length glyphs)
 first_within code glyphs =
     let P : ℕ → Type 0 = λ m. IfSome (place_from 0 code glyphs) (λ k. k < m) in
     subst P (zero-add (length glyphs)) (from_within 0 code glyphs)

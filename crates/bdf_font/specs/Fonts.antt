@@ -1,15 +1,20 @@
 -- Public: fonts, and what is found in them.
-use Rattle.std.specs.Prelude.{ℕ, ◌+◌, if◌then◌else◌, List, [], ◌∷◌, Option, Some, None, option_and_then, ℤ, pos, negsuc, neg_ℤ, ◌-ℤ◌}
+use Rattle.std.specs.Prelude.{ℕ, ◌+◌, Bool, false, if◌then◌else◌, List, [], ◌∷◌, Option, Some, None, option_and_then, ℤ, pos, negsuc, neg_ℤ, ◌-ℤ◌}
 use Rattle.std.specs.Option.{option_or}
 use Rattle.std.specs.Ordering.{int_eq}
 use Rattle.ass_num.specs.Floor.{floor_div}
-use Rattle.ass_num.specs.Names.{same_name}
 use Rattle.sfnt_font.specs.declared.numbers.Bar.{Bar}
 use Rattle.bdf_font.specs.declared.glyphs.FontGlyph.{FontGlyph}
 
 -- A font as contracts see it. Its bars and the step of its bold glyphs are in the units of its glyphs: pixels of bitmaps, or units of contours.
+-- It is found by the names of its families and by its full names, and told by `name`. Its weight is 400 for regular letters and 700 for bold ones.
 pub record FontValue : Type 0 where
   pub name : List ℕ
+  pub families : List (List ℕ)
+  pub full_names : List (List ℕ)
+  pub weight : ℕ
+  pub slanted : Bool
+  pub is_outline : Bool
   pub ascent : ℤ
   pub descent : ℤ
   pub default_char : Option ℤ
@@ -26,10 +31,22 @@ strikeout_top ascent = neg_ℤ (floor_div ascent (pos 2)) -ℤ pos 1
 abbrev pub pixel_bar : ℤ → Bar
 pixel_bar top = record { top = top; size = pos 1 }
 
--- A font of bitmaps. Its bars are one pixel high, and its bold glyphs one pixel wider.
+-- the weight of regular letters, and that of bold ones
+abbrev pub regular_weight : ℕ
+regular_weight = 400
+
+abbrev pub bold_weight : ℕ
+bold_weight = 700
+
+-- A font of bitmaps. Its family is its name, and its letters are regular and upright. Its bars are one pixel high, and its bold glyphs one pixel wider.
 abbrev pub bitmap_font : List ℕ → ℤ → ℤ → Option ℤ → List FontGlyph → FontValue
 bitmap_font name ascent descent default_char glyphs = record {
   name = name;
+  families = name ∷ [];
+  full_names = [];
+  weight = regular_weight;
+  slanted = false;
+  is_outline = false;
   ascent = ascent;
   descent = descent;
   default_char = default_char;
@@ -55,12 +72,3 @@ place_of_default default_char glyphs = option_and_then (place_of glyphs) default
 -- the glyph of a character: the first with its code, or else the first with the default code
 abbrev pub glyph_of : FontValue → ℕ → Option ℕ
 glyph_of font c = option_or (place_of font.glyphs (pos c)) (place_of_default font.default_char font.glyphs)
-
--- the place of the first font of this name, where the first of the fonts has the place n; 0 where there is none
-abbrev pub named_from : ℕ → List ℕ → List FontValue → ℕ
-named_from n name [] = 0
-named_from n name (font ∷ fonts) = if same_name font.name name then n else named_from (n + 1) name fonts
-
--- the place of the first font of this name, or else 0
-abbrev pub font_named : List ℕ → List FontValue → ℕ
-font_named name fonts = named_from 0 name fonts

@@ -1,5 +1,6 @@
 -- Public: what holds of every text, in the words of its lines, and of every file.
-use Rattle.std.specs.Prelude.{◌≡◌, ℕ, ◌+◌, Bool, true, false, if◌then◌else◌, List, [], ◌∷◌, ◌++◌, length, All, Result, Ok, Err, ℤ, pos, ◌+ℤ◌}
+use Rattle.std.specs.Prelude.{◌≡◌, ℕ, ◌+◌, ◌<◌, ◌≤◌, Bool, true, false, if◌then◌else◌, List, [], ◌∷◌, ◌++◌, length, slice_index_or, All, Some, IsSome, Result, Ok, Err, ℤ, pos, ◌+ℤ◌}
+use Rattle.std.specs.List.{Any}
 use Rattle.ass_num.specs.declared.geometry.Point.{Point}
 use Rattle.ass_num.specs.declared.geometry.Matrix.{Matrix}
 use Rattle.outline_points.specs.Glyphs.{Bitmap, bitmap_quads, quad}
@@ -17,9 +18,11 @@ use Rattle.bdf_font.specs.declared.keyword.HeaderKeyword.TheVariants as in_heade
 use Rattle.bdf_font.specs.declared.keyword.PropertyKeyword.{PropertyKeyword}
 use Rattle.bdf_font.specs.Words.{after_word}
 use Rattle.bdf_font.specs.Files.{IsFontFileAnswer}
-use Rattle.bdf_font.specs.Fonts.{FontValue, strikeout_top}
+use Rattle.bdf_font.specs.Fonts.{FontValue, glyph_of, strikeout_top}
 use Rattle.bdf_font.specs.GlyphRings.{bitmap_of, rings_of_glyph}
 use Rattle.bdf_font.specs.Grammar.{IsFontAnswer, says, is_read, open_after, glyph_in, font_said}
+use Rattle.bdf_font.specs.Limits.{max_fonts}
+use Rattle.bdf_font.specs.Sets.{AreBitmapFonts, IsBitmapFont, font_chosen, font_named, name_distance, no_font, glyph_place_in, set_glyph_of}
 
 -- Each list of lines has exactly one answer.
 abbrev pub OneAnswer : Type 0
@@ -27,7 +30,12 @@ OneAnswer = (lines : List (List ℕ)) → (answer : Result FontValue FontRefusal
 
 -- So has each file.
 abbrev pub OneFileAnswer : Type 0
-OneFileAnswer = (bytes : List ℕ) → (answer : Result FontValue FontFileRefusal) × IsFontFileAnswer bytes answer × ((other : Result FontValue FontFileRefusal) → IsFontFileAnswer bytes other → other ≡ answer)
+OneFileAnswer = (bytes : List ℕ) → (answer : Result (List FontValue) FontFileRefusal) × IsFontFileAnswer bytes answer
+    × ((other : Result (List FontValue) FontFileRefusal) → IsFontFileAnswer bytes other → other ≡ answer)
+
+-- A file that isn't refused has from 1 to 64 fonts.
+abbrev pub FilesHaveFonts : Type 0
+FilesHaveFonts = (bytes : List ℕ) (fonts : List FontValue) → IsFontFileAnswer bytes (Ok fonts) → (0 < length fonts) × (length fonts ≤ max_fonts)
 
 -- What follows the end of a font changes nothing.
 abbrev pub EndsTheFont : Type 0
@@ -80,3 +88,31 @@ pub record HasBitmapRings (m : Matrix) (bold underline strikeout : Bool) (font :
 -- All glyphs of a font that lines spell are so.
 abbrev pub BitmapRingsStay : Type 0
 BitmapRingsStay = (lines : List (List ℕ)) (font : FontValue) → IsFontAnswer lines (Ok font) → (m : Matrix) (bold underline strikeout : Bool) → All (HasBitmapRings m bold underline strikeout font) font.glyphs
+
+-- ---- sets of fonts
+
+-- Each font that lines spell is found by its name alone.
+abbrev pub LinesSpellBitmapFonts : Type 0
+LinesSpellBitmapFonts = (lines : List (List ℕ)) (font : FontValue) → IsFontAnswer lines (Ok font) → IsBitmapFont font
+
+-- Among bitmaps a name finds the first font of this name, whether bold or italic.
+abbrev pub BitmapsAreFoundByName : Type 0
+BitmapsAreFoundByName = (fonts : List FontValue) → AreBitmapFonts fonts → (name : List ℕ) (bold italic : Bool) → font_chosen name bold italic fonts ≡ font_named name fonts
+
+-- Among bitmaps the glyph of a character is that of the font itself.
+abbrev pub BitmapsKeepTheirGlyphs : Type 0
+BitmapsKeepTheirGlyphs = (fonts : List FontValue) → AreBitmapFonts fonts → (number c : ℕ) →
+    set_glyph_of fonts number c ≡ glyph_place_in number (glyph_of (slice_index_or fonts number no_font) c)
+
+-- The font at a place answers to the name, none that does is nearer to what is asked for, and none before it is as near.
+pub record IsNearest (name : List ℕ) (bold italic : Bool) (fonts : List FontValue) (place : ℕ) : Type 0 where
+  pub within : place < length fonts
+  pub distance : ℕ
+  pub found : name_distance name bold italic (slice_index_or fonts place no_font) ≡ Some distance
+  pub nearest : (other far : ℕ) → other < length fonts → name_distance name bold italic (slice_index_or fonts other no_font) ≡ Some far → distance ≤ far
+  pub first : (other far : ℕ) → other < place → name_distance name bold italic (slice_index_or fonts other no_font) ≡ Some far → distance < far
+
+-- A name to which a font of the set answers finds the nearest.
+abbrev pub NearestIsFound : Type 0
+NearestIsFound = (fonts : List FontValue) (name : List ℕ) (bold italic : Bool) →
+    Any (λ font. IsSome (name_distance name bold italic font)) fonts → IsNearest name bold italic fonts (font_chosen name bold italic fonts)

@@ -5,6 +5,7 @@ pub mod Keywords
 pub mod Pixels
 pub mod Fonts
 pub mod Outlines
+pub mod Sets
 pub mod FontData
 pub mod GlyphRings
 pub mod Places

@@ -1,18 +1,19 @@
 -- Public: a TrueType font as a list of glyphs: one for each code of its map in ascending order, and behind them that of missing characters.
-use Rattle.std.specs.Prelude.{List, map, Some, ℤ, pos}
+use Rattle.std.specs.Prelude.{true, ◌==◌, List, map, Some, ℤ, pos}
 use Rattle.sfnt_font.specs.declared.font.SfntFont.{SfntFont}
 use Rattle.sfnt_font.specs.Codes.{font_codes, glyph_of_code, missing_code}
+use Rattle.sfnt_font.specs.Names.{first_name}
 use Rattle.sfnt_glyphs.specs.Glyphs.{contours_of, is_blank_glyph}
 use Rattle.sfnt_glyphs.specs.Metrics.{advance_of}
 use Rattle.bdf_font.specs.declared.glyphs.FontGlyph.{FontGlyph}
 use Rattle.bdf_font.specs.declared.glyphs.GlyphShape.TheVariants as shape
 use Rattle.bdf_font.specs.Fonts.{FontValue}
 
--- the glyph of a code
+-- the glyph of a code; glyph 0 is drawn for missing characters
 abbrev pub outline_glyph : SfntFont → ℤ → FontGlyph
 outline_glyph font code =
     let g = glyph_of_code font code in
-    record { code = code; advance = pos (advance_of font g); blank = is_blank_glyph font g; shape = shape.Contours (contours_of font g) }
+    record { code = code; advance = pos (advance_of font g); blank = is_blank_glyph font g; missing = g == 0; shape = shape.Contours (contours_of font g) }
 
 abbrev pub outline_glyphs : SfntFont → List FontGlyph
 outline_glyphs font = map (outline_glyph font) (font_codes font)
@@ -20,7 +21,12 @@ outline_glyphs font = map (outline_glyph font) (font_codes font)
 -- the font that a TrueType font is
 abbrev pub outline_font : SfntFont → FontValue
 outline_font font = record {
-  name = font.name;
+  name = first_name font.names.families;
+  families = font.names.families;
+  full_names = font.names.full_names;
+  weight = font.numbers.weight;
+  slanted = font.numbers.slanted;
+  is_outline = true;
   ascent = font.numbers.ascent;
   descent = font.numbers.descent;
   default_char = Some missing_code;

@@ -1,5 +1,5 @@
 -- Public: glyphs by their shapes, and which bitmaps have a set pixel.
-use Rattle.std.specs.Prelude.{ℕ, Bool, not, List, [], Option, Some, None, ℤ}
+use Rattle.std.specs.Prelude.{ℕ, Bool, false, not, List, [], Option, Some, None, ℤ}
 use Rattle.std.specs.List.{list_any, range_with_len}
 use Rattle.ass_num.specs.Bitmaps.{pixel_is_set}
 use Rattle.outline_points.specs.declared.glyph_point.GlyphPoint.{GlyphPoint}
@@ -18,7 +18,7 @@ has_pixels pixels = list_any (row_has_pixels pixels) (range_with_len 0 pixels.h)
 
 -- the glyph of a bitmap
 abbrev pub bitmap_glyph : ℤ → ℤ → Pixels → FontGlyph
-bitmap_glyph code advance pixels = record { code = code; advance = advance; blank = not (has_pixels pixels); shape = shape.Pixels pixels }
+bitmap_glyph code advance pixels = record { code = code; advance = advance; blank = not (has_pixels pixels); missing = false; shape = shape.Pixels pixels }
 
 -- the bitmap of a shape, and the contours of one
 abbrev pub pixels_in : GlyphShape → Option Pixels

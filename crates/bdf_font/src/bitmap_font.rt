@@ -1,8 +1,8 @@
 //! Fonts of bitmaps.
 
-ghost use Rattle.std.specs.Prelude.{◌≡◌, ◌<◌, ◌≤◌, length, IfOk, slice_get, Some};
+ghost use Rattle.std.specs.Prelude.{◌≡◌, ◌<◌, ◌≤◌, length, IfOk, slice_get, pos, Some};
 ghost use Rattle.std.specs.Option.{option_or};
-ghost use Rattle.bdf_font.specs.Fonts.{bitmap_font, glyph_of};
+ghost use Rattle.bdf_font.specs.Fonts.{bitmap_font, glyph_of, place_of};
 ghost use Rattle.bdf_font.specs.Limits.{max_glyphs};
 ghost use Rattle.bdf_font.specs.Places.{IsInCodeOrder, IsIndex, entries_from, first_at};
 
@@ -178,6 +178,13 @@ impl BitmapFont {
             top: -self.ascent.div_euclid(2) - 1,
             size: 1,
         }
+    }
+
+    /// The place of the first glyph with a character's code.
+    pub fn code_place(&self, c: char) -> Option<u32>
+        ensures { result ≡ place_of self.now.glyphs (pos c) }
+    {
+        found_place(self.places.as_slice(), i64::from(u32::from(c)))
     }
 
     /// The place of a character's glyph.

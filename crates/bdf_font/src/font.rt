@@ -1,13 +1,14 @@
 //! Fonts, and what is found in them.
 
-ghost use Rattle.std.specs.Prelude.{◌≡◌, ◌<◌, ◌≤◌, [], length, pos, true, IfOk, IfSome, option_and_then, slice_get};
+ghost use Rattle.std.specs.Prelude.{◌≡◌, ◌<◌, ◌≤◌, [], length, pos, true, IfOk, IfSome, option_and_then, slice_get, slice_index_or};
 ghost use Rattle.std.specs.Option.{option_map, option_map_or};
 ghost use Rattle.ass_num.specs.Names.{same_name};
 ghost use Rattle.bdf_font.specs.FontData.{font_value, IsFontData};
-ghost use Rattle.bdf_font.specs.Fonts.{bitmap_font, glyph_of, font_named};
-ghost use Rattle.bdf_font.specs.Limits.{max_glyphs, max_fonts};
+ghost use Rattle.bdf_font.specs.Fonts.{bitmap_font, glyph_of, place_of};
+ghost use Rattle.bdf_font.specs.Limits.{max_glyphs};
 ghost use Rattle.bdf_font.specs.Outlines.{outline_font};
 ghost use Rattle.bdf_font.specs.Pixels.{pixels_in, contours_in};
+ghost use Rattle.bdf_font.specs.Sets.{has_full_name, is_among, is_missing_at, is_of_family, without_at};
 ghost use Rattle.bdf_font.specs.declared.glyphs.FontGlyph.{FontGlyph};
 ghost use Rattle.sfnt_font.specs.Ranges.{IsSfntFont};
 
@@ -15,7 +16,8 @@ use crate::bitmap_font::BitmapFont;
 use crate::font_data::FontData;
 use crate::glyphs::{FontGlyph, Pixels};
 use crate::outlines::{
-    MISSING_CODE, outline_advance, outline_contours, outline_is_blank, outline_place,
+    MISSING_CODE, outline_advance, outline_contours, outline_is_blank, outline_is_missing,
+    outline_place,
 };
 use ass_num::{FlatLists, Items, Mem};
 use outline_points::GlyphPoint;
@@ -23,6 +25,9 @@ use sfnt_font::{Bar, SfntFont};
 use std::alloc::Global;
 use std::marker::Model;
 use std::sync::Arc;
+
+/// The weight of regular letters.
+pub const REGULAR: u16 = 400;
 
 /// A font. It is shared: another owner costs no more than a count. Glyphs of a TrueType font are read when they are
 /// asked for; contracts see the list of all.
@@ -89,13 +94,109 @@ impl Font {
         &self.data
     }
 
-    /// The font's name.
+    /// The name that the font is told by: that of its first family.
     pub fn name(&self) -> &[u8]
         ensures { result.now ≡ self.now.name }
     {
         match self.data() {
             FontData::Bitmaps(font) => font.name(),
-            FontData::Outlines(font) => font.name(),
+            FontData::Outlines(font) => font.names().first(),
+        }
+    }
+
+    /// How many families the font is of.
+    pub fn family_count(&self) -> usize
+        ensures { result ≡ length self.now.families }
+    {
+        match self.data() {
+            FontData::Bitmaps(_) => 1,
+            FontData::Outlines(font) => font.names().families.len(),
+        }
+    }
+
+    /// The name of a family that the font is of.
+    pub fn family(&self, k: usize) -> &[u8]
+        requires { k < length self.now.families }
+        ensures { result.now ≡ slice_index_or self.now.families k [] }
+    {
+        match self.data() {
+            FontData::Bitmaps(font) => font.name(),
+            FontData::Outlines(font) => font.names().families.get(k),
+        }
+    }
+
+    /// How many full names the font has.
+    pub fn full_name_count(&self) -> usize
+        ensures { result ≡ length self.now.full_names }
+    {
+        match self.data() {
+            FontData::Bitmaps(_) => 0,
+            FontData::Outlines(font) => font.names().full_names.len(),
+        }
+    }
+
+    /// A full name of the font.
+    pub fn full_name(&self, k: usize) -> &[u8]
+        requires { k < length self.now.full_names }
+        ensures { result.now ≡ slice_index_or self.now.full_names k [] }
+    {
+        match self.data() {
+            FontData::Bitmaps(_) => &[],
+            FontData::Outlines(font) => font.names().full_names.get(k),
+        }
+    }
+
+    /// Whether the font is of this family, without regard to ASCII case.
+    pub(crate) fn is_of_family(&self, name: &str) -> bool
+        ensures { result ≡ is_of_family name.now self.now }
+    {
+        match self.data() {
+            FontData::Bitmaps(font) => same_name(font.name(), name.as_bytes()),
+            FontData::Outlines(font) => {
+                is_among(without_at(name.as_bytes()), &font.names().families)
+            }
+        }
+    }
+
+    /// Whether the font has this full name, likewise.
+    pub(crate) fn has_full_name(&self, name: &str) -> bool
+        ensures { result ≡ has_full_name name.now self.now }
+    {
+        match self.data() {
+            FontData::Bitmaps(_) => false,
+            FontData::Outlines(font) => {
+                is_among(without_at(name.as_bytes()), &font.names().full_names)
+            }
+        }
+    }
+
+    /// How bold the letters are: 400 are regular ones, 700 bold ones.
+    pub fn weight(&self) -> u16
+        ensures { result ≡ self.now.weight }
+    {
+        match self.data() {
+            FontData::Bitmaps(_) => REGULAR,
+            FontData::Outlines(font) => font.numbers().weight,
+        }
+    }
+
+    /// Whether the letters slant to the right.
+    pub fn is_slanted(&self) -> bool
+        ensures { result ≡ self.now.slanted }
+    {
+        match self.data() {
+            FontData::Bitmaps(_) => false,
+            FontData::Outlines(font) => font.numbers().slanted,
+        }
+    }
+
+    /// Whether the glyphs are outlines.
+    pub fn is_outline(&self) -> bool
+        ensures { result ≡ self.now.is_outline }
+    {
+        match self.data() {
+            FontData::Bitmaps(_) => false,
+            FontData::Outlines(_) => true,
         }
     }
 
@@ -191,6 +292,17 @@ impl Font {
         }
     }
 
+    /// Whether a glyph is drawn for missing characters.
+    pub(crate) fn is_missing_at(&self, g: u32) -> bool
+        requires { g < length self.now.glyphs }
+        ensures { result ≡ is_missing_at self.now.glyphs g }
+    {
+        match self.data() {
+            FontData::Bitmaps(font) => font.glyph_at(g).missing,
+            FontData::Outlines(font) => outline_is_missing(font, g),
+        }
+    }
+
     /// The bitmap of a glyph that has one.
     pub fn pixels_at(&self, g: u32) -> Option<&Pixels>
         requires { g < length self.now.glyphs }
@@ -213,6 +325,17 @@ impl Font {
         }
     }
 
+    /// The place of the first glyph with a character's code.
+    pub(crate) fn code_place(&self, c: char) -> Option<u32>
+        ensures value { result ≡ place_of self.now.glyphs (pos c) }
+        ensures within { IfSome result (λ place. place < length self.now.glyphs) }
+    {
+        match self.data() {
+            FontData::Bitmaps(font) => font.code_place(c),
+            FontData::Outlines(font) => font.place_of(u32::from(c)),
+        }
+    }
+
     /// The place of a character's glyph.
     fn place_of(&self, c: char) -> Option<u32>
         ensures { result ≡ glyph_of self.now c }
@@ -232,28 +355,32 @@ pub fn glyph(font: &Font, c: char) -> Option<u32>
     font.place_of(c)
 }
 
-/// Fonts, of which there are from 1 to 64.
-#[derive(Debug, Drop)]
-pub struct FontSet {
-    pub fonts: Items<Font>,
+/// Whether two names are one without regard to ASCII case.
+fn same_name(a: &[u8], b: &[u8]) -> bool
+    ensures { result ≡ same_name a.now b.now }
+{
+    a.eq_ignore_ascii_case(b)
 }
 
-fn is_named(font: &Font, name: &str) -> bool
-    ensures { result ≡ same_name font.now.name name.now }
+/// Whether one of these names is this one.
+fn is_among(name: &[u8], names: &FlatLists<u8>) -> bool
+    ensures { result ≡ is_among name.now names.now }
 {
-    font.name().eq_ignore_ascii_case(name.as_bytes())
-}
-
-/// The place of the first font of this name, without regard to ASCII case, or else 0.
-pub fn find_font(set: &FontSet, name: &str) -> u32
-    requires { length set.now.fonts ≤ max_fonts }
-    ensures place { result ≡ font_named name.now set.now.fonts }
-    ensures within { 0 < length set.now.fonts → result < length set.now.fonts }
-{
-    for (place, font) in set.fonts.as_slice().iter().enumerate() {
-        if is_named(font, name) {
-            return place as u32;
+    for k in 0..names.len() {
+        if same_name(names.get(k), name) {
+            return true;
         }
     }
-    0
+    false
+}
+
+/// A name without the `@` of vertical writing before it.
+fn without_at(name: &[u8]) -> &[u8]
+    ensures { result.now ≡ without_at name.now }
+{
+    if name.len() > 0 && name[0] == b'@' {
+        &name[1..]
+    } else {
+        name
+    }
 }

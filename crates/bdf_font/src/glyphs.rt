@@ -10,12 +10,14 @@ use ass_num::{FlatLists, Items, Mem};
 use outline_points::{GlyphPoint, pixel_is_set};
 use std::alloc::Global;
 
-/// A glyph: its code, how far the pen moves, whether nothing of it is seen, and its shape.
+/// A glyph: its code, how far the pen moves, whether nothing of it is seen, whether it is drawn for missing characters,
+/// and its shape.
 #[derive(Clone, Debug, Drop)]
 pub struct FontGlyph {
     pub code: i64,
     pub advance: i32,
     pub blank: bool,
+    pub missing: bool,
     pub shape: GlyphShape,
 }
 
@@ -130,6 +132,7 @@ impl FontGlyph {
             code,
             advance,
             blank,
+            missing: false,
             shape: GlyphShape::Pixels(pixels),
         }
     }

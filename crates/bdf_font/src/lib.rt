@@ -15,11 +15,16 @@ mod numbers;
 mod outlines;
 mod read;
 mod reading;
+mod sets;
 mod words;
 
 pub use cause::{FontCause, FontFileRefusal, FontRefusal};
-pub use file::read_font_file;
-pub use font::{Font, FontSet, find_font, glyph};
+pub use file::read_fonts;
+pub use font::{Font, glyph};
 pub use glyphs::{FontGlyph, GlyphShape, Pixels};
-pub use laws::{bitmap_rings_stay, first_fault, last_line_counts, one_answer};
+pub use laws::{
+    bitmap_rings_stay, bitmaps_stay_found, first_fault, last_line_counts, nearest_is_found,
+    one_answer,
+};
 pub use read::read_font;
+pub use sets::{FontSet, GlyphPlace, find_font, set_glyph};

@@ -5,6 +5,7 @@ ghost use Rattle.std.specs.Option.{option_map_or};
 ghost use Rattle.bdf_font.specs.Fonts.{glyph_of};
 ghost use Rattle.bdf_font.specs.Outlines.{outline_font, outline_glyphs};
 ghost use Rattle.bdf_font.specs.Pixels.{contours_in};
+ghost use Rattle.bdf_font.specs.Sets.{is_missing_at};
 ghost use Rattle.bdf_font.specs.declared.glyphs.FontGlyph.{FontGlyph};
 ghost use Rattle.sfnt_font.specs.Ranges.{IsSfntFont};
 
@@ -33,6 +34,15 @@ pub fn outline_is_blank(font: &SfntFont, place: u32) -> bool
     ensures { result ≡ option_map_or (λ (glyph : FontGlyph). glyph.blank) (slice_get (outline_glyphs font.now) place) true }
 {
     is_blank(font, font.glyph_at(place))
+}
+
+/// Whether the glyph at a place is drawn for missing characters.
+pub fn outline_is_missing(font: &SfntFont, place: u32) -> bool
+    requires font { IsSfntFont font.now }
+    requires place { place < length (outline_glyphs font.now) }
+    ensures { result ≡ is_missing_at (outline_glyphs font.now) place }
+{
+    font.glyph_at(place) == 0
 }
 
 /// The contours of the glyph at a place.

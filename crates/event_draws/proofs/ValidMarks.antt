@@ -6,7 +6,6 @@ use Rattle.std.proofs.lemmas.Int.{ints}
 use Rattle.std.proofs.lemmas.List.{get_or-map, length-map}
 use Rattle.std.proofs.lemmas.List.Elements.{All-weaker}
 use Rattle.ass_num.specs.Floor.{floor_div}
-use Rattle.ass_num.specs.Names.{same_name}
 use Rattle.ass_num.specs.Paths.{IsPath}
 use Rattle.ass_num.specs.declared.geometry.Path.{Path}
 use Rattle.ass_num.specs.declared.geometry.Point.{Point}
@@ -14,8 +13,10 @@ use Rattle.ass_num.specs.declared.geometry.Seg.{Seg}
 use Rattle.frame_view.specs.FrameScales.{magnified}
 use Rattle.frame_view.specs.declared.scales.Scales.{Scales}
 use Rattle.ass_num.proofs.Floor.{held_within}
-use Rattle.bdf_font.specs.Fonts.{FontValue, font_named, glyph_of, named_from}
-use Rattle.bdf_font.proofs.PlaceLemmas.{glyph_within}
+use Rattle.bdf_font.specs.Fonts.{FontValue}
+use Rattle.bdf_font.specs.Sets.{IsGlyphPlaceIn, no_font, set_glyph_of}
+use Rattle.bdf_font.specs.declared.sets.GlyphPlace.{GlyphPlace}
+use Rattle.bdf_font.proofs.SetLemmas.{chosen_within, set_glyph_within}
 use Rattle.mask_keys.specs.Keys.{IsValidOutline}
 use Rattle.mask_keys.specs.declared.outline_key.OutlineKey.{OutlineKey}
 use Rattle.mask_keys.specs.declared.outline_key.OutlineKey.TheVariants.{Glyph}
@@ -27,9 +28,8 @@ use Rattle.override_tags.specs.declared.view.EventView.{EventView}
 use Rattle.override_tags.specs.declared.view.ShownKind.{ShownKind}
 use Rattle.override_tags.specs.declared.view.ShownKind.TheVariants as shown
 use Rattle.override_tags.specs.declared.view.State.{State}
-use Rattle.text_layout.specs.Fonts.{font_numbers}
+use Rattle.text_layout.specs.Fonts.{font_of_state, needs_bold_step}
 use Rattle.text_layout.specs.Kinds.{char_of}
-use Rattle.text_layout.specs.Metrics.{no_font}
 use Rattle.text_layout.specs.Scales.{clip_matrix, drawing_matrix, drawing_scale, em_height, fine_parts, held_scale, level_parts, text_matrix, text_scale, whole_milli, whole_per_cent}
 use Rattle.text_layout.specs.declared.laid.Line.{Line}
 use Rattle.text_layout.specs.declared.laid.Placed.{Placed}
@@ -76,25 +76,6 @@ clip_is_matrix scales level = record {
   uy = drawing_held (pos whole_per_cent) level scales.canvas.y.pixels scales.canvas.y.units;
 }
 
--- ---- fonts
-
-named_below : (b : Bool) (n m most : ℕ) → n < most → m < most → cond b n m < most
-named_below true n m most h k = h
-named_below false n m most h k = k
-
-named_within : (n : ℕ) (name : List ℕ) (fonts : List FontValue) → 0 < n + length fonts → named_from n name fonts < n + length fonts
-named_within n name [] some = some
-named_within n name (font ∷ fonts) some =
-    let rest = named_within (n + 1) name fonts (omega arith) in
-    named_below (same_name font.name name) n (named_from (n + 1) name fonts) (n + length (font ∷ fonts)) (omega arith) (omega (arith, rest))
-
-number_within : (fonts : List FontValue) (names : List (List ℕ)) (k : ℕ) → 0 < length fonts → k < length names
-    → slice_index (font_numbers fonts names) k < length fonts
-number_within fonts names k some listed =
-    let e : slice_index (font_numbers fonts names) k ≡ font_named (get_or names k []) fonts = get_or-map (λ name. font_named name fonts) names k [] 0 listed in
-    let within : font_named (get_or names k []) fonts < length fonts = omega (arith, named_within 0 (get_or names k []) fonts (omega (arith, some))) in
-    subst (λ (n : ℕ). n < length fonts) (sym e) within
-
 -- ---- marks of characters
 
 marked_valid : (glyphs : List ℕ) (b : Bool) (key : OutlineKey) → IsValidOutline glyphs key → IfSome (cond b (Some key) None) (IsValidOutline glyphs)
@@ -102,44 +83,41 @@ marked_valid glyphs true key h = h
 marked_valid glyphs false key h = tt
 
 -- a glyph that is there in a font that is there
-glyph_valid : (stage : Stage) (fonts : List FontValue) (state : State) (number place : ℕ) → number < length fonts
-    → place < length (slice_index_or fonts number no_font).glyphs
-    → IfSome (glyph_outline stage state number (slice_index_or fonts number no_font) place) (IsValidOutline (glyph_counts fonts))
-glyph_valid stage fonts state number place within there =
-    let font = slice_index_or fonts number no_font in
+glyph_valid : (stage : Stage) (fonts : List FontValue) (state : State) (place : GlyphPlace) → IsGlyphPlaceIn fonts place
+    → IfSome (glyph_outline stage fonts state place) (IsValidOutline (glyph_counts fonts))
+glyph_valid stage fonts state place there =
+    let font = slice_index_or fonts place.font no_font in
     let n : length (glyph_counts fonts) ≡ length fonts = length-map fonts (λ (f : FontValue). length f.glyphs) in
-    let e : slice_index (glyph_counts fonts) number ≡ length font.glyphs = get_or-map (λ (f : FontValue). length f.glyphs) fonts number no_font 0 within in
-    marked_valid (glyph_counts fonts) (option_map_or (is_marked state) (slice_get font.glyphs place) false)
-    (Glyph number place (text_matrix stage.scales font state) state.bold state.underline state.strikeout)
+    let e : slice_index (glyph_counts fonts) place.font ≡ length font.glyphs = get_or-map (λ (f : FontValue). length f.glyphs) fonts place.font no_font 0 there.0 in
+    marked_valid (glyph_counts fonts) (option_map_or (is_marked state) (slice_get font.glyphs place.glyph) false)
+    (Glyph place.font place.glyph (text_matrix stage.scales font state) (needs_bold_step font state) state.underline state.strikeout)
     (record {
-      in_fonts = subst (λ (k : ℕ). number < k) (sym n) within;
-      in_font = subst (λ (k : ℕ). place < k) (sym e) there;
+      in_fonts = subst (λ (k : ℕ). place.font < k) (sym n) there.0;
+      in_font = subst (λ (k : ℕ). place.glyph < k) (sym e) there.1;
       matrix = text_is_matrix stage.scales font state;
     })
 
-found_valid : (stage : Stage) (fonts : List FontValue) (state : State) (number : ℕ) (o : Option ℕ) → number < length fonts
-    → IfSome o (λ k. k < length (slice_index_or fonts number no_font).glyphs)
-    → IfSome (option_and_then (glyph_outline stage state number (slice_index_or fonts number no_font)) o) (IsValidOutline (glyph_counts fonts))
-found_valid stage fonts state number None within h = tt
-found_valid stage fonts state number (Some place) within h = glyph_valid stage fonts state number place within h
+found_valid : (stage : Stage) (fonts : List FontValue) (state : State) (o : Option GlyphPlace) → IfSome o (IsGlyphPlaceIn fonts)
+    → IfSome (option_and_then (glyph_outline stage fonts state) o) (IsValidOutline (glyph_counts fonts))
+found_valid stage fonts state None h = tt
+found_valid stage fonts state (Some place) h = glyph_valid stage fonts state place h
 
-outline_valid : (stage : Stage) (fonts : List FontValue) (names : List (List ℕ)) (state : State) (c : ℕ) → 0 < length fonts → state.font < length names
+outline_valid : (stage : Stage) (fonts : List FontValue) (names : List (List ℕ)) (state : State) (c : ℕ) → 0 < length fonts
     → IfSome (char_outline stage fonts names state c) (IsValidOutline (glyph_counts fonts))
-outline_valid stage fonts names state c some named =
-    let number = slice_index (font_numbers fonts names) state.font in
-    let font = slice_index_or fonts number no_font in
-    found_valid stage fonts state number (glyph_of font c) (number_within fonts names state.font some named) (glyph_within font c)
+outline_valid stage fonts names state c some =
+    let number = font_of_state fonts names state in
+    let within : number < length fonts = chosen_within (slice_index_or names state.font []) state.bold state.italic fonts some in
+    found_valid stage fonts state (set_glyph_of fonts number c) (set_glyph_within fonts number c within)
 
 mark_with : (fonts : List FontValue) (pen : Point) (o : Option OutlineKey) → IfSome o (IsValidOutline (glyph_counts fonts))
     → IfSome (option_map (λ (key : OutlineKey). let mark : Mark = record { outline = key; pen = pen } in mark) o) (IsValidMark fonts)
 mark_with fonts pen None h = tt
 mark_with fonts pen (Some key) h = h
 
-chars_valid : (stage : Stage) (fonts : List FontValue) (names : List (List ℕ)) (state : State) (pen : Point) (o : Option ℕ) → 0 < length fonts → state.font < length names
+chars_valid : (stage : Stage) (fonts : List FontValue) (names : List (List ℕ)) (state : State) (pen : Point) (o : Option ℕ) → 0 < length fonts
     → IfSome (option_and_then (char_mark stage fonts names state pen) o) (IsValidMark fonts)
-chars_valid stage fonts names state pen None some named = tt
-chars_valid stage fonts names state pen (Some c) some named =
-    mark_with fonts pen (char_outline stage fonts names state c) (outline_valid stage fonts names state c some named)
+chars_valid stage fonts names state pen None some = tt
+chars_valid stage fonts names state pen (Some c) some = mark_with fonts pen (char_outline stage fonts names state c) (outline_valid stage fonts names state c some)
 
 -- ---- marks of drawings and of all items
 
@@ -153,9 +131,9 @@ drawing_valid stage fonts names state pen path (s ∷ segs) h held =
 by_valid : (stage : Stage) (fonts : List FontValue) (view : EventView) (state : State) (pen : Point) (kind : ShownKind) → 0 < length fonts → IsState (length view.names) state
     → IsShownKind kind → IfSome (mark_by stage fonts view state pen kind) (IsValidMark fonts)
 by_valid stage fonts view state pen (shown.Drawing path) some held h = drawing_valid stage fonts (length view.names) state pen path path.segs h held
-by_valid stage fonts view state pen (shown.Char c) some held h = chars_valid stage fonts view.names state pen (char_of view.wrap (shown.Char c)) some held.font
-by_valid stage fonts view state pen shown.Hard some held h = chars_valid stage fonts view.names state pen (char_of view.wrap shown.Hard) some held.font
-by_valid stage fonts view state pen shown.Soft some held h = chars_valid stage fonts view.names state pen (char_of view.wrap shown.Soft) some held.font
+by_valid stage fonts view state pen (shown.Char c) some held h = chars_valid stage fonts view.names state pen (char_of view.wrap (shown.Char c)) some
+by_valid stage fonts view state pen shown.Hard some held h = chars_valid stage fonts view.names state pen (char_of view.wrap shown.Hard) some
+by_valid stage fonts view state pen shown.Soft some held h = chars_valid stage fonts view.names state pen (char_of view.wrap shown.Soft) some
 
 mark_valid : (stage : Stage) (fonts : List FontValue) (view : EventView) (line : Line) (placed : Placed) → 0 < length fonts → IsView view
     → IsBlockItem (length view.items) placed → IfSome (mark_of stage fonts view line placed) (IsValidMark fonts)

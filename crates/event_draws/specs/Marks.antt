@@ -1,5 +1,5 @@
 -- Public: what the items of a line leave on the frame: their outlines, and the pens at which these stand before they are turned.
-use Rattle.std.specs.Prelude.{ℕ, ◌||◌, Bool, false, not, if◌then◌else◌, List, [], Option, Some, None, option_and_then, slice_get, slice_index, slice_index_or, ℤ, pos, ◌+ℤ◌, ◌-ℤ◌, ◌*ℤ◌}
+use Rattle.std.specs.Prelude.{ℕ, ◌||◌, Bool, false, not, if◌then◌else◌, List, [], Option, Some, None, option_and_then, slice_get, slice_index_or, ℤ, pos, ◌+ℤ◌, ◌-ℤ◌, ◌*ℤ◌}
 use Rattle.std.specs.List.{filter_map}
 use Rattle.std.specs.Option.{option_map, option_map_or}
 use Rattle.ass_num.specs.Floor.{floor_div}
@@ -7,7 +7,9 @@ use Rattle.ass_num.specs.Limits.{IsPointWithin}
 use Rattle.ass_num.specs.declared.geometry.Path.{Path}
 use Rattle.ass_num.specs.declared.geometry.Point.{Point}
 use Rattle.ass_num.specs.declared.geometry.Seg.{Seg}
-use Rattle.bdf_font.specs.Fonts.{FontValue, glyph_of}
+use Rattle.bdf_font.specs.Fonts.{FontValue}
+use Rattle.bdf_font.specs.Sets.{no_font, set_glyph_of}
+use Rattle.bdf_font.specs.declared.sets.GlyphPlace.{GlyphPlace}
 use Rattle.bdf_font.specs.declared.glyphs.FontGlyph.{FontGlyph}
 use Rattle.mask_keys.specs.declared.outline_key.OutlineKey.{OutlineKey}
 use Rattle.mask_keys.specs.declared.outline_key.OutlineKey.TheVariants.{Glyph, Drawing}
@@ -17,9 +19,8 @@ use Rattle.override_tags.specs.declared.view.ShownKind.{ShownKind}
 use Rattle.override_tags.specs.declared.view.ShownKind.TheVariants as shown
 use Rattle.override_tags.specs.declared.view.State.{State}
 use Rattle.text_layout.specs.Extents.{drawn_extent}
-use Rattle.text_layout.specs.Fonts.{font_numbers}
+use Rattle.text_layout.specs.Fonts.{font_of_state, needs_bold_step}
 use Rattle.text_layout.specs.Kinds.{char_of}
-use Rattle.text_layout.specs.Metrics.{no_font}
 use Rattle.text_layout.specs.Scales.{drawing_matrix, text_matrix}
 use Rattle.text_layout.specs.declared.laid.Line.{Line}
 use Rattle.text_layout.specs.declared.laid.Placed.{Placed}
@@ -32,22 +33,21 @@ use Rattle.event_draws.specs.declared.stage.Stage.{Stage}
 abbrev pub is_marked : State → FontGlyph → Bool
 is_marked state glyph = (state.underline || state.strikeout) || not glyph.blank
 
--- the outline of the glyph at a place of a font
-abbrev pub glyph_outline : Stage → State → ℕ → FontValue → ℕ → Option OutlineKey
-glyph_outline stage state number font place =
-    if option_map_or (is_marked state) (slice_get font.glyphs place) false
-    then Some (Glyph number place (text_matrix stage.scales font state) state.bold state.underline state.strikeout)
+-- The outline of a glyph of a set of fonts, with the scale of its own font; it is slanted, and bold, where that font isn't so itself.
+abbrev pub glyph_outline : Stage → List FontValue → State → GlyphPlace → Option OutlineKey
+glyph_outline stage fonts state place =
+    let font = slice_index_or fonts place.font no_font in
+    if option_map_or (is_marked state) (slice_get font.glyphs place.glyph) false
+    then Some (Glyph place.font place.glyph (text_matrix stage.scales font state) (needs_bold_step font state) state.underline state.strikeout)
     else None
 
--- the outline of a character in a font; none without a glyph
-abbrev pub font_outline : Stage → State → ℕ → FontValue → ℕ → Option OutlineKey
-font_outline stage state number font c = option_and_then (glyph_outline stage state number font) (glyph_of font c)
+-- the outline of a character in a font, or in another one that has it; none without a glyph
+abbrev pub font_outline : Stage → List FontValue → State → ℕ → ℕ → Option OutlineKey
+font_outline stage fonts state number c = option_and_then (glyph_outline stage fonts state) (set_glyph_of fonts number c)
 
--- the outline of a character in the font of its state, by the fonts' names
+-- the outline of a character in the font of its state
 abbrev pub char_outline : Stage → List FontValue → List (List ℕ) → State → ℕ → Option OutlineKey
-char_outline stage fonts names state c =
-    let number = slice_index (font_numbers fonts names) state.font in
-    font_outline stage state number (slice_index_or fonts number no_font) c
+char_outline stage fonts names state c = font_outline stage fonts state (font_of_state fonts names state) c
 
 -- where the pen of a character of a line stands
 abbrev pub pen_on : Stage → Line → Placed → Point

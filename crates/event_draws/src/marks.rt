@@ -1,15 +1,15 @@
 //! What the items of a line leave on the frame: their outlines, and the pens at which these stand.
 
-ghost use Rattle.std.specs.Prelude.{◌≡◌, ◌<◌, ◌≤◌, ◌+◌, ◌++◌, false, length, All, IfOk, IfSome, OnOk, slice_get, slice_index};
+ghost use Rattle.std.specs.Prelude.{◌≡◌, ◌<◌, ◌≤◌, ◌+◌, ◌++◌, false, length, All, IfOk, IfSome, OnOk, slice_get};
 ghost use Rattle.ass_num.specs.Limits.{IsHeldNumber, IsPointWithin, IsWithin};
 ghost use Rattle.std.specs.Option.{option_map_or, option_to_list};
 ghost use Rattle.ass_num.specs.Paths.{IsPath};
-ghost use Rattle.bdf_font.specs.Ranges.{IsFont};
+ghost use Rattle.bdf_font.specs.Sets.{IsGlyphPlaceIn};
 ghost use Rattle.outline_points.specs.Limits.{max_length};
 ghost use Rattle.outline_points.specs.Placing.{IsScale};
 ghost use Rattle.override_tags.specs.Views.{IsShownItem, IsShownKind, IsState, IsView};
 ghost use Rattle.text_layout.specs.Anchors.{IsBlockSide};
-ghost use Rattle.text_layout.specs.Fonts.{IsLayoutFontSet, font_numbers};
+ghost use Rattle.text_layout.specs.Fonts.{IsLayoutFontSet, font_of_state, state_fonts};
 ghost use Rattle.text_layout.specs.Limits.{max_block};
 ghost use Rattle.event_draws.specs.Items.{IsBlockItem, shown_of, state_of};
 ghost use Rattle.event_draws.specs.Limits.{max_block_pen, max_block_corner};
@@ -20,11 +20,13 @@ use crate::clip::path_copy;
 use crate::lengths::{difference, sum};
 use crate::stage::Stage;
 use ass_num::{Fix, Items, Mem, Path, Point, div_floor};
-use bdf_font::{Font, FontSet, find_font, glyph};
+use bdf_font::{Font, FontSet, GlyphPlace, set_glyph};
 use mask_keys::{OutlineKey, Shared};
 use override_tags::{EventView, Shown, ShownKind, State};
 use std::alloc::Global;
-use text_layout::{Line, Placed, char_of, drawing_matrix, drawn_extent, text_matrix};
+use text_layout::{
+    Line, Placed, char_of, drawing_matrix, drawn_extent, needs_bold_step, text_matrix,
+};
 
 /// An outline, and its pen before turning, in 1/64 pixel of the frame.
 #[derive(Debug, Drop)]
@@ -41,26 +43,26 @@ fn is_marked(state: &State, font: &Font, place: u32) -> bool
     state.underline || state.strikeout || !font.is_blank_at(place)
 }
 
-/// The outline of the glyph at a place of a font, if it leaves anything.
+/// The outline of a glyph of the set, if it leaves anything. It is slanted, and bold, where its font isn't so itself.
 fn glyph_outline(
     stage: &Stage,
+    fonts: &FontSet,
     state: &State,
-    number: u32,
-    font: &Font,
-    place: u32,
+    place: GlyphPlace,
 ) -> Option<OutlineKey>
     requires stage { IsStage stage.now }
     requires state { IsState (state.now.font + 1) state.now }
-    requires font { IsFont font.now }
-    requires place { place < length font.now.glyphs }
-    ensures { result ≡ rule.glyph_outline stage.now state.now number font.now place }
+    requires fonts { IsLayoutFontSet fonts.now.fonts }
+    requires place { IsGlyphPlaceIn fonts.now.fonts place }
+    ensures { result ≡ rule.glyph_outline stage.now fonts.now.fonts state.now place }
 {
-    if is_marked(state, font, place) {
+    let font = &fonts.fonts.as_slice()[place.font as usize];
+    if is_marked(state, font, place.glyph) {
         return Some(OutlineKey::Glyph {
-            font: number,
-            glyph: place,
+            font: place.font,
+            glyph: place.glyph,
             m: text_matrix(&stage.scales, font, state),
-            bold: state.bold,
+            bold: needs_bold_step(font, state),
             underline: state.underline,
             strikeout: state.strikeout,
         });
@@ -68,51 +70,24 @@ fn glyph_outline(
     None
 }
 
-/// The outline of a character in a font, if it leaves anything.
+/// The outline of a character in a font, or in another one that has it, if it leaves anything.
 fn font_outline(
     stage: &Stage,
+    fonts: &FontSet,
     state: &State,
     number: u32,
-    font: &Font,
     c: char,
 ) -> Option<OutlineKey>
     requires stage { IsStage stage.now }
     requires state { IsState (state.now.font + 1) state.now }
-    requires font { IsFont font.now }
-    ensures { result ≡ rule.font_outline stage.now state.now number font.now c }
+    requires fonts { IsLayoutFontSet fonts.now.fonts }
+    requires number { number < length fonts.now.fonts }
+    ensures { result ≡ rule.font_outline stage.now fonts.now.fonts state.now number c }
 {
-    match glyph(font, c) {
-        Some(place) => glyph_outline(stage, state, number, font, place),
+    match set_glyph(fonts, number, c) {
+        Some(place) => glyph_outline(stage, fonts, state, place),
         None => None,
     }
-}
-
-/// The place of the font of a state.
-fn font_of(fonts: &FontSet, view: &EventView, state: &State) -> u32
-    requires fonts { IsLayoutFontSet fonts.now.fonts }
-    requires state { state.now.font < length view.now.names }
-    ensures value { result ≡ slice_index (font_numbers fonts.now.fonts view.now.names) state.now.font }
-    ensures within { result < length fonts.now.fonts }
-{
-    find_font(fonts, view.names.as_slice()[state.font as usize].as_str())
-}
-
-/// The outline of a character in the font of its state, if it leaves anything.
-fn char_outline(
-    stage: &Stage,
-    fonts: &FontSet,
-    view: &EventView,
-    state: &State,
-    c: char,
-) -> Option<OutlineKey>
-    requires stage { IsStage stage.now }
-    requires fonts { IsLayoutFontSet fonts.now.fonts }
-    requires state { IsState (length view.now.names) state.now }
-    ensures { result ≡ rule.char_outline stage.now fonts.now.fonts view.now.names state.now c }
-{
-    let number = font_of(fonts, view, state);
-    let font = &fonts.fonts.as_slice()[number as usize];
-    font_outline(stage, state, number, font, c)
 }
 
 /// How far down a drawing of a state lies under a matrix of this scale.
@@ -180,41 +155,47 @@ fn drawing_mark(
     }))
 }
 
-/// The mark of a character, if it leaves any.
+/// The mark of a character of a state whose font has this place, if it leaves any.
 fn char_mark(
     stage: &Stage,
     fonts: &FontSet,
     view: &EventView,
     state: &State,
+    number: u32,
     pen: Point,
     c: char,
 ) -> Option<Mark>
     requires stage { IsStage stage.now }
     requires fonts { IsLayoutFontSet fonts.now.fonts }
     requires state { IsState (length view.now.names) state.now }
+    requires number { number ≡ font_of_state fonts.now.fonts view.now.names state.now }
+    requires within { number < length fonts.now.fonts }
     requires pen { IsPointWithin (max_block_corner + max_block) pen }
     ensures value { result ≡ rule.char_mark stage.now fonts.now.fonts view.now.names state.now pen c }
     ensures range { IfSome result rule.IsMark }
 {
-    match char_outline(stage, fonts, view, state, c) {
+    match font_outline(stage, fonts, state, number, c) {
         Some(outline) => Some(Mark { outline, pen }),
         None => None,
     }
 }
 
-/// The mark of what is shown in a state at a pen, if it leaves any.
+/// The mark of what is shown at a pen in a state whose font has this place, if it leaves any.
 fn mark_by(
     alloc: Global,
     stage: &Stage,
     fonts: &FontSet,
     view: &EventView,
     state: &State,
+    number: u32,
     pen: Point,
     shown: &Shown,
 ) -> Mem<Option<Mark>>
     requires stage { IsStage stage.now }
     requires fonts { IsLayoutFontSet fonts.now.fonts }
     requires state { IsState (length view.now.names) state.now }
+    requires number { number ≡ font_of_state fonts.now.fonts view.now.names state.now }
+    requires within { number < length fonts.now.fonts }
     requires pen { IsPointWithin (max_block_corner + max_block) pen }
     requires shown { IsShownKind shown.now.kind }
     ensures value { IfOk result (λ mark. mark ≡ rule.mark_by stage.now fonts.now.fonts view.now state.now pen shown.now.kind) }
@@ -224,7 +205,7 @@ fn mark_by(
         return drawing_mark(alloc, stage, state, pen, path);
     }
     match char_of(shown, view.wrap) {
-        Some(c) => Ok(char_mark(stage, fonts, view, state, pen, c)),
+        Some(c) => Ok(char_mark(stage, fonts, view, state, number, pen, c)),
         None => Ok(None),
     }
 }
@@ -263,32 +244,45 @@ pub(crate) fn state_of<'a>(view: &'a EventView, placed: &Placed) -> &'a State
     &view.states.as_slice()[shown_of(view, placed).state as usize]
 }
 
-/// The mark of an item of a line, if it leaves any.
+/// The place of the font of its state.
+fn number_of(fonts: &FontSet, numbers: &[u32], view: &EventView, placed: &Placed) -> u32
+    requires fonts { IsLayoutFontSet fonts.now.fonts }
+    requires numbers { numbers.now ≡ state_fonts fonts.now.fonts view.now }
+    requires view { IsView view.now }
+    requires item { placed.now.item < length view.now.items }
+    ensures value { result ≡ font_of_state fonts.now.fonts view.now.names (state_of view.now placed.now) }
+    ensures within { result < length fonts.now.fonts }
+{
+    numbers[shown_of(view, placed).state as usize]
+}
+
+/// The mark of an item of a line, if it leaves any. The states have the fonts of these places.
 fn mark_of(
     alloc: Global,
     stage: &Stage,
     fonts: &FontSet,
+    numbers: &[u32],
     view: &EventView,
     line: &Line,
     placed: &Placed,
 ) -> Mem<Option<Mark>>
     requires stage { IsStage stage.now }
     requires fonts { IsLayoutFontSet fonts.now.fonts }
+    requires numbers { numbers.now ≡ state_fonts fonts.now.fonts view.now }
     requires view { IsView view.now }
     requires baseline { IsBlockSide line.now.baseline }
     requires item { IsBlockItem (length view.now.items) placed.now }
     ensures value { IfOk result (λ mark. mark ≡ rule.mark_of stage.now fonts.now.fonts view.now line.now placed.now) }
     ensures range { IfOk result (λ mark. IfSome mark rule.IsMark) }
 {
-    let state = state_of(view, placed);
-    let pen = pen_on(stage, line, placed);
     mark_by(
         alloc,
         stage,
         fonts,
         view,
-        state,
-        pen,
+        state_of(view, placed),
+        number_of(fonts, numbers, view, placed),
+        pen_on(stage, line, placed),
         shown_of(view, placed),
     )
 }
@@ -303,17 +297,19 @@ fn push_mark(marks: &mut Items<Mark>, mark: Option<Mark>) -> Mem<()>
     }
 }
 
-/// The marks of some items of a line, in order.
+/// The marks of some items of a line, in order. The states have the fonts of these places.
 pub(crate) fn marks_of(
     alloc: Global,
     stage: &Stage,
     fonts: &FontSet,
+    numbers: &[u32],
     view: &EventView,
     line: &Line,
     items: &[Placed],
 ) -> Mem<Items<Mark>>
     requires stage { IsStage stage.now }
     requires fonts { IsLayoutFontSet fonts.now.fonts }
+    requires numbers { numbers.now ≡ state_fonts fonts.now.fonts view.now }
     requires view { IsView view.now }
     requires baseline { IsBlockSide line.now.baseline }
     requires items { All (IsBlockItem (length view.now.items)) items.now }
@@ -324,7 +320,7 @@ pub(crate) fn marks_of(
     for placed in items {
         push_mark(
             &mut marks,
-            mark_of(alloc, stage, fonts, view, line, placed)?,
+            mark_of(alloc, stage, fonts, numbers, view, line, placed)?,
         )?;
     }
     Ok(marks)

@@ -5,7 +5,7 @@ ghost use Rattle.std.specs.Option.{option_to_list};
 ghost use Rattle.ass_num.specs.Limits.{IsWithin};
 ghost use Rattle.outline_points.specs.Limits.{max_length};
 ghost use Rattle.override_tags.specs.Views.{IsView};
-ghost use Rattle.text_layout.specs.Fonts.{IsLayoutFontSet};
+ghost use Rattle.text_layout.specs.Fonts.{IsLayoutFontSet, state_fonts};
 ghost use Rattle.event_draws.specs.Draws.{IsBlockLine, IsDrawnRun};
 ghost use Rattle.event_draws.specs.EventDraws as rule;
 ghost use Rattle.event_draws.specs.Items.{IsBlockItem};
@@ -20,7 +20,7 @@ use bdf_font::FontSet;
 use draw_numbers::{Paint, fill_paint, is_swept};
 use override_tags::{EventView, Shown, ShownKind, State, Syllable};
 use std::alloc::Global;
-use text_layout::{Laid, Line, Placed};
+use text_layout::{Laid, Line, Placed, state_fonts};
 
 /// A run: items of a line with equal states, or one drawing. It has their state, what it is filled with, and what its items leave on
 /// the frame.
@@ -200,6 +200,7 @@ fn run_of(
     alloc: Global,
     stage: &Stage,
     fonts: &FontSet,
+    numbers: &[u32],
     view: &EventView,
     line: &Line,
     items: &[Placed],
@@ -207,6 +208,7 @@ fn run_of(
 ) -> Mem<Run>
     requires stage { IsStage stage.now }
     requires fonts { IsLayoutFontSet fonts.now.fonts }
+    requires numbers { numbers.now ≡ state_fonts fonts.now.fonts view.now }
     requires view { IsView view.now }
     requires line { IsBlockLine line.now }
     requires items { All (IsBlockItem (length view.now.items)) items.now }
@@ -217,7 +219,7 @@ fn run_of(
 {
     let state = *state_of(view, &run[0]);
     let paint = paint_of(stage, view, items, &state);
-    let marks = marks_of(alloc, stage, fonts, view, line, run)?;
+    let marks = marks_of(alloc, stage, fonts, numbers, view, line, run)?;
     Ok(Run {
         state,
         paint,
@@ -230,12 +232,14 @@ fn line_runs(
     alloc: Global,
     stage: &Stage,
     fonts: &FontSet,
+    numbers: &[u32],
     view: &EventView,
     line: &Line,
     items: &[Placed],
 ) -> Mem<Items<Run>>
     requires stage { IsStage stage.now }
     requires fonts { IsLayoutFontSet fonts.now.fonts }
+    requires numbers { numbers.now ≡ state_fonts fonts.now.fonts view.now }
     requires view { IsView view.now }
     requires line { IsBlockLine line.now }
     requires items { All (IsBlockItem (length view.now.items)) items.now }
@@ -246,7 +250,8 @@ fn line_runs(
     let mut from = 0;
     while from < items.len() {
         let to = from + first_run(view, &items[from..]);
-        runs.push(run_of(alloc, stage, fonts, view, line, items, &items[from..to])?)?;
+        let run = &items[from..to];
+        runs.push(run_of(alloc, stage, fonts, numbers, view, line, items, run)?)?;
         from = to;
     }
     Ok(runs)
@@ -257,12 +262,14 @@ fn row_of(
     alloc: Global,
     stage: &Stage,
     fonts: &FontSet,
+    numbers: &[u32],
     view: &EventView,
     line: &Line,
     items: &[Placed],
 ) -> Mem<Row>
     requires stage { IsStage stage.now }
     requires fonts { IsLayoutFontSet fonts.now.fonts }
+    requires numbers { numbers.now ≡ state_fonts fonts.now.fonts view.now }
     requires view { IsView view.now }
     requires line { IsBlockLine line.now }
     requires items { All (IsBlockItem (length view.now.items)) items.now }
@@ -273,7 +280,7 @@ fn row_of(
     Ok(Row {
         line: *line,
         state: *state_of(view, &items[0]),
-        runs: line_runs(alloc, stage, fonts, view, line, items)?,
+        runs: line_runs(alloc, stage, fonts, numbers, view, line, items)?,
     })
 }
 
@@ -282,6 +289,7 @@ fn push_row(
     alloc: Global,
     stage: &Stage,
     fonts: &FontSet,
+    numbers: &[u32],
     view: &EventView,
     line: &Line,
     items: &[Placed],
@@ -289,6 +297,7 @@ fn push_row(
 ) -> Mem<()>
     requires stage { IsStage stage.now }
     requires fonts { IsLayoutFontSet fonts.now.fonts }
+    requires numbers { numbers.now ≡ state_fonts fonts.now.fonts view.now }
     requires view { IsView view.now }
     requires line { IsBlockLine line.now }
     requires items { All (IsBlockItem (length view.now.items)) items.now }
@@ -298,7 +307,7 @@ fn push_row(
     if items.is_empty() {
         return Ok(());
     }
-    rows.push(row_of(alloc, stage, fonts, view, line, items)?)
+    rows.push(row_of(alloc, stage, fonts, numbers, view, line, items)?)
 }
 
 /// The lines that have items, with their runs.
@@ -316,6 +325,7 @@ pub(crate) fn rows_of(
     ensures value { IfOk result (λ rows. rows ≡ rule.draw_rows stage.now fonts.now.fonts view.now laid.now) }
     ensures range { IfOk result (λ rows. All rule.IsDrawnRow rows) }
 {
+    let numbers = state_fonts(alloc, fonts, view)?;
     let placed = laid.placed.as_slice();
     let mut rows = Items::new(alloc);
     let mut from = 0;
@@ -325,6 +335,7 @@ pub(crate) fn rows_of(
             alloc,
             stage,
             fonts,
+            numbers.as_slice(),
             view,
             line,
             &placed[from..to],

@@ -1,7 +1,7 @@
 -- An event has one stand: what it shows at its start is the same in each view of it but for the numbers of states and names, and so is
 -- its layout.
 use Rattle.std.proofs.Common.{◌≡◌, ℕ, zero, suc, ◌-◌, ◌<◌, ◌≤◌, ℤ, pos, Bool, false, List, [], ◌∷◌, ◌++◌, length, map, refl, sym, ap, subst, ◌∙◌, arith, ◌⊎◌, inl, inr, Option, Some, None, cond}
-use Rattle.std.specs.Prelude.{slice_get, slice_index, slice_index_or, slice_range, ◌==◌, ◌||◌, is_some}
+use Rattle.std.specs.Prelude.{slice_get, slice_index_or, slice_range, ◌==◌, ◌||◌, is_some}
 use Rattle.std.specs.List.{All, zip}
 use Rattle.std.specs.Option.{option_map, option_map_or}
 use Rattle.std.proofs.lemmas.Bool.{false≢true}
@@ -16,7 +16,8 @@ use Rattle.frame_view.specs.declared.view.FrameView.{FrameView}
 use Rattle.ass_events.specs.declared.event.Event.{Event}
 use Rattle.ass_script.specs.Ranges.{IsScript}
 use Rattle.ass_script.specs.Scripts.{ScriptValue}
-use Rattle.bdf_font.specs.Fonts.{FontValue, font_named}
+use Rattle.bdf_font.specs.Fonts.{FontValue}
+use Rattle.bdf_font.specs.Sets.{font_chosen, no_font}
 use Rattle.drawing_path.specs.Paths.{IsPathOf}
 use Rattle.drawing_path.proofs.LawLemmas.{one_path}
 use Rattle.override_tags.specs.declared.item.Item.{Item}
@@ -41,13 +42,13 @@ use Rattle.tag_state.proofs.RangeLemmas.{IsHeldEffect, past_held, wrap_held}
 use Rattle.tag_state.proofs.TextLemmas.{point_shown}
 use Rattle.text_layout.specs.Anchors.{edge_across, margins_of, wrapping_width}
 use Rattle.text_layout.specs.Extents.{extent_of, item_extents, kind_extent}
-use Rattle.text_layout.specs.Fonts.{font_numbers}
+use Rattle.text_layout.specs.Fonts.{font_of_state}
 use Rattle.text_layout.specs.Kinds.{char_of, chars_of, role_of, roles_of}
 use Rattle.text_layout.specs.Clusters.{cluster_ends}
 use Rattle.text_layout.specs.Layouts.{IsLaidBy, laid_out}
 use Rattle.text_layout.specs.LineScales.{is_typeset, line_scales}
 use Rattle.text_layout.specs.Lines.{advances_of, blank_extent, block_height, block_width, joined_extent, line_extent, line_extents, lines_from, placed_from, state_at}
-use Rattle.text_layout.specs.Metrics.{all_metrics, metrics_of, no_font, no_metrics, state_metrics}
+use Rattle.text_layout.specs.Metrics.{all_metrics, metrics_of, no_metrics, state_metrics}
 use Rattle.text_layout.specs.Spans.{AreLines, paragraphs_of}
 use Rattle.text_layout.specs.declared.extents.Extent.{Extent}
 use Rattle.text_layout.specs.declared.laid.Laid.{Laid}
@@ -123,7 +124,17 @@ module _ (text : List ℕ) (duration elapsed : ℤ) where
         ∙ (ap (λ (z : List Look). record { kind = Drawing m.2; before = before } ∷ z) later ∙ sym m.10)
   ]
 
--- ---- states behind the same effects have the same metrics
+-- ---- states behind the same effects have the same font and the same metrics
+pub same_font : (script : ScriptValue) (own : List ℕ) (fonts : List FontValue) (ns ms : List (List ℕ)) (before : List Effect) (a b : State) → IsStateAt script own ns before a
+    → IsStateAt script own ms before b → font_of_state fonts ns a ≡ font_of_state fonts ms b
+same_font script own fonts ns ms before a b h k =
+    let name : slice_index_or ns a.font [] ≡ slice_index_or ms b.font [] = get_or_from_slice_get ns a.font _ [] h.font ∙ sym (get_or_from_slice_get ms b.font _ [] k.font) in
+    let bold : a.bold ≡ b.bold = h.switches property.Bold ∙ sym (k.switches property.Bold) in
+    let italic : a.italic ≡ b.italic = h.switches property.Italic ∙ sym (k.switches property.Italic) in
+    ap (λ (z : List ℕ). font_chosen z a.bold a.italic fonts) name
+    ∙ (ap (λ (z : Bool). font_chosen (slice_index_or ms b.font []) z a.italic fonts) bold
+    ∙ ap (λ (z : Bool). font_chosen (slice_index_or ms b.font []) b.bold z fonts) italic)
+
 module _ (script : ScriptValue) (own : List ℕ) (fonts : List FontValue) (scales : Scales) where
   same_state : (number : ℕ) (font : FontValue) (ns ms : List (List ℕ)) (before : List Effect) (a b : State) → IsStateAt script own ns before a → IsStateAt script own ms before b
       → metrics_of scales number font a ≡ metrics_of scales number font b
@@ -140,21 +151,15 @@ module _ (script : ScriptValue) (own : List ℕ) (fonts : List FontValue) (scale
       ∙ (ap (λ (z : Bool). M (record b { italic = z; draw = a.draw })) italic
       ∙ ap (λ (z : ℕ). M (record b { draw = z })) draw)))))
 
-  pub number_of : (names : List (List ℕ)) (state : State) (name : List ℕ) → slice_get names state.font ≡ Some name → slice_index (font_numbers fonts names) state.font ≡ font_named name fonts
-  number_of names state name is =
-      let f = λ (n : List ℕ). font_named n fonts in
-      get_or_from_slice_get (map f names) state.font (f name) 0 (slice_get-map f names state.font ∙ ap (option_map f) is)
-
   module _ (v w : EventView) (before : List Effect) (p q : ℕ) (h : HasState script own v.names v.states before p) (k : HasState script own w.names w.states before q) where
     pub same_metrics : slice_index_or (all_metrics scales fonts v) p no_metrics ≡ slice_index_or (all_metrics scales fonts w) q no_metrics
     same_metrics =
-        let f = state_metrics scales fonts (font_numbers fonts v.names) in
-        let g = state_metrics scales fonts (font_numbers fonts w.names) in
-        let n = slice_index (font_numbers fonts v.names) (h.0).font in
-        let m = slice_index (font_numbers fonts w.names) (k.0).font in
+        let f = state_metrics scales fonts v.names in
+        let g = state_metrics scales fonts w.names in
+        let m = font_of_state fonts w.names k.0 in
         let first = get_or_from_slice_get (map f v.states) p (f h.0) no_metrics (slice_get-map f v.states p ∙ ap (option_map f) h.1) in
         let other = get_or_from_slice_get (map g w.states) q (g k.0) no_metrics (slice_get-map g w.states q ∙ ap (option_map g) k.1) in
-        let number : n ≡ m = number_of v.names h.0 _ h.2.font ∙ sym (number_of w.names k.0 _ k.2.font) in
+        let number : font_of_state fonts v.names h.0 ≡ m = same_font script own fonts v.names w.names before h.0 k.0 h.2 k.2 in
         first
         ∙ (ap (λ (z : ℕ). metrics_of scales z (slice_index_or fonts z no_font) h.0) number
         ∙ (same_state m (slice_index_or fonts m no_font) v.names w.names before h.0 k.0 h.2 k.2 ∙ sym other))
@@ -225,8 +230,8 @@ module _ (script : ScriptValue) (own : List ℕ) (fonts : List FontValue) (scale
     same_blank : (place : ℕ) → blank_extent (metrics_by v) v.items place ≡ blank_extent (metrics_by w) w.items place
     same_blank place =
         let N = λ (n : ℕ) (view : EventView). slice_index_or (metrics_by view) (option_map_or (λ (s : Shown). s.state) (slice_get view.items place) (n - 1)) no_metrics in
-        let long = length-map v.states (state_metrics scales fonts (font_numbers fonts v.names)) in
-        let wide = length-map w.states (state_metrics scales fonts (font_numbers fonts w.names)) in
+        let long = length-map v.states (state_metrics scales fonts v.names) in
+        let wide = length-map w.states (state_metrics scales fonts w.names) in
         let m : slice_index_or (metrics_by v) (state_at (length (metrics_by v)) v.items place) no_metrics ≡ slice_index_or (metrics_by w) (state_at (length (metrics_by w)) w.items place) no_metrics =
         ap (λ (n : ℕ). N n v) long ∙ (same_at v.items w.items seen place (length v.states - 1) (length w.states - 1) before h k p q ∙ sym (ap (λ (n : ℕ). N n w) wide))
         in

@@ -56,7 +56,7 @@ pub advance_is : (glyphs : List FontGlyph) (at : ℕ) (g : FontGlyph) (advance :
 advance_is glyphs at g advance is read = read ∙ ap (λ found. option_map_or (λ (glyph : FontGlyph). glyph.advance) found (pos 0)) is
 
 abbrev glyph_at : List FontGlyph → ℕ → FontGlyph
-glyph_at glyphs at = get_or glyphs at (record { code = pos 0; advance = pos 0; blank = true; shape = shape.Contours [] })
+glyph_at glyphs at = get_or glyphs at (record { code = pos 0; advance = pos 0; blank = true; missing = true; shape = shape.Contours [] })
 
 is_glyph : (glyphs : List FontGlyph) (at : ℕ) → All IsGlyph glyphs → at < length glyphs → IsGlyph (glyph_at glyphs at)
 is_glyph glyphs at whole within = All-get_or IsGlyph glyphs at _ within whole

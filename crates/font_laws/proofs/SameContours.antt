@@ -6,6 +6,7 @@ use Rattle.sfnt_font.specs.declared.directory.Table.{Table}
 use Rattle.sfnt_glyphs.specs.declared.drawn.Drawn.{Drawn}
 use Rattle.sfnt_glyphs.specs.declared.drawn.Room.{Room}
 use Rattle.sfnt_font.specs.declared.maps.CharacterMap.{CharacterMap}
+use Rattle.sfnt_font.specs.declared.names.FontNames.{FontNames}
 use Rattle.sfnt_font.specs.declared.numbers.Numbers.{Numbers}
 use Rattle.sfnt_glyphs.specs.declared.parts.Part.{Part}
 use Rattle.sfnt_glyphs.specs.declared.points.Placing.{Placing}
@@ -284,20 +285,20 @@ drawn_or_blank_same draw other a b glyf bearing None room e h is = refl
 drawn_or_blank_same draw other a b glyf bearing (Some s) room e h is =
     stretch_drawn_same draw other a b bearing s room e (agree_within a b glyf.place (table_end glyf) s.from s.to h is.0 is.1)
 
-glyph_drawn_same : (a b : List ℕ) (tables : Tables) (numbers : Numbers) (m : CharacterMap) (segments : List Segment) (name : List ℕ) (depth g : ℕ) (room : Room) → AgreeOnTables a b tables →
-    glyph_drawn (font_keeping a tables numbers m segments name) depth g room ≡ glyph_drawn (font_keeping b tables numbers m segments name) depth g room
+glyph_drawn_same : (a b : List ℕ) (tables : Tables) (numbers : Numbers) (m : CharacterMap) (segments : List Segment) (names : FontNames) (depth g : ℕ) (room : Room) → AgreeOnTables a b tables →
+    glyph_drawn (font_keeping a tables numbers m segments names) depth g room ≡ glyph_drawn (font_keeping b tables numbers m segments names) depth g room
 unfolding glyph_drawn
-glyph_drawn_same a b tables numbers m segments name zero g room h = refl
-glyph_drawn_same a b tables numbers m segments name (suc depth) g room h =
-    let f = font_keeping a tables numbers m segments name in
-    let other = font_keeping b tables numbers m segments name in
+glyph_drawn_same a b tables numbers m segments names zero g room h = refl
+glyph_drawn_same a b tables numbers m segments names (suc depth) g room h =
+    let f = font_keeping a tables numbers m segments names in
+    let other = font_keeping b tables numbers m segments names in
     if_same (nat_lt g numbers.glyphs) (nat_lt g numbers.glyphs) refl (λ _.
     drawn_or_blank_same (glyph_drawn f depth) (glyph_drawn other depth) a b tables.glyf (bearing_of f g) (glyph_stretch f g) room
-    (λ part room. glyph_drawn_same a b tables numbers m segments name depth part room h) h.glyf.0 (stretch_in tables.glyf (glyph_place f g) (glyph_place f (g + 1)))
+    (λ part room. glyph_drawn_same a b tables numbers m segments names depth part room h) h.glyf.0 (stretch_in tables.glyf (glyph_place f g) (glyph_place f (g + 1)))
     ∙ (ap (λ z. drawn_or_blank (glyph_drawn other depth) b z (glyph_stretch f g) room) (bearing_same a b tables.hmtx numbers.advances g h.hmtx.0)
-    ∙ ap (λ o. drawn_or_blank (glyph_drawn other depth) b (bearing_of other g) o room) (stretch_same a b tables numbers m segments name g h))) (λ _. refl)
+    ∙ ap (λ o. drawn_or_blank (glyph_drawn other depth) b (bearing_of other g) o room) (stretch_same a b tables numbers m segments names g h))) (λ _. refl)
 
-pub contours_same : (a b : List ℕ) (tables : Tables) (numbers : Numbers) (m : CharacterMap) (segments : List Segment) (name : List ℕ) (g : ℕ) → AgreeOnTables a b tables →
-    contours_of (font_keeping a tables numbers m segments name) g ≡ contours_of (font_keeping b tables numbers m segments name) g
-contours_same a b tables numbers m segments name g h =
-    ap (λ o. contours_or_none (option_and_then shifted_contours o)) (glyph_drawn_same a b tables numbers m segments name (max_depth + 1) g (record { points = 0; parts = 0 }) h)
+pub contours_same : (a b : List ℕ) (tables : Tables) (numbers : Numbers) (m : CharacterMap) (segments : List Segment) (names : FontNames) (g : ℕ) → AgreeOnTables a b tables →
+    contours_of (font_keeping a tables numbers m segments names) g ≡ contours_of (font_keeping b tables numbers m segments names) g
+contours_same a b tables numbers m segments names g h =
+    ap (λ o. contours_or_none (option_and_then shifted_contours o)) (glyph_drawn_same a b tables numbers m segments names (max_depth + 1) g (record { points = 0; parts = 0 }) h)

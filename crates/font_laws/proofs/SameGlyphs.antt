@@ -6,6 +6,7 @@ use Rattle.std.proofs.lemmas.Bool.{ltb-false}
 use Rattle.sfnt_font.specs.declared.directory.Table.{Table}
 use Rattle.sfnt_font.specs.declared.font.SfntFont.{SfntFont}
 use Rattle.sfnt_font.specs.declared.maps.CharacterMap.{CharacterMap}
+use Rattle.sfnt_font.specs.declared.names.FontNames.{FontNames}
 use Rattle.sfnt_font.specs.declared.maps.MapFormat.{MapFormat}
 use Rattle.sfnt_font.specs.declared.maps.MapFormat.TheVariants.{Ranges, Groups}
 use Rattle.sfnt_font.specs.declared.numbers.Numbers.{Numbers}
@@ -24,8 +25,8 @@ use Rattle.font_laws.proofs.SameTables.{AgreeOnTables}
 use Rattle.font_laws.proofs.SameMaps.{IsMapOf, entry_bytes}
 
 -- a font that keeps these bytes
-abbrev pub font_keeping : List ℕ → Tables → Numbers → CharacterMap → List Segment → List ℕ → SfntFont
-font_keeping bytes tables numbers m segments name = record { bytes = bytes; tables = tables; numbers = numbers; character_map = m; segments = segments; name = name }
+abbrev pub font_keeping : List ℕ → Tables → Numbers → CharacterMap → List Segment → FontNames → SfntFont
+font_keeping bytes tables numbers m segments names = record { bytes = bytes; tables = tables; numbers = numbers; character_map = m; segments = segments; names = names }
 
 -- ---- the glyph of a code
 
@@ -80,24 +81,24 @@ pub record ShareTables (a b : List ℕ) (tables : Tables) (m : CharacterMap) (se
   pub is_map : IsMapOf tables.cmap m
   pub counted : length segments ≡ m.count
 
-or_none_same : (a b : List ℕ) (tables : Tables) (numbers : Numbers) (m : CharacterMap) (segments : List Segment) (name : List ℕ) (code : ℕ) (o : Option ℕ) → ShareTables a b tables m segments →
-    IfSome o (λ k. k < length segments) → glyph_or_none (font_keeping a tables numbers m segments name) code o ≡ glyph_or_none (font_keeping b tables numbers m segments name) code o
-or_none_same a b tables numbers m segments name code None h less = refl
-or_none_same a b tables numbers m segments name code (Some k) h less =
+or_none_same : (a b : List ℕ) (tables : Tables) (numbers : Numbers) (m : CharacterMap) (segments : List Segment) (names : FontNames) (code : ℕ) (o : Option ℕ) → ShareTables a b tables m segments →
+    IfSome o (λ k. k < length segments) → glyph_or_none (font_keeping a tables numbers m segments names) code o ≡ glyph_or_none (font_keeping b tables numbers m segments names) code o
+or_none_same a b tables numbers m segments names code None h less = refl
+or_none_same a b tables numbers m segments names code (Some k) h less =
     let count = h.counted in
     ap (held_glyph numbers.glyphs) (segment_glyph_same m.format a b tables.cmap m k code h.agree.cmap.0 h.is_map.0 h.is_map.1.0 h.is_map.1.1 (omega (arith, count, less)))
 
-mapped_same : (a b : List ℕ) (tables : Tables) (numbers : Numbers) (m : CharacterMap) (segments : List Segment) (name : List ℕ) (code : ℕ) → ShareTables a b tables m segments →
-    mapped_glyph (font_keeping a tables numbers m segments name) code ≡ mapped_glyph (font_keeping b tables numbers m segments name) code
-mapped_same a b tables numbers m segments name code h = or_none_same a b tables numbers m segments name code (segment_of segments code) h (segment_listed segments code)
+mapped_same : (a b : List ℕ) (tables : Tables) (numbers : Numbers) (m : CharacterMap) (segments : List Segment) (names : FontNames) (code : ℕ) → ShareTables a b tables m segments →
+    mapped_glyph (font_keeping a tables numbers m segments names) code ≡ mapped_glyph (font_keeping b tables numbers m segments names) code
+mapped_same a b tables numbers m segments names code h = or_none_same a b tables numbers m segments names code (segment_of segments code) h (segment_listed segments code)
 
-pub glyphs_same : (a b : List ℕ) (tables : Tables) (numbers : Numbers) (m : CharacterMap) (segments : List Segment) (name : List ℕ) (code : ℕ) → ShareTables a b tables m segments →
-    glyph_number (font_keeping a tables numbers m segments name) code ≡ glyph_number (font_keeping b tables numbers m segments name) code
-glyphs_same a b tables numbers m segments name code h =
-    let f = font_keeping a tables numbers m segments name in
-    let g = font_keeping b tables numbers m segments name in
-    ap (λ n. cond ((n == 0) && is_symbol_code f code) (mapped_glyph f (61440 + code)) n) (mapped_same a b tables numbers m segments name code h)
-    ∙ ap (λ n. cond ((mapped_glyph g code == 0) && is_symbol_code g code) n (mapped_glyph g code)) (mapped_same a b tables numbers m segments name (61440 + code) h)
+pub glyphs_same : (a b : List ℕ) (tables : Tables) (numbers : Numbers) (m : CharacterMap) (segments : List Segment) (names : FontNames) (code : ℕ) → ShareTables a b tables m segments →
+    glyph_number (font_keeping a tables numbers m segments names) code ≡ glyph_number (font_keeping b tables numbers m segments names) code
+glyphs_same a b tables numbers m segments names code h =
+    let f = font_keeping a tables numbers m segments names in
+    let g = font_keeping b tables numbers m segments names in
+    ap (λ n. cond ((n == 0) && is_symbol_code f code) (mapped_glyph f (61440 + code)) n) (mapped_same a b tables numbers m segments names code h)
+    ∙ ap (λ n. cond ((mapped_glyph g code == 0) && is_symbol_code g code) n (mapped_glyph g code)) (mapped_same a b tables numbers m segments names (61440 + code) h)
 
 -- ---- advances and bearings
 
@@ -140,9 +141,9 @@ place_in_same : (a b : List ℕ) (loca : Table) (wide : Bool) (g : ℕ) → Agre
 place_in_same a b loca true g h = wide_place_same a b loca g h
 place_in_same a b loca false g h = narrow_place_same a b loca g h
 
-pub stretch_same : (a b : List ℕ) (tables : Tables) (numbers : Numbers) (m : CharacterMap) (segments : List Segment) (name : List ℕ) (g : ℕ) → AgreeOnTables a b tables →
-    glyph_stretch (font_keeping a tables numbers m segments name) g ≡ glyph_stretch (font_keeping b tables numbers m segments name) g
-stretch_same a b tables numbers m segments name g h =
+pub stretch_same : (a b : List ℕ) (tables : Tables) (numbers : Numbers) (m : CharacterMap) (segments : List Segment) (names : FontNames) (g : ℕ) → AgreeOnTables a b tables →
+    glyph_stretch (font_keeping a tables numbers m segments names) g ≡ glyph_stretch (font_keeping b tables numbers m segments names) g
+stretch_same a b tables numbers m segments names g h =
     ap (λ o. stretch_between tables.glyf o (cond numbers.wide_places (wide_place a tables.loca (g + 1)) (narrow_place a tables.loca (g + 1)))) (place_in_same a b tables.loca numbers.wide_places g h.loca.0)
     ∙ ap (stretch_between tables.glyf (cond numbers.wide_places (wide_place b tables.loca g) (narrow_place b tables.loca g))) (place_in_same a b tables.loca numbers.wide_places (g + 1) h.loca.0)
 

@@ -1,13 +1,12 @@
--- Files that agree on the table of names have the same name.
-use Rattle.std.proofs.Common.{◌≡◌, ℕ, zero, suc, ◌+◌, ◌*◌, ◌/◌, ◌≤◌, List, ◌∷◌, map, Bool, true, false, cond, ◌&&◌, Option, Some, None, refl, ap, sym, ◌∙◌, arith}
+-- Files that agree on the table of names have the same names.
+use Rattle.std.proofs.Common.{◌≡◌, ℕ, zero, suc, ◌+◌, ◌*◌, ◌/◌, ◌≤◌, List, [], ◌∷◌, map, take, Bool, true, false, cond, ◌&&◌, Option, Some, None, refl, ap, sym, ◌∙◌, arith}
 use Rattle.std.specs.Prelude.{nat_le, ◌==◌, IfSome}
 use Rattle.std.specs.List.{range_with_len}
-use Rattle.std.specs.Option.{option_or}
 use Rattle.std.proofs.lemmas.Bool.{and_parts, leb-true}
 use Rattle.sfnt_font.specs.declared.directory.Table.{Table}
 use Rattle.sfnt_font.specs.Bytes.{u8_at, u16_at}
 use Rattle.sfnt_font.specs.Directory.{table_end, table_named, unless_short}
-use Rattle.sfnt_font.specs.Names.{names_name, least_names, family_rank, text_place, is_whole_name, is_family, family_from, ranked_family, family_record, mac_character, narrow_unit, wide_unit, narrow_units, wide_units, name_units, spelled, record_name, family_name, font_name}
+use Rattle.sfnt_font.specs.Names.{names_name, least_names, max_names, family_kind, full_kind, name_rank, text_place, is_whole_name, is_name, records_from, mac_character, narrow_unit, wide_unit, narrow_units, wide_units, name_units, spelled, record_name, ranked_names, names_or_none, font_names}
 use Rattle.sfnt_font.specs.Laws.{face_directory}
 use Rattle.font_laws.specs.Laws.{AgreeOn, AgreeOnDirectory}
 use Rattle.font_laws.proofs.Agreed.{u8_same, u16_same, and_same}
@@ -29,68 +28,41 @@ whole_name_same a b names at (h, long) low =
     ap (λ n. nat_le (n + u16_at a (at + 8)) (table_end names)) text ∙ ap (λ n. nat_le (text_place b names at + n) (table_end names)) size)
 
 -- a record past the table is none
-past_none : (family rank whole : Bool) → whole ≡ false → (family && (rank && whole)) ≡ false
+past_none : (kind rank whole : Bool) → whole ≡ false → (kind && (rank && whole)) ≡ false
 past_none true true whole e = e
 past_none true false whole e = refl
 past_none false rank whole e = refl
 
-family_same : (a b : List ℕ) (names : Table) (rank at : ℕ) → AgreeOnLong a b 6 names → names.place ≤ at → is_family a names rank at ≡ is_family b names rank at
-family_same a b names rank at (h, long) low = either (nat_le (at + 12) (table_end names)) refl
+name_same : (a b : List ℕ) (names : Table) (kind rank at : ℕ) → AgreeOnLong a b 6 names → names.place ≤ at → is_name a names kind rank at ≡ is_name b names kind rank at
+name_same a b names kind rank at (h, long) low = either (nat_le (at + 12) (table_end names)) refl
   where
     same_whole : is_whole_name a names at ≡ is_whole_name b names at
     same_whole = whole_name_same a b names at (h, long) low
 
-    either : (c : Bool) → nat_le (at + 12) (table_end names) ≡ c → is_family a names rank at ≡ is_family b names rank at
+    either : (c : Bool) → nat_le (at + 12) (table_end names) ≡ c → is_name a names kind rank at ≡ is_name b names kind rank at
     either true inside =
         let room : at + 12 ≤ table_end names = leb-true (at + 12) (table_end names) inside in
         let platform : u16_at a at ≡ u16_at b at = u16_same a b names.place (table_end names) at h low (omega (arith, room)) in
         let encoding : u16_at a (at + 2) ≡ u16_at b (at + 2) = u16_same a b names.place (table_end names) (at + 2) h (omega arith) (omega (arith, room)) in
-        let kind : u16_at a (at + 6) ≡ u16_at b (at + 6) = u16_same a b names.place (table_end names) (at + 6) h (omega arith) (omega (arith, room)) in
-        ap (λ n. (n == 1) && ((family_rank (u16_at a at) (u16_at a (at + 2)) == rank) && is_whole_name a names at)) kind
-        ∙ (ap (λ n. (u16_at b (at + 6) == 1) && ((family_rank n (u16_at a (at + 2)) == rank) && is_whole_name a names at)) platform
-        ∙ (ap (λ n. (u16_at b (at + 6) == 1) && ((family_rank (u16_at b at) n == rank) && is_whole_name a names at)) encoding
-        ∙ ap (λ whole. (u16_at b (at + 6) == 1) && ((family_rank (u16_at b at) (u16_at b (at + 2)) == rank) && whole)) same_whole))
+        let id : u16_at a (at + 6) ≡ u16_at b (at + 6) = u16_same a b names.place (table_end names) (at + 6) h (omega arith) (omega (arith, room)) in
+        ap (λ n. (n == kind) && ((name_rank (u16_at a at) (u16_at a (at + 2)) == rank) && is_whole_name a names at)) id
+        ∙ (ap (λ n. (u16_at b (at + 6) == kind) && ((name_rank n (u16_at a (at + 2)) == rank) && is_whole_name a names at)) platform
+        ∙ (ap (λ n. (u16_at b (at + 6) == kind) && ((name_rank (u16_at b at) n == rank) && is_whole_name a names at)) encoding
+        ∙ ap (λ whole. (u16_at b (at + 6) == kind) && ((name_rank (u16_at b at) (u16_at b (at + 2)) == rank) && whole)) same_whole))
     either false past =
-        past_none (u16_at a (at + 6) == 1) (family_rank (u16_at a at) (u16_at a (at + 2)) == rank) (is_whole_name a names at) (ap (λ c. c && nat_le (text_place a names at + u16_at a (at + 8)) (table_end names)) past)
-        ∙ sym (past_none (u16_at b (at + 6) == 1) (family_rank (u16_at b at) (u16_at b (at + 2)) == rank) (is_whole_name b names at) (ap (λ c. c && nat_le (text_place b names at + u16_at b (at + 8)) (table_end names)) past))
+        past_none (u16_at a (at + 6) == kind) (name_rank (u16_at a at) (u16_at a (at + 2)) == rank) (is_whole_name a names at) (ap (λ c. c && nat_le (text_place a names at + u16_at a (at + 8)) (table_end names)) past)
+        ∙ sym (past_none (u16_at b (at + 6) == kind) (name_rank (u16_at b at) (u16_at b (at + 2)) == rank) (is_whole_name b names at) (ap (λ c. c && nat_le (text_place b names at + u16_at b (at + 8)) (table_end names)) past))
 
 -- a record that lies in the table, as does its text
 abbrev IsInNames : List ℕ → Table → ℕ → Type 0
 IsInNames bytes names at = (names.place ≤ at) × ((at + 12 ≤ table_end names) × (text_place bytes names at + u16_at bytes (at + 8) ≤ table_end names))
 
-family_in_table : (bytes : List ℕ) (names : Table) (rank at : ℕ) → names.place ≤ at → is_family bytes names rank at ≡ true → IsInNames bytes names at
-family_in_table bytes names rank at low is =
-    let later = (and_parts (u16_at bytes (at + 6) == 1) ((family_rank (u16_at bytes at) (u16_at bytes (at + 2)) == rank) && is_whole_name bytes names at) is).1 in
-    let whole = (and_parts (family_rank (u16_at bytes at) (u16_at bytes (at + 2)) == rank) (is_whole_name bytes names at) later).1 in
+name_in_table : (bytes : List ℕ) (names : Table) (kind rank at : ℕ) → names.place ≤ at → is_name bytes names kind rank at ≡ true → IsInNames bytes names at
+name_in_table bytes names kind rank at low is =
+    let later = (and_parts (u16_at bytes (at + 6) == kind) ((name_rank (u16_at bytes at) (u16_at bytes (at + 2)) == rank) && is_whole_name bytes names at) is).1 in
+    let whole = (and_parts (name_rank (u16_at bytes at) (u16_at bytes (at + 2)) == rank) (is_whole_name bytes names at) later).1 in
     let parts = and_parts (nat_le (at + 12) (table_end names)) (nat_le (text_place bytes names at + u16_at bytes (at + 8)) (table_end names)) whole in
     (low, (leb-true (at + 12) (table_end names) parts.0, leb-true (text_place bytes names at + u16_at bytes (at + 8)) (table_end names) parts.1))
-
--- a record that both files have, and that lies in the table
-record AreFound (a b : List ℕ) (names : Table) (o p : Option ℕ) : Type 0 where
-  same : o ≡ p
-  inside : IfSome o (IsInNames a names)
-
-found_or_same : (a b : List ℕ) (names : Table) (at : ℕ) (c d : Bool) (o p : Option ℕ) → c ≡ d → (c ≡ true → IsInNames a names at) → AreFound a b names o p → AreFound a b names (cond c (Some at) o) (cond d (Some at) p)
-found_or_same a b names at true true o p e inside h = record { same = refl; inside = inside refl }
-found_or_same a b names at false false o p e inside h = h
-found_or_same a b names at true false o p e inside h = absurd cc
-found_or_same a b names at false true o p e inside h = absurd cc
-
-from_same : (a b : List ℕ) (names : Table) (rank at n : ℕ) → AgreeOnLong a b 6 names → names.place ≤ at → AreFound a b names (family_from a names rank at n) (family_from b names rank at n)
-from_same a b names rank at zero h low = record { same = refl; inside = tt }
-from_same a b names rank at (suc n) h low =
-    found_or_same a b names at (is_family a names rank at) (is_family b names rank at) (family_from a names rank (at + 12) n) (family_from b names rank (at + 12) n)
-    (family_same a b names rank at h low) (family_in_table a names rank at low) (from_same a b names rank (at + 12) n h (omega arith))
-
-ranked_same : (a b : List ℕ) (names : Table) (rank : ℕ) → AgreeOnLong a b 6 names → AreFound a b names (ranked_family a names rank) (ranked_family b names rank)
-ranked_same a b names rank (h, long) =
-    let count : u16_at a (names.place + 2) ≡ u16_at b (names.place + 2) = u16_same a b names.place (table_end names) (names.place + 2) h (omega arith) (omega (arith, long)) in
-    let found = from_same a b names rank (names.place + 6) (u16_at a (names.place + 2)) (h, long) (omega arith) in
-    record { same = found.same ∙ ap (family_from b names rank (names.place + 6)) count; inside = found.inside }
-
-or_same : (a b : List ℕ) (names : Table) (o p q r : Option ℕ) → AreFound a b names o p → AreFound a b names q r → AreFound a b names (option_or o q) (option_or p r)
-or_same a b names None p q r h k = record { same = k.same ∙ ap (λ s. option_or s r) h.same; inside = k.inside }
-or_same a b names (Some at) p q r h k = record { same = ap (λ s. option_or s r) h.same; inside = h.inside }
 
 -- ---- the text of a record
 
@@ -123,17 +95,45 @@ units_same a b names at (h, long) (low, (room, whole)) =
     ∙ (ap (λ n. cond (u16_at b at == 1) (narrow_units b n (u16_at a (at + 8))) (wide_units b n (u16_at a (at + 8) / 2))) text
     ∙ ap (λ n. cond (u16_at b at == 1) (narrow_units b (text_place b names at) n) (wide_units b (text_place b names at) (n / 2))) size))
 
-record-step : (a b : List ℕ) (names : Table) (o : Option ℕ) → AgreeOnLong a b 6 names → IfSome o (IsInNames a names) → record_name a names o ≡ record_name b names o
-record-step a b names None h inside = refl
-record-step a b names (Some at) h inside = ap spelled (units_same a b names at h inside)
+-- ---- the names of a table
 
-family-step : (a b : List ℕ) (o : Option Table) → IfSome o (AgreeOnLong a b 6) → family_name a o ≡ family_name b o
-family-step a b None h = refl
-family-step a b (Some names) h =
-    let found : AreFound a b names (family_record a names) (family_record b names) = or_same a b names _ _ _ _ (ranked_same a b names 0 h) (ranked_same a b names 1 h) in
-    record-step a b names (family_record a names) h found.inside ∙ ap (record_name b names) found.same
+record_same : (a b : List ℕ) (names : Table) (kind rank at : ℕ) → AgreeOnLong a b 6 names → names.place ≤ at → is_name a names kind rank at ≡ true → record_name a names at ≡ record_name b names at
+record_same a b names kind rank at h low is = ap spelled (units_same a b names at h (name_in_table a names kind rank at low is))
 
-pub font_name_same : (a b : List ℕ) (place : ℕ) → AgreeOnDirectory a b place → font_name a (face_directory a place) ≡ font_name b (face_directory a place)
-font_name_same a b place h =
-    family-step a b (unless_short least_names (table_named a (face_directory a place) names_name)) (long_agrees a b least_names (table_named a (face_directory a place) names_name) h.names)
-    ∙ ap (λ o. family_name b (unless_short least_names o)) (named_same a b place names_name h)
+names-step : (f g : ℕ → List ℕ) (at m : ℕ) (c d : Bool) (rs ss : List ℕ) → c ≡ d → (c ≡ true → f at ≡ g at) → ((m : ℕ) → map f (take m rs) ≡ map g (take m ss)) →
+    map f (take m (cond c (at ∷ rs) rs)) ≡ map g (take m (cond d (at ∷ ss) ss))
+names-step f g at zero true true rs ss e same rest = refl
+names-step f g at (suc m) true true rs ss e same rest = ap (λ first. first ∷ map f (take m rs)) (same refl) ∙ ap (λ more. g at ∷ more) (rest m)
+names-step f g at m false false rs ss e same rest = rest m
+names-step f g at m true false rs ss e same rest = absurd cc
+names-step f g at m false true rs ss e same rest = absurd cc
+
+none_taken : (f g : ℕ → List ℕ) (m : ℕ) → map f (take m []) ≡ map g (take m [])
+none_taken f g zero = refl
+none_taken f g (suc m) = refl
+
+from_same : (a b : List ℕ) (names : Table) (kind rank at n m : ℕ) → AgreeOnLong a b 6 names → names.place ≤ at →
+    map (record_name a names) (take m (records_from a names kind rank at n)) ≡ map (record_name b names) (take m (records_from b names kind rank at n))
+from_same a b names kind rank at zero m h low = none_taken (record_name a names) (record_name b names) m
+from_same a b names kind rank at (suc n) m h low =
+    names-step (record_name a names) (record_name b names) at m (is_name a names kind rank at) (is_name b names kind rank at) (records_from a names kind rank (at + 12) n) (records_from b names kind rank (at + 12) n)
+    (name_same a b names kind rank at h low) (record_same a b names kind rank at h low) (λ m. from_same a b names kind rank (at + 12) n m h (omega arith))
+
+names_same : (a b : List ℕ) (names : Table) (kind rank most : ℕ) → AgreeOnLong a b 6 names → ranked_names a names kind rank most ≡ ranked_names b names kind rank most
+names_same a b names kind rank most (h, long) =
+    let count : u16_at a (names.place + 2) ≡ u16_at b (names.place + 2) = u16_same a b names.place (table_end names) (names.place + 2) h (omega arith) (omega (arith, long)) in
+    from_same a b names kind rank (names.place + 6) (u16_at a (names.place + 2)) most (h, long) (omega arith)
+    ∙ ap (λ n. map (record_name b names) (take most (records_from b names kind rank (names.place + 6) n))) count
+
+table_names_same : (a b : List ℕ) (o : Option Table) → IfSome o (AgreeOnLong a b 6) → names_or_none a o ≡ names_or_none b o
+table_names_same a b None h = refl
+table_names_same a b (Some names) h =
+    let families : ranked_names a names family_kind 0 max_names ≡ ranked_names b names family_kind 0 max_names = names_same a b names family_kind 0 max_names h in
+    let others : ranked_names a names family_kind 1 1 ≡ ranked_names b names family_kind 1 1 = names_same a b names family_kind 1 1 h in
+    let full : ranked_names a names full_kind 0 max_names ≡ ranked_names b names full_kind 0 max_names = names_same a b names full_kind 0 max_names h in
+    rw (families, others, full)
+
+pub font_names_same : (a b : List ℕ) (place : ℕ) → AgreeOnDirectory a b place → font_names a (face_directory a place) ≡ font_names b (face_directory a place)
+font_names_same a b place h =
+    table_names_same a b (unless_short least_names (table_named a (face_directory a place) names_name)) (long_agrees a b least_names (table_named a (face_directory a place) names_name) h.names)
+    ∙ ap (λ o. names_or_none b (unless_short least_names o)) (named_same a b place names_name h)

@@ -1,12 +1,12 @@
 -- Files that agree on the tables of a font have the same numbers.
-use Rattle.std.proofs.Common.{◌≡◌, ℕ, ◌+◌, ◌≤◌, List, Option, Some, None, Ok, refl, ap, ◌∙◌, arith}
+use Rattle.std.proofs.Common.{◌≡◌, ℕ, ◌+◌, ◌/◌, ◌≤◌, cond, List, Option, Some, None, Ok, refl, ap, ◌∙◌, arith}
 use Rattle.std.specs.Prelude.{◌==◌, IfSome}
 use Rattle.sfnt_font.specs.declared.directory.Table.{Table}
 use Rattle.sfnt_font.specs.declared.numbers.Bar.{Bar}
 use Rattle.sfnt_font.specs.declared.tables.Tables.{Tables}
 use Rattle.sfnt_font.specs.Bytes.{u16_at, s16_at}
 use Rattle.sfnt_font.specs.Directory.{table_named, unless_short, table_end, metrics_name, post_name}
-use Rattle.sfnt_font.specs.Numbers.{window_heights, typographic_heights, line_heights, box_heights, font_heights, bar_or, underline_of, strikeout_of, made_numbers, sfnt_numbers}
+use Rattle.sfnt_font.specs.Numbers.{window_heights, typographic_heights, line_heights, box_heights, font_heights, bar_or, underline_of, strikeout_of, made_numbers, sfnt_numbers, has_low_bit, style_weight, weight_of, is_slanted}
 use Rattle.sfnt_font.specs.Laws.{face_directory}
 use Rattle.font_laws.specs.Laws.{AgreeOnDirectory}
 use Rattle.font_laws.proofs.Agreed.{u16_same, s16_same}
@@ -63,6 +63,17 @@ bar_same a b least (Some table) middle size other h room space =
     let second = s16_in_table_same a b least table size h space in
     cc
 
+weight_same : (a b : List ℕ) (head : Table) (metrics : Option Table) → AgreeOnLong a b 54 head → IfSome metrics (AgreeOnLong a b 78) → weight_of a head metrics ≡ weight_of b head metrics
+weight_same a b head None h k = ap (λ n. cond (has_low_bit n) 700 400) (u16_in_table_same a b 54 head 44 h (omega arith))
+weight_same a b head (Some metrics) h k =
+    let style : style_weight a head ≡ style_weight b head = ap (λ n. cond (has_low_bit n) 700 400) (u16_in_table_same a b 54 head 44 h (omega arith)) in
+    let weight : u16_at a (metrics.place + 4) ≡ u16_at b (metrics.place + 4) = u16_in_table_same a b 78 metrics 4 k (omega arith) in
+    cc
+
+slant_same : (a b : List ℕ) (head : Table) (metrics : Option Table) → AgreeOnLong a b 54 head → IfSome metrics (AgreeOnLong a b 78) → is_slanted a head metrics ≡ is_slanted b head metrics
+slant_same a b head None h k = ap (λ n. has_low_bit (n / 2)) (u16_in_table_same a b 54 head 44 h (omega arith))
+slant_same a b head (Some metrics) h k = ap has_low_bit (u16_in_table_same a b 78 metrics 62 k (omega arith))
+
 made_same : (a b : List ℕ) (tables : Tables) (metrics post : Option Table) → AgreeOnTables a b tables → IfSome metrics (AgreeOnLong a b 78) → IfSome post (AgreeOnLong a b 12) →
     made_numbers a tables metrics post ≡ made_numbers b tables metrics post
 made_same a b tables metrics post h metrics_agree post_agrees =
@@ -73,7 +84,9 @@ made_same a b tables metrics post h metrics_agree post_agrees =
     let heights : font_heights a tables metrics ≡ font_heights b tables metrics = heights_same a b tables metrics h metrics_agree in
     let underline : underline_of a (u16_at b (tables.head.place + 18)) post ≡ underline_of b (u16_at b (tables.head.place + 18)) post = bar_same a b 12 post 8 10 _ post_agrees (omega arith) (omega arith) in
     let strikeout : strikeout_of a (u16_at b (tables.head.place + 18)) metrics ≡ strikeout_of b (u16_at b (tables.head.place + 18)) metrics = bar_same a b 78 metrics 28 26 _ metrics_agree (omega arith) (omega arith) in
-    rw (units, glyphs, wide, advances, heights, underline, strikeout)
+    let weight : weight_of a tables.head metrics ≡ weight_of b tables.head metrics = weight_same a b tables.head metrics h.head metrics_agree in
+    let slanted : is_slanted a tables.head metrics ≡ is_slanted b tables.head metrics = slant_same a b tables.head metrics h.head metrics_agree in
+    rw (units, glyphs, wide, advances, heights, underline, strikeout, weight, slanted)
 
 numbers-step : (a b : List ℕ) (place : ℕ) (tables : Tables) → AgreeOnDirectory a b place → AgreeOnTables a b tables →
     made_numbers a tables (unless_short 78 (table_named a (face_directory a place) metrics_name)) (unless_short 12 (table_named a (face_directory a place) post_name))

@@ -51,7 +51,7 @@ pub record AreFontsAlike (f g : SfntFont) : Type 0 where
   pub numbers : f.numbers ≡ g.numbers
   pub character_map : f.character_map ≡ g.character_map
   pub segments : f.segments ≡ g.segments
-  pub name : f.name ≡ g.name
+  pub names : f.names ≡ g.names
   pub codes : font_codes f ≡ font_codes g
   pub glyphs : (code : ℕ) → glyph_number f code ≡ glyph_number g code
   pub advances : (glyph : ℕ) → advance_of f glyph ≡ advance_of g glyph

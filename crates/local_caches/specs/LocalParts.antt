@@ -5,7 +5,7 @@ use Rattle.std.specs.declared.sync.Arc.{Arc}
 use Rattle.ass_num.specs.Masks.{MaskValue}
 use Rattle.ass_num.specs.Regions.{RegionValue}
 use Rattle.bdf_font.specs.Fonts.{FontValue}
-use Rattle.bdf_font.specs.declared.font.FontSet.{FontSet}
+use Rattle.bdf_font.specs.declared.sets.FontSet.{FontSet}
 use Rattle.evict_core.specs.Machine.{State}
 use Rattle.evict_core.specs.History.{opening}
 use Rattle.mask_keys.specs.Equality.{equal_regions, equal_masks, equal_composites}

@@ -6,7 +6,7 @@ use Rattle.std.specs.declared.alloc.Global.{Global}
 use Rattle.std.specs.declared.sync.Arc.{Arc}
 use Rattle.ass_num.specs.Masks.{MaskValue}
 use Rattle.ass_num.specs.Regions.{RegionValue}
-use Rattle.bdf_font.specs.declared.font.FontSet.{FontSet}
+use Rattle.bdf_font.specs.declared.sets.FontSet.{FontSet}
 use Rattle.evict_core.specs.Machine.{Ask, Hit}
 use Rattle.flight_cache.specs.Calls.{TicketView, PinView}
 use Rattle.flight_cache.specs.Shards.{CacheView, CachePassView}

@@ -7,7 +7,7 @@ use Rattle.std.proofs.lemmas.Grind.{flat_map-append}
 use Rattle.std.proofs.lemmas.List.{length-append, length-map, length-take-le, map-append, take_all, take_more}
 use Rattle.std.proofs.lemmas.List.Elements.{All-nil, All-push}
 use Rattle.ass_num.specs.Masks.{MaskValue}
-use Rattle.bdf_font.specs.declared.font.FontSet.{FontSet}
+use Rattle.bdf_font.specs.declared.sets.FontSet.{FontSet}
 use Rattle.flight_cache.specs.Shards.{CachePassView}
 use Rattle.cache_kinds.specs.Kinds.{region_meaning, mask_meaning, composite_meaning}
 use Rattle.mask_keys.specs.Equality.{equal_regions, equal_masks, equal_composites}

@@ -1,7 +1,7 @@
 -- Public: the passes of the three caches, as one value.
 use Rattle.std.specs.declared.sync.Arc.{Arc}
 use Rattle.std.specs.declared.alloc.Global.{Global}
-use Rattle.bdf_font.specs.declared.font.FontSet.{FontSet}
+use Rattle.bdf_font.specs.declared.sets.FontSet.{FontSet}
 use Rattle.mask_caches.specs.Composing.{ThreePasses}
 use Rattle.mask_caches.specs.declared.composites.Passes.{Passes}
 use Rattle.mask_caches.specs.declared.passes.CachesPass.{CachesPass}

@@ -1,7 +1,7 @@
 -- Public: what a call asks for to make a value, level by level, and the steps of that in each of the three caches.
 use Rattle.std.specs.Prelude.{◌≡◌, ◌-◌, ◌==◌, Bool, true, not, ◌&&◌, if◌then◌else◌, List, [], ◌++◌, length, map, take, reverse, flat_map, All}
 use Rattle.std.specs.declared.sync.Arc.{Arc}
-use Rattle.bdf_font.specs.declared.font.FontSet.{FontSet}
+use Rattle.bdf_font.specs.declared.sets.FontSet.{FontSet}
 use Rattle.ass_num.specs.Masks.{MaskValue}
 use Rattle.ass_num.specs.Regions.{RegionValue}
 use Rattle.evict_core.specs.Machine.{Step}

@@ -1,8 +1,7 @@
 -- What the items of a layout show in two views of an event, and in which states.
 use Rattle.std.proofs.Common.{◌≡◌, ◌∙◌, sym, ap, subst, ℕ, zero, suc, ◌<◌, Bool, ◌&&◌, not, List, [], ◌∷◌, length, arith}
-use Rattle.std.specs.Prelude.{slice_index, slice_index_or}
+use Rattle.std.specs.Prelude.{slice_index_or}
 use Rattle.std.proofs.lemmas.Option.{get_or_from_slice_get, slice_get_within}
-use Rattle.frame_view.specs.declared.scales.Scales.{Scales}
 use Rattle.ass_script.specs.Scripts.{ScriptValue}
 use Rattle.bdf_font.specs.Fonts.{FontValue}
 use Rattle.override_tags.specs.declared.view.EventView.{EventView}
@@ -13,9 +12,9 @@ use Rattle.tag_state.specs.Looks.{Look}
 use Rattle.tag_state.specs.Setters.{Effect}
 use Rattle.tag_state.specs.States.{IsStateAt}
 use Rattle.tag_state.specs.Views.{AreOnce, AreSeen, HasState, IsSeen}
-use Rattle.text_layout.specs.Fonts.{font_numbers}
+use Rattle.text_layout.specs.Fonts.{font_of_state}
 use Rattle.text_layout.specs.declared.laid.Placed.{Placed}
-use Rattle.event_places.proofs.OneStand.{number_of}
+use Rattle.event_places.proofs.OneStand.{same_font}
 use Rattle.event_draws.specs.Items.{no_shown, no_state, shown_of, state_of}
 use Rattle.event_draws.specs.MovedDraws.{HaveFourColours}
 use Rattle.event_draws.specs.Runs.{are_joined, equal_states, is_drawing}
@@ -78,11 +77,11 @@ module _ (script : ScriptValue) (own : List ℕ) where
               (four_of w.names w.states before (shown_of w placed).state alike.colours_too (at.2).state);
         }
 
-    pub same_number : (fonts : List FontValue) (scales : Scales) (placed : Placed) → placed.item < length v.items
-        → slice_index (font_numbers fonts v.names) (state_of v placed).font ≡ slice_index (font_numbers fonts w.names) (state_of w placed).font
-    same_number fonts scales placed within =
+    pub same_number : (fonts : List FontValue) (placed : Placed) → placed.item < length v.items
+        → font_of_state fonts v.names (state_of v placed) ≡ font_of_state fonts w.names (state_of w placed)
+    same_number fonts placed within =
         let same = same_item placed within in
-        number_of script own fonts scales v.names (state_of v placed) _ same.state.font ∙ sym (number_of script own fonts scales w.names (state_of w placed) _ same.state_too.font)
+        same_font script own fonts v.names w.names same.before (state_of v placed) (state_of w placed) same.state same.state_too
 
     pub same_joined : (p q : Placed) → p.item < length v.items → q.item < length v.items → are_joined v p q ≡ are_joined w p q
     same_joined p q within within_too =

@@ -1,3 +1,4 @@
+pub mod BitmapSets
 pub mod States
 pub mod Items
 pub mod Runs

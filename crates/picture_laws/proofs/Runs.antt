@@ -2,7 +2,6 @@
 use Rattle.std.proofs.Common.{◌≡◌, ◌∙◌, refl, sym, ap, ap₂, ℕ, ◌<◌, Bool, true, false, cond, List, [], ◌∷◌, ◌++◌, length, filter, flat_map, Option, Some, None, option_and_then, option_map}
 use Rattle.std.specs.List.{All, cons_option, filter_map}
 use Rattle.std.specs.Option.{option_map_or}
-use Rattle.std.specs.Prelude.{slice_index, slice_index_or}
 use Rattle.std.proofs.lemmas.List.Elements.{All-cons, All-head, All-nil, All-tail, All-weaker}
 use Rattle.ass_num.specs.declared.geometry.Point.{Point}
 use Rattle.ass_script.specs.Scripts.{ScriptValue}
@@ -12,9 +11,8 @@ use Rattle.override_tags.specs.declared.view.EventView.{EventView}
 use Rattle.override_tags.specs.declared.view.ShownKind.{ShownKind}
 use Rattle.override_tags.specs.declared.view.ShownKind.TheVariants as shown
 use Rattle.override_tags.specs.declared.view.State.{State}
-use Rattle.text_layout.specs.Fonts.{font_numbers}
+use Rattle.text_layout.specs.Fonts.{font_of_state}
 use Rattle.text_layout.specs.Kinds.{char_of}
-use Rattle.text_layout.specs.Metrics.{no_font}
 use Rattle.text_layout.specs.declared.laid.Line.{Line}
 use Rattle.text_layout.specs.declared.laid.Placed.{Placed}
 use Rattle.event_draws.specs.EventDraws.{is_sung_with, left_end, paint_of, right_end, same_syllable, sung_with}
@@ -119,15 +117,14 @@ module _ (script : ScriptValue) (own : List ℕ) (v w : EventView) (alike : Show
 
   -- ---- marks
   module _ (stage : Stage) (fonts : List FontValue) where
-    -- the number of the font of a state of a view
+    -- the place of the font of a state of a view
     abbrev number_in : EventView → State → ℕ
-    number_in view state = slice_index (font_numbers fonts view.names) state.font
+    number_in view state = font_of_state fonts view.names state
 
     same_char : (a b : State) (pen : Point) (c : ℕ) → AreAlike a b → number_in v a ≡ number_in w b → char_mark stage fonts v.names a pen c ≡ char_mark stage fonts w.names b pen c
     same_char a b pen c same number =
         let outline : char_outline stage fonts v.names a c ≡ char_outline stage fonts w.names b c =
-        ap (λ (n : ℕ). font_outline stage a n (slice_index_or fonts n no_font) c) number
-        ∙ ap (λ (s : State). font_outline stage s (number_in w b) (slice_index_or fonts (number_in w b) no_font) c) same
+        ap (λ (n : ℕ). font_outline stage fonts a n c) number ∙ ap (λ (s : State). font_outline stage fonts s (number_in w b) c) same
         in
         ap (option_map _) outline
 
@@ -146,7 +143,7 @@ module _ (script : ScriptValue) (own : List ℕ) (v w : EventView) (alike : Show
     same_mark : (line : Line) (placed : Placed) → IsItemOfView placed → mark_of stage fonts v line placed ≡ mark_of stage fonts w line placed
     same_mark line placed here =
         let same = same_item script own v w alike placed here in
-        let number = same_number script own v w alike fonts stage.scales placed here in
+        let number = same_number script own v w alike fonts placed here in
         same_mark_by (state_of v placed) (state_of w placed) (pen_on stage line placed) (shown_of v placed).kind same.alike number
         ∙ ap (λ (z : ShownKind). mark_by stage fonts w (state_of w placed) (pen_on stage line placed) z) same.kind
 

@@ -1,2 +1,3 @@
+pub mod BitmapSets
 pub mod OnePicture
 pub mod Laws

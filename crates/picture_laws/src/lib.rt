@@ -1,8 +1,9 @@
-//! The law that events draw one list of draws at an instant, and make one picture.
+//! Laws of pictures: that events draw one list of draws at an instant, and make one picture; what fonts of bitmaps draw; and what
+//! scripts show that are written again.
 #![tactic(auto)]
 
 mod laws;
 mod written_laws;
 
-pub use laws::one_picture;
+pub use laws::{bitmaps_are_drawn_as_named, one_picture};
 pub use written_laws::{rewritten_scripts_show_the_same, written_events_show_the_same};

@@ -1,4 +1,5 @@
 pub mod ByteLemmas
+pub mod ClipLemmas
 pub mod FrameLemmas
 pub mod ListingLemmas
 pub mod PaintLemmas

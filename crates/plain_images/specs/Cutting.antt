@@ -1,11 +1,13 @@
 -- Inner: what is cut out of a mask, and its bytes.
-use Rattle.std.specs.Prelude.{◌≡◌, ℕ, ℤ, pos, ◌+◌, ◌*◌, ◌<◌, ◌+ℤ◌, ◌≤ℤ◌, ◌-◌, true, List, length, slice_index, Option, Some, None}
+use Rattle.std.specs.Prelude.{◌≡◌, ℕ, ℤ, pos, ◌+◌, ◌*◌, ◌<◌, ◌≤◌, ◌+ℤ◌, ◌≤ℤ◌, ◌-◌, true, false, List, length, slice_index, Option, Some, None}
 use Rattle.ass_num.specs.Coverage.{moved_value}
 use Rattle.ass_num.specs.Limits.{max_frame_side}
 use Rattle.ass_num.specs.Masks.{MaskValue, is_mask, value_at}
+use Rattle.blend.specs.Areas.{in_moved_box}
 use Rattle.blend.specs.Blending.{StencilValue, Free, Drawn, stencilled}
 use Rattle.plain_images.specs.Panes.{IsPartOf, box_pane, in_pane}
 use Rattle.plain_images.specs.declared.cutting.DrawnClip.{DrawnClip}
+use Rattle.plain_images.specs.declared.cutting.Part.{Part}
 use Rattle.plain_images.specs.declared.panes.Pane.{Pane}
 
 -- a drawn clip as a stencil; without one nothing is hidden
@@ -26,6 +28,21 @@ pub record IsRowCovered (moved : MaskValue × ℤ × ℤ) (x w j : ℕ) : Type 0
   pub some : 0 < w
   pub first : in_pane (box_pane moved.0 moved.1 moved.2) (pos x) (pos j) ≡ true
   pub last : in_pane (box_pane moved.0 moved.1 moved.2) (pos (x + w - 1)) (pos j) ≡ true
+
+-- The pane has the pixels of row j from column x on, count of them.
+pub record IsRowPane (x j count : ℕ) (row : Pane) : Type 0 where
+  pub left : row.x1 ≡ pos x
+  pub right : row.x2 ≡ pos (x + count)
+  pub top : row.y1 ≡ pos j
+  pub bottom : row.y2 ≡ pos (j + 1)
+
+-- Of the `count` pixels of row j from column x on, those of the part lie in the box of a moved mask, and no others.
+pub record IsPartInBox (moved : MaskValue × ℤ × ℤ) (x j count : ℕ) (part : Part) : Type 0 where
+  pub ordered : part.from ≤ part.to
+  pub within : part.to ≤ count
+  pub before : (k : ℕ) → k < part.from → in_moved_box moved (x + k) j ≡ false
+  pub inside : (k : ℕ) → part.from ≤ k → k < part.to → in_moved_box moved (x + k) j ≡ true
+  pub behind : (k : ℕ) → part.to ≤ k → k < count → in_moved_box moved (x + k) j ≡ false
 
 -- what a stencil leaves of a moved mask at pixel (i, j)
 abbrev pub stencilled_at : MaskValue × ℤ × ℤ → StencilValue → ℕ → ℕ → ℕ

@@ -1,6 +1,6 @@
 //! Rectangles of pixels, which may be empty.
 
-ghost use Rattle.std.specs.Prelude.{◌≡◌, pos};
+ghost use Rattle.std.specs.Prelude.{◌≡◌};
 ghost use Rattle.ass_num.specs.Limits.{IsFrameSize};
 ghost use Rattle.plain_images.specs.Panes as rule;
 
@@ -48,14 +48,6 @@ impl Pane {
         ensures { result ≡ rule.is_empty_pane self }
     {
         self.x2 <= self.x1 || self.y2 <= self.y1
-    }
-
-    /// Whether pixel (i, j) lies in it.
-    pub fn has(self, i: u32, j: u32) -> bool
-        ensures { result ≡ rule.in_pane self (pos i) (pos j) }
-    {
-        let (i, j) = (i64::from(i), i64::from(j));
-        (self.x1 <= i && i < self.x2) && (self.y1 <= j && j < self.y2)
     }
 
     /// The pixels that lie in both.

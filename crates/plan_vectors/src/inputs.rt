@@ -13,7 +13,7 @@ use crate::unreadable;
 use ass_events::{Event, event_of_line, line_laws};
 use ass_num::Items;
 use ass_script::{Script, read_script};
-use bdf_font::{Font, FontSet, read_font};
+use bdf_font::{Font, FontSet, read_font, read_fonts};
 use override_tags::EventView;
 use std::alloc::Global;
 use std::io;
@@ -94,4 +94,20 @@ pub fn fonts_of(alloc: Global, first: &str, second: &str) -> io::Result<FontSet>
         return Err(unreadable());
     };
     Ok(FontSet { fonts })
+}
+
+/// The fonts of a file, which is written in hexadecimal digits.
+pub fn faces_of(alloc: Global, digits: &str) -> io::Result<FontSet>
+    ensures { IfOk result (λ set. IsLayoutFontSet set.fonts) }
+{
+    let Ok(bytes) = hex::decode(alloc, digits.trim()) else {
+        return Err(unreadable());
+    };
+    if bytes.len() > MAX_FONT_BYTES {
+        return Err(unreadable());
+    }
+    match read_fonts(alloc, Items::from_vec(bytes)) {
+        Ok(fonts) => Ok(FontSet { fonts }),
+        Err(_) => Err(unreadable()),
+    }
 }

@@ -11,7 +11,7 @@ mod shifts;
 mod telling;
 
 use breaks::show_breaks;
-use inputs::fonts_of;
+use inputs::{faces_of, fonts_of};
 use layouts::show_layouts;
 use plans::show_plans;
 use scales::show_scales;
@@ -23,7 +23,7 @@ fn unreadable() -> io::Error {
     io::Error::from(io::ErrorKind::InvalidData)
 }
 
-/// Two fonts, the head of a script, and rows, each part behind a line of two bars.
+/// Two fonts, or one file of faces, the head of a script, and rows, each part behind a line of two bars.
 fn parts_of(text: &str) -> [&str; 4] {
     let mut parts = text.split("==\n");
     [
@@ -67,13 +67,24 @@ fn show_rows(rt: &HostRuntime, rows: &str) -> io::Result<()> {
     Ok(())
 }
 
-/// Prints the layouts, behind a line of four bars the plans, and behind another one the rows of items without texts.
+/// Prints the plans that a text asks for, whose fonts are the faces of one file.
+fn show_faces(rt: &HostRuntime, text: &str) -> io::Result<()> {
+    let [faces, head, rows, _] = parts_of(text);
+    let fonts = faces_of(rt.alloc(), faces)?;
+    println!(rt; "faces")?;
+    show_plans(rt, &fonts, head, rows)
+}
+
+/// Prints the layouts, behind a line of four bars the plans, behind another one the rows of items without texts, and behind a third one the
+/// plans of faces.
 fn show_all(rt: &HostRuntime, text: &str) -> io::Result<()> {
     let (layouts, rest) = text.split_once("====\n").ok_or(unreadable())?;
-    let (plans, rows) = rest.split_once("====\n").ok_or(unreadable())?;
+    let (plans, rest) = rest.split_once("====\n").ok_or(unreadable())?;
+    let (rows, faces) = rest.split_once("====\n").ok_or(unreadable())?;
     lay_out(rt, layouts)?;
     plan_out(rt, plans)?;
-    show_rows(rt, rows)
+    show_rows(rt, rows)?;
+    show_faces(rt, faces)
 }
 
 fn main(rt: HostRuntime) -> io::Result<()> {

@@ -21,6 +21,7 @@ use Rattle.run_status.specs.declared.status.Status.TheVariants as status
 use Rattle.run_status.specs.declared.status.What.TheVariants.{Frames as images}
 use Rattle.play_command.specs.PlayRuns.{AreReadUnless, IsPlayRead, has_too_many, play_refusal, view_of}
 use Rattle.play_command.specs.Working.{IsPlayShown, IsPlayWorked, IsSpoken, IsToldOf}
+use Rattle.run_words.specs.declared.job.ScriptSource.{ScriptSource}
 
 -- ---- what is shown
 
@@ -35,7 +36,7 @@ shown play play_end.OutOfMemory outcome old new h told =
     subst (λ (o : Outcome). IsPlayShown play (sink_change old new) o) (sym told) (h.bytes, inl h.front, h.held, h.asked)
 
 -- A play with what was read for it.
-pub played : (told : List ℕ → Told) (job : PlayJob) (script : List ℕ) (fonts : List (List ℕ)) (inputs : Inputs) (end : PlayEnd) (outcome : Outcome) (old new : SinkState) →
+pub played : (told : List ℕ → Told) (job : PlayJob) (script : ScriptSource) (fonts : List (List ℕ)) (inputs : Inputs) (end : PlayEnd) (outcome : Outcome) (old new : SinkState) →
     IsPlayRead told job script fonts (Ok inputs) → IsPlayable (view_of job inputs) → IsPlayed (view_of job inputs) end old new → IsToldOf end outcome →
     IsPlayWorked told job script fonts (sink_change old new) outcome
 played told job script fonts inputs end outcome old new read playable h tells = record {
@@ -45,7 +46,7 @@ played told job script fonts inputs end outcome old new read playable h tells = 
 }
 
 -- A play whose files are refused.
-pub refused : (told : List ℕ → Told) (job : PlayJob) (script : List ℕ) (fonts : List (List ℕ)) (why : Status) (state : SinkState) →
+pub refused : (told : List ℕ → Told) (job : PlayJob) (script : ScriptSource) (fonts : List (List ℕ)) (why : Status) (state : SinkState) →
     IsPlayRead told job script fonts (Err why) → IsPlayWorked told job script fonts (sink_change state state) (Ended why)
 refused told job script fonts why state read = record { reading = Err why; read = read; shown = (inl refl, keeps state.held, refl) }
 
@@ -101,13 +102,13 @@ refusal_why : (job : PlayJob) (fonts : List (List ℕ)) → IfSome (play_refusal
 refusal_why job [] = tt
 refusal_why job (font ∷ fonts) = many_or_read (has_too_many job (font ∷ fonts))
 
-why_unless : (refusal : Option Status) (told : List ℕ → Told) (script : List ℕ) (fonts : List (List ℕ)) (why : Status) → IfSome refusal IsFileWhy →
+why_unless : (refusal : Option Status) (told : List ℕ → Told) (script : ScriptSource) (fonts : List (List ℕ)) (why : Status) → IfSome refusal IsFileWhy →
     AreReadUnless refusal told script fonts (Err why) → IsFileWhy why
 why_unless (Some asked) told script fonts why is read = let same : why ≡ asked = cc in subst IsFileWhy (sym same) is
 why_unless None told script fonts why is read = file_why why (read_kind told script fonts why read)
 
 -- Why the files of a play are refused.
-pub play_why : (told : List ℕ → Told) (job : PlayJob) (script : List ℕ) (fonts : List (List ℕ)) (why : Status) → IsPlayRead told job script fonts (Err why) → IsFileWhy why
+pub play_why : (told : List ℕ → Told) (job : PlayJob) (script : ScriptSource) (fonts : List (List ℕ)) (why : Status) → IsPlayRead told job script fonts (Err why) → IsFileWhy why
 play_why told job script fonts why read = why_unless (play_refusal job fonts) told script fonts why (refusal_why job fonts) read
 
 -- Then no sink was asked.

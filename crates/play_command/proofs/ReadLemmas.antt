@@ -10,10 +10,10 @@ use Rattle.ass_script.specs.declared.refusal.ScriptRefusal.TheVariants as refusa
 use Rattle.bdf_font.specs.Fonts.{FontValue}
 use Rattle.bdf_font.specs.Limits.{max_fonts}
 use Rattle.bdf_font.specs.Ranges.{IsFont}
-use Rattle.single_run.proofs.InputLemmas.{file_lines, font_set, held_lines}
+use Rattle.single_run.proofs.InputLemmas.{file_lines, font_set, script_in, source_lines}
 use Rattle.generated_script.specs.Generated.{generated}
 use Rattle.run_status.specs.Causes.{script_status, with_status}
-use Rattle.run_status.specs.Inputs.{AreRead}
+use Rattle.run_status.specs.Inputs.{AreFilesRead, AreRead}
 use Rattle.run_status.specs.declared.inputs.Inputs.{Inputs}
 use Rattle.play_model.specs.Plays.{IsPlayable, PlayView}
 use Rattle.play_shares.specs.Instants.{frame_count}
@@ -28,6 +28,7 @@ use Rattle.text_layout.specs.Fonts.{IsLayoutFontSet}
 use Rattle.play_command.specs.PlayRuns.{has_too_many, play_refusal, view_of}
 use Rattle.play_command.specs.SelftestRuns.{IsScriptIn, IsSelftestRead, selftest_fonts}
 use Rattle.play_command.specs.Working.{AreSelftestInputs, IsWithFont, script_alone}
+use Rattle.run_words.specs.declared.job.ScriptSource.{ScriptSource}
 
 both_true : (a b : Bool) → a ≡ true → b ≡ true → a && b ≡ true
 both_true true b e f = f
@@ -49,8 +50,13 @@ some_fonts : (job : PlayJob) (fonts : List (List ℕ)) → None ≡ play_refusal
 some_fonts job [] e = absurd cc
 some_fonts job (font ∷ fonts) e = (omega arith, not_refused (has_too_many job (font ∷ fonts)) (TooLarge images max_frames) e)
 
+files_lines : LinesFitTheirText → (told : List ℕ → Told) (script : ScriptSource) (fonts : List (List ℕ)) (inputs : Inputs) → AreFilesRead told script fonts (Ok inputs) →
+    All (λ line. length line ≤ max_file_bytes) inputs.script.lines
+files_lines fit told script fonts inputs (read, is, same, behind) =
+    subst (λ (s : ScriptValue). All (λ line. length line ≤ max_file_bytes) s.lines) (sym same) (file_lines fit told script read is)
+
 -- A play whose files are read is within its limits.
-pub playable : LinesFitTheirText → (told : List ℕ → Told) (job : PlayJob) (script : List ℕ) (fonts : List (List ℕ)) (inputs : Inputs) →
+pub playable : LinesFitTheirText → (told : List ℕ → Told) (job : PlayJob) (script : ScriptSource) (fonts : List (List ℕ)) (inputs : Inputs) →
     IsPlay job → None ≡ play_refusal job fonts → AreRead told script fonts (Ok inputs) → IsScript inputs.script → All IsFont inputs.fonts → IsPlayable (view_of job inputs)
 playable fit told job script fonts inputs within passes (inr (many, e)) is each = absurd cc
 playable fit told job script fonts inputs within passes (inl (few, read)) is each =
@@ -58,11 +64,11 @@ playable fit told job script fonts inputs within passes (inl (few, read)) is eac
       job = within;
       frames = few_frames job fonts found.1 few;
       script = is;
-      short = file_lines fit told script inputs.script read.0;
-      fonts = font_set fonts inputs found.0 few read.1.0 each;
+      short = files_lines fit told script fonts inputs read;
+      fonts = font_set told script fonts inputs found.0 read each;
     }
 
-pub all_playable : LinesFitTheirText → (told : List ℕ → Told) (job : PlayJob) (script : List ℕ) (fonts : List (List ℕ)) (answer : Result Inputs Status) →
+pub all_playable : LinesFitTheirText → (told : List ℕ → Told) (job : PlayJob) (script : ScriptSource) (fonts : List (List ℕ)) (answer : Result Inputs Status) →
     IsPlay job → None ≡ play_refusal job fonts → AreRead told script fonts answer → IfOk answer (λ inputs. IsScript inputs.script) → IfOk answer (λ inputs. All IsFont inputs.fonts) →
     IfOk answer (λ inputs. IsPlayable (view_of job inputs))
 all_playable fit told job script fonts (Ok inputs) within passes read is each = playable fit told job script fonts inputs within passes read is each
@@ -112,5 +118,6 @@ font_inputs script (Err why) is short h = tt
 
 -- A generated script that is read has short lines.
 pub generated_short : LinesFitTheirText → (seed events : ℕ) (script : ScriptValue) → IsSelftestRead seed events (Ok script) → All (λ line. length line ≤ max_file_bytes) script.lines
-generated_short fit seed events script (inl asks) = held_lines fit [] (Some (generated seed events)) script asks
+generated_short fit seed events script (inl (inl (small, e))) = source_lines fit (generated seed events) script small (script_in (script_of (generated seed events)) script e)
+generated_short fit seed events script (inl (inr (large, e))) = absurd cc
 generated_short fit seed events script (inr memory) = absurd cc

@@ -35,11 +35,12 @@ use Rattle.play_command.proofs.SelftestLemmas.{wanting}
 use Rattle.play_command.specs.PlayRuns.{AreReadUnless, DecidesPlay, IsPlayAsked, IsPlayOutput, IsPlayPut, IsPlayRun, IsPlayText, play_refusal, status_read, view_of}
 use Rattle.play_command.specs.SelftestRuns.{DecidesSelftest, IsSelftestRead, IsSelftestReport, IsSelftestRun}
 use Rattle.play_command.specs.Working.{IsJobWorked, IsPlayShown, IsPlayWorked, IsSelftestWorked, IsShared, IsShownAfter, IsSpoken}
+use Rattle.run_words.specs.declared.job.ScriptSource.{ScriptSource}
 
 -- ---- what words ask for
 
 -- The words of a play and of a selftest ask for no work that waits for nobody.
-pub play_left : (words : List (List ℕ)) (job : PlayJob) (script : List ℕ) (fonts : List (List ℕ)) → job_of words ≡ Ok (Play job script fonts) → work_asked words ≡ Ok None
+pub play_left : (words : List (List ℕ)) (job : PlayJob) (script : ScriptSource) (fonts : List (List ℕ)) → job_of words ≡ Ok (Play job script fonts) → work_asked words ≡ Ok None
 play_left words job script fonts e = ap work_in e
 
 pub selftest_left : (words : List (List ℕ)) (seed events workers : ℕ) → job_of words ≡ Ok (Selftest seed events workers) → work_asked words ≡ Ok None
@@ -78,7 +79,7 @@ job_left words job e left = shared_left job (sym (ap work_in e) ∙ left)
 pub same_job : (reading : Result Job WordsFault) (one other : Job) → reading ≡ Ok one → reading ≡ Ok other → one ≡ other
 same_job reading one other a b = let whole : Ok one ≡ Ok other = sym a ∙ b in cc
 
-pub not_selftest : (play : PlayJob) (script : List ℕ) (fonts : List (List ℕ)) (seed events workers : ℕ) → Play play script fonts ≡ Selftest seed events workers → ⊥
+pub not_selftest : (play : PlayJob) (script : ScriptSource) (fonts : List (List ℕ)) (seed events workers : ℕ) → Play play script fonts ≡ Selftest seed events workers → ⊥
 not_selftest play script fonts seed events workers e = cc
 
 -- ---- what the report got
@@ -185,7 +186,7 @@ asked job (Err why) frames report outcome answer h r s e told f = elim h.0 [
 ]
 
 -- A play and what is reported of it are a run.
-pub play_run : (told : List ℕ → Told) (job : PlayJob) (script : List ℕ) (fonts : List (List ℕ)) (frames report : SinkChange) (outcome : Outcome) (answer : Status) →
+pub play_run : (told : List ℕ → Told) (job : PlayJob) (script : ScriptSource) (fonts : List (List ℕ)) (frames report : SinkChange) (outcome : Outcome) (answer : Status) →
     IsPlayWorked told job script fonts frames outcome → IsReportable outcome → IsSpoken outcome → IsEnded outcome answer → IsToldBy report answer (text_to_report outcome) →
     IsFinishedBy report outcome answer → IsPlayRun told job script fonts frames report answer
 play_run told job script fonts frames report outcome answer worked r s e tells f = record {
@@ -195,14 +196,14 @@ play_run told job script fonts frames report outcome answer worked r s e tells f
 }
 
 -- Memory may be wanting before any file is fetched.
-unread : (refusal : Option Status) (told : List ℕ → Told) (script : List ℕ) (fonts : List (List ℕ)) → (why : Status) × AreReadUnless refusal told script fonts (Err why)
+unread : (refusal : Option Status) (told : List ℕ → Told) (script : ScriptSource) (fonts : List (List ℕ)) → (why : Status) × AreReadUnless refusal told script fonts (Err why)
 unread (Some why) told script fonts = (why, refl)
 unread None told script fonts = elim (cases_lt max_fonts (length fonts)) [
   | inl many ↦ (status.TooLarge Fonts max_fonts, inr (many, refl))
   | inr few ↦ (status.OutOfMemory, inl (few, inl tt))
 ]
 
-pub play_wanting : (told : List ℕ → Told) (job : PlayJob) (script : List ℕ) (fonts : List (List ℕ)) (state : SinkState) (report : SinkChange) (answer : Status) →
+pub play_wanting : (told : List ℕ → Told) (job : PlayJob) (script : ScriptSource) (fonts : List (List ℕ)) (state : SinkState) (report : SinkChange) (answer : Status) →
     answer ≡ status.OutOfMemory → IsToldBy report answer [] → IsFinishedBy report out_of_memory answer → IsPlayRun told job script fonts (sink_change state state) report answer
 play_wanting told job script fonts state report answer memory tells f =
     let reading = unread (play_refusal job fonts) told script fonts in
@@ -221,7 +222,7 @@ job_wanting told (Write later earlier script) state shared = absurd shared
 
 -- ---- what decides a play
 
-read_one : FilesDecide → (refusal : Option Status) (told : List ℕ → Told) (script : List ℕ) (fonts : List (List ℕ)) (one other : Result Inputs Status) → AreTold told script fonts →
+read_one : FilesDecide → (refusal : Option Status) (told : List ℕ → Told) (script : ScriptSource) (fonts : List (List ℕ)) (one other : Result Inputs Status) → AreTold told script fonts →
     IsReadDecided one → IsReadDecided other → AreReadUnless refusal told script fonts one → AreReadUnless refusal told script fonts other → one ≡ other
 read_one law (Some why) told script fonts one other known d f h k = h ∙ sym k
 read_one law None told script fonts one other known d f h k = law told script fonts one other known d f h k
@@ -251,7 +252,7 @@ without_fault name answer before now stays counted (inl fault) = absurd (stays (
 without_fault name answer before now stays counted (inr memory) = memory
 
 -- Files that are told decide a play without a fault.
-pub play_decides : FilesDecide → (told : List ℕ → Told) (job : PlayJob) (script : List ℕ) (fonts : List (List ℕ)) (frames report : SinkChange) (before now : ℕ) (answer : Status) →
+pub play_decides : FilesDecide → (told : List ℕ → Told) (job : PlayJob) (script : ScriptSource) (fonts : List (List ℕ)) (frames report : SinkChange) (before now : ℕ) (answer : Status) →
     IsPlayRun told job script fonts frames report answer → IsStatusReadCounted answer before now → IsWriteCounted answer frames.before.faults frames.now.faults →
     (Rose before now → ⊥) → (Rose frames.before.faults frames.now.faults → ⊥) → (Rose report.before.faults report.now.faults → ⊥) → DecidesPlay told job script fonts answer
 play_decides law told job script fonts frames report before now answer run counted written stays shows reports = λ reading known read decided.

@@ -25,6 +25,7 @@ use Rattle.run_status.specs.declared.status.Status.{Status}
 use Rattle.run_status.specs.declared.status.Status.TheVariants.{BadWords, Done, OutOfMemory, TooLarge, WriteFault}
 use Rattle.run_status.specs.declared.status.What.TheVariants.{Frames as images}
 use Rattle.run_status.specs.declared.status.Which.TheVariants.{Frames, Report}
+use Rattle.run_words.specs.declared.job.ScriptSource.{ScriptSource}
 
 -- a job with what was read for it
 abbrev pub view_of : PlayJob → Inputs → PlayView
@@ -94,7 +95,7 @@ IsPlayAsked job (Err refusal) frames report status =
 IsPlayAsked job (Ok inputs) frames report status = IsPlayable (view_of job inputs) × IsPlayPut (view_of job inputs) frames report status
 
 -- A run of a play. Its files are read with one answer, as far as it is told what they hold; that answer asks for the status, for what the sinks may get, and for the pieces that they are asked to put.
-pub record IsPlayRun (told : List ℕ → Told) (job : PlayJob) (script : List ℕ) (fonts : List (List ℕ)) (frames report : SinkChange) (status : Status) : Type 0 where
+pub record IsPlayRun (told : List ℕ → Told) (job : PlayJob) (script : ScriptSource) (fonts : List (List ℕ)) (frames report : SinkChange) (status : Status) : Type 0 where
   pub reading : Result Inputs Status
   pub read : IsPlayRead told job script fonts reading
   pub asked : IsPlayAsked job reading frames report status

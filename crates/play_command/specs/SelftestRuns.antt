@@ -1,13 +1,14 @@
 -- Public: a whole run of a selftest.
 use Rattle.std.specs.Prelude.{◌≡◌, ◌⊎◌, ℕ, ◌*◌, ◌<◌, pos, List, [], ◌∷◌, length, Some, Result, Ok, Err, slice_index_or, flat_map}
 use Rattle.ass_script.specs.Ranges.{IsScript}
-use Rattle.ass_script.specs.Scripts.{ScriptValue}
+use Rattle.ass_script.specs.Scripts.{ScriptValue, script_of}
 use Rattle.bdf_font.specs.Fonts.{FontValue}
 use Rattle.single_run.specs.Outcomes.{ArePiecesTold, IsOrFault, IsOrMemory, IsReported}
 use Rattle.single_run.specs.Runs.{SinkChange}
 use Rattle.generated_script.specs.Generated.{generated}
 use Rattle.generated_script.specs.Grid.{grid_font}
-use Rattle.run_status.specs.Files.{AsksScript}
+use Rattle.run_status.specs.Causes.{script_status, with_status}
+use Rattle.run_status.specs.Files.{AsksOf}
 use Rattle.run_status.specs.Laws.{IsReadDecided}
 use Rattle.play_model.specs.Images.{IsSettledImage}
 use Rattle.play_model.specs.Plays.{PlayView}
@@ -72,7 +73,7 @@ IsSelftestReport seed events (Ok script) text = IsSelftestText script seed event
 
 -- What reading bytes as a script answers: what a file asks for that holds them, or out of memory.
 abbrev pub IsScriptIn : List ℕ → Result ScriptValue Status → Type 0
-IsScriptIn bytes reading = AsksScript [] (Some bytes) reading ⊎ (reading ≡ Err OutOfMemory)
+IsScriptIn bytes reading = AsksOf (λ all answer. answer ≡ with_status script_status (script_of all)) [] (Some bytes) reading ⊎ (reading ≡ Err OutOfMemory)
 
 -- What reading the generated script answers.
 abbrev pub IsSelftestRead : ℕ → ℕ → Result ScriptValue Status → Type 0

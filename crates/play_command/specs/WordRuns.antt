@@ -13,6 +13,7 @@ use Rattle.single_run.specs.Works.{work_asked}
 use Rattle.single_run.specs.declared.work.Work.{Work}
 use Rattle.play_command.specs.PlayRuns.{IsPlayRun}
 use Rattle.play_command.specs.SelftestRuns.{IsSelftestRun}
+use Rattle.run_words.specs.declared.job.ScriptSource.{ScriptSource}
 
 -- The words were refused, nothing was shown, and the report got no more than a line.
 pub record IsRefusedRun (why : Status) (frames report : SinkChange) (status : Status) : Type 0 where
@@ -26,6 +27,6 @@ pub record IsRefusedRun (why : Status) (frames report : SinkChange) (status : St
 pub record IsRunOfWords (told : List ℕ → Told) (words : List (List ℕ)) (frames report : SinkChange) (status : Status) : Type 0 where
   pub refused : (why : Status) → work_asked words ≡ Err why → IsRefusedRun why frames report status
   pub work : (work : Work) → work_asked words ≡ Ok (Some work) → IsJobRun told work frames report status
-  pub play : (job : PlayJob) (script : List ℕ) (fonts : List (List ℕ)) → job_of words ≡ Ok (Play job script fonts)
+  pub play : (job : PlayJob) (script : ScriptSource) (fonts : List (List ℕ)) → job_of words ≡ Ok (Play job script fonts)
       → IsPlayRun told job script fonts frames report status
   pub selftest : (seed events workers : ℕ) → job_of words ≡ Ok (Selftest seed events workers) → IsSelftestRun seed events report status

@@ -25,6 +25,7 @@ use Rattle.run_status.specs.declared.status.Which.TheVariants.{Frames, Report}
 use Rattle.text_layout.specs.Fonts.{IsLayoutFontSet}
 use Rattle.play_command.specs.PlayRuns.{IsEarlyOutput, IsPlayOutput, IsPlayRead, early_images, status_read, view_of}
 use Rattle.play_command.specs.SelftestRuns.{IsSelftestRead, IsSelftestReport, accepted_first, selftest_fonts}
+use Rattle.run_words.specs.declared.job.ScriptSource.{ScriptSource}
 
 -- There is something to report: a text, or the line of a status.
 abbrev pub IsSpoken : Outcome → Type 0
@@ -56,7 +57,7 @@ IsShownAfter job (Err refusal) frames outcome =
 IsShownAfter job (Ok inputs) frames outcome = IsPlayable (view_of job inputs) × IsPlayShown (view_of job inputs) frames outcome
 
 -- A play before anything is reported.
-pub record IsPlayWorked (told : List ℕ → Told) (job : PlayJob) (script : List ℕ) (fonts : List (List ℕ)) (frames : SinkChange) (outcome : Outcome) : Type 0 where
+pub record IsPlayWorked (told : List ℕ → Told) (job : PlayJob) (script : ScriptSource) (fonts : List (List ℕ)) (frames : SinkChange) (outcome : Outcome) : Type 0 where
   pub reading : Result Inputs Status
   pub read : IsPlayRead told job script fonts reading
   pub shown : IsShownAfter job reading frames outcome

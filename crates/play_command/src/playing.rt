@@ -18,7 +18,7 @@ use bdf_font::FontSet;
 use play_report::report_text;
 use play_rounds::{PlayEnd, play};
 use run_status::{Inputs, Status, Which};
-use run_words::PlayJob;
+use run_words::{PlayJob, ScriptSource};
 use single_run::Outcome;
 use std::alloc::Global;
 use std::sync::Arc;
@@ -72,7 +72,7 @@ pub fn play_files<S: Shelf, F: Sink, H: TestHook + Sync>(
     rt: &impl Rt,
     alloc: Global,
     job: PlayJob,
-    script: &Text,
+    script: &ScriptSource,
     fonts: &[Text],
     shelf: &mut S,
     frames: &mut F,

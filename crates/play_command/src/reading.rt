@@ -18,7 +18,7 @@ use bdf_font::Font;
 use generated_script::{generated, grid_font};
 use play_shares::has_too_many_frames;
 use run_status::{Inputs, MAX_FONTS, Status, What, read_inputs, script_status};
-use run_words::{PlayJob, WordsFault};
+use run_words::{PlayJob, ScriptSource, WordsFault};
 use std::alloc::Global;
 
 /// The most images of a play.
@@ -54,7 +54,7 @@ pub fn play_inputs<S: Shelf>(
     alloc: Global,
     shelf: &mut S,
     job: &PlayJob,
-    script: &Text,
+    script: &ScriptSource,
     fonts: &[Text],
 ) -> Result<Inputs, Status>
     requires { IsPlay job.now }

@@ -14,6 +14,7 @@ ghost use Rattle.run_words.specs.Jobs.{IsJob};
 ghost use Rattle.run_words.specs.Words.{job_of, texts};
 ghost use Rattle.run_words.specs.declared.job.Job.TheVariants.{Play as a_play, Selftest as a_selftest};
 ghost use Rattle.run_words.specs.declared.job.PlayJob.{PlayJob};
+ghost use Rattle.run_words.specs.declared.job.ScriptSource.{ScriptSource};
 
 use crate::playing::play_files;
 use crate::selftest::do_selftest;
@@ -116,11 +117,11 @@ pub fn top<S: Shelf, F: Sink, R: Sink, H: TestHook + Sync>(
         → Decides (S.told shelf.old) work result }
 
     // So it is with a play, which puts an image each.
-    ensures play { (job : PlayJob) (script : List ℕ) (fonts : List (List ℕ)) → job_of (texts words.now) ≡ Ok (a_play job script fonts)
+    ensures play { (job : PlayJob) (script : ScriptSource) (fonts : List (List ℕ)) → job_of (texts words.now) ≡ Ok (a_play job script fonts)
         → IsPlayRun (S.told shelf.old) job script fonts
         (sink_change (F.state frames.old) (F.state frames.new))
         (sink_change (R.state report.old) (R.state report.new)) result }
-    ensures play_decided { (job : PlayJob) (script : List ℕ) (fonts : List (List ℕ)) → job_of (texts words.now) ≡ Ok (a_play job script fonts)
+    ensures play_decided { (job : PlayJob) (script : ScriptSource) (fonts : List (List ℕ)) → job_of (texts words.now) ≡ Ok (a_play job script fonts)
         → (Rose (S.faults shelf.old) (S.faults shelf.new) → ⊥)
         → (Rose (F.state frames.old).faults (F.state frames.new).faults → ⊥)
         → (Rose (R.state report.old).faults (R.state report.new).faults → ⊥)

@@ -20,6 +20,7 @@ use Rattle.run_status.specs.declared.status.Status.{Status}
 use Rattle.run_status.specs.declared.status.Status.TheVariants as status
 use Rattle.run_status.specs.declared.status.Which.TheVariants.{Frames, Report}
 use Rattle.play_rounds.proofs.Puts.{kept_nothing}
+use Rattle.run_words.specs.declared.job.ScriptSource.{ScriptSource}
 
 -- a prefix of what may be shown, or all of it
 abbrev IsEarly : PlayView → List ℕ → Type 0
@@ -52,7 +53,7 @@ module _ (law : Law) (one other : PlayView) (playable : IsPlayable one) (fits : 
   early_agrees front bytes times (inr (own, whole)) shown =
       ([], sym (plays_agree law one other own times front bytes playable fits alike settled too whole shown) ∙ sym (append-nil front))
 
-module _ (told : List ℕ → Told) (script : List ℕ) (fonts : List (List ℕ)) (law : Law) (decide : FilesDecide) (known : AreTold told script fonts) where
+module _ (told : List ℕ → Told) (script : ScriptSource) (fonts : List (List ℕ)) (law : Law) (decide : FilesDecide) (known : AreTold told script fonts) where
   module _ (one other : PlayJob) (frames report more said : SinkChange) (answer : Status) (alike : JobsAlike one other) (settled : one.mode ≡ Settled) (too : other.mode ≡ Settled)
       (y : DoneRun told script fonts other more said) where
     early_run : (reading : Result Inputs Status) → IsPlayRead told one script fonts reading → IsPlayAsked one reading frames report answer

@@ -19,6 +19,7 @@ use Rattle.run_words.specs.declared.job.PlayJob.{PlayJob}
 use Rattle.run_status.specs.declared.status.Status.{Status}
 use Rattle.run_status.specs.declared.status.Status.TheVariants.{Done, TooLarge}
 use Rattle.run_status.specs.declared.status.What.TheVariants.{Frames as images}
+use Rattle.run_words.specs.declared.job.ScriptSource.{ScriptSource}
 
 -- ---- files that are right
 
@@ -33,7 +34,7 @@ not_refused : (job : PlayJob) (fonts : List (List ℕ)) → 0 < length fonts →
 not_refused job [] some few = absurd (omega (arith, some))
 not_refused job (font ∷ fonts) some few = ap (λ (b : Bool). cond b (Some (TooLarge images max_frames)) None) (few_images job (font ∷ fonts) few)
 
-pub play_done : (told : List ℕ → Told) (job : PlayJob) (script : List ℕ) (fonts : List (List ℕ)) (inputs : Inputs) (status : Status)
+pub play_done : (told : List ℕ → Told) (job : PlayJob) (script : ScriptSource) (fonts : List (List ℕ)) (inputs : Inputs) (status : Status)
     → AreTold told script fonts → AreFilesRead told script fonts (Ok inputs) → 0 < length fonts → length fonts ≤ max_fonts → frame_count job ≤ max_frames
     → DecidesPlay told job script fonts status → IsOrMemory Done status
 play_done told job script fonts inputs status known read some fits few decides =
@@ -53,11 +54,12 @@ abbrev refused_in : Result Inputs Status → Option Status
 refused_in (Ok inputs) = None
 refused_in (Err why) = Some why
 
-module _ (told : List ℕ → Told) (script : List ℕ) (fonts : List (List ℕ)) where
+module _ (told : List ℕ → Told) (script : ScriptSource) (fonts : List (List ℕ)) where
   pub read_not_done : AreRead told script fonts (Err Done) → ⊥
   read_not_done (inr (many, e)) = cc
   read_not_done (inl (few, inl asked)) = asked
-  read_not_done (inl (few, inr (read, is, failed))) = failed.3 []
+  read_not_done (inl (few, inr (read, is, inl failed))) = failed.3 []
+  read_not_done (inl (few, inr (read, is, inr (files, are, many, e)))) = cc
 
   unless_not_done : (refusal : Option Status) → (refusal ≡ Some Done → ⊥) → AreReadUnless refusal told script fonts (Err Done) → ⊥
   unless_not_done (Some why) not read = not (ap refused_in (sym read))

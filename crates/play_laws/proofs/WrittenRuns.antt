@@ -22,18 +22,20 @@ use Rattle.track_write.specs.Shifts.{shifted}
 use Rattle.track_write.specs.Texts.{written}
 use Rattle.track_write.specs.declared.refusal.WriteRefusal.{WriteRefusal}
 use Rattle.picture_laws.specs.Laws.{AreReadLater, ReadScriptsAreReadLater}
-use Rattle.single_run.proofs.InputLemmas.{script_in}
+use Rattle.single_run.proofs.InputLemmas.{read_with}
+use Rattle.run_words.specs.declared.job.ScriptSource.{ScriptSource}
 
 -- ---- the script that was read
 
 -- some bytes spell it
-has_source : (name : List ℕ) (held : Held) (script : ScriptValue) → AsksScript name held (Ok script) → (source : List ℕ) × (script_of source ≡ Ok script)
-has_source name None script e = absurd cc
-has_source name (Some bytes) script (inl (small, e)) = (bytes, script_in (script_of bytes) script e)
-has_source name (Some bytes) script (inr (large, e)) = absurd cc
+has_source : (own_fonts : Bool) (name : List ℕ) (held : Held) (inputs : Inputs) → AsksScript own_fonts name held (Ok inputs) → (source : List ℕ) × (script_of source ≡ Ok inputs.script)
+has_source own_fonts name None inputs e = absurd cc
+has_source own_fonts name (Some bytes) inputs (inl (small, (fonts, own, e))) = (bytes, read_with (script_of bytes) fonts inputs e)
+has_source own_fonts name (Some bytes) inputs (inr (large, e)) = absurd cc
 
-script_is_read : (told : List ℕ → Told) (script : List ℕ) (fonts : List (List ℕ)) (inputs : Inputs) → AreRead told script fonts (Ok inputs) → IsScriptRead told script (Ok inputs.script)
-script_is_read told script fonts inputs (inl (few, read)) = read.0
+script_is_read : (told : List ℕ → Told) (script : ScriptSource) (fonts : List (List ℕ)) (inputs : Inputs) → AreRead told script fonts (Ok inputs) →
+    (read : Inputs) × IsScriptRead told script (Ok read) × (inputs.script ≡ read.script)
+script_is_read told script fonts inputs (inl (few, (read, is, same, behind))) = (read, is, same)
 script_is_read told script fonts inputs (inr (many, e)) = absurd cc
 
 -- ---- what was put
@@ -45,18 +47,18 @@ moved_and : (script : ScriptValue) (bytes : List ℕ) (answer : Result (List Eve
 moved_and script bytes (Ok moved) e = (moved, refl, e)
 moved_and script bytes (Err refusal) e = absurd cc
 
-module _ (law : ReadScriptsAreReadLater) (told : List ℕ → Told) (name : List ℕ) (fonts : List (List ℕ)) (write : WriteTask) (frames : SinkChange) where
-  read_later : (script : ScriptValue) (bytes : List ℕ) → IsScriptRead told name (Ok script) → rewritten write script ≡ Ok bytes → AreReadLater (write.later -ℤ write.earlier) script bytes
-  read_later script bytes is_read is =
-      let source = has_source name is_read.0 script is_read.2 in
-      let both = moved_and script bytes (shifted write.later write.earlier (line_events script)) is in
-      law source.0 script write.later write.earlier both.0 bytes source.1 both.1 both.2
+module _ (law : ReadScriptsAreReadLater) (told : List ℕ → Told) (name : ScriptSource) (fonts : List (List ℕ)) (write : WriteTask) (frames : SinkChange) where
+  read_later : (read : Inputs) (bytes : List ℕ) → IsScriptRead told name (Ok read) → rewritten write read.script ≡ Ok bytes → AreReadLater (write.later -ℤ write.earlier) read.script bytes
+  read_later read bytes is_read is =
+      let source = has_source name.own_fonts name.name is_read.0 read is_read.2 in
+      let both = moved_and read.script bytes (shifted write.later write.earlier (line_events read.script)) is in
+      law source.0 read.script write.later write.earlier both.0 bytes source.1 both.1 both.2
 
   put_after : (reading : Result Inputs Status) (bytes : List ℕ) → AreRead told name fonts reading → IsOrFault (sink_of (Write write)) (status_asked (Write write) reading) Done
       → IsFramesAsked (Write write) reading bytes → Appends frames.before.held frames.now.held bytes → IsWrittenLater told name write frames
   put_after (Ok inputs) bytes read answered asked put =
-      let is_read = script_is_read told name fonts inputs read in
-      record { script = inputs.script; is_read = is_read; bytes = bytes; put = put; shows = read_later inputs.script bytes is_read asked }
+      let (held, is_read, same) = script_is_read told name fonts inputs read in
+      record { read = held; is_read = is_read; bytes = bytes; put = put; shows = read_later held bytes is_read (subst (λ (s : ScriptValue). rewritten write s ≡ Ok bytes) same asked) }
   put_after (Err refusal) bytes read (inl (inl is)) asked put =
       absurd (read_not_done told name fonts (subst (λ (status : Status). AreRead told name fonts (Err status)) (sym is) read))
   put_after (Err refusal) bytes read (inl (inr memory)) asked put = absurd cc

@@ -14,6 +14,7 @@ use Rattle.run_words.specs.declared.job.Mode.TheVariants.{Settled}
 use Rattle.run_words.specs.declared.job.PlayJob.{PlayJob}
 use Rattle.run_status.specs.declared.status.Status.{Status}
 use Rattle.run_status.specs.declared.status.Status.TheVariants.{Done}
+use Rattle.run_words.specs.declared.job.ScriptSource.{ScriptSource}
 
 -- The jobs are of the same instants, as often and of the same size. All else may differ.
 pub record JobsAlike (one other : PlayJob) : Type 0 where
@@ -37,7 +38,7 @@ SettledPlaysAgree =
 -- Two settled runs over the same files, of which it is told what they hold, by such jobs: where both are done, both sinks got the same bytes.
 abbrev pub SettledRunsAgree : Type 0
 SettledRunsAgree =
-    (told : List ℕ → Told) (script : List ℕ) (fonts : List (List ℕ)) (one other : PlayJob) (frames report more said : SinkChange)
+    (told : List ℕ → Told) (script : ScriptSource) (fonts : List (List ℕ)) (one other : PlayJob) (frames report more said : SinkChange)
     → AreTold told script fonts → JobsAlike one other → one.mode ≡ Settled → other.mode ≡ Settled
     → IsPlayRun told one script fonts frames report Done → IsPlayRun told other script fonts more said Done
     → (bytes : List ℕ) × Appends frames.before.held frames.now.held bytes × Appends more.before.held more.now.held bytes
@@ -45,7 +46,7 @@ SettledRunsAgree =
 -- What a settled run over such files has put before it ended in any way is a prefix of what each one puts that is done.
 abbrev pub EarlyRunsAgree : Type 0
 EarlyRunsAgree =
-    (told : List ℕ → Told) (script : List ℕ) (fonts : List (List ℕ)) (one other : PlayJob) (frames report more said : SinkChange) (status : Status)
+    (told : List ℕ → Told) (script : ScriptSource) (fonts : List (List ℕ)) (one other : PlayJob) (frames report more said : SinkChange) (status : Status)
     → AreTold told script fonts → JobsAlike one other → one.mode ≡ Settled → other.mode ≡ Settled
     → IsPlayRun told one script fonts frames report status → IsPlayRun told other script fonts more said Done
     → (front rest : List ℕ) × Appends frames.before.held frames.now.held front × Appends more.before.held more.now.held (front ++ rest)

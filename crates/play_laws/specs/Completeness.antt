@@ -12,11 +12,12 @@ use Rattle.play_shares.specs.Limits.{max_frames}
 use Rattle.run_words.specs.declared.job.PlayJob.{PlayJob}
 use Rattle.run_status.specs.declared.status.Status.{Status}
 use Rattle.run_status.specs.declared.status.Status.TheVariants.{Done}
+use Rattle.run_words.specs.declared.job.ScriptSource.{ScriptSource}
 
 -- Files that are all told and are read, where there is a font and neither fonts nor images are too many: the run that they decide is done, or memory ran out.
 abbrev pub PlaysAreDone : Type 0
 PlaysAreDone =
-    (told : List ℕ → Told) (job : PlayJob) (script : List ℕ) (fonts : List (List ℕ)) (inputs : Inputs) (status : Status)
+    (told : List ℕ → Told) (job : PlayJob) (script : ScriptSource) (fonts : List (List ℕ)) (inputs : Inputs) (status : Status)
     → AreTold told script fonts → AreFilesRead told script fonts (Ok inputs)
     → 0 < length fonts → length fonts ≤ max_fonts → frame_count job ≤ max_frames
     → DecidesPlay told job script fonts status → IsOrMemory Done status

@@ -6,7 +6,7 @@ use Rattle.std.specs.declared.sync.Arc.{Arc}
 use Rattle.std.proofs.lemmas.List.Elements.{All-append, All-cons, All-head, All-nil, All-tail}
 use Rattle.std.proofs.lemmas.List.Sums.{sum_by-cons}
 use Rattle.ass_num.specs.Masks.{MaskValue}
-use Rattle.bdf_font.specs.declared.font.FontSet.{FontSet}
+use Rattle.bdf_font.specs.declared.sets.FontSet.{FontSet}
 use Rattle.cache_kinds.specs.Kinds.{composite_meaning}
 use Rattle.mask_caches.specs.Asks.{asks_of, own_asks}
 use Rattle.mask_caches.proofs.Asks.{IsOfOne, adds_asks, asks_of-append}

@@ -1,3 +1,4 @@
+pub mod AddedLemmas
 pub mod ChangeLemmas
 pub mod ListLemmas
 pub mod PlayerLemmas

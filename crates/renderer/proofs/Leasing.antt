@@ -10,7 +10,7 @@ use Rattle.std.proofs.lemmas.List.{length-append, length-map, length-take, map-a
 use Rattle.std.proofs.lemmas.List.Elements.{All-append, All-cons, All-nil, All-take}
 use Rattle.ass_num.specs.Masks.{MaskValue}
 use Rattle.ass_num.specs.Regions.{RegionValue}
-use Rattle.bdf_font.specs.declared.font.FontSet.{FontSet}
+use Rattle.bdf_font.specs.declared.sets.FontSet.{FontSet}
 use Rattle.cache_kinds.specs.Kinds.{composite_meaning, mask_meaning, region_meaning}
 use Rattle.cache_kinds.specs.declared.kinds.CompositeMade.{CompositeMade}
 use Rattle.evict_core.specs.Machine.{Step, Unpin}

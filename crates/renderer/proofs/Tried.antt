@@ -6,7 +6,7 @@ use Rattle.ass_events.specs.Histories.{live}
 use Rattle.ass_events.specs.declared.event.Event.{Event}
 use Rattle.ass_num.specs.Masks.{MaskValue}
 use Rattle.ass_num.specs.declared.size.Size.{Size}
-use Rattle.bdf_font.specs.declared.font.FontSet.{FontSet}
+use Rattle.bdf_font.specs.declared.sets.FontSet.{FontSet}
 use Rattle.cache_kinds.specs.Kinds.{composite_meaning, mask_meaning, region_meaning}
 use Rattle.flight_cache.specs.Calls.{PinView}
 use Rattle.flight_cache.specs.Pinning.{GivesNothing, IsRefused}

@@ -5,7 +5,7 @@ use Rattle.std.specs.declared.sync.Arc.{Arc}
 use Rattle.ass_num.specs.Masks.{MaskValue}
 use Rattle.blend.specs.Painting.{picture_of}
 use Rattle.bdf_font.specs.Fonts.{FontValue}
-use Rattle.bdf_font.specs.declared.font.FontSet.{FontSet}
+use Rattle.bdf_font.specs.declared.sets.FontSet.{FontSet}
 use Rattle.blend.specs.Blending.{Image, StencilValue}
 use Rattle.blend.specs.Canvases.{CanvasValue}
 use Rattle.blend.specs.Images.{image_value, stencil_value}

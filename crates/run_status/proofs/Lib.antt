@@ -1,4 +1,6 @@
 pub mod AskedLemmas
 pub mod FontLemmas
+pub mod OwnLemmas
 pub mod DecideLemmas
 pub mod ExistLemmas
+pub mod SetLemmas

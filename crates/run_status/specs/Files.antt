@@ -1,5 +1,5 @@
 -- Public: what reading one file answers.
-use Rattle.std.specs.Prelude.{◌≡◌, ◌⊎◌, ℕ, ◌<◌, ◌≤◌, List, length, Some, None, Result, Ok, Err}
+use Rattle.std.specs.Prelude.{◌≡◌, ◌⊎◌, ℕ, ◌<◌, ◌≤◌, Bool, true, false, List, [], length, Some, None, Result, Ok, Err}
 use Rattle.ass_num.specs.Causes.{Rose, IfTold}
 use Rattle.ass_num.specs.Limits.{max_file_bytes}
 use Rattle.ass_io.specs.Fetched.{Held, Told}
@@ -10,7 +10,11 @@ use Rattle.bdf_font.specs.declared.cause.FontFileRefusal.{FontFileRefusal}
 use Rattle.run_status.specs.declared.status.Status.{Status}
 use Rattle.run_status.specs.declared.status.Status.TheVariants.{BadWords, Done, NoSuchFile, OutOfMemory, ReadFault, TooLarge, Unwritable, WriteFault}
 use Rattle.run_status.specs.declared.status.What.TheVariants.{Bytes}
-use Rattle.run_status.specs.Causes.{script_status, font_status, with_status}
+use Rattle.embedded_fonts.specs.Embedded.{AreEmbeddedFonts}
+use Rattle.embedded_fonts.specs.declared.refusal.EmbeddedRefusal.{EmbeddedRefusal}
+use Rattle.run_status.specs.declared.font_fault.FontPlace.TheVariants.{Named}
+use Rattle.run_status.specs.declared.inputs.Inputs.{Inputs}
+use Rattle.run_status.specs.Causes.{embedded_status, script_status, font_status, with_status}
 
 -- What a name holds asks for an answer.
 abbrev pub Asks : Type 0 → Type 1
@@ -25,15 +29,31 @@ AsksOf asks name (Some bytes) answer =
 abbrev pub AsksBytes : List ℕ → Asks (List ℕ)
 AsksBytes = AsksOf (λ bytes answer. answer ≡ Ok bytes)
 
-abbrev pub AsksScript : List ℕ → Asks ScriptValue
-AsksScript = AsksOf (λ bytes answer. answer ≡ with_status script_status (script_of bytes))
+-- What the bytes of a script ask for of the fonts that it holds, which may be used or not.
+abbrev pub OwnFontsAsked : Bool → List ℕ → Result (List FontValue) Status → Type 0
+OwnFontsAsked false bytes answer = answer ≡ Ok []
+OwnFontsAsked true bytes answer = (fonts : Result (List FontValue) EmbeddedRefusal) × AreEmbeddedFonts bytes fonts × (answer ≡ with_status embedded_status fonts)
 
--- What the bytes of a font ask for, whose place among the fonts is `index`.
-abbrev pub FontAsked : ℕ → List ℕ → Result FontValue Status → Type 0
-FontAsked index bytes answer = (font : Result FontValue FontFileRefusal) × IsFontFileAnswer bytes font × (answer ≡ with_status (font_status index) font)
+-- a script with its own fonts, or the status of the first that isn't read
+abbrev pub script_with : Result ScriptValue Status → Result (List FontValue) Status → Result Inputs Status
+script_with (Err status) fonts = Err status
+script_with (Ok script) (Err status) = Err status
+script_with (Ok script) (Ok fonts) = Ok (record { script = script; fonts = fonts })
 
-abbrev pub AsksFont : ℕ → List ℕ → Asks FontValue
-AsksFont index = AsksOf (FontAsked index)
+-- What the bytes of a script ask for.
+abbrev pub ScriptAsked : Bool → List ℕ → Result Inputs Status → Type 0
+ScriptAsked own_fonts bytes answer =
+    (fonts : Result (List FontValue) Status) × OwnFontsAsked own_fonts bytes fonts × (answer ≡ script_with (with_status script_status (script_of bytes)) fonts)
+
+abbrev pub AsksScript : Bool → List ℕ → Asks Inputs
+AsksScript own_fonts = AsksOf (ScriptAsked own_fonts)
+
+-- What the bytes of a file of fonts ask for, whose place among the files that the words name is `index`.
+abbrev pub FontsAsked : ℕ → List ℕ → Result (List FontValue) Status → Type 0
+FontsAsked index bytes answer = (fonts : Result (List FontValue) FontFileRefusal) × IsFontFileAnswer bytes fonts × (answer ≡ with_status (font_status (Named index)) fonts)
+
+abbrev pub AsksFonts : ℕ → List ℕ → Asks (List FontValue)
+AsksFonts index = AsksOf (FontsAsked index)
 
 -- What the name holds asks for the answer. Where it is told what that is, that asks for it.
 abbrev pub IsAskedFor : {Value : Type 0} → Asks Value → Told → Result Value Status → Type 0

@@ -7,6 +7,8 @@ use Rattle.sfnt_font.specs.declared.cause.SfntCause.TheVariants as bytes
 use Rattle.sfnt_font.specs.declared.cause.Tag.{Tag}
 use Rattle.sfnt_font.specs.declared.cause.Tag.TheVariants.{Head, Maxp, Hhea, Hmtx, Loca, Glyf, Cmap}
 use Rattle.run_status.specs.declared.font_fault.FontFault.{FontFault}
+use Rattle.run_status.specs.declared.font_fault.FontPlace.{FontPlace}
+use Rattle.run_status.specs.declared.font_fault.FontPlace.TheVariants.{Named, Held}
 use Rattle.run_status.specs.declared.font_fault.FontFault.TheVariants.{Line, Byte}
 
 -- how lines leave the format
@@ -40,11 +42,16 @@ byte_cause_text bytes.BadNumber = codes "bad number"
 byte_cause_text bytes.NoMap = codes "no map"
 byte_cause_text bytes.BadMap = codes "bad map"
 
--- the line on a font that leaves its format at line or at byte n
-abbrev pub bad_font_line : ℕ → List ℕ → ℕ → List ℕ → List ℕ
-bad_font_line index part n cause = codes "bad font " ++ decimal index ++ codes " " ++ part ++ codes " " ++ decimal n ++ codes ": " ++ cause ++ codes "\n"
+-- which font it is, in words
+abbrev pub place_text : FontPlace → List ℕ
+place_text (Named index) = decimal index
+place_text (Held index) = decimal index ++ codes " of the script"
 
--- the same of a fault of the font whose place among the fonts is `index`
-abbrev pub fault_line : ℕ → FontFault → List ℕ
-fault_line index (Line n cause) = bad_font_line index (codes "line") n (line_cause_text cause)
-fault_line index (Byte n cause) = bad_font_line index (codes "byte") n (byte_cause_text cause)
+-- the line on a font that leaves its format at line or at byte n
+abbrev pub bad_font_line : FontPlace → List ℕ → ℕ → List ℕ → List ℕ
+bad_font_line place part n cause = codes "bad font " ++ place_text place ++ codes " " ++ part ++ codes " " ++ decimal n ++ codes ": " ++ cause ++ codes "\n"
+
+-- the same of a fault of the font that has this place
+abbrev pub fault_line : FontPlace → FontFault → List ℕ
+fault_line place (Line n cause) = bad_font_line place (codes "line") n (line_cause_text cause)
+fault_line place (Byte n cause) = bad_font_line place (codes "byte") n (byte_cause_text cause)

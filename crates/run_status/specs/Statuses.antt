@@ -6,7 +6,7 @@ use Rattle.run_words.specs.declared.job.WordsFault.TheVariants.{Usage, Value}
 use Rattle.run_status.specs.Fields.{field_name}
 use Rattle.run_status.specs.FontFaults.{fault_line}
 use Rattle.run_status.specs.declared.status.BadScript.{BadScript}
-use Rattle.run_status.specs.declared.status.BadScript.TheVariants.{NotUtf8, NoEvents}
+use Rattle.run_status.specs.declared.status.BadScript.TheVariants.{NotUtf8, NoEvents, FontData}
 use Rattle.run_status.specs.declared.status.Status.{Status}
 use Rattle.run_status.specs.declared.status.Status.TheVariants as status
 use Rattle.run_status.specs.declared.status.What.{What}
@@ -34,6 +34,7 @@ words_line (Value name) = codes "bad words: " ++ name ++ codes "\n"
 abbrev pub script_line : BadScript → List ℕ
 script_line (NotUtf8 n) = codes "bad script: not UTF-8 at byte " ++ decimal n ++ codes "\n"
 script_line NoEvents = codes "bad script: no [Events] section\n"
+script_line (FontData n) = codes "bad script: font data at line " ++ decimal n ++ codes "\n"
 
 abbrev pub limit_line : List ℕ → ℕ → List ℕ
 limit_line what limit = codes "too large: " ++ what ++ codes " passes " ++ decimal limit ++ codes "\n"
@@ -48,7 +49,7 @@ status_line (status.BadWords fault) = words_line fault
 status_line (status.NoSuchFile name) = codes "no such file: " ++ name ++ codes "\n"
 status_line (status.ReadFault name) = codes "read fault: " ++ name ++ codes "\n"
 status_line (status.BadScript cause) = script_line cause
-status_line (status.BadFont index fault) = fault_line index fault
+status_line (status.BadFont place fault) = fault_line place fault
 status_line (status.WriteFault which) = codes "write fault: " ++ sink_text which ++ codes "\n"
 status_line (status.TooLarge what limit) = limit_line (what_text what) limit
 status_line status.OutOfMemory = codes "out of memory\n"

@@ -3,6 +3,7 @@
 ghost use Rattle.run_status.specs.Laws.{FilesDecide, FilesHaveAnAnswer};
 
 use bdf_font::one_answer;
+use embedded_fonts::one_embedded_answer;
 
 /// Where a shelf tells what all the names hold, there is exactly one answer, but for faults and out of memory.
 pub fn files_decide()
@@ -10,4 +11,5 @@ pub fn files_decide()
     ensures one { FilesDecide }
 {
     one_answer();
+    one_embedded_answer();
 }

@@ -1,12 +1,21 @@
 //! Where a font's file leaves its format.
 
 ghost use Rattle.std.specs.Prelude.{◌≡◌, ◌++◌, IfOk, codes, string_bytes};
-ghost use Rattle.run_status.specs.FontFaults.{bad_font_line, byte_cause_text, line_cause_text, tag_text};
+ghost use Rattle.run_status.specs.FontFaults.{bad_font_line, byte_cause_text, line_cause_text, place_text, tag_text};
 
 use ass_num::Mem;
 use bdf_font::FontCause;
 use sfnt_font::{SfntCause, Tag};
 use std::alloc::Global;
+
+/// Which file of fonts it is. Places are counted from 0.
+#[derive(Clone, Copy, Debug, PartialEq, Eq)]
+pub enum FontPlace {
+    /// The one at this place among those that the words name.
+    Named(usize),
+    /// The one at this place among those that the script holds.
+    Held(usize),
+}
 
 /// Where a font's file leaves its format, and how.
 #[derive(Clone, Copy, Debug, PartialEq, Eq)]
@@ -78,27 +87,45 @@ fn byte_cause_text(cause: SfntCause) -> &'static str
     }
 }
 
-/// The line of the report on a font that leaves its format at line or at byte n.
-fn bad_font_line(alloc: Global, index: usize, part: &str, n: usize, cause: &str) -> Mem<String>
-    ensures { IfOk result (λ text. string_bytes text ≡ bad_font_line index part.now n cause.now) }
+/// Which font it is, in words.
+fn place_text(alloc: Global, place: FontPlace) -> Mem<String>
+    ensures { IfOk result (λ text. string_bytes text ≡ place_text place) }
 {
-    Ok(format!(in alloc; "bad font {index} {part} {n}: {cause}\n")?)
+    match place {
+        FontPlace::Named(index) => Ok(format!(in alloc; "{index}")?),
+        FontPlace::Held(index) => Ok(format!(in alloc; "{index} of the script")?),
+    }
+}
+
+/// The line of the report on a font that leaves its format at line or at byte n.
+fn bad_font_line(
+    alloc: Global,
+    place: FontPlace,
+    part: &str,
+    n: usize,
+    cause: &str,
+) -> Mem<String>
+    ensures { IfOk result (λ text. string_bytes text ≡ bad_font_line place part.now n cause.now) }
+{
+    let font = place_text(alloc, place)?;
+    let font = font.as_str();
+    Ok(format!(in alloc; "bad font {font} {part} {n}: {cause}\n")?)
 }
 
 impl FontFault {
     ghost use Rattle.std.specs.Prelude.{◌≡◌, IfOk, string_bytes};
     ghost use Rattle.run_status.specs.FontFaults.{fault_line};
 
-    /// The line of the report, where the font has the place `index` among the fonts.
-    pub(crate) fn line(self, alloc: Global, index: usize) -> Mem<String>
-        ensures { IfOk result (λ line. string_bytes line ≡ fault_line index self) }
+    /// The line of the report on the font that has this place.
+    pub(crate) fn line(self, alloc: Global, place: FontPlace) -> Mem<String>
+        ensures { IfOk result (λ line. string_bytes line ≡ fault_line place self) }
     {
         match self {
             FontFault::Line(n, cause) => {
-                bad_font_line(alloc, index, "line", n, line_cause_text(cause))
+                bad_font_line(alloc, place, "line", n, line_cause_text(cause))
             }
             FontFault::Byte(n, cause) => {
-                bad_font_line(alloc, index, "byte", n, byte_cause_text(cause))
+                bad_font_line(alloc, place, "byte", n, byte_cause_text(cause))
             }
         }
     }

@@ -12,6 +12,6 @@ mod status;
 pub use causes::script_status;
 pub use fields::field_name;
 pub use file_laws::files_decide;
-pub use font_fault::FontFault;
+pub use font_fault::{FontFault, FontPlace};
 pub use inputs::{Inputs, MAX_FONTS, read_inputs};
 pub use status::{BadScript, Status, What, Which};

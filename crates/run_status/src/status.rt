@@ -5,7 +5,7 @@ ghost use Rattle.run_status.specs.Statuses.{limit_line, unwritable_line, what_te
 ghost use Rattle.run_status.specs.declared.status.Status.TheVariants.{OutOfMemory as memory_status};
 
 use crate::fields::field_name;
-use crate::font_fault::FontFault;
+use crate::font_fault::{FontFault, FontPlace};
 use ass_num::{Mem, OutOfMemory, Text};
 use ass_script::EventField;
 use run_words::WordsFault;
@@ -46,6 +46,8 @@ pub enum BadScript {
     NotUtf8(usize),
     /// No line is the heading `[Events]`.
     NoEvents,
+    /// The data of a font that the script holds leave their format at this line, from 1.
+    FontData(usize),
 }
 
 /// How a run of the program ended. A name that a status carries is a file's, as the words have it.
@@ -61,8 +63,8 @@ pub enum Status {
     ReadFault(Text),
     /// The script isn't one: exit status 5.
     BadScript(BadScript),
-    /// The font at this place, from 0, isn't one, and where it leaves its format: exit status 6.
-    BadFont(usize, FontFault),
+    /// The font at this place isn't one, and where it leaves its format: exit status 6.
+    BadFont(FontPlace, FontFault),
     /// The sink failed: exit status 7.
     WriteFault(Which),
     /// There is more of it than this many: exit status 8.
@@ -152,6 +154,7 @@ impl BadScript {
             BadScript::NoEvents => {
                 Ok(String::from_str(alloc, "bad script: no [Events] section\n")?)
             }
+            BadScript::FontData(n) => Ok(format!(in alloc; "bad script: font data at line {n}\n")?),
         }
     }
 }
@@ -194,7 +197,7 @@ impl Status {
                 Ok(format!(in alloc; "read fault: {name}\n")?)
             }
             Status::BadScript(cause) => cause.line(alloc),
-            Status::BadFont(index, fault) => fault.line(alloc, *index),
+            Status::BadFont(place, fault) => fault.line(alloc, *place),
             Status::WriteFault(which) => {
                 let sink = which.text();
                 Ok(format!(in alloc; "write fault: {sink}\n")?)

@@ -9,14 +9,15 @@ use Rattle.clap.proofs.OnLiterals.{clap_on_literals}
 use Rattle.run_words.specs.Commands.{arguments_of, command_name, commands}
 use Rattle.run_words.specs.Grammar.{argument_rule, command_shape, range_of, words_app}
 use Rattle.run_words.specs.declared.argument.Argument.{Argument}
-use Rattle.run_words.specs.declared.argument.Argument.TheVariants.{Fonts}
+use Rattle.run_words.specs.declared.argument.Argument.TheVariants.{Fonts, ScriptFonts}
 use Rattle.run_words.specs.declared.command.Command.{Command}
 use Rattle.run_words.specs.declared.command.Command.TheVariants.{Check, Frame, Play, Selftest, Changes, Write}
 
--- the fonts alone take several words
-pub one_word : (argument : Argument) → (argument ≡ Fonts → ⊥) → range_of argument ≡ None
-one_word Fonts other = absurd (other refl)
-one_word _ other = refl
+-- the fonts take several words, an option that stands alone none, and each other argument one
+pub one_word : (argument : Argument) → (argument ≡ Fonts → ⊥) → (argument ≡ ScriptFonts → ⊥) → range_of argument ≡ None
+one_word Fonts many alone = absurd (many refl)
+one_word ScriptFonts many alone = absurd (alone refl)
+one_word _ many alone = refl
 
 -- one more argument
 abbrev pub with_argument : App → Argument → App

@@ -4,9 +4,9 @@ use Rattle.ass_num.specs.Limits.{max_instant}
 use Rattle.frame_view.specs.Limits.{max_letter_scale}
 use Rattle.run_words.specs.Limits.{max_ahead, max_bands, max_batch, max_budget, max_events, max_seed, max_times, max_workers}
 use Rattle.run_words.specs.declared.argument.Argument.{Argument}
-use Rattle.run_words.specs.declared.argument.Argument.TheVariants.{At, From, To, Step, Size, Storage, Aspect, Content, Letters, Scale, Feeders, Renderers, Batch, Again, Times, Ahead, Bands, Budget, Mode, Workers, Later, Earlier, Script, Fonts, Seed, Events}
+use Rattle.run_words.specs.declared.argument.Argument.TheVariants.{At, From, To, Step, Size, Storage, Aspect, Content, Letters, Scale, Feeders, Renderers, Batch, Again, Times, Ahead, Bands, Budget, Mode, ScriptFonts, Workers, Later, Earlier, Script, Fonts, Seed, Events}
 use Rattle.run_words.specs.declared.argument.Kind.{Kind}
-use Rattle.run_words.specs.declared.argument.Kind.TheVariants.{Number, FrameSize, VideoSize, PixelShape, PictureRect, LettersRule, PlayMode, FileName}
+use Rattle.run_words.specs.declared.argument.Kind.TheVariants.{Number, FrameSize, VideoSize, PixelShape, PictureRect, LettersRule, PlayMode, Alone, FileName}
 
 abbrev pub argument_name : Argument → List ℕ
 argument_name At = codes "at"
@@ -28,6 +28,7 @@ argument_name Ahead = codes "ahead"
 argument_name Bands = codes "bands"
 argument_name Budget = codes "budget"
 argument_name Mode = codes "mode"
+argument_name ScriptFonts = codes "script-fonts"
 argument_name Workers = codes "workers"
 argument_name Later = codes "later"
 argument_name Earlier = codes "earlier"
@@ -74,6 +75,7 @@ argument_kind Ahead = Number 0 max_ahead
 argument_kind Bands = Number 1 max_bands
 argument_kind Budget = Number 0 max_budget
 argument_kind Mode = PlayMode
+argument_kind ScriptFonts = Alone
 argument_kind Workers = Number 1 max_workers
 argument_kind Later = Number 0 max_instant
 argument_kind Earlier = Number 0 max_instant

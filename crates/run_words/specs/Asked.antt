@@ -1,6 +1,7 @@
 -- Public: what a command is asked for, by what was found for its arguments.
-use Rattle.std.specs.Prelude.{◌≡◌, ℕ, pos, Bool, true, false, not, List, [], Option, Some, None, Result, Ok, Err, find, unwrap_or, option_and_then}
+use Rattle.std.specs.Prelude.{◌≡◌, ℕ, pos, Bool, true, false, not, List, [], Option, Some, None, Result, Ok, Err, find, unwrap_or, option_and_then, codes}
 use Rattle.std.specs.Option.{option_map_or}
+use Rattle.std.specs.Str.{bytes_eq}
 use Rattle.ass_num.specs.declared.size.Size.{Size}
 use Rattle.frame_view.specs.FrameViews.{plain_frame}
 use Rattle.frame_view.specs.Limits.{whole_letter_scale}
@@ -22,6 +23,7 @@ use Rattle.run_words.specs.declared.job.Job.TheVariants.{Check, Frame, Play, Sel
 use Rattle.run_words.specs.declared.job.Mode.{Mode}
 use Rattle.run_words.specs.declared.job.Mode.TheVariants.{Settled}
 use Rattle.run_words.specs.declared.job.PlayJob.{PlayJob}
+use Rattle.run_words.specs.declared.job.ScriptSource.{ScriptSource}
 use Rattle.run_words.specs.declared.job.WordsFault.{WordsFault}
 use Rattle.run_words.specs.declared.job.WordsFault.TheVariants.{Value}
 
@@ -71,6 +73,13 @@ mode_at rows = unwrap_or (option_and_then mode_in (text_at rows argument.Mode)) 
 abbrev pub script_at : List Row → List ℕ
 script_at rows = unwrap_or (text_at rows argument.Script) []
 
+-- the fonts that the script holds are used
+abbrev pub own_fonts_at : List Row → Bool
+own_fonts_at rows = option_map_or (λ text. bytes_eq text (codes "true")) (text_at rows argument.ScriptFonts) false
+
+abbrev pub source_at : List Row → ScriptSource
+source_at rows = record { name = script_at rows; own_fonts = own_fonts_at rows }
+
 -- the names of the fonts, in the order of the words
 abbrev pub fonts_at : List Row → List (List ℕ)
 fonts_at rows = unwrap_or (all_of (argument_name argument.Fonts) rows) []
@@ -98,12 +107,12 @@ play_of rows = record {
 
 -- the job of a command
 abbrev pub job_for : List Row → Command → Job
-job_for rows command.Check = Check (script_at rows) (fonts_at rows)
-job_for rows command.Frame = Frame (pos (number_at rows argument.At 0)) (frame_at rows) (budget_at rows) (script_at rows) (fonts_at rows)
-job_for rows command.Play = Play (play_of rows) (script_at rows) (fonts_at rows)
+job_for rows command.Check = Check (source_at rows) (fonts_at rows)
+job_for rows command.Frame = Frame (pos (number_at rows argument.At 0)) (frame_at rows) (budget_at rows) (source_at rows) (fonts_at rows)
+job_for rows command.Play = Play (play_of rows) (source_at rows) (fonts_at rows)
 job_for rows command.Selftest = Selftest (number_at rows argument.Seed 0) (number_at rows argument.Events 1) (number_at rows argument.Workers 1)
 job_for rows command.Changes =
-    Changes (pos (number_at rows argument.From 0)) (pos (number_at rows argument.To 0)) (pos (number_at rows argument.Step 1)) (frame_at rows) (budget_at rows) (script_at rows) (fonts_at rows)
+    Changes (pos (number_at rows argument.From 0)) (pos (number_at rows argument.To 0)) (pos (number_at rows argument.Step 1)) (frame_at rows) (budget_at rows) (source_at rows) (fonts_at rows)
 job_for rows command.Write = Write (pos (number_at rows argument.Later 0)) (pos (number_at rows argument.Earlier 0)) (script_at rows)
 
 abbrev pub unless_bad : Option Argument → Job → Result Job WordsFault

@@ -16,9 +16,9 @@ command_name Selftest = codes "selftest"
 command_name Changes = codes "changes"
 command_name Write = codes "write"
 
--- the script and the fonts
+-- the script, whether the fonts that it holds are used, and the other fonts
 abbrev pub file_arguments : List Argument
-file_arguments = argument.Script ∷ argument.Fonts ∷ []
+file_arguments = argument.ScriptFonts ∷ argument.Script ∷ argument.Fonts ∷ []
 
 -- what a frame is to a script
 abbrev pub frame_arguments : List Argument

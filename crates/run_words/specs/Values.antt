@@ -14,7 +14,7 @@ use Rattle.frame_view.specs.declared.view.PixelAspect.{PixelAspect}
 use Rattle.frame_view.specs.declared.view.PixelRect.{PixelRect}
 use Rattle.run_words.specs.Limits.{max_digits}
 use Rattle.run_words.specs.declared.argument.Kind.{Kind}
-use Rattle.run_words.specs.declared.argument.Kind.TheVariants.{Number, FrameSize, VideoSize, PixelShape, PictureRect, LettersRule, PlayMode, FileName}
+use Rattle.run_words.specs.declared.argument.Kind.TheVariants.{Number, FrameSize, VideoSize, PixelShape, PictureRect, LettersRule, PlayMode, Alone, FileName}
 use Rattle.run_words.specs.declared.job.Mode.{Mode}
 use Rattle.run_words.specs.declared.job.Mode.TheVariants.{Live, Settled}
 
@@ -97,4 +97,5 @@ is_of_kind PixelShape text = is_some (aspect_in text)
 is_of_kind PictureRect text = is_some (content_in text)
 is_of_kind LettersRule text = is_some (letters_in text)
 is_of_kind PlayMode text = is_some (mode_in text)
+is_of_kind Alone text = true
 is_of_kind FileName text = true

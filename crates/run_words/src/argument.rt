@@ -62,6 +62,8 @@ pub enum Kind {
     LettersRule,
     /// `live` or `settled`.
     PlayMode,
+    /// None: the option stands alone.
+    Alone,
     /// The name of a file, which is any text.
     FileName,
 }
@@ -88,6 +90,7 @@ pub enum Argument {
     Bands,
     Budget,
     Mode,
+    ScriptFonts,
     Workers,
     Later,
     Earlier,
@@ -122,6 +125,7 @@ impl Argument {
             Argument::Bands => "bands",
             Argument::Budget => "budget",
             Argument::Mode => "mode",
+            Argument::ScriptFonts => "script-fonts",
             Argument::Workers => "workers",
             Argument::Later => "later",
             Argument::Earlier => "earlier",
@@ -176,6 +180,7 @@ impl Argument {
             Argument::Bands => Kind::Number(1, MAX_BANDS),
             Argument::Budget => Kind::Number(0, MAX_BUDGET),
             Argument::Mode => Kind::PlayMode,
+            Argument::ScriptFonts => Kind::Alone,
             Argument::Seed => Kind::Number(0, MAX_SEED),
             Argument::Events => Kind::Number(1, MAX_EVENTS),
             Argument::Script | Argument::Fonts => Kind::FileName,

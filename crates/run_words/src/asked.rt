@@ -4,12 +4,12 @@ ghost use Rattle.std.specs.Prelude.{◌≡◌, ◌≤◌, ◌^◌, ◌<◌, IfOk
 ghost use Rattle.clap.specs.Words.{all_of, found_of, rows_of};
 ghost use Rattle.frame_view.specs.declared.view.LetterWidth.TheVariants.{Canvas};
 ghost use Rattle.run_words.specs.Arguments.{argument_name, most_of};
-ghost use Rattle.run_words.specs.Asked.{fits, first_bad, fonts_at, frame_at, job_for, mode_at, number_at, play_of, script_at, size_at, text_at};
+ghost use Rattle.run_words.specs.Asked.{fits, first_bad, fonts_at, frame_at, job_for, mode_at, number_at, own_fonts_at, play_of, script_at, size_at, source_at, text_at};
 ghost use Rattle.run_words.specs.Values.{aspect_in, content_in, letters_in, storage_in};
 
 use crate::argument::{Argument, Kind};
 use crate::command::Command;
-use crate::job::{Job, Mode, PlayJob};
+use crate::job::{Job, Mode, PlayJob, ScriptSource};
 use crate::values::{
     aspect_in, content_in, is_of_kind, letters_in, mode_in, number_within, size_in, storage_in,
 };
@@ -173,6 +173,26 @@ fn script_at(alloc: Global, found: &ArgMatches) -> Mem<Text>
     }
 }
 
+/// Whether the fonts that the script holds are used.
+fn own_fonts_at(found: &ArgMatches) -> bool
+    ensures { result ≡ own_fonts_at (rows_of (found_of found.now)) }
+{
+    match text_at(found, Argument::ScriptFonts) {
+        Some(text) => text == "true",
+        None => false,
+    }
+}
+
+/// The script, and whether the fonts that it holds are used.
+fn source_at(alloc: Global, found: &ArgMatches) -> Mem<ScriptSource>
+    ensures { IfOk result (λ source. source ≡ source_at (rows_of (found_of found.now))) }
+{
+    Ok(ScriptSource {
+        name: script_at(alloc, found)?,
+        own_fonts: own_fonts_at(found),
+    })
+}
+
 /// A copy of texts.
 fn copied(alloc: Global, texts: &[&str]) -> Mem<Items<Text>>
     ensures { IfOk result (λ copy. copy ≡ map (λ text. text.now) texts.now) }
@@ -227,17 +247,17 @@ pub fn job_for(alloc: Global, found: &ArgMatches, command: Command) -> Mem<Job>
     ensures { IfOk result (λ job. job ≡ job_for (rows_of (found_of found.now)) command) }
 {
     match command {
-        Command::Check => Ok(Job::Check(script_at(alloc, found)?, fonts_at(alloc, found)?)),
+        Command::Check => Ok(Job::Check(source_at(alloc, found)?, fonts_at(alloc, found)?)),
         Command::Frame => Ok(Job::Frame(
             instant_at(found, Argument::At, 0),
             frame_at(found),
             number_at(found, Argument::Budget, ABSENT_BUDGET),
-            script_at(alloc, found)?,
+            source_at(alloc, found)?,
             fonts_at(alloc, found)?,
         )),
         Command::Play => Ok(Job::Play(
             play_of(found),
-            script_at(alloc, found)?,
+            source_at(alloc, found)?,
             fonts_at(alloc, found)?,
         )),
         Command::Selftest => Ok(Job::Selftest(
@@ -251,7 +271,7 @@ pub fn job_for(alloc: Global, found: &ArgMatches, command: Command) -> Mem<Job>
             instant_at(found, Argument::Step, 1),
             frame_at(found),
             number_at(found, Argument::Budget, ABSENT_BUDGET),
-            script_at(alloc, found)?,
+            source_at(alloc, found)?,
             fonts_at(alloc, found)?,
         )),
         Command::Write => Ok(Job::Write(

@@ -26,9 +26,9 @@ static COMMANDS: [Command; 6] = [
     Command::Write,
 ];
 
-static CHECK: [Argument; 2] = [Argument::Script, Argument::Fonts];
+static CHECK: [Argument; 3] = [Argument::ScriptFonts, Argument::Script, Argument::Fonts];
 
-static FRAME: [Argument; 10] = [
+static FRAME: [Argument; 11] = [
     Argument::At,
     Argument::Size,
     Argument::Storage,
@@ -37,11 +37,12 @@ static FRAME: [Argument; 10] = [
     Argument::Letters,
     Argument::Scale,
     Argument::Budget,
+    Argument::ScriptFonts,
     Argument::Script,
     Argument::Fonts,
 ];
 
-static PLAY: [Argument; 15] = [
+static PLAY: [Argument; 16] = [
     Argument::From,
     Argument::To,
     Argument::Step,
@@ -55,13 +56,14 @@ static PLAY: [Argument; 15] = [
     Argument::Bands,
     Argument::Budget,
     Argument::Mode,
+    Argument::ScriptFonts,
     Argument::Script,
     Argument::Fonts,
 ];
 
 static SELFTEST: [Argument; 3] = [Argument::Workers, Argument::Seed, Argument::Events];
 
-static CHANGES: [Argument; 12] = [
+static CHANGES: [Argument; 13] = [
     Argument::From,
     Argument::To,
     Argument::Step,
@@ -72,6 +74,7 @@ static CHANGES: [Argument; 12] = [
     Argument::Letters,
     Argument::Scale,
     Argument::Budget,
+    Argument::ScriptFonts,
     Argument::Script,
     Argument::Fonts,
 ];

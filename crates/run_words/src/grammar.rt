@@ -10,7 +10,7 @@ use crate::command::{Command, commands};
 use clap::Arg;
 use std::alloc::{AllocError, Global};
 
-/// An argument: once, with one value, but for the fonts, which are one or more words.
+/// An argument: once, with one value, but for the fonts, which are one or more words, and an option that stands alone.
 fn argument<'a>(alloc: Global, argument: Argument) -> Arg<'a>
     ensures rule { rule_of result ≡ argument_rule argument }
     ensures local { result.global ≡ false }
@@ -19,6 +19,7 @@ fn argument<'a>(alloc: Global, argument: Argument) -> Arg<'a>
     let taken = Arg::new(alloc, name).required(argument.is_required());
     match argument {
         Argument::Fonts => taken.num_args(1..),
+        Argument::ScriptFonts => taken.long(name).num_args(0),
         _ if argument.is_positional() => taken,
         _ => taken.long(name),
     }

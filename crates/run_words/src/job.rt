@@ -30,20 +30,27 @@ pub struct PlayJob {
     pub mode: Mode,
 }
 
+/// A script by the name of its file, and whether the fonts that it holds are used.
+#[derive(Debug, Drop)]
+pub struct ScriptSource {
+    pub name: Text,
+    pub own_fonts: bool,
+}
+
 /// What the words ask for. Instants are in milliseconds, and a budget is in bytes.
 #[derive(Debug, Drop)]
 pub enum Job {
     /// A report on a script and fonts.
-    Check(Text, Items<Text>),
+    Check(ScriptSource, Items<Text>),
     /// The picture at an instant on a frame, with a budget, of a script with fonts.
-    Frame(i64, FrameView, u64, Text, Items<Text>),
+    Frame(i64, FrameView, u64, ScriptSource, Items<Text>),
     /// The pictures of a script with fonts, fed and drawn by several workers.
-    Play(PlayJob, Text, Items<Text>),
+    Play(PlayJob, ScriptSource, Items<Text>),
     /// A generated script, by its seed and number of events, played by so many workers.
     Selftest(u32, u32, u32),
     /// What changes from picture to picture, from an instant to one, by a step, on a frame, with a budget, of a script
     /// with fonts.
-    Changes(i64, i64, i64, FrameView, u64, Text, Items<Text>),
+    Changes(i64, i64, i64, FrameView, u64, ScriptSource, Items<Text>),
     /// The script written again, with its events so much later and so much earlier.
     Write(i64, i64, Text),
 }

@@ -191,6 +191,6 @@ pub fn is_of_kind(kind: Kind, text: &str) -> bool
         Kind::PictureRect => content_in(text).is_some(),
         Kind::LettersRule => letters_in(text).is_some(),
         Kind::PlayMode => mode_in(text).is_some(),
-        Kind::FileName => true,
+        Kind::Alone | Kind::FileName => true,
     }
 }

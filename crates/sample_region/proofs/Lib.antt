@@ -1,10 +1,12 @@
+mod BegunLemmas
 mod BetweenLemmas
+mod CarryLemmas
 mod EdgeLemmas
 mod InsideLemmas
 mod OutsideLemmas
-pub mod SignedLemmas
 mod SortLemmas
 mod SteadyLemmas
 mod SweepLemmas
 mod WalkLemmas
+pub mod SignedLemmas
 pub mod WindingLemmas

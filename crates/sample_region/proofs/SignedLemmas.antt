@@ -25,8 +25,8 @@ from_abs (negsuc n) m h = (omega (arith, ints), omega (arith, ints))
 pub same_quotient : (a b c d : ℤ) → a ≡ b → c ≡ d → int_div_euclid a c ≡ int_div_euclid b d
 same_quotient a b c d e f = cc
 
-pub same_quotient_sum : {a b c d : ℤ} (k : ℤ) → a ≡ b → c ≡ d → int_div_euclid (a +ℤ c -ℤ pos 1) k ≡ int_div_euclid (b +ℤ d -ℤ pos 1) k
-same_quotient_sum k e f = cc
+pub same_sum : {a b c d : ℤ} → a ≡ b → c ≡ d → (a +ℤ c -ℤ pos 1) ≡ (b +ℤ d -ℤ pos 1)
+same_sum e f = cc
 
 pub same_quotient_lt : (i : ℤ) {a b c d : ℤ} → a ≡ b → c ≡ d → int_lt i (int_div_euclid a c) ≡ int_lt i (int_div_euclid b d)
 same_quotient_lt i e f = cc
@@ -59,7 +59,7 @@ below_cut_nat i n k h =
     (λ (l : q ≤ℤ i). lt_false i q l ∙ sym (lt_false (i *ℤ pos (4 * k)) n (let e = mul_le q i (4 * k) l in omega (arith, ints))))
 
 -- a product by k, part by part
-mul_add : (a b : ℤ) (k : ℕ) → (a +ℤ b) *ℤ pos k ≡ a *ℤ pos k +ℤ b *ℤ pos k
+pub mul_add : (a b : ℤ) (k : ℕ) → (a +ℤ b) *ℤ pos k ≡ a *ℤ pos k +ℤ b *ℤ pos k
 mul_add a b k = let e = ap (λ n. n * k) (sum_is_lem a b) in omega (arith, ints, e)
 
 mul_neg : (a : ℤ) (k : ℕ) → neg_ℤ a *ℤ pos k ≡ neg_ℤ (a *ℤ pos k)

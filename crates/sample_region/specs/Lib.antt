@@ -1,3 +1,4 @@
+pub mod Carried
 pub mod Crossings
 pub mod Edges
 pub mod Heights

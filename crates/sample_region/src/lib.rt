@@ -1,6 +1,7 @@
 //! Regions of samples: those inside an outline, and those of two regions together.
 #![tactic(auto)]
 
+mod carried;
 mod cut;
 mod edges;
 mod either;

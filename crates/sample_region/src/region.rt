@@ -1,6 +1,6 @@
 //! The samples inside an outline.
 
-ghost use Rattle.std.specs.Prelude.{◌≡◌, ℕ, ℤ, ◌≤◌, pos, ◌≤ℤ◌, ◌<ℤ◌, ◌+ℤ◌, ◌*ℤ◌, true, All, IfOk, OnOk, neg_ℤ};
+ghost use Rattle.std.specs.Prelude.{◌≡◌, ℕ, ℤ, ◌≤◌, pos, ◌≤ℤ◌, ◌<ℤ◌, ◌+ℤ◌, ◌-ℤ◌, ◌*ℤ◌, true, All, IfOk, OnOk, neg_ℤ};
 ghost use Rattle.ass_num.specs.Limits.{IsOutline, IsOutlinePoint, IsRegionWithin, max_coordinate};
 ghost use Rattle.ass_num.specs.Regions.{is_canonical, member};
 ghost use Rattle.ass_num.specs.Winding.{inside, place};
@@ -106,7 +106,7 @@ struct Scan {
 }
 
 impl Scan {
-    ghost use Rattle.sample_region.specs.Scans.{HasReached, HasScanned, HasSteadyRows, HoldsRow};
+    ghost use Rattle.sample_region.specs.Scans.{HasCarried, HasReached, HasScanned, HasSteadyRows, HoldsRow};
 
     /// Sweeps row j, and finds its runs.
     fn sweep_row(&mut self, edges: &[SweepEdge], j: i32) -> Mem<()>
@@ -114,7 +114,9 @@ impl Scan {
         requires low { neg_ℤ (pos max_swept) ≤ℤ j }
         requires high { j ≤ℤ pos max_swept }
         requires reached { HasReached edges.now j self.old }
+        requires carried { HasCarried (j -ℤ pos 1) self.old }
         ensures reached { OnOk result (HasReached edges.now j self.new) }
+        ensures carried { OnOk result (HasCarried j self.new) }
         ensures steady { OnOk result (HasSteadyRows edges.now j self.new) }
         ensures row { OnOk result (HoldsRow edges.now j self.new) }
         ensures growth { self.new.growth ≡ self.old.growth }
@@ -130,8 +132,10 @@ impl Scan {
         requires low { neg_ℤ (pos max_swept) ≤ℤ j }
         requires high { j ≤ℤ pos max_swept }
         requires reached { HasReached edges.now j self.old }
+        requires carried { HasCarried (j -ℤ pos 1) self.old }
         requires steady { HasSteadyRows edges.now j self.old }
         ensures reached { OnOk result (HasReached edges.now j self.new) }
+        ensures carried { OnOk result (HasCarried j self.new) }
         ensures steady { OnOk result (HasSteadyRows edges.now j self.new) }
         ensures row { OnOk result (HoldsRow edges.now j self.new) }
         ensures growth { self.new.growth ≡ self.old.growth }

@@ -22,7 +22,7 @@ use Rattle.sfnt_font.specs.Directory.{directory_at, directory_end, is_post_scrip
 use Rattle.sfnt_font.specs.Numbers.{made_numbers, sfnt_numbers}
 use Rattle.sfnt_font.specs.Maps.{chosen_map, groups_map, groups_of, map_of, no_rank, ranges_map, ranges_of, segments_of, whole_map}
 use Rattle.sfnt_font.specs.Fonts.{font_of, sfnt_of}
-use Rattle.sfnt_font.specs.Names.{font_name}
+use Rattle.sfnt_font.specs.Names.{font_names}
 use Rattle.sfnt_font.specs.Laws.{broken_if, first_broken, reading_fault, is_collection, face_rules, directory_rules, no_table, face_table, face_tables, needed_rules, table_rules, number_rules, best_choice, choice_rules, groups_rules, ranges_rules, map_rules, map_at, font_rules, face_directory, IsFirstBroken}
 
 -- a value, unless a rule is broken
@@ -128,7 +128,7 @@ abbrev face_map : List ℕ → Tables → CharacterMap
 face_map bytes tables = map_at bytes tables.cmap (best_choice bytes tables.cmap)
 
 abbrev font_with : List ℕ → Directory → Tables → Numbers → CharacterMap → List Segment → SfntFont
-font_with bytes directory tables numbers m segments = record { bytes = bytes; tables = tables; numbers = numbers; character_map = m; segments = segments; name = font_name bytes directory }
+font_with bytes directory tables numbers m segments = record { bytes = bytes; tables = tables; numbers = numbers; character_map = m; segments = segments; names = font_names bytes directory }
 
 abbrev face_font : List ℕ → Directory → Tables → SfntFont
 face_font bytes directory tables =

@@ -6,3 +6,4 @@ pub mod CodeLemmas
 mod FaultBytes
 pub mod RangeLemmas
 mod FirstFault
+pub mod ReadLemmas

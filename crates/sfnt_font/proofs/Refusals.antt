@@ -18,7 +18,7 @@ use Rattle.sfnt_font.specs.Faces.{collection_count, face_count, face_place, unle
 use Rattle.sfnt_font.specs.Directory.{directory_at, is_post_script, name_of, needed_or, needed_table, directory_end, table_named, tables_of}
 use Rattle.sfnt_font.specs.Numbers.{sfnt_numbers}
 use Rattle.sfnt_font.specs.Maps.{chosen_map, codes_to, map_of, segment_at, segment_in, segments_from, segments_of, whole_map}
-use Rattle.sfnt_font.specs.Fonts.{font_of, sfnt_of}
+use Rattle.sfnt_font.specs.Fonts.{directory_map, face_map, font_of, sfnt_of}
 
 -- A reading that memory doesn't end.
 record IsRead {T : Type 0} (reading : Result T SfntRefusal) : Type 0 where
@@ -118,3 +118,13 @@ sfnt_read bytes face =
 
 pub never_wants_memory : (bytes : List ℕ) (face : ℕ) → sfnt_of bytes face ≡ Err OutOfMemory → ⊥
 never_wants_memory bytes face = (sfnt_read bytes face).never
+
+face_map_read : (bytes : List ℕ) (face : ℕ) → IsRead (face_map bytes face)
+face_map_read bytes face =
+    behind (face_count bytes) _ (faces_read bytes) (λ faces.
+    behind (directory_at bytes (face_place bytes face)) (directory_map bytes) (directory_read bytes (face_place bytes face)) (λ directory.
+    behind (tables_of bytes directory) _ (tables_read bytes directory) (λ tables.
+    behind (sfnt_numbers bytes directory tables) _ (numbers_read bytes directory tables) (λ numbers. map_read bytes tables.cmap))))
+
+pub map_wants_no_memory : (bytes : List ℕ) (face : ℕ) → face_map bytes face ≡ Err OutOfMemory → ⊥
+map_wants_no_memory bytes face = (face_map_read bytes face).never

@@ -1,5 +1,5 @@
 -- Public: fonts, and what is found in them.
-use Rattle.std.specs.Prelude.{ℕ, ◌+◌, ◌-◌, ◌*◌, ◌%◌, Bool, ◌&&◌, ◌==◌, nat_lt, nat_le, if◌then◌else◌, List, [], ◌∷◌, slice_index_or, Option, Some, None, option_map, Result, Ok}
+use Rattle.std.specs.Prelude.{ℕ, zero, suc, ◌+◌, ◌-◌, ◌*◌, ◌%◌, Bool, ◌&&◌, ◌==◌, nat_lt, nat_le, if◌then◌else◌, List, [], ◌∷◌, slice_index_or, Option, Some, None, option_map, Result, Ok}
 use Rattle.sfnt_font.specs.declared.cause.SfntRefusal.{SfntRefusal}
 use Rattle.sfnt_font.specs.declared.directory.Directory.{Directory}
 use Rattle.sfnt_font.specs.declared.font.SfntFont.{SfntFont}
@@ -12,7 +12,7 @@ use Rattle.sfnt_font.specs.Bytes.{u16_at, u32_at}
 use Rattle.sfnt_font.specs.Faces.{face_count, face_place}
 use Rattle.sfnt_font.specs.Directory.{directory_at, tables_of}
 use Rattle.sfnt_font.specs.Numbers.{sfnt_numbers}
-use Rattle.sfnt_font.specs.Names.{font_name}
+use Rattle.sfnt_font.specs.Names.{font_names}
 use Rattle.sfnt_font.specs.Maps.{map_of, segments_of, group_place, first_code_place, shift_place, offset_place}
 
 -- the font of the face whose directory this is
@@ -22,7 +22,7 @@ font_of bytes directory =
     then_read (sfnt_numbers bytes directory tables) (λ numbers.
     then_read (map_of bytes tables.cmap) (λ character_map.
     then_read (segments_of bytes character_map) (λ segments.
-    Ok (record { bytes = bytes; tables = tables; numbers = numbers; character_map = character_map; segments = segments; name = font_name bytes directory })))))
+    Ok (record { bytes = bytes; tables = tables; numbers = numbers; character_map = character_map; segments = segments; names = font_names bytes directory })))))
 
 -- the map of the face whose directory this is, which is found before any memory is taken
 abbrev pub directory_map : List ℕ → Directory → Result CharacterMap SfntRefusal
@@ -39,6 +39,15 @@ face_map bytes face =
 abbrev pub sfnt_of : List ℕ → ℕ → Result SfntFont SfntRefusal
 sfnt_of bytes face =
     then_read (face_count bytes) (λ faces. then_read (directory_at bytes (face_place bytes face)) (font_of bytes))
+
+-- the fonts of n faces of a file from `face` on, or the first fault
+abbrev pub sfnts_from : List ℕ → ℕ → ℕ → Result (List SfntFont) SfntRefusal
+sfnts_from bytes face zero = Ok []
+sfnts_from bytes face (suc n) = then_read (sfnt_of bytes face) (λ font. then_read (sfnts_from bytes (face + 1) n) (λ fonts. Ok (font ∷ fonts)))
+
+-- the fonts of all faces of a file, in their order, or the first fault
+abbrev pub sfnts_of : List ℕ → Result (List SfntFont) SfntRefusal
+sfnts_of bytes = then_read (face_count bytes) (sfnts_from bytes 0)
 
 -- the number of the first of the segments that has the code, where the first of the segments has the number k
 abbrev pub segment_from : ℕ → ℕ → List Segment → Option ℕ

@@ -1,11 +1,11 @@
--- Public: the name of a font (`name`).
-use Rattle.std.specs.Prelude.{ℕ, zero, suc, ◌+◌, ◌-◌, ◌*◌, ◌/◌, Bool, ◌&&◌, ◌||◌, ◌==◌, nat_lt, nat_le, if◌then◌else◌, List, [], ◌∷◌, map, slice_index, Option, Some, None}
+-- Public: the names of a font (`name`).
+use Rattle.std.specs.Prelude.{ℕ, zero, suc, ◌+◌, ◌-◌, ◌*◌, ◌/◌, Bool, ◌&&◌, ◌||◌, ◌==◌, nat_lt, nat_le, if◌then◌else◌, List, [], ◌∷◌, map, take, slice_index, Option, Some, None}
 use Rattle.std.specs.List.{range_with_len}
-use Rattle.std.specs.Option.{option_or}
 use Rattle.std.specs.Char.Utf16.{utf16_lossy_chars}
 use Rattle.std.specs.Str.{encode_utf8_all}
 use Rattle.sfnt_font.specs.declared.directory.Directory.{Directory}
 use Rattle.sfnt_font.specs.declared.directory.Table.{Table}
+use Rattle.sfnt_font.specs.declared.names.FontNames.{FontNames}
 use Rattle.sfnt_font.specs.Bytes.{u8_at, u16_at}
 use Rattle.sfnt_font.specs.Directory.{table_end, table_named, unless_short}
 
@@ -16,11 +16,18 @@ names_name = 1851878757
 abbrev pub least_names : ℕ
 least_names = 6
 
--- ---- which record counts
+-- ---- which records count
+
+-- the numbers of a family's name and of a full name, as records have them
+abbrev pub family_kind : ℕ
+family_kind = 1
+
+abbrev pub full_kind : ℕ
+full_kind = 4
 
 -- the rank of a name's platform and encoding: Windows; Unicode, or Mac Roman; none
-abbrev pub family_rank : ℕ → ℕ → ℕ
-family_rank platform encoding =
+abbrev pub name_rank : ℕ → ℕ → ℕ
+name_rank platform encoding =
     if platform == 3 then 0 else if (platform == 0) || ((platform == 1) && (encoding == 0)) then 1 else 2
 
 -- where the text of a record begins
@@ -32,23 +39,20 @@ abbrev pub is_whole_name : List ℕ → Table → ℕ → Bool
 is_whole_name bytes names at =
     nat_le (at + 12) (table_end names) && nat_le (text_place bytes names at + u16_at bytes (at + 8)) (table_end names)
 
--- whether a record is the name of a family, of this rank
-abbrev pub is_family : List ℕ → Table → ℕ → ℕ → Bool
-is_family bytes names rank at =
-    (u16_at bytes (at + 6) == 1) && ((family_rank (u16_at bytes at) (u16_at bytes (at + 2)) == rank) && is_whole_name bytes names at)
+-- whether a record is a name of this kind and of this rank
+abbrev pub is_name : List ℕ → Table → ℕ → ℕ → ℕ → Bool
+is_name bytes names kind rank at =
+    (u16_at bytes (at + 6) == kind) && ((name_rank (u16_at bytes at) (u16_at bytes (at + 2)) == rank) && is_whole_name bytes names at)
 
--- the first of n records from `at` on that is one
-abbrev pub family_from : List ℕ → Table → ℕ → ℕ → ℕ → Option ℕ
-family_from bytes names rank at zero = None
-family_from bytes names rank at (suc n) = if is_family bytes names rank at then Some at else family_from bytes names rank (at + 12) n
+-- those of n records from `at` on that are, in their order
+abbrev pub records_from : List ℕ → Table → ℕ → ℕ → ℕ → ℕ → List ℕ
+records_from bytes names kind rank at zero = []
+records_from bytes names kind rank at (suc n) =
+    if is_name bytes names kind rank at then at ∷ records_from bytes names kind rank (at + 12) n else records_from bytes names kind rank (at + 12) n
 
--- the first record that is one
-abbrev pub ranked_family : List ℕ → Table → ℕ → Option ℕ
-ranked_family bytes names rank = family_from bytes names rank (names.place + 6) (u16_at bytes (names.place + 2))
-
--- the record that names the font: the first of Windows, or else the first of the others
-abbrev pub family_record : List ℕ → Table → Option ℕ
-family_record bytes names = option_or (ranked_family bytes names 0) (ranked_family bytes names 1)
+-- all records that are
+abbrev pub records_of : List ℕ → Table → ℕ → ℕ → List ℕ
+records_of bytes names kind rank = records_from bytes names kind rank (names.place + 6) (u16_at bytes (names.place + 2))
 
 -- ---- the text of a record
 
@@ -96,14 +100,43 @@ name_units bytes names at =
 abbrev pub spelled : List ℕ → List ℕ
 spelled units = encode_utf8_all (utf16_lossy_chars units)
 
-abbrev pub record_name : List ℕ → Table → Option ℕ → List ℕ
-record_name bytes names None = []
-record_name bytes names (Some at) = spelled (name_units bytes names at)
+abbrev pub record_name : List ℕ → Table → ℕ → List ℕ
+record_name bytes names at = spelled (name_units bytes names at)
 
-abbrev pub family_name : List ℕ → Option Table → List ℕ
-family_name bytes None = []
-family_name bytes (Some names) = record_name bytes names (family_record bytes names)
+-- ---- the names of a font
 
--- the name of a font, in UTF-8
-abbrev pub font_name : List ℕ → Directory → List ℕ
-font_name bytes directory = family_name bytes (unless_short least_names (table_named bytes directory names_name))
+-- the most families of a font, and the most full names
+abbrev pub max_names : ℕ
+max_names = 64
+
+-- the first names of this kind and rank, at most so many
+abbrev pub ranked_names : List ℕ → Table → ℕ → ℕ → ℕ → List (List ℕ)
+ranked_names bytes names kind rank most = map (record_name bytes names) (take most (records_of bytes names kind rank))
+
+-- a list, or another one where it is empty
+abbrev pub unless_empty : List (List ℕ) → List (List ℕ) → List (List ℕ)
+unless_empty [] others = others
+unless_empty (name ∷ names) others = name ∷ names
+
+-- The names that a table gives. The families are those of Windows, or else the first of the others; the full names are those of Windows alone.
+abbrev pub table_names : List ℕ → Table → FontNames
+table_names bytes names = record {
+  families = unless_empty (ranked_names bytes names family_kind 0 max_names) (ranked_names bytes names family_kind 1 1);
+  full_names = ranked_names bytes names full_kind 0 max_names;
+}
+
+abbrev pub no_names : FontNames
+no_names = record { families = []; full_names = [] }
+
+abbrev pub names_or_none : List ℕ → Option Table → FontNames
+names_or_none bytes None = no_names
+names_or_none bytes (Some names) = table_names bytes names
+
+-- the names of a font, in UTF-8
+abbrev pub font_names : List ℕ → Directory → FontNames
+font_names bytes directory = names_or_none bytes (unless_short least_names (table_named bytes directory names_name))
+
+-- the name that a font is told by: that of its first family; empty where it has none
+abbrev pub first_name : List (List ℕ) → List ℕ
+first_name [] = []
+first_name (name ∷ names) = name

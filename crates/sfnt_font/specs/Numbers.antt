@@ -1,5 +1,5 @@
 -- Public: the numbers of a font.
-use Rattle.std.specs.Prelude.{ℕ, ◌+◌, ◌/◌, ◌≤◌, max, not, ◌==◌, if◌then◌else◌, List, Option, Some, None, Result, Ok, Err, ℤ, pos, ◌+ℤ◌, neg_ℤ, int_lt, ◌≤ℤ◌, IfSome}
+use Rattle.std.specs.Prelude.{ℕ, ◌+◌, ◌/◌, ◌%◌, ◌≤◌, max, Bool, ◌&&◌, not, ◌==◌, nat_le, if◌then◌else◌, List, Option, Some, None, Result, Ok, Err, ℤ, pos, ◌+ℤ◌, neg_ℤ, int_lt, ◌≤ℤ◌, IfSome}
 use Rattle.std.specs.Option.{option_or}
 use Rattle.std.specs.Ordering.{int_eq}
 use Rattle.std.specs.Int.{int_max}
@@ -67,6 +67,30 @@ underline_of bytes units post = bar_or bytes post 8 10 (bar_of (floor_div (neg_�
 abbrev pub strikeout_of : List ℕ → ℕ → Option Table → Option Bar
 strikeout_of bytes units metrics = bar_or bytes metrics 28 26 (bar_of (pos (units / 4)) (pos (units / 20)))
 
+-- ---- weight and slant
+
+-- the lowest bit of a number
+abbrev pub has_low_bit : ℕ → Bool
+has_low_bit n = n % 2 == 1
+
+-- the weight by the style of `head`
+abbrev pub style_weight : List ℕ → Table → ℕ
+style_weight bytes head = if has_low_bit (u16_at bytes (head.place + 44)) then 700 else 400
+
+-- a weight from 1 to 1,000, or else another one
+abbrev pub weight_or : ℕ → ℕ → ℕ
+weight_or weight other = if nat_le 1 weight && nat_le weight 1000 then weight else other
+
+-- the weight of a font: that of `OS/2`, or else by the style of `head`
+abbrev pub weight_of : List ℕ → Table → Option Table → ℕ
+weight_of bytes head None = style_weight bytes head
+weight_of bytes head (Some metrics) = weight_or (u16_at bytes (metrics.place + 4)) (style_weight bytes head)
+
+-- whether a font is slanted, by `OS/2`, or without it by the style of `head`
+abbrev pub is_slanted : List ℕ → Table → Option Table → Bool
+is_slanted bytes head None = has_low_bit (u16_at bytes (head.place + 44) / 2)
+is_slanted bytes head (Some metrics) = has_low_bit (u16_at bytes (metrics.place + 62))
+
 -- the numbers of a font with these units, so many glyphs and these heights
 abbrev pub made_numbers : List ℕ → Tables → Option Table → Option Table → Numbers
 made_numbers bytes tables metrics post = record {
@@ -79,6 +103,8 @@ made_numbers bytes tables metrics post = record {
   underline = underline_of bytes (u16_at bytes (tables.head.place + 18)) post;
   strikeout = strikeout_of bytes (u16_at bytes (tables.head.place + 18)) metrics;
   bold_step = max (u16_at bytes (tables.head.place + 18) / 40) 1;
+  weight = weight_of bytes tables.head metrics;
+  slanted = is_slanted bytes tables.head metrics;
 }
 
 -- the numbers of a font, or the first that is 0 and may not be
@@ -91,6 +117,10 @@ sfnt_numbers bytes directory tables =
 -- A height, or how high a bar is. This is a condition of calls.
 abbrev pub IsHeight : ℤ → Type 0
 IsHeight z = IsWithin 32768 z
+
+-- the weight of a font
+abbrev pub IsWeight : ℕ → Type 0
+IsWeight weight = (1 ≤ weight) × (weight ≤ 1000)
 
 -- what holds of a bar
 pub record IsFontBar (bar : Bar) : Type 0 where
@@ -108,3 +138,4 @@ pub record AreFontNumbers (numbers : Numbers) : Type 0 where
   pub strikeout : IfSome numbers.strikeout IsFontBar
   pub bold_step : 1 ≤ numbers.bold_step
   pub bold_most : numbers.bold_step ≤ 65535
+  pub weight : IsWeight numbers.weight

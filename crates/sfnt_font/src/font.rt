@@ -6,22 +6,24 @@ ghost use Rattle.sfnt_font.specs.Fonts.{mapped_glyph, glyph_number, is_symbol_co
 ghost use Rattle.sfnt_font.specs.Ranges.{IsSfntFont};
 
 use crate::characters::{held_glyph, segment_glyph};
+use crate::file_bytes::FileBytes;
 use crate::maps::CharacterMap;
+use crate::names::FontNames;
 use crate::numbers::Numbers;
 use crate::segments::{Segment, place_in, segment_of};
 use crate::tables::Tables;
 use ass_num::Items;
 
-/// A font: the bytes of its file, where its tables are, its numbers, its map, the segments of the map, and its name. A
+/// A font: the bytes of its file, where its tables are, its numbers, its map, the segments of the map, and its names. A
 /// glyph is looked at when it is asked for.
 #[derive(Debug, Drop)]
 pub struct SfntFont {
-    pub(crate) bytes: Items<u8>,
+    pub(crate) bytes: FileBytes,
     pub(crate) tables: Tables,
     pub(crate) numbers: Numbers,
     pub(crate) character_map: CharacterMap,
     pub(crate) segments: Items<Segment>,
-    pub(crate) name: Items<u8>,
+    pub(crate) names: FontNames,
 }
 
 impl SfntFont {
@@ -46,11 +48,11 @@ impl SfntFont {
         &self.numbers
     }
 
-    /// The name of the font's family, in UTF-8; empty where it has none.
-    pub fn name(&self) -> &[u8]
-        ensures { result.now ≡ self.now.name }
+    /// The names of the font.
+    pub fn names(&self) -> &FontNames
+        ensures { result.now ≡ self.now.names }
     {
-        self.name.as_slice()
+        &self.names
     }
 
     /// The glyph that the map gives a code, or else 0.

@@ -1,18 +1,27 @@
-//! The name of a font: that of its family.
+//! The names of a font: its families and its full names.
 
-ghost use Rattle.std.specs.Prelude.{◌≡◌, ◌<◌, ◌≤◌, ◌^◌, length, IfOk, IfSome};
+ghost use Rattle.std.specs.Prelude.{◌≡◌, ◌<◌, ◌≤◌, ◌^◌, length, IfOk};
 ghost use Rattle.ass_num.specs.Limits.{max_file_bytes};
 ghost use Rattle.sfnt_font.specs.Directory.{IsDirectory, IsTableIn};
-ghost use Rattle.sfnt_font.specs.Names.{family_rank, text_place, is_whole_name, is_family, ranked_family, family_record, mac_character};
-ghost use Rattle.sfnt_font.specs.Names.{narrow_units, wide_units, name_units, spelled, record_name, font_name};
+ghost use Rattle.sfnt_font.specs.Names.{name_rank, text_place, is_whole_name, is_name, mac_character};
+ghost use Rattle.sfnt_font.specs.Names.{narrow_units, wide_units, name_units, spelled, record_name, ranked_names, table_names, font_names, first_name};
 
 use crate::bytes::{u8_at, u16_at};
 use crate::directory::{Directory, Table, long_table};
-use ass_num::{Items, Mem};
+use ass_num::{FlatLists, Items, Mem};
 use std::alloc::Global;
 
 /// "name"
 const NAMES: u32 = 1_851_878_757;
+
+/// The number of a family's name.
+const FAMILY: u16 = 1;
+
+/// The number of a full name.
+const FULL: u16 = 4;
+
+/// The most families of a font, and the most full names.
+const MAX_NAMES: usize = 64;
 
 /// The rank of a Windows name.
 const WINDOWS: u8 = 0;
@@ -35,8 +44,28 @@ const MAC_ROMAN: [u16; 128] = [
     729, 730, 184, 733, 731, 711,
 ];
 
-fn family_rank(platform: u16, encoding: u16) -> u8
-    ensures { result ≡ family_rank platform encoding }
+/// The names of a font, in UTF-8 and in the order of their records: of its families, and its full names.
+#[derive(Debug, Drop)]
+pub struct FontNames {
+    pub families: FlatLists<u8>,
+    pub full_names: FlatLists<u8>,
+}
+
+impl FontNames {
+    /// The name of the first family; empty where there is none.
+    pub fn first(&self) -> &[u8]
+        ensures { result.now ≡ first_name self.now.families }
+    {
+        if self.families.len() > 0 {
+            self.families.get(0)
+        } else {
+            &[]
+        }
+    }
+}
+
+fn name_rank(platform: u16, encoding: u16) -> u8
+    ensures { result ≡ name_rank platform encoding }
 {
     match platform {
         3 => WINDOWS,
@@ -69,45 +98,16 @@ fn is_whole_name(bytes: &[u8], names: Table, at: usize) -> bool
     at + 12 <= names.end() && text_place(bytes, names, at) + size <= names.end()
 }
 
-/// Whether a record is the name of a family, of this rank.
-fn is_family(bytes: &[u8], names: Table, rank: u8, at: usize) -> bool
+/// Whether a record is a name of this kind and of this rank.
+fn is_name(bytes: &[u8], names: Table, kind: u16, rank: u8, at: usize) -> bool
     requires names { IsTableIn bytes.now names }
     requires short { length bytes.now ≤ max_file_bytes }
     requires at { at < 2 ^ 32 }
-    ensures { result ≡ is_family bytes.now names rank at }
+    ensures { result ≡ is_name bytes.now names kind rank at }
 {
-    u16_at(bytes, at + 6) == 1
-        && family_rank(u16_at(bytes, at), u16_at(bytes, at + 2)) == rank
+    u16_at(bytes, at + 6) == kind
+        && name_rank(u16_at(bytes, at), u16_at(bytes, at + 2)) == rank
         && is_whole_name(bytes, names, at)
-}
-
-/// The first record that is the name of a family, of this rank.
-fn ranked_family(bytes: &[u8], names: Table, rank: u8) -> Option<usize>
-    requires names { IsTableIn bytes.now names }
-    requires short { length bytes.now ≤ max_file_bytes }
-    ensures value { result ≡ ranked_family bytes.now names rank }
-    ensures place { IfSome result (λ at. at < 2 ^ 32) }
-{
-    for k in 0..u16_at(bytes, names.place + 2) {
-        let at = names.place + 6 + 12 * usize::from(k);
-        if is_family(bytes, names, rank, at) {
-            return Some(at);
-        }
-    }
-    None
-}
-
-/// The record that names the font: the first of Windows, or else the first of the others.
-fn family_record(bytes: &[u8], names: Table) -> Option<usize>
-    requires names { IsTableIn bytes.now names }
-    requires short { length bytes.now ≤ max_file_bytes }
-    ensures value { result ≡ family_record bytes.now names }
-    ensures place { IfSome result (λ at. at < 2 ^ 32) }
-{
-    match ranked_family(bytes, names, WINDOWS) {
-        Some(at) => Some(at),
-        None => ranked_family(bytes, names, OTHER),
-    }
 }
 
 fn mac_character(byte: u8) -> u16
@@ -166,34 +166,76 @@ fn spelled(alloc: Global, units: &[u16]) -> Mem<Items<u8>>
     Ok(Items::from_vec(text.into_bytes()))
 }
 
-fn record_name(
+/// What a record spells.
+fn record_name(alloc: Global, bytes: &[u8], names: Table, at: usize) -> Mem<Items<u8>>
+    requires names { IsTableIn bytes.now names }
+    requires short { length bytes.now ≤ max_file_bytes }
+    requires at { at < 2 ^ 32 }
+    ensures { IfOk result (λ name. name ≡ record_name bytes.now names at) }
+{
+    let units = name_units(alloc, bytes, names, at)?;
+    spelled(alloc, units.as_slice())
+}
+
+/// The first names of this kind and rank, at most so many.
+fn ranked_names(
     alloc: Global,
     bytes: &[u8],
     names: Table,
-    record_place: Option<usize>,
-) -> Mem<Items<u8>>
+    kind: u16,
+    rank: u8,
+    most: usize,
+) -> Mem<FlatLists<u8>>
     requires names { IsTableIn bytes.now names }
     requires short { length bytes.now ≤ max_file_bytes }
-    requires place { IfSome record_place (λ at. at < 2 ^ 32) }
-    ensures { IfOk result (λ name. name ≡ record_name bytes.now names record_place) }
+    ensures { IfOk result (λ found. found ≡ ranked_names bytes.now names kind rank most) }
 {
-    match record_place {
-        Some(at) => {
-            let units = name_units(alloc, bytes, names, at)?;
-            spelled(alloc, units.as_slice())
+    let mut found = FlatLists::new(alloc);
+    for k in 0..u16_at(bytes, names.place + 2) {
+        let at = names.place + 6 + 12 * usize::from(k);
+        if found.len() < most && is_name(bytes, names, kind, rank, at) {
+            found.push(record_name(alloc, bytes, names, at)?.as_slice())?;
         }
-        None => Ok(Items::new(alloc)),
     }
+    Ok(found)
 }
 
-/// The name of the font whose directory this is; empty where it has none that is read.
-pub fn font_name(alloc: Global, bytes: &[u8], directory: Directory) -> Mem<Items<u8>>
+/// The families that a table gives: those of Windows, or else the first of the others.
+fn families_of(alloc: Global, bytes: &[u8], names: Table) -> Mem<FlatLists<u8>>
+    requires names { IsTableIn bytes.now names }
+    requires short { length bytes.now ≤ max_file_bytes }
+    ensures { IfOk result (λ families. families ≡ (table_names bytes.now names).families) }
+{
+    let families = ranked_names(alloc, bytes, names, FAMILY, WINDOWS, MAX_NAMES)?;
+    if families.len() > 0 {
+        return Ok(families);
+    }
+    ranked_names(alloc, bytes, names, FAMILY, OTHER, 1)
+}
+
+/// The names that a table gives.
+fn table_names(alloc: Global, bytes: &[u8], names: Table) -> Mem<FontNames>
+    requires names { IsTableIn bytes.now names }
+    requires short { length bytes.now ≤ max_file_bytes }
+    ensures { IfOk result (λ found. found ≡ table_names bytes.now names) }
+{
+    Ok(FontNames {
+        families: families_of(alloc, bytes, names)?,
+        full_names: ranked_names(alloc, bytes, names, FULL, WINDOWS, MAX_NAMES)?,
+    })
+}
+
+/// The names of the font whose directory this is.
+pub fn font_names(alloc: Global, bytes: &[u8], directory: Directory) -> Mem<FontNames>
     requires directory { IsDirectory directory }
     requires short { length bytes.now ≤ max_file_bytes }
-    ensures { IfOk result (λ name. name ≡ font_name bytes.now directory) }
+    ensures { IfOk result (λ names. names ≡ font_names bytes.now directory) }
 {
     match long_table(bytes, directory, NAMES, 6) {
-        Some(names) => record_name(alloc, bytes, names, family_record(bytes, names)),
-        None => Ok(Items::new(alloc)),
+        Some(names) => table_names(alloc, bytes, names),
+        None => Ok(FontNames {
+            families: FlatLists::new(alloc),
+            full_names: FlatLists::new(alloc),
+        }),
     }
 }

@@ -7,6 +7,7 @@ ghost use Rattle.sfnt_font.specs.Directory.{IsTableIn, AreTablesIn, IsDirectory,
 ghost use Rattle.sfnt_font.specs.Numbers.{heights_or, heights_from, window_heights, typographic_heights};
 ghost use Rattle.sfnt_font.specs.Numbers.{line_heights, box_heights, font_heights, bar_at, bar_of};
 ghost use Rattle.sfnt_font.specs.Numbers.{bar_or, underline_of, strikeout_of, made_numbers, sfnt_numbers, IsHeight, IsFontBar, AreFontNumbers};
+ghost use Rattle.sfnt_font.specs.Numbers.{style_weight, weight_or, weight_of, is_slanted, IsWeight};
 
 use crate::bytes::{s16_at, u16_at};
 use crate::cause::{SfntCause, SfntRefusal};
@@ -49,6 +50,10 @@ pub struct Numbers {
     pub strikeout: Option<Bar>,
     /// How far the second outline of a bold glyph lies to the right.
     pub bold_step: u16,
+    /// How bold the letters are: 400 are regular ones, 700 bold ones.
+    pub weight: u16,
+    /// Whether the letters slant to the right.
+    pub slanted: bool,
 }
 
 fn heights_or(first: Heights, second: Heights) -> Heights
@@ -197,6 +202,60 @@ fn strikeout_of(bytes: &[u8], units: u16, metrics: Option<Table>) -> Option<Bar>
     )
 }
 
+/// The weight by the style of `head`.
+fn style_weight(bytes: &[u8], head: Table) -> u16
+    requires { table_end head ≤ max_file_bytes }
+    ensures value { result ≡ style_weight bytes.now head }
+    ensures weight { IsWeight result }
+{
+    if u16_at(bytes, head.place + 44) % 2 == 1 {
+        700
+    } else {
+        400
+    }
+}
+
+/// The weight of a font.
+fn weight_of(bytes: &[u8], head: Table, metrics: Option<Table>) -> u16
+    requires head { IsTableIn bytes.now head }
+    requires metrics { IfSome metrics (IsTableIn bytes.now) }
+    requires short { length bytes.now ≤ max_file_bytes }
+    ensures value { result ≡ weight_of bytes.now head metrics }
+    ensures weight { IsWeight result }
+{
+    let other = style_weight(bytes, head);
+    match metrics {
+        None => other,
+        Some(metrics) => weight_or(u16_at(bytes, metrics.place + 4), other),
+    }
+}
+
+/// A weight from 1 to 1,000, or else another one.
+fn weight_or(weight: u16, other: u16) -> u16
+    requires { IsWeight other }
+    ensures value { result ≡ weight_or weight other }
+    ensures weight { IsWeight result }
+{
+    if 1 <= weight && weight <= 1000 {
+        weight
+    } else {
+        other
+    }
+}
+
+/// Whether the letters of a font slant to the right.
+fn is_slanted(bytes: &[u8], head: Table, metrics: Option<Table>) -> bool
+    requires head { IsTableIn bytes.now head }
+    requires metrics { IfSome metrics (IsTableIn bytes.now) }
+    requires short { length bytes.now ≤ max_file_bytes }
+    ensures { result ≡ is_slanted bytes.now head metrics }
+{
+    match metrics {
+        None => u16_at(bytes, head.place + 44) / 2 % 2 == 1,
+        Some(metrics) => u16_at(bytes, metrics.place + 62) % 2 == 1,
+    }
+}
+
 fn made_numbers(
     bytes: &[u8],
     tables: &Tables,
@@ -222,6 +281,8 @@ fn made_numbers(
         underline: underline_of(bytes, units, post),
         strikeout: strikeout_of(bytes, units, metrics),
         bold_step: (units / 40).max(1),
+        weight: weight_of(bytes, tables.head, metrics),
+        slanted: is_slanted(bytes, tables.head, metrics),
     }
 }
 

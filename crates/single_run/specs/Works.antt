@@ -1,5 +1,5 @@
 -- Public: the work that words ask for, as far as it waits for nobody.
-use Rattle.std.specs.Prelude.{◌≡◌, ◌⊎◌, Bool, true, ◌&&◌, if◌then◌else◌, ℕ, ◌<◌, ◌≤◌, nat_le, nat_lt, ℤ, pos, negsuc, List, [], ◌∷◌, length, Option, Some, None, Result, Ok, Err, option_map}
+use Rattle.std.specs.Prelude.{◌≡◌, ◌⊎◌, Bool, true, false, ◌&&◌, if◌then◌else◌, ℕ, ◌<◌, ◌≤◌, nat_le, nat_lt, ℤ, pos, negsuc, List, [], ◌∷◌, length, Option, Some, None, Result, Ok, Err, option_map}
 use Rattle.std.specs.Int.RustNames.{unsigned_abs}
 use Rattle.ass_events.specs.Events.{is_time}
 use Rattle.ass_num.specs.Limits.{IsInstant}
@@ -12,6 +12,7 @@ use Rattle.run_words.specs.Limits.{max_budget}
 use Rattle.run_words.specs.Words.{job_of}
 use Rattle.run_words.specs.declared.job.Job.{Job}
 use Rattle.run_words.specs.declared.job.Job.TheVariants as job
+use Rattle.run_words.specs.declared.job.ScriptSource.{ScriptSource}
 use Rattle.run_words.specs.declared.job.WordsFault.{WordsFault}
 use Rattle.run_words.specs.declared.job.WordsFault.TheVariants.{Usage}
 use Rattle.run_status.specs.declared.status.Status.{Status}
@@ -41,7 +42,7 @@ changes_task from to step view budget (font ∷ fonts) = Some (Changes (record {
   budget = budget;
 }))
 
-abbrev pub work_with : List ℕ → List (List ℕ) → Task → Work
+abbrev pub work_with : ScriptSource → List (List ℕ) → Task → Work
 work_with script fonts task = record { task = task; script = script; fonts = fonts }
 
 -- the work of a job that waits for nobody, where words can ask for it
@@ -49,7 +50,7 @@ abbrev pub work_of : Job → Option Work
 work_of (job.Check script fonts) = Some (work_with script fonts Check)
 work_of (job.Frame at view budget script fonts) = option_map (work_with script fonts) (frame_task at view budget fonts)
 work_of (job.Changes from to step view budget script fonts) = option_map (work_with script fonts) (changes_task from to step view budget fonts)
-work_of (job.Write later earlier script) = Some (work_with script [] (Write (record { later = later; earlier = earlier })))
+work_of (job.Write later earlier script) = Some (work_with (record { name = script; own_fonts = false }) [] (Write (record { later = later; earlier = earlier })))
 work_of _ = None
 
 -- the most pictures that a task compares

@@ -9,7 +9,7 @@ use crate::Instants;
 use ass_num::{Items, Text};
 use frame_view::FrameView;
 use run_status::{MAX_FONTS, Status, What};
-use run_words::{Job, WordsFault, WordsRefusal, read_words};
+use run_words::{Job, ScriptSource, WordsFault, WordsRefusal, read_words};
 use std::alloc::Global;
 
 /// The most pictures that a task compares.
@@ -55,7 +55,7 @@ pub enum Task {
 #[derive(Debug, Drop)]
 pub struct Work {
     pub task: Task,
-    pub script: Text,
+    pub script: ScriptSource,
     pub fonts: Items<Text>,
 }
 
@@ -114,7 +114,10 @@ pub fn work_of(alloc: Global, job: Job) -> Option<Work>
         }
         Job::Write(later, earlier, script) => Some(Work {
             task: Task::Write(WriteTask { later, earlier }),
-            script,
+            script: ScriptSource {
+                name: script,
+                own_fonts: false,
+            },
             fonts: Items::new(alloc),
         }),
         Job::Changes(from, to, step, view, budget, script, fonts) => {

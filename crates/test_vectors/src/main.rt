@@ -7,6 +7,7 @@ mod edges;
 mod events;
 mod faults;
 mod fonts;
+mod held_fonts;
 mod numbers;
 mod plains;
 mod regions;
@@ -30,6 +31,7 @@ use std::{env, fs};
 fn text_answer(alloc: Global, table: &str, question: &str) -> Mem<String> {
     match table {
         "fonts" => fonts::told(alloc, question),
+        "script_fonts" => held_fonts::told(alloc, question),
         "scripts" => scripts::told(alloc, question),
         "styles" => scripts::style(alloc, question),
         "line_counts" => scripts::line_count(alloc, question),

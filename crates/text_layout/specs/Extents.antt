@@ -4,7 +4,9 @@ use Rattle.std.specs.List.{zip}
 use Rattle.std.specs.Option.{option_map_or}
 use Rattle.ass_num.specs.declared.geometry.Matrix.{Matrix}
 use Rattle.ass_num.specs.declared.geometry.Seg.{Seg}
-use Rattle.bdf_font.specs.Fonts.{FontValue, glyph_of}
+use Rattle.bdf_font.specs.Fonts.{FontValue}
+use Rattle.bdf_font.specs.Sets.{no_font, set_glyph_of}
+use Rattle.bdf_font.specs.declared.sets.GlyphPlace.{GlyphPlace}
 use Rattle.bdf_font.specs.declared.glyphs.FontGlyph.{FontGlyph}
 use Rattle.line_layout.specs.Breaks.{IsItemWidth}
 use Rattle.outline_points.specs.Drawings.{drawing_extent}
@@ -15,28 +17,32 @@ use Rattle.text_layout.specs.declared.extents.Extent.{Extent}
 use Rattle.text_layout.specs.declared.metrics.Metrics.{Metrics}
 use Rattle.text_layout.specs.Clusters.{cluster_ends}
 use Rattle.text_layout.specs.Kinds.{char_of, chars_of}
-use Rattle.text_layout.specs.Metrics.{held_extent, no_font, no_metrics, scaled_pixels}
+use Rattle.text_layout.specs.Metrics.{held_extent, no_metrics, scale_across, scaled_pixels}
 
--- the advance of a glyph in the units of its font, or 0 without one
-abbrev pub glyph_advance : List FontGlyph → Option ℕ → ℤ
-glyph_advance glyphs None = pos 0
-glyph_advance glyphs (Some place) = option_map_or (λ (glyph : FontGlyph). glyph.advance) (slice_get glyphs place) (pos 0)
+-- the advance of the glyph at a place, in the units of its font
+abbrev pub glyph_advance : List FontGlyph → ℕ → ℤ
+glyph_advance glyphs place = option_map_or (λ (glyph : FontGlyph). glyph.advance) (slice_get glyphs place) (pos 0)
 
-abbrev pub font_advance : FontValue → ℕ → ℤ
-font_advance font c = glyph_advance font.glyphs (glyph_of font c)
+-- The advance of a glyph of a set of fonts at the scale that its own font has; 0 without one.
+abbrev pub found_advance : List FontValue → Metrics → Option GlyphPlace → ℤ
+found_advance fonts metrics None = pos 0
+found_advance fonts metrics (Some place) =
+    let font = slice_index_or fonts place.font no_font in
+    scaled_pixels (glyph_advance font.glyphs place.glyph) (scale_across metrics.size font)
 
 -- what is put behind a character: spacing stands behind the last one of a cluster
 abbrev pub spacing_behind : Metrics → Bool → ℤ
 spacing_behind metrics ends_cluster = if ends_cluster then metrics.spacing else pos 0
 
--- how far a character advances the pen
-abbrev pub char_advance : Metrics → FontValue → Bool → ℕ → ℤ
-char_advance metrics font ends_cluster c = held_extent (scaled_pixels (font_advance font c) metrics.ux +ℤ spacing_behind metrics ends_cluster)
+-- How far a character advances the pen. Its glyph is of the state's font, or of another one that has the character.
+abbrev pub char_advance : List FontValue → Metrics → Bool → ℕ → ℤ
+char_advance fonts metrics ends_cluster c =
+    held_extent (found_advance fonts metrics (set_glyph_of fonts metrics.font c) +ℤ spacing_behind metrics ends_cluster)
 
--- the extent of a character
-abbrev pub char_extent : Metrics → FontValue → Bool → ℕ → Extent
-char_extent metrics font ends_cluster c = record {
-  advance = char_advance metrics font ends_cluster c;
+-- the extent of a character, whose heights are those of the state's font
+abbrev pub char_extent : List FontValue → Metrics → Bool → ℕ → Extent
+char_extent fonts metrics ends_cluster c = record {
+  advance = char_advance fonts metrics ends_cluster c;
   ascent = metrics.ascent;
   descent = metrics.descent;
 }
@@ -55,7 +61,7 @@ no_extent = record { advance = pos 0; ascent = pos 0; descent = pos 0 }
 abbrev pub kind_extent : List FontValue → Metrics → ℕ → Bool → ShownKind → Extent
 kind_extent fonts metrics wrap ends_cluster (shown.Drawing path) = drawn_extent metrics.drawing path.segs
 kind_extent fonts metrics wrap ends_cluster kind =
-    option_map_or (char_extent metrics (slice_index_or fonts metrics.font no_font) ends_cluster) (char_of wrap kind) no_extent
+    option_map_or (char_extent fonts metrics ends_cluster) (char_of wrap kind) no_extent
 
 -- the extent of an item, in its state
 abbrev pub extent_of : List FontValue → List Metrics → ℕ → Shown → Bool → Extent

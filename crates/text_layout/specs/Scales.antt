@@ -10,6 +10,7 @@ use Rattle.frame_view.specs.FrameScales.{magnified}
 use Rattle.frame_view.specs.declared.scales.Scales.{Scales}
 use Rattle.outline_points.specs.Limits.{max_scale}
 use Rattle.override_tags.specs.declared.view.State.{State}
+use Rattle.text_layout.specs.Fonts.{needs_slant}
 
 -- a pixel, in the unit of all lengths of the frame
 abbrev pub pixel : ℕ
@@ -58,12 +59,12 @@ drawing_scale scale level side res = held_scale (floor_div (scale *ℤ pos (fine
 abbrev pub turn_of : ℤ → ℤ
 turn_of angle = int_rem_euclid angle (pos whole_turn)
 
--- the matrix of characters in a state with this font
+-- The matrix of characters in a state with this font: they are slanted where the state is italic and the font isn't slanted.
 abbrev pub text_matrix : Scales → FontValue → State → Matrix
 text_matrix scales font state = record {
   ux = text_scale (magnified scales.letter_scale state.size) state.scale_x scales.letters.x.pixels scales.letters.x.units (em_height font);
   uy = text_scale (magnified scales.letter_scale state.size) state.scale_y scales.letters.y.pixels scales.letters.y.units (em_height font);
-  italic = state.italic;
+  italic = needs_slant font state;
   turn = turn_of state.angle;
 }
 

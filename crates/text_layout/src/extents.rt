@@ -1,23 +1,23 @@
 //! How far each item advances the pen, and how far it reaches above and below the baseline.
 
-ghost use Rattle.std.specs.Prelude.{◌≡◌, ◌<◌, length, All, IfOk};
+ghost use Rattle.std.specs.Prelude.{◌≡◌, ◌<◌, length, All, IfOk, Some, slice_index_or};
 ghost use Rattle.ass_num.specs.Limits.{IsWithin};
 ghost use Rattle.ass_num.specs.Paths.{IsPath};
-ghost use Rattle.bdf_font.specs.Ranges.{IsFont};
+ghost use Rattle.bdf_font.specs.Sets.{IsGlyphPlaceIn, no_font, set_glyph_of};
 ghost use Rattle.line_layout.specs.Breaks.{IsItemWidth};
-ghost use Rattle.outline_points.specs.Limits.{max_pixel};
-ghost use Rattle.outline_points.specs.Placing.{IsMatrix};
+ghost use Rattle.outline_points.specs.Placing.{IsMatrix, IsScale};
 ghost use Rattle.override_tags.specs.Views.{IsShownItem, IsShownKind};
-ghost use Rattle.text_layout.specs.Metrics.{HasFont, IsMetrics};
+ghost use Rattle.text_layout.specs.Fonts.{IsLayoutFontSet};
+ghost use Rattle.text_layout.specs.Metrics.{HasFont, IsMetrics, scale_across};
 ghost use Rattle.text_layout.specs.Limits.{max_framed};
-ghost use Rattle.text_layout.specs.Extents.{IsItemExtent, font_advance, char_advance, char_extent, drawn_extent, extent_of, item_extents, kind_extent};
+ghost use Rattle.text_layout.specs.Extents.{IsItemExtent, char_advance, char_extent, drawn_extent, extent_of, found_advance, item_extents, kind_extent};
 ghost use Rattle.text_layout.specs.Extents.{spacing_behind};
 
 use crate::clusters::cluster_ends;
 use crate::kinds::char_of;
-use crate::metrics::{Metrics, held_extent, scaled_pixels};
+use crate::metrics::{Metrics, held_extent, scale_across, scaled_pixels};
 use ass_num::{Fix, Matrix, Mem, Path};
-use bdf_font::{Font, FontSet, glyph};
+use bdf_font::{FontSet, GlyphPlace, set_glyph};
 use outline_points::drawing_extent;
 use override_tags::{Shown, ShownKind};
 use std::alloc::Global;
@@ -37,14 +37,45 @@ pub(crate) const NO_EXTENT: Extent = Extent {
     descent: 0,
 };
 
-/// The advance of a character's glyph in the units of its font, or 0 without one.
-fn advance_of(font: &Font, c: char) -> i32
-    requires { IsFont font.now }
-    ensures value { result ≡ font_advance font.now c }
-    ensures within { IsWithin max_pixel result }
+/// The horizontal scale of the letters of a font of the set in a state with these metrics.
+fn scale_in(fonts: &FontSet, metrics: &Metrics, number: u32) -> i64
+    requires fonts { IsLayoutFontSet fonts.now.fonts }
+    requires metrics { IsMetrics metrics.now }
+    requires font { HasFont fonts.now.fonts metrics.now }
+    requires number { number < length fonts.now.fonts }
+    ensures value { result ≡ scale_across metrics.now.size (slice_index_or fonts.now.fonts number no_font) }
+    ensures range { IsScale result }
 {
-    match glyph(font, c) {
-        Some(place) => font.advance_at(place),
+    if number == metrics.font {
+        return metrics.ux;
+    }
+    scale_across(&metrics.size, &fonts.fonts.as_slice()[number as usize])
+}
+
+/// The advance of a glyph of the set at the scale of its font.
+fn glyph_advance(fonts: &FontSet, metrics: &Metrics, place: GlyphPlace) -> i128
+    requires fonts { IsLayoutFontSet fonts.now.fonts }
+    requires metrics { IsMetrics metrics.now }
+    requires font { HasFont fonts.now.fonts metrics.now }
+    requires place { IsGlyphPlaceIn fonts.now.fonts place }
+    ensures value { result ≡ found_advance fonts.now.fonts metrics.now (Some place) }
+    ensures within { IsWithin max_framed result }
+{
+    let font = &fonts.fonts.as_slice()[place.font as usize];
+    let scale = scale_in(fonts, metrics, place.font);
+    scaled_pixels(font.advance_at(place.glyph), scale)
+}
+
+/// The advance of a character's glyph at the scale of its font, or 0 without one.
+fn found_advance(fonts: &FontSet, metrics: &Metrics, c: char) -> i128
+    requires fonts { IsLayoutFontSet fonts.now.fonts }
+    requires metrics { IsMetrics metrics.now }
+    requires font { HasFont fonts.now.fonts metrics.now }
+    ensures value { result ≡ found_advance fonts.now.fonts metrics.now (set_glyph_of fonts.now.fonts metrics.now.font c) }
+    ensures within { IsWithin max_framed result }
+{
+    match set_glyph(fonts, metrics.font, c) {
+        Some(place) => glyph_advance(fonts, metrics, place),
         None => 0,
     }
 }
@@ -58,26 +89,28 @@ fn spacing_behind(metrics: &Metrics, ends_cluster: bool) -> Fix
     if ends_cluster { metrics.spacing } else { 0 }
 }
 
-/// How far a character advances the pen.
-fn char_advance(metrics: &Metrics, font: &Font, ends_cluster: bool, c: char) -> Fix
+/// How far a character advances the pen. Its glyph is of the state's font, or of another one that has the character.
+fn char_advance(fonts: &FontSet, metrics: &Metrics, ends_cluster: bool, c: char) -> Fix
+    requires fonts { IsLayoutFontSet fonts.now.fonts }
     requires metrics { IsMetrics metrics.now }
-    requires font { IsFont font.now }
-    ensures value { result ≡ char_advance metrics.now font.now ends_cluster c }
+    requires font { HasFont fonts.now.fonts metrics.now }
+    ensures value { result ≡ char_advance fonts.now.fonts metrics.now ends_cluster c }
     ensures range { IsItemWidth result }
 {
-    let pixels = scaled_pixels(advance_of(font, c), metrics.ux);
-    held_extent(pixels + i128::from(spacing_behind(metrics, ends_cluster)))
+    let advance = found_advance(fonts, metrics, c);
+    held_extent(advance + i128::from(spacing_behind(metrics, ends_cluster)))
 }
 
-/// The extent of a character.
-fn char_extent(metrics: &Metrics, font: &Font, ends_cluster: bool, c: char) -> Extent
+/// The extent of a character, whose heights are those of the state's font.
+fn char_extent(fonts: &FontSet, metrics: &Metrics, ends_cluster: bool, c: char) -> Extent
+    requires fonts { IsLayoutFontSet fonts.now.fonts }
     requires metrics { IsMetrics metrics.now }
-    requires font { IsFont font.now }
-    ensures value { result ≡ char_extent metrics.now font.now ends_cluster c }
+    requires font { HasFont fonts.now.fonts metrics.now }
+    ensures value { result ≡ char_extent fonts.now.fonts metrics.now ends_cluster c }
     ensures range { IsItemExtent result }
 {
     Extent {
-        advance: char_advance(metrics, font, ends_cluster, c),
+        advance: char_advance(fonts, metrics, ends_cluster, c),
         ascent: metrics.ascent,
         descent: metrics.descent,
     }
@@ -107,9 +140,9 @@ fn extent_of(
     shown: &Shown,
     ends_cluster: bool,
 ) -> Mem<Extent>
-    requires fonts { All IsFont fonts.now.fonts }
+    requires fonts { IsLayoutFontSet fonts.now.fonts }
     requires metrics { IsMetrics metrics.now }
-    requires font { HasFont (length fonts.now.fonts) metrics.now }
+    requires font { HasFont fonts.now.fonts metrics.now }
     requires shown { IsShownKind shown.now.kind }
     ensures value { IfOk result (λ extent. extent ≡ kind_extent fonts.now.fonts metrics.now wrap ends_cluster shown.now.kind) }
     ensures range { IfOk result IsItemExtent }
@@ -118,10 +151,7 @@ fn extent_of(
         return drawn_extent(alloc, path, &metrics.drawing);
     }
     match char_of(shown, wrap) {
-        Some(c) => {
-            let font = &fonts.fonts.as_slice()[metrics.font as usize];
-            Ok(char_extent(metrics, font, ends_cluster, c))
-        }
+        Some(c) => Ok(char_extent(fonts, metrics, ends_cluster, c)),
         None => Ok(NO_EXTENT),
     }
 }
@@ -135,9 +165,9 @@ fn shown_extent(
     shown: &Shown,
     ends_cluster: bool,
 ) -> Mem<Extent>
-    requires fonts { All IsFont fonts.now.fonts }
+    requires fonts { IsLayoutFontSet fonts.now.fonts }
     requires metrics { All IsMetrics metrics.now }
-    requires font { All (HasFont (length fonts.now.fonts)) metrics.now }
+    requires font { All (HasFont fonts.now.fonts) metrics.now }
     requires shown { IsShownItem (length metrics.now) shown.now }
     ensures value { IfOk result (λ extent. extent ≡ extent_of fonts.now.fonts metrics.now wrap shown.now ends_cluster) }
     ensures range { IfOk result IsItemExtent }
@@ -160,9 +190,9 @@ pub fn item_extents(
     wrap: u8,
     items: &[Shown],
 ) -> Mem<Vec<Extent>>
-    requires fonts { All IsFont fonts.now.fonts }
+    requires fonts { IsLayoutFontSet fonts.now.fonts }
     requires metrics { All IsMetrics metrics.now }
-    requires font { All (HasFont (length fonts.now.fonts)) metrics.now }
+    requires font { All (HasFont fonts.now.fonts) metrics.now }
     requires items { All (IsShownItem (length metrics.now)) items.now }
     ensures value { IfOk result (λ list. list.items ≡ item_extents fonts.now.fonts metrics.now wrap items.now) }
     ensures range { IfOk result (λ list. All IsItemExtent list.items) }

@@ -13,6 +13,7 @@ ghost use Rattle.text_layout.specs.Limits.{max_dividend, max_divisor, max_em, ma
 ghost use Rattle.text_layout.specs.Scales.{clip_matrix, drawing_matrix, drawing_scale, em_height, fine_parts, framed, held_scale, level_parts, text_matrix};
 ghost use Rattle.text_layout.specs.Scales.{text_scale, turn_of};
 
+use crate::fonts::needs_slant;
 use ass_num::{Fix, Matrix, Milli, div_floor, hold};
 use bdf_font::Font;
 use frame_view::{Scales, magnified};
@@ -59,7 +60,7 @@ pub fn framed(length: Milli, side: u32, res: u32) -> Fix
 }
 
 /// The height of a font above and below the baseline, at least 1.
-fn em_height(font: &Font) -> u64
+pub(crate) fn em_height(font: &Font) -> u64
     requires { IsFont font.now }
     ensures value { result ≡ em_height font.now }
     ensures some { 0 < result }
@@ -88,7 +89,7 @@ fn fine_parts(side: u32) -> u64
 }
 
 /// The scale of a unit of a font that is `em` units high.
-fn text_scale(size: Milli, scale: Milli, side: u32, res: u32, em: u64) -> i64
+pub(crate) fn text_scale(size: Milli, scale: Milli, side: u32, res: u32, em: u64) -> i64
     requires size { IsHeldLength size }
     requires scale { IsHeldLength scale }
     requires side { side ≤ max_ratio_number }
@@ -133,7 +134,7 @@ fn turn_of(angle: Milli) -> Milli
     angle.rem_euclid(360_000)
 }
 
-/// The matrix of characters in a state with this font.
+/// The matrix of characters in a state with this font: they are slanted where the state is italic and the font isn't slanted.
 pub fn text_matrix(scales: &Scales, font: &Font, state: &State) -> Matrix
     requires scales { IsScales scales.now }
     requires font { IsFont font.now }
@@ -150,7 +151,7 @@ pub fn text_matrix(scales: &Scales, font: &Font, state: &State) -> Matrix
     Matrix {
         ux: text_scale(size, state.scale_x, across.pixels, across.units, em),
         uy: text_scale(size, state.scale_y, down.pixels, down.units, em),
-        italic: state.italic,
+        italic: needs_slant(font, state),
         turn: turn_of(state.angle),
     }
 }

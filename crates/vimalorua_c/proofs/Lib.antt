@@ -1,3 +1,4 @@
 mod AsBox
 mod CopyLemmas
+mod NameLemmas
 mod PlayerSent

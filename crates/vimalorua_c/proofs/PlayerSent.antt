@@ -13,7 +13,7 @@ use Rattle.ass_num.proofs.mask.Mask.TheSendSync.{the_send as mask_send, the_sync
 use Rattle.mask_keys.proofs.region_key.RegionKey.TheSendSync.{the_send as region_key_send}
 use Rattle.mask_keys.proofs.mask_key.MaskKey.TheSendSync.{the_send as mask_key_send}
 use Rattle.mask_keys.proofs.composite_key.CompositeKey.TheSendSync.{the_send as composite_key_send}
-use Rattle.bdf_font.proofs.font.FontSet.TheSendSync.{the_send as font_set_send, the_sync as font_set_sync}
+use Rattle.bdf_font.proofs.sets.FontSet.TheSendSync.{the_send as font_set_send, the_sync as font_set_sync}
 use Rattle.ass_script.proofs.script.Script.TheSendSync.{the_send as script_send}
 use Rattle.track_history.proofs.local_track.LocalTrack.TheSendSync.{the_send as track_send}
 use Rattle.plain_images.proofs.plain.PlainImage.TheSendSync.{the_send as plain_image_send}

@@ -1,15 +1,11 @@
 -- Public: what the calls of a handle answer, and what they do to the player behind it.
-use Rattle.std.specs.Prelude.{◌≡◌, ◌≢◌, ◌↔◌, ◌⊎◌, ℕ, ◌*◌, ◌+◌, ◌<◌, ◌≤◌, ℤ, pos, neg_ℤ, ◌<ℤ◌, List, [], ◌∷◌, ◌++◌, length, All, flat_map, fold, Option, Some, None, Ok, Err}
+use Rattle.std.specs.Prelude.{◌≡◌, ◌≢◌, ◌↔◌, ◌⊎◌, ℕ, ◌*◌, ◌+◌, ◌<◌, ◌≤◌, ℤ, pos, neg_ℤ, ◌<ℤ◌, List, [], ◌∷◌, length, All, flat_map, fold, Option, Some, None, Ok, Err}
 use Rattle.track_history.specs.LocalFeeding.{AreFrontOffered, IsChunkOffered, IsFlushedLocally, with_offer}
 use Rattle.ass_events.specs.Events.{event_of}
 use Rattle.ass_num.specs.Limits.{IsWithin, max_file_bytes, max_frame_side, max_instant}
 use Rattle.ass_num.specs.declared.size.Size.{Size}
 use Rattle.ass_script.specs.Scripts.{ScriptValue, script_of}
 use Rattle.ass_script.specs.declared.refusal.ScriptRefusal.{ScriptRefusal}
-use Rattle.bdf_font.specs.Fonts.{FontValue}
-use Rattle.bdf_font.specs.Files.{IsFontFileAnswer}
-use Rattle.bdf_font.specs.Limits.{max_fonts}
-use Rattle.bdf_font.specs.declared.cause.FontFileRefusal.{FontFileRefusal}
 use Rattle.blend.specs.Canvases.{CanvasValue, black}
 use Rattle.evict_core.specs.Machine.{max_budget}
 use Rattle.frame_change.specs.declared.kinds.ChangeKind.{ChangeKind}
@@ -23,7 +19,7 @@ use Rattle.player.specs.Players.{PlayerView, mask_bytes, new_player}
 use Rattle.ass_events.specs.ScriptEvents.{line_events}
 use Rattle.track_history.specs.declared.answers.Feed.{Feed}
 use Rattle.track_history.specs.declared.answers.Flushed.{Flushed}
-use Rattle.vimalorua_c.specs.Statuses.{bad_call_status, change_number, closed_status, done_status, fed_field, feed_told, flush_told, font_told, many_fonts_status, no_font_status, out_of_memory_status, script_told, told}
+use Rattle.vimalorua_c.specs.Statuses.{bad_call_status, change_number, closed_status, done_status, fed_field, feed_told, flush_told, no_font_status, out_of_memory_status, script_told, told}
 use Rattle.vimalorua_c.specs.Views.{AreViewNumbers}
 use Rattle.vimalorua_c.specs.declared.handle.Handle.{Handle}
 use Rattle.vimalorua_c.specs.declared.kept.HeldPlayer.{HeldPlayer}
@@ -69,16 +65,6 @@ pub record IsOpened (bytes : List ℕ) (budget : ℕ) (status : ℤ) (place : �
 
 abbrev pub IsLongFile : List ℕ → Type 0
 IsLongFile bytes = max_file_bytes < length bytes
-
--- A font was put behind the others, and its number is told; or nothing changed.
-pub record IsFontAdded (bytes : List ℕ) (answer : Told) (old new : PlayerView) : Type 0 where
-  pub many : (answer.status ≡ many_fonts_status) ↔ (max_fonts ≤ length old.fonts)
-  pub most : answer.status ≡ many_fonts_status → answer.place ≡ max_fonts
-  pub added : answer.status ≡ done_status → (font : FontValue) × IsFontFileAnswer bytes (Ok font)
-      × (answer.place ≡ length old.fonts) × (new ≡ record old { fonts = old.fonts ++ font ∷ [] })
-  pub else_same : answer.status ≢ done_status → new ≡ old
-  pub refused : answer.status ≢ done_status → answer.status ≢ many_fonts_status → answer.status ≢ out_of_memory_status
-      → (refusal : FontFileRefusal) × IsFontFileAnswer bytes (Err refusal) × (answer ≡ font_told refusal)
 
 abbrev pub IsBudgetSet : ℕ → ℤ → PlayerView → PlayerView → Type 0
 IsBudgetSet budget status old new = (status ≡ done_status) × (new ≡ record old { budget = budget })

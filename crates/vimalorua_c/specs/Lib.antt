@@ -1,3 +1,4 @@
 pub mod Calls
+pub mod Fonts
 pub mod Statuses
 pub mod Views

@@ -4,12 +4,17 @@ use Rattle.ass_script.specs.declared.refusal.ScriptRefusal.{ScriptRefusal}
 use Rattle.ass_script.specs.declared.refusal.ScriptRefusal.TheVariants as script
 use Rattle.ass_script.specs.declared.script.EventField.{EventField}
 use Rattle.ass_script.specs.declared.script.EventField.TheVariants as field
+use Rattle.bdf_font.specs.Limits.{max_fonts}
 use Rattle.bdf_font.specs.declared.cause.FontFileRefusal.{FontFileRefusal}
 use Rattle.bdf_font.specs.declared.cause.FontFileRefusal.TheVariants as file
 use Rattle.bdf_font.specs.declared.cause.FontRefusal.{FontRefusal}
 use Rattle.bdf_font.specs.declared.cause.FontRefusal.TheVariants as lines
+use Rattle.embedded_fonts.specs.declared.refusal.EmbeddedRefusal.{EmbeddedRefusal}
+use Rattle.embedded_fonts.specs.declared.refusal.EmbeddedRefusal.TheVariants as embedded
 use Rattle.frame_change.specs.declared.kinds.ChangeKind.{ChangeKind}
 use Rattle.frame_change.specs.declared.kinds.ChangeKind.TheVariants.{Same, Moved, Other}
+use Rattle.script_fonts.specs.declared.refusal.ScriptFontsRefusal.{ScriptFontsRefusal}
+use Rattle.script_fonts.specs.declared.refusal.ScriptFontsRefusal.TheVariants as data_of
 use Rattle.sfnt_font.specs.declared.cause.SfntRefusal.{SfntRefusal}
 use Rattle.sfnt_font.specs.declared.cause.SfntRefusal.TheVariants as bytes
 use Rattle.track_history.specs.declared.answers.Feed.{Feed}
@@ -63,6 +68,18 @@ bytes_told bytes.OutOfMemory = told out_of_memory_status 0
 abbrev pub font_told : FontFileRefusal → Told
 font_told (file.Lines refusal) = lines_told refusal
 font_told (file.Bytes refusal) = bytes_told refusal
+
+-- why the fonts that a script holds aren't decoded
+abbrev pub data_told : ScriptFontsRefusal → Told
+data_told (data_of.BadCharacter line) = told (pos 16) line
+data_told (data_of.BadLength line) = told (pos 16) line
+data_told data_of.OutOfMemory = told out_of_memory_status 0
+
+-- why the fonts that a script holds aren't read; of one that is none its place among them is told
+abbrev pub embedded_told : EmbeddedRefusal → Told
+embedded_told (embedded.Data refusal) = data_told refusal
+embedded_told (embedded.Font place refusal) = told (font_told refusal).status place
+embedded_told embedded.TooMany = told many_fonts_status max_fonts
 
 -- the answer to a feed
 abbrev pub feed_told : Feed → Told

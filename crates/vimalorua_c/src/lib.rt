@@ -3,9 +3,11 @@
 
 pub mod drawing;
 pub mod feeding;
+pub mod fonts;
 mod handle;
 mod kept;
 pub mod listing;
+pub mod names;
 pub mod opening;
 mod parts;
 mod ranges;

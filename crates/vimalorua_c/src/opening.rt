@@ -1,28 +1,19 @@
-//! Opening and closing handles, their fonts and their budget.
+//! Opening and closing handles, and their budget.
 
-ghost use Rattle.std.specs.Prelude.{◌≡◌, ◌≢◌, ◌≤◌, ◌<◌, length, Err, IfOk, IfErr};
+ghost use Rattle.std.specs.Prelude.{◌≡◌, ◌≢◌, ◌≤◌, ◌<◌, length, IfOk, IfErr};
 ghost use Rattle.ass_num.specs.Limits.{max_file_bytes};
-ghost use Rattle.bdf_font.specs.Files.{IsFontFileAnswer};
-ghost use Rattle.bdf_font.specs.Ranges.{IsFont};
-ghost use Rattle.bdf_font.specs.declared.cause.FontFileRefusal.TheVariants.{Lines};
 ghost use Rattle.evict_core.specs.Machine.{max_budget};
-ghost use Rattle.vimalorua_c.specs.Calls.{IsBudgetSet, IsCall, IsFontAdded, IsLongFile, IsNewHandle, IsOpened, IsScriptTold};
+ghost use Rattle.vimalorua_c.specs.Calls.{IsBudgetSet, IsCall, IsNewHandle, IsOpened, IsScriptTold};
 ghost use Rattle.vimalorua_c.specs.Statuses as rule;
 
 use crate::handle::Handle;
-use crate::status::{
-    BAD_CALL, CLOSED, DONE, MANY_FONTS, OUT_OF_MEMORY, Told, font_told, script_told, told_at,
-};
+use crate::status::{BAD_CALL, CLOSED, DONE, OUT_OF_MEMORY, Told, script_told, told_at};
 use crate::taking::{handle_of, put_back, take};
-use ass_num::Items;
-use bdf_font::{Font, FontFileRefusal, FontRefusal, read_font_file};
 use player::Player;
 use std::alloc::Global;
 
-/// The most bytes of a script or of a font.
-const MAX_FILE_BYTES: usize = 67_108_864;
-
-const MAX_FONTS: usize = 64;
+/// The most bytes of a script or of a file of fonts.
+pub(crate) const MAX_FILE_BYTES: usize = 67_108_864;
 
 const MAX_BUDGET: u64 = 1 << 40;
 
@@ -83,64 +74,6 @@ pub extern "C" fn vimalorua_open_proved(
             told.status
         }
     }
-}
-
-/// The font of a file's bytes, which are the caller's. A font may keep its bytes, so they are copied.
-fn font_of(alloc: Global, bytes: &[u8]) -> Result<Font, FontFileRefusal>
-    requires { length bytes.now ≤ max_file_bytes }
-    ensures answer { result ≢ Err (Lines FontRefusal.OutOfMemory) → IsFontFileAnswer bytes.now result }
-    ensures font { IfOk result IsFont }
-{
-    match Vec::from_slice(alloc, bytes) {
-        Ok(copy) => read_font_file(alloc, Items::from_vec(copy)),
-        Err(_) => Err(FontFileRefusal::Lines(FontRefusal::OutOfMemory)),
-    }
-}
-
-/// Adds a font to a player.
-fn font_added(alloc: Global, player: &mut Player, font: &[u8]) -> Told
-    requires { length font.now ≤ max_file_bytes }
-    ensures { IsFontAdded font.now result player.old player.new }
-{
-    let count = player.font_count();
-    if count >= MAX_FONTS {
-        return told_at(MANY_FONTS, MAX_FONTS);
-    }
-    let font = match font_of(alloc, font) {
-        Ok(font) => font,
-        Err(refusal) => return font_told(refusal),
-    };
-    match player.add_font(alloc, font) {
-        Ok(()) => told_at(DONE, count),
-        Err(_) => told_at(OUT_OF_MEMORY, 0),
-    }
-}
-
-/// Adds a font from its bytes, and tells its number.
-#[unsafe(no_mangle)]
-pub extern "C" fn vimalorua_add_font_proved(
-    alloc: Global,
-    handle: &mut Handle,
-    font: &[u8],
-    place: &mut usize,
-) -> i32
-    ensures { IsCall (IsLongFile font.now) (place.new ≡ 0) (IsFontAdded font.now (rule.told result place.new)) result handle.old.value handle.new.value }
-{
-    *place = 0;
-    if font.len() > MAX_FILE_BYTES {
-        return BAD_CALL;
-    }
-    let Ok(kept) = take(alloc, handle) else {
-        return OUT_OF_MEMORY;
-    };
-    let mut kept = kept;
-    let told = match &mut kept.player {
-        Some(player) => font_added(alloc, player, font),
-        None => told_at(CLOSED, 0),
-    };
-    put_back(handle, kept);
-    *place = told.place;
-    told.status
 }
 
 /// Sets the budget of each cache.

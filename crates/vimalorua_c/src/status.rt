@@ -5,7 +5,9 @@ ghost use Rattle.vimalorua_c.specs.Statuses as rule;
 
 use ass_script::{EventField, ScriptRefusal};
 use bdf_font::{FontFileRefusal, FontRefusal};
+use embedded_fonts::EmbeddedRefusal;
 use frame_change::ChangeKind;
+use script_fonts::ScriptFontsRefusal;
 use sfnt_font::SfntRefusal;
 use track_history::{Feed, Flushed};
 
@@ -56,6 +58,12 @@ pub const BAD_CALL: i32 = 14;
 
 /// Nothing is behind the handle.
 pub const CLOSED: i32 = 15;
+
+/// The data of a font in a script leave their format.
+pub const BAD_FONT_DATA: i32 = 16;
+
+/// The most fonts of a player.
+pub(crate) const MAX_FONTS: usize = 64;
 
 /// A status, and the place that goes with it, or 0.
 #[derive(Clone, Copy, Debug, PartialEq, Eq)]
@@ -113,6 +121,28 @@ pub fn font_told(refusal: FontFileRefusal) -> Told
     match refusal {
         FontFileRefusal::Lines(refusal) => lines_told(refusal),
         FontFileRefusal::Bytes(refusal) => bytes_told(refusal),
+    }
+}
+
+/// Why the fonts that a script holds aren't decoded.
+fn data_told(refusal: ScriptFontsRefusal) -> Told
+    ensures { result ≡ rule.data_told refusal }
+{
+    match refusal {
+        ScriptFontsRefusal::BadCharacter(line) => told_at(BAD_FONT_DATA, line),
+        ScriptFontsRefusal::BadLength(line) => told_at(BAD_FONT_DATA, line),
+        ScriptFontsRefusal::OutOfMemory => told_at(OUT_OF_MEMORY, 0),
+    }
+}
+
+/// Why the fonts that a script holds aren't read.
+pub fn embedded_told(refusal: EmbeddedRefusal) -> Told
+    ensures { result ≡ rule.embedded_told refusal }
+{
+    match refusal {
+        EmbeddedRefusal::Data(refusal) => data_told(refusal),
+        EmbeddedRefusal::Font(place, refusal) => told_at(font_told(refusal).status, place),
+        EmbeddedRefusal::TooMany => told_at(MANY_FONTS, MAX_FONTS),
     }
 }
 

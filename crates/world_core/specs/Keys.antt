@@ -5,7 +5,7 @@ use Rattle.std.specs.declared.sync.Arc.{Arc}
 use Rattle.test_hook.specs.declared.hook.ValueKind.{ValueKind}
 use Rattle.test_hook.specs.declared.hook.ValueKind.TheVariants as kind
 use Rattle.bdf_font.specs.Fonts.{FontValue}
-use Rattle.bdf_font.specs.declared.font.FontSet.{FontSet}
+use Rattle.bdf_font.specs.declared.sets.FontSet.{FontSet}
 use Rattle.flight_cache.specs.Meaning.{Meaning, shard_count, shard_of}
 use Rattle.mask_keys.specs.Costs.{mask_cost, region_cost}
 use Rattle.mask_keys.specs.Numbers.{composite_numbers, mask_numbers, region_numbers}

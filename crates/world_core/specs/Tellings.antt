@@ -10,7 +10,7 @@ use Rattle.ass_events.specs.Histories.{live}
 use Rattle.ass_script.specs.Ranges.{IsScript}
 use Rattle.ass_script.specs.Scripts.{ScriptValue}
 use Rattle.bdf_font.specs.Fonts.{FontValue}
-use Rattle.bdf_font.specs.declared.font.FontSet.{FontSet}
+use Rattle.bdf_font.specs.declared.sets.FontSet.{FontSet}
 use Rattle.evict_core.specs.Machine.{max_entries, max_budget}
 use Rattle.flight_cache.specs.Meaning.{shard_count}
 use Rattle.mask_keys.specs.Keys.{IsValidRegion, IsValidMask, IsValidComposite}

@@ -1,10 +1,8 @@
-use Rattle.std.proofs.Common.{◌≡◌, sym, ap, rules}
-use Rattle.ass_script.specs.Scripts.{script_of}
-use Rattle.run_status.specs.Causes.{script_status, with_status}
-use Rattle.run_status.proofs.AskedLemmas.{asked_of}
+use Rattle.std.proofs.Common.{rules}
+use Rattle.run_status.proofs.OwnLemmas.{script_asked}
 use Rattle.run_status.proofs.files.fetch_script.Goals as goal
 
-pub returns-in-Ok-clause-read : goal.returns-in-Ok-clause-read
-returns-in-Ok-clause-read g c =
-    asked_of (λ bytes answer. answer ≡ with_status script_status (script_of bytes)) c.args.name.now (g.S.Shelf.told c.args.shelf.now c.args.name.now) c.as_slice.result.now _
-    (search rules) (sym (ap (with_status script_status) c.in-Ok.ensures.answer))
+pub returns-clause-read : goal.returns-clause-read
+returns-clause-read g c =
+    script_asked c.args.source.now.own_fonts c.args.source.now.name (g.S.Shelf.told c.args.shelf.now c.args.source.now.name) c.as_slice.result.now c.script_in.result (search rules)
+    c.script_in.ensures.asked

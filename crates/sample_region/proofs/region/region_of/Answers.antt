@@ -1,5 +1,7 @@
-use Rattle.std.proofs.Common.{rules, FitsSigned, w32, w64, to_z-of_z, ap, pos, inl, inr, ◌∙◌, ◌≡◌, ◌<ℤ◌, ◌≤ℤ◌, ℤ, sym, refl, [], false}
+use Rattle.std.proofs.Common.{rules, FitsSigned, w32, w64, to_z-of_z, ap, pos, inl, inr, ◌∙◌, ◌≡◌, ◌<ℤ◌, ◌≤ℤ◌, ℤ, sym, refl, [], false, ◌-ℤ◌}
 use Rattle.std.proofs.lemmas.Bool.{false≢true}
+use Rattle.std.proofs.lemmas.List.Elements.{All-nil}
+use Rattle.sample_region.specs.Carried.{IsCarriedTo}
 use Rattle.ass_num.specs.Regions.{RegionValue, member}
 use Rattle.ass_num.specs.Winding.{place}
 use Rattle.sample_region.specs.Crossings.{is_inside}
@@ -27,6 +29,7 @@ add_rows-requires-clause-rows c =
     rw (to_z-of_z f, c.as_slice.ensures.value) (record {
       reached = c.new.ensures.swept (place c.rows_within-rows.result.first) c.in_ok-edges.edges.items;
       steady = λ k _ s. rw c.new-2.ensures (first_rows c.in_ok-edges.edges.items k (rw (c.new.ensures.begun, c.new.ensures.active) at s));
+      carried = rw c.new.ensures.active (All-nil (IsCarriedTo (place (c.rows_within-rows.result.first -ℤ pos 1))));
       grown = g (is_inside c.in_ok-edges.edges.items) none;
     })
 

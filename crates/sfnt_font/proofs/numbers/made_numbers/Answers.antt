@@ -20,4 +20,5 @@ returns-clause-numbers c =
       strikeout = c.strikeout_of.ensures.bar;
       bold_step = omega (arith, c.max-3.ensures);
       bold_most = omega (arith, c.max-3.type_inv);
+      weight = c.weight_of.ensures.weight;
     }

@@ -1,7 +1,7 @@
 use Rattle.std.proofs.Common.{List, ℤ, fold, ap, ◌∙◌, map, pos, subst, rules, FitsSigned, w64, to_z-of_z}
 use Rattle.std.specs.Arc.{arc_value}
 use Rattle.picture_plan.specs.Pictures.{AreDraws}
-use Rattle.bdf_font.specs.declared.font.FontSet.{FontSet}
+use Rattle.bdf_font.specs.declared.sets.FontSet.{FontSet}
 use Rattle.local_caches.specs.LocalParts.{LocalCachesView}
 use Rattle.bdf_font.specs.Fonts.{FontValue}
 use Rattle.mask_keys.specs.Pictures.{with_draw}

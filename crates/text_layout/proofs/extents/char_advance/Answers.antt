@@ -1,12 +1,10 @@
 use Rattle.std.proofs.Common.{◌≡◌, ◌∙◌, ℤ, ◌+ℤ◌, ap, ap₂, FitsSigned, w64, to_z-of_z, rules, arith}
 use Rattle.std.proofs.lemmas.Int.{ints}
-use Rattle.ass_num.specs.Limits.{IsWithin, max_whole}
+use Rattle.ass_num.specs.Limits.{IsWithin}
 use Rattle.ass_num.proofs.LimitLemmas.{IsWithin-wider}
-use Rattle.outline_points.specs.Limits.{max_pixel}
-use Rattle.text_layout.specs.Extents.{font_advance}
 use Rattle.text_layout.specs.Limits.{max_block_place, max_framed}
-use Rattle.text_layout.specs.Metrics.{held_extent, scaled_pixels}
-use Rattle.text_layout.proofs.BitLemmas.{bits_32, bits_64, bits_128, framed_bits, long_place_bits, scale_bits, whole_bits}
+use Rattle.text_layout.specs.Metrics.{held_extent}
+use Rattle.text_layout.proofs.BitLemmas.{bits_64, bits_128, framed_bits, long_place_bits}
 use Rattle.text_layout.proofs.extents.char_advance.Goals as goal
 
 -- a sum of two lengths in 128 bits, the second of which came from 64 bits
@@ -18,10 +16,7 @@ sum_bits p s r h k is =
 
 pub returns-clause-value : goal.returns-clause-value
 returns-clause-value c =
-    let m = c.args.metrics.now in
-    let a : bits_32 c.advance_of.result ≡ font_advance c.args.font.now c.args.c =
-    whole_bits c.advance_of.result (IsWithin-wider max_pixel max_whole c.advance_of.result (omega arith) c.advance_of.ensures.within) ∙ c.advance_of.ensures.value in
-    let p = c.scaled_pixels-pixels.ensures.value ∙ ap₂ scaled_pixels a (scale_bits m.ux c.requires.metrics.scale) in
-    let sum = sum_bits c.scaled_pixels-pixels.result c.spacing_behind.result c.from.result c.scaled_pixels-pixels.ensures.within c.spacing_behind.ensures.within c.from.ensures in
+    let found = c.found_advance-advance in
+    let sum = sum_bits found.result c.spacing_behind.result c.from.result found.ensures.within c.spacing_behind.ensures.within c.from.ensures in
     let fits : FitsSigned w64 c.held_extent.result = search rules in
-    to_z-of_z fits ∙ c.held_extent.ensures.value ∙ ap held_extent (sum ∙ ap₂ ◌+ℤ◌ p c.spacing_behind.ensures.value)
+    to_z-of_z fits ∙ c.held_extent.ensures.value ∙ ap held_extent (sum ∙ ap₂ ◌+ℤ◌ found.ensures.value c.spacing_behind.ensures.value)

@@ -18,7 +18,6 @@ use Rattle.text_layout.specs.declared.metrics.Metrics.{Metrics}
 use Rattle.text_layout.specs.declared.spans.Span.{Span}
 use Rattle.text_layout.specs.Anchors.{margins_of, wrapping_width}
 use Rattle.text_layout.specs.Extents.{IsItemExtent, item_extents}
-use Rattle.text_layout.specs.Fonts.{font_numbers}
 use Rattle.text_layout.specs.Kinds.{roles_of}
 use Rattle.text_layout.specs.Layouts.{IsLaidBy, IsWithinBlock, laid_out}
 use Rattle.text_layout.specs.Lines.{advances_of}
@@ -29,7 +28,7 @@ use Rattle.text_layout.proofs.layouts.layout_by.Goals as goal
 
 -- a view has metrics for each of its states
 metrics_count : (scales : Scales) (fonts : List FontValue) (view : EventView) → length (all_metrics scales fonts view) ≡ length view.states
-metrics_count scales fonts view = length-map view.states (state_metrics scales fonts (font_numbers fonts view.names))
+metrics_count scales fonts view = length-map view.states (state_metrics scales fonts view.names)
 
 -- a layout by the stages before it
 laid_by : (script : ScriptValue) (fonts : List FontValue) (event : Event) (view : EventView) (scales : Scales) (metrics : List Metrics) (extents : List Extent) (advances : List ℤ)

@@ -32,4 +32,4 @@ returns-clause-value c =
     ∙ ap₂ (λ a b. spacing_of a b scales.canvas.x.pixels scales.canvas.x.units)
     (magnified_bits scales.letter_scale c.args.state.now.spacing c.magnified-spacing.result c.requires.spacing c.magnified-spacing.ensures.range c.magnified-spacing.ensures.value)
     (held_bits c.args.state.now.scale_x (held_is_number c.args.state.now.scale_x c.requires.scale_x)) in
-    rw (ux, ascent, descent, spacing, c.drawing_matrix.ensures.value) refl
+    rw (c.text_size.ensures.value, ux, ascent, descent, spacing, c.drawing_matrix.ensures.value) refl

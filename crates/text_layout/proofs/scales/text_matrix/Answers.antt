@@ -24,4 +24,4 @@ returns-clause-value c =
     let fa : FitsSigned w64 state.angle = search rules in
     let ft : FitsSigned w64 c.turn_of.result = search rules in
     let turn = to_z-of_z ft ∙ c.turn_of.ensures ∙ ap turn_of (to_z-of_z fa) in
-    rw (ux, uy, turn) refl
+    rw (ux, uy, c.needs_slant.ensures, turn) refl

@@ -1,5 +1,5 @@
 use Rattle.std.proofs.Common.{All, subst}
-use Rattle.bdf_font.specs.declared.font.FontSet.{FontSet}
+use Rattle.bdf_font.specs.declared.sets.FontSet.{FontSet}
 use Rattle.mask_keys.specs.Keys.{IsValidComposite}
 use Rattle.mask_keys.specs.Outlines.{glyph_counts}
 use Rattle.world_vectors.proofs.inputs.inputs_of.Goals as goal

@@ -1,6 +1,6 @@
 use Rattle.std.proofs.Common.{ap, ◌∙◌}
 use Rattle.std.specs.Arc.{arc_value}
-use Rattle.bdf_font.specs.declared.font.FontSet.{FontSet}
+use Rattle.bdf_font.specs.declared.sets.FontSet.{FontSet}
 use Rattle.mask_keys.specs.Values.{outline_value}
 use Rattle.mask_caches.proofs.PlainValues.{plain-value}
 use Rattle.mask_caches.proofs.caches.Caches.make_outline.Goals as goal

@@ -1,4 +1,7 @@
-use Rattle.std.proofs.Common.{rules, FitsSigned, to_z-of_z, w64}
+use Rattle.std.proofs.Common.{arith, rules, pos, ◌-ℤ◌, ◌≡◌, FitsSigned, to_z-of_z, w64}
+use Rattle.std.proofs.lemmas.Int.{ints}
+use Rattle.ass_num.specs.Winding.{place}
+use Rattle.sample_region.specs.Carried.{live_edges}
 use Rattle.sample_region.specs.Crossings.{row_crossings}
 use Rattle.sample_region.proofs.EdgeLemmas.{even_same, row_holding}
 use Rattle.sample_region.proofs.SteadyLemmas.{steady_row}
@@ -9,6 +12,13 @@ advance-requires-clause-swept c =
     let f : FitsSigned w64 c.height_of.result = search rules in
     let e = rw (to_z-of_z c.ranges.j) at c.height_of.ensures in
     rw (to_z-of_z f, e) c.requires.reached
+
+pub advance-requires-clause-carried : goal.advance-requires-clause-carried
+advance-requires-clause-carried c =
+    let f : FitsSigned w64 c.height_of.result = search rules in
+    let e = rw (to_z-of_z c.ranges.j) at c.height_of.ensures in
+    let before : c.height_of.result -ℤ pos 4 ≡ place (c.args.j -ℤ pos 1) = omega (arith, ints, e) in
+    rw (to_z-of_z f, before) c.requires.carried
 
 pub walk-requires-clause-even : goal.walk-requires-clause-even
 walk-requires-clause-even c =
@@ -23,13 +33,19 @@ returns-clause-reached c =
     let e = rw (to_z-of_z c.ranges.j) at c.height_of.ensures in
     rw e at (s c.height_of.result (search rules))
 
+pub returns-clause-carried : goal.returns-clause-carried
+returns-clause-carried c =
+    let f : FitsSigned w64 c.height_of.result = search rules in
+    let e = rw (to_z-of_z c.ranges.j) at c.height_of.ensures in
+    rw (to_z-of_z f, e) at c.in_ok-advance.ensures.carried
+
 pub returns-clause-steady : goal.returns-clause-steady
 returns-clause-steady c = λ k l s.
     let f : FitsSigned w64 c.height_of.result = search rules in
     let e = rw (to_z-of_z c.ranges.j) at c.height_of.ensures in
     let p = simp (to_z-of_z f) at c.in_ok-advance.ensures.crossings in
     let t = simp (to_z-of_z f) at c.in_ok-advance.ensures.swept_to in
-    steady_row c.args.edges.now c.advance.new.self.begun c.advance.new.self.active.items c.args.j k c.advance.new.self.crossings.items c.walk.new.self.runs.items
+    steady_row c.args.edges.now c.advance.new.self.begun (live_edges c.advance.new.self.active.items) c.args.j k c.advance.new.self.crossings.items c.walk.new.self.runs.items
     (rw e at t) (rw e at p) (rw c.as_slice.ensures.value at c.in_ok-walk.ensures) l s
 
 pub returns-clause-row : goal.returns-clause-row

@@ -1,0 +1,3 @@
+pub mod Walk
+pub mod ReadBack
+pub mod Lengths

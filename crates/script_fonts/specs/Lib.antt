@@ -1,0 +1,4 @@
+pub mod Coding
+pub mod Attachments
+pub mod Steps
+pub mod Laws
