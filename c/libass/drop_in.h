@@ -6,11 +6,6 @@
 #include <ass/ass.h>
 #include <locale.h>
 
-/* Whether the library chooses faces by weight and slant, takes all fonts of a file, and those of a script. It is 1 as
- * soon as vimalorua.h has vimalorua_add_fonts and vimalorua_add_script_fonts: then the system's bold and italic faces
- * are looked for too. */
-#define CHOOSES_FACES 0
-
 /* What libass's header declares is shown; all else stays inside. */
 #define SHOWN __attribute__((visibility("default")))
 
@@ -96,7 +91,7 @@ int add_file(ASS_Library *library, size_t place, const char *name);
 /* Adds a font for where no other can be drawn, once. Whether one was added. */
 int add_last_font(ASS_Library *library);
 
-/* Adds the fonts that the system has of a family, once, where fonts of the system are looked for. */
+/* Adds the faces that the system has of a family, once, where fonts of the system are looked for. */
 void find_family(ASS_Library *library, const char *name);
 
 /* Adds the font that the system has in place of a family at a place of the list. Whether there is one. */

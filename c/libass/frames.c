@@ -135,25 +135,17 @@ static int drop_changed(ASS_Track *track) {
 
 /* Offers a handle the fonts of a file. How many it took. */
 static size_t offer_font(vimalorua *handle, const struct font *font, ASS_Library *library) {
-    size_t place = 0, count = 1;
-#if CHOOSES_FACES
-    int32_t status = vimalorua_add_fonts(handle, font->bytes, font->len, &place, &count);
-#else
-    int32_t status = vimalorua_add_font(handle, font->bytes, font->len, &place);
-#endif
-    return is_done(library, font->name, status, place) ? count : 0;
+    size_t place = 0, count = 0;
+    is_done(library, font->name, vimalorua_add_fonts(handle, font->bytes, font->len, &place, &count), place);
+    return count;
 }
 
 /* Offers a handle the fonts of the script that its track was read from. How many it took. */
 static size_t offer_script_fonts(const struct parser_priv *own, ASS_Library *library) {
     size_t place = 0, count = 0;
-#if CHOOSES_FACES
     if (own->text && library->takes_script_fonts)
         is_done(library, "fonts of a script",
                 vimalorua_add_script_fonts(own->handle, (uint8_t *)own->text, own->text_len, &place, &count), place);
-#else
-    (void)own, (void)library, (void)place;
-#endif
     return count;
 }
 

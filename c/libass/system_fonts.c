@@ -20,7 +20,6 @@ static struct {
     void (*fill)(pattern *);
     pattern *(*match)(config *, pattern *, int *result);
     int (*text)(const pattern *, const char *object, int n, unsigned char **text);
-    int (*number)(const pattern *, const char *object, int n, int *number);
     void (*destroy)(pattern *);
 } fontconfig;
 
@@ -42,7 +41,6 @@ static void look_for_fontconfig(void) {
         find_call(library, "FcDefaultSubstitute", &fontconfig.fill) &&
         find_call(library, "FcFontMatch", &fontconfig.match) &&
         find_call(library, "FcPatternGetString", &fontconfig.text) &&
-        find_call(library, "FcPatternGetInteger", &fontconfig.number) &&
         find_call(library, "FcPatternDestroy", &fontconfig.destroy))
         fontconfig.all = load();
 }
@@ -63,12 +61,11 @@ static int is_family(const pattern *match, const char *name) {
     return 0;
 }
 
-/* The faces of a family that are looked for: the regular one first, by which the library shows the others where it
- * doesn't choose by weight and slant. */
+/* The faces of a family that are looked for: the regular one first. */
+enum { FACES = 4 };
 static const struct face {
     int weight, slant;
-} faces[] = {{FC_REGULAR, FC_ROMAN}, {FC_BOLD, FC_ROMAN}, {FC_REGULAR, FC_ITALIC}, {FC_BOLD, FC_ITALIC}};
-enum { FACES = CHOOSES_FACES ? 4 : 1 };
+} faces[FACES] = {{FC_REGULAR, FC_ROMAN}, {FC_BOLD, FC_ROMAN}, {FC_REGULAR, FC_ITALIC}, {FC_BOLD, FC_ITALIC}};
 
 /* The match of a face of a family, or null. */
 static pattern *match_of(const char *name, const struct face *face) {
@@ -86,13 +83,11 @@ static pattern *match_of(const char *name, const struct face *face) {
     return match;
 }
 
-/* Whether the library takes a match: outlines of TrueType, and the first face where it takes one of a file. */
+/* Whether the library takes a match: outlines of TrueType. */
 static int is_taken(const pattern *match) {
     unsigned char *format;
-    int index = 0;
     return fontconfig.text(match, "fontformat", 0, &format) == FC_RESULT_MATCH &&
-           !strcmp((const char *)format, "TrueType") &&
-           (CHOOSES_FACES || fontconfig.number(match, "index", 0, &index) != FC_RESULT_MATCH || (index & 0xffff) == 0);
+           !strcmp((const char *)format, "TrueType");
 }
 
 /* The file of a face, where the system has a font of just this name, or of any where `may_differ`. */

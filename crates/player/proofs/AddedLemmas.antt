@@ -1,5 +1,5 @@
 -- The fonts that a script holds, behind those of a player.
-use Rattle.std.proofs.Common.{◌≡◌, ℕ, ◌+◌, ◌<◌, List, length, Ok, Err, inl, inr, refl}
+use Rattle.std.proofs.Common.{ℕ, ◌+◌, ◌<◌, List, length, Ok, Err, inl, inr, refl}
 use Rattle.bdf_font.specs.Fonts.{FontValue}
 use Rattle.bdf_font.specs.Limits.{max_fonts}
 use Rattle.embedded_fonts.specs.Embedded.{AreEmbeddedFonts, IsEmbeddedAnswer}
