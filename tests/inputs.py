@@ -5,6 +5,7 @@ import shutil
 
 import face_rows
 import hand_font
+from script_fonts import coded
 
 HEAD = """[Script Info]
 ScriptType: v4.00+
@@ -94,6 +95,9 @@ def scripts():
     yield "two words.ass", HEAD + x
     yield "styles.ass", HEAD.replace("[Events]", "Style: Default,dot,4\n" * 10_000 + "[Events]")
     yield "lines.ass", HEAD + x * 1_000_001
+    yield "held_character.ass", HEAD + x + "[Fonts]\nfontname: one.bdf\n9a\n"
+    yield "held_left.ass", HEAD + x + "[Fonts]\nfontname: one.bdf\n97*D9\n"
+    yield "held_other.ass", HEAD + x + "[Fonts]\nfontname: one.bdf\n" + coded(FONT.format(glyphs=GLYPH.format(code=120)).encode()) + "\nfontname: text\n97*D\n"
 
 
 def fonts():
