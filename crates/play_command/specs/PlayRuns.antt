@@ -40,12 +40,12 @@ abbrev pub play_refusal : PlayJob → List (List ℕ) → Option Status
 play_refusal job [] = Some (BadWords Usage)
 play_refusal job fonts = if has_too_many job fonts then Some (TooLarge images max_frames) else None
 
-abbrev pub AreReadUnless : Option Status → (List ℕ → Told) → List ℕ → List (List ℕ) → Result Inputs Status → Type 0
+abbrev pub AreReadUnless : Option Status → (List ℕ → Told) → ScriptSource → List (List ℕ) → Result Inputs Status → Type 0
 AreReadUnless (Some refusal) told script fonts answer = answer ≡ Err refusal
 AreReadUnless None told script fonts answer = AreRead told script fonts answer
 
 -- What reading the files of a play answers.
-abbrev pub IsPlayRead : (List ℕ → Told) → PlayJob → List ℕ → List (List ℕ) → Result Inputs Status → Type 0
+abbrev pub IsPlayRead : (List ℕ → Told) → PlayJob → ScriptSource → List (List ℕ) → Result Inputs Status → Type 0
 IsPlayRead told job script fonts answer = AreReadUnless (play_refusal job fonts) told script fonts answer
 
 -- A play that was whole: what it puts to the frames sink, and its report.
@@ -106,7 +106,7 @@ status_read (Ok value) = Done
 status_read (Err refusal) = refusal
 
 -- Files that are all told of decide a run where no fault came: the answer that their reading asks for, or out of memory.
-abbrev pub DecidesPlay : (List ℕ → Told) → PlayJob → List ℕ → List (List ℕ) → Status → Type 0
+abbrev pub DecidesPlay : (List ℕ → Told) → PlayJob → ScriptSource → List (List ℕ) → Status → Type 0
 DecidesPlay told job script fonts status =
     (reading : Result Inputs Status) → AreTold told script fonts → IsPlayRead told job script fonts reading → IsReadDecided reading
     → IsOrMemory (status_read reading) status
