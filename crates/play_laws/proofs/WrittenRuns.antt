@@ -1,5 +1,5 @@
 -- What a command `write` that is done has put.
-use Rattle.std.proofs.Common.{◌≡◌, inl, inr, refl, sym, subst, ℕ, List, Some, None, Result, Ok, Err, ◌-ℤ◌}
+use Rattle.std.proofs.Common.{◌≡◌, inl, inr, refl, sym, subst, ℕ, Bool, List, Some, None, Result, Ok, Err, ◌-ℤ◌}
 use Rattle.std.specs.Io.KnownBytes.{Appends}
 use Rattle.ass_events.specs.declared.event.Event.{Event}
 use Rattle.ass_io.specs.Fetched.{Held, Told}
