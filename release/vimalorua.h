@@ -58,7 +58,8 @@ enum {
     VIMALORUA_FULL = 12,         /* *place: the most live events, 1,000,000 */
     VIMALORUA_MANY_FLUSHES = 13, /* *place: the most flushes, 1,000,000 */
     VIMALORUA_BAD_CALL = 14,     /* a number or a length is out of its range */
-    VIMALORUA_CLOSED = 15        /* nothing is behind the handle; it doesn't come where this page is kept to */
+    VIMALORUA_CLOSED = 15,       /* nothing is behind the handle; it doesn't come where this page is kept to */
+    VIMALORUA_BAD_FONT_DATA = 16 /* *place: the first line in a script that leaves the coding of fonts, from 1 */
 };
 
 /* The fields of an event, as VIMALORUA_MALFORMED names them. Of a chunk, END and OTHER are never named. A place is one
@@ -139,14 +140,38 @@ const char *vimalorua_status_text(int32_t status);
 int32_t vimalorua_open(const uint8_t *script, size_t script_len, uint64_t budget, vimalorua **out,
                        size_t *place) VIMALORUA_NO_NULLS((4, 5));
 
-/* Adds a font from the bytes of a file (at most 67,108,864), BDF or TrueType, behind the others, of which there are at
- * most 63. Of a collection the first face is added. Texts in a style whose font isn't there are shown in font 0. What
+/* Adds the fonts of a file from its bytes (at most 67,108,864), BDF or TrueType, behind the others: of a collection all
+ * faces, in their order. There are at most 64 fonts. Texts in a style whose font isn't there are shown in font 0. What
  * the caches had is dropped.
  *
- * DONE: *place is the font's number, from 0. BAD_FONT, LARGE_FONT, MANY_FONTS, OUT_OF_MEMORY, BAD_CALL, CLOSED:
- * nothing changes. */
+ * DONE: *first is the number of the first of them, from 0, and *count how many they are, from 1. BAD_FONT, LARGE_FONT,
+ * MANY_FONTS, OUT_OF_MEMORY, BAD_CALL, CLOSED: nothing changes; *first is the place that goes with the status, and
+ * *count is 0. It came with version 1.4. */
+int32_t vimalorua_add_fonts(vimalorua *handle, const uint8_t *file, size_t file_len, size_t *first,
+                            size_t *count) VIMALORUA_NO_NULLS((1, 4, 5));
+
+/* The same, which tells *place as the other does *first, and not how many they are. */
 int32_t vimalorua_add_font(vimalorua *handle, const uint8_t *font, size_t font_len,
                            size_t *place) VIMALORUA_NO_NULLS((1, 4));
+
+/* Adds the fonts that a script holds in its sections [Fonts] from its bytes (at most 67,108,864), in its order, as
+ * vimalorua_add_fonts adds those of files. vimalorua_open adds none: it is the program's to ask for them. It came with
+ * version 1.4.
+ *
+ * DONE: *first is the number of the first of them, from 0, and *count how many they are: 0 where the script holds none.
+ * BAD_FONT_DATA: *first is the line. BAD_FONT, LARGE_FONT: *first is the place, from 0, of the file among those of the
+ * script. MANY_FONTS, OUT_OF_MEMORY, BAD_CALL, CLOSED. On all but DONE nothing changes, and *count is 0. */
+int32_t vimalorua_add_script_fonts(vimalorua *handle, const uint8_t *script, size_t script_len, size_t *first,
+                                   size_t *count) VIMALORUA_NO_NULLS((1, 4, 5));
+
+/* Tells the names that the font with a number answers to: those of its families, and behind them its full names, each
+ * with a zero byte behind it. They are UTF-8 where the font is TrueType, and the bytes of its file where it is BDF.
+ * *len is how many bytes they have together. They stand at the front of `names` where `room` is as much at least, and
+ * what is behind them stays; where it is less, all of `names` stays. It came with version 1.4.
+ *
+ * DONE. BAD_CALL: no font has this number. OUT_OF_MEMORY, CLOSED. On all but DONE *len is 0, and `names` stays. */
+int32_t vimalorua_font_names(vimalorua *handle, size_t number, uint8_t *names, size_t room,
+                             size_t *len) VIMALORUA_NO_NULLS((1, 5));
 
 /* Offers the events of the script's own Dialogue lines, each with the place of its line, from 0, as its ReadOrder.
  * Lines that give no event are passed over, and so are events that vimalorua_feed would answer by REPEATED or FULL.
