@@ -15,6 +15,10 @@ pub record IsFrameRate (rate : FrameRate) : Type 0 where
   pub time : 0 < rate.seconds
   pub longest : rate.seconds ≤ max_instant
 
+-- the rate of a step of whole milliseconds: a thousand frames in so many seconds
+abbrev pub step_rate : ℕ → FrameRate
+step_rate step = record { frames = 1000; seconds = step }
+
 -- The instant of frame i, from 0, where frame 0 has the instant `from`: the last millisecond that doesn't come after the frame's time.
 abbrev pub frame_instant : FrameRate → ℕ → ℕ → ℕ
 frame_instant rate from i = from + 1000 * i * rate.seconds / rate.frames
@@ -32,6 +36,8 @@ FramesAreOnTime = (rate : FrameRate) (from i : ℕ) → 0 < rate.frames
 abbrev pub CountedFramesComeBefore : Type 0
 CountedFramesComeBefore = (rate : FrameRate) (from to i : ℕ) → 0 < rate.frames → 0 < rate.seconds → (i < frames_before rate from to) ↔ (frame_instant rate from i < to)
 
--- A step of whole milliseconds is a rate: a thousand frames in so many seconds.
+-- At the rate of a step the instants stand a step apart, and as many are counted as steps begin before the end.
 abbrev pub StepsAreRates : Type 0
-StepsAreRates = (from step i : ℕ) → frame_instant (record { frames = 1000; seconds = step }) from i ≡ from + i * step
+StepsAreRates =
+    (from to step i : ℕ) → 0 < step
+    → (frame_instant (step_rate step) from i ≡ from + i * step) × (frames_before (step_rate step) from to ≡ div_ceil (to - from) step)

@@ -10,11 +10,11 @@ pub struct FrameRate {
 impl FrameRate {
     ghost use Rattle.std.specs.Prelude.{◌≡◌, ◌≤◌, ◌+◌};
     ghost use Rattle.ass_num.specs.Limits.{max_instant};
-    ghost use Rattle.frame_rate.specs.Rates.{IsFrameRate, frame_instant, frames_before};
+    ghost use Rattle.frame_rate.specs.Rates.{IsFrameRate, frame_instant, frames_before, step_rate};
 
     /// The rate of a step in milliseconds.
     pub fn of_step(step: u64) -> FrameRate
-        ensures { result ≡ record { frames = 1000; seconds = step } }
+        ensures { result ≡ step_rate step }
     {
         FrameRate {
             frames: 1000,

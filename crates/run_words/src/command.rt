@@ -28,7 +28,7 @@ static COMMANDS: [Command; 6] = [
 
 static CHECK: [Argument; 2] = [Argument::Script, Argument::Fonts];
 
-static FRAME: [Argument; 10] = [
+static FRAME: [Argument; 11] = [
     Argument::At,
     Argument::Size,
     Argument::Storage,
@@ -36,15 +36,17 @@ static FRAME: [Argument; 10] = [
     Argument::Content,
     Argument::Letters,
     Argument::Scale,
+    Argument::Format,
     Argument::Budget,
     Argument::Script,
     Argument::Fonts,
 ];
 
-static PLAY: [Argument; 15] = [
+static PLAY: [Argument; 16] = [
     Argument::From,
     Argument::To,
     Argument::Step,
+    Argument::Rate,
     Argument::Size,
     Argument::Feeders,
     Argument::Renderers,
@@ -61,10 +63,11 @@ static PLAY: [Argument; 15] = [
 
 static SELFTEST: [Argument; 3] = [Argument::Workers, Argument::Seed, Argument::Events];
 
-static CHANGES: [Argument; 12] = [
+static CHANGES: [Argument; 13] = [
     Argument::From,
     Argument::To,
     Argument::Step,
+    Argument::Rate,
     Argument::Size,
     Argument::Storage,
     Argument::Aspect,

@@ -14,11 +14,11 @@ use Rattle.mask_keys.specs.declared.plans.Plan.{Plan}
 use Rattle.mask_keys.specs.Pictures.{picture}
 use Rattle.frame_view.specs.declared.view.FrameView.{FrameView}
 use Rattle.picture_plan.specs.Pictures.{AreDraws}
-use Rattle.single_run.specs.Instants.{instant_at}
+use Rattle.frame_rate.specs.Instants.{instant_at}
 use Rattle.single_run.specs.Laws.{SameDrawsChangeNothing}
 use Rattle.single_run.specs.Lines.{change_line}
 use Rattle.single_run.specs.ChangeReports.{AreChangeLines, IsChangeLine, IsChangedBox, NextLine, NoLine, plan_of}
-use Rattle.single_run.specs.declared.instants.Instants.{Instants}
+use Rattle.frame_rate.specs.declared.instants.Instants.{Instants}
 
 of_draws : (kind : ChangeKind) (before now : Plan) → IsChange kind before now → IsChange kind (plan_of before.draws) (plan_of now.draws)
 of_draws Same before now h = h

@@ -13,9 +13,9 @@ use Rattle.mask_keys.specs.Pictures.{picture}
 use Rattle.frame_view.specs.declared.view.FrameView.{FrameView}
 use Rattle.picture_plan.specs.Pictures.{AreDraws}
 use Rattle.ass_events.specs.ScriptEvents.{line_events}
-use Rattle.single_run.specs.Instants.{instant_at, instant_count}
+use Rattle.frame_rate.specs.Instants.{instant_at, instant_count}
 use Rattle.single_run.specs.Lines.{change_line}
-use Rattle.single_run.specs.declared.instants.Instants.{Instants}
+use Rattle.frame_rate.specs.declared.instants.Instants.{Instants}
 
 abbrev pub plan_of : List Draw → Plan
 plan_of draws = record { draws = draws }

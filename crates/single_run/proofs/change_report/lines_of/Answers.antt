@@ -1,6 +1,6 @@
 use Rattle.std.proofs.Common.{◌≡◌, ◌∙◌, map, pos, string_bytes, subst, arith, rules}
 use Rattle.std.specs.Arc.{arc_value}
-use Rattle.single_run.specs.Instants.{instant_count}
+use Rattle.frame_rate.specs.Instants.{instant_count}
 use Rattle.single_run.specs.ChangeReports.{AreChangeLines}
 use Rattle.single_run.proofs.ChangePictures.{blank_picture}
 use Rattle.single_run.proofs.LineLemmas.{next_lines, no_lines}

@@ -1,33 +1,35 @@
-//! Instants by steps.
+//! Instants at a rate.
 
-/// Instants in milliseconds: from the first one by a step, as long as they come before the end.
+use crate::rate::FrameRate;
+
+/// Instants in milliseconds: those of the frames at a rate, the first one at `from`, as long as they come before `to`.
 #[derive(Clone, Copy, Debug, PartialEq, Eq)]
 pub struct Instants {
     pub from: u64,
     pub to: u64,
-    pub step: u64,
+    pub rate: FrameRate,
 }
 
 impl Instants {
     ghost use Rattle.std.specs.Prelude.{◌≡◌, ◌<◌};
-    ghost use Rattle.single_run.specs.Instants.{instant_at, instant_count};
+    ghost use Rattle.frame_rate.specs.Instants.{AreInstants, instant_at, instant_count};
 
     /// How many there are.
     pub fn count(&self) -> u64
-        requires { 0 < self.now.step }
+        requires { AreInstants self.now }
         ensures { result ≡ instant_count self.now }
     {
-        self.to.saturating_sub(self.from).div_ceil(self.step)
+        self.rate.frames_before(self.from, self.to)
     }
 
     /// The one at a place, from 0.
     #[tactic(auto, using(crate::proofs::InstantLemmas::instant_before))]
     pub fn at(&self, place: u64) -> u64
-        requires forward { 0 < self.now.step }
+        requires instants { AreInstants self.now }
         requires within { place < instant_count self.now }
         ensures at { result ≡ instant_at self.now place }
         ensures before { result < self.now.to }
     {
-        self.from + self.step * place
+        self.rate.instant_at(self.from, place)
     }
 }
