@@ -17,9 +17,7 @@ use Rattle.run_status.specs.declared.status.Status.TheVariants.{Done}
 
 -- The jobs are of the same instants, as often and of the same size. All else may differ.
 pub record JobsAlike (one other : PlayJob) : Type 0 where
-  pub from : one.from ≡ other.from
-  pub to : one.to ≡ other.to
-  pub step : one.step ≡ other.step
+  pub instants : one.instants ≡ other.instants
   pub times : one.times ≡ other.times
   pub size : one.size ≡ other.size
 
