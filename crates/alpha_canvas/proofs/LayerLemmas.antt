@@ -71,7 +71,7 @@ composite-none v = record {
   canvas = record { above = omega arith; below = omega arith };
 }
 
--- the straight_channel of a channel in an alpha is a byte
+-- the part of the alpha that a channel has is a byte
 pub straight_channel-small : (c a : ℕ) → c ≤ a → straight_channel c a ≤ 255
 straight_channel-small c a below = elim (cases_lt 0 a) [
   | inl some ↦ (let no : (a == 0) ≡ false = grind (arith, nat_tests) in rw no (straight_channel-of c a some below))

@@ -32,7 +32,7 @@ layers_at images i j = fold (λ (p : Layers) (image : Image). under p (tint_at i
 abbrev pub to_nearest : ℕ → ℕ → ℕ
 to_nearest n d = (n + d / 2) / d
 
--- a channel of which so much shows, by itself: the straight_channel of the alpha, in 255ths. Where nothing shows it is 0.
+-- a channel by itself, in 255ths: the part of the alpha that it has. Where nothing shows it is 0.
 abbrev pub straight_channel : ℕ → ℕ → ℕ
 straight_channel channel alpha = if alpha == 0 then 0 else to_nearest (255 * channel) alpha
 

@@ -30,7 +30,7 @@ fn blended(under: u32, over: u8, weight: u8) -> u32
     ((left + added + 127) / 255) as u32
 }
 
-/// The straight_channel of the alpha that a channel has, in 255ths.
+/// A channel by itself, in 255ths: the part of the alpha that it has.
 fn straight_channel(channel: u32, alpha: u32) -> u8
     requires { channel ≤ alpha }
     ensures { result ≡ straight_channel channel alpha }
