@@ -1,5 +1,5 @@
 -- Public: what a command is asked for, by what was found for its arguments.
-use Rattle.std.specs.Prelude.{◌≡◌, ℕ, pos, Bool, true, false, not, if◌then◌else◌, List, [], Option, Some, None, is_some, Result, Ok, Err, find, unwrap_or, option_and_then}
+use Rattle.std.specs.Prelude.{◌≡◌, ℕ, pos, Bool, true, false, not, List, [], Option, Some, None, Result, Ok, Err, find, unwrap_or, option_and_then}
 use Rattle.std.specs.Option.{option_map_or}
 use Rattle.ass_num.specs.declared.size.Size.{Size}
 use Rattle.frame_rate.specs.Rates.{step_rate}
@@ -81,14 +81,15 @@ rate_at rows = unwrap_or (option_and_then rate_in (text_at rows argument.Rate)) 
 abbrev pub instants_at : List Row → Instants
 instants_at rows = record { from = number_at rows argument.From 0; to = number_at rows argument.To 0; rate = rate_at rows }
 
--- just one of a step and a rate is said
-abbrev pub has_one_pace : List Row → Bool
-has_one_pace rows = if is_some (text_at rows argument.Rate) then not (is_some (text_at rows argument.Step)) else is_some (text_at rows argument.Step)
+abbrev pub is_just_one : Option (List ℕ) → Option (List ℕ) → Bool
+is_just_one None (Some rate) = true
+is_just_one (Some step) None = true
+is_just_one _ _ = false
 
--- so it is at each command that takes them
+-- A command that takes a step and a rate is told just one of them.
 abbrev pub is_paced : List Row → Command → Bool
-is_paced rows command.Play = has_one_pace rows
-is_paced rows command.Changes = has_one_pace rows
+is_paced rows command.Play = is_just_one (text_at rows argument.Step) (text_at rows argument.Rate)
+is_paced rows command.Changes = is_just_one (text_at rows argument.Step) (text_at rows argument.Rate)
 is_paced rows _ = true
 
 abbrev pub mode_at : List Row → Mode

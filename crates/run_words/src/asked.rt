@@ -4,7 +4,7 @@ ghost use Rattle.std.specs.Prelude.{◌≡◌, ◌≤◌, ◌^◌, ◌<◌, IfOk
 ghost use Rattle.clap.specs.Words.{all_of, found_of, rows_of};
 ghost use Rattle.frame_view.specs.declared.view.LetterWidth.TheVariants.{Canvas};
 ghost use Rattle.run_words.specs.Arguments.{argument_name, most_of};
-ghost use Rattle.run_words.specs.Asked.{changes_of, fits, first_bad, fonts_at, format_at, frame_at, frame_of, instants_at, is_paced, job_for};
+ghost use Rattle.run_words.specs.Asked.{changes_of, fits, first_bad, fonts_at, format_at, frame_at, frame_of, instants_at, is_just_one, is_paced, job_for};
 ghost use Rattle.run_words.specs.Asked.{mode_at, number_at, play_of, rate_at, script_at, size_at, text_at};
 ghost use Rattle.run_words.specs.Values.{aspect_in, content_in, letters_in, rate_in, storage_in};
 
@@ -55,13 +55,23 @@ pub fn first_bad(found: &ArgMatches, command: Command) -> Option<Argument>
     None
 }
 
-/// Whether a command that takes instants by a step or at a rate is told just one of the two.
+/// Whether one is there, and not the other.
+fn is_just_one(step: Option<&str>, rate: Option<&str>) -> bool
+    ensures { result ≡ is_just_one (option_map (λ text. text.now) step) (option_map (λ text. text.now) rate) }
+{
+    match (step, rate) {
+        (None, Some(_)) | (Some(_), None) => true,
+        (None, None) | (Some(_), Some(_)) => false,
+    }
+}
+
+/// Whether a command that takes a step and a rate is told just one of them.
 pub fn is_paced(found: &ArgMatches, command: Command) -> bool
     ensures { result ≡ is_paced (rows_of (found_of found.now)) command }
 {
     match command {
         Command::Play | Command::Changes => {
-            text_at(found, Argument::Step).is_some() != text_at(found, Argument::Rate).is_some()
+            is_just_one(text_at(found, Argument::Step), text_at(found, Argument::Rate))
         }
         Command::Check | Command::Frame | Command::Selftest | Command::Write => true,
     }

@@ -2,7 +2,7 @@
 
 ghost use Rattle.std.specs.Prelude.{◌≡◌, IfOk, Some, map};
 ghost use Rattle.clap.specs.Words.{found_of, rows_of, subcommand_rows_of};
-ghost use Rattle.run_words.specs.Asked.{PlainFormatsStay, PlainFramesStay, StepsStay};
+ghost use Rattle.run_words.specs.Asked.{PlainFormatsStay, PlainFramesStay, StepsStay, command_reading};
 ghost use Rattle.run_words.specs.Jobs.{IsJob};
 ghost use Rattle.run_words.specs.Words.{FirstWordIsCommand, IsReading, UsageIsOfGrammar, job_in, job_of, reading_in, texts};
 
@@ -16,17 +16,25 @@ use std::alloc::Global;
 
 /// The job of a command, or the first of its arguments whose value isn't of its rule.
 fn read_command(alloc: Global, found: &ArgMatches, command: Command) -> Result<Job, WordsRefusal>
-    ensures { IsReading (reading_in (rows_of (found_of found.now)) (Some command)) result }
+    ensures { IsReading (command_reading (rows_of (found_of found.now)) command) result }
 {
-    if !is_paced(found, command) {
-        return Err(WordsRefusal::BadWords(WordsFault::Usage));
-    }
     match first_bad(found, command) {
         Some(argument) => {
             let name = argument.shown_name(alloc)?;
             Err(WordsRefusal::BadWords(WordsFault::Value(name)))
         }
         None => Ok(job_for(alloc, found, command)?),
+    }
+}
+
+/// The same, where just one of a step and a rate is said to a command that takes them.
+fn read_paced(alloc: Global, found: &ArgMatches, command: Command) -> Result<Job, WordsRefusal>
+    ensures { IsReading (reading_in (rows_of (found_of found.now)) (Some command)) result }
+{
+    if is_paced(found, command) {
+        read_command(alloc, found, command)
+    } else {
+        Err(WordsRefusal::BadWords(WordsFault::Usage))
     }
 }
 
@@ -38,7 +46,7 @@ fn read_matches(alloc: Global, matches: &ArgMatches) -> Result<Job, WordsRefusal
         return Err(WordsRefusal::BadWords(WordsFault::Usage));
     };
     match command_named(name) {
-        Some(command) => read_command(alloc, found, command),
+        Some(command) => read_paced(alloc, found, command),
         None => Err(WordsRefusal::BadWords(WordsFault::Usage)),
     }
 }
