@@ -5,7 +5,8 @@
 /* The proved library's calls that others stand before. None of their pointers is null. */
 int32_t vimalorua_open_proved(const uint8_t *script, size_t script_len, uint64_t budget, vimalorua **out,
                               size_t *place);
-int32_t vimalorua_add_font_proved(vimalorua *handle, const uint8_t *font, size_t font_len, size_t *place);
+int32_t vimalorua_add_fonts_proved(vimalorua *handle, const uint8_t *file, size_t file_len, size_t *first,
+                                   size_t *count);
 int32_t vimalorua_feed_proved(vimalorua *handle, const uint8_t *chunk, size_t chunk_len, int64_t start,
                               int64_t duration, uint32_t *field, size_t *place);
 int32_t vimalorua_draw_proved(vimalorua *handle, int64_t ms, uint32_t w, uint32_t h, uint8_t *out, size_t out_len);
@@ -29,8 +30,13 @@ int32_t vimalorua_open(const uint8_t *script, size_t script_len, uint64_t budget
     return vimalorua_open_proved(given(script), script_len, budget, out, place);
 }
 
+int32_t vimalorua_add_fonts(vimalorua *handle, const uint8_t *file, size_t file_len, size_t *first, size_t *count) {
+    return vimalorua_add_fonts_proved(handle, given(file), file_len, first, count);
+}
+
 int32_t vimalorua_add_font(vimalorua *handle, const uint8_t *font, size_t font_len, size_t *place) {
-    return vimalorua_add_font_proved(handle, given(font), font_len, place);
+    size_t count;
+    return vimalorua_add_fonts(handle, font, font_len, place, &count);
 }
 
 int32_t vimalorua_feed(vimalorua *handle, const uint8_t *chunk, size_t chunk_len, int64_t start, int64_t duration,

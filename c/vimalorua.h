@@ -139,12 +139,17 @@ const char *vimalorua_status_text(int32_t status);
 int32_t vimalorua_open(const uint8_t *script, size_t script_len, uint64_t budget, vimalorua **out,
                        size_t *place) VIMALORUA_NO_NULLS((4, 5));
 
-/* Adds a font from the bytes of a file (at most 67,108,864), BDF or TrueType, behind the others, of which there are at
- * most 63. Of a collection the first face is added. Texts in a style whose font isn't there are shown in font 0. What
+/* Adds the fonts of a file from its bytes (at most 67,108,864), BDF or TrueType, behind the others: of a collection all
+ * faces, in their order. There are at most 64 fonts. Texts in a style whose font isn't there are shown in font 0. What
  * the caches had is dropped.
  *
- * DONE: *place is the font's number, from 0. BAD_FONT, LARGE_FONT, MANY_FONTS, OUT_OF_MEMORY, BAD_CALL, CLOSED:
- * nothing changes. */
+ * DONE: *first is the number of the first of them, from 0, and *count how many they are, from 1. BAD_FONT, LARGE_FONT,
+ * MANY_FONTS, OUT_OF_MEMORY, BAD_CALL, CLOSED: nothing changes; *first is the place that goes with the status, and
+ * *count is 0. */
+int32_t vimalorua_add_fonts(vimalorua *handle, const uint8_t *file, size_t file_len, size_t *first,
+                            size_t *count) VIMALORUA_NO_NULLS((1, 4, 5));
+
+/* The same, which tells *place as the other does *first, and not how many they are. */
 int32_t vimalorua_add_font(vimalorua *handle, const uint8_t *font, size_t font_len,
                            size_t *place) VIMALORUA_NO_NULLS((1, 4));
 

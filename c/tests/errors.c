@@ -81,18 +81,22 @@ static void opening(void) {
 
 static void adding_fonts(void) {
     vimalorua *handle = opened();
-    size_t place = 77;
+    size_t place = 77, count = 77;
     uint8_t *large = zeros(67108865);
     WANT(vimalorua_add_font(handle, BYTES("STARTFONT 2.1\nFONT x\nBITMAP\n"), &place), VIMALORUA_BAD_FONT);
     WANT(place, 3);
+    WANT(vimalorua_add_fonts(handle, BYTES("STARTFONT 2.1\nFONT x\nBITMAP\n"), &place, &count), VIMALORUA_BAD_FONT);
+    WANT(place, 3);
+    WANT(count, 0);
     WANT(vimalorua_add_font(handle, NULL, 0, &place), VIMALORUA_BAD_FONT);
     WANT(place, 1);
     WANT(vimalorua_add_font(handle, large, 67108865, &place), VIMALORUA_BAD_CALL);
     WANT(place, 0);
     free(large);
     for (size_t i = 0; i < 64; i++) {
-        WANT(vimalorua_add_font(handle, BYTES(font), &place), VIMALORUA_DONE);
+        WANT(vimalorua_add_fonts(handle, BYTES(font), &place, &count), VIMALORUA_DONE);
         WANT(place, i);
+        WANT(count, 1);
     }
     WANT(vimalorua_add_font(handle, BYTES(font), &place), VIMALORUA_MANY_FONTS);
     WANT(place, 64);

@@ -9,7 +9,7 @@ use crate::laps::Laps;
 use crate::stop::Stop;
 use crate::telling::tell;
 use ass_num::{Items, Matrix, Path};
-use bdf_font::{Font, read_font_file};
+use bdf_font::{Font, read_fonts};
 use drawing_path::read_path;
 use fixed_outline::{outline_of_path, quads_of, runs_of};
 use std::alloc::Global;
@@ -40,16 +40,19 @@ fn repeated(alloc: Global, head: &str, piece: &str, count: u32) -> Result<String
     Ok(text)
 }
 
-/// The font of a file's bytes.
+/// The last font of a file's bytes.
 pub fn font_of(alloc: Global, bytes: Items<u8>) -> Result<Font, Stop>
     ensures { IfOk result IsFont }
 {
     if bytes.len() > MAX_BYTES {
         return Err(Stop::SizeOutOfRange);
     }
-    match read_font_file(alloc, bytes) {
-        Ok(font) => Ok(font),
-        Err(_) => Err(Stop::SizeOutOfRange),
+    let Ok(fonts) = read_fonts(alloc, bytes) else {
+        return Err(Stop::SizeOutOfRange);
+    };
+    match fonts.into_vec().pop() {
+        Some(font) => Ok(font),
+        None => Err(Stop::SizeOutOfRange),
     }
 }
 

@@ -59,7 +59,7 @@ playable fit told job script fonts inputs within passes (inl (few, read)) is eac
       frames = few_frames job fonts found.1 few;
       script = is;
       short = file_lines fit told script inputs.script read.0;
-      fonts = font_set fonts inputs found.0 few read.1.0 each;
+      fonts = font_set told fonts inputs found.0 read.1 each;
     }
 
 pub all_playable : LinesFitTheirText → (told : List ℕ → Told) (job : PlayJob) (script : List ℕ) (fonts : List (List ℕ)) (answer : Result Inputs Status) →

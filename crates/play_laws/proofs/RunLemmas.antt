@@ -57,7 +57,8 @@ module _ (told : List ℕ → Told) (script : List ℕ) (fonts : List (List ℕ)
   pub read_not_done : AreRead told script fonts (Err Done) → ⊥
   read_not_done (inr (many, e)) = cc
   read_not_done (inl (few, inl asked)) = asked
-  read_not_done (inl (few, inr (read, is, failed))) = failed.3 []
+  read_not_done (inl (few, inr (read, is, inl failed))) = failed.3 []
+  read_not_done (inl (few, inr (read, is, inr (files, are, many, e)))) = cc
 
   unless_not_done : (refusal : Option Status) → (refusal ≡ Some Done → ⊥) → AreReadUnless refusal told script fonts (Err Done) → ⊥
   unless_not_done (Some why) not read = not (ap refused_in (sym read))

@@ -1,6 +1,6 @@
 //! Opening a player, its fonts and its budget.
 
-ghost use Rattle.std.specs.Prelude.{◌≡◌, ◌≤◌, ◌<◌, ◌∷◌, ◌++◌, [], length, Ok, Err, IfOk, IfErr, OnOk, OnErr};
+ghost use Rattle.std.specs.Prelude.{◌≡◌, ◌≤◌, ◌+◌, ◌++◌, length, All, Ok, Err, IfOk, IfErr, OnOk, OnErr};
 ghost use Rattle.ass_num.specs.Limits.{max_file_bytes};
 ghost use Rattle.ass_script.specs.Ranges.{IsScript};
 ghost use Rattle.ass_script.specs.Scripts.{IsScriptAnswer, ScriptValue, script_of};
@@ -10,7 +10,7 @@ ghost use Rattle.evict_core.specs.Machine.{max_budget};
 ghost use Rattle.player.specs.Players.{new_player};
 ghost use Rattle.ass_events.specs.LineLaws.{HasShortLines};
 
-use crate::fonts::with_font;
+use crate::fonts::with_fonts;
 use crate::player::Player;
 use ass_events::line_laws;
 use ass_num::{Items, Mem};
@@ -74,16 +74,16 @@ impl Player {
         self.fonts.fonts.len()
     }
 
-    /// Puts a font behind the others, of which there are at most 63 (`ass_add_font` in libass `ass.h`). What the caches had
-    /// is dropped. An `Err` changes nothing.
-    pub fn add_font(&mut self, alloc: Global, font: Font) -> Mem<()>
-        requires font { IsFont font }
-        requires few { length self.old.fonts < max_fonts }
-        ensures ok { OnOk result (self.new ≡ record self.old { fonts = self.old.fonts ++ font ∷ [] }) }
+    /// Puts fonts behind the others, such as all that a file has; together they are at most 64 (`ass_add_font` in libass
+    /// `ass.h`). What the caches had is dropped. An `Err` changes nothing.
+    pub fn add_fonts(&mut self, alloc: Global, more: Items<Font>) -> Mem<()>
+        requires each { All IsFont more }
+        requires few { length self.old.fonts + length more ≤ max_fonts }
+        ensures ok { OnOk result (self.new ≡ record self.old { fonts = self.old.fonts ++ more }) }
         ensures err { OnErr result (self.new ≡ self.old) }
     {
-        let more = with_font(alloc, &self.fonts, font)?;
-        let fonts = Arc::new(alloc, more)?;
+        let all = with_fonts(alloc, &self.fonts, more)?;
+        let fonts = Arc::new(alloc, all)?;
         let shared = Arc::try_clone(&fonts)?;
         let local = LocalCaches::open(alloc, shared, self.budget)?;
         self.fonts = fonts;

@@ -5,7 +5,7 @@ ghost use Rattle.ass_num.specs.Limits.{IsWithin, max_instant};
 
 use ass_io::MAX_FILE_BYTES;
 use ass_num::{Items, Size};
-use bdf_font::read_font_file;
+use bdf_font::read_fonts;
 use blend::Canvas;
 use player::Player;
 use std::alloc::{AllocError, Global};
@@ -49,16 +49,16 @@ ENDFONT
 
 const FRAME: Size = Size { w: 13, h: 9 };
 
-/// Gives a player a font, if the bytes are one. The font may keep them, so they are copied.
-fn add_font(alloc: Global, player: &mut Player, font: &[u8]) -> bool {
-    if font.len() > MAX_FILE_BYTES || player.font_count() > 0 {
+/// Gives a player the fonts of a file, if its bytes are some. Fonts may keep them, so they are copied.
+fn add_fonts(alloc: Global, player: &mut Player, file: &[u8]) -> bool {
+    if file.len() > MAX_FILE_BYTES || player.font_count() > 0 {
         return false;
     }
-    let Ok(bytes) = Vec::from_slice(alloc, font) else {
+    let Ok(bytes) = Vec::from_slice(alloc, file) else {
         return false;
     };
-    match read_font_file(alloc, Items::from_vec(bytes)) {
-        Ok(font) => player.add_font(alloc, font).is_ok(),
+    match read_fonts(alloc, Items::from_vec(bytes)) {
+        Ok(fonts) => player.add_fonts(alloc, fonts).is_ok(),
         Err(_) => false,
     }
 }
@@ -72,7 +72,7 @@ fn opened(alloc: Global) -> Option<Player> {
         Ok(player) => player,
         Err(_) => return None,
     };
-    if add_font(alloc, &mut player, FONT) && player.feed_lines(alloc).is_ok() {
+    if add_fonts(alloc, &mut player, FONT) && player.feed_lines(alloc).is_ok() {
         Some(player)
     } else {
         None

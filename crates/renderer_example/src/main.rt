@@ -6,7 +6,6 @@ ghost use Rattle.std.specs.Arc.{arc_value};
 ghost use Rattle.ass_events.specs.Histories.{live};
 ghost use Rattle.ass_num.specs.Limits.{IsFrameSize, IsWithin, max_instant};
 ghost use Rattle.ass_script.specs.Ranges.{IsScript};
-ghost use Rattle.bdf_font.specs.Ranges.{IsFont};
 ghost use Rattle.frame_view.specs.FrameViews.{plain_frame};
 ghost use Rattle.picture_plan.specs.Pictures.{IsPictureAt};
 ghost use Rattle.text_layout.specs.Fonts.{IsLayoutFontSet};
@@ -16,7 +15,7 @@ ghost use Rattle.track_history.specs.Calls.{history_of};
 use ass_io::MAX_FILE_BYTES;
 use ass_num::{Items, Size};
 use ass_script::{Script, read_script};
-use bdf_font::{Font, FontSet, read_font_file};
+use bdf_font::{FontSet, read_fonts};
 use blend::Canvas;
 use renderer::{RenderPass, Renderer, laws, paint};
 use std::alloc::{AllocError, Global};
@@ -81,19 +80,7 @@ fn script_of(alloc: Global) -> Option<Arc<Script>>
     }
 }
 
-/// A set of one font.
-fn set_of(alloc: Global, font: Font) -> Option<Arc<FontSet>>
-    requires { IsFont font }
-    ensures { IfSome result (λ set. IsLayoutFontSet (arc_value set).fonts) }
-{
-    let mut fonts = Items::new(alloc);
-    match fonts.push(font) {
-        Ok(()) => Arc::new(alloc, FontSet { fonts }).ok(),
-        Err(_) => None,
-    }
-}
-
-/// The font, as a set.
+/// The fonts of the file, as a set.
 fn fonts_of(alloc: Global) -> Option<Arc<FontSet>>
     ensures { IfSome result (λ set. IsLayoutFontSet (arc_value set).fonts) }
 {
@@ -103,8 +90,8 @@ fn fonts_of(alloc: Global) -> Option<Arc<FontSet>>
     let Ok(bytes) = Vec::from_slice(alloc, FONT) else {
         return None;
     };
-    match read_font_file(alloc, Items::from_vec(bytes)) {
-        Ok(font) => set_of(alloc, font),
+    match read_fonts(alloc, Items::from_vec(bytes)) {
+        Ok(fonts) => Arc::new(alloc, FontSet { fonts }).ok(),
         Err(_) => None,
     }
 }

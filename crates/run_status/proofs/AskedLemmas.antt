@@ -14,7 +14,7 @@ use Rattle.run_status.specs.declared.status.Status.{Status}
 use Rattle.run_status.specs.declared.status.Status.TheVariants as status
 use Rattle.run_status.specs.declared.status.What.TheVariants.{Bytes}
 use Rattle.run_status.specs.Causes.{font_status, with_status}
-use Rattle.run_status.specs.Files.{AsksBytes, AsksFont, AsksOf, FontAsked, IsAnswered, IsAskedFor}
+use Rattle.run_status.specs.Files.{AsksBytes, AsksFonts, AsksOf, FontsAsked, IsAnswered, IsAskedFor}
 
 -- Some list is longer than a number says. It is never looked at.
 unfoldable longer : (n : ℕ) → (xs : List ℕ) × (n < length xs)
@@ -45,19 +45,19 @@ asked_of asks name told bytes answer (Some held, told_is, inl (few, same)) asked
     (Some held, told_is, inl (few, subst (λ held. asks held answer) equal asked))
 asked_of asks name told bytes answer (Some held, told_is, inr (many, same)) asked = absurd cc
 
--- The file of a font that is held asks for the font, or for the status of its refusal.
-pub font_asked : (index : ℕ) (name : List ℕ) (told : Told) (all : List ℕ) (read : Result FontValue FontFileRefusal) → IsAskedFor (AsksBytes name) told (Ok all) →
-    (read ≢ Err (file.Lines lines.OutOfMemory) → IsFontFileAnswer all read) → IsAnswered (AsksFont index name) told name (with_status (font_status index) read)
-font_asked index name told all (Ok font) h answer = asked_of (FontAsked index) name told all (Ok font) h (Ok font, answer (λ e. cc), refl)
+-- The file of fonts that is held asks for the fonts, or for the status of its refusal.
+pub font_asked : (index : ℕ) (name : List ℕ) (told : Told) (all : List ℕ) (read : Result (List FontValue) FontFileRefusal) → IsAskedFor (AsksBytes name) told (Ok all) →
+    (read ≢ Err (file.Lines lines.OutOfMemory) → IsFontFileAnswer all read) → IsAnswered (AsksFonts index name) told name (with_status (font_status index) read)
+font_asked index name told all (Ok font) h answer = asked_of (FontsAsked index) name told all (Ok font) h (Ok font, answer (λ e. cc), refl)
 font_asked index name told all (Err (file.Lines (lines.BadFont line cause))) h answer =
-    asked_of (FontAsked index) name told all _ h (Err (file.Lines (lines.BadFont line cause)), answer (λ e. cc), refl)
+    asked_of (FontsAsked index) name told all _ h (Err (file.Lines (lines.BadFont line cause)), answer (λ e. cc), refl)
 font_asked index name told all (Err (file.Lines (lines.TooLarge most))) h answer =
-    asked_of (FontAsked index) name told all _ h (Err (file.Lines (lines.TooLarge most)), answer (λ e. cc), refl)
+    asked_of (FontsAsked index) name told all _ h (Err (file.Lines (lines.TooLarge most)), answer (λ e. cc), refl)
 font_asked index name told all (Err (file.Lines lines.OutOfMemory)) h answer = tt
 font_asked index name told all (Err (file.Bytes (bytes.BadFont byte cause))) h answer =
-    asked_of (FontAsked index) name told all _ h (Err (file.Bytes (bytes.BadFont byte cause)), answer (λ e. cc), refl)
+    asked_of (FontsAsked index) name told all _ h (Err (file.Bytes (bytes.BadFont byte cause)), answer (λ e. cc), refl)
 font_asked index name told all (Err (file.Bytes (bytes.TooLarge most))) h answer =
-    asked_of (FontAsked index) name told all _ h (Err (file.Bytes (bytes.TooLarge most)), answer (λ e. cc), refl)
+    asked_of (FontsAsked index) name told all _ h (Err (file.Bytes (bytes.TooLarge most)), answer (λ e. cc), refl)
 font_asked index name told all (Err (file.Bytes bytes.OutOfMemory)) h answer = tt
 
 kept : {Value : Type 0} (asks : List ℕ → Result Value Status → Type 0) (name : List ℕ) (told : Told) (why : Status) →

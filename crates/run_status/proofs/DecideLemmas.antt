@@ -1,5 +1,5 @@
 -- What is told of the files decides the answer.
-use Rattle.std.proofs.Common.{◌≡◌, ◌≢◌, ℕ, ◌<◌, inl, inr, List, [], length, slice_index_or, Some, None, Result, Ok, Err, refl, sym, subst, ◌∙◌, ap, pos, arith}
+use Rattle.std.proofs.Common.{◌≡◌, ◌≢◌, ℕ, ◌<◌, inl, inr, List, [], length, slice_index_or, Some, None, Result, Ok, Err, refl, sym, subst, ◌∙◌, ap, arith}
 use Rattle.std.proofs.lemmas.List.{same_lists}
 use Rattle.std.proofs.lemmas.Bool.{cases_order}
 use Rattle.ass_io.specs.Fetched.{Held, Told}
@@ -10,8 +10,8 @@ use Rattle.run_status.specs.declared.status.Status.{Status}
 use Rattle.run_status.specs.declared.status.Status.TheVariants as status
 use Rattle.run_status.specs.declared.inputs.Inputs.{Inputs}
 use Rattle.run_status.specs.Causes.{font_status, with_status}
-use Rattle.run_status.specs.Files.{Asks, AsksFont, AsksOf, AsksScript, FontAsked, IsAnswered, IsAskedFor}
-use Rattle.run_status.specs.Inputs.{AreFilesRead, AreFontsRead, IsFontRead, IsScriptRead}
+use Rattle.run_status.specs.Files.{Asks, AsksFonts, AsksOf, AsksScript, FontsAsked, IsAnswered, IsAskedFor}
+use Rattle.run_status.specs.Inputs.{AreFilesRead, AreFontFilesRead, AreFontsRead, IsFontFileRead, IsScriptRead, fonts_of_files}
 use Rattle.run_status.specs.Laws.{AreTold, FilesDecide, IsCause, IsReadDecided}
 
 -- What is told to be held asks for the answer.
@@ -55,30 +55,27 @@ script_one : (told : List ℕ → Told) (name : List ℕ) (one other : Result Sc
 script_one told name one other known d e h k =
     answered_one (AsksScript name) (asks_one _ name (λ bytes a b p q. p ∙ sym q)) (told name) name one other known d e h k
 
-same_font : OneFileAnswer → (index : ℕ) (bytes : List ℕ) (one other : Result FontValue Status) → FontAsked index bytes one → FontAsked index bytes other → one ≡ other
+same_font : OneFileAnswer → (index : ℕ) (bytes : List ℕ) (one other : Result (List FontValue) Status) → FontsAsked index bytes one → FontsAsked index bytes other → one ≡ other
 same_font law index bytes one other p q =
     let answer = law bytes in
     p.2 ∙ ap (with_status (font_status index)) (answer.2 p.0 p.1 ∙ sym (answer.2 q.0 q.1)) ∙ sym q.2
 
-font_one : OneFileAnswer → (told : List ℕ → Told) (names : List (List ℕ)) (index : ℕ) (one other : Result FontValue Status) →
+font_one : OneFileAnswer → (told : List ℕ → Told) (names : List (List ℕ)) (index : ℕ) (one other : Result (List FontValue) Status) →
     ((none : List ℕ) → told (slice_index_or names index none) ≢ None) →
-    IsReadDecided one → IsReadDecided other → IsFontRead told names index one → IsFontRead told names index other → one ≡ other
+    IsReadDecided one → IsReadDecided other → IsFontFileRead told names index one → IsFontFileRead told names index other → one ≡ other
 font_one law told names index one other known d e h k =
     let name = slice_index_or names index [] in
-    answered_one (AsksFont index name) (asks_one (FontAsked index) name (same_font law index)) (told name) name one other (known []) d e (h []) (k [])
+    answered_one (AsksFonts index name) (asks_one (FontsAsked index) name (same_font law index)) (told name) name one other (known []) d e (h []) (k [])
 
 -- Two lists of first fonts agree as far as both go.
 fonts_agree : OneFileAnswer → (told : List ℕ → Told) (names : List (List ℕ)) (index : ℕ) → ((none : List ℕ) → told (slice_index_or names index none) ≢ None) →
-    (one other : FontValue) → IsFontRead told names index (Ok one) → IsFontRead told names index (Ok other) → one ≡ other
+    (one other : List FontValue) → IsFontFileRead told names index (Ok one) → IsFontFileRead told names index (Ok other) → one ≡ other
 fonts_agree law told names index known one other h k = let same = font_one law told names index (Ok one) (Ok other) known tt tt h k in cc
 
 -- A font isn't both read and refused.
 not_both : OneFileAnswer → (told : List ℕ → Told) (names : List (List ℕ)) (index : ℕ) → ((none : List ℕ) → told (slice_index_or names index none) ≢ None) →
-    (font : FontValue) (status : Status) → IsCause status → IsFontRead told names index (Ok font) → IsFontRead told names index (Err status) → ⊥
+    (font : List FontValue) (status : Status) → IsCause status → IsFontFileRead told names index (Ok font) → IsFontFileRead told names index (Err status) → ⊥
 not_both law told names index known font status cause h k = let same = font_one law told names index (Ok font) (Err status) known tt cause h k in absurd cc
-
-no_font : FontValue
-no_font = record { name = []; ascent = pos 0; descent = pos 0; default_char = None; glyphs = []; underline = None; strikeout = None; bold_step = pos 0 }
 
 abbrev inputs : ScriptValue → List FontValue → Inputs
 inputs script fonts = record { script = script; fonts = fonts }
@@ -86,28 +83,53 @@ inputs script fonts = record { script = script; fonts = fonts }
 abbrev pub AreNamesTold : (List ℕ → Told) → List (List ℕ) → Type 0
 AreNamesTold told names = (index : ℕ) (none : List ℕ) → index < length names → told (slice_index_or names index none) ≢ None
 
+-- Two decided answers about files of fonts are the same.
+files_one : OneFileAnswer → (told : List ℕ → Told) (names : List (List ℕ)) → AreNamesTold told names → (one other : Result (List (List FontValue)) Status) →
+    IsReadDecided one → IsReadDecided other → AreFontFilesRead told names one → AreFontFilesRead told names other → one ≡ other
+files_one law told names known (Ok one) (Ok other) d e h k =
+    ap Ok (same_lists one other (h.0 ∙ sym k.0) (λ index none within.
+    fonts_agree law told names index (λ name. known index name (omega (arith, h.0, within))) _ _ (h.1 index none within) (k.1 index none (omega (arith, h.0, k.0, within)))))
+files_one law told names known (Ok one) (Err status) d e h k =
+    let fonts = k.0 in
+    let within : length fonts < length one = omega (arith, h.0, k.1) in
+    absurd (not_both law told names (length fonts) (λ name. known (length fonts) name k.1) _ status e (h.1 (length fonts) [] within) k.3)
+files_one law told names known (Err status) (Ok other) d e h k =
+    let fonts = h.0 in
+    let within : length fonts < length other = omega (arith, k.0, h.1) in
+    absurd (not_both law told names (length fonts) (λ name. known (length fonts) name h.1) _ status d (k.1 (length fonts) [] within) h.3)
+files_one law told names known (Err status) (Err cause) d e h k =
+    let fonts = h.0 in
+    let more = k.0 in
+    elim (cases_order (length fonts) (length more)) [
+      | inl same ↦ let answer = font_one law told names (length fonts) (Err status) (Err cause) (λ name. known (length fonts) name h.1) d e h.3 (subst (λ n. IsFontFileRead told names n (Err cause)) (sym same) k.3) in let equal : status ≡ cause = cc in ap Err equal
+      | inr (inl less) ↦ absurd (not_both law told names (length fonts) (λ name. known (length fonts) name h.1) _ status d (k.2 (length fonts) [] less) h.3)
+      | inr (inr less) ↦ absurd (not_both law told names (length more) (λ name. known (length more) name k.1) _ cause e (h.2 (length more) [] less) k.3)
+    ]
+
 -- Two decided answers about fonts are the same.
 fonts_one : OneFileAnswer → (told : List ℕ → Told) (names : List (List ℕ)) → AreNamesTold told names → (one other : Result (List FontValue) Status) →
     IsReadDecided one → IsReadDecided other → AreFontsRead told names one → AreFontsRead told names other → one ≡ other
 fonts_one law told names known (Ok one) (Ok other) d e h k =
-    ap Ok (same_lists one other (h.0 ∙ sym k.0) (λ index none within.
-    fonts_agree law told names index (λ name. known index name (omega (arith, h.0, within))) _ _ (h.1 index none within) (k.1 index none (omega (arith, h.0, k.0, within)))))
-fonts_one law told names known (Ok one) (Err status) d e h k =
-    let fonts = k.0 in
-    let within : length fonts < length one = omega (arith, h.0, k.1) in
-    absurd (not_both law told names (length fonts) (λ name. known (length fonts) name k.1) _ status e (h.1 (length fonts) (no_font) within) k.3)
-fonts_one law told names known (Err status) (Ok other) d e h k =
-    let fonts = h.0 in
-    let within : length fonts < length other = omega (arith, k.0, h.1) in
-    absurd (not_both law told names (length fonts) (λ name. known (length fonts) name h.1) _ status d (k.1 (length fonts) (no_font) within) h.3)
-fonts_one law told names known (Err status) (Err cause) d e h k =
-    let fonts = h.0 in
-    let more = k.0 in
-    elim (cases_order (length fonts) (length more)) [
-      | inl same ↦ let answer = font_one law told names (length fonts) (Err status) (Err cause) (λ name. known (length fonts) name h.1) d e h.3 (subst (λ n. IsFontRead told names n (Err cause)) (sym same) k.3) in let equal : status ≡ cause = cc in ap Err equal
-      | inr (inl less) ↦ absurd (not_both law told names (length fonts) (λ name. known (length fonts) name h.1) _ status d (k.2 (length fonts) no_font less) h.3)
-      | inr (inr less) ↦ absurd (not_both law told names (length more) (λ name. known (length more) name k.1) _ cause e (h.2 (length more) no_font less) k.3)
-    ]
+    let same = files_one law told names known (Ok h.0) (Ok k.0) tt tt h.1 k.1 in
+    let files : h.0 ≡ k.0 = cc in
+    ap Ok (h.2 ∙ (ap fonts_of_files files ∙ sym k.2))
+fonts_one law told names known (Ok one) (Err status) d e h (inl k) = let same = files_one law told names known (Ok h.0) (Err status) tt e h.1 k in absurd cc
+fonts_one law told names known (Ok one) (Err status) d e h (inr k) =
+    let same = files_one law told names known (Ok h.0) (Ok k.0) tt tt h.1 k.1 in
+    let files : h.0 ≡ k.0 = cc in
+    absurd (omega (arith, h.3, k.2, ap length h.2, ap (λ files. length (fonts_of_files files)) files))
+fonts_one law told names known (Err status) (Ok other) d e (inl h) k = let same = files_one law told names known (Err status) (Ok k.0) d tt h k.1 in absurd cc
+fonts_one law told names known (Err status) (Ok other) d e (inr h) k =
+    let same = files_one law told names known (Ok h.0) (Ok k.0) tt tt h.1 k.1 in
+    let files : h.0 ≡ k.0 = cc in
+    absurd (omega (arith, k.3, h.2, ap length k.2, ap (λ files. length (fonts_of_files files)) files))
+fonts_one law told names known (Err status) (Err cause) d e (inl h) (inl k) =
+    let same = files_one law told names known (Err status) (Err cause) d e h k in
+    let equal : status ≡ cause = cc in
+    ap Err equal
+fonts_one law told names known (Err status) (Err cause) d e (inl h) (inr k) = let same = files_one law told names known (Err status) (Ok k.0) d tt h k.1 in absurd cc
+fonts_one law told names known (Err status) (Err cause) d e (inr h) (inl k) = let same = files_one law told names known (Ok h.0) (Err cause) tt e h.1 k in absurd cc
+fonts_one law told names known (Err status) (Err cause) d e (inr h) (inr k) = ap Err (h.3 ∙ sym k.3)
 
 -- Two decided answers about files are the same.
 read_one : OneFileAnswer → (told : List ℕ → Told) (script : List ℕ) (fonts : List (List ℕ)) (one other : Result Inputs Status) → AreTold told script fonts →

@@ -2,3 +2,4 @@ pub mod AskedLemmas
 pub mod FontLemmas
 pub mod DecideLemmas
 pub mod ExistLemmas
+pub mod SetLemmas

@@ -28,12 +28,12 @@ AsksBytes = AsksOf (λ bytes answer. answer ≡ Ok bytes)
 abbrev pub AsksScript : List ℕ → Asks ScriptValue
 AsksScript = AsksOf (λ bytes answer. answer ≡ with_status script_status (script_of bytes))
 
--- What the bytes of a font ask for, whose place among the fonts is `index`.
-abbrev pub FontAsked : ℕ → List ℕ → Result FontValue Status → Type 0
-FontAsked index bytes answer = (font : Result FontValue FontFileRefusal) × IsFontFileAnswer bytes font × (answer ≡ with_status (font_status index) font)
+-- What the bytes of a file of fonts ask for, whose place among the files is `index`.
+abbrev pub FontsAsked : ℕ → List ℕ → Result (List FontValue) Status → Type 0
+FontsAsked index bytes answer = (fonts : Result (List FontValue) FontFileRefusal) × IsFontFileAnswer bytes fonts × (answer ≡ with_status (font_status index) fonts)
 
-abbrev pub AsksFont : ℕ → List ℕ → Asks FontValue
-AsksFont index = AsksOf (FontAsked index)
+abbrev pub AsksFonts : ℕ → List ℕ → Asks (List FontValue)
+AsksFonts index = AsksOf (FontsAsked index)
 
 -- What the name holds asks for the answer. Where it is told what that is, that asks for it.
 abbrev pub IsAskedFor : {Value : Type 0} → Asks Value → Told → Result Value Status → Type 0

@@ -1,17 +1,17 @@
 //! Files, scripts and fonts by their names.
 
-ghost use Rattle.std.specs.Prelude.{◌≡◌, ◌≤◌, IfOk, length};
+ghost use Rattle.std.specs.Prelude.{◌≡◌, ◌≤◌, All, IfOk, length};
 ghost use Rattle.ass_num.specs.Limits.{max_file_bytes};
 ghost use Rattle.ass_script.specs.Ranges.{IsScript};
 ghost use Rattle.bdf_font.specs.Ranges.{IsFont};
-ghost use Rattle.run_status.specs.Files.{AsksBytes, AsksFont, AsksScript, IsAnswered, IsAnswerReadCounted};
+ghost use Rattle.run_status.specs.Files.{AsksBytes, AsksFonts, AsksScript, IsAnswered, IsAnswerReadCounted};
 
 use crate::causes::{font_status, script_status};
 use crate::{Status, What};
 use ass_io::{Fetch, MAX_FILE_BYTES, Shelf};
 use ass_num::{Items, Text};
 use ass_script::{Script, read_script};
-use bdf_font::{Font, read_font_file};
+use bdf_font::{Font, read_fonts};
 use std::alloc::Global;
 
 /// The bytes of a file.
@@ -47,21 +47,21 @@ pub fn fetch_script<S: Shelf>(alloc: Global, shelf: &mut S, name: &Text) -> Resu
     }
 }
 
-/// The font of a file, whose place among the fonts is `index`.
-pub fn fetch_font<S: Shelf>(
+/// The fonts of a file, whose place among the files is `index`.
+pub fn fetch_fonts<S: Shelf>(
     alloc: Global,
     shelf: &mut S,
     index: usize,
     name: &Text,
-) -> Result<Font, Status>
+) -> Result<Items<Font>, Status>
     ensures kept { S.told shelf.new ≡ S.told shelf.old }
-    ensures read { IsAnswered (AsksFont index name.now) (S.told shelf.old name.now) name.now result }
+    ensures read { IsAnswered (AsksFonts index name.now) (S.told shelf.old name.now) name.now result }
     ensures counted { IsAnswerReadCounted result (S.faults shelf.old) (S.faults shelf.new) }
-    ensures font { IfOk result IsFont }
+    ensures fonts { IfOk result (All IsFont) }
 {
     let bytes = fetch_file(alloc, shelf, name)?;
-    match read_font_file(alloc, bytes) {
-        Ok(font) => Ok(font),
+    match read_fonts(alloc, bytes) {
+        Ok(fonts) => Ok(fonts),
         Err(refusal) => Err(font_status(index, refusal)),
     }
 }

@@ -1,15 +1,15 @@
 //! What a job works on.
 
-ghost use Rattle.std.specs.Prelude.{◌≡◌, ◌<◌, All, IfOk, length};
+ghost use Rattle.std.specs.Prelude.{◌≡◌, ◌<◌, ◌++◌, All, IfOk, OnOk, length};
 ghost use Rattle.ass_script.specs.Ranges.{IsScript};
 ghost use Rattle.bdf_font.specs.Ranges.{IsFont};
 ghost use Rattle.run_status.specs.Files.{IsAnswerReadCounted};
-ghost use Rattle.run_status.specs.Inputs.{AreFilesRead, AreFontsRead, AreRead, IsFontRead};
+ghost use Rattle.run_status.specs.Inputs.{AreFilesRead, AreFontFilesRead, AreRead, IsFontFileRead};
 
-use crate::files::{fetch_font, fetch_script};
+use crate::files::{fetch_fonts, fetch_script};
 use crate::{Status, What};
 use ass_io::Shelf;
-use ass_num::{Items, Text};
+use ass_num::{Items, Mem, Text};
 use ass_script::Script;
 use bdf_font::Font;
 use std::alloc::Global;
@@ -17,31 +17,39 @@ use std::alloc::Global;
 /// The most fonts of a job.
 pub const MAX_FONTS: usize = 64;
 
-/// A script, and fonts in the order of their names.
+/// A script, and fonts in the order of their files.
 #[derive(Debug, Drop)]
 pub struct Inputs {
     pub script: Script,
     pub fonts: Items<Font>,
 }
 
-/// The font at a place of the names.
-fn fetch_font_at<S: Shelf>(
+/// The fonts of the file at a place of the names.
+fn fetch_fonts_at<S: Shelf>(
     alloc: Global,
     shelf: &mut S,
     names: &[Text],
     index: usize,
-) -> Result<Font, Status>
+) -> Result<Items<Font>, Status>
     requires { index < length names.now }
     ensures kept { S.told shelf.new ≡ S.told shelf.old }
-    ensures read { IsFontRead (S.told shelf.old) names.now index result }
+    ensures read { IsFontFileRead (S.told shelf.old) names.now index result }
     ensures counted { IsAnswerReadCounted result (S.faults shelf.old) (S.faults shelf.new) }
-    ensures font { IfOk result IsFont }
+    ensures fonts { IfOk result (All IsFont) }
 {
-    fetch_font(alloc, shelf, index, &names[index])
+    fetch_fonts(alloc, shelf, index, &names[index])
 }
 
-/// The fonts of files.
-fn fetch_fonts<S: Shelf>(
+/// Puts the fonts of a file behind others.
+fn append_fonts(all: &mut Vec<Font>, file: Items<Font>) -> Mem<()>
+    ensures { OnOk result (all.new.items ≡ all.old.items ++ file) }
+{
+    all.append(&mut file.into_vec())?;
+    Ok(())
+}
+
+/// The fonts of all files together.
+fn fetch_all_fonts<S: Shelf>(
     alloc: Global,
     shelf: &mut S,
     names: &[Text],
@@ -51,12 +59,15 @@ fn fetch_fonts<S: Shelf>(
     ensures counted { IsAnswerReadCounted result (S.faults shelf.old) (S.faults shelf.new) }
     ensures fonts { IfOk result (All IsFont) }
 {
-    let mut fonts = Items::new(alloc);
+    let mut all = Vec::new(alloc);
     for index in 0..names.len() {
-        let font = fetch_font_at(alloc, shelf, names, index)?;
-        fonts.push(font)?;
+        let file = fetch_fonts_at(alloc, shelf, names, index)?;
+        append_fonts(&mut all, file)?;
     }
-    Ok(fonts)
+    if all.len() > MAX_FONTS {
+        return Err(Status::TooLarge(What::Fonts, MAX_FONTS));
+    }
+    Ok(Items::from_vec(all))
 }
 
 /// The script and the fonts of files.
@@ -73,12 +84,13 @@ fn fetch_files<S: Shelf>(
     ensures fonts { IfOk result (λ inputs. All IsFont inputs.fonts) }
 {
     let script = fetch_script(alloc, shelf, script)?;
-    let fonts = fetch_fonts(alloc, shelf, fonts)?;
+    let fonts = fetch_all_fonts(alloc, shelf, fonts)?;
     Ok(Inputs { script, fonts })
 }
 
-/// Reads the script of this name, and then the fonts of these names, in order. The first that can't be read decides the
-/// answer; before any of them, `TooLarge(Fonts, 64)` comes where there are more names of fonts than that.
+/// Reads the script of this name, and then all fonts of the files of these names, in order. The first file that can't be
+/// read decides the answer. `TooLarge(Fonts, 64)` comes before any of them where there are more names of fonts than that,
+/// and behind all of them where these have more fonts together.
 pub fn read_inputs<S: Shelf>(
     alloc: Global,
     shelf: &mut S,

@@ -9,7 +9,8 @@ use Rattle.bdf_font.specs.Limits.{max_fonts}
 use Rattle.bdf_font.specs.Ranges.{IsFont}
 use Rattle.run_status.specs.Causes.{script_status, with_status}
 use Rattle.run_status.specs.Files.{AsksScript}
-use Rattle.run_status.specs.Inputs.{AreRead, IsScriptRead}
+use Rattle.run_status.specs.Inputs.{AreFontsRead, AreRead, IsScriptRead}
+use Rattle.run_status.proofs.SetLemmas.{fonts_some}
 use Rattle.run_status.specs.declared.inputs.Inputs.{Inputs}
 use Rattle.run_status.specs.declared.status.Status.{Status}
 use Rattle.ass_events.specs.LineLaws.{HasShortLines, LinesFitTheirText}
@@ -42,9 +43,9 @@ pub short_lines : LinesFitTheirText → (told : List ℕ → Told) (name : List 
 short_lines fit told name script read =
     All-weaker (λ (line : List ℕ). length line ≤ max_file_bytes) (λ (line : List ℕ). length line ≤ max_text_bytes) (λ line l. omega (arith, l)) script.lines (file_lines fit told name script read)
 
--- As many fonts as there are names are from 1 to 64.
-pub font_set : (names : List (List ℕ)) (inputs : Inputs) → 0 < length names → length names ≤ max_fonts → length inputs.fonts ≡ length names → All IsFont inputs.fonts → IsLayoutFontSet inputs.fonts
-font_set names inputs some few count each = record { some = omega (arith, some, count); few = omega (arith, few, count); each = each }
+-- The fonts of some files are from 1 to 64.
+pub font_set : (told : List ℕ → Told) (names : List (List ℕ)) (inputs : Inputs) → 0 < length names → AreFontsRead told names (Ok inputs.fonts) → All IsFont inputs.fonts → IsLayoutFontSet inputs.fonts
+font_set told names inputs some read each = let counts = fonts_some told names inputs.fonts some read in record { some = counts.0; few = counts.1; each = each }
 
 -- A script's lines are short, and a picture has from 1 to 64 fonts.
 pub inputs_suit : LinesFitTheirText → (told : List ℕ → Told) (task : Task) (script : List ℕ) (fonts : List (List ℕ)) (inputs : Inputs) →
@@ -52,9 +53,9 @@ pub inputs_suit : LinesFitTheirText → (told : List ℕ → Told) (task : Task)
 inputs_suit fit told Check script fonts inputs suits read each = tt
 inputs_suit fit told (Frame frame) script fonts inputs suits (inr (many, e)) each = absurd cc
 inputs_suit fit told (Frame frame) script fonts inputs suits (inl (few, read)) each =
-    (suits.0, short_lines fit told script inputs.script read.0, font_set fonts inputs suits.1 few read.1.0 each)
+    (suits.0, short_lines fit told script inputs.script read.0, font_set told fonts inputs suits.1 read.1 each)
 inputs_suit fit told (Changes changes) script fonts inputs suits (inr (many, e)) each = absurd cc
 inputs_suit fit told (Changes changes) script fonts inputs suits (inl (few, read)) each =
-    (suits.0, short_lines fit told script inputs.script read.0, font_set fonts inputs suits.1 few read.1.0 each)
+    (suits.0, short_lines fit told script inputs.script read.0, font_set told fonts inputs suits.1 read.1 each)
 inputs_suit fit told (Write write) script fonts inputs suits (inr (many, e)) each = absurd cc
 inputs_suit fit told (Write write) script fonts inputs suits (inl (few, read)) each = (suits, short_lines fit told script inputs.script read.0)

@@ -9,7 +9,7 @@ use Rattle.ass_io.specs.Sinks.{SinkState}
 use Rattle.ass_io.specs.Written.{AppendsFront, IsPut, IsPutCounted}
 use Rattle.ass_io.specs.declared.sink.Put.{Put}
 use Rattle.ass_io.specs.declared.sink.Put.TheVariants as put
-use Rattle.run_status.specs.Files.{Asks, AsksFont, AsksScript, IsAnswered}
+use Rattle.run_status.specs.Files.{Asks, AsksFonts, AsksScript, IsAnswered}
 use Rattle.run_status.specs.Inputs.{AreRead}
 use Rattle.run_status.specs.Laws.{FilesDecide, IsReadDecided}
 use Rattle.run_status.specs.declared.inputs.Inputs.{Inputs}
@@ -182,9 +182,10 @@ answered_kind asks told name (status.Unwritable order field) h = h
 
 pub read_kind : (told : List ℕ → Told) (script : List ℕ) (fonts : List (List ℕ)) (answer : Status) → AreRead told script fonts (Err answer) → IsRefusal answer
 read_kind told script fonts answer (inl (few, inl h)) = answered_kind (AsksScript script) (told script) script answer h
-read_kind told script fonts answer (inl (few, inr (read, first, (before, within, are, h)))) =
+read_kind told script fonts answer (inl (few, inr (read, first, inl (before, within, are, h)))) =
     let name = slice_index_or fonts (length before) [] in
-    answered_kind (AsksFont (length before) name) (told name) name answer (h [])
+    answered_kind (AsksFonts (length before) name) (told name) name answer (h [])
+read_kind told script fonts answer (inl (few, inr (read, first, inr (files, are, many, e)))) = subst IsRefusal (sym e) tt
 read_kind told script fonts answer (inr (many, e)) = let same : answer ≡ status.TooLarge Fonts 64 = cc in subst IsRefusal (sym same) tt
 
 own_refusal : (sink : Which) (answer : Status) → IsRefusal answer → SuitsSink sink (Ended answer)

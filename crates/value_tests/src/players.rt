@@ -2,8 +2,8 @@
 
 ghost use Rattle.ass_num.specs.Limits.{IsWithin, max_instant};
 
-use ass_num::Size;
-use bdf_font::read_font;
+use ass_num::{Items, Size};
+use bdf_font::read_fonts;
 use frame_change::ChangeKind;
 use player::Player;
 use std::alloc::Global;
@@ -37,8 +37,11 @@ fn adds_a_font(alloc: Global, player: &mut Player) -> bool {
     if FONT.len() > 1_000 || player.font_count() > 0 {
         return false;
     }
-    match read_font(alloc, FONT) {
-        Ok(font) => player.add_font(alloc, font).is_ok(),
+    let Ok(bytes) = Vec::from_slice(alloc, FONT) else {
+        return false;
+    };
+    match read_fonts(alloc, Items::from_vec(bytes)) {
+        Ok(fonts) => player.add_fonts(alloc, fonts).is_ok(),
         Err(_) => false,
     }
 }

@@ -70,13 +70,15 @@ pub record IsOpened (bytes : List ℕ) (budget : ℕ) (status : ℤ) (place : �
 abbrev pub IsLongFile : List ℕ → Type 0
 IsLongFile bytes = max_file_bytes < length bytes
 
--- A font was put behind the others, and its number is told; or nothing changed.
-pub record IsFontAdded (bytes : List ℕ) (answer : Told) (old new : PlayerView) : Type 0 where
-  pub many : (answer.status ≡ many_fonts_status) ↔ (max_fonts ≤ length old.fonts)
+-- The fonts of a file were put behind the others, and the number of the first and how many they are is told; or nothing changed. No more than 64 fonts stand there.
+pub record AreFontsAdded (bytes : List ℕ) (answer : Told) (count : ℕ) (old new : PlayerView) : Type 0 where
+  pub full : max_fonts ≤ length old.fonts → answer.status ≡ many_fonts_status
+  pub many : answer.status ≡ many_fonts_status
+      → (max_fonts ≤ length old.fonts) ⊎ ((fonts : List FontValue) × IsFontFileAnswer bytes (Ok fonts) × (max_fonts < length old.fonts + length fonts))
   pub most : answer.status ≡ many_fonts_status → answer.place ≡ max_fonts
-  pub added : answer.status ≡ done_status → (font : FontValue) × IsFontFileAnswer bytes (Ok font)
-      × (answer.place ≡ length old.fonts) × (new ≡ record old { fonts = old.fonts ++ font ∷ [] })
-  pub else_same : answer.status ≢ done_status → new ≡ old
+  pub added : answer.status ≡ done_status → (fonts : List FontValue) × IsFontFileAnswer bytes (Ok fonts)
+      × (answer.place ≡ length old.fonts) × (count ≡ length fonts) × (length old.fonts + length fonts ≤ max_fonts) × (new ≡ record old { fonts = old.fonts ++ fonts })
+  pub else_same : answer.status ≢ done_status → (new ≡ old) × (count ≡ 0)
   pub refused : answer.status ≢ done_status → answer.status ≢ many_fonts_status → answer.status ≢ out_of_memory_status
       → (refusal : FontFileRefusal) × IsFontFileAnswer bytes (Err refusal) × (answer ≡ font_told refusal)
 

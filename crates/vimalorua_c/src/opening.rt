@@ -1,12 +1,13 @@
 //! Opening and closing handles, their fonts and their budget.
 
-ghost use Rattle.std.specs.Prelude.{◌≡◌, ◌≢◌, ◌≤◌, ◌<◌, length, Err, IfOk, IfErr};
+ghost use Rattle.std.specs.Prelude.{◌≡◌, ◌≢◌, ◌≤◌, ◌<◌, length, All, Err, IfOk, IfErr};
 ghost use Rattle.ass_num.specs.Limits.{max_file_bytes};
 ghost use Rattle.bdf_font.specs.Files.{IsFontFileAnswer};
+ghost use Rattle.bdf_font.specs.Limits.{max_fonts};
 ghost use Rattle.bdf_font.specs.Ranges.{IsFont};
 ghost use Rattle.bdf_font.specs.declared.cause.FontFileRefusal.TheVariants.{Lines};
 ghost use Rattle.evict_core.specs.Machine.{max_budget};
-ghost use Rattle.vimalorua_c.specs.Calls.{IsBudgetSet, IsCall, IsFontAdded, IsLongFile, IsNewHandle, IsOpened, IsScriptTold};
+ghost use Rattle.vimalorua_c.specs.Calls.{AreFontsAdded, IsBudgetSet, IsCall, IsLongFile, IsNewHandle, IsOpened, IsScriptTold};
 ghost use Rattle.vimalorua_c.specs.Statuses as rule;
 
 use crate::handle::Handle;
@@ -15,7 +16,7 @@ use crate::status::{
 };
 use crate::taking::{handle_of, put_back, take};
 use ass_num::Items;
-use bdf_font::{Font, FontFileRefusal, FontRefusal, read_font_file};
+use bdf_font::{Font, FontFileRefusal, FontRefusal, read_fonts};
 use player::Player;
 use std::alloc::Global;
 
@@ -85,61 +86,69 @@ pub extern "C" fn vimalorua_open_proved(
     }
 }
 
-/// The font of a file's bytes, which are the caller's. A font may keep its bytes, so they are copied.
-fn font_of(alloc: Global, bytes: &[u8]) -> Result<Font, FontFileRefusal>
+/// The fonts of a file's bytes, which are the caller's. Fonts may keep their bytes, so they are copied.
+fn fonts_of(alloc: Global, bytes: &[u8]) -> Result<Items<Font>, FontFileRefusal>
     requires { length bytes.now ≤ max_file_bytes }
     ensures answer { result ≢ Err (Lines FontRefusal.OutOfMemory) → IsFontFileAnswer bytes.now result }
-    ensures font { IfOk result IsFont }
+    ensures fonts { IfOk result (All IsFont) }
+    ensures few { IfOk result (λ fonts. length fonts ≤ max_fonts) }
 {
     match Vec::from_slice(alloc, bytes) {
-        Ok(copy) => read_font_file(alloc, Items::from_vec(copy)),
+        Ok(copy) => read_fonts(alloc, Items::from_vec(copy)),
         Err(_) => Err(FontFileRefusal::Lines(FontRefusal::OutOfMemory)),
     }
 }
 
-/// Adds a font to a player.
-fn font_added(alloc: Global, player: &mut Player, font: &[u8]) -> Told
-    requires { length font.now ≤ max_file_bytes }
-    ensures { IsFontAdded font.now result player.old player.new }
+/// Adds the fonts of a file to a player: what is told, and how many they are.
+fn fonts_added(alloc: Global, player: &mut Player, file: &[u8]) -> (Told, usize)
+    requires { length file.now ≤ max_file_bytes }
+    ensures { AreFontsAdded file.now result.0 result.1 player.old player.new }
 {
-    let count = player.font_count();
-    if count >= MAX_FONTS {
-        return told_at(MANY_FONTS, MAX_FONTS);
+    let first = player.font_count();
+    if first >= MAX_FONTS {
+        return (told_at(MANY_FONTS, MAX_FONTS), 0);
     }
-    let font = match font_of(alloc, font) {
-        Ok(font) => font,
-        Err(refusal) => return font_told(refusal),
+    let fonts = match fonts_of(alloc, file) {
+        Ok(fonts) => fonts,
+        Err(refusal) => return (font_told(refusal), 0),
     };
-    match player.add_font(alloc, font) {
-        Ok(()) => told_at(DONE, count),
-        Err(_) => told_at(OUT_OF_MEMORY, 0),
+    let count = fonts.len();
+    if first + count > MAX_FONTS {
+        return (told_at(MANY_FONTS, MAX_FONTS), 0);
+    }
+    match player.add_fonts(alloc, fonts) {
+        Ok(()) => (told_at(DONE, first), count),
+        Err(_) => (told_at(OUT_OF_MEMORY, 0), 0),
     }
 }
 
-/// Adds a font from its bytes, and tells its number.
+/// Adds the fonts of a file from its bytes, and tells the number of the first and how many they are.
 #[unsafe(no_mangle)]
-pub extern "C" fn vimalorua_add_font_proved(
+pub extern "C" fn vimalorua_add_fonts_proved(
     alloc: Global,
     handle: &mut Handle,
-    font: &[u8],
+    file: &[u8],
     place: &mut usize,
+    count: &mut usize,
 ) -> i32
-    ensures { IsCall (IsLongFile font.now) (place.new ≡ 0) (IsFontAdded font.now (rule.told result place.new)) result handle.old.value handle.new.value }
+    ensures { IsCall (IsLongFile file.now) ((place.new ≡ 0) × (count.new ≡ 0)) (AreFontsAdded file.now (rule.told result place.new) count.new) result handle.old.value handle.new.value }
 {
     *place = 0;
-    if font.len() > MAX_FILE_BYTES {
+    *count = 0;
+    if file.len() > MAX_FILE_BYTES {
         return BAD_CALL;
     }
     let Ok(kept) = take(alloc, handle) else {
         return OUT_OF_MEMORY;
     };
     let mut kept = kept;
-    let told = match &mut kept.player {
-        Some(player) => font_added(alloc, player, font),
-        None => told_at(CLOSED, 0),
+    let (told, added) = match &mut kept.player {
+        Some(player) => fonts_added(alloc, player, file),
+        None => (told_at(CLOSED, 0), 0),
     };
     put_back(handle, kept);
     *place = told.place;
+    *count = added;
     told.status
 }
 

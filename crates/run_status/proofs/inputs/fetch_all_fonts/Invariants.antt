@@ -1,0 +1,12 @@
+use Rattle.std.proofs.Common.{◌≡◌, All}
+use Rattle.bdf_font.specs.Ranges.{IsFont}
+use Rattle.run_status.proofs.FontLemmas.{ReadSoFar}
+use Rattle.run_status.proofs.inputs.fetch_all_fonts.Given as goal
+
+abbrev pub invariant-loop-index : goal.invariant-loop-index
+invariant-loop-index g l = record {
+  told : g.S.Shelf.told l.shelf ≡ g.S.Shelf.told l.initial.shelf;
+  faults : g.S.Shelf.faults l.shelf ≡ g.S.Shelf.faults l.initial.shelf;
+  found : ReadSoFar (g.S.Shelf.told l.initial.shelf) l.names l.index l.all.items;
+  each : All IsFont l.all.items;
+}
