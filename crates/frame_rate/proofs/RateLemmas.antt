@@ -27,7 +27,7 @@ ceil-below x y i some less = below (cases_lt i (div_ceil x y))
     below (inr higher) = (let times = div_ceil_times x y some in let most = mul-le-mul_right y higher in absurd (omega (arith, times.0)))
 
 -- the parts that are needed for x, where one part less doesn't do, are no more than any that do
-ceil-least : (x y a b : ℕ) → 0 < y → a * y < x + y → x ≤ b * y → a ≤ b
+pub ceil-least : (x y a b : ℕ) → 0 < y → a * y < x + y → x ≤ b * y → a ≤ b
 ceil-least x y a b some few enough = least (cases_lt b a)
   where
     least : (b < a) ⊎ (a ≤ b) → a ≤ b

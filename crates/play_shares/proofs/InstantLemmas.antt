@@ -9,7 +9,7 @@ use Rattle.std.proofs.lemmas.Nat.{div-add-mod', mul-le}
 use Rattle.std.proofs.lemmas.Option.{slice_get-get_or, slice_get_past}
 use Rattle.ass_num.specs.Limits.{max_instant}
 use Rattle.frame_rate.specs.Instants.{instant_at}
-use Rattle.frame_rate.proofs.InstantLemmas.{instant_within}
+use Rattle.frame_rate.proofs.InstantLemmas.{instant_within, instants_few}
 use Rattle.run_words.specs.Jobs.{IsPlay}
 use Rattle.run_words.specs.declared.job.PlayJob.{PlayJob}
 use Rattle.play_shares.specs.Instants.{instant_count, play_instant, instants}
@@ -23,6 +23,13 @@ ceil_few d s some =
     let split : d / s * s + d % s ≡ d = div-add-mod' d s in
     let least : d / s * 1 ≤ d / s * s = mul-le (d / s) 1 (d / s) s (omega arith) (omega (arith, some)) in
     omega (arith, split, least)
+
+-- so that all times of a play have fewer than can't be counted
+pub few_instants : (play : PlayJob) → IsPlay play → instant_count play ≤ 1000 * max_instant
+few_instants play is =
+    let few = instants_few play.instants is.instants in
+    let last = is.instants.within in
+    omega (arith, few, last)
 
 module _ (play : PlayJob) (place : ℕ) where
   pub instant_there : place < instant_count play → slice_get (instants play) place ≡ Some (play_instant play place)
