@@ -171,7 +171,7 @@ moment n h = (omega (arith, ints), omega (arith, ints))
 
 -- what stands for an instant that isn't said is the first one
 instant_within : (rows : List Row) (argument : Argument) → number_at rows argument 0 ≡ unwrap_or (option_and_then (number_within 0 max_instant) (text_at rows argument)) 0 → number_at rows argument 0 ≤ max_instant
-instant_within rows argument is = rw is (between 0 max_instant (text_at rows argument) 0 (omega arith) (omega arith)).1
+instant_within rows argument is = let most = (between 0 max_instant (text_at rows argument) 0 (omega arith) (omega arith)).1 in rw is most
 
 rate_range : (rows : List Row) → IsFrameRate (rate_at rows)
 rate_range rows =
