@@ -93,7 +93,7 @@ rate_within_of : (frames seconds : Option ℕ) → IfSome frames (IsNumberBetwee
     → IfSome (option_and_then (λ n. option_map (λ d. record { frames = n; seconds = d }) seconds) frames) IsFrameRate
 rate_within_of None seconds h k = tt
 rate_within_of (Some n) None h k = tt
-rate_within_of (Some n) (Some d) h k = record { some = h.0; most = h.1; time = k.0; longest = omega (arith, k.1) }
+rate_within_of (Some n) (Some d) h k = record { some = omega (arith, h.0); most = h.1; time = omega (arith, k.0); longest = omega (arith, k.1) }
 
 parted_within : (text : List ℕ) → IfSome (rate_parted text) IsFrameRate
 parted_within text = cases (list_any is_slash text)
@@ -104,13 +104,13 @@ parted_within text = cases (list_any is_slash text)
 
 frames_or_within : (n : Option ℕ) (parted : Option FrameRate) → IfSome n (IsNumberBetween 1 max_rate_frames) → IfSome parted IsFrameRate → IfSome (frames_or n parted) IsFrameRate
 frames_or_within None parted h k = k
-frames_or_within (Some n) parted h k = record { some = h.0; most = h.1; time = omega arith; longest = omega arith }
+frames_or_within (Some n) parted h k = record { some = omega (arith, h.0); most = h.1; time = omega arith; longest = omega arith }
 
 rate_within : (text : List ℕ) → IfSome (rate_in text) IsFrameRate
 rate_within text = frames_or_within (number_within 1 max_rate_frames text) (rate_parted text) (within 1 max_rate_frames text) (parted_within text)
 
 step_within : (n : ℕ) → IsNumberBetween 1 max_instant n → IsFrameRate (step_rate n)
-step_within n h = record { some = omega arith; most = omega arith; time = h.0; longest = h.1 }
+step_within n h = record { some = omega arith; most = omega arith; time = omega (arith, h.0); longest = h.1 }
 
 -- a place of a text lies in the frame or as far around it
 below_zero : (n : Option ℕ) → IfSome n (IsNumberBetween 0 max_frame_side) → IfSome (option_map neg_ℤ (option_map (λ n. pos n) n)) (IsWithin max_frame_side)
