@@ -128,6 +128,7 @@ fn pam_of(
 }
 
 /// The image of the picture that a script's events show in fonts, in its format.
+#[tactic(auto, using(crate::proofs::PictureLemmas::imaged, crate::proofs::PictureLemmas::mapped, crate::proofs::PictureLemmas::bare))]
 fn image_of(alloc: Global, frame: &FrameJob, inputs: Inputs) -> Mem<Vec<u8>>
     requires frame { IsFrameJob frame.now }
     requires script { IsScript inputs.script }
