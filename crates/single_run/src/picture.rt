@@ -154,9 +154,10 @@ pub fn draw<F: Sink>(alloc: Global, frame: &FrameJob, inputs: Inputs, frames: &m
     requires short { HasShortLines inputs.script }
     requires fonts { IsLayoutFontSet inputs.fonts }
     ensures answered { IsOrFault Which.Frames done_status result }
-    ensures shown { IsShown result (F.state frames.old).held (F.state frames.new).held (IsFormattedImage frame.now.format inputs.script inputs.fonts frame.now.at frame.now.view) }
-    ensures pieces { ArePiecesShown Which.Frames result (IsFormattedImage frame.now.format inputs.script inputs.fonts frame.now.at frame.now.view) (F.state frames.old).asked
-        (F.state frames.new).asked }
+    ensures shown { IsShown result (F.state frames.old).held (F.state frames.new).held
+        (IsFormattedImage frame.now.format inputs.script inputs.fonts frame.now.at frame.now.view) }
+    ensures pieces { ArePiecesShown Which.Frames result (IsFormattedImage frame.now.format inputs.script inputs.fonts frame.now.at frame.now.view)
+        (F.state frames.old).asked (F.state frames.new).asked }
     ensures counted { IsWriteCounted result (F.state frames.old).faults (F.state frames.new).faults }
     ensures own { result ≢ Status.WriteFault Which.Report }
 {
