@@ -12,7 +12,8 @@ use crate::argument::{Argument, Kind};
 use crate::command::Command;
 use crate::job::{ChangesJob, FrameFormat, FrameJob, Job, Mode, PlayJob};
 use crate::values::{
-    aspect_in, content_in, format_in, is_of_kind, letters_in, mode_in, number_within, rate_in, size_in, storage_in,
+    aspect_in, content_in, format_in, is_of_kind, letters_in, mode_in, number_within, rate_in,
+    size_in, storage_in,
 };
 use ass_num::{Items, Mem, Size, Text};
 use clap::ArgMatches;
@@ -57,7 +58,7 @@ pub fn first_bad(found: &ArgMatches, command: Command) -> Option<Argument>
 
 /// Whether one is there, and not the other.
 fn is_just_one(step: Option<&str>, rate: Option<&str>) -> bool
-    ensures { result ≡ is_just_one (option_map (λ text. text.now) step) (option_map (λ text. text.now) rate) }
+    ensures { result ≡ is_just_one (option_map (λ text. text.now) step.entry) (option_map (λ text. text.now) rate.entry) }
 {
     match (step, rate) {
         (None, Some(_)) | (Some(_), None) => true,
@@ -71,7 +72,10 @@ pub fn is_paced(found: &ArgMatches, command: Command) -> bool
 {
     match command {
         Command::Play | Command::Changes => {
-            is_just_one(text_at(found, Argument::Step), text_at(found, Argument::Rate))
+            is_just_one(
+                text_at(found, Argument::Step),
+                text_at(found, Argument::Rate),
+            )
         }
         Command::Check | Command::Frame | Command::Selftest | Command::Write => true,
     }

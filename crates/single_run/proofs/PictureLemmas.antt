@@ -37,7 +37,7 @@ pub columns_first : (w h n : ℕ) → n ≡ 4 * (h * w) → n ≡ 4 * (w * h)
 columns_first w h n rows = omega (arith, rows)
 
 module _ (format : FrameFormat) (script : ScriptValue) (fonts : List FontValue) (at : ℕ) (view : FrameView) (events : List Event) (draws : List Draw) (bytes : List ℕ) (n : ℕ)
-  (all : events ≡ line_events script) (are : AreDraws script fonts events (pos at) view draws) where
+    (all : events ≡ line_events script) (are : AreDraws script fonts events (pos at) view draws) where
   of_script : AreDraws script fonts (line_events script) (pos at) view draws
   of_script = subst (λ (e : List Event). AreDraws script fonts e (pos at) view draws) all are
 

@@ -21,11 +21,7 @@ use std::alloc::Global;
 use std::sync::Arc;
 
 /// The images of draws whose keys are valid, with their masks through the caches.
-fn images_of(
-    alloc: Global,
-    local: &mut LocalCaches,
-    draws: &[Draw],
-) -> Mem<Vec<Image<Arc<Mask>>>>
+fn images_of(alloc: Global, local: &mut LocalCaches, draws: &[Draw]) -> Mem<Vec<Image<Arc<Mask>>>>
     requires { IsValidPlan (glyph_counts local.old.fonts) draws.now }
     ensures { IfOk result (λ images. map (image_value arc_value) images.items ≡ map (image_of_draw local.old.fonts) draws.now) }
 {
