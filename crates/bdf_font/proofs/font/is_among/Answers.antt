@@ -1,4 +1,4 @@
-use Rattle.std.proofs.Common.{◌≡◌, ◌<◌, [], length, get_or, true, false, Bool, List, ℕ, ap, ap₂, sym, ◌∙◌, arith, ◌||◌}
+use Rattle.std.proofs.Common.{◌≡◌, [], get_or, true, false, Bool, List, ℕ, ap, ap₂, sym, ◌∙◌, arith, ◌||◌}
 use Rattle.std.specs.List.{list_any}
 use Rattle.std.proofs.lemmas.List.{take_all}
 use Rattle.std.proofs.lemmas.List.Folds.{list_any_at, list_any_more}

@@ -11,13 +11,13 @@ use Rattle.bdf_font.proofs.font.Font.code_place.Goals as goal
 
 pub returns-in-Bitmaps-clause-within : goal.returns-in-Bitmaps-clause-within
 returns-in-Bitmaps-clause-within c =
-    let e : c.in-Bitmaps.field-0 ≡ c.args.self.now = ap font_value (sym c.in-Bitmaps.is) ∙ c.data.ensures.value in
+    let e : c.in-Bitmaps.font ≡ c.args.self.now = ap font_value (sym c.in-Bitmaps.is) ∙ c.data.ensures.value in
     let value : c.code_place.result ≡ place_of c.args.self.now.glyphs (pos c.args.c) = c.code_place.ensures ∙ ap (λ (f : FontValue). place_of f.glyphs (pos c.args.c)) e in
     subst (λ (o : Option ℕ). IfSome o (λ place. place < length c.args.self.now.glyphs)) (sym value) (place_within c.args.self.now.glyphs (pos c.args.c))
 
 pub returns-in-Outlines-clause-value : goal.returns-in-Outlines-clause-value
 returns-in-Outlines-clause-value c =
-    let font = c.in-Outlines.field-0 in
+    let font = c.in-Outlines.font in
     let e : outline_font font ≡ c.args.self.now = ap font_value (sym c.in-Outlines.is) ∙ c.data.ensures.value in
     let sound : IsSfntFont font = search rules in
     (c.place_of.ensures ∙ ap (place_of_code font) c.from.ensures)
@@ -25,10 +25,10 @@ returns-in-Outlines-clause-value c =
 
 pub returns-in-Outlines-clause-within : goal.returns-in-Outlines-clause-within
 returns-in-Outlines-clause-within c =
-    let font = c.in-Outlines.field-0 in
+    let font = c.in-Outlines.font in
     let e : outline_font font ≡ c.args.self.now = ap font_value (sym c.in-Outlines.is) ∙ c.data.ensures.value in
     let sound : IsSfntFont font = search rules in
     let value : c.place_of.result ≡ place_of c.args.self.now.glyphs (pos c.args.c) =
-        (c.place_of.ensures ∙ ap (place_of_code font) c.from.ensures)
-        ∙ (sym (outline_place_of font c.args.c sound) ∙ ap (λ (f : FontValue). place_of f.glyphs (pos c.args.c)) e) in
+    (c.place_of.ensures ∙ ap (place_of_code font) c.from.ensures)
+    ∙ (sym (outline_place_of font c.args.c sound) ∙ ap (λ (f : FontValue). place_of f.glyphs (pos c.args.c)) e) in
     subst (λ (o : Option ℕ). IfSome o (λ place. place < length c.args.self.now.glyphs)) (sym value) (place_within c.args.self.now.glyphs (pos c.args.c))
