@@ -5,12 +5,12 @@ use Rattle.frame_rate.specs.Rates.{IsFrameRate, frame_instant, frames_before}
 use Rattle.frame_rate.specs.declared.instants.Instants.{Instants}
 
 -- the instant at a place, from 0
-abbrev pub instant_at : Instants → ℕ → ℕ
-instant_at instants place = frame_instant instants.rate instants.from place
+abbrev pub rated_instant : Instants → ℕ → ℕ
+rated_instant instants place = frame_instant instants.rate instants.from place
 
 -- how many of them come before the end
-abbrev pub instant_count : Instants → ℕ
-instant_count instants = frames_before instants.rate instants.from instants.to
+abbrev pub rated_count : Instants → ℕ
+rated_count instants = frames_before instants.rate instants.from instants.to
 
 -- They go forward at a rate, up to the last instant at most.
 pub record AreInstants (instants : Instants) : Type 0 where

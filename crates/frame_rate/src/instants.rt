@@ -12,12 +12,12 @@ pub struct Instants {
 
 impl Instants {
     ghost use Rattle.std.specs.Prelude.{◌≡◌, ◌<◌};
-    ghost use Rattle.frame_rate.specs.Instants.{AreInstants, instant_at, instant_count};
+    ghost use Rattle.frame_rate.specs.Instants.{AreInstants, rated_count, rated_instant};
 
     /// How many there are.
     pub fn count(&self) -> u64
         requires { AreInstants self.now }
-        ensures { result ≡ instant_count self.now }
+        ensures { result ≡ rated_count self.now }
     {
         self.rate.frames_before(self.from, self.to)
     }
@@ -26,8 +26,8 @@ impl Instants {
     #[tactic(auto, using(crate::proofs::InstantLemmas::instant_before))]
     pub fn at(&self, place: u64) -> u64
         requires instants { AreInstants self.now }
-        requires within { place < instant_count self.now }
-        ensures at { result ≡ instant_at self.now place }
+        requires within { place < rated_count self.now }
+        ensures at { result ≡ rated_instant self.now place }
         ensures before { result < self.now.to }
     {
         self.rate.instant_at(self.from, place)

@@ -8,7 +8,7 @@ use Rattle.std.proofs.lemmas.List.FromFn.{get_or-map-range_with_len, length-map-
 use Rattle.std.proofs.lemmas.Nat.{div-add-mod', mul-le}
 use Rattle.std.proofs.lemmas.Option.{slice_get-get_or, slice_get_past}
 use Rattle.ass_num.specs.Limits.{max_instant}
-use Rattle.frame_rate.specs.Instants.{instant_at}
+use Rattle.frame_rate.specs.Instants.{rated_instant}
 use Rattle.frame_rate.proofs.InstantLemmas.{instant_within, instants_few}
 use Rattle.run_words.specs.Jobs.{IsPlay}
 use Rattle.run_words.specs.declared.job.PlayJob.{PlayJob}
@@ -44,7 +44,7 @@ module _ (play : PlayJob) (place : ℕ) where
       slice_get_past (instants play) place (subst (λ (n : ℕ). n ≤ place) (sym long) le)
 
 -- an instant is before the end, and so within the limit
-module _ (play : PlayJob) (place t : ℕ) (is : IsPlay play) (there : place < instant_count play) (at : t ≡ instant_at play.instants place) where
+module _ (play : PlayJob) (place t : ℕ) (is : IsPlay play) (there : place < instant_count play) (at : t ≡ rated_instant play.instants place) where
   instant_fits : t ≤ max_instant
   instant_fits = (let within = instant_within play.instants place is.instants there in omega (arith, at, within))
 

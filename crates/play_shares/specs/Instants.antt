@@ -1,16 +1,16 @@
 -- Public: the instants of a play (docs/PROGRAM.md).
 use Rattle.std.specs.Prelude.{ℕ, ◌+◌, ◌*◌, ℤ, pos, List, map, take, drop}
 use Rattle.std.specs.List.{range_with_len}
-use Rattle.frame_rate.specs.Instants as rated
+use Rattle.frame_rate.specs.Instants.{rated_count, rated_instant}
 use Rattle.run_words.specs.declared.job.PlayJob.{PlayJob}
 
 -- how many instants there are
 abbrev pub instant_count : PlayJob → ℕ
-instant_count play = rated.instant_count play.instants
+instant_count play = rated_count play.instants
 
 -- the instant at place i
 abbrev pub play_instant : PlayJob → ℕ → ℤ
-play_instant play i = pos (rated.instant_at play.instants i)
+play_instant play i = pos (rated_instant play.instants i)
 
 abbrev pub instants : PlayJob → List ℤ
 instants play = map (play_instant play) (range_with_len 0 (instant_count play))

@@ -12,7 +12,7 @@ use Rattle.run_words.specs.Jobs.{IsPlay}
 use Rattle.run_words.specs.declared.job.PlayJob.{PlayJob}
 use Rattle.play_shares.specs.Batches.{again_lines, batch_lines, feeder_lines, good_lines, has_batch, last_items, offered}
 use Rattle.play_shares.specs.Instants.{ahead_instants, instant_count, instants, play_instant}
-use Rattle.frame_rate.specs.Instants as rated
+use Rattle.frame_rate.specs.Instants.{rated_instant}
 use Rattle.frame_rate.proofs.InstantLemmas as rated_lemma
 use Rattle.play_model.specs.Plays.{PlayView, events_again, events_at, events_in, good_flags}
 use Rattle.play_model.proofs.Shares.{events_parts, flags_long, good_events}
@@ -68,7 +68,7 @@ moment_within n low = (omega (arith, ints), omega (arith, ints, low))
 module _ (job : PlayJob) (is : IsPlay job) where
   pub instant_within : (place : ℕ) → place < instant_count job → IsWithin max_instant (play_instant job place)
   instant_within place lt =
-      moment_within (rated.instant_at job.instants place) (rated_lemma.instant_within job.instants place is.instants lt)
+      moment_within (rated_instant job.instants place) (rated_lemma.instant_within job.instants place is.instants lt)
 
   all_within : All (IsWithin max_instant) (instants job)
   all_within = All-map (IsWithin max_instant) (play_instant job) (range_with_len 0 (instant_count job))

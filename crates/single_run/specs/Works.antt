@@ -2,7 +2,7 @@
 use Rattle.std.specs.Prelude.{◌≡◌, ◌⊎◌, Bool, true, ◌&&◌, if◌then◌else◌, ℕ, ◌<◌, nat_le, nat_lt, List, [], ◌∷◌, length, Option, Some, None, Result, Ok, Err, option_map}
 use Rattle.ass_events.specs.Events.{is_time}
 use Rattle.bdf_font.specs.Limits.{max_fonts}
-use Rattle.frame_rate.specs.Instants.{instant_count}
+use Rattle.frame_rate.specs.Instants.{rated_count}
 use Rattle.run_status.specs.declared.inputs.Inputs.{Inputs}
 use Rattle.run_words.specs.Jobs.{IsChangesJob, IsFrameJob}
 use Rattle.run_words.specs.Words.{job_of}
@@ -42,7 +42,7 @@ max_frames = 1000000
 
 -- how many pictures a task compares
 abbrev pub compared : Task → ℕ
-compared (Changes changes) = instant_count changes.instants
+compared (Changes changes) = rated_count changes.instants
 compared _ = 0
 
 -- whether it compares too many; too many fonts are told before
