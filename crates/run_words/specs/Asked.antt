@@ -127,6 +127,7 @@ play_of rows = record {
   times = number_at rows argument.Times 1;
   ahead = number_at rows argument.Ahead 0;
   bands = number_at rows argument.Bands 1;
+  format = format_at rows;
   budget = budget_at rows;
   mode = mode_at rows;
 }
@@ -164,9 +165,10 @@ PlainFramesStay =
     (rows : List Row) → text_at rows argument.Content ≡ None → text_at rows argument.Storage ≡ None → text_at rows argument.Aspect ≡ None
     → text_at rows argument.Letters ≡ None → text_at rows argument.Scale ≡ None → frame_at rows ≡ plain_frame (size_at rows)
 
--- A frame of which no format is said is a pixmap.
+-- Frames of which no format is said are pixmaps.
 abbrev pub PlainFormatsStay : Type 0
-PlainFormatsStay = (rows : List Row) → text_at rows argument.Format ≡ None → (frame_of rows).format ≡ Ppm
+PlainFormatsStay =
+    (rows : List Row) → text_at rows argument.Format ≡ None → ((frame_of rows).format ≡ Ppm) × ((play_of rows).format ≡ Ppm)
 
 -- Where no rate is said, instants stand a step apart.
 abbrev pub StepsStay : Type 0

@@ -34,7 +34,7 @@ arguments_of Check = file_arguments
 arguments_of Frame = argument.At ∷ frame_arguments ++ argument.Format ∷ argument.Budget ∷ file_arguments
 arguments_of Play =
     instant_arguments ++ argument.Size ∷ argument.Feeders ∷ argument.Renderers ∷ argument.Batch ∷ argument.Again
-    ∷ argument.Times ∷ argument.Ahead ∷ argument.Bands ∷ argument.Budget ∷ argument.Mode ∷ file_arguments
+    ∷ argument.Times ∷ argument.Ahead ∷ argument.Bands ∷ argument.Format ∷ argument.Budget ∷ argument.Mode ∷ file_arguments
 arguments_of Selftest = argument.Workers ∷ argument.Seed ∷ argument.Events ∷ []
 arguments_of Changes = instant_arguments ++ frame_arguments ++ argument.Budget ∷ file_arguments
 arguments_of Write = argument.Later ∷ argument.Earlier ∷ argument.Script ∷ []

@@ -304,6 +304,7 @@ fn play_of(found: &ArgMatches) -> PlayJob
         times: count_at(found, Argument::Times, 1),
         ahead: count_at(found, Argument::Ahead, 0),
         bands: count_at(found, Argument::Bands, 1),
+        format: format_at(found),
         budget: number_at(found, Argument::Budget, ABSENT_BUDGET),
         mode: mode_at(found),
     }

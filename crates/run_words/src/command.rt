@@ -28,7 +28,7 @@ static COMMANDS: [Command; 6] = [
 
 static CHECK: [Argument; 3] = [Argument::ScriptFonts, Argument::Script, Argument::Fonts];
 
-static FRAME: [Argument; 11] = [
+static FRAME: [Argument; 12] = [
     Argument::At,
     Argument::Size,
     Argument::Storage,
@@ -43,7 +43,7 @@ static FRAME: [Argument; 11] = [
     Argument::Fonts,
 ];
 
-static PLAY: [Argument; 16] = [
+static PLAY: [Argument; 18] = [
     Argument::From,
     Argument::To,
     Argument::Step,
@@ -56,6 +56,7 @@ static PLAY: [Argument; 16] = [
     Argument::Times,
     Argument::Ahead,
     Argument::Bands,
+    Argument::Format,
     Argument::Budget,
     Argument::Mode,
     Argument::ScriptFonts,
@@ -65,7 +66,7 @@ static PLAY: [Argument; 16] = [
 
 static SELFTEST: [Argument; 3] = [Argument::Workers, Argument::Seed, Argument::Events];
 
-static CHANGES: [Argument; 13] = [
+static CHANGES: [Argument; 14] = [
     Argument::From,
     Argument::To,
     Argument::Step,

@@ -41,8 +41,8 @@ pub struct ChangesJob {
     pub budget: u64,
 }
 
-/// What a `play` is asked for: the instants, the size of the frames, how the work is shared, and the bytes of a cache's
-/// budget.
+/// What a `play` is asked for: the instants, the size of the frames, how the work is shared, how frames are written, and
+/// the bytes of a cache's budget.
 #[derive(Clone, Copy, Debug, PartialEq, Eq)]
 pub struct PlayJob {
     pub instants: Instants,
@@ -54,6 +54,7 @@ pub struct PlayJob {
     pub times: u32,
     pub ahead: u32,
     pub bands: u32,
+    pub format: FrameFormat,
     pub budget: u64,
     pub mode: Mode,
 }
