@@ -1,4 +1,4 @@
--- Public: the bytes of a frame in a format.
+-- Inner: the bytes of a frame in a format.
 use Rattle.std.specs.Prelude.{◌≡◌, ℕ, List, map}
 use Rattle.alpha_canvas.specs.Alpha.{AreAlphaRows}
 use Rattle.alpha_canvas.specs.declared.pixel.AlphaForm.TheVariants.{Straight}
