@@ -5,7 +5,8 @@ ghost use Rattle.ass_num.specs.Limits.{IsFrameSize};
 ghost use Rattle.run_words.specs.declared.job.FrameFormat.TheVariants.{Pam, Ppm};
 ghost use Rattle.play_workers.specs.FrameImages.{AreFramePixels, IsImageOfFrame};
 
-use alpha_canvas::{AlphaForm, paint_alpha_rows};
+use alpha_bands::paint_alpha_bands;
+use alpha_canvas::AlphaForm;
 use ass_num::Mem;
 use pam_text::pam_bytes_in;
 use ppm_text::ppm_bytes_in;
@@ -38,31 +39,44 @@ fn pixmap_of<R: Threads + Sync>(
 }
 
 /// The pixels of a frame with straight alpha, in the memory of a buffer.
-fn pixels_of(alloc: Global, frame: &Frame, buffer: Vec<u8>) -> Mem<Vec<u8>>
-    requires { IsFrameSize frame.now.size }
+fn pixels_of<R: Threads + Sync>(
+    rt: &R,
+    alloc: Global,
+    frame: &Frame,
+    bands: u32,
+    buffer: Vec<u8>,
+) -> Mem<Vec<u8>>
+    requires size { IsFrameSize frame.now.size }
+    requires some { 1 ≤ bands }
     ensures { IfOk result (λ pixels. AreFramePixels frame.now pixels.items) }
 {
-    let (w, h) = (frame.size.w, frame.size.h);
     let mut pixels = buffer;
     pixels.clear();
-    pixels.resize(4 * (w as usize * h as usize), 0)?;
-    paint_alpha_rows(
+    pixels.resize(4 * (frame.size.h as usize * frame.size.w as usize), 0)?;
+    paint_alpha_bands(
+        rt,
         frame.images.as_slice(),
         AlphaForm::Straight,
         pixels.as_mut_slice(),
-        w,
-        0,
-        h,
+        &frame.size,
+        bands,
     );
     Ok(pixels)
 }
 
 /// The picture of a frame as a portable arbitrary map with straight alpha, in the memory of a buffer.
-fn map_of(alloc: Global, frame: &Frame, buffer: Vec<u8>) -> Mem<Vec<u8>>
-    requires { IsFrameSize frame.now.size }
+fn map_of<R: Threads + Sync>(
+    rt: &R,
+    alloc: Global,
+    frame: &Frame,
+    bands: u32,
+    buffer: Vec<u8>,
+) -> Mem<Vec<u8>>
+    requires size { IsFrameSize frame.now.size }
+    requires some { 1 ≤ bands }
     ensures { IfOk result (λ image. IsImageOfFrame Pam frame.now image.items) }
 {
-    let pixels = pixels_of(alloc, frame, Vec::new(alloc))?;
+    let pixels = pixels_of(rt, alloc, frame, bands, Vec::new(alloc))?;
     pam_bytes_in(
         alloc,
         buffer,
@@ -88,7 +102,7 @@ pub fn image_in<R: Threads + Sync>(
 {
     match format {
         FrameFormat::Ppm => pixmap_of(rt, alloc, frame, bands, buffer),
-        FrameFormat::Pam => map_of(alloc, frame, buffer),
-        FrameFormat::Rgba => pixels_of(alloc, frame, buffer),
+        FrameFormat::Pam => map_of(rt, alloc, frame, bands, buffer),
+        FrameFormat::Rgba => pixels_of(rt, alloc, frame, bands, buffer),
     }
 }
