@@ -94,5 +94,7 @@ rows-painted form images w h old new len same each = record {
       let most : (j + 1) * w ≤ h * w = mul-le-mul_right w (let next : j + 1 ≤ h = omega (arith, row) in next) in
       let more : (j + 1) * w ≡ j * w + w = omega arith in
       let (start, offset, top, rows, band, at, begins, inside, are, is) = each (4 * (j * w + i) + c) (omega (arith, len, most, more, column, small)) in
-      sym is ∙ byte-there form images w top rows start offset i j c band are begins at inside column small;
+      let from_top : 0 + j ≡ j = omega arith in
+      sym is ∙ byte-there form images w top rows start offset i j c band are begins at inside column small
+      ∙ ap (λ (k : ℕ). byte_of (formed_pixel form (layers_at images i k)) c) (sym from_top);
 }

@@ -57,7 +57,7 @@ pub fn paint_alpha_bands<R: Threads + Sync, M: AsMask + Sync>(
         &|start: usize, band: &mut [u8]|
             requires { IsFrameSize size.now × (0 < size.now.w) × AreBandRows size.now.w start (length band.now) }
             ensures { (top h : ℕ) → start ≡ 4 * (size.entry.now.w * top) → length band.entry.now ≡ 4 * (size.entry.now.w * h)
-                → AreAlphaRows form.entry (map (image_value M.mask) images.entry.now) size.entry.now.w top h band.exit.now }
+                → AreAlphaRows form (map (image_value M.mask) images.entry.now) size.entry.now.w top h band.exit.now }
         { paint_band(images, form, band, size.w, start) },
     );
 }

@@ -41,7 +41,9 @@ module _ (form : AlphaForm) (images : List Image) (w h : ℕ) where
       let inside : k / 4 / w * w < h * w = omega (arith, less, quarters, parts) in
       let row : k / 4 / w < h = lt_of_mul-lt-mul_right w {m = k / 4 / w} {n = h} inside in
       let place : 4 * (k / 4 / w * w + k / 4 % w) + k % 4 ≡ k = omega (arith, quarters, parts) in
+      let from_top : 0 + k / 4 / w ≡ k / 4 / w = omega arith in
       ap (λ (n : ℕ). get_or bytes n 0) (sym place) ∙ are.each (k / 4 % w) (k / 4 / w) (k % 4) (mod_below (k / 4) w some) row (mod_below k 4 (omega arith))
+      ∙ ap (λ (n : ℕ). byte_of (formed_pixel form (layers_at images (k / 4 % w) n)) (k % 4)) from_top
 
   -- Rows are these bytes.
   pub rows_are : (bytes : List ℕ) → AreAlphaRows form images w 0 h bytes → bytes ≡ alpha_bytes
@@ -58,11 +60,13 @@ module _ (form : AlphaForm) (images : List Image) (w h : ℕ) where
         let pixel : (4 * (j * w + i) + c) / 4 ≡ j * w + i = ap (λ (n : ℕ). n / 4) grouped ∙ div-mul-add (j * w + i) 4 c small in
         let channel : (4 * (j * w + i) + c) % 4 ≡ c = ap (λ (n : ℕ). n % 4) grouped ∙ mod-mul-add (j * w + i) 4 c small in
         let across : (4 * (j * w + i) + c) / 4 % w ≡ i = ap (λ (n : ℕ). n % w) pixel ∙ mod-mul-add j w i column in
+        let from_top : 0 + j ≡ j = omega arith in
         let down : (4 * (j * w + i) + c) / 4 / w ≡ j = ap (λ (n : ℕ). n / w) pixel ∙ div-mul-add j w i column in
         get_or-map-range_with_len alpha_byte 0 (4 * (h * w)) (4 * (j * w + i) + c) (4 * (j * w + i) + c) 0 inside (omega arith)
         ∙ ap (λ (n : ℕ). byte_of (formed_pixel form (layers_at images n ((4 * (j * w + i) + c) / 4 / w))) ((4 * (j * w + i) + c) % 4)) across
         ∙ ap (λ (n : ℕ). byte_of (formed_pixel form (layers_at images i n)) ((4 * (j * w + i) + c) % 4)) down
-        ∙ ap (byte_of (formed_pixel form (layers_at images i j))) channel;
+        ∙ ap (byte_of (formed_pixel form (layers_at images i j))) channel
+        ∙ ap (λ (n : ℕ). byte_of (formed_pixel form (layers_at images i n)) c) (sym from_top);
   }
 
 -- ---- images
