@@ -14,7 +14,7 @@ use Rattle.clap.specs.declared.error.kind.ErrorKind.TheVariants as kind
 use Rattle.clap.specs.declared.parser.matches.ArgMatches.{ArgMatches}
 use Rattle.clap.specs.declared.parser.matches.ArgMatches.TheViews.{out-ArgMatches, out-SubCommand}
 use Rattle.clap.specs.declared.parser.matches.SubCommand.{SubCommand}
-use Rattle.run_words.specs.Asked.{first_bad, is_paced, job_for, unless_bad}
+use Rattle.run_words.specs.Asked.{first_bad, job_for, unless_bad}
 use Rattle.run_words.specs.Grammar.{is_taken, words_app}
 use Rattle.run_words.specs.Words.{UsageIsOfGrammar, command_named, is_met_paced, is_named_paced, job_in, job_of, reading_in}
 use Rattle.run_words.specs.declared.argument.Argument.{Argument}

@@ -7,3 +7,4 @@ pub mod Runs
 pub mod WorkLemmas
 pub mod LineLemmas
 pub mod ChangePictures
+pub mod AlphaLemmas

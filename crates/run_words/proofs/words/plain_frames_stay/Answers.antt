@@ -1,4 +1,4 @@
-use Rattle.std.proofs.Common.{◌≡◌, refl}
+use Rattle.std.proofs.Common.{refl}
 use Rattle.run_words.specs.Asked.{PlainFormatsStay, PlainFramesStay, StepsStay}
 use Rattle.run_words.proofs.words.plain_frames_stay.Goals as goal
 
