@@ -124,6 +124,17 @@ def rates(score, given):
         score.check(play.returncode == 0 and shown == wanted, f"play at {rate} shows the instants {shown}, and not {wanted}")
 
 
+def film(score, given):
+    """The instants of a film of two hours: the last ones stand as near to their frames as the first ones."""
+    words = "changes --from 0 --to 7200000 --rate 24000/1001 --size 1x1".split()
+    ask = [given.program, *words, f"{given.room}/row.ass", f"{given.room}/dot.bdf"]
+    done = subprocess.run(ask, stdin=subprocess.DEVNULL, capture_output=True, timeout=600)
+    said = [int(line.split()[0][2:]) for line in done.stderr.decode().splitlines()]
+    wanted = [1001 * i // 24 for i in range(172_628)]
+    score.check(done.returncode == 0 and said == wanted, "changes has other instants than the frames of a film of two hours")
+
+
 def over_video(score, given):
     formats(score, given)
     rates(score, given)
+    film(score, given)
