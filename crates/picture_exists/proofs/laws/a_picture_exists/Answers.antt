@@ -1,0 +1,8 @@
+use Rattle.picture_exists.proofs.PictureExistence.{draws_exist, picture_exists}
+use Rattle.picture_exists.proofs.laws.a_picture_exists.Goals as goal
+
+pub returns-clause-draws : goal.returns-clause-draws
+returns-clause-draws c script fonts events t frame are = draws_exist script fonts events t frame are
+
+pub returns-clause-picture : goal.returns-clause-picture
+returns-clause-picture c script fonts events t frame are = picture_exists script fonts events t frame are
