@@ -4,3 +4,4 @@ pub mod ViewExistence
 pub mod ShiftExistence
 pub mod ShownExistence
 pub mod PictureExistence
+pub mod SomeEvents

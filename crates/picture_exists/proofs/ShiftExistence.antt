@@ -137,7 +137,7 @@ option_or : {A : Type 0} (o : Option A) → (o ≡ None) ⊎ ((a : A) × (o ≡ 
 option_or None = inl refl
 option_or (Some a) = inr (a, refl)
 
-same_event_of : (events : List Event) (e f : Event) → HaveOwnOrders events → Contains events e → Contains events f → e.order ≡ f.order → e ≡ f
+pub same_event_of : (events : List Event) (e f : Event) → HaveOwnOrders events → Contains events e → Contains events f → e.order ≡ f.order → e ≡ f
 same_event_of events e f orders first second same =
     let i = get_from_there events e first in
     let j = get_from_there events f second in

@@ -1,5 +1,5 @@
 -- Public: events have draws and a picture at each instant.
-use Rattle.std.specs.Prelude.{ℕ, ◌≤◌, ℤ, List, length, All}
+use Rattle.std.specs.Prelude.{ℕ, ◌≤◌, ℤ, List, length, All, Contains}
 use Rattle.ass_num.specs.Limits.{max_text_bytes}
 use Rattle.ass_events.specs.Histories.{HaveOwnOrders}
 use Rattle.ass_events.specs.Ranges.{IsEvent}
@@ -22,7 +22,12 @@ abbrev pub HaveDraws : ScriptValue → List FontValue → Type 0
 HaveDraws script fonts =
     (events : List Event) (t : ℤ) (frame : FrameView) → AreDrawable events → (draws : List Draw) × AreDraws script fonts events t frame draws
 
--- and a picture.
+-- and a picture,
 abbrev pub HaveAPicture : ScriptValue → List FontValue → Type 0
 HaveAPicture script fonts =
     (events : List Event) (t : ℤ) (frame : FrameView) → AreDrawable events → (canvas : CanvasValue) × IsPictureAt script fonts events t frame canvas
+
+-- and so have events that are all among them, however often and in whatever order they are listed.
+abbrev pub SomeHaveAPicture : ScriptValue → List FontValue → Type 0
+SomeHaveAPicture script fonts =
+    (all some : List Event) (t : ℤ) (frame : FrameView) → AreDrawable all → All (Contains all) some → (canvas : CanvasValue) × IsPictureAt script fonts some t frame canvas
