@@ -27,15 +27,13 @@ use Rattle.override_tags.specs.declared.view.ShownKind.TheVariants as shown
 use Rattle.text_layout.specs.Anchors.{margins_of, wrapping_width}
 use Rattle.text_layout.specs.Clusters.{cluster_ends}
 use Rattle.text_layout.specs.Extents.{char_extent, extent_of, item_extents, kind_extent, no_extent}
-use Rattle.text_layout.specs.Kinds.{char_of, chars_of, role_of, roles_of}
+use Rattle.text_layout.specs.Kinds.{char_of, chars_of, role_of, roles_of, space_char}
 use Rattle.text_layout.specs.Layouts.{IsLaid, laid_out}
 use Rattle.text_layout.specs.LineScales.{line_scales}
 use Rattle.text_layout.specs.Lines.{advances_of}
 use Rattle.text_layout.specs.Metrics.{all_metrics, no_metrics}
 use Rattle.text_layout.specs.Spans.{AreChosen, AreLines, AreLinesOf, ArePlacesInOrder, paragraphs_of, places_of, spans_between}
 use Rattle.text_layout.specs.declared.extents.Extent.{Extent}
-use Rattle.text_layout.specs.declared.kinds.BreakRole.{BreakRole}
-use Rattle.text_layout.specs.declared.kinds.BreakRole.TheVariants.{Space}
 use Rattle.text_layout.specs.declared.laid.Laid.{Laid}
 use Rattle.text_layout.specs.declared.metrics.Metrics.{Metrics}
 use Rattle.text_layout.specs.declared.spans.Span.{Span}
@@ -88,30 +86,34 @@ chosen_exists (suc (suc (suc (suc n)))) ws s max g =
 
 -- ---- the lines of all paragraphs
 
-slice_paragraph : (roles : List BreakRole) (advances : List ℤ) (p : Span) → length advances ≤ max_text_bytes → length roles ≡ length advances → All IsItemWidth advances
-    → IsParagraph (slice_range advances p.first p.last) (places_of Space (slice_range roles p.first p.last))
-slice_paragraph roles advances p short same narrow =
+slice_paragraph : (wrap : ℕ) (items : List Shown) (advances : List ℤ) (p : Span) → length advances ≤ max_text_bytes → length items ≡ length advances → All IsItemWidth advances
+    → IsParagraph (slice_range advances p.first p.last) (places_of (role_of 0 (shown.Char space_char)) (slice_range (roles_of wrap items) p.first p.last))
+slice_paragraph wrap items advances p short same narrow =
     let a = p.first in
     let b = p.last in
+    let roles = roles_of wrap items in
     let widths = take (b - a) (drop a advances) in
     let parts = take (b - a) (drop a roles) in
+    let space = role_of 0 (shown.Char space_char) in
     let long = length-take (b - a) (drop a advances) in
     let rest = length-drop a advances in
     let counted = length-take (b - a) (drop a roles) in
     let left = length-drop a roles in
-    let as_many : 0 + length parts ≡ length widths = omega (arith, long, rest, counted, left, same) in
-    paragraph_of widths (places_of Space parts) (omega (arith, long, rest, short))
+    let whole = length-map items (λ (shown : Shown). role_of wrap shown.kind) in
+    let as_many : 0 + length parts ≡ length widths = omega (arith, long, rest, counted, left, whole, same) in
+    paragraph_of widths (places_of space parts) (omega (arith, long, rest, short))
     (All-take IsItemWidth (b - a) (drop a advances) (All-drop IsItemWidth a advances narrow))
-    (subst (λ (to : ℕ). ArePlacesInOrder 0 to (places_of Space parts)) as_many (places_from-order Space 0 0 parts (omega arith)))
+    (subst (λ (to : ℕ). ArePlacesInOrder 0 to (places_of space parts)) as_many (places_from-order space 0 0 parts (omega arith)))
 
-module _ (wrap : ℕ) (roles : List BreakRole) (advances : List ℤ) (max : ℤ) (short : length advances ≤ max_text_bytes) (same : length roles ≡ length advances)
+module _ (wrap : ℕ) (items : List Shown) (advances : List ℤ) (max : ℤ) (short : length advances ≤ max_text_bytes) (same : length items ≡ length advances)
     (narrow : All IsItemWidth advances) where
-  lines_of_exist : (p : Span) → (lines : List Span) × AreLinesOf wrap roles advances max p lines
+  lines_of_exist : (p : Span) → (lines : List Span) × AreLinesOf wrap (roles_of wrap items) advances max p lines
   lines_of_exist p =
-      let c = chosen_exists wrap (slice_range advances p.first p.last) (places_of Space (slice_range roles p.first p.last)) max (slice_paragraph roles advances p short same narrow) in
+      let spaces = places_of (role_of 0 (shown.Char space_char)) (slice_range (roles_of wrap items) p.first p.last) in
+      let c = chosen_exists wrap (slice_range advances p.first p.last) spaces max (slice_paragraph wrap items advances p short same narrow) in
       (spans_between p.first p.last (map (λ place. p.first + place) c.0), (c.0, c.1, refl))
 
-  lines_exist : (ps : List Span) → (lines : List Span) × AreLines wrap roles advances max ps lines
+  lines_exist : (ps : List Span) → (lines : List Span) × AreLines wrap (roles_of wrap items) advances max ps lines
   lines_exist [] = ([], refl)
   lines_exist (p ∷ ps) =
       let front = lines_of_exist p in
@@ -157,6 +159,5 @@ laid_exists script fonts event view frame short =
     let roles = roles_of view.wrap view.items in
     let max = wrapping_width (margins_of script event) scales in
     let many = advances_many fonts metrics view.wrap view.items in
-    let counted = length-map view.items (λ (shown : Shown). role_of view.wrap shown.kind) in
-    let lines = lines_exist view.wrap roles (advances_of items) max (omega (arith, many, short)) (counted ∙ sym many) (advances_narrow fonts metrics view.wrap view.items) (paragraphs_of roles) in
+    let lines = lines_exist view.wrap view.items (advances_of items) max (omega (arith, many, short)) (sym many) (advances_narrow fonts metrics view.wrap view.items) (paragraphs_of roles) in
     (laid_out view metrics items lines.0, (lines.0, lines.1, refl))

@@ -48,25 +48,25 @@ module _ (text : List ℕ) (duration elapsed : ℤ) where
   looks_exist zero before (i ∷ items) few = absurd (omega (arith, few))
   looks_exist (suc fuel) before (i ∷ items) few = elim (cases_Bool (is_text_kind i.kind)) [
     | inl is_text ↦ elim (cases_lt 0 (level_at before)) [
-        | inl drawn ↦
-            let front = text_front items in
-            let long : length items ≡ length (front.slice ++ front.rest) = ap length front.parts in
-            let both = length-append front.slice front.rest in
-            let found = looks_exist fuel before front.rest (omega (arith, few, long, both)) in
-            let path = has_path (slice_range text i.from (items_end i.to front.slice)) in
-            let look : Look = record { kind = Drawing (record { segs = path.0 }); before = before } in
-            let count = found.2 in (
-              look ∷ found.0,
-              subst (λ (z : List Item). AreLooks text duration elapsed before (i ∷ z) (look ∷ found.0)) (sym front.parts)
-              (looks.drawn before i front.slice front.rest (record { segs = path.0 }) found.0 drawn (All-cons IsShownText i front.slice is_text front.all) front.ends path.1 found.1),
-              omega (arith, count, long, both),
-            )
-        | inr written ↦
-            let shown = text_shown i.kind is_text in
-            let found = looks_exist fuel before items (omega (arith, few)) in
-            let count = found.2 in
-            (record { kind = shown.0; before = before } ∷ found.0, looks.seen before i shown.0 items found.0 (omega (arith, written)) shown.1 found.1, omega (arith, count))
-      ]
+      | inl drawn ↦
+          let front = text_front items in
+          let long : length items ≡ length (front.slice ++ front.rest) = ap length front.parts in
+          let both = length-append front.slice front.rest in
+          let found = looks_exist fuel before front.rest (omega (arith, few, long, both)) in
+          let path = has_path (slice_range text i.from (items_end i.to front.slice)) in
+          let look : Look = record { kind = Drawing (record { segs = path.0 }); before = before } in
+          let count = found.2 in (
+            look ∷ found.0,
+            subst (λ (z : List Item). AreLooks text duration elapsed before (i ∷ z) (look ∷ found.0)) (sym front.parts)
+                (looks.drawn before i front.slice front.rest (record { segs = path.0 }) found.0 drawn (All-cons IsShownText i front.slice is_text front.all) front.ends path.1 found.1),
+            omega (arith, count, long, both),
+          )
+      | inr written ↦
+          let shown = text_shown i.kind is_text in
+          let found = looks_exist fuel before items (omega (arith, few)) in
+          let count = found.2 in
+          (record { kind = shown.0; before = before } ∷ found.0, looks.seen before i shown.0 items found.0 (omega (arith, written)) shown.1 found.1, omega (arith, count))
+    ]
     | inr hidden ↦
         let found = looks_exist fuel (past duration elapsed before i) items (omega (arith, few)) in
         let count = found.2 in

@@ -6,7 +6,8 @@ use Rattle.std.specs.List.{All}
 use Rattle.std.proofs.lemmas.Bool.{and_parts, cases_Bool}
 use Rattle.std.proofs.lemmas.Int.{ints, by_lt_z}
 use Rattle.std.proofs.lemmas.List.Elements.{All-cons, All-contains, All-head, All-nil, All-tail}
-use Rattle.ass_num.specs.Limits.{max_whole}
+use Rattle.ass_num.specs.Limits.{max_instant}
+use Rattle.ass_num.proofs.OrderLemmas.{le_is}
 use Rattle.ass_events.specs.Histories.{HaveOwnOrders}
 use Rattle.ass_events.specs.NearEvents.{IsEarlier, span_of}
 use Rattle.ass_events.specs.Ranges.{IsEvent}
@@ -45,7 +46,7 @@ module _ (b : Box2) (down : Bool) where
       (λ n. inr (λ all. n (all.0, all.1))) (both_or (below_or x y) (below_or z w))
 
   clear_or : (others : List Box2) (shift : ℤ) → OrNot (IsClear b others down shift)
-  clear_or [] shift = inl (All-nil _)
+  clear_or [] shift = inl (All-nil (λ o. Meet (moved_box down shift b) o → ⊥))
   clear_or (other ∷ others) shift =
       let moved = moved_box down shift b in
       let P : Box2 → Type 0 = λ o. Meet moved o → ⊥ in
@@ -55,15 +56,15 @@ module _ (b : Box2) (down : Bool) where
 
   -- from some shift on it is clear of all
   far_clear : (others : List Box2) → (far : ℕ) × ((shift : ℤ) → pos far ≤ℤ shift → IsClear b others down shift)
-  far_clear [] = (0, λ shift beyond. All-nil _)
+  far_clear [] = (0, λ shift beyond. All-nil (λ o. Meet (moved_box down shift b) o → ⊥))
   far_clear (other ∷ others) =
       let rest = far_clear others in
       let past = unsigned_abs (passing down b other) in (
         rest.0 + past,
         λ shift beyond.
-        All-cons (λ o. Meet (moved_box down shift b) o → ⊥) other others
-        (λ meets. let later = passing-later down b other shift meets in omega (arith, ints, beyond, later))
-        (rest.1 shift (omega (arith, ints, beyond))),
+            All-cons (λ o. Meet (moved_box down shift b) o → ⊥) other others
+            (λ meets. let later = passing-later down b other shift meets in omega (arith, ints, beyond, later))
+            (rest.1 shift (omega (arith, ints, beyond))),
       )
 
   least_of : (others : List Box2) (from : ℕ) → ((shift : ℕ) → shift < from → IsClear b others down (pos shift) → ⊥)
@@ -120,7 +121,7 @@ abbrev rank : Event → ℕ
 rank e = unsigned_abs e.start * 2147483648 + e.order
 
 time_from_zero : (e : Event) → IsEvent e → pos 0 ≤ℤ e.start
-time_from_zero e is = let test = and_parts is.start in let from = test.0 in grind (arith, ints)
+time_from_zero e is = let test = and_parts (int_le (pos 0) e.start) (int_le e.start (pos max_instant)) is.start in le_is (pos 0) e.start test.0
 
 rank_falls : (events : List Event) (e f : Event) → IsEvent e → IsEvent f → IsRival events e f → rank f < rank e
 rank_falls events e f is_e is_f rival =
@@ -132,10 +133,6 @@ rank_falls events e f is_e is_f rival =
     ⊎_elim (λ less. omega (arith, ints, e_start, f_start, e_order, f_order, less)) (λ both. let same = both.0 in let less = both.1 in omega (arith, ints, e_start, f_start, same, less)) before.1
 
 -- ---- one event behind its rivals
-
-option_or : {A : Type 0} (o : Option A) → (o ≡ None) ⊎ ((a : A) × (o ≡ Some a))
-option_or None = inl refl
-option_or (Some a) = inr (a, refl)
 
 pub same_event_of : (events : List Event) (e f : Event) → HaveOwnOrders events → Contains events e → Contains events f → e.order ≡ f.order → e ≡ f
 same_event_of events e f orders first second same =
@@ -199,13 +196,12 @@ module _ (script : ScriptValue) (fonts : List FontValue) (frame : FrameView) (ev
     abbrev HasBox : Event → Box2 → Type 0
     HasBox f box = (stand : Stand) × (shift : ℤ) × IsRival events e f × (place_of f ≡ Some (stand, shift)) × (box ≡ moved_box stand.down shift stand.place)
 
+    box_by : (f : Event) → IsRival events e f → (place : Option (Stand × ℤ)) → place_of f ≡ place → ((box : Box2) × HasBox f box) ⊎ ((box : Box2) → HasBox f box → ⊥)
+    box_by f rival None none = inr (λ box has. none_some (has.0, has.1) (sym none ∙ has.3))
+    box_by f rival (Some place) is = inl (moved_box (place.0).down place.1 (place.0).place, (place.0, place.1, rival, is, refl))
+
     box_or : (f : Event) → Contains events f → ((box : Box2) × HasBox f box) ⊎ ((box : Box2) → HasBox f box → ⊥)
-    box_or f listed =
-        ⊎_elim
-        (λ rival. ⊎_elim (λ none. inr (λ box has. none_some (has.0, has.1) (sym none ∙ has.3)))
-        (λ some. let place = some.0 in inl (moved_box (place.0).down place.1 (place.0).place, (place.0, place.1, rival, some.1, refl)))
-        (option_or (place_of f)))
-        (λ no. inr (λ box has. no has.2)) (rival_or events e f listed)
+    box_or f listed = ⊎_elim (λ rival. box_by f rival (place_of f) refl) (λ no. inr (λ box has. no has.2)) (rival_or events e f listed)
 
     one_box : (f : Event) (a b : Box2) → HasBox f a → HasBox f b → a ≡ b
     one_box f a b h k =
@@ -223,23 +219,23 @@ module _ (script : ScriptValue) (fonts : List FontValue) (frame : FrameView) (ev
         let rest = boxes_of_rivals some (λ f c. within f (Contains-tail x some f c)) in
         elim (box_or x (within x (Contains-head x some))) [
           | inl found ↦ record {
-              boxes = found.0 ∷ rest.boxes;
-              each = λ box c. ⊎_elim (λ is. (x, subst (HasBox x) is found.1)) (λ later. rest.each box later) (Contains-cons_cases found.0 rest.boxes box c);
-              all =
-                  λ f box c has.
-                  ⊎_elim
-                  (λ is.
-                  let own : HasBox x box = subst (λ (z : Event). HasBox z box) (sym is) has in
-                  subst (Contains (found.0 ∷ rest.boxes)) (one_box x found.0 box found.1 own) (Contains-head found.0 rest.boxes))
-                  (λ later. Contains-tail found.0 rest.boxes box (rest.all f box later has)) (Contains-cons_cases x some f c);
-            }
+            boxes = found.0 ∷ rest.boxes;
+            each = λ box c. ⊎_elim (λ is. (x, subst (HasBox x) is found.1)) (λ later. rest.each box later) (Contains-cons_cases found.0 rest.boxes box c);
+            all =
+                λ f box c has.
+                ⊎_elim
+                (λ is.
+                let own : HasBox x box = subst (λ (z : Event). HasBox z box) (sym is) has in
+                subst (Contains (found.0 ∷ rest.boxes)) (one_box x found.0 box found.1 own) (Contains-head found.0 rest.boxes))
+                (λ later. Contains-tail found.0 rest.boxes box (rest.all f box later has)) (Contains-cons_cases x some f c);
+          }
           | inr none ↦ record {
-              boxes = rest.boxes;
-              each = rest.each;
-              all =
-                  λ f box c has.
-                  ⊎_elim (λ is. absurd (none box (subst (λ (z : Event). HasBox z box) (sym is) has))) (λ later. rest.all f box later has) (Contains-cons_cases x some f c);
-            }
+            boxes = rest.boxes;
+            each = rest.each;
+            all =
+                λ f box c has.
+                ⊎_elim (λ is. absurd (none box (subst (λ (z : Event). HasBox z box) (sym is) has))) (λ later. rest.all f box later has) (Contains-cons_cases x some f c);
+          }
         ]
 
     shift_exists : (stand : Stand) → IsStandOf script fonts frame e stand → (shift : ℤ) × HasShift script fonts frame events e stand shift
@@ -248,12 +244,12 @@ module _ (script : ScriptValue) (fonts : List FontValue) (frame : FrameView) (ev
         let least = least_exists stand.place stand.down others.boxes in (
           least.0,
           Placed e stand others.boxes place_of least.0 stands (λ f rival none. subst (IsPlaceOf f) none (place_is f rival))
-          (λ f s z rival some. subst (IsPlaceOf f) some (place_is f rival))
-          (λ box. (
-            λ c. let found = others.each box c in let has = found.1 in record { rival = found.0; is_rival = has.2; stand = has.0; shift = has.1; stands = has.3; moved = has.4 },
-            λ is. others.all is.rival box (is.is_rival).listed (is.stand, is.shift, is.is_rival, is.stands, is.moved),
-          ))
-          least.1,
+              (λ f s z rival some. subst (IsPlaceOf f) some (place_is f rival))
+              (λ box. (
+                λ c. let found = others.each box c in let has = found.1 in record { rival = found.0; is_rival = has.2; stand = has.0; shift = has.1; stands = has.3; moved = has.4 },
+                λ is. others.all is.rival box (is.is_rival).listed (is.stand, is.shift, is.is_rival, is.stands, is.moved),
+              ))
+              least.1,
         )
 
   -- ---- all events

@@ -40,12 +40,12 @@ with_event x [] sorted other = record {
 }
 with_event x (y ∷ ys) sorted other = elim (drawn_or x y (other y (Contains-head y ys))) [
   | inl below ↦ record {
-      list = x ∷ (y ∷ ys);
-      has = λ e c. Contains-cons_cases x (y ∷ ys) e c;
-      new = Contains-head x (y ∷ ys);
-      kept = λ e c. Contains-tail x (y ∷ ys) e c;
-      sorted = (All-cons (IsDrawnBefore x) y ys below (All-weaker (IsDrawnBefore y) (IsDrawnBefore x) (λ z above. drawn_trans x y z below above) ys sorted.0), sorted);
-    }
+    list = x ∷ (y ∷ ys);
+    has = λ e c. Contains-cons_cases x (y ∷ ys) e c;
+    new = Contains-head x (y ∷ ys);
+    kept = λ e c. Contains-tail x (y ∷ ys) e c;
+    sorted = (All-cons (IsDrawnBefore x) y ys below (All-weaker (IsDrawnBefore y) (IsDrawnBefore x) (λ z above. drawn_trans x y z below above) ys sorted.0), sorted);
+  }
   | inr above ↦
       let rest = with_event x ys sorted.1 (λ z c. other z (Contains-tail y ys z c)) in
       record {
@@ -60,7 +60,7 @@ with_event x (y ∷ ys) sorted other = elim (drawn_or x y (other y (Contains-hea
             ⊎_elim (λ is. subst (Contains (y ∷ rest.list)) is (Contains-head y rest.list)) (λ later. Contains-tail y rest.list e (rest.kept e later)) (Contains-cons_cases y ys e c);
         sorted = (
           All-weaker (Contains rest.list) (IsDrawnBefore y)
-          (λ z c. ⊎_elim (λ is. subst (IsDrawnBefore y) is above) (λ old. All-contains (IsDrawnBefore y) ys z sorted.0 old) (rest.has z c)) rest.list (All-contains_itself rest.list),
+              (λ z c. ⊎_elim (λ is. subst (IsDrawnBefore y) is above) (λ old. All-contains (IsDrawnBefore y) ys z sorted.0 old) (rest.has z c)) rest.list (All-contains_itself rest.list),
           rest.sorted,
         );
       }
@@ -83,20 +83,20 @@ shown_exist (x ∷ events) t orders =
             record {
               members = λ e. (
                 λ c. ⊎_elim (λ is. (subst (Contains (x ∷ events)) is (Contains-head x events), subst (λ (z : Event). IsShownAt (span_of z) t) is now))
-                (λ old. let both = (are.members e).0 old in (Contains-tail x events e both.0, both.1)) (all.has e c),
+                    (λ old. let both = (are.members e).0 old in (Contains-tail x events e both.0, both.1)) (all.has e c),
                 λ both. ⊎_elim (λ is. subst (Contains all.list) is all.new) (λ later. all.kept e ((are.members e).1 (later, both.1))) (Contains-cons_cases x events e both.0),
               );
               sorted = all.sorted;
             },
           )
       | inr hidden ↦ (
-          rest.0,
-          record {
-            members = λ e. (
-              λ c. let both = (are.members e).0 c in (Contains-tail x events e both.0, both.1),
-              λ both. ⊎_elim (λ is. absurd (hidden (subst (λ (z : Event). IsShownAt (span_of z) t) (sym is) both.1))) (λ later. (are.members e).1 (later, both.1)) (Contains-cons_cases x events e both.0),
-            );
-            sorted = are.sorted;
-          },
-        )
+        rest.0,
+        record {
+          members = λ e. (
+            λ c. let both = (are.members e).0 c in (Contains-tail x events e both.0, both.1),
+            λ both. ⊎_elim (λ is. absurd (hidden (subst (λ (z : Event). IsShownAt (span_of z) t) (sym is) both.1))) (λ later. (are.members e).1 (later, both.1)) (Contains-cons_cases x events e both.0),
+          );
+          sorted = are.sorted;
+        },
+      )
     ]

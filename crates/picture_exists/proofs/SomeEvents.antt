@@ -58,9 +58,9 @@ module _ (all some : List Event) (are : AreDrawable all) (among : All (Contains 
   same_events : HaveSameEvents (filter listed all) some
   same_events e = (
     λ c.
-    let both = from_filter listed all e c in
-    let found = that_has_it e.order some both.1 in
-    subst (Contains some) (same_event_of all found.0 e are.orders (All-contains (Contains all) some found.0 among found.1) both.0 found.2) found.1,
+        let both = from_filter listed all e c in
+        let found = that_has_it e.order some both.1 in
+        subst (Contains some) (same_event_of all found.0 e are.orders (All-contains (Contains all) some found.0 among found.1) both.0 found.2) found.1,
     λ c. in_filter listed all e (All-contains (Contains all) some e among c) (has_it e.order some e c refl),
   )
 

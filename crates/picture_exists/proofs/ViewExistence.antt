@@ -44,9 +44,9 @@ name_or [] name = inr (Contains-nil name)
 name_or (n ∷ names) name = elim (cases_Bool (bytes_eq n name)) [
   | inl same ↦ inl (subst (Contains (n ∷ names)) ((bytes_eq-Decides n name).0 same) (Contains-head n names))
   | inr other ↦ elim (name_or names name) [
-      | inl there ↦ inl (Contains-tail n names name there)
-      | inr no ↦ inr (λ c. ⊎_elim (λ is. false≢true (sym other ∙ (bytes_eq-Decides n name).1 is)) no (Contains-cons_cases n names name c))
-    ]
+    | inl there ↦ inl (Contains-tail n names name there)
+    | inr absent ↦ inr (λ c. ⊎_elim (λ is. false≢true (sym other ∙ (bytes_eq-Decides n name).1 is)) absent (Contains-cons_cases n names name c))
+  ]
 ]
 
 one_more_once : (name : List ℕ) (names : List (List ℕ)) → AreOnce names → (Contains names name → ⊥) → AreOnce (name ∷ names)
@@ -70,18 +70,18 @@ once_listed (x ∷ xs) =
     let found = once_listed xs in
     elim (name_or found.names x) [
       | inl there ↦ record {
-          names = found.names;
-          once = found.once;
-          has = λ name c. ⊎_elim (λ is. subst (Contains found.names) is there) (found.has name) (Contains-cons_cases x xs name c);
-        }
+        names = found.names;
+        once = found.once;
+        has = λ name c. ⊎_elim (λ is. subst (Contains found.names) is there) (found.has name) (Contains-cons_cases x xs name c);
+      }
       | inr new ↦ record {
-          names = x ∷ found.names;
-          once = one_more_once x found.names found.once new;
-          has =
-              λ name c.
-              ⊎_elim (λ is. subst (Contains (x ∷ found.names)) is (Contains-head x found.names)) (λ later. Contains-tail x found.names name (found.has name later))
-              (Contains-cons_cases x xs name c);
-        }
+        names = x ∷ found.names;
+        once = one_more_once x found.names found.once new;
+        has =
+            λ name c.
+            ⊎_elim (λ is. subst (Contains (x ∷ found.names)) is (Contains-head x found.names)) (λ later. Contains-tail x found.names name (found.has name later))
+            (Contains-cons_cases x xs name c);
+      }
     ]
 
 -- ---- the state behind effects
@@ -184,16 +184,17 @@ module _ (script : ScriptValue) (own : List ℕ) (names : List (List ℕ)) where
   states_exist [] named = record {
     states = [];
     as_many = refl;
-    colours = All-nil _;
+    colours = All-nil (λ (s : State). length s.colours ≡ 4);
     each = λ k before at. absurd (Contains-nil before (there_from_get [] k before at));
   }
   states_exist (before ∷ all) named =
       let n = get_from_there names (property_at font script own before) (named before (Contains-head before all)) in
       let state = state_behind script own before n.0 in
       let rest = states_exist all (λ b c. named b (Contains-tail before all b c)) in
+      let many = rest.as_many in
       record {
         states = state ∷ rest.states;
-        as_many = ap suc rest.as_many;
+        as_many = omega (arith, many);
         colours = All-cons (λ (s : State). length s.colours ≡ 4) state rest.states refl rest.colours;
         each = first_has all before state rest.states (state_behind_is script own before names n.0 n.1) rest.each;
       }
@@ -209,10 +210,11 @@ module _ (script : ScriptValue) (own : List ℕ) (names : List (List ℕ)) where
   shown_exist states (look ∷ found) has =
       let state = has look (Contains-head look found) in
       let rest = shown_exist states found (λ l c. has l (Contains-tail look found l c)) in
+      let many = rest.as_many in
       record {
         items = record { kind = look.kind; state = state.0 } ∷ rest.items;
         seen = (record { kind = refl; state = state.1 }, rest.seen);
-        as_many = ap suc rest.as_many;
+        as_many = omega (arith, many);
       }
 
 -- ---- the fade is no number below 0
@@ -282,9 +284,9 @@ view_exists script event t items reading =
     let listed = once_listed (map (property_at font script own) all) in
     let made = states_exist script own listed.names all (λ before c. listed.has (property_at font script own before) (in_map (property_at font script own) all before c)) in
     let shown = shown_exist script own listed.names made.states found.0
-        (λ look c.
-        let place = get_from_there all look.before (Contains-append_left front (behind ∷ []) look.before (in_map (λ (l : Look). l.before) found.0 look c)) in
-        (place.0, made.each place.0 look.before place.1)) in
+    (λ look c.
+    let place = get_from_there all look.before (Contains-append_left front (behind ∷ []) look.before (in_map (λ (l : Look). l.before) found.0 look c)) in
+    (place.0, made.each place.0 look.before place.1)) in
     let fade = unwrap_or (first_of (fade_said event.duration elapsed) items) (pos 0) in
     let from_zero = fade_from_zero event.duration elapsed items in
     let longer = length-append front (behind ∷ []) in
