@@ -1,5 +1,5 @@
 -- What an event shows can be laid out.
-use Rattle.std.proofs.Common.{◌≡◌, ◌≢◌, ℕ, zero, suc, ◌+◌, ◌-◌, ◌<◌, ◌≤◌, ℤ, pos, ◌-ℤ◌, ◌<ℤ◌, ◌≤ℤ◌, Bool, true, false, Option, Some, None, List, [], ◌∷◌, ◌++◌, length, map, take, drop, get_or, inl, inr, refl, sym, ap, subst, ◌∙◌, arith}
+use Rattle.std.proofs.Common.{◌≡◌, ◌≢◌, ℕ, zero, suc, ◌+◌, ◌-◌, ◌<◌, ◌≤◌, ℤ, pos, ◌+ℤ◌, ◌-ℤ◌, ◌<ℤ◌, ◌≤ℤ◌, Bool, true, false, Option, Some, None, List, [], ◌∷◌, ◌++◌, length, map, take, drop, get_or, inl, inr, refl, sym, ap, subst, ◌∙◌, arith}
 use Rattle.std.specs.Prelude.{slice_index_or, slice_range}
 use Rattle.std.specs.List.{All, zip}
 use Rattle.std.specs.Option.{option_map_or}
@@ -14,6 +14,7 @@ use Rattle.ass_num.proofs.Floor.{held_within}
 use Rattle.ass_script.specs.Scripts.{ScriptValue}
 use Rattle.ass_events.specs.declared.event.Event.{Event}
 use Rattle.bdf_font.specs.Fonts.{FontValue}
+use Rattle.bdf_font.specs.Sets.{set_glyph_of}
 use Rattle.frame_view.specs.declared.view.FrameView.{FrameView}
 use Rattle.line_layout.specs.Breaks.{AreFilled, IsItemWidth, IsParagraph, max_width, pen}
 use Rattle.line_layout.specs.Filling.{line_end, line_start}
@@ -26,7 +27,7 @@ use Rattle.override_tags.specs.declared.view.ShownKind.{ShownKind}
 use Rattle.override_tags.specs.declared.view.ShownKind.TheVariants as shown
 use Rattle.text_layout.specs.Anchors.{margins_of, wrapping_width}
 use Rattle.text_layout.specs.Clusters.{cluster_ends}
-use Rattle.text_layout.specs.Extents.{char_extent, extent_of, item_extents, kind_extent, no_extent}
+use Rattle.text_layout.specs.Extents.{char_extent, extent_of, found_advance, item_extents, kind_extent, no_extent, spacing_behind}
 use Rattle.text_layout.specs.Kinds.{char_of, chars_of, role_of, roles_of, space_char}
 use Rattle.text_layout.specs.Layouts.{IsLaid, laid_out}
 use Rattle.text_layout.specs.LineScales.{line_scales}
@@ -127,10 +128,10 @@ held_width x = held_within (pos 0) (pos max_width) x (omega (arith, ints))
 
 char_narrow : (fonts : List FontValue) (metrics : Metrics) (ends : Bool) (c : Option ℕ) → IsItemWidth (option_map_or (char_extent fonts metrics ends) c no_extent).advance
 char_narrow fonts metrics ends None = (omega (arith, ints), omega (arith, ints))
-char_narrow fonts metrics ends (Some c) = held_width _
+char_narrow fonts metrics ends (Some c) = held_width (found_advance fonts metrics (set_glyph_of fonts metrics.font c) +ℤ spacing_behind metrics ends)
 
 kind_narrow : (fonts : List FontValue) (metrics : Metrics) (wrap : ℕ) (ends : Bool) (kind : ShownKind) → IsItemWidth (kind_extent fonts metrics wrap ends kind).advance
-kind_narrow fonts metrics wrap ends (shown.Drawing path) = held_width _
+kind_narrow fonts metrics wrap ends (shown.Drawing path) = held_width (drawing_extent metrics.drawing path.segs).x
 kind_narrow fonts metrics wrap ends (shown.Char c) = char_narrow fonts metrics ends (char_of wrap (shown.Char c))
 kind_narrow fonts metrics wrap ends shown.Hard = char_narrow fonts metrics ends (char_of wrap shown.Hard)
 kind_narrow fonts metrics wrap ends shown.Soft = char_narrow fonts metrics ends (char_of wrap shown.Soft)
