@@ -1,9 +1,9 @@
 -- Each event can be moved clear of those that come before it.
-use Rattle.std.proofs.Common.{◌≡◌, ◌≢◌, ℕ, zero, suc, ◌+◌, ◌*◌, ◌<◌, ◌≤◌, ◌≤ℤ◌, ◌<ℤ◌, ◌+ℤ◌, ℤ, pos, negsuc, Bool, true, false, Option, None, Some, List, [], ◌∷◌, Contains, ◌⊎◌, inl, inr, ⊎_elim, refl, sym, ap, subst, ◌∙◌, arith}
-use Rattle.std.specs.Prelude.{int_le, slice_get}
+use Rattle.std.proofs.Common.{◌≡◌, ℕ, zero, suc, ◌+◌, ◌*◌, ◌<◌, ◌≤◌, ◌≤ℤ◌, ◌<ℤ◌, ℤ, pos, negsuc, Bool, Option, None, Some, List, [], ◌∷◌, Contains, ◌⊎◌, inl, inr, ⊎_elim, refl, sym, ap, subst, ◌∙◌, arith}
+use Rattle.std.specs.Prelude.{int_le}
 use Rattle.std.specs.Int.RustNames.{unsigned_abs}
 use Rattle.std.specs.List.{All}
-use Rattle.std.proofs.lemmas.Bool.{and_parts, cases_Bool}
+use Rattle.std.proofs.lemmas.Bool.{and_parts}
 use Rattle.std.proofs.lemmas.Int.{ints, by_lt_z}
 use Rattle.std.proofs.lemmas.List.Elements.{All-cons, All-contains, All-head, All-nil, All-tail}
 use Rattle.ass_num.specs.Limits.{max_instant}
@@ -15,7 +15,7 @@ use Rattle.ass_events.specs.declared.event.Event.{Event}
 use Rattle.ass_script.specs.Scripts.{ScriptValue}
 use Rattle.bdf_font.specs.Fonts.{FontValue}
 use Rattle.event_places.specs.Placement.{IsClear, IsLeastShift, Meet, Overlap, moved_box, passing}
-use Rattle.event_places.specs.Shifts.{HasShift, IsMovedBy, IsRival, IsRivalBox, Placed, Pointed, Shifted}
+use Rattle.event_places.specs.Shifts.{HasShift, IsMovedBy, IsRival, Placed, Pointed, Shifted}
 use Rattle.event_places.specs.Stands.{HasPoint, IsStandOf, down_by}
 use Rattle.event_places.specs.declared.stands.Box2.{Box2}
 use Rattle.event_places.specs.declared.stands.Stand.{Stand}

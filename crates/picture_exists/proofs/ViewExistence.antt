@@ -1,19 +1,18 @@
 -- A text that is read has a view at each instant: a state for each effect list, and a number for each name of a font.
-use Rattle.std.proofs.Common.{◌≡◌, ℕ, zero, suc, ◌+◌, ◌-◌, ◌<◌, ◌≤◌, ◌≤ℤ◌, ℤ, pos, ◌-ℤ◌, int_lt, Bool, true, false, cond, Option, None, Some, List, [], ◌∷◌, ◌++◌, length, map, get_or, Contains, ◌⊎◌, inl, inr, ⊎_elim, refl, sym, ap, subst, ◌∙◌, arith, length-append}
+use Rattle.std.proofs.Common.{◌≡◌, ℕ, zero, suc, ◌+◌, ◌-◌, ◌<◌, ◌≤◌, ◌≤ℤ◌, ℤ, pos, ◌-ℤ◌, int_lt, Bool, true, false, cond, Option, None, Some, List, [], ◌∷◌, ◌++◌, length, map, Contains, ◌⊎◌, inl, inr, ⊎_elim, refl, sym, ap, subst, ◌∙◌, arith, length-append}
 use Rattle.std.specs.Prelude.{slice_get, unwrap_or}
 use Rattle.std.specs.Int.RustNames.{unsigned_abs}
-use Rattle.std.specs.List.{All, cons_option, filter_map}
+use Rattle.std.specs.List.{cons_option, filter_map}
 use Rattle.std.specs.Str.{bytes_eq}
 use Rattle.std.proofs.lemmas.Bool.{cases_Bool, false≢true}
 use Rattle.std.proofs.lemmas.Int.{clamps, ints}
-use Rattle.std.proofs.lemmas.List.{length-map}
-use Rattle.std.proofs.lemmas.List.Elements.{All-cons, All-contains, All-head, All-nil, All-tail, Contains-append_left, Contains-get_or, Contains-push}
+use Rattle.std.proofs.lemmas.List.Elements.{All-cons, All-nil, Contains-append_left}
 use Rattle.std.proofs.lemmas.Slice.Eq.{bytes_eq-Decides}
 use Rattle.ass_num.proofs.Floor.{held_within}
 use Rattle.ass_script.specs.Scripts.{ScriptValue, style_for}
 use Rattle.ass_events.specs.declared.event.Event.{Event}
 use Rattle.event_draws.specs.MovedDraws.{HaveFourColours}
-use Rattle.event_instants.specs.Instants.{at_time, fad_at, fade_at, fade_by, held_alpha, nth}
+use Rattle.event_instants.specs.Instants.{at_time, fade_by, held_alpha, nth}
 use Rattle.event_instants.proofs.OnTheWay.{between_within}
 use Rattle.near_events.proofs.Lists.{get_from_there, in_map, same_some, there_from_get}
 use Rattle.near_events.proofs.Pairs.{Contains-cons_cases, Contains-head, Contains-nil, Contains-tail}
@@ -32,8 +31,8 @@ use Rattle.tag_state.specs.Properties.{Angle, Blue, Blur, Bold, BorderX, BorderY
 use Rattle.tag_state.specs.Setters.{Effect, past_all, property_at, style_in_force}
 use Rattle.tag_state.specs.States.{IsStateAt}
 use Rattle.tag_state.specs.Syllables.{sung_at}
-use Rattle.tag_state.specs.Views.{AreOnce, AreSeen, HasState, IsViewBy, IsViewOf, elapsed_at}
-use Rattle.tag_state.proofs.FontLemmas.{get_end, get_left}
+use Rattle.tag_state.specs.Views.{AreOnce, AreSeen, HasState, IsViewOf, elapsed_at}
+use Rattle.tag_state.proofs.FontLemmas.{get_end}
 use Rattle.picture_exists.proofs.LookExistence.{looks_exist}
 use Rattle.ass_num.specs.declared.colour.Rgba.{Rgba}
 

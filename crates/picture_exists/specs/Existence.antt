@@ -1,5 +1,5 @@
 -- Public: events have draws and a picture at each instant.
-use Rattle.std.specs.Prelude.{ℕ, ◌≤◌, ℤ, List, length, All, Contains}
+use Rattle.std.specs.Prelude.{◌≤◌, ℤ, List, length, All, Contains}
 use Rattle.ass_num.specs.Limits.{max_text_bytes}
 use Rattle.ass_events.specs.Histories.{HaveOwnOrders}
 use Rattle.ass_events.specs.Ranges.{IsEvent}
