@@ -18,7 +18,7 @@ use Rattle.run_status.specs.declared.status.Status.TheVariants as status
 use Rattle.run_status.specs.declared.status.What.TheVariants.{Bytes, Fonts}
 use Rattle.run_status.specs.Fetches.{AreFilesFetched, AreFirstFetched, AreFontsFetched, IsFileFetched, IsFontFileFetched}
 use Rattle.run_status.specs.Files.{Asks, AsksBytes, AsksFonts, AsksScript, IsAnsweredFrom, IsAskedFrom}
-use Rattle.run_status.specs.Inputs.{AreFirstFilesFrom, AreFontFilesReadFrom, AreFontsReadFrom, IsFontFileReadFrom, IsScriptReadFrom, MayHold, behind_first, fonts_of_files}
+use Rattle.run_status.specs.Inputs.{AreFilesReadFrom, AreFirstFilesFrom, IsFontFileReadFrom, IsScriptReadFrom, MayHold, fonts_of_files}
 use Rattle.run_status.proofs.AskedLemmas.{longer}
 use Rattle.run_status.proofs.FontLemmas.{files_more, first_more, fonts_refused}
 
@@ -235,11 +235,8 @@ module _ (script : ScriptSource) (names : List (List ℕ)) (before : List Logged
       record {
         fetches = [];
         first = record { added = same ∙ sym (append-nil before); order = refl };
-        read = subst (λ (cause : Status). IsScriptReadFrom (IsGiven []) script (Err cause) ⊎ Later cause) (sym wanting) (inl tt);
+        read = subst (λ (cause : Status). AreFilesReadFrom (IsGiven []) script names (Err cause)) (sym wanting) (inl tt);
       }
-    where
-      abbrev Later : Status → Type 0
-      Later cause = (read : Inputs) × IsScriptReadFrom (IsGiven []) script (Ok read) × AreFontsReadFrom (behind_first (IsGiven [])) names read.fonts (Err cause)
 
   module _ (now next : List LoggedFetch) (read : Inputs) (it : Fetch) (bytes : List ℕ) (added : now ≡ before ++ (name, it, bytes) ∷ []) where
     both_first : (rest : List LoggedFetch) → AreFirstFetched names (fetch_change now next) rest → AreFirstFetched (name ∷ names) (fetch_change before next) ((name, it, bytes) ∷ rest)
@@ -267,3 +264,11 @@ module _ (script : ScriptSource) (names : List (List ℕ)) (before : List Logged
         read = fonts_refused (IsGiven whole) script names read why (script_given it bytes fonts.fetches (Ok read) asked) fonts.read;
       }
   fonts_stopped now next read why (inr (kept, is)) fonts = absurd cc
+
+-- Memory ran out before any was fetched.
+pub nothing_fetched : (script : ScriptSource) (names : List (List ℕ)) (log : List LoggedFetch) → AreFilesFetched script names (fetch_change log log) (Err status.OutOfMemory)
+nothing_fetched script names log = record {
+  fetches = [];
+  first = record { added = sym (append-nil log); order = refl };
+  read = inl tt;
+}

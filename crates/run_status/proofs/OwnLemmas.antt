@@ -1,6 +1,6 @@
 -- A script with the fonts that it holds.
 use Rattle.std.proofs.Common.{◌≡◌, ◌≢◌, ℕ, Bool, true, false, List, [], Result, Ok, Err, refl, sym, ap, ◌∙◌, subst}
-use Rattle.ass_io.specs.Fetched.{Held}
+use Rattle.ass_io.specs.Fetched.{Held as Holding}
 use Rattle.ass_script.specs.Scripts.{IsScriptAnswer, ScriptValue, script_of}
 use Rattle.ass_script.specs.declared.refusal.ScriptRefusal.{ScriptRefusal}
 use Rattle.ass_script.specs.declared.refusal.ScriptRefusal.TheVariants as script
@@ -69,7 +69,7 @@ script_kind used all why (fonts, own, e) = cases (script_of all) fonts own e
 
 -- ---- what is held asks for it
 
-module _ (used : Bool) (name : List ℕ) (may : Held → Type 0) (all : List ℕ) where
+module _ (used : Bool) (name : List ℕ) (may : Holding → Type 0) (all : List ℕ) where
   -- The bytes that are held ask for the answer, unless memory ran out.
   pub script_asked : (answer : Result Inputs Status) → IsAskedFrom (AsksBytes name) may (Ok all) → (answer ≢ Err status.OutOfMemory → ScriptAsked used all answer) →
       IsAnsweredFrom (AsksScript used name) may name answer
