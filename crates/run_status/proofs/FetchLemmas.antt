@@ -148,20 +148,20 @@ module _ (names : List (List ℕ)) (index : ℕ) (before now next : List LoggedF
       more ≡ fonts ++ file → FetchedSoFar names (index + 1) (fetch_change before next) more
   fetched_more fonts more file so one e = elim (one []) [
     | inl h ↦
-      let it = h.0 in
-      let bytes = h.1 in
-      let whole = so.fetches ++ (name_at names index, it, bytes) ∷ [] in
-      record {
-        fetches = whole;
-        added = added_more so.fetches so.added so.count so.order it bytes h.2;
-        count = count_more so.fetches so.added so.count so.order it bytes;
-        order = order_more so.fetches so.added so.count so.order it bytes;
-        files = so.files ++ file ∷ [];
-        many = omega (arith, so.many, length-append so.files (file ∷ []));
-        first = first_more (IsGiven whole) names so.files file (first_within (IsGiven so.fetches) (IsGiven whole) names so.files (given_before so.fetches ((name_at names index, it, bytes) ∷ [])) so.first)
-            (subst (λ (n : ℕ). IsFontFileReadFrom (IsGiven whole) names n (Ok file)) (sym so.many) (read_at so.fetches so.added so.count so.order it bytes (Ok file) h.3));
-        fonts_are = e ∙ (ap (λ (l : List FontValue). l ++ file) so.fonts_are ∙ sym (files_more so.files file));
-      }
+        let it = h.0 in
+        let bytes = h.1 in
+        let whole = so.fetches ++ (name_at names index, it, bytes) ∷ [] in
+        record {
+          fetches = whole;
+          added = added_more so.fetches so.added so.count so.order it bytes h.2;
+          count = count_more so.fetches so.added so.count so.order it bytes;
+          order = order_more so.fetches so.added so.count so.order it bytes;
+          files = so.files ++ file ∷ [];
+          many = omega (arith, so.many, length-append so.files (file ∷ []));
+          first = first_more (IsGiven whole) names so.files file (first_within (IsGiven so.fetches) (IsGiven whole) names so.files (given_before so.fetches ((name_at names index, it, bytes) ∷ [])) so.first)
+              (subst (λ (n : ℕ). IsFontFileReadFrom (IsGiven whole) names n (Ok file)) (sym so.many) (read_at so.fetches so.added so.count so.order it bytes (Ok file) h.3));
+          fonts_are = e ∙ (ap (λ (l : List FontValue). l ++ file) so.fonts_are ∙ sym (files_more so.files file));
+        }
     | inr h ↦ let e = h.1 in absurd cc
   ]
 
@@ -169,19 +169,22 @@ module _ (names : List (List ℕ)) (index : ℕ) (before now next : List LoggedF
       AreFontsFetched names own (fetch_change before next) (Err why)
   fetched_stopped fonts own why so one = elim (one []) [
     | inl h ↦
-      let it = h.0 in
-      let bytes = h.1 in
-      let whole = so.fetches ++ (name_at names index, it, bytes) ∷ [] in
-      record {
-        fetches = whole;
-        first = record {
-          added = added_more so.fetches so.added so.count so.order it bytes h.2;
-          order = order_more so.fetches so.added so.count so.order it bytes ∙ ap (λ (n : ℕ). take n names) (sym (count_more so.fetches so.added so.count so.order it bytes));
-        };
-        read = λ other. inl (so.files, omega (arith, so.many, within),
+        let it = h.0 in
+        let bytes = h.1 in
+        let whole = so.fetches ++ (name_at names index, it, bytes) ∷ [] in
+        record {
+          fetches = whole;
+          first = record {
+            added = added_more so.fetches so.added so.count so.order it bytes h.2;
+            order = order_more so.fetches so.added so.count so.order it bytes ∙ ap (λ (n : ℕ). take n names) (sym (count_more so.fetches so.added so.count so.order it bytes));
+          };
+          read = λ other. inl (
+            so.files,
+            omega (arith, so.many, within),
             first_within (IsGiven so.fetches) (IsGiven whole) names so.files (given_before so.fetches ((name_at names index, it, bytes) ∷ [])) so.first,
-            subst (λ (n : ℕ). IsFontFileReadFrom (IsGiven whole) names n (Err why)) (sym so.many) (read_at so.fetches so.added so.count so.order it bytes (Err why) h.3));
-      }
+            subst (λ (n : ℕ). IsFontFileReadFrom (IsGiven whole) names n (Err why)) (sym so.many) (read_at so.fetches so.added so.count so.order it bytes (Err why) h.3),
+          );
+        }
     | inr h ↦ record {
       fetches = so.fetches;
       first = record { added = h.0 ∙ so.added; order = so.order ∙ ap (λ (n : ℕ). take n names) (sym so.count) };
@@ -205,8 +208,12 @@ module _ (names : List (List ℕ)) (own : List FontValue) (log : FetchChange) (i
   fetched_many all last e many = record {
     fetches = so.fetches;
     first = all_first;
-    read = λ other. inr (so.files, (so.many ∙ last, so.first),
-        subst (λ (l : List FontValue). max_fonts < length l) (e ∙ ap (λ (l : List FontValue). l ++ own) so.fonts_are) many, refl);
+    read = λ other. inr (
+      so.files,
+      (so.many ∙ last, so.first),
+      subst (λ (l : List FontValue). max_fonts < length l) (e ∙ ap (λ (l : List FontValue). l ++ own) so.fonts_are) many,
+      refl,
+    );
   }
 
   pub fetched_without_memory : AreFontsFetched names own log (Err status.OutOfMemory)
