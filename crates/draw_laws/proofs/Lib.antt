@@ -1,0 +1,9 @@
+pub mod ListPairs
+pub mod Transparent
+pub mod MovedNumbers
+pub mod MovedMarks
+pub mod MovedPaints
+pub mod MovedRuns
+pub mod MovedStages
+pub mod MovedViews
+pub mod MovedEvents
