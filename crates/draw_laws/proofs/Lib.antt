@@ -7,3 +7,7 @@ pub mod MovedRuns
 pub mod MovedStages
 pub mod MovedViews
 pub mod MovedEvents
+pub mod LeftColours
+pub mod DrawnParts
+pub mod RunLayers
+pub mod LineLayers

@@ -1,2 +1,5 @@
 pub mod Fades
 pub mod Moves
+pub mod Shades
+pub mod Parts
+pub mod Layers

@@ -3,4 +3,4 @@
 
 mod laws;
 
-pub use laws::{faded_events_are_transparent, whole_pixels_move_draws};
+pub use laws::{events_are_drawn_in_layers, faded_events_are_transparent, whole_pixels_move_draws};
