@@ -1,3 +1,4 @@
+pub mod Types
 pub mod ListPairs
 pub mod Transparent
 pub mod MovedNumbers
@@ -9,5 +10,8 @@ pub mod MovedViews
 pub mod MovedEvents
 pub mod LeftColours
 pub mod DrawnParts
+pub mod LeftItems
 pub mod RunLayers
 pub mod LineLayers
+pub mod StackedLines
+pub mod RoundedNumbers

@@ -17,9 +17,6 @@ use Rattle.event_draws.specs.Marks.{mark_of}
 use Rattle.event_draws.specs.MovedDraws.{AreMovedDraws}
 use Rattle.event_draws.specs.Runs.{AreRunsOf, runs_of}
 use Rattle.event_draws.specs.Stages.{stage_at}
-use Rattle.event_draws.specs.declared.marks.Mark.{Mark}
-use Rattle.event_draws.specs.declared.runs.Row.{Row}
-use Rattle.event_draws.specs.declared.runs.Run.{Run}
 use Rattle.event_draws.specs.declared.stage.Stage.{Stage}
 use Rattle.frame_view.specs.declared.view.FrameView.{FrameView}
 use Rattle.mask_keys.specs.declared.plans.Clip.{Clip}
@@ -29,9 +26,11 @@ use Rattle.override_tags.specs.declared.view.State.{State}
 use Rattle.text_layout.specs.declared.laid.Laid.{Laid}
 use Rattle.text_layout.specs.declared.laid.Line.{Line}
 use Rattle.text_layout.specs.declared.laid.Placed.{Placed}
-use Rattle.draw_laws.specs.Layers.{AreEventDraws, IsLineDrawn, IsLineOf, IsRunDrawn, LineDraws, RunDraws, in_layers, line_borders, line_fills, line_shadows, state_in}
+use Rattle.draw_laws.specs.Layers.{AreEventDraws, IsLineDrawn, IsLineOf, IsRunDrawn, LineDraws, RunDraws, in_layers, item_left, line_borders, line_fills, line_shadows, state_in}
 use Rattle.draw_laws.proofs.DrawnParts.{no_cons}
 use Rattle.draw_laws.proofs.RunLayers.{box_of, run_of_state, run_parts}
+use Rattle.draw_laws.proofs.LeftItems.{same_left}
+use Rattle.draw_laws.proofs.Types.{Mark, Row, Run}
 
 -- ---- lists
 
@@ -51,7 +50,7 @@ flat_nothing {Z = Z} G g (x ∷ xs) h = ap₂ (λ (a b : List Z). a ++ b) (h x) 
 
 same_images : {X W : Type 0} (part : W → X) (g : X → W) (xs : List X) → ((x : X) → part (g x) ≡ x) → map part (map g xs) ≡ xs
 same_images part g [] h = refl
-same_images {X = X} part g (x ∷ xs) h = ap₂ (λ (a : X) (as : List X). a ∷ as) (h x) (same_images part g xs h)
+same_images {X = X} part g (x ∷ xs) h = ap₂ (λ (a : X) (rest : List X). a ∷ rest) (h x) (same_images part g xs h)
 
 zip_made : {X W : Type 0} (R : X → W → Type 0) (g : X → W) (xs : List X) → ((x : X) → R x (g x)) → AllZip R xs (map g xs)
 zip_made R g [] h = tt
@@ -78,20 +77,20 @@ line_in stage fonts view line clip (item ∷ items) =
     line_by stage fonts view line clip ((state_of view item).border_style == 3) (state_of view item) (item ∷ items)
 
 run_drawn : (stage : Stage) (fonts : List FontValue) (view : EventView) (line : Line) (clip : Clip) (boxed : Bool) (items run : List Placed)
-    → IfSome (slice_get run 0) (λ (item : Placed). IsRunDrawn stage (mark_of stage fonts view line) boxed clip (state_in view item) (run_in stage fonts view line clip boxed items run))
+    → IfSome (slice_get run 0) (λ (item : Placed). IsRunDrawn stage (item_left stage fonts view line) boxed clip (state_in view item) (run_in stage fonts view line clip boxed items run))
 run_drawn stage fonts view line clip boxed items [] = tt
 run_drawn stage fonts view line clip boxed items (item ∷ run) =
-    run_of_state stage (mark_of stage fonts view line) boxed clip (state_of view item) (left_end stage (sung_with view (state_of view item) items))
+    run_of_state stage (item_left stage fonts view line) (mark_of stage fonts view line) (same_left stage fonts view line) boxed clip (state_of view item) (left_end stage (sung_with view (state_of view item) items))
     (right_end stage (sung_with view (state_of view item) items)) (item ∷ run)
 
 abbrev AreRunsDrawn : Stage → List FontValue → EventView → Line → Clip → Bool → List RunDraws → Type 0
 AreRunsDrawn stage fonts view line clip boxed runs =
-    All (λ (run : RunDraws). IfSome (slice_get run.items 0) (λ (item : Placed). IsRunDrawn stage (mark_of stage fonts view line) boxed clip (state_in view item) run)) runs
+    All (λ (run : RunDraws). IfSome (slice_get run.items 0) (λ (item : Placed). IsRunDrawn stage (item_left stage fonts view line) boxed clip (state_in view item) run)) runs
 
 runs_drawn : (stage : Stage) (fonts : List FontValue) (view : EventView) (line : Line) (clip : Clip) (boxed : Bool) (items : List Placed)
     → AreRunsDrawn stage fonts view line clip boxed (runs_in stage fonts view line clip boxed items)
 runs_drawn stage fonts view line clip boxed items =
-    All-map (λ (run : RunDraws). IfSome (slice_get run.items 0) (λ (item : Placed). IsRunDrawn stage (mark_of stage fonts view line) boxed clip (state_in view item) run))
+    All-map (λ (run : RunDraws). IfSome (slice_get run.items 0) (λ (item : Placed). IsRunDrawn stage (item_left stage fonts view line) boxed clip (state_in view item) run))
     (run_in stage fonts view line clip boxed items) (runs_of view items) (λ k d within. run_drawn stage fonts view line clip boxed items (slice_index_or (runs_of view items) k d))
 
 line_of : (stage : Stage) (fonts : List FontValue) (view : EventView) (line : Line) (clip : Clip) (first : Placed) (items : List Placed) (boxed : Bool)

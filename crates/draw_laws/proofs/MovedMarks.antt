@@ -16,9 +16,6 @@ use Rattle.draw_numbers.specs.declared.pens.Spot.{Spot}
 use Rattle.event_draws.specs.Draws.{box_mark, draw_of, draw_of_marks, is_near_stamp, part_from, stamp_of, stamps_of}
 use Rattle.event_draws.specs.Items.{shown_of, state_of}
 use Rattle.event_draws.specs.Marks.{char_mark, char_outline, drawing_mark, mark_by, mark_of, marks_of, pen_on, point_above}
-use Rattle.event_draws.specs.declared.draws.Making.{Making}
-use Rattle.event_draws.specs.declared.draws.Stamp.{Stamp}
-use Rattle.event_draws.specs.declared.marks.Mark.{Mark}
 use Rattle.event_draws.specs.declared.stage.Stage.{Stage}
 use Rattle.mask_keys.specs.declared.composite_key.CompositeKey.{CompositeKey}
 use Rattle.mask_keys.specs.declared.composite_key.Part.{Part}
@@ -37,6 +34,7 @@ use Rattle.text_layout.specs.declared.laid.Placed.{Placed}
 use Rattle.draw_laws.specs.Moves.{IsColumn, IsMovedDraw}
 use Rattle.draw_laws.proofs.ListPairs.{given_images}
 use Rattle.draw_laws.proofs.MovedNumbers.{IsMovedSpot, same_point, spot_moved, whole_step}
+use Rattle.draw_laws.proofs.Types.{Making, Mark, Stamp}
 
 -- ---- marks
 
@@ -150,22 +148,22 @@ same_part making columns rows p q a b place h =
     ∙ ap (λ (z : ℤ). part_made making a.outline a.spot.px a.spot.py z (b.spot.y -ℤ q.y)) dx
     ∙ ap (λ (z : ℤ). part_made making a.outline a.spot.px a.spot.py (a.spot.x -ℤ p.x) z) dy
 
-same_parts : (making : Making) (columns rows : ℤ) (p q : Spot) (as bs : List Stamp) → IsMovedSpot columns rows p q → AllZip (IsMovedStamp columns rows) as bs
-    → map (part_from making q) bs ≡ map (part_from making p) as
+same_parts : (making : Making) (columns rows : ℤ) (p q : Spot) (cs bs : List Stamp) → IsMovedSpot columns rows p q → AllZip (IsMovedStamp columns rows) cs bs
+    → map (part_from making q) bs ≡ map (part_from making p) cs
 same_parts making columns rows p q [] [] place h = refl
 same_parts making columns rows p q [] (b ∷ bs) place h = absurd h
-same_parts making columns rows p q (a ∷ as) [] place h = absurd h
-same_parts making columns rows p q (a ∷ as) (b ∷ bs) place h =
-    ap₂ (λ (x : Part) (xs : List Part). x ∷ xs) (same_part making columns rows p q a b place h.0) (same_parts making columns rows p q as bs place h.1)
+same_parts making columns rows p q (a ∷ cs) [] place h = absurd h
+same_parts making columns rows p q (a ∷ cs) (b ∷ bs) place h =
+    ap₂ (λ (x : Part) (xs : List Part). x ∷ xs) (same_part making columns rows p q a b place h.0) (same_parts making columns rows p q cs bs place h.1)
 
-draw_moved : (size : Size) (making : Making) (columns rows : ℤ) (p q : Paint) (clip : Clip) (as bs : List Stamp) → IsMovedPaint size columns p q
-    → AllZip (IsMovedStamp columns rows) as bs → AllZip (IsMovedDraw size columns rows) (draw_of making p clip as) (draw_of making q clip bs)
+draw_moved : (size : Size) (making : Making) (columns rows : ℤ) (p q : Paint) (clip : Clip) (cs bs : List Stamp) → IsMovedPaint size columns p q
+    → AllZip (IsMovedStamp columns rows) cs bs → AllZip (IsMovedDraw size columns rows) (draw_of making p clip cs) (draw_of making q clip bs)
 draw_moved size making columns rows p q clip [] [] paints h = tt
 draw_moved size making columns rows p q clip [] (b ∷ bs) paints h = absurd h
-draw_moved size making columns rows p q clip (a ∷ as) [] paints h = absurd h
-draw_moved size making columns rows p q clip (a ∷ as) (b ∷ bs) paints h =
+draw_moved size making columns rows p q clip (a ∷ cs) [] paints h = absurd h
+draw_moved size making columns rows p q clip (a ∷ cs) (b ∷ bs) paints h =
     (record {
-      key = ap (λ (parts : List Part). let key : CompositeKey = record { parts = parts } in key) (same_parts making columns rows a.spot b.spot (a ∷ as) (b ∷ bs) h.0.spot h);
+      key = ap (λ (parts : List Part). let key : CompositeKey = record { parts = parts } in key) (same_parts making columns rows a.spot b.spot (a ∷ cs) (b ∷ bs) h.0.spot h);
       x = h.0.spot.x;
       y = h.0.spot.y;
       left = paints.left;

@@ -18,10 +18,6 @@ use Rattle.event_draws.specs.EventDraws.{boxed_style, is_boxed, line_runs, paint
 use Rattle.event_draws.specs.Items.{state_of}
 use Rattle.event_draws.specs.Marks.{mark_of, marks_of}
 use Rattle.event_draws.specs.Runs.{runs_of}
-use Rattle.event_draws.specs.declared.draws.Making.{Making}
-use Rattle.event_draws.specs.declared.marks.Mark.{Mark}
-use Rattle.event_draws.specs.declared.runs.Row.{Row}
-use Rattle.event_draws.specs.declared.runs.Run.{Run}
 use Rattle.event_draws.specs.declared.stage.Stage.{Stage}
 use Rattle.mask_keys.specs.declared.plans.Clip.{Clip}
 use Rattle.mask_keys.specs.declared.plans.Draw.{Draw}
@@ -34,26 +30,31 @@ use Rattle.draw_laws.proofs.ListPairs.{zip_flat, zip_if}
 use Rattle.draw_laws.proofs.MovedMarks.{IsMarkNear, IsMovedPaint, box_moved, marks_draw_moved, marks_moved, moved_mark, moved_stage}
 use Rattle.draw_laws.proofs.MovedNumbers.{whole_step}
 use Rattle.draw_laws.proofs.MovedPaints.{IsSungWithSome, paint_moved, plain_same, runs_sung}
+use Rattle.draw_laws.proofs.Types.{Making, Mark, Row, Run}
 
 -- a stage, so many columns and rows farther
 abbrev pub later : Stage → ℤ → ℤ → Stage
 later stage columns rows = moved_stage (whole_step columns rows) stage
 
+-- The mark of a state, and its shadow, are near the frame.
+abbrev IsMarkNearIn : Stage → State → Mark → Type 0
+IsMarkNearIn stage state mark = AreMasksNear stage state mark.pen
+
 -- The marks of a state, on both stages; all are near the frame.
 record AreMarksMoved (stage : Stage) (columns rows : ℤ) (state : State) (marks moved : List Mark) : Type 0 where
   images : moved ≡ map (moved_mark (whole_step columns rows)) marks
-  before : All (AreMasksNear stage state) marks
-  after : All (AreMasksNear (later stage columns rows) state) moved
+  before : All (IsMarkNearIn stage state) marks
+  after : All (IsMarkNearIn (later stage columns rows) state) moved
 
 -- ---- draws of a state
 
-own_near : (at : Stage) (making : Making) (state : State) (mark : Mark) → making.angle ≡ state.angle → making.offsets ≡ no_offsets → AreMasksNear at state mark
+own_near : (at : Stage) (making : Making) (state : State) (mark : Mark) → making.angle ≡ state.angle → making.offsets ≡ no_offsets → AreMasksNear at state mark.pen
     → IsMarkNear at making mark
 own_near at making state mark turned still h =
     subst (λ (z : ℤ). is_near_frame at.size (spot_at at.origin z mark.pen making.offsets) ≡ true) (sym turned)
     (subst (λ (o : Offsets). is_near_frame at.size (spot_at at.origin state.angle mark.pen o) ≡ true) (sym still) h.own)
 
-cast_near : (at : Stage) (making : Making) (state : State) (mark : Mark) → making.angle ≡ state.angle → making.offsets ≡ offsets_of at.scales state → AreMasksNear at state mark
+cast_near : (at : Stage) (making : Making) (state : State) (mark : Mark) → making.angle ≡ state.angle → making.offsets ≡ offsets_of at.scales state → AreMasksNear at state mark.pen
     → IsMarkNear at making mark
 cast_near at making state mark turned cast h =
     subst (λ (z : ℤ). is_near_frame at.size (spot_at at.origin z mark.pen making.offsets) ≡ true) (sym turned)
@@ -64,10 +65,10 @@ plain_moved : (stage : Stage) (making : Making) (columns rows : ℤ) (p q : Pain
     → making.angle ≡ state.angle → making.offsets ≡ no_offsets → IsMovedPaint stage.size columns p q → AreMarksMoved stage columns rows state marks moved
     → AllZip (IsMovedDraw stage.size columns rows) (draw_of_marks stage making p clip marks) (draw_of_marks (later stage columns rows) making q clip moved)
 plain_moved stage making columns rows p q clip state marks moved framed turned still paints h =
-    let near = λ (at : Stage) (mark : Mark) (k : AreMasksNear at state mark). own_near at making state mark turned still k in
+    let near = λ (at : Stage) (mark : Mark) (k : AreMasksNear at state mark.pen). own_near at making state mark turned still k in
     marks_draw_moved stage making columns rows p q clip marks moved framed paints h.images
-    (All-weaker (AreMasksNear stage state) (IsMarkNear stage making) (near stage) marks h.before)
-    (All-weaker (AreMasksNear (later stage columns rows) state) (IsMarkNear (later stage columns rows) making) (near (later stage columns rows)) moved h.after)
+    (All-weaker (IsMarkNearIn stage state) (IsMarkNear stage making) (near stage) marks h.before)
+    (All-weaker (IsMarkNearIn (later stage columns rows) state) (IsMarkNear (later stage columns rows) making) (near (later stage columns rows)) moved h.after)
 
 -- with those of the shadow
 shadow_moved : (stage : Stage) (making : Making) (columns rows : ℤ) (p q : Paint) (clip : Clip) (state : State) (marks moved : List Mark) → IsFrameSize stage.size
@@ -75,8 +76,8 @@ shadow_moved : (stage : Stage) (making : Making) (columns rows : ℤ) (p q : Pai
     → AllZip (IsMovedDraw stage.size columns rows) (draw_of_marks stage making p clip marks) (draw_of_marks (later stage columns rows) making q clip moved)
 shadow_moved stage making columns rows p q clip state marks moved framed turned cast paints h =
     marks_draw_moved stage making columns rows p q clip marks moved framed paints h.images
-    (All-weaker (AreMasksNear stage state) (IsMarkNear stage making) (λ mark k. cast_near stage making state mark turned cast k) marks h.before)
-    (All-weaker (AreMasksNear (later stage columns rows) state) (IsMarkNear (later stage columns rows) making)
+    (All-weaker (IsMarkNearIn stage state) (IsMarkNear stage making) (λ mark k. cast_near stage making state mark turned cast k) marks h.before)
+    (All-weaker (IsMarkNearIn (later stage columns rows) state) (IsMarkNear (later stage columns rows) making)
     (λ mark k. cast_near (later stage columns rows) making state mark turned cast k) moved h.after)
 
 -- ---- runs
@@ -109,8 +110,8 @@ state_draws_moved stage columns rows clip state p q marks moved framed paints h 
 
 -- The marks of items are near.
 near_marks : (stage : Stage) (fonts : List FontValue) (view : EventView) (line : Line) (state : State) (items : List Placed)
-    → All (λ (item : Placed). IfSome (mark_of stage fonts view line item) (AreMasksNear stage state)) items → All (AreMasksNear stage state) (marks_of stage fonts view line items)
-near_marks stage fonts view line state items h = all-filter_map (mark_of stage fonts view line) (AreMasksNear stage state) items h
+    → All (λ (item : Placed). IfSome (mark_of stage fonts view line item) (IsMarkNearIn stage state)) items → All (IsMarkNearIn stage state) (marks_of stage fonts view line items)
+near_marks stage fonts view line state items h = all-filter_map (mark_of stage fonts view line) (IsMarkNearIn stage state) items h
 
 run_moved : (stage : Stage) (fonts : List FontValue) (view : EventView) (line : Line) (items run : List Placed) (columns rows : ℤ) (clip : Clip) → IsFrameSize stage.size
     → IsRunNear stage fonts view line run → IsRunNear (later stage columns rows) fonts view line run → All (IsSungWithSome view items) run
@@ -128,11 +129,11 @@ run_moved stage fonts view line items (item ∷ run) columns rows clip framed ne
 
 -- ---- boxes
 
-one_mark : (stage : Stage) (state : State) (mark : Mark) → AreMasksNear stage state mark → All (AreMasksNear stage state) (mark ∷ [])
-one_mark stage state mark h = All-cons (AreMasksNear stage state) mark [] h (All-nil (AreMasksNear stage state))
+one_mark : (stage : Stage) (state : State) (mark : Mark) → IsMarkNearIn stage state mark → All (IsMarkNearIn stage state) (mark ∷ [])
+one_mark stage state mark h = All-cons (IsMarkNearIn stage state) mark [] h (All-nil (IsMarkNearIn stage state))
 
-box_marks : (stage : Stage) (line : Line) (state : State) (columns rows : ℤ) → AreMasksNear stage state (box_mark stage line state)
-    → AreMasksNear (later stage columns rows) state (box_mark (later stage columns rows) line state)
+box_marks : (stage : Stage) (line : Line) (state : State) (columns rows : ℤ) → IsMarkNearIn stage state (box_mark stage line state)
+    → IsMarkNearIn (later stage columns rows) state (box_mark (later stage columns rows) line state)
     → AreMarksMoved stage columns rows state (box_mark stage line state ∷ []) (box_mark (later stage columns rows) line state ∷ [])
 box_marks stage line state columns rows near far = record {
   images = ap (λ (mark : Mark). mark ∷ []) (box_moved (whole_step columns rows) stage line state);

@@ -11,9 +11,6 @@ use Rattle.event_draws.specs.EventDraws.{draw_rows, draws_of_rows, event_draws, 
 use Rattle.event_draws.specs.Items.{items_of, shown_of, state_of}
 use Rattle.event_draws.specs.Marks.{mark_by, mark_of, marks_of, pen_on}
 use Rattle.event_draws.specs.Runs.{runs_of, with_item}
-use Rattle.event_draws.specs.declared.marks.Mark.{Mark}
-use Rattle.event_draws.specs.declared.runs.Row.{Row}
-use Rattle.event_draws.specs.declared.runs.Run.{Run}
 use Rattle.event_draws.specs.declared.stage.Stage.{Stage}
 use Rattle.mask_keys.specs.declared.plans.Draw.{Draw}
 use Rattle.override_tags.specs.declared.view.EventView.{EventView}
@@ -25,6 +22,7 @@ use Rattle.text_layout.specs.declared.laid.Line.{Line}
 use Rattle.text_layout.specs.declared.laid.Placed.{Placed}
 use Rattle.draw_laws.specs.Moves.{AreMasksNear, IsLineNear, IsNearFrame, IsRunNear, shown_at}
 use Rattle.draw_laws.proofs.ListPairs.{given_same}
+use Rattle.draw_laws.proofs.Types.{Mark, Row, Run}
 
 -- ---- runs
 
@@ -82,7 +80,7 @@ run_near : (stage : Stage) (fonts : List FontValue) (view : EventView) (place : 
     → IsRunNear stage fonts (shown_at view place origin) line run → IsRunNear stage fonts view line run
 run_near stage fonts view place origin line [] h = tt
 run_near stage fonts view place origin line (item ∷ run) h =
-    let near = AreMasksNear stage (state_of view item) in
+    let near = λ (mark : Mark). AreMasksNear stage (state_of view item) mark.pen in
     All-weaker (λ (x : Placed). IfSome (mark_of stage fonts (shown_at view place origin) line x) near) (λ (x : Placed). IfSome (mark_of stage fonts view line x) near)
     (λ x k. subst (λ (o : Option Mark). IfSome o near) (same_mark stage fonts view place origin line x) k) (item ∷ run) h
 

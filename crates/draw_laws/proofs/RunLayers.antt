@@ -8,6 +8,7 @@ use Rattle.std.proofs.lemmas.Int.{ints}
 use Rattle.std.proofs.lemmas.List.Elements.{All-nil}
 use Rattle.ass_num.proofs.OrderLemmas.{lt_is, lt_true}
 use Rattle.ass_num.specs.declared.colour.Rgba.{Rgba}
+use Rattle.ass_num.specs.declared.geometry.Point.{Point}
 use Rattle.bdf_font.specs.Fonts.{FontValue}
 use Rattle.draw_numbers.specs.Colours.{faded_colour, fill_paint, is_outlined, lacks_border, plain_paint}
 use Rattle.draw_numbers.specs.Widths.{are_no_offsets, are_no_radii, no_offsets, no_radii, no_softness, offsets_of, radii_of, softness_of}
@@ -16,11 +17,8 @@ use Rattle.draw_numbers.specs.declared.widths.Offsets.{Offsets}
 use Rattle.draw_numbers.specs.declared.widths.Radii.{Radii}
 use Rattle.draw_numbers.specs.declared.widths.Softness.{Softness}
 use Rattle.event_draws.specs.Draws.{border_making, border_radii, box_border, box_making, box_mark, box_shadow, draw_of, draw_of_marks, fill_making, fill_softness, offsets_in, run_border, run_fill, run_shadow, softness_in, stamps_of}
-use Rattle.event_draws.specs.declared.draws.Making.{Making}
-use Rattle.event_draws.specs.declared.draws.Stamp.{Stamp}
-use Rattle.event_draws.specs.declared.marks.Mark.{Mark}
-use Rattle.event_draws.specs.declared.runs.Run.{Run}
 use Rattle.event_draws.specs.declared.stage.Stage.{Stage}
+use Rattle.mask_keys.specs.declared.outline_key.OutlineKey.{OutlineKey}
 use Rattle.mask_keys.specs.declared.plans.Clip.{Clip}
 use Rattle.mask_keys.specs.declared.plans.Draw.{Draw}
 use Rattle.override_tags.specs.declared.view.State.{State}
@@ -29,11 +27,12 @@ use Rattle.tag_arguments.specs.declared.kinds.Sung.{Sung}
 use Rattle.tag_arguments.specs.declared.kinds.Sung.TheVariants.{Jump, Outline, Sweep}
 use Rattle.text_layout.specs.declared.laid.Line.{Line}
 use Rattle.text_layout.specs.declared.laid.Placed.{Placed}
-use Rattle.draw_laws.specs.Layers.{AreBorderRadii, AreMasksOf, AwaitsBorder, IsBoxDrawn, IsCast, IsFillDraw, IsPlainDraw, IsRunDrawn, IsSoftenedBare, LineDraws, RunDraws, pen_in}
+use Rattle.draw_laws.specs.Layers.{AreBorderRadii, AreMasksOf, AwaitsBorder, IsBoxDrawn, IsCast, IsFillDraw, IsPlainDraw, IsRunDrawn, IsSoftenedBare, LineDraws, RunDraws, box_left, pen_in}
 use Rattle.draw_laws.specs.Parts.{AreMadeBy}
 use Rattle.draw_laws.specs.Shades.{back_of, outline_of}
-use Rattle.draw_laws.proofs.DrawnParts.{draw_made, drawn_together, each_made, masks_drawn, no_cons, parts_made}
+use Rattle.draw_laws.proofs.DrawnParts.{LeaveMarks, draw_made, drawn_together, each_made, masks_drawn, no_cons, parts_made}
 use Rattle.draw_laws.proofs.LeftColours.{filled_left, one_colour_left}
+use Rattle.draw_laws.proofs.Types.{Making, Mark, Run, Stamp}
 
 -- ---- no radii and no offsets
 
@@ -95,22 +94,22 @@ radii_are stage boxed state =
 -- ---- masks
 
 -- The draws of what is left of items, made in one way.
-masks_of : (stage : Stage) (leaves : Placed → Option Mark) (state : State) (making : Making) (paint : Paint) (clip : Clip) (items : List Placed) (P : Draw → Type 0) (offsets : Offsets)
-    → making.angle ≡ state.angle → making.offsets ≡ offsets → ((first : Stamp) (rest : List Stamp) → P (draw_made making paint clip first rest))
-    → AreMasksOf stage leaves state offsets items P (draw_of_marks stage making paint clip (filter_map leaves items))
-masks_of stage leaves state making paint clip items P offsets refl refl each = record {
-  masks = masks_drawn stage making paint clip leaves items;
-  each = each_made P making paint clip (stamps_of stage making (filter_map leaves items)) each;
+masks_of : (stage : Stage) (leaves : Placed → Option (OutlineKey × Point)) (gives : Placed → Option Mark) (state : State) (making : Making) (paint : Paint) (clip : Clip) (items : List Placed) (P : Draw → Type 0) (offsets : Offsets)
+    → LeaveMarks leaves gives → making.angle ≡ state.angle → making.offsets ≡ offsets → ((first : Stamp) (rest : List Stamp) → P (draw_made making paint clip first rest))
+    → AreMasksOf stage leaves state offsets items P (draw_of_marks stage making paint clip (filter_map gives items))
+masks_of stage leaves gives state making paint clip items P offsets same refl refl each = record {
+  masks = masks_drawn stage making paint clip leaves gives items same;
+  each = each_made P making paint clip (stamps_of stage making (filter_map gives items)) each;
 }
 
-plain_masks : (stage : Stage) (leaves : Placed → Option Mark) (state : State) (radii : Radii) (offsets : Offsets) (colour : Rgba) (clip : Clip) (items : List Placed)
+plain_masks : (stage : Stage) (leaves : Placed → Option (OutlineKey × Point)) (gives : Placed → Option Mark) (state : State) (radii : Radii) (offsets : Offsets) (colour : Rgba) (clip : Clip) (items : List Placed) → LeaveMarks leaves gives
     → AreMasksOf stage leaves state offsets items (IsPlainDraw stage radii state colour clip)
     (draw_of_marks stage (record { angle = state.angle; radii = radii; softness = softness_in stage state; offsets = offsets }) (plain_paint (faded_colour stage.fade colour)) clip
-    (filter_map leaves items))
-plain_masks stage leaves state radii offsets colour clip items =
+    (filter_map gives items))
+plain_masks stage leaves gives state radii offsets colour clip items same =
     let making : Making = record { angle = state.angle; radii = radii; softness = softness_in stage state; offsets = offsets } in
     let paint = plain_paint (faded_colour stage.fade colour) in
-    masks_of stage leaves state making paint clip items (IsPlainDraw stage radii state colour clip) offsets refl refl
+    masks_of stage leaves gives state making paint clip items (IsPlainDraw stage radii state colour clip) offsets same refl refl
     (λ first rest. record {
       made = parts_made making paint clip first rest;
       colour = one_colour_left stage.fade colour (draw_made making paint clip first rest) (record { left = refl; right = refl });
@@ -118,16 +117,16 @@ plain_masks stage leaves state radii offsets colour clip items =
     })
 
 -- What is cast, by the test of its offsets.
-cast_is : (stage : Stage) (leaves : Placed → Option Mark) (state : State) (radii : Radii) (clip : Clip) (items : List Placed)
+cast_is : (stage : Stage) (leaves : Placed → Option (OutlineKey × Point)) (gives : Placed → Option Mark) (state : State) (radii : Radii) (clip : Clip) (items : List Placed) → LeaveMarks leaves gives
     → IsCast stage leaves radii state clip items
     (cond (are_no_offsets (offsets_of stage.scales state)) []
     (draw_of_marks stage (record { angle = state.angle; radii = radii; softness = softness_in stage state; offsets = offsets_of stage.scales state })
-    (plain_paint (faded_colour stage.fade (back_of state))) clip (filter_map leaves items)))
-cast_is stage leaves state radii clip items =
+    (plain_paint (faded_colour stage.fade (back_of state))) clip (filter_map gives items)))
+cast_is stage leaves gives state radii clip items same =
     let offsets = offsets_of stage.scales state in
-    let made = plain_masks stage leaves state radii offsets (back_of state) clip items in
+    let made = plain_masks stage leaves gives state radii offsets (back_of state) clip items same in
     let test = no_offsets_test offsets (draw_of_marks stage (record { angle = state.angle; radii = radii; softness = softness_in stage state; offsets = offsets })
-    (plain_paint (faded_colour stage.fade (back_of state))) clip (filter_map leaves items)) in
+    (plain_paint (faded_colour stage.fade (back_of state))) clip (filter_map gives items)) in
     record {
       hidden = test.none;
       seen = λ no. subst (λ (ds : List Draw). AreMasksOf stage leaves state offsets items (IsPlainDraw stage radii state (back_of state) clip) ds) (sym (test.some no)) made;
@@ -144,13 +143,13 @@ run_parts stage clip boxed items run = record {
   fill = option_map_or (run_fill stage clip boxed) run [];
 }
 
-fill_masks : (stage : Stage) (leaves : Placed → Option Mark) (boxed : Bool) (clip : Clip) (state : State) (l r : ℤ) (items : List Placed)
+fill_masks : (stage : Stage) (leaves : Placed → Option (OutlineKey × Point)) (gives : Placed → Option Mark) (boxed : Bool) (clip : Clip) (state : State) (l r : ℤ) (items : List Placed) → LeaveMarks leaves gives
     → AreMasksOf stage leaves state no_offsets items (IsFillDraw stage state clip)
-    (draw_of_marks stage (fill_making stage boxed state) (fill_paint stage.fade stage.elapsed state l r) clip (filter_map leaves items))
-fill_masks stage leaves boxed clip state l r items =
+    (draw_of_marks stage (fill_making stage boxed state) (fill_paint stage.fade stage.elapsed state l r) clip (filter_map gives items))
+fill_masks stage leaves gives boxed clip state l r items same =
     let making = fill_making stage boxed state in
     let paint = fill_paint stage.fade stage.elapsed state l r in
-    masks_of stage leaves state making paint clip items (IsFillDraw stage state clip) no_offsets refl refl
+    masks_of stage leaves gives state making paint clip items (IsFillDraw stage state clip) no_offsets same refl refl
     (λ first rest. record {
       colours = filled_left stage.fade stage.elapsed state l r (draw_made making paint clip first rest) (record { left = refl; right = refl });
       clip = refl;
@@ -185,10 +184,10 @@ softened_if : (stage : Stage) (state : State) (radii : Radii) (p q : Paint) (cli
     (draw_of_marks stage (record { angle = state.angle; radii = no_radii; softness = cond (are_no_radii radii) (softness_in stage state) no_softness; offsets = no_offsets }) q clip marks)
 softened_if stage state radii p q clip marks = by_border stage state radii p q clip marks (are_no_radii radii)
 
-pub run_of_state : (stage : Stage) (leaves : Placed → Option Mark) (boxed : Bool) (clip : Clip) (state : State) (l r : ℤ) (items : List Placed)
+pub run_of_state : (stage : Stage) (leaves : Placed → Option (OutlineKey × Point)) (gives : Placed → Option Mark) → LeaveMarks leaves gives → (boxed : Bool) (clip : Clip) (state : State) (l r : ℤ) (items : List Placed)
     → IsRunDrawn stage leaves boxed clip state
-    (run_parts stage clip boxed items (Some (record { state = state; paint = fill_paint stage.fade stage.elapsed state l r; marks = filter_map leaves items })))
-run_of_state stage leaves true clip state l r items =
+    (run_parts stage clip boxed items (Some (record { state = state; paint = fill_paint stage.fade stage.elapsed state l r; marks = filter_map gives items })))
+run_of_state stage leaves gives same true clip state l r items =
     let paint = fill_paint stage.fade stage.elapsed state l r in
     record {
       radii = border_radii stage true state;
@@ -197,29 +196,29 @@ run_of_state stage leaves true clip state l r items =
       shadow = λ e. absurd (false≢true (sym e));
       no_border = λ e. refl;
       border = λ some. absurd (some refl);
-      fill = fill_masks stage leaves true clip state l r items;
+      fill = fill_masks stage leaves gives true clip state l r items same;
       softened =
           record {
-            bare = λ e. each_made (AreMadeBy no_radii (softness_of stage.scales state)) (fill_making stage true state) paint clip (stamps_of stage (fill_making stage true state) (filter_map leaves items))
+            bare = λ e. each_made (AreMadeBy no_radii (softness_of stage.scales state)) (fill_making stage true state) paint clip (stamps_of stage (fill_making stage true state) (filter_map gives items))
                 (parts_made (fill_making stage true state) paint clip);
             bordered = λ under e. absurd (no_cons under [] e);
           };
     }
-run_of_state stage leaves false clip state l r items =
+run_of_state stage leaves gives same false clip state l r items =
     let paint = fill_paint stage.fade stage.elapsed state l r in
     let radii = border_radii stage false state in
-    let test = no_radii_test radii (draw_of_marks stage (border_making stage false state no_offsets) (plain_paint (faded_colour stage.fade (outline_of state))) clip (filter_map leaves items)) in
+    let test = no_radii_test radii (draw_of_marks stage (border_making stage false state no_offsets) (plain_paint (faded_colour stage.fade (outline_of state))) clip (filter_map gives items)) in
     record {
       radii = radii;
       widened = radii_are stage false state;
       in_box = λ e. absurd (false≢true e);
-      shadow = λ e. cast_is stage leaves state radii clip items;
+      shadow = λ e. cast_is stage leaves gives state radii clip items same;
       no_border = test.none;
       border = λ some.
           subst (λ (ds : List Draw). AreMasksOf stage leaves state no_offsets items (IsPlainDraw stage radii state (outline_of state) clip) ds) (sym (test.some some))
-          (plain_masks stage leaves state radii no_offsets (outline_of state) clip items);
-      fill = fill_masks stage leaves false clip state l r items;
-      softened = softened_if stage state radii (plain_paint (faded_colour stage.fade (outline_of state))) paint clip (filter_map leaves items);
+          (plain_masks stage leaves gives state radii no_offsets (outline_of state) clip items same);
+      fill = fill_masks stage leaves gives false clip state l r items same;
+      softened = softened_if stage state radii (plain_paint (faded_colour stage.fade (outline_of state))) paint clip (filter_map gives items);
     }
 
 -- ---- a box
@@ -227,6 +226,6 @@ run_of_state stage leaves false clip state l r items =
 pub box_of : (stage : Stage) (line : Line) (clip : Clip) (first : Placed) (state : State) (runs : List RunDraws)
     → IsBoxDrawn stage line clip first state (record { shadow = box_shadow stage clip line state; box = box_border stage clip line state; runs = runs })
 box_of stage line clip first state runs = record {
-  shadow = cast_is stage (λ (item : Placed). Some (box_mark stage line state)) state no_radii clip (first ∷ []);
-  box = plain_masks stage (λ (item : Placed). Some (box_mark stage line state)) state no_radii no_offsets (outline_of state) clip (first ∷ []);
+  shadow = cast_is stage (λ (item : Placed). box_left stage line state) (λ (item : Placed). Some (box_mark stage line state)) state no_radii clip (first ∷ []) (λ item. refl);
+  box = plain_masks stage (λ (item : Placed). box_left stage line state) (λ (item : Placed). Some (box_mark stage line state)) state no_radii no_offsets (outline_of state) clip (first ∷ []) (λ item. refl);
 }

@@ -1,5 +1,5 @@
 -- A fade of 255 leaves nothing of a colour.
-use Rattle.std.proofs.Common.{◌≡◌, refl, rw, ap, ℕ, ◌*◌, ◌+◌, ◌-◌, ◌/◌, Bool, true, false, cond, Option, Some, None, List, [], ◌∷◌, ◌++◌, flat_map, filter, ℤ, subst, sym, arith}
+use Rattle.std.proofs.Common.{◌≡◌, refl, ap, ℕ, ◌*◌, ◌+◌, ◌-◌, ◌/◌, Bool, true, false, cond, Option, Some, None, List, [], ◌∷◌, ◌++◌, flat_map, filter, ℤ, subst, sym, arith}
 use Rattle.std.specs.List.{All}
 use Rattle.std.specs.Option.{IfSome}
 use Rattle.std.proofs.lemmas.List.Elements.{All-append, All-cons, All-nil, All-weaker}
@@ -18,10 +18,6 @@ use Rattle.event_draws.specs.Items.{items_of, state_of}
 use Rattle.event_draws.specs.MovedDraws.{AreMovedDraws}
 use Rattle.event_draws.specs.Runs.{runs_of}
 use Rattle.event_draws.specs.Stages.{stage_at}
-use Rattle.event_draws.specs.declared.draws.Making.{Making}
-use Rattle.event_draws.specs.declared.draws.Stamp.{Stamp}
-use Rattle.event_draws.specs.declared.runs.Row.{Row}
-use Rattle.event_draws.specs.declared.runs.Run.{Run}
 use Rattle.event_draws.specs.declared.stage.Stage.{Stage}
 use Rattle.frame_view.specs.declared.view.FrameView.{FrameView}
 use Rattle.mask_keys.specs.declared.plans.Clip.{Clip}
@@ -33,6 +29,7 @@ use Rattle.text_layout.specs.declared.laid.Laid.{Laid}
 use Rattle.text_layout.specs.declared.laid.Line.{Line}
 use Rattle.text_layout.specs.declared.laid.Placed.{Placed}
 use Rattle.draw_laws.specs.Fades.{IsTransparent}
+use Rattle.draw_laws.proofs.Types.{Making, Row, Run, Stamp}
 
 -- ---- paints
 

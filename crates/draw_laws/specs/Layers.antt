@@ -1,10 +1,13 @@
 -- Public: the draws of an event, told by the runs of its lines.
 -- (Advanced SubStation Alpha, "BorderStyle"; Aegisub tag reference, "\bord", "\shad", "\be", "\blur", "\ko".)
-use Rattle.std.specs.Prelude.{◌≡◌, ℕ, ◌==◌, ◌<ℤ◌, Bool, true, false, List, [], ◌∷◌, ◌++◌, map, flat_map, All, IfSome, Option, Some, slice_get, slice_index_or, ℤ}
+use Rattle.std.specs.Prelude.{◌≡◌, ℕ, ◌==◌, ◌<ℤ◌, Bool, true, false, List, [], ◌∷◌, ◌++◌, map, flat_map, All, IfSome, Option, Some, None, option_and_then, slice_get, slice_index_or, ℤ, ◌+ℤ◌, ◌-ℤ◌}
 use Rattle.std.specs.List.{AllZip}
+use Rattle.std.specs.Option.{option_map}
 use Rattle.ass_events.specs.declared.event.Event.{Event}
 use Rattle.ass_num.specs.declared.colour.Rgba.{Rgba}
+use Rattle.ass_num.specs.declared.geometry.Path.{Path}
 use Rattle.ass_num.specs.declared.geometry.Point.{Point}
+use Rattle.ass_num.specs.declared.geometry.Seg.{Seg}
 use Rattle.ass_script.specs.Scripts.{ScriptValue}
 use Rattle.bdf_font.specs.Fonts.{FontValue}
 use Rattle.draw_numbers.specs.Pens.{pen_of, turned_about}
@@ -14,19 +17,25 @@ use Rattle.draw_numbers.specs.declared.widths.Radii.{Radii}
 use Rattle.event_draws.specs.Clips.{clip_by}
 use Rattle.event_draws.specs.Draws.{box_mark}
 use Rattle.event_draws.specs.Items.{items_of, no_shown, no_state}
-use Rattle.event_draws.specs.Marks.{mark_of}
+use Rattle.event_draws.specs.Marks.{char_outline, drawing_shift}
 use Rattle.event_draws.specs.MovedDraws.{AreMovedDraws}
 use Rattle.event_draws.specs.Runs.{AreRunsOf}
 use Rattle.event_draws.specs.Stages.{stage_at}
-use Rattle.event_draws.specs.declared.marks.Mark.{Mark}
 use Rattle.event_draws.specs.declared.stage.Stage.{Stage}
 use Rattle.frame_view.specs.declared.view.FrameView.{FrameView}
+use Rattle.mask_keys.specs.declared.outline_key.OutlineKey.{OutlineKey}
+use Rattle.mask_keys.specs.declared.outline_key.OutlineKey.TheVariants.{Drawing}
 use Rattle.mask_keys.specs.declared.plans.Clip.{Clip}
 use Rattle.mask_keys.specs.declared.plans.Draw.{Draw}
 use Rattle.override_tags.specs.declared.view.EventView.{EventView}
+use Rattle.override_tags.specs.declared.view.ShownKind.{ShownKind}
+use Rattle.override_tags.specs.declared.view.ShownKind.TheVariants as shown
 use Rattle.override_tags.specs.declared.view.State.{State}
 use Rattle.override_tags.specs.declared.view.Syllable.{Syllable}
 use Rattle.tag_arguments.specs.declared.kinds.Sung.TheVariants.{Outline}
+use Rattle.text_layout.specs.Extents.{drawn_extent}
+use Rattle.text_layout.specs.Kinds.{char_of}
+use Rattle.text_layout.specs.Scales.{drawing_matrix}
 use Rattle.text_layout.specs.declared.laid.Laid.{Laid}
 use Rattle.text_layout.specs.declared.laid.Line.{Line}
 use Rattle.text_layout.specs.declared.laid.Placed.{Placed}
@@ -80,9 +89,32 @@ pub record AreBorderRadii (stage : Stage) (boxed : Bool) (state : State) (radii 
 
 -- ---- one run
 
--- where the pen of a mark stands, in samples of the frame: it is turned as the state is, and then moved by offsets
-abbrev pub pen_in : Stage → State → Offsets → Mark → Point
-pen_in stage state offsets mark = pen_of (turned_about stage.origin state.angle mark.pen) offsets
+-- the outline of a drawing, and the pen at which it stands: above one that stands on the baseline. A path without segments leaves none.
+abbrev pub drawing_left : Stage → State → Point → Path → List Seg → Option (OutlineKey × Point)
+drawing_left stage state pen path [] = None
+drawing_left stage state pen path segs =
+    let m = drawing_matrix stage.scales state in
+    Some (Drawing path m (drawing_shift state m.uy), record { x = pen.x; y = pen.y -ℤ (drawn_extent m segs).ascent })
+
+-- what is left of a drawing or of a character whose pen stands there
+abbrev pub kind_left : Stage → List FontValue → EventView → State → Point → ShownKind → Option (OutlineKey × Point)
+kind_left stage fonts view state pen (shown.Drawing path) = drawing_left stage state pen path path.segs
+kind_left stage fonts view state pen kind =
+    option_and_then (λ (c : ℕ). option_map (λ (key : OutlineKey). (key, pen)) (char_outline stage fonts view.names state c)) (char_of view.wrap kind)
+
+-- what is left of an item, whose pen stands on the baseline of its line
+abbrev pub item_left : Stage → List FontValue → EventView → Line → Placed → Option (OutlineKey × Point)
+item_left stage fonts view line item =
+    kind_left stage fonts view (state_in view item) (record { x = stage.corner.x +ℤ item.x; y = stage.corner.y +ℤ line.baseline })
+    (slice_index_or view.items item.item no_shown).kind
+
+-- the box of a line, and its pen
+abbrev pub box_left : Stage → Line → State → Option (OutlineKey × Point)
+box_left stage line state = Some ((box_mark stage line state).outline, (box_mark stage line state).pen)
+
+-- where a pen stands, in samples of the frame: it is turned as the state is, and then moved by offsets
+abbrev pub pen_in : Stage → State → Offsets → Point → Point
+pen_in stage state offsets pen = pen_of (turned_about stage.origin state.angle pen) offsets
 
 -- A draw is widened by these radii and softened as its state says; it has one colour, and the clip of its event.
 pub record IsPlainDraw (stage : Stage) (radii : Radii) (state : State) (colour : Rgba) (clip : Clip) (draw : Draw) : Type 0 where
@@ -96,12 +128,12 @@ pub record IsFillDraw (stage : Stage) (state : State) (clip : Clip) (draw : Draw
   pub clip : draw.clip ≡ clip
 
 -- The masks of what is left of some items in a state, moved by offsets, are drawn, and each draw passes.
-pub record AreMasksOf (stage : Stage) (leaves : Placed → Option Mark) (state : State) (offsets : Offsets) (items : List Placed) (Passes : Draw → Type 0) (draws : List Draw) : Type 0 where
+pub record AreMasksOf (stage : Stage) (leaves : Placed → Option (OutlineKey × Point)) (state : State) (offsets : Offsets) (items : List Placed) (Passes : Draw → Type 0) (draws : List Draw) : Type 0 where
   pub masks : AreDrawn leaves (pen_in stage state offsets) stage.size items draws
   pub each : All Passes draws
 
 -- A shadow is none where it would lie under what throws it.
-pub record IsCast (stage : Stage) (leaves : Placed → Option Mark) (radii : Radii) (state : State) (clip : Clip) (items : List Placed) (draws : List Draw) : Type 0 where
+pub record IsCast (stage : Stage) (leaves : Placed → Option (OutlineKey × Point)) (radii : Radii) (state : State) (clip : Clip) (items : List Placed) (draws : List Draw) : Type 0 where
   pub hidden : offsets_of stage.scales state ≡ no_offsets → draws ≡ []
   pub seen : (offsets_of stage.scales state ≡ no_offsets → ⊥)
       → AreMasksOf stage leaves state (offsets_of stage.scales state) items (IsPlainDraw stage radii state (back_of state) clip) draws
@@ -112,7 +144,7 @@ pub record IsSoftenedBare (stage : Stage) (state : State) (border fill : List Dr
   pub bordered : (under : Draw) → border ≡ under ∷ [] → (over : Draw) × (fill ≡ over ∷ []) × AreTogether under over × AreMadeBy no_radii no_softness over
 
 -- The draws of a run in its state, in a line that has a box or has none.
-pub record IsRunDrawn (stage : Stage) (leaves : Placed → Option Mark) (boxed : Bool) (clip : Clip) (state : State) (run : RunDraws) : Type 0 where
+pub record IsRunDrawn (stage : Stage) (leaves : Placed → Option (OutlineKey × Point)) (boxed : Bool) (clip : Clip) (state : State) (run : RunDraws) : Type 0 where
   pub radii : Radii
   pub widened : AreBorderRadii stage boxed state radii
   pub in_box : boxed ≡ true → run.shadow ≡ []
@@ -126,8 +158,8 @@ pub record IsRunDrawn (stage : Stage) (leaves : Placed → Option Mark) (boxed :
 
 -- The box of a line whose first item has this state: it is widened by its own outline, so its mask isn't.
 pub record IsBoxDrawn (stage : Stage) (line : Line) (clip : Clip) (first : Placed) (state : State) (lined : LineDraws) : Type 0 where
-  pub shadow : IsCast stage (λ (item : Placed). Some (box_mark stage line state)) no_radii state clip (first ∷ []) lined.shadow
-  pub box : AreMasksOf stage (λ (item : Placed). Some (box_mark stage line state)) state no_offsets (first ∷ []) (IsPlainDraw stage no_radii state (outline_of state) clip) lined.box
+  pub shadow : IsCast stage (λ (item : Placed). box_left stage line state) no_radii state clip (first ∷ []) lined.shadow
+  pub box : AreMasksOf stage (λ (item : Placed). box_left stage line state) state no_offsets (first ∷ []) (IsPlainDraw stage no_radii state (outline_of state) clip) lined.box
 
 -- A line whose first item has this state has a box where the border style of that is 3.
 pub record IsLineOf (stage : Stage) (fonts : List FontValue) (view : EventView) (line : Line) (clip : Clip) (first : Placed) (state : State) (lined : LineDraws) : Type 0 where
@@ -135,7 +167,7 @@ pub record IsLineOf (stage : Stage) (fonts : List FontValue) (view : EventView) 
   pub shadows : (state.border_style ≡ 3 → ⊥) → lined.shadow ≡ []
   pub boxes : (state.border_style ≡ 3 → ⊥) → lined.box ≡ []
   pub runs : All (λ (run : RunDraws). IfSome (slice_get run.items 0) (λ (item : Placed).
-      IsRunDrawn stage (mark_of stage fonts view line) (state.border_style == 3) clip (state_in view item) run)) lined.runs
+      IsRunDrawn stage (item_left stage fonts view line) (state.border_style == 3) clip (state_in view item) run)) lined.runs
 
 -- The runs of a line of these items are the items, one run after the other, and none could go on. A line without items leaves nothing.
 pub record IsLineDrawn (stage : Stage) (fonts : List FontValue) (view : EventView) (line : Line) (items : List Placed) (lined : LineDraws) : Type 0 where

@@ -19,7 +19,6 @@ use Rattle.event_draws.specs.Items.{items_of, state_of}
 use Rattle.event_draws.specs.Marks.{mark_of}
 use Rattle.event_draws.specs.Runs.{runs_of}
 use Rattle.event_draws.specs.Stages.{stage_at}
-use Rattle.event_draws.specs.declared.marks.Mark.{Mark}
 use Rattle.event_draws.specs.declared.stage.Stage.{Stage}
 use Rattle.frame_view.specs.FrameScales.{IsScales}
 use Rattle.frame_view.specs.declared.scales.Scales.{Scales}
@@ -78,19 +77,19 @@ abbrev pub IsPenNear : Stage → State → Offsets → Point → Type 0
 IsPenNear stage state offsets pen = is_near_frame stage.size (spot_at stage.origin state.angle pen offsets) ≡ true
 
 -- So does the mask itself, and that of its shadow.
-pub record AreMasksNear (stage : Stage) (state : State) (mark : Mark) : Type 0 where
-  pub own : IsPenNear stage state no_offsets mark.pen
-  pub shadow : IsPenNear stage state (offsets_of stage.scales state) mark.pen
+pub record AreMasksNear (stage : Stage) (state : State) (pen : Point) : Type 0 where
+  pub own : IsPenNear stage state no_offsets pen
+  pub shadow : IsPenNear stage state (offsets_of stage.scales state) pen
 
 -- All that a run leaves, in the state of its first item.
 abbrev pub IsRunNear : Stage → List FontValue → EventView → Line → List Placed → Type 0
 IsRunNear stage fonts view line run =
-    IfSome (slice_get run 0) (λ (first : Placed). All (λ (item : Placed). IfSome (mark_of stage fonts view line item) (AreMasksNear stage (state_of view first))) run)
+    IfSome (slice_get run 0) (λ (first : Placed). All (λ (item : Placed). IfSome (mark_of stage fonts view line item) (λ mark. AreMasksNear stage (state_of view first) mark.pen)) run)
 
 -- All that a line of these items leaves, and its box.
 pub record IsLineNear (stage : Stage) (fonts : List FontValue) (view : EventView) (line : Line) (items : List Placed) : Type 0 where
   pub runs : All (IsRunNear stage fonts view line) (runs_of view items)
-  pub box : IfSome (slice_get items 0) (λ (first : Placed). AreMasksNear stage (state_of view first) (box_mark stage line (state_of view first)))
+  pub box : IfSome (slice_get items 0) (λ (first : Placed). AreMasksNear stage (state_of view first) (box_mark stage line (state_of view first)).pen)
 
 -- All that an event leaves: no mask of it is left out for being far from the frame.
 abbrev pub IsNearFrame : Stage → List FontValue → EventView → Laid → Type 0

@@ -6,10 +6,10 @@ use Rattle.ass_num.specs.declared.size.Size.{Size}
 use Rattle.draw_numbers.specs.Limits.{max_reach}
 use Rattle.draw_numbers.specs.declared.widths.Radii.{Radii}
 use Rattle.draw_numbers.specs.declared.widths.Softness.{Softness}
-use Rattle.event_draws.specs.declared.marks.Mark.{Mark}
 use Rattle.mask_keys.specs.Keys.{samples_across}
 use Rattle.mask_keys.specs.declared.composite_key.Part.{Part}
 use Rattle.mask_keys.specs.declared.mask_key.MaskKey.{MaskKey}
+use Rattle.mask_keys.specs.declared.outline_key.OutlineKey.{OutlineKey}
 use Rattle.mask_keys.specs.declared.plans.Draw.{Draw}
 use Rattle.text_layout.specs.declared.laid.Placed.{Placed}
 
@@ -32,24 +32,24 @@ pub record MayReach (size : Size) (pen : Point) : Type 0 where
 
 -- ---- the masks of items
 
--- An item leaves no mask that may reach the frame. (`leaves` has what items leave, and `pen` where that stands, in samples.)
-abbrev pub IsLeftOut : (Placed → Option Mark) → (Mark → Point) → Size → Placed → Type 0
-IsLeftOut leaves pen size item = IfSome (leaves item) (λ (mark : Mark). MayReach size (pen mark) → ⊥)
+-- An item leaves no mask that may reach the frame. (`leaves` has the outline that an item leaves and its pen, and `samples` the sample at
+-- which a mask with that pen stands.)
+abbrev pub IsLeftOut : (Placed → Option (OutlineKey × Point)) → (Point → Point) → Size → Placed → Type 0
+IsLeftOut leaves samples size item = IfSome (leaves item) (λ (mark : OutlineKey × Point). MayReach size (samples mark.1) → ⊥)
 
 -- A part of a draw is the mask that an item leaves.
-pub record IsPartOf (leaves : Placed → Option Mark) (pen : Mark → Point) (size : Size) (draw : Draw) (item : Placed) (part : Part) : Type 0 where
-  pub mark : Mark
-  pub left : leaves item ≡ Some mark
-  pub near : MayReach size (pen mark)
-  pub outline : part.mask.outline ≡ mark.outline
-  pub stands : IsMaskAt (pen mark) (draw.x +ℤ part.dx) (draw.y +ℤ part.dy) part.mask
+pub record IsPartOf (leaves : Placed → Option (OutlineKey × Point)) (samples : Point → Point) (size : Size) (draw : Draw) (item : Placed) (part : Part) : Type 0 where
+  pub pen : Point
+  pub left : leaves item ≡ Some (part.mask.outline, pen)
+  pub near : MayReach size (samples pen)
+  pub stands : IsMaskAt (samples pen) (draw.x +ℤ part.dx) (draw.y +ℤ part.dy) part.mask
 
 -- The parts are the masks of the items, in order: one of each that may reach the frame, and no other.
-abbrev pub AreParts : (Placed → Option Mark) → (Mark → Point) → Size → Draw → List Placed → List Part → Type 0
-AreParts leaves pen size draw [] parts = parts ≡ []
-AreParts leaves pen size draw (item ∷ items) parts =
-    (IsLeftOut leaves pen size item × AreParts leaves pen size draw items parts)
-    ⊎ ((part : Part) × (rest : List Part) × (parts ≡ part ∷ rest) × IsPartOf leaves pen size draw item part × AreParts leaves pen size draw items rest)
+abbrev pub AreParts : (Placed → Option (OutlineKey × Point)) → (Point → Point) → Size → Draw → List Placed → List Part → Type 0
+AreParts leaves samples size draw [] parts = parts ≡ []
+AreParts leaves samples size draw (item ∷ items) parts =
+    (IsLeftOut leaves samples size item × AreParts leaves samples size draw items parts)
+    ⊎ ((part : Part) × (rest : List Part) × (parts ≡ part ∷ rest) × IsPartOf leaves samples size draw item part × AreParts leaves samples size draw items rest)
 
 -- ---- draws
 
@@ -62,10 +62,10 @@ pub record StandsAtFirst (draw : Draw) : Type 0 where
   pub row : first.dy ≡ pos 0
 
 -- The items are drawn, by one draw; if none of their masks may reach the frame, by none.
-abbrev pub AreDrawn : (Placed → Option Mark) → (Mark → Point) → Size → List Placed → List Draw → Type 0
-AreDrawn leaves pen size items [] = All (IsLeftOut leaves pen size) items
-AreDrawn leaves pen size items (draw ∷ []) = AreParts leaves pen size draw items draw.key.parts × StandsAtFirst draw
-AreDrawn leaves pen size items (draw ∷ others) = ⊥
+abbrev pub AreDrawn : (Placed → Option (OutlineKey × Point)) → (Point → Point) → Size → List Placed → List Draw → Type 0
+AreDrawn leaves samples size items [] = All (IsLeftOut leaves samples size) items
+AreDrawn leaves samples size items (draw ∷ []) = AreParts leaves samples size draw items draw.key.parts × StandsAtFirst draw
+AreDrawn leaves samples size items (draw ∷ others) = ⊥
 
 -- Its masks are widened by radii, and softened.
 pub record IsMadeBy (radii : Radii) (softness : Softness) (part : Part) : Type 0 where
