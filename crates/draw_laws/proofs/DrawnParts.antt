@@ -142,7 +142,7 @@ no_cons x xs e = none-some x (ap (λ ys. slice_get ys 0) e)
 all_left_out : (leaves : Placed → Option (OutlineKey × Point)) (pen : Point → Point) (size : Size) (draw : Draw) (items : List Placed) → AreParts leaves pen size draw items [] → All (IsLeftOut leaves pen size) items
 all_left_out leaves pen size draw [] h = All-nil (IsLeftOut leaves pen size)
 all_left_out leaves pen size draw (item ∷ items) (inl h) = All-cons (IsLeftOut leaves pen size) item items h.0 (all_left_out leaves pen size draw items h.1)
-all_left_out leaves pen size draw (item ∷ items) (inr h) = absurd (no_cons h.0 h.1 h.2.0)
+all_left_out leaves pen size draw (item ∷ items) (inr h) = absurd (no_cons h.0 h.1 h.2)
 
 abbrev pub draw_made : Making → Paint → Clip → Stamp → List Stamp → Draw
 draw_made making paint clip first rest = record {

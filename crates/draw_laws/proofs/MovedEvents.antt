@@ -1,6 +1,6 @@
 -- Whole pixels move all draws of an event.
 use Rattle.std.proofs.Common.{◌≡◌, sym, ap, ◌∙◌, ℕ, Option, option_map, List, ◌++◌, flat_map, ℤ, subst}
-use Rattle.std.specs.List.{AllZip}
+use Rattle.std.specs.List.{All, AllZip}
 use Rattle.std.specs.Prelude.{slice_index_or}
 use Rattle.ass_events.specs.declared.event.Event.{Event}
 use Rattle.ass_num.specs.Limits.{IsFrameSize}
@@ -13,10 +13,12 @@ use Rattle.event_draws.specs.Stages.{stage_at}
 use Rattle.event_draws.specs.declared.stage.Stage.{Stage}
 use Rattle.frame_view.specs.FrameScales.{IsScales}
 use Rattle.frame_view.specs.declared.view.FrameView.{FrameView}
+use Rattle.mask_keys.specs.declared.plans.Clip.{Clip}
 use Rattle.mask_keys.specs.declared.plans.Draw.{Draw}
 use Rattle.override_tags.specs.declared.view.EventView.{EventView}
 use Rattle.text_layout.specs.LineScales.{line_scales}
 use Rattle.text_layout.specs.declared.laid.Laid.{Laid}
+use Rattle.text_layout.specs.declared.laid.Line.{Line}
 use Rattle.draw_laws.specs.Moves.{AreMovedAlike, IsMovedDraw, IsNearFrame, IsWholeMove, WholePixelsMoveDraws, place_from, shown_at}
 use Rattle.draw_laws.proofs.ListPairs.{zip_append, zip_flat}
 use Rattle.draw_laws.proofs.MovedMarks.{moved_stage}
@@ -24,6 +26,12 @@ use Rattle.draw_laws.proofs.MovedNumbers.{whole_step}
 use Rattle.draw_laws.proofs.MovedRuns.{AreRowDrawsMoved, later, row_moved}
 use Rattle.draw_laws.proofs.MovedStages.{stage_moved}
 use Rattle.draw_laws.proofs.MovedViews.{same_draws, same_near}
+
+each_line : (stage : Stage) (fonts : List FontValue) (view : EventView) (laid : Laid) (columns rows : ℤ) (clip : Clip) → IsFrameSize stage.size
+    → IsNearFrame stage fonts view laid → IsNearFrame (later stage columns rows) fonts view laid
+    → All (λ (line : Line). AreRowDrawsMoved stage columns rows clip (row_on stage fonts view laid line) (row_on (later stage columns rows) fonts view laid line)) laid.lines
+each_line stage fonts view laid columns rows clip framed near far = λ k d within.
+    row_moved stage fonts view (slice_index_or laid.lines k d) (items_of laid (slice_index_or laid.lines k d)) columns rows clip framed (near k d within) (far k d within)
 
 -- The draws of an event on a stage that is moved by whole pixels.
 stage_draws_moved : (stage : Stage) (fonts : List FontValue) (view : EventView) (laid : Laid) (columns rows : ℤ) → IsFrameSize stage.size
@@ -35,7 +43,7 @@ stage_draws_moved stage fonts view laid columns rows framed near far =
     let moved = later stage columns rows in
     let here = draw_rows stage fonts view laid in
     let there = draw_rows moved fonts view laid in
-    let each = λ (k : ℕ) d within. row_moved stage fonts view (slice_index_or laid.lines k d) (items_of laid (slice_index_or laid.lines k d)) columns rows clip framed (near k d within) (far k d within) in
+    let each = each_line stage fonts view laid columns rows clip framed near far in
     zip_append R (flat_map (row_shadows stage clip) here ++ flat_map (row_borders stage clip) here) (flat_map (row_shadows moved clip) there ++ flat_map (row_borders moved clip) there)
     (flat_map (row_fills stage clip) here) (flat_map (row_fills moved clip) there)
     (zip_append R (flat_map (row_shadows stage clip) here) (flat_map (row_shadows moved clip) there) (flat_map (row_borders stage clip) here) (flat_map (row_borders moved clip) there)

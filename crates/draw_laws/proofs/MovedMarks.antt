@@ -49,7 +49,9 @@ by_segs : (by : Point) (stage : Stage) (state : State) (pen : Point) (path : Pat
 by_segs by stage state pen path [] = refl
 by_segs by stage state pen path (s ∷ segs) =
     let made = drawing_mark stage state pen path (s ∷ segs) in
-    ap (λ (at : Point). option_map (λ (mark : Mark). record mark { pen = at }) made) (same_point _ _ _ _ refl (omega (arith, ints)))
+    let height = (drawn_extent (drawing_matrix stage.scales state) (s ∷ segs)).ascent in
+    ap (λ (at : Point). option_map (λ (mark : Mark). record mark { pen = at }) made)
+    (same_point (pen.x +ℤ by.x) (pen.x +ℤ by.x) ((pen.y +ℤ by.y) -ℤ height) ((pen.y -ℤ height) +ℤ by.y) refl (omega (arith, ints)))
 
 by_outline : (by pen : Point) (o : Option OutlineKey)
     → option_map (λ (key : OutlineKey). let m : Mark = record { outline = key; pen = point_sum pen by } in m) o
@@ -83,7 +85,8 @@ marks_moved by stage fonts view line items =
 
 pub box_moved : (by : Point) (stage : Stage) (line : Line) (state : State) → box_mark (moved_stage by stage) line state ≡ moved_mark by (box_mark stage line state)
 box_moved by stage line state =
-    ap (λ (at : Point). record (box_mark stage line state) { pen = at }) (same_point _ _ _ _ (omega (arith, ints)) (omega (arith, ints)))
+    let pens : (box_mark (moved_stage by stage) line state).pen ≡ point_sum (box_mark stage line state).pen by = same_point _ _ _ _ (omega (arith, ints)) (omega (arith, ints)) in
+    ap (λ (at : Point). record (box_mark stage line state) { pen = at }) pens
 
 -- ---- stamps
 

@@ -3,7 +3,7 @@ use Rattle.std.proofs.Common.{◌≡◌, refl, sym, ap, ap₂, ◌∙◌, ℕ, �
 use Rattle.std.specs.List.{All}
 use Rattle.std.specs.Option.{IfSome, option_map_or}
 use Rattle.std.specs.Prelude.{slice_index_or}
-use Rattle.std.proofs.lemmas.Bool.{false≢true}
+use Rattle.std.proofs.lemmas.Bool.{eq-eqb, false≢true}
 use Rattle.std.proofs.lemmas.Int.{ints, clamps}
 use Rattle.std.proofs.lemmas.List.Elements.{All-head}
 use Rattle.std.proofs.lemmas.Option.{none-some, slice_get-get_or}
@@ -116,7 +116,7 @@ sung_moved size columns fade elapsed state left right later last (Some s) framed
 left_moved : (stage : Stage) (columns rows : ℤ) (items : List Placed) → 0 < length items
     → left_end (moved_stage (whole_step columns rows) stage) items ≡ left_end stage items +ℤ (pos 64 *ℤ columns)
 left_moved stage columns rows [] some = absurd (omega arith)
-left_moved stage columns rows (a ∷ items) some = omega (arith, ints)
+left_moved stage columns rows (a ∷ items) some = turned_sum stage.corner.x (pos 64 *ℤ columns) a.x
 
 right_moved : (stage : Stage) (columns rows : ℤ) (items : List Placed) → 0 < length items
     → right_end (moved_stage (whole_step columns rows) stage) items ≡ right_end stage items +ℤ (pos 64 *ℤ columns)
@@ -125,7 +125,8 @@ right_moved stage columns rows (a ∷ items) some =
     let moved = moved_stage (whole_step columns rows) stage in
     let last = get_or (a ∷ items) (length (a ∷ items) - 1) a in
     let found : slice_get (a ∷ items) (length (a ∷ items) - 1) ≡ Some last = slice_get-get_or (a ∷ items) (length (a ∷ items) - 1) a (omega arith) in
-    let there : right_of moved last ≡ right_of stage last +ℤ (pos 64 *ℤ columns) = omega (arith, ints) in
+    let there : right_of moved last ≡ right_of stage last +ℤ (pos 64 *ℤ columns) =
+    ap (λ (z : ℤ). z +ℤ last.advance) (turned_sum stage.corner.x (pos 64 *ℤ columns) last.x) ∙ turned_sum (stage.corner.x +ℤ last.x) (pos 64 *ℤ columns) last.advance in
     ap (λ (o : Option Placed). option_map_or (right_of moved) o (pos 0)) found ∙ there
     ∙ ap (λ (o : Option Placed). option_map_or (right_of stage) o (pos 0) +ℤ (pos 64 *ℤ columns)) (sym found)
 
@@ -135,7 +136,7 @@ IsSungWithSome view items item = (s : Syllable) → (state_of view item).sung �
 
 same_self : (o : Option Syllable) (s : Syllable) → o ≡ Some s → same_syllable o o ≡ true
 same_self None s e = absurd (none-some s e)
-same_self (Some a) s e = grind arith
+same_self (Some a) s e = eq-eqb a.index a.index refl
 
 each_sung : (view : EventView) (items : List Placed) → All (IsSungWithSome view items) items
 each_sung view items = λ k d within s e.

@@ -181,13 +181,13 @@ row_moved stage fonts view line (item ∷ items) columns rows clip framed near f
     let state = state_of view item in
     let boxed = state.border_style == boxed_style in
     let all = item ∷ items in
-    let now = run_of stage fonts view line all in
+    let here = run_of stage fonts view line all in
     let moved = run_of (later stage columns rows) fonts view line all in
     let runs = runs_of view all in
     let each = each_run stage fonts view line all columns rows clip framed near.runs far.runs in
     let box = box_draws_moved stage line state columns rows clip framed (box_marks stage line state columns rows near.box far.box) in
     record {
-      shadows = zip_if R boxed _ _ _ _ box.shadow (zip_flat R (run_shadow stage clip false) (run_shadow (later stage columns rows) clip false) now moved runs (λ k d within. (each k d within).shadows false));
-      borders = zip_if R boxed _ _ _ _ box.border (zip_flat R (run_border stage clip false) (run_border (later stage columns rows) clip false) now moved runs (λ k d within. (each k d within).borders false));
-      fills = zip_flat R (run_fill stage clip boxed) (run_fill (later stage columns rows) clip boxed) now moved runs (λ k d within. (each k d within).fills boxed);
+      shadows = zip_if R boxed _ _ _ _ box.shadow (zip_flat R (run_shadow stage clip false) (run_shadow (later stage columns rows) clip false) here moved runs (λ k d within. (each k d within).shadows false));
+      borders = zip_if R boxed _ _ _ _ box.border (zip_flat R (run_border stage clip false) (run_border (later stage columns rows) clip false) here moved runs (λ k d within. (each k d within).borders false));
+      fills = zip_flat R (run_fill stage clip boxed) (run_fill (later stage columns rows) clip boxed) here moved runs (λ k d within. (each k d within).fills boxed);
     }

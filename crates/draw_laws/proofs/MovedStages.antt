@@ -1,8 +1,8 @@
 -- Where an event stands whose places are moved by whole pixels.
-use Rattle.std.proofs.Common.{◌≡◌, refl, sym, ap, ap₂, ◌∙◌, ℕ, ◌*◌, ◌<◌, ◌≤◌, Option, Some, None, option_map, ℤ, pos, ◌+ℤ◌, ◌-ℤ◌, ◌*ℤ◌, arith}
+use Rattle.std.proofs.Common.{◌≡◌, refl, sym, ap, ap₂, ◌∙◌, ℕ, ◌*◌, ◌<◌, ◌≤◌, Option, Some, None, option_map, ℤ, pos, negsuc, ◌+ℤ◌, ◌-ℤ◌, ◌*ℤ◌, arith}
 use Rattle.std.proofs.lemmas.Int.{ints}
 use Rattle.ass_events.specs.declared.event.Event.{Event}
-use Rattle.ass_num.proofs.Floor.{floor_div-add_mul}
+use Rattle.ass_num.proofs.Floor.{floor_div-add_mul, product-add}
 use Rattle.ass_num.specs.Floor.{floor_div}
 use Rattle.ass_num.specs.declared.geometry.Point.{Point}
 use Rattle.ass_script.specs.Scripts.{ScriptValue}
@@ -23,9 +23,26 @@ use Rattle.draw_laws.proofs.MovedNumbers.{same_point, whole_step}
 
 -- ---- places
 
+units_out : (z : ℤ) (n : ℕ) → z *ℤ pos (64 * n) ≡ pos 64 *ℤ (z *ℤ pos n)
+units_out (pos a) n = omega (arith, ints)
+units_out (negsuc a) n = omega (arith, ints)
+
+factor_out : (z : ℤ) (n : ℕ) → (pos 64 *ℤ z) *ℤ pos n ≡ pos 64 *ℤ (z *ℤ pos n)
+factor_out z n =
+    let twice = λ (x : ℤ). product-add x x n in
+    let b = z +ℤ z in
+    let c = b +ℤ b in
+    let d = c +ℤ c in
+    let e = d +ℤ d in
+    let f = e +ℤ e in
+    let sum : pos 64 *ℤ z ≡ f +ℤ f = omega (arith, ints) in
+    ap (λ (x : ℤ). x *ℤ pos n) sum ∙ omega (arith, ints, twice z, twice b, twice c, twice d, twice e, twice f)
+
 multiple_moved : (len by columns : ℤ) (pixels units : ℕ) → by *ℤ pos pixels ≡ columns *ℤ pos (1000 * units)
     → (len +ℤ by) *ℤ pos (64 * pixels) ≡ (len *ℤ pos (64 * pixels)) +ℤ ((pos 64 *ℤ columns) *ℤ pos (1000 * units))
-multiple_moved len by columns pixels units whole = omega (arith, ints, whole)
+multiple_moved len by columns pixels units whole =
+    product-add len by (64 * pixels)
+    ∙ ap (λ (z : ℤ). (len *ℤ pos (64 * pixels)) +ℤ z) (units_out by pixels ∙ (ap (λ (z : ℤ). pos 64 *ℤ z) whole ∙ sym (factor_out columns (1000 * units))))
 
 length_moved : (len by columns : ℤ) (pixels units : ℕ) → 1 ≤ units → by *ℤ pos pixels ≡ columns *ℤ pos (1000 * units)
     → framed (len +ℤ by) pixels units ≡ framed len pixels units +ℤ (pos 64 *ℤ columns)

@@ -7,6 +7,7 @@ use Rattle.std.proofs.lemmas.Bool.{and_parts, eqb-true, false≢true}
 use Rattle.std.proofs.lemmas.Int.{ints}
 use Rattle.std.proofs.lemmas.List.Elements.{All-nil}
 use Rattle.ass_num.proofs.OrderLemmas.{lt_is, lt_true}
+use Rattle.ass_num.proofs.RegionLemmas.{zero_test}
 use Rattle.ass_num.specs.declared.colour.Rgba.{Rgba}
 use Rattle.ass_num.specs.declared.geometry.Point.{Point}
 use Rattle.bdf_font.specs.Fonts.{FontValue}
@@ -28,9 +29,9 @@ use Rattle.tag_arguments.specs.declared.kinds.Sung.TheVariants.{Jump, Outline, S
 use Rattle.text_layout.specs.declared.laid.Line.{Line}
 use Rattle.text_layout.specs.declared.laid.Placed.{Placed}
 use Rattle.draw_laws.specs.Layers.{AreBorderRadii, AreMasksOf, AwaitsBorder, IsBoxDrawn, IsCast, IsFillDraw, IsPlainDraw, IsRunDrawn, IsSoftenedBare, LineDraws, RunDraws, box_left, pen_in}
-use Rattle.draw_laws.specs.Parts.{AreMadeBy}
+use Rattle.draw_laws.specs.Parts.{AreDrawn, AreMadeBy}
 use Rattle.draw_laws.specs.Shades.{back_of, outline_of}
-use Rattle.draw_laws.proofs.DrawnParts.{LeaveMarks, draw_made, drawn_together, each_made, masks_drawn, no_cons, parts_made}
+use Rattle.draw_laws.proofs.DrawnParts.{LeaveMarks, draw_made, drawn_together, each_made, making_pen, masks_drawn, no_cons, parts_made}
 use Rattle.draw_laws.proofs.LeftColours.{filled_left, one_colour_left}
 use Rattle.draw_laws.proofs.Types.{Making, Mark, Run, Stamp}
 
@@ -41,13 +42,10 @@ radii_by x y h =
     let p = and_parts (x == 0) (y == 0) h in
     ap (λ (n : ℕ). let r : Radii = record { x = n; y = y } in r) (eqb-true x 0 p.0) ∙ ap (λ (n : ℕ). let r : Radii = record { x = 0; y = n } in r) (eqb-true y 0 p.1)
 
-offset_by : (z : ℤ) → int_eq z (pos 0) ≡ true → z ≡ pos 0
-offset_by z h = grind (arith, ints)
-
 offsets_by : (x y : ℤ) → (int_eq x (pos 0) && int_eq y (pos 0)) ≡ true → (let o : Offsets = record { x = x; y = y } in o) ≡ no_offsets
 offsets_by x y h =
     let p = and_parts (int_eq x (pos 0)) (int_eq y (pos 0)) h in
-    ap (λ (z : ℤ). let o : Offsets = record { x = z; y = y } in o) (offset_by x p.0) ∙ ap (λ (z : ℤ). let o : Offsets = record { x = pos 0; y = z } in o) (offset_by y p.1)
+    ap (λ (z : ℤ). let o : Offsets = record { x = z; y = y } in o) (zero_test x p.0) ∙ ap (λ (z : ℤ). let o : Offsets = record { x = pos 0; y = z } in o) (zero_test y p.1)
 
 -- A list by a test that says whether there is nothing.
 record IsByTest (Nothing : Type 0) (draws made : List Draw) : Type 0 where
@@ -89,15 +87,20 @@ radii_if stage state false false says met = record { boxed = λ e. absurd (false
 
 radii_are : (stage : Stage) (boxed : Bool) (state : State) → AreBorderRadii stage boxed state (border_radii stage boxed state)
 radii_are stage boxed state =
-    radii_if stage state boxed (lacks_border stage.elapsed state.sung) (awaiting stage.elapsed state.sung) (λ w. lacking stage.elapsed state.sung w.0 w.1.0 w.1.1.0 w.1.1.1)
+    radii_if stage state boxed (lacks_border stage.elapsed state.sung) (awaiting stage.elapsed state.sung) (λ w. lacking stage.elapsed state.sung w.0 w.1 w.2 w.3)
 
 -- ---- masks
 
+-- Masks are made with an angle and offsets.
+record AreMasksBy (stage : Stage) (leaves : Placed → Option (OutlineKey × Point)) (making : Making) (items : List Placed) (P : Draw → Type 0) (draws : List Draw) : Type 0 where
+  masks : AreDrawn leaves (making_pen stage making) stage.size items draws
+  each : All P draws
+
 -- The draws of what is left of items, made in one way.
-masks_of : (stage : Stage) (leaves : Placed → Option (OutlineKey × Point)) (gives : Placed → Option Mark) (state : State) (making : Making) (paint : Paint) (clip : Clip) (items : List Placed) (P : Draw → Type 0) (offsets : Offsets)
-    → LeaveMarks leaves gives → making.angle ≡ state.angle → making.offsets ≡ offsets → ((first : Stamp) (rest : List Stamp) → P (draw_made making paint clip first rest))
-    → AreMasksOf stage leaves state offsets items P (draw_of_marks stage making paint clip (filter_map gives items))
-masks_of stage leaves gives state making paint clip items P offsets same refl refl each = record {
+masks_of : (stage : Stage) (leaves : Placed → Option (OutlineKey × Point)) (gives : Placed → Option Mark) (state : State) (making : Making) (paint : Paint) (clip : Clip) (items : List Placed)
+    (P : Draw → Type 0) → LeaveMarks leaves gives → ((first : Stamp) (rest : List Stamp) → P (draw_made making paint clip first rest))
+    → AreMasksBy stage leaves making items P (draw_of_marks stage making paint clip (filter_map gives items))
+masks_of stage leaves gives state making paint clip items P same each = record {
   masks = masks_drawn stage making paint clip leaves gives items same;
   each = each_made P making paint clip (stamps_of stage making (filter_map gives items)) each;
 }
@@ -109,12 +112,13 @@ plain_masks : (stage : Stage) (leaves : Placed → Option (OutlineKey × Point))
 plain_masks stage leaves gives state radii offsets colour clip items same =
     let making : Making = record { angle = state.angle; radii = radii; softness = softness_in stage state; offsets = offsets } in
     let paint = plain_paint (faded_colour stage.fade colour) in
-    masks_of stage leaves gives state making paint clip items (IsPlainDraw stage radii state colour clip) offsets same refl refl
+    let made = masks_of stage leaves gives state making paint clip items (IsPlainDraw stage radii state colour clip) same
     (λ first rest. record {
       made = parts_made making paint clip first rest;
       colour = one_colour_left stage.fade colour (draw_made making paint clip first rest) (record { left = refl; right = refl });
       clip = refl;
-    })
+    }) in
+    record { masks = made.masks; each = made.each }
 
 -- What is cast, by the test of its offsets.
 cast_is : (stage : Stage) (leaves : Placed → Option (OutlineKey × Point)) (gives : Placed → Option Mark) (state : State) (radii : Radii) (clip : Clip) (items : List Placed) → LeaveMarks leaves gives
@@ -149,11 +153,12 @@ fill_masks : (stage : Stage) (leaves : Placed → Option (OutlineKey × Point)) 
 fill_masks stage leaves gives boxed clip state l r items same =
     let making = fill_making stage boxed state in
     let paint = fill_paint stage.fade stage.elapsed state l r in
-    masks_of stage leaves gives state making paint clip items (IsFillDraw stage state clip) no_offsets same refl refl
+    let made = masks_of stage leaves gives state making paint clip items (IsFillDraw stage state clip) same
     (λ first rest. record {
       colours = filled_left stage.fade stage.elapsed state l r (draw_made making paint clip first rest) (record { left = refl; right = refl });
       clip = refl;
-    })
+    }) in
+    record { masks = made.masks; each = made.each }
 
 nothing_over : (under over : Making) (p q : Paint) (clip : Clip) (P : Draw → Type 0) (stamps : List Stamp) → draw_of under p clip stamps ≡ [] → All P (draw_of over q clip stamps)
 nothing_over under over p q clip P [] e = All-nil P

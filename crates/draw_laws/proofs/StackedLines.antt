@@ -29,19 +29,18 @@ use Rattle.text_layout.specs.LineScales.{line_scales}
 use Rattle.text_layout.specs.Lines.{advances_of, block_height, block_width, heights_of, line_at, line_extent, line_extents, lines_from, placed_from, placed_in, placed_item}
 use Rattle.text_layout.specs.Metrics.{all_metrics}
 use Rattle.text_layout.specs.Spans.{AreSpans, paragraphs_of}
-use Rattle.text_layout.specs.declared.anchors.AnchorSide.{AnchorSide}
-use Rattle.text_layout.specs.declared.anchors.AnchorSide.TheVariants.{Far, Middle, Near}
 use Rattle.text_layout.specs.declared.extents.Extent.{Extent}
 use Rattle.text_layout.specs.declared.laid.Laid.{Laid}
 use Rattle.text_layout.specs.declared.laid.Line.{Line}
 use Rattle.text_layout.specs.declared.laid.Placed.{Placed}
 use Rattle.text_layout.specs.declared.metrics.Metrics.{Metrics}
 use Rattle.text_layout.specs.declared.spans.Span.{Span}
+use Rattle.draw_laws.proofs.Types.{Side}
 use Rattle.draw_laws.specs.Stacks.{AreLinesOfItems, AreSideBySide, AreStacked, IsAligned, IsLineOfItems, IsStackedBlock}
 
 -- ---- lines below one another
 
-stacked : (column : AnchorSide) (across top : ℤ) (spans : List Span) (f : Span → Extent)
+stacked : (column : Side) (across top : ℤ) (spans : List Span) (f : Span → Extent)
     → AreStacked top (fold ◌+ℤ◌ top (heights_of (map f spans))) (lines_from column across top spans (map f spans))
 stacked column across top [] f = refl
 stacked column across top (span ∷ spans) f = (refl, stacked column across (top +ℤ ((f span).ascent +ℤ (f span).descent)) spans f)
@@ -54,7 +53,7 @@ gone_on left here advance there e = omega (arith, ints, e)
 
 side_by_side : (ws : List ℤ) (number : ℕ) (line : Line) (a n : ℕ) → a + n ≤ length ws
     → AreSideBySide a (a + n) (line.left +ℤ width ws line.first a) (line.left +ℤ width ws line.first (a + n)) (map (placed_item ws number line) (range_with_len a n))
-side_by_side ws number line a zero within = (omega arith, refl)
+side_by_side ws number line a zero within = (omega arith, ap (λ (m : ℕ). line.left +ℤ width ws line.first m) (let e : a ≡ a + 0 = omega arith in e))
 side_by_side ws number line a (suc n) within =
     let here = line.left +ℤ width ws line.first a in
     let advance = slice_index_or ws a (pos 0) in
@@ -84,7 +83,7 @@ line_of_items ws number line ordered within wide =
           (side_by_side ws number line line.first (line.last - line.first) (omega (arith, ordered, within)))));
     }
 
-lines_of_items : (metrics : List Metrics) (shown : List Shown) (es : List Extent) (column : AnchorSide) (number from end : ℕ) (across top : ℤ) (spans : List Span)
+lines_of_items : (metrics : List Metrics) (shown : List Shown) (es : List Extent) (column : Side) (number from end : ℕ) (across top : ℤ) (spans : List Span)
     → AreSpans from end spans → end ≤ length (advances_of es) + 1
     → AreLinesOfItems number (lines_from column across top spans (line_extents metrics shown es spans))
     (placed_from (advances_of es) number (lines_from column across top spans (line_extents metrics shown es spans)))
@@ -102,7 +101,7 @@ lines_of_items metrics shown es column number from end across top (span ∷ span
 
 -- ---- the block
 
-across_block : (column : AnchorSide) (across top : ℤ) (spans : List Span) (f : Span → Extent) → All (λ (e : Extent). e.advance ≤ℤ across) (map f spans)
+across_block : (column : Side) (across top : ℤ) (spans : List Span) (f : Span → Extent) → All (λ (e : Extent). e.advance ≤ℤ across) (map f spans)
     → All (λ (line : Line). line.width ≤ℤ across) (lines_from column across top spans (map f spans))
 across_block column across top [] f h = All-nil (λ (line : Line). line.width ≤ℤ across)
 across_block column across top (span ∷ spans) f h =
@@ -110,13 +109,13 @@ across_block column across top (span ∷ spans) f h =
     (across_block column across (top +ℤ ((f span).ascent +ℤ (f span).descent)) spans f (All-tail (λ (e : Extent). e.advance ≤ℤ across) (f span) (map f spans) h))
 
 -- Where a line stands, by the edge of its column.
-record IsColumn (align : ℕ) (left room : ℤ) : Type 0 where
+record IsColumnPlace (align : ℕ) (left room : ℤ) : Type 0 where
   left : align % 3 ≡ 1 → left ≡ pos 0
   least : align % 3 ≡ 2 → (pos 2 *ℤ left) ≤ℤ room
   most : align % 3 ≡ 2 → room <ℤ ((pos 2 *ℤ left) +ℤ pos 2)
   right : align % 3 ≡ 0 → left ≡ room
 
-by_columns : (align : ℕ) (room : ℤ) (b c : Bool) → (align % 3 == 1) ≡ b → (align % 3 == 2) ≡ c → IsColumn align (edge_within (cond b Near (cond c Middle Far)) room) room
+by_columns : (align : ℕ) (room : ℤ) (b c : Bool) → (align % 3 == 1) ≡ b → (align % 3 == 2) ≡ c → IsColumnPlace align (edge_within (cond b (edge_across 1) (cond c (edge_across 2) (edge_across 3))) room) room
 by_columns align room true c eb ec =
     let is = eqb-true (align % 3) 1 eb in
     record { left = λ e. refl; least = λ e. absurd (omega (arith, is, e)); most = λ e. absurd (omega (arith, is, e)); right = λ e. absurd (omega (arith, is, e)) }

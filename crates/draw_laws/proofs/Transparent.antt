@@ -29,6 +29,7 @@ use Rattle.text_layout.specs.declared.laid.Laid.{Laid}
 use Rattle.text_layout.specs.declared.laid.Line.{Line}
 use Rattle.text_layout.specs.declared.laid.Placed.{Placed}
 use Rattle.draw_laws.specs.Fades.{IsTransparent}
+use Rattle.draw_laws.specs.Shades.{primary_of, secondary_of}
 use Rattle.draw_laws.proofs.Types.{Making, Row, Run, Stamp}
 
 -- ---- paints
@@ -54,7 +55,7 @@ clear_sung : (fade : ℕ) (elapsed : ℤ) (state : State) (left right : ℤ) (su
 clear_sung fade elapsed state left right None e = clear_plain fade _ e
 clear_sung fade elapsed state left right (Some s) e =
     clear_if (is_swept elapsed s) (swept_paint fade elapsed state left right s) (plain_paint (primary fade state))
-    (record { left = clear_colour fade _ e; right = clear_colour fade _ e }) (clear_plain fade _ e)
+    (record { left = clear_colour fade (primary_of state) e; right = clear_colour fade (secondary_of state) e }) (clear_plain fade _ e)
 
 clear_fill : (fade : ℕ) (elapsed : ℤ) (state : State) (left right : ℤ) → fade ≡ 255 → IsClear (fill_paint fade elapsed state left right)
 clear_fill fade elapsed state left right e =
@@ -97,7 +98,9 @@ IsClearRow row = All IsClearRun row.runs
 clear_run : (stage : Stage) (fonts : List FontValue) (view : EventView) (line : Line) (items run : List Placed) → stage.fade ≡ 255
     → IfSome (run_of stage fonts view line items run) IsClearRun
 clear_run stage fonts view line items [] e = tt
-clear_run stage fonts view line items (item ∷ run) e = clear_fill stage.fade stage.elapsed (state_of view item) _ _ e
+clear_run stage fonts view line items (item ∷ run) e = 
+    clear_fill stage.fade stage.elapsed (state_of view item) (left_end stage (sung_with view (state_of view item) items))
+    (right_end stage (sung_with view (state_of view item) items)) e
 
 clear_row : (stage : Stage) (fonts : List FontValue) (view : EventView) (line : Line) (items : List Placed) → stage.fade ≡ 255
     → IfSome (row_by stage fonts view line items) IsClearRow

@@ -82,10 +82,10 @@ AwaitsBorder elapsed state = (s : Syllable) × (state.sung ≡ Some s) × (s.kin
 
 -- These are the radii of a run's border: those of its state; but none in a line that has a box, and none before a syllable begins that
 -- the border comes with.
-pub record AreBorderRadii (stage : Stage) (boxed : Bool) (state : State) (radii : Radii) : Type 0 where
-  pub boxed : boxed ≡ true → radii ≡ no_radii
+pub record AreBorderRadii (stage : Stage) (in_box : Bool) (state : State) (radii : Radii) : Type 0 where
+  pub boxed : in_box ≡ true → radii ≡ no_radii
   pub awaited : AwaitsBorder stage.elapsed state → radii ≡ no_radii
-  pub own : boxed ≡ false → (AwaitsBorder stage.elapsed state → ⊥) → radii ≡ radii_of stage.scales state
+  pub own : in_box ≡ false → (AwaitsBorder stage.elapsed state → ⊥) → radii ≡ radii_of stage.scales state
 
 -- ---- one run
 
@@ -117,15 +117,15 @@ abbrev pub pen_in : Stage → State → Offsets → Point → Point
 pen_in stage state offsets pen = pen_of (turned_about stage.origin state.angle pen) offsets
 
 -- A draw is widened by these radii and softened as its state says; it has one colour, and the clip of its event.
-pub record IsPlainDraw (stage : Stage) (radii : Radii) (state : State) (colour : Rgba) (clip : Clip) (draw : Draw) : Type 0 where
+pub record IsPlainDraw (stage : Stage) (radii : Radii) (state : State) (own : Rgba) (bounds : Clip) (draw : Draw) : Type 0 where
   pub made : AreMadeBy radii (softness_of stage.scales state) draw
-  pub colour : HasOneColour stage.fade colour draw
-  pub clip : draw.clip ≡ clip
+  pub colour : HasOneColour stage.fade own draw
+  pub clip : draw.clip ≡ bounds
 
 -- A fill isn't widened.
-pub record IsFillDraw (stage : Stage) (state : State) (clip : Clip) (draw : Draw) : Type 0 where
+pub record IsFillDraw (stage : Stage) (state : State) (bounds : Clip) (draw : Draw) : Type 0 where
   pub colours : IsFilled stage.fade stage.elapsed state draw
-  pub clip : draw.clip ≡ clip
+  pub clip : draw.clip ≡ bounds
 
 -- The masks of what is left of some items in a state, moved by offsets, are drawn, and each draw passes.
 pub record AreMasksOf (stage : Stage) (leaves : Placed → Option (OutlineKey × Point)) (state : State) (offsets : Offsets) (items : List Placed) (Passes : Draw → Type 0) (draws : List Draw) : Type 0 where
