@@ -109,11 +109,11 @@ across_block column across top (span ∷ spans) f h =
     (across_block column across (top +ℤ ((f span).ascent +ℤ (f span).descent)) spans f (All-tail (λ (e : Extent). e.advance ≤ℤ across) (f span) (map f spans) h))
 
 -- Where a line stands, by the edge of its column.
-record IsColumnPlace (align : ℕ) (left room : ℤ) : Type 0 where
-  left : align % 3 ≡ 1 → left ≡ pos 0
-  least : align % 3 ≡ 2 → (pos 2 *ℤ left) ≤ℤ room
-  most : align % 3 ≡ 2 → room <ℤ ((pos 2 *ℤ left) +ℤ pos 2)
-  right : align % 3 ≡ 0 → left ≡ room
+record IsColumnPlace (align : ℕ) (x room : ℤ) : Type 0 where
+  left : align % 3 ≡ 1 → x ≡ pos 0
+  least : align % 3 ≡ 2 → (pos 2 *ℤ x) ≤ℤ room
+  most : align % 3 ≡ 2 → room <ℤ ((pos 2 *ℤ x) +ℤ pos 2)
+  right : align % 3 ≡ 0 → x ≡ room
 
 by_columns : (align : ℕ) (room : ℤ) (b c : Bool) → (align % 3 == 1) ≡ b → (align % 3 == 2) ≡ c → IsColumnPlace align (edge_within (cond b (edge_across 1) (cond c (edge_across 2) (edge_across 3))) room) room
 by_columns align room true c eb ec =

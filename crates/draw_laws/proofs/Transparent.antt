@@ -2,6 +2,7 @@
 use Rattle.std.proofs.Common.{◌≡◌, refl, ap, ℕ, ◌*◌, ◌+◌, ◌-◌, ◌/◌, Bool, true, false, cond, Option, Some, None, List, [], ◌∷◌, ◌++◌, flat_map, filter, ℤ, subst, sym, arith}
 use Rattle.std.specs.List.{All}
 use Rattle.std.specs.Option.{IfSome}
+use Rattle.std.specs.Prelude.{slice_index_or}
 use Rattle.std.proofs.lemmas.List.Elements.{All-append, All-cons, All-nil, All-weaker}
 use Rattle.ass_events.specs.declared.event.Event.{Event}
 use Rattle.ass_num.specs.declared.colour.Rgba.{Rgba}
@@ -138,7 +139,7 @@ clear_event : (stage : Stage) (fonts : List FontValue) (view : EventView) (laid 
 clear_event stage fonts view laid e =
     let clip = clip_by stage.scales view.clip in
     let rows = draw_rows stage fonts view laid in
-    let clear : All IsClearRow rows = all-filter_map (row_on stage fonts view laid) IsClearRow laid.lines (λ k d within. clear_row stage fonts view _ (items_of laid _) e) in
+    let clear : All IsClearRow rows = all-filter_map (row_on stage fonts view laid) IsClearRow laid.lines (λ k d within. clear_row stage fonts view (slice_index_or laid.lines k d) (items_of laid (slice_index_or laid.lines k d)) e) in
     All-append IsTransparent (flat_map (row_shadows stage clip) rows ++ flat_map (row_borders stage clip) rows) (flat_map (row_fills stage clip) rows)
     (All-append IsTransparent (flat_map (row_shadows stage clip) rows) (flat_map (row_borders stage clip) rows)
     (each_row (row_shadows stage clip) rows (λ row k. clear_shadows stage clip row e k) clear)
