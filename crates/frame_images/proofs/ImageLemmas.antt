@@ -1,5 +1,5 @@
 -- From the draws of a picture to its image.
-use Rattle.std.proofs.Common.{◌≡◌, ℕ, ◌*◌, pos, List, length, fold, map, ap, ◌∙◌, refl, subst, sym, arith}
+use Rattle.std.proofs.Common.{◌≡◌, ℕ, ◌*◌, pos, List, [], ◌∷◌, length, fold, map, ap, ◌∙◌, refl, subst, sym, arith}
 use Rattle.alpha_canvas.specs.Alpha.{AreAlphaRows}
 use Rattle.alpha_canvas.specs.declared.pixel.AlphaForm.TheVariants.{Straight}
 use Rattle.ass_num.specs.declared.size.Size.{Size}

@@ -1,5 +1,5 @@
 -- How large pictures are.
-use Rattle.std.proofs.Common.{◌≡◌, ℕ, ◌*◌, List, [], ◌∷◌, fold, ap, refl, sym, ◌∙◌}
+use Rattle.std.proofs.Common.{◌≡◌, ℕ, ◌*◌, List, [], fold, ap, sym, ◌∙◌}
 use Rattle.ass_num.specs.declared.size.Size.{Size}
 use Rattle.bdf_font.specs.Fonts.{FontValue}
 use Rattle.blend.specs.Canvases.{CanvasValue, black}
