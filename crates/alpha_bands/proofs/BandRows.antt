@@ -1,8 +1,6 @@
 -- A picture that is painted chunk by chunk, each of some whole rows.
-use Rattle.std.proofs.Common.{◌≡◌, ℕ, zero, suc, ◌+◌, ◌-◌, ◌*◌, ◌/◌, ◌%◌, ◌^◌, ◌<◌, ◌≤◌, min, Bool, false, ⊎_elim, List, [], ◌∷◌, length, get_or, sym, ap, subst, ◌∙◌, arith}
-use Rattle.std.specs.Bool.{◌==◌}
-use Rattle.std.specs.Fork.{IsChunk, IsInChunk}
-use Rattle.std.specs.List.{slice_index_or}
+use Rattle.std.proofs.Common.{◌≡◌, ℕ, zero, suc, ◌+◌, ◌-◌, ◌*◌, ◌/◌, ◌%◌, ◌^◌, ◌<◌, ◌≤◌, min, ⊎_elim, List, [], ◌∷◌, length, get_or, sym, ap, subst, ◌∙◌, arith}
+use Rattle.std.specs.Fork.{IsChunk}
 use Rattle.std.proofs.Math.Nat.{div-add-mod', lt_of_mul-lt-mul_left, mul-add, mul-div_cancel_left, mul-le-mul_left, mul-le-mul_right, mul_assoc, mul_left_comm, mul-zero, zero-mul}
 use Rattle.std.proofs.lemmas.Bool.{cases_lt}
 use Rattle.ass_num.specs.declared.size.Size.{Size}
@@ -21,17 +19,6 @@ some-sides (suc w) (suc h) some = (omega arith, omega arith)
 
 pub some-chunk : (w rows : ℕ) → 0 < w → 0 < rows → 0 < 4 * w * rows
 some-chunk w rows wide some = let least : 4 * w * 1 ≤ 4 * w * rows = mul-le-mul_left (4 * w) (omega (arith, some)) in omega (arith, least, wide)
-
-pub some-bytes : (b : Bool) (n k : ℕ) → b ≡ (n == 0) → b ≡ false → n ≡ k → 0 < k
-some-bytes b zero k is not same = cc
-some-bytes b (suc n) k is not same = omega arith
-
-some-quotient : (q r b h : ℕ) → q * b + r ≡ h → 0 < h → 0 < q + min 1 r
-some-quotient zero r b h is some = omega (arith, zero-mul b)
-some-quotient (suc q) r b h is some = omega arith
-
-pub some-rows : (h bands : ℕ) → 0 < h → 0 < h / bands + min 1 (h % bands)
-some-rows h bands some = some-quotient (h / bands) (h % bands) bands h (div-add-mod' h bands) some
 
 module _ (size : Size) (rows start : ℕ) (xs ys : List ℕ) (wide : 0 < size.w) (high : size.h < 2 ^ 32) (len : length xs ≡ 4 * (size.h * size.w)) (chunk : IsChunk xs (4 * size.w * rows) start ys) where
   begins-there : start ≡ 4 * (size.w * (start / (4 * size.w * rows) * rows))

@@ -4,6 +4,7 @@ pub mod CountLemmas
 pub mod EarlyRuns
 pub mod FrontLemmas
 pub mod MoreImages
+pub mod PlayPictures
 pub mod RunLemmas
 pub mod SettledFronts
 pub mod SelftestEnds

@@ -1,6 +1,7 @@
 use Rattle.std.proofs.Common.{◌≡◌, ◌*◌, ◌<◌, ◌∙◌, ◌^◌, ℕ, length, map, ap, sym, subst, arith}
-use Rattle.alpha_bands.proofs.BandRows.{chunk-is-band, no-rows, rows-painted, some-bytes, some-chunk, some-rows, some-sides}
+use Rattle.alpha_bands.proofs.BandRows.{chunk-is-band, no-rows, rows-painted, some-chunk, some-sides}
 use Rattle.alpha_bands.proofs.banding.paint_alpha_bands.Goals as goal
+use Rattle.blend.proofs.Bands.{some-bytes, some-rows}
 use Rattle.blend.specs.Images.{image_value}
 
 pub returns-then-is_empty : goal.returns-then-is_empty
