@@ -1,3 +1,4 @@
+pub mod FormatLemmas
 pub mod AgreementLemmas
 pub mod CountLemmas
 pub mod EarlyRuns

@@ -16,13 +16,12 @@ use Rattle.run_status.specs.declared.status.Status.{Status}
 use Rattle.run_status.specs.declared.status.Status.TheVariants.{Done}
 use Rattle.run_words.specs.declared.job.ScriptSource.{ScriptSource}
 
--- The jobs are of the same instants, as often and of the same size. All else may differ.
+-- The jobs are of the same instants, as often, of the same size and in the same format. All else may differ.
 pub record JobsAlike (one other : PlayJob) : Type 0 where
-  pub from : one.from ≡ other.from
-  pub to : one.to ≡ other.to
-  pub step : one.step ≡ other.step
+  pub instants : one.instants ≡ other.instants
   pub times : one.times ≡ other.times
   pub size : one.size ≡ other.size
+  pub format : one.format ≡ other.format
 
 -- The plays are of the same script and fonts, by such jobs.
 pub record PlayAlike (one other : PlayView) : Type 0 where

@@ -11,8 +11,9 @@ use picture_laws::{one_picture, rewritten_scripts_show_the_same};
 use run_status::files_decide;
 use script_laws::generated_scripts_are_read;
 
-/// Two settled plays of the same script and fonts, at the same instants, as often and of the same size, put the same bytes: no number
-/// of feeders, renderers, lines of a batch, lines offered again, instants warmed ahead, bands or bytes of a budget changes one.
+/// Two settled plays of the same script and fonts, at the same instants, as often, of the same size and in the same format, put the
+/// same bytes: no number of feeders, renderers, lines of a batch, lines offered again, instants warmed ahead, bands or bytes of a
+/// budget changes one.
 pub fn settled_plays_agree()
     ensures { SettledPlaysAgree }
 {
@@ -58,7 +59,7 @@ pub fn fronts_go_on()
 {}
 
 /// What a settled play that ended early has written is a prefix of what a whole one puts that is of the same script and fonts, at the
-/// same instants, as often and of the same size.
+/// same instants, as often, of the same size and in the same format.
 pub fn settled_fronts_agree()
     ensures { SettledFrontsAgree }
 {

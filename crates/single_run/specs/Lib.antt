@@ -3,7 +3,6 @@ pub mod Outcomes
 pub mod Outputs
 pub mod Runs
 pub mod CheckReports
-pub mod Instants
 pub mod Lines
 pub mod ChangeReports
 pub mod Laws

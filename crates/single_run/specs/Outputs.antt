@@ -1,15 +1,11 @@
 -- Public: what a job may put to the two sinks.
-use Rattle.std.specs.Prelude.{◌≡◌, ℕ, pos, List, [], length, Result, Ok, Err}
-use Rattle.frame_view.specs.declared.view.FrameView.{FrameView}
+use Rattle.std.specs.Prelude.{◌≡◌, ℕ, List, [], Result, Ok, Err}
 use Rattle.ass_script.specs.Scripts.{ScriptValue}
 use Rattle.ass_events.specs.declared.event.Event.{Event}
-use Rattle.bdf_font.specs.Fonts.{FontValue}
-use Rattle.blend.specs.Canvases.{CanvasValue}
 use Rattle.single_run.specs.ChangeReports.{IsChangesReport}
 use Rattle.single_run.specs.CheckReports.{check_text}
+use Rattle.frame_images.specs.FrameImages.{IsFormattedImage}
 use Rattle.run_status.specs.declared.inputs.Inputs.{Inputs}
-use Rattle.picture_plan.specs.Pictures.{IsPictureAt}
-use Rattle.ppm_text.specs.Images.{image_bytes}
 use Rattle.run_status.specs.declared.status.Status.{Status}
 use Rattle.run_status.specs.declared.status.Status.TheVariants as status
 use Rattle.run_status.specs.declared.status.Which.{Which}
@@ -22,12 +18,6 @@ use Rattle.track_write.specs.declared.refusal.WriteRefusal.TheVariants.{OutOfMem
 use Rattle.single_run.specs.declared.work.Task.{Task}
 use Rattle.single_run.specs.declared.work.Task.TheVariants.{Changes, Check, Frame, Write}
 use Rattle.single_run.specs.declared.work.WriteTask.{WriteTask}
-
--- These bytes are the image of the picture that the events of a script show in fonts at an instant in milliseconds, on a frame; its comment counts these events.
-pub record IsFrameImage (script : ScriptValue) (fonts : List FontValue) (at : ℕ) (view : FrameView) (bytes : List ℕ) : Type 0 where
-  pub canvas : CanvasValue
-  pub is_picture : IsPictureAt script fonts (line_events script) (pos at) view canvas
-  pub value : bytes ≡ image_bytes view.size.w view.size.h canvas.bytes (pos at) (length (line_events script))
 
 -- the text of a script with events, where they are some
 abbrev pub written_with : ScriptValue → Result (List Event) WriteRefusal → Result (List ℕ) WriteRefusal
@@ -48,10 +38,10 @@ abbrev pub task_status : Task → Inputs → Status
 task_status (Write write) inputs = written_status (rewritten write inputs.script)
 task_status _ inputs = status.Done
 
--- What a task may put to the frames sink: a report nothing, a picture its image, whatever the budget, and a script that is written again its text.
+-- What a task may put to the frames sink: a report nothing, a picture its image in its format, whatever the budget, and a script that is written again its text.
 abbrev pub IsFramesOf : Task → Inputs → List ℕ → Type 0
 IsFramesOf Check inputs bytes = bytes ≡ []
-IsFramesOf (Frame frame) inputs bytes = IsFrameImage inputs.script inputs.fonts frame.at frame.view bytes
+IsFramesOf (Frame frame) inputs bytes = IsFormattedImage frame.format inputs.script inputs.fonts frame.at frame.view bytes
 IsFramesOf (Changes changes) inputs bytes = bytes ≡ []
 IsFramesOf (Write write) inputs bytes = rewritten write inputs.script ≡ Ok bytes
 
