@@ -1,11 +1,14 @@
 //! Pictures.
 
-ghost use Rattle.std.specs.Prelude.{◌≡◌, ◌<◌, length, IfOk};
+ghost use Rattle.std.specs.Prelude.{◌≡◌, ◌<◌, List, length, IfOk};
+ghost use Rattle.ass_events.specs.Histories.{Entry, IsHistory, live};
 ghost use Rattle.ass_num.specs.Limits.{IsFrameSize, IsWithin, max_instant};
 ghost use Rattle.mask_keys.specs.Keys.{IsValidPlan};
 ghost use Rattle.mask_keys.specs.Outlines.{glyph_counts};
+ghost use Rattle.mask_keys.specs.Pictures.{picture};
 ghost use Rattle.frame_view.specs.FrameViews.{IsFrameView, plain_frame};
 ghost use Rattle.picture_plan.specs.Pictures.{AreDraws, IsPictureAt};
+ghost use Rattle.track_history.specs.Answers.{IsSceneOf};
 
 use crate::player::Player;
 use ass_num::{Mem, Size};
@@ -15,6 +18,7 @@ use mask_keys::Plan;
 use picture_plan::{laws, plan_of_spans};
 use std::alloc::Global;
 use text_layout::Setting;
+use track_history::Scene;
 
 impl Player {
     /// The draws of what the live events show at an instant.
@@ -36,6 +40,55 @@ impl Player {
         plan_of_spans(alloc, &setting, near.events.as_slice(), spans, t)
     }
 
+    /// The draws of what a look at a track shows.
+    pub(crate) fn plan_of(&self, alloc: Global, scene: &Scene, frame: &FrameView) -> Mem<Plan>
+        requires fonts { 0 < length self.now.fonts }
+        requires scene { (history : List Entry) × IsHistory history × IsSceneOf history scene.now.t scene.now }
+        requires instant { IsWithin max_instant scene.now.t }
+        requires frame { IsFrameView frame.now }
+        ensures draws { (history : List Entry) → IsSceneOf history scene.now.t scene.now
+            → IfOk result (λ plan. AreDraws self.now.script self.now.fonts (live history) scene.now.t frame.now plan.draws) }
+        ensures valid { IfOk result (λ plan. IsValidPlan (glyph_counts self.now.fonts) plan.draws) }
+    {
+        let setting = Setting {
+            script: &self.script,
+            fonts: &self.fonts,
+            frame: *frame,
+        };
+        let spans = scene.spans.as_slice();
+        plan_of_spans(alloc, &setting, scene.events.as_slice(), spans, scene.t)
+    }
+
+    /// The picture of a plan.
+    fn draw_plan(&mut self, alloc: Global, plan: &Plan, size: &Size) -> Mem<Canvas>
+        requires plan { IsValidPlan (glyph_counts self.old.fonts) plan.now.draws }
+        requires size { IsFrameSize size.now }
+        ensures picture { IfOk result (λ canvas. canvas ≡ picture self.old.fonts size.now plan.now.draws) }
+        ensures width { IfOk result (λ canvas. canvas.w ≡ size.now.w) }
+        ensures height { IfOk result (λ canvas. canvas.h ≡ size.now.h) }
+        ensures same { self.new ≡ self.old }
+    {
+        let mut canvas = Canvas::new(alloc, size)?;
+        self.local.paint(alloc, plan, &mut canvas)?;
+        Ok(canvas)
+    }
+
+    /// The picture of what a look at a track shows, in a frame as the script sees it.
+    pub fn draw_scene(&mut self, alloc: Global, scene: &Scene, frame: &FrameView) -> Mem<Canvas>
+        requires fonts { 0 < length self.old.fonts }
+        requires scene { (history : List Entry) × IsHistory history × IsSceneOf history scene.now.t scene.now }
+        requires instant { IsWithin max_instant scene.now.t }
+        requires frame { IsFrameView frame.now }
+        ensures picture { (history : List Entry) → IsSceneOf history scene.now.t scene.now
+            → IfOk result (IsPictureAt self.old.script self.old.fonts (live history) scene.now.t frame.now) }
+        ensures width { IfOk result (λ canvas. canvas.w ≡ frame.now.size.w) }
+        ensures height { IfOk result (λ canvas. canvas.h ≡ frame.now.size.h) }
+        ensures same { self.new ≡ self.old }
+    {
+        let plan = self.plan_of(alloc, scene, frame)?;
+        self.draw_plan(alloc, &plan, &frame.size)
+    }
+
     /// The picture that the live events show at an instant, in milliseconds, in a frame as the script sees it. Whatever the
     /// caches keep and whatever was drawn before, it is the same.
     pub fn draw_in(&mut self, alloc: Global, t: i64, frame: &FrameView) -> Mem<Canvas>
@@ -48,9 +101,7 @@ impl Player {
         ensures same { self.new ≡ self.old }
     {
         let plan = self.plan_at(alloc, t, frame)?;
-        let mut canvas = Canvas::new(alloc, &frame.size)?;
-        self.local.paint(alloc, &plan, &mut canvas)?;
-        Ok(canvas)
+        self.draw_plan(alloc, &plan, &frame.size)
     }
 
     /// The same in a frame of which the size alone is known.

@@ -1,14 +1,21 @@
 //! What a player's track is fed, and flushing it.
 
-ghost use Rattle.std.specs.Prelude.{◌≡◌, ◌≤◌, length, fold, OnOk, OnErr};
+ghost use Rattle.std.specs.Prelude.{◌≡◌, ◌<◌, ◌≤◌, length, fold, None, IfOk, IfSome, OnOk, OnErr, option_map};
+ghost use Rattle.std.specs.Arc.{arc_value};
+ghost use Rattle.std.specs.Bool.{Decides};
+ghost use Rattle.std.specs.Result.{result_ok};
 ghost use Rattle.track_history.specs.LocalFeeding.{AreFrontOffered, IsChunkOffered, IsFlushedLocally, with_offer};
-ghost use Rattle.ass_events.specs.Events.{event_of};
+ghost use Rattle.ass_events.specs.Events.{event_of, event_of_line, line_fault};
 ghost use Rattle.ass_num.specs.Limits.{max_text_bytes};
 ghost use Rattle.ass_events.specs.ScriptEvents.{line_events};
+ghost use Rattle.track_history.specs.LocalTracks.{new_track};
+ghost use Rattle.track_history.specs.ShortEvents.{IsShortEvent};
 
 use crate::player::Player;
-use ass_num::Mem;
+use ass_events::{Event, event_of_line, laws, line_fault};
+use ass_num::{Mem, OutOfMemory};
 use std::alloc::Global;
+use std::sync::Arc;
 use track_history::{Feed, Flushed};
 
 impl Player {
@@ -40,6 +47,40 @@ impl Player {
         ensures same { self.new ≡ record self.old { track = self.new.track } }
     {
         self.track.flush()
+    }
+
+    /// How many Dialogue lines its script has.
+    pub fn line_count(&self) -> usize
+        ensures { result ≡ length self.now.script.lines }
+    {
+        self.script.line_count()
+    }
+
+    /// The event of its script's Dialogue line at `i`, which has that place as its ReadOrder, if the line gives one. A line
+    /// that gives none takes no memory.
+    pub fn line_event(&self, alloc: Global, i: usize) -> Mem<Option<Arc<Event>>>
+        requires { i < length self.now.script.lines }
+        ensures event { IfOk result (λ event. option_map arc_value event ≡ result_ok (event_of_line self.now.script i)) }
+        ensures short { IfOk result (λ event. IfSome event (λ event. IsShortEvent (arc_value event))) }
+        ensures given { OnErr result (line_fault self.now.script i ≡ None) }
+    {
+        laws::lines_give_events();
+        laws::texts_fit();
+        if line_fault(&self.script, i).is_some() {
+            return Ok(None);
+        }
+        match event_of_line(alloc, &self.script, i) {
+            Ok(event) => Ok(Some(Arc::new(alloc, event)?)),
+            Err(_) => Err(OutOfMemory),
+        }
+    }
+
+    /// Whether nothing was fed to it.
+    pub fn is_unfed(&self) -> bool
+        ensures { Decides result (self.now.track ≡ new_track) }
+    {
+        self.track.proof_history();
+        self.track.entries() == 0
     }
 
     /// How many entries the track's history has.

@@ -1,6 +1,7 @@
 //! Lists of plain images.
 
-ghost use Rattle.std.specs.Prelude.{◌≡◌, ◌<◌, All, length, map, IfOk, OnOk, OnErr, IsTrue};
+ghost use Rattle.std.specs.Prelude.{◌≡◌, ◌<◌, List, All, length, map, IfOk, OnOk, OnErr, IsTrue};
+ghost use Rattle.ass_events.specs.Histories.{Entry, IsHistory, live};
 ghost use Rattle.ass_num.specs.Limits.{IsFrameSize, IsWithin, max_instant};
 ghost use Rattle.blend.specs.Canvases.{black};
 ghost use Rattle.mask_keys.specs.Keys.{IsValidPlan};
@@ -12,6 +13,7 @@ ghost use Rattle.plain_images.specs.PlainImages.{ArePlainImages, LiesInFrame, wi
 ghost use Rattle.player.specs.Changes.{IsListChange};
 ghost use Rattle.player.specs.Listing.{AreListed, IsListOf};
 ghost use Rattle.player.specs.Players.{mask_bytes};
+ghost use Rattle.track_history.specs.Answers.{IsSceneOf};
 
 use crate::changes::list_change;
 use crate::listing::{byte_count, images_of_plan};
@@ -22,6 +24,7 @@ use frame_view::FrameView;
 use mask_keys::Plan;
 use plain_images::{PlainImage, laws};
 use std::alloc::Global;
+use track_history::Scene;
 
 /// Whether what is listed is of this plan and this size.
 fn is_list_of(listed: &Option<Listed>, plan: &Plan, size: &Size) -> bool
@@ -64,6 +67,43 @@ impl Player {
         Ok(kind)
     }
 
+    /// Lists the plain images of a plan, unless they are listed already, and tells how the list differs from the one before.
+    fn list_plan(&mut self, alloc: Global, plan: Plan, size: &Size) -> Mem<ChangeKind>
+        requires plan { IsValidPlan (glyph_counts self.old.fonts) plan.draws }
+        requires size { IsFrameSize size.now }
+        ensures images { OnOk result (ArePlainImages size.now (map (image_of_draw self.old.fonts) plan.draws) self.new.images) }
+        ensures change { IfOk result (λ kind. IsListChange kind self.old.images self.new.images) }
+        ensures else_same { OnOk result (self.new ≡ record self.old { images = self.new.images }) }
+        ensures err { OnErr result (self.new ≡ self.old) }
+    {
+        if self.has_listed(&plan, size) {
+            return Ok(ChangeKind::Same);
+        }
+        self.list_anew(alloc, plan, size)
+    }
+
+    /// Lists what a look at a track shows, in a frame as the script sees it, as plain images, and tells how the list differs
+    /// from the one before. An `Err` changes nothing.
+    pub fn list_scene(&mut self, alloc: Global, scene: &Scene, frame: &FrameView) -> Mem<ChangeKind>
+        requires fonts { 0 < length self.old.fonts }
+        requires scene { (history : List Entry) × IsHistory history × IsSceneOf history scene.now.t scene.now }
+        requires instant { IsWithin max_instant scene.now.t }
+        requires frame { IsFrameView frame.now }
+        ensures picture { (history : List Entry) → IsSceneOf history scene.now.t scene.now
+            → OnOk result (IsPictureAt self.old.script self.old.fonts (live history) scene.now.t frame.now
+            (with_plain_images (black frame.now.size.w frame.now.size.h) self.new.images)) }
+        ensures within { OnOk result (All (LiesInFrame frame.now.size) self.new.images) }
+        ensures list { (history : List Entry) → IsSceneOf history scene.now.t scene.now
+            → OnOk result (IsListOf self.old.script self.old.fonts (live history) scene.now.t frame.now self.new.images) }
+        ensures change { IfOk result (λ kind. IsListChange kind self.old.images self.new.images) }
+        ensures else_same { OnOk result (self.new ≡ record self.old { images = self.new.images }) }
+        ensures err { OnErr result (self.new ≡ self.old) }
+    {
+        laws::plain_images_make_the_picture();
+        let plan = self.plan_of(alloc, scene, frame)?;
+        self.list_plan(alloc, plan, &frame.size)
+    }
+
     /// Lists what the live events show at an instant, in milliseconds, in a frame as the script sees it, as plain images
     /// (`ass_render_frame` in libass `ass.h`), and tells how the list differs from the one before, which at first is empty.
     /// An `Err` changes nothing.
@@ -83,10 +123,7 @@ impl Player {
     {
         laws::plain_images_make_the_picture();
         let plan = self.plan_at(alloc, t, frame)?;
-        if self.has_listed(&plan, &frame.size) {
-            return Ok(ChangeKind::Same);
-        }
-        self.list_anew(alloc, plan, &frame.size)
+        self.list_plan(alloc, plan, &frame.size)
     }
 
     /// The same in a frame of which the size alone is known.

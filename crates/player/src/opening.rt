@@ -1,6 +1,7 @@
 //! Opening a player, its fonts and its budget.
 
 ghost use Rattle.std.specs.Prelude.{◌≡◌, ◌<◌, ◌≤◌, ◌+◌, ◌++◌, length, slice_index_or, All, Ok, Err, IfOk, IfErr, OnOk, OnErr};
+ghost use Rattle.std.specs.Arc.{arc_value};
 ghost use Rattle.ass_num.specs.Limits.{max_file_bytes};
 ghost use Rattle.ass_script.specs.Ranges.{IsScript};
 ghost use Rattle.ass_script.specs.Scripts.{IsScriptAnswer, ScriptValue, script_of};
@@ -8,6 +9,7 @@ ghost use Rattle.bdf_font.specs.Limits.{max_fonts};
 ghost use Rattle.bdf_font.specs.Ranges.{IsFont};
 ghost use Rattle.bdf_font.specs.Sets.{no_font};
 ghost use Rattle.evict_core.specs.Machine.{max_budget};
+ghost use Rattle.mask_keys.specs.Outlines.{IsFontSet};
 ghost use Rattle.player.specs.Added.{AreScriptFontsAdded};
 ghost use Rattle.player.specs.Players.{new_player};
 ghost use Rattle.ass_events.specs.LineLaws.{HasShortLines};
@@ -56,10 +58,27 @@ impl Player {
         requires budget { budget ≤ max_budget }
         ensures { IfOk result (λ player. player ≡ new_player script budget) }
     {
+        let script = Arc::new(alloc, script)?;
         let none = FontSet {
             fonts: Items::new(alloc),
         };
         let fonts = Arc::new(alloc, none)?;
+        Player::of_shares(alloc, script, fonts, budget)
+    }
+
+    /// The same of a script and fonts that others share.
+    fn of_shares(
+        alloc: Global,
+        script: Arc<Script>,
+        fonts: Arc<FontSet>,
+        budget: u64,
+    ) -> Mem<Player>
+        requires script { IsScript (arc_value script) }
+        requires short { HasShortLines (arc_value script) }
+        requires fonts { IsFontSet (arc_value fonts).fonts }
+        requires budget { budget ≤ max_budget }
+        ensures { IfOk result (λ player. player ≡ record (new_player (arc_value script) budget) { fonts = (arc_value fonts).fonts }) }
+    {
         let shared = Arc::try_clone(&fonts)?;
         let local = LocalCaches::open(alloc, shared, budget)?;
         Ok(Player {
@@ -72,6 +91,16 @@ impl Player {
             images: Vec::new(alloc),
             bytes: 0,
         })
+    }
+
+    /// A player of the same script, fonts and budget that nothing was fed to and that has listed nothing. They share the
+    /// script and the fonts; its caches are its own.
+    pub fn unfed(&self, alloc: Global) -> Mem<Player>
+        ensures { IfOk result (λ player. player ≡ record (new_player self.now.script self.now.budget) { fonts = self.now.fonts }) }
+    {
+        let script = Arc::try_clone(&self.script)?;
+        let fonts = Arc::try_clone(&self.fonts)?;
+        Player::of_shares(alloc, script, fonts, self.budget)
     }
 
     /// How many fonts it has.

@@ -21,7 +21,7 @@ pub(crate) struct Listed {
 /// last. docs/EMBEDDING.md says how a program uses one.
 #[derive(Drop)]
 pub struct Player {
-    pub(crate) script: Script,
+    pub(crate) script: Arc<Script>,
     pub(crate) fonts: Arc<FontSet>,
     pub(crate) track: LocalTrack,
     pub(crate) local: LocalCaches,
@@ -40,12 +40,12 @@ impl Model for Player {
     ghost Value = { PlayerView };
 
     ghost view = { λ p. record {
-      script = p.script;
+      script = arc_value p.script;
       fonts = (arc_value p.fonts).fonts;
       budget = p.budget;
       track = p.track;
       images = p.images.items;
     } };
 
-    ghost invariant = { λ p. IsPlayer p.script (arc_value p.fonts).fonts p.local p.budget p.listed p.images.items p.bytes };
+    ghost invariant = { λ p. IsPlayer (arc_value p.script) (arc_value p.fonts).fonts p.local p.budget p.listed p.images.items p.bytes };
 }

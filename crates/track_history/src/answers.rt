@@ -64,6 +64,10 @@ impl Flushed {
     }
 }
 
+/// Why a try to feed or to flush did nothing: another pass has the turn.
+#[derive(Clone, Copy, Debug, PartialEq, Eq)]
+pub struct TurnOut;
+
 /// Why a try to look has no scene.
 #[derive(Clone, Copy, Debug, PartialEq, Eq)]
 pub enum LookRefusal {

@@ -11,7 +11,7 @@ mod near_index;
 mod scene;
 mod track;
 
-pub use answers::{Feed, Flushed, LookRefusal, TrackEntry};
+pub use answers::{Feed, Flushed, LookRefusal, TrackEntry, TurnOut};
 pub use live_events::LiveEvents;
 pub use local_track::LocalTrack;
 pub use scene::Scene;

@@ -1,16 +1,18 @@
 //! A track, and the calls on it.
 
-ghost use Rattle.std.specs.Prelude.{◌≡◌, ◌<◌, ◌≤◌, List, [], length, None, IfOk, IfErr, OnOk};
+ghost use Rattle.std.specs.Prelude.{◌≡◌, ◌+◌, ◌<◌, ◌≤◌, List, [], length, None, Ok, IfOk, IfErr, IsOk, OnErr, OnOk};
+ghost use Rattle.std.specs.Arc.{arc_value};
 ghost use Rattle.turn_cell.specs.History.{IsPrefix, IsBelow};
-ghost use Rattle.turn_cell.specs.Passes.{IsOf, Extends, first_pass, split_pass, new_pass, joined_pass, mine};
+ghost use Rattle.turn_cell.specs.Passes.{IsOf, IsTurnAfterTries, Extends, first_pass, split_pass, new_pass, joined_pass, mine};
+ghost use Rattle.ass_events.specs.Events.{event_of};
 ghost use Rattle.ass_events.specs.Histories.{Entry, live};
 ghost use Rattle.ass_num.specs.Limits.{max_text_bytes};
 ghost use Rattle.ass_events.specs.Ranges.{IsEvent, text_bytes};
 ghost use Rattle.track_history.specs.Answers.{IsSceneOf, read_orders};
-ghost use Rattle.track_history.specs.Calls.{IsFed, IsEventFed, IsFlushed, IsTriedLook, IsTurn, StandsFor, history_of};
+ghost use Rattle.track_history.specs.Calls.{IsFed, IsFlushed, IsOffered, IsTriedLook, IsTurn, StandsFor, TrackView, history_of};
 ghost use Rattle.track_history.specs.Tellings.{IsSound, Tells};
 
-use crate::answers::{Feed, Flushed, LookRefusal, TrackEntry};
+use crate::answers::{Feed, Flushed, LookRefusal, TrackEntry, TurnOut};
 use crate::live_events::LiveEvents;
 use crate::scene::Scene;
 use ass_events::{ChunkRefusal, Event, read_chunk};
@@ -18,6 +20,7 @@ use ass_num::{Items, Mem, OutOfMemory};
 use near_events::NearEvents;
 use std::alloc::Global;
 use std::marker::Model;
+use std::snapshot::Snapshot;
 use std::sync::{Arc, Wait};
 use turn_cell::{Book, Pass, Turn, TurnCell};
 
@@ -87,10 +90,9 @@ impl Track {
         requires short { length chunk.now ≤ max_text_bytes }
         ensures { IsFed chunk.now start duration pass result.0 result.1 }
     {
-        match read_chunk(alloc, chunk, start, duration) {
-            Ok(event) => self.feed_event(rt, alloc, pass, event),
-            Err(ChunkRefusal::Malformed(field, place)) => (pass, Feed::Malformed(field, place)),
-            Err(ChunkRefusal::OutOfMemory) => (pass, Feed::OutOfMemory),
+        match read_event(alloc, chunk, start, duration) {
+            Ok(event) => self.feed_event(rt, alloc, pass, &event),
+            Err(answer) => (pass, answer),
         }
     }
 
@@ -100,20 +102,82 @@ impl Track {
         rt: &R,
         alloc: Global,
         pass: TrackPass,
-        event: Event,
+        event: &Arc<Event>,
     ) -> (TrackPass, Feed)
         requires cell { IsOf self.now pass }
-        requires event { IsEvent event }
-        requires short { text_bytes event ≤ max_text_bytes }
-        ensures { IsEventFed event pass result.0 result.1 }
+        requires event { IsEvent (arc_value event.now) }
+        requires short { text_bytes (arc_value event.now) ≤ max_text_bytes }
+        ensures { IsOffered (arc_value event.now) pass result.0 result.1 }
     {
-        let Ok(event) = Arc::new(alloc, event) else {
-            return (pass, Feed::OutOfMemory);
-        };
+        let before = Snapshot::of(&pass);
         let TrackPass { pass } = pass;
-        let mut turn = self.cell.take(rt, pass);
-        let answer = turn.value_mut().feed(alloc, &event);
-        let pass = self.cell.give(turn, answer.entry(&event));
+        let turn = self.cell.take(rt, pass);
+        self.fed_at(alloc, before, turn, event)
+    }
+
+    /// Offers the event of a chunk without waiting: where another pass has the turn, the try is lost, and nothing is done. A chunk that
+    /// gives no event takes no turn, and is answered as [`Track::feed`] does. A chunk has at most 134,217,728 bytes.
+    pub fn try_feed(
+        &self,
+        alloc: Global,
+        pass: TrackPass,
+        chunk: &[u8],
+        start: i64,
+        duration: i64,
+    ) -> (TrackPass, Result<Feed, TurnOut>)
+        requires cell { IsOf self.now pass }
+        requires short { length chunk.now ≤ max_text_bytes }
+        ensures fed { IfOk result.1 (IsFed chunk.now start duration pass result.0) }
+        ensures event { OnErr result.1 (IsOk (event_of chunk.now start duration)) }
+        ensures out { OnErr result.1 (result.0 ≡ record pass { lost = pass.lost + 1 }) }
+    {
+        match read_event(alloc, chunk, start, duration) {
+            Ok(event) => self.try_offer(alloc, pass, &event),
+            Err(answer) => (pass, Ok(answer)),
+        }
+    }
+
+    /// Offers an event without waiting: where another pass has the turn, the try is lost, and nothing is done. The texts of an event have
+    /// together at most 134,217,728 bytes.
+    pub fn try_offer(
+        &self,
+        alloc: Global,
+        pass: TrackPass,
+        event: &Arc<Event>,
+    ) -> (TrackPass, Result<Feed, TurnOut>)
+        requires cell { IsOf self.now pass }
+        requires event { IsEvent (arc_value event.now) }
+        requires short { text_bytes (arc_value event.now) ≤ max_text_bytes }
+        ensures fed { IfOk result.1 (IsOffered (arc_value event.now) pass result.0) }
+        ensures out { OnErr result.1 (result.0 ≡ record pass { lost = pass.lost + 1 }) }
+    {
+        let before = Snapshot::of(&pass);
+        match self.try_turn(pass) {
+            Ok(turn) => {
+                let (pass, answer) = self.fed_at(alloc, before, turn, event);
+                (pass, Ok(answer))
+            }
+            Err(pass) => (pass, Err(TurnOut)),
+        }
+    }
+
+    /// Offers an event at the turn that the pass took.
+    fn fed_at(
+        &self,
+        alloc: Global,
+        before: Snapshot<TrackPass>,
+        mut turn: Turn<LiveEvents>,
+        event: &Arc<Event>,
+    ) -> (TrackPass, Feed)
+        requires cell { IsOf self.now before.value }
+        requires turn { IsTurnAfterTries (λ _ live list. StandsFor live list) self.now.tag before.value turn }
+        requires event { IsEvent (arc_value event.now) }
+        requires short { text_bytes (arc_value event.now) ≤ max_text_bytes }
+        ensures { IsOffered (arc_value event.now) before.value result.0 result.1 }
+    {
+        let _ = before;
+        let answer = turn.value_mut().feed(alloc, event);
+        let pass = self.cell.give(turn, answer.entry(event));
         (TrackPass { pass }, answer)
     }
 
@@ -123,12 +187,58 @@ impl Track {
         requires { IsOf self.now pass }
         ensures { IsFlushed pass result.0 result.1 }
     {
-        let mut dropped = LiveEvents::new(alloc);
+        let before = Snapshot::of(&pass);
         let TrackPass { pass } = pass;
-        let mut turn = self.cell.take(rt, pass);
+        let turn = self.cell.take(rt, pass);
+        self.flushed_at(alloc, before, turn)
+    }
+
+    /// Drops all live events without waiting: where another pass has the turn, the try is lost, and nothing is done. It takes no memory,
+    /// and frees the events once it has given the turn back.
+    pub fn try_flush(&self, alloc: Global, pass: TrackPass) -> (TrackPass, Result<Flushed, TurnOut>)
+        requires { IsOf self.now pass }
+        ensures flushed { IfOk result.1 (IsFlushed pass result.0) }
+        ensures out { OnErr result.1 (result.0 ≡ record pass { lost = pass.lost + 1 }) }
+    {
+        let before = Snapshot::of(&pass);
+        match self.try_turn(pass) {
+            Ok(turn) => {
+                let (pass, answer) = self.flushed_at(alloc, before, turn);
+                (pass, Ok(answer))
+            }
+            Err(pass) => (pass, Err(TurnOut)),
+        }
+    }
+
+    /// Drops all live events at the turn that the pass took.
+    fn flushed_at(
+        &self,
+        alloc: Global,
+        before: Snapshot<TrackPass>,
+        mut turn: Turn<LiveEvents>,
+    ) -> (TrackPass, Flushed)
+        requires cell { IsOf self.now before.value }
+        requires turn { IsTurnAfterTries (λ _ live list. StandsFor live list) self.now.tag before.value turn }
+        ensures { IsFlushed before.value result.0 result.1 }
+    {
+        let _ = before;
+        let mut dropped = LiveEvents::new(alloc);
         let answer = turn.value_mut().flush_into(&mut dropped);
         let pass = self.cell.give(turn, answer.entry());
         (TrackPass { pass }, answer)
+    }
+
+    /// The turn, if it is home.
+    fn try_turn(&self, pass: TrackPass) -> Result<Turn<LiveEvents>, TrackPass>
+        requires { IsOf self.now pass }
+        ensures turn { IfOk result (IsTurnAfterTries (λ _ live list. StandsFor live list) self.now.tag pass) }
+        ensures out { IfErr result (λ p. p ≡ record pass { lost = pass.lost + 1 }) }
+    {
+        let TrackPass { pass } = pass;
+        match self.cell.try_take(pass) {
+            Ok(turn) => Ok(turn),
+            Err(pass) => Err(TrackPass { pass }),
+        }
     }
 
     /// What the history shows at an instant, in milliseconds.
@@ -254,4 +364,19 @@ fn scene(alloc: Global, live: &LiveEvents, t: i64) -> Mem<Scene>
         events,
         spans,
     })
+}
+
+/// The event of a chunk, to share. Else the answer to the chunk, which takes no turn.
+fn read_event(alloc: Global, chunk: &[u8], start: i64, duration: i64) -> Result<Arc<Event>, Feed>
+    requires { length chunk.now ≤ max_text_bytes }
+    ensures event { IfOk result (λ event. event_of chunk.now start duration ≡ Ok (arc_value event)) }
+    ensures in_range { IfOk result (λ event. IsEvent (arc_value event)) }
+    ensures short { IfOk result (λ event. text_bytes (arc_value event) ≤ max_text_bytes) }
+    ensures refused { (pass : TrackView) → IfErr result (IsFed chunk.now start duration pass pass) }
+{
+    match read_chunk(alloc, chunk, start, duration) {
+        Ok(event) => Arc::new(alloc, event).map_err(|_| Feed::OutOfMemory),
+        Err(ChunkRefusal::Malformed(field, place)) => Err(Feed::Malformed(field, place)),
+        Err(ChunkRefusal::OutOfMemory) => Err(Feed::OutOfMemory),
+    }
 }
