@@ -292,11 +292,12 @@ void vimalorua_leave(vimalorua_seat *seat);
 int32_t vimalorua_try_feed(vimalorua_seat *seat, const uint8_t *chunk, size_t chunk_len, int64_t start,
                            int64_t duration, uint32_t *field, size_t *place) VIMALORUA_NO_NULLS((1, 6, 7));
 
-/* Offers the events of the script's own Dialogue lines, as vimalorua_feed_lines does, from the first on that this seat
- * hasn't offered yet.
+/* Offers the event of one of the script's own Dialogue lines, the one behind the first *place of them, with the place of
+ * the line as its ReadOrder. A line that gives no event is passed over. Called from a *place of 0 on, it offers all of
+ * them as vimalorua_feed_lines does.
  *
- * DONE: all were offered. BUSY, OUT_OF_MEMORY: those before some line were, and the call may be made again, which goes
- * on there. *place is how many of the lines' events were offered. */
+ * DONE: *place is one more, or, where there was no such line, how many lines the script has. BUSY, OUT_OF_MEMORY: nothing
+ * changes, and *place stays. */
 int32_t vimalorua_try_feed_lines(vimalorua_seat *seat, size_t *place) VIMALORUA_NO_NULLS((1, 2));
 
 /* Drops all live events, as vimalorua_flush does.
@@ -358,7 +359,7 @@ VIMALORUA_INLINE unsigned vimalorua_pause_after(unsigned tries, vimalorua_pause 
 }
 
 /* The calls that may be busy, made again until they aren't, with a pause after each try: null, or the program's own,
- * which is given `with`. */
+ * which is given `with`. That of lines offers all of them from *place on. */
 VIMALORUA_INLINE int32_t vimalorua_feed_waiting(vimalorua_seat *seat, const uint8_t *chunk, size_t chunk_len,
                                                 int64_t start, int64_t duration, uint32_t *field, size_t *place,
                                                 vimalorua_pause pause, void *with) {
@@ -372,8 +373,12 @@ VIMALORUA_INLINE int32_t vimalorua_feed_lines_waiting(vimalorua_seat *seat, size
                                                       void *with) {
     unsigned tries = 0;
     int32_t status;
-    while ((status = vimalorua_try_feed_lines(seat, place)) == VIMALORUA_BUSY)
-        tries = vimalorua_pause_after(tries, pause, with);
+    size_t before;
+    do {
+        before = *place;
+        status = vimalorua_try_feed_lines(seat, place);
+        tries = status == VIMALORUA_BUSY ? vimalorua_pause_after(tries, pause, with) : 0;
+    } while (status == VIMALORUA_BUSY || (status == VIMALORUA_DONE && *place > before));
     return status;
 }
 VIMALORUA_INLINE int32_t vimalorua_flush_waiting(vimalorua_seat *seat, size_t *place, vimalorua_pause pause,

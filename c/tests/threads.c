@@ -362,7 +362,9 @@ static void busy(void) {
     uint8_t out[COUNT];
     size_t entries = 77, place = 77;
     WANT(vimalorua_split(first, &second), VIMALORUA_DONE);
-    WANT(vimalorua_try_feed_lines(first, &place), VIMALORUA_DONE);
+    place = 0;
+    WANT(vimalorua_feed_lines_waiting(first, &place, NULL, NULL), VIMALORUA_DONE);
+    WANT(place, 2);
     other.seat = second;
     before_memory = by_another_thread;
     WANT(vimalorua_try_draw(first, 500, W, H, out, COUNT, &entries), VIMALORUA_DONE);
@@ -470,7 +472,7 @@ static int with_refusal(long n, const uint8_t *wanted) {
     AGAIN(vimalorua_seat_set_budget(second, 1 << 16), 1);
     AGAIN(vimalorua_try_feed(second, BYTES(lone), 0, 1000, &field, &place), field == 0 && place == 0);
     WANT(place, 0);
-    AGAIN(vimalorua_try_feed_lines(first, &place), place <= 1);
+    AGAIN(vimalorua_feed_lines_waiting(first, &place, NULL, NULL), place <= 2);
     WANT(place, 2);
     AGAIN(vimalorua_try_draw(second, 500, W, H, out, COUNT, &entries), memcmp(out, untouched, COUNT) == 0 && entries == 0);
     WANT(memcmp(out, wanted, COUNT), 0);
