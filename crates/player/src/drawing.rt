@@ -1,26 +1,61 @@
 //! Pictures.
 
-ghost use Rattle.std.specs.Prelude.{◌≡◌, ◌<◌, List, length, IfOk};
-ghost use Rattle.ass_events.specs.Histories.{Entry, IsHistory, live};
-ghost use Rattle.ass_num.specs.Limits.{IsFrameSize, IsWithin, max_instant};
+ghost use Rattle.std.specs.Prelude.{◌≡◌, ◌<◌, ◌≤◌, List, All, length, map, IfOk};
+ghost use Rattle.std.specs.Arc.{arc_value};
+ghost use Rattle.ass_events.specs.Histories.{Entry, HaveOwnOrders, IsHistory, live, max_live};
+ghost use Rattle.ass_events.specs.Ranges.{IsEvent};
+ghost use Rattle.ass_events.specs.declared.event.Event.{Event};
+ghost use Rattle.ass_num.specs.Limits.{IsFrameSize, IsWithin, max_instant, max_text_bytes};
 ghost use Rattle.mask_keys.specs.Keys.{IsValidPlan};
 ghost use Rattle.mask_keys.specs.Outlines.{glyph_counts};
 ghost use Rattle.mask_keys.specs.Pictures.{picture};
+ghost use Rattle.near_events.specs.Spans.{AreNearSpans};
 ghost use Rattle.frame_view.specs.FrameViews.{IsFrameView, plain_frame};
 ghost use Rattle.picture_plan.specs.Pictures.{AreDraws, IsPictureAt};
 ghost use Rattle.track_history.specs.Answers.{IsSceneOf};
 
 use crate::player::Player;
+use ass_events::Event;
 use ass_num::{Mem, Size};
 use blend::Canvas;
 use frame_view::FrameView;
 use mask_keys::Plan;
+use near_events::EventSpan;
 use picture_plan::{laws, plan_of_spans};
 use std::alloc::Global;
+use std::sync::Arc;
 use text_layout::Setting;
 use track_history::Scene;
 
 impl Player {
+    /// The draws of events that matter at an instant, of which the spans are known.
+    fn plan_with(
+        &self,
+        alloc: Global,
+        events: &[Arc<Event>],
+        spans: &[EventSpan],
+        t: i64,
+        frame: &FrameView,
+    ) -> Mem<Plan>
+        requires fonts { 0 < length self.now.fonts }
+        requires events { All IsEvent (map arc_value events.now) }
+        requires texts { All (λ (e : Event). length e.text ≤ max_text_bytes) (map arc_value events.now) }
+        requires few { length events.now ≤ max_live }
+        requires orders { HaveOwnOrders (map arc_value events.now) }
+        requires spans { AreNearSpans (map arc_value events.now) t spans.now }
+        requires instant { IsWithin max_instant t }
+        requires frame { IsFrameView frame.now }
+        ensures draws { IfOk result (λ plan. AreDraws self.now.script self.now.fonts (map arc_value events.now) t frame.now plan.draws) }
+        ensures valid { IfOk result (λ plan. IsValidPlan (glyph_counts self.now.fonts) plan.draws) }
+    {
+        let setting = Setting {
+            script: &self.script,
+            fonts: &self.fonts,
+            frame: *frame,
+        };
+        plan_of_spans(alloc, &setting, events, spans, t)
+    }
+
     /// The draws of what the live events show at an instant.
     pub(crate) fn plan_at(&self, alloc: Global, t: i64, frame: &FrameView) -> Mem<Plan>
         requires fonts { 0 < length self.now.fonts }
@@ -31,13 +66,8 @@ impl Player {
     {
         laws::near_events_draw();
         let near = self.track.near(alloc, t)?;
-        let setting = Setting {
-            script: &self.script,
-            fonts: &self.fonts,
-            frame: *frame,
-        };
         let spans = near.spans.as_slice();
-        plan_of_spans(alloc, &setting, near.events.as_slice(), spans, t)
+        self.plan_with(alloc, near.events.as_slice(), spans, t, frame)
     }
 
     /// The draws of what a look at a track shows.
@@ -50,13 +80,8 @@ impl Player {
             → IfOk result (λ plan. AreDraws self.now.script self.now.fonts (live history) scene.now.t frame.now plan.draws) }
         ensures valid { IfOk result (λ plan. IsValidPlan (glyph_counts self.now.fonts) plan.draws) }
     {
-        let setting = Setting {
-            script: &self.script,
-            fonts: &self.fonts,
-            frame: *frame,
-        };
         let spans = scene.spans.as_slice();
-        plan_of_spans(alloc, &setting, scene.events.as_slice(), spans, scene.t)
+        self.plan_with(alloc, scene.events.as_slice(), spans, scene.t, frame)
     }
 
     /// The picture of a plan.

@@ -4,6 +4,7 @@
 mod answers;
 mod drawing;
 mod feeding;
+pub mod laws;
 mod opening;
 mod refusals;
 mod seat;
