@@ -1,4 +1,5 @@
 mod AsBox
 mod CopyLemmas
+mod HandlesSent
 mod NameLemmas
-mod PlayerSent
+mod SeatAsBox
