@@ -21,10 +21,7 @@ pub(crate) fn empty_handle(alloc: Global) -> Mem<SeatHandle>
 }
 
 /// Takes the seat from behind a handle, which keeps none then, with the box that it stood in. For out of memory it stays.
-pub fn take_seat(
-    alloc: Global,
-    handle: &mut SeatHandle,
-) -> Mem<(Box<HeldSeat>, Option<Seat>)>
+pub fn take_seat(alloc: Global, handle: &mut SeatHandle) -> Mem<(Box<HeldSeat>, Option<Seat>)>
     ensures taken { IfOk result (λ r. r.1 ≡ handle.old.value.seat) }
     ensures err { OnErr result (handle.new.value ≡ handle.old.value) }
 {
