@@ -9,16 +9,19 @@ _vimalorua() {
     fi
     case ${COMP_WORDS[1]} in
     check) options='--script-fonts' ;;
-    frame) options='--at --size --storage --aspect --content --letters --scale --budget --script-fonts' ;;
-    changes) options='--from --to --step --size --storage --aspect --content --letters --scale --budget --script-fonts' ;;
+    frame) options='--at --size --storage --aspect --content --letters --scale --format --budget --script-fonts' ;;
+    changes) options='--from --to --step --rate --size --storage --aspect --content --letters --scale --budget --script-fonts' ;;
     write) options='--later --earlier' ;;
     selftest) options='--workers' ;;
     play)
-        options='--from --to --step --size --feeders --renderers --batch --again --times --ahead --bands --budget --mode --script-fonts'
+        options='--from --to --step --rate --size --feeders --renderers --batch --again --times --ahead --bands --budget'
+        options+=' --mode --script-fonts'
         ;;
     esac
     case $before in
     --mode) mapfile -t COMPREPLY < <(compgen -W 'live settled' -- "$word") ;;
+    --format) mapfile -t COMPREPLY < <(compgen -W 'ppm pam rgba' -- "$word") ;;
+    --rate) mapfile -t COMPREPLY < <(compgen -W '24000/1001 24 25 30000/1001 30 50 60000/1001 60' -- "$word") ;;
     --letters) mapfile -t COMPREPLY < <(compgen -W 'script aspect' -- "$word") ;;
     --size) mapfile -t COMPREPLY < <(compgen -W '640x360 1280x720 1920x1080 3840x2160' -- "$word") ;;
     --script-fonts) mapfile -t COMPREPLY < <(compgen -W "$options" -- "$word") ;;

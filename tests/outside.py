@@ -63,6 +63,8 @@ SAID = [
     ("fram", "the first word is check, frame, changes, write, play or selftest, and not 'fram'"),
     ("frame --size 4x3 row.ass dot.bdf", "frame lacks --at (milliseconds from 0 to 4000000000000)"),
     ("check row.ass", "check lacks FONT.."),
+    ("changes --from 0 --to 1 --size 4x3 row.ass dot.bdf", "changes lacks --step (milliseconds from 1 to 4000000000000) or --rate (frames from 1 to 1000000, as 25, or frames in seconds, as 24000/1001)"),
+    ("play --from 0 --to 1 --step 1 --rate 25 --size 4x3 row.ass dot.bdf", "play takes --step or --rate, and not both"),
     ("frame --at 0 --at 0", "--at is given twice"),
     ("frame --font x", "frame has no option --font"),
     ("frame -x", "there is no option -x; a name that begins with - stands behind --"),

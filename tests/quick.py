@@ -8,6 +8,7 @@ Its parts, which all are tried where none is named:
   release    the sums of the release, and that it is of this checkout
   runs       the runs of tests/runs/: words, reports, pictures, changes, scripts written again, selftests
   views      that letters in the frames of several videos stand where libass has them
+  over_video that frames have the bytes of their formats, and instants stand at their rates
   writes     that scripts written again show the same pictures, and are written as the same bytes
   plays      plays by every number of threads, whose images are those of frames
   refusals   runs whose calls for memory are refused
@@ -34,6 +35,7 @@ TOP = os.path.dirname(os.path.dirname(os.path.realpath(__file__)))
 sys.path.insert(0, f"{TOP}/tests")
 import inputs  # noqa: E402
 import outside  # noqa: E402
+import over_video  # noqa: E402
 import plays  # noqa: E402
 import stored  # noqa: E402
 import views  # noqa: E402
@@ -87,6 +89,7 @@ PARTS = {
     "release": outside.release,
     "runs": runs,
     "views": views.views,
+    "over_video": over_video.over_video,
     "writes": plays.writes,
     "plays": plays.plays,
     "refusals": outside.refusals,

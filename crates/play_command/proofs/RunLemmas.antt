@@ -68,8 +68,8 @@ shared_left : (job : Job) → work_in (Ok job) ≡ Ok None → IsShared job
 shared_left (Play job script fonts) e = tt
 shared_left (Selftest seed events workers) e = tt
 shared_left (Check script fonts) e = absurd (limited_is_some (work_of (Check script fonts)) e)
-shared_left (Frame at size budget script fonts) e = absurd (limited_is_some (work_of (Frame at size budget script fonts)) e)
-shared_left (Changes from to step size budget script fonts) e = absurd (limited_is_some (work_of (Changes from to step size budget script fonts)) e)
+shared_left (Frame frame script fonts) e = absurd (limited_is_some (work_of (Frame frame script fonts)) e)
+shared_left (Changes changes script fonts) e = absurd (limited_is_some (work_of (Changes changes script fonts)) e)
 shared_left (Write later earlier script) e = absurd (limited_is_some (work_of (Write later earlier script)) e)
 
 pub job_left : (words : List (List ℕ)) (job : Job) → job_of words ≡ Ok job → work_asked words ≡ Ok None → IsShared job
@@ -216,8 +216,8 @@ job_wanting told (Play play script fonts) state shared =
     record { reading = Err reading.0; read = reading.1; shown = (inr refl, keeps state.held, refl) }
 job_wanting told (Selftest seed events workers) state shared = wanting seed events (Err status.OutOfMemory) (inr refl)
 job_wanting told (Check script fonts) state shared = absurd shared
-job_wanting told (Frame at size budget script fonts) state shared = absurd shared
-job_wanting told (Changes from to step size budget script fonts) state shared = absurd shared
+job_wanting told (Frame frame script fonts) state shared = absurd shared
+job_wanting told (Changes changes script fonts) state shared = absurd shared
 job_wanting told (Write later earlier script) state shared = absurd shared
 
 -- ---- what decides a play

@@ -1,10 +1,9 @@
 -- The report of a selftest.
-use Rattle.std.proofs.Common.{◌≡◌, ◌⊎◌, inl, inr, ℕ, zero, suc, ◌+◌, ◌-◌, ◌*◌, ◌/◌, ◌%◌, ◌<◌, ◌≤◌, min, pos, List, [], ◌∷◌, ◌++◌, length, map, Option, Some, None, Result, Ok, Err, refl, sym, ap, subst, ◌∙◌, arith, length-append, string_bytes, String, Global}
+use Rattle.std.proofs.Common.{◌≡◌, ◌⊎◌, inl, inr, ℕ, zero, suc, ◌+◌, ◌-◌, ◌*◌, ◌/◌, ◌%◌, ◌<◌, ◌≤◌, min, List, [], ◌∷◌, ◌++◌, length, map, Option, Some, None, Result, Ok, Err, refl, sym, ap, subst, ◌∙◌, arith, length-append, string_bytes, String, Global}
 use Rattle.std.specs.Int.{div_ceil}
 use Rattle.std.specs.Io.KnownBytes.{Appends}
 use Rattle.std.specs.List.{All, flat_map, slice_index_or}
 use Rattle.std.proofs.Math.Nat.{mul-div_cancel, mul-mod_left}
-use Rattle.std.proofs.lemmas.Int.{ints}
 use Rattle.std.proofs.lemmas.List.{length-map}
 use Rattle.std.proofs.lemmas.List.Elements.{All-cons, All-head, All-nil, All-tail}
 use Rattle.ass_events.specs.Histories.{Chunk, Entry, Flush, live, live_after}
@@ -53,12 +52,12 @@ use Rattle.play_command.specs.Working.{AreSelftestInputs, IsSelftestWorked, IsSp
 
 -- ---- how much is played
 
-whole_parts : (n s : ℕ) → 0 < s → div_ceil (n * s - 0) s ≡ n
+whole_parts : (n s : ℕ) → 0 < s → div_ceil ((n * s - 0) * 1000) (1000 * s) ≡ n
 whole_parts n s some =
-    let parts : n * s / s ≡ n = mul-div_cancel n some in
-    let none : n * s % s ≡ 0 = mul-mod_left n s in
-    let same : n * s - 0 ≡ n * s = omega arith in
-    ap (λ d. div_ceil d s) same ∙ ap (λ r. n * s / s + min 1 r) none ∙ omega (arith, parts)
+    let parts : n * (1000 * s) / (1000 * s) ≡ n = mul-div_cancel n (omega (arith, some)) in
+    let none : n * (1000 * s) % (1000 * s) ≡ 0 = mul-mod_left n (1000 * s) in
+    let same : (n * s - 0) * 1000 ≡ n * (1000 * s) = omega arith in
+    ap (λ d. div_ceil d (1000 * s)) same ∙ ap (λ r. n * (1000 * s) / (1000 * s) + min 1 r) none ∙ omega (arith, parts)
 
 -- There are as many instants as images.
 pub twenty : (events workers : ℕ) → 0 < events → instant_count (selftest_job events workers) ≡ image_count
@@ -68,9 +67,11 @@ pub job_within : (seed events workers : ℕ) → IsJob (Selftest seed events wor
 job_within seed events workers h =
     let least = h.1.0 in
     let most = h.1.1 in record {
-      from = (omega (arith, ints), omega (arith, ints));
-      to = (omega (arith, ints), omega (arith, ints, most));
-      step = (omega (arith, ints, least), omega (arith, ints, most));
+      instants = record {
+        first = omega arith;
+        rate = record { some = omega arith; most = omega arith; time = omega (arith, least); longest = omega (arith, most) };
+        within = omega (arith, most);
+      };
       size = ((omega arith, omega arith), (omega arith, omega arith));
       feeders = h.2;
       renderers = h.2;

@@ -1,5 +1,5 @@
 -- Public: a whole run of a selftest.
-use Rattle.std.specs.Prelude.{◌≡◌, ◌⊎◌, ℕ, ◌*◌, ◌<◌, pos, List, [], ◌∷◌, length, Some, Result, Ok, Err, slice_index_or, flat_map}
+use Rattle.std.specs.Prelude.{◌≡◌, ◌⊎◌, ℕ, ◌*◌, ◌<◌, List, [], ◌∷◌, length, Some, Result, Ok, Err, slice_index_or, flat_map}
 use Rattle.ass_script.specs.Ranges.{IsScript}
 use Rattle.ass_script.specs.Scripts.{ScriptValue, script_of}
 use Rattle.bdf_font.specs.Fonts.{FontValue}
@@ -15,6 +15,7 @@ use Rattle.play_model.specs.Plays.{PlayView}
 use Rattle.play_report.specs.Digests.{digest_after}
 use Rattle.play_report.specs.Reports.{summary_text}
 use Rattle.play_report.specs.declared.report.PlayReport.{PlayReport}
+use Rattle.frame_rate.specs.Rates.{step_rate}
 use Rattle.run_words.specs.declared.job.Mode.TheVariants.{Settled}
 use Rattle.run_words.specs.declared.job.PlayJob.{PlayJob}
 use Rattle.run_status.specs.declared.status.Status.{Status}
@@ -30,9 +31,7 @@ image_count = 20
 -- What is played: instants over the time in which the events begin, with as many feeders and renderers as workers.
 abbrev pub selftest_job : ℕ → ℕ → PlayJob
 selftest_job events workers = record {
-  from = pos 0;
-  to = pos (image_count * (5 * events));
-  step = pos (5 * events);
+  instants = record { from = 0; to = image_count * (5 * events); rate = step_rate (5 * events) };
   size = record { w = 320; h = 180 };
   feeders = workers;
   renderers = workers;

@@ -53,8 +53,8 @@ fn do_job<S: Shelf, F: Sink, H: TestHook + Sync>(
             do_selftest(rt, alloc, seed, events, workers, hook)
         }
         Job::Check(_, _) => unreachable!(),
-        Job::Frame(_, _, _, _, _) => unreachable!(),
-        Job::Changes(_, _, _, _, _, _, _) => unreachable!(),
+        Job::Frame(_, _, _) => unreachable!(),
+        Job::Changes(_, _, _) => unreachable!(),
         Job::Write(_, _, _) => unreachable!(),
     }
 }

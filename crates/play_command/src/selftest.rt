@@ -14,6 +14,7 @@ use crate::playing::play_with;
 use crate::reading::selftest_inputs;
 use ass_io::{MemorySink, Rt};
 use ass_num::{Mem, OutOfMemory, Size};
+use frame_rate::{FrameRate, Instants};
 use play_report::{PlayReport, digest_after, summary_text};
 use play_rounds::PlayEnd;
 use run_status::Status;
@@ -23,18 +24,20 @@ use std::alloc::Global;
 use test_hook::TestHook;
 
 /// How many images a selftest makes.
-const IMAGE_COUNT: i64 = 20;
+const IMAGE_COUNT: u64 = 20;
 
 /// What is played: instants over the time in which the events begin.
 fn selftest_job(events: u32, workers: u32) -> PlayJob
     requires { events ≤ max_events }
     ensures { result ≡ selftest_job events workers }
 {
-    let step = 5 * i64::from(events);
+    let step = 5 * u64::from(events);
     PlayJob {
-        from: 0,
-        to: IMAGE_COUNT * step,
-        step,
+        instants: Instants {
+            from: 0,
+            to: IMAGE_COUNT * step,
+            rate: FrameRate::of_step(step),
+        },
         size: Size { w: 320, h: 180 },
         feeders: workers,
         renderers: workers,

@@ -49,13 +49,13 @@ at_place play q i bytes h = (h.canvas, h.is_picture, h.value)
 
 module _ (one other : PlayView) (alike : PlayAlike one other) where
   pub same_count : instant_count one.job ≡ instant_count other.job
-  same_count = rw (alike.jobs.from, alike.jobs.to, alike.jobs.step) refl
+  same_count = rw alike.jobs.instants refl
 
   pub same_frames : frame_count one.job ≡ frame_count other.job
   same_frames = ap (λ t. t * instant_count one.job) alike.jobs.times ∙ ap (λ c. other.job.times * c) same_count
 
   same_instant : (i : ℕ) → play_instant one.job i ≡ play_instant other.job i
-  same_instant i = rw (alike.jobs.from, alike.jobs.step) refl
+  same_instant i = rw alike.jobs.instants refl
 
   pub moved : (q i : ℕ) (bytes : List ℕ) → IsAt other.script other.fonts other.job.size (play_instant other.job i) q bytes → IsAt one.script one.fonts one.job.size (play_instant one.job i) q bytes
   moved q i bytes h =

@@ -18,9 +18,7 @@ use Rattle.run_words.specs.declared.job.ScriptSource.{ScriptSource}
 
 -- The jobs are of the same instants, as often and of the same size. All else may differ.
 pub record JobsAlike (one other : PlayJob) : Type 0 where
-  pub from : one.from ≡ other.from
-  pub to : one.to ≡ other.to
-  pub step : one.step ≡ other.step
+  pub instants : one.instants ≡ other.instants
   pub times : one.times ≡ other.times
   pub size : one.size ≡ other.size
 

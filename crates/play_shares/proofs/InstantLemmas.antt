@@ -1,7 +1,6 @@
 -- Instants.
-use Rattle.std.proofs.Common.{◌≡◌, ℕ, ◌+◌, ◌-◌, ◌*◌, ◌/◌, ◌%◌, ◌^◌, ◌<◌, ◌≤◌, ℤ, pos, negsuc, ◌≤ℤ◌, List, [], ◌∷◌, ◌++◌, take, drop, Some, None, sym, ap, ap₂, subst, ◌∙◌, arith, add-mul, FitsSigned, of_z, to_z, to_z-of_z, w64}
+use Rattle.std.proofs.Common.{◌≡◌, ℕ, ◌+◌, ◌-◌, ◌*◌, ◌/◌, ◌%◌, ◌^◌, ◌<◌, ◌≤◌, pos, List, [], ◌∷◌, ◌++◌, take, drop, Some, None, sym, ap, subst, ◌∙◌, arith, FitsSigned, to_z, w64}
 use Rattle.std.specs.Int.{div_ceil}
-use Rattle.std.specs.Int.RustNames.{unsigned_abs}
 use Rattle.std.specs.List.{slice_get}
 use Rattle.std.proofs.lemmas.Grind.{div_ceil_times}
 use Rattle.std.proofs.lemmas.Int.{ints, to_z_pos}
@@ -9,39 +8,12 @@ use Rattle.std.proofs.lemmas.List.FromFn.{get_or-map-range_with_len, length-map-
 use Rattle.std.proofs.lemmas.Nat.{div-add-mod', mul-le}
 use Rattle.std.proofs.lemmas.Option.{slice_get-get_or, slice_get_past}
 use Rattle.ass_num.specs.Limits.{max_instant}
-use Rattle.run_words.specs.Jobs.{IsMoment, IsPlay, IsStep}
+use Rattle.frame_rate.specs.Instants.{rated_instant}
+use Rattle.frame_rate.proofs.InstantLemmas.{instant_within, instants_few}
+use Rattle.run_words.specs.Jobs.{IsPlay}
 use Rattle.run_words.specs.declared.job.PlayJob.{PlayJob}
 use Rattle.play_shares.specs.Instants.{instant_count, play_instant, instants}
 use Rattle.play_shares.proofs.Parts.{part_ends, part_more}
-
--- an instant and a step without their signs
-pub abs_at_most : (z : ℤ) (n : ℕ) → pos 0 ≤ℤ z → z ≤ℤ pos n → unsigned_abs z ≤ n
-abs_at_most (pos m) n low high = omega (arith, ints, high)
-abs_at_most (negsuc m) n low high = absurd (omega (arith, ints, low))
-
-pub abs_above : (z : ℤ) → pos 1 ≤ℤ z → 0 < unsigned_abs z
-abs_above (pos m) low = omega (arith, ints, low)
-abs_above (negsuc m) low = absurd (omega (arith, ints, low))
-
-pub moment_fits : (z : ℤ) → IsMoment z → FitsSigned w64 z
-moment_fits z within = omega (arith, ints, within.0, within.1)
-
-pub step_fits : (z : ℤ) → IsStep z → FitsSigned w64 z
-step_fits z within = omega (arith, ints, within.0, within.1)
-
--- what is passed as bits is the number itself
-pub read_abs : (z : ℤ) (n : ℕ) → FitsSigned w64 z → n ≡ unsigned_abs (to_z w64 (of_z w64 z)) → n ≡ unsigned_abs z
-read_abs z n fits is = is ∙ ap unsigned_abs (to_z-of_z fits)
-
--- what is before the last part is below the whole
-parts_below : (parts place d s : ℕ) → parts * s < d + s → place < parts → place * s < d
-parts_below parts place d s most lt =
-    let rows : (place + 1) * s ≤ parts * s = mul-le (place + 1) s parts s (omega (arith, lt)) (omega arith) in
-    let row = add-mul place 1 s in
-    omega (arith, most, rows, row)
-
-pub product_below : (place d s : ℕ) → 0 < s → place < div_ceil d s → place * s < d
-product_below place d s some lt = parts_below (div_ceil d s) place d s (div_ceil_times d s some).1 lt
 
 pub ceil_enough : (d s : ℕ) → 0 < s → d ≤ div_ceil d s * s
 ceil_enough d s some = (div_ceil_times d s some).0
@@ -51,6 +23,13 @@ ceil_few d s some =
     let split : d / s * s + d % s ≡ d = div-add-mod' d s in
     let least : d / s * 1 ≤ d / s * s = mul-le (d / s) 1 (d / s) s (omega arith) (omega (arith, some)) in
     omega (arith, split, least)
+
+-- so that all times of a play have fewer than can't be counted
+pub few_instants : (play : PlayJob) → IsPlay play → instant_count play ≤ 1000 * max_instant
+few_instants play is =
+    let few = instants_few play.instants is.instants in
+    let last = is.instants.within in
+    omega (arith, few, last)
 
 module _ (play : PlayJob) (place : ℕ) where
   pub instant_there : place < instant_count play → slice_get (instants play) place ≡ Some (play_instant play place)
@@ -65,25 +44,17 @@ module _ (play : PlayJob) (place : ℕ) where
       slice_get_past (instants play) place (subst (λ (n : ℕ). n ≤ place) (sym long) le)
 
 -- an instant is before the end, and so within the limit
-module _ (play : PlayJob) (place count first step : ℕ) (is : IsPlay play) (all : count ≡ instant_count play) (there : place < count) (begins : first ≡ unsigned_abs play.from) (steps : step ≡ unsigned_abs play.step) where
-  inside : place < instant_count play
-  inside = subst (λ (n : ℕ). place < n) all there
+module _ (play : PlayJob) (place t : ℕ) (is : IsPlay play) (there : place < instant_count play) (at : t ≡ rated_instant play.instants place) where
+  instant_fits : t ≤ max_instant
+  instant_fits = (let within = instant_within play.instants place is.instants there in omega (arith, at, within))
 
-  pub instant_fits : first + place * step ≤ max_instant
-  instant_fits =
-      let later : place * unsigned_abs play.step < unsigned_abs play.to - unsigned_abs play.from =
-      product_below place (unsigned_abs play.to - unsigned_abs play.from) (unsigned_abs play.step) (abs_above play.step is.step.0) inside in
-      let same : place * step ≡ place * unsigned_abs play.step = ap (λ n. place * n) steps in
-      let most = abs_at_most play.to max_instant is.to.0 is.to.1 in
-      omega (arith, later, same, most, begins)
-
-  pub instant_signed : FitsSigned w64 (pos (first + place * step))
+  pub instant_signed : FitsSigned w64 (pos t)
   instant_signed = let most = instant_fits in omega (arith, ints, most)
 
-  pub instant_here : Some (to_z w64 (first + place * step)) ≡ slice_get (instants play) place
+  pub instant_here : Some (to_z w64 t) ≡ slice_get (instants play) place
   instant_here =
-      let low : first + place * step < 2 ^ 63 = let most = instant_fits in omega (arith, most) in
-      ap Some (to_z_pos w64 (first + place * step) low ∙ ap₂ (λ f s. pos (f + place * s)) begins steps) ∙ sym (instant_there play place inside)
+      let low : t < 2 ^ 63 = let most = instant_fits in omega (arith, most) in
+      ap Some (to_z_pos w64 t low ∙ ap (λ n. pos n) at) ∙ sym (instant_there play place there)
 
 module _ {X : Type 0} (xs : List X) (first place : ℕ) (from : first ≤ place) where
   here_is : first + (place - first) ≡ place

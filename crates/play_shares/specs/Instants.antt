@@ -1,17 +1,16 @@
 -- Public: the instants of a play (docs/PROGRAM.md).
-use Rattle.std.specs.Prelude.{ℕ, ◌+◌, ◌-◌, ◌*◌, ℤ, pos, List, map, take, drop}
+use Rattle.std.specs.Prelude.{ℕ, ◌+◌, ◌*◌, ℤ, pos, List, map, take, drop}
 use Rattle.std.specs.List.{range_with_len}
-use Rattle.std.specs.Int.{div_ceil}
-use Rattle.std.specs.Int.RustNames.{unsigned_abs}
+use Rattle.frame_rate.specs.Instants.{rated_count, rated_instant}
 use Rattle.run_words.specs.declared.job.PlayJob.{PlayJob}
 
--- how many instants there are, from the first one on by the step, below the end; none of the three is below 0
+-- how many instants there are
 abbrev pub instant_count : PlayJob → ℕ
-instant_count play = div_ceil (unsigned_abs play.to - unsigned_abs play.from) (unsigned_abs play.step)
+instant_count play = rated_count play.instants
 
 -- the instant at place i
 abbrev pub play_instant : PlayJob → ℕ → ℤ
-play_instant play i = pos (unsigned_abs play.from + i * unsigned_abs play.step)
+play_instant play i = pos (rated_instant play.instants i)
 
 abbrev pub instants : PlayJob → List ℤ
 instants play = map (play_instant play) (range_with_len 0 (instant_count play))

@@ -10,16 +10,12 @@ use ass_num::Mem;
 use run_words::PlayJob;
 use std::alloc::Global;
 
-/// How many instants there are, from the first one on below the end.
-#[tactic(auto, using(crate::proofs::InstantLemmas::abs_above))]
+/// How many instants there are.
 pub fn instant_count(play: &PlayJob) -> u64
     requires { IsPlay play.now }
     ensures { result ≡ instant_count play.now }
 {
-    let from = play.from.unsigned_abs();
-    let to = play.to.unsigned_abs();
-    let step = play.step.unsigned_abs();
-    to.saturating_sub(from).div_ceil(step)
+    play.instants.count()
 }
 
 /// The instant at a place, if there are so many.
@@ -31,10 +27,7 @@ pub fn instant_at(play: &PlayJob, place: u64) -> Option<i64>
     if place >= instant_count(play) {
         return None;
     }
-    let from = play.from.unsigned_abs();
-    let step = play.step.unsigned_abs();
-    let later = place * step;
-    let t = from + later;
+    let t = play.instants.at(place);
     Some(t as i64)
 }
 

@@ -45,6 +45,7 @@ pub fn image_rounds(play: &PlayJob) -> u64
 }
 
 /// Whether there are more images than a play may have, over all its times.
+#[tactic(auto, using(crate::proofs::InstantLemmas::few_instants))]
 pub fn has_too_many_frames(play: &PlayJob) -> bool
     requires { IsPlay play.now }
     ensures { IsTrue result ↔ max_frames < frame_count play.now }

@@ -9,6 +9,7 @@ use crate::{
     offers, painter_count, share_begins, share_ends,
 };
 use ass_num::Size;
+use frame_rate::{FrameRate, Instants};
 use run_words::{Mode, PlayJob};
 use std::test::Fail;
 
@@ -19,9 +20,11 @@ fn play(mode: Mode, ahead: u32) -> PlayJob
     ensures renderers { result.renderers ≡ 3 }
 {
     PlayJob {
-        from: 5,
-        to: 15,
-        step: 3,
+        instants: Instants {
+            from: 5,
+            to: 15,
+            rate: FrameRate::of_step(3),
+        },
         size: Size { w: 4, h: 3 },
         feeders: 2,
         renderers: 3,

@@ -3,7 +3,6 @@ use Rattle.std.proofs.Common.{◌≡◌, ℕ, ◌+◌, ◌-◌, ◌*◌, ◌%◌
 use mathlib.Core.Logic.{dite}
 use native.Mathlib.Decide.{dec_le}
 use Rattle.std.specs.List.{All, range_with_len, slice_get}
-use Rattle.std.specs.Int.RustNames.{unsigned_abs}
 use Rattle.std.proofs.lemmas.Int.{ints}
 use Rattle.std.proofs.lemmas.List.Elements.{All-nil, All-append, All-drop, All-filter, All-map, All-take, All-weaker}
 use Rattle.std.proofs.lemmas.List.FromFn.{get_or-map-range_with_len, get_or-range_with_len, length-map-range_with_len, length-range_with_len}
@@ -13,7 +12,8 @@ use Rattle.run_words.specs.Jobs.{IsPlay}
 use Rattle.run_words.specs.declared.job.PlayJob.{PlayJob}
 use Rattle.play_shares.specs.Batches.{again_lines, batch_lines, feeder_lines, good_lines, has_batch, last_items, offered}
 use Rattle.play_shares.specs.Instants.{ahead_instants, instant_count, instants, play_instant}
-use Rattle.play_shares.proofs.InstantLemmas.{instant_fits}
+use Rattle.frame_rate.specs.Instants.{rated_instant}
+use Rattle.frame_rate.proofs.InstantLemmas as rated_lemma
 use Rattle.play_model.specs.Plays.{PlayView, events_again, events_at, events_in, good_flags}
 use Rattle.play_model.proofs.Shares.{events_parts, flags_long, good_events}
 
@@ -68,8 +68,7 @@ moment_within n low = (omega (arith, ints), omega (arith, ints, low))
 module _ (job : PlayJob) (is : IsPlay job) where
   pub instant_within : (place : ℕ) → place < instant_count job → IsWithin max_instant (play_instant job place)
   instant_within place lt =
-      moment_within (unsigned_abs job.from + place * unsigned_abs job.step)
-      (instant_fits job place (instant_count job) (unsigned_abs job.from) (unsigned_abs job.step) is refl lt refl refl)
+      moment_within (rated_instant job.instants place) (rated_lemma.instant_within job.instants place is.instants lt)
 
   all_within : All (IsWithin max_instant) (instants job)
   all_within = All-map (IsWithin max_instant) (play_instant job) (range_with_len 0 (instant_count job))

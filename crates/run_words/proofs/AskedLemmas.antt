@@ -6,15 +6,18 @@ use Rattle.std.proofs.lemmas.Int.{ints}
 use Rattle.ass_num.specs.Limits.{IsWithin, max_frame_side, max_instant}
 use Rattle.ass_num.specs.declared.size.Size.{Size}
 use Rattle.ass_script.specs.Words.{is_comma}
-use Rattle.frame_view.specs.FrameViews.{IsAspect, IsContentRect, IsStorage}
+use Rattle.frame_rate.specs.Instants.{AreInstants}
+use Rattle.frame_rate.specs.Rates.{IsFrameRate, max_rate_frames, step_rate}
+use Rattle.frame_rate.specs.declared.rate.FrameRate.{FrameRate}
+use Rattle.frame_view.specs.FrameViews.{IsAspect, IsContentRect, IsFrameView, IsStorage}
 use Rattle.frame_view.specs.Limits.{max_aspect_parts, max_layout_side, max_letter_scale, whole_letter_scale}
 use Rattle.clap.specs.Walk.{Row}
 use Rattle.clap.specs.Simple.{subcommand_of}
 use Rattle.run_words.specs.Limits.{max_ahead, max_bands, max_batch, max_budget, max_events, max_seed, max_times, max_workers, usual_batch, usual_budget}
-use Rattle.run_words.specs.Asked.{budget_at, first_bad, frame_at, job_for, play_of, size_at, smallest_size, text_at, unless_bad}
+use Rattle.run_words.specs.Asked.{budget_at, first_bad, frame_at, instants_at, is_paced, job_for, number_at, play_of, rate_at, size_at, smallest_size, text_at, unless_bad}
 use Rattle.run_words.specs.Grammar.{is_taken, words_app}
-use Rattle.run_words.specs.Jobs.{IsNumberBetween, IsFrame, IsSeenFrame, IsJob, IsPlay, IsMoment, IsStep}
-use Rattle.run_words.specs.Values.{aspect_in, column_in, content_in, is_slash, is_x, number_in, number_within, pixel_in, rect_at, rect_behind, shape_in, sides_in, size_in, size_within, storage_in}
+use Rattle.run_words.specs.Jobs.{IsNumberBetween, IsFrame, IsJob, IsPlay, IsMoment}
+use Rattle.run_words.specs.Values.{aspect_in, column_in, content_in, frames_or, is_slash, is_x, number_in, number_within, pixel_in, rate_in, rate_of, rate_parted, rect_at, rect_behind, shape_in, sides_in, size_in, size_within, storage_in}
 use Rattle.run_words.specs.Words.{IsReading, command_named, job_in, job_of, reading_in}
 use Rattle.run_words.specs.declared.argument.Argument.{Argument}
 use Rattle.run_words.specs.declared.argument.Argument.TheVariants as argument
@@ -85,6 +88,30 @@ aspect_within text = cases (list_any is_slash text)
     cases true = shape (number_within 1 max_aspect_parts (before_first is_slash text)) (number_within 1 max_aspect_parts (after_first is_slash text)) (within 1 max_aspect_parts (before_first is_slash text)) (within 1 max_aspect_parts (after_first is_slash text))
     cases false = tt
 
+-- a rate of a text has frames and takes time
+rate_within_of : (frames seconds : Option ℕ) → IfSome frames (IsNumberBetween 1 max_rate_frames) → IfSome seconds (IsNumberBetween 1 max_rate_frames)
+    → IfSome (option_and_then (λ n. option_map (λ d. record { frames = n; seconds = d }) seconds) frames) IsFrameRate
+rate_within_of None seconds h k = tt
+rate_within_of (Some n) None h k = tt
+rate_within_of (Some n) (Some d) h k = record { some = omega (arith, h.0); most = h.1; time = omega (arith, k.0); longest = omega (arith, k.1) }
+
+parted_within : (text : List ℕ) → IfSome (rate_parted text) IsFrameRate
+parted_within text = cases (list_any is_slash text)
+  where
+    cases : (b : Bool) → IfSome (cond b (rate_of (before_first is_slash text) (after_first is_slash text)) None) IsFrameRate
+    cases true = rate_within_of (number_within 1 max_rate_frames (before_first is_slash text)) (number_within 1 max_rate_frames (after_first is_slash text)) (within 1 max_rate_frames (before_first is_slash text)) (within 1 max_rate_frames (after_first is_slash text))
+    cases false = tt
+
+frames_or_within : (n : Option ℕ) (parted : Option FrameRate) → IfSome n (IsNumberBetween 1 max_rate_frames) → IfSome parted IsFrameRate → IfSome (frames_or n parted) IsFrameRate
+frames_or_within None parted h k = k
+frames_or_within (Some n) parted h k = record { some = omega (arith, h.0); most = h.1; time = omega arith; longest = omega arith }
+
+rate_within : (text : List ℕ) → IfSome (rate_in text) IsFrameRate
+rate_within text = frames_or_within (number_within 1 max_rate_frames text) (rate_parted text) (within 1 max_rate_frames text) (parted_within text)
+
+step_within : (n : ℕ) → IsNumberBetween 1 max_instant n → IsFrameRate (step_rate n)
+step_within n h = record { some = omega arith; most = omega arith; time = omega (arith, h.0); longest = h.1 }
+
 -- a place of a text lies in the frame or as far around it
 below_zero : (n : Option ℕ) → IfSome n (IsNumberBetween 0 max_frame_side) → IfSome (option_map neg_ℤ (option_map (λ n. pos n) n)) (IsWithin max_frame_side)
 below_zero None h = tt
@@ -128,35 +155,43 @@ size_range rows =
     or_absent (AreSides max_frame_side) (option_and_then size_in (text_at rows argument.Size)) smallest_size ((omega arith, omega arith), (omega arith, omega arith))
     (given (AreSides max_frame_side) size_in (text_at rows argument.Size) (sides_within max_frame_side))
 
-frame_within : (rows : List Row) → IsSeenFrame (frame_at rows)
+frame_within : (rows : List Row) → IsFrameView (frame_at rows)
 frame_within rows =
     let size = size_range rows in
     record {
-      size = size;
-      seen =
-          record {
-            size = record { wide = size.0.1; high = size.1.1 };
-            content = given IsContentRect content_in (text_at rows argument.Content) content_within;
-            storage = given IsStorage storage_in (text_at rows argument.Storage) (λ text. storage_within (storage_in text) (sides_within max_layout_side text));
-            aspect = given IsAspect aspect_in (text_at rows argument.Aspect) aspect_within;
-            scale = (between 0 max_letter_scale (text_at rows argument.Scale) whole_letter_scale (omega arith) (omega arith)).1;
-          };
+      size = record { wide = size.0.1; high = size.1.1 };
+      content = given IsContentRect content_in (text_at rows argument.Content) content_within;
+      storage = given IsStorage storage_in (text_at rows argument.Storage) (λ text. storage_within (storage_in text) (sides_within max_layout_side text));
+      aspect = given IsAspect aspect_in (text_at rows argument.Aspect) aspect_within;
+      scale = (between 0 max_letter_scale (text_at rows argument.Scale) whole_letter_scale (omega arith) (omega arith)).1;
     }
 
 moment : (n : ℕ) → IsNumberBetween 0 max_instant n → IsMoment (pos n)
 moment n h = (omega (arith, ints), omega (arith, ints))
 
-step : (n : ℕ) → IsNumberBetween 1 max_instant n → IsStep (pos n)
-step n h = (omega (arith, ints), omega (arith, ints))
+-- what stands for an instant that isn't said is the first one
+instant_within : (rows : List Row) (argument : Argument) → number_at rows argument 0 ≡ unwrap_or (option_and_then (number_within 0 max_instant) (text_at rows argument)) 0 → number_at rows argument 0 ≤ max_instant
+instant_within rows argument is = let most = (between 0 max_instant (text_at rows argument) 0 (omega arith) (omega arith)).1 in rw is most
+
+rate_range : (rows : List Row) → IsFrameRate (rate_at rows)
+rate_range rows =
+    or_absent IsFrameRate (option_and_then rate_in (text_at rows argument.Rate)) (step_rate (number_at rows argument.Step 1))
+    (step_within (number_at rows argument.Step 1) (between 1 max_instant (text_at rows argument.Step) 1 (omega arith) (omega arith)))
+    (given IsFrameRate rate_in (text_at rows argument.Rate) rate_within)
+
+instants_within : (rows : List Row) → AreInstants (instants_at rows)
+instants_within rows = record {
+  first = instant_within rows argument.From refl;
+  rate = rate_range rows;
+  within = instant_within rows argument.To refl;
+}
 
 budget_at_most : (rows : List Row) → budget_at rows ≤ max_budget
 budget_at_most rows = (between 0 max_budget (text_at rows argument.Budget) usual_budget (omega arith) (omega arith)).1
 
 play_within : (rows : List Row) → IsPlay (play_of rows)
 play_within rows = record {
-  from = moment _ (between 0 max_instant (text_at rows argument.From) 0 (omega arith) (omega arith));
-  to = moment _ (between 0 max_instant (text_at rows argument.To) 0 (omega arith) (omega arith));
-  step = step _ (between 1 max_instant (text_at rows argument.Step) 1 (omega arith) (omega arith));
+  instants = instants_within rows;
   size = size_range rows;
   feeders = between 1 max_workers (text_at rows argument.Feeders) 1 (omega arith) (omega arith);
   renderers = between 1 max_workers (text_at rows argument.Renderers) 1 (omega arith) (omega arith);
@@ -170,20 +205,14 @@ play_within rows = record {
 
 job_within : (rows : List Row) (command : Command) → IsJob (job_for rows command)
 job_within rows Check = tt
-job_within rows Frame = (moment _ (between 0 max_instant (text_at rows argument.At) 0 (omega arith) (omega arith)), frame_within rows, budget_at_most rows)
+job_within rows Frame = (record { at = instant_within rows argument.At refl; view = frame_within rows; budget = budget_at_most rows }, size_range rows)
 job_within rows Play = play_within rows
 job_within rows Selftest = (
   (between 0 max_seed (text_at rows argument.Seed) 0 (omega arith) (omega arith)).1,
   between 1 max_events (text_at rows argument.Events) 1 (omega arith) (omega arith),
   between 1 max_workers (text_at rows argument.Workers) 1 (omega arith) (omega arith),
 )
-job_within rows Changes = (
-  moment _ (between 0 max_instant (text_at rows argument.From) 0 (omega arith) (omega arith)),
-  moment _ (between 0 max_instant (text_at rows argument.To) 0 (omega arith) (omega arith)),
-  step _ (between 1 max_instant (text_at rows argument.Step) 1 (omega arith) (omega arith)),
-  frame_within rows,
-  budget_at_most rows,
-)
+job_within rows Changes = (record { instants = instants_within rows; view = frame_within rows; budget = budget_at_most rows }, size_range rows)
 job_within rows Write = (
   moment _ (between 0 max_instant (text_at rows argument.Later) 0 (omega arith) (omega arith)),
   moment _ (between 0 max_instant (text_at rows argument.Earlier) 0 (omega arith) (omega arith)),
@@ -195,7 +224,11 @@ unless_within (Some argument) job h = tt
 
 reading_within : (rows : List Row) (command : Option Command) → IfOk (reading_in rows command) IsJob
 reading_within rows None = tt
-reading_within rows (Some command) = unless_within (first_bad rows command) (job_for rows command) (job_within rows command)
+reading_within rows (Some command) = cases (is_paced rows command)
+  where
+    cases : (b : Bool) → IfOk (cond b (unless_bad (first_bad rows command) (job_for rows command)) (Err Usage)) IsJob
+    cases true = unless_within (first_bad rows command) (job_for rows command) (job_within rows command)
+    cases false = tt
 
 met_within : (met : Option (List ℕ × List Row)) → IfOk (job_in met) IsJob
 met_within None = tt

@@ -10,7 +10,7 @@ use Rattle.clap.specs.Lexer.{long_of, short_of}
 use Rattle.clap.specs.Simple.{App, Shape, built, entered, label_of, names_of, rows_at, subcommand_of}
 use Rattle.clap.specs.Walk.{Held, Names, Row, Step, Text, Waiting, Walk, after_flag, after_step, answers_to, bundle_met, bundle_step, idle, is_empty, long_or_other, nothing_held, plain, short_or_plain, stop_after, subcommand_met, subcommand_or_other, trailing, walk_from, walked}
 use Rattle.clap.proofs.WalkLemmas.{walk_stopped}
-use Rattle.run_words.specs.Asked.{first_bad, job_for, unless_bad}
+use Rattle.run_words.specs.Asked.{first_bad, is_paced, job_for, unless_bad}
 use Rattle.run_words.specs.Commands.{command_name, commands}
 use Rattle.run_words.specs.Grammar.{is_taken, words_app}
 use Rattle.run_words.specs.Words.{FirstWordIsCommand, command_named, command_asked, job_in, reading_in}
@@ -51,8 +51,11 @@ unless_of name (Some argument) job h = tt
 
 reading_of : (rows : List Row) (name : List ℕ) (c : Option Command) → IfSome c (λ x. bytes_eq (command_name x) name ≡ true) → IsOf name (reading_in rows c)
 reading_of rows name None h = tt
-reading_of rows name (Some c) h =
-    unless_of name (first_bad rows c) (job_for rows c) (ap command_name (of_command rows c) ∙ (bytes_eq-Decides (command_name c) name).0 h)
+reading_of rows name (Some c) h = cases (is_paced rows c)
+  where
+    cases : (b : Bool) → IsOf name (cond b (unless_bad (first_bad rows c) (job_for rows c)) (Err Usage))
+    cases true = unless_of name (first_bad rows c) (job_for rows c) (ap command_name (of_command rows c) ∙ (bytes_eq-Decides (command_name c) name).0 h)
+    cases false = tt
 
 shape_of_name : (rest : List Text) (name : List ℕ) (s : Option Shape) → IfSome s (λ x. bytes_eq x.name name ≡ true) → IsOf name (job_in (option_map (λ x. rows_at x rest) s))
 shape_of_name rest name None h = tt

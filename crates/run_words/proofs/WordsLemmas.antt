@@ -1,5 +1,5 @@
 -- From the matches that `clap` gives to the reading of the words.
-use Rattle.std.proofs.Common.{◌≡◌, ◌↔◌, ℕ, ◌∙◌, Bool, true, false, cond, List, [], ◌∷◌, Option, Some, None, is_some, Result, Err, ap, refl, sym, inl, inr, subst, arith, ne_eqb, eqb-true}
+use Rattle.std.proofs.Common.{◌≡◌, ◌↔◌, ℕ, ◌∙◌, Bool, true, false, cond, ◌&&◌, List, [], ◌∷◌, Option, Some, None, is_some, Result, Err, ap, refl, sym, inl, inr, subst, arith, ne_eqb, eqb-true}
 use Rattle.std.specs.Prelude.{IfSome, Box, find, option_map}
 use Rattle.std.specs.Box.{box_value}
 use Rattle.std.specs.List.{list_all}
@@ -16,7 +16,7 @@ use Rattle.clap.specs.declared.parser.matches.ArgMatches.TheViews.{out-ArgMatche
 use Rattle.clap.specs.declared.parser.matches.SubCommand.{SubCommand}
 use Rattle.run_words.specs.Asked.{first_bad, job_for, unless_bad}
 use Rattle.run_words.specs.Grammar.{is_taken, words_app}
-use Rattle.run_words.specs.Words.{UsageIsOfGrammar, command_named, job_in, job_of, reading_in}
+use Rattle.run_words.specs.Words.{UsageIsOfGrammar, command_named, is_met_paced, is_named_paced, job_in, job_of, reading_in}
 use Rattle.run_words.specs.declared.argument.Argument.{Argument}
 use Rattle.run_words.specs.declared.command.Command.{Command}
 use Rattle.run_words.specs.declared.job.Job.{Job}
@@ -82,18 +82,31 @@ unless_known : (bad : Option Argument) (job : Job) → IsKnown (unless_bad bad j
 unless_known None job e = cc
 unless_known (Some argument) job e = cc
 
-command_known : (rows : List Row) (command : Option Command) → is_some command ≡ true → IsKnown (reading_in rows command)
-command_known rows None some e = cc
-command_known rows (Some command) some e = unless_known (first_bad rows command) (job_for rows command) e
+command_known : (rows : List Row) (command : Option Command) → is_some command ≡ true → is_named_paced rows command ≡ true → IsKnown (reading_in rows command)
+command_known rows None some paced e = cc
+command_known rows (Some command) some paced e =
+    unless_known (first_bad rows command) (job_for rows command)
+    (ap (λ b. cond b (unless_bad (first_bad rows command) (job_for rows command)) (Err Usage)) (sym paced) ∙ e)
 
-shape_known : (rest : List (List ℕ)) (s : Option Shape) → IfSome s (λ x. names_command x ≡ true) → is_some (option_map (λ x. rows_at x rest) s) ≡ true → IsKnown (job_in (option_map (λ x. rows_at x rest) s))
-shape_known rest None named some e = cc
-shape_known rest (Some s) named some e = command_known (rows_at s rest).1 (command_named s.name) named e
+shape_known : (rest : List (List ℕ)) (s : Option Shape) → IfSome s (λ x. names_command x ≡ true) → is_some (option_map (λ x. rows_at x rest) s) ≡ true
+    → is_met_paced (option_map (λ x. rows_at x rest) s) ≡ true → IsKnown (job_in (option_map (λ x. rows_at x rest) s))
+shape_known rest None named some paced e = cc
+shape_known rest (Some s) named some paced e = command_known (rows_at s rest).1 (command_named s.name) named paced e
 
-entered_known : (stop : Option (List ℕ × List (List ℕ))) → is_some (entered (built words_app) stop) ≡ true → IsKnown (job_in (entered (built words_app) stop))
-entered_known None some e = cc
-entered_known (Some p) some e =
-    shape_known p.1 (find (λ s. answers_to p.0 (label_of s)) (built words_app).subs) (found_passes (λ s. answers_to p.0 (label_of s)) names_command (built words_app).subs all_named) some e
+entered_known : (stop : Option (List ℕ × List (List ℕ))) → is_some (entered (built words_app) stop) ≡ true → is_met_paced (entered (built words_app) stop) ≡ true
+    → IsKnown (job_in (entered (built words_app) stop))
+entered_known None some paced e = cc
+entered_known (Some p) some paced e =
+    shape_known p.1 (find (λ s. answers_to p.0 (label_of s)) (built words_app).subs) (found_passes (λ s. answers_to p.0 (label_of s)) names_command (built words_app).subs all_named) some paced e
+
+-- Where a step and a rate are said, or none, the words are refused.
+named_unpaced : (rows : List Row) (command : Option Command) → is_named_paced rows command ≡ false → reading_in rows command ≡ Err Usage
+named_unpaced rows None e = cc
+named_unpaced rows (Some command) e = ap (λ b. cond b (unless_bad (first_bad rows command) (job_for rows command)) (Err Usage)) e
+
+met_unpaced : (met : Option (List ℕ × List Row)) → is_met_paced met ≡ false → job_in met ≡ Err Usage
+met_unpaced None e = cc
+met_unpaced (Some met) e = named_unpaced met.1 (command_named met.0) e
 
 -- Without a subcommand there is a fault.
 wanted : (rows : List Row) (has : Bool) → check_fault (built words_app).top rows has ≡ [] → has ≡ true
@@ -117,11 +130,14 @@ none_is_empty [] e = refl
 none_is_empty (k ∷ ks) e = absurd (omega (arith, eqb-true _ _ e))
 
 pub usage : UsageIsOfGrammar
-usage words = cases (is_taken words) refl
+usage words = cases (is_taken words) (is_met_paced (subcommand_of words_app words)) refl refl
   where
-    cases : (b : Bool) → is_taken words ≡ b → (cond b (job_in (subcommand_of words_app words)) (Err Usage) ≡ Err Usage) ↔ (b ≡ false)
-    cases true taken = (λ e. absurd (entered_known (stop_after (built words_app).top.rules (names_of (built words_app)) (argument_words words_app words)) (taken_enters words (none_is_empty _ taken)) e), λ e. cc)
-    cases false taken = (λ e. refl, λ e. refl)
+    cases : (b paced : Bool) → is_taken words ≡ b → is_met_paced (subcommand_of words_app words) ≡ paced
+        → (cond b (job_in (subcommand_of words_app words)) (Err Usage) ≡ Err Usage) ↔ ((b && paced) ≡ false)
+    cases true true taken paced =
+        (λ e. absurd (entered_known (stop_after (built words_app).top.rules (names_of (built words_app)) (argument_words words_app words)) (taken_enters words (none_is_empty _ taken)) paced e), λ e. cc)
+    cases true false taken unpaced = (λ e. refl, λ e. met_unpaced (subcommand_of words_app words) unpaced)
+    cases false paced taken is = (λ e. refl, λ e. refl)
 
 -- ---- what is read
 

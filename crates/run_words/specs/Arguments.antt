@@ -4,21 +4,23 @@ use Rattle.ass_num.specs.Limits.{max_instant}
 use Rattle.frame_view.specs.Limits.{max_letter_scale}
 use Rattle.run_words.specs.Limits.{max_ahead, max_bands, max_batch, max_budget, max_events, max_seed, max_times, max_workers}
 use Rattle.run_words.specs.declared.argument.Argument.{Argument}
-use Rattle.run_words.specs.declared.argument.Argument.TheVariants.{At, From, To, Step, Size, Storage, Aspect, Content, Letters, Scale, Feeders, Renderers, Batch, Again, Times, Ahead, Bands, Budget, Mode, ScriptFonts, Workers, Later, Earlier, Script, Fonts, Seed, Events}
+use Rattle.run_words.specs.declared.argument.Argument.TheVariants.{At, From, To, Step, Rate, Size, Storage, Aspect, Content, Letters, Scale, Format, Feeders, Renderers, Batch, Again, Times, Ahead, Bands, Budget, Mode, ScriptFonts, Workers, Later, Earlier, Script, Fonts, Seed, Events}
 use Rattle.run_words.specs.declared.argument.Kind.{Kind}
-use Rattle.run_words.specs.declared.argument.Kind.TheVariants.{Number, FrameSize, VideoSize, PixelShape, PictureRect, LettersRule, PlayMode, Alone, FileName}
+use Rattle.run_words.specs.declared.argument.Kind.TheVariants.{Number, FrameSize, VideoSize, PixelShape, PictureRect, LettersRule, PlayMode, PictureFormat, FramesInSeconds, Alone, FileName}
 
 abbrev pub argument_name : Argument → List ℕ
 argument_name At = codes "at"
 argument_name From = codes "from"
 argument_name To = codes "to"
 argument_name Step = codes "step"
+argument_name Rate = codes "rate"
 argument_name Size = codes "size"
 argument_name Storage = codes "storage"
 argument_name Aspect = codes "aspect"
 argument_name Content = codes "content"
 argument_name Letters = codes "letters"
 argument_name Scale = codes "scale"
+argument_name Format = codes "format"
 argument_name Feeders = codes "feeders"
 argument_name Renderers = codes "renderers"
 argument_name Batch = codes "batch"
@@ -50,7 +52,6 @@ abbrev pub is_required : Argument → Bool
 is_required At = true
 is_required From = true
 is_required To = true
-is_required Step = true
 is_required Size = true
 is_required argument = is_positional argument
 
@@ -60,12 +61,14 @@ argument_kind At = Number 0 max_instant
 argument_kind From = Number 0 max_instant
 argument_kind To = Number 0 max_instant
 argument_kind Step = Number 1 max_instant
+argument_kind Rate = FramesInSeconds
 argument_kind Size = FrameSize
 argument_kind Storage = VideoSize
 argument_kind Aspect = PixelShape
 argument_kind Content = PictureRect
 argument_kind Letters = LettersRule
 argument_kind Scale = Number 0 max_letter_scale
+argument_kind Format = PictureFormat
 argument_kind Feeders = Number 1 max_workers
 argument_kind Renderers = Number 1 max_workers
 argument_kind Batch = Number 1 max_batch

@@ -3,6 +3,9 @@ use Rattle.std.specs.Prelude.{◌≡◌, ℕ, pos, Bool, true, false, not, List,
 use Rattle.std.specs.Option.{option_map_or}
 use Rattle.std.specs.Str.{bytes_eq}
 use Rattle.ass_num.specs.declared.size.Size.{Size}
+use Rattle.frame_rate.specs.Rates.{step_rate}
+use Rattle.frame_rate.specs.declared.instants.Instants.{Instants}
+use Rattle.frame_rate.specs.declared.rate.FrameRate.{FrameRate}
 use Rattle.frame_view.specs.FrameViews.{plain_frame}
 use Rattle.frame_view.specs.Limits.{whole_letter_scale}
 use Rattle.frame_view.specs.declared.view.FrameView.{FrameView}
@@ -11,13 +14,17 @@ use Rattle.clap.specs.Walk.{Row, all_of, first_of}
 use Rattle.run_words.specs.Arguments.{argument_name, argument_kind, shown_name}
 use Rattle.run_words.specs.Commands.{arguments_of}
 use Rattle.run_words.specs.Limits.{usual_batch, usual_budget}
-use Rattle.run_words.specs.Values.{aspect_in, content_in, is_of_kind, letters_in, mode_in, number_within, size_in, storage_in}
+use Rattle.run_words.specs.Values.{aspect_in, content_in, format_in, is_of_kind, letters_in, mode_in, number_within, rate_in, size_in, storage_in}
 use Rattle.run_words.specs.declared.argument.Argument.{Argument}
 use Rattle.run_words.specs.declared.argument.Argument.TheVariants as argument
 use Rattle.run_words.specs.declared.argument.Kind.{Kind}
 use Rattle.run_words.specs.declared.argument.Kind.TheVariants.{Number}
 use Rattle.run_words.specs.declared.command.Command.{Command}
 use Rattle.run_words.specs.declared.command.Command.TheVariants as command
+use Rattle.run_words.specs.declared.job.ChangesJob.{ChangesJob}
+use Rattle.run_words.specs.declared.job.FrameFormat.{FrameFormat}
+use Rattle.run_words.specs.declared.job.FrameFormat.TheVariants.{Ppm}
+use Rattle.run_words.specs.declared.job.FrameJob.{FrameJob}
 use Rattle.run_words.specs.declared.job.Job.{Job}
 use Rattle.run_words.specs.declared.job.Job.TheVariants.{Check, Frame, Play, Selftest, Changes, Write}
 use Rattle.run_words.specs.declared.job.Mode.{Mode}
@@ -66,6 +73,27 @@ frame_at rows = record {
   bars = false;
 }
 
+abbrev pub format_at : List Row → FrameFormat
+format_at rows = unwrap_or (option_and_then format_in (text_at rows argument.Format)) Ppm
+
+-- the rate of the instants, or that of their step
+abbrev pub rate_at : List Row → FrameRate
+rate_at rows = unwrap_or (option_and_then rate_in (text_at rows argument.Rate)) (step_rate (number_at rows argument.Step 1))
+
+abbrev pub instants_at : List Row → Instants
+instants_at rows = record { from = number_at rows argument.From 0; to = number_at rows argument.To 0; rate = rate_at rows }
+
+abbrev pub is_just_one : Option (List ℕ) → Option (List ℕ) → Bool
+is_just_one None (Some rate) = true
+is_just_one (Some step) None = true
+is_just_one _ _ = false
+
+-- A command that takes a step and a rate is told just one of them.
+abbrev pub is_paced : List Row → Command → Bool
+is_paced rows command.Play = is_just_one (text_at rows argument.Step) (text_at rows argument.Rate)
+is_paced rows command.Changes = is_just_one (text_at rows argument.Step) (text_at rows argument.Rate)
+is_paced rows _ = true
+
 abbrev pub mode_at : List Row → Mode
 mode_at rows = unwrap_or (option_and_then mode_in (text_at rows argument.Mode)) Settled
 
@@ -90,9 +118,7 @@ budget_at rows = number_at rows argument.Budget usual_budget
 -- what a `play` is asked for
 abbrev pub play_of : List Row → PlayJob
 play_of rows = record {
-  from = pos (number_at rows argument.From 0);
-  to = pos (number_at rows argument.To 0);
-  step = pos (number_at rows argument.Step 1);
+  instants = instants_at rows;
   size = size_at rows;
   feeders = number_at rows argument.Feeders 1;
   renderers = number_at rows argument.Renderers 1;
@@ -101,18 +127,26 @@ play_of rows = record {
   times = number_at rows argument.Times 1;
   ahead = number_at rows argument.Ahead 0;
   bands = number_at rows argument.Bands 1;
+  format = format_at rows;
   budget = budget_at rows;
   mode = mode_at rows;
 }
 
+-- what a `frame` is asked for
+abbrev pub frame_of : List Row → FrameJob
+frame_of rows = record { at = number_at rows argument.At 0; view = frame_at rows; format = format_at rows; budget = budget_at rows }
+
+-- what a `changes` is asked for
+abbrev pub changes_of : List Row → ChangesJob
+changes_of rows = record { instants = instants_at rows; view = frame_at rows; budget = budget_at rows }
+
 -- the job of a command
 abbrev pub job_for : List Row → Command → Job
 job_for rows command.Check = Check (source_at rows) (fonts_at rows)
-job_for rows command.Frame = Frame (pos (number_at rows argument.At 0)) (frame_at rows) (budget_at rows) (source_at rows) (fonts_at rows)
+job_for rows command.Frame = Frame (frame_of rows) (source_at rows) (fonts_at rows)
 job_for rows command.Play = Play (play_of rows) (source_at rows) (fonts_at rows)
 job_for rows command.Selftest = Selftest (number_at rows argument.Seed 0) (number_at rows argument.Events 1) (number_at rows argument.Workers 1)
-job_for rows command.Changes =
-    Changes (pos (number_at rows argument.From 0)) (pos (number_at rows argument.To 0)) (pos (number_at rows argument.Step 1)) (frame_at rows) (budget_at rows) (source_at rows) (fonts_at rows)
+job_for rows command.Changes = Changes (changes_of rows) (source_at rows) (fonts_at rows)
 job_for rows command.Write = Write (pos (number_at rows argument.Later 0)) (pos (number_at rows argument.Earlier 0)) (script_at rows)
 
 abbrev pub unless_bad : Option Argument → Job → Result Job WordsFault
@@ -123,10 +157,19 @@ unless_bad (Some argument) job = Err (Value (shown_name argument))
 abbrev pub command_reading : List Row → Command → Result Job WordsFault
 command_reading rows command = unless_bad (first_bad rows command) (job_for rows command)
 
--- ---- a law
+-- ---- laws
 
 -- Of a frame that has none of these words nothing but its size is known.
 abbrev pub PlainFramesStay : Type 0
 PlainFramesStay =
     (rows : List Row) → text_at rows argument.Content ≡ None → text_at rows argument.Storage ≡ None → text_at rows argument.Aspect ≡ None
     → text_at rows argument.Letters ≡ None → text_at rows argument.Scale ≡ None → frame_at rows ≡ plain_frame (size_at rows)
+
+-- Frames of which no format is said are pixmaps.
+abbrev pub PlainFormatsStay : Type 0
+PlainFormatsStay =
+    (rows : List Row) → text_at rows argument.Format ≡ None → ((frame_of rows).format ≡ Ppm) × ((play_of rows).format ≡ Ppm)
+
+-- Where no rate is said, instants stand a step apart.
+abbrev pub StepsStay : Type 0
+StepsStay = (rows : List Row) → text_at rows argument.Rate ≡ None → (instants_at rows).rate ≡ step_rate (number_at rows argument.Step 1)

@@ -7,6 +7,8 @@ use Rattle.ass_num.specs.Limits.{max_frame_side}
 use Rattle.ass_num.specs.Numerals.{number_of}
 use Rattle.ass_num.specs.declared.size.Size.{Size}
 use Rattle.ass_script.specs.Words.{is_comma}
+use Rattle.frame_rate.specs.Rates.{max_rate_frames}
+use Rattle.frame_rate.specs.declared.rate.FrameRate.{FrameRate}
 use Rattle.frame_view.specs.Limits.{max_aspect_parts, max_layout_side}
 use Rattle.frame_view.specs.declared.view.LetterWidth.{LetterWidth}
 use Rattle.frame_view.specs.declared.view.LetterWidth.TheVariants.{Canvas, Aspect}
@@ -14,7 +16,9 @@ use Rattle.frame_view.specs.declared.view.PixelAspect.{PixelAspect}
 use Rattle.frame_view.specs.declared.view.PixelRect.{PixelRect}
 use Rattle.run_words.specs.Limits.{max_digits}
 use Rattle.run_words.specs.declared.argument.Kind.{Kind}
-use Rattle.run_words.specs.declared.argument.Kind.TheVariants.{Number, FrameSize, VideoSize, PixelShape, PictureRect, LettersRule, PlayMode, Alone, FileName}
+use Rattle.run_words.specs.declared.argument.Kind.TheVariants.{Number, FrameSize, VideoSize, PixelShape, PictureRect, LettersRule, PlayMode, PictureFormat, FramesInSeconds, Alone, FileName}
+use Rattle.run_words.specs.declared.job.FrameFormat.{FrameFormat}
+use Rattle.run_words.specs.declared.job.FrameFormat.TheVariants.{Ppm, Pam, Rgba}
 use Rattle.run_words.specs.declared.job.Mode.{Mode}
 use Rattle.run_words.specs.declared.job.Mode.TheVariants.{Live, Settled}
 
@@ -88,6 +92,28 @@ letters_in text = if bytes_eq text (codes "script") then Some Canvas else (if by
 abbrev pub mode_in : List ℕ → Option Mode
 mode_in text = if bytes_eq text (codes "live") then Some Live else (if bytes_eq text (codes "settled") then Some Settled else None)
 
+-- the format that a text is
+abbrev pub format_in : List ℕ → Option FrameFormat
+format_in text =
+    if bytes_eq text (codes "ppm") then Some Ppm else (if bytes_eq text (codes "pam") then Some Pam else (if bytes_eq text (codes "rgba") then Some Rgba else None))
+
+-- frames in seconds
+abbrev pub rate_of : List ℕ → List ℕ → Option FrameRate
+rate_of frames seconds =
+    option_and_then (λ n. option_map (λ d. record { frames = n; seconds = d }) (number_within 1 max_rate_frames seconds)) (number_within 1 max_rate_frames frames)
+
+-- the frames before the first `/`, and the seconds behind it
+abbrev pub rate_parted : List ℕ → Option FrameRate
+rate_parted text = if list_any is_slash text then rate_of (before_first is_slash text) (after_first is_slash text) else None
+
+abbrev pub frames_or : Option ℕ → Option FrameRate → Option FrameRate
+frames_or None parted = parted
+frames_or (Some n) parted = Some (record { frames = n; seconds = 1 })
+
+-- the rate that a text is: so many frames in one second, or in so many
+abbrev pub rate_in : List ℕ → Option FrameRate
+rate_in text = frames_or (number_within 1 max_rate_frames text) (rate_parted text)
+
 -- The text is of the rule of its kind.
 abbrev pub is_of_kind : Kind → List ℕ → Bool
 is_of_kind (Number least most) text = is_some (number_within least most text)
@@ -97,5 +123,7 @@ is_of_kind PixelShape text = is_some (aspect_in text)
 is_of_kind PictureRect text = is_some (content_in text)
 is_of_kind LettersRule text = is_some (letters_in text)
 is_of_kind PlayMode text = is_some (mode_in text)
+is_of_kind PictureFormat text = is_some (format_in text)
+is_of_kind FramesInSeconds text = is_some (rate_in text)
 is_of_kind Alone text = true
 is_of_kind FileName text = true

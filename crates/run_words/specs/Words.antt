@@ -1,11 +1,11 @@
 -- Public: the job that the words of a run ask for, or why they are refused (docs/PROGRAM.md).
-use Rattle.std.specs.Prelude.{◌≡◌, ◌↔◌, ℕ, false, List, map, Option, Some, None, Result, Ok, Err, IfOk, find, if◌then◌else◌, slice_get, string_bytes}
+use Rattle.std.specs.Prelude.{◌≡◌, ◌↔◌, ℕ, Bool, true, false, ◌&&◌, List, map, Option, Some, None, Result, Ok, Err, IfOk, find, if◌then◌else◌, slice_get, string_bytes}
 use Rattle.std.specs.Global.{Global}
 use Rattle.std.specs.Str.{bytes_eq}
 use Rattle.std.specs.declared.string.String.{String}
 use Rattle.clap.specs.Simple.{subcommand_of}
 use Rattle.clap.specs.Walk.{Row}
-use Rattle.run_words.specs.Asked.{command_reading}
+use Rattle.run_words.specs.Asked.{command_reading, is_paced}
 use Rattle.run_words.specs.Commands.{command_name, commands}
 use Rattle.run_words.specs.Grammar.{is_taken, words_app}
 use Rattle.run_words.specs.declared.command.Command.{Command}
@@ -27,7 +27,7 @@ command_named name = find (λ command. bytes_eq (command_name command) name) com
 
 abbrev pub reading_in : List Row → Option Command → Result Job WordsFault
 reading_in rows None = Err Usage
-reading_in rows (Some command) = command_reading rows command
+reading_in rows (Some command) = if is_paced rows command then command_reading rows command else Err Usage
 
 -- the job of the command that was met, by what was found for its arguments
 abbrev pub job_in : Option (List ℕ × List Row) → Result Job WordsFault
@@ -44,17 +44,29 @@ IsReading reading (Ok job) = reading ≡ Ok job
 IsReading reading (Err (BadWords fault)) = reading ≡ Err fault
 IsReading reading (Err OutOfMemory) = Unit {0}
 
--- Words are refused as `Usage` exactly where `clap` refuses them.
+abbrev pub is_named_paced : List Row → Option Command → Bool
+is_named_paced rows None = true
+is_named_paced rows (Some command) = is_paced rows command
+
+abbrev pub is_met_paced : Option (List ℕ × List Row) → Bool
+is_met_paced None = true
+is_met_paced (Some met) = is_named_paced met.1 (command_named met.0)
+
+-- `clap` takes the words, and where they want a step or a rate they say one
+abbrev pub is_of_grammar : List (List ℕ) → Bool
+is_of_grammar words = is_taken words && is_met_paced (subcommand_of words_app words)
+
+-- Words are refused as `Usage` exactly where they aren't of the grammar.
 abbrev pub UsageIsOfGrammar : Type 0
-UsageIsOfGrammar = (words : List (List ℕ)) → (job_of words ≡ Err Usage) ↔ (is_taken words ≡ false)
+UsageIsOfGrammar = (words : List (List ℕ)) → (job_of words ≡ Err Usage) ↔ (is_of_grammar words ≡ false)
 
 -- the command that asks for the job
 abbrev pub command_asked : Job → Command
 command_asked (Check script fonts) = command.Check
-command_asked (Frame at frame budget script fonts) = command.Frame
+command_asked (Frame frame script fonts) = command.Frame
 command_asked (Play play script fonts) = command.Play
 command_asked (Selftest seed events workers) = command.Selftest
-command_asked (Changes from to step frame budget script fonts) = command.Changes
+command_asked (Changes changes script fonts) = command.Changes
 command_asked (Write later earlier script) = command.Write
 
 -- Words that ask for a job begin with the word that names its command.

@@ -15,6 +15,9 @@ pub const MAX_FRAME_SIDE: u64 = 4096;
 /// The most columns and the most rows of a video.
 pub const MAX_STORAGE_SIDE: u64 = 65_536;
 
+/// The most frames of a rate, and the most seconds of one that words say.
+pub const MAX_RATE_PARTS: u64 = 1_000_000;
+
 /// The most parts of a pixel's width, or of its height.
 pub const MAX_ASPECT_PARTS: u64 = 65_536;
 
@@ -62,6 +65,10 @@ pub enum Kind {
     LettersRule,
     /// `live` or `settled`.
     PlayMode,
+    /// `ppm`, `pam` or `rgba`.
+    PictureFormat,
+    /// Frames in one second, or in as many as stand behind a `/`.
+    FramesInSeconds,
     /// None: the option stands alone.
     Alone,
     /// The name of a file, which is any text.
@@ -75,12 +82,14 @@ pub enum Argument {
     From,
     To,
     Step,
+    Rate,
     Size,
     Storage,
     Aspect,
     Content,
     Letters,
     Scale,
+    Format,
     Feeders,
     Renderers,
     Batch,
@@ -110,12 +119,14 @@ impl Argument {
             Argument::From => "from",
             Argument::To => "to",
             Argument::Step => "step",
+            Argument::Rate => "rate",
             Argument::Size => "size",
             Argument::Storage => "storage",
             Argument::Aspect => "aspect",
             Argument::Content => "content",
             Argument::Letters => "letters",
             Argument::Scale => "scale",
+            Argument::Format => "format",
             Argument::Feeders => "feeders",
             Argument::Renderers => "renderers",
             Argument::Batch => "batch",
@@ -151,7 +162,7 @@ impl Argument {
         ensures { result ≡ is_required self }
     {
         match self {
-            Argument::At | Argument::From | Argument::To | Argument::Step | Argument::Size => true,
+            Argument::At | Argument::From | Argument::To | Argument::Size => true,
             _ => self.is_positional(),
         }
     }
@@ -164,12 +175,14 @@ impl Argument {
             Argument::At | Argument::From | Argument::To | Argument::Later | Argument::Earlier =>
                 Kind::Number(0, MAX_INSTANT),
             Argument::Step => Kind::Number(1, MAX_INSTANT),
+            Argument::Rate => Kind::FramesInSeconds,
             Argument::Size => Kind::FrameSize,
             Argument::Storage => Kind::VideoSize,
             Argument::Aspect => Kind::PixelShape,
             Argument::Content => Kind::PictureRect,
             Argument::Letters => Kind::LettersRule,
             Argument::Scale => Kind::Number(0, MAX_LETTER_SCALE),
+            Argument::Format => Kind::PictureFormat,
             Argument::Feeders | Argument::Renderers | Argument::Workers => {
                 Kind::Number(1, MAX_WORKERS)
             }

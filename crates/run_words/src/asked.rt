@@ -4,17 +4,20 @@ ghost use Rattle.std.specs.Prelude.{◌≡◌, ◌≤◌, ◌^◌, ◌<◌, IfOk
 ghost use Rattle.clap.specs.Words.{all_of, found_of, rows_of};
 ghost use Rattle.frame_view.specs.declared.view.LetterWidth.TheVariants.{Canvas};
 ghost use Rattle.run_words.specs.Arguments.{argument_name, most_of};
-ghost use Rattle.run_words.specs.Asked.{fits, first_bad, fonts_at, frame_at, job_for, mode_at, number_at, own_fonts_at, play_of, script_at, size_at, source_at, text_at};
-ghost use Rattle.run_words.specs.Values.{aspect_in, content_in, letters_in, storage_in};
+ghost use Rattle.run_words.specs.Asked.{changes_of, fits, first_bad, fonts_at, format_at, frame_at, frame_of, instants_at, is_just_one, is_paced, job_for};
+ghost use Rattle.run_words.specs.Asked.{mode_at, number_at, own_fonts_at, play_of, rate_at, script_at, size_at, source_at, text_at};
+ghost use Rattle.run_words.specs.Values.{aspect_in, content_in, letters_in, rate_in, storage_in};
 
 use crate::argument::{Argument, Kind};
 use crate::command::Command;
-use crate::job::{Job, Mode, PlayJob, ScriptSource};
+use crate::job::{ChangesJob, FrameFormat, FrameJob, Job, Mode, PlayJob, ScriptSource};
 use crate::values::{
-    aspect_in, content_in, is_of_kind, letters_in, mode_in, number_within, size_in, storage_in,
+    aspect_in, content_in, format_in, is_of_kind, letters_in, mode_in, number_within, rate_in,
+    size_in, storage_in,
 };
 use ass_num::{Items, Mem, Size, Text};
 use clap::ArgMatches;
+use frame_rate::{FrameRate, Instants};
 use frame_view::{FrameView, LetterWidth, PixelAspect, PixelRect};
 use std::alloc::Global;
 
@@ -53,6 +56,31 @@ pub fn first_bad(found: &ArgMatches, command: Command) -> Option<Argument>
     None
 }
 
+/// Whether one is there, and not the other.
+fn is_just_one(step: Option<&str>, rate: Option<&str>) -> bool
+    ensures { result ≡ is_just_one (option_map (λ text. text.now) step.entry) (option_map (λ text. text.now) rate.entry) }
+{
+    match (step, rate) {
+        (None, Some(_)) | (Some(_), None) => true,
+        (None, None) | (Some(_), Some(_)) => false,
+    }
+}
+
+/// Whether a command that takes a step and a rate is told just one of them.
+pub fn is_paced(found: &ArgMatches, command: Command) -> bool
+    ensures { result ≡ is_paced (rows_of (found_of found.now)) command }
+{
+    match command {
+        Command::Play | Command::Changes => {
+            is_just_one(
+                text_at(found, Argument::Step),
+                text_at(found, Argument::Rate),
+            )
+        }
+        Command::Check | Command::Frame | Command::Selftest | Command::Write => true,
+    }
+}
+
 /// The number of an argument, or what stands for it where it isn't given.
 fn number_at(found: &ArgMatches, argument: Argument, absent: u64) -> u64
     ensures value { result ≡ number_at (rows_of (found_of found.now)) argument absent }
@@ -70,8 +98,8 @@ fn number_at(found: &ArgMatches, argument: Argument, absent: u64) -> u64
     }
 }
 
-/// The instant of an argument, or of what stands for it.
-fn instant_at(found: &ArgMatches, argument: Argument, absent: u32) -> i64
+/// The milliseconds of an argument, or of what stands for it.
+fn milliseconds_at(found: &ArgMatches, argument: Argument, absent: u32) -> i64
     requires small { most_of argument < 2 ^ 63 }
     requires within { absent ≤ most_of argument }
     ensures { result ≡ pos (number_at (rows_of (found_of found.now)) argument absent) }
@@ -147,6 +175,47 @@ fn frame_at(found: &ArgMatches) -> FrameView
         letters: letters_at(found),
         scale: count_at(found, Argument::Scale, 1_000),
         bars: false,
+    }
+}
+
+/// The format, or `Ppm`.
+fn format_at(found: &ArgMatches) -> FrameFormat
+    ensures { result ≡ format_at (rows_of (found_of found.now)) }
+{
+    match text_at(found, Argument::Format) {
+        Some(text) => match format_in(text) {
+            Some(format) => format,
+            None => FrameFormat::Ppm,
+        },
+        None => FrameFormat::Ppm,
+    }
+}
+
+/// The rate that is given.
+fn given_rate(found: &ArgMatches) -> Option<FrameRate>
+    ensures { result ≡ option_and_then rate_in (text_at (rows_of (found_of found.now)) Argument.Rate) }
+{
+    rate_in(text_at(found, Argument::Rate)?)
+}
+
+/// The rate, or that of the step.
+fn rate_at(found: &ArgMatches) -> FrameRate
+    ensures { result ≡ rate_at (rows_of (found_of found.now)) }
+{
+    match given_rate(found) {
+        Some(rate) => rate,
+        None => FrameRate::of_step(number_at(found, Argument::Step, 1)),
+    }
+}
+
+/// The instants from the first on, before the end, at the rate.
+fn instants_at(found: &ArgMatches) -> Instants
+    ensures { result ≡ instants_at (rows_of (found_of found.now)) }
+{
+    Instants {
+        from: number_at(found, Argument::From, 0),
+        to: number_at(found, Argument::To, 0),
+        rate: rate_at(found),
     }
 }
 
@@ -226,9 +295,7 @@ fn play_of(found: &ArgMatches) -> PlayJob
     ensures { result ≡ play_of (rows_of (found_of found.now)) }
 {
     PlayJob {
-        from: instant_at(found, Argument::From, 0),
-        to: instant_at(found, Argument::To, 0),
-        step: instant_at(found, Argument::Step, 1),
+        instants: instants_at(found),
         size: size_at(found),
         feeders: count_at(found, Argument::Feeders, 1),
         renderers: count_at(found, Argument::Renderers, 1),
@@ -237,8 +304,32 @@ fn play_of(found: &ArgMatches) -> PlayJob
         times: count_at(found, Argument::Times, 1),
         ahead: count_at(found, Argument::Ahead, 0),
         bands: count_at(found, Argument::Bands, 1),
+        format: format_at(found),
         budget: number_at(found, Argument::Budget, ABSENT_BUDGET),
         mode: mode_at(found),
+    }
+}
+
+/// What a `frame` is asked for.
+fn frame_of(found: &ArgMatches) -> FrameJob
+    ensures { result ≡ frame_of (rows_of (found_of found.now)) }
+{
+    FrameJob {
+        at: number_at(found, Argument::At, 0),
+        view: frame_at(found),
+        format: format_at(found),
+        budget: number_at(found, Argument::Budget, ABSENT_BUDGET),
+    }
+}
+
+/// What a `changes` is asked for.
+fn changes_of(found: &ArgMatches) -> ChangesJob
+    ensures { result ≡ changes_of (rows_of (found_of found.now)) }
+{
+    ChangesJob {
+        instants: instants_at(found),
+        view: frame_at(found),
+        budget: number_at(found, Argument::Budget, ABSENT_BUDGET),
     }
 }
 
@@ -249,9 +340,7 @@ pub fn job_for(alloc: Global, found: &ArgMatches, command: Command) -> Mem<Job>
     match command {
         Command::Check => Ok(Job::Check(source_at(alloc, found)?, fonts_at(alloc, found)?)),
         Command::Frame => Ok(Job::Frame(
-            instant_at(found, Argument::At, 0),
-            frame_at(found),
-            number_at(found, Argument::Budget, ABSENT_BUDGET),
+            frame_of(found),
             source_at(alloc, found)?,
             fonts_at(alloc, found)?,
         )),
@@ -266,17 +355,13 @@ pub fn job_for(alloc: Global, found: &ArgMatches, command: Command) -> Mem<Job>
             count_at(found, Argument::Workers, 1),
         )),
         Command::Changes => Ok(Job::Changes(
-            instant_at(found, Argument::From, 0),
-            instant_at(found, Argument::To, 0),
-            instant_at(found, Argument::Step, 1),
-            frame_at(found),
-            number_at(found, Argument::Budget, ABSENT_BUDGET),
+            changes_of(found),
             source_at(alloc, found)?,
             fonts_at(alloc, found)?,
         )),
         Command::Write => Ok(Job::Write(
-            instant_at(found, Argument::Later, 0),
-            instant_at(found, Argument::Earlier, 0),
+            milliseconds_at(found, Argument::Later, 0),
+            milliseconds_at(found, Argument::Earlier, 0),
             script_at(alloc, found)?,
         )),
     }

@@ -28,7 +28,7 @@ static COMMANDS: [Command; 6] = [
 
 static CHECK: [Argument; 3] = [Argument::ScriptFonts, Argument::Script, Argument::Fonts];
 
-static FRAME: [Argument; 11] = [
+static FRAME: [Argument; 12] = [
     Argument::At,
     Argument::Size,
     Argument::Storage,
@@ -36,16 +36,18 @@ static FRAME: [Argument; 11] = [
     Argument::Content,
     Argument::Letters,
     Argument::Scale,
+    Argument::Format,
     Argument::Budget,
     Argument::ScriptFonts,
     Argument::Script,
     Argument::Fonts,
 ];
 
-static PLAY: [Argument; 16] = [
+static PLAY: [Argument; 18] = [
     Argument::From,
     Argument::To,
     Argument::Step,
+    Argument::Rate,
     Argument::Size,
     Argument::Feeders,
     Argument::Renderers,
@@ -54,6 +56,7 @@ static PLAY: [Argument; 16] = [
     Argument::Times,
     Argument::Ahead,
     Argument::Bands,
+    Argument::Format,
     Argument::Budget,
     Argument::Mode,
     Argument::ScriptFonts,
@@ -63,10 +66,11 @@ static PLAY: [Argument; 16] = [
 
 static SELFTEST: [Argument; 3] = [Argument::Workers, Argument::Seed, Argument::Events];
 
-static CHANGES: [Argument; 13] = [
+static CHANGES: [Argument; 14] = [
     Argument::From,
     Argument::To,
     Argument::Step,
+    Argument::Rate,
     Argument::Size,
     Argument::Storage,
     Argument::Aspect,

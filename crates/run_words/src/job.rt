@@ -1,6 +1,7 @@
 //! Jobs.
 
 use ass_num::{Items, OutOfMemory, Size, Text};
+use frame_rate::Instants;
 use frame_view::FrameView;
 use std::alloc::AllocError;
 
@@ -11,13 +12,40 @@ pub enum Mode {
     Settled,
 }
 
-/// What a `play` is asked for: instants in milliseconds, the size of the frames, how the work is shared, and the bytes
-/// of a cache's budget.
+/// How the bytes of a frame are written.
+#[derive(Clone, Copy, Debug, PartialEq, Eq)]
+pub enum FrameFormat {
+    /// A portable pixmap of the picture on black.
+    Ppm,
+    /// A portable arbitrary map of the picture with straight alpha.
+    Pam,
+    /// The pixels with straight alpha, and nothing before them.
+    Rgba,
+}
+
+/// What a `frame` is asked for: the instant in milliseconds, the frame, how it is written, and the bytes of a cache's
+/// budget.
+#[derive(Clone, Copy, Debug)]
+pub struct FrameJob {
+    pub at: u64,
+    pub view: FrameView,
+    pub format: FrameFormat,
+    pub budget: u64,
+}
+
+/// What a `changes` is asked for: the instants, the frame, and the bytes of a cache's budget.
+#[derive(Clone, Copy, Debug)]
+pub struct ChangesJob {
+    pub instants: Instants,
+    pub view: FrameView,
+    pub budget: u64,
+}
+
+/// What a `play` is asked for: the instants, the size of the frames, how the work is shared, how frames are written, and
+/// the bytes of a cache's budget.
 #[derive(Clone, Copy, Debug, PartialEq, Eq)]
 pub struct PlayJob {
-    pub from: i64,
-    pub to: i64,
-    pub step: i64,
+    pub instants: Instants,
     pub size: Size,
     pub feeders: u32,
     pub renderers: u32,
@@ -26,6 +54,7 @@ pub struct PlayJob {
     pub times: u32,
     pub ahead: u32,
     pub bands: u32,
+    pub format: FrameFormat,
     pub budget: u64,
     pub mode: Mode,
 }
@@ -37,21 +66,20 @@ pub struct ScriptSource {
     pub own_fonts: bool,
 }
 
-/// What the words ask for. Instants are in milliseconds, and a budget is in bytes.
+/// What the words ask for.
 #[derive(Debug, Drop)]
 pub enum Job {
     /// A report on a script and fonts.
     Check(ScriptSource, Items<Text>),
-    /// The picture at an instant on a frame, with a budget, of a script with fonts.
-    Frame(i64, FrameView, u64, ScriptSource, Items<Text>),
+    /// The picture of a script with fonts at an instant.
+    Frame(FrameJob, ScriptSource, Items<Text>),
     /// The pictures of a script with fonts, fed and drawn by several workers.
     Play(PlayJob, ScriptSource, Items<Text>),
     /// A generated script, by its seed and number of events, played by so many workers.
     Selftest(u32, u32, u32),
-    /// What changes from picture to picture, from an instant to one, by a step, on a frame, with a budget, of a script
-    /// with fonts.
-    Changes(i64, i64, i64, FrameView, u64, ScriptSource, Items<Text>),
-    /// The script written again, with its events so much later and so much earlier.
+    /// What changes from picture to picture of a script with fonts.
+    Changes(ChangesJob, ScriptSource, Items<Text>),
+    /// The script written again, with its events so many milliseconds later and so many earlier.
     Write(i64, i64, Text),
 }
 

@@ -9,5 +9,7 @@ mod job;
 mod values;
 mod words;
 
-pub use job::{Job, Mode, PlayJob, ScriptSource, WordsFault, WordsRefusal};
+pub use job::{
+    ChangesJob, FrameFormat, FrameJob, Job, Mode, PlayJob, ScriptSource, WordsFault, WordsRefusal,
+};
 pub use words::{first_word_is_command, plain_frames_stay, read_words, usage_is_of_grammar};

@@ -5,12 +5,13 @@ ghost use Rattle.std.specs.Char.{is_ascii_digit};
 ghost use Rattle.std.specs.List.{list_all};
 ghost use Rattle.ass_num.specs.Limits.{IsWithin, max_frame_side};
 ghost use Rattle.run_words.specs.Values.{aspect_in, column_in, content_in, is_number, is_of_kind, letters_in, mode_in, number_in, number_within, pixel_in};
-ghost use Rattle.run_words.specs.Values.{rect_at, rect_behind};
+ghost use Rattle.run_words.specs.Values.{format_in, rate_in, rate_of, rate_parted, rect_at, rect_behind};
 ghost use Rattle.run_words.specs.Values.{size_in, size_within, storage_in};
 
-use crate::argument::{Kind, MAX_ASPECT_PARTS, MAX_FRAME_SIDE, MAX_STORAGE_SIDE};
-use crate::job::Mode;
+use crate::argument::{Kind, MAX_ASPECT_PARTS, MAX_FRAME_SIDE, MAX_RATE_PARTS, MAX_STORAGE_SIDE};
+use crate::job::{FrameFormat, Mode};
 use ass_num::Size;
+use frame_rate::FrameRate;
 use frame_view::{LetterWidth, PixelAspect, PixelRect};
 
 /// The most digits of a number.
@@ -153,6 +154,39 @@ pub fn content_in(text: &str) -> Option<PixelRect>
     rect_behind(pixel_in(left), rest)
 }
 
+/// The rate that texts are: so many frames, in so many seconds.
+fn rate_of(frames: &str, seconds: &str) -> Option<FrameRate>
+    ensures { result ≡ rate_of frames.now seconds.now }
+{
+    let frames = number_within(frames, 1, MAX_RATE_PARTS)?;
+    let seconds = number_within(seconds, 1, MAX_RATE_PARTS)?;
+    Some(FrameRate {
+        frames: frames as u32,
+        seconds,
+    })
+}
+
+/// The rate that a text is: frames and seconds, with a `/` between.
+fn rate_parted(text: &str) -> Option<FrameRate>
+    ensures { result ≡ rate_parted text.now }
+{
+    let (frames, seconds) = text.split_once('/')?;
+    rate_of(frames, seconds)
+}
+
+/// The rate that a text is: frames, in one second where none are said.
+pub fn rate_in(text: &str) -> Option<FrameRate>
+    ensures { result ≡ rate_in text.now }
+{
+    match number_within(text, 1, MAX_RATE_PARTS) {
+        Some(frames) => Some(FrameRate {
+            frames: frames as u32,
+            seconds: 1,
+        }),
+        None => rate_parted(text),
+    }
+}
+
 /// The rule of letters that a text is.
 pub fn letters_in(text: &str) -> Option<LetterWidth>
     ensures { result ≡ letters_in text.now }
@@ -179,6 +213,21 @@ pub fn mode_in(text: &str) -> Option<Mode>
     }
 }
 
+/// The format that a text is.
+pub fn format_in(text: &str) -> Option<FrameFormat>
+    ensures { result ≡ format_in text.now }
+{
+    if text == "ppm" {
+        Some(FrameFormat::Ppm)
+    } else if text == "pam" {
+        Some(FrameFormat::Pam)
+    } else if text == "rgba" {
+        Some(FrameFormat::Rgba)
+    } else {
+        None
+    }
+}
+
 /// Whether a text is of its rule.
 pub fn is_of_kind(kind: Kind, text: &str) -> bool
     ensures { result ≡ is_of_kind kind text.now }
@@ -191,6 +240,8 @@ pub fn is_of_kind(kind: Kind, text: &str) -> bool
         Kind::PictureRect => content_in(text).is_some(),
         Kind::LettersRule => letters_in(text).is_some(),
         Kind::PlayMode => mode_in(text).is_some(),
+        Kind::PictureFormat => format_in(text).is_some(),
+        Kind::FramesInSeconds => rate_in(text).is_some(),
         Kind::Alone | Kind::FileName => true,
     }
 }

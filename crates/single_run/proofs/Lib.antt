@@ -5,6 +5,6 @@ pub mod PictureLemmas
 pub mod RewriteLemmas
 pub mod Runs
 pub mod WorkLemmas
-pub mod InstantLemmas
 pub mod LineLemmas
 pub mod ChangePictures
+pub mod AlphaLemmas

@@ -14,11 +14,11 @@ use Rattle.mask_keys.specs.declared.plans.Plan.{Plan}
 use Rattle.mask_keys.specs.Pictures.{picture}
 use Rattle.frame_view.specs.declared.view.FrameView.{FrameView}
 use Rattle.picture_plan.specs.Pictures.{AreDraws}
-use Rattle.single_run.specs.Instants.{instant_at}
+use Rattle.frame_rate.specs.Instants.{rated_instant}
 use Rattle.single_run.specs.Laws.{SameDrawsChangeNothing}
 use Rattle.single_run.specs.Lines.{change_line}
 use Rattle.single_run.specs.ChangeReports.{AreChangeLines, IsChangeLine, IsChangedBox, NextLine, NoLine, plan_of}
-use Rattle.single_run.specs.declared.instants.Instants.{Instants}
+use Rattle.frame_rate.specs.declared.instants.Instants.{Instants}
 
 of_draws : (kind : ChangeKind) (before now : Plan) → IsChange kind before now → IsChange kind (plan_of before.draws) (plan_of now.draws)
 of_draws Same before now h = h
@@ -60,7 +60,7 @@ no_lines script fonts events instants view draws text no_draws no_text =
 
 -- one line more
 pub next_lines : (script : ScriptValue) (fonts : List FontValue) (events : List Event) (instants : Instants) (view : FrameView) (place t : ℕ) (before now : List Draw) (text line new : List ℕ) →
-    AreChangeLines script fonts events instants view place before text → t ≡ instant_at instants place → AreDraws script fonts events (pos t) view now →
+    AreChangeLines script fonts events instants view place before text → t ≡ rated_instant instants place → AreDraws script fonts events (pos t) view now →
     IsChangeLine fonts view.size t before now line → new ≡ text ++ line → AreChangeLines script fonts events instants view (place + 1) now new
 next_lines script fonts events instants view place t before now text line new lines at draws told is =
     subst (AreChangeLines script fonts events instants view (place + 1) now) (sym is)

@@ -175,8 +175,8 @@ not_done (Err fault) e = cc
 not_done (Ok (job.Play play script fonts)) e = cc
 not_done (Ok (job.Selftest seed events workers)) e = cc
 not_done (Ok (job.Check script fonts)) e = in_not_done (work_of (job.Check script fonts)) e
-not_done (Ok (job.Frame at view budget script fonts)) e = in_not_done (work_of (job.Frame at view budget script fonts)) e
-not_done (Ok (job.Changes from to step view budget script fonts)) e = in_not_done (work_of (job.Changes from to step view budget script fonts)) e
+not_done (Ok (job.Frame frame script fonts)) e = in_not_done (work_of (job.Frame frame script fonts)) e
+not_done (Ok (job.Changes changes script fonts)) e = in_not_done (work_of (job.Changes changes script fonts)) e
 not_done (Ok (job.Write later earlier script)) e = in_not_done (work_of (job.Write later earlier script)) e
 
 memory_put : (why : Status) (old new : List (List ℕ)) → (why ≡ status.Done → ⊥) → new ≡ old ++ memory_line ∷ [] → ArePiecesFinished (Ended why) status.OutOfMemory old new

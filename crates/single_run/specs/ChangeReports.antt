@@ -13,9 +13,9 @@ use Rattle.mask_keys.specs.Pictures.{picture}
 use Rattle.frame_view.specs.declared.view.FrameView.{FrameView}
 use Rattle.picture_plan.specs.Pictures.{AreDraws}
 use Rattle.ass_events.specs.ScriptEvents.{line_events}
-use Rattle.single_run.specs.Instants.{instant_at, instant_count}
+use Rattle.frame_rate.specs.Instants.{rated_instant, rated_count}
 use Rattle.single_run.specs.Lines.{change_line}
-use Rattle.single_run.specs.declared.instants.Instants.{Instants}
+use Rattle.frame_rate.specs.declared.instants.Instants.{Instants}
 
 abbrev pub plan_of : List Draw → Plan
 plan_of draws = record { draws = draws }
@@ -38,11 +38,11 @@ pub data AreChangeLines (script : ScriptValue) (fonts : List FontValue) (events 
   NoLine : AreChangeLines script fonts events instants view 0 [] []
   NextLine : (place : ℕ) (before now : List Draw) (text line : List ℕ)
       → AreChangeLines script fonts events instants view place before text
-      → AreDraws script fonts events (pos (instant_at instants place)) view now
-      → IsChangeLine fonts view.size (instant_at instants place) before now line
+      → AreDraws script fonts events (pos (rated_instant instants place)) view now
+      → IsChangeLine fonts view.size (rated_instant instants place) before now line
       → AreChangeLines script fonts events instants view (place + 1) now (text ++ line)
 
 -- The report on what changes in the picture that the events of a script show in fonts, from instant to instant, on a frame.
 abbrev pub IsChangesReport : ScriptValue → List FontValue → Instants → FrameView → List ℕ → Type 0
 IsChangesReport script fonts instants view text =
-    (last : List Draw) × AreChangeLines script fonts (line_events script) instants view (instant_count instants) last text
+    (last : List Draw) × AreChangeLines script fonts (line_events script) instants view (rated_count instants) last text

@@ -1,9 +1,9 @@
 pub mod Works
 pub mod Outcomes
+pub mod AlphaPictures
 pub mod Outputs
 pub mod Runs
 pub mod CheckReports
-pub mod Instants
 pub mod Lines
 pub mod ChangeReports
 pub mod Laws

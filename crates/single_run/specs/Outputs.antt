@@ -1,10 +1,15 @@
 -- Public: what a job may put to the two sinks.
 use Rattle.std.specs.Prelude.{◌≡◌, ℕ, pos, List, [], length, Result, Ok, Err}
+use Rattle.alpha_canvas.specs.declared.pixel.AlphaForm.TheVariants.{Straight}
 use Rattle.frame_view.specs.declared.view.FrameView.{FrameView}
 use Rattle.ass_script.specs.Scripts.{ScriptValue}
 use Rattle.ass_events.specs.declared.event.Event.{Event}
 use Rattle.bdf_font.specs.Fonts.{FontValue}
 use Rattle.blend.specs.Canvases.{CanvasValue}
+use Rattle.pam_text.specs.Pams.{pam_bytes}
+use Rattle.run_words.specs.declared.job.FrameFormat.{FrameFormat}
+use Rattle.run_words.specs.declared.job.FrameFormat.TheVariants.{Ppm, Pam, Rgba}
+use Rattle.single_run.specs.AlphaPictures.{IsAlphaPictureAt}
 use Rattle.single_run.specs.ChangeReports.{IsChangesReport}
 use Rattle.single_run.specs.CheckReports.{check_text}
 use Rattle.run_status.specs.declared.inputs.Inputs.{Inputs}
@@ -29,6 +34,19 @@ pub record IsFrameImage (script : ScriptValue) (fonts : List FontValue) (at : �
   pub is_picture : IsPictureAt script fonts (line_events script) (pos at) view canvas
   pub value : bytes ≡ image_bytes view.size.w view.size.h canvas.bytes (pos at) (length (line_events script))
 
+-- These bytes are a picture with straight alpha, written so.
+pub record IsAlphaImage (script : ScriptValue) (fonts : List FontValue) (at : ℕ) (view : FrameView) (written_as : List ℕ → List ℕ) (bytes : List ℕ) : Type 0 where
+  pub pixels : List ℕ
+  pub is_picture : IsAlphaPictureAt Straight script fonts (line_events script) (pos at) view pixels
+  pub value : bytes ≡ written_as pixels
+
+-- These bytes are the image of the picture in a format: on black, with alpha behind a head, or the pixels with alpha alone.
+abbrev pub IsFormattedImage : FrameFormat → ScriptValue → List FontValue → ℕ → FrameView → List ℕ → Type 0
+IsFormattedImage Ppm script fonts at view bytes = IsFrameImage script fonts at view bytes
+IsFormattedImage Pam script fonts at view bytes =
+    IsAlphaImage script fonts at view (λ pixels. pam_bytes view.size.w view.size.h pixels (pos at) (length (line_events script))) bytes
+IsFormattedImage Rgba script fonts at view bytes = IsAlphaImage script fonts at view (λ pixels. pixels) bytes
+
 -- the text of a script with events, where they are some
 abbrev pub written_with : ScriptValue → Result (List Event) WriteRefusal → Result (List ℕ) WriteRefusal
 written_with script (Ok events) = written script events
@@ -48,10 +66,10 @@ abbrev pub task_status : Task → Inputs → Status
 task_status (Write write) inputs = written_status (rewritten write inputs.script)
 task_status _ inputs = status.Done
 
--- What a task may put to the frames sink: a report nothing, a picture its image, whatever the budget, and a script that is written again its text.
+-- What a task may put to the frames sink: a report nothing, a picture its image in its format, whatever the budget, and a script that is written again its text.
 abbrev pub IsFramesOf : Task → Inputs → List ℕ → Type 0
 IsFramesOf Check inputs bytes = bytes ≡ []
-IsFramesOf (Frame frame) inputs bytes = IsFrameImage inputs.script inputs.fonts frame.at frame.view bytes
+IsFramesOf (Frame frame) inputs bytes = IsFormattedImage frame.format inputs.script inputs.fonts frame.at frame.view bytes
 IsFramesOf (Changes changes) inputs bytes = bytes ≡ []
 IsFramesOf (Write write) inputs bytes = rewritten write inputs.script ≡ Ok bytes
 

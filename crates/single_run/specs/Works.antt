@@ -1,14 +1,10 @@
 -- Public: the work that words ask for, as far as it waits for nobody.
-use Rattle.std.specs.Prelude.{◌≡◌, ◌⊎◌, Bool, true, false, ◌&&◌, if◌then◌else◌, ℕ, ◌<◌, ◌≤◌, nat_le, nat_lt, ℤ, pos, negsuc, List, [], ◌∷◌, length, Option, Some, None, Result, Ok, Err, option_map}
-use Rattle.std.specs.Int.RustNames.{unsigned_abs}
+use Rattle.std.specs.Prelude.{◌≡◌, ◌⊎◌, Bool, true, false, ◌&&◌, if◌then◌else◌, ℕ, ◌<◌, nat_le, nat_lt, List, [], ◌∷◌, length, Option, Some, None, Result, Ok, Err, option_map}
 use Rattle.ass_events.specs.Events.{is_time}
-use Rattle.ass_num.specs.Limits.{IsInstant}
 use Rattle.bdf_font.specs.Limits.{max_fonts}
-use Rattle.frame_view.specs.FrameViews.{IsFrameView}
-use Rattle.frame_view.specs.declared.view.FrameView.{FrameView}
-use Rattle.single_run.specs.Instants.{AreInstants, instant_count}
+use Rattle.frame_rate.specs.Instants.{rated_count}
 use Rattle.run_status.specs.declared.inputs.Inputs.{Inputs}
-use Rattle.run_words.specs.Limits.{max_budget}
+use Rattle.run_words.specs.Jobs.{IsChangesJob, IsFrameJob}
 use Rattle.run_words.specs.Words.{job_of}
 use Rattle.run_words.specs.declared.job.Job.{Job}
 use Rattle.run_words.specs.declared.job.Job.TheVariants as job
@@ -20,27 +16,15 @@ use Rattle.run_status.specs.declared.status.Status.TheVariants.{BadWords, OutOfM
 use Rattle.run_status.specs.declared.status.What.TheVariants.{Frames}
 use Rattle.ass_events.specs.LineLaws.{HasShortLines}
 use Rattle.text_layout.specs.Fonts.{IsLayoutFontSet}
-use Rattle.single_run.specs.declared.work.ChangesTask.{ChangesTask}
-use Rattle.single_run.specs.declared.work.FrameTask.{FrameTask}
 use Rattle.single_run.specs.declared.work.Task.{Task}
 use Rattle.single_run.specs.declared.work.Task.TheVariants.{Changes, Check, Frame, Write}
 use Rattle.single_run.specs.declared.work.Work.{Work}
 use Rattle.single_run.specs.declared.work.WriteTask.{WriteTask}
 
--- the picture at an instant, in fonts: words put no instant below 0, and name a font at least
-abbrev pub frame_task : ℤ → FrameView → ℕ → List (List ℕ) → Option Task
-frame_task at view budget [] = None
-frame_task (negsuc _) view budget (font ∷ fonts) = None
-frame_task (pos at) view budget (font ∷ fonts) = Some (Frame (record { at = at; view = view; budget = budget }))
-
--- the report on what changes from picture to picture, in fonts, of which words name one at least; no instant of theirs is below 0
-abbrev pub changes_task : ℤ → ℤ → ℤ → FrameView → ℕ → List (List ℕ) → Option Task
-changes_task from to step view budget [] = None
-changes_task from to step view budget (font ∷ fonts) = Some (Changes (record {
-  instants = record { from = unsigned_abs from; to = unsigned_abs to; step = unsigned_abs step };
-  view = view;
-  budget = budget;
-}))
+-- a task in fonts, of which words name one at least
+abbrev pub task_in : Task → List (List ℕ) → Option Task
+task_in task [] = None
+task_in task (font ∷ fonts) = Some task
 
 abbrev pub work_with : ScriptSource → List (List ℕ) → Task → Work
 work_with script fonts task = record { task = task; script = script; fonts = fonts }
@@ -48,8 +32,8 @@ work_with script fonts task = record { task = task; script = script; fonts = fon
 -- the work of a job that waits for nobody, where words can ask for it
 abbrev pub work_of : Job → Option Work
 work_of (job.Check script fonts) = Some (work_with script fonts Check)
-work_of (job.Frame at view budget script fonts) = option_map (work_with script fonts) (frame_task at view budget fonts)
-work_of (job.Changes from to step view budget script fonts) = option_map (work_with script fonts) (changes_task from to step view budget fonts)
+work_of (job.Frame frame script fonts) = option_map (work_with script fonts) (task_in (Frame frame) fonts)
+work_of (job.Changes changes script fonts) = option_map (work_with script fonts) (task_in (Changes changes) fonts)
 work_of (job.Write later earlier script) = Some (work_with (record { name = script; own_fonts = false }) [] (Write (record { later = later; earlier = earlier })))
 work_of _ = None
 
@@ -59,7 +43,7 @@ max_frames = 1000000
 
 -- how many pictures a task compares
 abbrev pub compared : Task → ℕ
-compared (Changes changes) = instant_count changes.instants
+compared (Changes changes) = rated_count changes.instants
 compared _ = 0
 
 -- whether it compares too many; too many fonts are told before
@@ -88,28 +72,16 @@ work_asked words = work_in (job_of words)
 abbrev pub IsWorkRead : Result (Option Work) Status → Result (Option Work) Status → Type 0
 IsWorkRead asked answer = (answer ≡ asked) ⊎ (answer ≡ Err OutOfMemory)
 
--- The numbers of a picture are within their limits.
-pub record IsFrameTask (frame : FrameTask) : Type 0 where
-  pub at : IsInstant frame.at
-  pub view : IsFrameView frame.view
-  pub budget : frame.budget ≤ max_budget
-
 -- Events may be that much later and that much earlier.
 pub record IsWriteTask (write : WriteTask) : Type 0 where
   pub later : is_time write.later ≡ true
   pub earlier : is_time write.earlier ≡ true
 
--- The numbers of a report on changes are within their limits.
-pub record IsChangesTask (changes : ChangesTask) : Type 0 where
-  pub instants : AreInstants changes.instants
-  pub view : IsFrameView changes.view
-  pub budget : changes.budget ≤ max_budget
-
 -- The numbers of a task are within their limits, and a picture has a font at least.
 abbrev pub IsTaskIn : List (List ℕ) → Task → Type 0
 IsTaskIn fonts Check = Unit {0}
-IsTaskIn fonts (Frame frame) = IsFrameTask frame × (0 < length fonts)
-IsTaskIn fonts (Changes changes) = IsChangesTask changes × (0 < length fonts)
+IsTaskIn fonts (Frame frame) = IsFrameJob frame × (0 < length fonts)
+IsTaskIn fonts (Changes changes) = IsChangesJob changes × (0 < length fonts)
 IsTaskIn fonts (Write write) = IsWriteTask write
 
 abbrev pub IsWork : Work → Type 0
@@ -118,6 +90,6 @@ IsWork work = IsTaskIn work.fonts work.task
 -- What a task needs of what is read for it: events have short texts, and a picture is laid out in 1 to 64 fonts.
 abbrev pub AreInputsOf : Task → Inputs → Type 0
 AreInputsOf Check inputs = Unit {0}
-AreInputsOf (Frame frame) inputs = IsFrameTask frame × HasShortLines inputs.script × IsLayoutFontSet inputs.fonts
-AreInputsOf (Changes changes) inputs = IsChangesTask changes × HasShortLines inputs.script × IsLayoutFontSet inputs.fonts
+AreInputsOf (Frame frame) inputs = IsFrameJob frame × HasShortLines inputs.script × IsLayoutFontSet inputs.fonts
+AreInputsOf (Changes changes) inputs = IsChangesJob changes × HasShortLines inputs.script × IsLayoutFontSet inputs.fonts
 AreInputsOf (Write write) inputs = IsWriteTask write × HasShortLines inputs.script

@@ -15,15 +15,15 @@ ghost use Rattle.picture_plan.specs.Pictures.{AreDraws};
 ghost use Rattle.ass_events.specs.LineLaws.{HasShortLines};
 ghost use Rattle.text_layout.specs.Fonts.{IsLayoutFontSet};
 ghost use Rattle.text_layout.specs.Settings.{IsSetting};
-ghost use Rattle.single_run.specs.Instants.{AreInstants, instant_count};
+ghost use Rattle.frame_rate.specs.Instants.{AreInstants, rated_count};
 ghost use Rattle.single_run.specs.ChangeReports.{AreChangeLines, IsChangeLine, IsChangesReport};
 
-use crate::instants::Instants;
 use crate::screen::{Screen, blank, show};
 use ass_events::{Event, events_of};
 use ass_num::{Items, Mem};
 use ass_script::Script;
 use bdf_font::{Font, FontSet};
+use frame_rate::Instants;
 use frame_view::FrameView;
 use local_caches::LocalCaches;
 use picture_plan::plan;
@@ -78,7 +78,7 @@ fn lines_of(
     requires instants { AreInstants instants.now }
     requires same { local.old.fonts ≡ setting.now.fonts }
     ensures { IfOk result (λ text. (last : List Draw)
-        × AreChangeLines setting.now.script setting.now.fonts (map arc_value events.now) instants.now setting.now.frame (instant_count instants.now) last
+        × AreChangeLines setting.now.script setting.now.fonts (map arc_value events.now) instants.now setting.now.frame (rated_count instants.now) last
         (string_bytes text)) }
 {
     let mut screen = blank(alloc, &setting.frame.size)?;

@@ -7,19 +7,19 @@ ghost use Rattle.ass_events.specs.LineLaws.{HasShortLines};
 ghost use Rattle.text_layout.specs.Fonts.{IsLayoutFontSet};
 ghost use Rattle.single_run.specs.Outcomes.{IsOrFault, SuitsSink, status_if_put, text_to_report};
 ghost use Rattle.single_run.specs.Outputs.{IsReportOf};
-ghost use Rattle.single_run.specs.Works.{IsChangesTask};
+ghost use Rattle.run_words.specs.Jobs.{IsChangesJob};
 ghost use Rattle.single_run.specs.declared.work.Task.TheVariants.{Changes};
 
 use crate::changes_report;
 use crate::outcome::Outcome;
-use crate::work::ChangesTask;
 use ass_num::OutOfMemory;
 use run_status::{Inputs, Status, Which};
+use run_words::ChangesJob;
 use std::alloc::Global;
 
 /// What a report on changes is to say.
-pub fn compare(alloc: Global, changes: &ChangesTask, inputs: Inputs) -> Outcome
-    requires changes { IsChangesTask changes.now }
+pub fn compare(alloc: Global, changes: &ChangesJob, inputs: Inputs) -> Outcome
+    requires changes { IsChangesJob changes.now }
     requires script { IsScript inputs.script }
     requires short { HasShortLines inputs.script }
     requires fonts { IsLayoutFontSet inputs.fonts }
@@ -29,7 +29,7 @@ pub fn compare(alloc: Global, changes: &ChangesTask, inputs: Inputs) -> Outcome
     ensures memory { status_if_put result ≢ done_status → result ≡ Outcome.Ended Status.OutOfMemory }
 {
     let Inputs { script, fonts } = inputs;
-    let ChangesTask {
+    let ChangesJob {
         instants,
         view,
         budget,

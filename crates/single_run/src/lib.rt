@@ -1,12 +1,12 @@
 //! From the words to what both sinks get, of the jobs that wait for nobody.
 #![tactic(auto)]
 
+mod alpha;
 mod change_laws;
 mod change_lines;
 mod change_report;
 mod changes;
 mod check_lines;
-mod instants;
 mod outcome;
 mod picture;
 mod play;
@@ -20,7 +20,6 @@ mod work;
 pub use change_laws::same_draws_change_nothing;
 pub use change_report::changes_report;
 pub use check_lines::check_report;
-pub use instants::Instants;
 pub use outcome::Outcome;
 pub use play::calm;
 pub use report::{finish, give_up};

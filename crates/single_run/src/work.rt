@@ -1,35 +1,17 @@
 //! The work that words ask for.
 
 ghost use Rattle.std.specs.Prelude.{◌≡◌, IfOk, IfSome, Ok};
-ghost use Rattle.single_run.specs.Works.{IsWork, IsWorkRead, changes_task, compared, frame_task, limited, work_asked, work_in, work_of};
+ghost use Rattle.single_run.specs.Works.{IsWork, IsWorkRead, compared, limited, task_in, work_asked, work_in, work_of};
 ghost use Rattle.run_words.specs.Jobs.{IsJob};
 ghost use Rattle.run_words.specs.Words.{texts};
 
-use crate::Instants;
 use ass_num::{Items, Text};
-use frame_view::FrameView;
 use run_status::{MAX_FONTS, Status, What};
-use run_words::{Job, ScriptSource, WordsFault, WordsRefusal, read_words};
+use run_words::{ChangesJob, FrameJob, Job, ScriptSource, WordsFault, WordsRefusal, read_words};
 use std::alloc::Global;
 
 /// The most pictures that a task compares.
 const MAX_FRAMES: usize = 1_000_000;
-
-/// The picture at an instant, in milliseconds, on a frame, and the bytes that each of its caches may keep.
-#[derive(Clone, Copy, Debug)]
-pub struct FrameTask {
-    pub at: u64,
-    pub view: FrameView,
-    pub budget: u64,
-}
-
-/// The pictures at instants on a frame, and the bytes that each of the caches may keep.
-#[derive(Clone, Copy, Debug)]
-pub struct ChangesTask {
-    pub instants: Instants,
-    pub view: FrameView,
-    pub budget: u64,
-}
 
 /// How many milliseconds later, and then earlier, events are to be written.
 #[derive(Clone, Copy, Debug)]
@@ -44,9 +26,9 @@ pub enum Task {
     /// A report on what they hold.
     Check,
     /// A picture of the script in the fonts.
-    Frame(FrameTask),
+    Frame(FrameJob),
     /// A report on what changes from picture to picture.
-    Changes(ChangesTask),
+    Changes(ChangesJob),
     /// The script written again.
     Write(WriteTask),
 }
@@ -59,38 +41,13 @@ pub struct Work {
     pub fonts: Items<Text>,
 }
 
-/// The task of a picture in fonts.
-fn frame_task(at: i64, view: FrameView, budget: u64, fonts: &[Text]) -> Option<Task>
-    ensures { result ≡ frame_task at view budget fonts.now }
-{
-    match (fonts, u64::try_from(at)) {
-        ([_, ..], Ok(at)) => Some(Task::Frame(FrameTask { at, view, budget })),
-        ([], _) | (_, Err(_)) => None,
-    }
-}
-
-/// The task of a report on what changes from picture to picture, in fonts.
-fn changes_task(
-    from: i64,
-    to: i64,
-    step: i64,
-    view: FrameView,
-    budget: u64,
-    fonts: &[Text],
-) -> Option<Task>
-    ensures { result ≡ changes_task from to step view budget fonts.now }
+/// A task in fonts, of which words name one at least.
+fn task_in(task: Task, fonts: &[Text]) -> Option<Task>
+    ensures { result ≡ task_in task fonts.now }
 {
     match fonts {
         [] => None,
-        [_, ..] => Some(Task::Changes(ChangesTask {
-            instants: Instants {
-                from: from.unsigned_abs(),
-                to: to.unsigned_abs(),
-                step: step.unsigned_abs(),
-            },
-            view,
-            budget,
-        })),
+        [_, ..] => Some(task),
     }
 }
 
@@ -104,8 +61,8 @@ pub fn work_of(alloc: Global, job: Job) -> Option<Work>
             script,
             fonts,
         }),
-        Job::Frame(at, view, budget, script, fonts) => {
-            let task = frame_task(at, view, budget, fonts.as_slice())?;
+        Job::Frame(frame, script, fonts) => {
+            let task = task_in(Task::Frame(frame), fonts.as_slice())?;
             Some(Work {
                 task,
                 script,
@@ -120,8 +77,8 @@ pub fn work_of(alloc: Global, job: Job) -> Option<Work>
             },
             fonts: Items::new(alloc),
         }),
-        Job::Changes(from, to, step, view, budget, script, fonts) => {
-            let task = changes_task(from, to, step, view, budget, fonts.as_slice())?;
+        Job::Changes(changes, script, fonts) => {
+            let task = task_in(Task::Changes(changes), fonts.as_slice())?;
             Some(Work {
                 task,
                 script,

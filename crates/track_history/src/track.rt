@@ -375,7 +375,10 @@ fn read_event(alloc: Global, chunk: &[u8], start: i64, duration: i64) -> Result<
     ensures refused { (pass : TrackView) → IfErr result (IsFed chunk.now start duration pass pass) }
 {
     match read_chunk(alloc, chunk, start, duration) {
-        Ok(event) => Arc::new(alloc, event).map_err(|_| Feed::OutOfMemory),
+        Ok(event) => match Arc::new(alloc, event) {
+            Ok(event) => Ok(event),
+            Err(_) => Err(Feed::OutOfMemory),
+        },
         Err(ChunkRefusal::Malformed(field, place)) => Err(Feed::Malformed(field, place)),
         Err(ChunkRefusal::OutOfMemory) => Err(Feed::OutOfMemory),
     }

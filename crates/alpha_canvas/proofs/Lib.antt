@@ -1,0 +1,5 @@
+pub mod NearLemmas
+pub mod LayerLemmas
+pub mod PictureLemmas
+pub mod RowLemmas
+pub mod TintLemmas

@@ -1,0 +1,5 @@
+use Rattle.alpha_canvas.proofs.RowLemmas.{written}
+use Rattle.alpha_canvas.proofs.painting.write.Goals as goal
+
+pub returns : goal.returns
+returns c = written c.args.bytes.now c.args.k c.args.pixel c.requires

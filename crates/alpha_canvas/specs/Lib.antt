@@ -1,0 +1,4 @@
+pub mod Alpha
+pub mod Bounds
+pub mod Nearness
+pub mod Laws

@@ -1,0 +1,10 @@
+//! Laws of rates. The function does nothing: its contract is the laws.
+
+ghost use Rattle.frame_rate.specs.Rates.{CountedFramesComeBefore, FramesAreOnTime, StepsAreRates};
+
+/// Frames are on time, those that are counted come before the end, and steps are rates.
+pub fn frames_are_on_time()
+    ensures time { FramesAreOnTime }
+    ensures count { CountedFramesComeBefore }
+    ensures steps { StepsAreRates }
+{}

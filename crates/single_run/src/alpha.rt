@@ -1,0 +1,57 @@
+//! Pictures with alpha.
+
+ghost use Rattle.std.specs.Prelude.{◌≡◌, IfOk, map};
+ghost use Rattle.std.specs.Arc.{arc_value};
+ghost use Rattle.alpha_canvas.specs.Alpha.{AreAlphaRows};
+ghost use Rattle.blend.specs.Images.{image_value};
+ghost use Rattle.mask_keys.specs.Keys.{IsValidPlan};
+ghost use Rattle.mask_keys.specs.Outlines.{glyph_counts};
+ghost use Rattle.mask_keys.specs.Pictures.{image_of_draw};
+ghost use Rattle.run_words.specs.Jobs.{IsFrameJob};
+ghost use Rattle.text_layout.specs.Fonts.{IsLayoutFontSet};
+
+use alpha_canvas::{AlphaForm, paint_alpha};
+use ass_num::{Mask, Mem};
+use bdf_font::FontSet;
+use blend::Image;
+use local_caches::LocalCaches;
+use mask_keys::{Draw, Plan};
+use run_words::FrameJob;
+use std::alloc::Global;
+use std::sync::Arc;
+
+/// The images of draws whose keys are valid, with their masks through the caches.
+fn images_of(alloc: Global, local: &mut LocalCaches, draws: &[Draw]) -> Mem<Vec<Image<Arc<Mask>>>>
+    requires { IsValidPlan (glyph_counts local.old.fonts) draws.now }
+    ensures { IfOk result (λ images. map (image_value arc_value) images.items ≡ map (image_of_draw local.old.fonts) draws.now) }
+{
+    let mut images = Vec::new(alloc);
+    for draw in draws {
+        images.push(local.image(alloc, draw)?)?;
+    }
+    Ok(images)
+}
+
+/// The picture of a plan with straight alpha.
+#[tactic(auto, using(crate::proofs::PictureLemmas::font_set))]
+pub fn alpha_painted(
+    alloc: Global,
+    frame: &FrameJob,
+    fonts: Arc<FontSet>,
+    plan: &Plan,
+) -> Mem<Vec<u8>>
+    requires frame { IsFrameJob frame.now }
+    requires fonts { IsLayoutFontSet (arc_value fonts).fonts }
+    requires plan { IsValidPlan (glyph_counts (arc_value fonts).fonts) plan.now.draws }
+    ensures { IfOk result (λ pixels. AreAlphaRows AlphaForm.Straight (map (image_of_draw (arc_value fonts).fonts) plan.now.draws)
+        frame.now.view.size.w 0 frame.now.view.size.h pixels.items) }
+{
+    let mut local = LocalCaches::open(alloc, fonts, frame.budget)?;
+    let images = images_of(alloc, &mut local, plan.draws.as_slice())?;
+    paint_alpha(
+        alloc,
+        &frame.view.size,
+        AlphaForm::Straight,
+        images.as_slice(),
+    )
+}

@@ -1,0 +1,125 @@
+"""What who lays subtitles over a video asks for: pictures with alpha, and instants at a rate.
+
+The expected bytes are worked out here, of boxes of one colour each, by the rules of docs/PICTURES.md.
+"""
+
+import subprocess
+
+WIDTH, HEIGHT = 16, 9
+FINE = 1 << 24
+
+HEAD = f"""[Script Info]
+ScriptType: v4.00+
+PlayResX: {WIDTH}
+PlayResY: {HEIGHT}
+
+[V4+ Styles]
+Format: Name, Fontname, Fontsize, PrimaryColour, SecondaryColour, OutlineColour, BackColour, Bold, Italic, Underline, StrikeOut, ScaleX, ScaleY, Spacing, Angle, BorderStyle, Outline, Shadow, Alignment, MarginL, MarginR, MarginV, Encoding
+Style: Default,dot,4,&Hffffff,&Hffffff,&H0,&H0,0,0,0,0,100,100,0,0,1,0,0,7,0,0,0,0
+
+[Events]
+Format: Layer, Start, End, Style, Name, MarginL, MarginR, MarginV, Effect, Text
+"""
+
+# Boxes, the lowest first: left, top, width, height, the colour, and the alpha as scripts have it (0 is opaque).
+BOXES = [
+    (0, 0, 10, 6, (200, 100, 50), 0),
+    (2, 1, 12, 7, (10, 20, 250), 37),
+    (4, 2, 3, 3, (255, 255, 255), 230),
+    (5, 0, 9, 9, (0, 0, 0), 251),
+    (12, 7, 4, 2, (90, 180, 30), 128),
+]
+
+# A rate, where it begins and ends, and its frames and seconds.
+RATES = [
+    ("24000/1001", 0, 700, 24000, 1001),
+    ("25", 40, 400, 25, 1),
+    ("60000/1001", 7_200_000, 7_200_150, 60000, 1001),
+    ("1000/7", 5, 50, 1000, 7),
+    ("1/2", 0, 6001, 1, 2),
+]
+
+
+def script():
+    """The boxes as drawings, each in a layer of its own."""
+    lines = []
+    for layer, (left, top, w, h, (r, g, b), alpha) in enumerate(BOXES):
+        tags = f"\\an7\\pos({left},{top})\\1c&H{b:02x}{g:02x}{r:02x}&\\1a&H{alpha:02x}&\\p1"
+        lines.append(f"Dialogue: {layer},0:00:00.00,0:00:01.00,Default,,0,0,0,,{{{tags}}}m 0 0 l {w} 0 {w} {h} 0 {h}")
+    return HEAD + "\n".join(lines) + "\n"
+
+
+def nearest(n, d):
+    return (n + d // 2) // d
+
+
+def layers_of(x, y):
+    """The colours and weights that fall on a pixel, the lowest first."""
+    return [(colour, 255 - alpha) for left, top, w, h, colour, alpha in BOXES if left <= x < left + w and top <= y < top + h]
+
+
+def over(channel, colour, weight):
+    return (channel * (255 - weight) + colour * weight + 127) // 255
+
+
+def with_alpha(x, y):
+    """Red, green, blue and straight alpha of a pixel."""
+    held = [0, 0, 0, 0]
+    for colour, weight in layers_of(x, y):
+        held = [over(c, FINE * n, weight) for c, n in zip(held, (*colour, 255))]
+    alpha = held[3]
+    return [nearest(255 * c, alpha) if alpha else 0 for c in held[:3]] + [nearest(alpha, FINE)]
+
+
+def on_black(x, y):
+    held = [0, 0, 0]
+    for colour, weight in layers_of(x, y):
+        held = [over(c, n, weight) for c, n in zip(held, colour)]
+    return held
+
+
+def pixels(pixel):
+    return bytes(it for y in range(HEIGHT) for x in range(WIDTH) for it in pixel(x, y))
+
+
+def formats(score, given):
+    """A frame in each format has exactly the bytes that are worked out here."""
+    name = f"{given.room}/boxes.ass"
+    with open(name, "w", encoding="utf-8") as it:
+        it.write(script())
+    count = len(BOXES)
+    size = f"WIDTH {WIDTH}\nHEIGHT {HEIGHT}\nDEPTH 4\nMAXVAL 255\nTUPLTYPE RGB_ALPHA\nENDHDR\n"
+    ppm = f"P6\n# t=500 n={count}\n{WIDTH} {HEIGHT}\n255\n".encode() + pixels(on_black)
+    rgba = pixels(with_alpha)
+    wanted = {
+        "": ppm,
+        "--format ppm": ppm,
+        "--format pam": f"P7\n# t=500 n={count}\n{size}".encode() + rgba,
+        "--format rgba": rgba,
+    }
+    for words, right in wanted.items():
+        ask = [given.program, "frame", "--at", "500", "--size", f"{WIDTH}x{HEIGHT}", *words.split(), name, f"{given.room}/dot.bdf"]
+        done = subprocess.run(ask, stdin=subprocess.DEVNULL, capture_output=True, timeout=600)
+        score.check(done.returncode == 0 and done.stdout == right, f"boxes by frame {words} are other bytes than those that are worked out")
+
+
+def rates(score, given):
+    """The instants of `changes` and of `play` at a rate, and those of a step by it."""
+    names = [f"{given.room}/row.ass", f"{given.room}/dot.bdf"]
+    for rate, begin, end, frames, seconds in RATES:
+        wanted, k = [], 0
+        while begin + 1000 * k * seconds // frames < end:
+            wanted.append(begin + 1000 * k * seconds // frames)
+            k += 1
+        words = ["--from", str(begin), "--to", str(end), "--rate", rate, "--size", "4x3", *names]
+        changes = subprocess.run([given.program, "changes", *words], stdin=subprocess.DEVNULL, capture_output=True, timeout=600)
+        said = [int(line.split()[0][2:]) for line in changes.stderr.decode().splitlines()]
+        score.check(changes.returncode == 0 and said == wanted, f"changes at {rate} reports the instants {said}, and not {wanted}")
+        play = subprocess.run([given.program, "play", *words], stdin=subprocess.DEVNULL, capture_output=True, timeout=600)
+        shown = [int(line.split()[1][2:]) for line in play.stdout.split(b"\n") if line.startswith(b"# t=")]
+        score.check(play.returncode == 0 and shown == wanted, f"play at {rate} shows the instants {shown}, and not {wanted}")
+
+
+def over_video(score, given):
+    formats(score, given)
+    rates(score, given)
