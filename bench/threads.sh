@@ -1,6 +1,6 @@
 #!/usr/bin/env bash
-# Measures the library for C with one thread that feeds and 1, 2, 4 and 8 that list frames: by seats of one track, and by
-# as many handles of one thread each, by turns. Prints a table of the most frames a second of some runs, of all drawers
+# Measures the library for C with one thread that feeds and 1, 2, 4 and 8 that list frames: by seats of one track, and
+# by as many handles of one thread each, by turns. Prints a table of the most frames a second of some runs, of all drawers
 # together, and of the share of tries that found the track busy in that run.
 #
 #   bench/threads.sh [RUNS [SECONDS]]     without them 3 runs of 3 seconds each

@@ -22,7 +22,8 @@ build() { # WORD..
     local words=(-std=c11 -D_POSIX_C_SOURCE=200809L -pedantic -Wall -Wextra -Wconversion -Werror "$@")
     # shellcheck disable=SC2086
     "$cc" "${words[@]}" $heap -c -o "$work/heap.o" "$here/rattle_heap.c"
-    "$cc" "${words[@]}" -o "$work/threads" "$here"/{files,tests/refusing,tests/threads}.c "$work/heap.o" "$archive" -lpthread
+    "$cc" "${words[@]}" -o "$work/threads" "$here"/{files,tests/refusing,tests/threads}.c "$work/heap.o" "$archive" \
+        -lpthread
 }
 
 for kind in ${kinds:-plain sanitized memcheck}; do

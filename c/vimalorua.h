@@ -262,17 +262,17 @@ int32_t vimalorua_copy_images(vimalorua *handle, vimalorua_image *images, size_t
 void vimalorua_close(vimalorua *handle);
 
 /* Makes a seat, *first, of a handle to whose track nothing was fed and which was never flushed. The seat has the
- * handle's script, fonts and budget; the list that the handle kept goes. It and all that vimalorua_split makes of it are
- * the seats of one track, and may have a call each at the same time. The track has one history, in which the entries of
- * all seats stand in one order. What a seat has seen of it only grows.
+ * handle's script, fonts and budget, and the list that it kept. It and all that vimalorua_split makes of it are the
+ * seats of one track, and may have a call each at the same time. The track has one history, in which the entries of all
+ * seats stand in one order. What a seat has seen of it only grows.
  *
  * No call of a seat waits. One that needs the track while another seat's call has it answers VIMALORUA_BUSY: then
  * nothing has changed, and it may be made again or given up at any time. Those below whose names end in `waiting` make
  * it again. Whose try finds the track free is left to chance: no order is kept. A thread that ends inside a call of a
  * seat may leave the track busy for ever. All calls of seats came with version 1.5.
  *
- * DONE: *first is the caller's to leave. The handle is closed, so that its calls answer CLOSED, but is still to be freed
- * by vimalorua_close. WAS_FED, OUT_OF_MEMORY, CLOSED: nothing changes, and *first stays. */
+ * DONE: *first is the caller's to leave. The handle is closed, so that its calls answer CLOSED, but is still to be
+ * freed by vimalorua_close. WAS_FED, OUT_OF_MEMORY, CLOSED: nothing changes, and *first stays. */
 int32_t vimalorua_share(vimalorua *handle, vimalorua_seat **first) VIMALORUA_NO_NULLS((1, 2));
 
 /* Makes one more seat of the track, *seat, off the first one, with its budget and nothing in its caches. It is never
@@ -292,12 +292,12 @@ void vimalorua_leave(vimalorua_seat *seat);
 int32_t vimalorua_try_feed(vimalorua_seat *seat, const uint8_t *chunk, size_t chunk_len, int64_t start,
                            int64_t duration, uint32_t *field, size_t *place) VIMALORUA_NO_NULLS((1, 6, 7));
 
-/* Offers the event of one of the script's own Dialogue lines, the one behind the first *place of them, with the place of
- * the line as its ReadOrder. A line that gives no event is passed over. Called from a *place of 0 on, it offers all of
- * them as vimalorua_feed_lines does.
+/* Offers the event of one of the script's own Dialogue lines, the one behind the first *place of them, with the place
+ * of the line as its ReadOrder. A line that gives no event is passed over. Called from a *place of 0 on, it offers all
+ * of them as vimalorua_feed_lines does.
  *
- * DONE: *place is one more, or, where there was no such line, how many lines the script has. BUSY, OUT_OF_MEMORY: nothing
- * changes, and *place stays. */
+ * DONE: *place is one more, or, where there was no such line, how many lines the script has. BUSY, OUT_OF_MEMORY:
+ * nothing changes, and *place stays. */
 int32_t vimalorua_try_feed_lines(vimalorua_seat *seat, size_t *place) VIMALORUA_NO_NULLS((1, 2));
 
 /* Drops all live events, as vimalorua_flush does.
@@ -320,11 +320,11 @@ int32_t vimalorua_try_draw(vimalorua_seat *seat, int64_t ms, uint32_t w, uint32_
 int32_t vimalorua_try_draw_in(vimalorua_seat *seat, int64_t ms, const vimalorua_view *view, uint8_t *out,
                               size_t out_len, size_t *entries) VIMALORUA_NO_NULLS((1, 3, 6));
 
-/* Lists the same as images of one colour each, as vimalorua_images and vimalorua_images_in do, and keeps the list in the
- * seat for vimalorua_seat_copy.
+/* Lists the same as images of one colour each, as vimalorua_images and vimalorua_images_in do, and keeps the list in
+ * the seat for vimalorua_seat_copy.
  *
  * DONE: *change, *count and *bytes tell of the list, *change beside the list that the seat kept before. NO_FONT, BUSY,
- * OUT_OF_MEMORY, BAD_CALL: the list that was kept stays, *change, *count and *bytes tell nothing, and *entries is 0. */
+ * OUT_OF_MEMORY, BAD_CALL: the list that was kept stays, *entries is 0, and the others tell nothing. */
 int32_t vimalorua_try_list(vimalorua_seat *seat, int64_t ms, uint32_t w, uint32_t h, int32_t *change, size_t *count,
                            size_t *bytes, size_t *entries) VIMALORUA_NO_NULLS((1, 5, 6, 7, 8));
 int32_t vimalorua_try_list_in(vimalorua_seat *seat, int64_t ms, const vimalorua_view *view, int32_t *change,
@@ -336,8 +336,8 @@ int32_t vimalorua_try_list_in(vimalorua_seat *seat, int64_t ms, const vimalorua_
 int32_t vimalorua_seat_copy(vimalorua_seat *seat, vimalorua_image *images, size_t count, uint8_t *masks,
                             size_t bytes) VIMALORUA_NO_NULLS((1));
 
-/* Pauses after so many tries and one more that found the track busy, and tells how many they are then: by a null pause a
- * few turns of a loop, 1 to 64, then the processor is left to other threads, and from the 20th on to all for 50
+/* Pauses after so many tries and one more that found the track busy, and tells how many they are then: by a null pause
+ * a few turns of a loop, 1 to 64, then the processor is left to other threads, and from the 20th on to all for 50
  * microseconds. */
 VIMALORUA_INLINE unsigned vimalorua_pause_after(unsigned tries, vimalorua_pause pause, void *with) {
     tries += tries + 1 != 0;

@@ -2,9 +2,9 @@
  *
  *   threads seats|handles DRAWERS SECONDS SCRIPT FONT WxH FROM TO STEP
  *
- * All lines of the script are fed first. Each drawer then lists the frames from FROM to TO, over and over, each a little
- * further on than the other, and the feeder offers one chunk a millisecond, which is shown long after TO. It prints
- * the frames a second of all drawers together, and how many of their tries in a hundred found the track busy. */
+ * All lines of the script are fed first. Each drawer then lists the frames from FROM to TO, over and over, each a
+ * little further on than the other, and the feeder offers one chunk a millisecond, which is shown long after TO. It
+ * prints the frames a second of all drawers together, and how many of their tries in a hundred found the track busy. */
 #include "../files.h"
 #include <pthread.h>
 #include <stdatomic.h>

@@ -129,7 +129,8 @@ static void flush_one(struct job *job) {
 static void draw_one(struct job *job, int64_t ms) {
     struct frame *frame = &job->frames[job->frame_count++];
     *frame = (struct frame){.ms = ms, .bytes = need(calloc(COUNT, 1))};
-    WANT(vimalorua_draw_waiting(job->seat, ms, W, H, frame->bytes, COUNT, &frame->entries, paused, job), VIMALORUA_DONE);
+    WANT(vimalorua_draw_waiting(job->seat, ms, W, H, frame->bytes, COUNT, &frame->entries, paused, job),
+         VIMALORUA_DONE);
     tells(job, frame->entries);
 }
 
@@ -137,7 +138,8 @@ static void list_one(struct job *job, int64_t ms) {
     struct frame *frame = &job->frames[job->frame_count++];
     int32_t change = 77;
     *frame = (struct frame){.ms = ms, .is_list = 1};
-    WANT(vimalorua_list_waiting(job->seat, ms, W, H, &change, &frame->images, &frame->masks, &frame->entries, paused, job),
+    WANT(vimalorua_list_waiting(job->seat, ms, W, H, &change, &frame->images, &frame->masks, &frame->entries, paused,
+                                job),
          VIMALORUA_DONE);
     vimalorua_image *images = need(calloc(frame->images * sizeof *images + frame->masks + 1, 1));
     frame->bytes = (uint8_t *)images;
@@ -299,7 +301,8 @@ static void run(unsigned chunks, unsigned draw_count, int sleeps, unsigned seed,
     struct job jobs[THREADS];
     vimalorua_seat *first = shared();
     for (unsigned i = 0; i < THREADS; i++) {
-        jobs[i] = (struct job){.number = i, .chunks = chunks, .draws = draw_count, .sleeps = sleeps, .random = seed + i};
+        jobs[i] = (struct job){.number = i, .chunks = chunks, .draws = draw_count, .sleeps = sleeps};
+        jobs[i].random = seed + i;
         jobs[i].entries = need(calloc(2 * (size_t)chunks + 1, sizeof *jobs[i].entries));
         jobs[i].frames = need(calloc((size_t)chunks + draw_count + 1, sizeof *jobs[i].frames));
         jobs[i].seat = first;
@@ -474,7 +477,7 @@ static int with_refusal(long n, const uint8_t *wanted) {
     WANT(place, 0);
     AGAIN(vimalorua_feed_lines_waiting(first, &place, NULL, NULL), place <= 2);
     WANT(place, 2);
-    AGAIN(vimalorua_try_draw(second, 500, W, H, out, COUNT, &entries), memcmp(out, untouched, COUNT) == 0 && entries == 0);
+    AGAIN(vimalorua_try_draw(second, 500, W, H, out, COUNT, &entries), !memcmp(out, untouched, COUNT) && entries == 0);
     WANT(memcmp(out, wanted, COUNT), 0);
     WANT(entries, 3);
     AGAIN(vimalorua_try_list(first, 500, W, H, &change, &count, &bytes, &entries), entries == 0);
@@ -517,7 +520,8 @@ int main(int argc, char **argv) {
     busy();
     long refused = refusals();
     run(chunks, draw_count, 0, 1, &tries, &shown);
-    printf("%lu frames with images, %lu tries found the track busy, %ld calls for memory refused\n", shown, tries, refused);
+    printf("%lu frames with images, %lu tries found the track busy, %ld calls for memory refused\n", shown, tries,
+           refused);
     WANT(shown > 0, 1);
     for (unsigned i = 0; i < (unsigned)atoi(argv[4]); i++)
         run(chunks / 20, draw_count / 20, 1, 1000 * i, &all_tries, &shown);

@@ -2,4 +2,3 @@ mod AsBox
 mod CopyLemmas
 mod HandlesSent
 mod NameLemmas
-mod SeatAsBox

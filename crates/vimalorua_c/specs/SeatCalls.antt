@@ -108,7 +108,7 @@ pub record IsDrawTried (at : ℤ) (frame : FrameView) (before after : List ℕ) 
   pub others : status ≢ done_status → status ≢ no_font_status → status ≢ busy_status → status ≡ out_of_memory_status
 
 -- The images of the entries that are told were listed; or there is no font, or another seat has the track, or memory ran out, and the list stays.
-pub record AreImagesTried (at : ℤ) (frame : FrameView) (status before change : ℤ) (count bytes entries : ℕ) (old new : SharedSeatView) : Type 0 where
+pub record IsListTried (at : ℤ) (frame : FrameView) (status before change : ℤ) (count bytes entries : ℕ) (old new : SharedSeatView) : Type 0 where
   pub fonts : (status ≡ no_font_status) ↔ (old.fonts ≡ [])
   pub listed : status ≡ done_status
       → (kind : ChangeKind) × ListsHistory old new at frame (record { entries = entries; change = kind }) × (change ≡ change_number kind)

@@ -5,7 +5,7 @@ ghost use Rattle.ass_num.specs.Limits.{IsWithin, max_instant};
 ghost use Rattle.frame_view.specs.FrameViews.{IsFrameView, plain_frame};
 ghost use Rattle.player.specs.Players.{mask_bytes};
 ghost use Rattle.vimalorua_c.specs.Calls.{IsBadView, IsBeyond};
-ghost use Rattle.vimalorua_c.specs.SeatCalls.{AreImagesTried, AreSeatImagesCopied, IsGoodSeatCall, IsSeatCall};
+ghost use Rattle.vimalorua_c.specs.SeatCalls.{IsListTried, AreSeatImagesCopied, IsGoodSeatCall, IsSeatCall};
 ghost use Rattle.vimalorua_c.specs.Views.{view_numbered};
 
 use crate::listing::{ImageNumbers, copy_listed};
@@ -31,7 +31,7 @@ fn listed_by(
     requires instant { IsWithin max_instant at }
     requires frame { IsFrameView frame.now }
     requires untold { entries.old ≡ 0 }
-    ensures { AreImagesTried at frame.now result.1 change.old change.new (length result.0.images) (mask_bytes result.0.images) entries.new seat result.0 }
+    ensures { IsListTried at frame.now result.1 change.old change.new (length result.0.images) (mask_bytes result.0.images) entries.new seat result.0 }
 {
     if seat.font_count() == 0 {
         return (seat, NO_FONT);
@@ -62,7 +62,7 @@ fn list_by_seat(
     requires frame { IsFrameView frame.now }
     requires untold { entries.old ≡ 0 }
     ensures { IsGoodSeatCall ((change.new ≡ change.old) × (count.new ≡ count.old) × (bytes.new ≡ bytes.old) × (entries.new ≡ 0))
-        (AreImagesTried at frame.now result change.old change.new count.new bytes.new entries.new) result handle.old.value handle.new.value }
+        (IsListTried at frame.now result change.old change.new count.new bytes.new entries.new) result handle.old.value handle.new.value }
 {
     let Ok(taken) = take_seat(alloc, handle) else {
         return OUT_OF_MEMORY;
@@ -97,7 +97,7 @@ pub extern "C" fn vimalorua_try_list(
 ) -> i32
     ensures { IsSeatCall (IsBeyond at (record { w = w; h = h }))
         ((change.new ≡ change.old) × (count.new ≡ count.old) × (bytes.new ≡ bytes.old) × (entries.new ≡ 0))
-        (AreImagesTried at (plain_frame (record { w = w; h = h })) result change.old change.new count.new bytes.new entries.new) result
+        (IsListTried at (plain_frame (record { w = w; h = h })) result change.old change.new count.new bytes.new entries.new) result
         handle.old.value handle.new.value }
 {
     *entries = 0;
@@ -131,7 +131,7 @@ pub extern "C" fn vimalorua_try_list_by_numbers(
 ) -> i32
     ensures { IsSeatCall (IsBadView at numbers.now)
         ((change.new ≡ change.old) × (count.new ≡ count.old) × (bytes.new ≡ bytes.old) × (entries.new ≡ 0))
-        (AreImagesTried at (view_numbered numbers.now) result change.old change.new count.new bytes.new entries.new) result
+        (IsListTried at (view_numbered numbers.now) result change.old change.new count.new bytes.new entries.new) result
         handle.old.value handle.new.value }
 {
     *entries = 0;

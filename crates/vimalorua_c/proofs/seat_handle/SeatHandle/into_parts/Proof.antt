@@ -24,7 +24,7 @@ use denote.Triple.Table.{entered}
 use denote.Triple.Walked.{says, Stays, stay_dropped, walk_of, ends_at, Goes-dropped, walk_Meets}
 use Rattle.std_alloc.proofs.BoxSteps.Form.{D, B, word, box_typed}
 use Rattle.std_alloc.proofs.BoxSteps.Steps.{box_out, box_in}
-use Rattle.vimalorua_c.proofs.SeatAsBox.{E, FromHandle as From}
+use Rattle.vimalorua_c.proofs.AsBox.{SeatE as E, FromSeatHandle as From}
 use Rattle.vimalorua_c.specs.contracts.seat_handle.SeatHandle.into_parts as F
 use Rattle.vimalorua_c.specs.contracts.seat_handle.SeatHandle.into_parts.Key.{name as #self}
 use Rattle.vimalorua_c.proofs.seat_handle.SeatHandle.into_parts.Statement as stated
