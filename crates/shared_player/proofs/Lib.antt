@@ -1,3 +1,4 @@
 pub mod LawLemmas
+pub mod SeatLemmas
 pub mod SeatSent
 pub mod ShownLemmas

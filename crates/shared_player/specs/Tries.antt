@@ -37,7 +37,12 @@ IsLineOffered count event pass after (Ok (Ok told)) = (told ≡ count) × ((answ
 IsLineOffered count event pass after (Ok (Err refused)) = IsEventFed event pass after feed.OutOfMemory
 IsLineOffered count event pass after (Err refused) = IsLostTry pass after
 
--- A line that gives an event is offered. One that gives none is passed over, and takes neither a turn nor memory; and so it is where there is no such line.
+-- The line gives no event, or there is no such line: it is passed over, so many lines are in, and no turn is taken. Where memory ran out it isn't.
+abbrev pub IsLinePassed : ℕ → TrackView → TrackView → Result (Result ℕ OutOfMemory) TurnOut → Type 0
+IsLinePassed count pass after (Ok (Ok told)) = (told ≡ count) × (after ≡ pass)
+IsLinePassed count pass after (Ok (Err refused)) = after ≡ pass
+IsLinePassed count pass after (Err refused) = ⊥
+
 abbrev pub IsLineTried : ℕ → Option Event → TrackView → TrackView → Result (Result ℕ OutOfMemory) TurnOut → Type 0
 IsLineTried count (Some event) pass after answer = IsLineOffered count event pass after answer
-IsLineTried count None pass after answer = (answer ≡ Ok (Ok count)) × (after ≡ pass)
+IsLineTried count None pass after answer = IsLinePassed count pass after answer

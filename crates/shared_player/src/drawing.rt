@@ -1,12 +1,10 @@
 //! Pictures, and lists of plain images, of one look at the track each.
 
-ghost use Rattle.std.specs.Prelude.{◌≡◌, ◌×◌, ◌<◌, List, All, length, IfOk, IfErr, OnErr};
-ghost use Rattle.ass_events.specs.Histories.{Entry, IsHistory, live};
+ghost use Rattle.std.specs.Prelude.{◌≡◌, ◌<◌, length, IfOk, IfErr, OnErr};
 ghost use Rattle.ass_num.specs.Limits.{IsFrameSize, IsWithin, max_instant};
 ghost use Rattle.frame_view.specs.FrameViews.{IsFrameView, plain_frame};
 ghost use Rattle.shared_player.specs.Shown.{ListsHistory, ShowsHistory};
 ghost use Rattle.shared_player.specs.Tries.{IsLookRefused};
-ghost use Rattle.track_history.specs.Answers.{IsSceneOf};
 ghost use Rattle.track_history.specs.Calls.{IsTriedLook};
 
 use crate::answers::{Drawn, ListChange};

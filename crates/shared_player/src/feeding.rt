@@ -1,8 +1,8 @@
 //! What a seat feeds its track, and flushing it.
 
-ghost use Rattle.std.specs.Prelude.{◌≡◌, ◌≤◌, length, IfOk, IsOk, OnErr};
+ghost use Rattle.std.specs.Prelude.{◌≡◌, ◌<◌, ◌≤◌, length, None, IfOk, IsOk, OnErr};
 ghost use Rattle.std.specs.Arc.{arc_value};
-ghost use Rattle.ass_events.specs.Events.{event_of};
+ghost use Rattle.ass_events.specs.Events.{event_of, line_fault};
 ghost use Rattle.ass_num.specs.Limits.{max_text_bytes};
 ghost use Rattle.shared_player.specs.Tries.{IsLineOffered, IsLineTried, IsLostTry, line_offered, lines_in};
 ghost use Rattle.track_history.specs.Calls.{IsFed, IsFlushed, IsOffered};
@@ -87,6 +87,8 @@ impl Seat {
     /// try is lost, and that is all.
     pub fn try_feed_lines(self, alloc: Global, from: usize) -> (Seat, Result<Mem<usize>, TurnOut>)
         ensures tried { IsLineTried (lines_in self.script from) (line_offered self.script from) self.track result.0.track result.1 }
+        // Only a line that can be read takes memory.
+        ensures memory { IfOk result.1 (λ told. OnErr told ((from < length self.script.lines) × (line_fault self.script from ≡ None))) }
         ensures same { result.0 ≡ record self { track = result.0.track } }
     {
         let count = self.line_count();

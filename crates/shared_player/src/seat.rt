@@ -1,14 +1,11 @@
 //! Seats.
 
-ghost use Rattle.std.specs.Prelude.{◌≡◌, IsTrue};
+ghost use Rattle.std.specs.Prelude.{◌≡◌, ◌<◌, ◌≤◌, length, slice_index_or};
 ghost use Rattle.std.specs.Arc.{arc_value};
-ghost use Rattle.player.specs.Players.{mask_bytes};
-ghost use Rattle.shared_player.specs.Seats.{seat_of};
-ghost use Rattle.track_history.specs.LocalTracks.{new_track};
-ghost use Rattle.turn_cell.specs.Passes.{IsOf};
-ghost use Rattle.std.specs.Prelude.{length, slice_index_or, ◌<◌, ◌≤◌};
 ghost use Rattle.bdf_font.specs.Sets.{no_font};
 ghost use Rattle.evict_core.specs.Machine.{max_budget};
+ghost use Rattle.player.specs.Players.{mask_bytes};
+ghost use Rattle.shared_player.specs.Seats.{IsSeat, seat_of};
 
 use bdf_font::Font;
 use plain_images::PlainImage;
@@ -46,9 +43,7 @@ impl Model for Seat {
 impl Seat {
     /// A seat of these parts.
     pub(crate) fn of(player: Player, track: Arc<Track>, pass: TrackPass, first: bool) -> Seat
-        requires unfed { player.track ≡ new_track }
-        requires cell { IsOf (arc_value track) pass }
-        requires first { IsTrue first → pass.number ≡ 0 }
+        requires { IsSeat player (arc_value track) pass first }
         ensures { result ≡ seat_of player (arc_value track) pass first }
     {
         let pass = unsafe { ManuallyDrop::new_unchecked(pass) };

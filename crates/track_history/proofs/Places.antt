@@ -1,6 +1,6 @@
 -- Live events, their places and their spans.
-use Rattle.std.proofs.Common.{◌≡◌, ◌≢◌, ℕ, ◌+◌, ◌<◌, ◌≤◌, ℤ, ◌<ℤ◌, Bool, true, false, cond, List, [], ◌∷◌, ◌++◌, length, map, get_or, take, refl, sym, ap, subst, ◌∙◌, arith, ◌⊎◌, ⊎_elim, Option, Some, None, IsPermutation}
-use Rattle.std.specs.Prelude.{◌==◌, slice_get, ◌↔◌}
+use Rattle.std.proofs.Common.{◌≡◌, ◌≢◌, ℕ, ◌+◌, ◌<◌, ◌≤◌, ℤ, Bool, true, false, cond, List, [], ◌∷◌, ◌++◌, length, map, get_or, take, refl, sym, ap, subst, ◌∙◌, arith, ◌⊎◌, ⊎_elim, Option, Some, None, IsPermutation}
+use Rattle.std.specs.Prelude.{◌==◌, slice_get}
 use Rattle.std.specs.List.{All, Contains, position_from}
 use Rattle.std.proofs.lemmas.Bool.{cases_Bool}
 use Rattle.std.proofs.lemmas.Bool.Decides.{nat_tests}
@@ -12,7 +12,7 @@ use Rattle.ass_events.specs.Histories.{HaveOwnOrders, Pairwise}
 use Rattle.ass_events.specs.NearEvents.{IsEarlier, IsNear, Shown, Chained, AreNear, Span, span_of}
 use Rattle.near_events.specs.declared.spans.EventSpan.{EventSpan}
 use Rattle.near_events.specs.Spans.{AreNearSpans, AreSpansInOrder, IsSpanOf, event_span, span_at, spans_from}
-use Rattle.near_events.proofs.Lists.{get_from_there, same_some, there_from_get}
+use Rattle.near_events.proofs.Lists.{get_from_there, same_some}
 use Rattle.near_events.proofs.NearSpans.{HaveSpans, all_spans_near, event_near, near_itself, near_there, spans_more}
 use Rattle.near_events.proofs.Pairs.{Contains-head, Contains-tail, Contains-cons_cases}
 use Rattle.near_events.proofs.Sorts.{Differ}

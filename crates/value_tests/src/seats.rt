@@ -104,7 +104,7 @@ fn seats_of_one_track(rt: HostRuntime) -> Result<(), Fail> {
     assert_eq!(rt; (entries, bytes), (2, 12));
     let (first, change, count) = lists(alloc, first);
     assert!(rt; change == Some(ChangeKind::Other));
-    assert_eq!(rt; count, 1);
+    assert_eq!(rt; count, 3);
     let (first, flushed) = first.try_flush(alloc);
     assert!(rt; flushed == Ok(Flushed::Done(2)));
     drop(first);

@@ -1,4 +1,4 @@
-use Rattle.std.proofs.Common.{ℤ, List, map, of_z, rules, subst, to_z, w64}
+use Rattle.std.proofs.Common.{ℤ, List, map, of_z, subst, to_z, w64}
 use Rattle.std.specs.Arc.{arc_value}
 use Rattle.std.proofs.Math.Facts.{to_z-of_z}
 use Rattle.ass_events.specs.declared.event.Event.{Event}
