@@ -250,6 +250,7 @@ for kind in $kinds; do
 done
 # shellcheck disable=SC2086
 "$here/threads.sh" "$archive" $kinds
+echo 'test.sh: seats in eight threads passed'
 shared_alone
 echo 'test.sh: the shared library passed'
 from_page
