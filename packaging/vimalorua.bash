@@ -14,8 +14,8 @@ _vimalorua() {
     write) options='--later --earlier' ;;
     selftest) options='--workers' ;;
     play)
-        options='--from --to --step --rate --size --feeders --renderers --batch --again --times --ahead --bands --budget'
-        options+=' --mode --script-fonts'
+        options='--from --to --step --rate --size --feeders --renderers --batch --again --times --ahead --bands --format'
+        options+=' --budget --mode --script-fonts'
         ;;
     esac
     case $before in

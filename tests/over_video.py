@@ -37,6 +37,7 @@ RATES = [
     ("60000/1001", 7_200_000, 7_200_150, 60000, 1001),
     ("1000/7", 5, 50, 1000, 7),
     ("1/2", 0, 6001, 1, 2),
+    ("2500", 3, 6, 2500, 1),
 ]
 
 
@@ -82,25 +83,28 @@ def pixels(pixel):
     return bytes(it for y in range(HEIGHT) for x in range(WIDTH) for it in pixel(x, y))
 
 
+def image(words, t):
+    """The image of the boxes at an instant, in the format of these words."""
+    said = f"# t={t} n={len(BOXES)}\n"
+    size = f"WIDTH {WIDTH}\nHEIGHT {HEIGHT}\nDEPTH 4\nMAXVAL 255\nTUPLTYPE RGB_ALPHA\nENDHDR\n"
+    if words == "--format pam":
+        return f"P7\n{said}{size}".encode() + pixels(with_alpha)
+    if words == "--format rgba":
+        return pixels(with_alpha)
+    return f"P6\n{said}{WIDTH} {HEIGHT}\n255\n".encode() + pixels(on_black)
+
+
 def formats(score, given):
-    """A frame in each format has exactly the bytes that are worked out here."""
+    """A frame and a play in each format have exactly the bytes that are worked out here."""
     name = f"{given.room}/boxes.ass"
     with open(name, "w", encoding="utf-8") as it:
         it.write(script())
-    count = len(BOXES)
-    size = f"WIDTH {WIDTH}\nHEIGHT {HEIGHT}\nDEPTH 4\nMAXVAL 255\nTUPLTYPE RGB_ALPHA\nENDHDR\n"
-    ppm = f"P6\n# t=500 n={count}\n{WIDTH} {HEIGHT}\n255\n".encode() + pixels(on_black)
-    rgba = pixels(with_alpha)
-    wanted = {
-        "": ppm,
-        "--format ppm": ppm,
-        "--format pam": f"P7\n# t=500 n={count}\n{size}".encode() + rgba,
-        "--format rgba": rgba,
-    }
-    for words, right in wanted.items():
-        ask = [given.program, "frame", "--at", "500", "--size", f"{WIDTH}x{HEIGHT}", *words.split(), name, f"{given.room}/dot.bdf"]
-        done = subprocess.run(ask, stdin=subprocess.DEVNULL, capture_output=True, timeout=600)
-        score.check(done.returncode == 0 and done.stdout == right, f"boxes by frame {words} are other bytes than those that are worked out")
+    play = "play --from 498 --to 503 --step 2 --renderers 2 --bands 3"
+    for words in ["", "--format ppm", "--format pam", "--format rgba"]:
+        for job, right in [("frame --at 500", image(words, 500)), (play, b"".join(image(words, t) for t in (498, 500, 502)))]:
+            ask = [given.program, *job.split(), "--size", f"{WIDTH}x{HEIGHT}", *words.split(), name, f"{given.room}/dot.bdf"]
+            done = subprocess.run(ask, stdin=subprocess.DEVNULL, capture_output=True, timeout=600)
+            score.check(done.returncode == 0 and done.stdout == right, f"boxes by {job} {words} are other bytes than those that are worked out")
 
 
 def rates(score, given):
@@ -120,6 +124,17 @@ def rates(score, given):
         score.check(play.returncode == 0 and shown == wanted, f"play at {rate} shows the instants {shown}, and not {wanted}")
 
 
+def film(score, given):
+    """The instants of a film of two hours: the last ones stand as near to their frames as the first ones."""
+    words = "changes --from 0 --to 7200000 --rate 24000/1001 --size 1x1".split()
+    ask = [given.program, *words, f"{given.room}/row.ass", f"{given.room}/dot.bdf"]
+    done = subprocess.run(ask, stdin=subprocess.DEVNULL, capture_output=True, timeout=600)
+    said = [int(line.split()[0][2:]) for line in done.stderr.decode().splitlines()]
+    wanted = [1001 * i // 24 for i in range(172_628)]
+    score.check(done.returncode == 0 and said == wanted, "changes has other instants than the frames of a film of two hours")
+
+
 def over_video(score, given):
     formats(score, given)
     rates(score, given)
+    film(score, given)

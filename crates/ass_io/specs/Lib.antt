@@ -1,6 +1,7 @@
 pub mod Counts
 pub mod Failing
 pub mod Fetched
+pub mod Fetches
 pub mod Files
 pub mod MemoryShelves
 pub mod MemorySinks

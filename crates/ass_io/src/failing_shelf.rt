@@ -3,6 +3,7 @@
 ghost use Rattle.std.specs.Prelude.{Some};
 
 use crate::count::count_one;
+use crate::fetch_log::FetchLog;
 use crate::memory_shelf::MemoryShelf;
 use crate::plan::Plan;
 use crate::shelf::{Fetch, Shelf};
@@ -14,6 +15,7 @@ pub struct FailingShelf {
     shelf: MemoryShelf,
     plan: Plan,
     faults: u64,
+    log: FetchLog,
 }
 
 impl FailingShelf {
@@ -31,6 +33,7 @@ impl FailingShelf {
             shelf,
             plan: Plan::new(fails),
             faults: 0,
+            log: FetchLog::new(),
         }
     }
 }
@@ -43,11 +46,17 @@ impl Shelf for FailingShelf {
 
     ghost faults = { λ s. s.faults };
 
+    ghost log = { λ s. s.log.fetches };
+
     fn fetch(&mut self, alloc: Global, name: &str, into: &mut Vec<u8>) -> Fetch {
         if self.plan.next_fails() {
             count_one(&mut self.faults);
+            self.log
+                .note(name.as_bytes(), &Fetch::Failed, into.as_slice());
             return Fetch::Failed;
         }
-        self.shelf.fetch(alloc, name, into)
+        let fetched = self.shelf.fetch(alloc, name, into);
+        self.log.note(name.as_bytes(), &fetched, into.as_slice());
+        fetched
     }
 }

@@ -4,6 +4,7 @@ ghost use Rattle.std.specs.Prelude.{◌≡◌, [], None};
 ghost use Rattle.ass_io.specs.Files.{IsFileRead};
 
 use crate::count::count_one;
+use crate::fetch_log::FetchLog;
 use crate::shelf::{Fetch, MAX_FILE_BYTES, Shelf};
 use std::alloc::Global;
 use std::io::Read;
@@ -17,6 +18,7 @@ use std::{fs, io};
 pub struct FileShelf<R: Files + Drop> {
     rt: R,
     faults: u64,
+    log: FetchLog,
 }
 
 impl<R: Files + Drop> FileShelf<R> {
@@ -26,7 +28,11 @@ impl<R: Files + Drop> FileShelf<R> {
     pub fn new(rt: R) -> FileShelf<R>
         ensures { shelf_faults result ≡ 0 }
     {
-        FileShelf { rt, faults: 0 }
+        FileShelf {
+            rt,
+            faults: 0,
+            log: FetchLog::new(),
+        }
     }
 }
 
@@ -34,6 +40,8 @@ impl<R: Files + Drop> Shelf for FileShelf<R> {
     ghost told = { λ _ _. None };
 
     ghost faults = { λ s. s.faults };
+
+    ghost log = { λ s. s.log.fetches };
 
     fn fetch(&mut self, _alloc: Global, name: &str, into: &mut Vec<u8>) -> Fetch {
         let fetched = match fs::open(&self.rt, name) {
@@ -47,6 +55,7 @@ impl<R: Files + Drop> Shelf for FileShelf<R> {
         if fetched == Fetch::Failed {
             count_one(&mut self.faults);
         }
+        self.log.note(name.as_bytes(), &fetched, into.as_slice());
         fetched
     }
 }

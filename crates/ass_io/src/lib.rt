@@ -4,6 +4,7 @@
 mod count;
 mod failing_shelf;
 mod failing_sink;
+mod fetch_log;
 mod file_shelf;
 mod memory_shelf;
 mod memory_sink;
@@ -16,6 +17,7 @@ mod std_sink;
 
 pub use failing_shelf::FailingShelf;
 pub use failing_sink::FailingSink;
+pub use fetch_log::FetchLog;
 pub use file_shelf::FileShelf;
 pub use memory_shelf::MemoryShelf;
 pub use memory_sink::MemorySink;

@@ -2,6 +2,7 @@
 
 ghost use Rattle.std.specs.Prelude.{◌≡◌, ℕ, List, OnOk, OnErr, Some, None};
 
+use crate::fetch_log::FetchLog;
 use crate::shelf::{Fetch, MAX_FILE_BYTES, Shelf};
 use ass_num::Mem;
 use std::alloc::Global;
@@ -11,6 +12,7 @@ use std::collections::BTreeMap;
 #[derive(Drop)]
 pub struct MemoryShelf {
     files: BTreeMap<String, Vec<u8>>,
+    log: FetchLog,
 }
 
 impl MemoryShelf {
@@ -22,6 +24,7 @@ impl MemoryShelf {
     {
         MemoryShelf {
             files: BTreeMap::new(alloc),
+            log: FetchLog::new(),
         }
     }
 
@@ -46,14 +49,18 @@ impl Shelf for MemoryShelf {
 
     ghost faults = { λ _. 0 };
 
+    ghost log = { λ s. s.log.fetches };
+
     fn fetch(&mut self, _alloc: Global, name: &str, into: &mut Vec<u8>) -> Fetch {
-        match self.files.get(name) {
+        let fetched = match self.files.get(name) {
             None => Fetch::Missing,
             Some(bytes) if bytes.len() > MAX_FILE_BYTES => Fetch::TooLarge,
             Some(bytes) => match into.extend_from_slice(bytes.as_slice()) {
                 Ok(()) => Fetch::Got,
                 Err(_) => Fetch::OutOfMemory,
             },
-        }
+        };
+        self.log.note(name.as_bytes(), &fetched, into.as_slice());
+        fetched
     }
 }

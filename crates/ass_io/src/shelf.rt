@@ -1,7 +1,8 @@
 //! Files by name.
 
-ghost use Rattle.std.specs.Prelude.{◌≡◌, ℕ, List, []};
+ghost use Rattle.std.specs.Prelude.{◌≡◌, ℕ, List, [], ◌∷◌, ◌++◌};
 ghost use Rattle.ass_io.specs.Fetched.{Told, IsFetchDecided, IsFetchCounted, IsFetched};
+ghost use Rattle.ass_io.specs.Fetches.{LoggedFetch};
 
 use std::alloc::Global;
 
@@ -23,12 +24,14 @@ pub enum Fetch {
     OutOfMemory,
 }
 
-/// A shelf of files, by what it tells of each name and by a count of its faults. A shelf that is
-/// to be taken at its word tells what it holds; one over real files tells nothing.
+/// A shelf of files, by what it tells of each name, by a count of its faults, and by a list of all fetches, which real files
+/// have too. A shelf that is to be taken at its word tells what it holds; one over real files tells nothing.
 pub trait Shelf {
     ghost told: { Self → List ℕ → Told };
 
     ghost faults: { Self → ℕ };
+
+    ghost log: { Self → List LoggedFetch };
 
     /// Reads what the name holds into an empty vector. After any answer but `Got` it is empty again.
     fn fetch(&mut self, alloc: Global, name: &str, into: &mut Vec<u8>) -> Fetch
@@ -43,5 +46,8 @@ pub trait Shelf {
         // What is held decides the answer, but for a fault and for lack of memory.
         ensures decided { IsFetchDecided (told self.old name.now) result }
 
-        ensures counted { IsFetchCounted result (faults self.old) (faults self.new) };
+        ensures counted { IsFetchCounted result (faults self.old) (faults self.new) }
+
+        // The list has this fetch at its end.
+        ensures logged { log self.new ≡ log self.old ++ (name.now, result, into.new.items) ∷ [] };
 }

@@ -2,6 +2,7 @@
 use Rattle.std.proofs.Common.{◌≡◌, inl, inr, ℕ, Bool, true, false, cond, List, [], ◌∷◌, Option, Some, None, Ok, Err, refl, sym, subst, arith}
 use Rattle.std.specs.Prelude.{IfSome}
 use Rattle.ass_io.specs.Fetched.{Told}
+use Rattle.ass_io.specs.Fetches.{FetchChange}
 use Rattle.ass_io.specs.Sinks.{SinkState}
 use Rattle.single_run.proofs.Runs.{IsRefusal, keeps, read_kind}
 use Rattle.single_run.specs.Outcomes.{IsReportable, IsStatusReadCounted, IsWriteCounted, status_if_put}
@@ -19,7 +20,7 @@ use Rattle.run_words.specs.declared.job.PlayJob.{PlayJob}
 use Rattle.run_status.specs.declared.status.Status.{Status}
 use Rattle.run_status.specs.declared.status.Status.TheVariants as status
 use Rattle.run_status.specs.declared.status.What.TheVariants.{Frames as images}
-use Rattle.play_command.specs.PlayRuns.{AreReadUnless, IsPlayRead, has_too_many, play_refusal, view_of}
+use Rattle.play_command.specs.PlayRuns.{AreReadUnless, IsPlayFetched, IsPlayRead, has_too_many, play_refusal, view_of}
 use Rattle.play_command.specs.Working.{IsPlayShown, IsPlayWorked, IsSpoken, IsToldOf}
 use Rattle.run_words.specs.declared.job.ScriptSource.{ScriptSource}
 
@@ -36,19 +37,20 @@ shown play play_end.OutOfMemory outcome old new h told =
     subst (λ (o : Outcome). IsPlayShown play (sink_change old new) o) (sym told) (h.bytes, inl h.front, h.held, h.asked)
 
 -- A play with what was read for it.
-pub played : (told : List ℕ → Told) (job : PlayJob) (script : ScriptSource) (fonts : List (List ℕ)) (inputs : Inputs) (end : PlayEnd) (outcome : Outcome) (old new : SinkState) →
-    IsPlayRead told job script fonts (Ok inputs) → IsPlayable (view_of job inputs) → IsPlayed (view_of job inputs) end old new → IsToldOf end outcome →
-    IsPlayWorked told job script fonts (sink_change old new) outcome
-played told job script fonts inputs end outcome old new read playable h tells = record {
+pub played : (told : List ℕ → Told) (log : FetchChange) (job : PlayJob) (script : ScriptSource) (fonts : List (List ℕ)) (inputs : Inputs) (end : PlayEnd) (outcome : Outcome) (old new : SinkState) →
+    IsPlayRead told job script fonts (Ok inputs) → IsPlayFetched job script fonts log (Ok inputs) → IsPlayable (view_of job inputs) → IsPlayed (view_of job inputs) end old new → IsToldOf end outcome →
+    IsPlayWorked told log job script fonts (sink_change old new) outcome
+played told log job script fonts inputs end outcome old new read fetched playable h tells = record {
   reading = Ok inputs;
   read = read;
+  fetched = fetched;
   shown = (playable, shown (view_of job inputs) end outcome old new h tells);
 }
 
 -- A play whose files are refused.
-pub refused : (told : List ℕ → Told) (job : PlayJob) (script : ScriptSource) (fonts : List (List ℕ)) (why : Status) (state : SinkState) →
-    IsPlayRead told job script fonts (Err why) → IsPlayWorked told job script fonts (sink_change state state) (Ended why)
-refused told job script fonts why state read = record { reading = Err why; read = read; shown = (inl refl, keeps state.held, refl) }
+pub refused : (told : List ℕ → Told) (log : FetchChange) (job : PlayJob) (script : ScriptSource) (fonts : List (List ℕ)) (why : Status) (state : SinkState) →
+    IsPlayRead told job script fonts (Err why) → IsPlayFetched job script fonts log (Err why) → IsPlayWorked told log job script fonts (sink_change state state) (Ended why)
+refused told log job script fonts why state read fetched = record { reading = Err why; read = read; fetched = fetched; shown = (inl refl, keeps state.held, refl) }
 
 -- ---- counts
 

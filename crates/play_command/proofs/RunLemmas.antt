@@ -4,6 +4,7 @@ use Rattle.std.specs.Io.KnownBytes.{Appends, Keeps}
 use Rattle.std.proofs.lemmas.Bool.{cases_lt}
 use Rattle.ass_num.specs.Causes.{Rose}
 use Rattle.ass_io.specs.Fetched.{Told}
+use Rattle.ass_io.specs.Fetches.{FetchChange, LoggedFetch, fetch_change}
 use Rattle.ass_io.specs.Sinks.{SinkState}
 use Rattle.ass_io.specs.Written.{AppendsFront}
 use Rattle.ass_script.specs.Scripts.{ScriptValue}
@@ -17,6 +18,7 @@ use Rattle.single_run.specs.declared.outcome.Outcome.{Outcome}
 use Rattle.single_run.specs.declared.outcome.Outcome.TheVariants.{Ended, Found}
 use Rattle.single_run.specs.Works.{is_too_long, limited_in, max_frames, work_asked, work_in, work_of}
 use Rattle.single_run.specs.declared.work.Work.{Work}
+use Rattle.run_status.proofs.FetchLemmas.{nothing_fetched}
 use Rattle.run_status.specs.Laws.{AreTold, FilesDecide, IsReadDecided}
 use Rattle.run_status.specs.declared.inputs.Inputs.{Inputs}
 use Rattle.play_model.specs.Outputs.{IsFrontOfPlay}
@@ -32,7 +34,7 @@ use Rattle.run_status.specs.declared.status.Status.TheVariants as status
 use Rattle.run_status.specs.declared.status.What.TheVariants.{Fonts, Frames as images}
 use Rattle.run_status.specs.declared.status.Which.TheVariants.{Frames, Report}
 use Rattle.play_command.proofs.SelftestLemmas.{wanting}
-use Rattle.play_command.specs.PlayRuns.{AreReadUnless, DecidesPlay, IsPlayAsked, IsPlayOutput, IsPlayPut, IsPlayRun, IsPlayText, play_refusal, status_read, view_of}
+use Rattle.play_command.specs.PlayRuns.{AreFetchedUnless, AreReadUnless, DecidesPlay, IsPlayAsked, IsPlayOutput, IsPlayPut, IsPlayRun, IsPlayText, play_refusal, status_read, view_of}
 use Rattle.play_command.specs.SelftestRuns.{DecidesSelftest, IsSelftestRead, IsSelftestReport, IsSelftestRun}
 use Rattle.play_command.specs.Working.{IsJobWorked, IsPlayShown, IsPlayWorked, IsSelftestWorked, IsShared, IsShownAfter, IsSpoken}
 use Rattle.run_words.specs.declared.job.ScriptSource.{ScriptSource}
@@ -186,39 +188,41 @@ asked job (Err why) frames report outcome answer h r s e told f = elim h.0 [
 ]
 
 -- A play and what is reported of it are a run.
-pub play_run : (told : List ℕ → Told) (job : PlayJob) (script : ScriptSource) (fonts : List (List ℕ)) (frames report : SinkChange) (outcome : Outcome) (answer : Status) →
-    IsPlayWorked told job script fonts frames outcome → IsReportable outcome → IsSpoken outcome → IsEnded outcome answer → IsToldBy report answer (text_to_report outcome) →
-    IsFinishedBy report outcome answer → IsPlayRun told job script fonts frames report answer
-play_run told job script fonts frames report outcome answer worked r s e tells f = record {
+pub play_run : (told : List ℕ → Told) (log : FetchChange) (job : PlayJob) (script : ScriptSource) (fonts : List (List ℕ)) (frames report : SinkChange) (outcome : Outcome) (answer : Status) →
+    IsPlayWorked told log job script fonts frames outcome → IsReportable outcome → IsSpoken outcome → IsEnded outcome answer → IsToldBy report answer (text_to_report outcome) →
+    IsFinishedBy report outcome answer → IsPlayRun told log job script fonts frames report answer
+play_run told log job script fonts frames report outcome answer worked r s e tells f = record {
   reading = worked.reading;
   read = worked.read;
+  fetched = worked.fetched;
   asked = asked job worked.reading frames report outcome answer worked.shown r s e tells f;
 }
 
 -- Memory may be wanting before any file is fetched.
-unread : (refusal : Option Status) (told : List ℕ → Told) (script : ScriptSource) (fonts : List (List ℕ)) → (why : Status) × AreReadUnless refusal told script fonts (Err why)
-unread (Some why) told script fonts = (why, refl)
-unread None told script fonts = elim (cases_lt max_fonts (length fonts)) [
-  | inl many ↦ (status.TooLarge Fonts max_fonts, inr (many, refl))
-  | inr few ↦ (status.OutOfMemory, inl (few, inl tt))
+unread : (refusal : Option Status) (told : List ℕ → Told) (log : List LoggedFetch) (script : ScriptSource) (fonts : List (List ℕ)) →
+    (why : Status) × AreReadUnless refusal told script fonts (Err why) × AreFetchedUnless refusal script fonts (fetch_change log log) (Err why)
+unread (Some why) told log script fonts = (why, refl, (refl, refl))
+unread None told log script fonts = elim (cases_lt max_fonts (length fonts)) [
+  | inl many ↦ (status.TooLarge Fonts max_fonts, inr (many, refl), inr (many, refl, refl))
+  | inr few ↦ (status.OutOfMemory, inl (few, inl tt), inl (few, nothing_fetched script fonts log))
 ]
 
-pub play_wanting : (told : List ℕ → Told) (job : PlayJob) (script : ScriptSource) (fonts : List (List ℕ)) (state : SinkState) (report : SinkChange) (answer : Status) →
-    answer ≡ status.OutOfMemory → IsToldBy report answer [] → IsFinishedBy report out_of_memory answer → IsPlayRun told job script fonts (sink_change state state) report answer
-play_wanting told job script fonts state report answer memory tells f =
-    let reading = unread (play_refusal job fonts) told script fonts in
-    record { reading = Err reading.0; read = reading.1; asked = (inr memory, keeps state.held, tells, refl, refused_told status.OutOfMemory answer report tt tt (inl memory) f) }
+pub play_wanting : (told : List ℕ → Told) (log : List LoggedFetch) (job : PlayJob) (script : ScriptSource) (fonts : List (List ℕ)) (state : SinkState) (report : SinkChange) (answer : Status) →
+    answer ≡ status.OutOfMemory → IsToldBy report answer [] → IsFinishedBy report out_of_memory answer → IsPlayRun told (fetch_change log log) job script fonts (sink_change state state) report answer
+play_wanting told log job script fonts state report answer memory tells f =
+    let reading = unread (play_refusal job fonts) told log script fonts in
+    record { reading = Err reading.0; read = reading.1; fetched = reading.2; asked = (inr memory, keeps state.held, tells, refl, refused_told status.OutOfMemory answer report tt tt (inl memory) f) }
 
 -- It may be wanting for the words too.
-pub job_wanting : (told : List ℕ → Told) (job : Job) (state : SinkState) → IsShared job → IsJobWorked told job (sink_change state state) out_of_memory
-job_wanting told (Play play script fonts) state shared =
-    let reading = unread (play_refusal play fonts) told script fonts in
-    record { reading = Err reading.0; read = reading.1; shown = (inr refl, keeps state.held, refl) }
-job_wanting told (Selftest seed events workers) state shared = wanting seed events (Err status.OutOfMemory) (inr refl)
-job_wanting told (Check script fonts) state shared = absurd shared
-job_wanting told (Frame frame script fonts) state shared = absurd shared
-job_wanting told (Changes changes script fonts) state shared = absurd shared
-job_wanting told (Write later earlier script) state shared = absurd shared
+pub job_wanting : (told : List ℕ → Told) (log : List LoggedFetch) (job : Job) (state : SinkState) → IsShared job → IsJobWorked told (fetch_change log log) job (sink_change state state) out_of_memory
+job_wanting told log (Play play script fonts) state shared =
+    let reading = unread (play_refusal play fonts) told log script fonts in
+    record { reading = Err reading.0; read = reading.1; fetched = reading.2; shown = (inr refl, keeps state.held, refl) }
+job_wanting told log (Selftest seed events workers) state shared = wanting seed events (Err status.OutOfMemory) (inr refl)
+job_wanting told log (Check script fonts) state shared = absurd shared
+job_wanting told log (Frame frame script fonts) state shared = absurd shared
+job_wanting told log (Changes changes script fonts) state shared = absurd shared
+job_wanting told log (Write later earlier script) state shared = absurd shared
 
 -- ---- what decides a play
 
@@ -252,10 +256,10 @@ without_fault name answer before now stays counted (inl fault) = absurd (stays (
 without_fault name answer before now stays counted (inr memory) = memory
 
 -- Files that are told decide a play without a fault.
-pub play_decides : FilesDecide → (told : List ℕ → Told) (job : PlayJob) (script : ScriptSource) (fonts : List (List ℕ)) (frames report : SinkChange) (before now : ℕ) (answer : Status) →
-    IsPlayRun told job script fonts frames report answer → IsStatusReadCounted answer before now → IsWriteCounted answer frames.before.faults frames.now.faults →
+pub play_decides : FilesDecide → (told : List ℕ → Told) (log : FetchChange) (job : PlayJob) (script : ScriptSource) (fonts : List (List ℕ)) (frames report : SinkChange) (before now : ℕ) (answer : Status) →
+    IsPlayRun told log job script fonts frames report answer → IsStatusReadCounted answer before now → IsWriteCounted answer frames.before.faults frames.now.faults →
     (Rose before now → ⊥) → (Rose frames.before.faults frames.now.faults → ⊥) → (Rose report.before.faults report.now.faults → ⊥) → DecidesPlay told job script fonts answer
-play_decides law told job script fonts frames report before now answer run counted written stays shows reports = λ reading known read decided.
+play_decides law told log job script fonts frames report before now answer run counted written stays shows reports = λ reading known read decided.
     let says : (r : Result Inputs Status) → run.reading ≡ r → IsOrMemory (status_read r) answer =
     λ r same. asked_status job r frames report answer (subst (λ x. IsPlayAsked job x frames report answer) same run.asked) written shows reports in
     elim (fault_or_decided run.reading) [

@@ -136,7 +136,7 @@ module _ (script : ScriptValue) (seed events workers : ℕ) (bytes : List ℕ) (
       let place : 0 * instant_count play.job + i ≡ i = omega arith in
       let found = settled_image play whole.times bytes playable refl whole.shown 0 i d (subst (λ n. i < n) (sym (twenty events workers some)) lt) (omega arith) in
       let here : IsSettledImage play 0 i (slice_index_or whole.shown.images i d) = subst (λ k. IsSettledImage play 0 i (slice_index_or whole.shown.images k d)) place found in
-      record { canvas = here.canvas; is_picture = here.is_picture; value = here.value }
+      record { draws = here.draws; are_draws = here.are_draws; value = here.value }
 
   all_images : length whole.shown.images ≡ image_count
   all_images = let n = twenty events workers some in let all = whole.shown.all in all ∙ omega (arith, n)

@@ -3,11 +3,13 @@ use Rattle.std.proofs.Common.{inl, inr}
 use Rattle.std.specs.Prelude.{◌≡◌, ◌⊎◌, Bool, ◌&&◌, if◌then◌else◌, nat_le, nat_lt, ℕ, ◌≤◌, List, [], ◌∷◌, ◌++◌, length, Option, Some, None, Result, Ok, Err}
 use Rattle.std.specs.Io.KnownBytes.{Appends, Keeps}
 use Rattle.ass_io.specs.Fetched.{Told}
+use Rattle.ass_io.specs.Fetches.{FetchChange}
 use Rattle.ass_io.specs.Written.{AppendsFront}
 use Rattle.ass_num.specs.Causes.{Rose}
 use Rattle.bdf_font.specs.Limits.{max_fonts}
 use Rattle.single_run.specs.Outcomes.{ArePiecesTold, AreSomeTold, IsLineReported, IsMemoryReported, IsOrMemory, IsReported}
 use Rattle.single_run.specs.Runs.{SinkChange}
+use Rattle.run_status.specs.Fetches.{AreFetched}
 use Rattle.run_status.specs.Inputs.{AreRead}
 use Rattle.run_status.specs.Laws.{AreTold, IsReadDecided}
 use Rattle.run_status.specs.declared.inputs.Inputs.{Inputs}
@@ -47,6 +49,14 @@ AreReadUnless None told script fonts answer = AreRead told script fonts answer
 -- What reading the files of a play answers.
 abbrev pub IsPlayRead : (List ℕ → Told) → PlayJob → ScriptSource → List (List ℕ) → Result Inputs Status → Type 0
 IsPlayRead told job script fonts answer = AreReadUnless (play_refusal job fonts) told script fonts answer
+
+abbrev pub AreFetchedUnless : Option Status → ScriptSource → List (List ℕ) → FetchChange → Result Inputs Status → Type 0
+AreFetchedUnless (Some refusal) script fonts log answer = (log.now ≡ log.before) × (answer ≡ Err refusal)
+AreFetchedUnless None script fonts log answer = AreFetched script fonts log answer
+
+-- What fetching the files of a play gave asks for the answer. None was fetched where the play is refused for its images.
+abbrev pub IsPlayFetched : PlayJob → ScriptSource → List (List ℕ) → FetchChange → Result Inputs Status → Type 0
+IsPlayFetched job script fonts log answer = AreFetchedUnless (play_refusal job fonts) script fonts log answer
 
 -- A play that was whole: what it puts to the frames sink, and its report.
 pub record IsPlayOutput (play : PlayView) (bytes text : List ℕ) : Type 0 where
@@ -94,10 +104,11 @@ IsPlayAsked job (Err refusal) frames report status =
     × (frames.now.asked ≡ frames.before.asked) × ArePiecesTold Report status (λ text. text ≡ []) report.before.asked report.now.asked
 IsPlayAsked job (Ok inputs) frames report status = IsPlayable (view_of job inputs) × IsPlayPut (view_of job inputs) frames report status
 
--- A run of a play. Its files are read with one answer, as far as it is told what they hold; that answer asks for the status, for what the sinks may get, and for the pieces that they are asked to put.
-pub record IsPlayRun (told : List ℕ → Told) (job : PlayJob) (script : ScriptSource) (fonts : List (List ℕ)) (frames report : SinkChange) (status : Status) : Type 0 where
+-- A run of a play. Its files are read with one answer, as far as it is told what they hold, and as what they gave when they were fetched; that answer asks for the status, for what the sinks may get, and for the pieces that they are asked to put.
+pub record IsPlayRun (told : List ℕ → Told) (log : FetchChange) (job : PlayJob) (script : ScriptSource) (fonts : List (List ℕ)) (frames report : SinkChange) (status : Status) : Type 0 where
   pub reading : Result Inputs Status
   pub read : IsPlayRead told job script fonts reading
+  pub fetched : IsPlayFetched job script fonts log reading
   pub asked : IsPlayAsked job reading frames report status
 
 -- the status that an answer about the files asks for

@@ -16,6 +16,7 @@ use Rattle.play_report.specs.Digests.{digest_after}
 use Rattle.play_report.specs.Reports.{summary_text}
 use Rattle.play_report.specs.declared.report.PlayReport.{PlayReport}
 use Rattle.frame_rate.specs.Rates.{step_rate}
+use Rattle.run_words.specs.declared.job.FrameFormat.TheVariants.{Ppm}
 use Rattle.run_words.specs.declared.job.Mode.TheVariants.{Settled}
 use Rattle.run_words.specs.declared.job.PlayJob.{PlayJob}
 use Rattle.run_status.specs.declared.status.Status.{Status}
@@ -40,6 +41,7 @@ selftest_job events workers = record {
   times = 1;
   ahead = 0;
   bands = 1;
+  format = Ppm;
   budget = 1048576;
   mode = Settled;
 }

@@ -2,6 +2,7 @@
 use Rattle.std.specs.Prelude.{◌≡◌, ◌⊎◌, ℕ, ◌≤◌, List, ◌++◌, All, length, Result, Ok, Err, string_bytes}
 use Rattle.std.specs.Io.KnownBytes.{Appends, Keeps}
 use Rattle.ass_io.specs.Fetched.{Told}
+use Rattle.ass_io.specs.Fetches.{FetchChange}
 use Rattle.ass_num.specs.Limits.{max_file_bytes}
 use Rattle.ass_script.specs.Ranges.{IsScript}
 use Rattle.ass_script.specs.Scripts.{ScriptValue}
@@ -23,7 +24,7 @@ use Rattle.run_status.specs.declared.status.Status.{Status}
 use Rattle.run_status.specs.declared.status.Status.TheVariants.{Done, OutOfMemory, WriteFault}
 use Rattle.run_status.specs.declared.status.Which.TheVariants.{Frames, Report}
 use Rattle.text_layout.specs.Fonts.{IsLayoutFontSet}
-use Rattle.play_command.specs.PlayRuns.{IsEarlyOutput, IsPlayOutput, IsPlayRead, early_images, status_read, view_of}
+use Rattle.play_command.specs.PlayRuns.{IsEarlyOutput, IsPlayFetched, IsPlayOutput, IsPlayRead, early_images, status_read, view_of}
 use Rattle.play_command.specs.SelftestRuns.{IsSelftestRead, IsSelftestReport, accepted_first, selftest_fonts}
 use Rattle.run_words.specs.declared.job.ScriptSource.{ScriptSource}
 
@@ -57,9 +58,10 @@ IsShownAfter job (Err refusal) frames outcome =
 IsShownAfter job (Ok inputs) frames outcome = IsPlayable (view_of job inputs) × IsPlayShown (view_of job inputs) frames outcome
 
 -- A play before anything is reported.
-pub record IsPlayWorked (told : List ℕ → Told) (job : PlayJob) (script : ScriptSource) (fonts : List (List ℕ)) (frames : SinkChange) (outcome : Outcome) : Type 0 where
+pub record IsPlayWorked (told : List ℕ → Told) (log : FetchChange) (job : PlayJob) (script : ScriptSource) (fonts : List (List ℕ)) (frames : SinkChange) (outcome : Outcome) : Type 0 where
   pub reading : Result Inputs Status
   pub read : IsPlayRead told job script fonts reading
+  pub fetched : IsPlayFetched job script fonts log reading
   pub shown : IsShownAfter job reading frames outcome
 
 -- the script of what was read
@@ -102,7 +104,7 @@ IsShared (Selftest seed events workers) = Unit {0}
 IsShared _ = ⊥
 
 -- Such a job before anything is reported.
-abbrev pub IsJobWorked : (List ℕ → Told) → Job → SinkChange → Outcome → Type 0
-IsJobWorked told (Play play script fonts) frames outcome = IsPlayWorked told play script fonts frames outcome
-IsJobWorked told (Selftest seed events workers) frames outcome = IsSelftestWorked seed events outcome
-IsJobWorked told _ frames outcome = ⊥
+abbrev pub IsJobWorked : (List ℕ → Told) → FetchChange → Job → SinkChange → Outcome → Type 0
+IsJobWorked told log (Play play script fonts) frames outcome = IsPlayWorked told log play script fonts frames outcome
+IsJobWorked told log (Selftest seed events workers) frames outcome = IsSelftestWorked seed events outcome
+IsJobWorked told log _ frames outcome = ⊥

@@ -1,6 +1,7 @@
 //! The exit status of the program.
 
 ghost use Rattle.std.specs.Prelude.{◌≡◌};
+ghost use Rattle.ass_io.specs.Fetches.{fetch_change};
 ghost use Rattle.play_command.specs.WordRuns.{IsRunOfWords};
 ghost use Rattle.run_status.specs.Statuses.{exit_status_of};
 ghost use Rattle.run_status.specs.declared.status.Status.{Status as StatusValue};
@@ -23,7 +24,8 @@ pub fn exit_of_words<S: Shelf, F: Sink, R: Sink, H: TestHook + Sync>(
     report: &mut R,
     hook: &H,
 ) -> u8
-    ensures { (status : StatusValue) × (result ≡ exit_status_of status) × IsRunOfWords (S.told shelf.old) (texts words.now)
+    ensures { (status : StatusValue) × (result ≡ exit_status_of status) × IsRunOfWords (S.told shelf.old)
+        (fetch_change (S.log shelf.old) (S.log shelf.new)) (texts words.now)
         (sink_change (F.state frames.old) (F.state frames.new))
         (sink_change (R.state report.old) (R.state report.new)) status }
 {

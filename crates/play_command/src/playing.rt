@@ -2,6 +2,7 @@
 
 ghost use Rattle.std.specs.Prelude.{◌≡◌, IfOk};
 ghost use Rattle.std.specs.Arc.{arc_value};
+ghost use Rattle.ass_io.specs.Fetches.{fetch_change};
 ghost use Rattle.single_run.specs.Outcomes.{IsReportable, IsStatusReadCounted, IsWriteCounted, status_if_put};
 ghost use Rattle.single_run.specs.Runs.{sink_change};
 ghost use Rattle.play_command.specs.PlayRuns.{view_of};
@@ -79,8 +80,8 @@ pub fn play_files<S: Shelf, F: Sink, H: TestHook + Sync>(
     hook: &H,
 ) -> Outcome
     requires { IsPlay job }
-    ensures run { IsPlayWorked (S.told shelf.old) job script.now fonts.now
-        (sink_change (F.state frames.old) (F.state frames.new)) result }
+    ensures run { IsPlayWorked (S.told shelf.old) (fetch_change (S.log shelf.old) (S.log shelf.new))
+        job script.now fonts.now (sink_change (F.state frames.old) (F.state frames.new)) result }
     ensures read { IsStatusReadCounted (status_if_put result) (S.faults shelf.old) (S.faults shelf.new) }
     ensures write { IsWriteCounted (status_if_put result) (F.state frames.old).faults (F.state frames.new).faults }
     ensures reportable { IsReportable result }

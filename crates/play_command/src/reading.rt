@@ -1,9 +1,10 @@
 //! What a play and a selftest work on.
 
 ghost use Rattle.std.specs.Prelude.{◌≡◌, IfOk};
+ghost use Rattle.ass_io.specs.Fetches.{fetch_change};
 ghost use Rattle.ass_script.specs.Ranges.{IsScript};
 ghost use Rattle.run_status.specs.Files.{IsAnswerReadCounted};
-ghost use Rattle.play_command.specs.PlayRuns.{IsPlayRead, has_too_many, play_refusal, view_of};
+ghost use Rattle.play_command.specs.PlayRuns.{IsPlayFetched, IsPlayRead, has_too_many, play_refusal, view_of};
 ghost use Rattle.play_command.specs.SelftestRuns.{IsScriptIn, IsSelftestRead, selftest_fonts};
 ghost use Rattle.play_command.specs.Working.{AreSelftestInputs, IsWithFont, script_alone};
 ghost use Rattle.play_model.specs.Plays.{IsPlayable};
@@ -49,7 +50,7 @@ fn play_refusal(job: &PlayJob, fonts: &[Text]) -> Option<Status>
     }
 }
 
-/// Reads the files of a play.
+/// Reads the files of a play. None is fetched where the play is refused for its images.
 pub fn play_inputs<S: Shelf>(
     alloc: Global,
     shelf: &mut S,
@@ -59,6 +60,7 @@ pub fn play_inputs<S: Shelf>(
 ) -> Result<Inputs, Status>
     requires { IsPlay job.now }
     ensures read { IsPlayRead (S.told shelf.old) job.now script.now fonts.now result }
+    ensures fetched { IsPlayFetched job.now script.now fonts.now (fetch_change (S.log shelf.old) (S.log shelf.new)) result }
     ensures counted { IsAnswerReadCounted result (S.faults shelf.old) (S.faults shelf.new) }
     ensures playable { IfOk result (λ inputs. IsPlayable (view_of job.now inputs)) }
 {

@@ -1,6 +1,7 @@
 //! The call that the program makes.
 
 ghost use Rattle.std.specs.Prelude.{◌≡◌, ◌≢◌, ◌⊎◌, [], ℕ, List, None, Ok, Some};
+ghost use Rattle.ass_io.specs.Fetches.{fetch_change};
 ghost use Rattle.ass_num.specs.Causes.{Rose};
 ghost use Rattle.single_run.specs.Outcomes.{ArePiecesFinished, IsOrMemory, IsReportable, IsReported};
 ghost use Rattle.single_run.specs.Outcomes.{IsStatusReadCounted, IsWriteCounted, out_of_memory, status_if_put};
@@ -36,7 +37,8 @@ fn do_job<S: Shelf, F: Sink, H: TestHook + Sync>(
 ) -> Outcome
     requires within { IsJob job }
     requires shared { IsShared job }
-    ensures worked { IsJobWorked (S.told shelf.old) job (sink_change (F.state frames.old) (F.state frames.new)) result }
+    ensures worked { IsJobWorked (S.told shelf.old) (fetch_change (S.log shelf.old) (S.log shelf.new)) job
+        (sink_change (F.state frames.old) (F.state frames.new)) result }
     ensures selftest_shelf { (seed events workers : ℕ) → job ≡ a_selftest seed events workers → shelf.new ≡ shelf.old }
     ensures selftest_frames { (seed events workers : ℕ) → job ≡ a_selftest seed events workers → frames.new ≡ frames.old }
     ensures read { IsStatusReadCounted (status_if_put result) (S.faults shelf.old) (S.faults shelf.new) }
@@ -70,7 +72,8 @@ fn do_shared<S: Shelf, F: Sink, H: TestHook + Sync>(
 ) -> Outcome
     requires { work_asked (texts words.now) ≡ Ok None }
     ensures worked { (job : Job) → job_of (texts words.now) ≡ Ok job
-        → IsJobWorked (S.told shelf.old) job (sink_change (F.state frames.old) (F.state frames.new)) result }
+        → IsJobWorked (S.told shelf.old) (fetch_change (S.log shelf.old) (S.log shelf.new)) job
+        (sink_change (F.state frames.old) (F.state frames.new)) result }
     ensures selftest_shelf { (seed events workers : ℕ) → job_of (texts words.now) ≡ Ok (a_selftest seed events workers) → shelf.new ≡ shelf.old }
     ensures selftest_frames { (seed events workers : ℕ) → job_of (texts words.now) ≡ Ok (a_selftest seed events workers) → frames.new ≡ frames.old }
     ensures read { IsStatusReadCounted (status_if_put result) (S.faults shelf.old) (S.faults shelf.new) }
@@ -104,8 +107,9 @@ pub fn top<S: Shelf, F: Sink, R: Sink, H: TestHook + Sync>(
     ensures other_pieces { (status : Status) → work_asked (texts words.now) ≡ Err status
         → ArePiecesFinished (Outcome.Ended status) result (R.state report.old).asked (R.state report.new).asked }
 
-    // The files are read in order, and what they hold asks for the answer, for what both sinks get, and for the pieces that they are asked to put.
-    ensures run { (work : Work) → work_asked (texts words.now) ≡ Ok (Some work) → IsJobRun (S.told shelf.old) work
+    // The files are fetched in order, each once, and what that gives asks for the answer, for what both sinks get, and for the pieces that they are asked to put.
+    ensures run { (work : Work) → work_asked (texts words.now) ≡ Ok (Some work) → IsJobRun (S.told shelf.old)
+        (fetch_change (S.log shelf.old) (S.log shelf.new)) work
         (sink_change (F.state frames.old) (F.state frames.new))
         (sink_change (R.state report.old) (R.state report.new)) result }
 
@@ -116,9 +120,9 @@ pub fn top<S: Shelf, F: Sink, R: Sink, H: TestHook + Sync>(
         → (Rose (R.state report.old).faults (R.state report.new).faults → ⊥)
         → Decides (S.told shelf.old) work result }
 
-    // So it is with a play, which puts an image each.
+    // So it is with a play, which puts an image each. No file is fetched where it is refused for its images.
     ensures play { (job : PlayJob) (script : ScriptSource) (fonts : List (List ℕ)) → job_of (texts words.now) ≡ Ok (a_play job script fonts)
-        → IsPlayRun (S.told shelf.old) job script fonts
+        → IsPlayRun (S.told shelf.old) (fetch_change (S.log shelf.old) (S.log shelf.new)) job script fonts
         (sink_change (F.state frames.old) (F.state frames.new))
         (sink_change (R.state report.old) (R.state report.new)) result }
     ensures play_decided { (job : PlayJob) (script : ScriptSource) (fonts : List (List ℕ)) → job_of (texts words.now) ≡ Ok (a_play job script fonts)

@@ -18,7 +18,7 @@ use frame_rate::{FrameRate, Instants};
 use play_report::{PlayReport, digest_after, summary_text};
 use play_rounds::PlayEnd;
 use run_status::Status;
-use run_words::{Mode, PlayJob};
+use run_words::{FrameFormat, Mode, PlayJob};
 use single_run::Outcome;
 use std::alloc::Global;
 use test_hook::TestHook;
@@ -46,6 +46,7 @@ fn selftest_job(events: u32, workers: u32) -> PlayJob
         times: 1,
         ahead: 0,
         bands: 1,
+        format: FrameFormat::Ppm,
         budget: 1_048_576,
         mode: Mode::Settled,
     }

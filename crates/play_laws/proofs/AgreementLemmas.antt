@@ -9,43 +9,46 @@ use Rattle.ass_num.specs.declared.size.Size.{Size}
 use Rattle.ass_script.specs.Ranges.{IsScript}
 use Rattle.ass_script.specs.Scripts.{ScriptValue}
 use Rattle.bdf_font.specs.Fonts.{FontValue}
-use Rattle.blend.specs.Canvases.{CanvasValue}
-use Rattle.picture_laws.specs.OnePicture.{HaveOnePicture}
+use Rattle.mask_keys.specs.declared.plans.Draw.{Draw}
+use Rattle.picture_laws.specs.OnePicture.{HaveOneListOfDraws}
 use Rattle.frame_view.specs.FrameViews.{plain_frame}
-use Rattle.picture_plan.specs.Pictures.{IsPictureAt}
+use Rattle.picture_plan.specs.Pictures.{AreDraws}
 use Rattle.run_status.specs.Laws.{IsReadDecided}
 use Rattle.play_command.proofs.RunLemmas.{reading_one}
 use Rattle.play_command.specs.SelftestRuns.{IsSelftestRead, IsSelftestReport, IsSelftestText, image_count, selftest_play}
+use Rattle.play_laws.proofs.FormatLemmas.{formatted, image_formatted}
 use Rattle.play_laws.specs.Agreement.{PlayAlike}
 use Rattle.play_model.proofs.TimeLaws.{settled_image}
-use Rattle.play_model.specs.Images.{IsSettledImage}
+use Rattle.play_model.specs.Images.{IsImageIn, IsSettledImage}
 use Rattle.play_model.specs.Outputs.{IsShownPlay}
 use Rattle.play_model.specs.Plays.{IsPlayable, PlayView}
 use Rattle.play_report.specs.Digests.{digest_after}
 use Rattle.play_report.specs.Reports.{summary_text}
 use Rattle.play_shares.specs.Instants.{frame_count, instant_count, play_instant}
+use Rattle.run_words.specs.declared.job.FrameFormat.{FrameFormat}
 use Rattle.run_words.specs.declared.job.Mode.TheVariants.{Settled}
-use Rattle.ppm_text.specs.Images.{image_bytes}
 use Rattle.run_status.specs.declared.status.Status.{Status}
 use Rattle.ass_events.specs.ScriptEvents.{line_events}
 
 abbrev pub Law : Type 0
-Law = (script : ScriptValue) (fonts : List FontValue) → IsScript script → HaveOnePicture script fonts
+Law = (script : ScriptValue) (fonts : List FontValue) → IsScript script → HaveOneListOfDraws script fonts
 
--- The bytes are the image of what all events of a script show.
-abbrev pub IsAt : ScriptValue → List FontValue → Size → ℤ → ℕ → List ℕ → Type 0
-IsAt script fonts size t q bytes =
-    (canvas : CanvasValue) × IsPictureAt script fonts (line_events script) t (plain_frame size) canvas
-    × (bytes ≡ image_bytes size.w size.h canvas.bytes t (q * (length (line_events script) + 1) + length (line_events script)))
+-- The bytes are the image of what all events of a script show, in a format.
+abbrev pub IsAt : ScriptValue → List FontValue → Size → FrameFormat → ℤ → ℕ → List ℕ → Type 0
+IsAt script fonts size format t q bytes =
+    (draws : List Draw) × AreDraws script fonts (line_events script) t (plain_frame size) draws
+    × IsImageIn format fonts size draws t (q * (length (line_events script) + 1) + length (line_events script)) bytes
 
-pub one_image : Law → (script : ScriptValue) (fonts : List FontValue) (size : Size) (t : ℤ) (q : ℕ) (x y : List ℕ) → IsScript script → IsAt script fonts size t q x → IsAt script fonts size t q y → x ≡ y
-one_image law script fonts size t q x y sound a b =
-    a.2
-    ∙ ap (λ (c : CanvasValue). image_bytes size.w size.h c.bytes t (q * (length (line_events script) + 1) + length (line_events script))) (law script fonts sound (line_events script) t (plain_frame size) a.0 b.0 a.1 b.1)
-    ∙ sym b.2
+pub one_image : Law → (script : ScriptValue) (fonts : List FontValue) (size : Size) (format : FrameFormat) (t : ℤ) (q : ℕ) (x y : List ℕ) → IsScript script
+    → IsAt script fonts size format t q x → IsAt script fonts size format t q y → x ≡ y
+one_image law script fonts size format t q x y sound (a, are, is) (b, too, also) =
+    let n : ℕ = q * (length (line_events script) + 1) + length (line_events script) in
+    image_formatted fonts size a t n format x is
+    ∙ ap (λ (draws : List Draw). formatted fonts size draws t n format) (law script fonts sound (line_events script) t (plain_frame size) a b are too)
+    ∙ sym (image_formatted fonts size b t n format y also)
 
-pub at_place : (play : PlayView) (q i : ℕ) (bytes : List ℕ) → IsSettledImage play q i bytes → IsAt play.script play.fonts play.job.size (play_instant play.job i) q bytes
-at_place play q i bytes h = (h.canvas, h.is_picture, h.value)
+pub at_place : (play : PlayView) (q i : ℕ) (bytes : List ℕ) → IsSettledImage play q i bytes → IsAt play.script play.fonts play.job.size play.job.format (play_instant play.job i) q bytes
+at_place play q i bytes h = (h.draws, h.are_draws, h.value)
 
 module _ (one other : PlayView) (alike : PlayAlike one other) where
   pub same_count : instant_count one.job ≡ instant_count other.job
@@ -57,12 +60,14 @@ module _ (one other : PlayView) (alike : PlayAlike one other) where
   same_instant : (i : ℕ) → play_instant one.job i ≡ play_instant other.job i
   same_instant i = rw alike.jobs.instants refl
 
-  pub moved : (q i : ℕ) (bytes : List ℕ) → IsAt other.script other.fonts other.job.size (play_instant other.job i) q bytes → IsAt one.script one.fonts one.job.size (play_instant one.job i) q bytes
+  pub moved : (q i : ℕ) (bytes : List ℕ) → IsAt other.script other.fonts other.job.size other.job.format (play_instant other.job i) q bytes
+      → IsAt one.script one.fonts one.job.size one.job.format (play_instant one.job i) q bytes
   moved q i bytes h =
-      subst (λ (s : ScriptValue). IsAt s one.fonts one.job.size (play_instant one.job i) q bytes) (sym alike.script)
-      (subst (λ (f : List FontValue). IsAt other.script f one.job.size (play_instant one.job i) q bytes) (sym alike.fonts)
-      (subst (λ (z : Size). IsAt other.script other.fonts z (play_instant one.job i) q bytes) (sym alike.jobs.size)
-      (subst (λ (t : ℤ). IsAt other.script other.fonts other.job.size t q bytes) (sym (same_instant i)) h)))
+      subst (λ (s : ScriptValue). IsAt s one.fonts one.job.size one.job.format (play_instant one.job i) q bytes) (sym alike.script)
+      (subst (λ (f : List FontValue). IsAt other.script f one.job.size one.job.format (play_instant one.job i) q bytes) (sym alike.fonts)
+      (subst (λ (z : Size). IsAt other.script other.fonts z one.job.format (play_instant one.job i) q bytes) (sym alike.jobs.size)
+      (subst (λ (f : FrameFormat). IsAt other.script other.fonts other.job.size f (play_instant one.job i) q bytes) (sym alike.jobs.format)
+      (subst (λ (t : ℤ). IsAt other.script other.fonts other.job.size other.job.format t q bytes) (sym (same_instant i)) h))))
 
 pub positive : (t n k : ℕ) → k < t * n → 0 < n
 positive t zero k lt = absurd (omega (arith, lt))
@@ -80,7 +85,7 @@ module _ (law : Law) (one other : PlayView) (times more : List (List Entry)) (a 
       let x = subst (λ p. IsSettledImage one q i (slice_index_or shown.images p d)) split (settled_image one times a playable settled shown q i d small few) in
       let y = subst (λ p. IsSettledImage other q i (slice_index_or seen.images p d)) place
       (settled_image other more b fits too seen q i d (subst (λ c. i < c) same small) (subst (λ t. q < t) alike.jobs.times few)) in
-      one_image law one.script one.fonts one.job.size (play_instant one.job i) q _ _ playable.script (at_place one q i _ x) (moved one other alike q i _ (at_place other q i _ y))
+      one_image law one.script one.fonts one.job.size one.job.format (play_instant one.job i) q _ _ playable.script (at_place one q i _ x) (moved one other alike q i _ (at_place other q i _ y))
 
   image_of : (k : ℕ) (d : List ℕ) → k < frame_count one.job → slice_index_or shown.images k d ≡ slice_index_or seen.images k d
   image_of k d lt =
@@ -100,7 +105,7 @@ module _ (law : Law) (script : ScriptValue) (seed events : ℕ) (a b : List ℕ)
 
   piece_of : (i : ℕ) (d : List ℕ) → i < image_count → slice_index_or one.pieces i d ≡ slice_index_or other.pieces i d
   piece_of i d lt =
-      one_image law script play.fonts play.job.size (play_instant play.job i) 0 _ _ one.sound (at_place play 0 i _ (one.each i d lt)) (at_place play 0 i _ (other.each i d lt))
+      one_image law script play.fonts play.job.size play.job.format (play_instant play.job i) 0 _ _ one.sound (at_place play 0 i _ (one.each i d lt)) (at_place play 0 i _ (other.each i d lt))
 
   all_pieces : one.pieces ≡ other.pieces
   all_pieces = same_lists one.pieces other.pieces (one.many ∙ sym other.many) (λ k d lt. piece_of k d (subst (λ n. k < n) one.many lt))

@@ -3,6 +3,7 @@ use Rattle.std.proofs.Common.{◌≡◌, ◌∙◌, ◌⊎◌, inl, inr, sym, ap
 use Rattle.std.specs.Io.KnownBytes.{Appends}
 use Rattle.ass_events.specs.Histories.{Entry}
 use Rattle.ass_io.specs.Fetched.{Told}
+use Rattle.ass_io.specs.Fetches.{FetchChange}
 use Rattle.single_run.specs.Runs.{SinkChange}
 use Rattle.run_status.specs.Laws.{AreTold, FilesDecide}
 use Rattle.run_status.specs.declared.inputs.Inputs.{Inputs}
@@ -67,8 +68,8 @@ module _ (told : List ℕ → Told) (script : ScriptSource) (fonts : List (List 
         let found = early_agrees law (view_of one inputs) (view_of other y.inputs) asked.0 y.playable both settled too early.0 (y.put).0 ((y.put).2).whole.times early.1 ((y.put).2).whole.shown in
         (early.0, found.0, early.2, subst (λ (bytes : List ℕ). Appends more.before.held more.now.held bytes) found.1 (y.put).3)
 
-  pub early_runs_agree : (one other : PlayJob) (frames report more said : SinkChange) (answer : Status) → JobsAlike one other → one.mode ≡ Settled → other.mode ≡ Settled
-      → IsPlayRun told one script fonts frames report answer → IsPlayRun told other script fonts more said status.Done
+  pub early_runs_agree : (one_log other_log : FetchChange) (one other : PlayJob) (frames report more said : SinkChange) (answer : Status) → JobsAlike one other → one.mode ≡ Settled → other.mode ≡ Settled
+      → IsPlayRun told one_log one script fonts frames report answer → IsPlayRun told other_log other script fonts more said status.Done
       → (front rest : List ℕ) × Appends frames.before.held frames.now.held front × Appends more.before.held more.now.held (front ++ rest)
-  early_runs_agree one other frames report more said answer alike settled too first second =
+  early_runs_agree one_log other_log one other frames report more said answer alike settled too first second =
       early_run one other frames report more said answer alike settled too (done_run told script fonts other second.reading more said second.read second.asked) first.reading first.read first.asked

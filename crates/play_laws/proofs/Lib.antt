@@ -1,8 +1,10 @@
+pub mod FormatLemmas
 pub mod AgreementLemmas
 pub mod CountLemmas
 pub mod EarlyRuns
 pub mod FrontLemmas
 pub mod MoreImages
+pub mod PlayPictures
 pub mod RunLemmas
 pub mod SettledFronts
 pub mod SelftestEnds

@@ -8,6 +8,7 @@ use Rattle.std.proofs.lemmas.Nat.{div-add-mod', div-mul-add, mul-le}
 use mathlib.Core.Logic.{dite}
 use native.Mathlib.Decide.{dec_le}
 use Rattle.ass_events.specs.Histories.{Entry, Flush}
+use Rattle.play_laws.proofs.FormatLemmas.{formatted, formatted_image}
 use Rattle.play_laws.specs.Fronts.{HavePictures, IsFrontOfTimes}
 use Rattle.play_model.specs.Images.{IsCountAt, IsImageAt, entries_before}
 use Rattle.play_model.specs.Outputs.{AreImages, IsShownPlay}
@@ -20,7 +21,6 @@ use Rattle.play_model.proofs.Shares.{before_next}
 use Rattle.play_shares.specs.Instants.{frame_count, instant_count, play_instant}
 use Rattle.run_words.specs.declared.job.Mode.{Mode}
 use Rattle.run_words.specs.declared.job.Mode.TheVariants.{Live, Settled}
-use Rattle.ppm_text.specs.Images.{image_bytes}
 
 module _ (play : PlayView) where
   good_grows : (round : ℕ) → good_before play round ≤ good_before play (round + 1)
@@ -61,12 +61,16 @@ module _ (play : PlayView) where
     image_at q i lt =
         let found = entries_at q i lt play.job.mode in
         let picture = pictures times found.0 (play_instant play.job i) each in (
-          image_bytes play.job.size.w play.job.size.h (picture.0).bytes (play_instant play.job i) (length (take found.0 history)),
+          formatted play.fonts play.job.size picture.1.draws (play_instant play.job i) (length (take found.0 history)) play.job.format,
           record {
             n = found.0;
             within = found.1;
             count = found.2;
-            image = record { canvas = picture.0; is_picture = picture.1; value = refl };
+            image = record {
+              draws = picture.1.draws;
+              are_draws = picture.1.are_draws;
+              value = formatted_image play.fonts play.job.size picture.1.draws (play_instant play.job i) (length (take found.0 history)) play.job.format;
+            };
           },
         )
 

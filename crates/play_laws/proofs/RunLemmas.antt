@@ -2,6 +2,7 @@
 use Rattle.std.proofs.Common.{◌≡◌, ◌∙◌, inl, inr, refl, sym, ap, subst, arith, ℕ, ◌<◌, ◌≤◌, Bool, true, false, ◌&&◌, cond, le-ltb, nat_le, List, [], ◌∷◌, length, Option, Some, None, Result, Ok, Err}
 use Rattle.std.specs.Io.KnownBytes.{Appends}
 use Rattle.ass_io.specs.Fetched.{Told}
+use Rattle.ass_io.specs.Fetches.{FetchChange}
 use Rattle.bdf_font.specs.Limits.{max_fonts}
 use Rattle.single_run.specs.Outcomes.{IsOrMemory}
 use Rattle.single_run.specs.Runs.{SinkChange}
@@ -109,9 +110,9 @@ module _ (told : List ℕ → Told) (script : ScriptSource) (fonts : List (List 
       both_got : (bytes : List ℕ) × Appends frames.before.held frames.now.held bytes × Appends more.before.held more.now.held bytes
       both_got = ((x.put).0, (x.put).3, subst (λ (bytes : List ℕ). Appends more.before.held more.now.held bytes) (sym same_bytes) (y.put).3)
 
-    pub runs_agree : (one other : PlayJob) (frames report more said : SinkChange) → JobsAlike one other → one.mode ≡ Settled → other.mode ≡ Settled
-        → IsPlayRun told one script fonts frames report Done → IsPlayRun told other script fonts more said Done
+    pub runs_agree : (one_log other_log : FetchChange) (one other : PlayJob) (frames report more said : SinkChange) → JobsAlike one other → one.mode ≡ Settled → other.mode ≡ Settled
+        → IsPlayRun told one_log one script fonts frames report Done → IsPlayRun told other_log other script fonts more said Done
         → (bytes : List ℕ) × Appends frames.before.held frames.now.held bytes × Appends more.before.held more.now.held bytes
-    runs_agree one other frames report more said alike settled too first second =
+    runs_agree one_log other_log one other frames report more said alike settled too first second =
         both_got one other frames report more said alike settled too
         (done_run one first.reading frames report first.read first.asked) (done_run other second.reading more said second.read second.asked)

@@ -65,7 +65,7 @@ module _ (law : ReadScriptsAreReadLater) (told : List ℕ → Told) (name : Scri
   put_after (Err refusal) bytes read (inr (is, fault)) asked put = absurd cc
 
 pub written_runs : ReadScriptsAreReadLater → WrittenRunsShowTheSame
-written_runs law told work write frames report is run =
+written_runs law told log work write frames report is run =
     let asked : IsFramesAsked (Write write) run.reading run.shown.0 = subst (λ (task : Task). IsFramesAsked task run.reading run.shown.0) is run.shown.1 in
     let answered : IsOrFault (sink_of (Write write)) (status_asked (Write write) run.reading) Done =
     subst (λ (task : Task). IsOrFault (sink_of task) (status_asked task run.reading) Done) is run.answered in

@@ -3,6 +3,7 @@ use Rattle.std.specs.Prelude.{◌≡◌, ℕ, List, ◌++◌, Result}
 use Rattle.std.specs.Io.KnownBytes.{Appends}
 use Rattle.ass_events.specs.Histories.{Entry}
 use Rattle.ass_io.specs.Fetched.{Told}
+use Rattle.ass_io.specs.Fetches.{FetchChange}
 use Rattle.ass_script.specs.Scripts.{ScriptValue}
 use Rattle.single_run.specs.Runs.{SinkChange}
 use Rattle.run_status.specs.Laws.{AreTold, IsReadDecided}
@@ -16,11 +17,12 @@ use Rattle.run_status.specs.declared.status.Status.{Status}
 use Rattle.run_status.specs.declared.status.Status.TheVariants.{Done}
 use Rattle.run_words.specs.declared.job.ScriptSource.{ScriptSource}
 
--- The jobs are of the same instants, as often and of the same size. All else may differ.
+-- The jobs are of the same instants, as often, of the same size and in the same format. All else may differ.
 pub record JobsAlike (one other : PlayJob) : Type 0 where
   pub instants : one.instants ≡ other.instants
   pub times : one.times ≡ other.times
   pub size : one.size ≡ other.size
+  pub format : one.format ≡ other.format
 
 -- The plays are of the same script and fonts, by such jobs.
 pub record PlayAlike (one other : PlayView) : Type 0 where
@@ -36,17 +38,17 @@ SettledPlaysAgree =
 -- Two settled runs over the same files, of which it is told what they hold, by such jobs: where both are done, both sinks got the same bytes.
 abbrev pub SettledRunsAgree : Type 0
 SettledRunsAgree =
-    (told : List ℕ → Told) (script : ScriptSource) (fonts : List (List ℕ)) (one other : PlayJob) (frames report more said : SinkChange)
+    (told : List ℕ → Told) (one_log other_log : FetchChange) (script : ScriptSource) (fonts : List (List ℕ)) (one other : PlayJob) (frames report more said : SinkChange)
     → AreTold told script fonts → JobsAlike one other → one.mode ≡ Settled → other.mode ≡ Settled
-    → IsPlayRun told one script fonts frames report Done → IsPlayRun told other script fonts more said Done
+    → IsPlayRun told one_log one script fonts frames report Done → IsPlayRun told other_log other script fonts more said Done
     → (bytes : List ℕ) × Appends frames.before.held frames.now.held bytes × Appends more.before.held more.now.held bytes
 
 -- What a settled run over such files has put before it ended in any way is a prefix of what each one puts that is done.
 abbrev pub EarlyRunsAgree : Type 0
 EarlyRunsAgree =
-    (told : List ℕ → Told) (script : ScriptSource) (fonts : List (List ℕ)) (one other : PlayJob) (frames report more said : SinkChange) (status : Status)
+    (told : List ℕ → Told) (one_log other_log : FetchChange) (script : ScriptSource) (fonts : List (List ℕ)) (one other : PlayJob) (frames report more said : SinkChange) (status : Status)
     → AreTold told script fonts → JobsAlike one other → one.mode ≡ Settled → other.mode ≡ Settled
-    → IsPlayRun told one script fonts frames report status → IsPlayRun told other script fonts more said Done
+    → IsPlayRun told one_log one script fonts frames report status → IsPlayRun told other_log other script fonts more said Done
     → (front rest : List ℕ) × Appends frames.before.held frames.now.held front × Appends more.before.held more.now.held (front ++ rest)
 
 -- A seed and a number of events have one report, of all readings of the generated script for which memory sufficed.

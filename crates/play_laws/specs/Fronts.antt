@@ -32,10 +32,14 @@ HavePictures play =
     (times : List (List Entry)) (n : ℕ) (t : ℤ) → All (IsTimeOf play) times
     → (canvas : CanvasValue) × IsPictureAt play.script play.fonts (live (take n (history_of_times times))) t (plain_frame play.job.size) canvas
 
--- So where there are pictures, what was written is a prefix of the bytes of a whole play.
+-- So it has in each play.
+abbrev pub PlaysHavePictures : Type 0
+PlaysHavePictures = (play : PlayView) → IsPlayable play → HavePictures play
+
+-- So what was written is a prefix of the bytes of a whole play.
 abbrev pub FrontsAreOfPlays : Type 0
 FrontsAreOfPlays =
-    (play : PlayView) (bytes : List ℕ) → HavePictures play → IsFrontOfPlay play bytes
+    (play : PlayView) (bytes : List ℕ) → IsPlayable play → IsFrontOfPlay play bytes
     → (times : List (List Entry)) × (more : List ℕ) × IsShownPlay play times (bytes ++ more)
 
 -- What a settled play has written before it ended is a prefix of what each whole one puts that is alike.

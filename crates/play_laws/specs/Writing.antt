@@ -2,6 +2,7 @@
 use Rattle.std.specs.Prelude.{◌≡◌, List, ℕ, Ok, ◌-ℤ◌}
 use Rattle.std.specs.Io.KnownBytes.{Appends}
 use Rattle.ass_io.specs.Fetched.{Told}
+use Rattle.ass_io.specs.Fetches.{FetchChange}
 use Rattle.single_run.specs.Runs.{IsJobRun, SinkChange}
 use Rattle.single_run.specs.declared.work.Task.TheVariants.{Write}
 use Rattle.single_run.specs.declared.work.Work.{Work}
@@ -23,5 +24,5 @@ pub record IsWrittenLater (told : List ℕ → Told) (script : ScriptSource) (wr
 -- So does each run of such a command that is done.
 abbrev pub WrittenRunsShowTheSame : Type 0
 WrittenRunsShowTheSame =
-    (told : List ℕ → Told) (work : Work) (write : WriteTask) (frames report : SinkChange)
-    → work.task ≡ Write write → IsJobRun told work frames report Done → IsWrittenLater told work.script write frames
+    (told : List ℕ → Told) (log : FetchChange) (work : Work) (write : WriteTask) (frames report : SinkChange)
+    → work.task ≡ Write write → IsJobRun told log work frames report Done → IsWrittenLater told work.script write frames

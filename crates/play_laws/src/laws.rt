@@ -3,16 +3,18 @@
 ghost use Rattle.play_laws.specs.Agreement.{EarlyRunsAgree, SelftestsAgree, SettledPlaysAgree, SettledRunsAgree};
 ghost use Rattle.play_laws.specs.Completeness.{PlaysAreDone};
 ghost use Rattle.play_laws.specs.Counts.{FedLinesAreCounted, RepeatsAreCounted};
-ghost use Rattle.play_laws.specs.Fronts.{FrontsAreOfPlays, FrontsGoOn, SettledFrontsAgree};
+ghost use Rattle.play_laws.specs.Fronts.{FrontsAreOfPlays, FrontsGoOn, PlaysHavePictures, SettledFrontsAgree};
 ghost use Rattle.play_laws.specs.Selftests.{SelftestsAcceptAll, SelftestsAreDone};
 ghost use Rattle.play_laws.specs.Writing.{WrittenRunsShowTheSame};
 
+use picture_exists::a_picture_exists;
 use picture_laws::{one_picture, rewritten_scripts_show_the_same};
 use run_status::files_decide;
 use script_laws::generated_scripts_are_read;
 
-/// Two settled plays of the same script and fonts, at the same instants, as often and of the same size, put the same bytes: no number
-/// of feeders, renderers, lines of a batch, lines offered again, instants warmed ahead, bands or bytes of a budget changes one.
+/// Two settled plays of the same script and fonts, at the same instants, as often, of the same size and in the same format, put the
+/// same bytes: no number of feeders, renderers, lines of a batch, lines offered again, instants warmed ahead, bands or bytes of a
+/// budget changes one.
 pub fn settled_plays_agree()
     ensures { SettledPlaysAgree }
 {
@@ -50,15 +52,18 @@ pub fn plays_are_done()
     ensures { PlaysAreDone }
 {}
 
-/// What a play that ended early has written is a prefix of the images of as many whole times as it was to be played. Where there
-/// are pictures, it is a prefix of what a whole play puts.
+/// What a play that ended early has written is a prefix of the images of as many whole times as it was to be played. Each of them
+/// has a picture at each instant, so it is a prefix of what a whole play puts.
 pub fn fronts_go_on()
     ensures times { FrontsGoOn }
+    ensures pictures { PlaysHavePictures }
     ensures plays { FrontsAreOfPlays }
-{}
+{
+    a_picture_exists();
+}
 
 /// What a settled play that ended early has written is a prefix of what a whole one puts that is of the same script and fonts, at the
-/// same instants, as often and of the same size.
+/// same instants, as often, of the same size and in the same format.
 pub fn settled_fronts_agree()
     ensures { SettledFrontsAgree }
 {

@@ -9,3 +9,4 @@ pub mod ChunkLengths
 pub mod Shares
 pub mod Rounds
 pub mod MoreTimes
+mod Pixmaps

@@ -6,13 +6,12 @@ use Rattle.std.proofs.lemmas.List.Elements.{All-head, All-tail}
 use Rattle.std.proofs.lemmas.Nat.{mul-le}
 use Rattle.ass_events.specs.Histories.{Entry, Flush, live}
 use Rattle.frame_view.specs.FrameViews.{plain_frame}
-use Rattle.picture_plan.proofs.DrawLaws.{pictures_of_a_set}
+use Rattle.picture_plan.proofs.DrawLaws.{draws_of_a_set}
 use Rattle.play_shares.specs.Instants.{instant_count, play_instant}
 use Rattle.run_words.specs.declared.job.Mode.{Mode}
 use Rattle.run_words.specs.declared.job.Mode.TheVariants.{Settled}
-use Rattle.ppm_text.specs.Images.{image_bytes}
 use Rattle.ass_events.specs.ScriptEvents.{line_events}
-use Rattle.play_model.specs.Images.{IsCountAt, IsImageAt, IsImageOf, IsSettledImage}
+use Rattle.play_model.specs.Images.{IsCountAt, IsImageAt, IsImageIn, IsImageOf, IsSettledImage}
 use Rattle.play_model.specs.Outputs.{IsShownPlay}
 use Rattle.play_model.specs.Plays.{IsPlayable, IsTimeOf, PlayView, good_count, history_of_times}
 use Rattle.play_model.proofs.Counts.{good_is, time_long}
@@ -100,8 +99,8 @@ module _ (play : PlayView) (times : List (List Entry)) (bytes : List ℕ) (playa
 
     pub settled_image : IsSettledImage play q i piece
     settled_image = record {
-      canvas = own_image.canvas;
-      is_picture = pictures_of_a_set play.script play.fonts (live (here.old ++ here.time)) (line_events play.script) (play_instant play.job i) (plain_frame play.job.size) own_image.canvas
-          (whole_time play here.old here.time some here.dead here.holds) own_image.is_picture;
-      value = own_image.value ∙ ap (image_bytes play.job.size.w play.job.size.h own_image.canvas.bytes (play_instant play.job i)) entries;
+      draws = own_image.draws;
+      are_draws = draws_of_a_set play.script play.fonts (live (here.old ++ here.time)) (line_events play.script) (play_instant play.job i) (plain_frame play.job.size) own_image.draws
+          (whole_time play here.old here.time some here.dead here.holds) own_image.are_draws;
+      value = subst (λ (n : ℕ). IsImageIn play.job.format play.fonts play.job.size own_image.draws (play_instant play.job i) n piece) entries own_image.value;
     }

@@ -1,24 +1,42 @@
 -- Public: the images of a play.
-use Rattle.std.specs.Prelude.{◌≡◌, ℕ, ◌+◌, ◌*◌, ◌/◌, ◌≤◌, ℤ, List, length, map, sum_by, take}
+use Rattle.std.specs.Prelude.{◌≡◌, ℕ, ◌+◌, ◌*◌, ◌/◌, ◌≤◌, ◌↔◌, ℤ, List, length, map, sum_by, take}
+use Rattle.alpha_canvas.specs.Alpha.{AreAlphaRows}
+use Rattle.alpha_canvas.specs.declared.pixel.AlphaForm.TheVariants.{Straight}
+use Rattle.ass_num.specs.declared.size.Size.{Size}
+use Rattle.bdf_font.specs.Fonts.{FontValue}
 use Rattle.ass_events.specs.Histories.{Entry, live}
 use Rattle.blend.specs.Canvases.{CanvasValue}
 use Rattle.mask_keys.specs.declared.plans.Clip.{Clip}
 use Rattle.mask_keys.specs.declared.plans.Clip.TheVariants.{Free, Rect, Drawn}
 use Rattle.mask_keys.specs.declared.plans.Draw.{Draw}
+use Rattle.mask_keys.specs.Pictures.{image_of_draw, picture}
 use Rattle.frame_view.specs.FrameViews.{plain_frame}
-use Rattle.picture_plan.specs.Pictures.{IsPictureAt}
+use Rattle.pam_text.specs.Pams.{pam_bytes}
+use Rattle.picture_plan.specs.Pictures.{AreDraws, IsPictureAt}
 use Rattle.play_shares.specs.Instants.{play_instant}
+use Rattle.run_words.specs.declared.job.FrameFormat.{FrameFormat}
+use Rattle.run_words.specs.declared.job.FrameFormat.TheVariants.{Ppm, Pam, Rgba}
 use Rattle.run_words.specs.declared.job.Mode.{Mode}
 use Rattle.run_words.specs.declared.job.Mode.TheVariants.{Live, Settled}
 use Rattle.ppm_text.specs.Images.{image_bytes}
 use Rattle.ass_events.specs.ScriptEvents.{line_events}
 use Rattle.play_model.specs.Plays.{PlayView, good_before, good_count}
 
--- The bytes are the image of what a history shows at t; its comment counts the history's entries.
+-- The bytes are the pixels of draws with straight alpha, painted over nothing.
+abbrev pub AreAlphaPixels : List FontValue → Size → List Draw → List ℕ → Type 0
+AreAlphaPixels fonts size draws bytes = AreAlphaRows Straight (map (image_of_draw fonts) draws) size.w 0 size.h bytes
+
+-- The bytes are the image of draws in a format: on black, with alpha behind a head, or the pixels with alpha alone. What stands before the pixels tells the instant t and a number n of entries.
+abbrev pub IsImageIn : FrameFormat → List FontValue → Size → List Draw → ℤ → ℕ → List ℕ → Type 0
+IsImageIn Ppm fonts size draws t n bytes = bytes ≡ image_bytes size.w size.h (picture fonts size draws).bytes t n
+IsImageIn Pam fonts size draws t n bytes = (pixels : List ℕ) × AreAlphaPixels fonts size draws pixels × (bytes ≡ pam_bytes size.w size.h pixels t n)
+IsImageIn Rgba fonts size draws t n bytes = AreAlphaPixels fonts size draws bytes
+
+-- The bytes are the image of what a history shows at t, in the format of the play; its comment, if it has one, counts the history's entries.
 pub record IsImageOf (play : PlayView) (history : List Entry) (t : ℤ) (bytes : List ℕ) : Type 0 where
-  pub canvas : CanvasValue
-  pub is_picture : IsPictureAt play.script play.fonts (live history) t (plain_frame play.job.size) canvas
-  pub value : bytes ≡ image_bytes play.job.size.w play.job.size.h canvas.bytes t (length history)
+  pub draws : List Draw
+  pub are_draws : AreDraws play.script play.fonts (live history) t (plain_frame play.job.size) draws
+  pub value : IsImageIn play.job.format play.fonts play.job.size draws t (length history) bytes
 
 -- how many entries stand before those of time q
 abbrev pub entries_before : PlayView → ℕ → ℕ
@@ -51,7 +69,7 @@ masks_needed draws = sum_by (λ draw. 1 + clip_masks draw.clip) draws
 
 -- those that the picture of an image needs
 abbrev pub needed_by : {play : PlayView} {history : List Entry} {t : ℤ} {bytes : List ℕ} → IsImageOf play history t bytes → ℕ
-needed_by image = masks_needed image.is_picture.draws
+needed_by image = masks_needed image.draws
 
 -- an image that was shown: its bytes, and how many composed masks its picture needs
 pub record ShownImage : Type 0 where
@@ -74,6 +92,16 @@ all_masks images = sum_by (λ image. image.masks) images
 
 -- The bytes are the image of what all events of the script show at the instant of place i, with the comment of time q. There is one picture of these events.
 pub record IsSettledImage (play : PlayView) (q i : ℕ) (bytes : List ℕ) : Type 0 where
-  pub canvas : CanvasValue
-  pub is_picture : IsPictureAt play.script play.fonts (line_events play.script) (play_instant play.job i) (plain_frame play.job.size) canvas
-  pub value : bytes ≡ image_bytes play.job.size.w play.job.size.h canvas.bytes (play_instant play.job i) (q * (length (line_events play.script) + 1) + length (line_events play.script))
+  pub draws : List Draw
+  pub are_draws : AreDraws play.script play.fonts (line_events play.script) (play_instant play.job i) (plain_frame play.job.size) draws
+  pub value : IsImageIn play.job.format play.fonts play.job.size draws (play_instant play.job i) (q * (length (line_events play.script) + 1) + length (line_events play.script)) bytes
+
+-- ---- pixmaps
+
+-- An image of a play whose format is a pixmap is that of the picture of what is live: the canvas on black.
+abbrev pub PixmapsArePictures : Type 0
+PixmapsArePictures =
+    (play : PlayView) (history : List Entry) (t : ℤ) (bytes : List ℕ) → play.job.format ≡ Ppm
+    → IsImageOf play history t bytes
+    ↔ ((canvas : CanvasValue) × IsPictureAt play.script play.fonts (live history) t (plain_frame play.job.size) canvas
+    × (bytes ≡ image_bytes play.job.size.w play.job.size.h canvas.bytes t (length history)))

@@ -1,6 +1,7 @@
 //! Laws of plays. Each function does nothing: its contract is the law.
 
 ghost use Rattle.std.specs.Prelude.{[]};
+ghost use Rattle.play_model.specs.Images.{PixmapsArePictures};
 ghost use Rattle.play_model.specs.Outputs.{SettledPlaysAreFixed};
 ghost use Rattle.play_model.specs.Plays.{IsFedTo, PlayView};
 ghost use Rattle.play_model.specs.Times.{ImagesFollow, ImagesStay, RoundsBoundImages, ShownImagesAreImages, ShownImagesFollow, ShownImagesStay};
@@ -56,4 +57,9 @@ pub fn shown_images_follow()
 /// A live image is of at least as many entries as the rounds before its own fed, and of at most as many as they and its own did.
 pub fn rounds_bound_images()
     ensures { RoundsBoundImages }
+{}
+
+/// The images of a play whose format is a pixmap are those of its pictures on black.
+pub fn pixmaps_are_pictures()
+    ensures { PixmapsArePictures }
 {}

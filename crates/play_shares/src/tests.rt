@@ -10,7 +10,7 @@ use crate::{
 };
 use ass_num::Size;
 use frame_rate::{FrameRate, Instants};
-use run_words::{Mode, PlayJob};
+use run_words::{FrameFormat, Mode, PlayJob};
 use std::test::Fail;
 
 fn play(mode: Mode, ahead: u32) -> PlayJob
@@ -33,6 +33,7 @@ fn play(mode: Mode, ahead: u32) -> PlayJob
         times: 2,
         ahead,
         bands: 1,
+        format: FrameFormat::Ppm,
         budget: 0,
         mode,
     }

@@ -4,3 +4,4 @@ pub mod Offers
 pub mod Stages
 pub mod Asks
 pub mod Parts
+pub mod FrameImages

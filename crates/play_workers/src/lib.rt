@@ -3,6 +3,7 @@
 #![tactic(auto)]
 
 mod feeder;
+mod images;
 mod painter;
 mod part;
 mod stage;

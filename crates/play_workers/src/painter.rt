@@ -17,11 +17,11 @@ ghost use Rattle.play_workers.specs.Limits.{max_rounds};
 ghost use Rattle.play_workers.specs.Parts.{ArePainted};
 ghost use Rattle.play_workers.specs.Stages.{IsPlayStage, play_on};
 
+use crate::images::image_in;
 use crate::stage::PlayStage;
 use ass_num::{Items, Mem};
 use play_shares::{instant_at, share_begins, share_ends};
-use ppm_text::ppm_bytes_in;
-use renderer::{Frame, RenderPass, paint_bands};
+use renderer::{Frame, RenderPass};
 use std::alloc::Global;
 use std::sync::Wait;
 use std::thread::Threads;
@@ -52,7 +52,7 @@ fn frame_at<R: Wait, H: TestHook>(
         .try_then_frame(rt, alloc, pass, t, size, hook)
 }
 
-/// The image of a frame, in the memory of a buffer.
+/// The image of a frame in the format of the play, in the memory of a buffer.
 fn image_of<R: Threads + Sync>(
     rt: &R,
     alloc: Global,
@@ -65,14 +65,13 @@ fn image_of<R: Threads + Sync>(
     ensures { (history : List Entry) (t : ℤ) → (is : IsFrameOf stage.now.renderer.script stage.now.renderer.fonts history t stage.now.job.size frame.now)
         → IfOk result (λ image. IsImageOfDraws (play_on stage.now) history t is.draws image.items) }
 {
-    let canvas = paint_bands(rt, alloc, frame, stage.job.bands)?;
-    ppm_bytes_in(
+    image_in(
+        rt,
         alloc,
+        frame,
+        stage.job.format,
+        stage.job.bands,
         buffer,
-        &frame.size,
-        canvas.pixels(),
-        frame.t,
-        frame.n,
     )
 }
 

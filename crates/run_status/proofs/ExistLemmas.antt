@@ -41,7 +41,7 @@ use Rattle.bdf_font.specs.Limits.{max_fonts}
 use Rattle.run_status.specs.declared.inputs.Inputs.{Inputs}
 use Rattle.run_status.specs.Causes.{embedded_status, font_status, script_status, with_status}
 use Rattle.run_status.specs.Files.{Asks, AsksFonts, AsksOf, AsksScript, FontsAsked, IsAnswered, IsAskedFor, OwnFontsAsked, ScriptAsked, script_with}
-use Rattle.run_status.specs.Inputs.{AreFirstFiles, AreFontFilesRead, AreRead, IsFontFileRead, IsScriptRead, fonts_of_files}
+use Rattle.run_status.specs.Inputs.{AreFirstFiles, AreFontFilesRead, AreRead, IsFontFileRead, IsScriptRead, fonts_of_files, told_of}
 use Rattle.run_status.specs.Laws.{FilesHaveAnAnswer, IsCause, IsReadDecided}
 use Rattle.run_status.proofs.DecideLemmas.{AreNamesTold}
 use Rattle.run_status.proofs.FontLemmas.{first_more}
@@ -246,7 +246,7 @@ next_has : (told : List ℕ → Told) (names : List (List ℕ)) (n : ℕ) (fonts
     (answer : Result (List FontValue) Status) → IsReadDecided answer → IsFontFileRead told names n answer → HasFirst told names (suc n)
 next_has told names n fonts within count first (Ok read) decided h =
     let more : length (fonts ++ read ∷ []) ≡ length fonts + 1 = length-append fonts (read ∷ []) in
-    inl (fonts ++ read ∷ [], omega (arith, more, count), first_more told names fonts read first (subst (λ m. IsFontFileRead told names m (Ok read)) (sym count) h))
+    inl (fonts ++ read ∷ [], omega (arith, more, count), first_more (told_of told) names fonts read first (subst (λ m. IsFontFileRead told names m (Ok read)) (sym count) h))
 next_has told names n fonts within count first (Err why) decided h =
     inr (why, decided, (fonts, omega (arith, count, within), first, subst (λ m. IsFontFileRead told names m (Err why)) (sym count) h))
 

@@ -10,12 +10,13 @@ use Rattle.run_words.specs.declared.job.ScriptSource.{ScriptSource}
 use Rattle.run_status.specs.declared.inputs.Inputs.{Inputs}
 use Rattle.run_status.specs.declared.status.Status.{Status}
 use Rattle.run_status.specs.declared.status.Status.TheVariants as status
-use Rattle.run_status.specs.Inputs.{AreFilesRead, AreFirstFiles, AreFontFilesRead, AreFontsRead, IsFontFileRead, IsScriptRead, fonts_of_files}
+use Rattle.run_status.specs.Inputs.{AreFilesReadFrom, AreFirstFiles, AreFirstFilesFrom, AreFontFilesRead, AreFontsReadFrom, IsFontFileRead, IsFontFileReadFrom, IsScriptReadFrom}
+use Rattle.run_status.specs.Inputs.{MayHold, behind_first, fonts_of_files, told_of}
 
 -- One file more is read.
-pub first_more : (told : List ℕ → Told) (names : List (List ℕ)) (files : List (List FontValue)) (file : List FontValue) →
-    AreFirstFiles told names files → IsFontFileRead told names (length files) (Ok file) → AreFirstFiles told names (files ++ file ∷ [])
-first_more told names files file first next = λ index none within.
+pub first_more : (may : MayHold) (names : List (List ℕ)) (files : List (List FontValue)) (file : List FontValue) →
+    AreFirstFilesFrom may names files → IsFontFileReadFrom may names (length files) (Ok file) → AreFirstFilesFrom may names (files ++ file ∷ [])
+first_more may names files file first next = λ index none within.
     elim (cases_eq index (length files)) [
       | inl last ↦ rw (last, get_or-append_seam files file [] none) next
       | inr other ↦
@@ -27,7 +28,7 @@ first_more told names files file first next = λ index none within.
 pub next_first : (told now : List ℕ → Told) (names : List (List ℕ)) (files : List (List FontValue)) (index : ℕ) (file : List FontValue) → now ≡ told → length files ≡ index →
     AreFirstFiles told names files → IsFontFileRead now names index (Ok file) → AreFirstFiles told names (files ++ file ∷ [])
 next_first told now names files index file same count first next =
-    first_more told names files file first (subst (λ n. IsFontFileRead told names n (Ok file)) (sym count) (subst (λ t. IsFontFileRead t names index (Ok file)) same next))
+    first_more (told_of told) names files file first (subst (λ n. IsFontFileRead told names n (Ok file)) (sym count) (subst (λ t. IsFontFileRead t names index (Ok file)) same next))
 
 -- No file more is read.
 pub stopped : (told now : List ℕ → Told) (names : List (List ℕ)) (files : List (List FontValue)) (index : ℕ) (status : Status) → now ≡ told → length files ≡ index → index < length names →
@@ -63,15 +64,15 @@ abbrev pub no_fonts : Status → Result (List FontValue) Status
 no_fonts why = Err why
 
 -- Fonts that can't be read behind a script that is; of want of memory nothing is said.
-pub fonts_refused : (told : List ℕ → Told) (script : ScriptSource) (fonts : List (List ℕ)) (read : Inputs) (why : Status) → IsScriptRead told script (Ok read) →
-    (no_fonts why ≢ no_fonts status.OutOfMemory → AreFontsRead told fonts read.fonts (Err why)) → AreFilesRead told script fonts (Err why)
-fonts_refused told script fonts read status.OutOfMemory is h = inl tt
-fonts_refused told script fonts read status.Done is h = inr (read, is, h (λ e. cc))
-fonts_refused told script fonts read (status.BadWords fault) is h = inr (read, is, h (λ e. cc))
-fonts_refused told script fonts read (status.NoSuchFile name) is h = inr (read, is, h (λ e. cc))
-fonts_refused told script fonts read (status.ReadFault name) is h = inr (read, is, h (λ e. cc))
-fonts_refused told script fonts read (status.BadScript cause) is h = inr (read, is, h (λ e. cc))
-fonts_refused told script fonts read (status.BadFont place fault) is h = inr (read, is, h (λ e. cc))
-fonts_refused told script fonts read (status.WriteFault which) is h = inr (read, is, h (λ e. cc))
-fonts_refused told script fonts read (status.TooLarge what limit) is h = inr (read, is, h (λ e. cc))
-fonts_refused told script fonts read (status.Unwritable order field) is h = inr (read, is, h (λ e. cc))
+pub fonts_refused : (may : MayHold) (script : ScriptSource) (fonts : List (List ℕ)) (read : Inputs) (why : Status) → IsScriptReadFrom may script (Ok read) →
+    (no_fonts why ≢ no_fonts status.OutOfMemory → AreFontsReadFrom (behind_first may) fonts read.fonts (Err why)) → AreFilesReadFrom may script fonts (Err why)
+fonts_refused may script fonts read status.OutOfMemory is h = inl tt
+fonts_refused may script fonts read status.Done is h = inr (read, is, h (λ e. cc))
+fonts_refused may script fonts read (status.BadWords fault) is h = inr (read, is, h (λ e. cc))
+fonts_refused may script fonts read (status.NoSuchFile name) is h = inr (read, is, h (λ e. cc))
+fonts_refused may script fonts read (status.ReadFault name) is h = inr (read, is, h (λ e. cc))
+fonts_refused may script fonts read (status.BadScript cause) is h = inr (read, is, h (λ e. cc))
+fonts_refused may script fonts read (status.BadFont place fault) is h = inr (read, is, h (λ e. cc))
+fonts_refused may script fonts read (status.WriteFault which) is h = inr (read, is, h (λ e. cc))
+fonts_refused may script fonts read (status.TooLarge what limit) is h = inr (read, is, h (λ e. cc))
+fonts_refused may script fonts read (status.Unwritable order field) is h = inr (read, is, h (λ e. cc))

@@ -1,6 +1,6 @@
 -- A script with the fonts that it holds.
 use Rattle.std.proofs.Common.{◌≡◌, ◌≢◌, ℕ, Bool, true, false, List, [], Result, Ok, Err, refl, sym, ap, ◌∙◌, subst}
-use Rattle.ass_io.specs.Fetched.{Told}
+use Rattle.ass_io.specs.Fetched.{Held as Holding}
 use Rattle.ass_script.specs.Scripts.{IsScriptAnswer, ScriptValue, script_of}
 use Rattle.ass_script.specs.declared.refusal.ScriptRefusal.{ScriptRefusal}
 use Rattle.ass_script.specs.declared.refusal.ScriptRefusal.TheVariants as script
@@ -19,7 +19,7 @@ use Rattle.run_status.specs.declared.inputs.Inputs.{Inputs}
 use Rattle.run_status.specs.declared.status.Status.{Status}
 use Rattle.run_status.specs.declared.status.Status.TheVariants as status
 use Rattle.run_status.specs.Causes.{embedded_status, font_status, script_status, with_status}
-use Rattle.run_status.specs.Files.{AsksBytes, AsksScript, IsAnswered, IsAskedFor, OwnFontsAsked, ScriptAsked, script_with}
+use Rattle.run_status.specs.Files.{AsksBytes, AsksScript, IsAnsweredFrom, IsAskedFrom, OwnFontsAsked, ScriptAsked, script_with}
 use Rattle.run_status.proofs.AskedLemmas.{asked_of}
 
 -- ---- which statuses there are
@@ -69,15 +69,15 @@ script_kind used all why (fonts, own, e) = cases (script_of all) fonts own e
 
 -- ---- what is held asks for it
 
-module _ (used : Bool) (name : List ℕ) (told : Told) (all : List ℕ) where
+module _ (used : Bool) (name : List ℕ) (may : Holding → Type 0) (all : List ℕ) where
   -- The bytes that are held ask for the answer, unless memory ran out.
-  pub script_asked : (answer : Result Inputs Status) → IsAskedFor (AsksBytes name) told (Ok all) → (answer ≢ Err status.OutOfMemory → ScriptAsked used all answer) →
-      IsAnswered (AsksScript used name) told name answer
-  script_asked (Ok inputs) h asks = asked_of (ScriptAsked used) name told all _ h (asks (λ e. cc))
+  pub script_asked : (answer : Result Inputs Status) → IsAskedFrom (AsksBytes name) may (Ok all) → (answer ≢ Err status.OutOfMemory → ScriptAsked used all answer) →
+      IsAnsweredFrom (AsksScript used name) may name answer
+  script_asked (Ok inputs) h asks = asked_of (ScriptAsked used) name may all _ h (asks (λ e. cc))
   script_asked (Err status.OutOfMemory) h asks = tt
-  script_asked (Err (status.BadScript cause)) h asks = asked_of (ScriptAsked used) name told all _ h (asks (λ e. cc))
-  script_asked (Err (status.BadFont place fault)) h asks = asked_of (ScriptAsked used) name told all _ h (asks (λ e. cc))
-  script_asked (Err (status.TooLarge what limit)) h asks = asked_of (ScriptAsked used) name told all _ h (asks (λ e. cc))
+  script_asked (Err (status.BadScript cause)) h asks = asked_of (ScriptAsked used) name may all _ h (asks (λ e. cc))
+  script_asked (Err (status.BadFont place fault)) h asks = asked_of (ScriptAsked used) name may all _ h (asks (λ e. cc))
+  script_asked (Err (status.TooLarge what limit)) h asks = asked_of (ScriptAsked used) name may all _ h (asks (λ e. cc))
   script_asked (Err status.Done) h asks = absurd (script_kind used all status.Done (asks (λ e. cc)))
   script_asked (Err (status.BadWords fault)) h asks = absurd (script_kind used all (status.BadWords fault) (asks (λ e. cc)))
   script_asked (Err (status.NoSuchFile other)) h asks = absurd (script_kind used all (status.NoSuchFile other) (asks (λ e. cc)))

@@ -55,19 +55,30 @@ FontsAsked index bytes answer = (fonts : Result (List FontValue) FontFileRefusal
 abbrev pub AsksFonts : ℕ → List ℕ → Asks (List FontValue)
 AsksFonts index = AsksOf (FontsAsked index)
 
--- What the name holds asks for the answer. Where it is told what that is, that asks for it.
-abbrev pub IsAskedFor : {Value : Type 0} → Asks Value → Told → Result Value Status → Type 0
-IsAskedFor asks told answer = (held : Held) × IfTold told (λ known. known ≡ held) × asks held answer
+-- What a name may hold asks for the answer.
+abbrev pub IsAskedFrom : {Value : Type 0} → Asks Value → (Held → Type 0) → Result Value Status → Type 0
+IsAskedFrom asks may answer = (held : Held) × may held × asks held answer
 
--- What reading a file answers: a fault of this name, out of memory, or what the name holds asks for. Nothing is done or written, and neither words nor events are looked at.
+-- What reading a file answers: a fault of this name, out of memory, or what the name may hold asks for. Nothing is done or written, and neither words nor events are looked at.
+abbrev pub IsAnsweredFrom : {Value : Type 0} → Asks Value → (Held → Type 0) → List ℕ → Result Value Status → Type 0
+IsAnsweredFrom asks may name (Err (ReadFault other)) = other ≡ name
+IsAnsweredFrom asks may name (Err OutOfMemory) = Unit {0}
+IsAnsweredFrom asks may name (Err Done) = ⊥
+IsAnsweredFrom asks may name (Err (WriteFault _)) = ⊥
+IsAnsweredFrom asks may name (Err (BadWords _)) = ⊥
+IsAnsweredFrom asks may name (Err (Unwritable _ _)) = ⊥
+IsAnsweredFrom asks may name answer = IsAskedFrom asks may answer
+
+-- What a name may hold, by what is told of it: that where it is told, and else anything.
+abbrev pub MayBeHeld : Told → Held → Type 0
+MayBeHeld told held = IfTold told (λ known. known ≡ held)
+
+abbrev pub IsAskedFor : {Value : Type 0} → Asks Value → Told → Result Value Status → Type 0
+IsAskedFor asks told answer = IsAskedFrom asks (MayBeHeld told) answer
+
+-- The same of what is told of the name.
 abbrev pub IsAnswered : {Value : Type 0} → Asks Value → Told → List ℕ → Result Value Status → Type 0
-IsAnswered asks told name (Err (ReadFault other)) = other ≡ name
-IsAnswered asks told name (Err OutOfMemory) = Unit {0}
-IsAnswered asks told name (Err Done) = ⊥
-IsAnswered asks told name (Err (WriteFault _)) = ⊥
-IsAnswered asks told name (Err (BadWords _)) = ⊥
-IsAnswered asks told name (Err (Unwritable _ _)) = ⊥
-IsAnswered asks told name answer = IsAskedFor asks told answer
+IsAnswered asks told name answer = IsAnsweredFrom asks (MayBeHeld told) name answer
 
 -- The shelf's count rose where a file couldn't be read, and is as it was after any other answer.
 abbrev pub IsAnswerReadCounted : {Value : Type 0} → Result Value Status → ℕ → ℕ → Type 0

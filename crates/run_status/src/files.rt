@@ -2,8 +2,10 @@
 
 ghost use Rattle.std.specs.Prelude.{◌≡◌, ◌≢◌, ◌≤◌, All, IfOk, length, Err};
 ghost use Rattle.ass_num.specs.Limits.{max_file_bytes};
+ghost use Rattle.ass_io.specs.Fetches.{fetch_change};
 ghost use Rattle.ass_script.specs.Ranges.{IsScript};
 ghost use Rattle.bdf_font.specs.Ranges.{IsFont};
+ghost use Rattle.run_status.specs.Fetches.{IsFileFetched};
 ghost use Rattle.run_status.specs.Files.{AsksBytes, AsksFonts, AsksScript, IsAnswered, IsAnswerReadCounted, OwnFontsAsked, ScriptAsked};
 ghost use Rattle.run_status.specs.declared.status.Status.TheVariants.{OutOfMemory as memory_status};
 
@@ -23,6 +25,7 @@ use std::alloc::Global;
 fn fetch_file<S: Shelf>(alloc: Global, shelf: &mut S, name: &Text) -> Result<Items<u8>, Status>
     ensures kept { S.told shelf.new ≡ S.told shelf.old }
     ensures read { IsAnswered (AsksBytes name.now) (S.told shelf.old name.now) name.now result }
+    ensures fetched { IsFileFetched (AsksBytes name.now) name.now (fetch_change (S.log shelf.old) (S.log shelf.new)) result }
     ensures counted { IsAnswerReadCounted result (S.faults shelf.old) (S.faults shelf.new) }
     ensures short { IfOk result (λ bytes. length bytes ≤ max_file_bytes) }
 {
@@ -77,6 +80,8 @@ pub fn fetch_script<S: Shelf>(
 ) -> Result<Inputs, Status>
     ensures kept { S.told shelf.new ≡ S.told shelf.old }
     ensures read { IsAnswered (AsksScript source.now.own_fonts source.now.name) (S.told shelf.old source.now.name) source.now.name result }
+    ensures fetched { IsFileFetched (AsksScript source.now.own_fonts source.now.name) source.now.name
+        (fetch_change (S.log shelf.old) (S.log shelf.new)) result }
     ensures counted { IsAnswerReadCounted result (S.faults shelf.old) (S.faults shelf.new) }
     ensures script { IfOk result (λ inputs. IsScript inputs.script) }
     ensures fonts { IfOk result (λ inputs. All IsFont inputs.fonts) }
@@ -94,6 +99,7 @@ pub fn fetch_fonts<S: Shelf>(
 ) -> Result<Items<Font>, Status>
     ensures kept { S.told shelf.new ≡ S.told shelf.old }
     ensures read { IsAnswered (AsksFonts index name.now) (S.told shelf.old name.now) name.now result }
+    ensures fetched { IsFileFetched (AsksFonts index name.now) name.now (fetch_change (S.log shelf.old) (S.log shelf.new)) result }
     ensures counted { IsAnswerReadCounted result (S.faults shelf.old) (S.faults shelf.new) }
     ensures fonts { IfOk result (All IsFont) }
 {

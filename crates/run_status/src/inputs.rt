@@ -1,8 +1,10 @@
 //! What a job works on.
 
 ghost use Rattle.std.specs.Prelude.{◌≡◌, ◌≢◌, ◌<◌, ◌++◌, All, Err, IfOk, OnOk, length};
+ghost use Rattle.ass_io.specs.Fetches.{fetch_change};
 ghost use Rattle.ass_script.specs.Ranges.{IsScript};
 ghost use Rattle.bdf_font.specs.Ranges.{IsFont};
+ghost use Rattle.run_status.specs.Fetches.{AreFetched, AreFilesFetched, AreFontsFetched, IsFontFileFetched};
 ghost use Rattle.run_status.specs.Files.{IsAnswerReadCounted};
 ghost use Rattle.run_status.specs.declared.status.Status.TheVariants.{OutOfMemory as memory_status};
 ghost use Rattle.run_status.specs.Inputs.{AreFilesRead, AreFontsRead, AreRead, IsFontFileRead};
@@ -36,6 +38,7 @@ fn fetch_fonts_at<S: Shelf>(
     requires { index < length names.now }
     ensures kept { S.told shelf.new ≡ S.told shelf.old }
     ensures read { IsFontFileRead (S.told shelf.old) names.now index result }
+    ensures fetched { IsFontFileFetched names.now index (fetch_change (S.log shelf.old) (S.log shelf.new)) result }
     ensures counted { IsAnswerReadCounted result (S.faults shelf.old) (S.faults shelf.new) }
     ensures fonts { IfOk result (All IsFont) }
 {
@@ -60,6 +63,7 @@ fn fetch_all_fonts<S: Shelf>(
     requires { All IsFont own }
     ensures kept { S.told shelf.new ≡ S.told shelf.old }
     ensures read { result ≢ Err memory_status → AreFontsRead (S.told shelf.old) names.now own result }
+    ensures fetched { AreFontsFetched names.now own (fetch_change (S.log shelf.old) (S.log shelf.new)) result }
     ensures counted { IsAnswerReadCounted result (S.faults shelf.old) (S.faults shelf.new) }
     ensures fonts { IfOk result (All IsFont) }
 {
@@ -84,6 +88,7 @@ fn fetch_files<S: Shelf>(
 ) -> Result<Inputs, Status>
     ensures kept { S.told shelf.new ≡ S.told shelf.old }
     ensures read { AreFilesRead (S.told shelf.old) script.now fonts.now result }
+    ensures fetched { AreFilesFetched script.now fonts.now (fetch_change (S.log shelf.old) (S.log shelf.new)) result }
     ensures counted { IsAnswerReadCounted result (S.faults shelf.old) (S.faults shelf.new) }
     ensures script { IfOk result (λ inputs. IsScript inputs.script) }
     ensures fonts { IfOk result (λ inputs. All IsFont inputs.fonts) }
@@ -108,6 +113,7 @@ pub fn read_inputs<S: Shelf>(
 ) -> Result<Inputs, Status>
     ensures kept { S.told shelf.new ≡ S.told shelf.old }
     ensures read { AreRead (S.told shelf.old) script.now fonts.now result }
+    ensures fetched { AreFetched script.now fonts.now (fetch_change (S.log shelf.old) (S.log shelf.new)) result }
     ensures counted { IsAnswerReadCounted result (S.faults shelf.old) (S.faults shelf.new) }
     ensures script { IfOk result (λ inputs. IsScript inputs.script) }
     ensures fonts { IfOk result (λ inputs. All IsFont inputs.fonts) }

@@ -1,4 +1,4 @@
-//! Passes of a track on several threads: two feed, and try to feed, while a third looks, and tries to look.
+//! Passes of a track on several threads: two feed while a third looks, and tries to look.
 ghost use Rattle.std.specs.Prelude.{◌≡◌, ◌+◌, ◌<◌, IsSomeAnd};
 ghost use Rattle.turn_cell.specs.Passes.{IsOf};
 
@@ -6,7 +6,7 @@ use crate::rows::are_in_turn;
 use std::sync::Wait;
 use std::test::Fail;
 use std::thread::{Threads, join_mut};
-use track_history::{Feed, LookRefusal, Track, TrackPass, TurnOut};
+use track_history::{Feed, LookRefusal, Track, TrackPass};
 
 /// A pass that is lent to a thread, the thread's number, and how many times its calls did what they should.
 struct Worker {
@@ -15,7 +15,7 @@ struct Worker {
     done: u32,
 }
 
-/// Offers an event that is shown for ten milliseconds. One with an odd ReadOrder is tried first.
+/// Offers an event that is shown for ten milliseconds.
 fn offer<R: Wait + AllocGlobal>(
     rt: &R,
     track: &Track,
@@ -33,14 +33,7 @@ fn offer<R: Wait + AllocGlobal>(
     if bytes.len() > 100 {
         return (pass, Feed::OutOfMemory);
     }
-    if order % 2 == 0 {
-        return track.feed(rt, rt.alloc(), pass, bytes, start, 10);
-    }
-    let (pass, answer) = track.try_feed(rt.alloc(), pass, bytes, start, 10);
-    match answer {
-        Ok(answer) => (pass, answer),
-        Err(TurnOut) => track.feed(rt, rt.alloc(), pass, bytes, start, 10),
-    }
+    track.feed(rt, rt.alloc(), pass, bytes, start, 10)
 }
 
 /// Feeds a thousand events, from ReadOrder `number` times a thousand on, and answers how many were accepted.

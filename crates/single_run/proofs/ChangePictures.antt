@@ -1,19 +1,11 @@
 -- How large pictures are.
-use Rattle.std.proofs.Common.{◌≡◌, ℕ, ◌*◌, List, [], ◌∷◌, fold, ap, refl, sym, ◌∙◌}
+use Rattle.std.proofs.Common.{◌≡◌, ℕ, ◌*◌, List, [], fold, ap, sym, ◌∙◌}
 use Rattle.ass_num.specs.declared.size.Size.{Size}
 use Rattle.bdf_font.specs.Fonts.{FontValue}
 use Rattle.blend.specs.Canvases.{CanvasValue, black}
 use Rattle.mask_keys.specs.declared.plans.Draw.{Draw}
 use Rattle.mask_keys.specs.Pictures.{picture, with_draw}
-
--- draws leave the size of a canvas
-pub drawn_width : (fonts : List FontValue) (canvas : CanvasValue) (draws : List Draw) → (fold (with_draw fonts) canvas draws).w ≡ canvas.w
-drawn_width fonts canvas [] = refl
-drawn_width fonts canvas (draw ∷ draws) = drawn_width fonts (with_draw fonts canvas draw) draws
-
-pub drawn_height : (fonts : List FontValue) (canvas : CanvasValue) (draws : List Draw) → (fold (with_draw fonts) canvas draws).h ≡ canvas.h
-drawn_height fonts canvas [] = refl
-drawn_height fonts canvas (draw ∷ draws) = drawn_height fonts (with_draw fonts canvas draw) draws
+use Rattle.frame_images.proofs.ImageLemmas.{drawn_height, drawn_width}
 
 -- the bytes of a picture
 pub picture_bytes : (fonts : List FontValue) (size : Size) (draws : List Draw) (canvas : CanvasValue) (count : ℕ) → canvas ≡ picture fonts size draws → count ≡ 3 * (canvas.w * canvas.h) → count ≡ 3 * (size.w * size.h)

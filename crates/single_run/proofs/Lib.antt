@@ -1,10 +1,8 @@
 pub mod Ends
 pub mod PieceLemmas
 pub mod InputLemmas
-pub mod PictureLemmas
 pub mod RewriteLemmas
 pub mod Runs
 pub mod WorkLemmas
 pub mod LineLemmas
 pub mod ChangePictures
-pub mod AlphaLemmas

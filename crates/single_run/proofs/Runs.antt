@@ -4,13 +4,16 @@ use Rattle.std.specs.Io.KnownBytes.{Appends, Keeps}
 use Rattle.std.proofs.KnownBytes.{Keeps-trans}
 use Rattle.std.proofs.lemmas.Bool.{cases_lt}
 use Rattle.ass_num.specs.Causes.{Rose}
+use Rattle.ass_io.specs.Fetches.{FetchChange, LoggedFetch, fetch_change}
 use Rattle.ass_io.specs.Fetched.{Told}
 use Rattle.ass_io.specs.Sinks.{SinkState}
 use Rattle.ass_io.specs.Written.{AppendsFront, IsPut, IsPutCounted}
 use Rattle.ass_io.specs.declared.sink.Put.{Put}
 use Rattle.ass_io.specs.declared.sink.Put.TheVariants as put
 use Rattle.run_status.specs.Files.{Asks, AsksFonts, AsksScript, IsAnswered}
+use Rattle.run_status.specs.Fetches.{AreFetched}
 use Rattle.run_status.specs.Inputs.{AreRead}
+use Rattle.run_status.proofs.FetchLemmas.{nothing_fetched}
 use Rattle.run_status.specs.Laws.{FilesDecide, IsReadDecided}
 use Rattle.run_status.specs.declared.inputs.Inputs.{Inputs}
 use Rattle.run_words.specs.declared.job.ScriptSource.{ScriptSource}
@@ -222,11 +225,12 @@ nothing_put sink (status.BadWords why) may asked h = absurd h
 nothing_put sink (status.Unwritable order field) may asked h = absurd h
 
 -- A job whose files are refused.
-pub refused_worked : (told : List ℕ → Told) (work : Work) (answer : Status) (state : SinkState) →
-    AreRead told work.script work.fonts (Err answer) → IsWorked told work (sink_change state state) (Ended answer)
-refused_worked told work answer state read = record {
+pub refused_worked : (told : List ℕ → Told) (log : FetchChange) (work : Work) (answer : Status) (state : SinkState) →
+    AreRead told work.script work.fonts (Err answer) → AreFetched work.script work.fonts log (Err answer) → IsWorked told log work (sink_change state state) (Ended answer)
+refused_worked told log work answer state read fetched = record {
   reading = Err answer;
   read = read;
+  fetched = fetched;
   answered = inl (inl refl);
   shown = shown_none answer state.held (IsFramesAsked work.task (Err answer)) refl;
   pieces = nothing_put (sink_of work.task) answer (IsFramesAsked work.task (Err answer)) state.asked (read_kind told work.script work.fonts answer read);
@@ -235,11 +239,12 @@ refused_worked told work answer state read = record {
 }
 
 -- A job for which memory ran out before its files were read.
-pub memory_worked : (told : List ℕ → Told) (work : Work) (state : SinkState) → IsWorked told work (sink_change state state) out_of_memory
-memory_worked told work state = elim (cases_lt 64 (length work.fonts)) [
+pub memory_worked : (told : List ℕ → Told) (log : List LoggedFetch) (work : Work) (state : SinkState) → IsWorked told (fetch_change log log) work (sink_change state state) out_of_memory
+memory_worked told log work state = elim (cases_lt 64 (length work.fonts)) [
   | inl many ↦ record {
     reading = Err (status.TooLarge Fonts 64);
     read = inr (many, refl);
+    fetched = inr (many, refl, refl);
     answered = inl (inr refl);
     shown = inl (keeps state.held);
     pieces = nothing_put (sink_of work.task) status.OutOfMemory (IsFramesAsked work.task (Err (status.TooLarge Fonts 64))) state.asked tt;
@@ -249,6 +254,7 @@ memory_worked told work state = elim (cases_lt 64 (length work.fonts)) [
   | inr few ↦ record {
     reading = Err status.OutOfMemory;
     read = inl (few, inl tt);
+    fetched = inl (few, nothing_fetched work.script work.fonts log);
     answered = inl (inl refl);
     shown = inl (keeps state.held);
     pieces = nothing_put (sink_of work.task) status.OutOfMemory (IsFramesAsked work.task (Err status.OutOfMemory)) state.asked tt;
@@ -324,13 +330,14 @@ found_before sink (Ended before) answer own e fault = elim (ended before answer 
 found_before sink (Found text) answer own e fault = refl
 
 -- A job and what is reported of it are a run.
-pub run_after : (told : List ℕ → Told) (work : Work) (frames report : SinkChange) (outcome : Outcome) (answer : Status) →
-    IsWorked told work frames outcome → IsEnded outcome answer →
+pub run_after : (told : List ℕ → Told) (log : FetchChange) (work : Work) (frames report : SinkChange) (outcome : Outcome) (answer : Status) →
+    IsWorked told log work frames outcome → IsEnded outcome answer →
     IsReported answer report.before.held report.now.held report.before.faults report.now.faults (λ text. text ≡ text_to_report outcome) →
-    ArePiecesFinished outcome answer report.before.asked report.now.asked → IsJobRun told work frames report answer
-run_after told work frames report outcome answer worked ended reported finished = record {
+    ArePiecesFinished outcome answer report.before.asked report.now.asked → IsJobRun told log work frames report answer
+run_after told log work frames report outcome answer worked ended reported finished = record {
   reading = worked.reading;
   read = worked.read;
+  fetched = worked.fetched;
   answered = answered_after (sink_of work.task) _ outcome answer worked.own worked.answered ended;
   shown = shown_after (sink_of work.task) (IsFramesAsked work.task worked.reading) outcome answer _ _ (nothing_shown work.task worked.reading) worked.own ended worked.shown;
   pieces_shown = pieces_after (IsFramesAsked work.task worked.reading) frames.before.asked frames.now.asked (sink_of work.task) outcome answer worked.own ended worked.pieces;
@@ -461,10 +468,10 @@ wanting sink answer (inl (inr memory)) = memory
 wanting sink answer (inr (done, fault)) = absurd cc
 
 -- Files that are told decide a run without a fault.
-pub decides : FilesDecide → (told : List ℕ → Told) (work : Work) (frames report : SinkChange) (before now : ℕ) (answer : Status) →
-    IsJobRun told work frames report answer → IsStatusReadCounted answer before now → IsWriteCounted answer frames.before.faults frames.now.faults →
+pub decides : FilesDecide → (told : List ℕ → Told) (log : FetchChange) (work : Work) (frames report : SinkChange) (before now : ℕ) (answer : Status) →
+    IsJobRun told log work frames report answer → IsStatusReadCounted answer before now → IsWriteCounted answer frames.before.faults frames.now.faults →
     (Rose before now → ⊥) → (Rose frames.before.faults frames.now.faults → ⊥) → (Rose report.before.faults report.now.faults → ⊥) → Decides told work answer
-decides law told work frames report before now answer run counted written stays shows reports = λ reading known read decided.
+decides law told log work frames report before now answer run counted written stays shows reports = λ reading known read decided.
     let sink = sink_of work.task in
     elim (fault_or_decided run.reading) [
       | inl found ↦

@@ -1,6 +1,5 @@
 pub mod Works
 pub mod Outcomes
-pub mod AlphaPictures
 pub mod Outputs
 pub mod Runs
 pub mod CheckReports

@@ -1,7 +1,9 @@
 -- Public: a whole run of a job.
 use Rattle.std.specs.Prelude.{◌≡◌, ℕ, List, Result}
 use Rattle.ass_io.specs.Fetched.{Told}
+use Rattle.ass_io.specs.Fetches.{FetchChange}
 use Rattle.ass_io.specs.Sinks.{SinkState}
+use Rattle.run_status.specs.Fetches.{AreFetched}
 use Rattle.run_status.specs.Inputs.{AreRead}
 use Rattle.run_status.specs.Laws.{AreTold, IsReadDecided}
 use Rattle.run_status.specs.declared.inputs.Inputs.{Inputs}
@@ -20,20 +22,22 @@ pub record SinkChange : Type 0 where
 abbrev pub sink_change : SinkState → SinkState → SinkChange
 sink_change before now = record { before = before; now = now }
 
--- A job before anything is reported. Its files are read with one answer, as far as it is told what they hold; that answer asks for the status, and for what may be shown and what is to be reported.
-pub record IsWorked (told : List ℕ → Told) (work : Work) (frames : SinkChange) (outcome : Outcome) : Type 0 where
+-- A job before anything is reported. Its files are read with one answer, as far as it is told what they hold, and as what they gave when they were fetched; that answer asks for the status, and for what may be shown and what is to be reported.
+pub record IsWorked (told : List ℕ → Told) (log : FetchChange) (work : Work) (frames : SinkChange) (outcome : Outcome) : Type 0 where
   pub reading : Result Inputs Status
   pub read : AreRead told work.script work.fonts reading
+  pub fetched : AreFetched work.script work.fonts log reading
   pub answered : IsOrFault (sink_of work.task) (status_asked work.task reading) (status_if_put outcome)
   pub shown : IsShown (status_if_put outcome) frames.before.held frames.now.held (IsFramesAsked work.task reading)
   pub pieces : ArePiecesShown (sink_of work.task) (status_if_put outcome) (IsFramesAsked work.task reading) frames.before.asked frames.now.asked
   pub text : status_if_put outcome ≡ Done → IsReportAsked work.task reading (text_to_report outcome)
   pub own : SuitsSink (sink_of work.task) outcome
 
--- A run of a job. Its files are read with one answer, as far as it is told what they hold; that answer asks for the status, and for what the sinks may get.
-pub record IsJobRun (told : List ℕ → Told) (work : Work) (frames report : SinkChange) (status : Status) : Type 0 where
+-- A run of a job. Its files are read with one answer, as far as it is told what they hold, and as what they gave when they were fetched; that answer asks for the status, and for what the sinks may get.
+pub record IsJobRun (told : List ℕ → Told) (log : FetchChange) (work : Work) (frames report : SinkChange) (status : Status) : Type 0 where
   pub reading : Result Inputs Status
   pub read : AreRead told work.script work.fonts reading
+  pub fetched : AreFetched work.script work.fonts log reading
   pub answered : IsOrFault (sink_of work.task) (status_asked work.task reading) status
   pub shown : IsShown status frames.before.held frames.now.held (IsFramesAsked work.task reading)
   pub pieces_shown : ArePiecesShown (sink_of work.task) status (IsFramesAsked work.task reading) frames.before.asked frames.now.asked

@@ -1,7 +1,6 @@
 //! From the words to what both sinks get, of the jobs that wait for nobody.
 #![tactic(auto)]
 
-mod alpha;
 mod change_laws;
 mod change_lines;
 mod change_report;

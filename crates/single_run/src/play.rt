@@ -1,6 +1,7 @@
 //! The call that waits for nobody.
 
 ghost use Rattle.std.specs.Prelude.{◌≡◌, ◌≢◌, ◌⊎◌, [], IfSome, IsSomeAnd, None, Ok, Some};
+ghost use Rattle.ass_io.specs.Fetches.{fetch_change};
 ghost use Rattle.ass_num.specs.Causes.{Rose};
 ghost use Rattle.single_run.specs.Outcomes.{ArePiecesFinished, IsOrMemory, IsStatusReadCounted, IsReportable, IsReported, IsWriteCounted};
 ghost use Rattle.single_run.specs.Outcomes.{out_of_memory, status_if_put};
@@ -42,8 +43,9 @@ pub fn calm<S: Shelf, F: Sink, R: Sink>(
     ensures none { result ≡ None → work_asked (texts words.now) ≡ Ok None }
     ensures untouched { result ≡ None → (shelf.new ≡ shelf.old) × (frames.new ≡ frames.old) × (report.new ≡ report.old) }
 
-    // The files are read in order, and what they hold asks for the answer, for what both sinks get, and for the pieces that they are asked to put.
-    ensures run { (work : Work) → work_asked (texts words.now) ≡ Ok (Some work) → IsSomeAnd result (IsJobRun (S.told shelf.old) work
+    // The files are fetched in order, each once, and what that gives asks for the answer, for what both sinks get, and for the pieces that they are asked to put.
+    ensures run { (work : Work) → work_asked (texts words.now) ≡ Ok (Some work) → IsSomeAnd result (IsJobRun (S.told shelf.old)
+        (fetch_change (S.log shelf.old) (S.log shelf.new)) work
         (sink_change (F.state frames.old) (F.state frames.new))
         (sink_change (R.state report.old) (R.state report.new))) }
 
@@ -78,7 +80,8 @@ fn do_words<S: Shelf, F: Sink>(
     ensures other_frames { ((work : Work) → work_asked (texts words.now) ≢ Ok (Some work)) → frames.new ≡ frames.old }
     ensures left { work_asked (texts words.now) ≡ Ok None → IfSome result (λ outcome. outcome ≡ out_of_memory) }
     ensures none { result ≡ None → work_asked (texts words.now) ≡ Ok None }
-    ensures run { (work : Work) → work_asked (texts words.now) ≡ Ok (Some work) → IsSomeAnd result (IsWorked (S.told shelf.old) work
+    ensures run { (work : Work) → work_asked (texts words.now) ≡ Ok (Some work) → IsSomeAnd result (IsWorked (S.told shelf.old)
+        (fetch_change (S.log shelf.old) (S.log shelf.new)) work
         (sink_change (F.state frames.old) (F.state frames.new))) }
     ensures read { IfSome result (λ outcome. IsStatusReadCounted (status_if_put outcome) (S.faults shelf.old) (S.faults shelf.new)) }
     ensures write { IfSome result (λ outcome. IsWriteCounted (status_if_put outcome) (F.state frames.old).faults (F.state frames.new).faults) }

@@ -1,6 +1,7 @@
 //! A task, up to what is to be reported of it.
 
 ghost use Rattle.std.specs.Prelude.{◌≡◌, ◌≢◌, Ok, string_bytes};
+ghost use Rattle.ass_io.specs.Fetches.{fetch_change};
 ghost use Rattle.ass_script.specs.Ranges.{IsScript};
 ghost use Rattle.single_run.specs.Outcomes.{ArePiecesShown, IsOrFault, IsShown, IsStatusReadCounted, IsWriteCounted, SuitsSink, status_if_put};
 ghost use Rattle.single_run.specs.Outcomes.{text_to_report};
@@ -64,8 +65,8 @@ pub fn do_work<S: Shelf, F: Sink>(
     frames: &mut F,
 ) -> Outcome
     requires { IsWork work.now }
-    ensures run { IsWorked (S.told shelf.old) work.now (sink_change (F.state frames.old) (F.state frames.new))
-        result }
+    ensures run { IsWorked (S.told shelf.old) (fetch_change (S.log shelf.old) (S.log shelf.new)) work.now
+        (sink_change (F.state frames.old) (F.state frames.new)) result }
     ensures read { IsStatusReadCounted (status_if_put result) (S.faults shelf.old) (S.faults shelf.new) }
     ensures write { IsWriteCounted (status_if_put result) (F.state frames.old).faults (F.state frames.new).faults }
 {

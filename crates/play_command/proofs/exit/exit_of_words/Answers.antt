@@ -11,6 +11,7 @@ returns g c =
       record {
         refused = λ why asked. record {
           answered = run.other_words why asked;
+          fetched = ap (λ shelf. g.S.Shelf.log shelf) (run.other_shelf why asked);
           shown = subst (λ frames. Keeps (g.F.Sink.state c.args.frames.now).held (g.F.Sink.state frames).held) (sym (run.other_frames why asked)) (keeps (g.F.Sink.state c.args.frames.now).held);
           reported = run.other_report why asked;
           pieces_shown = ap (λ frames. (g.F.Sink.state frames).asked) (run.other_frames why asked);
@@ -19,5 +20,6 @@ returns g c =
         work = run.run;
         play = run.play;
         selftest = run.selftest;
+        selftest_fetched = λ seed events workers asked. ap (λ shelf. g.S.Shelf.log shelf) (run.selftest_shelf seed events workers asked);
       },
     )

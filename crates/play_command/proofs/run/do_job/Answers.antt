@@ -1,4 +1,5 @@
 use Rattle.std.proofs.Common.{◌∙◌, rules, subst, sym}
+use Rattle.ass_io.specs.Fetches.{fetch_change}
 use Rattle.single_run.specs.Runs.{sink_change}
 use Rattle.run_words.specs.Jobs.{IsJob, IsPlay}
 use Rattle.run_words.specs.declared.job.Job.{Job}
@@ -21,11 +22,12 @@ do_selftest-requires g c =
 pub returns-in-Play-clause-worked : goal.returns-in-Play-clause-worked
 returns-in-Play-clause-worked g c =
     let told = g.S.Shelf.told c.args.shelf.now in
+    let log = fetch_change (g.S.Shelf.log c.args.shelf.now) (g.S.Shelf.log c.play_files.new.shelf) in
     let old = c.args.frames.now in
     let new = c.play_files.new.frames in
     let change = sink_change (g.F.Sink.state old) (g.F.Sink.state new) in
-    subst (λ (job : Job). IsJobWorked told job change c.play_files.result) (sym c.in-Play.is)
-    (subst (λ fonts. IsPlayWorked told c.in-Play.play c.in-Play.script fonts change c.play_files.result) c.as_slice-fonts.ensures c.play_files.ensures.run)
+    subst (λ (job : Job). IsJobWorked told log job change c.play_files.result) (sym c.in-Play.is)
+    (subst (λ fonts. IsPlayWorked told log c.in-Play.play c.in-Play.script fonts change c.play_files.result) c.as_slice-fonts.ensures c.play_files.ensures.run)
 
 pub returns-in-Play-clause-selftest_shelf : goal.returns-in-Play-clause-selftest_shelf
 returns-in-Play-clause-selftest_shelf g c = λ seed events workers is. absurd (not_selftest _ _ _ seed events workers (sym c.in-Play.is ∙ is))
@@ -36,8 +38,9 @@ returns-in-Play-clause-selftest_frames g c = λ seed events workers is. absurd (
 pub returns-in-Selftest-clause-worked : goal.returns-in-Selftest-clause-worked
 returns-in-Selftest-clause-worked g c =
     let frames = c.args.frames.now in
+    let log = fetch_change (g.S.Shelf.log c.args.shelf.now) (g.S.Shelf.log c.args.shelf.now) in
     let change = sink_change (g.F.Sink.state frames) (g.F.Sink.state frames) in
-    subst (λ (job : Job). IsJobWorked (g.S.Shelf.told c.args.shelf.now) job change c.do_selftest.result) (sym c.in-Selftest.is) c.do_selftest.ensures
+    subst (λ (job : Job). IsJobWorked (g.S.Shelf.told c.args.shelf.now) log job change c.do_selftest.result) (sym c.in-Selftest.is) c.do_selftest.ensures
 
 pub returns-in-Selftest-clause-read : goal.returns-in-Selftest-clause-read
 returns-in-Selftest-clause-read g c = (worked_kind c.in-Selftest.seed c.in-Selftest.events c.do_selftest.result _ 0 c.do_selftest.ensures).0

@@ -1,4 +1,5 @@
 use Rattle.std.proofs.Common.{subst}
+use Rattle.ass_io.specs.Fetches.{fetch_change}
 use Rattle.single_run.specs.Runs.{sink_change}
 use Rattle.run_words.specs.Words.{job_of, texts}
 use Rattle.run_words.specs.declared.job.Job.{Job}
@@ -12,10 +13,11 @@ do_job-requires-clause-shared g c κs within = job_left (texts c.args.words.now)
 
 pub returns-in-Ok-clause-worked : goal.returns-in-Ok-clause-worked
 returns-in-Ok-clause-worked g c = λ job asked.
+    let log = fetch_change (g.S.Shelf.log c.args.shelf.now) (g.S.Shelf.log c.do_job.new.shelf) in
     let old = c.args.frames.now in
     let new = c.do_job.new.frames in
     let change = sink_change (g.F.Sink.state old) (g.F.Sink.state new) in
-    subst (λ (it : Job). IsJobWorked (g.S.Shelf.told c.args.shelf.now) it change c.do_job.result)
+    subst (λ (it : Job). IsJobWorked (g.S.Shelf.told c.args.shelf.now) log it change c.do_job.result)
     (same_job (job_of (texts c.args.words.now)) c.in-Ok.job job c.in-Ok.ensures.read asked) c.do_job.ensures.worked
 
 pub returns-in-Ok-clause-selftest_shelf : goal.returns-in-Ok-clause-selftest_shelf
@@ -27,4 +29,4 @@ returns-in-Ok-clause-selftest_frames g c = λ seed events workers asked.
     c.do_job.ensures.selftest_frames seed events workers (same_job (job_of (texts c.args.words.now)) c.in-Ok.job (Selftest seed events workers) c.in-Ok.ensures.read asked)
 
 pub returns-in-Err-clause-worked : goal.returns-in-Err-clause-worked
-returns-in-Err-clause-worked g c = λ job asked. job_wanting _ job _ (job_left (texts c.args.words.now) job asked c.requires)
+returns-in-Err-clause-worked g c = λ job asked. job_wanting _ _ job _ (job_left (texts c.args.words.now) job asked c.requires)

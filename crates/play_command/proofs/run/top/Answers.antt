@@ -25,7 +25,8 @@ returns-in-Some-clause-play g c = λ job script fonts asked.
     let left = play_left _ job script fonts asked in
     let none = left_no_work _ left in
     let frames = c.in-Some.ensures.other_frames none in
-    rw frames (play_wanting _ job script fonts _ _ c.in-Some.status (c.in-Some.ensures.left left) (c.in-Some.ensures.other_report none) (c.in-Some.ensures.left_pieces left))
+    let shelf = c.in-Some.ensures.other_shelf none in
+    rw (frames, shelf) (play_wanting _ _ job script fonts _ _ c.in-Some.status (c.in-Some.ensures.left left) (c.in-Some.ensures.other_report none) (c.in-Some.ensures.left_pieces left))
 
 pub returns-in-Some-clause-play_decided : goal.returns-in-Some-clause-play_decided
 returns-in-Some-clause-play_decided g c = λ job script fonts asked stays shows reports reading known read decided.
@@ -77,13 +78,13 @@ returns-in-None-clause-decided g c = λ work asked stays shows reports. absurd (
 pub returns-in-None-clause-play : goal.returns-in-None-clause-play
 returns-in-None-clause-play g c = λ job script fonts asked.
     let same = c.in-None.ensures.untouched refl in
-    rw (← same.0, ← same.1, ← same.2) (play_run _ job script fonts _ _ c.do_shared-outcome.result c.finish.result (c.do_shared-outcome.ensures.worked (Play job script fonts) asked) c.do_shared-outcome.ensures.reportable c.do_shared-outcome.ensures.spoken c.finish.ensures.answer c.finish.ensures.report c.finish.ensures.pieces)
+    rw (← same.0, ← same.1, ← same.2) (play_run _ _ job script fonts _ _ c.do_shared-outcome.result c.finish.result (c.do_shared-outcome.ensures.worked (Play job script fonts) asked) c.do_shared-outcome.ensures.reportable c.do_shared-outcome.ensures.spoken c.finish.ensures.answer c.finish.ensures.report c.finish.ensures.pieces)
 
 pub returns-in-None-clause-play_decided : goal.returns-in-None-clause-play_decided
 returns-in-None-clause-play_decided g c = λ job script fonts asked stays shows reports.
     let same = c.in-None.ensures.untouched refl in
-    let run = play_run _ job script fonts _ _ c.do_shared-outcome.result c.finish.result (c.do_shared-outcome.ensures.worked (Play job script fonts) asked) c.do_shared-outcome.ensures.reportable c.do_shared-outcome.ensures.spoken c.finish.ensures.answer c.finish.ensures.report c.finish.ensures.pieces in
-    rw (← same.0) (play_decides c.files_decide.ensures.one _ job script fonts _ _ _ _ c.finish.result run
+    let run = play_run _ _ job script fonts _ _ c.do_shared-outcome.result c.finish.result (c.do_shared-outcome.ensures.worked (Play job script fonts) asked) c.do_shared-outcome.ensures.reportable c.do_shared-outcome.ensures.spoken c.finish.ensures.answer c.finish.ensures.report c.finish.ensures.pieces in
+    rw (← same.0) (play_decides c.files_decide.ensures.one _ _ job script fonts _ _ _ _ c.finish.result run
     (read_after c.do_shared-outcome.result c.finish.result _ _ c.finish.ensures.answer c.do_shared-outcome.ensures.read)
     (written_after c.do_shared-outcome.result c.finish.result _ _ c.finish.ensures.answer c.do_shared-outcome.ensures.write)
     (rw same.0 stays) (rw same.1 shows) (rw same.2 reports))

@@ -2,6 +2,7 @@ use Rattle.std.proofs.Common.{◌≡◌, ◌∙◌, ◌++◌, All, Err, refl, ru
 use Rattle.std.proofs.lemmas.List.Elements.{All-append, All-nil}
 use Rattle.bdf_font.specs.Ranges.{IsFont}
 use Rattle.run_status.proofs.FontLemmas.{read_more, read_none, stopped}
+use Rattle.run_status.proofs.FetchLemmas.{fetched_more, fetched_none, fetched_stopped}
 use Rattle.run_status.proofs.inputs.fetch_all_fonts.Goals as goal
 
 pub loop-index-init : goal.loop-index-init
@@ -10,6 +11,7 @@ loop-index-init g c = record {
   faults = refl;
   found = read_none _ _ _ c.new-all.ensures.items;
   each = subst (All IsFont) (sym c.new-all.ensures.items) (All-nil IsFont);
+  fetched = fetched_none c.args.names.now (g.S.Shelf.log c.args.shelf.now) _ c.new-all.ensures.items;
 }
 
 pub returns-in_err-file-clause-read : goal.returns-in_err-file-clause-read
@@ -30,6 +32,8 @@ loop-index-preserved g c =
       faults = c.in_ok-file.ensures.counted ∙ kept.faults;
       found = read_more (g.S.Shelf.told c.args.shelf.now) (g.S.Shelf.told c.loop-index.shelf) c.args.names.now c.loop-index.index c.loop-index.all.items c.append_fonts.new.all.items file kept.told kept.found c.in_ok-file.ensures.read more;
       each = subst (All IsFont) (sym more) (All-append IsFont c.loop-index.all.items file kept.each c.in_ok-file.ensures.fonts);
+      fetched = fetched_more c.args.names.now c.loop-index.index (g.S.Shelf.log c.args.shelf.now) (g.S.Shelf.log c.loop-index.shelf) (g.S.Shelf.log c.fetch_fonts_at.new.shelf) c.loop-index-test.true
+          c.loop-index.all.items c.append_fonts.new.all.items file kept.fetched c.in_ok-file.ensures.fetched more;
     }
 
 pub returns-clause-fonts : goal.returns-clause-fonts
@@ -39,3 +43,11 @@ returns-clause-fonts g c =
     let whole = c.from_vec.ensures in
     let made : c.from_vec.result ≡ at.all.items ++ c.args.own = cc in
     subst (All IsFont) (sym made) (All-append IsFont at.all.items c.args.own at.invariant.each c.requires)
+
+pub returns-in_err-file-clause-fetched : goal.returns-in_err-file-clause-fetched
+returns-in_err-file-clause-fetched g c =
+    let why = c.in_err-file.field-0.0 in
+    let same : c.from_residual.result ≡ Err why = search rules in
+    rw same
+    (fetched_stopped c.args.names.now c.loop-index.index (g.S.Shelf.log c.args.shelf.now) (g.S.Shelf.log c.loop-index.shelf) (g.S.Shelf.log c.fetch_fonts_at.new.shelf) c.loop-index-test.true
+    c.loop-index.all.items c.args.own why c.loop-index.invariant.fetched c.in_err-file.ensures.fetched)

@@ -1,5 +1,5 @@
 use Rattle.std.proofs.Common.{inl, refl, subst, sym}
-use Rattle.single_run.specs.Outputs.{IsFormattedImage}
+use Rattle.frame_images.specs.FrameImages.{IsFormattedImage}
 use Rattle.run_status.specs.declared.status.Which.TheVariants.{Frames}
 use Rattle.single_run.proofs.PieceLemmas.{pieces_more}
 use Rattle.single_run.proofs.Runs.{shown_more, shown_nothing}

@@ -10,12 +10,12 @@ returns-in-Some-clause-other_report g c = λ none.
 
 pub returns-in-Some-clause-run : goal.returns-in-Some-clause-run
 returns-in-Some-clause-run g c = λ work asked.
-    run_after _ work _ _ c.in-Some.outcome c.finish.result (c.in-Some.ensures.run work asked) c.finish.ensures.answer c.finish.ensures.report c.finish.ensures.pieces
+    run_after _ _ work _ _ c.in-Some.outcome c.finish.result (c.in-Some.ensures.run work asked) c.finish.ensures.answer c.finish.ensures.report c.finish.ensures.pieces
 
 pub returns-in-Some-clause-decided : goal.returns-in-Some-clause-decided
 returns-in-Some-clause-decided g c = λ work asked stays shows reports.
-    let run = run_after _ work _ _ c.in-Some.outcome c.finish.result (c.in-Some.ensures.run work asked) c.finish.ensures.answer c.finish.ensures.report c.finish.ensures.pieces in
-    decides c.files_decide.ensures.one _ work _ _ _ _ c.finish.result run
+    let run = run_after _ _ work _ _ c.in-Some.outcome c.finish.result (c.in-Some.ensures.run work asked) c.finish.ensures.answer c.finish.ensures.report c.finish.ensures.pieces in
+    decides c.files_decide.ensures.one _ _ work _ _ _ _ c.finish.result run
     (read_after c.in-Some.outcome c.finish.result _ _ c.finish.ensures.answer c.in-Some.ensures.read)
     (written_after c.in-Some.outcome c.finish.result _ _ c.finish.ensures.answer c.in-Some.ensures.write)
     stays shows reports

@@ -1,6 +1,7 @@
 use Rattle.std.proofs.Common.{◌≡◌, ◌∙◌, inl, inr, Err, Ok, Option, Result, Some, subst, sym}
 use Rattle.run_status.specs.declared.status.Status.{Status}
 use Rattle.run_status.specs.declared.status.Status.TheVariants.{OutOfMemory}
+use Rattle.ass_io.specs.Fetches.{fetch_change}
 use Rattle.run_words.specs.Words.{texts}
 use Rattle.single_run.specs.Runs.{IsWorked, sink_change}
 use Rattle.single_run.specs.Works.{IsWorkRead, work_asked}
@@ -17,7 +18,8 @@ memory_alone asked why work (inr memory) e = cc
 pub returns-in-Err-clause-run : goal.returns-in-Err-clause-run
 returns-in-Err-clause-run g c = λ work asked.
     let told = g.S.Shelf.told c.args.shelf.now in
+    let log = g.S.Shelf.log c.args.shelf.now in
     let frames = c.args.frames.now in
     let change = sink_change (g.F.Sink.state frames) (g.F.Sink.state frames) in
-    subst (λ why. IsWorked told work change (Ended why)) (sym (memory_alone (work_asked (texts c.args.words.now)) c.in-Err.status work c.in-Err.ensures.asked asked))
-    (memory_worked told work (g.F.Sink.state frames))
+    subst (λ why. IsWorked told (fetch_change log log) work change (Ended why)) (sym (memory_alone (work_asked (texts c.args.words.now)) c.in-Err.status work c.in-Err.ensures.asked asked))
+    (memory_worked told log work (g.F.Sink.state frames))

@@ -1,4 +1,6 @@
 use Rattle.std.proofs.Common.{Err, Ok, subst}
+use Rattle.ass_io.specs.Fetches.{fetch_change}
+use Rattle.run_status.specs.Fetches.{AreFetched}
 use Rattle.run_status.specs.Inputs.{AreRead}
 use Rattle.single_run.specs.Outcomes.{status_if_put}
 use Rattle.single_run.proofs.InputLemmas.{inputs_suit}
@@ -14,8 +16,10 @@ do_task-requires-clause-inputs g c =
 pub returns-in-Err-clause-run : goal.returns-in-Err-clause-run
 returns-in-Err-clause-run g c =
     let told = g.S.Shelf.told c.args.shelf.now in
-    refused_worked told c.args.work.now c.in-Err.status _
+    let log = fetch_change (g.S.Shelf.log c.args.shelf.now) (g.S.Shelf.log c.read_inputs.new.shelf) in
+    refused_worked told log c.args.work.now c.in-Err.status _
     (subst (λ fonts. AreRead told c.args.work.now.script fonts (Err c.in-Err.status)) c.as_slice.ensures c.in-Err.ensures.read)
+    (subst (λ fonts. AreFetched c.args.work.now.script fonts log (Err c.in-Err.status)) c.as_slice.ensures c.in-Err.ensures.fetched)
 
 pub returns-in-Err-clause-write : goal.returns-in-Err-clause-write
 returns-in-Err-clause-write g c =
@@ -26,9 +30,11 @@ returns-in-Err-clause-write g c =
 pub returns-in-Ok-clause-run : goal.returns-in-Ok-clause-run
 returns-in-Ok-clause-run g c =
     let told = g.S.Shelf.told c.args.shelf.now in
+    let log = fetch_change (g.S.Shelf.log c.args.shelf.now) (g.S.Shelf.log c.read_inputs.new.shelf) in
     record {
       reading = Ok c.in-Ok.inputs;
       read = subst (λ fonts. AreRead told c.args.work.now.script fonts (Ok c.in-Ok.inputs)) c.as_slice.ensures c.in-Ok.ensures.read;
+      fetched = subst (λ fonts. AreFetched c.args.work.now.script fonts log (Ok c.in-Ok.inputs)) c.as_slice.ensures c.in-Ok.ensures.fetched;
       answered = c.do_task.ensures.answered;
       shown = c.do_task.ensures.shown;
       pieces = c.do_task.ensures.pieces;

@@ -4,8 +4,8 @@ use Rattle.bdf_font.specs.Fonts.{FontValue}
 use Rattle.local_caches.specs.LocalParts.{LocalCachesView}
 use Rattle.mask_keys.specs.Pictures.{with_draw}
 use Rattle.std.specs.Arc.{arc_value}
-use Rattle.single_run.proofs.PictureLemmas.{painted_height, painted_width}
-use Rattle.single_run.proofs.picture.painted.Goals as goal
+use Rattle.frame_images.proofs.ImageLemmas.{painted_height, painted_width}
+use Rattle.frame_images.proofs.image.painted.Goals as goal
 
 pub returns-clause-width : goal.returns-clause-width
 returns-clause-width c =

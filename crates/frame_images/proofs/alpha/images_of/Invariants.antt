@@ -2,7 +2,7 @@ use Rattle.std.proofs.Common.{◌≡◌, map, take}
 use Rattle.std.specs.Arc.{arc_value}
 use Rattle.blend.specs.Images.{image_value}
 use Rattle.mask_keys.specs.Pictures.{image_of_draw}
-use Rattle.single_run.proofs.alpha.images_of.Given as goal
+use Rattle.frame_images.proofs.alpha.images_of.Given as goal
 
 abbrev pub invariant-loop-draw : goal.invariant-loop-draw
 invariant-loop-draw l = record {

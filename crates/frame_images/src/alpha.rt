@@ -33,7 +33,7 @@ fn images_of(alloc: Global, local: &mut LocalCaches, draws: &[Draw]) -> Mem<Vec<
 }
 
 /// The picture of a plan with straight alpha.
-#[tactic(auto, using(crate::proofs::PictureLemmas::font_set))]
+#[tactic(auto, using(crate::proofs::ImageLemmas::font_set))]
 pub fn alpha_painted(
     alloc: Global,
     frame: &FrameJob,

@@ -1,5 +1,5 @@
 -- From the draws of a picture to its image.
-use Rattle.std.proofs.Common.{◌≡◌, ℕ, ◌*◌, pos, List, length, fold, map, ap, ◌∙◌, refl, subst, sym, arith}
+use Rattle.std.proofs.Common.{◌≡◌, ℕ, ◌*◌, pos, List, [], ◌∷◌, length, fold, map, ap, ◌∙◌, refl, subst, sym, arith}
 use Rattle.alpha_canvas.specs.Alpha.{AreAlphaRows}
 use Rattle.alpha_canvas.specs.declared.pixel.AlphaForm.TheVariants.{Straight}
 use Rattle.ass_num.specs.declared.size.Size.{Size}
@@ -16,14 +16,22 @@ use Rattle.picture_plan.specs.Pictures.{AreDraws}
 use Rattle.ppm_text.specs.Images.{image_bytes}
 use Rattle.ass_events.specs.ScriptEvents.{line_events}
 use Rattle.text_layout.specs.Fonts.{IsLayoutFontSet}
-use Rattle.single_run.proofs.ChangePictures.{drawn_height, drawn_width}
 use Rattle.run_words.specs.declared.job.FrameFormat.{FrameFormat}
 use Rattle.run_words.specs.declared.job.FrameFormat.TheVariants.{Ppm, Pam, Rgba}
-use Rattle.single_run.specs.Outputs.{IsFormattedImage}
+use Rattle.frame_images.specs.FrameImages.{IsFormattedImage}
 
 -- fonts that texts are laid out in may be named by keys
 pub font_set : (fonts : List FontValue) → IsLayoutFontSet fonts → IsFontSet fonts
 font_set fonts h = record { few = h.few; whole = h.each }
+
+-- draws leave the size of a canvas
+pub drawn_width : (fonts : List FontValue) (canvas : CanvasValue) (draws : List Draw) → (fold (with_draw fonts) canvas draws).w ≡ canvas.w
+drawn_width fonts canvas [] = refl
+drawn_width fonts canvas (draw ∷ draws) = drawn_width fonts (with_draw fonts canvas draw) draws
+
+pub drawn_height : (fonts : List FontValue) (canvas : CanvasValue) (draws : List Draw) → (fold (with_draw fonts) canvas draws).h ≡ canvas.h
+drawn_height fonts canvas [] = refl
+drawn_height fonts canvas (draw ∷ draws) = drawn_height fonts (with_draw fonts canvas draw) draws
 
 -- what is painted on black has the frame's size
 pub painted_width : (fonts : List FontValue) (size : Size) (draws : List Draw) (old new : CanvasValue) → old ≡ black size.w size.h → new ≡ fold (with_draw fonts) old draws → new.w ≡ size.w

@@ -2,8 +2,8 @@ use Rattle.std.proofs.Common.{map, ◌∙◌}
 use Rattle.std.specs.Arc.{arc_value}
 use Rattle.std.proofs.lemmas.List.{map-append}
 use Rattle.blend.specs.Images.{image_value}
-use Rattle.single_run.proofs.AlphaLemmas.{images_more}
-use Rattle.single_run.proofs.alpha.images_of.Goals as goal
+use Rattle.frame_images.proofs.AlphaLemmas.{images_more}
+use Rattle.frame_images.proofs.alpha.images_of.Goals as goal
 
 pub loop-draw-preserved : goal.loop-draw-preserved
 loop-draw-preserved c =

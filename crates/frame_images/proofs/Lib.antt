@@ -1,0 +1,2 @@
+pub mod AlphaLemmas
+pub mod ImageLemmas

@@ -1,0 +1,2 @@
+pub mod AlphaPictures
+pub mod FrameImages

@@ -1,0 +1,7 @@
+//! The image of a picture in each format: on black, or with alpha.
+#![tactic(auto)]
+
+mod alpha;
+mod image;
+
+pub use image::frame_image;
