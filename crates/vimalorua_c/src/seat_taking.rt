@@ -1,7 +1,6 @@
 //! Taking out of a handle the seat behind it, and putting it back; and room for one more seat.
 
 ghost use Rattle.std.specs.Prelude.{◌≡◌, ◌≢◌, None, Some, IfOk, OnErr};
-ghost use Rattle.shared_player.specs.Seats.{SharedSeatView};
 ghost use Rattle.vimalorua_c.specs.Statuses as rule;
 
 use crate::held_seat::HeldSeat;
