@@ -172,16 +172,17 @@ drawn_by stage making paint clip leaves gives items [] same e =
     (subst (λ (ss : List Stamp). AreParts leaves (making_pen stage making) stage.size draw items (map (part_from making no_spot) ss)) e
     (parts_are stage making leaves gives no_spot draw items same refl refl))
 drawn_by stage making paint clip leaves gives items (first ∷ rest) same e =
-    let draw = draw_made making paint clip first rest in
-    (subst (λ (ss : List Stamp). AreParts leaves (making_pen stage making) stage.size draw items (map (part_from making first.spot) ss)) e
-    (parts_are stage making leaves gives first.spot draw items same refl refl),
-    record {
-      first = part_from making first.spot first;
-      rest = map (part_from making first.spot) rest;
-      parts = refl;
-      column = no_gap first.spot.x;
-      row = no_gap first.spot.y;
-    })
+    let draw = draw_made making paint clip first rest in (
+      subst (λ (ss : List Stamp). AreParts leaves (making_pen stage making) stage.size draw items (map (part_from making first.spot) ss)) e
+          (parts_are stage making leaves gives first.spot draw items same refl refl),
+      record {
+        first = part_from making first.spot first;
+        rest = map (part_from making first.spot) rest;
+        parts = refl;
+        column = no_gap first.spot.x;
+        row = no_gap first.spot.y;
+      },
+    )
 
 pub masks_drawn : (stage : Stage) (making : Making) (paint : Paint) (clip : Clip) (leaves : Placed → Option (OutlineKey × Point)) (gives : Placed → Option Mark) (items : List Placed) → LeaveMarks leaves gives
     → AreDrawn leaves (making_pen stage making) stage.size items (draw_of making paint clip (stamps_by stage making gives items))

@@ -164,16 +164,18 @@ draw_moved : (size : Size) (making : Making) (columns rows : ℤ) (p q : Paint) 
 draw_moved size making columns rows p q clip [] [] paints h = tt
 draw_moved size making columns rows p q clip [] (b ∷ bs) paints h = absurd h
 draw_moved size making columns rows p q clip (a ∷ cs) [] paints h = absurd h
-draw_moved size making columns rows p q clip (a ∷ cs) (b ∷ bs) paints h =
-    (record {
-      key = ap (λ (parts : List Part). let key : CompositeKey = record { parts = parts } in key) (same_parts making columns rows a.spot b.spot (a ∷ cs) (b ∷ bs) h.0.spot h);
-      x = h.0.spot.x;
-      y = h.0.spot.y;
-      left = paints.left;
-      right = paints.right;
-      sweep = paints.sweep;
-      clip = refl;
-    }, tt)
+draw_moved size making columns rows p q clip (a ∷ cs) (b ∷ bs) paints h = (
+  record {
+    key = ap (λ (parts : List Part). let key : CompositeKey = record { parts = parts } in key) (same_parts making columns rows a.spot b.spot (a ∷ cs) (b ∷ bs) h.0.spot h);
+    x = h.0.spot.x;
+    y = h.0.spot.y;
+    left = paints.left;
+    right = paints.right;
+    sweep = paints.sweep;
+    clip = refl;
+  },
+  tt,
+)
 
 -- The draw of the same marks on a stage that is moved by whole pixels.
 pub marks_draw_moved : (stage : Stage) (making : Making) (columns rows : ℤ) (p q : Paint) (clip : Clip) (marks moved : List Mark) → IsFrameSize stage.size

@@ -72,17 +72,18 @@ blur_is letter_scale blur ratio e some =
     (held_quotient max_blur_radius ((blur *ℤ pos (2 * ratio.pixels)) +ℤ pos (one_milli * ratio.units)) (2 * (one_milli * ratio.units)) (omega (arith, some)))
 
 pub widths_rounded : (scales : Scales) (state : State) → IsScales scales → scales.letter_scale ≡ whole_letter_scale → AreWidthsOf scales state × IsSoftnessOf scales state
-widths_rounded scales state sound e =
-    (record {
-      across = radius_is scales.letter_scale state.border_x scales.borders.x e sound.borders.x.some;
-      down = radius_is scales.letter_scale state.border_y scales.borders.y e sound.borders.y.some;
-      shadow_x = samples_are scales.letter_scale state.shadow_x scales.borders.x e sound.borders.x.some;
-      shadow_y = samples_are scales.letter_scale state.shadow_y scales.borders.y e sound.borders.y.some;
-    },
-    record {
-      passes = held_quotient max_passes state.edges one_milli (omega arith);
-      blur = blur_is scales.letter_scale state.blur scales.blur e sound.blur.some;
-    })
+widths_rounded scales state sound e = (
+  record {
+    across = radius_is scales.letter_scale state.border_x scales.borders.x e sound.borders.x.some;
+    down = radius_is scales.letter_scale state.border_y scales.borders.y e sound.borders.y.some;
+    shadow_x = samples_are scales.letter_scale state.shadow_x scales.borders.x e sound.borders.x.some;
+    shadow_y = samples_are scales.letter_scale state.shadow_y scales.borders.y e sound.borders.y.some;
+  },
+  record {
+    passes = held_quotient max_passes state.edges one_milli (omega arith);
+    blur = blur_is scales.letter_scale state.blur scales.blur e sound.blur.some;
+  },
+)
 
 -- ---- pens and bounds
 

@@ -59,11 +59,13 @@ side_by_side ws number line a (suc n) within =
     let advance = slice_index_or ws a (pos 0) in
     let next : line.left +ℤ width ws line.first (a + 1) ≡ here +ℤ advance =
     gone_on line.left (width ws line.first a) advance (width ws line.first (a + 1)) (width-more ws line.first a (omega arith)) in
-    let last : (a + 1) + n ≡ a + suc n = omega arith in
-    (refl, refl,
-    subst (λ (x : ℤ). AreSideBySide (a + 1) (a + suc n) x (line.left +ℤ width ws line.first (a + suc n)) (map (placed_item ws number line) (range_with_len (a + 1) n))) next
-    (subst (λ (m : ℕ). AreSideBySide (a + 1) m (line.left +ℤ width ws line.first (a + 1)) (line.left +ℤ width ws line.first m) (map (placed_item ws number line) (range_with_len (a + 1) n))) last
-    (side_by_side ws number line (a + 1) n (omega arith))))
+    let last : (a + 1) + n ≡ a + suc n = omega arith in (
+      refl,
+      refl,
+      subst (λ (x : ℤ). AreSideBySide (a + 1) (a + suc n) x (line.left +ℤ width ws line.first (a + suc n)) (map (placed_item ws number line) (range_with_len (a + 1) n))) next
+          (subst (λ (m : ℕ). AreSideBySide (a + 1) m (line.left +ℤ width ws line.first (a + 1)) (line.left +ℤ width ws line.first m) (map (placed_item ws number line) (range_with_len (a + 1) n))) last
+          (side_by_side ws number line (a + 1) n (omega arith))),
+    )
 
 nothing_gone : (left none : ℤ) → none ≡ pos 0 → left +ℤ none ≡ left
 nothing_gone left none e = omega (arith, ints, e)
@@ -92,12 +94,13 @@ lines_of_items metrics shown es column number from end across top (span ∷ span
     let extent = line_extent metrics shown es span in
     let line = line_at column across span extent top in
     let below = top +ℤ (extent.ascent +ℤ extent.descent) in
-    let ordered : span.first ≤ span.last = omega (arith, h.0, h.1) in
-    (placed_in (advances_of es) number line,
-    placed_from (advances_of es) (number + 1) (lines_from column across below spans (line_extents metrics shown es spans)),
-    refl,
-    line_of_items (advances_of es) number line ordered (omega (arith, h.2, most)) (line-advance metrics shown es span ordered),
-    lines_of_items metrics shown es column (number + 1) (span.last + 1) end across below spans h.3 most)
+    let ordered : span.first ≤ span.last = omega (arith, h.0, h.1) in (
+      placed_in (advances_of es) number line,
+      placed_from (advances_of es) (number + 1) (lines_from column across below spans (line_extents metrics shown es spans)),
+      refl,
+      line_of_items (advances_of es) number line ordered (omega (arith, h.2, most)) (line-advance metrics shown es span ordered),
+      lines_of_items metrics shown es column (number + 1) (span.last + 1) end across below spans h.3 most,
+    )
 
 -- ---- the block
 

@@ -99,7 +99,7 @@ IsClearRow row = All IsClearRun row.runs
 clear_run : (stage : Stage) (fonts : List FontValue) (view : EventView) (line : Line) (items run : List Placed) → stage.fade ≡ 255
     → IfSome (run_of stage fonts view line items run) IsClearRun
 clear_run stage fonts view line items [] e = tt
-clear_run stage fonts view line items (item ∷ run) e = 
+clear_run stage fonts view line items (item ∷ run) e =
     clear_fill stage.fade stage.elapsed (state_of view item) (left_end stage (sung_with view (state_of view item) items))
     (right_end stage (sung_with view (state_of view item) items)) e
 
