@@ -71,6 +71,6 @@ returns-then-len-gt-MAX_FONTS-clause-fetched g c =
     let at = c.loop-index in
     let many = c.if-len-gt-MAX_FONTS.true in
     let all = c.append_fonts-2.new.all.items in
-    let size : c.len.result ≡ length all = c.len.ensures in
+    let size : c.len.result ≡ length all = search rules in
     fetched_many c.args.names.now c.args.own (fetch_change (g.S.Shelf.log c.args.shelf.now) (g.S.Shelf.log at.shelf)) at.index at.all.items at.invariant.fetched all
     (omega (arith, c.loop-index-test.false, at.auto.index-end)) c.in_ok-append_fonts-2.ensures (omega (arith, many, size))
