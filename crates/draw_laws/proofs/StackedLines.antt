@@ -1,5 +1,5 @@
 -- Lines of a layout lie below one another, and their items side by side.
-use Rattle.std.proofs.Common.{◌≡◌, refl, sym, ap, ◌∙◌, ℕ, zero, suc, ◌+◌, ◌-◌, ◌<◌, ◌≤◌, ◌%◌, ◌==◌, Bool, true, false, cond, inl, inr, List, [], ◌∷◌, ◌++◌, length, get_or, map, fold, ℤ, pos, ◌+ℤ◌, ◌-ℤ◌, ◌*ℤ◌, ◌≤ℤ◌, ◌<ℤ◌, subst, arith}
+use Rattle.std.proofs.Common.{◌≡◌, refl, sym, ap, ◌∙◌, ℕ, zero, suc, ◌+◌, ◌-◌, ◌≤◌, ◌%◌, ◌==◌, Bool, true, false, cond, List, [], ◌∷◌, length, map, fold, ℤ, pos, ◌+ℤ◌, ◌-ℤ◌, ◌*ℤ◌, ◌≤ℤ◌, ◌<ℤ◌, subst, arith}
 use Rattle.std.specs.List.{All, range_with_len, zip}
 use Rattle.std.specs.Prelude.{slice_index_or}
 use Rattle.std.proofs.lemmas.Bool.{eq-eqb, eqb-true, false≢true}
@@ -9,12 +9,11 @@ use Rattle.std.proofs.lemmas.List.Elements.{All-cons, All-head, All-map, All-nil
 use Rattle.std.proofs.lemmas.Slice.Zip.{length-zip}
 use Rattle.ass_events.specs.declared.event.Event.{Event}
 use Rattle.ass_num.proofs.Floor.{floor_div-above, floor_div-below}
-use Rattle.ass_num.specs.Floor.{floor_div}
 use Rattle.ass_script.specs.Scripts.{ScriptValue}
 use Rattle.bdf_font.specs.Fonts.{FontValue}
 use Rattle.event_draws.proofs.LineSpans.{lines-spans, paragraphs-spans}
 use Rattle.frame_view.specs.declared.view.FrameView.{FrameView}
-use Rattle.line_layout.specs.Breaks.{pen, width}
+use Rattle.line_layout.specs.Breaks.{width}
 use Rattle.override_tags.specs.declared.view.EventView.{EventView}
 use Rattle.override_tags.specs.declared.view.Shown.{Shown}
 use Rattle.text_layout.proofs.BlockLemmas.{line-advance}
@@ -24,9 +23,9 @@ use Rattle.text_layout.specs.Anchors.{edge_across, edge_within, margins_of, wrap
 use Rattle.text_layout.specs.Clusters.{cluster_ends}
 use Rattle.text_layout.specs.Extents.{item_extents}
 use Rattle.text_layout.specs.Kinds.{chars_of, roles_of}
-use Rattle.text_layout.specs.Layouts.{IsLaid, laid_out}
+use Rattle.text_layout.specs.Layouts.{IsLaid}
 use Rattle.text_layout.specs.LineScales.{line_scales}
-use Rattle.text_layout.specs.Lines.{advances_of, block_height, block_width, heights_of, line_at, line_extent, line_extents, lines_from, placed_from, placed_in, placed_item}
+use Rattle.text_layout.specs.Lines.{advances_of, block_width, heights_of, line_at, line_extent, line_extents, lines_from, placed_from, placed_in, placed_item}
 use Rattle.text_layout.specs.Metrics.{all_metrics}
 use Rattle.text_layout.specs.Spans.{AreSpans, paragraphs_of}
 use Rattle.text_layout.specs.declared.extents.Extent.{Extent}
@@ -59,11 +58,13 @@ side_by_side ws number line a (suc n) within =
     let advance = slice_index_or ws a (pos 0) in
     let next : line.left +ℤ width ws line.first (a + 1) ≡ here +ℤ advance =
     gone_on line.left (width ws line.first a) advance (width ws line.first (a + 1)) (width-more ws line.first a (omega arith)) in
-    let last : (a + 1) + n ≡ a + suc n = omega arith in
-    (refl, refl,
-    subst (λ (x : ℤ). AreSideBySide (a + 1) (a + suc n) x (line.left +ℤ width ws line.first (a + suc n)) (map (placed_item ws number line) (range_with_len (a + 1) n))) next
-    (subst (λ (m : ℕ). AreSideBySide (a + 1) m (line.left +ℤ width ws line.first (a + 1)) (line.left +ℤ width ws line.first m) (map (placed_item ws number line) (range_with_len (a + 1) n))) last
-    (side_by_side ws number line (a + 1) n (omega arith))))
+    let last : (a + 1) + n ≡ a + suc n = omega arith in (
+      refl,
+      refl,
+      subst (λ (x : ℤ). AreSideBySide (a + 1) (a + suc n) x (line.left +ℤ width ws line.first (a + suc n)) (map (placed_item ws number line) (range_with_len (a + 1) n))) next
+          (subst (λ (m : ℕ). AreSideBySide (a + 1) m (line.left +ℤ width ws line.first (a + 1)) (line.left +ℤ width ws line.first m) (map (placed_item ws number line) (range_with_len (a + 1) n))) last
+          (side_by_side ws number line (a + 1) n (omega arith))),
+    )
 
 nothing_gone : (left none : ℤ) → none ≡ pos 0 → left +ℤ none ≡ left
 nothing_gone left none e = omega (arith, ints, e)
@@ -92,12 +93,13 @@ lines_of_items metrics shown es column number from end across top (span ∷ span
     let extent = line_extent metrics shown es span in
     let line = line_at column across span extent top in
     let below = top +ℤ (extent.ascent +ℤ extent.descent) in
-    let ordered : span.first ≤ span.last = omega (arith, h.0, h.1) in
-    (placed_in (advances_of es) number line,
-    placed_from (advances_of es) (number + 1) (lines_from column across below spans (line_extents metrics shown es spans)),
-    refl,
-    line_of_items (advances_of es) number line ordered (omega (arith, h.2, most)) (line-advance metrics shown es span ordered),
-    lines_of_items metrics shown es column (number + 1) (span.last + 1) end across below spans h.3 most)
+    let ordered : span.first ≤ span.last = omega (arith, h.0, h.1) in (
+      placed_in (advances_of es) number line,
+      placed_from (advances_of es) (number + 1) (lines_from column across below spans (line_extents metrics shown es spans)),
+      refl,
+      line_of_items (advances_of es) number line ordered (omega (arith, h.2, most)) (line-advance metrics shown es span ordered),
+      lines_of_items metrics shown es column (number + 1) (span.last + 1) end across below spans h.3 most,
+    )
 
 -- ---- the block
 
