@@ -1,5 +1,5 @@
 -- The parts of a draw are the masks of the items that may reach the frame.
-use Rattle.std.proofs.Common.{◌≡◌, refl, sym, ap, ap₂, ◌∙◌, ℕ, ◌+◌, ◌*◌, ◌<◌, ◌≤◌, Bool, true, false, ◌&&◌, cond, inl, inr, ◌⊎◌, Option, Some, None, option_map, List, [], ◌∷◌, map, filter, get_or, ℤ, pos, neg_ℤ, ◌+ℤ◌, ◌-ℤ◌, ◌*ℤ◌, ◌≤ℤ◌, ◌<ℤ◌, int_le, int_lt, subst, arith}
+use Rattle.std.proofs.Common.{◌≡◌, refl, sym, ap, ◌∙◌, ℕ, ◌+◌, ◌*◌, ◌<◌, Bool, true, false, cond, inl, inr, Option, Some, None, option_map, List, [], ◌∷◌, map, get_or, ℤ, pos, neg_ℤ, ◌+ℤ◌, ◌-ℤ◌, ◌*ℤ◌, ◌≤ℤ◌, ◌<ℤ◌, int_le, int_lt, subst, arith}
 use Rattle.std.specs.List.{All, AllZip, cons_option, filter_map, slice_get}
 use Rattle.std.specs.Option.{IfSome}
 use Rattle.std.proofs.lemmas.Bool.{and_parts, false≢true}
@@ -14,18 +14,15 @@ use Rattle.draw_numbers.specs.Limits.{max_reach}
 use Rattle.draw_numbers.specs.Pens.{is_near_frame, pen_of, phase_of, pixel_of, reaches, spot_of, turned_about}
 use Rattle.draw_numbers.specs.declared.colours.Paint.{Paint}
 use Rattle.draw_numbers.specs.declared.pens.Spot.{Spot}
-use Rattle.draw_numbers.specs.declared.widths.Radii.{Radii}
-use Rattle.draw_numbers.specs.declared.widths.Softness.{Softness}
 use Rattle.event_draws.specs.Draws.{draw_of, is_near_stamp, part_from, stamp_of, stamps_of}
 use Rattle.event_draws.specs.declared.stage.Stage.{Stage}
 use Rattle.mask_keys.specs.Keys.{samples_across}
-use Rattle.mask_keys.specs.declared.composite_key.CompositeKey.{CompositeKey}
-use Rattle.mask_keys.specs.declared.composite_key.Part.{Part}
 use Rattle.mask_keys.specs.declared.outline_key.OutlineKey.{OutlineKey}
 use Rattle.mask_keys.specs.declared.plans.Clip.{Clip}
 use Rattle.mask_keys.specs.declared.plans.Draw.{Draw}
 use Rattle.text_layout.specs.declared.laid.Placed.{Placed}
-use Rattle.draw_laws.specs.Parts.{AreDrawn, AreMadeBy, AreParts, AreTogether, HaveOnePlace, IsLeftOut, IsMadeBy, IsMaskAt, IsPartOf, IsSampleNear, MayReach, StandsAtFirst}
+use Rattle.draw_laws.specs.Parts.{AreDrawn, AreMadeBy, AreParts, LieTogether, HaveOnePlace, IsLeftOut, IsMaskMadeBy, IsItemMask, IsSampleNear, MayReach}
+use Rattle.draw_laws.proofs.ListPairs.{both_pass}
 use Rattle.draw_laws.proofs.MovedNumbers.{phase_is}
 use Rattle.draw_laws.proofs.Types.{Making, Mark, Stamp}
 
@@ -56,14 +53,10 @@ sample_near side pen h =
     let p = and_parts (int_le (neg_ℤ (pos max_reach)) (pixel_of pen)) (int_lt (pixel_of pen) (pos side +ℤ pos max_reach)) h in
     sample_of_pixel side pen (pixel_of pen) (floor_div-below pen 16 (omega arith)) (floor_div-above pen 16 (omega arith)) (le_is _ _ p.0) (lt_is _ _ p.1)
 
-both : (b c : Bool) → b ≡ true → c ≡ true → (b && c) ≡ true
-both true c h k = k
-both false c h k = h
-
 pixel_near : (side : ℕ) (pen : ℤ) → IsSampleNear side pen → reaches side (pixel_of pen) ≡ true
 pixel_near side pen h =
     let p = pixel_of_sample side pen (pixel_of pen) (floor_div-below pen 16 (omega arith)) (floor_div-above pen 16 (omega arith)) h.0 h.1 in
-    both (int_le (neg_ℤ (pos max_reach)) (pixel_of pen)) (int_lt (pixel_of pen) (pos side +ℤ pos max_reach)) (le_true _ _ p.0) (lt_true _ _ p.1)
+    both_pass (int_le (neg_ℤ (pos max_reach)) (pixel_of pen)) (int_lt (pixel_of pen) (pos side +ℤ pos max_reach)) (le_true _ _ p.0) (lt_true _ _ p.1)
 
 near_reach : (size : Size) (pen : Point) → is_near_frame size (spot_of pen) ≡ true → MayReach size pen
 near_reach size pen h =
@@ -71,7 +64,7 @@ near_reach size pen h =
     record { across = sample_near size.w pen.x p.0; down = sample_near size.h pen.y p.1 }
 
 reach_near : (size : Size) (pen : Point) → MayReach size pen → is_near_frame size (spot_of pen) ≡ true
-reach_near size pen h = both (reaches size.w (pixel_of pen.x)) (reaches size.h (pixel_of pen.y)) (pixel_near size.w pen.x h.across) (pixel_near size.h pen.y h.down)
+reach_near size pen h = both_pass (reaches size.w (pixel_of pen.x)) (reaches size.h (pixel_of pen.y)) (pixel_near size.w pen.x h.across) (pixel_near size.h pen.y h.down)
 
 small_by : (pen pixel : ℤ) (phase : ℕ) → pos phase ≡ pen -ℤ (pos 16 *ℤ pixel) → pen <ℤ ((pixel *ℤ pos 16) +ℤ pos 16) → phase < 16
 small_by pen pixel phase e above = omega (arith, ints, e, above)
@@ -89,7 +82,7 @@ stamps_by stage making gives items = stamps_of stage making (filter_map gives it
 
 part_is : (stage : Stage) (making : Making) (leaves : Placed → Option (OutlineKey × Point)) (place : Spot) (draw : Draw) (item : Placed) (mark : Mark)
     → draw.x ≡ place.x → draw.y ≡ place.y → leaves item ≡ Some (bare_mark mark) → is_near_stamp stage (stamp_of stage making mark) ≡ true
-    → IsPartOf leaves (making_pen stage making) stage.size draw item (part_from making place (stamp_of stage making mark))
+    → IsItemMask leaves (making_pen stage making) stage.size draw item (part_from making place (stamp_of stage making mark))
 part_is stage making leaves place draw item mark ex ey e near =
     let pen = making_pen stage making mark.pen in
     record {
@@ -196,7 +189,7 @@ each_made P making paint clip (first ∷ rest) h = All-cons P (draw_made making 
 
 pub parts_made : (making : Making) (paint : Paint) (clip : Clip) (first : Stamp) (rest : List Stamp) → AreMadeBy making.radii making.softness (draw_made making paint clip first rest)
 parts_made making paint clip first rest =
-    All-map (IsMadeBy making.radii making.softness) (part_from making first.spot) (first ∷ rest) (λ k d within. record { rx = refl; ry = refl; edges = refl; blur = refl })
+    All-map (IsMaskMadeBy making.radii making.softness) (part_from making first.spot) (first ∷ rest) (λ k d within. record { rx = refl; ry = refl; edges = refl; blur = refl })
 
 -- ---- two draws of the same masks
 
@@ -205,15 +198,15 @@ zip_images R f g [] h = tt
 zip_images R f g (x ∷ xs) h = (h x, zip_images R f g xs h)
 
 pub drawn_together : (a b : Making) (p q : Paint) (clip : Clip) (stamps : List Stamp) (under : Draw) → draw_of a p clip stamps ≡ under ∷ []
-    → (over : Draw) × (draw_of b q clip stamps ≡ over ∷ []) × AreTogether under over × AreMadeBy b.radii b.softness over
+    → (over : Draw) × (draw_of b q clip stamps ≡ over ∷ []) × LieTogether under over × AreMadeBy b.radii b.softness over
 drawn_together a b p q clip [] under e = absurd (no_cons under [] e)
 drawn_together a b p q clip (first ∷ rest) under e =
     let over = draw_made b q clip first rest in
-    let together : AreTogether (draw_made a p clip first rest) over = record {
+    let together : LieTogether (draw_made a p clip first rest) over = record {
       x = refl;
       y = refl;
       parts =
           zip_images HaveOnePlace (part_from a first.spot) (part_from b first.spot) (first ∷ rest)
           (λ stamp. record { outline = refl; px = refl; py = refl; dx = refl; dy = refl });
     } in
-    (over, refl, subst (λ (d : Draw). AreTogether d over) (ap (λ (ds : List Draw). get_or ds 0 under) e) together, parts_made b q clip first rest)
+    (over, refl, subst (λ (d : Draw). LieTogether d over) (ap (λ (ds : List Draw). get_or ds 0 under) e) together, parts_made b q clip first rest)

@@ -10,7 +10,8 @@ use Rattle.override_tags.specs.declared.view.State.{State}
 use Rattle.override_tags.specs.declared.view.Syllable.{Syllable}
 use Rattle.tag_arguments.specs.declared.kinds.Sung.{Sung}
 use Rattle.tag_arguments.specs.declared.kinds.Sung.TheVariants.{Jump, Outline, Sweep}
-use Rattle.draw_laws.specs.Shades.{HasOneColour, IsFilled, IsLeftOf, IsSwept, primary_of, secondary_of}
+use Rattle.draw_laws.proofs.ListPairs.{both_pass}
+use Rattle.draw_laws.specs.Shades.{HasOneColour, HasFillColours, IsLeftOf, HasBothColours, primary_of, secondary_of}
 
 -- ---- colours
 
@@ -45,7 +46,7 @@ one_colour_left fade colour draw h = record {
   same = h.right ∙ sym h.left;
 }
 
-both_left : (fade : ℕ) (elapsed : ℤ) (state : State) (l r : ℤ) (s : Syllable) (draw : Draw) → HasPaint (swept_paint fade elapsed state l r s) draw → IsSwept fade state draw
+both_left : (fade : ℕ) (elapsed : ℤ) (state : State) (l r : ℤ) (s : Syllable) (draw : Draw) → HasPaint (swept_paint fade elapsed state l r s) draw → HasBothColours fade state draw
 both_left fade elapsed state l r s draw h = record {
   left = subst (λ (c : Rgba). IsLeftOf fade (primary_of state) c) (sym h.left) (colour_left fade (primary_of state));
   right = subst (λ (c : Rgba). IsLeftOf fade (secondary_of state) c) (sym h.right) (colour_left fade (secondary_of state));
@@ -56,10 +57,6 @@ both_left fade elapsed state l r s draw h = record {
 -- the paint of a state with this syllable
 abbrev paint_with : ℕ → ℤ → State → ℤ → ℤ → Option Syllable → Paint
 paint_with fade elapsed state l r sung = cond (is_awaited elapsed sung) (plain_paint (secondary fade state)) (sung_paint fade elapsed state l r sung)
-
-both : (b c : Bool) → b ≡ true → c ≡ true → (b && c) ≡ true
-both true c h k = k
-both false c h k = h
 
 not_swept : (kind : Sung) (b c : Bool) → (kind ≡ Sweep → c ≡ false) → (is_sweep kind && (b && c)) ≡ false
 not_swept Jump b c h = refl
@@ -80,7 +77,7 @@ in_sweep : (fade : ℕ) (elapsed : ℤ) (state : State) (l r : ℤ) (s : Syllabl
     → paint_with fade elapsed state l r (Some s) ≡ swept_paint fade elapsed state l r s
 in_sweep fade elapsed state l r s sweep begun early =
     let now : is_swept elapsed s ≡ true =
-    both (is_sweep s.kind) _ (ap is_sweep sweep) (both (int_le s.begin elapsed) (int_lt elapsed s.end) (le_true s.begin elapsed begun) (lt_true elapsed s.end early)) in
+    both_pass (is_sweep s.kind) _ (ap is_sweep sweep) (both_pass (int_le s.begin elapsed) (int_lt elapsed s.end) (le_true s.begin elapsed begun) (lt_true elapsed s.end early)) in
     since_begin fade elapsed state l r s begun ∙ ap (λ (b : Bool). cond b (swept_paint fade elapsed state l r s) (plain_paint (primary fade state))) now
 
 once_sung : (fade : ℕ) (elapsed : ℤ) (state : State) (l r : ℤ) (s : Syllable) → s.begin ≤ℤ elapsed → (s.kind ≡ Sweep → s.end ≤ℤ elapsed)
@@ -89,7 +86,7 @@ once_sung fade elapsed state l r s begun over =
     let never : is_swept elapsed s ≡ false = not_swept s.kind (int_le s.begin elapsed) (int_lt elapsed s.end) (λ h. lt_false elapsed s.end (over h)) in
     since_begin fade elapsed state l r s begun ∙ ap (λ (b : Bool). cond b (swept_paint fade elapsed state l r s) (plain_paint (primary fade state))) never
 
-pub filled_left : (fade : ℕ) (elapsed : ℤ) (state : State) (l r : ℤ) (draw : Draw) → HasPaint (fill_paint fade elapsed state l r) draw → IsFilled fade elapsed state draw
+pub filled_left : (fade : ℕ) (elapsed : ℤ) (state : State) (l r : ℤ) (draw : Draw) → HasPaint (fill_paint fade elapsed state l r) draw → HasFillColours fade elapsed state draw
 filled_left fade elapsed state l r draw h =
     let painted = λ (o : Option Syllable) (q : Paint) (e : state.sung ≡ o) (k : paint_with fade elapsed state l r o ≡ q).
     painted_as (fill_paint fade elapsed state l r) q draw (ap (paint_with fade elapsed state l r) e ∙ k) h in

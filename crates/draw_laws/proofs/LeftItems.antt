@@ -1,5 +1,5 @@
 -- What is left of an item is the outline and the pen of its mark.
-use Rattle.std.proofs.Common.{◌≡◌, refl, ℕ, Option, Some, None, option_and_then, option_map, List, [], ◌∷◌, ℤ}
+use Rattle.std.proofs.Common.{◌≡◌, refl, ℕ, Option, Some, None, option_and_then, option_map, List, [], ◌∷◌}
 use Rattle.ass_num.specs.declared.geometry.Path.{Path}
 use Rattle.ass_num.specs.declared.geometry.Point.{Point}
 use Rattle.ass_num.specs.declared.geometry.Seg.{Seg}
@@ -14,7 +14,6 @@ use Rattle.override_tags.specs.declared.view.ShownKind.TheVariants as shown
 use Rattle.override_tags.specs.declared.view.State.{State}
 use Rattle.text_layout.specs.Kinds.{char_of}
 use Rattle.text_layout.specs.declared.laid.Line.{Line}
-use Rattle.text_layout.specs.declared.laid.Placed.{Placed}
 use Rattle.draw_laws.specs.Layers.{drawing_left, item_left, kind_left}
 use Rattle.draw_laws.proofs.DrawnParts.{LeaveMarks, bare_mark}
 

@@ -1,5 +1,5 @@
 -- The draws of lines, in layers.
-use Rattle.std.proofs.Common.{◌≡◌, refl, sym, ap, ap₂, ◌∙◌, ℕ, ◌==◌, Bool, true, false, cond, Option, Some, None, List, [], ◌∷◌, ◌++◌, map, flat_map, append-nil, ℤ, subst}
+use Rattle.std.proofs.Common.{◌≡◌, refl, sym, ap, ap₂, ◌∙◌, ◌==◌, Bool, true, false, cond, Option, Some, None, List, [], ◌∷◌, ◌++◌, map, flat_map, append-nil, ℤ, subst}
 use Rattle.std.specs.List.{All, AllZip, cons_option, filter_map, slice_get}
 use Rattle.std.specs.Option.{IfSome, option_map_or}
 use Rattle.std.specs.Prelude.{slice_index_or}
@@ -11,7 +11,7 @@ use Rattle.bdf_font.specs.Fonts.{FontValue}
 use Rattle.event_draws.proofs.MaximalRuns.{runs_maximal}
 use Rattle.event_draws.specs.Clips.{clip_by}
 use Rattle.event_draws.specs.Draws.{box_border, box_shadow, run_border, run_fill, run_shadow}
-use Rattle.event_draws.specs.EventDraws.{draw_rows, event_draws, left_end, right_end, row_borders, row_by, row_fills, row_on, row_shadows, run_of, sung_with}
+use Rattle.event_draws.specs.EventDraws.{event_draws, left_end, right_end, row_borders, row_by, row_fills, row_on, row_shadows, run_of, sung_with}
 use Rattle.event_draws.specs.Items.{items_of, state_of}
 use Rattle.event_draws.specs.Marks.{mark_of}
 use Rattle.event_draws.specs.MovedDraws.{AreMovedDraws}
@@ -26,11 +26,11 @@ use Rattle.override_tags.specs.declared.view.State.{State}
 use Rattle.text_layout.specs.declared.laid.Laid.{Laid}
 use Rattle.text_layout.specs.declared.laid.Line.{Line}
 use Rattle.text_layout.specs.declared.laid.Placed.{Placed}
-use Rattle.draw_laws.specs.Layers.{AreEventDraws, IsLineDrawn, IsLineOf, IsRunDrawn, LineDraws, RunDraws, in_layers, item_left, line_borders, line_fills, line_shadows, state_in}
+use Rattle.draw_laws.specs.Layers.{AreLayeredDraws, IsLineDrawn, IsLineOf, IsRunDrawn, LineDraws, RunDraws, in_layers, item_left, line_borders, line_fills, line_shadows, state_in}
 use Rattle.draw_laws.proofs.DrawnParts.{no_cons}
 use Rattle.draw_laws.proofs.RunLayers.{box_of, run_of_state, run_parts}
 use Rattle.draw_laws.proofs.LeftItems.{same_left}
-use Rattle.draw_laws.proofs.Types.{Mark, Row, Run}
+use Rattle.draw_laws.proofs.Types.{Run}
 
 -- ---- lists
 
@@ -170,7 +170,7 @@ same_layers stage fonts view laid =
     ap₂ (λ (a b : List Draw). a ++ b) (ap₂ (λ (a b : List Draw). a ++ b) shadows borders) fills
 
 event_in_layers : (stage : Stage) (fonts : List FontValue) (view : EventView) (laid : Laid) (draws : List Draw) → draws ≡ event_draws stage fonts view laid
-    → AreEventDraws stage fonts view laid draws
+    → AreLayeredDraws stage fonts view laid draws
 event_in_layers stage fonts view laid draws e =
     let made = λ (line : Line). line_in stage fonts view line (clip_by stage.scales view.clip) (items_of laid line) in
     record {
@@ -183,6 +183,6 @@ event_in_layers stage fonts view laid draws e =
 
 pub drawn_in_layers : (script : ScriptValue) (fonts : List FontValue) (event : Event) (t : ℤ) (frame : FrameView) (shift : ℤ) (draws : List Draw)
     (drawn : AreMovedDraws script fonts event t frame shift draws)
-    → AreEventDraws (stage_at script event t frame drawn.view drawn.laid shift) fonts drawn.view drawn.laid draws
+    → AreLayeredDraws (stage_at script event t frame drawn.view drawn.laid shift) fonts drawn.view drawn.laid draws
 drawn_in_layers script fonts event t frame shift draws drawn =
     event_in_layers (stage_at script event t frame drawn.view drawn.laid shift) fonts drawn.view drawn.laid draws drawn.value

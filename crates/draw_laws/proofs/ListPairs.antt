@@ -1,5 +1,5 @@
 -- Lists whose elements are in a relation, one with one, and what holds of the elements of the pieces of a list.
-use Rattle.std.proofs.Common.{◌≡◌, refl, sym, ap, ap₂, ◌∙◌, ℕ, zero, suc, ◌+◌, ◌-◌, ◌<◌, ◌≤◌, Bool, true, false, cond, Option, Some, None, option_map, List, [], ◌∷◌, ◌++◌, length, map, filter, flat_map, subst, arith}
+use Rattle.std.proofs.Common.{◌≡◌, refl, ap₂, ◌∙◌, ◌<◌, Bool, true, false, ◌&&◌, cond, Option, Some, None, option_map, List, [], ◌∷◌, ◌++◌, length, map, filter, flat_map, arith}
 use Rattle.std.proofs.lemmas.Bool.{false≢true}
 use Rattle.std.specs.List.{All, AllZip, cons_option, filter_map}
 use Rattle.std.specs.Option.{option_map_or}
@@ -81,3 +81,9 @@ each_kept {X = X} p (x ∷ xs) =
     All-cons (λ (y : X). p y ≡ true → 0 < length (filter p (x ∷ xs))) x xs (λ h. some_here (p x) x (filter p xs) h)
     (All-weaker (λ (y : X). p y ≡ true → 0 < length (filter p xs)) (λ (y : X). p y ≡ true → 0 < length (filter p (x ∷ xs)))
     (λ y h k. some_more (p x) x (filter p xs) (h k)) xs (each_kept p xs))
+
+-- ---- tests
+
+pub both_pass : (b c : Bool) → b ≡ true → c ≡ true → (b && c) ≡ true
+both_pass true c h k = k
+both_pass false c h k = h

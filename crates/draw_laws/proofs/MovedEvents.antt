@@ -1,5 +1,5 @@
 -- Whole pixels move all draws of an event.
-use Rattle.std.proofs.Common.{◌≡◌, sym, ap, ◌∙◌, ℕ, Option, option_map, List, ◌++◌, flat_map, ℤ, subst}
+use Rattle.std.proofs.Common.{◌≡◌, sym, ap, ◌∙◌, Option, option_map, List, ◌++◌, flat_map, ℤ, subst}
 use Rattle.std.specs.List.{All, AllZip}
 use Rattle.std.specs.Prelude.{slice_index_or}
 use Rattle.ass_events.specs.declared.event.Event.{Event}
@@ -19,10 +19,8 @@ use Rattle.override_tags.specs.declared.view.EventView.{EventView}
 use Rattle.text_layout.specs.LineScales.{line_scales}
 use Rattle.text_layout.specs.declared.laid.Laid.{Laid}
 use Rattle.text_layout.specs.declared.laid.Line.{Line}
-use Rattle.draw_laws.specs.Moves.{AreMovedAlike, IsMovedDraw, IsNearFrame, IsWholeMove, WholePixelsMoveDraws, place_from, shown_at}
+use Rattle.draw_laws.specs.Moves.{IsMovedDraw, IsNearFrame, IsWholeMove, WholePixelsMoveDraws, place_farther, view_at}
 use Rattle.draw_laws.proofs.ListPairs.{zip_append, zip_flat}
-use Rattle.draw_laws.proofs.MovedMarks.{moved_stage}
-use Rattle.draw_laws.proofs.MovedNumbers.{whole_step}
 use Rattle.draw_laws.proofs.MovedRuns.{AreRowDrawsMoved, later, row_moved}
 use Rattle.draw_laws.proofs.MovedStages.{stage_moved}
 use Rattle.draw_laws.proofs.MovedViews.{same_draws, same_near}
@@ -52,24 +50,24 @@ stage_draws_moved stage fonts view laid columns rows framed near far =
     (zip_flat R (row_fills stage clip) (row_fills moved clip) (row_on stage fonts view laid) (row_on moved fonts view laid) laid.lines (λ k d within. (each k d within).fills))
 
 event_moved : (script : ScriptValue) (fonts : List FontValue) (event : Event) (t : ℤ) (frame : FrameView) (view : EventView) (place by : ℤ × ℤ) (origin : Option (ℤ × ℤ))
-    (columns rows : ℤ) (laid : Laid) (shift : ℤ) → IsFrameSize frame.size → IsScales (line_scales script.header frame (shown_at view place origin))
-    → IsWholeMove (line_scales script.header frame (shown_at view place origin)) by columns rows
-    → IsNearFrame (stage_at script event t frame (shown_at view place origin) laid shift) fonts (shown_at view place origin) laid
-    → IsNearFrame (stage_at script event t frame (shown_at view (place_from by place) (option_map (place_from by) origin)) laid shift) fonts
-    (shown_at view (place_from by place) (option_map (place_from by) origin)) laid
-    → AllZip (IsMovedDraw frame.size columns rows) (event_draws (stage_at script event t frame (shown_at view place origin) laid shift) fonts (shown_at view place origin) laid)
-    (event_draws (stage_at script event t frame (shown_at view (place_from by place) (option_map (place_from by) origin)) laid shift) fonts
-    (shown_at view (place_from by place) (option_map (place_from by) origin)) laid)
+    (columns rows : ℤ) (laid : Laid) (shift : ℤ) → IsFrameSize frame.size → IsScales (line_scales script.header frame (view_at view place origin))
+    → IsWholeMove (line_scales script.header frame (view_at view place origin)) by columns rows
+    → IsNearFrame (stage_at script event t frame (view_at view place origin) laid shift) fonts (view_at view place origin) laid
+    → IsNearFrame (stage_at script event t frame (view_at view (place_farther by place) (option_map (place_farther by) origin)) laid shift) fonts
+    (view_at view (place_farther by place) (option_map (place_farther by) origin)) laid
+    → AllZip (IsMovedDraw frame.size columns rows) (event_draws (stage_at script event t frame (view_at view place origin) laid shift) fonts (view_at view place origin) laid)
+    (event_draws (stage_at script event t frame (view_at view (place_farther by place) (option_map (place_farther by) origin)) laid shift) fonts
+    (view_at view (place_farther by place) (option_map (place_farther by) origin)) laid)
 event_moved script fonts event t frame view place by origin columns rows laid shift framed scaled whole near far =
-    let old = shown_at view place origin in
-    let new = shown_at view (place_from by place) (option_map (place_from by) origin) in
+    let old = view_at view place origin in
+    let new = view_at view (place_farther by place) (option_map (place_farther by) origin) in
     let stage = stage_at script event t frame old laid shift in
     let moved = later stage columns rows in
     let e : stage_at script event t frame new laid shift ≡ moved = stage_moved script event t frame view laid shift place by origin columns rows scaled whole in
     let there : IsNearFrame moved fonts old laid =
-    same_near moved fonts old (place_from by place) (option_map (place_from by) origin) laid (subst (λ (s : Stage). IsNearFrame s fonts new laid) e far) in
+    same_near moved fonts old (place_farther by place) (option_map (place_farther by) origin) laid (subst (λ (s : Stage). IsNearFrame s fonts new laid) e far) in
     let draws : event_draws (stage_at script event t frame new laid shift) fonts new laid ≡ event_draws moved fonts old laid =
-    ap (λ (s : Stage). event_draws s fonts new laid) e ∙ same_draws moved fonts old (place_from by place) (option_map (place_from by) origin) laid in
+    ap (λ (s : Stage). event_draws s fonts new laid) e ∙ same_draws moved fonts old (place_farther by place) (option_map (place_farther by) origin) laid in
     subst (λ (ds : List Draw). AllZip (IsMovedDraw frame.size columns rows) (event_draws stage fonts old laid) ds) (sym draws)
     (stage_draws_moved stage fonts old laid columns rows framed near there)
 

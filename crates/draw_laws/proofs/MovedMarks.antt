@@ -1,6 +1,6 @@
 -- What items leave on a stage that is moved by whole pixels, and the draws of that.
-use Rattle.std.proofs.Common.{◌≡◌, refl, sym, ap, ap₂, ◌∙◌, ℕ, ◌*◌, Bool, true, false, cond, Option, Some, None, option_and_then, option_map, List, [], ◌∷◌, map, filter, ℤ, pos, ◌+ℤ◌, ◌-ℤ◌, ◌*ℤ◌, int_lt, subst, arith}
-use Rattle.std.specs.List.{All, AllZip, filter_map}
+use Rattle.std.proofs.Common.{◌≡◌, refl, sym, ap, ap₂, ◌∙◌, ℕ, Bool, true, false, cond, Option, Some, None, option_and_then, option_map, List, [], ◌∷◌, map, ℤ, ◌+ℤ◌, ◌-ℤ◌, int_lt, subst, arith}
+use Rattle.std.specs.List.{All, AllZip}
 use Rattle.std.proofs.lemmas.Bool.{false≢true}
 use Rattle.std.proofs.lemmas.Int.{ints}
 use Rattle.std.proofs.lemmas.List.Elements.{All-head, All-tail}
@@ -15,13 +15,12 @@ use Rattle.draw_numbers.specs.declared.colours.Paint.{Paint}
 use Rattle.draw_numbers.specs.declared.pens.Spot.{Spot}
 use Rattle.event_draws.specs.Draws.{box_mark, draw_of, draw_of_marks, is_near_stamp, part_from, stamp_of, stamps_of}
 use Rattle.event_draws.specs.Items.{shown_of, state_of}
-use Rattle.event_draws.specs.Marks.{char_mark, char_outline, drawing_mark, mark_by, mark_of, marks_of, pen_on, point_above}
+use Rattle.event_draws.specs.Marks.{char_mark, char_outline, drawing_mark, mark_by, mark_of, marks_of, pen_on}
 use Rattle.event_draws.specs.declared.stage.Stage.{Stage}
 use Rattle.mask_keys.specs.declared.composite_key.CompositeKey.{CompositeKey}
 use Rattle.mask_keys.specs.declared.composite_key.Part.{Part}
 use Rattle.mask_keys.specs.declared.outline_key.OutlineKey.{OutlineKey}
 use Rattle.mask_keys.specs.declared.plans.Clip.{Clip}
-use Rattle.mask_keys.specs.declared.plans.Draw.{Draw}
 use Rattle.override_tags.specs.declared.view.EventView.{EventView}
 use Rattle.override_tags.specs.declared.view.ShownKind.{ShownKind}
 use Rattle.override_tags.specs.declared.view.ShownKind.TheVariants as shown

@@ -1,9 +1,8 @@
 -- Pens, pixels, phases and sweeps that are moved by whole pixels.
-use Rattle.std.proofs.Common.{◌≡◌, refl, sym, ap, ap₂, ◌∙◌, ℕ, ◌+◌, ◌*◌, ◌<◌, ◌≤◌, Bool, true, false, ◌&&◌, ℤ, pos, negsuc, neg_ℤ, ◌+ℤ◌, ◌-ℤ◌, ◌*ℤ◌, ◌≤ℤ◌, ◌<ℤ◌, int_le, int_lt, unsigned_abs, subst, arith}
+use Rattle.std.proofs.Common.{◌≡◌, refl, sym, ap, ap₂, ◌∙◌, ℕ, ◌≤◌, true, ℤ, pos, negsuc, neg_ℤ, ◌+ℤ◌, ◌-ℤ◌, ◌*ℤ◌, ◌≤ℤ◌, ◌<ℤ◌, int_le, int_lt, subst, arith}
 use Rattle.std.proofs.lemmas.Bool.{and_parts}
 use Rattle.std.proofs.lemmas.Int.{ints, clamps}
-use Rattle.std.specs.Int.{int_rem_euclid}
-use Rattle.ass_num.proofs.Floor.{floor_div-above, floor_div-add_mul, floor_div-below, held_same}
+use Rattle.ass_num.proofs.Floor.{floor_div-above, floor_div-add_mul, floor_div-below}
 use Rattle.ass_num.proofs.OrderLemmas.{le_is, lt_is}
 use Rattle.ass_num.specs.Floor.{floor_div, held}
 use Rattle.ass_num.specs.Limits.{IsFrameSize, max_frame_side}
@@ -13,7 +12,6 @@ use Rattle.draw_numbers.specs.Limits.{max_pen, max_reach, sample}
 use Rattle.draw_numbers.specs.Pens.{held_pen, is_near_frame, pen_of, phase_of, pixel_of, point_difference, point_sum, reaches, spot_at, spot_of, turned_about}
 use Rattle.draw_numbers.specs.declared.pens.Spot.{Spot}
 use Rattle.draw_numbers.specs.declared.widths.Offsets.{Offsets}
-use Rattle.mask_keys.specs.Keys.{samples_across}
 use Rattle.outline_points.specs.Placing.{turned_point}
 
 -- so many columns and rows, as a length

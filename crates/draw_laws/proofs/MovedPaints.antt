@@ -1,23 +1,21 @@
 -- Fills on a stage that is moved by whole pixels: a sweep has come as much farther.
-use Rattle.std.proofs.Common.{◌≡◌, refl, sym, ap, ap₂, ◌∙◌, ℕ, ◌+◌, ◌-◌, ◌<◌, ◌≤◌, ◌==◌, Bool, true, false, cond, Option, Some, None, List, [], ◌∷◌, length, get_or, filter, flat_map, ℤ, pos, neg_ℤ, ◌+ℤ◌, ◌-ℤ◌, ◌*ℤ◌, ◌<ℤ◌, ◌≤ℤ◌, int_lt, subst, slice_get, arith}
+use Rattle.std.proofs.Common.{◌≡◌, refl, sym, ap, ap₂, ◌∙◌, ℕ, ◌-◌, ◌<◌, ◌≤◌, Bool, true, false, cond, Option, Some, None, List, [], ◌∷◌, length, get_or, ℤ, pos, neg_ℤ, ◌+ℤ◌, ◌-ℤ◌, ◌*ℤ◌, ◌<ℤ◌, ◌≤ℤ◌, int_lt, subst, slice_get, arith}
 use Rattle.std.specs.List.{All}
-use Rattle.std.specs.Option.{IfSome, option_map_or}
+use Rattle.std.specs.Option.{option_map_or}
 use Rattle.std.specs.Prelude.{slice_index_or}
 use Rattle.std.proofs.lemmas.Bool.{eq-eqb, false≢true}
 use Rattle.std.proofs.lemmas.Int.{ints, clamps}
-use Rattle.std.proofs.lemmas.List.Elements.{All-head}
 use Rattle.std.proofs.lemmas.Option.{none-some, slice_get-get_or}
 use Rattle.ass_num.proofs.Floor.{floor_div-add_mul}
 use Rattle.ass_num.proofs.OrderLemmas.{lt_is, lt_true}
 use Rattle.ass_num.specs.Floor.{floor_div, held}
 use Rattle.ass_num.specs.Limits.{IsFrameSize}
 use Rattle.ass_num.specs.declared.colour.Rgba.{Rgba}
-use Rattle.ass_num.specs.declared.geometry.Point.{Point}
 use Rattle.ass_num.specs.declared.size.Size.{Size}
-use Rattle.draw_numbers.specs.Colours.{fill_paint, is_awaited, is_swept, plain_paint, primary, secondary, sung_paint, swept_paint, swept_to}
+use Rattle.draw_numbers.specs.Colours.{is_awaited, is_swept, plain_paint, primary, secondary, sung_paint, swept_paint, swept_to}
 use Rattle.draw_numbers.specs.declared.colours.Paint.{Paint}
 use Rattle.event_draws.proofs.MaximalRuns.{runs_maximal}
-use Rattle.event_draws.specs.EventDraws.{is_sung_with, left_end, left_of, paint_of, right_end, right_of, same_syllable, sung_with}
+use Rattle.event_draws.specs.EventDraws.{is_sung_with, left_end, paint_of, right_end, right_of, same_syllable, sung_with}
 use Rattle.event_draws.specs.Items.{state_of}
 use Rattle.event_draws.specs.Runs.{runs_of}
 use Rattle.event_draws.specs.declared.stage.Stage.{Stage}

@@ -1,26 +1,24 @@
 -- The draws of runs and boxes on a stage that is moved by whole pixels.
-use Rattle.std.proofs.Common.{◌≡◌, refl, sym, ap, ◌∙◌, ℕ, Bool, true, false, cond, Option, Some, None, List, [], ◌∷◌, ◌==◌, map, flat_map, ℤ, subst, arith}
-use Rattle.std.specs.List.{All, AllZip, filter_map, slice_get}
+use Rattle.std.proofs.Common.{◌≡◌, refl, sym, ap, Bool, true, false, Option, Some, List, [], ◌∷◌, ◌==◌, map, ℤ, subst}
+use Rattle.std.specs.List.{All, AllZip}
 use Rattle.std.specs.Option.{IfSome, option_map_or}
 use Rattle.std.specs.Prelude.{slice_index_or}
 use Rattle.std.proofs.lemmas.List.Elements.{All-cons, All-head, All-nil, All-weaker}
 use Rattle.ass_num.specs.Limits.{IsFrameSize}
-use Rattle.ass_num.specs.declared.geometry.Point.{Point}
 use Rattle.bdf_font.specs.Fonts.{FontValue}
-use Rattle.draw_numbers.specs.Colours.{back_colour, outline_colour, plain_paint}
+use Rattle.draw_numbers.specs.Colours.{back_colour, outline_colour}
 use Rattle.draw_numbers.specs.Pens.{is_near_frame, spot_at}
 use Rattle.draw_numbers.specs.Widths.{are_no_offsets, are_no_radii, no_offsets, offsets_of}
 use Rattle.draw_numbers.specs.declared.colours.Paint.{Paint}
 use Rattle.draw_numbers.specs.declared.widths.Offsets.{Offsets}
 use Rattle.event_draws.proofs.ListAlls.{all-filter_map}
 use Rattle.event_draws.specs.Draws.{border_making, border_radii, box_border, box_making, box_mark, box_shadow, draw_of_marks, fill_making, offsets_in, run_border, run_fill, run_shadow}
-use Rattle.event_draws.specs.EventDraws.{boxed_style, is_boxed, line_runs, paint_of, row_borders, row_by, row_fills, row_shadows, run_of}
+use Rattle.event_draws.specs.EventDraws.{boxed_style, paint_of, row_borders, row_by, row_fills, row_shadows, run_of}
 use Rattle.event_draws.specs.Items.{state_of}
 use Rattle.event_draws.specs.Marks.{mark_of, marks_of}
 use Rattle.event_draws.specs.Runs.{runs_of}
 use Rattle.event_draws.specs.declared.stage.Stage.{Stage}
 use Rattle.mask_keys.specs.declared.plans.Clip.{Clip}
-use Rattle.mask_keys.specs.declared.plans.Draw.{Draw}
 use Rattle.override_tags.specs.declared.view.EventView.{EventView}
 use Rattle.override_tags.specs.declared.view.State.{State}
 use Rattle.text_layout.specs.declared.laid.Line.{Line}

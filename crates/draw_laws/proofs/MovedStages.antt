@@ -1,5 +1,5 @@
 -- Where an event stands whose places are moved by whole pixels.
-use Rattle.std.proofs.Common.{◌≡◌, refl, sym, ap, ap₂, ◌∙◌, ℕ, ◌*◌, ◌<◌, ◌≤◌, Option, Some, None, option_map, ℤ, pos, negsuc, ◌+ℤ◌, ◌-ℤ◌, ◌*ℤ◌, arith}
+use Rattle.std.proofs.Common.{◌≡◌, refl, sym, ap, ap₂, ◌∙◌, ℕ, ◌*◌, ◌≤◌, Option, Some, None, option_map, ℤ, pos, negsuc, ◌+ℤ◌, ◌*ℤ◌, arith}
 use Rattle.std.proofs.lemmas.Int.{ints}
 use Rattle.ass_events.specs.declared.event.Event.{Event}
 use Rattle.ass_num.proofs.Floor.{floor_div-add_mul, product-add}
@@ -8,16 +8,15 @@ use Rattle.ass_num.specs.declared.geometry.Point.{Point}
 use Rattle.ass_script.specs.Scripts.{ScriptValue}
 use Rattle.draw_numbers.specs.Pens.{point_sum}
 use Rattle.event_draws.specs.Stages.{moved_down, origin_by, stage_at}
-use Rattle.event_draws.specs.declared.stage.Stage.{Stage}
 use Rattle.frame_view.specs.FrameScales.{IsScales}
 use Rattle.frame_view.specs.declared.scales.Scales.{Scales}
 use Rattle.frame_view.specs.declared.view.FrameView.{FrameView}
 use Rattle.override_tags.specs.declared.view.EventView.{EventView}
-use Rattle.text_layout.specs.Anchors.{anchor, block_corner, on_ground, script_place}
+use Rattle.text_layout.specs.Anchors.{block_corner, on_ground, script_place}
 use Rattle.text_layout.specs.LineScales.{line_scales}
 use Rattle.text_layout.specs.Scales.{framed}
 use Rattle.text_layout.specs.declared.laid.Laid.{Laid}
-use Rattle.draw_laws.specs.Moves.{IsWholeMove, place_from, shown_at}
+use Rattle.draw_laws.specs.Moves.{IsWholeMove, place_farther, view_at}
 use Rattle.draw_laws.proofs.MovedMarks.{moved_stage}
 use Rattle.draw_laws.proofs.MovedNumbers.{same_point, whole_step}
 
@@ -51,7 +50,7 @@ length_moved len by columns pixels units some whole =
     ∙ floor_div-add_mul (len *ℤ pos (64 * pixels)) (pos 64 *ℤ columns) (1000 * units) (omega (arith, some))
 
 script_place_moved : (scales : Scales) (by place : ℤ × ℤ) (columns rows : ℤ) → IsScales scales → IsWholeMove scales by columns rows
-    → script_place scales (place_from by place) ≡ point_sum (script_place scales place) (whole_step columns rows)
+    → script_place scales (place_farther by place) ≡ point_sum (script_place scales place) (whole_step columns rows)
 script_place_moved scales by place columns rows scaled whole =
     same_point _ _ _ _ (length_moved place.0 by.0 columns scales.canvas.x.pixels scales.canvas.x.units scaled.canvas.x.some whole.across)
     (length_moved place.1 by.1 rows scales.canvas.y.pixels scales.canvas.y.units scaled.canvas.y.some whole.down)
@@ -60,7 +59,7 @@ ground_moved : (scales : Scales) (p by : Point) → on_ground scales (point_sum 
 ground_moved scales p by = same_point _ _ _ _ (omega (arith, ints)) (omega (arith, ints))
 
 place_moved : (scales : Scales) (by place : ℤ × ℤ) (columns rows : ℤ) → IsScales scales → IsWholeMove scales by columns rows
-    → on_ground scales (script_place scales (place_from by place)) ≡ point_sum (on_ground scales (script_place scales place)) (whole_step columns rows)
+    → on_ground scales (script_place scales (place_farther by place)) ≡ point_sum (on_ground scales (script_place scales place)) (whole_step columns rows)
 place_moved scales by place columns rows scaled whole =
     ap (on_ground scales) (script_place_moved scales by place columns rows scaled whole) ∙ ground_moved scales (script_place scales place) (whole_step columns rows)
 
@@ -74,20 +73,20 @@ corner_moved p by align width height = same_point _ _ _ _ (omega (arith, ints)) 
 
 origin_moved : (scales : Scales) (by : ℤ × ℤ) (columns rows : ℤ) (p q : Point) (origin : Option (ℤ × ℤ)) → IsScales scales → IsWholeMove scales by columns rows
     → q ≡ point_sum p (whole_step columns rows)
-    → origin_by scales q (option_map (place_from by) origin) ≡ point_sum (origin_by scales p origin) (whole_step columns rows)
+    → origin_by scales q (option_map (place_farther by) origin) ≡ point_sum (origin_by scales p origin) (whole_step columns rows)
 origin_moved scales by columns rows p q None scaled whole e = e
 origin_moved scales by columns rows p q (Some place) scaled whole e = place_moved scales by place columns rows scaled whole
 
 -- ---- stages
 
 pub stage_moved : (script : ScriptValue) (event : Event) (t : ℤ) (frame : FrameView) (view : EventView) (laid : Laid) (shift : ℤ) (place by : ℤ × ℤ) (origin : Option (ℤ × ℤ))
-    (columns rows : ℤ) → IsScales (line_scales script.header frame (shown_at view place origin)) → IsWholeMove (line_scales script.header frame (shown_at view place origin)) by columns rows
-    → stage_at script event t frame (shown_at view (place_from by place) (option_map (place_from by) origin)) laid shift
-    ≡ moved_stage (whole_step columns rows) (stage_at script event t frame (shown_at view place origin) laid shift)
+    (columns rows : ℤ) → IsScales (line_scales script.header frame (view_at view place origin)) → IsWholeMove (line_scales script.header frame (view_at view place origin)) by columns rows
+    → stage_at script event t frame (view_at view (place_farther by place) (option_map (place_farther by) origin)) laid shift
+    ≡ moved_stage (whole_step columns rows) (stage_at script event t frame (view_at view place origin) laid shift)
 stage_moved script event t frame view laid shift place by origin columns rows scaled whole =
-    let scales = line_scales script.header frame (shown_at view place origin) in
+    let scales = line_scales script.header frame (view_at view place origin) in
     let step = whole_step columns rows in
-    let old = stage_at script event t frame (shown_at view place origin) laid shift in
+    let old = stage_at script event t frame (view_at view place origin) laid shift in
     let at = on_ground scales (script_place scales place) in
     let there = place_moved scales by place columns rows scaled whole in
     let corner = ap (λ (p : Point). moved_down (block_corner p view.align laid.width laid.height) shift) there

@@ -1,13 +1,13 @@
 -- Quotients that are rounded down and held.
-use Rattle.std.proofs.Common.{◌≡◌, refl, sym, ap, ◌∙◌, ℕ, ◌+◌, ◌*◌, ◌<◌, ◌≤◌, ◌==◌, Bool, true, false, cond, ℤ, pos, negsuc, neg_ℤ, ◌+ℤ◌, ◌-ℤ◌, ◌*ℤ◌, ◌≤ℤ◌, ◌<ℤ◌, unsigned_abs, subst, arith}
-use Rattle.std.proofs.lemmas.Int.{clamps, ints}
+use Rattle.std.proofs.Common.{◌≡◌, refl, sym, ℕ, ◌*◌, ◌<◌, ◌≤◌, ℤ, pos, negsuc, neg_ℤ, ◌+ℤ◌, ◌-ℤ◌, ◌*ℤ◌, ◌≤ℤ◌, unsigned_abs, subst, arith}
+use Rattle.std.proofs.lemmas.Int.{ints}
 use Rattle.ass_num.proofs.Floor.{floor_div-above, floor_div-below, held_above, held_below, held_same, held_within}
 use Rattle.ass_num.specs.Floor.{floor_div, held}
 use Rattle.ass_num.specs.declared.geometry.Point.{Point}
 use Rattle.draw_numbers.specs.Clips.{clip_bound}
 use Rattle.draw_numbers.specs.Limits.{max_bound, max_pen, one_milli, sample}
-use Rattle.draw_numbers.specs.Pens.{pen_of, phase_of, pixel_of, spot_of}
-use Rattle.draw_numbers.specs.Widths.{blur_radius, offsets_of, passes, radii_of, radius, softness_of}
+use Rattle.draw_numbers.specs.Pens.{pen_of, phase_of, pixel_of}
+use Rattle.draw_numbers.specs.Widths.{blur_radius, radius}
 use Rattle.draw_numbers.specs.declared.widths.Offsets.{Offsets}
 use Rattle.frame_view.specs.FrameScales.{IsScales, magnified}
 use Rattle.frame_view.specs.Limits.{whole_letter_scale}
@@ -15,7 +15,7 @@ use Rattle.frame_view.specs.declared.scales.Ratio.{Ratio}
 use Rattle.frame_view.specs.declared.scales.Scales.{Scales}
 use Rattle.mask_keys.specs.Keys.{max_blur_radius, max_border, max_passes, samples_across}
 use Rattle.override_tags.specs.declared.view.State.{State}
-use Rattle.draw_laws.specs.Rounding.{ArePensRounded, AreWidthsOf, HasSamples, IsBoundOf, IsHeldIn, IsHeldQuotient, IsPenOf, IsQuotient, IsRadius, IsSoftnessOf, IsSpotOf}
+use Rattle.draw_laws.specs.Rounding.{ArePensRounded, AreWidthsOf, HasSamples, IsBoundOf, IsHeldBetween, IsHeldQuotient, IsQuotient, IsRadius, IsSoftnessOf}
 use Rattle.draw_laws.proofs.DrawnParts.{phase_small}
 use Rattle.draw_laws.proofs.MovedNumbers.{phase_is}
 
@@ -24,7 +24,7 @@ use Rattle.draw_laws.proofs.MovedNumbers.{phase_is}
 quotient_is : (a : ℤ) (n : ℕ) → 0 < n → IsQuotient a (pos n) (floor_div a (pos n))
 quotient_is a n some = record { least = floor_div-below a n some; most = floor_div-above a n some }
 
-held_is : (from to z : ℤ) → from ≤ℤ to → IsHeldIn from to z (held from to z)
+held_is : (from to z : ℤ) → from ≤ℤ to → IsHeldBetween from to z (held from to z)
 held_is from to z range = record {
   within = λ low high. held_same from to z low high;
   below = λ low. held_below from to z range (omega (arith, ints, low));
@@ -43,7 +43,7 @@ held_quotient most a n some =
     record {
       quotient = q;
       whole = quotient_is a n some;
-      held = subst (λ (z : ℤ). IsHeldIn (pos 0) (pos most) q z) (sym (abs_is (held (pos 0) (pos most) q) (held_within (pos 0) (pos most) q range).0)) (held_is (pos 0) (pos most) q range);
+      held = subst (λ (z : ℤ). IsHeldBetween (pos 0) (pos most) q z) (sym (abs_is (held (pos 0) (pos most) q) (held_within (pos 0) (pos most) q range).0)) (held_is (pos 0) (pos most) q range);
     }
 
 -- ---- widths

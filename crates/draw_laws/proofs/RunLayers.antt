@@ -1,23 +1,20 @@
 -- The draws of a run: its shadow, its border and its fill.
-use Rattle.std.proofs.Common.{◌≡◌, refl, sym, ap, ◌∙◌, ℕ, ◌==◌, Bool, true, false, ◌&&◌, ◌||◌, cond, Option, Some, None, List, [], ◌∷◌, ℤ, pos, ◌<ℤ◌, int_lt, subst, arith}
+use Rattle.std.proofs.Common.{◌≡◌, refl, sym, ap, ◌∙◌, ℕ, ◌==◌, Bool, true, false, ◌&&◌, ◌||◌, cond, Option, Some, None, List, [], ◌∷◌, ℤ, pos, ◌<ℤ◌, int_lt, subst}
 use Rattle.std.specs.List.{All, filter_map}
-use Rattle.std.specs.Option.{IfSome, option_map_or}
+use Rattle.std.specs.Option.{option_map_or}
 use Rattle.std.specs.Ordering.{int_eq}
 use Rattle.std.proofs.lemmas.Bool.{and_parts, eqb-true, false≢true}
-use Rattle.std.proofs.lemmas.Int.{ints}
 use Rattle.std.proofs.lemmas.List.Elements.{All-nil}
 use Rattle.ass_num.proofs.OrderLemmas.{lt_is, lt_true}
 use Rattle.ass_num.proofs.RegionLemmas.{zero_test}
 use Rattle.ass_num.specs.declared.colour.Rgba.{Rgba}
 use Rattle.ass_num.specs.declared.geometry.Point.{Point}
-use Rattle.bdf_font.specs.Fonts.{FontValue}
 use Rattle.draw_numbers.specs.Colours.{faded_colour, fill_paint, is_outlined, lacks_border, plain_paint}
 use Rattle.draw_numbers.specs.Widths.{are_no_offsets, are_no_radii, no_offsets, no_radii, no_softness, offsets_of, radii_of, softness_of}
 use Rattle.draw_numbers.specs.declared.colours.Paint.{Paint}
 use Rattle.draw_numbers.specs.declared.widths.Offsets.{Offsets}
 use Rattle.draw_numbers.specs.declared.widths.Radii.{Radii}
-use Rattle.draw_numbers.specs.declared.widths.Softness.{Softness}
-use Rattle.event_draws.specs.Draws.{border_making, border_radii, box_border, box_making, box_mark, box_shadow, draw_of, draw_of_marks, fill_making, fill_softness, offsets_in, run_border, run_fill, run_shadow, softness_in, stamps_of}
+use Rattle.event_draws.specs.Draws.{border_making, border_radii, box_border, box_mark, box_shadow, draw_of, draw_of_marks, fill_making, run_border, run_fill, run_shadow, softness_in, stamps_of}
 use Rattle.event_draws.specs.declared.stage.Stage.{Stage}
 use Rattle.mask_keys.specs.declared.outline_key.OutlineKey.{OutlineKey}
 use Rattle.mask_keys.specs.declared.plans.Clip.{Clip}
@@ -28,7 +25,7 @@ use Rattle.tag_arguments.specs.declared.kinds.Sung.{Sung}
 use Rattle.tag_arguments.specs.declared.kinds.Sung.TheVariants.{Jump, Outline, Sweep}
 use Rattle.text_layout.specs.declared.laid.Line.{Line}
 use Rattle.text_layout.specs.declared.laid.Placed.{Placed}
-use Rattle.draw_laws.specs.Layers.{AreBorderRadii, AreMasksOf, AwaitsBorder, IsBoxDrawn, IsCast, IsFillDraw, IsPlainDraw, IsRunDrawn, IsSoftenedBare, LineDraws, RunDraws, box_left, pen_in}
+use Rattle.draw_laws.specs.Layers.{AreBorderRadii, AreMasksOf, AwaitsBorder, IsBoxDrawn, IsCast, IsFillDraw, IsPlainDraw, IsRunDrawn, IsSoftenedBare, RunDraws, box_left}
 use Rattle.draw_laws.specs.Parts.{AreDrawn, AreMadeBy}
 use Rattle.draw_laws.specs.Shades.{back_of, outline_of}
 use Rattle.draw_laws.proofs.DrawnParts.{LeaveMarks, draw_made, drawn_together, each_made, making_pen, masks_drawn, no_cons, parts_made}

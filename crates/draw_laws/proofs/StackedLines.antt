@@ -1,5 +1,5 @@
 -- Lines of a layout lie below one another, and their items side by side.
-use Rattle.std.proofs.Common.{◌≡◌, refl, sym, ap, ◌∙◌, ℕ, zero, suc, ◌+◌, ◌-◌, ◌<◌, ◌≤◌, ◌%◌, ◌==◌, Bool, true, false, cond, inl, inr, List, [], ◌∷◌, ◌++◌, length, get_or, map, fold, ℤ, pos, ◌+ℤ◌, ◌-ℤ◌, ◌*ℤ◌, ◌≤ℤ◌, ◌<ℤ◌, subst, arith}
+use Rattle.std.proofs.Common.{◌≡◌, refl, sym, ap, ◌∙◌, ℕ, zero, suc, ◌+◌, ◌-◌, ◌≤◌, ◌%◌, ◌==◌, Bool, true, false, cond, List, [], ◌∷◌, length, map, fold, ℤ, pos, ◌+ℤ◌, ◌-ℤ◌, ◌*ℤ◌, ◌≤ℤ◌, ◌<ℤ◌, subst, arith}
 use Rattle.std.specs.List.{All, range_with_len, zip}
 use Rattle.std.specs.Prelude.{slice_index_or}
 use Rattle.std.proofs.lemmas.Bool.{eq-eqb, eqb-true, false≢true}
@@ -9,12 +9,11 @@ use Rattle.std.proofs.lemmas.List.Elements.{All-cons, All-head, All-map, All-nil
 use Rattle.std.proofs.lemmas.Slice.Zip.{length-zip}
 use Rattle.ass_events.specs.declared.event.Event.{Event}
 use Rattle.ass_num.proofs.Floor.{floor_div-above, floor_div-below}
-use Rattle.ass_num.specs.Floor.{floor_div}
 use Rattle.ass_script.specs.Scripts.{ScriptValue}
 use Rattle.bdf_font.specs.Fonts.{FontValue}
 use Rattle.event_draws.proofs.LineSpans.{lines-spans, paragraphs-spans}
 use Rattle.frame_view.specs.declared.view.FrameView.{FrameView}
-use Rattle.line_layout.specs.Breaks.{pen, width}
+use Rattle.line_layout.specs.Breaks.{width}
 use Rattle.override_tags.specs.declared.view.EventView.{EventView}
 use Rattle.override_tags.specs.declared.view.Shown.{Shown}
 use Rattle.text_layout.proofs.BlockLemmas.{line-advance}
@@ -24,9 +23,9 @@ use Rattle.text_layout.specs.Anchors.{edge_across, edge_within, margins_of, wrap
 use Rattle.text_layout.specs.Clusters.{cluster_ends}
 use Rattle.text_layout.specs.Extents.{item_extents}
 use Rattle.text_layout.specs.Kinds.{chars_of, roles_of}
-use Rattle.text_layout.specs.Layouts.{IsLaid, laid_out}
+use Rattle.text_layout.specs.Layouts.{IsLaid}
 use Rattle.text_layout.specs.LineScales.{line_scales}
-use Rattle.text_layout.specs.Lines.{advances_of, block_height, block_width, heights_of, line_at, line_extent, line_extents, lines_from, placed_from, placed_in, placed_item}
+use Rattle.text_layout.specs.Lines.{advances_of, block_width, heights_of, line_at, line_extent, line_extents, lines_from, placed_from, placed_in, placed_item}
 use Rattle.text_layout.specs.Metrics.{all_metrics}
 use Rattle.text_layout.specs.Spans.{AreSpans, paragraphs_of}
 use Rattle.text_layout.specs.declared.extents.Extent.{Extent}

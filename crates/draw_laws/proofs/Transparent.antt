@@ -1,5 +1,5 @@
 -- A fade of 255 leaves nothing of a colour.
-use Rattle.std.proofs.Common.{◌≡◌, refl, ap, ℕ, ◌*◌, ◌+◌, ◌-◌, ◌/◌, Bool, true, false, cond, Option, Some, None, List, [], ◌∷◌, ◌++◌, flat_map, filter, ℤ, subst, sym, arith}
+use Rattle.std.proofs.Common.{◌≡◌, ℕ, ◌*◌, ◌+◌, ◌-◌, ◌/◌, Bool, true, false, cond, Option, Some, None, List, [], ◌∷◌, ◌++◌, flat_map, ℤ, subst, sym, arith}
 use Rattle.std.specs.List.{All}
 use Rattle.std.specs.Option.{IfSome}
 use Rattle.std.specs.Prelude.{slice_index_or}
@@ -13,8 +13,8 @@ use Rattle.draw_numbers.specs.Widths.{are_no_offsets, are_no_radii, no_offsets}
 use Rattle.draw_numbers.specs.declared.colours.Paint.{Paint}
 use Rattle.event_draws.proofs.ListAlls.{all-filter_map, all-flat_map, all_none_if}
 use Rattle.event_draws.specs.Clips.{clip_by}
-use Rattle.event_draws.specs.Draws.{border_making, border_radii, box_border, box_making, box_mark, box_shadow, draw_of, fill_making, offsets_in, run_border, run_fill, run_shadow, stamps_of}
-use Rattle.event_draws.specs.EventDraws.{draw_rows, event_draws, is_boxed, left_end, line_runs, paint_of, right_end, row_borders, row_by, row_fills, row_on, row_shadows, run_of, sung_with}
+use Rattle.event_draws.specs.Draws.{border_making, border_radii, box_border, box_making, box_shadow, draw_of, fill_making, offsets_in, run_border, run_fill, run_shadow}
+use Rattle.event_draws.specs.EventDraws.{draw_rows, event_draws, is_boxed, left_end, right_end, row_borders, row_by, row_fills, row_on, row_shadows, run_of, sung_with}
 use Rattle.event_draws.specs.Items.{items_of, state_of}
 use Rattle.event_draws.specs.MovedDraws.{AreMovedDraws}
 use Rattle.event_draws.specs.Runs.{runs_of}

@@ -1,5 +1,5 @@
 -- The types of event_draws and text_layout that their definitions speak of, by what the definitions give.
-use Rattle.std.proofs.Common.{List, Option, ℕ}
+use Rattle.std.proofs.Common.{Option}
 use Rattle.event_draws.specs.Draws.{fill_making, stamp_of}
 use Rattle.event_draws.specs.EventDraws.{row_on, run_of}
 use Rattle.event_draws.specs.Marks.{mark_of}

@@ -39,8 +39,8 @@ use Rattle.text_layout.specs.Scales.{drawing_matrix}
 use Rattle.text_layout.specs.declared.laid.Laid.{Laid}
 use Rattle.text_layout.specs.declared.laid.Line.{Line}
 use Rattle.text_layout.specs.declared.laid.Placed.{Placed}
-use Rattle.draw_laws.specs.Parts.{AreDrawn, AreMadeBy, AreTogether}
-use Rattle.draw_laws.specs.Shades.{HasOneColour, IsFilled, back_of, outline_of}
+use Rattle.draw_laws.specs.Parts.{AreDrawn, AreMadeBy, LieTogether}
+use Rattle.draw_laws.specs.Shades.{HasOneColour, HasFillColours, back_of, outline_of}
 
 -- ---- lines and runs
 
@@ -124,7 +124,7 @@ pub record IsPlainDraw (stage : Stage) (radii : Radii) (state : State) (own : Rg
 
 -- A fill isn't widened.
 pub record IsFillDraw (stage : Stage) (state : State) (bounds : Clip) (draw : Draw) : Type 0 where
-  pub colours : IsFilled stage.fade stage.elapsed state draw
+  pub colours : HasFillColours stage.fade stage.elapsed state draw
   pub clip : draw.clip ≡ bounds
 
 -- The masks of what is left of some items in a state, moved by offsets, are drawn, and each draw passes.
@@ -141,7 +141,7 @@ pub record IsCast (stage : Stage) (leaves : Placed → Option (OutlineKey × Poi
 -- A fill is softened, as its state says, just where there is no border at its place.
 pub record IsSoftenedBare (stage : Stage) (state : State) (border fill : List Draw) : Type 0 where
   pub bare : border ≡ [] → All (AreMadeBy no_radii (softness_of stage.scales state)) fill
-  pub bordered : (under : Draw) → border ≡ under ∷ [] → (over : Draw) × (fill ≡ over ∷ []) × AreTogether under over × AreMadeBy no_radii no_softness over
+  pub bordered : (under : Draw) → border ≡ under ∷ [] → (over : Draw) × (fill ≡ over ∷ []) × LieTogether under over × AreMadeBy no_radii no_softness over
 
 -- The draws of a run in its state, in a line that has a box or has none.
 pub record IsRunDrawn (stage : Stage) (leaves : Placed → Option (OutlineKey × Point)) (boxed : Bool) (clip : Clip) (state : State) (run : RunDraws) : Type 0 where
@@ -179,7 +179,7 @@ pub record IsLineDrawn (stage : Stage) (fonts : List FontValue) (view : EventVie
 -- ---- the law
 
 -- The draws of an event that stands there are those of its lines, in layers.
-pub record AreEventDraws (stage : Stage) (fonts : List FontValue) (view : EventView) (laid : Laid) (draws : List Draw) : Type 0 where
+pub record AreLayeredDraws (stage : Stage) (fonts : List FontValue) (view : EventView) (laid : Laid) (draws : List Draw) : Type 0 where
   pub lines : List LineDraws
   pub each : AllZip (λ (line : Line) (lined : LineDraws). IsLineDrawn stage fonts view line (items_of laid line) lined) laid.lines lines
   pub whole : draws ≡ in_layers lines
@@ -188,4 +188,4 @@ abbrev pub EventsAreDrawnInLayers : Type 0
 EventsAreDrawnInLayers =
     (script : ScriptValue) (fonts : List FontValue) (event : Event) (t : ℤ) (frame : FrameView) (shift : ℤ) (draws : List Draw)
     (drawn : AreMovedDraws script fonts event t frame shift draws)
-    → AreEventDraws (stage_at script event t frame drawn.view drawn.laid shift) fonts drawn.view drawn.laid draws
+    → AreLayeredDraws (stage_at script event t frame drawn.view drawn.laid shift) fonts drawn.view drawn.laid draws

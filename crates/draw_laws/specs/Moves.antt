@@ -1,6 +1,6 @@
 -- Public: an event whose places are moved by whole pixels of the frame.
 -- (Aegisub tag reference, "\pos", "\org", "\kf".)
-use Rattle.std.specs.Prelude.{◌≡◌, ◌*◌, List, [], ◌∷◌, All, IfSome, Option, Some, slice_get, true, if◌then◌else◌, ℤ, pos, ◌+ℤ◌, ◌*ℤ◌, ◌≤ℤ◌, ◌<ℤ◌, int_lt}
+use Rattle.std.specs.Prelude.{◌≡◌, ◌*◌, List, All, IfSome, Option, Some, slice_get, true, if◌then◌else◌, ℤ, pos, ◌+ℤ◌, ◌*ℤ◌, ◌≤ℤ◌, ◌<ℤ◌, int_lt}
 use Rattle.std.specs.List.{AllZip}
 use Rattle.std.specs.Option.{option_map}
 use Rattle.ass_events.specs.declared.event.Event.{Event}
@@ -36,8 +36,8 @@ use Rattle.text_layout.specs.declared.laid.Placed.{Placed}
 -- ---- draws
 
 -- the colour that a draw has in a column of the frame
-abbrev pub colour_in : Draw → ℤ → Rgba
-colour_in draw column = if int_lt column draw.edge then draw.left else draw.right
+abbrev pub column_colour : Draw → ℤ → Rgba
+column_colour draw column = if int_lt column draw.edge then draw.left else draw.right
 
 -- The frame has such a column.
 pub record IsColumn (size : Size) (column : ℤ) : Type 0 where
@@ -52,18 +52,18 @@ pub record IsMovedDraw (size : Size) (columns rows : ℤ) (draw moved : Draw) : 
   pub y : moved.y ≡ draw.y +ℤ rows
   pub left : moved.left ≡ draw.left
   pub right : moved.right ≡ draw.right
-  pub sweep : (column : ℤ) → IsColumn size column → IsColumn size (column +ℤ columns) → colour_in moved (column +ℤ columns) ≡ colour_in draw column
+  pub sweep : (column : ℤ) → IsColumn size column → IsColumn size (column +ℤ columns) → column_colour moved (column +ℤ columns) ≡ column_colour draw column
   pub clip : moved.clip ≡ draw.clip
 
 -- ---- places
 
 -- a place of the script, so far from another one
-abbrev pub place_from : ℤ × ℤ → ℤ × ℤ → ℤ × ℤ
-place_from by place = (place.0 +ℤ by.0, place.1 +ℤ by.1)
+abbrev pub place_farther : ℤ × ℤ → ℤ × ℤ → ℤ × ℤ
+place_farther by place = (place.0 +ℤ by.0, place.1 +ℤ by.1)
 
 -- what an event shows, at this place of `\pos` and about this one of `\org`, if there is one
-abbrev pub shown_at : EventView → ℤ × ℤ → Option (ℤ × ℤ) → EventView
-shown_at view place origin = record view { pos = Some place; org = origin }
+abbrev pub view_at : EventView → ℤ × ℤ → Option (ℤ × ℤ) → EventView
+view_at view place origin = record view { pos = Some place; org = origin }
 
 -- So far across and down the script, in thousandths of its pixels, are so many columns and rows of the frame, and no part of one.
 pub record IsWholeMove (scales : Scales) (by : ℤ × ℤ) (columns rows : ℤ) : Type 0 where
@@ -112,6 +112,6 @@ WholePixelsMoveDraws =
     (script : ScriptValue) (fonts : List FontValue) (event : Event) (t : ℤ) (frame : FrameView) (view : EventView) (place by : ℤ × ℤ) (origin : Option (ℤ × ℤ))
     (columns rows : ℤ)
     → IsFrameSize frame.size
-    → IsScales (line_scales script.header frame (shown_at view place origin))
-    → IsWholeMove (line_scales script.header frame (shown_at view place origin)) by columns rows
-    → AreMovedAlike script fonts event t frame (shown_at view place origin) (shown_at view (place_from by place) (option_map (place_from by) origin)) columns rows
+    → IsScales (line_scales script.header frame (view_at view place origin))
+    → IsWholeMove (line_scales script.header frame (view_at view place origin)) by columns rows
+    → AreMovedAlike script fonts event t frame (view_at view place origin) (view_at view (place_farther by place) (option_map (place_farther by) origin)) columns rows

@@ -38,7 +38,7 @@ abbrev pub IsLeftOut : (Placed → Option (OutlineKey × Point)) → (Point → 
 IsLeftOut leaves samples size item = IfSome (leaves item) (λ (mark : OutlineKey × Point). MayReach size (samples mark.1) → ⊥)
 
 -- A part of a draw is the mask that an item leaves.
-pub record IsPartOf (leaves : Placed → Option (OutlineKey × Point)) (samples : Point → Point) (size : Size) (draw : Draw) (item : Placed) (part : Part) : Type 0 where
+pub record IsItemMask (leaves : Placed → Option (OutlineKey × Point)) (samples : Point → Point) (size : Size) (draw : Draw) (item : Placed) (part : Part) : Type 0 where
   pub pen : Point
   pub left : leaves item ≡ Some (part.mask.outline, pen)
   pub near : MayReach size (samples pen)
@@ -49,7 +49,7 @@ abbrev pub AreParts : (Placed → Option (OutlineKey × Point)) → (Point → P
 AreParts leaves samples size draw [] parts = parts ≡ []
 AreParts leaves samples size draw (item ∷ items) parts =
     (IsLeftOut leaves samples size item × AreParts leaves samples size draw items parts)
-    ⊎ ((part : Part) × (rest : List Part) × (parts ≡ part ∷ rest) × IsPartOf leaves samples size draw item part × AreParts leaves samples size draw items rest)
+    ⊎ ((part : Part) × (rest : List Part) × (parts ≡ part ∷ rest) × IsItemMask leaves samples size draw item part × AreParts leaves samples size draw items rest)
 
 -- ---- draws
 
@@ -68,14 +68,14 @@ AreDrawn leaves samples size items (draw ∷ []) = AreParts leaves samples size 
 AreDrawn leaves samples size items (draw ∷ others) = ⊥
 
 -- Its masks are widened by radii, and softened.
-pub record IsMadeBy (radii : Radii) (softness : Softness) (part : Part) : Type 0 where
+pub record IsMaskMadeBy (radii : Radii) (softness : Softness) (part : Part) : Type 0 where
   pub rx : part.mask.rx ≡ radii.x
   pub ry : part.mask.ry ≡ radii.y
   pub edges : part.mask.edges ≡ softness.edges
   pub blur : part.mask.blur ≡ softness.blur
 
 abbrev pub AreMadeBy : Radii → Softness → Draw → Type 0
-AreMadeBy radii softness draw = All (IsMadeBy radii softness) draw.key.parts
+AreMadeBy radii softness draw = All (IsMaskMadeBy radii softness) draw.key.parts
 
 -- Two masks of one outline, at one place.
 pub record HaveOnePlace (a b : Part) : Type 0 where
@@ -86,7 +86,7 @@ pub record HaveOnePlace (a b : Part) : Type 0 where
   pub dy : a.dy ≡ b.dy
 
 -- Two draws have the masks of the same outlines, at the same places.
-pub record AreTogether (a b : Draw) : Type 0 where
+pub record LieTogether (a b : Draw) : Type 0 where
   pub x : a.x ≡ b.x
   pub y : a.y ≡ b.y
   pub parts : AllZip HaveOnePlace a.key.parts b.key.parts

@@ -1,6 +1,6 @@
 -- Public: the numbers of draws are those of the script, rounded and held within their ranges.
 -- (Aegisub tag reference, "\bord", "\shad", "\be", "\blur", "\clip"; Advanced SubStation Alpha, "ScaledBorderAndShadow".)
-use Rattle.std.specs.Prelude.{◌≡◌, ℕ, ◌+◌, ◌*◌, ◌<◌, ◌≤◌, ℤ, pos, neg_ℤ, ◌+ℤ◌, ◌*ℤ◌, ◌≤ℤ◌, ◌<ℤ◌}
+use Rattle.std.specs.Prelude.{◌≡◌, ℕ, ◌*◌, ◌<◌, ◌≤◌, ℤ, pos, neg_ℤ, ◌+ℤ◌, ◌*ℤ◌, ◌≤ℤ◌, ◌<ℤ◌}
 use Rattle.ass_num.specs.declared.geometry.Point.{Point}
 use Rattle.draw_numbers.specs.Clips.{clip_bound}
 use Rattle.draw_numbers.specs.Limits.{max_bound, max_pen, one_milli, sample}
@@ -23,7 +23,7 @@ pub record IsQuotient (a b q : ℤ) : Type 0 where
   pub most : a <ℤ ((q *ℤ b) +ℤ b)
 
 -- n is a number if that lies in a range, and else the end of the range that is nearest to it
-pub record IsHeldIn (from to z n : ℤ) : Type 0 where
+pub record IsHeldBetween (from to z n : ℤ) : Type 0 where
   pub within : from ≤ℤ z → z ≤ℤ to → n ≡ z
   pub below : z <ℤ from → n ≡ from
   pub above : to <ℤ z → n ≡ to
@@ -32,7 +32,7 @@ pub record IsHeldIn (from to z n : ℤ) : Type 0 where
 pub record IsHeldQuotient (from to a b n : ℤ) : Type 0 where
   pub quotient : ℤ
   pub whole : IsQuotient a b quotient
-  pub held : IsHeldIn from to quotient n
+  pub held : IsHeldBetween from to quotient n
 
 -- ---- widths
 
@@ -75,8 +75,8 @@ pub record IsPenOf (p : Point) (offsets : Offsets) (pen : Point) : Type 0 where
   pub row : ℤ
   pub across : IsQuotient p.x (pos sample) column
   pub down : IsQuotient p.y (pos sample) row
-  pub x : IsHeldIn (neg_ℤ (pos max_pen)) (pos max_pen) (column +ℤ offsets.x) pen.x
-  pub y : IsHeldIn (neg_ℤ (pos max_pen)) (pos max_pen) (row +ℤ offsets.y) pen.y
+  pub x : IsHeldBetween (neg_ℤ (pos max_pen)) (pos max_pen) (column +ℤ offsets.x) pen.x
+  pub y : IsHeldBetween (neg_ℤ (pos max_pen)) (pos max_pen) (row +ℤ offsets.y) pen.y
 
 pub record ArePensRounded (p : Point) (offsets : Offsets) : Type 0 where
   pub pen : IsPenOf p offsets (pen_of p offsets)
@@ -91,7 +91,7 @@ PensAreRounded = (p : Point) (offsets : Offsets) → ArePensRounded p offsets
 pub record IsBoundOf (begin coordinate : ℤ) (ratio : Ratio) (bound : ℤ) : Type 0 where
   pub pixel : ℤ
   pub whole : IsQuotient (coordinate *ℤ pos ratio.pixels) (pos (one_milli * ratio.units)) pixel
-  pub held : IsHeldIn (neg_ℤ (pos max_bound)) (pos max_bound) (begin +ℤ pixel) bound
+  pub held : IsHeldBetween (neg_ℤ (pos max_bound)) (pos max_bound) (begin +ℤ pixel) bound
 
 abbrev pub ClipBoundsAreRounded : Type 0
 ClipBoundsAreRounded = (begin coordinate : ℤ) (ratio : Ratio) → 1 ≤ ratio.units → IsBoundOf begin coordinate ratio (clip_bound begin coordinate ratio)

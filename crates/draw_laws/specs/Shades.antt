@@ -40,13 +40,13 @@ pub record HasOneColour (fade : ℕ) (colour : Rgba) (draw : Draw) : Type 0 wher
   pub same : draw.right ≡ draw.left
 
 -- It is swept: primary at the left, and secondary at the right.
-pub record IsSwept (fade : ℕ) (state : State) (draw : Draw) : Type 0 where
+pub record HasBothColours (fade : ℕ) (state : State) (draw : Draw) : Type 0 where
   pub left : IsLeftOf fade (primary_of state) draw.left
   pub right : IsLeftOf fade (secondary_of state) draw.right
 
 -- A fill is primary, but before its syllable begins it is secondary, and while a syllable is swept it is both.
-pub record IsFilled (fade : ℕ) (elapsed : ℤ) (state : State) (draw : Draw) : Type 0 where
+pub record HasFillColours (fade : ℕ) (elapsed : ℤ) (state : State) (draw : Draw) : Type 0 where
   pub unsung : state.sung ≡ None → HasOneColour fade (primary_of state) draw
   pub awaited : (s : Syllable) → state.sung ≡ Some s → elapsed <ℤ s.begin → HasOneColour fade (secondary_of state) draw
-  pub swept : (s : Syllable) → state.sung ≡ Some s → s.kind ≡ Sweep → s.begin ≤ℤ elapsed → elapsed <ℤ s.end → IsSwept fade state draw
+  pub swept : (s : Syllable) → state.sung ≡ Some s → s.kind ≡ Sweep → s.begin ≤ℤ elapsed → elapsed <ℤ s.end → HasBothColours fade state draw
   pub sung : (s : Syllable) → state.sung ≡ Some s → s.begin ≤ℤ elapsed → (s.kind ≡ Sweep → s.end ≤ℤ elapsed) → HasOneColour fade (primary_of state) draw
