@@ -1,4 +1,0 @@
-use Rattle.ass_io.proofs.failing_sink.FailingSink.bytes.Statement.{statement}
-
-pub bytes_spec : {M : Type 1} → statement M
-bytes_spec = ?
