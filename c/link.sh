@@ -16,7 +16,7 @@ trap 'rm -rf "$room"' EXIT
 mkdir "$room/include"
 cd "$room/include"
 echo '#define bool _Bool' > stdbool.h
-echo 'typedef __SIZE_TYPE__ size_t;' > stddef.h
+printf 'typedef __SIZE_TYPE__ size_t;\n#define NULL ((void *)0)\n' > stddef.h
 cat > stdint.h << 'LINES'
 typedef __UINT8_TYPE__ uint8_t;
 typedef __INT32_TYPE__ int32_t;
@@ -24,9 +24,14 @@ typedef __UINT32_TYPE__ uint32_t;
 typedef __INT64_TYPE__ int64_t;
 typedef __UINT64_TYPE__ uint64_t;
 LINES
+echo 'int sched_yield(void);' > sched.h
+mkdir sys
+cat > sys/select.h << 'LINES'
+struct timeval { long tv_sec, tv_usec; };
+int select(int count, void *reads, void *writes, void *others, struct timeval *time);
+LINES
 cat > stdlib.h << 'LINES'
 #include <stddef.h>
-#define NULL ((void *)0)
 void *malloc(size_t bytes);
 void *realloc(void *block, size_t bytes);
 void free(void *block);

@@ -1,8 +1,8 @@
 #!/usr/bin/env bash
 # Tests the library from C: the demo's frames beside those of `./vimalorua frame`, pictures beside their lists, by one
-# thread and by four in turn, every status, and every call for memory refused; plainly, and under the sanitizers where
-# the compiler has them. Then the shared library beside the archive, what both show of names, the headers in each C and
-# C++, and the library from Python and Rust.
+# thread and by four in turn, every status, every call for memory refused, and seats in eight threads; plainly, and under
+# the sanitizers where the compiler has them. Then the shared library beside the archive, what both show of names, the
+# headers in each C and C++, and the library from Python and Rust.
 #
 #   c/test.sh [ARCHIVE]     without it release/libvimalorua.a
 #
@@ -84,7 +84,9 @@ shared_alone() {
     nm -D --defined-only "$shared" | awk '$2 != "A" { sub(/@.*/, "", $3); print $3 }' | sort | diff "$work/declared" -
     nm -D --defined-only "$shared" | sed -n 's/.* vimalorua_\(.*\)@@VIMALORUA_\(1[.].*\)$/\2 \1/p' | sort > "$work/later"
     printf '%s\n' '1.2 draw_in' '1.2 images_in' '1.3 status_text' '1.4 add_fonts' '1.4 add_script_fonts' \
-        '1.4 font_names' | diff - "$work/later"
+        '1.4 font_names' '1.5 leave' '1.5 seat_copy' '1.5 seat_set_budget' '1.5 share' '1.5 split' '1.5 try_draw' \
+        '1.5 try_draw_in' '1.5 try_feed' '1.5 try_feed_lines' '1.5 try_flush' '1.5 try_list' '1.5 try_list_in' |
+        diff - "$work/later"
     readelf -d "$shared" | sed -n 's/.*(\(SONAME\|NEEDED\)).*\[\(.*\)\]/\1 \2/p' | sort > "$work/needs"
     printf 'NEEDED libc.so.6\nSONAME libvimalorua.so.1\n' | diff - "$work/needs"
     (cd "$work/plain" && "$cc" -o shared demo.o files.o "$shared" "-Wl,-rpath,${shared%/*}")
@@ -246,6 +248,9 @@ for kind in $kinds; do
     frames "$kind" 1000 8000 1500 320x180 "$top/examples/dialogue.ass" "$top/examples/letters.ttf"
     echo "test.sh: $kind passed"
 done
+# shellcheck disable=SC2086
+"$here/threads.sh" "$archive" $kinds
+echo 'test.sh: seats in eight threads passed'
 shared_alone
 echo 'test.sh: the shared library passed'
 from_page

@@ -1,5 +1,5 @@
 /* What C puts to the proved library: a place for null pointers to 0 items, views as far as a program knows them,
- * closing, and texts of statuses. */
+ * closing and leaving, and texts of statuses. */
 #include "vimalorua.h"
 
 /* The proved library's calls that others stand before. None of their pointers is null. */
@@ -20,6 +20,17 @@ int32_t vimalorua_images_by_numbers(vimalorua *handle, int64_t ms, const vimalor
 int32_t vimalorua_copy_images_proved(vimalorua *handle, vimalorua_image *images, size_t count, uint8_t *masks,
                                      size_t bytes);
 void vimalorua_shut(vimalorua handle);
+int32_t vimalorua_try_feed_proved(vimalorua_seat *seat, const uint8_t *chunk, size_t chunk_len, int64_t start,
+                                  int64_t duration, uint32_t *field, size_t *place);
+int32_t vimalorua_try_draw_proved(vimalorua_seat *seat, int64_t ms, uint32_t w, uint32_t h, uint8_t *out,
+                                  size_t out_len, size_t *entries);
+int32_t vimalorua_try_draw_by_numbers(vimalorua_seat *seat, int64_t ms, const vimalorua_view *numbers, uint8_t *out,
+                                      size_t out_len, size_t *entries);
+int32_t vimalorua_try_list_by_numbers(vimalorua_seat *seat, int64_t ms, const vimalorua_view *numbers,
+                                      int32_t *change, size_t *count, size_t *bytes, size_t *entries);
+int32_t vimalorua_seat_copy_proved(vimalorua_seat *seat, vimalorua_image *images, size_t count, uint8_t *masks,
+                                   size_t bytes);
+void vimalorua_seat_shut(vimalorua_seat seat);
 void rattle_dealloc(void *block);
 
 /* Where no items stand. Nothing is read or written there. */
@@ -91,6 +102,33 @@ int32_t vimalorua_images_in(vimalorua *handle, int64_t ms, const vimalorua_view 
     return vimalorua_images_by_numbers(handle, ms, &all, change, count, bytes);
 }
 
+int32_t vimalorua_try_feed(vimalorua_seat *seat, const uint8_t *chunk, size_t chunk_len, int64_t start,
+                           int64_t duration, uint32_t *field, size_t *place) {
+    return vimalorua_try_feed_proved(seat, given(chunk), chunk_len, start, duration, field, place);
+}
+
+int32_t vimalorua_try_draw(vimalorua_seat *seat, int64_t ms, uint32_t w, uint32_t h, uint8_t *out, size_t out_len,
+                           size_t *entries) {
+    return vimalorua_try_draw_proved(seat, ms, w, h, taken(out), out_len, entries);
+}
+
+int32_t vimalorua_try_draw_in(vimalorua_seat *seat, int64_t ms, const vimalorua_view *view, uint8_t *out,
+                              size_t out_len, size_t *entries) {
+    vimalorua_view all = whole(view);
+    return vimalorua_try_draw_by_numbers(seat, ms, &all, taken(out), out_len, entries);
+}
+
+int32_t vimalorua_try_list_in(vimalorua_seat *seat, int64_t ms, const vimalorua_view *view, int32_t *change,
+                              size_t *count, size_t *bytes, size_t *entries) {
+    vimalorua_view all = whole(view);
+    return vimalorua_try_list_by_numbers(seat, ms, &all, change, count, bytes, entries);
+}
+
+int32_t vimalorua_seat_copy(vimalorua_seat *seat, vimalorua_image *images, size_t count, uint8_t *masks,
+                            size_t bytes) {
+    return vimalorua_seat_copy_proved(seat, images ? images : &nowhere, count, taken(masks), bytes);
+}
+
 /* A handle stands in a block. The proved library frees what is behind it, and this the block. */
 struct vimalorua {
     void *at;
@@ -100,6 +138,18 @@ void vimalorua_close(vimalorua *handle) {
     if (handle) {
         vimalorua_shut(*handle);
         rattle_dealloc(handle);
+    }
+}
+
+/* A seat does too. */
+struct vimalorua_seat {
+    void *at;
+};
+
+void vimalorua_leave(vimalorua_seat *seat) {
+    if (seat) {
+        vimalorua_seat_shut(*seat);
+        rattle_dealloc(seat);
     }
 }
 
@@ -122,6 +172,10 @@ const char *vimalorua_status_text(int32_t status) {
     case VIMALORUA_BAD_CALL: return "number or length out of range";
     case VIMALORUA_CLOSED: return "closed handle";
     case VIMALORUA_BAD_FONT_DATA: return "bad font data in the script";
+    case VIMALORUA_BUSY: return "busy track";
+    case VIMALORUA_NOT_FIRST: return "not the first seat";
+    case VIMALORUA_MANY_SEATS: return "too many seats";
+    case VIMALORUA_WAS_FED: return "events fed already";
     }
     return "unknown status";
 }

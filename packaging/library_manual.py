@@ -46,9 +46,9 @@ def declarations(header):
 
 
 def calls(code):
-    """The calls that are declared, each as one text, without what compilers are told of it."""
-    found = re.findall(r"^(?:const )?\w+ \*?vimalorua_\w+\([^;]*;", code, re.M)
-    return [re.sub(r"\s*VIMALORUA_NO_NULLS\(.*\)", "", it) for it in found]
+    """The calls that are declared or written there, each as one text, without what compilers are told of it."""
+    found = re.findall(r"^(?:VIMALORUA_INLINE )?((?:const )?\w+ \*?vimalorua_\w+\([^;{]*)[;{]", code, re.M)
+    return [re.sub(r"\s*VIMALORUA_NO_NULLS\(.*\)", "", it).rstrip() + ";" for it in found]
 
 
 def name_of(call):

@@ -1,7 +1,8 @@
-/* Each status once, and each call for memory refused in turn. VIMALORUA_CLOSED alone can't come where the header is
- * kept to. The heap and ass_images.c are compiled as refusing.h says. */
+/* Each status of a handle once, and each call for memory refused in turn: threads.c asks for those of seats. The heap
+ * and ass_images.c are compiled as refusing.h says. */
 #include "../ass_images.h"
 #include "refusing.h"
+#include "want.h"
 #include <limits.h>
 #include <stdio.h>
 #include <stdlib.h>
@@ -21,17 +22,6 @@ static const char font[] =
 static const char chunk[] = "7,1,Default,,0,0,0,,{\\fs4\\bord0\\shad0\\move(4,8,14,8)}a";
 
 #define BYTES(text) (const uint8_t *)(text), sizeof(text) - 1
-
-static int failures;
-
-static void want(int line, long long is, long long wanted) {
-    if (is != wanted) {
-        fprintf(stderr, "errors.c:%d: %lld in place of %lld\n", line, is, wanted);
-        failures++;
-    }
-}
-
-#define WANT(is, wanted) want(__LINE__, (long long)(is), (long long)(wanted))
 
 /* So many bytes of 0. */
 static uint8_t *zeros(size_t count) {
@@ -258,10 +248,10 @@ static void seen(int line, const vimalorua_view *view, int32_t wanted) {
     uint8_t out[COUNT] = {0};
     size_t count = 77, bytes = 77;
     int32_t change = 77;
-    want(line, vimalorua_draw_in(handle, 500, view, out, COUNT), wanted);
-    want(line, memcmp(out, untouched, COUNT) != 0, wanted == VIMALORUA_DONE);
-    want(line, vimalorua_images_in(handle, 500, view, &change, &count, &bytes), wanted);
-    want(line, change == 77 && count == 77 && bytes == 77, wanted != VIMALORUA_DONE);
+    want(__FILE__, line, vimalorua_draw_in(handle, 500, view, out, COUNT), wanted);
+    want(__FILE__, line, memcmp(out, untouched, COUNT) != 0, wanted == VIMALORUA_DONE);
+    want(__FILE__, line, vimalorua_images_in(handle, 500, view, &change, &count, &bytes), wanted);
+    want(__FILE__, line, change == 77 && count == 77 && bytes == 77, wanted != VIMALORUA_DONE);
     vimalorua_close(handle);
 }
 
@@ -366,9 +356,9 @@ static void listing(void) {
 /* Each status has a text of its own, and no other number has one of these. */
 static void texts(void) {
     const char *other = vimalorua_status_text(-1);
-    WANT(strcmp(vimalorua_status_text(VIMALORUA_BAD_FONT_DATA + 1), other), 0);
+    WANT(strcmp(vimalorua_status_text(VIMALORUA_WAS_FED + 1), other), 0);
     WANT(strcmp(vimalorua_status_text(VIMALORUA_OUT_OF_MEMORY), "out of memory"), 0);
-    for (int32_t i = VIMALORUA_DONE; i <= VIMALORUA_BAD_FONT_DATA; i++) {
+    for (int32_t i = VIMALORUA_DONE; i <= VIMALORUA_WAS_FED; i++) {
         WANT(strcmp(vimalorua_status_text(i), other) != 0, 1);
         for (int32_t k = VIMALORUA_DONE; k < i; k++)
             WANT(strcmp(vimalorua_status_text(i), vimalorua_status_text(k)) != 0, 1);
@@ -440,18 +430,6 @@ static void limits(void) {
     many_glyphs();
     many_events();
 }
-
-/* Calls again where memory was refused, and wants that nothing had changed. Nothing is refused the second time. */
-#define AGAIN(call, unchanged)                   \
-    do {                                         \
-        int32_t status = (call);                 \
-        if (status == VIMALORUA_OUT_OF_MEMORY) { \
-            refused = 1;                         \
-            WANT(unchanged, 1);                  \
-            status = (call);                     \
-        }                                        \
-        WANT(status, VIMALORUA_DONE);            \
-    } while (0)
 
 /* A whole use of a handle, in which the call for memory after `n` others is refused: does one come? The picture is the
  * same, and no block is left. */

@@ -1,10 +1,15 @@
 #include "refusing.h"
 #include <stdlib.h>
 
-long allowed = -1;
-long blocks = 0;
+_Atomic long allowed = -1;
+_Atomic long blocks = 0;
+_Thread_local void (*before_memory)(void);
 
-static int refuses(void) { return allowed >= 0 && allowed-- == 0; }
+static int refuses(void) {
+    if (before_memory != NULL)
+        before_memory();
+    return allowed >= 0 && allowed-- == 0;
+}
 
 void *refusing_malloc(size_t bytes) {
     void *block = refuses() ? NULL : malloc(bytes);

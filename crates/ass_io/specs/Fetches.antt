@@ -20,13 +20,13 @@ abbrev pub fetch_change : List LoggedFetch → List LoggedFetch → FetchChange
 fetch_change before now = record { before = before; now = now }
 
 -- What the answer with these bytes gives of what the name holds: these bytes, nothing, or too many. A fetch that failed gives nothing of it.
-abbrev pub Gives : Fetch → List ℕ → Held → Type 0
-Gives Got bytes held = held ≡ Some bytes
-Gives Missing bytes held = held ≡ None
-Gives TooLarge bytes held = IsTooLarge held
-Gives Failed bytes held = ⊥
-Gives OutOfMemory bytes held = ⊥
+abbrev pub FetchGives : Fetch → List ℕ → Held → Type 0
+FetchGives Got bytes held = held ≡ Some bytes
+FetchGives Missing bytes held = held ≡ None
+FetchGives TooLarge bytes held = IsTooLarge held
+FetchGives Failed bytes held = ⊥
+FetchGives OutOfMemory bytes held = ⊥
 
 -- The fetch at this place of the list was of this name, and gave that it holds this.
 abbrev pub IsGiven : List LoggedFetch → ℕ → List ℕ → Held → Type 0
-IsGiven fetches place name held = (answer : Fetch) × (bytes : List ℕ) × (slice_get fetches place ≡ Some (name, answer, bytes)) × Gives answer bytes held
+IsGiven fetches place name held = (answer : Fetch) × (bytes : List ℕ) × (slice_get fetches place ≡ Some (name, answer, bytes)) × FetchGives answer bytes held

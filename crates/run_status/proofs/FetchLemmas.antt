@@ -1,11 +1,10 @@
 -- What is read, by what fetches gave.
-use Rattle.std.proofs.Common.{◌≡◌, ◌⊎◌, ℕ, suc, zero, ◌+◌, ◌<◌, ◌≤◌, inl, inr, List, [], ◌∷◌, ◌++◌, length, map, take, slice_index_or, Some, None, Result, Ok, Err, refl, sym, subst, ◌∙◌, ap, arith, append_assoc, append-nil, length-append}
+use Rattle.std.proofs.Common.{◌≡◌, ℕ, suc, zero, ◌+◌, ◌<◌, ◌≤◌, inl, inr, List, [], ◌∷◌, ◌++◌, length, take, slice_index_or, Some, None, Result, Ok, Err, refl, sym, subst, ◌∙◌, ap, arith, append_assoc, append-nil, length-append}
 use Rattle.std.specs.List.{slice_get}
-use Rattle.std.proofs.Math.Seq.{get_or-append_seam, take-suc}
-use Rattle.std.proofs.lemmas.List.{get_or_default, map-append, take_all}
-use Rattle.std.proofs.lemmas.Option.{slice_get-get_or}
-use Rattle.ass_io.specs.Fetched.{Held, IsTooLarge}
-use Rattle.ass_io.specs.Fetches.{FetchChange, Gives, IsGiven, LoggedFetch, fetch_change, fetched_names}
+use Rattle.std.proofs.Math.Seq.{take-suc}
+use Rattle.std.proofs.lemmas.List.{get_or_default, map-append}
+use Rattle.ass_io.specs.Fetched.{Held}
+use Rattle.ass_io.specs.Fetches.{FetchChange, FetchGives, IsGiven, LoggedFetch, fetch_change, fetched_names}
 use Rattle.ass_io.specs.declared.shelf.Fetch.{Fetch}
 use Rattle.ass_io.specs.declared.shelf.Fetch.TheVariants as fetch
 use Rattle.ass_num.specs.Limits.{max_file_bytes}
@@ -28,7 +27,7 @@ module _ {Value : Type 0} (asks : Asks Value) (name : List ℕ) (log : FetchChan
   -- An answer to what was read of a file.
   pub fetched_on : {Read : Type 0} (asks_read : Asks Read) (read : Result Read Status) (answer : Result Value Status) → (read ≡ Err status.OutOfMemory → answer ≡ Err status.OutOfMemory)
       → ((may : Held → Type 0) → IsAnsweredFrom asks_read may name read → IsAnsweredFrom asks may name answer) → IsFileFetched asks_read name log read → IsFileFetched asks name log answer
-  fetched_on asks_read read answer wanting on (inl (it, bytes, added, asked)) = inl (it, bytes, added, on (Gives it bytes) asked)
+  fetched_on asks_read read answer wanting on (inl (it, bytes, added, asked)) = inl (it, bytes, added, on (FetchGives it bytes) asked)
   fetched_on asks_read read answer wanting on (inr (same, is)) = inr (same, wanting is)
 
 -- The answers of one fetch.
@@ -88,7 +87,7 @@ get_seam (y ∷ xs) x = get_seam xs x
 given_before : (fetches more : List LoggedFetch) → IsWithin (IsGiven fetches) (IsGiven (fetches ++ more))
 given_before fetches more place name held (it, bytes, at, gives) = (it, bytes, get_before fetches more place (name, it, bytes) at, gives)
 
-given_last : (fetches : List LoggedFetch) (name : List ℕ) (it : Fetch) (bytes : List ℕ) (held : Held) → Gives it bytes held → IsGiven (fetches ++ (name, it, bytes) ∷ []) (length fetches) name held
+given_last : (fetches : List LoggedFetch) (name : List ℕ) (it : Fetch) (bytes : List ℕ) (held : Held) → FetchGives it bytes held → IsGiven (fetches ++ (name, it, bytes) ∷ []) (length fetches) name held
 given_last fetches name it bytes held gives = (it, bytes, get_seam fetches (name, it, bytes), gives)
 
 -- ---- fonts, one file after another
@@ -138,50 +137,53 @@ module _ (names : List (List ℕ)) (index : ℕ) (before now next : List LoggedF
         let one : suc index ≡ index + 1 = omega arith in
         map-append (λ (f : LoggedFetch). f.0) fetches (last ∷ []) ∙ ap (λ (l : List (List ℕ)). l ++ name_at names index ∷ []) order ∙ sym (take-suc names index [] within) ∙ ap (λ (n : ℕ). take n names) one
 
-    read_at : (answer : Result (List FontValue) Status) → IsAnsweredFrom (AsksFonts index (name_at names index)) (Gives it bytes) (name_at names index) answer → IsFontFileReadFrom (IsGiven all) names index answer
+    read_at : (answer : Result (List FontValue) Status) → IsAnsweredFrom (AsksFonts index (name_at names index)) (FetchGives it bytes) (name_at names index) answer → IsFontFileReadFrom (IsGiven all) names index answer
     read_at answer asked = λ none.
         subst (λ (name : List ℕ). IsAnsweredFrom (AsksFonts index name) (IsGiven all index name) name answer) (get_or_default names index [] none within)
-        (answered_within (AsksFonts index (name_at names index)) (Gives it bytes) (IsGiven all index (name_at names index)) (name_at names index) answer
+        (answered_within (AsksFonts index (name_at names index)) (FetchGives it bytes) (IsGiven all index (name_at names index)) (name_at names index) answer
         (λ held gives. subst (λ (n : ℕ). IsGiven all n (name_at names index) held) count (given_last fetches (name_at names index) it bytes held gives)) asked)
 
   pub fetched_more : (fonts more : List FontValue) (file : List FontValue) → FetchedSoFar names index (fetch_change before now) fonts → IsFontFileFetched names index (fetch_change now next) (Ok file) →
       more ≡ fonts ++ file → FetchedSoFar names (index + 1) (fetch_change before next) more
   fetched_more fonts more file so one e = elim (one []) [
     | inl h ↦
-      let it = h.0 in
-      let bytes = h.1 in
-      let whole = so.fetches ++ (name_at names index, it, bytes) ∷ [] in
-      record {
-        fetches = whole;
-        added = added_more so.fetches so.added so.count so.order it bytes h.2;
-        count = count_more so.fetches so.added so.count so.order it bytes;
-        order = order_more so.fetches so.added so.count so.order it bytes;
-        files = so.files ++ file ∷ [];
-        many = omega (arith, so.many, length-append so.files (file ∷ []));
-        first = first_more (IsGiven whole) names so.files file (first_within (IsGiven so.fetches) (IsGiven whole) names so.files (given_before so.fetches ((name_at names index, it, bytes) ∷ [])) so.first)
-            (subst (λ (n : ℕ). IsFontFileReadFrom (IsGiven whole) names n (Ok file)) (sym so.many) (read_at so.fetches so.added so.count so.order it bytes (Ok file) h.3));
-        fonts_are = e ∙ (ap (λ (l : List FontValue). l ++ file) so.fonts_are ∙ sym (files_more so.files file));
-      }
-    | inr h ↦ absurd cc
+        let it = h.0 in
+        let bytes = h.1 in
+        let whole = so.fetches ++ (name_at names index, it, bytes) ∷ [] in
+        record {
+          fetches = whole;
+          added = added_more so.fetches so.added so.count so.order it bytes h.2;
+          count = count_more so.fetches so.added so.count so.order it bytes;
+          order = order_more so.fetches so.added so.count so.order it bytes;
+          files = so.files ++ file ∷ [];
+          many = omega (arith, so.many, length-append so.files (file ∷ []));
+          first = first_more (IsGiven whole) names so.files file (first_within (IsGiven so.fetches) (IsGiven whole) names so.files (given_before so.fetches ((name_at names index, it, bytes) ∷ [])) so.first)
+              (subst (λ (n : ℕ). IsFontFileReadFrom (IsGiven whole) names n (Ok file)) (sym so.many) (read_at so.fetches so.added so.count so.order it bytes (Ok file) h.3));
+          fonts_are = e ∙ (ap (λ (l : List FontValue). l ++ file) so.fonts_are ∙ sym (files_more so.files file));
+        }
+    | inr h ↦ let e = h.1 in absurd cc
   ]
 
   pub fetched_stopped : (fonts own : List FontValue) (why : Status) → FetchedSoFar names index (fetch_change before now) fonts → IsFontFileFetched names index (fetch_change now next) (Err why) →
       AreFontsFetched names own (fetch_change before next) (Err why)
   fetched_stopped fonts own why so one = elim (one []) [
     | inl h ↦
-      let it = h.0 in
-      let bytes = h.1 in
-      let whole = so.fetches ++ (name_at names index, it, bytes) ∷ [] in
-      record {
-        fetches = whole;
-        first = record {
-          added = added_more so.fetches so.added so.count so.order it bytes h.2;
-          order = order_more so.fetches so.added so.count so.order it bytes ∙ ap (λ (n : ℕ). take n names) (sym (count_more so.fetches so.added so.count so.order it bytes));
-        };
-        read = λ other. inl (so.files, omega (arith, so.many, within),
+        let it = h.0 in
+        let bytes = h.1 in
+        let whole = so.fetches ++ (name_at names index, it, bytes) ∷ [] in
+        record {
+          fetches = whole;
+          first = record {
+            added = added_more so.fetches so.added so.count so.order it bytes h.2;
+            order = order_more so.fetches so.added so.count so.order it bytes ∙ ap (λ (n : ℕ). take n names) (sym (count_more so.fetches so.added so.count so.order it bytes));
+          };
+          read = λ other. inl (
+            so.files,
+            omega (arith, so.many, within),
             first_within (IsGiven so.fetches) (IsGiven whole) names so.files (given_before so.fetches ((name_at names index, it, bytes) ∷ [])) so.first,
-            subst (λ (n : ℕ). IsFontFileReadFrom (IsGiven whole) names n (Err why)) (sym so.many) (read_at so.fetches so.added so.count so.order it bytes (Err why) h.3));
-      }
+            subst (λ (n : ℕ). IsFontFileReadFrom (IsGiven whole) names n (Err why)) (sym so.many) (read_at so.fetches so.added so.count so.order it bytes (Err why) h.3),
+          );
+        }
     | inr h ↦ record {
       fetches = so.fetches;
       first = record { added = h.0 ∙ so.added; order = so.order ∙ ap (λ (n : ℕ). take n names) (sym so.count) };
@@ -194,19 +196,16 @@ module _ (names : List (List ℕ)) (own : List FontValue) (log : FetchChange) (i
   all_first : AreFirstFetched names log so.fetches
   all_first = record { added = so.added; order = so.order ∙ ap (λ (n : ℕ). take n names) (sym so.count) }
 
-  pub fetched_all : (all : List FontValue) → index ≡ length names → all ≡ fonts ++ own → length all ≤ max_fonts → AreFontsFetched names own log (Ok all)
-  fetched_all all last e few = record {
+  pub fetched_many : (whole : List FontValue) → index ≡ length names → whole ≡ fonts ++ own → max_fonts < length whole → AreFontsFetched names own log (Err (status.TooLarge Fonts max_fonts))
+  fetched_many whole last e many = record {
     fetches = so.fetches;
     first = all_first;
-    read = λ other. (so.files, (so.many ∙ last, so.first), e ∙ ap (λ (l : List FontValue). l ++ own) so.fonts_are, few);
-  }
-
-  pub fetched_many : (all : List FontValue) → index ≡ length names → all ≡ fonts ++ own → max_fonts < length all → AreFontsFetched names own log (Err (status.TooLarge Fonts max_fonts))
-  fetched_many all last e many = record {
-    fetches = so.fetches;
-    first = all_first;
-    read = λ other. inr (so.files, (so.many ∙ last, so.first),
-        subst (λ (l : List FontValue). max_fonts < length l) (e ∙ ap (λ (l : List FontValue). l ++ own) so.fonts_are) many, refl);
+    read = λ other. inr (
+      so.files,
+      (so.many ∙ last, so.first),
+      subst (λ (l : List FontValue). max_fonts < length l) (e ∙ ap (λ (l : List FontValue). l ++ own) so.fonts_are) many,
+      refl,
+    );
   }
 
   pub fetched_without_memory : AreFontsFetched names own log (Err status.OutOfMemory)
@@ -218,10 +217,10 @@ module _ (script : ScriptSource) (names : List (List ℕ)) (before : List Logged
   abbrev name : List ℕ
   name = script.name
 
-  script_given : (it : Fetch) (bytes : List ℕ) (rest : List LoggedFetch) (answer : Result Inputs Status) → IsAnsweredFrom (AsksScript script.own_fonts name) (Gives it bytes) name answer →
+  script_given : (it : Fetch) (bytes : List ℕ) (rest : List LoggedFetch) (answer : Result Inputs Status) → IsAnsweredFrom (AsksScript script.own_fonts name) (FetchGives it bytes) name answer →
       IsScriptReadFrom (IsGiven ((name, it, bytes) ∷ rest)) script answer
   script_given it bytes rest answer asked =
-      answered_within (AsksScript script.own_fonts name) (Gives it bytes) (IsGiven ((name, it, bytes) ∷ rest) 0 name) name answer (λ held gives. (it, bytes, refl, gives)) asked
+      answered_within (AsksScript script.own_fonts name) (FetchGives it bytes) (IsGiven ((name, it, bytes) ∷ rest) 0 name) name answer (λ held gives. (it, bytes, refl, gives)) asked
 
   pub script_stopped : (now : List LoggedFetch) (why : Status) → IsFileFetched (AsksScript script.own_fonts name) name (fetch_change before now) (Err why) →
       AreFilesFetched script names (fetch_change before now) (Err why)

@@ -1,6 +1,6 @@
 -- Public: what is read, by what fetches gave.
 use Rattle.std.specs.Prelude.{◌≡◌, ◌⊎◌, ℕ, ◌<◌, ◌≤◌, List, [], ◌∷◌, ◌++◌, length, take, slice_index_or, Result, Err}
-use Rattle.ass_io.specs.Fetches.{FetchChange, Gives, IsGiven, LoggedFetch, fetched_names}
+use Rattle.ass_io.specs.Fetches.{FetchChange, FetchGives, IsGiven, LoggedFetch, fetched_names}
 use Rattle.ass_io.specs.declared.shelf.Fetch.{Fetch}
 use Rattle.bdf_font.specs.Fonts.{FontValue}
 use Rattle.bdf_font.specs.Limits.{max_fonts}
@@ -15,7 +15,7 @@ use Rattle.run_status.specs.Inputs.{AreFilesReadFrom, AreFontsReadFrom}
 -- The name was fetched once, and what that gave asks for the answer; or memory ran out before.
 abbrev pub IsFileFetched : {Value : Type 0} → Asks Value → List ℕ → FetchChange → Result Value Status → Type 0
 IsFileFetched asks name log answer =
-    ((fetch : Fetch) × (bytes : List ℕ) × (log.now ≡ log.before ++ (name, fetch, bytes) ∷ []) × IsAnsweredFrom asks (Gives fetch bytes) name answer)
+    ((fetch : Fetch) × (bytes : List ℕ) × (log.now ≡ log.before ++ (name, fetch, bytes) ∷ []) × IsAnsweredFrom asks (FetchGives fetch bytes) name answer)
     ⊎ ((log.now ≡ log.before) × (answer ≡ Err OutOfMemory))
 
 -- The same of the file of fonts at `index`.

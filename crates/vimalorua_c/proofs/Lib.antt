@@ -1,4 +1,4 @@
 mod AsBox
 mod CopyLemmas
+mod HandlesSent
 mod NameLemmas
-mod PlayerSent

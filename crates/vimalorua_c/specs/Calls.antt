@@ -148,10 +148,13 @@ abbrev pub all_numbers : List PlainImage → ℕ → List ImageNumbers
 all_numbers [] at = []
 all_numbers (image ∷ images) at = image_numbers image at ∷ all_numbers images (at + length image.mask.bytes)
 
--- The arrays have room for just the images, which were copied into them; or they are as before. The player stays as it is.
-pub record AreImagesCopied (numbers after_numbers : List ImageNumbers) (masks after_masks : List ℕ) (status : ℤ) (old new : PlayerView) : Type 0 where
-  pub same : new ≡ old
-  pub fits : (status ≡ done_status) ↔ ((length numbers ≡ length old.images) × (length masks ≡ mask_bytes old.images))
-  pub numbers_are : status ≡ done_status → after_numbers ≡ all_numbers old.images 0
-  pub masks_are : status ≡ done_status → after_masks ≡ flat_map (λ (image : PlainImage). image.mask.bytes) old.images
+-- The arrays have room for just the images, which were copied into them; or they are as before.
+pub record AreCopied (images : List PlainImage) (numbers after_numbers : List ImageNumbers) (masks after_masks : List ℕ) (status : ℤ) : Type 0 where
+  pub fits : (status ≡ done_status) ↔ ((length numbers ≡ length images) × (length masks ≡ mask_bytes images))
+  pub numbers_are : status ≡ done_status → after_numbers ≡ all_numbers images 0
+  pub masks_are : status ≡ done_status → after_masks ≡ flat_map (λ (image : PlainImage). image.mask.bytes) images
   pub else_same : status ≢ done_status → (status ≡ bad_call_status) × (after_numbers ≡ numbers) × (after_masks ≡ masks)
+
+-- The images that were listed last were copied, if the arrays have room for just them. The player stays as it is.
+abbrev pub AreImagesCopied : List ImageNumbers → List ImageNumbers → List ℕ → List ℕ → ℤ → PlayerView → PlayerView → Type 0
+AreImagesCopied numbers after_numbers masks after_masks status old new = (new ≡ old) × AreCopied old.images numbers after_numbers masks after_masks status

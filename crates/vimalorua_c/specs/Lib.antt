@@ -1,4 +1,5 @@
 pub mod Calls
 pub mod Fonts
+pub mod SeatCalls
 pub mod Statuses
 pub mod Views

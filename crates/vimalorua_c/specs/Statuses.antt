@@ -1,5 +1,6 @@
 -- Public: the numbers that calls return, with the places that go with them.
-use Rattle.std.specs.Prelude.{ℕ, ℤ, pos}
+use Rattle.std.specs.Prelude.{ℕ, ℤ, pos, Result, Ok, Err}
+use Rattle.ass_num.specs.declared.memory.OutOfMemory.{OutOfMemory}
 use Rattle.ass_script.specs.declared.refusal.ScriptRefusal.{ScriptRefusal}
 use Rattle.ass_script.specs.declared.refusal.ScriptRefusal.TheVariants as script
 use Rattle.ass_script.specs.declared.script.EventField.{EventField}
@@ -21,6 +22,14 @@ use Rattle.track_history.specs.declared.answers.Feed.{Feed}
 use Rattle.track_history.specs.declared.answers.Feed.TheVariants as fed
 use Rattle.track_history.specs.declared.answers.Flushed.{Flushed}
 use Rattle.track_history.specs.declared.answers.Flushed.TheVariants as flushed
+use Rattle.track_history.specs.declared.answers.LookRefusal.{LookRefusal}
+use Rattle.track_history.specs.declared.answers.LookRefusal.TheVariants as look
+use Rattle.track_history.specs.declared.answers.TurnOut.{TurnOut}
+use Rattle.shared_player.specs.Seats.{SharedSeatView}
+use Rattle.shared_player.specs.declared.refusals.ShareRefusal.{ShareRefusal}
+use Rattle.shared_player.specs.declared.refusals.ShareRefusal.TheVariants as share
+use Rattle.shared_player.specs.declared.refusals.SplitRefusal.{SplitRefusal}
+use Rattle.shared_player.specs.declared.refusals.SplitRefusal.TheVariants as split
 use Rattle.vimalorua_c.specs.declared.status.Told.{Told}
 
 abbrev pub done_status : ℤ
@@ -40,6 +49,18 @@ bad_call_status = pos 14
 
 abbrev pub closed_status : ℤ
 closed_status = pos 15
+
+abbrev pub busy_status : ℤ
+busy_status = pos 17
+
+abbrev pub not_first_status : ℤ
+not_first_status = pos 18
+
+abbrev pub many_seats_status : ℤ
+many_seats_status = pos 19
+
+abbrev pub was_fed_status : ℤ
+was_fed_status = pos 20
 
 abbrev pub told : ℤ → ℕ → Told
 told status place = record { status = status; place = place }
@@ -124,3 +145,47 @@ abbrev pub change_number : ChangeKind → ℤ
 change_number Same = pos 0
 change_number Moved = pos 1
 change_number Other = pos 2
+
+-- ---- seats
+
+-- the answer to a try to feed
+abbrev pub tried_feed_told : Result Feed TurnOut → Told
+tried_feed_told (Ok answer) = feed_told answer
+tried_feed_told (Err out) = told busy_status 0
+
+-- the number of the field that a try to feed refused, or 0
+abbrev pub tried_field : Result Feed TurnOut → ℕ
+tried_field (Ok answer) = fed_field answer
+tried_field (Err out) = 0
+
+-- the answer to a try to flush
+abbrev pub tried_flush_told : Result Flushed TurnOut → Told
+tried_flush_told (Ok answer) = flush_told answer
+tried_flush_told (Err out) = told busy_status 0
+
+-- the answer to a try to feed the line behind so many, and how many are in then
+abbrev pub line_told : ℕ → Result (Result ℕ OutOfMemory) TurnOut → Told
+line_told from (Ok (Ok count)) = told done_status count
+line_told from (Ok (Err refused)) = told out_of_memory_status from
+line_told from (Err out) = told busy_status from
+
+-- why there is no picture
+abbrev pub look_status : LookRefusal → ℤ
+look_status look.TurnOut = busy_status
+look_status look.OutOfMemory = out_of_memory_status
+
+-- why a player isn't shared
+abbrev pub share_status : ShareRefusal → ℤ
+share_status share.WasFed = was_fed_status
+share_status share.OutOfMemory = out_of_memory_status
+
+-- why no seat is split off
+abbrev pub split_status : SplitRefusal → ℤ
+split_status split.NotFirst = not_first_status
+split_status split.TooMany = many_seats_status
+split_status split.OutOfMemory = out_of_memory_status
+
+-- a seat was made, or why none was
+abbrev pub made_status : Result SharedSeatView ℤ → ℤ
+made_status (Ok seat) = done_status
+made_status (Err status) = status

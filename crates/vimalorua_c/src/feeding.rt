@@ -12,7 +12,7 @@ use crate::taking::{put_back, take};
 use std::alloc::Global;
 
 /// The most bytes of a chunk.
-const MAX_CHUNK_BYTES: usize = 134_217_728;
+pub(crate) const MAX_CHUNK_BYTES: usize = 134_217_728;
 
 /// Offers the events of the script's own lines, and tells how many entries the track's history has then.
 #[unsafe(no_mangle)]

@@ -6,7 +6,7 @@ ghost use Rattle.frame_view.specs.FrameViews.{IsFrameView, plain_frame};
 ghost use Rattle.plain_images.specs.declared.plain.PlainImage.{PlainImage};
 ghost use Rattle.player.specs.Players.{mask_bytes};
 ghost use Rattle.vimalorua_c.specs.Calls as rule;
-ghost use Rattle.vimalorua_c.specs.Calls.{AreImagesCopied, AreImagesTold, IsBadView, IsBeyond, IsCall, IsGoodCall};
+ghost use Rattle.vimalorua_c.specs.Calls.{AreCopied, AreImagesCopied, AreImagesTold, IsBadView, IsBeyond, IsCall, IsGoodCall};
 ghost use Rattle.vimalorua_c.specs.Views.{view_numbered};
 
 use crate::handle::Handle;
@@ -78,6 +78,24 @@ fn copy_images(images: &[PlainImage], numbers: &mut [ImageNumbers], masks: &mut 
     for (i, image) in images.iter().enumerate() {
         numbers[i] = numbers_of(image, at);
         at = put_bytes(masks, at, image.mask.bytes());
+    }
+}
+
+/// Copies images whose masks have so many bytes into arrays, where these have just room for them.
+pub(crate) fn copy_listed(
+    listed: &[PlainImage],
+    bytes: usize,
+    images: &mut [ImageNumbers],
+    masks: &mut [u8],
+) -> i32
+    requires { bytes ≡ mask_bytes listed.now }
+    ensures { AreCopied listed.now images.old images.new masks.old masks.new result }
+{
+    if images.len() == listed.len() && masks.len() == bytes {
+        copy_images(listed, images, masks);
+        DONE
+    } else {
+        BAD_CALL
     }
 }
 
@@ -206,15 +224,7 @@ pub extern "C" fn vimalorua_copy_images_proved(
         return OUT_OF_MEMORY;
     };
     let status = match &kept.player {
-        Some(player) => {
-            let listed = player.listed_images();
-            if images.len() == listed.len() && masks.len() == player.listed_bytes() {
-                copy_images(listed, images, masks);
-                DONE
-            } else {
-                BAD_CALL
-            }
-        }
+        Some(player) => copy_listed(player.listed_images(), player.listed_bytes(), images, masks),
         None => CLOSED,
     };
     put_back(handle, kept);

@@ -15,7 +15,8 @@ use std::alloc::Global;
 /// The most bytes of a script or of a file of fonts.
 pub(crate) const MAX_FILE_BYTES: usize = 67_108_864;
 
-const MAX_BUDGET: u64 = 1 << 40;
+/// The most bytes of a cache.
+pub(crate) const MAX_BUDGET: u64 = 1 << 40;
 
 /// The interface's number.
 #[unsafe(no_mangle)]

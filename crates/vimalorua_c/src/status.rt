@@ -3,13 +3,15 @@
 ghost use Rattle.std.specs.Prelude.{◌≡◌};
 ghost use Rattle.vimalorua_c.specs.Statuses as rule;
 
+use ass_num::Mem;
 use ass_script::{EventField, ScriptRefusal};
 use bdf_font::{FontFileRefusal, FontRefusal};
 use embedded_fonts::EmbeddedRefusal;
 use frame_change::ChangeKind;
 use script_fonts::ScriptFontsRefusal;
 use sfnt_font::SfntRefusal;
-use track_history::{Feed, Flushed};
+use shared_player::{ShareRefusal, SplitRefusal};
+use track_history::{Feed, Flushed, LookRefusal, TurnOut};
 
 /// The call did what it says.
 pub const DONE: i32 = 0;
@@ -61,6 +63,18 @@ pub const CLOSED: i32 = 15;
 
 /// The data of a font in a script leave their format.
 pub const BAD_FONT_DATA: i32 = 16;
+
+/// Another seat has the track.
+pub const BUSY: i32 = 17;
+
+/// Seats are split off the first one alone.
+pub const NOT_FIRST: i32 = 18;
+
+/// All numbers of seats were given.
+pub const MANY_SEATS: i32 = 19;
+
+/// The track of a player that is to be shared has entries already.
+pub const WAS_FED: i32 = 20;
 
 /// The most fonts of a player.
 pub(crate) const MAX_FONTS: usize = 64;
@@ -198,6 +212,78 @@ pub fn flush_told(answer: Flushed) -> Told
     match answer {
         Flushed::Done(entry) => told_at(DONE, entry),
         Flushed::TooMany(most) => told_at(MANY_FLUSHES, most),
+    }
+}
+
+/// The answer to a try to feed.
+pub fn tried_feed_told(answer: Result<Feed, TurnOut>) -> Told
+    ensures { result ≡ rule.tried_feed_told answer }
+{
+    match answer {
+        Ok(answer) => feed_told(answer),
+        Err(_) => told_at(BUSY, 0),
+    }
+}
+
+/// The number of the field that a try to feed refused, or 0.
+pub fn tried_field(answer: Result<Feed, TurnOut>) -> u32
+    ensures { result ≡ rule.tried_field answer }
+{
+    match answer {
+        Ok(answer) => fed_field(answer),
+        Err(_) => 0,
+    }
+}
+
+/// The answer to a try to flush.
+pub fn tried_flush_told(answer: Result<Flushed, TurnOut>) -> Told
+    ensures { result ≡ rule.tried_flush_told answer }
+{
+    match answer {
+        Ok(answer) => flush_told(answer),
+        Err(_) => told_at(BUSY, 0),
+    }
+}
+
+/// The answer to a try to feed the line behind so many, and how many are in.
+pub fn line_told(from: usize, answer: Result<Mem<usize>, TurnOut>) -> Told
+    ensures { result ≡ rule.line_told from answer }
+{
+    match answer {
+        Ok(Ok(count)) => told_at(DONE, count),
+        Ok(Err(_)) => told_at(OUT_OF_MEMORY, from),
+        Err(_) => told_at(BUSY, from),
+    }
+}
+
+/// Why there is no picture.
+pub fn look_status(refusal: LookRefusal) -> i32
+    ensures { result ≡ rule.look_status refusal }
+{
+    match refusal {
+        LookRefusal::TurnOut => BUSY,
+        LookRefusal::OutOfMemory => OUT_OF_MEMORY,
+    }
+}
+
+/// Why a player isn't shared.
+pub fn share_status(refusal: ShareRefusal) -> i32
+    ensures { result ≡ rule.share_status refusal }
+{
+    match refusal {
+        ShareRefusal::WasFed => WAS_FED,
+        ShareRefusal::OutOfMemory => OUT_OF_MEMORY,
+    }
+}
+
+/// Why no seat is split off.
+pub fn split_status(refusal: SplitRefusal) -> i32
+    ensures { result ≡ rule.split_status refusal }
+{
+    match refusal {
+        SplitRefusal::NotFirst => NOT_FIRST,
+        SplitRefusal::TooMany => MANY_SEATS,
+        SplitRefusal::OutOfMemory => OUT_OF_MEMORY,
     }
 }
 

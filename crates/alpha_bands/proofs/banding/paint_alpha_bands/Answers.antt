@@ -37,6 +37,14 @@ returns g c =
     let band = chunk-is-band s c.div_ceil-rows.result place.start c.args.bytes.now place.argument.now wide high c.requires.bytes place.argument_is in
     let inside = place.offset_in_chunk in
     let rows = band.rows in (
-      place.start, place.offset, band.top, band.h, place.after_call.now, place.start_plus_offset, band.begins, omega (arith, inside, rows),
-      place.call band.top band.h band.begins band.rows, place.new_element,
+      place.start,
+      place.offset,
+      band.top,
+      band.h,
+      place.after_call.now,
+      place.start_plus_offset,
+      band.begins,
+      omega (arith, inside, rows),
+      place.call band.top band.h band.begins band.rows,
+      place.new_element,
     ))

@@ -8,7 +8,7 @@ use Rattle.std.proofs.Crossing as heap
 use Rattle.std_alloc.proofs.SendSync.{quiet, lies}
 use Rattle.std_heap.proofs.Global.TheSendSync as handle
 use Rattle.vimalorua_c.specs.contracts.kept.HeldPlayer as HeldPlayer
-use Rattle.vimalorua_c.proofs.PlayerSent.{kept_send as kept}
+use Rattle.vimalorua_c.proofs.HandlesSent.{kept_send as kept}
 use Rattle.vimalorua_c.specs.contracts.handle.Handle.{the_row, the_type}
 
 pub send : IsSend the_row
