@@ -1,5 +1,5 @@
 -- Draws have one image in a format.
-use Rattle.std.proofs.Common.{◌≡◌, ◌∙◌, ℕ, zero, suc, ◌+◌, ◌*◌, ◌/◌, ◌%◌, ◌<◌, ℤ, List, length, get_or, map, ap, refl, sym, subst, arith}
+use Rattle.std.proofs.Common.{◌≡◌, ◌∙◌, ℕ, zero, suc, ◌+◌, ◌*◌, ◌/◌, ◌%◌, ◌<◌, ◌≤◌, ℤ, List, length, get_or, map, ap, refl, sym, subst, arith}
 use Rattle.std.specs.List.{range_with_len}
 use Rattle.std.proofs.lemmas.List.FromFn.{fill_by_all, get_or-map-range_with_len, length-map-range_with_len}
 use Rattle.std.proofs.lemmas.Nat.{div-add-mod', div-mul-add, mod-mul-add, mod_below, mul-le}
@@ -26,11 +26,11 @@ some_columns k h (suc w) lt = omega arith
 
 module _ (form : AlphaForm) (images : List Image) (w h : ℕ) where
   -- a byte of the picture by its number
-  alpha_byte : ℕ → ℕ
+  abbrev alpha_byte : ℕ → ℕ
   alpha_byte k = byte_of (formed_pixel form (layers_at images (k / 4 % w) (k / 4 / w))) (k % 4)
 
   -- all of them
-  alpha_bytes : List ℕ
+  abbrev alpha_bytes : List ℕ
   alpha_bytes = map alpha_byte (range_with_len 0 (4 * (h * w)))
 
   byte_by_number : (bytes : List ℕ) → AreAlphaRows form images w 0 h bytes → (k : ℕ) → k < 4 * (h * w) → get_or bytes k 0 ≡ alpha_byte k
@@ -73,7 +73,7 @@ module _ (form : AlphaForm) (images : List Image) (w h : ℕ) where
 
 module _ (fonts : List FontValue) (size : Size) (draws : List Draw) (t : ℤ) (n : ℕ) where
   -- the image of draws in a format
-  pub formatted : FrameFormat → List ℕ
+  abbrev pub formatted : FrameFormat → List ℕ
   formatted Ppm = image_bytes size.w size.h (picture fonts size draws).bytes t n
   formatted Pam = pam_bytes size.w size.h (alpha_bytes Straight (map (image_of_draw fonts) draws) size.w size.h) t n
   formatted Rgba = alpha_bytes Straight (map (image_of_draw fonts) draws) size.w size.h

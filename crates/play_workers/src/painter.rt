@@ -65,14 +65,7 @@ fn image_of<R: Threads + Sync>(
     ensures { (history : List Entry) (t : ℤ) → (is : IsFrameOf stage.now.renderer.script stage.now.renderer.fonts history t stage.now.job.size frame.now)
         → IfOk result (λ image. IsImageOfDraws (play_on stage.now) history t is.draws image.items) }
 {
-    image_in(
-        rt,
-        alloc,
-        frame,
-        stage.job.format,
-        stage.job.bands,
-        buffer,
-    )
+    image_in(rt, alloc, frame, stage.job.format, stage.job.bands, buffer)
 }
 
 /// The image of an instant, in the memory of a buffer.

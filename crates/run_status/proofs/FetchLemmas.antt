@@ -1,10 +1,9 @@
 -- What is read, by what fetches gave.
-use Rattle.std.proofs.Common.{◌≡◌, ℕ, suc, zero, ◌+◌, ◌<◌, ◌≤◌, inl, inr, List, [], ◌∷◌, ◌++◌, length, map, take, slice_index_or, Some, None, Result, Ok, Err, refl, sym, subst, ◌∙◌, ap, arith, append_assoc, append-nil, length-append}
+use Rattle.std.proofs.Common.{◌≡◌, ℕ, suc, zero, ◌+◌, ◌<◌, ◌≤◌, inl, inr, List, [], ◌∷◌, ◌++◌, length, take, slice_index_or, Some, None, Result, Ok, Err, refl, sym, subst, ◌∙◌, ap, arith, append_assoc, append-nil, length-append}
 use Rattle.std.specs.List.{slice_get}
-use Rattle.std.proofs.Math.Seq.{get_or-append_seam, take-suc}
-use Rattle.std.proofs.lemmas.List.{get_or_default, map-append, take_all}
-use Rattle.std.proofs.lemmas.Option.{slice_get-get_or}
-use Rattle.ass_io.specs.Fetched.{Held, IsTooLarge}
+use Rattle.std.proofs.Math.Seq.{take-suc}
+use Rattle.std.proofs.lemmas.List.{get_or_default, map-append}
+use Rattle.ass_io.specs.Fetched.{Held}
 use Rattle.ass_io.specs.Fetches.{FetchChange, FetchGives, IsGiven, LoggedFetch, fetch_change, fetched_names}
 use Rattle.ass_io.specs.declared.shelf.Fetch.{Fetch}
 use Rattle.ass_io.specs.declared.shelf.Fetch.TheVariants as fetch
@@ -197,15 +196,8 @@ module _ (names : List (List ℕ)) (own : List FontValue) (log : FetchChange) (i
   all_first : AreFirstFetched names log so.fetches
   all_first = record { added = so.added; order = so.order ∙ ap (λ (n : ℕ). take n names) (sym so.count) }
 
-  pub fetched_all : (all : List FontValue) → index ≡ length names → all ≡ fonts ++ own → length all ≤ max_fonts → AreFontsFetched names own log (Ok all)
-  fetched_all all last e few = record {
-    fetches = so.fetches;
-    first = all_first;
-    read = λ other. (so.files, (so.many ∙ last, so.first), e ∙ ap (λ (l : List FontValue). l ++ own) so.fonts_are, few);
-  }
-
-  pub fetched_many : (all : List FontValue) → index ≡ length names → all ≡ fonts ++ own → max_fonts < length all → AreFontsFetched names own log (Err (status.TooLarge Fonts max_fonts))
-  fetched_many all last e many = record {
+  pub fetched_many : (whole : List FontValue) → index ≡ length names → whole ≡ fonts ++ own → max_fonts < length whole → AreFontsFetched names own log (Err (status.TooLarge Fonts max_fonts))
+  fetched_many whole last e many = record {
     fetches = so.fetches;
     first = all_first;
     read = λ other. inr (

@@ -1,5 +1,6 @@
 -- A seat after a try of its pass.
-use Rattle.std.proofs.Common.{◌≡◌, ℕ, ◌+◌, ◌∙◌, ℤ, Bool, List, [], Result, Ok, Err, arith}
+use Rattle.std.proofs.Common.{◌≡◌, ℕ, ◌+◌, ◌∙◌, ℤ, Bool, true, false, List, [], Result, Ok, Err, ap, sym, subst, arith}
+use Rattle.std.proofs.lemmas.Bool.{false≢true}
 use Rattle.std.specs.Result.{IfOk, OnErr}
 use Rattle.ass_events.specs.declared.event.Event.{Event}
 use Rattle.player.specs.Players.{PlayerView}
@@ -11,7 +12,8 @@ use Rattle.track_history.specs.declared.answers.TrackEntry.{TrackEntry}
 use Rattle.track_history.specs.declared.answers.TurnOut.{TurnOut}
 use Rattle.track_history.specs.declared.scene.Scene.{Scene}
 use Rattle.track_history.proofs.LawLemmas.{fed_gives, tried_follows, turn_follows}
-use Rattle.turn_cell.specs.Passes.{CellView, Follows}
+use Rattle.track_history.specs.LocalTracks.{new_track}
+use Rattle.turn_cell.specs.Passes.{CellView, Follows, IsOf, new_pass, split_pass}
 use Rattle.turn_cell.proofs.Passes.{Follows_tries, IsOf-Follows}
 use Rattle.shared_player.specs.Seats.{IsSeat}
 use Rattle.shared_player.specs.Tries.{IsLostTry}
@@ -38,3 +40,16 @@ module _ (player : PlayerView) (cell : CellView (Unit {0})) (pass after : TrackV
 
   pub looked_seat : (t : ℤ) (answer : Result Scene LookRefusal) → IsTriedLook pass t after answer → IsSeat player cell after first
   looked_seat t answer looked = follows_seat [] (tried_follows pass after t answer looked)
+
+-- ---- splitting
+
+pub new_seat_is : (player : PlayerView) (cell : CellView (Unit {0})) (pass new : TrackView) → player.track ≡ new_track → IsOf cell pass → new ≡ new_pass pass → IsSeat player cell new false
+new_seat_is player cell pass new unfed of e =
+    record { unfed = unfed; of_cell = subst (λ (p : TrackView). IsOf cell p) (sym e) (record { id = of.id; tagged = of.tagged }); is_first = λ no. absurd (false≢true no) }
+
+pub first_seat_is : (player : PlayerView) (cell : CellView (Unit {0})) (pass after : TrackView) → player.track ≡ new_track → IsOf cell pass → pass.number ≡ 0 → after ≡ split_pass pass → IsSeat player cell after true
+first_seat_is player cell pass after unfed of first e = record {
+  unfed = unfed;
+  of_cell = subst (λ (p : TrackView). IsOf cell p) (sym e) (record { id = of.id; tagged = of.tagged });
+  is_first = λ yes. ap (λ (p : TrackView). p.number) e ∙ first;
+}

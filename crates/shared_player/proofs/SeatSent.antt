@@ -1,7 +1,6 @@
 -- A seat may go to another thread: each part of it may.
 use denote.Param.Send.{IsSend, view_send, recorded_send, struct_send, sendable}
 use denote.Struct.Declared.{shape}
-use Rattle.core.proofs.mem.manually_drop.ManuallyDrop.TheSendSync.{the_send as manually_drop_send}
 use Rattle.std_alloc.proofs.arc.Arc.TheSendSync.{the_send as arc_send}
 use Rattle.std_heap.proofs.Global.TheSendSync.{the_send as global_send, the_sync as global_sync}
 use Rattle.std_heap.proofs.GlobalAllocator.TheSendSync.{the_frees}
@@ -17,6 +16,6 @@ seat_send =
       player_send,
       (
         arc_send _ _ _ track_send global_send track_sync global_sync the_frees,
-        (search (sendable, manually_drop_send, pass_send) depth 10, (search sendable, tt)),
+        (search (sendable, pass_send) depth 10, (search sendable, tt)),
       ),
     )))

@@ -8,4 +8,4 @@ pam_bytes_in-requires g c = let many = c.in_ok-pixels.ensures.count in omega (ar
 pub returns : goal.returns
 returns g c =
     let fits : FitsSigned w64 c.args.frame.now.t = search rules in
-    map_written c.args.frame.now c.in_ok-pixels.pixels.items c.pam_bytes_in.result c.in_ok-pixels.ensures (rw (to_z-of_z fits) at c.pam_bytes_in.ensures)
+    map_written c.args.frame.now c.in_ok-pixels.pixels.items c.pam_bytes_in.result c.in_ok-pixels.ensures (rw (to_z-of_z fits, c.as_slice.ensures.value) at c.pam_bytes_in.ensures)

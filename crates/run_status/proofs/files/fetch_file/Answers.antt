@@ -21,30 +21,30 @@ returns-in-Got-clause-fetched g c =
     let same : c.from_vec.result ≡ c.fetch.new.into.items = search rules in
     let name : c.as_str-2.result.now ≡ c.args.name.now = search rules in
     rw (same, ← name)
-    (fetched_got c.as_str-2.result.now c.fetch.new.into.items (fetch_change (g.S.Shelf.log c.args.shelf.now) (g.S.Shelf.log c.fetch.new.shelf)) c.in-Got.ensures.fetched.1 c.in-Got.ensures.logged)
+    (fetched_got c.as_str-2.result.now c.fetch.new.into.items (fetch_change (g.S.Shelf.log c.args.shelf.now) (g.S.Shelf.log c.fetch.new.self)) c.in-Got.ensures.fetched.1 c.in-Got.ensures.logged)
 
 pub returns-in-Missing-clause-fetched : goal.returns-in-Missing-clause-fetched
 returns-in-Missing-clause-fetched g c =
     let name : c.as_str-2.result.now ≡ c.args.name.now = search rules in
     let owned : c.in_ok-name.name ≡ c.as_str-2.result.now = search rules in
     rw (owned, ← name)
-    (fetched_missing c.as_str-2.result.now c.fetch.new.into.items (fetch_change (g.S.Shelf.log c.args.shelf.now) (g.S.Shelf.log c.fetch.new.shelf)) c.in-Missing.ensures.logged)
+    (fetched_missing c.as_str-2.result.now c.fetch.new.into.items (fetch_change (g.S.Shelf.log c.args.shelf.now) (g.S.Shelf.log c.fetch.new.self)) c.in-Missing.ensures.logged)
 
 pub returns-in-Failed-clause-fetched : goal.returns-in-Failed-clause-fetched
 returns-in-Failed-clause-fetched g c =
     let name : c.as_str-2.result.now ≡ c.args.name.now = search rules in
     let owned : c.in_ok-name.name ≡ c.as_str-2.result.now = search rules in
     rw (owned, ← name)
-    (fetched_failed c.as_str-2.result.now c.fetch.new.into.items (fetch_change (g.S.Shelf.log c.args.shelf.now) (g.S.Shelf.log c.fetch.new.shelf)) c.in-Failed.ensures.logged)
+    (fetched_failed c.as_str-2.result.now c.fetch.new.into.items (fetch_change (g.S.Shelf.log c.args.shelf.now) (g.S.Shelf.log c.fetch.new.self)) c.in-Failed.ensures.logged)
 
 pub returns-in-TooLarge-clause-fetched : goal.returns-in-TooLarge-clause-fetched
 returns-in-TooLarge-clause-fetched g c =
     let name : c.as_str-2.result.now ≡ c.args.name.now = search rules in
     rw (← name)
-    (fetched_too_large c.as_str-2.result.now c.fetch.new.into.items (fetch_change (g.S.Shelf.log c.args.shelf.now) (g.S.Shelf.log c.fetch.new.shelf)) c.in-TooLarge.ensures.logged)
+    (fetched_too_large c.as_str-2.result.now c.fetch.new.into.items (fetch_change (g.S.Shelf.log c.args.shelf.now) (g.S.Shelf.log c.fetch.new.self)) c.in-TooLarge.ensures.logged)
 
 pub returns-in-OutOfMemory-clause-fetched : goal.returns-in-OutOfMemory-clause-fetched
 returns-in-OutOfMemory-clause-fetched g c =
     let name : c.as_str-2.result.now ≡ c.args.name.now = search rules in
     rw (← name)
-    (fetched_wanting c.as_str-2.result.now c.fetch.new.into.items (fetch_change (g.S.Shelf.log c.args.shelf.now) (g.S.Shelf.log c.fetch.new.shelf)) c.in-OutOfMemory.ensures.logged)
+    (fetched_wanting c.as_str-2.result.now c.fetch.new.into.items (fetch_change (g.S.Shelf.log c.args.shelf.now) (g.S.Shelf.log c.fetch.new.self)) c.in-OutOfMemory.ensures.logged)

@@ -1,8 +1,10 @@
-use Rattle.std.proofs.Common.{◌≡◌, ◌∙◌, ◌++◌, All, Err, refl, rules, inl, subst, sym}
+use Rattle.std.proofs.Common.{◌≡◌, ◌∙◌, ◌++◌, ◌+◌, All, length, arith, Err, refl, rules, inl, subst, sym}
 use Rattle.std.proofs.lemmas.List.Elements.{All-append, All-nil}
 use Rattle.bdf_font.specs.Ranges.{IsFont}
 use Rattle.run_status.proofs.FontLemmas.{read_more, read_none, stopped}
-use Rattle.run_status.proofs.FetchLemmas.{fetched_more, fetched_none, fetched_stopped}
+use Rattle.ass_io.specs.Fetches.{fetch_change}
+use Rattle.run_status.specs.declared.status.Status.TheVariants.{OutOfMemory as memory_status}
+use Rattle.run_status.proofs.FetchLemmas.{fetched_many, fetched_more, fetched_none, fetched_stopped, fetched_without_memory}
 use Rattle.run_status.proofs.inputs.fetch_all_fonts.Goals as goal
 
 pub loop-index-init : goal.loop-index-init
@@ -51,3 +53,24 @@ returns-in_err-file-clause-fetched g c =
     rw same
     (fetched_stopped c.args.names.now c.loop-index.index (g.S.Shelf.log c.args.shelf.now) (g.S.Shelf.log c.loop-index.shelf) (g.S.Shelf.log c.fetch_fonts_at.new.shelf) c.loop-index-test.true
     c.loop-index.all.items c.args.own why c.loop-index.invariant.fetched c.in_err-file.ensures.fetched)
+
+pub returns-in_err-append_fonts-clause-fetched : goal.returns-in_err-append_fonts-clause-fetched
+returns-in_err-append_fonts-clause-fetched g c =
+    let before = g.S.Shelf.log c.args.shelf.now in
+    let next = g.S.Shelf.log c.fetch_fonts_at.new.shelf in
+    let at = c.loop-index in
+    let file = c.in_ok-file.file in
+    let same : c.from_residual-in_err-append_fonts.result ≡ Err memory_status = search rules in
+    rw same
+    (fetched_without_memory c.args.names.now c.args.own (fetch_change before next) (at.index + 1) (at.all.items ++ file)
+    (fetched_more c.args.names.now at.index before (g.S.Shelf.log at.shelf) next c.loop-index-test.true at.all.items (at.all.items ++ file) file at.invariant.fetched c.in_ok-file.ensures.fetched refl))
+
+pub returns-then-len-gt-MAX_FONTS-clause-fetched :
+    goal.returns-then-len-gt-MAX_FONTS-clause-fetched
+returns-then-len-gt-MAX_FONTS-clause-fetched g c =
+    let at = c.loop-index in
+    let many = c.if-len-gt-MAX_FONTS.true in
+    let all = c.append_fonts-2.new.all.items in
+    let size : c.len.result ≡ length all = search rules in
+    fetched_many c.args.names.now c.args.own (fetch_change (g.S.Shelf.log c.args.shelf.now) (g.S.Shelf.log at.shelf)) at.index at.all.items at.invariant.fetched all
+    (omega (arith, c.loop-index-test.false, at.auto.index-end)) c.in_ok-append_fonts-2.ensures (omega (arith, many, size))

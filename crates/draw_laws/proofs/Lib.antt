@@ -1,0 +1,17 @@
+pub mod Types
+pub mod ListPairs
+pub mod Transparent
+pub mod MovedNumbers
+pub mod MovedMarks
+pub mod MovedPaints
+pub mod MovedRuns
+pub mod MovedStages
+pub mod MovedViews
+pub mod MovedEvents
+pub mod LeftColours
+pub mod DrawnParts
+pub mod LeftItems
+pub mod RunLayers
+pub mod LineLayers
+pub mod StackedLines
+pub mod RoundedNumbers
