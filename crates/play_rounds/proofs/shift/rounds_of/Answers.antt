@@ -15,3 +15,6 @@ returns-in-Both-clause-few c =
 
 pub returns-in-Feed-clause-few : goal.returns-in-Feed-clause-few
 returns-in-Feed-clause-few c = let lines = lines_few c.args.stage.now c.requires in omega (arith, lines, c.len-in-Feed.ensures, c.feeding_rounds.ensures.few)
+
+pub returns-in-Paint-clause-few : goal.returns-in-Paint-clause-few
+returns-in-Paint-clause-few c = let images = instants_few c.args.stage.now c.requires in omega (arith, images, c.image_rounds-in-Paint.ensures.few)
