@@ -2,3 +2,4 @@ mod AsBox
 mod CopyLemmas
 mod HandlesSent
 mod NameLemmas
+mod SeatLemmas
