@@ -37,7 +37,7 @@ not_empty (font ∷ fonts) some none = absurd (omega (arith, ap length none))
 
 pub shared_told : (player : PlayerView) → player.track ≡ new_track → IsPlayerShared (pos 0) (Some player) None
 shared_told player unfed = record {
-  shared = λ e. (player, (refl, (unfed, refl)));
+  shared = λ e. (player, refl, unfed, refl);
   fed = λ e. absurd (omega (arith, ints, e));
   closed = λ e. absurd (omega (arith, ints, e));
   else_same = λ other. absurd (other refl);
@@ -47,7 +47,7 @@ shared_told player unfed = record {
 pub unshared_told : (player : PlayerView) (refusal : ShareRefusal) → IsShareRefused player refusal → IsPlayerShared (share_status refusal) (Some player) (Some player)
 unshared_told player share.WasFed refused = record {
   shared = λ e. absurd (omega (arith, ints, e));
-  fed = λ e. (player, (refl, refused));
+  fed = λ e. (player, refl, refused);
   closed = λ e. absurd (omega (arith, ints, e));
   else_same = λ other. refl;
   others = λ not_done not_fed not_closed. absurd (not_fed refl);
@@ -115,7 +115,7 @@ module _ (at : ℤ) (frame : FrameView) (before : List ℕ) where
       → new ≡ record old { track = new.track } → IsDrawTried at frame before after drawn.entries (pos 0) old new
   picture_drawn after drawn old new some shows is track = record {
     fonts = ((λ e. absurd (omega (arith, ints, e))), (λ none. absurd (not_empty old.fonts some none)));
-    shown = λ e. (drawn.canvas, (shows, is));
+    shown = λ e. (drawn.canvas, shows, is);
     unshown = λ e. absurd (omega (arith, ints, e));
     busy = λ e. absurd (omega (arith, ints, e));
     wanting = λ e. absurd (omega (arith, ints, e));
@@ -156,7 +156,7 @@ module _ (at : ℤ) (frame : FrameView) (before : ℤ) where
     unlisted = λ e. refl;
     busy = λ e. absurd (omega (arith, ints, e));
     wanting = λ e. absurd (omega (arith, ints, e));
-    else_same = λ other. (refl, (refl, untold));
+    else_same = λ other. (refl, refl, untold);
     only_images = refl;
     count_is = refl;
     bytes_is = refl;
@@ -168,7 +168,7 @@ module _ (at : ℤ) (frame : FrameView) (before : ℤ) where
       → IsListTried at frame (pos 0) before (change_number listed.change) (length new.images) (mask_bytes new.images) listed.entries old new
   images_listed listed old new some lists only = record {
     fonts = ((λ e. absurd (omega (arith, ints, e))), (λ none. absurd (not_empty old.fonts some none)));
-    listed = λ e. (listed.change, (lists, refl));
+    listed = λ e. (listed.change, lists, refl);
     unlisted = λ e. absurd (omega (arith, ints, e));
     busy = λ e. absurd (omega (arith, ints, e));
     wanting = λ e. absurd (omega (arith, ints, e));
@@ -188,7 +188,7 @@ module _ (at : ℤ) (frame : FrameView) (before : ℤ) where
     unlisted = λ e. absurd (omega (arith, ints, e));
     busy = λ e. refused;
     wanting = λ e. absurd (omega (arith, ints, e));
-    else_same = λ other. (images, (refl, untold));
+    else_same = λ other. (images, refl, untold);
     only_images = only;
     count_is = refl;
     bytes_is = refl;
@@ -200,7 +200,7 @@ module _ (at : ℤ) (frame : FrameView) (before : ℤ) where
     unlisted = λ e. absurd (omega (arith, ints, e));
     busy = λ e. absurd (omega (arith, ints, e));
     wanting = λ e. refused;
-    else_same = λ other. (images, (refl, untold));
+    else_same = λ other. (images, refl, untold);
     only_images = only;
     count_is = refl;
     bytes_is = refl;
