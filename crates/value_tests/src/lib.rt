@@ -4,8 +4,6 @@
 #[cfg(test)]
 mod players;
 #[cfg(test)]
-mod seats;
-#[cfg(test)]
 mod shards;
 #[cfg(test)]
 mod values;
