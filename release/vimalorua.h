@@ -1,20 +1,23 @@
-/* Subtitles for players: one handle has a script, its fonts, the live events of one track, and caches.
+/* Subtitles for players: one handle has a script, its fonts, the live events of one track, and caches. For several
+ * threads a handle becomes seats, which share its script, its fonts and its track.
  *
  * A call answers by a status, of which only VIMALORUA_DONE is 0. Below stands which statuses a call has, what it
  * answers, and what it leaves as it was.
  *
  * Who owns what: the library keeps nothing of what it is given, and lends nothing. What it answers is copied into the
- * caller's memory. The handle alone is the library's: vimalorua_open makes it, and vimalorua_close frees all of it.
+ * caller's memory. Handles and seats alone are the library's: vimalorua_open makes a handle, and vimalorua_close frees
+ * all of it; vimalorua_share and vimalorua_split make seats, and the last vimalorua_leave frees what they share.
  *
  * What C must keep to, since nothing checks it:
  *
  * A handle comes from vimalorua_open, isn't copied, and has one call at a time. It may go from thread to thread where
  * a lock, a thread's start or join, or a sequentially consistent atomic orders its calls. After vimalorua_close it is
- * gone.
+ * gone. All this is so of a seat too, which vimalorua_share or vimalorua_split makes and vimalorua_leave ends. Seats of
+ * one track may have a call each at the same time.
  *
  * A pointer with a length behind it has that many items, and may be null where that is 0. No other pointer is null, but
- * that vimalorua_close takes a null handle. Each is aligned for its type. What a call writes overlaps nothing else that
- * it is given.
+ * that vimalorua_close and vimalorua_leave take a null one. Each is aligned for its type. What a call writes overlaps
+ * nothing else that it is given.
  *
  * malloc, realloc and free, which the library calls, are one allocator, and align a block to each power of two up to
  * 16 that divides its size. No call is made from a signal handler, nor in the forked child of a process with threads.
@@ -24,8 +27,10 @@
  * Times are in milliseconds, sizes of frames in pixels, and all other lengths in bytes or in items. */
 #ifndef VIMALORUA_H
 #define VIMALORUA_H
+#include <sched.h>
 #include <stddef.h>
 #include <stdint.h>
+#include <sys/select.h>
 #ifdef __cplusplus
 extern "C" {
 #endif
@@ -39,6 +44,15 @@ extern "C" {
 #define VIMALORUA_NO_NULLS(places) __attribute__((nonnull places))
 #else
 #define VIMALORUA_NO_NULLS(places)
+#endif
+
+/* A function of this header, in each C and C++. */
+#if defined(__cplusplus) || (defined(__STDC_VERSION__) && __STDC_VERSION__ >= 199901L)
+#define VIMALORUA_INLINE static inline
+#elif defined(__GNUC__)
+#define VIMALORUA_INLINE static __inline__
+#else
+#define VIMALORUA_INLINE static
 #endif
 
 /* Statuses. Where one tells a place, it stands beside it; where it tells none, a call that has a place writes 0. */
@@ -58,8 +72,12 @@ enum {
     VIMALORUA_FULL = 12,         /* *place: the most live events, 1,000,000 */
     VIMALORUA_MANY_FLUSHES = 13, /* *place: the most flushes, 1,000,000 */
     VIMALORUA_BAD_CALL = 14,     /* a number or a length is out of its range */
-    VIMALORUA_CLOSED = 15,       /* nothing is behind the handle; it doesn't come where this page is kept to */
-    VIMALORUA_BAD_FONT_DATA = 16 /* *place: the first line in a script that leaves the coding of fonts, from 1 */
+    VIMALORUA_CLOSED = 15,       /* nothing is behind the handle, which was shared; a seat never answers it */
+    VIMALORUA_BAD_FONT_DATA = 16, /* *place: the first line in a script that leaves the coding of fonts, from 1 */
+    VIMALORUA_BUSY = 17,          /* another seat's call has the track; the same call may be made again, or not */
+    VIMALORUA_NOT_FIRST = 18,     /* seats are split off the first one alone */
+    VIMALORUA_MANY_SEATS = 19,    /* 4,294,967,295 seats were split off already */
+    VIMALORUA_WAS_FED = 20        /* the handle's track has entries already */
 };
 
 /* The fields of an event, as VIMALORUA_MALFORMED names them. Of a chunk, END and OTHER are never named. A place is one
@@ -89,6 +107,13 @@ enum {
 };
 
 typedef struct vimalorua vimalorua;
+
+/* A thread's part in a track that several threads feed and draw: see vimalorua_share. It came with version 1.5. */
+typedef struct vimalorua_seat vimalorua_seat;
+
+/* What a call that waits does after each try that found the track busy, so many of them as `tries` says, from 1. `with`
+ * is what that call was given. It came with version 1.5. */
+typedef void (*vimalorua_pause)(void *with, unsigned tries);
 
 /* An image of one colour: w columns and h rows of the frame, from column x and row y on, all of them inside the frame.
  * Its mask has a byte for each pixel, row by row: 0 leaves the pixel as it is. The bytes are w * h of the masks, from
@@ -235,6 +260,170 @@ int32_t vimalorua_copy_images(vimalorua *handle, vimalorua_image *images, size_t
 
 /* Frees a handle. Of a null one it does nothing. */
 void vimalorua_close(vimalorua *handle);
+
+/* Makes a seat, *first, of a handle to whose track nothing was fed and which was never flushed. The seat has the
+ * handle's script, fonts and budget, and the list that it kept. It and all that vimalorua_split makes of it are the
+ * seats of one track, and may have a call each at the same time. The track has one history, in which the entries of all
+ * seats stand in one order. What a seat has seen of it only grows.
+ *
+ * No call of a seat waits. One that needs the track while another seat's call has it answers VIMALORUA_BUSY: then
+ * nothing has changed, and it may be made again or given up at any time. Those below whose names end in `waiting` make
+ * it again. Whose try finds the track free is left to chance: no order is kept. A thread that ends inside a call of a
+ * seat may leave the track busy for ever. All calls of seats came with version 1.5.
+ *
+ * DONE: *first is the caller's to leave. The handle is closed, so that its calls answer CLOSED, but is still to be
+ * freed by vimalorua_close. WAS_FED, OUT_OF_MEMORY, CLOSED: nothing changes, and *first stays. */
+int32_t vimalorua_share(vimalorua *handle, vimalorua_seat **first) VIMALORUA_NO_NULLS((1, 2));
+
+/* Makes one more seat of the track, *seat, off the first one, with its budget and nothing in its caches. It is never
+ * busy.
+ *
+ * DONE: *seat is the caller's to leave. NOT_FIRST, MANY_SEATS, OUT_OF_MEMORY: *seat stays. */
+int32_t vimalorua_split(vimalorua_seat *first, vimalorua_seat **seat) VIMALORUA_NO_NULLS((1, 2));
+
+/* Ends a seat: in any order, the first one too. The last one frees what they share. Of a null one it does nothing. */
+void vimalorua_leave(vimalorua_seat *seat);
+
+/* Offers the event of a chunk, as vimalorua_feed does. A chunk is read before the track is asked for, and again where
+ * the call is made again.
+ *
+ * DONE: the event is live; *place is its entry in the track's history, from 0, among those of all seats. REPEATED,
+ * MALFORMED, FULL, BUSY, OUT_OF_MEMORY, BAD_CALL: nothing changes. *field is 0 but for MALFORMED. */
+int32_t vimalorua_try_feed(vimalorua_seat *seat, const uint8_t *chunk, size_t chunk_len, int64_t start,
+                           int64_t duration, uint32_t *field, size_t *place) VIMALORUA_NO_NULLS((1, 6, 7));
+
+/* Offers the event of one of the script's own Dialogue lines, the one behind the first *place of them, with the place
+ * of the line as its ReadOrder. A line that gives no event is passed over. Called from a *place of 0 on, it offers all
+ * of them as vimalorua_feed_lines does.
+ *
+ * DONE: *place is one more, or, where there was no such line, how many lines the script has. BUSY, OUT_OF_MEMORY:
+ * nothing changes, and *place stays. */
+int32_t vimalorua_try_feed_lines(vimalorua_seat *seat, size_t *place) VIMALORUA_NO_NULLS((1, 2));
+
+/* Drops all live events, as vimalorua_flush does.
+ *
+ * DONE: *place is the flush's entry in the track's history. MANY_FLUSHES, BUSY, OUT_OF_MEMORY: nothing changes. */
+int32_t vimalorua_try_flush(vimalorua_seat *seat, size_t *place) VIMALORUA_NO_NULLS((1, 2));
+
+/* Gives each cache of a seat a budget in bytes (at most 2^40). Other seats have theirs. It is never busy.
+ *
+ * DONE. OUT_OF_MEMORY, BAD_CALL: nothing changes. */
+int32_t vimalorua_seat_set_budget(vimalorua_seat *seat, uint64_t budget) VIMALORUA_NO_NULLS((1));
+
+/* Draws what the track shows at an instant, as vimalorua_draw and vimalorua_draw_in do: what the first *entries entries
+ * of the history show, whatever other seats do. These are all that there are when it looks, and so no fewer than at any
+ * call of the seat before, and its own are among them.
+ *
+ * DONE. NO_FONT, BUSY, OUT_OF_MEMORY, BAD_CALL: the bytes stay, and *entries is 0. */
+int32_t vimalorua_try_draw(vimalorua_seat *seat, int64_t ms, uint32_t w, uint32_t h, uint8_t *out, size_t out_len,
+                           size_t *entries) VIMALORUA_NO_NULLS((1, 7));
+int32_t vimalorua_try_draw_in(vimalorua_seat *seat, int64_t ms, const vimalorua_view *view, uint8_t *out,
+                              size_t out_len, size_t *entries) VIMALORUA_NO_NULLS((1, 3, 6));
+
+/* Lists the same as images of one colour each, as vimalorua_images and vimalorua_images_in do, and keeps the list in
+ * the seat for vimalorua_seat_copy.
+ *
+ * DONE: *change, *count and *bytes tell of the list, *change beside the list that the seat kept before. NO_FONT, BUSY,
+ * OUT_OF_MEMORY, BAD_CALL: the list that was kept stays, *entries is 0, and the others tell nothing. */
+int32_t vimalorua_try_list(vimalorua_seat *seat, int64_t ms, uint32_t w, uint32_t h, int32_t *change, size_t *count,
+                           size_t *bytes, size_t *entries) VIMALORUA_NO_NULLS((1, 5, 6, 7, 8));
+int32_t vimalorua_try_list_in(vimalorua_seat *seat, int64_t ms, const vimalorua_view *view, int32_t *change,
+                              size_t *count, size_t *bytes, size_t *entries) VIMALORUA_NO_NULLS((1, 3, 4, 5, 6, 7));
+
+/* Copies the list that the seat keeps, as vimalorua_copy_images does. It is never busy.
+ *
+ * DONE. OUT_OF_MEMORY, BAD_CALL: what the pointers have stays. */
+int32_t vimalorua_seat_copy(vimalorua_seat *seat, vimalorua_image *images, size_t count, uint8_t *masks,
+                            size_t bytes) VIMALORUA_NO_NULLS((1));
+
+/* Pauses after so many tries and one more that found the track busy, and tells how many they are then: by a null pause
+ * a few turns of a loop, 1 to 64, then the processor is left to other threads, and from the 20th on to all for 50
+ * microseconds. */
+VIMALORUA_INLINE unsigned vimalorua_pause_after(unsigned tries, vimalorua_pause pause, void *with) {
+    tries += tries + 1 != 0;
+    if (pause) {
+        pause(with, tries);
+    } else if (tries < 8) {
+        volatile unsigned left = 1u << (tries - 1);
+        while (left != 0)
+            left = left - 1;
+    } else if (tries < 20) {
+        sched_yield();
+    } else {
+        struct timeval time;
+        time.tv_sec = 0;
+        time.tv_usec = 50;
+        select(0, NULL, NULL, NULL, &time);
+    }
+    return tries;
+}
+
+/* The calls that may be busy, made again until they aren't, with a pause after each try: null, or the program's own,
+ * which is given `with`. That of lines offers all of them from *place on. */
+VIMALORUA_INLINE int32_t vimalorua_feed_waiting(vimalorua_seat *seat, const uint8_t *chunk, size_t chunk_len,
+                                                int64_t start, int64_t duration, uint32_t *field, size_t *place,
+                                                vimalorua_pause pause, void *with) {
+    unsigned tries = 0;
+    int32_t status;
+    while ((status = vimalorua_try_feed(seat, chunk, chunk_len, start, duration, field, place)) == VIMALORUA_BUSY)
+        tries = vimalorua_pause_after(tries, pause, with);
+    return status;
+}
+VIMALORUA_INLINE int32_t vimalorua_feed_lines_waiting(vimalorua_seat *seat, size_t *place, vimalorua_pause pause,
+                                                      void *with) {
+    unsigned tries = 0;
+    int32_t status;
+    size_t before;
+    do {
+        before = *place;
+        status = vimalorua_try_feed_lines(seat, place);
+        tries = status == VIMALORUA_BUSY ? vimalorua_pause_after(tries, pause, with) : 0;
+    } while (status == VIMALORUA_BUSY || (status == VIMALORUA_DONE && *place > before));
+    return status;
+}
+VIMALORUA_INLINE int32_t vimalorua_flush_waiting(vimalorua_seat *seat, size_t *place, vimalorua_pause pause,
+                                                 void *with) {
+    unsigned tries = 0;
+    int32_t status;
+    while ((status = vimalorua_try_flush(seat, place)) == VIMALORUA_BUSY)
+        tries = vimalorua_pause_after(tries, pause, with);
+    return status;
+}
+VIMALORUA_INLINE int32_t vimalorua_draw_waiting(vimalorua_seat *seat, int64_t ms, uint32_t w, uint32_t h, uint8_t *out,
+                                                size_t out_len, size_t *entries, vimalorua_pause pause, void *with) {
+    unsigned tries = 0;
+    int32_t status;
+    while ((status = vimalorua_try_draw(seat, ms, w, h, out, out_len, entries)) == VIMALORUA_BUSY)
+        tries = vimalorua_pause_after(tries, pause, with);
+    return status;
+}
+VIMALORUA_INLINE int32_t vimalorua_draw_in_waiting(vimalorua_seat *seat, int64_t ms, const vimalorua_view *view,
+                                                   uint8_t *out, size_t out_len, size_t *entries,
+                                                   vimalorua_pause pause, void *with) {
+    unsigned tries = 0;
+    int32_t status;
+    while ((status = vimalorua_try_draw_in(seat, ms, view, out, out_len, entries)) == VIMALORUA_BUSY)
+        tries = vimalorua_pause_after(tries, pause, with);
+    return status;
+}
+VIMALORUA_INLINE int32_t vimalorua_list_waiting(vimalorua_seat *seat, int64_t ms, uint32_t w, uint32_t h,
+                                                int32_t *change, size_t *count, size_t *bytes, size_t *entries,
+                                                vimalorua_pause pause, void *with) {
+    unsigned tries = 0;
+    int32_t status;
+    while ((status = vimalorua_try_list(seat, ms, w, h, change, count, bytes, entries)) == VIMALORUA_BUSY)
+        tries = vimalorua_pause_after(tries, pause, with);
+    return status;
+}
+VIMALORUA_INLINE int32_t vimalorua_list_in_waiting(vimalorua_seat *seat, int64_t ms, const vimalorua_view *view,
+                                                   int32_t *change, size_t *count, size_t *bytes, size_t *entries,
+                                                   vimalorua_pause pause, void *with) {
+    unsigned tries = 0;
+    int32_t status;
+    while ((status = vimalorua_try_list_in(seat, ms, view, change, count, bytes, entries)) == VIMALORUA_BUSY)
+        tries = vimalorua_pause_after(tries, pause, with);
+    return status;
+}
 
 #ifdef __cplusplus
 }
