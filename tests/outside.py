@@ -177,7 +177,7 @@ def completion(score, file):
 def built_with(score, given, prefix):
     """A program in C by what was installed, with the archive and with the shared library."""
     pc = read(f"{prefix}/lib/pkgconfig/vimalorua.pc")
-    flags = [it.replace("${libdir}", f"{prefix}/lib").replace("${includedir}", f"{prefix}/include") for it in re.findall(r"-[IlL]\S+", pc)]
+    flags = [it.replace("${libdir}", f"{prefix}/lib").replace("${includedir}", f"{prefix}/include") for it in re.findall(r"(?<!\S)-[IlL]\S+", pc)]
     if shutil.which("pkg-config"):
         env = {**os.environ, "PKG_CONFIG_PATH": f"{prefix}/lib/pkgconfig", "PKG_CONFIG_ALLOW_SYSTEM_CFLAGS": "1", "PKG_CONFIG_ALLOW_SYSTEM_LIBS": "1"}
         said = ran(["pkg-config", "--cflags", "--libs", "vimalorua"], "/", env=env).stdout.split()
