@@ -40,7 +40,7 @@ pub record AreFilesFetched (script : ScriptSource) (fonts : List (List ℕ)) (lo
   pub first : AreFirstFetched (script.name ∷ fonts) log fetches
   pub read : AreFilesReadFrom (IsGiven fetches) script fonts answer
 
--- The files of a job were fetched: the script and then the fonts, in their order, each once, up to the last one that was needed; and what that gave asks for the answer. None was fetched where there are too many fonts.
+-- Of the files of a job, the script and then the fonts, the first ones were fetched, in their order and each once, and what that gave asks for the answer; how many more than that takes isn't said. None was fetched where there are too many fonts.
 abbrev pub AreFetched : ScriptSource → List (List ℕ) → FetchChange → Result Inputs Status → Type 0
 AreFetched script fonts log answer =
     ((length fonts ≤ max_fonts) × AreFilesFetched script fonts log answer) ⊎ ((max_fonts < length fonts) × (log.now ≡ log.before) × (answer ≡ Err (TooLarge Fonts max_fonts)))

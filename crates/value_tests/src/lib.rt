@@ -4,6 +4,8 @@
 #[cfg(test)]
 mod players;
 #[cfg(test)]
+mod seats;
+#[cfg(test)]
 mod shards;
 #[cfg(test)]
 mod values;

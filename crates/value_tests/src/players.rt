@@ -18,12 +18,12 @@ const FONT: &[u8] =
     b"STARTFONT 2.1\nFONTBOUNDINGBOX 8 8 0 0\nSTARTCHAR a\nENCODING 97\nBBX 2 2 0 0\nBITMAP\nC0\nC0\nENDCHAR\nENDFONT\n";
 
 /// Ten pixels to the right in a second.
-const CHUNK: &[u8] = b"7,1,,,0,0,0,,{\\fs8\\bord0\\shad0\\move(2,8,12,8)}a";
+pub(crate) const CHUNK: &[u8] = b"7,1,,,0,0,0,,{\\fs8\\bord0\\shad0\\move(2,8,12,8)}a";
 
-const FRAME: Size = Size { w: 16, h: 12 };
+pub(crate) const FRAME: Size = Size { w: 16, h: 12 };
 
 /// The script's player, without a font.
-fn opened(alloc: Global) -> Result<Player, Fail> {
+pub(crate) fn opened(alloc: Global) -> Result<Player, Fail> {
     if SCRIPT.len() > 1_000 {
         return Err("the script is long".into());
     }
@@ -33,7 +33,7 @@ fn opened(alloc: Global) -> Result<Player, Fail> {
     }
 }
 
-fn adds_a_font(alloc: Global, player: &mut Player) -> bool {
+pub(crate) fn adds_a_font(alloc: Global, player: &mut Player) -> bool {
     if FONT.len() > 1_000 || player.font_count() > 0 {
         return false;
     }
