@@ -1,5 +1,5 @@
 -- The numbers of jobs are within their limits.
-use Rattle.std.proofs.Common.{◌≡◌, ℕ, ◌≤◌, Bool, true, false, cond, List, Option, Some, None, Result, Ok, Err, IfOk, [], ◌∷◌, refl, subst, arith}
+use Rattle.std.proofs.Common.{◌≡◌, ℕ, ◌≤◌, Bool, true, false, cond, List, Option, Some, None, Result, Ok, Err, IfOk, [], ◌∷◌, ◌∙◌, ap, refl, subst, sym, arith}
 use Rattle.std.specs.Prelude.{IfSome, codes, is_some, option_and_then, pos, unwrap_or}
 use Rattle.std.specs.Str.{bytes_eq}
 use Rattle.std.proofs.lemmas.Int.{ints}
@@ -61,6 +61,7 @@ rate_range rows =
 instants_within : (rows : List Row) → AreInstants (instants_at rows)
 instants_within rows = cases (is_some (text_at rows argument.Frames))
   where
+    first : number_at rows argument.From 0 ≤ max_instant
     first = instant_within rows argument.From refl
     cases : (b : Bool) → AreInstants (cond b (counted_instants (rate_at rows) (number_at rows argument.From 0) (number_at rows argument.Frames 1)) (instants_before (rate_at rows) (number_at rows argument.From 0) (number_at rows argument.To 0)))
     cases true = counted_are_instants (rate_at rows) (number_at rows argument.From 0) (number_at rows argument.Frames 1) first (rate_range rows)
@@ -153,3 +154,14 @@ words_within words = or_within (asked_alone words) (command_job words) (alone_wi
 pub read_within : (reading : Result Job WordsFault) (read : Result Job WordsRefusal) → IsReading reading read → IfOk reading IsJob → IfOk read IsJob
 read_within reading (Ok job) same h = subst (λ r. IfOk r IsJob) same h
 read_within reading (Err refusal) same h = tt
+
+-- ---- a word that stands alone
+
+pub alone_read : (words : List (List ℕ)) (alone : Option Job) (job : Job) → alone ≡ asked_alone words → alone ≡ Some job → IsReading (job_of words) (Ok job)
+alone_read words alone job is some = ap (λ found. alone_or found (command_job words)) (sym is ∙ some)
+
+pub alone_is_job : (words : List (List ℕ)) (alone : Option Job) (job : Job) → alone ≡ asked_alone words → alone ≡ Some job → IsJob job
+alone_is_job words alone job is some = subst (λ found. IfSome found IsJob) (sym is ∙ some) (alone_within words)
+
+pub none_alone : (words : List (List ℕ)) (alone : Option Job) → alone ≡ asked_alone words → alone ≡ None → job_of words ≡ command_job words
+none_alone words alone is none = ap (λ found. alone_or found (command_job words)) (sym is ∙ none)
