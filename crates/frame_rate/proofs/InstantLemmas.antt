@@ -55,7 +55,7 @@ pub instants_few : (instants : Instants) → AreInstants instants → instants.c
 instants_few instants are =
     let all = frames_before instants.rate instants.from max_instant in
     let few =
-      few-counted (max_instant - instants.from) instants.rate.frames instants.rate.seconds all are.rate.most are.rate.time
-      (div_ceil_times ((max_instant - instants.from) * instants.rate.frames) (1000 * instants.rate.seconds) (let time = are.rate.time in omega (arith, time))).1 in
+    few-counted (max_instant - instants.from) instants.rate.frames instants.rate.seconds all are.rate.most are.rate.time
+    (div_ceil_times ((max_instant - instants.from) * instants.rate.frames) (1000 * instants.rate.seconds) (let time = are.rate.time in omega (arith, time))).1 in
     let within = are.within in
     omega (arith, few, within)
