@@ -1,12 +1,11 @@
 -- Instants by their places.
 use Rattle.std.proofs.Common.{◌≡◌, ℕ, ◌+◌, ◌-◌, ◌*◌, ◌<◌, ◌≤◌, ◌⊎◌, inl, inr, arith}
-use Rattle.std.specs.Prelude.{min}
 use Rattle.std.proofs.lemmas.Bool.{cases_lt}
 use Rattle.std.proofs.lemmas.Grind.{div_ceil_times}
 use Rattle.std.proofs.lemmas.Nat.{mul-le}
 use Rattle.ass_num.specs.Limits.{max_instant}
 use Rattle.frame_rate.specs.Instants.{AreInstants, CountedInstantsAreThere, counted_instants, instants_before, rated_instant}
-use Rattle.frame_rate.specs.Rates.{IsFrameRate, frame_instant, frames_before}
+use Rattle.frame_rate.specs.Rates.{IsFrameRate, frames_before}
 use Rattle.frame_rate.specs.declared.instants.Instants.{Instants}
 use Rattle.frame_rate.specs.declared.rate.FrameRate.{FrameRate}
 use Rattle.frame_rate.proofs.RateLemmas.{ceil-least, counted_frames_come_before}
