@@ -1,13 +1,14 @@
 #!/usr/bin/env bash
 # A play on many machines: GNU parallel has each play a range of the instants, and the parts are joined in their order.
 #
-# usage: on_many_machines.sh [-S LOGINS] [-n RANGES] [-p PROGRAM] [-i FILM] [-e OPTIONS] OUT WORDS..
+# usage: on_many_machines.sh [-S LOGINS] [-n RANGES] [-p PROGRAM] [-i FILM [-f FILTER]] [-e OPTIONS] OUT WORDS..
 #
 #   -S LOGINS    the machines, as parallel's --sshlogin has them: `:` (this one, by default), `user@host`, `4/host` for
 #                four ranges at once, with commas between
 #   -n RANGES    how many ranges there are, 16 by default; more than machines, so that all are done at about one time
 #   -p PROGRAM   the program on each machine, ../vimalorua or vimalorua by default
 #   -i FILM      lays the play over this film, from --from to --to
+#   -f FILTER    how ffmpeg does so: the film is [0:v], the play [1:v]
 #   -e OPTIONS   how ffmpeg encodes a video: '-c:v libx264' over a film, '-c:v ffv1 -pix_fmt bgra', with alpha, without one
 #   OUT          what is made: images as they come where its name ends with .ppm, .pam or .rgba, the same bytes that one
 #                play writes; else a video that ffmpeg makes
@@ -33,15 +34,16 @@ seconds() {
 
 read_options() {
     local letter
-    logins=: ranges=16 film='' encoder='' range='' writes='' joins=''
+    logins=: ranges=16 film='' filter='[0:v][1:v]overlay=eof_action=pass' encoder='' range='' writes='' joins=''
     program=$(dirname -- "$(dirname -- "$self")")/vimalorua
     [ -x "$program" ] || program=vimalorua
-    while getopts S:n:p:i:e:r:w:j letter; do
+    while getopts S:n:p:i:f:e:r:w:j letter; do
         case $letter in
         S) logins=$OPTARG ;;
         n) ranges=$OPTARG ;;
         p) program=$OPTARG ;;
         i) film=$OPTARG ;;
+        f) filter=$OPTARG ;;
         e) encoder=$OPTARG ;;
         r) range=$OPTARG ;;
         w) range=$OPTARG writes=1 ;;
@@ -122,7 +124,7 @@ part() {
     read -ra words <<< "$encoder"
     if [ -n "$film" ]; then
         above=(-ss "$(seconds "$first")" -t "$(seconds $((last - first)))" -i "$film" "${above[@]}")
-        above+=(-filter_complex '[0:v][1:v]overlay=eof_action=pass')
+        above+=(-filter_complex "$filter")
     fi
     { images --format rgba || [ $? = 7 ]; } | ffmpeg -v error "${above[@]}" -an -sn "${words[@]}" -f nut -
 }
@@ -146,14 +148,14 @@ join() {
 
 # Hands the ranges to the machines. Each line that parallel reads is a whole command.
 share() {
-    local at words=("$self" -n "$ranges" -p "$program" ${film:+-i "$film"} -e "$encoder")
+    local at words=("$self" -n "$ranges" -p "$program" ${film:+-i "$film" -f "$filter"} -e "$encoder")
     rm -rf -- "$parts"
     mkdir -- "$parts"
     for ((at = 0; at < ranges; at++)); do
         printf '%q ' "${words[@]}" -r "$at" -- "$@"
         echo
     done > "$parts/commands"
-    words=(--sshlogin "$logins" --workdir "$PWD" --results "$parts/{#}" --files --retries 3 --halt now,fail=1)
+    words=(--sshlogin "$logins" --workdir "$PWD" --results "$parts/{#}" --files --retries 3 --halt 'now,fail=1')
     if ! parallel "${words[@]}" < "$parts/commands" > "$parts/made"; then
         cat -- "$parts"/*.err >&2 || true
         rm -rf -- "$parts"

@@ -120,27 +120,50 @@ def instants(score, given):
 
 def blocks(text):
     """The commands of a page that make films."""
-    return [it for it in re.findall(r"(?ms)^```\n(.*?)^```$", text) if "ffmpeg " in it]
+    return [it for it in re.findall(r"(?ms)^```\n(.*?)^```$", text) if "ffmpeg " in it or "on_many_machines" in it]
+
+
+def colours(score, given):
+    """A red that covers an HD film is the red of such films."""
+    with open(f"{given.room}/red.rgba", "wb") as it:
+        it.write(bytes([255, 0, 0, 255]) * 256)
+    ffmpeg(given.room, *"-f lavfi -i color=gray:size=16x16 -frames:v 1 -c:v mpeg4 -colorspace bt709 hd.mp4".split())
+    lay = "[1:v]scale=out_color_matrix=bt709[s];[0:v][s]overlay=eof_action=pass"
+    words = [*"-i hd.mp4 -f rawvideo -pix_fmt rgba -video_size 16x16 -i red.rgba -filter_complex".split(), lay]
+    said = ffmpeg(given.room, *words, *"-frames:v 1 -f rawvideo -pix_fmt yuv420p -".split())
+    near = len(said) == 384 and all(differs_by(said[at : at + 1], bytes([it])) < 2 for at, it in ((0, 63), (256, 102), (320, 240)))
+    score.check(near, "red over an HD film has other bytes")
+
+
+def nearest(n, d):
+    return (2 * n + d) // (2 * d)
+
+
+def times(room, name):
+    """When a film's frames stand, in its own units, in order."""
+    show = "ffprobe -v error -select_streams v -show_entries packet=pts -of csv=p=0".split()
+    said = subprocess.run([*show, name], cwd=room, capture_output=True, encoding="utf-8", timeout=600).stdout
+    return sorted(int(it.strip(",")) for it in said.split())
 
 
 def commands(score, given):
     """The commands of the documents run as they stand, one behind another, and make films whose frames stand at their rate."""
     room = f"{given.room}/as_they_stand"
     os.mkdir(room)
-    os.symlink(f"{given.top}/examples", f"{room}/examples")
+    shutil.copytree(f"{given.top}/examples", f"{room}/examples")
     os.symlink(given.program, f"{room}/vimalorua")
     for page in ("README.md", "docs/PROGRAM.md"):
         with open(f"{given.top}/{page}", encoding="utf-8") as it:
             found = blocks(it.read())
         score.check(found, f"{page} has no commands for FFmpeg")
         for block in found:
+            if "on_many_machines" in block and not shutil.which("parallel"):
+                continue
             done = subprocess.run(["bash", "-euo", "pipefail", "-c", block], cwd=room, stdin=subprocess.DEVNULL, capture_output=True, timeout=1200)
             score.check(done.returncode == 0, f"{page}: {block}: {done.stderr.decode(errors='replace')[-2000:]}")
-    show = "ffprobe -v error -select_streams v -show_entries packet=pts -of csv=p=0".split()
-    for name in ("film.mp4", "subtitled.mp4"):
-        said = subprocess.run([*show, name], cwd=room, capture_output=True, encoding="utf-8", timeout=600).stdout
-        times = sorted(int(it.strip(",")) for it in said.split())
-        score.check(times == [1001 * at for at in range(len(times))] and len(times) > 100, f"{name} has frames at {times[:5]} and on")
+    score.check(times(room, "subtitled.mp4") == [1001 * at for at in range(120)], "the film of README.md has frames at other times")
+    for name in ("signs.mkv", "again.mkv") if shutil.which("parallel") else ("signs.mkv",):
+        score.check(times(room, name) == [nearest(1001 * at, 24) for at in range(72)], f"{name} has frames at other times")
 
 
 def films(score, given):
@@ -149,4 +172,5 @@ def films(score, given):
         return
     over_film(score, given)
     instants(score, given)
+    colours(score, given)
     commands(score, given)
