@@ -1,5 +1,5 @@
 -- Images painted on neighbouring pixels of a row, and pixels that images leave clear.
-use Rattle.std.proofs.Common.{◌≡◌, ◌<◌, ◌≤◌, ◌+◌, ◌*◌, ◌-◌, ◌⊎◌, ◌≢◌, ℕ, zero, suc, ℤ, pos, ◌+ℤ◌, ◌≤ℤ◌, ◌<ℤ◌, int_lt, int_le, Bool, true, false, ◌&&◌, ◌||◌, nat_le, nat_lt, if◌then◌else◌, List, [], ◌∷◌, length, map, take, drop, set, fold, replicate, get_or, refl, sym, ap, ◌∙◌, add-one, inl, inr, arith, get_or-set_same, get_or-set_other, length-set}
+use Rattle.std.proofs.Common.{◌≡◌, ◌<◌, ◌≤◌, ◌+◌, ◌*◌, ◌-◌, ◌⊎◌, ◌≢◌, ℕ, zero, suc, ℤ, pos, ◌+ℤ◌, ◌≤ℤ◌, ◌<ℤ◌, int_lt, int_le, Bool, true, false, ◌&&◌, ◌||◌, nat_le, nat_lt, if◌then◌else◌, List, [], ◌∷◌, length, map, take, drop, set, fold, replicate, get_or, slice_index, refl, sym, ap, subst, ◌∙◌, add-one, inl, inr, arith, get_or-set_same, get_or-set_other, length-set}
 use Rattle.std.specs.List.{All}
 use Rattle.std.proofs.lemmas.Bool.{cases_lt, true≢false}
 use Rattle.std.proofs.lemmas.List.{get_or-replicate, get_or_past, get_or_read, length-replicate}
@@ -53,6 +53,10 @@ module _ (p : MaskValue × ℤ × ℤ) (left right l r j : ℕ) (both : (i : ℕ
       elim apart [ inl less ↦ and-left (nat_le l i) (nat_lt i r) (le-no l i less) | inr past ↦ and-right (nat_le l i) (nat_lt i r) (lt-no i r past) ] in
       let whole : ((nat_le left i && nat_lt i right) && in_moved_columns p i) ≡ in_moved_columns p i = true-and (nat_le left i) (nat_lt i right) (in_moved_columns p i) (le-yes left i a) (lt-yes i right b) in
       and-left (in_moved_columns p i) (in_moved_rows p j) (sym whole ∙ (sym (both i) ∙ no))
+
+pub beside-same : (p q : MaskValue × ℤ × ℤ) (left right l r j : ℕ) → p ≡ q → ((i : ℕ) → left ≤ i → i < right → (i < l) ⊎ (r ≤ i) → in_moved_box p i j ≡ false)
+    → (i : ℕ) → left ≤ i → i < right → (i < l) ⊎ (r ≤ i) → in_moved_box q i j ≡ false
+beside-same p q left right l r j same beside i a b apart = subst (λ (x : MaskValue × ℤ × ℤ). in_moved_box x i j ≡ false) same (beside i a b apart)
 
 -- an image has no weight outside its mask's box
 pub weightless-image : (image : Image) (i j : ℕ) → in_moved_box (image.mask, image.x, image.y) i j ≡ false → (tint_at image i j).weight ≡ 0
@@ -156,8 +160,8 @@ layers-more f xs n left j x old new below at was is = λ k p less.
 
 -- ---- clear pixels
 
-pub zeros : (n k : ℕ) → get_or (replicate n 0) k 0 ≡ 0
-zeros n k = elim (cases_lt k n) [ inl within ↦ get_or-replicate {A = ℕ} n k 0 0 within | inr past ↦ get_or_past (replicate n 0) k 0 (omega (arith, length-replicate n 0)) ]
+pub zeros : (n k : ℕ) → slice_index (replicate n 0) k ≡ 0
+zeros n k = elim (cases_lt k n) [ inl within ↦ get_or-replicate {A = ℕ} n k 0 0 within | inr past ↦ get_or_past (replicate n 0) k 0 (omega (arith, length-replicate {A = ℕ} n 0)) ]
 
 clear-byte : (f : AlphaForm) (c : ℕ) → byte_of (formed_pixel f clear) c ≡ 0
 clear-byte form.Straight zero = refl
@@ -171,8 +175,8 @@ clear-byte form.Premultiplied (suc (suc (suc c))) = refl
 
 -- either of two, if neither is
 pub or-none : (a b : Bool) → (a || b) ≡ false → (a ≡ false) × (b ≡ false)
-or-none true b no = absurd (true≢false no)
-or-none false b no = (refl, no)
+or-none true b neither = absurd (true≢false neither)
+or-none false b neither = (refl, neither)
 
 -- zeros are clear pixels
 pub blank-pixels : (f : AlphaForm) (pixels : List Layers) (bytes : List ℕ) (n : ℕ) → bytes ≡ replicate n 0 → length bytes ≡ 4 * length pixels → All (λ p. p ≡ clear) pixels

@@ -20,6 +20,6 @@ returns g c =
     let count = c.loop-tile.invariant.count in
     first-all (λ k. formed_pixel c.args.form (layers_at images (c.args.left + k) c.args.j)) c.args.count _
     (first-part (λ k. formed_pixel c.args.form (layers_at images (c.args.left + k) c.args.j)) (λ k. formed_pixel c.args.form (layers_at images (c.args.left + 64 * tiles + k) c.args.j))
-    (64 * tiles) (c.args.count - 64 * tiles) c.args.count c.args.count _ _ c.loop-tile.bytes c.paint_tile.new.bytes (omega arith) (omega arith) (omega arith) (omega (arith, count))
-    (rw all at c.loop-tile.invariant) c.paint_tile.ensures
+    (64 * tiles) (c.args.count - 64 * tiles) c.args.count c.args.count _ _ c.loop-tile.bytes c.paint_tile-2.new.bytes (omega arith) (omega arith) (omega arith) (omega (arith, count))
+    (rw all at c.loop-tile.invariant) c.paint_tile-2.ensures
     (λ k. ap (λ i. formed_pixel c.args.form (layers_at images i c.args.j)) (let at : c.args.left + 64 * tiles + k ≡ c.args.left + (64 * tiles + k) = omega arith in at)))
