@@ -1,0 +1,15 @@
+//! Only what changes of the pictures of a script: an image where a picture differs from the one before it, and an index.
+#![tactic(auto)]
+
+mod alpha_box;
+mod boxes;
+mod crop;
+mod fault;
+mod image;
+mod lines;
+mod paint;
+mod reel;
+mod stills;
+
+pub use fault::StillsFault;
+pub use stills::show_stills;

@@ -1,0 +1,168 @@
+//! From instant to instant.
+
+ghost use Rattle.std.specs.Prelude.{◌≡◌, ◌+◌, ◌≤◌, ◌<◌, map, All, IfErr, IfOk, OnOk, length, string_bytes};
+ghost use Rattle.std.specs.Arc.{arc_value};
+ghost use Rattle.ass_num.specs.Limits.{max_text_bytes};
+ghost use Rattle.ass_events.specs.Histories.{HaveOwnOrders, max_live};
+ghost use Rattle.ass_events.specs.LineLaws.{HasShortLines};
+ghost use Rattle.ass_events.specs.Ranges.{IsEvent};
+ghost use Rattle.ass_events.specs.ScriptEvents.{line_events};
+ghost use Rattle.ass_events.specs.declared.event.Event.{Event};
+ghost use Rattle.ass_script.specs.Ranges.{IsScript};
+ghost use Rattle.frame_rate.specs.Instants.{rated_count};
+ghost use Rattle.frame_view.specs.FrameViews.{plain_frame};
+ghost use Rattle.run_words.specs.Jobs.{IsStillsJob};
+ghost use Rattle.text_layout.specs.Fonts.{IsLayoutFontSet};
+ghost use Rattle.text_layout.specs.Settings.{IsSetting};
+ghost use Rattle.still_images.specs.Lines.{end_line};
+ghost use Rattle.still_images.specs.Puts.{AreStillsShown};
+ghost use Rattle.still_images.specs.Reels.{EndsInInstant, IsReelFit, ShowsInstant};
+ghost use Rattle.still_images.specs.Stills.{stills_view};
+
+use crate::fault::StillsFault;
+use crate::lines::end_line;
+use crate::paint::pixels_of;
+use crate::reel::{Reel, Shown, is_shown, show_picture};
+use ass_events::{Event, events_of};
+use ass_io::Sink;
+use ass_num::{Items, Mem, OutOfMemory};
+use ass_script::Script;
+use bdf_font::{Font, FontSet};
+use frame_view::FrameView;
+use local_caches::LocalCaches;
+use picture_plan::plan;
+use run_words::StillsJob;
+use std::alloc::Global;
+use std::sync::Arc;
+use text_layout::Setting;
+
+/// Shows the instant at a place.
+fn add_instant<F: Sink>(
+    alloc: Global,
+    job: &StillsJob,
+    setting: &Setting<'_>,
+    events: &[Arc<Event>],
+    place: u64,
+    local: &mut LocalCaches,
+    reel: &mut Reel,
+    frames: &mut F,
+) -> Result<(), StillsFault>
+    requires job { IsStillsJob job.now }
+    requires setting { IsSetting setting.now }
+    requires frame { setting.now.frame ≡ plain_frame job.now.size }
+    requires events { All IsEvent (map arc_value events.now) }
+    requires texts { All (λ (e : Event). length e.text ≤ max_text_bytes) (map arc_value events.now) }
+    requires few { length events.now ≤ max_live }
+    requires orders { HaveOwnOrders (map arc_value events.now) }
+    requires lines { map arc_value events.now ≡ line_events setting.now.script }
+    requires place { place < rated_count job.now.instants }
+    requires same { local.old.fonts ≡ setting.now.fonts }
+    requires reel { IsReelFit job.now place reel.old }
+    ensures same { local.new.fonts ≡ local.old.fonts }
+    ensures fit { OnOk result (IsReelFit job.now (place + 1) reel.new) }
+    ensures whole { OnOk result (ShowsInstant (stills_view job.now setting.now.script setting.now.fonts) place reel.old reel.new
+        (F.state frames.old) (F.state frames.new)) }
+    ensures part { IfErr result (λ fault. EndsInInstant (stills_view job.now setting.now.script setting.now.fonts) place reel.old fault
+        (F.state frames.old) (F.state frames.new)) }
+{
+    let t = job.instants.at(place);
+    let plan = plan(alloc, setting, events, t as i64)?;
+    if is_shown(&reel.shown, &plan) {
+        return Ok(());
+    }
+    let pixels = pixels_of(alloc, local, job.format, &job.size, &plan)?;
+    let shown = Shown { plan, pixels };
+    show_picture(alloc, job, events.len(), place, t, shown, reel, frames)
+}
+
+/// The lines on images, with the last one.
+fn with_end(alloc: Global, index: String, count: u64, to: u64) -> Mem<String>
+    ensures { IfOk result (λ text. string_bytes text ≡ string_bytes index ++ end_line count to) }
+{
+    let end = end_line(alloc, count, to)?;
+    let mut text = index;
+    text.push_str(end.as_str())?;
+    Ok(text)
+}
+
+/// Shows all instants.
+fn show_all<F: Sink>(
+    alloc: Global,
+    job: &StillsJob,
+    setting: &Setting<'_>,
+    events: &[Arc<Event>],
+    local: &mut LocalCaches,
+    frames: &mut F,
+) -> Result<String, StillsFault>
+    requires job { IsStillsJob job.now }
+    requires setting { IsSetting setting.now }
+    requires frame { setting.now.frame ≡ plain_frame job.now.size }
+    requires events { All IsEvent (map arc_value events.now) }
+    requires texts { All (λ (e : Event). length e.text ≤ max_text_bytes) (map arc_value events.now) }
+    requires few { length events.now ≤ max_live }
+    requires orders { HaveOwnOrders (map arc_value events.now) }
+    requires lines { map arc_value events.now ≡ line_events setting.now.script }
+    requires same { local.old.fonts ≡ setting.now.fonts }
+    ensures { AreStillsShown (stills_view job.now setting.now.script setting.now.fonts) result (F.state frames.old) (F.state frames.new) }
+{
+    let mut reel = Reel {
+        shown: None,
+        count: 0,
+        index: String::new(alloc),
+    };
+    let count = job.instants.count();
+    for place in 0..count {
+        add_instant(alloc, job, setting, events, place, local, &mut reel, frames)?;
+    }
+    Ok(with_end(alloc, reel.index, count, job.instants.to)?)
+}
+
+/// Shows a script with events.
+fn show_events<F: Sink>(
+    alloc: Global,
+    job: &StillsJob,
+    script: &Script,
+    fonts: Arc<FontSet>,
+    events: &[Arc<Event>],
+    frames: &mut F,
+) -> Result<String, StillsFault>
+    requires job { IsStillsJob job.now }
+    requires script { IsScript script.now }
+    requires fonts { IsLayoutFontSet (arc_value fonts).fonts }
+    requires events { All IsEvent (map arc_value events.now) }
+    requires texts { All (λ (e : Event). length e.text ≤ max_text_bytes) (map arc_value events.now) }
+    requires few { length events.now ≤ max_live }
+    requires orders { HaveOwnOrders (map arc_value events.now) }
+    requires lines { map arc_value events.now ≡ line_events script.now }
+    ensures { AreStillsShown (stills_view job.now script.now (arc_value fonts).fonts) result (F.state frames.old) (F.state frames.new) }
+{
+    let mut local = LocalCaches::open(alloc, Arc::try_clone(&fonts)?, job.budget)?;
+    let setting = Setting {
+        script,
+        fonts: &fonts,
+        frame: FrameView::plain(job.size),
+    };
+    show_all(alloc, job, &setting, events, &mut local, frames)
+}
+
+/// Shows a script in fonts from instant to instant. The sink is put an image of the first picture, and of each that differs from the
+/// one before it, whole or the box that changed. What comes is the index: a line `image K place I t=MS box X1 Y1 X2 Y2` for each
+/// image, and a last one `end place N t=MS`.
+pub fn show_stills<F: Sink>(
+    alloc: Global,
+    job: &StillsJob,
+    script: &Script,
+    fonts: Items<Font>,
+    frames: &mut F,
+) -> Result<String, StillsFault>
+    requires job { IsStillsJob job.now }
+    requires script { IsScript script.now }
+    requires short { HasShortLines script.now }
+    requires fonts { IsLayoutFontSet fonts }
+    ensures { AreStillsShown (stills_view job.now script.now fonts) result (F.state frames.old) (F.state frames.new) }
+{
+    match read_events(alloc, script, fonts) {
+        Ok(read) => show_events(alloc, job, script, read.fonts, read.events.as_slice(), frames),
+        Err(OutOfMemory) => Err(StillsFault::OutOfMemory),
+    }
+}
