@@ -8,8 +8,9 @@ use Rattle.run_words.specs.Limits.{max_ahead, max_bands, max_batch, max_budget, 
 use Rattle.run_words.specs.declared.job.ChangesJob.{ChangesJob}
 use Rattle.run_words.specs.declared.job.FrameJob.{FrameJob}
 use Rattle.run_words.specs.declared.job.Job.{Job}
-use Rattle.run_words.specs.declared.job.Job.TheVariants.{Check, Frame, Play, Selftest, Changes, Write}
+use Rattle.run_words.specs.declared.job.Job.TheVariants.{Check, Frame, Play, Stills, Selftest, Changes, Write, Help, Version}
 use Rattle.run_words.specs.declared.job.PlayJob.{PlayJob}
+use Rattle.run_words.specs.declared.job.StillsJob.{StillsJob}
 
 -- the number is from `least` to `most`
 abbrev pub IsNumberBetween : ℕ → ℕ → ℕ → Type 0
@@ -45,11 +46,19 @@ pub record IsPlay (play : PlayJob) : Type 0 where
   pub bands : IsNumberBetween 1 max_bands play.bands
   pub budget : play.budget ≤ max_budget
 
+pub record IsStills (stills : StillsJob) : Type 0 where
+  pub instants : AreInstants stills.instants
+  pub size : IsFrame stills.size
+  pub budget : stills.budget ≤ max_budget
+
 -- The numbers of a job are within their limits.
 abbrev pub IsJob : Job → Type 0
 IsJob (Check script fonts) = Unit {0}
 IsJob (Frame frame script fonts) = IsFrameJob frame × IsFrame frame.view.size
 IsJob (Play play script fonts) = IsPlay play
+IsJob (Stills stills script fonts) = IsStills stills
 IsJob (Selftest seed events workers) = (seed ≤ max_seed) × IsNumberBetween 1 max_events events × IsNumberBetween 1 max_workers workers
 IsJob (Changes changes script fonts) = IsChangesJob changes × IsFrame changes.view.size
 IsJob (Write later earlier script) = IsMoment later × IsMoment earlier
+IsJob Help = Unit {0}
+IsJob Version = Unit {0}

@@ -25,6 +25,10 @@ max_ahead = 64
 abbrev pub max_bands : ℕ
 max_bands = 8
 
+-- the most frames that are asked for by their number
+abbrev pub max_asked_frames : ℕ
+max_asked_frames = 1000000
+
 -- the most bytes of a cache's budget
 abbrev pub max_budget : ℕ
 max_budget = 1099511627776

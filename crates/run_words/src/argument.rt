@@ -1,7 +1,7 @@
 //! The arguments of all commands.
 
 ghost use Rattle.std.specs.Prelude.{◌≡◌, ◌++◌, IfOk, codes};
-ghost use Rattle.run_words.specs.Arguments.{argument_name, is_positional, is_required, argument_kind, shown_name};
+ghost use Rattle.run_words.specs.Arguments.{argument_name, is_positional, is_required, argument_kind, shown_name, stands_alone};
 
 use ass_num::{Mem, Text};
 use std::alloc::Global;
@@ -38,6 +38,9 @@ pub const MAX_AHEAD: u64 = 64;
 
 /// The most bands of a frame.
 pub const MAX_BANDS: u64 = 8;
+
+/// The most frames that are asked for by their number.
+pub const MAX_ASKED_FRAMES: u64 = 1_000_000;
 
 /// The most bytes of a cache's budget.
 pub const MAX_BUDGET: u64 = 1 << 40;
@@ -81,6 +84,7 @@ pub enum Argument {
     At,
     From,
     To,
+    Frames,
     Step,
     Rate,
     Size,
@@ -90,6 +94,8 @@ pub enum Argument {
     Letters,
     Scale,
     Format,
+    Changed,
+    Crop,
     Feeders,
     Renderers,
     Batch,
@@ -118,6 +124,7 @@ impl Argument {
             Argument::At => "at",
             Argument::From => "from",
             Argument::To => "to",
+            Argument::Frames => "frames",
             Argument::Step => "step",
             Argument::Rate => "rate",
             Argument::Size => "size",
@@ -127,6 +134,8 @@ impl Argument {
             Argument::Letters => "letters",
             Argument::Scale => "scale",
             Argument::Format => "format",
+            Argument::Changed => "changed",
+            Argument::Crop => "crop",
             Argument::Feeders => "feeders",
             Argument::Renderers => "renderers",
             Argument::Batch => "batch",
@@ -162,8 +171,18 @@ impl Argument {
         ensures { result ≡ is_required self }
     {
         match self {
-            Argument::At | Argument::From | Argument::To | Argument::Size => true,
+            Argument::At | Argument::From | Argument::Size => true,
             _ => self.is_positional(),
+        }
+    }
+
+    /// Whether it is an option that stands alone.
+    pub fn stands_alone(self) -> bool
+        ensures { result ≡ stands_alone self }
+    {
+        match self {
+            Argument::Changed | Argument::Crop | Argument::ScriptFonts => true,
+            _ => false,
         }
     }
 
@@ -174,6 +193,7 @@ impl Argument {
         match self {
             Argument::At | Argument::From | Argument::To | Argument::Later | Argument::Earlier =>
                 Kind::Number(0, MAX_INSTANT),
+            Argument::Frames => Kind::Number(1, MAX_ASKED_FRAMES),
             Argument::Step => Kind::Number(1, MAX_INSTANT),
             Argument::Rate => Kind::FramesInSeconds,
             Argument::Size => Kind::FrameSize,
@@ -193,7 +213,7 @@ impl Argument {
             Argument::Bands => Kind::Number(1, MAX_BANDS),
             Argument::Budget => Kind::Number(0, MAX_BUDGET),
             Argument::Mode => Kind::PlayMode,
-            Argument::ScriptFonts => Kind::Alone,
+            Argument::Changed | Argument::Crop | Argument::ScriptFonts => Kind::Alone,
             Argument::Seed => Kind::Number(0, MAX_SEED),
             Argument::Events => Kind::Number(1, MAX_EVENTS),
             Argument::Script | Argument::Fonts => Kind::FileName,

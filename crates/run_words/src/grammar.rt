@@ -19,8 +19,8 @@ fn argument<'a>(alloc: Global, argument: Argument) -> Arg<'a>
     let taken = Arg::new(alloc, name).required(argument.is_required());
     match argument {
         Argument::Fonts => taken.num_args(1..),
-        Argument::ScriptFonts => taken.long(name).num_args(0),
         _ if argument.is_positional() => taken,
+        _ if argument.stands_alone() => taken.long(name).num_args(0),
         _ => taken.long(name),
     }
 }
