@@ -6,7 +6,6 @@ use Rattle.std.specs.declared.string.String.{String}
 use Rattle.ass_io.specs.Sinks.{SinkState}
 use Rattle.ass_io.specs.Written.{AppendsFront}
 use Rattle.ass_num.specs.Causes.{Rose}
-use Rattle.frame_rate.specs.Instants.{rated_count}
 use Rattle.still_images.specs.Stills.{AreFirstStills, AreStills, Still, StillsView, index_text, still_images}
 use Rattle.still_images.specs.declared.fault.StillsFault.{StillsFault}
 use Rattle.still_images.specs.declared.fault.StillsFault.TheVariants.{WriteFault, OutOfMemory}
@@ -31,7 +30,7 @@ pub record GotPrefix (fault : StillsFault) (pieces : List (List ℕ)) (old new :
 -- All images were put, and this is their index.
 pub record IsShownWhole (view : StillsView) (text : List ℕ) (old new : SinkState) : Type 0 where
   pub stills : List Still
-  pub are : AreStills view (rated_count view.job.instants) stills
+  pub are : AreStills view view.job.instants.count stills
   pub got : GotWhole (still_images view stills) old new
   pub value : text ≡ index_text view stills
 

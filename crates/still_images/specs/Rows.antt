@@ -10,6 +10,7 @@ pub record DifferBetween (a b : List ℕ) (columns : Columns) : Type 0 where
   pub behind : AreSame a b (4 * columns.end) (length a)
   pub first : SomeDiffers a b (4 * columns.first) (4 * columns.first + 4)
   pub last : SomeDiffers a b (4 * columns.end - 4) (4 * columns.end)
+  pub order : columns.first < columns.end
   pub within : 4 * columns.end < length a + 4
 
 abbrev pub AreColumnsOf : List ℕ → List ℕ → Option Columns → Type 0

@@ -1,10 +1,12 @@
 -- Public: the pictures of a script that are kept where only what changes is: the first one, and each that differs from the one before it (docs/PICTURES.md).
-use Rattle.std.specs.Prelude.{◌≡◌, ℕ, ◌+◌, ◌≤◌, pos, if◌then◌else◌, List, [], ◌∷◌, ◌++◌, length, map}
+use Rattle.std.specs.Prelude.{◌≡◌, ℕ, ◌+◌, ◌≤◌, pos, min, if◌then◌else◌, List, [], ◌∷◌, ◌++◌, length, map}
 use Rattle.ass_events.specs.ScriptEvents.{line_events}
 use Rattle.ass_script.specs.Scripts.{ScriptValue}
 use Rattle.bdf_font.specs.Fonts.{FontValue}
 use Rattle.frame_change.specs.declared.pixels.Changed.{Changed}
-use Rattle.frame_rate.specs.Instants.{rated_count, rated_instant}
+use Rattle.ass_num.specs.Limits.{max_instant}
+use Rattle.frame_rate.specs.Instants.{rated_instant}
+use Rattle.frame_rate.specs.declared.instants.Instants.{Instants}
 use Rattle.frame_view.specs.FrameViews.{plain_frame}
 use Rattle.mask_keys.specs.declared.plans.Draw.{Draw}
 use Rattle.picture_plan.specs.Pictures.{AreDraws}
@@ -53,7 +55,7 @@ pub data AreStills (view : StillsView) : ℕ → List Still → Type 0 where
 
 -- They are those of the first instants, maybe of all.
 abbrev pub AreFirstStills : StillsView → List Still → Type 0
-AreFirstStills view stills = (place : ℕ) × (place ≤ rated_count view.job.instants) × AreStills view place stills
+AreFirstStills view stills = (place : ℕ) × (place ≤ view.job.instants.count) × AreStills view place stills
 
 -- the image of a picture at t, when n events were known: all of it, or the part in a box
 abbrev pub image_of_part : StillsJob → Changed → List ℕ → ℕ → ℕ → List ℕ
@@ -74,6 +76,10 @@ unfoldable pub still_lines : StillsView → ℕ → List Still → List ℕ
 still_lines view k [] = []
 still_lines view k (still ∷ stills) = still_line k still.place (rated_instant view.job.instants still.place) still.box ++ still_lines view (k + 1) stills
 
+-- the end of the last instant: the next one, or the last that there is where that doesn't come before it
+abbrev pub end_instant : Instants → ℕ
+end_instant instants = min (rated_instant instants instants.count) max_instant
+
 -- the index of kept pictures
 abbrev pub index_text : StillsView → List Still → List ℕ
-index_text view stills = still_lines view 0 stills ++ end_line (rated_count view.job.instants) view.job.instants.to
+index_text view stills = still_lines view 0 stills ++ end_line view.job.instants.count (end_instant view.job.instants)

@@ -1,7 +1,6 @@
 //! The part of a picture in a box.
 
 ghost use Rattle.std.specs.Prelude.{◌≡◌, ◌≤◌, ◌<◌, IfOk};
-ghost use Rattle.ass_num.specs.declared.size.Size.{Size};
 ghost use Rattle.still_images.specs.Boxes.{HasPixels, IsOnFrame, cropped, cropped_row};
 
 use ass_num::{Mem, Size};
@@ -9,7 +8,13 @@ use frame_change::Changed;
 use std::alloc::Global;
 
 /// Row `y` of the part of a picture in a box.
-fn cropped_row(depth: usize, size: &Size, part: &Changed, pixels: &[u8], y: u32) -> &[u8]
+fn cropped_row<'a>(
+    depth: usize,
+    size: &Size,
+    part: &Changed,
+    pixels: &'a [u8],
+    y: u32,
+) -> &'a [u8]
     requires depth { 1 ≤ depth }
     requires pixels { HasPixels depth size.now pixels.now }
     requires part { IsOnFrame size.now part.now }

@@ -6,10 +6,12 @@ mod boxes;
 mod crop;
 mod fault;
 mod image;
+mod laws;
 mod lines;
 mod paint;
 mod reel;
 mod stills;
 
 pub use fault::StillsFault;
+pub use laws::stills_show_all;
 pub use stills::show_stills;

@@ -1,6 +1,6 @@
 //! From instant to instant.
 
-ghost use Rattle.std.specs.Prelude.{◌≡◌, ◌+◌, ◌≤◌, ◌<◌, map, All, IfErr, IfOk, OnOk, length, string_bytes};
+ghost use Rattle.std.specs.Prelude.{◌≡◌, ◌++◌, ◌+◌, ◌≤◌, ◌<◌, map, All, IfErr, IfOk, OnOk, length, string_bytes};
 ghost use Rattle.std.specs.Arc.{arc_value};
 ghost use Rattle.ass_num.specs.Limits.{max_text_bytes};
 ghost use Rattle.ass_events.specs.Histories.{HaveOwnOrders, max_live};
@@ -9,15 +9,15 @@ ghost use Rattle.ass_events.specs.Ranges.{IsEvent};
 ghost use Rattle.ass_events.specs.ScriptEvents.{line_events};
 ghost use Rattle.ass_events.specs.declared.event.Event.{Event};
 ghost use Rattle.ass_script.specs.Ranges.{IsScript};
-ghost use Rattle.frame_rate.specs.Instants.{rated_count};
+ghost use Rattle.frame_rate.specs.Instants.{AreInstants};
 ghost use Rattle.frame_view.specs.FrameViews.{plain_frame};
-ghost use Rattle.run_words.specs.Jobs.{IsStillsJob};
+ghost use Rattle.run_words.specs.Jobs.{IsStills};
 ghost use Rattle.text_layout.specs.Fonts.{IsLayoutFontSet};
 ghost use Rattle.text_layout.specs.Settings.{IsSetting};
 ghost use Rattle.still_images.specs.Lines.{end_line};
 ghost use Rattle.still_images.specs.Puts.{AreStillsShown};
 ghost use Rattle.still_images.specs.Reels.{EndsInInstant, IsReelFit, ShowsInstant};
-ghost use Rattle.still_images.specs.Stills.{stills_view};
+ghost use Rattle.still_images.specs.Stills.{end_instant, stills_view};
 
 use crate::fault::StillsFault;
 use crate::lines::end_line;
@@ -25,9 +25,10 @@ use crate::paint::pixels_of;
 use crate::reel::{Reel, Shown, is_shown, show_picture};
 use ass_events::{Event, events_of};
 use ass_io::Sink;
-use ass_num::{Items, Mem, OutOfMemory};
+use ass_num::{Items, Mem};
 use ass_script::Script;
 use bdf_font::{Font, FontSet};
+use frame_rate::Instants;
 use frame_view::FrameView;
 use local_caches::LocalCaches;
 use picture_plan::plan;
@@ -47,7 +48,7 @@ fn add_instant<F: Sink>(
     reel: &mut Reel,
     frames: &mut F,
 ) -> Result<(), StillsFault>
-    requires job { IsStillsJob job.now }
+    requires job { IsStills job.now }
     requires setting { IsSetting setting.now }
     requires frame { setting.now.frame ≡ plain_frame job.now.size }
     requires events { All IsEvent (map arc_value events.now) }
@@ -55,7 +56,7 @@ fn add_instant<F: Sink>(
     requires few { length events.now ≤ max_live }
     requires orders { HaveOwnOrders (map arc_value events.now) }
     requires lines { map arc_value events.now ≡ line_events setting.now.script }
-    requires place { place < rated_count job.now.instants }
+    requires place { place < job.now.instants.count }
     requires same { local.old.fonts ≡ setting.now.fonts }
     requires reel { IsReelFit job.now place reel.old }
     ensures same { local.new.fonts ≡ local.old.fonts }
@@ -75,11 +76,29 @@ fn add_instant<F: Sink>(
     show_picture(alloc, job, events.len(), place, t, shown, reel, frames)
 }
 
-/// The lines on images, with the last one.
-fn with_end(alloc: Global, index: String, count: u64, to: u64) -> Mem<String>
-    ensures { IfOk result (λ text. string_bytes text ≡ string_bytes index ++ end_line count to) }
+/// The last instant, in milliseconds.
+const MAX_INSTANT: u64 = 4_000_000_000_000;
+
+/// The end of the last instant: the next one, or the last that there is where that doesn't come before it.
+#[tactic(auto, using(crate::proofs::EndLemmas::next_comes, crate::proofs::EndLemmas::none_comes))]
+fn end_instant(instants: &Instants) -> u64
+    requires { AreInstants instants.now }
+    ensures { result ≡ end_instant instants.now }
 {
-    let end = end_line(alloc, count, to)?;
+    let rate = instants.rate;
+    if instants.count < rate.frames_before(instants.from, MAX_INSTANT) {
+        rate.instant_at(instants.from, instants.count)
+    } else {
+        MAX_INSTANT
+    }
+}
+
+/// The lines on images, with the last one.
+fn with_end(alloc: Global, index: String, instants: &Instants) -> Mem<String>
+    requires { AreInstants instants.now }
+    ensures { IfOk result (λ text. string_bytes text ≡ string_bytes index ++ end_line instants.now.count (end_instant instants.now)) }
+{
+    let end = end_line(alloc, instants.count, end_instant(instants))?;
     let mut text = index;
     text.push_str(end.as_str())?;
     Ok(text)
@@ -94,7 +113,7 @@ fn show_all<F: Sink>(
     local: &mut LocalCaches,
     frames: &mut F,
 ) -> Result<String, StillsFault>
-    requires job { IsStillsJob job.now }
+    requires job { IsStills job.now }
     requires setting { IsSetting setting.now }
     requires frame { setting.now.frame ≡ plain_frame job.now.size }
     requires events { All IsEvent (map arc_value events.now) }
@@ -110,39 +129,17 @@ fn show_all<F: Sink>(
         count: 0,
         index: String::new(alloc),
     };
-    let count = job.instants.count();
-    for place in 0..count {
+    for place in 0..job.instants.count {
         add_instant(alloc, job, setting, events, place, local, &mut reel, frames)?;
     }
-    Ok(with_end(alloc, reel.index, count, job.instants.to)?)
+    Ok(with_end(alloc, reel.index, &job.instants)?)
 }
 
-/// Shows a script with events.
-fn show_events<F: Sink>(
-    alloc: Global,
-    job: &StillsJob,
-    script: &Script,
-    fonts: Arc<FontSet>,
-    events: &[Arc<Event>],
-    frames: &mut F,
-) -> Result<String, StillsFault>
-    requires job { IsStillsJob job.now }
-    requires script { IsScript script.now }
-    requires fonts { IsLayoutFontSet (arc_value fonts).fonts }
-    requires events { All IsEvent (map arc_value events.now) }
-    requires texts { All (λ (e : Event). length e.text ≤ max_text_bytes) (map arc_value events.now) }
-    requires few { length events.now ≤ max_live }
-    requires orders { HaveOwnOrders (map arc_value events.now) }
-    requires lines { map arc_value events.now ≡ line_events script.now }
-    ensures { AreStillsShown (stills_view job.now script.now (arc_value fonts).fonts) result (F.state frames.old) (F.state frames.new) }
+/// Fonts as a set.
+fn font_set(alloc: Global, fonts: Items<Font>) -> Mem<Arc<FontSet>>
+    ensures { IfOk result (λ set. (arc_value set).fonts ≡ fonts) }
 {
-    let mut local = LocalCaches::open(alloc, Arc::try_clone(&fonts)?, job.budget)?;
-    let setting = Setting {
-        script,
-        fonts: &fonts,
-        frame: FrameView::plain(job.size),
-    };
-    show_all(alloc, job, &setting, events, &mut local, frames)
+    Ok(Arc::new(alloc, FontSet { fonts })?)
 }
 
 /// Shows a script in fonts from instant to instant. The sink is put an image of the first picture, and of each that differs from the
@@ -155,14 +152,19 @@ pub fn show_stills<F: Sink>(
     fonts: Items<Font>,
     frames: &mut F,
 ) -> Result<String, StillsFault>
-    requires job { IsStillsJob job.now }
+    requires job { IsStills job.now }
     requires script { IsScript script.now }
     requires short { HasShortLines script.now }
     requires fonts { IsLayoutFontSet fonts }
     ensures { AreStillsShown (stills_view job.now script.now fonts) result (F.state frames.old) (F.state frames.new) }
 {
-    match read_events(alloc, script, fonts) {
-        Ok(read) => show_events(alloc, job, script, read.fonts, read.events.as_slice(), frames),
-        Err(OutOfMemory) => Err(StillsFault::OutOfMemory),
-    }
+    let fonts = font_set(alloc, fonts)?;
+    let events = events_of(alloc, script)?;
+    let mut local = LocalCaches::open(alloc, Arc::try_clone(&fonts)?, job.budget)?;
+    let setting = Setting {
+        script,
+        fonts: &fonts,
+        frame: FrameView::plain(job.size),
+    };
+    show_all(alloc, job, &setting, events.as_slice(), &mut local, frames)
 }
