@@ -16,7 +16,8 @@ use Rattle.clap.specs.Walk.{Row, all_of, first_of}
 use Rattle.run_words.specs.Arguments.{argument_name, argument_kind, shown_name}
 use Rattle.run_words.specs.Commands.{arguments_of, sharing_arguments}
 use Rattle.run_words.specs.Limits.{usual_batch, usual_budget}
-use Rattle.run_words.specs.Values.{aspect_in, content_in, format_in, is_of_kind, letters_in, mode_in, number_within, rate_in, size_in, storage_in}
+use Rattle.value_texts.specs.Values.{aspect_in, content_in, letters_in, number_within, rate_in, size_in, storage_in}
+use Rattle.run_words.specs.Values.{format_in, is_of_kind, mode_in}
 use Rattle.run_words.specs.declared.argument.Argument.{Argument}
 use Rattle.run_words.specs.declared.argument.Argument.TheVariants as argument
 use Rattle.run_words.specs.declared.argument.Kind.{Kind}

@@ -4,6 +4,7 @@ use Rattle.ass_num.specs.Limits.{IsInstant, max_frame_side, max_instant}
 use Rattle.ass_num.specs.declared.size.Size.{Size}
 use Rattle.frame_rate.specs.Instants.{AreInstants}
 use Rattle.frame_view.specs.FrameViews.{IsFrameView}
+use Rattle.value_texts.specs.Values.{IsNumberBetween}
 use Rattle.run_words.specs.Limits.{max_ahead, max_bands, max_batch, max_budget, max_events, max_seed, max_times, max_workers}
 use Rattle.run_words.specs.declared.job.ChangesJob.{ChangesJob}
 use Rattle.run_words.specs.declared.job.FrameJob.{FrameJob}
@@ -11,10 +12,6 @@ use Rattle.run_words.specs.declared.job.Job.{Job}
 use Rattle.run_words.specs.declared.job.Job.TheVariants.{Check, Frame, Play, Stills, Selftest, Changes, Write, Help, Version}
 use Rattle.run_words.specs.declared.job.PlayJob.{PlayJob}
 use Rattle.run_words.specs.declared.job.StillsJob.{StillsJob}
-
--- the number is from `least` to `most`
-abbrev pub IsNumberBetween : ℕ → ℕ → ℕ → Type 0
-IsNumberBetween least most n = (least ≤ n) × (n ≤ most)
 
 -- a distance of instants, in milliseconds
 abbrev pub IsMoment : ℤ → Type 0

@@ -1,10 +1,6 @@
 -- Public: the limits of the numbers of a run.
 use Rattle.std.specs.Prelude.{ℕ}
 
--- the most digits of a number
-abbrev pub max_digits : ℕ
-max_digits = 13
-
 -- the most feeders, renderers or workers
 abbrev pub max_workers : ℕ
 max_workers = 8

@@ -7,49 +7,37 @@ use ass_num::{Mem, Text};
 use std::alloc::Global;
 
 /// The last instant, in milliseconds.
-pub const MAX_INSTANT: u64 = 4_000_000_000_000;
-
-/// The most columns and the most rows of a frame.
-pub const MAX_FRAME_SIDE: u64 = 4096;
-
-/// The most columns and the most rows of a video.
-pub const MAX_STORAGE_SIDE: u64 = 65_536;
-
-/// The most frames of a rate, and the most seconds of one that words say.
-pub const MAX_RATE_PARTS: u64 = 1_000_000;
-
-/// The most parts of a pixel's width, or of its height.
-pub const MAX_ASPECT_PARTS: u64 = 65_536;
+const MAX_INSTANT: u64 = 4_000_000_000_000;
 
 /// The largest size of letters, in thousandths.
-pub const MAX_LETTER_SCALE: u64 = 100_000;
+const MAX_LETTER_SCALE: u64 = 100_000;
 
 /// The most feeders, renderers or workers.
-pub const MAX_WORKERS: u64 = 8;
+const MAX_WORKERS: u64 = 8;
 
 /// The most lines of a batch, and the most lines that are fed again.
-pub const MAX_BATCH: u64 = 10_000;
+const MAX_BATCH: u64 = 10_000;
 
 /// The most times that a job is played.
-pub const MAX_TIMES: u64 = 8;
+const MAX_TIMES: u64 = 8;
 
 /// The most instants that are warmed ahead.
-pub const MAX_AHEAD: u64 = 64;
+const MAX_AHEAD: u64 = 64;
 
 /// The most bands of a frame.
-pub const MAX_BANDS: u64 = 8;
+const MAX_BANDS: u64 = 8;
 
 /// The most frames that are asked for by their number.
-pub const MAX_ASKED_FRAMES: u64 = 1_000_000;
+const MAX_ASKED_FRAMES: u64 = 1_000_000;
 
 /// The most bytes of a cache's budget.
-pub const MAX_BUDGET: u64 = 1 << 40;
+const MAX_BUDGET: u64 = 1 << 40;
 
 /// The last seed.
-pub const MAX_SEED: u64 = 2_147_483_647;
+const MAX_SEED: u64 = 2_147_483_647;
 
 /// The most events that are generated.
-pub const MAX_EVENTS: u64 = 100_000;
+const MAX_EVENTS: u64 = 100_000;
 
 /// What the text of a value has to be.
 #[derive(Clone, Copy, Debug, PartialEq, Eq)]

@@ -8,22 +8,22 @@ ghost use Rattle.run_words.specs.Arguments.{argument_name, most_of};
 ghost use Rattle.run_words.specs.Asked.{are_stills_apart, changes_of, fits, first_bad, fonts_at, format_at, frame_at, frame_of, goes_together, instants_at};
 ghost use Rattle.run_words.specs.Asked.{is_just_one, is_paced, is_shared_out, is_told, job_for, mode_at, number_at, play_job, play_of, rate_at, script_at, size_at};
 ghost use Rattle.run_words.specs.Asked.{source_at, stills_of, text_at};
-ghost use Rattle.run_words.specs.Values.{aspect_in, content_in, letters_in, rate_in, storage_in};
+ghost use Rattle.value_texts.specs.Values.{aspect_in, content_in, letters_in, rate_in, storage_in};
 
 use crate::argument::{Argument, Kind};
 use crate::command::{Command, sharing_arguments};
 use crate::job::{
     ChangesJob, FrameFormat, FrameJob, Job, Mode, PlayJob, ScriptSource, StillsJob,
 };
-use crate::values::{
-    aspect_in, content_in, format_in, is_of_kind, letters_in, mode_in, number_within, rate_in,
-    size_in, storage_in,
-};
+use crate::values::{format_in, is_of_kind, mode_in};
 use ass_num::{Items, Mem, Size, Text};
 use clap::ArgMatches;
 use frame_rate::{FrameRate, Instants};
 use frame_view::{FrameView, LetterWidth, PixelAspect, PixelRect};
 use std::alloc::Global;
+use value_texts::{
+    aspect_in, content_in, letters_in, number_within, rate_in, size_in, storage_in,
+};
 
 /// What stands for a budget that isn't given, in bytes.
 const ABSENT_BUDGET: u64 = 67_108_864;

@@ -11,6 +11,7 @@ use clap::Arg;
 use std::alloc::{AllocError, Global};
 
 /// An argument: once, with one value, but for the fonts, which are one or more words, and an option that stands alone.
+#[tactic(auto, using(crate::proofs::GrammarLemmas::one_word))]
 fn argument<'a>(alloc: Global, argument: Argument) -> Arg<'a>
     ensures rule { rule_of result ≡ argument_rule argument }
     ensures local { result.global ≡ false }

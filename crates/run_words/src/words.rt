@@ -97,6 +97,7 @@ fn asked_alone(words: &[String]) -> Option<Job>
 }
 
 /// The job that the words ask for.
+#[tactic(auto, using(crate::proofs::AskedLemmas::alone_read, crate::proofs::AskedLemmas::alone_is_job, crate::proofs::AskedLemmas::none_alone))]
 pub fn read_words(alloc: Global, words: &[String]) -> Result<Job, WordsRefusal>
     ensures read { IsReading (job_of (texts words.now)) result }
     ensures within { IfOk result IsJob }

@@ -174,6 +174,9 @@ pub not_done : (reading : Result Job WordsFault) → work_in reading ≡ Err sta
 not_done (Err fault) e = cc
 not_done (Ok (job.Play play script fonts)) e = cc
 not_done (Ok (job.Selftest seed events workers)) e = cc
+not_done (Ok job.Help) e = cc
+not_done (Ok job.Version) e = cc
+not_done (Ok (job.Stills stills script fonts)) e = in_not_done (work_of (job.Stills stills script fonts)) e
 not_done (Ok (job.Check script fonts)) e = in_not_done (work_of (job.Check script fonts)) e
 not_done (Ok (job.Frame frame script fonts)) e = in_not_done (work_of (job.Frame frame script fonts)) e
 not_done (Ok (job.Changes changes script fonts)) e = in_not_done (work_of (job.Changes changes script fonts)) e

@@ -286,7 +286,7 @@ nothing_shown (Changes changes) (Ok inputs) own bytes h = h
 nothing_shown (Frame frame) (Ok inputs) own bytes h = absurd cc
 nothing_shown (Write write) (Ok inputs) own bytes h = absurd cc
 
-shown_after : (sink : Which) (may : List ℕ → Type 0) (outcome : Outcome) (answer : Status) (old new : Option (List ℕ)) → (sink ≡ Report → (bytes : List ℕ) → may bytes → bytes ≡ []) →
+pub shown_after : (sink : Which) (may : List ℕ → Type 0) (outcome : Outcome) (answer : Status) (old new : Option (List ℕ)) → (sink ≡ Report → (bytes : List ℕ) → may bytes → bytes ≡ []) →
     SuitsSink sink outcome → IsEnded outcome answer → IsShown (status_if_put outcome) old new may → IsShown answer old new may
 shown_after sink may (Ended before) answer old new none own e h = elim (ended before answer e) [
   | inl same ↦ subst (λ s. IsShown s old new may) (sym same) h

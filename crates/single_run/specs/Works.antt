@@ -2,7 +2,6 @@
 use Rattle.std.specs.Prelude.{◌≡◌, ◌⊎◌, Bool, true, false, ◌&&◌, if◌then◌else◌, ℕ, ◌<◌, nat_le, nat_lt, List, [], ◌∷◌, length, Option, Some, None, Result, Ok, Err, option_map}
 use Rattle.ass_events.specs.Events.{is_time}
 use Rattle.bdf_font.specs.Limits.{max_fonts}
-use Rattle.frame_rate.specs.Instants.{rated_count}
 use Rattle.run_status.specs.declared.inputs.Inputs.{Inputs}
 use Rattle.run_words.specs.Jobs.{IsChangesJob, IsFrameJob}
 use Rattle.run_words.specs.Words.{job_of}
@@ -43,7 +42,7 @@ max_frames = 1000000
 
 -- how many pictures a task compares
 abbrev pub compared : Task → ℕ
-compared (Changes changes) = rated_count changes.instants
+compared (Changes changes) = changes.instants.count
 compared _ = 0
 
 -- whether it compares too many; too many fonts are told before
@@ -57,14 +56,16 @@ abbrev pub limited_in : Option Work → Result (Option Work) Status
 limited_in None = Err (BadWords Usage)
 limited_in (Some work) = limited work
 
--- in a play and in a selftest threads wait for one another
+-- In a play and in a selftest threads wait for one another, and to tell of the program is no work.
 abbrev pub work_in : Result Job WordsFault → Result (Option Work) Status
 work_in (Err fault) = Err (BadWords fault)
 work_in (Ok (job.Play play script fonts)) = Ok None
 work_in (Ok (job.Selftest seed events workers)) = Ok None
+work_in (Ok job.Help) = Ok None
+work_in (Ok job.Version) = Ok None
 work_in (Ok job) = limited_in (work_of job)
 
--- the work that the words of a run ask for, none where that is a play or a selftest, or the status that they ask for
+-- the work that the words of a run ask for, none where that is a play, a selftest or what the program tells of itself, or the status that they ask for
 abbrev pub work_asked : List (List ℕ) → Result (Option Work) Status
 work_asked words = work_in (job_of words)
 

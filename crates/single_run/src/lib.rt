@@ -23,3 +23,4 @@ pub use outcome::Outcome;
 pub use play::calm;
 pub use report::{finish, give_up};
 pub use run_status::{BadScript, Status, What, Which};
+pub use shown::show;

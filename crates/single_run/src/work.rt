@@ -85,7 +85,8 @@ pub fn work_of(alloc: Global, job: Job) -> Option<Work>
                 fonts,
             })
         }
-        Job::Play(_, _, _) | Job::Selftest(_, _, _) => None,
+        Job::Play(_, _, _) | Job::Stills(_, _, _) | Job::Selftest(_, _, _) => None,
+        Job::Help | Job::Version => None,
     }
 }
 
@@ -95,7 +96,7 @@ fn compared(work: &Work) -> u64
     ensures { result ≡ compared work.now.task }
 {
     match &work.task {
-        Task::Changes(changes) => changes.instants.count(),
+        Task::Changes(changes) => changes.instants.count,
         Task::Check | Task::Frame(_) | Task::Write(_) => 0,
     }
 }
@@ -112,14 +113,14 @@ fn limited(work: Work) -> Result<Option<Work>, Status>
     Ok(Some(work))
 }
 
-/// The work of a job, none where threads wait for one another in it, or the status that it asks for.
+/// The work of a job, none where threads wait for one another in it or it is no work, or the status that it asks for.
 #[tactic(auto, using(crate::proofs::WorkLemmas::work_suits))]
 fn work_in(alloc: Global, job: Job) -> Result<Option<Work>, Status>
     requires { IsJob job }
     ensures asked { result ≡ work_in (Ok job) }
     ensures work { IfOk result (λ work. IfSome work IsWork) }
 {
-    if let Job::Play(_, _, _) | Job::Selftest(_, _, _) = &job {
+    if let Job::Play(_, _, _) | Job::Selftest(_, _, _) | Job::Help | Job::Version = &job {
         return Ok(None);
     }
     match work_of(alloc, job) {
@@ -129,7 +130,8 @@ fn work_in(alloc: Global, job: Job) -> Result<Option<Work>, Status>
     }
 }
 
-/// The work that the words ask for, none where threads wait for one another in it, or the status that they ask for.
+/// The work that the words ask for, none where threads wait for one another in it or they ask for none, or the status that
+/// they ask for.
 pub fn read_work(alloc: Global, words: &[String]) -> Result<Option<Work>, Status>
     ensures asked { IsWorkRead (work_asked (texts words.now)) result }
     ensures work { IfOk result (λ work. IfSome work IsWork) }

@@ -1,7 +1,7 @@
 use Rattle.std.proofs.Common.{◌∙◌}
-use Rattle.run_words.specs.Values.{pixel_in, rect_at, size_in}
-use Rattle.run_words.proofs.ValueLemmas.{cut_at_comma}
-use Rattle.run_words.proofs.values.rect_behind.Goals as goal
+use Rattle.value_texts.specs.Values.{pixel_in, rect_at, size_in}
+use Rattle.value_texts.proofs.TextLemmas.{cut_at_comma}
+use Rattle.value_texts.proofs.places.rect_behind.Goals as goal
 
 pub returns : goal.returns
 returns c =

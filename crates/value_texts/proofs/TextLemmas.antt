@@ -8,7 +8,7 @@ use Rattle.std.proofs.lemmas.Str.Parse.{IsNumeralModel, digits_value_short, nume
 use Rattle.std.proofs.lemmas.Str.Pattern.{IsSplitOnceResult, split_once_first}
 use Rattle.ass_num.specs.Numerals.{number_of}
 use Rattle.ass_script.specs.Words.{is_comma}
-use Rattle.run_words.specs.Values.{column_in, is_number, pixel_in}
+use Rattle.value_texts.specs.Values.{column_in, is_number, pixel_in}
 
 own : IsNumeralModel (λ ds. list_all is_ascii_digit ds ≡ true) (number_of 10)
 own = numerals_by_weight _ (search rules) (number_of 10) (search rules)

@@ -1,7 +1,7 @@
 use Rattle.std.proofs.Common.{◌∙◌, ap, refl, sym}
 use Rattle.std.specs.Result.{result_ok}
-use Rattle.run_words.proofs.ValueLemmas.{parsed}
-use Rattle.run_words.proofs.values.number_in.Goals as goal
+use Rattle.value_texts.proofs.TextLemmas.{parsed}
+use Rattle.value_texts.proofs.numbers.number_in.Goals as goal
 
 pub returns-then-is_number : goal.returns-then-is_number
 returns-then-is_number c =

@@ -1,9 +1,9 @@
 use Rattle.std.proofs.Common.{◌∙◌, subst, sym}
 use Rattle.clap.specs.Simple.{app_of}
-use Rattle.run_words.specs.Words.{IsReading, job_of, texts}
-use Rattle.run_words.proofs.AskedLemmas.{read_within, words_within}
+use Rattle.run_words.specs.Words.{IsReading, command_job, texts}
+use Rattle.run_words.proofs.AskedLemmas.{read_within, command_within}
 use Rattle.run_words.proofs.WordsLemmas.{read_err, read_ok}
-use Rattle.run_words.proofs.words.read_words.Goals as goal
+use Rattle.run_words.proofs.words.read_commands.Goals as goal
 
 pub returns-in-Ok-clause-read : goal.returns-in-Ok-clause-read
 returns-in-Ok-clause-read c =
@@ -14,11 +14,11 @@ returns-in-Ok-clause-read c =
 pub returns-in-Ok-clause-within : goal.returns-in-Ok-clause-within
 returns-in-Ok-clause-within c =
     let words = texts c.args.words.now in
-    read_within (job_of words) c.read_matches.result
+    read_within (command_job words) c.read_matches.result
     (subst (λ reading. IsReading reading c.read_matches.result)
     (sym (read_ok (app_of c.in_ok-whole.field-0) words c.in-Ok.matches c.in_ok-whole.ensures c.in-Ok.ensures.kinds c.in-Ok.ensures.matches))
     c.read_matches.ensures)
-    (words_within words)
+    (command_within words)
 
 pub returns : goal.returns
 returns c = record {
