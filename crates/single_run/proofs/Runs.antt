@@ -28,7 +28,7 @@ use Rattle.run_status.specs.declared.status.Which.{Which}
 use Rattle.run_status.specs.declared.status.Which.TheVariants.{Frames, Report}
 use Rattle.track_write.specs.declared.refusal.WriteRefusal.{WriteRefusal}
 use Rattle.track_write.specs.declared.refusal.WriteRefusal.TheVariants.{OutOfMemory, Unwritable}
-use Rattle.single_run.specs.Outcomes.{ArePiecesFinished, ArePiecesShown, ArePiecesTold, IsEnded, IsOrFault, IsOrMemory, SuitsSink, IsStatusReadCounted, IsMemoryReported, IsReported, IsShown, IsWriteCounted, out_of_memory, status_if_put, text_to_report}
+use Rattle.single_run.specs.Outcomes.{ArePiecesFinished, ArePiecesShown, ArePiecesTold, IsEnded, IsOrFault, IsOrMemory, SuitsSink, IsStatusReadCounted, IsMemoryReported, IsReportable, IsReported, IsShown, IsWriteCounted, out_of_memory, status_if_put, text_to_report}
 use Rattle.single_run.specs.Outputs.{ArePiecesOf, IsAnswerOf, IsFramesAsked, IsReportAsked, IsShownOf, SuitsTask, kept_view, rewritten, sink_of, status_asked, task_status, written_status}
 use Rattle.single_run.specs.StillOutputs.{SuitsStills}
 use Rattle.single_run.specs.Runs.{Decides, IsJobRun, IsWorked, SinkChange, sink_change}
@@ -446,6 +446,43 @@ run_after told log work frames report outcome answer worked ended reported finis
       (λ fault. worked.text (found_of work.task outcome answer worked.own ended fault)) reported;
   pieces_told = told_of work.task (IsReportAsked work.task worked.reading) report.before.asked report.now.asked outcome answer worked.text worked.own ended finished;
 }
+
+suits_reportable : (sink : Which) (outcome : Outcome) → SuitsSink sink outcome → IsReportable outcome
+suits_reportable sink (Found text) h = tt
+suits_reportable sink (Ended status.Done) h = tt
+suits_reportable sink (Ended (status.NoSuchFile name)) h = tt
+suits_reportable sink (Ended (status.ReadFault name)) h = tt
+suits_reportable sink (Ended (status.BadScript cause)) h = tt
+suits_reportable sink (Ended (status.BadFont index fault)) h = tt
+suits_reportable sink (Ended (status.WriteFault Frames)) h = tt
+suits_reportable Report (Ended (status.WriteFault Report)) h = h
+suits_reportable Frames (Ended (status.WriteFault Report)) h = h
+suits_reportable sink (Ended (status.TooLarge what limit)) h = tt
+suits_reportable sink (Ended status.OutOfMemory) h = tt
+suits_reportable sink (Ended (status.BadWords why)) h = tt
+suits_reportable sink (Ended (status.Unwritable order field)) h = tt
+
+stills_reportable : (outcome : Outcome) → SuitsStills outcome → IsReportable outcome
+stills_reportable (Found text) h = tt
+stills_reportable (Ended status.Done) h = tt
+stills_reportable (Ended (status.NoSuchFile name)) h = tt
+stills_reportable (Ended (status.ReadFault name)) h = tt
+stills_reportable (Ended (status.BadScript cause)) h = tt
+stills_reportable (Ended (status.BadFont index fault)) h = tt
+stills_reportable (Ended (status.WriteFault Frames)) h = tt
+stills_reportable (Ended (status.WriteFault Report)) h = h
+stills_reportable (Ended (status.TooLarge what limit)) h = tt
+stills_reportable (Ended status.OutOfMemory) h = tt
+stills_reportable (Ended (status.BadWords why)) h = tt
+stills_reportable (Ended (status.Unwritable order field)) h = tt
+
+-- No task has failed at the report before its end.
+pub reportable_of : (task : Task) (outcome : Outcome) → SuitsTask task outcome → IsReportable outcome
+reportable_of Check outcome h = suits_reportable Report outcome h
+reportable_of (Frame frame) outcome h = suits_reportable Frames outcome h
+reportable_of (Changes changes) outcome h = suits_reportable Report outcome h
+reportable_of (Stills stills) outcome h = stills_reportable outcome h
+reportable_of (Write write) outcome h = suits_reportable Frames outcome h
 
 -- ---- the counts
 

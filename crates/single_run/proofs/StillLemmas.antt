@@ -1,6 +1,7 @@
 -- A play of only what changes, from its images to the end of a run.
 use Rattle.std.proofs.Common.{◌≡◌, ◌⊎◌, ◌∙◌, inl, inr, ℕ, ◌≤◌, List, [], ◌++◌, Option, Result, Ok, Err, refl, sym, subst, append-nil, string_bytes, arith}
 use Rattle.std.specs.Io.KnownBytes.{Appends}
+use Rattle.std.specs.Global.{Global}
 use Rattle.std.specs.declared.string.String.{String}
 use Rattle.ass_io.specs.Sinks.{SinkState}
 use Rattle.ass_io.specs.Written.{AppendsFront}
@@ -20,34 +21,34 @@ use Rattle.single_run.proofs.Ends.{ended}
 -- ---- what came of the images
 
 module _ (view : StillsView) (outcome : Outcome) (old new : SinkState) where
-  pub held_of : (end : Result String StillsFault) → IsToldAs end outcome → AreStillsShown view end old new → AreStillsHeld view (status_if_put outcome) old.held new.held
+  pub held_of : (end : Result (String Global) StillsFault) → IsToldAs end outcome → AreStillsShown view end old new → AreStillsHeld view (status_if_put outcome) old.held new.held
   held_of (Ok text) is h = subst (λ (o : Outcome). AreStillsHeld view (status_if_put o) old.held new.held) (sym is) (h.stills, h.are, h.got.held)
   held_of (Err fault.WriteFault) is h = subst (λ (o : Outcome). AreStillsHeld view (status_if_put o) old.held new.held) (sym is) (h.stills, h.are, h.got.held)
   held_of (Err fault.OutOfMemory) is h = subst (λ (o : Outcome). AreStillsHeld view (status_if_put o) old.held new.held) (sym is) (h.stills, h.are, h.got.held)
 
-  pub asked_of : (end : Result String StillsFault) → IsToldAs end outcome → AreStillsShown view end old new → AreStillsAsked view (status_if_put outcome) old.asked new.asked
+  pub asked_of : (end : Result (String Global) StillsFault) → IsToldAs end outcome → AreStillsShown view end old new → AreStillsAsked view (status_if_put outcome) old.asked new.asked
   asked_of (Ok text) is h = subst (λ (o : Outcome). AreStillsAsked view (status_if_put o) old.asked new.asked) (sym is) (h.stills, h.are, h.got.asked)
   asked_of (Err fault.WriteFault) is h = subst (λ (o : Outcome). AreStillsAsked view (status_if_put o) old.asked new.asked) (sym is) (h.stills, h.are, h.got.asked)
   asked_of (Err fault.OutOfMemory) is h = subst (λ (o : Outcome). AreStillsAsked view (status_if_put o) old.asked new.asked) (sym is) (h.stills, h.are, h.got.asked)
 
-  pub counted_of : (end : Result String StillsFault) → IsToldAs end outcome → AreStillsShown view end old new → IsWriteCounted (status_if_put outcome) old.faults new.faults
+  pub counted_of : (end : Result (String Global) StillsFault) → IsToldAs end outcome → AreStillsShown view end old new → IsWriteCounted (status_if_put outcome) old.faults new.faults
   counted_of (Ok text) is h = subst (λ (o : Outcome). IsWriteCounted (status_if_put o) old.faults new.faults) (sym is) h.got.faults
   counted_of (Err fault.WriteFault) is h = subst (λ (o : Outcome). IsWriteCounted (status_if_put o) old.faults new.faults) (sym is) h.got.counted
   counted_of (Err fault.OutOfMemory) is h =
       let same : new.faults ≡ old.faults = h.got.counted in
       subst (λ (o : Outcome). IsWriteCounted (status_if_put o) old.faults new.faults) (sym is) (omega (arith, same))
 
-  pub index_of : (end : Result String StillsFault) → IsToldAs end outcome → AreStillsShown view end old new → status_if_put outcome ≡ status.Done → IsIndexOf view (text_to_report outcome)
+  pub index_of : (end : Result (String Global) StillsFault) → IsToldAs end outcome → AreStillsShown view end old new → status_if_put outcome ≡ status.Done → IsIndexOf view (text_to_report outcome)
   index_of (Ok text) is h done = subst (λ (o : Outcome). IsIndexOf view (text_to_report o)) (sym is) (h.stills, h.are, h.value)
   index_of (Err fault.WriteFault) is h done = let e : status.WriteFault Frames ≡ status.Done = subst (λ (o : Outcome). status_if_put o ≡ status.Done) is done in absurd cc
   index_of (Err fault.OutOfMemory) is h done = let e : status.OutOfMemory ≡ status.Done = subst (λ (o : Outcome). status_if_put o ≡ status.Done) is done in absurd cc
 
-pub told_answer : (end : Result String StillsFault) (outcome : Outcome) → IsToldAs end outcome → IsOrFault Frames status.Done (status_if_put outcome)
+pub told_answer : (end : Result (String Global) StillsFault) (outcome : Outcome) → IsToldAs end outcome → IsOrFault Frames status.Done (status_if_put outcome)
 told_answer (Ok text) outcome is = subst (λ (o : Outcome). IsOrFault Frames status.Done (status_if_put o)) (sym is) (inl (inl refl))
 told_answer (Err fault.WriteFault) outcome is = subst (λ (o : Outcome). IsOrFault Frames status.Done (status_if_put o)) (sym is) (inr (refl, refl))
 told_answer (Err fault.OutOfMemory) outcome is = subst (λ (o : Outcome). IsOrFault Frames status.Done (status_if_put o)) (sym is) (inl (inr refl))
 
-pub told_suits : (end : Result String StillsFault) (outcome : Outcome) → IsToldAs end outcome → SuitsStills outcome
+pub told_suits : (end : Result (String Global) StillsFault) (outcome : Outcome) → IsToldAs end outcome → SuitsStills outcome
 told_suits (Ok text) outcome is = subst SuitsStills (sym is) tt
 told_suits (Err fault.WriteFault) outcome is = subst SuitsStills (sym is) tt
 told_suits (Err fault.OutOfMemory) outcome is = subst SuitsStills (sym is) tt

@@ -2,6 +2,7 @@
 use Rattle.std.specs.Prelude.{◌≡◌, ℕ, List, ◌++◌, Option, Result, Ok, Err}
 use Rattle.std.specs.Io.KnownBytes.{Appends}
 use Rattle.std.specs.List.{flat_map}
+use Rattle.std.specs.Global.{Global}
 use Rattle.std.specs.declared.string.String.{String}
 use Rattle.ass_io.specs.Written.{AppendsFront}
 use Rattle.run_status.specs.declared.status.Status.{Status}
@@ -55,7 +56,7 @@ SuitsStills (Ended (WriteFault Report)) = ⊥
 SuitsStills _ = Unit {0}
 
 -- how what came of the images is told
-abbrev pub IsToldAs : Result String StillsFault → Outcome → Type 0
+abbrev pub IsToldAs : Result (String Global) StillsFault → Outcome → Type 0
 IsToldAs (Ok text) outcome = outcome ≡ Found text
 IsToldAs (Err fault.WriteFault) outcome = outcome ≡ Ended (WriteFault Frames)
 IsToldAs (Err fault.OutOfMemory) outcome = outcome ≡ Ended OutOfMemory

@@ -13,7 +13,7 @@ use Rattle.mask_keys.specs.Pictures.{picture}
 use Rattle.run_words.specs.declared.job.FrameFormat.{FrameFormat}
 use Rattle.run_words.specs.declared.job.FrameFormat.TheVariants.{Ppm, Pam, Rgba}
 use Rattle.run_words.specs.declared.job.StillsJob.{StillsJob}
-use Rattle.still_images.specs.Boxes.{DiffersIn, HasPixels, IsLeastOf, cropped}
+use Rattle.still_images.specs.Boxes.{DiffersIn, HasPixels, IsLeastOf, cropped, whole_box}
 use Rattle.still_images.specs.Formats.{ArePixelsOf, image_in}
 use Rattle.still_images.specs.Laws.{CropsLieOver, IsLastBefore, IsLaidOver, StillsAreFrames, StillsShowAll}
 use Rattle.still_images.specs.Stills.{AreDrawsAt, ArePixelsAt, AreStills, FirstStill, NextStill, NoStill, SameStill, Still, StillsView, still_of}
@@ -21,9 +21,9 @@ use Rattle.still_images.proofs.BoxLemmas.{least_on_frame}
 use Rattle.still_images.proofs.CropLemmas.{cropped_byte}
 
 places_before : (view : StillsView) (count : ℕ) (stills : List Still) → AreStills view count stills → (still : Still) → Contains stills still → still.place < count
-places_before view _ _ NoStill still h = absurd h
-places_before view _ _ (FirstStill pixels at) still h = elim (Contains-push_cases [] _ still h) [
-  | inl none ↦ absurd none
+places_before view _ _ NoStill still h = absurd (omega (arith, h.1))
+places_before view _ _ (FirstStill pixels at) still h = elim (Contains-push_cases [] (still_of 0 (whole_box view.job.size) pixels) still h) [
+  | inl none ↦ absurd (omega (arith, none.1))
   | inr same ↦ subst (λ (s : Still). s.place < 1) same (omega arith)
 ]
 places_before view _ _ (SameStill place before last old at) still h =
@@ -35,7 +35,7 @@ places_before view _ _ (NextStill place before last box pixels old at least) sti
 
 -- the last kept picture at the last instant
 last_shown : (view : StillsView) (before : List Still) (last : Still) (place : ℕ) → last.place ≤ place → IsLastBefore (before ++ last ∷ []) place last
-last_shown view before last place begun = record { before = before; after = []; split = refl; begun = begun; rest = λ later h. absurd h }
+last_shown view before last place begun = record { before = before; after = []; split = refl; begun = begun; rest = λ later h. absurd (omega (arith, h.1)) }
 
 -- One picture more, behind the place, changes nothing there.
 one_behind : (stills : List Still) (place : ℕ) (still new : Still) → place < new.place → IsLastBefore stills place still → IsLastBefore (stills ++ new ∷ []) place still
@@ -54,7 +54,8 @@ pub stills_show_all : StillsShowAll
 stills_show_all view _ _ NoStill place within = absurd (omega (arith, within))
 stills_show_all view _ _ (FirstStill pixels at) place within =
     let here : 0 ≡ place = omega (arith, within) in
-    (_, last_shown view [] _ place (omega arith), subst (λ p. ArePixelsAt view p pixels) here at)
+    let first : Still = still_of 0 (whole_box view.job.size) pixels in
+    (first, last_shown view [] first place (omega arith), subst (λ p. ArePixelsAt view p pixels) here at)
 stills_show_all view _ _ (SameStill count before last old at) place within = elim (cases_lt place count) [
   | inl less ↦ stills_show_all view count (before ++ last ∷ []) old place less
   | inr not ↦

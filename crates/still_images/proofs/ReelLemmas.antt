@@ -133,8 +133,11 @@ module _ (view : StillsView) (place : ℕ) (shown : Shown) (draws : AreDrawsAt v
       ends : GotPrefix fault [] before now ⊎ GotPrefix fault (images_of_part view.job shown.pixels.items t n h.part) before now →
           (more : List Still) × AreFirstStills view (stills ++ more) × GotPrefix fault (still_images view more) before now
       ends (inl none) = ([], (place, omega (arith, within), subst (AreStills view place) (sym (append-nil stills)) reel.are), none)
-      ends (inr some) = (next, (place + 1, omega (arith, within), are_next view place shown.pixels.items stills old.shown h.part reel.are reel.shown pixels_at h.is_part),
-      subst (λ pieces. GotPrefix fault pieces before now) images some)
+      ends (inr some) = (
+        next,
+        (place + 1, omega (arith, within), are_next view place shown.pixels.items stills old.shown h.part reel.are reel.shown pixels_at h.is_part),
+        subst (λ pieces. GotPrefix fault pieces before now) images some,
+      )
 
 module _ (view : StillsView) (place : ℕ) (state : SinkState) where
   -- Where the draws are those that are shown, nothing is put.

@@ -48,6 +48,13 @@ abbrev pub IsBoxAbove : Size → List ℕ → List ℕ → ℕ → Option Change
 IsBoxAbove size a b y None = AreSame a b 0 (y * (4 * size.w))
 IsBoxAbove size a b y (Some box) = IsLeastOf size (DifferAbove size.w a b y) box
 
+-- A row ends within the picture.
+pub rows_fit : (size : Size) (a : List ℕ) (y : ℕ) → HasPixels 4 size a → y < size.h → (y + 1) * (4 * size.w) ≤ length a
+rows_fit size a y sizes low =
+    let below : y + 1 ≤ size.h = omega (arith, low) in
+    let rows : size.w * (y + 1) ≤ size.w * size.h = mul-le-mul_left size.w below in
+    omega (arith, sizes, rows)
+
 pub no_rows : (size : Size) (a b : List ℕ) → IsBoxAbove size a b 0 None
 no_rows size a b = λ k from to. absurd (omega (arith, to))
 
@@ -90,10 +97,10 @@ module _ (size : Size) (a b : List ℕ) (y : ℕ) (low : y < size.h) where
       differs.2 (same (4 * (j * size.w + i) + differs.0) (omega arith) (omega (arith, inside, differs.1, rows j above)))
     where
       rows : (j : ℕ) → j < y → j * size.w + size.w ≤ y * size.w
-      rows j above = omega (arith, mul-le-mul_left size.w (more above))
-
-      more : {j : ℕ} → j < y → j + 1 ≤ y
-      more above = omega (arith, above)
+      rows j above =
+          let below : j + 1 ≤ y = omega (arith, above) in
+          let wide : size.w * (j + 1) ≤ size.w * y = mul-le-mul_left size.w below in
+          omega (arith, wide)
 
   pub row_same : (changed : Option Changed) → IsBoxAbove size a b y changed → pixel_row size.w y a ≡ pixel_row size.w y b → IsBoxAbove size a b (y + 1) changed
   row_same None is same = λ k from to. elim (cases_lt k (y * (4 * size.w))) [

@@ -2,6 +2,7 @@
 use Rattle.std.specs.Prelude.{◌≡◌, ℕ, ◌≤◌, List, ◌++◌, Result, Ok, Err, string_bytes}
 use Rattle.std.specs.Io.KnownBytes.{Appends}
 use Rattle.std.specs.List.{flat_map}
+use Rattle.std.specs.Global.{Global}
 use Rattle.std.specs.declared.string.String.{String}
 use Rattle.ass_io.specs.Sinks.{SinkState}
 use Rattle.ass_io.specs.Written.{AppendsFront}
@@ -41,6 +42,6 @@ pub record IsShownInPart (view : StillsView) (fault : StillsFault) (old new : Si
   pub got : GotPrefix fault (still_images view stills) old new
 
 -- What came of it.
-abbrev pub AreStillsShown : StillsView → Result String StillsFault → SinkState → SinkState → Type 0
+abbrev pub AreStillsShown : StillsView → Result (String Global) StillsFault → SinkState → SinkState → Type 0
 AreStillsShown view (Ok text) old new = IsShownWhole view (string_bytes text) old new
 AreStillsShown view (Err fault) old new = IsShownInPart view fault old new

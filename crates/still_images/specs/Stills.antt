@@ -72,7 +72,7 @@ abbrev pub still_images : StillsView → List Still → List (List ℕ)
 still_images view stills = map (still_image view) stills
 
 -- the lines on kept pictures, the first of which is image k
-unfoldable pub still_lines : StillsView → ℕ → List Still → List ℕ
+abbrev pub still_lines : StillsView → ℕ → List Still → List ℕ
 still_lines view k [] = []
 still_lines view k (still ∷ stills) = still_line k still.place (rated_instant view.job.instants still.place) still.box ++ still_lines view (k + 1) stills
 

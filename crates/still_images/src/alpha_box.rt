@@ -1,6 +1,6 @@
 //! The pixels of four bytes at which two pictures differ.
 
-ghost use Rattle.std.specs.Prelude.{◌≡◌, ◌≢◌, ◌-◌, ◌^◌, ◌≤◌, ◌<◌, length, slice_index, Some};
+ghost use Rattle.std.specs.Prelude.{◌≡◌, ◌≢◌, ◌+◌, ◌-◌, ◌*◌, ◌^◌, ◌≤◌, ◌<◌, drop, length, take, slice_index, Some};
 ghost use Rattle.ass_num.specs.Limits.{IsFrameSize, max_frame_side};
 ghost use Rattle.frame_change.specs.Rows.{AreSame};
 ghost use Rattle.still_images.specs.Boxes.{HasPixels, IsBoxOf};
@@ -84,6 +84,15 @@ fn row_under(changed: Option<Changed>, columns: Columns, y: u32) -> Changed
     }
 }
 
+/// The row `y` of a picture of so many columns.
+fn row_of(bytes: &[u8], w: usize, y: usize) -> &[u8]
+    requires { (y + 1) * (4 * w) ≤ length bytes.now }
+    ensures row { result.now ≡ take (4 * w) (drop (y * (4 * w)) bytes.now) }
+    ensures len { length result.now ≡ 4 * w }
+{
+    &bytes[y * (4 * w)..][..4 * w]
+}
+
 /// The least box that has every pixel at which two pictures of a size differ; `None` where they are equal. A picture has
 /// four bytes for each pixel, row by row. It takes no memory.
 pub fn alpha_box(size: &Size, a: &[u8], b: &[u8]) -> Option<Changed>
@@ -92,12 +101,13 @@ pub fn alpha_box(size: &Size, a: &[u8], b: &[u8]) -> Option<Changed>
     requires b { HasPixels 4 size.now b.now }
     ensures { IsBoxOf 4 size.now a.now b.now result }
 {
-    let row = 4 * size.w as usize;
     let mut changed = None;
     for y in 0..size.h {
-        let start = y as usize * row;
-        if let Some(columns) = changed_columns(&a[start..start + row], &b[start..start + row]) {
-            changed = Some(row_under(changed, columns, y));
+        let a_row = row_of(a, size.w as usize, y as usize);
+        let b_row = row_of(b, size.w as usize, y as usize);
+        match changed_columns(a_row, b_row) {
+            None => {}
+            Some(columns) => changed = Some(row_under(changed, columns, y)),
         }
     }
     changed

@@ -1,6 +1,6 @@
 //! What is shown from instant to instant, and what is put of it.
 
-ghost use Rattle.std.specs.Prelude.{◌≡◌, ◌⊎◌, ◌++◌, ◌∷◌, ◌+◌, ◌≤◌, ◌<◌, ◌^◌, IfErr, IfOk, IfSome, IsTrue, OnOk, Some, string_bytes};
+ghost use Rattle.std.specs.Prelude.{◌≡◌, ◌⊎◌, [], ◌++◌, ◌∷◌, ◌+◌, ◌-◌, ◌≤◌, ◌<◌, ◌^◌, IfErr, IfOk, IfSome, IsTrue, OnOk, Some, string_bytes};
 ghost use Rattle.ass_num.specs.Limits.{IsFrameSize, max_instant};
 ghost use Rattle.still_images.specs.Boxes.{HasPixels, IsOnFrame};
 ghost use Rattle.still_images.specs.Formats.{pixel_bytes};
@@ -35,12 +35,19 @@ pub struct Reel {
     pub index: String,
 }
 
+/// Whether the draws of plans are the same.
+fn have_same_draws(a: &Plan, b: &Plan) -> bool
+    ensures { IsTrue result → a.now.draws ≡ b.now.draws }
+{
+    a.draws == b.draws
+}
+
 /// Whether these draws are shown.
 pub fn is_shown(shown: &Option<Shown>, plan: &Plan) -> bool
     ensures { IsTrue result → (last : Shown) × (shown.now ≡ Some last) × (last.plan.draws ≡ plan.now.draws) }
 {
     match shown {
-        Some(last) => last.plan == *plan,
+        Some(last) => have_same_draws(&last.plan, plan),
         None => false,
     }
 }
@@ -60,6 +67,7 @@ fn changed_part(job: &StillsJob, shown: &Option<Shown>, pixels: &[u8]) -> Option
 }
 
 /// Puts an image.
+#[tactic(auto, using(crate::proofs::PutLemmas::put_whole, crate::proofs::PutLemmas::put_failed, crate::proofs::PutLemmas::put_wanting))]
 fn put<F: Sink>(image: &[u8], frames: &mut F) -> Result<(), StillsFault>
     ensures whole { OnOk result (GotWhole (image.now ∷ []) (F.state frames.old) (F.state frames.new)) }
     ensures part { IfErr result (λ fault. GotPrefix fault (image.now ∷ []) (F.state frames.old) (F.state frames.new)) }
