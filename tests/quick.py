@@ -9,6 +9,8 @@ Its parts, which all are tried where none is named:
   runs       the runs of tests/runs/: words, reports, pictures, changes, scripts written again, selftests
   views      that letters in the frames of several videos stand where libass has them
   over_video that frames have the bytes of their formats, and instants stand at their rates
+  films      subtitles over films by ffmpeg, where it is
+  machines   plays that several machines share, where GNU parallel is
   writes     that scripts written again show the same pictures, and are written as the same bytes
   plays      plays by every number of threads, whose images are those of frames
   refusals   runs whose calls for memory are refused
@@ -33,7 +35,9 @@ import tempfile
 sys.dont_write_bytecode = True
 TOP = os.path.dirname(os.path.dirname(os.path.realpath(__file__)))
 sys.path.insert(0, f"{TOP}/tests")
+import films  # noqa: E402
 import inputs  # noqa: E402
+import machines  # noqa: E402
 import outside  # noqa: E402
 import over_video  # noqa: E402
 import plays  # noqa: E402
@@ -90,6 +94,8 @@ PARTS = {
     "runs": runs,
     "views": views.views,
     "over_video": over_video.over_video,
+    "films": films.films,
+    "machines": machines.machines,
     "writes": plays.writes,
     "plays": plays.plays,
     "refusals": outside.refusals,

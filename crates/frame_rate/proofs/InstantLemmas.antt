@@ -1,12 +1,11 @@
 -- Instants by their places.
 use Rattle.std.proofs.Common.{◌≡◌, ℕ, ◌+◌, ◌-◌, ◌*◌, ◌<◌, ◌≤◌, ◌⊎◌, inl, inr, arith}
-use Rattle.std.specs.Prelude.{min}
 use Rattle.std.proofs.lemmas.Bool.{cases_lt}
 use Rattle.std.proofs.lemmas.Grind.{div_ceil_times}
 use Rattle.std.proofs.lemmas.Nat.{mul-le}
 use Rattle.ass_num.specs.Limits.{max_instant}
 use Rattle.frame_rate.specs.Instants.{AreInstants, CountedInstantsAreThere, counted_instants, instants_before, rated_instant}
-use Rattle.frame_rate.specs.Rates.{IsFrameRate, frame_instant, frames_before}
+use Rattle.frame_rate.specs.Rates.{IsFrameRate, frames_before}
 use Rattle.frame_rate.specs.declared.instants.Instants.{Instants}
 use Rattle.frame_rate.specs.declared.rate.FrameRate.{FrameRate}
 use Rattle.frame_rate.proofs.RateLemmas.{ceil-least, counted_frames_come_before}
@@ -55,7 +54,7 @@ pub instants_few : (instants : Instants) → AreInstants instants → instants.c
 instants_few instants are =
     let all = frames_before instants.rate instants.from max_instant in
     let few =
-      few-counted (max_instant - instants.from) instants.rate.frames instants.rate.seconds all are.rate.most are.rate.time
-      (div_ceil_times ((max_instant - instants.from) * instants.rate.frames) (1000 * instants.rate.seconds) (let time = are.rate.time in omega (arith, time))).1 in
+    few-counted (max_instant - instants.from) instants.rate.frames instants.rate.seconds all are.rate.most are.rate.time
+    (div_ceil_times ((max_instant - instants.from) * instants.rate.frames) (1000 * instants.rate.seconds) (let time = are.rate.time in omega (arith, time))).1 in
     let within = are.within in
     omega (arith, few, within)

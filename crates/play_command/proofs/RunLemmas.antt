@@ -37,7 +37,7 @@ use Rattle.play_command.proofs.SelftestLemmas.{wanting}
 use Rattle.play_command.proofs.TextLemmas.{text_wanting}
 use Rattle.play_command.specs.PlayRuns.{AreFetchedUnless, AreReadUnless, DecidesPlay, IsPlayAsked, IsPlayOutput, IsPlayPut, IsPlayRun, IsPlayText, play_refusal, status_read, view_of}
 use Rattle.play_command.specs.SelftestRuns.{DecidesSelftest, IsSelftestRead, IsSelftestReport, IsSelftestRun}
-use Rattle.play_command.specs.Working.{IsJobWorked, IsPlayShown, IsPlayWorked, IsSelftestWorked, IsLeft, IsShownAfter, IsSpoken}
+use Rattle.play_command.specs.Working.{IsJobWorked, IsPlayShown, IsPlayWorked, IsSelftestWorked, IsLeftByCalm, IsShownAfter, IsSpoken}
 use Rattle.run_words.specs.declared.job.ScriptSource.{ScriptSource}
 use Rattle.play_command.specs.declared.help.TheConstants.{HELP}
 use Rattle.play_command.specs.declared.own_text.TheConstants.{VERSION}
@@ -69,7 +69,7 @@ limited_is_some None e = cc
 limited_is_some (Some work) e = too_long_or_some (is_too_long work) (status.TooLarge images max_frames) work e
 
 -- No other job is left.
-is_left : (job : Job) → work_in (Ok job) ≡ Ok None → IsLeft job
+is_left : (job : Job) → work_in (Ok job) ≡ Ok None → IsLeftByCalm job
 is_left (Play job script fonts) e = tt
 is_left (Selftest seed events workers) e = tt
 is_left (Check script fonts) e = absurd (limited_is_some (work_of (Check script fonts)) e)
@@ -80,7 +80,7 @@ is_left Help e = tt
 is_left Version e = tt
 is_left (Write later earlier script) e = absurd (limited_is_some (work_of (Write later earlier script)) e)
 
-pub job_left : (words : List (List ℕ)) (job : Job) → job_of words ≡ Ok job → work_asked words ≡ Ok None → IsLeft job
+pub job_left : (words : List (List ℕ)) (job : Job) → job_of words ≡ Ok job → work_asked words ≡ Ok None → IsLeftByCalm job
 job_left words job e left = is_left job (sym (ap work_in e) ∙ left)
 
 -- Words ask for one job.
@@ -220,7 +220,7 @@ play_wanting told log job script fonts state report answer memory tells f =
     record { reading = Err reading.0; read = reading.1; fetched = reading.2; asked = (inr memory, keeps state.held, tells, refl, refused_told status.OutOfMemory answer report tt tt (inl memory) f) }
 
 -- It may be wanting for the words too.
-pub job_wanting : (told : List ℕ → Told) (log : List LoggedFetch) (job : Job) (state : SinkState) → IsLeft job → IsJobWorked told (fetch_change log log) job (sink_change state state) out_of_memory
+pub job_wanting : (told : List ℕ → Told) (log : List LoggedFetch) (job : Job) (state : SinkState) → IsLeftByCalm job → IsJobWorked told (fetch_change log log) job (sink_change state state) out_of_memory
 job_wanting told log (Play play script fonts) state left =
     let reading = unread (play_refusal play fonts) told log script fonts in
     record { reading = Err reading.0; read = reading.1; fetched = reading.2; shown = (inr refl, keeps state.held, refl) }

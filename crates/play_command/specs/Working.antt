@@ -101,12 +101,12 @@ pub record IsSelftestWorked (seed events : ℕ) (outcome : Outcome) : Type 0 whe
   pub own : SuitsSink Report outcome
 
 -- `calm` leaves the job: threads wait for one another in it, or the program tells of itself.
-abbrev pub IsLeft : Job → Type 0
-IsLeft (Play play script fonts) = Unit {0}
-IsLeft (Selftest seed events workers) = Unit {0}
-IsLeft Help = Unit {0}
-IsLeft Version = Unit {0}
-IsLeft _ = ⊥
+abbrev pub IsLeftByCalm : Job → Type 0
+IsLeftByCalm (Play play script fonts) = Unit {0}
+IsLeftByCalm (Selftest seed events workers) = Unit {0}
+IsLeftByCalm Help = Unit {0}
+IsLeftByCalm Version = Unit {0}
+IsLeftByCalm _ = ⊥
 
 -- Such a job before anything is reported.
 abbrev pub IsJobWorked : (List ℕ → Told) → FetchChange → Job → SinkChange → Outcome → Type 0

@@ -11,7 +11,7 @@ ghost use Rattle.single_run.specs.declared.work.Work.{Work};
 ghost use Rattle.play_command.specs.OwnTexts.{IsTextRun, own_text};
 ghost use Rattle.play_command.specs.PlayRuns.{DecidesPlay, IsPlayRun};
 ghost use Rattle.play_command.specs.SelftestRuns.{DecidesSelftest, IsSelftestRun};
-ghost use Rattle.play_command.specs.Working.{IsJobWorked, IsLeft, IsSpoken};
+ghost use Rattle.play_command.specs.Working.{IsJobWorked, IsLeftByCalm, IsSpoken};
 ghost use Rattle.run_words.specs.Jobs.{IsJob};
 ghost use Rattle.run_words.specs.Words.{job_of, texts};
 ghost use Rattle.run_words.specs.declared.job.Job.{Job as JobValue};
@@ -40,7 +40,7 @@ fn do_job<S: Shelf, F: Sink, H: TestHook + Sync>(
     hook: &H,
 ) -> Outcome
     requires within { IsJob job }
-    requires left { IsLeft job }
+    requires left { IsLeftByCalm job }
     ensures worked { IsJobWorked (S.told shelf.old) (fetch_change (S.log shelf.old) (S.log shelf.new)) job
         (sink_change (F.state frames.old) (F.state frames.new)) result }
     ensures selftest_shelf { (seed events workers : ℕ) → job ≡ a_selftest seed events workers → shelf.new ≡ shelf.old }

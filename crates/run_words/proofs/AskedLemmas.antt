@@ -63,6 +63,7 @@ instants_within rows = cases (is_some (text_at rows argument.Frames))
   where
     first : number_at rows argument.From 0 ≤ max_instant
     first = instant_within rows argument.From refl
+
     cases : (b : Bool) → AreInstants (cond b (counted_instants (rate_at rows) (number_at rows argument.From 0) (number_at rows argument.Frames 1)) (instants_before (rate_at rows) (number_at rows argument.From 0) (number_at rows argument.To 0)))
     cases true = counted_are_instants (rate_at rows) (number_at rows argument.From 0) (number_at rows argument.Frames 1) first (rate_range rows)
     cases false = before_are_instants (rate_at rows) (number_at rows argument.From 0) (number_at rows argument.To 0) first (rate_range rows) (instant_within rows argument.To refl)

@@ -12,18 +12,14 @@ ghost use Rattle.value_texts.specs.Values.{aspect_in, content_in, letters_in, ra
 
 use crate::argument::{Argument, Kind};
 use crate::command::{Command, sharing_arguments};
-use crate::job::{
-    ChangesJob, FrameFormat, FrameJob, Job, Mode, PlayJob, ScriptSource, StillsJob,
-};
+use crate::job::{ChangesJob, FrameFormat, FrameJob, Job, Mode, PlayJob, ScriptSource, StillsJob};
 use crate::values::{format_in, is_of_kind, mode_in};
 use ass_num::{Items, Mem, Size, Text};
 use clap::ArgMatches;
 use frame_rate::{FrameRate, Instants};
 use frame_view::{FrameView, LetterWidth, PixelAspect, PixelRect};
 use std::alloc::Global;
-use value_texts::{
-    aspect_in, content_in, letters_in, number_within, rate_in, size_in, storage_in,
-};
+use value_texts::{aspect_in, content_in, letters_in, number_within, rate_in, size_in, storage_in};
 
 /// What stands for a budget that isn't given, in bytes.
 const ABSENT_BUDGET: u64 = 67_108_864;

@@ -5,9 +5,7 @@ ghost use Rattle.run_words.specs.Values.{format_in, is_of_kind, mode_in};
 
 use crate::argument::Kind;
 use crate::job::{FrameFormat, Mode};
-use value_texts::{
-    aspect_in, content_in, letters_in, number_within, rate_in, size_in, storage_in,
-};
+use value_texts::{aspect_in, content_in, letters_in, number_within, rate_in, size_in, storage_in};
 
 /// The mode that a text is.
 pub fn mode_in(text: &str) -> Option<Mode>
