@@ -1,18 +1,20 @@
 -- From instant to instant.
-use Rattle.std.proofs.Common.{◌≡◌, ◌⊎◌, inl, inr, ℕ, zero, suc, ◌+◌, ◌<◌, ◌≤◌, List, [], ◌∷◌, ◌++◌, length, length-append, map, Option, Some, None, refl, sym, ap, subst, ◌∙◌, arith, append-nil, append_assoc, string_bytes}
-use Rattle.std.specs.Prelude.{IfSome}
+use Rattle.std.proofs.Common.{◌≡◌, ◌⊎◌, inl, inr, ℕ, zero, suc, ◌+◌, ◌<◌, ◌≤◌, List, [], ◌∷◌, ◌++◌, length, length-append, map, Option, Some, None, Result, Ok, Err, String, Global, pos, refl, sym, ap, subst, ◌∙◌, arith, append-nil, append_assoc, string_bytes}
+use Rattle.std.specs.Prelude.{IfErr, IfSome, OnOk}
 use Rattle.std.proofs.lemmas.List.{map-append}
 use Rattle.ass_events.specs.ScriptEvents.{line_events}
 use Rattle.ass_io.specs.Sinks.{SinkState}
 use Rattle.frame_change.specs.declared.pixels.Changed.{Changed}
 use Rattle.frame_rate.specs.Instants.{rated_instant}
-use Rattle.mask_keys.specs.declared.plans.Draw.{Draw}
-use Rattle.still_images.specs.Boxes.{DiffersIn, IsBoxOf, IsLeastOf, whole_box}
+use Rattle.frame_view.specs.FrameViews.{plain_frame}
+use Rattle.picture_plan.specs.Pictures.{AreDraws}
+use Rattle.run_words.specs.declared.job.StillsJob.{StillsJob}
+use Rattle.still_images.specs.Boxes.{DiffersIn, HasPixels, IsBoxOf, IsLeastOf, whole_box}
 use Rattle.still_images.specs.Formats.{ArePixelsOf, pixel_bytes}
-use Rattle.still_images.specs.Lines.{still_line}
-use Rattle.still_images.specs.Puts.{GotPrefix, GotWhole}
-use Rattle.still_images.specs.Reels.{EndsInInstant, IsPartAfter, IsPictureCut, IsPictureShown, IsReel, IsShownLast, ShowsInstant, count_of_part, images_of_part, lines_of_part}
-use Rattle.still_images.specs.Stills.{AreDrawsAt, AreFirstStills, ArePixelsAt, AreStills, FirstStill, NextStill, NoStill, SameStill, Still, StillsView, still_image, still_images, still_lines, still_of}
+use Rattle.still_images.specs.Lines.{end_line, still_line}
+use Rattle.still_images.specs.Puts.{GotPrefix, GotWhole, IsShownInPart, IsShownWhole}
+use Rattle.still_images.specs.Reels.{EndsInInstant, IsDrawn, IsPartAfter, IsPictureCut, IsPictureShown, IsReel, IsReelFit, IsShownLast, ShowsInstant, count_of_part, images_of_part, lines_of_part}
+use Rattle.still_images.specs.Stills.{AreDrawsAt, AreFirstStills, ArePixelsAt, AreStills, FirstStill, NextStill, NoStill, SameStill, Still, StillsView, end_instant, still_image, still_images, still_lines, still_of}
 use Rattle.still_images.specs.declared.fault.StillsFault.{StillsFault}
 use Rattle.still_images.specs.declared.fault.StillsFault.TheVariants.{OutOfMemory}
 use Rattle.still_images.specs.declared.reel.Reel.{Reel}
@@ -141,14 +143,14 @@ module _ (view : StillsView) (place : ℕ) (shown : Shown) (draws : AreDrawsAt v
 
 module _ (view : StillsView) (place : ℕ) (state : SinkState) where
   -- Where the draws are those that are shown, nothing is put.
-  pub same_next : (reel : Reel) (last : Shown) (draws : List Draw) → reel.shown ≡ Some last → last.plan.draws ≡ draws → AreDrawsAt view place draws → ShowsInstant view place reel reel state state
-  same_next reel last draws is same at stills h = keeps (subst (IsShownLast view stills) is h.shown)
+  pub same_next : (reel : Reel) (last : Shown) → reel.shown ≡ Some last → AreDrawsAt view place last.plan.draws → ShowsInstant view place reel reel state state
+  same_next reel last is at stills h = keeps (subst (IsShownLast view stills) is h.shown)
     where
       keeps : IsShownLast view stills (Some last) → (next : List Still) × IsReel view (place + 1) (stills ++ next) reel × GotWhole (still_images view next) state state
       keeps (before, still, split, pixels, drawn) =
           let now : ArePixelsAt view place still.pixels = record {
             draws = last.plan.draws;
-            are_draws = subst (AreDrawsAt view place) (sym same) at;
+            are_draws = at;
             are_pixels = subst (ArePixelsOf view.job.format view.fonts view.job.size last.plan.draws) (sym pixels) drawn;
           } in
           let all : stills ++ [] ≡ stills = append-nil stills in (
@@ -189,3 +191,66 @@ ends_more view place old fault first before now (stills, reel, got) step =
       more.1,
       subst (λ pieces. GotPrefix fault pieces first now) (sym (images_append view stills more.0)) (begun_then first before now fault (still_images view stills) (still_images view more.0) got more.2),
     )
+
+-- With no instant shown nothing is kept.
+pub none_yet_shown : (view : StillsView) (index : String Global) (state : SinkState) → string_bytes index ≡ [] → IsShownSoFar view 0 (record { shown = None; count = 0; index = index }) state state
+none_yet_shown view index state empty = ([], record { are = NoStill; index = empty; count = refl; shown = refl }, nothing_got state state)
+
+pub none_shown : (view : StillsView) (state : SinkState) → IsShownInPart view OutOfMemory state state
+none_shown view state = record { stills = []; are = (0, omega arith, NoStill); got = nothing_begun state state }
+
+-- at the end of all instants
+pub all_shown : (view : StillsView) (reel : Reel) (text : List ℕ) (first now : SinkState) → IsShownSoFar view view.job.instants.count reel first now →
+    text ≡ string_bytes reel.index ++ end_line view.job.instants.count (end_instant view.job.instants) → IsShownWhole view text first now
+all_shown view reel text first now (stills, so_far, got) is = record {
+  stills = stills;
+  are = so_far.are;
+  got = got;
+  value = is ∙ ap (λ z. z ++ end_line view.job.instants.count (end_instant view.job.instants)) so_far.index;
+}
+
+pub all_begun : (view : StillsView) (reel : Reel) (first now : SinkState) → IsShownSoFar view view.job.instants.count reel first now → IsShownInPart view OutOfMemory first now
+all_begun view reel first now (stills, so_far, got) = record {
+  stills = stills;
+  are = (view.job.instants.count, omega arith, so_far.are);
+  got = whole_begun first now (still_images view stills) got;
+}
+
+pub some_shown : (view : StillsView) (place : ℕ) (old : Reel) (fault : StillsFault) (first before now : SinkState) → IsShownSoFar view place old first before → EndsInInstant view place old fault before now →
+    IsShownInPart view fault first now
+some_shown view place old fault first before now so_far step =
+    let h = ends_more view place old fault first before now so_far step in
+    record { stills = h.0; are = h.1; got = h.2 }
+
+-- ---- what an instant comes to
+
+pub drawn_at : (view : StillsView) (place t : ℕ) (last : Option Shown) (shown : Shown) → t ≡ rated_instant view.job.instants place → IsDrawn view t last (Some shown) → AreDrawsAt view place shown.plan.draws
+drawn_at view place t last shown at h = subst (λ n. AreDraws view.script view.fonts (line_events view.script) (pos n) (plain_frame view.job.size) shown.plan.draws) at h.0
+
+pub kept_next : (view : StillsView) (place t : ℕ) (reel : Reel) (state : SinkState) → t ≡ rated_instant view.job.instants place → IsDrawn view t reel.shown None → ShowsInstant view place reel reel state state
+kept_next view place t reel state at (last, is, draws) =
+    same_next view place state reel last is (subst (λ n. AreDraws view.script view.fonts (line_events view.script) (pos n) (plain_frame view.job.size) last.plan.draws) at draws)
+
+pub fit_next : (job : StillsJob) (n place t : ℕ) (shown : Shown) (old new : Reel) (before now : SinkState) → IsReelFit job place old → HasPixels (pixel_bytes job.format) job.size shown.pixels.items →
+    IsPictureShown job n place t shown old new before now → IsReelFit job (place + 1) new
+fit_next job n place t shown old new before now fit pixels h = record {
+  pixels = subst (λ (o : Option Shown). IfSome o (λ last. HasPixels (pixel_bytes job.format) job.size last.pixels.items)) (sym h.shown_is) pixels;
+  few = omega (arith, fit.few, h.count, one_at_most h.part);
+}
+  where
+    one_at_most : (part : Option Changed) → count_of_part part ≤ 1
+    one_at_most None = omega arith
+    one_at_most (Some box) = omega arith
+
+pub fit_more : (job : StillsJob) (place : ℕ) (reel : Reel) → IsReelFit job place reel → IsReelFit job (place + 1) reel
+fit_more job place reel fit = record { pixels = fit.pixels; few = omega (arith, fit.few) }
+
+-- ---- answers
+
+pub on_ok : {A E : Type 0} (r : Result A E) (P Q : Type 0) → (P → Q) → OnOk r P → OnOk r Q
+on_ok (Ok a) P Q more h = more h
+on_ok (Err e) P Q more h = h
+
+pub on_err : {A E : Type 0} (r : Result A E) (P Q : E → Type 0) → ((e : E) → P e → Q e) → IfErr r P → IfErr r Q
+on_err (Ok a) P Q more h = h
+on_err (Err e) P Q more h = more e h

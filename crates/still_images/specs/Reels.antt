@@ -1,7 +1,10 @@
 -- Inner: what is shown and put from instant to instant.
-use Rattle.std.specs.Prelude.{◌≡◌, ◌⊎◌, ℕ, ◌+◌, ◌≤◌, List, [], ◌∷◌, ◌++◌, length, IfSome, Option, Some, None, string_bytes}
+use Rattle.std.specs.Prelude.{◌≡◌, ◌⊎◌, ℕ, ◌+◌, ◌≤◌, pos, List, [], ◌∷◌, ◌++◌, length, IfSome, Option, Some, None, string_bytes}
+use Rattle.ass_events.specs.ScriptEvents.{line_events}
 use Rattle.ass_io.specs.Sinks.{SinkState}
 use Rattle.frame_change.specs.declared.pixels.Changed.{Changed}
+use Rattle.frame_view.specs.FrameViews.{plain_frame}
+use Rattle.picture_plan.specs.Pictures.{AreDraws}
 use Rattle.run_words.specs.declared.job.StillsJob.{StillsJob}
 use Rattle.still_images.specs.Boxes.{HasPixels, IsBoxOf, whole_box}
 use Rattle.still_images.specs.Formats.{ArePixelsOf, pixel_bytes}
@@ -64,6 +67,15 @@ pub record IsReel (view : StillsView) (place : ℕ) (stills : List Still) (reel 
 pub record IsReelFit (job : StillsJob) (place : ℕ) (reel : Reel) : Type 0 where
   pub pixels : IfSome reel.shown (λ shown. HasPixels (pixel_bytes job.format) job.size shown.pixels.items)
   pub few : reel.count ≤ place
+
+-- The picture at the instant t: none, where its draws are those of the last one, else its draws and pixels.
+abbrev pub IsDrawn : StillsView → ℕ → Option Shown → Option Shown → Type 0
+IsDrawn view t last None =
+    (shown : Shown) × (last ≡ Some shown) × AreDraws view.script view.fonts (line_events view.script) (pos t) (plain_frame view.job.size) shown.plan.draws
+IsDrawn view t last (Some shown) =
+    AreDraws view.script view.fonts (line_events view.script) (pos t) (plain_frame view.job.size) shown.plan.draws
+    × ArePixelsOf view.job.format view.fonts view.job.size shown.plan.draws shown.pixels.items
+    × HasPixels (pixel_bytes view.job.format) view.job.size shown.pixels.items
 
 -- An instant more.
 abbrev pub ShowsInstant : StillsView → ℕ → Reel → Reel → SinkState → SinkState → Type 0

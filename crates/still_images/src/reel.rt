@@ -14,7 +14,7 @@ use crate::fault::StillsFault;
 use crate::image::still_image;
 use crate::lines::still_line;
 use ass_io::{Put, Sink};
-use ass_num::Mem;
+use ass_num::{Mem, OutOfMemory};
 use frame_change::Changed;
 use mask_keys::Plan;
 use run_words::StillsJob;
@@ -39,7 +39,7 @@ pub struct Reel {
 fn have_same_draws(a: &Plan, b: &Plan) -> bool
     ensures { IsTrue result → a.now.draws ≡ b.now.draws }
 {
-    a.draws == b.draws
+    *a == *b
 }
 
 /// Whether these draws are shown.
@@ -88,7 +88,33 @@ fn add_line(alloc: Global, index: &mut String, k: u64, place: u64, t: u64, part:
     Ok(())
 }
 
-/// Puts the image of a picture that changes a part, shown from the instant `t` at a place on, when `n` events were known.
+/// The image of a picture that changes a part, shown from the instant `t` at a place on, when `n` events were known. It is counted,
+/// and has its line.
+fn add_image(
+    alloc: Global,
+    job: &StillsJob,
+    n: usize,
+    place: u64,
+    t: u64,
+    part: &Changed,
+    pixels: &[u8],
+    reel: &mut Reel,
+) -> Mem<Vec<u8>>
+    requires pixels { HasPixels (pixel_bytes job.now.format) job.now.size pixels.now }
+    requires part { IsOnFrame job.now.size part.now }
+    requires instant { t ≤ max_instant }
+    requires few { reel.old.count < 2 ^ 64 - 1 }
+    ensures image { IfOk result (λ image. image.items ≡ image_of_part job.now part.now pixels.now t n) }
+    ensures index { OnOk result (string_bytes reel.new.index ≡ string_bytes reel.old.index ++ still_line reel.old.count place t part.now) }
+    ensures count { OnOk result (reel.new.count ≡ reel.old.count + 1) }
+{
+    let image = still_image(alloc, job, part, pixels, t, n)?;
+    add_line(alloc, &mut reel.index, reel.count, place, t, part)?;
+    reel.count += 1;
+    Ok(image)
+}
+
+/// Puts such an image.
 fn put_still<F: Sink>(
     alloc: Global,
     job: &StillsJob,
@@ -110,11 +136,10 @@ fn put_still<F: Sink>(
     ensures part { IfErr result (λ fault. GotPrefix fault [] (F.state frames.old) (F.state frames.new)
         ⊎ GotPrefix fault (image_of_part job.now part.now pixels.now t n ∷ []) (F.state frames.old) (F.state frames.new)) }
 {
-    let image = still_image(alloc, job, part, pixels, t, n)?;
-    add_line(alloc, &mut reel.index, reel.count, place, t, part)?;
-    put(image.as_slice(), frames)?;
-    reel.count += 1;
-    Ok(())
+    match add_image(alloc, job, n, place, t, part, pixels, reel) {
+        Ok(image) => put(image.as_slice(), frames),
+        Err(OutOfMemory) => Err(StillsFault::OutOfMemory),
+    }
 }
 
 /// Shows a picture from the instant `t` at a place on, when `n` events were known, and puts its image where it changes something.

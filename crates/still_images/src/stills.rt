@@ -2,7 +2,7 @@
 
 ghost use Rattle.std.specs.Prelude.{◌≡◌, ◌++◌, ◌+◌, ◌≤◌, ◌<◌, map, All, IfErr, IfOk, OnOk, length, string_bytes};
 ghost use Rattle.std.specs.Arc.{arc_value};
-ghost use Rattle.ass_num.specs.Limits.{max_text_bytes};
+ghost use Rattle.ass_num.specs.Limits.{max_instant, max_text_bytes};
 ghost use Rattle.ass_events.specs.Histories.{HaveOwnOrders, max_live};
 ghost use Rattle.ass_events.specs.LineLaws.{HasShortLines};
 ghost use Rattle.ass_events.specs.Ranges.{IsEvent};
@@ -16,7 +16,7 @@ ghost use Rattle.text_layout.specs.Fonts.{IsLayoutFontSet};
 ghost use Rattle.text_layout.specs.Settings.{IsSetting};
 ghost use Rattle.still_images.specs.Lines.{end_line};
 ghost use Rattle.still_images.specs.Puts.{AreStillsShown};
-ghost use Rattle.still_images.specs.Reels.{EndsInInstant, IsReelFit, ShowsInstant};
+ghost use Rattle.still_images.specs.Reels.{EndsInInstant, IsDrawn, IsReelFit, ShowsInstant};
 ghost use Rattle.still_images.specs.Stills.{end_instant, stills_view};
 
 use crate::fault::StillsFault;
@@ -25,7 +25,7 @@ use crate::paint::pixels_of;
 use crate::reel::{Reel, Shown, is_shown, show_picture};
 use ass_events::{Event, events_of};
 use ass_io::Sink;
-use ass_num::{Items, Mem};
+use ass_num::{Items, Mem, OutOfMemory};
 use ass_script::Script;
 use bdf_font::{Font, FontSet};
 use frame_rate::Instants;
@@ -36,6 +36,37 @@ use run_words::StillsJob;
 use std::alloc::Global;
 use std::sync::Arc;
 use text_layout::Setting;
+
+/// The picture at the instant `t`; `None` where its draws are those of the last one.
+fn draw(
+    alloc: Global,
+    job: &StillsJob,
+    setting: &Setting<'_>,
+    events: &[Arc<Event>],
+    t: u64,
+    local: &mut LocalCaches,
+    last: &Option<Shown>,
+) -> Mem<Option<Shown>>
+    requires job { IsStills job.now }
+    requires setting { IsSetting setting.now }
+    requires frame { setting.now.frame ≡ plain_frame job.now.size }
+    requires events { All IsEvent (map arc_value events.now) }
+    requires texts { All (λ (e : Event). length e.text ≤ max_text_bytes) (map arc_value events.now) }
+    requires few { length events.now ≤ max_live }
+    requires orders { HaveOwnOrders (map arc_value events.now) }
+    requires lines { map arc_value events.now ≡ line_events setting.now.script }
+    requires instant { t ≤ max_instant }
+    requires same { local.old.fonts ≡ setting.now.fonts }
+    ensures same { local.new.fonts ≡ local.old.fonts }
+    ensures drawn { IfOk result (IsDrawn (stills_view job.now setting.now.script setting.now.fonts) t last.now) }
+{
+    let plan = plan(alloc, setting, events, t as i64)?;
+    if is_shown(last, &plan) {
+        return Ok(None);
+    }
+    let pixels = pixels_of(alloc, local, job.format, &job.size, &plan)?;
+    Ok(Some(Shown { plan, pixels }))
+}
 
 /// Shows the instant at a place.
 fn add_instant<F: Sink>(
@@ -67,13 +98,11 @@ fn add_instant<F: Sink>(
         (F.state frames.old) (F.state frames.new)) }
 {
     let t = job.instants.at(place);
-    let plan = plan(alloc, setting, events, t as i64)?;
-    if is_shown(&reel.shown, &plan) {
-        return Ok(());
+    match draw(alloc, job, setting, events, t, local, &reel.shown) {
+        Ok(None) => Ok(()),
+        Ok(Some(shown)) => show_picture(alloc, job, events.len(), place, t, shown, reel, frames),
+        Err(OutOfMemory) => Err(StillsFault::OutOfMemory),
     }
-    let pixels = pixels_of(alloc, local, job.format, &job.size, &plan)?;
-    let shown = Shown { plan, pixels };
-    show_picture(alloc, job, events.len(), place, t, shown, reel, frames)
 }
 
 /// The last instant, in milliseconds.
@@ -130,21 +159,84 @@ fn show_all<F: Sink>(
         index: String::new(alloc),
     };
     for place in 0..job.instants.count {
-        add_instant(alloc, job, setting, events, place, local, &mut reel, frames)?;
+        match add_instant(alloc, job, setting, events, place, local, &mut reel, frames) {
+            Ok(()) => {}
+            Err(fault) => return Err(fault),
+        }
     }
-    Ok(with_end(alloc, reel.index, &job.instants)?)
+    match with_end(alloc, reel.index, &job.instants) {
+        Ok(text) => Ok(text),
+        Err(OutOfMemory) => Err(StillsFault::OutOfMemory),
+    }
 }
 
-/// Fonts as a set.
-fn font_set(alloc: Global, fonts: Items<Font>) -> Mem<Arc<FontSet>>
-    ensures { IfOk result (λ set. (arc_value set).fonts ≡ fonts) }
+/// What is at hand for all instants.
+struct Ready {
+    fonts: Arc<FontSet>,
+    events: Vec<Arc<Event>>,
+    local: LocalCaches,
+}
+
+/// Readies a script in fonts.
+fn ready(alloc: Global, job: &StillsJob, script: &Script, fonts: Items<Font>) -> Mem<Ready>
+    requires job { IsStills job.now }
+    requires script { IsScript script.now }
+    requires short { HasShortLines script.now }
+    requires fonts { IsLayoutFontSet fonts }
+    ensures fonts { IfOk result (λ ready. (arc_value ready.fonts).fonts ≡ fonts) }
+    ensures local { IfOk result (λ ready. ready.local.fonts ≡ fonts) }
+    ensures lines { IfOk result (λ ready. map arc_value ready.events.items ≡ line_events script.now) }
+    ensures events { IfOk result (λ ready. All IsEvent (map arc_value ready.events.items)) }
+    ensures texts { IfOk result (λ ready. All (λ (e : Event). length e.text ≤ max_text_bytes) (map arc_value ready.events.items)) }
+    ensures few { IfOk result (λ ready. length ready.events.items ≤ max_live) }
+    ensures orders { IfOk result (λ ready. HaveOwnOrders (map arc_value ready.events.items)) }
 {
-    Ok(Arc::new(alloc, FontSet { fonts })?)
+    let fonts = Arc::new(alloc, FontSet { fonts })?;
+    let events = events_of(alloc, script)?;
+    let local = LocalCaches::open(alloc, Arc::try_clone(&fonts)?, job.budget)?;
+    Ok(Ready {
+        fonts,
+        events,
+        local,
+    })
+}
+
+/// Shows a script from instant to instant with what is at hand.
+fn show_ready<F: Sink>(
+    alloc: Global,
+    job: &StillsJob,
+    script: &Script,
+    ready: Ready,
+    frames: &mut F,
+) -> Result<String, StillsFault>
+    requires job { IsStills job.now }
+    requires script { IsScript script.now }
+    requires fonts { IsLayoutFontSet (arc_value ready.fonts).fonts }
+    requires local { ready.local.fonts ≡ (arc_value ready.fonts).fonts }
+    requires lines { map arc_value ready.events.items ≡ line_events script.now }
+    requires events { All IsEvent (map arc_value ready.events.items) }
+    requires texts { All (λ (e : Event). length e.text ≤ max_text_bytes) (map arc_value ready.events.items) }
+    requires few { length ready.events.items ≤ max_live }
+    requires orders { HaveOwnOrders (map arc_value ready.events.items) }
+    ensures { AreStillsShown (stills_view job.now script.now (arc_value ready.fonts).fonts) result (F.state frames.old) (F.state frames.new) }
+{
+    let Ready {
+        fonts,
+        events,
+        mut local,
+    } = ready;
+    let setting = Setting {
+        script,
+        fonts: &fonts,
+        frame: FrameView::plain(job.size),
+    };
+    show_all(alloc, job, &setting, events.as_slice(), &mut local, frames)
 }
 
 /// Shows a script in fonts from instant to instant. The sink is put an image of the first picture, and of each that differs from the
 /// one before it, whole or the box that changed. What comes is the index: a line `image K place I t=MS box X1 Y1 X2 Y2` for each
 /// image, and a last one `end place N t=MS`.
+#[tactic(auto, using(crate::proofs::ReelLemmas::none_shown))]
 pub fn show_stills<F: Sink>(
     alloc: Global,
     job: &StillsJob,
@@ -158,13 +250,8 @@ pub fn show_stills<F: Sink>(
     requires fonts { IsLayoutFontSet fonts }
     ensures { AreStillsShown (stills_view job.now script.now fonts) result (F.state frames.old) (F.state frames.new) }
 {
-    let fonts = font_set(alloc, fonts)?;
-    let events = events_of(alloc, script)?;
-    let mut local = LocalCaches::open(alloc, Arc::try_clone(&fonts)?, job.budget)?;
-    let setting = Setting {
-        script,
-        fonts: &fonts,
-        frame: FrameView::plain(job.size),
-    };
-    show_all(alloc, job, &setting, events.as_slice(), &mut local, frames)
+    match ready(alloc, job, script, fonts) {
+        Ok(ready) => show_ready(alloc, job, script, ready, frames),
+        Err(OutOfMemory) => Err(StillsFault::OutOfMemory),
+    }
 }
