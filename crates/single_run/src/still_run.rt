@@ -14,8 +14,8 @@ use crate::outcome::Outcome;
 use ass_io::Sink;
 use run_status::{Inputs, Status, Which};
 use run_words::StillsJob;
-use still_images::{StillsFault, show_stills};
 use std::alloc::Global;
+use still_images::{StillsFault, show_stills};
 
 /// What came of the images, with the index that is to be reported.
 fn told(end: Result<String, StillsFault>) -> Outcome

@@ -104,12 +104,12 @@ module _ (view : StillsView) (place : ℕ) (shown : Shown) (draws : AreDrawsAt v
   shown_next n t old new events at h stills reel =
       let next = stills_of_part place shown.pixels.items h.part in
       let counts : still_lines view (0 + length stills) next ≡ lines_of_part old.count place t h.part =
-          part_lines view place shown.pixels.items (0 + length stills) h.part
-          ∙ ap (λ k. lines_of_part k place (rated_instant view.job.instants place) h.part) (let e : 0 + length stills ≡ old.count = omega (arith, reel.count) in e)
-          ∙ ap (λ u. lines_of_part old.count place u h.part) (sym at) in
+      part_lines view place shown.pixels.items (0 + length stills) h.part
+      ∙ ap (λ k. lines_of_part k place (rated_instant view.job.instants place) h.part) (let e : 0 + length stills ≡ old.count = omega (arith, reel.count) in e)
+      ∙ ap (λ u. lines_of_part old.count place u h.part) (sym at) in
       let images : images_of_part view.job shown.pixels.items t n h.part ≡ still_images view next =
-          ap (λ u. images_of_part view.job shown.pixels.items u n h.part) at
-          ∙ (ap (λ m. images_of_part view.job shown.pixels.items (rated_instant view.job.instants place) m h.part) events ∙ sym (part_images view place shown.pixels.items h.part)) in (
+      ap (λ u. images_of_part view.job shown.pixels.items u n h.part) at
+      ∙ (ap (λ m. images_of_part view.job shown.pixels.items (rated_instant view.job.instants place) m h.part) events ∙ sym (part_images view place shown.pixels.items h.part)) in (
         next,
         record {
           are = are_next view place shown.pixels.items stills old.shown h.part reel.are reel.shown pixels_at h.is_part;

@@ -71,7 +71,6 @@ row_byte w y z i k inside =
     get_or-take (4 * w) (drop (y * (4 * w)) z) (4 * i + k) 0 inside ∙ get_or-drop (y * (4 * w)) z (4 * i + k) 0 ∙ ap (λ m. get_or z m 0) place
 
 module _ (size : Size) (a b : List ℕ) (y : ℕ) (low : y < size.h) where
-
   -- a byte of the row, where pixels are told by their columns
   to_row : (i k : ℕ) → i < size.w → k < 4 → Differs a b (4 * (y * size.w + i) + k) → Differs (pixel_row size.w y a) (pixel_row size.w y b) (4 * i + k)
   to_row i k inside few differs = λ e. differs (sym (row_byte size.w y a i k (omega (arith, inside, few))) ∙ e ∙ row_byte size.w y b i k (omega (arith, inside, few)))
@@ -80,9 +79,12 @@ module _ (size : Size) (a b : List ℕ) (y : ℕ) (low : y < size.h) where
   from_row i m inside from to differs =
       let k : ℕ = m - 4 * i in
       let place : 4 * i + k ≡ m = omega (arith, from) in
-      let few : k < 4 = omega (arith, from, to) in
-      (k, few, λ e. differs (subst (λ n. get_or (pixel_row size.w y a) n 0 ≡ get_or (pixel_row size.w y b) n 0) place
-      (row_byte size.w y a i k (omega (arith, inside, few)) ∙ e ∙ sym (row_byte size.w y b i k (omega (arith, inside, few))))))
+      let few : k < 4 = omega (arith, from, to) in (
+        k,
+        few,
+        λ e. differs (subst (λ n. get_or (pixel_row size.w y a) n 0 ≡ get_or (pixel_row size.w y b) n 0) place
+            (row_byte size.w y a i k (omega (arith, inside, few)) ∙ e ∙ sym (row_byte size.w y b i k (omega (arith, inside, few))))),
+      )
 
   here_or_above : (j : ℕ) → j < y + 1 → (j < y) ⊎ (j ≡ y)
   here_or_above j h = grind arith
@@ -110,7 +112,7 @@ module _ (size : Size) (a b : List ℕ) (y : ℕ) (low : y < size.h) where
         let inside : m < 4 * size.w = omega (arith, here, to) in
         let place : y * (4 * size.w) + m ≡ k = omega (arith, here) in
         let at : (z : List ℕ) → get_or (pixel_row size.w y z) m 0 ≡ get_or z k 0 =
-            λ z. get_or-take (4 * size.w) (drop (y * (4 * size.w)) z) m 0 inside ∙ get_or-drop (y * (4 * size.w)) z m 0 ∙ ap (λ n. get_or z n 0) place in
+        λ z. get_or-take (4 * size.w) (drop (y * (4 * size.w)) z) m 0 inside ∙ get_or-drop (y * (4 * size.w)) z m 0 ∙ ap (λ n. get_or z n 0) place in
         sym (at a) ∙ ap (λ (row : List ℕ). get_or row m 0) same ∙ at b
   ]
   row_same (Some box) is same = record {
@@ -167,7 +169,7 @@ module _ (size : Size) (a b : List ℕ) (y : ℕ) (low : y < size.h) where
         let down = (least_on_frame size (DifferAbove size.w a b y) box is).down in
         let flat : Changed = record { x1 = box.x1; y1 = box.y1; x2 = box.x2; y2 = y } in
         let above_flat : HasAll size (DifferAbove size.w a b y) flat = λ i j wide high differs.
-            let inside = is.has i j wide high differs in record { left = inside.left; right = inside.right; top = inside.top; bottom = differs.0 } in
+        let inside = is.has i j wide high differs in record { left = inside.left; right = inside.right; top = inside.top; bottom = differs.0 } in
         let over : box.y1 ≤ y = omega (arith, down, (is.least flat above_flat).bottom) in
         record {
           has = λ i j wide high differs. elim (here_or_above j differs.0) [

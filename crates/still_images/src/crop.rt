@@ -8,13 +8,7 @@ use frame_change::Changed;
 use std::alloc::Global;
 
 /// Row `y` of the part of a picture in a box.
-fn cropped_row<'a>(
-    depth: usize,
-    size: &Size,
-    part: &Changed,
-    pixels: &'a [u8],
-    y: u32,
-) -> &'a [u8]
+fn cropped_row<'a>(depth: usize, size: &Size, part: &Changed, pixels: &'a [u8], y: u32) -> &'a [u8]
     requires depth { 1 ≤ depth }
     requires pixels { HasPixels depth size.now pixels.now }
     requires part { IsOnFrame size.now part.now }

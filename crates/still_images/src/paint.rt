@@ -18,12 +18,7 @@ use std::alloc::Global;
 
 /// The picture of a plan on black.
 #[tactic(auto, using(crate::proofs::PixelLemmas::painted, crate::proofs::PixelLemmas::picture_size))]
-fn pixels_on_black(
-    alloc: Global,
-    local: &mut LocalCaches,
-    size: &Size,
-    plan: &Plan,
-) -> Mem<Vec<u8>>
+fn pixels_on_black(alloc: Global, local: &mut LocalCaches, size: &Size, plan: &Plan) -> Mem<Vec<u8>>
     requires size { IsFrameSize size.now }
     requires plan { IsValidPlan (glyph_counts local.old.fonts) plan.now.draws }
     ensures pixels { IfOk result (λ pixels. pixels.items ≡ (picture local.old.fonts size.now plan.now.draws).bytes) }

@@ -80,7 +80,14 @@ fn put<F: Sink>(image: &[u8], frames: &mut F) -> Result<(), StillsFault>
 }
 
 /// Adds the line on the next image.
-fn add_line(alloc: Global, index: &mut String, k: u64, place: u64, t: u64, part: &Changed) -> Mem<()>
+fn add_line(
+    alloc: Global,
+    index: &mut String,
+    k: u64,
+    place: u64,
+    t: u64,
+    part: &Changed,
+) -> Mem<()>
     ensures { OnOk result (string_bytes index.new ≡ string_bytes index.old ++ still_line k place t part.now) }
 {
     let line = still_line(alloc, k, place, t, part)?;
@@ -162,7 +169,17 @@ pub fn show_picture<F: Sink>(
     ensures part { IfErr result (λ fault. IsPictureCut job.now n t shown reel.old fault (F.state frames.old) (F.state frames.new)) }
 {
     if let Some(part) = changed_part(job, &reel.shown, shown.pixels.as_slice()) {
-        put_still(alloc, job, n, place, t, &part, shown.pixels.as_slice(), reel, frames)?;
+        put_still(
+            alloc,
+            job,
+            n,
+            place,
+            t,
+            &part,
+            shown.pixels.as_slice(),
+            reel,
+            frames,
+        )?;
     }
     reel.shown = Some(shown);
     Ok(())

@@ -178,7 +178,7 @@ struct Ready {
 }
 
 /// Readies a script in fonts.
-fn ready(alloc: Global, job: &StillsJob, script: &Script, fonts: Items<Font>) -> Mem<Ready>
+fn make_ready(alloc: Global, job: &StillsJob, script: &Script, fonts: Items<Font>) -> Mem<Ready>
     requires job { IsStills job.now }
     requires script { IsScript script.now }
     requires short { HasShortLines script.now }
@@ -250,7 +250,7 @@ pub fn show_stills<F: Sink>(
     requires fonts { IsLayoutFontSet fonts }
     ensures { AreStillsShown (stills_view job.now script.now fonts) result (F.state frames.old) (F.state frames.new) }
 {
-    match ready(alloc, job, script, fonts) {
+    match make_ready(alloc, job, script, fonts) {
         Ok(ready) => show_ready(alloc, job, script, ready, frames),
         Err(OutOfMemory) => Err(StillsFault::OutOfMemory),
     }
