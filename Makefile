@@ -34,7 +34,7 @@ install:
 	install -d $(bin) $(lib)/vimalorua $(lib)/pkgconfig $(include) $(data)/man/man1 $(data)/man/man3
 	install -d $(data)/bash-completion/completions $(data)/doc/vimalorua/examples
 	install -m 755 release/vimalorua $(lib)/vimalorua/vimalorua
-	sed -e 's|^installed=.*|installed=$(LIBDIR)/vimalorua/vimalorua|' -e 's|^version=.*|version=$(VERSION)|' \
+	sed -e 's|^installed=.*|installed=$(LIBDIR)/vimalorua/vimalorua|' \
 	    vimalorua > $(bin)/vimalorua
 	chmod 755 $(bin)/vimalorua
 	install -m 644 release/vimalorua.h $(include)

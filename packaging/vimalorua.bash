@@ -4,18 +4,18 @@ _vimalorua() {
     local word=${COMP_WORDS[COMP_CWORD]} before=${COMP_WORDS[COMP_CWORD - 1]} options=
     COMPREPLY=()
     if [ "$COMP_CWORD" -eq 1 ]; then
-        mapfile -t COMPREPLY < <(compgen -W 'check frame changes write play selftest help --version' -- "$word")
+        mapfile -t COMPREPLY < <(compgen -W 'check frame changes write play selftest help --help --version' -- "$word")
         return
     fi
     case ${COMP_WORDS[1]} in
     check) options='--script-fonts' ;;
     frame) options='--at --size --storage --aspect --content --letters --scale --format --budget --script-fonts' ;;
-    changes) options='--from --to --step --rate --size --storage --aspect --content --letters --scale --budget --script-fonts' ;;
+    changes) options='--from --to --frames --step --rate --size --storage --aspect --content --letters --scale --budget --script-fonts' ;;
     write) options='--later --earlier' ;;
     selftest) options='--workers' ;;
     play)
-        options='--from --to --step --rate --size --feeders --renderers --batch --again --times --ahead --bands --format'
-        options+=' --budget --mode --script-fonts'
+        options='--from --to --frames --step --rate --size --feeders --renderers --batch --again --times --ahead --bands'
+        options+=' --format --changed --crop --budget --mode --script-fonts'
         ;;
     esac
     case $before in
@@ -24,7 +24,7 @@ _vimalorua() {
     --rate) mapfile -t COMPREPLY < <(compgen -W '24000/1001 24 25 30000/1001 30 50 60000/1001 60' -- "$word") ;;
     --letters) mapfile -t COMPREPLY < <(compgen -W 'script aspect' -- "$word") ;;
     --size) mapfile -t COMPREPLY < <(compgen -W '640x360 1280x720 1920x1080 3840x2160' -- "$word") ;;
-    --script-fonts) mapfile -t COMPREPLY < <(compgen -W "$options" -- "$word") ;;
+    --script-fonts | --changed | --crop) mapfile -t COMPREPLY < <(compgen -W "$options" -- "$word") ;;
     --*) ;;
     *)
         case $word in

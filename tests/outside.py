@@ -43,6 +43,8 @@ def release(score, given):
     score.check(re.fullmatch(r"\d+\.\d+\.\d+", version), f"VERSION is {version}")
     header = re.search(r"#define VIMALORUA_VERSION (\d+)", read(f"{given.top}/c/vimalorua.h"))[1]
     score.check(header == version.split(".")[0], f"the header has {header}, and VERSION {version}")
+    own = ran([given.program, "--version"], given.top)
+    score.check((own.returncode, own.stdout, own.stderr) == (0, f"vimalorua {version}\n", ""), f"the program says it is {own.stdout!r}")
     changes = read(f"{given.top}/CHANGELOG.md")
     score.check(re.search(rf"^## {re.escape(version)}, \d{{4}}-\d\d-\d\d$", changes, re.M), f"CHANGELOG.md has no {version} with its day")
 
@@ -65,6 +67,11 @@ SAID = [
     ("check row.ass", "check lacks FONT.."),
     ("changes --from 0 --to 1 --size 4x3 row.ass dot.bdf", "changes lacks --step (milliseconds from 1 to 4000000000000) or --rate (frames from 1 to 1000000, as 25, or frames in seconds, as 24000/1001)"),
     ("play --from 0 --to 1 --step 1 --rate 25 --size 4x3 row.ass dot.bdf", "play takes --step or --rate, and not both"),
+    ("play --from 0 --step 1 --size 4x3 row.ass dot.bdf", "play lacks --to (milliseconds from 0 to 4000000000000) or --frames (a number from 1 to 1000000)"),
+    ("changes --from 0 --to 1 --frames 2 --step 1 --size 4x3 row.ass dot.bdf", "changes takes --to or --frames, and not both"),
+    ("play --from 0 --to 1 --step 1 --size 4x3 --crop row.ass dot.bdf", "--crop stands beside --changed alone"),
+    ("play --changed --from 0 --to 1 --step 1 --size 4x3 --bands 2 row.ass dot.bdf", "--bands doesn't stand beside --changed, whose work isn't shared out"),
+    ("play --from 0 --frames 0 --step 1 --size 4x3 row.ass dot.bdf", "--frames takes a number from 1 to 1000000, and not '0'"),
     ("frame --at 0 --at 0", "--at is given twice"),
     ("frame --font x", "frame has no option --font"),
     ("frame -x", "there is no option -x; a name that begins with - stands behind --"),
@@ -99,9 +106,22 @@ def words_of_wrapper(score, given, program):
         score.check((own.returncode, own.stdout, own.stderr) == (done.returncode, done.stdout, done.stderr), f"vimalorua {words} says more")
     version = ran([program, "--version"], given.room)
     score.check(version.stdout == f"vimalorua {read(f'{given.top}/VERSION')}", f"--version says {version.stdout!r}")
-    usage, none = ran([program, "help"], given.room), ran([program], given.room)
+    own, usage, none = ran([given.program, "--help"], given.room), ran([program, "help"], given.room), ran([program], given.room)
     score.check(usage.returncode == 0 and none.returncode == 2 and usage.stdout == none.stderr, "no words aren't answered by the help")
+    score.check(own.returncode == 0 and usage.stdout.startswith(own.stdout) and "frame --at MS" in own.stdout, "the help isn't the program's")
+    standard_input(score, given, program)
     file_limit(score, given, program)
+
+
+def standard_input(score, given, program):
+    """A script and a font that come by standard input are as those of files, and a file is called - by ./-."""
+    wanted = ran([program, "check", "row.ass", "dot.bdf"], given.room)
+    for file, words in (("row.ass", "check - dot.bdf"), ("dot.bdf", "check row.ass -"), ("row.ass", "check - -- dot.bdf")):
+        with open(f"{given.room}/{file}", "rb") as it:
+            done = subprocess.run([program, *words.split()], cwd=given.room, stdin=it, capture_output=True, encoding="utf-8")
+        score.check((done.returncode, done.stderr) == (0, wanted.stderr), f"vimalorua {words} says {done.stderr!r}")
+    missing = ran([program, "check", "./-", "dot.bdf"], given.room)
+    score.check(missing.returncode == 3, f"./- is no file, and says {missing.stderr!r}")
 
 
 def file_limit(score, given, program):

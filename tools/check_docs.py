@@ -486,6 +486,11 @@ def kit(score):
         score.check(f"kit={said[0]}" in read("vimalorua"), "vimalorua", f"doesn't name {said[0]}")
 
 
+def version(score):
+    path = "crates/play_command/src/own_text.rt"
+    score.check(f'"vimalorua {read("VERSION").strip()}\\n"' in read(path), path, "doesn't say the version that VERSION has")
+
+
 def filled(score):
     for page in pages():
         score.check("GATE-TIME" not in read(page), page, "a measured time is to be filled in")
@@ -506,6 +511,7 @@ def main():
     widths(score)
     unsafe(score, reach)
     kit(score)
+    version(score)
     filled(score)
     print(f"{score.passed} passed, {score.failed} failed")
     return score.failed > 0

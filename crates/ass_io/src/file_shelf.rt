@@ -1,17 +1,18 @@
 //! A shelf of real files.
 
 ghost use Rattle.std.specs.Prelude.{◌≡◌, [], None};
+ghost use Rattle.ass_io.specs.Fetched.{IsFetched};
 ghost use Rattle.ass_io.specs.Files.{IsFileRead};
 
 use crate::count::count_one;
 use crate::fetch_log::FetchLog;
 use crate::shelf::{Fetch, MAX_FILE_BYTES, Shelf};
 use std::alloc::Global;
-use std::io::Read;
+use std::io::{Input, Read};
 use std::rt::Files;
 use std::{fs, io};
 
-/// A shelf of real files, by their paths. It tells no contents. A name that the system does not
+/// A shelf of real files, by their paths, and of standard input as `-`. It tells no contents. A name that the system does not
 /// find is `Missing`; a folder, a path through a file, and whatever else can't be opened or read, but
 /// for lack of memory, is `Failed`.
 #[derive(Drop)]
@@ -21,10 +22,10 @@ pub struct FileShelf<R: Files + Drop> {
     log: FetchLog,
 }
 
-impl<R: Files + Drop> FileShelf<R> {
+impl<R: Files + Input + Drop> FileShelf<R> {
     ghost use Rattle.ass_io.specs.Files.{shelf_faults};
 
-    /// The files that the runtime opens.
+    /// The files that the runtime opens, and its standard input.
     pub fn new(rt: R) -> FileShelf<R>
         ensures { shelf_faults result ≡ 0 }
     {
@@ -36,7 +37,7 @@ impl<R: Files + Drop> FileShelf<R> {
     }
 }
 
-impl<R: Files + Drop> Shelf for FileShelf<R> {
+impl<R: Files + Input + Drop> Shelf for FileShelf<R> {
     ghost told = { λ _ _. None };
 
     ghost faults = { λ s. s.faults };
@@ -44,13 +45,10 @@ impl<R: Files + Drop> Shelf for FileShelf<R> {
     ghost log = { λ s. s.log.fetches };
 
     fn fetch(&mut self, _alloc: Global, name: &str, into: &mut Vec<u8>) -> Fetch {
-        let fetched = match fs::open(&self.rt, name) {
-            Ok(file) => read_file(file, into),
-            Err(refused) => match refused.kind() {
-                io::ErrorKind::NotFound => Fetch::Missing,
-                io::ErrorKind::OutOfMemory => Fetch::OutOfMemory,
-                _ => Fetch::Failed,
-            },
+        let fetched = if name == "-" {
+            read_file(self.rt.reader(), into)
+        } else {
+            read_path(&self.rt, name, into)
         };
         if fetched == Fetch::Failed {
             count_one(&mut self.faults);
@@ -60,7 +58,22 @@ impl<R: Files + Drop> Shelf for FileShelf<R> {
     }
 }
 
-/// Reads an open file to its end, into an empty vector. `TooLarge` comes once more than `MAX_FILE_BYTES`
+/// Reads the file of a path.
+fn read_path<R: Files>(rt: &R, path: &str, into: &mut Vec<u8>) -> Fetch
+    requires { into.old.items ≡ [] }
+    ensures { IsFetched None result into.new.items }
+{
+    match fs::open(rt, path) {
+        Ok(file) => read_file(file, into),
+        Err(refused) => match refused.kind() {
+            io::ErrorKind::NotFound => Fetch::Missing,
+            io::ErrorKind::OutOfMemory => Fetch::OutOfMemory,
+            _ => Fetch::Failed,
+        },
+    }
+}
+
+/// Reads an open file, or standard input, to its end, into an empty vector. `TooLarge` comes once more than `MAX_FILE_BYTES`
 /// bytes were read; after any answer but `Got` the vector is empty again.
 pub fn read_file<F: Read + Drop>(file: F, into: &mut Vec<u8>) -> Fetch
     requires { into.old.items ≡ [] }

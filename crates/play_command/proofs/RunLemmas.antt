@@ -25,7 +25,7 @@ use Rattle.play_model.specs.Outputs.{IsFrontOfPlay}
 use Rattle.play_model.specs.Plays.{PlayView}
 use Rattle.run_words.specs.Words.{job_of}
 use Rattle.run_words.specs.declared.job.Job.{Job}
-use Rattle.run_words.specs.declared.job.Job.TheVariants.{Changes, Check, Frame, Play, Selftest, Write}
+use Rattle.run_words.specs.declared.job.Job.TheVariants.{Changes, Check, Frame, Help, Play, Selftest, Stills, Version, Write}
 use Rattle.run_words.specs.declared.job.PlayJob.{PlayJob}
 use Rattle.run_words.specs.declared.job.WordsFault.{WordsFault}
 use Rattle.run_status.specs.Statuses.{status_line}
@@ -34,10 +34,13 @@ use Rattle.run_status.specs.declared.status.Status.TheVariants as status
 use Rattle.run_status.specs.declared.status.What.TheVariants.{Fonts, Frames as images}
 use Rattle.run_status.specs.declared.status.Which.TheVariants.{Frames, Report}
 use Rattle.play_command.proofs.SelftestLemmas.{wanting}
+use Rattle.play_command.proofs.TextLemmas.{text_wanting}
 use Rattle.play_command.specs.PlayRuns.{AreFetchedUnless, AreReadUnless, DecidesPlay, IsPlayAsked, IsPlayOutput, IsPlayPut, IsPlayRun, IsPlayText, play_refusal, status_read, view_of}
 use Rattle.play_command.specs.SelftestRuns.{DecidesSelftest, IsSelftestRead, IsSelftestReport, IsSelftestRun}
-use Rattle.play_command.specs.Working.{IsJobWorked, IsPlayShown, IsPlayWorked, IsSelftestWorked, IsShared, IsShownAfter, IsSpoken}
+use Rattle.play_command.specs.Working.{IsJobWorked, IsPlayShown, IsPlayWorked, IsSelftestWorked, IsLeft, IsShownAfter, IsSpoken}
 use Rattle.run_words.specs.declared.job.ScriptSource.{ScriptSource}
+use Rattle.play_command.specs.declared.help.TheConstants.{HELP}
+use Rattle.play_command.specs.declared.own_text.TheConstants.{VERSION}
 
 -- ---- what words ask for
 
@@ -66,16 +69,19 @@ limited_is_some None e = cc
 limited_is_some (Some work) e = too_long_or_some (is_too_long work) (status.TooLarge images max_frames) work e
 
 -- No other job is left.
-shared_left : (job : Job) → work_in (Ok job) ≡ Ok None → IsShared job
-shared_left (Play job script fonts) e = tt
-shared_left (Selftest seed events workers) e = tt
-shared_left (Check script fonts) e = absurd (limited_is_some (work_of (Check script fonts)) e)
-shared_left (Frame frame script fonts) e = absurd (limited_is_some (work_of (Frame frame script fonts)) e)
-shared_left (Changes changes script fonts) e = absurd (limited_is_some (work_of (Changes changes script fonts)) e)
-shared_left (Write later earlier script) e = absurd (limited_is_some (work_of (Write later earlier script)) e)
+is_left : (job : Job) → work_in (Ok job) ≡ Ok None → IsLeft job
+is_left (Play job script fonts) e = tt
+is_left (Selftest seed events workers) e = tt
+is_left (Check script fonts) e = absurd (limited_is_some (work_of (Check script fonts)) e)
+is_left (Frame frame script fonts) e = absurd (limited_is_some (work_of (Frame frame script fonts)) e)
+is_left (Changes changes script fonts) e = absurd (limited_is_some (work_of (Changes changes script fonts)) e)
+is_left (Stills stills script fonts) e = absurd (limited_is_some (work_of (Stills stills script fonts)) e)
+is_left Help e = tt
+is_left Version e = tt
+is_left (Write later earlier script) e = absurd (limited_is_some (work_of (Write later earlier script)) e)
 
-pub job_left : (words : List (List ℕ)) (job : Job) → job_of words ≡ Ok job → work_asked words ≡ Ok None → IsShared job
-job_left words job e left = shared_left job (sym (ap work_in e) ∙ left)
+pub job_left : (words : List (List ℕ)) (job : Job) → job_of words ≡ Ok job → work_asked words ≡ Ok None → IsLeft job
+job_left words job e left = is_left job (sym (ap work_in e) ∙ left)
 
 -- Words ask for one job.
 pub same_job : (reading : Result Job WordsFault) (one other : Job) → reading ≡ Ok one → reading ≡ Ok other → one ≡ other
@@ -214,15 +220,18 @@ play_wanting told log job script fonts state report answer memory tells f =
     record { reading = Err reading.0; read = reading.1; fetched = reading.2; asked = (inr memory, keeps state.held, tells, refl, refused_told status.OutOfMemory answer report tt tt (inl memory) f) }
 
 -- It may be wanting for the words too.
-pub job_wanting : (told : List ℕ → Told) (log : List LoggedFetch) (job : Job) (state : SinkState) → IsShared job → IsJobWorked told (fetch_change log log) job (sink_change state state) out_of_memory
-job_wanting told log (Play play script fonts) state shared =
+pub job_wanting : (told : List ℕ → Told) (log : List LoggedFetch) (job : Job) (state : SinkState) → IsLeft job → IsJobWorked told (fetch_change log log) job (sink_change state state) out_of_memory
+job_wanting told log (Play play script fonts) state left =
     let reading = unread (play_refusal play fonts) told log script fonts in
     record { reading = Err reading.0; read = reading.1; fetched = reading.2; shown = (inr refl, keeps state.held, refl) }
-job_wanting told log (Selftest seed events workers) state shared = wanting seed events (Err status.OutOfMemory) (inr refl)
-job_wanting told log (Check script fonts) state shared = absurd shared
-job_wanting told log (Frame frame script fonts) state shared = absurd shared
-job_wanting told log (Changes changes script fonts) state shared = absurd shared
-job_wanting told log (Write later earlier script) state shared = absurd shared
+job_wanting told log (Selftest seed events workers) state left = wanting seed events (Err status.OutOfMemory) (inr refl)
+job_wanting told log (Check script fonts) state left = absurd left
+job_wanting told log (Frame frame script fonts) state left = absurd left
+job_wanting told log (Changes changes script fonts) state left = absurd left
+job_wanting told log (Stills stills script fonts) state left = absurd left
+job_wanting told log Help state left = text_wanting HELP.now state
+job_wanting told log Version state left = text_wanting VERSION.now state
+job_wanting told log (Write later earlier script) state left = absurd left
 
 -- ---- what decides a play
 

@@ -48,20 +48,25 @@ use Rattle.text_layout.specs.Fonts.{IsLayoutFontSet}
 use Rattle.track_history.specs.Answers.{read_orders}
 use Rattle.play_command.specs.PlayRuns.{status_read, view_of}
 use Rattle.play_command.specs.SelftestRuns.{IsSelftestRead, IsSelftestText, accepted_first, first_of_times, image_count, selftest_fonts, selftest_job, selftest_play}
+use Rattle.ass_num.specs.Limits.{max_instant}
+use Rattle.frame_rate.specs.Rates.{frames_before, step_rate}
+use Rattle.frame_rate.proofs.RateLemmas.{counted_frames_come_before, steps_are_rates}
+use Rattle.run_words.specs.Limits.{max_events}
 use Rattle.play_command.specs.Working.{AreSelftestInputs, IsSelftestWorked, IsSpoken, IsSummedOf}
 
 -- ---- how much is played
 
-whole_parts : (n s : ℕ) → 0 < s → div_ceil ((n * s - 0) * 1000) (1000 * s) ≡ n
-whole_parts n s some =
-    let parts : n * (1000 * s) / (1000 * s) ≡ n = mul-div_cancel n (omega (arith, some)) in
-    let none : n * (1000 * s) % (1000 * s) ≡ 0 = mul-mod_left n (1000 * s) in
-    let same : (n * s - 0) * 1000 ≡ n * (1000 * s) = omega arith in
-    ap (λ d. div_ceil d (1000 * s)) same ∙ ap (λ r. n * (1000 * s) / (1000 * s) + min 1 r) none ∙ omega (arith, parts)
-
 -- There are as many instants as images.
 pub twenty : (events workers : ℕ) → 0 < events → instant_count (selftest_job events workers) ≡ image_count
-twenty events workers some = whole_parts image_count (5 * events) (omega (arith, some))
+twenty events workers some = refl
+
+-- They all come before the last instant.
+instants_there : (events : ℕ) → 1 ≤ events → events ≤ max_events → image_count ≤ frames_before (step_rate (5 * events)) 0 max_instant
+instants_there events least most =
+    let at = (steps_are_rates 0 0 (5 * events) 19 (omega (arith, least))).0 in
+    let there : 19 < frames_before (step_rate (5 * events)) 0 max_instant =
+      (counted_frames_come_before (step_rate (5 * events)) 0 max_instant 19 (omega arith) (omega (arith, least))).1 (omega (arith, at, most)) in
+    omega (arith, there)
 
 pub job_within : (seed events workers : ℕ) → IsJob (Selftest seed events workers) → IsPlay (selftest_job events workers)
 job_within seed events workers h =
@@ -70,7 +75,7 @@ job_within seed events workers h =
       instants = record {
         first = omega arith;
         rate = record { some = omega arith; most = omega arith; time = omega (arith, least); longest = omega (arith, most) };
-        within = omega (arith, most);
+        within = instants_there events least most;
       };
       size = ((omega arith, omega arith), (omega arith, omega arith));
       feeders = h.2;

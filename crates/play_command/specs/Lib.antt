@@ -1,3 +1,4 @@
+pub mod OwnTexts
 pub mod PlayRuns
 pub mod SelftestRuns
 pub mod WordRuns

@@ -32,7 +32,7 @@ image_count = 20
 -- What is played: instants over the time in which the events begin, with as many feeders and renderers as workers.
 abbrev pub selftest_job : ℕ → ℕ → PlayJob
 selftest_job events workers = record {
-  instants = record { from = 0; to = image_count * (5 * events); rate = step_rate (5 * events) };
+  instants = record { from = 0; count = image_count; rate = step_rate (5 * events) };
   size = record { w = 320; h = 180 };
   feeders = workers;
   renderers = workers;

@@ -5,6 +5,7 @@ use Rattle.ass_io.specs.Fetched.{Told}
 use Rattle.ass_io.specs.Fetches.{FetchChange}
 use Rattle.run_status.specs.declared.status.Status.{Status}
 use Rattle.run_words.specs.Words.{job_of}
+use Rattle.run_words.specs.declared.job.Job.{Job}
 use Rattle.run_words.specs.declared.job.Job.TheVariants.{Play, Selftest}
 use Rattle.run_words.specs.declared.job.PlayJob.{PlayJob}
 use Rattle.single_run.specs.Outcomes.{ArePiecesFinished, IsOrMemory, IsReported}
@@ -12,6 +13,7 @@ use Rattle.single_run.specs.declared.outcome.Outcome.TheVariants.{Ended}
 use Rattle.single_run.specs.Runs.{IsJobRun, SinkChange}
 use Rattle.single_run.specs.Works.{work_asked}
 use Rattle.single_run.specs.declared.work.Work.{Work}
+use Rattle.play_command.specs.OwnTexts.{IsTextRun, own_text}
 use Rattle.play_command.specs.PlayRuns.{IsPlayRun}
 use Rattle.play_command.specs.SelftestRuns.{IsSelftestRun}
 use Rattle.run_words.specs.declared.job.ScriptSource.{ScriptSource}
@@ -33,3 +35,5 @@ pub record IsRunOfWords (told : List ℕ → Told) (log : FetchChange) (words : 
       → IsPlayRun told log job script fonts frames report status
   pub selftest : (seed events workers : ℕ) → job_of words ≡ Ok (Selftest seed events workers) → IsSelftestRun seed events report status
   pub selftest_fetched : (seed events workers : ℕ) → job_of words ≡ Ok (Selftest seed events workers) → log.now ≡ log.before
+  pub text : (job : Job) (text : List ℕ) → job_of words ≡ Ok job → own_text job ≡ Some text → IsTextRun text frames report status
+  pub text_fetched : (job : Job) (text : List ℕ) → job_of words ≡ Ok job → own_text job ≡ Some text → log.now ≡ log.before

@@ -1,4 +1,4 @@
--- Inner: plays and selftests up to what is to be reported of them.
+-- Inner: plays, selftests and texts of the program up to what is to be reported of them.
 use Rattle.std.specs.Prelude.{◌≡◌, ◌⊎◌, ℕ, ◌≤◌, List, ◌++◌, All, length, Result, Ok, Err, string_bytes}
 use Rattle.std.specs.Io.KnownBytes.{Appends, Keeps}
 use Rattle.ass_io.specs.Fetched.{Told}
@@ -18,15 +18,18 @@ use Rattle.play_report.specs.Reports.{report_text, summary_text}
 use Rattle.play_rounds.specs.declared.ends.PlayEnd.{PlayEnd}
 use Rattle.play_rounds.specs.declared.ends.PlayEnd.TheVariants as play_end
 use Rattle.run_words.specs.declared.job.Job.{Job}
-use Rattle.run_words.specs.declared.job.Job.TheVariants.{Play, Selftest}
+use Rattle.run_words.specs.declared.job.Job.TheVariants.{Help, Play, Selftest, Version}
 use Rattle.run_words.specs.declared.job.PlayJob.{PlayJob}
 use Rattle.run_status.specs.declared.status.Status.{Status}
 use Rattle.run_status.specs.declared.status.Status.TheVariants.{Done, OutOfMemory, WriteFault}
 use Rattle.run_status.specs.declared.status.Which.TheVariants.{Frames, Report}
 use Rattle.text_layout.specs.Fonts.{IsLayoutFontSet}
+use Rattle.play_command.specs.OwnTexts.{IsTextWorked}
 use Rattle.play_command.specs.PlayRuns.{IsEarlyOutput, IsPlayFetched, IsPlayOutput, IsPlayRead, early_images, status_read, view_of}
 use Rattle.play_command.specs.SelftestRuns.{IsSelftestRead, IsSelftestReport, accepted_first, selftest_fonts}
 use Rattle.run_words.specs.declared.job.ScriptSource.{ScriptSource}
+use Rattle.play_command.specs.declared.help.TheConstants.{HELP}
+use Rattle.play_command.specs.declared.own_text.TheConstants.{VERSION}
 
 -- There is something to report: a text, or the line of a status.
 abbrev pub IsSpoken : Outcome → Type 0
@@ -97,14 +100,18 @@ pub record IsSelftestWorked (seed events : ℕ) (outcome : Outcome) : Type 0 whe
   pub text : status_if_put outcome ≡ Done → IsSelftestReport seed events reading (text_to_report outcome)
   pub own : SuitsSink Report outcome
 
--- Threads wait for one another in the job.
-abbrev pub IsShared : Job → Type 0
-IsShared (Play play script fonts) = Unit {0}
-IsShared (Selftest seed events workers) = Unit {0}
-IsShared _ = ⊥
+-- `calm` leaves the job: threads wait for one another in it, or the program tells of itself.
+abbrev pub IsLeft : Job → Type 0
+IsLeft (Play play script fonts) = Unit {0}
+IsLeft (Selftest seed events workers) = Unit {0}
+IsLeft Help = Unit {0}
+IsLeft Version = Unit {0}
+IsLeft _ = ⊥
 
 -- Such a job before anything is reported.
 abbrev pub IsJobWorked : (List ℕ → Told) → FetchChange → Job → SinkChange → Outcome → Type 0
 IsJobWorked told log (Play play script fonts) frames outcome = IsPlayWorked told log play script fonts frames outcome
 IsJobWorked told log (Selftest seed events workers) frames outcome = IsSelftestWorked seed events outcome
+IsJobWorked told log Help frames outcome = IsTextWorked HELP.now frames outcome
+IsJobWorked told log Version frames outcome = IsTextWorked VERSION.now frames outcome
 IsJobWorked told log _ frames outcome = ⊥

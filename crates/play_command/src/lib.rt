@@ -2,6 +2,8 @@
 #![tactic(auto)]
 
 mod exit;
+mod help;
+mod own_text;
 mod playing;
 mod reading;
 mod run;

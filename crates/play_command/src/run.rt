@@ -8,15 +8,19 @@ ghost use Rattle.single_run.specs.Outcomes.{IsStatusReadCounted, IsWriteCounted,
 ghost use Rattle.single_run.specs.Runs.{Decides, IsJobRun, sink_change};
 ghost use Rattle.single_run.specs.Works.{work_asked};
 ghost use Rattle.single_run.specs.declared.work.Work.{Work};
+ghost use Rattle.play_command.specs.OwnTexts.{IsTextRun, own_text};
 ghost use Rattle.play_command.specs.PlayRuns.{DecidesPlay, IsPlayRun};
 ghost use Rattle.play_command.specs.SelftestRuns.{DecidesSelftest, IsSelftestRun};
-ghost use Rattle.play_command.specs.Working.{IsJobWorked, IsShared, IsSpoken};
+ghost use Rattle.play_command.specs.Working.{IsJobWorked, IsLeft, IsSpoken};
 ghost use Rattle.run_words.specs.Jobs.{IsJob};
 ghost use Rattle.run_words.specs.Words.{job_of, texts};
+ghost use Rattle.run_words.specs.declared.job.Job.{Job as JobValue};
 ghost use Rattle.run_words.specs.declared.job.Job.TheVariants.{Play as a_play, Selftest as a_selftest};
 ghost use Rattle.run_words.specs.declared.job.PlayJob.{PlayJob};
 ghost use Rattle.run_words.specs.declared.job.ScriptSource.{ScriptSource};
 
+use crate::help::HELP;
+use crate::own_text::{VERSION, tell};
 use crate::playing::play_files;
 use crate::selftest::do_selftest;
 use ass_io::{Rt, Shelf, Sink};
@@ -26,7 +30,7 @@ use single_run::{Outcome, calm, finish};
 use std::alloc::Global;
 use test_hook::TestHook;
 
-/// Does a job in which threads wait for one another, up to what is to be reported of it.
+/// Does a job that `calm` leaves, up to what is to be reported of it.
 fn do_job<S: Shelf, F: Sink, H: TestHook + Sync>(
     rt: &impl Rt,
     alloc: Global,
@@ -36,15 +40,16 @@ fn do_job<S: Shelf, F: Sink, H: TestHook + Sync>(
     hook: &H,
 ) -> Outcome
     requires within { IsJob job }
-    requires shared { IsShared job }
+    requires left { IsLeft job }
     ensures worked { IsJobWorked (S.told shelf.old) (fetch_change (S.log shelf.old) (S.log shelf.new)) job
         (sink_change (F.state frames.old) (F.state frames.new)) result }
     ensures selftest_shelf { (seed events workers : ℕ) → job ≡ a_selftest seed events workers → shelf.new ≡ shelf.old }
     ensures selftest_frames { (seed events workers : ℕ) → job ≡ a_selftest seed events workers → frames.new ≡ frames.old }
+    ensures text_shelf { (text : List ℕ) → own_text job ≡ Some text → shelf.new ≡ shelf.old }
     ensures read { IsStatusReadCounted (status_if_put result) (S.faults shelf.old) (S.faults shelf.new) }
     ensures write { IsWriteCounted (status_if_put result) (F.state frames.old).faults (F.state frames.new).faults }
     ensures reportable { IsReportable result }
-    ensures spoken { IsSpoken result }
+    ensures spoken { own_text job ≡ None → IsSpoken result }
 {
     match job {
         Job::Play(play, script, fonts) => {
@@ -54,15 +59,18 @@ fn do_job<S: Shelf, F: Sink, H: TestHook + Sync>(
         Job::Selftest(seed, events, workers) => {
             do_selftest(rt, alloc, seed, events, workers, hook)
         }
+        Job::Help => tell(HELP, frames),
+        Job::Version => tell(VERSION, frames),
         Job::Check(_, _) => unreachable!(),
         Job::Frame(_, _, _) => unreachable!(),
+        Job::Stills(_, _, _) => unreachable!(),
         Job::Changes(_, _, _) => unreachable!(),
         Job::Write(_, _, _) => unreachable!(),
     }
 }
 
-/// Does the play or the selftest of the words, up to what is to be reported of it.
-fn do_shared<S: Shelf, F: Sink, H: TestHook + Sync>(
+/// Does the job of words that `calm` leaves, up to what is to be reported of it.
+fn do_left<S: Shelf, F: Sink, H: TestHook + Sync>(
     rt: &impl Rt,
     alloc: Global,
     words: &[String],
@@ -76,10 +84,11 @@ fn do_shared<S: Shelf, F: Sink, H: TestHook + Sync>(
         (sink_change (F.state frames.old) (F.state frames.new)) result }
     ensures selftest_shelf { (seed events workers : ℕ) → job_of (texts words.now) ≡ Ok (a_selftest seed events workers) → shelf.new ≡ shelf.old }
     ensures selftest_frames { (seed events workers : ℕ) → job_of (texts words.now) ≡ Ok (a_selftest seed events workers) → frames.new ≡ frames.old }
+    ensures text_shelf { (job : JobValue) (text : List ℕ) → job_of (texts words.now) ≡ Ok job → own_text job ≡ Some text → shelf.new ≡ shelf.old }
     ensures read { IsStatusReadCounted (status_if_put result) (S.faults shelf.old) (S.faults shelf.new) }
     ensures write { IsWriteCounted (status_if_put result) (F.state frames.old).faults (F.state frames.new).faults }
     ensures reportable { IsReportable result }
-    ensures spoken { IsSpoken result }
+    ensures spoken { (job : JobValue) → job_of (texts words.now) ≡ Ok job → own_text job ≡ None → IsSpoken result }
 {
     match read_words(alloc, words) {
         Ok(job) => do_job(rt, alloc, job, shelf, frames, hook),
@@ -88,7 +97,8 @@ fn do_shared<S: Shelf, F: Sink, H: TestHook + Sync>(
     }
 }
 
-/// Does the job of the words: `calm` does what waits for nobody, and a play and a selftest are done here, by threads.
+/// Does the job of the words: `calm` does what waits for nobody, a play and a selftest are done here, by
+/// threads, and so is what the program tells of itself.
 pub fn top<S: Shelf, F: Sink, R: Sink, H: TestHook + Sync>(
     rt: &impl Rt,
     alloc: Global,
@@ -139,6 +149,11 @@ pub fn top<S: Shelf, F: Sink, R: Sink, H: TestHook + Sync>(
     ensures selftest_shelf { (seed events workers : ℕ) → job_of (texts words.now) ≡ Ok (a_selftest seed events workers) → shelf.new ≡ shelf.old }
     ensures selftest_frames { (seed events workers : ℕ) → job_of (texts words.now) ≡ Ok (a_selftest seed events workers) → frames.new ≡ frames.old }
 
+    // What the program tells of itself goes to the frames sink, by one write, and no file is fetched for it.
+    ensures text { (job : JobValue) (text : List ℕ) → job_of (texts words.now) ≡ Ok job → own_text job ≡ Some text
+        → IsTextRun text (sink_change (F.state frames.old) (F.state frames.new)) (sink_change (R.state report.old) (R.state report.new)) result }
+    ensures text_shelf { (job : JobValue) (text : List ℕ) → job_of (texts words.now) ≡ Ok job → own_text job ≡ Some text → shelf.new ≡ shelf.old }
+
     // A fault is answered only where its object's count rose.
     ensures read { IsStatusReadCounted result (S.faults shelf.old) (S.faults shelf.new) }
     ensures write { IsWriteCounted result (F.state frames.old).faults (F.state frames.new).faults }
@@ -147,7 +162,7 @@ pub fn top<S: Shelf, F: Sink, R: Sink, H: TestHook + Sync>(
     match calm(alloc, words, shelf, frames, report) {
         Some(status) => status,
         None => {
-            let outcome = do_shared(rt, alloc, words, shelf, frames, hook);
+            let outcome = do_left(rt, alloc, words, shelf, frames, hook);
             finish(alloc, outcome, report)
         }
     }

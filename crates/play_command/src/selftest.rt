@@ -35,7 +35,7 @@ fn selftest_job(events: u32, workers: u32) -> PlayJob
     PlayJob {
         instants: Instants {
             from: 0,
-            to: IMAGE_COUNT * step,
+            count: IMAGE_COUNT,
             rate: FrameRate::of_step(step),
         },
         size: Size { w: 320, h: 180 },

@@ -26,10 +26,7 @@ ceil_few d s some =
 
 -- so that all times of a play have fewer than can't be counted
 pub few_instants : (play : PlayJob) → IsPlay play → instant_count play ≤ 1000 * max_instant
-few_instants play is =
-    let few = instants_few play.instants is.instants in
-    let last = is.instants.within in
-    omega (arith, few, last)
+few_instants play is = instants_few play.instants is.instants
 
 module _ (play : PlayJob) (place : ℕ) where
   pub instant_there : place < instant_count play → slice_get (instants play) place ≡ Some (play_instant play place)

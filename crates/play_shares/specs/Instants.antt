@@ -1,12 +1,12 @@
 -- Public: the instants of a play (docs/PROGRAM.md).
 use Rattle.std.specs.Prelude.{ℕ, ◌+◌, ◌*◌, ℤ, pos, List, map, take, drop}
 use Rattle.std.specs.List.{range_with_len}
-use Rattle.frame_rate.specs.Instants.{rated_count, rated_instant}
+use Rattle.frame_rate.specs.Instants.{rated_instant}
 use Rattle.run_words.specs.declared.job.PlayJob.{PlayJob}
 
 -- how many instants there are
 abbrev pub instant_count : PlayJob → ℕ
-instant_count play = rated_count play.instants
+instant_count play = play.instants.count
 
 -- the instant at place i
 abbrev pub play_instant : PlayJob → ℕ → ℤ

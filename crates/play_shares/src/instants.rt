@@ -15,7 +15,7 @@ pub fn instant_count(play: &PlayJob) -> u64
     requires { IsPlay play.now }
     ensures { result ≡ instant_count play.now }
 {
-    play.instants.count()
+    play.instants.count
 }
 
 /// The instant at a place, if there are so many.

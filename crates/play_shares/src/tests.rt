@@ -20,11 +20,7 @@ fn play(mode: Mode, ahead: u32) -> PlayJob
     ensures renderers { result.renderers ≡ 3 }
 {
     PlayJob {
-        instants: Instants {
-            from: 5,
-            to: 15,
-            rate: FrameRate::of_step(3),
-        },
+        instants: Instants::before(5, 15, FrameRate::of_step(3)),
         size: Size { w: 4, h: 3 },
         feeders: 2,
         renderers: 3,

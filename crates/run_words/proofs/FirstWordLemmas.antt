@@ -1,6 +1,6 @@
--- Words that ask for a job begin with the word that names its command.
+-- Words that ask for the job of a command begin with the word that names it.
 use Rattle.std.proofs.Common.{◌≡◌, ℕ, zero, suc, ◌∙◌, Bool, true, false, cond, ◌||◌, List, [], ◌∷◌, Option, Some, None, Result, Ok, Err, IfSome, IfOk, ap, refl, sym, subst, arith, bytes_eq, chars, eqb-true, find, fold, length, slice_get}
-use Rattle.std.specs.Prelude.{option_map}
+use Rattle.std.specs.Prelude.{codes, option_map}
 use Rattle.std.specs.List.{list_all, list_any}
 use Rattle.std.specs.Option.{option_map_or}
 use Rattle.std.proofs.lemmas.Slice.Eq.{bytes_eq-Decides}
@@ -10,29 +10,38 @@ use Rattle.clap.specs.Lexer.{long_of, short_of}
 use Rattle.clap.specs.Simple.{App, Shape, built, entered, label_of, names_of, rows_at, subcommand_of}
 use Rattle.clap.specs.Walk.{Held, Names, Row, Step, Text, Waiting, Walk, after_flag, after_step, answers_to, bundle_met, bundle_step, idle, is_empty, long_or_other, nothing_held, plain, short_or_plain, stop_after, subcommand_met, subcommand_or_other, trailing, walk_from, walked}
 use Rattle.clap.proofs.WalkLemmas.{walk_stopped}
-use Rattle.run_words.specs.Asked.{first_bad, is_paced, job_for, unless_bad}
+use Rattle.run_words.specs.Asked.{first_bad, fonts_at, goes_together, is_told, job_for, play_of, source_at, stills_of, unless_bad}
 use Rattle.run_words.specs.Commands.{command_name, commands}
 use Rattle.run_words.specs.Grammar.{is_taken, words_app}
-use Rattle.run_words.specs.Words.{FirstWordIsCommand, command_named, command_asked, job_in, reading_in}
+use Rattle.run_words.specs.Words.{FirstWordIsCommand, alone_or, asked_alone, command_asked, command_job, command_named, is_help, job_in, reading_in}
 use Rattle.run_words.specs.declared.argument.Argument.{Argument}
+use Rattle.run_words.specs.declared.argument.Argument.TheVariants as argument
 use Rattle.run_words.specs.declared.command.Command.{Command}
 use Rattle.run_words.specs.declared.command.Command.TheVariants as command
 use Rattle.run_words.specs.declared.job.Job.{Job}
+use Rattle.run_words.specs.declared.job.Job.TheVariants as job
 use Rattle.run_words.specs.declared.job.WordsFault.{WordsFault}
 use Rattle.run_words.specs.declared.job.WordsFault.TheVariants.{Usage}
-use Rattle.run_words.proofs.ValueLemmas.{both}
+use Rattle.value_texts.proofs.TextLemmas.{both}
 use Rattle.run_words.proofs.WordsLemmas.{none_is_empty}
 
 -- ---- the command of a reading
 
 -- a job that is read is of the command with this name
 abbrev IsOf : List ℕ → Result Job WordsFault → Type 0
-IsOf name reading = IfOk reading (λ job. command_name (command_asked job) ≡ name)
+IsOf name reading = IfOk reading (λ job. option_map command_name (command_asked job) ≡ Some name)
 
-of_command : (rows : List Row) (c : Command) → command_asked (job_for rows c) ≡ c
+of_play : (rows : List Row) → command_asked (job_for rows command.Play) ≡ Some command.Play
+of_play rows = cases (is_told rows argument.Changed)
+  where
+    cases : (b : Bool) → command_asked (cond b (job.Stills (stills_of rows) (source_at rows) (fonts_at rows)) (job.Play (play_of rows) (source_at rows) (fonts_at rows))) ≡ Some command.Play
+    cases true = refl
+    cases false = refl
+
+of_command : (rows : List Row) (c : Command) → command_asked (job_for rows c) ≡ Some c
 of_command rows command.Check = refl
 of_command rows command.Frame = refl
-of_command rows command.Play = refl
+of_command rows command.Play = of_play rows
 of_command rows command.Selftest = refl
 of_command rows command.Changes = refl
 of_command rows command.Write = refl
@@ -45,16 +54,16 @@ found_is p (x ∷ xs) = cases (p x) refl (found_is p xs)
     cases true e rest = e
     cases false e rest = rest
 
-unless_of : (name : List ℕ) (bad : Option Argument) (job : Job) → command_name (command_asked job) ≡ name → IsOf name (unless_bad bad job)
+unless_of : (name : List ℕ) (bad : Option Argument) (job : Job) → option_map command_name (command_asked job) ≡ Some name → IsOf name (unless_bad bad job)
 unless_of name None job h = h
 unless_of name (Some argument) job h = tt
 
 reading_of : (rows : List Row) (name : List ℕ) (c : Option Command) → IfSome c (λ x. bytes_eq (command_name x) name ≡ true) → IsOf name (reading_in rows c)
 reading_of rows name None h = tt
-reading_of rows name (Some c) h = cases (is_paced rows c)
+reading_of rows name (Some c) h = cases (goes_together rows c)
   where
     cases : (b : Bool) → IsOf name (cond b (unless_bad (first_bad rows c) (job_for rows c)) (Err Usage))
-    cases true = unless_of name (first_bad rows c) (job_for rows c) (ap command_name (of_command rows c) ∙ (bytes_eq-Decides (command_name c) name).0 h)
+    cases true = unless_of name (first_bad rows c) (job_for rows c) (ap (option_map command_name) (of_command rows c) ∙ ap (λ n. Some n) ((bytes_eq-Decides (command_name c) name).0 h))
     cases false = tt
 
 shape_of_name : (rest : List Text) (name : List ℕ) (s : Option Shape) → IfSome s (λ x. bytes_eq x.name name ≡ true) → IsOf name (job_in (option_map (λ x. rows_at x rest) s))
@@ -193,18 +202,43 @@ stop word rest e =
     first_walk word rest
     (met_stop (subcommand_met names idle word) word rest (name_met word (find (answers_to word) names) (named word names names_alone)) (first_turn word rest (first_of_two (walk_fault whole.top names start (word ∷ rest)) _ e)))
 
-at_first : (word : Text) (rest : List Text) (reading : Result Job WordsFault) → IsOf word reading → IfOk reading (λ job. slice_get (word ∷ rest) 0 ≡ Some (command_name (command_asked job)))
-at_first word rest (Ok job) h = ap (λ n. Some n) (sym h)
+-- the word that names the command, where one asks for the job
+abbrev BeginsWith : List Text → Job → Type 0
+BeginsWith words job = IfSome (command_asked job) (λ command. slice_get words 0 ≡ Some (command_name command))
+
+begins : (word : Text) (rest : List Text) (c : Option Command) → option_map command_name c ≡ Some word → IfSome c (λ command. slice_get (word ∷ rest) 0 ≡ Some (command_name command))
+begins word rest None h = cc
+begins word rest (Some c) h = sym h
+
+at_first : (word : Text) (rest : List Text) (reading : Result Job WordsFault) → IsOf word reading → IfOk reading (BeginsWith (word ∷ rest))
+at_first word rest (Ok job) h = begins word rest (command_asked job) h
 at_first word rest (Err fault) h = tt
 
-taken : (words : List Text) → is_taken words ≡ true → IfOk (job_in (subcommand_of words_app words)) (λ job. slice_get words 0 ≡ Some (command_name (command_asked job)))
+taken : (words : List Text) → is_taken words ≡ true → IfOk (job_in (subcommand_of words_app words)) (BeginsWith words)
 taken [] e = tt
 taken (word ∷ rest) e =
     at_first word rest (job_in (subcommand_of words_app (word ∷ rest))) (entered_of word (stop_after [] names (word ∷ rest)) (stop word rest (none_is_empty _ e)))
 
-pub first_word : FirstWordIsCommand
-first_word words = cases (is_taken words) refl
+of_commands : (words : List Text) → IfOk (command_job words) (BeginsWith words)
+of_commands words = cases (is_taken words) refl
   where
-    cases : (b : Bool) → is_taken words ≡ b → IfOk (cond b (job_in (subcommand_of words_app words)) (Err Usage)) (λ job. slice_get words 0 ≡ Some (command_name (command_asked job)))
+    cases : (b : Bool) → is_taken words ≡ b → IfOk (cond b (job_in (subcommand_of words_app words)) (Err Usage)) (BeginsWith words)
     cases true e = taken words e
     cases false e = tt
+
+by_none : (words : List Text) (help version : Bool) → IfSome (cond help (Some job.Help) (cond version (Some job.Version) None)) (BeginsWith words)
+by_none words true version = tt
+by_none words false true = tt
+by_none words false false = tt
+
+alone_none : (words : List Text) → IfSome (asked_alone words) (BeginsWith words)
+alone_none [] = tt
+alone_none (word ∷ []) = by_none (word ∷ []) (is_help word) (bytes_eq word (codes "--version"))
+alone_none (word ∷ more ∷ rest) = tt
+
+either : (words : List Text) (alone : Option Job) (reading : Result Job WordsFault) → IfSome alone (BeginsWith words) → IfOk reading (BeginsWith words) → IfOk (alone_or alone reading) (BeginsWith words)
+either words None reading h k = k
+either words (Some job) reading h k = h
+
+pub first_word : FirstWordIsCommand
+first_word words = either words (asked_alone words) (command_job words) (alone_none words) (of_commands words)

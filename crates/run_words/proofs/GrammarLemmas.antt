@@ -6,18 +6,21 @@ use Rattle.clap.specs.Faults.{is_simple_and_free}
 use Rattle.clap.specs.Simple.{App, Shape, is_simple, new_app, with_rule, with_subcommand}
 use Rattle.clap.specs.Walk.{Rule}
 use Rattle.clap.proofs.OnLiterals.{clap_on_literals}
+use Rattle.run_words.specs.Arguments.{is_positional}
 use Rattle.run_words.specs.Commands.{arguments_of, command_name, commands}
 use Rattle.run_words.specs.Grammar.{argument_rule, command_shape, range_of, words_app}
 use Rattle.run_words.specs.declared.argument.Argument.{Argument}
-use Rattle.run_words.specs.declared.argument.Argument.TheVariants.{Fonts, ScriptFonts}
+use Rattle.run_words.specs.declared.argument.Argument.TheVariants.{Events, Fonts, Script, Seed}
 use Rattle.run_words.specs.declared.command.Command.{Command}
 use Rattle.run_words.specs.declared.command.Command.TheVariants.{Check, Frame, Play, Selftest, Changes, Write}
 
--- the fonts take several words, an option that stands alone none, and each other argument one
-pub one_word : (argument : Argument) → (argument ≡ Fonts → ⊥) → (argument ≡ ScriptFonts → ⊥) → range_of argument ≡ None
-one_word Fonts many alone = absurd (many refl)
-one_word ScriptFonts many alone = absurd (alone refl)
-one_word _ many alone = refl
+-- a positional but the fonts takes one word
+pub one_word : (argument : Argument) → is_positional argument ≡ true → (argument ≡ Fonts → ⊥) → range_of argument ≡ None
+one_word Fonts at many = absurd (many refl)
+one_word Script at many = refl
+one_word Seed at many = refl
+one_word Events at many = refl
+one_word _ at many = cc
 
 -- one more argument
 abbrev pub with_argument : App → Argument → App

@@ -1,4 +1,3 @@
-pub mod ValueLemmas
 pub mod GrammarLemmas
 pub mod AskedLemmas
 pub mod WordsLemmas

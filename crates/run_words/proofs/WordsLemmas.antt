@@ -1,5 +1,5 @@
 -- From the matches that `clap` gives to the reading of the words.
-use Rattle.std.proofs.Common.{◌≡◌, ◌↔◌, ℕ, ◌∙◌, Bool, true, false, cond, ◌&&◌, List, [], ◌∷◌, Option, Some, None, is_some, Result, Err, ap, refl, sym, inl, inr, subst, arith, ne_eqb, eqb-true}
+use Rattle.std.proofs.Common.{◌≡◌, ◌↔◌, ℕ, ◌∙◌, Bool, true, false, cond, ◌&&◌, ◌||◌, List, [], ◌∷◌, Option, Some, None, is_some, Result, Err, ap, refl, sym, inl, inr, subst, arith, ne_eqb, eqb-true}
 use Rattle.std.specs.Prelude.{IfSome, Box, find, option_map}
 use Rattle.std.specs.Box.{box_value}
 use Rattle.std.specs.List.{list_all}
@@ -16,14 +16,14 @@ use Rattle.clap.specs.declared.parser.matches.ArgMatches.TheViews.{out-ArgMatche
 use Rattle.clap.specs.declared.parser.matches.SubCommand.{SubCommand}
 use Rattle.run_words.specs.Asked.{first_bad, job_for, unless_bad}
 use Rattle.run_words.specs.Grammar.{is_taken, words_app}
-use Rattle.run_words.specs.Words.{UsageIsOfGrammar, command_named, is_met_paced, is_named_paced, job_in, job_of, reading_in}
+use Rattle.run_words.specs.Words.{UsageIsOfGrammar, alone_or, asked_alone, command_job, command_named, job_in, met_goes_together, named_goes_together, reading_in}
 use Rattle.run_words.specs.declared.argument.Argument.{Argument}
 use Rattle.run_words.specs.declared.command.Command.{Command}
 use Rattle.run_words.specs.declared.job.Job.{Job}
 use Rattle.run_words.specs.declared.job.WordsFault.{WordsFault}
 use Rattle.run_words.specs.declared.job.WordsFault.TheVariants.{Usage}
 use Rattle.run_words.proofs.GrammarLemmas.{simple, simple_and_free}
-use Rattle.run_words.proofs.ValueLemmas.{both}
+use Rattle.value_texts.proofs.TextLemmas.{both}
 
 -- Kinds of an error that isn't out of memory are some.
 pub some_kind : (kinds : Kinds) (e : Error) → (kind_of e ≡ kind.OutOfMemory → ⊥) → HasKind kinds e → is_empty kinds ≡ false
@@ -82,31 +82,31 @@ unless_known : (bad : Option Argument) (job : Job) → IsKnown (unless_bad bad j
 unless_known None job e = cc
 unless_known (Some argument) job e = cc
 
-command_known : (rows : List Row) (command : Option Command) → is_some command ≡ true → is_named_paced rows command ≡ true → IsKnown (reading_in rows command)
-command_known rows None some paced e = cc
-command_known rows (Some command) some paced e =
+command_known : (rows : List Row) (command : Option Command) → is_some command ≡ true → named_goes_together rows command ≡ true → IsKnown (reading_in rows command)
+command_known rows None some together e = cc
+command_known rows (Some command) some together e =
     unless_known (first_bad rows command) (job_for rows command)
-    (ap (λ b. cond b (unless_bad (first_bad rows command) (job_for rows command)) (Err Usage)) (sym paced) ∙ e)
+    (ap (λ b. cond b (unless_bad (first_bad rows command) (job_for rows command)) (Err Usage)) (sym together) ∙ e)
 
 shape_known : (rest : List (List ℕ)) (s : Option Shape) → IfSome s (λ x. names_command x ≡ true) → is_some (option_map (λ x. rows_at x rest) s) ≡ true
-    → is_met_paced (option_map (λ x. rows_at x rest) s) ≡ true → IsKnown (job_in (option_map (λ x. rows_at x rest) s))
-shape_known rest None named some paced e = cc
-shape_known rest (Some s) named some paced e = command_known (rows_at s rest).1 (command_named s.name) named paced e
+    → met_goes_together (option_map (λ x. rows_at x rest) s) ≡ true → IsKnown (job_in (option_map (λ x. rows_at x rest) s))
+shape_known rest None named some together e = cc
+shape_known rest (Some s) named some together e = command_known (rows_at s rest).1 (command_named s.name) named together e
 
-entered_known : (stop : Option (List ℕ × List (List ℕ))) → is_some (entered (built words_app) stop) ≡ true → is_met_paced (entered (built words_app) stop) ≡ true
+entered_known : (stop : Option (List ℕ × List (List ℕ))) → is_some (entered (built words_app) stop) ≡ true → met_goes_together (entered (built words_app) stop) ≡ true
     → IsKnown (job_in (entered (built words_app) stop))
-entered_known None some paced e = cc
-entered_known (Some p) some paced e =
-    shape_known p.1 (find (λ s. answers_to p.0 (label_of s)) (built words_app).subs) (found_passes (λ s. answers_to p.0 (label_of s)) names_command (built words_app).subs all_named) some paced e
+entered_known None some together e = cc
+entered_known (Some p) some together e =
+    shape_known p.1 (find (λ s. answers_to p.0 (label_of s)) (built words_app).subs) (found_passes (λ s. answers_to p.0 (label_of s)) names_command (built words_app).subs all_named) some together e
 
--- Where a step and a rate are said, or none, the words are refused.
-named_unpaced : (rows : List Row) (command : Option Command) → is_named_paced rows command ≡ false → reading_in rows command ≡ Err Usage
-named_unpaced rows None e = cc
-named_unpaced rows (Some command) e = ap (λ b. cond b (unless_bad (first_bad rows command) (job_for rows command)) (Err Usage)) e
+-- Where what is told doesn't go together, the words are refused.
+named_apart : (rows : List Row) (command : Option Command) → named_goes_together rows command ≡ false → reading_in rows command ≡ Err Usage
+named_apart rows None e = cc
+named_apart rows (Some command) e = ap (λ b. cond b (unless_bad (first_bad rows command) (job_for rows command)) (Err Usage)) e
 
-met_unpaced : (met : Option (List ℕ × List Row)) → is_met_paced met ≡ false → job_in met ≡ Err Usage
-met_unpaced None e = cc
-met_unpaced (Some met) e = named_unpaced met.1 (command_named met.0) e
+met_apart : (met : Option (List ℕ × List Row)) → met_goes_together met ≡ false → job_in met ≡ Err Usage
+met_apart None e = cc
+met_apart (Some met) e = named_apart met.1 (command_named met.0) e
 
 -- Without a subcommand there is a fault.
 wanted : (rows : List Row) (has : Bool) → check_fault (built words_app).top rows has ≡ [] → has ≡ true
@@ -129,21 +129,28 @@ pub none_is_empty : (kinds : Kinds) → is_empty kinds ≡ true → kinds ≡ []
 none_is_empty [] e = refl
 none_is_empty (k ∷ ks) e = absurd (omega (arith, eqb-true _ _ e))
 
-pub usage : UsageIsOfGrammar
-usage words = cases (is_taken words) (is_met_paced (subcommand_of words_app words)) refl refl
+command_usage : (words : List (List ℕ)) → (command_job words ≡ Err Usage) ↔ ((is_taken words && met_goes_together (subcommand_of words_app words)) ≡ false)
+command_usage words = cases (is_taken words) (met_goes_together (subcommand_of words_app words)) refl refl
   where
-    cases : (b paced : Bool) → is_taken words ≡ b → is_met_paced (subcommand_of words_app words) ≡ paced
-        → (cond b (job_in (subcommand_of words_app words)) (Err Usage) ≡ Err Usage) ↔ ((b && paced) ≡ false)
-    cases true true taken paced =
-        (λ e. absurd (entered_known (stop_after (built words_app).top.rules (names_of (built words_app)) (argument_words words_app words)) (taken_enters words (none_is_empty _ taken)) paced e), λ e. cc)
-    cases true false taken unpaced = (λ e. refl, λ e. met_unpaced (subcommand_of words_app words) unpaced)
-    cases false paced taken is = (λ e. refl, λ e. refl)
+    cases : (b together : Bool) → is_taken words ≡ b → met_goes_together (subcommand_of words_app words) ≡ together
+        → (cond b (job_in (subcommand_of words_app words)) (Err Usage) ≡ Err Usage) ↔ ((b && together) ≡ false)
+    cases true true taken together =
+        (λ e. absurd (entered_known (stop_after (built words_app).top.rules (names_of (built words_app)) (argument_words words_app words)) (taken_enters words (none_is_empty _ taken)) together e), λ e. cc)
+    cases true false taken apart = (λ e. refl, λ e. met_apart (subcommand_of words_app words) apart)
+    cases false together taken is = (λ e. refl, λ e. refl)
+
+alone_usage : (alone : Option Job) (reading : Result Job WordsFault) (b : Bool) → (reading ≡ Err Usage) ↔ (b ≡ false) → (alone_or alone reading ≡ Err Usage) ↔ ((is_some alone || b) ≡ false)
+alone_usage None reading b h = h
+alone_usage (Some job) reading b h = (λ e. cc, λ e. cc)
+
+pub usage : UsageIsOfGrammar
+usage words = alone_usage (asked_alone words) (command_job words) (is_taken words && met_goes_together (subcommand_of words_app words)) (command_usage words)
 
 -- ---- what is read
 
 -- what was found is that of the words
 pub read_ok : (app : App) (words : List (List ℕ)) (m : ArgMatches) → app ≡ words_app → (is_simple_and_free app ≡ true → fault_of app words ≡ []) → HasMatchesOf app words m →
-    job_of words ≡ job_in (subcommand_rows_of m)
+    command_job words ≡ job_in (subcommand_rows_of m)
 read_ok app words m same faultless matches =
     let none : fault_of words_app words ≡ [] = subst (λ a. fault_of a words ≡ []) same (faultless (ap is_simple_and_free same ∙ simple_and_free)) in
     let taken : is_taken words ≡ true = ap is_empty none in
@@ -152,7 +159,7 @@ read_ok app words m same faultless matches =
 
 -- words that are refused aren't of the grammar
 pub read_err : (app : App) (words : List (List ℕ)) (e : Error) → app ≡ words_app → (is_simple_and_free app ≡ true → HasKind (fault_of app words) e) → (kind_of e ≡ kind.OutOfMemory → ⊥) →
-    job_of words ≡ Err Usage
+    command_job words ≡ Err Usage
 read_err app words e same fails other =
     let fault : HasKind (fault_of words_app words) e = subst (λ a. HasKind (fault_of a words) e) same (fails (ap is_simple_and_free same ∙ simple_and_free)) in
     ap (λ b. cond b (job_in (subcommand_of words_app words)) (Err Usage)) (some_kind (fault_of words_app words) e other fault)

@@ -2,9 +2,9 @@
 use Rattle.std.specs.Prelude.{ℕ, Bool, true, false, ◌++◌, List, codes, if◌then◌else◌}
 use Rattle.ass_num.specs.Limits.{max_instant}
 use Rattle.frame_view.specs.Limits.{max_letter_scale}
-use Rattle.run_words.specs.Limits.{max_ahead, max_bands, max_batch, max_budget, max_events, max_seed, max_times, max_workers}
+use Rattle.run_words.specs.Limits.{max_ahead, max_asked_frames, max_bands, max_batch, max_budget, max_events, max_seed, max_times, max_workers}
 use Rattle.run_words.specs.declared.argument.Argument.{Argument}
-use Rattle.run_words.specs.declared.argument.Argument.TheVariants.{At, From, To, Step, Rate, Size, Storage, Aspect, Content, Letters, Scale, Format, Feeders, Renderers, Batch, Again, Times, Ahead, Bands, Budget, Mode, ScriptFonts, Workers, Later, Earlier, Script, Fonts, Seed, Events}
+use Rattle.run_words.specs.declared.argument.Argument.TheVariants.{At, From, To, Frames, Step, Rate, Size, Storage, Aspect, Content, Letters, Scale, Format, Changed, Crop, Feeders, Renderers, Batch, Again, Times, Ahead, Bands, Budget, Mode, ScriptFonts, Workers, Later, Earlier, Script, Fonts, Seed, Events}
 use Rattle.run_words.specs.declared.argument.Kind.{Kind}
 use Rattle.run_words.specs.declared.argument.Kind.TheVariants.{Number, FrameSize, VideoSize, PixelShape, PictureRect, LettersRule, PlayMode, PictureFormat, FramesInSeconds, Alone, FileName}
 
@@ -12,6 +12,7 @@ abbrev pub argument_name : Argument → List ℕ
 argument_name At = codes "at"
 argument_name From = codes "from"
 argument_name To = codes "to"
+argument_name Frames = codes "frames"
 argument_name Step = codes "step"
 argument_name Rate = codes "rate"
 argument_name Size = codes "size"
@@ -21,6 +22,8 @@ argument_name Content = codes "content"
 argument_name Letters = codes "letters"
 argument_name Scale = codes "scale"
 argument_name Format = codes "format"
+argument_name Changed = codes "changed"
+argument_name Crop = codes "crop"
 argument_name Feeders = codes "feeders"
 argument_name Renderers = codes "renderers"
 argument_name Batch = codes "batch"
@@ -47,11 +50,17 @@ is_positional Seed = true
 is_positional Events = true
 is_positional _ = false
 
+-- The argument is an option that has no value.
+abbrev pub stands_alone : Argument → Bool
+stands_alone Changed = true
+stands_alone Crop = true
+stands_alone ScriptFonts = true
+stands_alone _ = false
+
 -- A command that takes the argument needs it.
 abbrev pub is_required : Argument → Bool
 is_required At = true
 is_required From = true
-is_required To = true
 is_required Size = true
 is_required argument = is_positional argument
 
@@ -60,6 +69,7 @@ abbrev pub argument_kind : Argument → Kind
 argument_kind At = Number 0 max_instant
 argument_kind From = Number 0 max_instant
 argument_kind To = Number 0 max_instant
+argument_kind Frames = Number 1 max_asked_frames
 argument_kind Step = Number 1 max_instant
 argument_kind Rate = FramesInSeconds
 argument_kind Size = FrameSize
@@ -69,6 +79,8 @@ argument_kind Content = PictureRect
 argument_kind Letters = LettersRule
 argument_kind Scale = Number 0 max_letter_scale
 argument_kind Format = PictureFormat
+argument_kind Changed = Alone
+argument_kind Crop = Alone
 argument_kind Feeders = Number 1 max_workers
 argument_kind Renderers = Number 1 max_workers
 argument_kind Batch = Number 1 max_batch

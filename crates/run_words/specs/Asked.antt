@@ -1,8 +1,10 @@
 -- Public: what a command is asked for, by what was found for its arguments.
-use Rattle.std.specs.Prelude.{◌≡◌, ℕ, pos, Bool, true, false, not, List, [], Option, Some, None, Result, Ok, Err, find, unwrap_or, option_and_then, codes}
+use Rattle.std.specs.Prelude.{◌≡◌, ℕ, pos, Bool, true, false, not, ◌&&◌, if◌then◌else◌, is_some, List, [], Option, Some, None, Result, Ok, Err, find, unwrap_or, option_and_then, codes}
+use Rattle.std.specs.List.{list_any}
 use Rattle.std.specs.Option.{option_map_or}
 use Rattle.std.specs.Str.{bytes_eq}
 use Rattle.ass_num.specs.declared.size.Size.{Size}
+use Rattle.frame_rate.specs.Instants.{counted_instants, instants_before}
 use Rattle.frame_rate.specs.Rates.{step_rate}
 use Rattle.frame_rate.specs.declared.instants.Instants.{Instants}
 use Rattle.frame_rate.specs.declared.rate.FrameRate.{FrameRate}
@@ -12,9 +14,10 @@ use Rattle.frame_view.specs.declared.view.FrameView.{FrameView}
 use Rattle.frame_view.specs.declared.view.LetterWidth.TheVariants.{Canvas}
 use Rattle.clap.specs.Walk.{Row, all_of, first_of}
 use Rattle.run_words.specs.Arguments.{argument_name, argument_kind, shown_name}
-use Rattle.run_words.specs.Commands.{arguments_of}
+use Rattle.run_words.specs.Commands.{arguments_of, sharing_arguments}
 use Rattle.run_words.specs.Limits.{usual_batch, usual_budget}
-use Rattle.run_words.specs.Values.{aspect_in, content_in, format_in, is_of_kind, letters_in, mode_in, number_within, rate_in, size_in, storage_in}
+use Rattle.value_texts.specs.Values.{aspect_in, content_in, letters_in, number_within, rate_in, size_in, storage_in}
+use Rattle.run_words.specs.Values.{format_in, is_of_kind, mode_in}
 use Rattle.run_words.specs.declared.argument.Argument.{Argument}
 use Rattle.run_words.specs.declared.argument.Argument.TheVariants as argument
 use Rattle.run_words.specs.declared.argument.Kind.{Kind}
@@ -26,11 +29,12 @@ use Rattle.run_words.specs.declared.job.FrameFormat.{FrameFormat}
 use Rattle.run_words.specs.declared.job.FrameFormat.TheVariants.{Ppm}
 use Rattle.run_words.specs.declared.job.FrameJob.{FrameJob}
 use Rattle.run_words.specs.declared.job.Job.{Job}
-use Rattle.run_words.specs.declared.job.Job.TheVariants.{Check, Frame, Play, Selftest, Changes, Write}
+use Rattle.run_words.specs.declared.job.Job.TheVariants.{Check, Frame, Play, Stills, Selftest, Changes, Write}
 use Rattle.run_words.specs.declared.job.Mode.{Mode}
 use Rattle.run_words.specs.declared.job.Mode.TheVariants.{Settled}
 use Rattle.run_words.specs.declared.job.PlayJob.{PlayJob}
 use Rattle.run_words.specs.declared.job.ScriptSource.{ScriptSource}
+use Rattle.run_words.specs.declared.job.StillsJob.{StillsJob}
 use Rattle.run_words.specs.declared.job.WordsFault.{WordsFault}
 use Rattle.run_words.specs.declared.job.WordsFault.TheVariants.{Value}
 
@@ -80,19 +84,39 @@ format_at rows = unwrap_or (option_and_then format_in (text_at rows argument.For
 abbrev pub rate_at : List Row → FrameRate
 rate_at rows = unwrap_or (option_and_then rate_in (text_at rows argument.Rate)) (step_rate (number_at rows argument.Step 1))
 
+-- so many instants, or those that come before the end
 abbrev pub instants_at : List Row → Instants
-instants_at rows = record { from = number_at rows argument.From 0; to = number_at rows argument.To 0; rate = rate_at rows }
+instants_at rows =
+    if is_some (text_at rows argument.Frames) then counted_instants (rate_at rows) (number_at rows argument.From 0) (number_at rows argument.Frames 1)
+    else instants_before (rate_at rows) (number_at rows argument.From 0) (number_at rows argument.To 0)
 
 abbrev pub is_just_one : Option (List ℕ) → Option (List ℕ) → Bool
 is_just_one None (Some rate) = true
 is_just_one (Some step) None = true
 is_just_one _ _ = false
 
--- A command that takes a step and a rate is told just one of them.
-abbrev pub is_paced : List Row → Command → Bool
-is_paced rows command.Play = is_just_one (text_at rows argument.Step) (text_at rows argument.Rate)
-is_paced rows command.Changes = is_just_one (text_at rows argument.Step) (text_at rows argument.Rate)
-is_paced rows _ = true
+-- Just one of a step and a rate is told, and just one of an end and a number of frames.
+abbrev pub is_paced : List Row → Bool
+is_paced rows =
+    is_just_one (text_at rows argument.Step) (text_at rows argument.Rate) && is_just_one (text_at rows argument.To) (text_at rows argument.Frames)
+
+-- The option that stands alone is there.
+abbrev pub is_told : List Row → Argument → Bool
+is_told rows argument = option_map_or (λ text. bytes_eq text (codes "true")) (text_at rows argument) false
+
+-- Something is told of how the work of a play is shared out.
+abbrev pub is_shared_out : List Row → Bool
+is_shared_out rows = list_any (λ argument. is_some (text_at rows argument)) sharing_arguments
+
+-- The work of a play of changed images isn't shared out, and the images of no other play are cropped.
+abbrev pub are_stills_apart : List Row → Bool
+are_stills_apart rows = if is_told rows argument.Changed then not (is_shared_out rows) else not (is_told rows argument.Crop)
+
+-- What is told to a command goes together.
+abbrev pub goes_together : List Row → Command → Bool
+goes_together rows command.Play = is_paced rows && are_stills_apart rows
+goes_together rows command.Changes = is_paced rows
+goes_together rows _ = true
 
 abbrev pub mode_at : List Row → Mode
 mode_at rows = unwrap_or (option_and_then mode_in (text_at rows argument.Mode)) Settled
@@ -101,12 +125,8 @@ mode_at rows = unwrap_or (option_and_then mode_in (text_at rows argument.Mode)) 
 abbrev pub script_at : List Row → List ℕ
 script_at rows = unwrap_or (text_at rows argument.Script) []
 
--- the fonts that the script holds are used
-abbrev pub own_fonts_at : List Row → Bool
-own_fonts_at rows = option_map_or (λ text. bytes_eq text (codes "true")) (text_at rows argument.ScriptFonts) false
-
 abbrev pub source_at : List Row → ScriptSource
-source_at rows = record { name = script_at rows; own_fonts = own_fonts_at rows }
+source_at rows = record { name = script_at rows; own_fonts = is_told rows argument.ScriptFonts }
 
 -- the names of the fonts, in the order of the words
 abbrev pub fonts_at : List Row → List (List ℕ)
@@ -132,6 +152,21 @@ play_of rows = record {
   mode = mode_at rows;
 }
 
+-- what a `play` of changed images is asked for
+abbrev pub stills_of : List Row → StillsJob
+stills_of rows = record {
+  instants = instants_at rows;
+  size = size_at rows;
+  format = format_at rows;
+  crop = is_told rows argument.Crop;
+  budget = budget_at rows;
+}
+
+-- the job of a `play`
+abbrev pub play_job : List Row → Job
+play_job rows =
+    if is_told rows argument.Changed then Stills (stills_of rows) (source_at rows) (fonts_at rows) else Play (play_of rows) (source_at rows) (fonts_at rows)
+
 -- what a `frame` is asked for
 abbrev pub frame_of : List Row → FrameJob
 frame_of rows = record { at = number_at rows argument.At 0; view = frame_at rows; format = format_at rows; budget = budget_at rows }
@@ -144,7 +179,7 @@ changes_of rows = record { instants = instants_at rows; view = frame_at rows; bu
 abbrev pub job_for : List Row → Command → Job
 job_for rows command.Check = Check (source_at rows) (fonts_at rows)
 job_for rows command.Frame = Frame (frame_of rows) (source_at rows) (fonts_at rows)
-job_for rows command.Play = Play (play_of rows) (source_at rows) (fonts_at rows)
+job_for rows command.Play = play_job rows
 job_for rows command.Selftest = Selftest (number_at rows argument.Seed 0) (number_at rows argument.Events 1) (number_at rows argument.Workers 1)
 job_for rows command.Changes = Changes (changes_of rows) (source_at rows) (fonts_at rows)
 job_for rows command.Write = Write (pos (number_at rows argument.Later 0)) (pos (number_at rows argument.Earlier 0)) (script_at rows)
@@ -168,7 +203,7 @@ PlainFramesStay =
 -- Frames of which no format is said are pixmaps.
 abbrev pub PlainFormatsStay : Type 0
 PlainFormatsStay =
-    (rows : List Row) → text_at rows argument.Format ≡ None → ((frame_of rows).format ≡ Ppm) × ((play_of rows).format ≡ Ppm)
+    (rows : List Row) → text_at rows argument.Format ≡ None → ((frame_of rows).format ≡ Ppm) × ((play_of rows).format ≡ Ppm) × ((stills_of rows).format ≡ Ppm)
 
 -- Where no rate is said, instants stand a step apart.
 abbrev pub StepsStay : Type 0

@@ -22,11 +22,16 @@ file_arguments = argument.ScriptFonts ∷ argument.Script ∷ argument.Fonts ∷
 
 -- the instants of a play and of a report on changes
 abbrev pub instant_arguments : List Argument
-instant_arguments = argument.From ∷ argument.To ∷ argument.Step ∷ argument.Rate ∷ []
+instant_arguments = argument.From ∷ argument.To ∷ argument.Frames ∷ argument.Step ∷ argument.Rate ∷ []
 
 -- what a frame is to a script
 abbrev pub frame_arguments : List Argument
 frame_arguments = argument.Size ∷ argument.Storage ∷ argument.Aspect ∷ argument.Content ∷ argument.Letters ∷ argument.Scale ∷ []
+
+-- what shares out the work of a play
+abbrev pub sharing_arguments : List Argument
+sharing_arguments =
+    argument.Feeders ∷ argument.Renderers ∷ argument.Batch ∷ argument.Again ∷ argument.Times ∷ argument.Ahead ∷ argument.Bands ∷ argument.Mode ∷ []
 
 -- what a command takes: the options in the order in which their values are looked at, and then the positionals
 abbrev pub arguments_of : Command → List Argument
@@ -34,7 +39,7 @@ arguments_of Check = file_arguments
 arguments_of Frame = argument.At ∷ frame_arguments ++ argument.Format ∷ argument.Budget ∷ file_arguments
 arguments_of Play =
     instant_arguments ++ argument.Size ∷ argument.Feeders ∷ argument.Renderers ∷ argument.Batch ∷ argument.Again
-    ∷ argument.Times ∷ argument.Ahead ∷ argument.Bands ∷ argument.Format ∷ argument.Budget ∷ argument.Mode ∷ file_arguments
+    ∷ argument.Times ∷ argument.Ahead ∷ argument.Bands ∷ argument.Format ∷ argument.Changed ∷ argument.Crop ∷ argument.Budget ∷ argument.Mode ∷ file_arguments
 arguments_of Selftest = argument.Workers ∷ argument.Seed ∷ argument.Events ∷ []
 arguments_of Changes = instant_arguments ++ frame_arguments ++ argument.Budget ∷ file_arguments
 arguments_of Write = argument.Later ∷ argument.Earlier ∷ argument.Script ∷ []

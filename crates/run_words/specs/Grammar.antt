@@ -5,17 +5,16 @@ use Rattle.clap.specs.Simple.{App, Shape, new_rule, new_shape}
 use Rattle.clap.specs.Walk.{Rule, is_empty}
 use Rattle.clap.specs.Faults.{fault_of}
 use Rattle.clap.specs.declared.builder.range.ValueRange.{ValueRange}
-use Rattle.run_words.specs.Arguments.{argument_name, is_positional, is_required}
+use Rattle.run_words.specs.Arguments.{argument_name, is_positional, is_required, stands_alone}
 use Rattle.run_words.specs.Commands.{arguments_of, command_name, commands}
 use Rattle.run_words.specs.declared.argument.Argument.{Argument}
-use Rattle.run_words.specs.declared.argument.Argument.TheVariants.{Fonts, ScriptFonts}
+use Rattle.run_words.specs.declared.argument.Argument.TheVariants.{Fonts}
 use Rattle.run_words.specs.declared.command.Command.{Command}
 
 -- how many words the argument takes: the fonts one or more, an option that stands alone none, all others the usual one
 abbrev pub range_of : Argument → Option ValueRange
 range_of Fonts = Some (record { start_inclusive = 1; end_inclusive = usize_max })
-range_of ScriptFonts = Some (record { start_inclusive = 0; end_inclusive = 0 })
-range_of _ = None
+range_of argument = if stands_alone argument then Some (record { start_inclusive = 0; end_inclusive = 0 }) else None
 
 -- an option by its name, or a positional
 abbrev pub argument_rule : Argument → Rule

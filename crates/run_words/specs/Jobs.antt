@@ -4,16 +4,14 @@ use Rattle.ass_num.specs.Limits.{IsInstant, max_frame_side, max_instant}
 use Rattle.ass_num.specs.declared.size.Size.{Size}
 use Rattle.frame_rate.specs.Instants.{AreInstants}
 use Rattle.frame_view.specs.FrameViews.{IsFrameView}
+use Rattle.value_texts.specs.Values.{IsNumberBetween}
 use Rattle.run_words.specs.Limits.{max_ahead, max_bands, max_batch, max_budget, max_events, max_seed, max_times, max_workers}
 use Rattle.run_words.specs.declared.job.ChangesJob.{ChangesJob}
 use Rattle.run_words.specs.declared.job.FrameJob.{FrameJob}
 use Rattle.run_words.specs.declared.job.Job.{Job}
-use Rattle.run_words.specs.declared.job.Job.TheVariants.{Check, Frame, Play, Selftest, Changes, Write}
+use Rattle.run_words.specs.declared.job.Job.TheVariants.{Check, Frame, Play, Stills, Selftest, Changes, Write, Help, Version}
 use Rattle.run_words.specs.declared.job.PlayJob.{PlayJob}
-
--- the number is from `least` to `most`
-abbrev pub IsNumberBetween : ℕ → ℕ → ℕ → Type 0
-IsNumberBetween least most n = (least ≤ n) × (n ≤ most)
+use Rattle.run_words.specs.declared.job.StillsJob.{StillsJob}
 
 -- a distance of instants, in milliseconds
 abbrev pub IsMoment : ℤ → Type 0
@@ -45,11 +43,19 @@ pub record IsPlay (play : PlayJob) : Type 0 where
   pub bands : IsNumberBetween 1 max_bands play.bands
   pub budget : play.budget ≤ max_budget
 
+pub record IsStills (stills : StillsJob) : Type 0 where
+  pub instants : AreInstants stills.instants
+  pub size : IsFrame stills.size
+  pub budget : stills.budget ≤ max_budget
+
 -- The numbers of a job are within their limits.
 abbrev pub IsJob : Job → Type 0
 IsJob (Check script fonts) = Unit {0}
 IsJob (Frame frame script fonts) = IsFrameJob frame × IsFrame frame.view.size
 IsJob (Play play script fonts) = IsPlay play
+IsJob (Stills stills script fonts) = IsStills stills
 IsJob (Selftest seed events workers) = (seed ≤ max_seed) × IsNumberBetween 1 max_events events × IsNumberBetween 1 max_workers workers
 IsJob (Changes changes script fonts) = IsChangesJob changes × IsFrame changes.view.size
 IsJob (Write later earlier script) = IsMoment later × IsMoment earlier
+IsJob Help = Unit {0}
+IsJob Version = Unit {0}

@@ -1,10 +1,6 @@
 -- Public: the limits of the numbers of a run.
 use Rattle.std.specs.Prelude.{ℕ}
 
--- the most digits of a number
-abbrev pub max_digits : ℕ
-max_digits = 13
-
 -- the most feeders, renderers or workers
 abbrev pub max_workers : ℕ
 max_workers = 8
@@ -24,6 +20,10 @@ max_ahead = 64
 -- the most bands of a frame
 abbrev pub max_bands : ℕ
 max_bands = 8
+
+-- the most frames that are asked for by their number
+abbrev pub max_asked_frames : ℕ
+max_asked_frames = 1000000
 
 -- the most bytes of a cache's budget
 abbrev pub max_budget : ℕ

@@ -1,52 +1,43 @@
 //! The arguments of all commands.
 
 ghost use Rattle.std.specs.Prelude.{◌≡◌, ◌++◌, IfOk, codes};
-ghost use Rattle.run_words.specs.Arguments.{argument_name, is_positional, is_required, argument_kind, shown_name};
+ghost use Rattle.run_words.specs.Arguments.{argument_name, is_positional, is_required, argument_kind, shown_name, stands_alone};
 
 use ass_num::{Mem, Text};
 use std::alloc::Global;
 
 /// The last instant, in milliseconds.
-pub const MAX_INSTANT: u64 = 4_000_000_000_000;
-
-/// The most columns and the most rows of a frame.
-pub const MAX_FRAME_SIDE: u64 = 4096;
-
-/// The most columns and the most rows of a video.
-pub const MAX_STORAGE_SIDE: u64 = 65_536;
-
-/// The most frames of a rate, and the most seconds of one that words say.
-pub const MAX_RATE_PARTS: u64 = 1_000_000;
-
-/// The most parts of a pixel's width, or of its height.
-pub const MAX_ASPECT_PARTS: u64 = 65_536;
+const MAX_INSTANT: u64 = 4_000_000_000_000;
 
 /// The largest size of letters, in thousandths.
-pub const MAX_LETTER_SCALE: u64 = 100_000;
+const MAX_LETTER_SCALE: u64 = 100_000;
 
 /// The most feeders, renderers or workers.
-pub const MAX_WORKERS: u64 = 8;
+const MAX_WORKERS: u64 = 8;
 
 /// The most lines of a batch, and the most lines that are fed again.
-pub const MAX_BATCH: u64 = 10_000;
+const MAX_BATCH: u64 = 10_000;
 
 /// The most times that a job is played.
-pub const MAX_TIMES: u64 = 8;
+const MAX_TIMES: u64 = 8;
 
 /// The most instants that are warmed ahead.
-pub const MAX_AHEAD: u64 = 64;
+const MAX_AHEAD: u64 = 64;
 
 /// The most bands of a frame.
-pub const MAX_BANDS: u64 = 8;
+const MAX_BANDS: u64 = 8;
+
+/// The most frames that are asked for by their number.
+const MAX_ASKED_FRAMES: u64 = 1_000_000;
 
 /// The most bytes of a cache's budget.
-pub const MAX_BUDGET: u64 = 1 << 40;
+const MAX_BUDGET: u64 = 1 << 40;
 
 /// The last seed.
-pub const MAX_SEED: u64 = 2_147_483_647;
+const MAX_SEED: u64 = 2_147_483_647;
 
 /// The most events that are generated.
-pub const MAX_EVENTS: u64 = 100_000;
+const MAX_EVENTS: u64 = 100_000;
 
 /// What the text of a value has to be.
 #[derive(Clone, Copy, Debug, PartialEq, Eq)]
@@ -81,6 +72,7 @@ pub enum Argument {
     At,
     From,
     To,
+    Frames,
     Step,
     Rate,
     Size,
@@ -90,6 +82,8 @@ pub enum Argument {
     Letters,
     Scale,
     Format,
+    Changed,
+    Crop,
     Feeders,
     Renderers,
     Batch,
@@ -118,6 +112,7 @@ impl Argument {
             Argument::At => "at",
             Argument::From => "from",
             Argument::To => "to",
+            Argument::Frames => "frames",
             Argument::Step => "step",
             Argument::Rate => "rate",
             Argument::Size => "size",
@@ -127,6 +122,8 @@ impl Argument {
             Argument::Letters => "letters",
             Argument::Scale => "scale",
             Argument::Format => "format",
+            Argument::Changed => "changed",
+            Argument::Crop => "crop",
             Argument::Feeders => "feeders",
             Argument::Renderers => "renderers",
             Argument::Batch => "batch",
@@ -162,8 +159,18 @@ impl Argument {
         ensures { result ≡ is_required self }
     {
         match self {
-            Argument::At | Argument::From | Argument::To | Argument::Size => true,
+            Argument::At | Argument::From | Argument::Size => true,
             _ => self.is_positional(),
+        }
+    }
+
+    /// Whether it is an option that stands alone.
+    pub fn stands_alone(self) -> bool
+        ensures { result ≡ stands_alone self }
+    {
+        match self {
+            Argument::Changed | Argument::Crop | Argument::ScriptFonts => true,
+            _ => false,
         }
     }
 
@@ -174,6 +181,7 @@ impl Argument {
         match self {
             Argument::At | Argument::From | Argument::To | Argument::Later | Argument::Earlier =>
                 Kind::Number(0, MAX_INSTANT),
+            Argument::Frames => Kind::Number(1, MAX_ASKED_FRAMES),
             Argument::Step => Kind::Number(1, MAX_INSTANT),
             Argument::Rate => Kind::FramesInSeconds,
             Argument::Size => Kind::FrameSize,
@@ -193,7 +201,7 @@ impl Argument {
             Argument::Bands => Kind::Number(1, MAX_BANDS),
             Argument::Budget => Kind::Number(0, MAX_BUDGET),
             Argument::Mode => Kind::PlayMode,
-            Argument::ScriptFonts => Kind::Alone,
+            Argument::Changed | Argument::Crop | Argument::ScriptFonts => Kind::Alone,
             Argument::Seed => Kind::Number(0, MAX_SEED),
             Argument::Events => Kind::Number(1, MAX_EVENTS),
             Argument::Script | Argument::Fonts => Kind::FileName,

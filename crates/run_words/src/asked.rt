@@ -2,24 +2,28 @@
 
 ghost use Rattle.std.specs.Prelude.{◌≡◌, ◌≤◌, ◌^◌, ◌<◌, IfOk, map, pos, option_and_then, option_map, unwrap_or};
 ghost use Rattle.clap.specs.Words.{all_of, found_of, rows_of};
+ghost use Rattle.frame_rate.specs.Rates.{IsFrameRate};
 ghost use Rattle.frame_view.specs.declared.view.LetterWidth.TheVariants.{Canvas};
 ghost use Rattle.run_words.specs.Arguments.{argument_name, most_of};
-ghost use Rattle.run_words.specs.Asked.{changes_of, fits, first_bad, fonts_at, format_at, frame_at, frame_of, instants_at, is_just_one, is_paced, job_for};
-ghost use Rattle.run_words.specs.Asked.{mode_at, number_at, own_fonts_at, play_of, rate_at, script_at, size_at, source_at, text_at};
-ghost use Rattle.run_words.specs.Values.{aspect_in, content_in, letters_in, rate_in, storage_in};
+ghost use Rattle.run_words.specs.Asked.{are_stills_apart, changes_of, fits, first_bad, fonts_at, format_at, frame_at, frame_of, goes_together, instants_at};
+ghost use Rattle.run_words.specs.Asked.{is_just_one, is_paced, is_shared_out, is_told, job_for, mode_at, number_at, play_job, play_of, rate_at, script_at, size_at};
+ghost use Rattle.run_words.specs.Asked.{source_at, stills_of, text_at};
+ghost use Rattle.value_texts.specs.Values.{aspect_in, content_in, letters_in, rate_in, storage_in};
 
 use crate::argument::{Argument, Kind};
-use crate::command::Command;
-use crate::job::{ChangesJob, FrameFormat, FrameJob, Job, Mode, PlayJob, ScriptSource};
-use crate::values::{
-    aspect_in, content_in, format_in, is_of_kind, letters_in, mode_in, number_within, rate_in,
-    size_in, storage_in,
+use crate::command::{Command, sharing_arguments};
+use crate::job::{
+    ChangesJob, FrameFormat, FrameJob, Job, Mode, PlayJob, ScriptSource, StillsJob,
 };
+use crate::values::{format_in, is_of_kind, mode_in};
 use ass_num::{Items, Mem, Size, Text};
 use clap::ArgMatches;
 use frame_rate::{FrameRate, Instants};
 use frame_view::{FrameView, LetterWidth, PixelAspect, PixelRect};
 use std::alloc::Global;
+use value_texts::{
+    aspect_in, content_in, letters_in, number_within, rate_in, size_in, storage_in,
+};
 
 /// What stands for a budget that isn't given, in bytes.
 const ABSENT_BUDGET: u64 = 67_108_864;
@@ -66,17 +70,59 @@ fn is_just_one(step: Option<&str>, rate: Option<&str>) -> bool
     }
 }
 
-/// Whether a command that takes a step and a rate is told just one of them.
-pub fn is_paced(found: &ArgMatches, command: Command) -> bool
-    ensures { result ≡ is_paced (rows_of (found_of found.now)) command }
+/// Whether just one of a step and a rate is told, and just one of an end and a number of frames.
+fn is_paced(found: &ArgMatches) -> bool
+    ensures { result ≡ is_paced (rows_of (found_of found.now)) }
+{
+    is_just_one(
+        text_at(found, Argument::Step),
+        text_at(found, Argument::Rate),
+    ) && is_just_one(
+        text_at(found, Argument::To),
+        text_at(found, Argument::Frames),
+    )
+}
+
+/// Whether an option that stands alone is there.
+fn is_told(found: &ArgMatches, argument: Argument) -> bool
+    ensures { result ≡ is_told (rows_of (found_of found.now)) argument }
+{
+    match text_at(found, argument) {
+        Some(text) => text == "true",
+        None => false,
+    }
+}
+
+/// Whether something is told of how the work of a play is shared out.
+fn is_shared_out(found: &ArgMatches) -> bool
+    ensures { result ≡ is_shared_out (rows_of (found_of found.now)) }
+{
+    for argument in sharing_arguments() {
+        if text_at(found, *argument).is_some() {
+            return true;
+        }
+    }
+    false
+}
+
+/// Whether the work of a play of changed images isn't shared out, and the images of another play aren't cropped.
+fn are_stills_apart(found: &ArgMatches) -> bool
+    ensures { result ≡ are_stills_apart (rows_of (found_of found.now)) }
+{
+    if is_told(found, Argument::Changed) {
+        !is_shared_out(found)
+    } else {
+        !is_told(found, Argument::Crop)
+    }
+}
+
+/// Whether what is told to a command goes together.
+pub fn goes_together(found: &ArgMatches, command: Command) -> bool
+    ensures { result ≡ goes_together (rows_of (found_of found.now)) command }
 {
     match command {
-        Command::Play | Command::Changes => {
-            is_just_one(
-                text_at(found, Argument::Step),
-                text_at(found, Argument::Rate),
-            )
-        }
+        Command::Play => is_paced(found) && are_stills_apart(found),
+        Command::Changes => is_paced(found),
         Command::Check | Command::Frame | Command::Selftest | Command::Write => true,
     }
 }
@@ -199,8 +245,10 @@ fn given_rate(found: &ArgMatches) -> Option<FrameRate>
 }
 
 /// The rate, or that of the step.
+#[tactic(auto, using(crate::proofs::AskedLemmas::rate_range))]
 fn rate_at(found: &ArgMatches) -> FrameRate
-    ensures { result ≡ rate_at (rows_of (found_of found.now)) }
+    ensures value { result ≡ rate_at (rows_of (found_of found.now)) }
+    ensures rate { IsFrameRate result }
 {
     match given_rate(found) {
         Some(rate) => rate,
@@ -208,14 +256,15 @@ fn rate_at(found: &ArgMatches) -> FrameRate
     }
 }
 
-/// The instants from the first on, before the end, at the rate.
+/// The instants at the rate, so many or those before the end.
 fn instants_at(found: &ArgMatches) -> Instants
     ensures { result ≡ instants_at (rows_of (found_of found.now)) }
 {
-    Instants {
-        from: number_at(found, Argument::From, 0),
-        to: number_at(found, Argument::To, 0),
-        rate: rate_at(found),
+    let from = number_at(found, Argument::From, 0);
+    let rate = rate_at(found);
+    match text_at(found, Argument::Frames) {
+        Some(_) => Instants::counted(from, number_at(found, Argument::Frames, 1), rate),
+        None => Instants::before(from, number_at(found, Argument::To, 0), rate),
     }
 }
 
@@ -242,23 +291,13 @@ fn script_at(alloc: Global, found: &ArgMatches) -> Mem<Text>
     }
 }
 
-/// Whether the fonts that the script holds are used.
-fn own_fonts_at(found: &ArgMatches) -> bool
-    ensures { result ≡ own_fonts_at (rows_of (found_of found.now)) }
-{
-    match text_at(found, Argument::ScriptFonts) {
-        Some(text) => text == "true",
-        None => false,
-    }
-}
-
 /// The script, and whether the fonts that it holds are used.
 fn source_at(alloc: Global, found: &ArgMatches) -> Mem<ScriptSource>
     ensures { IfOk result (λ source. source ≡ source_at (rows_of (found_of found.now))) }
 {
     Ok(ScriptSource {
         name: script_at(alloc, found)?,
-        own_fonts: own_fonts_at(found),
+        own_fonts: is_told(found, Argument::ScriptFonts),
     })
 }
 
@@ -310,6 +349,32 @@ fn play_of(found: &ArgMatches) -> PlayJob
     }
 }
 
+/// What a `play` of changed images is asked for.
+fn stills_of(found: &ArgMatches) -> StillsJob
+    ensures { result ≡ stills_of (rows_of (found_of found.now)) }
+{
+    StillsJob {
+        instants: instants_at(found),
+        size: size_at(found),
+        format: format_at(found),
+        crop: is_told(found, Argument::Crop),
+        budget: number_at(found, Argument::Budget, ABSENT_BUDGET),
+    }
+}
+
+/// The job of a `play`.
+fn play_job(alloc: Global, found: &ArgMatches) -> Mem<Job>
+    ensures { IfOk result (λ job. job ≡ play_job (rows_of (found_of found.now))) }
+{
+    let script = source_at(alloc, found)?;
+    let fonts = fonts_at(alloc, found)?;
+    if is_told(found, Argument::Changed) {
+        Ok(Job::Stills(stills_of(found), script, fonts))
+    } else {
+        Ok(Job::Play(play_of(found), script, fonts))
+    }
+}
+
 /// What a `frame` is asked for.
 fn frame_of(found: &ArgMatches) -> FrameJob
     ensures { result ≡ frame_of (rows_of (found_of found.now)) }
@@ -344,11 +409,7 @@ pub fn job_for(alloc: Global, found: &ArgMatches, command: Command) -> Mem<Job>
             source_at(alloc, found)?,
             fonts_at(alloc, found)?,
         )),
-        Command::Play => Ok(Job::Play(
-            play_of(found),
-            source_at(alloc, found)?,
-            fonts_at(alloc, found)?,
-        )),
+        Command::Play => play_job(alloc, found),
         Command::Selftest => Ok(Job::Selftest(
             count_at(found, Argument::Seed, 0),
             count_at(found, Argument::Events, 1),

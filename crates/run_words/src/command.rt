@@ -2,7 +2,7 @@
 
 ghost use Rattle.std.specs.Prelude.{◌≡◌, codes, find};
 ghost use Rattle.std.specs.Str.{bytes_eq};
-ghost use Rattle.run_words.specs.Commands.{arguments_of, command_name, commands};
+ghost use Rattle.run_words.specs.Commands.{arguments_of, command_name, commands, sharing_arguments};
 
 use crate::argument::Argument;
 
@@ -43,9 +43,10 @@ static FRAME: [Argument; 12] = [
     Argument::Fonts,
 ];
 
-static PLAY: [Argument; 18] = [
+static PLAY: [Argument; 21] = [
     Argument::From,
     Argument::To,
+    Argument::Frames,
     Argument::Step,
     Argument::Rate,
     Argument::Size,
@@ -57,6 +58,8 @@ static PLAY: [Argument; 18] = [
     Argument::Ahead,
     Argument::Bands,
     Argument::Format,
+    Argument::Changed,
+    Argument::Crop,
     Argument::Budget,
     Argument::Mode,
     Argument::ScriptFonts,
@@ -64,11 +67,23 @@ static PLAY: [Argument; 18] = [
     Argument::Fonts,
 ];
 
+static SHARING: [Argument; 8] = [
+    Argument::Feeders,
+    Argument::Renderers,
+    Argument::Batch,
+    Argument::Again,
+    Argument::Times,
+    Argument::Ahead,
+    Argument::Bands,
+    Argument::Mode,
+];
+
 static SELFTEST: [Argument; 3] = [Argument::Workers, Argument::Seed, Argument::Events];
 
-static CHANGES: [Argument; 14] = [
+static CHANGES: [Argument; 15] = [
     Argument::From,
     Argument::To,
+    Argument::Frames,
     Argument::Step,
     Argument::Rate,
     Argument::Size,
@@ -113,6 +128,13 @@ impl Command {
             Command::Write => WRITE.as_slice(),
         }
     }
+}
+
+/// What shares out the work of a play.
+pub fn sharing_arguments() -> &'static [Argument]
+    ensures { result.now ≡ sharing_arguments }
+{
+    SHARING.as_slice()
 }
 
 /// All commands.

@@ -11,6 +11,7 @@ use clap::Arg;
 use std::alloc::{AllocError, Global};
 
 /// An argument: once, with one value, but for the fonts, which are one or more words, and an option that stands alone.
+#[tactic(auto, using(crate::proofs::GrammarLemmas::one_word))]
 fn argument<'a>(alloc: Global, argument: Argument) -> Arg<'a>
     ensures rule { rule_of result ≡ argument_rule argument }
     ensures local { result.global ≡ false }
@@ -19,8 +20,8 @@ fn argument<'a>(alloc: Global, argument: Argument) -> Arg<'a>
     let taken = Arg::new(alloc, name).required(argument.is_required());
     match argument {
         Argument::Fonts => taken.num_args(1..),
-        Argument::ScriptFonts => taken.long(name).num_args(0),
         _ if argument.is_positional() => taken,
+        _ if argument.stands_alone() => taken.long(name).num_args(0),
         _ => taken.long(name),
     }
 }

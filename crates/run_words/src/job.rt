@@ -59,6 +59,17 @@ pub struct PlayJob {
     pub mode: Mode,
 }
 
+/// What a `play` of changed images is asked for: the instants, the size of the frames, how frames are written, whether an
+/// image is only the box that changed, and the bytes of a cache's budget.
+#[derive(Clone, Copy, Debug, PartialEq, Eq)]
+pub struct StillsJob {
+    pub instants: Instants,
+    pub size: Size,
+    pub format: FrameFormat,
+    pub crop: bool,
+    pub budget: u64,
+}
+
 /// A script by the name of its file, and whether the fonts that it holds are used.
 #[derive(Debug, Drop)]
 pub struct ScriptSource {
@@ -75,12 +86,18 @@ pub enum Job {
     Frame(FrameJob, ScriptSource, Items<Text>),
     /// The pictures of a script with fonts, fed and drawn by several workers.
     Play(PlayJob, ScriptSource, Items<Text>),
+    /// Those images of a play that differ from the one before.
+    Stills(StillsJob, ScriptSource, Items<Text>),
     /// A generated script, by its seed and number of events, played by so many workers.
     Selftest(u32, u32, u32),
     /// What changes from picture to picture of a script with fonts.
     Changes(ChangesJob, ScriptSource, Items<Text>),
     /// The script written again, with its events so many milliseconds later and so many earlier.
     Write(i64, i64, Text),
+    /// How the program is called.
+    Help,
+    /// Which version it is.
+    Version,
 }
 
 /// Why words are refused.

@@ -10,6 +10,7 @@ mod values;
 mod words;
 
 pub use job::{
-    ChangesJob, FrameFormat, FrameJob, Job, Mode, PlayJob, ScriptSource, WordsFault, WordsRefusal,
+    ChangesJob, FrameFormat, FrameJob, Job, Mode, PlayJob, ScriptSource, StillsJob, WordsFault,
+    WordsRefusal,
 };
 pub use words::{first_word_is_command, plain_frames_stay, read_words, usage_is_of_grammar};

@@ -4,9 +4,10 @@ ghost use Rattle.std.specs.Prelude.{◌≡◌, IfOk, Some, map};
 ghost use Rattle.clap.specs.Words.{found_of, rows_of, subcommand_rows_of};
 ghost use Rattle.run_words.specs.Asked.{PlainFormatsStay, PlainFramesStay, StepsStay, command_reading};
 ghost use Rattle.run_words.specs.Jobs.{IsJob};
-ghost use Rattle.run_words.specs.Words.{FirstWordIsCommand, IsReading, UsageIsOfGrammar, job_in, job_of, reading_in, texts};
+ghost use Rattle.run_words.specs.Words.{FirstWordIsCommand, IsReading, UsageIsOfGrammar, asked_alone, asked_by, command_job, is_help, job_in, job_of};
+ghost use Rattle.run_words.specs.Words.{reading_in, texts};
 
-use crate::asked::{first_bad, is_paced, job_for};
+use crate::asked::{first_bad, goes_together, job_for};
 use crate::command::{Command, command_named};
 use crate::grammar::whole;
 use crate::job::{Job, WordsFault, WordsRefusal};
@@ -27,11 +28,11 @@ fn read_command(alloc: Global, found: &ArgMatches, command: Command) -> Result<J
     }
 }
 
-/// The same, where just one of a step and a rate is said to a command that takes them.
-fn read_paced(alloc: Global, found: &ArgMatches, command: Command) -> Result<Job, WordsRefusal>
+/// The same, where what is told to the command goes together.
+fn read_together(alloc: Global, found: &ArgMatches, command: Command) -> Result<Job, WordsRefusal>
     ensures { IsReading (reading_in (rows_of (found_of found.now)) (Some command)) result }
 {
-    if is_paced(found, command) {
+    if goes_together(found, command) {
         read_command(alloc, found, command)
     } else {
         Err(WordsRefusal::BadWords(WordsFault::Usage))
@@ -46,14 +47,14 @@ fn read_matches(alloc: Global, matches: &ArgMatches) -> Result<Job, WordsRefusal
         return Err(WordsRefusal::BadWords(WordsFault::Usage));
     };
     match command_named(name) {
-        Some(command) => read_paced(alloc, found, command),
+        Some(command) => read_together(alloc, found, command),
         None => Err(WordsRefusal::BadWords(WordsFault::Usage)),
     }
 }
 
-/// The job that the words ask for.
-pub fn read_words(alloc: Global, words: &[String]) -> Result<Job, WordsRefusal>
-    ensures read { IsReading (job_of (texts words.now)) result }
+/// The job of words that begin with a command.
+fn read_commands(alloc: Global, words: &[String]) -> Result<Job, WordsRefusal>
+    ensures read { IsReading (command_job (texts words.now)) result }
     ensures within { IfOk result IsJob }
 {
     match whole(alloc)?.try_get_matches_from(words) {
@@ -65,13 +66,55 @@ pub fn read_words(alloc: Global, words: &[String]) -> Result<Job, WordsRefusal>
     }
 }
 
-/// Words are refused as `Usage` exactly where `clap` refuses them, or where a step and a rate are said, or none: no job and
-/// no value is refused so.
+/// Whether a word asks for help.
+fn is_help(word: &str) -> bool
+    ensures { result ≡ is_help word.now }
+{
+    word == "--help" || word == "-h" || word == "help"
+}
+
+/// What a word asks for that stands alone.
+fn asked_by(word: &str) -> Option<Job>
+    ensures { result ≡ asked_by word.now }
+{
+    if is_help(word) {
+        Some(Job::Help)
+    } else if word == "--version" {
+        Some(Job::Version)
+    } else {
+        None
+    }
+}
+
+/// What words ask for of which there is one alone.
+fn asked_alone(words: &[String]) -> Option<Job>
+    ensures { result ≡ asked_alone (texts words.now) }
+{
+    match words {
+        [word] => asked_by(word.as_str()),
+        _ => None,
+    }
+}
+
+/// The job that the words ask for.
+#[tactic(auto, using(crate::proofs::AskedLemmas::alone_read, crate::proofs::AskedLemmas::alone_is_job, crate::proofs::AskedLemmas::none_alone))]
+pub fn read_words(alloc: Global, words: &[String]) -> Result<Job, WordsRefusal>
+    ensures read { IsReading (job_of (texts words.now)) result }
+    ensures within { IfOk result IsJob }
+{
+    match asked_alone(words) {
+        Some(job) => Ok(job),
+        None => read_commands(alloc, words),
+    }
+}
+
+/// Words are refused as `Usage` exactly where they are no word that stands alone, and `clap` refuses them or what they tell
+/// doesn't go together: no job and no value is refused so.
 pub fn usage_is_of_grammar()
     ensures { UsageIsOfGrammar }
 {}
 
-/// Words that ask for a job begin with the word that names its command.
+/// Words that ask for the job of a command begin with the word that names its command.
 pub fn first_word_is_command()
     ensures { FirstWordIsCommand }
 {}

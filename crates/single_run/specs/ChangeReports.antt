@@ -13,7 +13,7 @@ use Rattle.mask_keys.specs.Pictures.{picture}
 use Rattle.frame_view.specs.declared.view.FrameView.{FrameView}
 use Rattle.picture_plan.specs.Pictures.{AreDraws}
 use Rattle.ass_events.specs.ScriptEvents.{line_events}
-use Rattle.frame_rate.specs.Instants.{rated_instant, rated_count}
+use Rattle.frame_rate.specs.Instants.{rated_instant}
 use Rattle.single_run.specs.Lines.{change_line}
 use Rattle.frame_rate.specs.declared.instants.Instants.{Instants}
 
@@ -45,4 +45,4 @@ pub data AreChangeLines (script : ScriptValue) (fonts : List FontValue) (events 
 -- The report on what changes in the picture that the events of a script show in fonts, from instant to instant, on a frame.
 abbrev pub IsChangesReport : ScriptValue → List FontValue → Instants → FrameView → List ℕ → Type 0
 IsChangesReport script fonts instants view text =
-    (last : List Draw) × AreChangeLines script fonts (line_events script) instants view (rated_count instants) last text
+    (last : List Draw) × AreChangeLines script fonts (line_events script) instants view instants.count last text

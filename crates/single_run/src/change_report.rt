@@ -15,7 +15,7 @@ ghost use Rattle.picture_plan.specs.Pictures.{AreDraws};
 ghost use Rattle.ass_events.specs.LineLaws.{HasShortLines};
 ghost use Rattle.text_layout.specs.Fonts.{IsLayoutFontSet};
 ghost use Rattle.text_layout.specs.Settings.{IsSetting};
-ghost use Rattle.frame_rate.specs.Instants.{AreInstants, rated_count};
+ghost use Rattle.frame_rate.specs.Instants.{AreInstants};
 ghost use Rattle.single_run.specs.ChangeReports.{AreChangeLines, IsChangeLine, IsChangesReport};
 
 use crate::screen::{Screen, blank, show};
@@ -78,12 +78,12 @@ fn lines_of(
     requires instants { AreInstants instants.now }
     requires same { local.old.fonts ≡ setting.now.fonts }
     ensures { IfOk result (λ text. (last : List Draw)
-        × AreChangeLines setting.now.script setting.now.fonts (map arc_value events.now) instants.now setting.now.frame (rated_count instants.now) last
+        × AreChangeLines setting.now.script setting.now.fonts (map arc_value events.now) instants.now setting.now.frame instants.now.count last
         (string_bytes text)) }
 {
     let mut screen = blank(alloc, &setting.frame.size)?;
     let mut report = String::new(alloc);
-    for place in 0..instants.count() {
+    for place in 0..instants.count {
         let t = instants.at(place);
         add_instant(alloc, setting, events, t, local, &mut screen, &mut report)?;
     }

@@ -13,6 +13,7 @@ mod report;
 mod rewrite;
 mod screen;
 mod shown;
+mod still_run;
 mod task;
 mod work;
 
@@ -23,3 +24,4 @@ pub use outcome::Outcome;
 pub use play::calm;
 pub use report::{finish, give_up};
 pub use run_status::{BadScript, Status, What, Which};
+pub use shown::show;

@@ -17,8 +17,8 @@ use ass_io::{Shelf, Sink};
 use run_status::{Status, files_decide};
 use std::alloc::Global;
 
-/// Does a `check`, a `frame`, a `changes` or a `write`, and refuses words that ask for no job. It waits for nobody. A `play` and
-/// a `selftest` it leaves to its caller: `None` comes exactly there, unless memory runs out for the words.
+/// Does a `check`, a `frame`, a `changes` or a `write`, and refuses words that ask for no job. It waits for nobody. A `play`,
+/// a `selftest`, and what the program tells of itself, it leaves to its caller: `None` comes exactly there, unless memory runs out for the words.
 pub fn calm<S: Shelf, F: Sink, R: Sink>(
     alloc: Global,
     words: &[String],
@@ -36,7 +36,7 @@ pub fn calm<S: Shelf, F: Sink, R: Sink>(
     ensures other_pieces { (status : Status) → work_asked (texts words.now) ≡ Err status
         → IsSomeAnd result (λ answer. ArePiecesFinished (Outcome.Ended status) answer (R.state report.old).asked (R.state report.new).asked) }
 
-    // A play and a selftest are left, and nothing is touched.
+    // A play, a selftest, and what the program tells of itself, are left, and nothing is touched.
     ensures left { work_asked (texts words.now) ≡ Ok None → IfSome result (λ status. status ≡ Status.OutOfMemory) }
     ensures left_pieces { work_asked (texts words.now) ≡ Ok None
         → IfSome result (λ answer. ArePiecesFinished out_of_memory answer (R.state report.old).asked (R.state report.new).asked) }
@@ -67,7 +67,7 @@ pub fn calm<S: Shelf, F: Sink, R: Sink>(
     }
 }
 
-/// Does what the words ask, up to what is to be reported, unless that is a play or a selftest.
+/// Does what the words ask, up to what is to be reported, unless that is left to the caller.
 fn do_words<S: Shelf, F: Sink>(
     alloc: Global,
     words: &[String],

@@ -7,7 +7,9 @@ ghost use Rattle.run_words.specs.Words.{texts};
 
 use ass_num::{Items, Text};
 use run_status::{MAX_FONTS, Status, What};
-use run_words::{ChangesJob, FrameJob, Job, ScriptSource, WordsFault, WordsRefusal, read_words};
+use run_words::{
+    ChangesJob, FrameJob, Job, ScriptSource, StillsJob, WordsFault, WordsRefusal, read_words,
+};
 use std::alloc::Global;
 
 /// The most pictures that a task compares.
@@ -29,6 +31,8 @@ pub enum Task {
     Frame(FrameJob),
     /// A report on what changes from picture to picture.
     Changes(ChangesJob),
+    /// The pictures that differ from those before them.
+    Stills(StillsJob),
     /// The script written again.
     Write(WriteTask),
 }
@@ -85,7 +89,16 @@ pub fn work_of(alloc: Global, job: Job) -> Option<Work>
                 fonts,
             })
         }
+        Job::Stills(stills, script, fonts) => {
+            let task = task_in(Task::Stills(stills), fonts.as_slice())?;
+            Some(Work {
+                task,
+                script,
+                fonts,
+            })
+        }
         Job::Play(_, _, _) | Job::Selftest(_, _, _) => None,
+        Job::Help | Job::Version => None,
     }
 }
 
@@ -95,7 +108,8 @@ fn compared(work: &Work) -> u64
     ensures { result ≡ compared work.now.task }
 {
     match &work.task {
-        Task::Changes(changes) => changes.instants.count(),
+        Task::Changes(changes) => changes.instants.count,
+        Task::Stills(stills) => stills.instants.count,
         Task::Check | Task::Frame(_) | Task::Write(_) => 0,
     }
 }
@@ -112,14 +126,14 @@ fn limited(work: Work) -> Result<Option<Work>, Status>
     Ok(Some(work))
 }
 
-/// The work of a job, none where threads wait for one another in it, or the status that it asks for.
+/// The work of a job, none where threads wait for one another in it or it is no work, or the status that it asks for.
 #[tactic(auto, using(crate::proofs::WorkLemmas::work_suits))]
 fn work_in(alloc: Global, job: Job) -> Result<Option<Work>, Status>
     requires { IsJob job }
     ensures asked { result ≡ work_in (Ok job) }
     ensures work { IfOk result (λ work. IfSome work IsWork) }
 {
-    if let Job::Play(_, _, _) | Job::Selftest(_, _, _) = &job {
+    if let Job::Play(_, _, _) | Job::Selftest(_, _, _) | Job::Help | Job::Version = &job {
         return Ok(None);
     }
     match work_of(alloc, job) {
@@ -129,7 +143,8 @@ fn work_in(alloc: Global, job: Job) -> Result<Option<Work>, Status>
     }
 }
 
-/// The work that the words ask for, none where threads wait for one another in it, or the status that they ask for.
+/// The work that the words ask for, none where threads wait for one another in it or they ask for none, or the status that
+/// they ask for.
 pub fn read_work(alloc: Global, words: &[String]) -> Result<Option<Work>, Status>
     ensures asked { IsWorkRead (work_asked (texts words.now)) result }
     ensures work { IfOk result (λ work. IfSome work IsWork) }

@@ -20,6 +20,8 @@ returns g c =
         work = run.run;
         play = run.play;
         selftest = run.selftest;
+        text = run.text;
+        text_fetched = λ job text asked told. ap (λ shelf. g.S.Shelf.log shelf) (run.text_shelf job text asked told);
         selftest_fetched = λ seed events workers asked. ap (λ shelf. g.S.Shelf.log shelf) (run.selftest_shelf seed events workers asked);
       },
     )

@@ -6,6 +6,9 @@ use Rattle.run_words.specs.declared.job.Job.{Job}
 use Rattle.run_words.specs.declared.job.Job.TheVariants.{Selftest}
 use Rattle.play_command.proofs.RunLemmas.{not_selftest}
 use Rattle.play_command.proofs.SelftestLemmas.{worked_kind}
+use Rattle.play_command.proofs.TextLemmas.{text_reads_none, text_reportable}
+use Rattle.play_command.specs.declared.help.TheConstants.{HELP}
+use Rattle.play_command.specs.declared.own_text.TheConstants.{VERSION}
 use Rattle.play_command.specs.Working.{IsJobWorked, IsPlayWorked}
 use Rattle.play_command.proofs.run.do_job.Goals as goal
 
@@ -53,3 +56,29 @@ returns-in-Selftest-clause-reportable g c = (worked_kind c.in-Selftest.seed c.in
 
 pub returns-in-Selftest-clause-spoken : goal.returns-in-Selftest-clause-spoken
 returns-in-Selftest-clause-spoken g c = (worked_kind c.in-Selftest.seed c.in-Selftest.events c.do_selftest.result 0 0 c.do_selftest.ensures).3
+
+-- ---- what the program tells of itself
+
+pub returns-in-Help-clause-worked : goal.returns-in-Help-clause-worked
+returns-in-Help-clause-worked g c =
+    let log = fetch_change (g.S.Shelf.log c.args.shelf.now) (g.S.Shelf.log c.args.shelf.now) in
+    let change = sink_change (g.F.Sink.state c.args.frames.now) (g.F.Sink.state c.tell.new.frames) in
+    subst (λ (job : Job). IsJobWorked (g.S.Shelf.told c.args.shelf.now) log job change c.tell.result) (sym c.in-Help.is) c.tell.ensures.worked
+
+pub returns-in-Help-clause-read : goal.returns-in-Help-clause-read
+returns-in-Help-clause-read g c = text_reads_none HELP.now _ c.tell.result _ c.tell.ensures.worked
+
+pub returns-in-Help-clause-reportable : goal.returns-in-Help-clause-reportable
+returns-in-Help-clause-reportable g c = text_reportable HELP.now _ c.tell.result c.tell.ensures.worked
+
+pub returns-in-Version-clause-worked : goal.returns-in-Version-clause-worked
+returns-in-Version-clause-worked g c =
+    let log = fetch_change (g.S.Shelf.log c.args.shelf.now) (g.S.Shelf.log c.args.shelf.now) in
+    let change = sink_change (g.F.Sink.state c.args.frames.now) (g.F.Sink.state c.tell-in-Version.new.frames) in
+    subst (λ (job : Job). IsJobWorked (g.S.Shelf.told c.args.shelf.now) log job change c.tell-in-Version.result) (sym c.in-Version.is) c.tell-in-Version.ensures.worked
+
+pub returns-in-Version-clause-read : goal.returns-in-Version-clause-read
+returns-in-Version-clause-read g c = text_reads_none VERSION.now _ c.tell-in-Version.result _ c.tell-in-Version.ensures.worked
+
+pub returns-in-Version-clause-reportable : goal.returns-in-Version-clause-reportable
+returns-in-Version-clause-reportable g c = text_reportable VERSION.now _ c.tell-in-Version.result c.tell-in-Version.ensures.worked

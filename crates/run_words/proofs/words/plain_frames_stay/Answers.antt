@@ -6,7 +6,7 @@ stay : PlainFramesStay
 stay rows content storage aspect letters scale = rw (content, storage, aspect, letters, scale) refl
 
 formats_stay : PlainFormatsStay
-formats_stay rows none = (rw none refl, rw none refl)
+formats_stay rows none = (rw none refl, rw none refl, rw none refl)
 
 steps_stay : StepsStay
 steps_stay rows none = rw none refl

@@ -9,8 +9,8 @@ pub returns-in-Some-command_named : goal.returns-in-Some-command_named
 returns-in-Some-command_named c =
     let rows = rows_of (found_of c.in-Some.found.now) in
     let was = met c.args.matches.now c.in-Some.name.now rows (search rules) (search rules) in
-    subst (λ m. IsReading (job_in m) c.read_paced.result) (sym was)
-    (subst (λ command. IsReading (reading_in rows command) c.read_paced.result) c.in-Some-command_named.ensures c.read_paced.ensures)
+    subst (λ m. IsReading (job_in m) c.read_together.result) (sym was)
+    (subst (λ command. IsReading (reading_in rows command) c.read_together.result) c.in-Some-command_named.ensures c.read_together.ensures)
 
 pub returns-in-None : goal.returns-in-None
 returns-in-None c =

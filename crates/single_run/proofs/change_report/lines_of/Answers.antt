@@ -1,6 +1,5 @@
 use Rattle.std.proofs.Common.{◌≡◌, ◌∙◌, map, pos, string_bytes, subst, arith, rules}
 use Rattle.std.specs.Arc.{arc_value}
-use Rattle.frame_rate.specs.Instants.{rated_count}
 use Rattle.single_run.specs.ChangeReports.{AreChangeLines}
 use Rattle.single_run.proofs.ChangePictures.{blank_picture}
 use Rattle.single_run.proofs.LineLemmas.{next_lines, no_lines}
@@ -21,7 +20,7 @@ loop-place-preserved c =
 pub returns : goal.returns
 returns c =
     let setting = c.args.setting.now in
-    let all : c.loop-place.place ≡ rated_count c.args.instants.now = omega (arith, c.loop-place-test.false, c.loop-place.auto.place-end, c.count-place-end.ensures) in
+    let all : c.loop-place.place ≡ c.args.instants.now.count = omega (arith, c.loop-place-test.false, c.loop-place.auto.place-end) in
     (c.loop-place.screen.plan.draws, subst (λ n. AreChangeLines setting.script setting.fonts (map arc_value c.args.events.now) c.args.instants.now setting.frame n c.loop-place.screen.plan.draws (string_bytes c.loop-place.report)) all c.loop-place.invariant.lines)
 
 pub loop-place-init : goal.loop-place-init
