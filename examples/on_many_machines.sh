@@ -158,18 +158,21 @@ share() {
     rm -rf -- "$parts"
     mkdir -- "$parts"
     for ((at = 0; at < ranges; at++)); do
+        printf 'cd %q && ' "$PWD"
         printf '%q ' "${words[@]}" -r "$at" -- "$@"
         echo
     done > "$parts/commands"
-    words=(--sshlogin "$logins" --workdir "$PWD" --results "$parts/{#}" --files --retries 3 --halt 'now,fail=1')
-    if ! parallel "${words[@]}" < "$parts/commands" > "$parts/made"; then
-        cat -- "$parts"/*.err >&2 || true
+    cd -- "$parts"
+    if ! parallel --sshlogin "$logins" --results '{#}' --files --retries 3 --halt 'now,fail=1' < commands > made; then
+        cat -- *.err >&2 || true
+        cd -- "$OLDPWD"
         rm -rf -- "$parts"
         exit 1
     fi
     for ((at = 0; at < ranges; at++)); do
-        mv -- "$parts/$((at + 1))" "$parts/$at"
+        mv -- "$((at + 1))" "$at"
     done
+    cd -- "$OLDPWD"
 }
 
 self=$(readlink -f -- "${BASH_SOURCE[0]}")
