@@ -12,7 +12,7 @@
 #   -e OPTIONS   how ffmpeg encodes a video: '-c:v libx264' over a film, '-c:v ffv1 -pix_fmt bgra', with alpha, without one
 #   OUT          what is made: images as they come where its name ends with .ppm, .pam or .rgba, the same bytes that one
 #                play writes; else a video that ffmpeg makes
-#   WORDS        the options and names of a play: --from, --to, --step or --rate, --size, others, SCRIPT FONT..
+#   WORDS        the options and names of a play: --from, --to or --frames, --step or --rate, --size, others, SCRIPT FONT..
 #
 # Each machine has this folder, the working folder, the script, the fonts and the film at the same paths, and ffmpeg
 # where a video is made. What it makes comes back through ssh. For other ways to share work out (on_many_machines.sbatch):
@@ -57,29 +57,35 @@ read_options() {
 # Parts the words of a play into its instants and its size, and all else.
 read_words() {
     local value
-    from='' to='' step='' rate='' size='' others=()
+    from='' to='' count='' step='' rate='''' size='' others=()
     while [ $# -gt 0 ]; do
         case $1 in
         --) others+=("$@") && break ;;
-        --from | --to | --step | --rate | --size) value=${2-} && set -- "$1=$value" "${@:3}" ;;
+        --from | --to | --frames | --step | --rate | --size) value=${2-} && set -- "$1=$value" "${@:3}" ;;
         esac
         value=${1#*=}
         case $1 in
         --from=*) from=$value ;;
         --to=*) to=$value ;;
+        --frames=*) count=$value ;;
         --step=*) step=$value ;;
         --rate=*) rate=$value ;;
         --size=*) size=$value ;;
-        --times | --times=*) die 'the times of a play are counted over all its images, so it has no ranges' ;;
+        --times | --times=* | --changed) die "a play by ${1%=*} can't be cut into ranges" ;;
         *) others+=("$1") ;;
         esac
         shift
     done
-    [[ $from =~ ^[0-9]{1,13}$ && $to =~ ^[0-9]{1,13}$ && $size =~ ^[0-9]+x[0-9]+$ ]] || die 'a play has --from, --to and --size'
+    [ -z "$to" ] || [ -z "$count" ] || die 'a play has --to or --frames, and not both'
+    [[ $from =~ ^[0-9]{1,13}$ && $to$count =~ ^[0-9]{1,13}$ && $size =~ ^[0-9]+x[0-9]+$ ]] ||
+        die 'a play has --from, --to or --frames, and --size'
     [ -z "$step" ] || rate=1000/$step
     [[ $rate =~ ^([0-9]{1,7})(/([0-9]{1,13}))?$ ]] || die 'a play has --step or --rate'
-    frames=$((10#${BASH_REMATCH[1]})) per=$((10#${BASH_REMATCH[3]:-1})) from=$((10#$from)) to=$((10#$to))
+    frames=$((10#${BASH_REMATCH[1]})) per=$((10#${BASH_REMATCH[3]:-1})) from=$((10#$from))
     [ $((frames * per)) -gt 0 ] || die "no play has the rate $rate"
+    # behind the last instant
+    [ -n "$to" ] || to=$((from + 1000 * (10#$count - 1) * per / frames + 1))
+    to=$((10#$to))
 }
 
 # A range begins where an image stands at a whole millisecond: then its instants are those of the whole play. The period

@@ -15,6 +15,8 @@ CUT = [
     ("pam", "--from 5003 --to 7004 --rate 24000/1001 --size 64x36", 3),
     ("rgba", "--from=4500 --to=6500 --rate=30000/1001 --size=64x36 --renderers 2", 50),
     ("rgba", "--from 0 --to 7000 --rate 7 --size 64x36", 5),
+    ("rgba", "--from 4321 --frames 49 --rate 24000/1001 --size 64x36", 3),
+    ("ppm", "--frames=20 --from 900 --step 150 --size 64x36", 7),
     ("rgba", "--from 5000 --to 5000 --rate 25 --size 64x36", 5),
 ]
 NAMES = ["dialogue.ass", "letters.ttf"]

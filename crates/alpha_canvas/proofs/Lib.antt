@@ -3,3 +3,4 @@ pub mod LayerLemmas
 pub mod PictureLemmas
 pub mod RowLemmas
 pub mod TintLemmas
+pub mod TileLemmas

@@ -2,7 +2,7 @@
 
 ghost use Rattle.std.specs.Prelude.{◌≡◌, ◌≤◌, ◌*◌, ◌+◌};
 ghost use Rattle.blend.specs.Blending.{blended};
-ghost use Rattle.alpha_canvas.specs.Alpha.{fine, straight_channel, straight, premultiplied, formed_pixel, to_nearest, under};
+ghost use Rattle.alpha_canvas.specs.Alpha.{clear, fine, straight_channel, straight, premultiplied, formed_pixel, to_nearest, under};
 ghost use Rattle.alpha_canvas.specs.Bounds.{IsWithinAlpha};
 
 use crate::pixel::{AlphaForm, Pixel};
@@ -10,6 +10,9 @@ use ass_num::Rgba;
 
 /// The steps of a 255th.
 const FINE: u32 = 16_777_216;
+
+/// The alpha of a pixel that hides what lies below.
+const OPAQUE: u32 = 255 * FINE;
 
 /// The layers of a pixel, laid together: the colour times the alpha, and the alpha. A channel has 16,777,216 steps to a 255th.
 #[derive(Clone, Copy, Debug)]
@@ -49,16 +52,51 @@ fn coarse(channel: u32) -> u8
     ((channel + FINE / 2) / FINE) as u8
 }
 
+/// The layers of a colour that hides what lies below.
+fn hiding(colour: Rgba) -> Layers
+    ensures value { (p : Layers) → result ≡ under p (record { colour = colour; weight = 255 }) }
+    ensures within { IsWithinAlpha result }
+{
+    Layers {
+        r: FINE * u32::from(colour.r),
+        g: FINE * u32::from(colour.g),
+        b: FINE * u32::from(colour.b),
+        a: OPAQUE,
+    }
+}
+
 impl Layers {
+    /// Those of a pixel on which nothing was painted.
+    pub fn clear() -> Layers
+        ensures { result ≡ clear }
+    {
+        Layers {
+            r: 0,
+            g: 0,
+            b: 0,
+            a: 0,
+        }
+    }
+
     /// A colour of this weight is painted on it.
     pub fn under(self, colour: Rgba, weight: u8) -> Layers
         requires { IsWithinAlpha self }
         ensures value { result ≡ under self (record { colour = colour; weight = weight }) }
         ensures within { IsWithinAlpha result }
     {
-        if weight == 0 {
-            return self;
+        match weight {
+            0 => self,
+            255 => hiding(colour),
+            _ => self.blended_with(colour, weight),
         }
+    }
+
+    /// The same, whatever the weight is.
+    fn blended_with(self, colour: Rgba, weight: u8) -> Layers
+        requires { IsWithinAlpha self }
+        ensures value { result ≡ under self (record { colour = colour; weight = weight }) }
+        ensures within { IsWithinAlpha result }
+    {
         Layers {
             r: blended(self.r, colour.r, weight),
             g: blended(self.g, colour.g, weight),
@@ -72,6 +110,9 @@ impl Layers {
         requires { IsWithinAlpha self }
         ensures { result ≡ straight self }
     {
+        if self.a == OPAQUE {
+            return self.premultiplied();
+        }
         Pixel {
             r: straight_channel(self.r, self.a),
             g: straight_channel(self.g, self.a),

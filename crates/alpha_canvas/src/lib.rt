@@ -1,10 +1,12 @@
 //! Pictures with alpha, painted over nothing.
 #![tactic(auto)]
 
+mod columns;
 mod laws;
 mod layers;
 mod painting;
 mod pixel;
+mod tile;
 mod tint;
 
 pub use laws::over_is_near;

@@ -4,42 +4,37 @@ ghost use Rattle.std.specs.Prelude.{◌≡◌, ◌+◌, ◌*◌, ◌^◌, ◌≤
 ghost use Rattle.ass_num.specs.Limits.{IsFrameSize, max_frame_side};
 ghost use Rattle.blend.specs.Images.{image_value};
 ghost use Rattle.alpha_canvas.specs.Alpha.{AreAlphaRows, ArePixels, layers_at, formed_pixel};
-ghost use Rattle.alpha_canvas.specs.Bounds.{IsWithinAlpha, IsWritten};
 
-use crate::layers::Layers;
-use crate::pixel::{AlphaForm, Pixel};
-use crate::tint::{colour_at, weight_at};
+use crate::columns::columns_of_all;
+use crate::pixel::AlphaForm;
+use crate::tile::{TILE, paint_tile};
 use ass_num::{Mem, Size};
 use blend::{AsMask, Image};
 use std::alloc::Global;
 
-/// What images make of pixel (i, j), the lowest first.
-fn layers_at<M: AsMask>(images: &[Image<M>], i: u32, j: u32) -> Layers
-    requires { i < max_frame_side }
-    ensures value { result ≡ layers_at (map (image_value M.mask) images.now) i j }
-    ensures within { IsWithinAlpha result }
+/// Paints `count` pixels of row `j` of the picture of images, of which the first is in column `left`.
+fn paint_columns<M: AsMask>(
+    images: &[Image<M>],
+    form: AlphaForm,
+    bytes: &mut [u8],
+    left: u32,
+    count: u32,
+    j: u32,
+)
+    requires side { left + count ≤ max_frame_side }
+    requires bytes { length bytes.old ≡ 4 * count }
+    ensures { ArePixels (λ k. formed_pixel form (layers_at (map (image_value M.mask) images.now) (left + k) j)) count bytes.new }
 {
-    let mut pixel = Layers {
-        r: 0,
-        g: 0,
-        b: 0,
-        a: 0,
-    };
-    for image in images {
-        pixel = pixel.under(colour_at(image, i), weight_at(image, i, j));
+    let tiles = count / TILE;
+    for tile in 0..tiles {
+        let first = TILE * tile;
+        let start = 4 * first as usize;
+        let end = start + 4 * TILE as usize;
+        paint_tile(images, form, &mut bytes[start..end], left + first, TILE, j);
     }
-    pixel
-}
-
-/// Writes pixel `k`.
-fn write(bytes: &mut [u8], k: usize, pixel: Pixel)
-    requires { 4 * k + 4 ≤ length bytes.old }
-    ensures { IsWritten k pixel bytes.old bytes.new }
-{
-    bytes[4 * k] = pixel.r;
-    bytes[4 * k + 1] = pixel.g;
-    bytes[4 * k + 2] = pixel.b;
-    bytes[4 * k + 3] = pixel.a;
+    let first = TILE * tiles;
+    let rest = &mut bytes[4 * first as usize..];
+    paint_tile(images, form, rest, left + first, count - first, j);
 }
 
 /// Row `j` of the picture of images.
@@ -48,8 +43,11 @@ fn paint_row<M: AsMask>(images: &[Image<M>], form: AlphaForm, row: &mut [u8], w:
     requires bytes { length row.old ≡ 4 * w }
     ensures { ArePixels (λ i. formed_pixel form (layers_at (map (image_value M.mask) images.now) i j)) w row.new }
 {
-    for i in 0..w {
-        write(row, i as usize, layers_at(images, i, j).pixel(form));
+    row.fill(0);
+    let all = columns_of_all(images, w, j);
+    if all.left < all.right {
+        let reached = &mut row[4 * all.left as usize..4 * all.right as usize];
+        paint_columns(images, form, reached, all.left, all.right - all.left, j);
     }
 }
 

@@ -6,7 +6,10 @@ ghost use Rattle.ass_num.specs.Limits.{max_frame_side};
 ghost use Rattle.blend.specs.Areas.{placed_of, in_moved_box};
 ghost use Rattle.blend.specs.Blending.{Rect, by_255, in_rect, stencilled, tint_at};
 ghost use Rattle.blend.specs.Images.{image_value, stencil_value};
+ghost use Rattle.alpha_canvas.specs.Alpha.{under};
+ghost use Rattle.alpha_canvas.specs.Bounds.{IsWithinAlpha};
 
+use crate::layers::Layers;
 use ass_num::Rgba;
 use blend::{AsMask, Image, Placed, Stencil, cover};
 
@@ -104,7 +107,7 @@ fn stencilled<M: AsMask>(stencil: &Stencil<M>, i: u32, j: u32, m: u8) -> u8
 }
 
 /// The colour of an image in column `i`.
-pub fn colour_at<M: AsMask>(image: &Image<M>, i: u32) -> Rgba
+fn colour_at<M: AsMask>(image: &Image<M>, i: u32) -> Rgba
     ensures { result ≡ (if int_lt (pos i) image.now.edge then image.now.left else image.now.right) }
 {
     if i64::from(i) < i64::from(image.edge) {
@@ -114,16 +117,27 @@ pub fn colour_at<M: AsMask>(image: &Image<M>, i: u32) -> Rgba
     }
 }
 
-/// The weight that an image has at pixel (i, j).
-pub fn weight_at<M: AsMask>(image: &Image<M>, i: u32, j: u32) -> u8
-    requires { i < max_frame_side }
+/// The weight that an image has at pixel (i, j), of which its mask covers so much.
+fn weight_at<M: AsMask>(image: &Image<M>, covered: u8, i: u32, j: u32) -> u8
+    requires column { i < max_frame_side }
+    requires covered { covered ≡ moved_value (M.mask image.now.mask, image.now.x, image.now.y) (pos i) (pos j) }
     ensures { result ≡ (tint_at (image_value M.mask image.now) i j).weight }
 {
-    let placed = Placed {
-        mask: image.mask.as_mask(),
-        x: image.x,
-        y: image.y,
-    };
-    let m = stencilled(&image.stencil, i, j, value(placed, i, j));
-    by_255(m, 255 - colour_at(image, i).a)
+    let left = stencilled(&image.stencil, i, j, covered);
+    by_255(left, 255 - colour_at(image, i).a)
+}
+
+/// The layers of pixel (i, j) after an image was painted on it, whose mask covers so much of it.
+pub fn painted<M: AsMask>(layers: Layers, image: &Image<M>, covered: u8, i: u32, j: u32) -> Layers
+    requires column { i < max_frame_side }
+    requires covered { covered ≡ moved_value (M.mask image.now.mask, image.now.x, image.now.y) (pos i) (pos j) }
+    requires within { IsWithinAlpha layers }
+    ensures value { result ≡ under layers (tint_at (image_value M.mask image.now) i j) }
+    ensures within { IsWithinAlpha result }
+{
+    if covered == 0 {
+        layers
+    } else {
+        layers.under(colour_at(image, i), weight_at(image, covered, i, j))
+    }
 }
