@@ -41,8 +41,8 @@ usage: vimalorua WORDS..
       lines and from 1 to 8 draw, while lines are fed (live) or once all are (settled)
   play --changed [--crop] --from MS --to MS|--frames N --step MS|--rate N/D --size WxH
        [--format ppm|pam|rgba] [--budget BYTES] [--script-fonts] SCRIPT FONT..
-      writes of these images those that differ from the one before, and reports which these are;
-      --crop: each is cut to the box that changed
+      writes only those of these images that differ from the one before, and reports an index of them:
+      a line 'image K place N t=MS box X1 Y1 X2 Y2' for each; --crop: an image is only that box
   selftest [--workers N] SEED EVENTS
       plays a script that a seed generates and reports a digest of its images on standard error,
       which is the same for every number of workers, from 1 to 8
