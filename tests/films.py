@@ -135,6 +135,26 @@ def colours(score, given):
     score.check(near, "red over an HD film has other bytes")
 
 
+def changed(score, given):
+    """Only what changes, as the concat demuxer takes it, shows over a film what all images show."""
+    ask = [given.program, "play", "--from", "500", "--to", "7500", "--rate", RATE, "--size", SIZE, "dialogue.ass", "letters.ttf"]
+    images = subprocess.run([*ask, "--format", "rgba"], cwd=given.room, capture_output=True, timeout=600).stdout
+    raw = ["-filter_complex", "overlay=format=gbrp:eof_action=pass", "-f", "rawvideo", "-pix_fmt", "gbrp", "-"]
+    form = [*FORMATS["rgba"], "-framerate", RATE, "-i", "-"]
+    for film, name, more in (("kept.mp4", "rgba", ["--crop"]), ("kept.mkv", "rgba", []), ("kept.mkv", "pam", ["--crop"]), ("kept.mkv", "pam", [])):
+        words = ["-f", "lavfi", "-i", f"testsrc2=size={SIZE}:rate={RATE}", "-t", "7.6", "-c:v", "mpeg4", film]
+        ffmpeg(given.room, *words)
+        wanted = ffmpeg(given.room, "-i", film, *form, *raw, data=images)
+        with open(f"{given.room}/kept", "wb") as out, open(f"{given.room}/index", "wb") as index:
+            subprocess.run([*ask, "--changed", *more, "--format", name], cwd=given.room, stdout=out, stderr=index, timeout=600)
+        made = f"{given.room}/kept.frames"
+        done = subprocess.run([f"{given.top}/examples/changed_frames.py", "kept", "index", made], cwd=given.room, capture_output=True)
+        shown = ffmpeg(given.room, "-i", film, "-f", "concat", "-safe", "0", "-i", f"{made}/list", *raw)
+        holds = len(wanted) == 183 * 3 * WIDTH * HEIGHT and shown == wanted
+        score.check(holds, f"only what changes, by --format {name} {more}, shows something else over {film}: {done.stderr.decode(errors='replace')}")
+        shutil.rmtree(made, ignore_errors=True)
+
+
 def nearest(n, d):
     return (2 * n + d) // (2 * d)
 
@@ -162,7 +182,7 @@ def commands(score, given):
             done = subprocess.run(["bash", "-euo", "pipefail", "-c", block], cwd=room, stdin=subprocess.DEVNULL, capture_output=True, timeout=1200)
             score.check(done.returncode == 0, f"{page}: {block}: {done.stderr.decode(errors='replace')[-2000:]}")
     score.check(times(room, "subtitled.mp4") == [1001 * at for at in range(120)], "the film of README.md has frames at other times")
-    for name in ("signs.mkv", "again.mkv") if shutil.which("parallel") else ("signs.mkv",):
+    for name in ("signs.mkv", "kept.mkv", "again.mkv") if shutil.which("parallel") else ("signs.mkv", "kept.mkv"):
         score.check(times(room, name) == [nearest(1001 * at, 24) for at in range(72)], f"{name} has frames at other times")
 
 
@@ -173,4 +193,5 @@ def films(score, given):
     over_film(score, given)
     instants(score, given)
     colours(score, given)
+    changed(score, given)
     commands(score, given)

@@ -1,4 +1,4 @@
-"""What who lays subtitles over a video asks for: pictures with alpha, and instants at a rate.
+"""What who lays subtitles over a video asks for: pictures with alpha, only what changes, and instants at a rate.
 
 The expected bytes are worked out here, of boxes of one colour each, by the rules of docs/PICTURES.md.
 """
@@ -134,7 +134,90 @@ def film(score, given):
     score.check(done.returncode == 0 and said == wanted, "changes has other instants than the frames of a film of two hours")
 
 
+# Plays of examples: the script, its fonts, the size, and the instants.
+KEPT = [
+    ("dialogue.ass", ["subtitle.bdf"], "160x90", "--from 0 --to 9000 --step 125"),
+    ("signs.ass", ["subtitle.bdf"], "128x72", "--from 3900 --to 4700 --rate 24000/1001"),
+    ("hello.ass", ["letters.ttf"], "96x54", "--from 0 --to 6000 --rate 5"),
+    ("row.ass", ["dot.bdf"], "7x4", "--from 0 --to 40 --step 1"),
+    ("row.ass", ["dot.bdf"], "1x1", "--from 0 --to 3 --rate 5000"),
+    ("row.ass", ["dot.bdf"], "7x4", "--from 40 --to 40 --step 1"),
+]
+
+
+def depth(words):
+    return 4 if words in ("--format pam", "--format rgba") else 3
+
+
+def cut(stream, words, sizes):
+    """The images of a stream, as instants and pixels; None where they aren't of these sizes, one after the other."""
+    images, at = [], 0
+    for w, h in sizes:
+        t, form = None, words.split()[1]
+        if form != "rgba":
+            head = stream[at:].split(b"\n", 4)[:4]
+            said = [f"{w} {h}"] if form == "ppm" else [f"WIDTH {w}", f"HEIGHT {h}"]
+            if [it.decode() for it in head[2 : 2 + len(said)]] != said:
+                return None
+            t = int(head[1].split()[1][2:])
+            for _ in range(4 if form == "ppm" else 8):
+                at = stream.index(b"\n", at) + 1
+        count = w * h * (3 if form == "ppm" else 4)
+        images.append((t, stream[at : at + count]))
+        at += count
+    return images if at == len(stream) else None
+
+
+def expanded(stream, index, crop, size, words):
+    """The pixels of all instants of a play of only what changes, and why they can't be told, if so."""
+    *lines, last = index
+    if last[:2] != ["end", "place"] or any(line[:2] != ["image", str(k)] for k, line in enumerate(lines)):
+        return None, "an index of another form"
+    boxes = [[int(n) for n in line[6:]] for line in lines]
+    images = cut(stream, words, [(x2 - x1, y2 - y1) if crop else size for x1, y1, x2, y2 in boxes])
+    if images is None:
+        return None, "images of other sizes than its index tells"
+    if any(t is not None and f"t={t}" != line[4] for (t, _), line in zip(images, lines)):
+        return None, "images of other instants than its index tells"
+    depth = 3 if words == "--format ppm" else 4
+    whole, shown = bytearray(size[0] * size[1] * depth), []
+    for (_, pixels), (x1, y1, x2, y2), line in zip(images, boxes, lines):
+        shown += [bytes(whole)] * (int(line[3]) - len(shown))
+        row = (x2 - x1) * depth
+        for y in range(y1, y2) if crop else []:
+            begin = (y * size[0] + x1) * depth
+            whole[begin : begin + row] = pixels[(y - y1) * row :][:row]
+        if not crop:
+            whole = bytearray(pixels)
+    return shown + [bytes(whole)] * (int(last[2]) - len(shown)), None
+
+
+def kept(score, given):
+    """A play of only what changes, expanded by its index, has the pictures of the play of all instants, and no image too many."""
+    for script, fonts, size, instants in KEPT:
+        w, h = (int(n) for n in size.split("x"))
+        names = [f"{given.top}/examples/{name}" for name in [script, *fonts]]
+        for words in ["--format ppm", "--format pam", "--format rgba"]:
+            ask = ["play", *instants.split(), "--size", size, *words.split(), *names]
+            play = subprocess.run([given.program, *ask], stdin=subprocess.DEVNULL, capture_output=True, timeout=600)
+            for crop in [False, True]:
+                more = ["--changed", "--crop"] if crop else ["--changed"]
+                told = f"{script} by {' '.join(more)} {words} {instants}"
+                done = subprocess.run([given.program, *ask, *more], stdin=subprocess.DEVNULL, capture_output=True, timeout=600)
+                score.check(done.returncode == 0, f"{told} ends with {done.returncode}: {done.stderr[:80]}")
+                if done.returncode:
+                    continue
+                index = [line.split() for line in done.stderr.decode().splitlines()]
+                shown, why = expanded(done.stdout, index, crop, (w, h), words)
+                all_images = cut(play.stdout, words, [(w, h)] * int(index[-1][2]))
+                wanted = None if all_images is None else [pixels for _, pixels in all_images]
+                score.check(shown is not None and shown == wanted, f"{told} has {why or 'other pictures than the play of all instants'}")
+                changes = sum(i == 0 or wanted[i] != wanted[i - 1] for i in range(len(wanted or [])))
+                score.check(len(index) - 1 == changes, f"{told} has {len(index) - 1} images, and {changes} pictures differ")
+
+
 def over_video(score, given):
     formats(score, given)
+    kept(score, given)
     rates(score, given)
     film(score, given)

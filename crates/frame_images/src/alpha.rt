@@ -3,6 +3,7 @@
 ghost use Rattle.std.specs.Prelude.{◌≡◌, IfOk, map};
 ghost use Rattle.std.specs.Arc.{arc_value};
 ghost use Rattle.alpha_canvas.specs.Alpha.{AreAlphaRows};
+ghost use Rattle.ass_num.specs.Limits.{IsFrameSize};
 ghost use Rattle.blend.specs.Images.{image_value};
 ghost use Rattle.mask_keys.specs.Keys.{IsValidPlan};
 ghost use Rattle.mask_keys.specs.Outlines.{glyph_counts};
@@ -11,7 +12,7 @@ ghost use Rattle.run_words.specs.Jobs.{IsFrameJob};
 ghost use Rattle.text_layout.specs.Fonts.{IsLayoutFontSet};
 
 use alpha_canvas::{AlphaForm, paint_alpha};
-use ass_num::{Mask, Mem};
+use ass_num::{Mask, Mem, Size};
 use bdf_font::FontSet;
 use blend::Image;
 use local_caches::LocalCaches;
@@ -23,13 +24,31 @@ use std::sync::Arc;
 /// The images of draws whose keys are valid, with their masks through the caches.
 fn images_of(alloc: Global, local: &mut LocalCaches, draws: &[Draw]) -> Mem<Vec<Image<Arc<Mask>>>>
     requires { IsValidPlan (glyph_counts local.old.fonts) draws.now }
-    ensures { IfOk result (λ images. map (image_value arc_value) images.items ≡ map (image_of_draw local.old.fonts) draws.now) }
+    ensures images { IfOk result (λ images. map (image_value arc_value) images.items ≡ map (image_of_draw local.old.fonts) draws.now) }
+    ensures fonts { local.new.fonts ≡ local.old.fonts }
 {
     let mut images = Vec::new(alloc);
     for draw in draws {
         images.push(local.image(alloc, draw)?)?;
     }
     Ok(images)
+}
+
+/// The picture of a plan with straight alpha, with its masks through the caches.
+pub fn alpha_pixels(
+    alloc: Global,
+    local: &mut LocalCaches,
+    size: &Size,
+    plan: &Plan,
+) -> Mem<Vec<u8>>
+    requires size { IsFrameSize size.now }
+    requires plan { IsValidPlan (glyph_counts local.old.fonts) plan.now.draws }
+    ensures pixels { IfOk result (λ pixels. AreAlphaRows AlphaForm.Straight (map (image_of_draw local.old.fonts) plan.now.draws)
+        size.now.w 0 size.now.h pixels.items) }
+    ensures fonts { local.new.fonts ≡ local.old.fonts }
+{
+    let images = images_of(alloc, local, plan.draws.as_slice())?;
+    paint_alpha(alloc, size, AlphaForm::Straight, images.as_slice())
 }
 
 /// The picture of a plan with straight alpha.
@@ -47,11 +66,5 @@ pub fn alpha_painted(
         frame.now.view.size.w 0 frame.now.view.size.h pixels.items) }
 {
     let mut local = LocalCaches::open(alloc, fonts, frame.budget)?;
-    let images = images_of(alloc, &mut local, plan.draws.as_slice())?;
-    paint_alpha(
-        alloc,
-        &frame.view.size,
-        AlphaForm::Straight,
-        images.as_slice(),
-    )
+    alpha_pixels(alloc, &mut local, &frame.view.size, plan)
 }

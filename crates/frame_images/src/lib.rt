@@ -4,4 +4,5 @@
 mod alpha;
 mod image;
 
+pub use alpha::alpha_pixels;
 pub use image::frame_image;

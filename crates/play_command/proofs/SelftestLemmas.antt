@@ -65,7 +65,7 @@ instants_there : (events : ℕ) → 1 ≤ events → events ≤ max_events → i
 instants_there events least most =
     let at = (steps_are_rates 0 0 (5 * events) 19 (omega (arith, least))).0 in
     let there : 19 < frames_before (step_rate (5 * events)) 0 max_instant =
-      (counted_frames_come_before (step_rate (5 * events)) 0 max_instant 19 (omega arith) (omega (arith, least))).1 (omega (arith, at, most)) in
+    (counted_frames_come_before (step_rate (5 * events)) 0 max_instant 19 (omega arith) (omega (arith, least))).1 (omega (arith, at, most)) in
     omega (arith, there)
 
 pub job_within : (seed events workers : ℕ) → IsJob (Selftest seed events workers) → IsPlay (selftest_job events workers)

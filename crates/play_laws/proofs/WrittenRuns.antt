@@ -5,7 +5,7 @@ use Rattle.ass_events.specs.declared.event.Event.{Event}
 use Rattle.ass_io.specs.Fetched.{Held, Told}
 use Rattle.ass_script.specs.Scripts.{ScriptValue, script_of}
 use Rattle.single_run.specs.Outcomes.{IsOrFault}
-use Rattle.single_run.specs.Outputs.{IsFramesAsked, rewritten, sink_of, status_asked, written_with}
+use Rattle.single_run.specs.Outputs.{IsAnswerOf, IsFramesAsked, IsShownOf, rewritten, sink_of, status_asked, written_with}
 use Rattle.single_run.specs.Runs.{SinkChange}
 use Rattle.single_run.specs.declared.work.Task.{Task}
 use Rattle.single_run.specs.declared.work.Task.TheVariants.{Write}
@@ -66,7 +66,8 @@ module _ (law : ReadScriptsAreReadLater) (told : List ℕ → Told) (name : Scri
 
 pub written_runs : ReadScriptsAreReadLater → WrittenRunsShowTheSame
 written_runs law told log work write frames report is run =
-    let asked : IsFramesAsked (Write write) run.reading run.shown.0 = subst (λ (task : Task). IsFramesAsked task run.reading run.shown.0) is run.shown.1 in
-    let answered : IsOrFault (sink_of (Write write)) (status_asked (Write write) run.reading) Done =
-    subst (λ (task : Task). IsOrFault (sink_of task) (status_asked task run.reading) Done) is run.answered in
-    put_after law told work.script work.fonts write frames run.reading run.shown.0 run.read answered asked run.shown.2
+    let shown : IsShownOf (Write write) run.reading Done frames.before.held frames.now.held =
+    subst (λ (task : Task). IsShownOf task run.reading Done frames.before.held frames.now.held) is run.shown in
+    let answered : IsAnswerOf (Write write) (status_asked (Write write) run.reading) Done =
+    subst (λ (task : Task). IsAnswerOf task (status_asked task run.reading) Done) is run.answered in
+    put_after law told work.script work.fonts write frames run.reading shown.0 run.read answered shown.1 shown.2

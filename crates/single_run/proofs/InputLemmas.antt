@@ -19,7 +19,7 @@ use Rattle.ass_events.specs.LineLaws.{HasShortLines, LinesFitTheirText}
 use Rattle.text_layout.specs.Fonts.{IsLayoutFontSet}
 use Rattle.single_run.specs.Works.{AreInputsOf, IsTaskIn}
 use Rattle.single_run.specs.declared.work.Task.{Task}
-use Rattle.single_run.specs.declared.work.Task.TheVariants.{Changes, Check, Frame, Write}
+use Rattle.single_run.specs.declared.work.Task.TheVariants.{Changes, Check, Frame, Stills, Write}
 
 abbrev script_or : ScriptValue → Result ScriptValue Status → ScriptValue
 script_or otherwise (Ok script) = script
@@ -74,6 +74,9 @@ inputs_suit fit told (Frame frame) script fonts inputs suits (inl (few, read)) e
     (suits.0, inputs_lines fit told script fonts inputs read, font_set told script fonts inputs suits.1 read each)
 inputs_suit fit told (Changes changes) script fonts inputs suits (inr (many, e)) each = absurd cc
 inputs_suit fit told (Changes changes) script fonts inputs suits (inl (few, read)) each =
+    (suits.0, inputs_lines fit told script fonts inputs read, font_set told script fonts inputs suits.1 read each)
+inputs_suit fit told (Stills stills) script fonts inputs suits (inr (many, e)) each = absurd cc
+inputs_suit fit told (Stills stills) script fonts inputs suits (inl (few, read)) each =
     (suits.0, inputs_lines fit told script fonts inputs read, font_set told script fonts inputs suits.1 read each)
 inputs_suit fit told (Write write) script fonts inputs suits (inr (many, e)) each = absurd cc
 inputs_suit fit told (Write write) script fonts inputs suits (inl (few, read)) each = (suits, inputs_lines fit told script fonts inputs read)

@@ -2,6 +2,7 @@ pub mod Ends
 pub mod PieceLemmas
 pub mod InputLemmas
 pub mod RewriteLemmas
+pub mod StillLemmas
 pub mod Runs
 pub mod WorkLemmas
 pub mod LineLemmas

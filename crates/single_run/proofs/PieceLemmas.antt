@@ -10,6 +10,7 @@ use Rattle.run_status.specs.declared.status.What.TheVariants.{Frames as images}
 use Rattle.run_status.specs.declared.status.Which.{Which}
 use Rattle.run_status.specs.declared.status.Which.TheVariants.{Frames, Report}
 use Rattle.single_run.specs.Outcomes.{AreAllShown, ArePiecesFinished, ArePiecesShown, ArePiecesTold, AreSomeShown, AreSomeTold, IsEnded, IsOrMemory, IsTextOrLine, SuitsSink, memory_line, status_if_put, text_to_report}
+use Rattle.single_run.specs.StillOutputs.{SuitsStills}
 use Rattle.single_run.specs.Works.{is_too_long, limited_in, max_frames, work_in, work_of}
 use Rattle.single_run.specs.declared.outcome.Outcome.{Outcome}
 use Rattle.single_run.specs.declared.outcome.Outcome.TheVariants.{Ended, Found}
@@ -45,6 +46,19 @@ suits_tellable Report (status.BadWords why) own = tt
 suits_tellable Frames (status.BadWords why) own = tt
 suits_tellable Report (status.Unwritable order field) own = tt
 suits_tellable Frames (status.Unwritable order field) own = tt
+
+pub stills_tellable : (why : Status) → SuitsStills (Ended why) → IsTellable Report why
+stills_tellable status.Done own = own
+stills_tellable (status.NoSuchFile name) own = tt
+stills_tellable (status.ReadFault name) own = tt
+stills_tellable (status.BadScript cause) own = tt
+stills_tellable (status.BadFont index fault) own = tt
+stills_tellable (status.WriteFault Frames) own = tt
+stills_tellable (status.WriteFault Report) own = own
+stills_tellable (status.TooLarge what limit) own = tt
+stills_tellable status.OutOfMemory own = tt
+stills_tellable (status.BadWords why) own = tt
+stills_tellable (status.Unwritable order field) own = tt
 
 module _ (may : List ℕ → Type 0) (old new : List (List ℕ)) where
   some_unshown : (sink : Which) → new ≡ old → AreSomeShown sink may old new

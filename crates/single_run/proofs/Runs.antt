@@ -19,7 +19,7 @@ use Rattle.run_status.specs.declared.inputs.Inputs.{Inputs}
 use Rattle.run_words.specs.declared.job.ScriptSource.{ScriptSource}
 use Rattle.single_run.specs.declared.work.Work.{Work}
 use Rattle.single_run.specs.declared.work.Task.{Task}
-use Rattle.single_run.specs.declared.work.Task.TheVariants.{Changes, Check, Frame, Write}
+use Rattle.single_run.specs.declared.work.Task.TheVariants.{Changes, Check, Frame, Stills, Write}
 use Rattle.run_status.specs.Statuses.{status_line}
 use Rattle.run_status.specs.declared.status.Status.{Status}
 use Rattle.run_status.specs.declared.status.Status.TheVariants as status
@@ -28,13 +28,15 @@ use Rattle.run_status.specs.declared.status.Which.{Which}
 use Rattle.run_status.specs.declared.status.Which.TheVariants.{Frames, Report}
 use Rattle.track_write.specs.declared.refusal.WriteRefusal.{WriteRefusal}
 use Rattle.track_write.specs.declared.refusal.WriteRefusal.TheVariants.{OutOfMemory, Unwritable}
-use Rattle.single_run.specs.Outcomes.{ArePiecesFinished, ArePiecesShown, IsEnded, IsOrFault, IsOrMemory, SuitsSink, IsStatusReadCounted, IsMemoryReported, IsReported, IsShown, IsWriteCounted, out_of_memory, status_if_put, text_to_report}
-use Rattle.single_run.specs.Outputs.{IsFramesAsked, IsReportAsked, rewritten, sink_of, status_asked, task_status, written_status}
+use Rattle.single_run.specs.Outcomes.{ArePiecesFinished, ArePiecesShown, ArePiecesTold, IsEnded, IsOrFault, IsOrMemory, SuitsSink, IsStatusReadCounted, IsMemoryReported, IsReportable, IsReported, IsShown, IsWriteCounted, out_of_memory, status_if_put, text_to_report}
+use Rattle.single_run.specs.Outputs.{ArePiecesOf, IsAnswerOf, IsFramesAsked, IsReportAsked, IsShownOf, SuitsTask, kept_view, rewritten, sink_of, status_asked, task_status, written_status}
+use Rattle.single_run.specs.StillOutputs.{SuitsStills}
 use Rattle.single_run.specs.Runs.{Decides, IsJobRun, IsWorked, SinkChange, sink_change}
 use Rattle.single_run.specs.declared.outcome.Outcome.{Outcome}
 use Rattle.single_run.specs.declared.outcome.Outcome.TheVariants.{Ended, Found}
 use Rattle.single_run.proofs.Ends.{ended}
-use Rattle.single_run.proofs.PieceLemmas.{pieces_after, told_after}
+use Rattle.single_run.proofs.PieceLemmas.{ended_told, pieces_after, stills_tellable, told_after}
+use Rattle.single_run.proofs.StillLemmas.{asked_after, either_after, held_after}
 
 -- ---- what sinks got
 
@@ -224,6 +226,57 @@ nothing_put Frames status.OutOfMemory may asked h = inl refl
 nothing_put sink (status.BadWords why) may asked h = absurd h
 nothing_put sink (status.Unwritable order field) may asked h = absurd h
 
+stills_refusal : (answer : Status) → IsRefusal answer → SuitsStills (Ended answer)
+stills_refusal status.Done h = absurd h
+stills_refusal (status.NoSuchFile other) h = tt
+stills_refusal (status.ReadFault other) h = tt
+stills_refusal (status.BadScript cause) h = tt
+stills_refusal (status.BadFont index fault) h = tt
+stills_refusal (status.WriteFault which) h = absurd h
+stills_refusal (status.TooLarge what limit) h = tt
+stills_refusal status.OutOfMemory h = tt
+stills_refusal (status.BadWords why) h = absurd h
+stills_refusal (status.Unwritable order field) h = absurd h
+
+-- ---- the same of each task
+
+suits_refusal : (task : Task) (answer : Status) → IsRefusal answer → SuitsTask task (Ended answer)
+suits_refusal Check answer h = own_refusal Report answer h
+suits_refusal (Frame frame) answer h = own_refusal Frames answer h
+suits_refusal (Changes changes) answer h = own_refusal Report answer h
+suits_refusal (Stills stills) answer h = stills_refusal answer h
+suits_refusal (Write write) answer h = own_refusal Frames answer h
+
+pieces_refused : (task : Task) (answer refusal : Status) (asked : List (List ℕ)) → IsRefusal answer → ArePiecesOf task (Err refusal) answer asked asked
+pieces_refused Check answer refusal asked h = nothing_put Report answer (IsFramesAsked Check (Err refusal)) asked h
+pieces_refused (Frame frame) answer refusal asked h = nothing_put Frames answer (IsFramesAsked (Frame frame) (Err refusal)) asked h
+pieces_refused (Changes changes) answer refusal asked h = nothing_put Report answer (IsFramesAsked (Changes changes) (Err refusal)) asked h
+pieces_refused (Stills stills) answer refusal asked h = refl
+pieces_refused (Write write) answer refusal asked h = nothing_put Frames answer (IsFramesAsked (Write write) (Err refusal)) asked h
+
+shown_refused : (task : Task) (answer refusal : Status) (held : Option (List ℕ)) → IsShownOf task (Err refusal) answer held held
+shown_refused Check answer refusal held = shown_none answer held (IsFramesAsked Check (Err refusal)) refl
+shown_refused (Frame frame) answer refusal held = shown_none answer held (IsFramesAsked (Frame frame) (Err refusal)) refl
+shown_refused (Changes changes) answer refusal held = shown_none answer held (IsFramesAsked (Changes changes) (Err refusal)) refl
+shown_refused (Stills stills) answer refusal held = keeps held
+shown_refused (Write write) answer refusal held = shown_none answer held (IsFramesAsked (Write write) (Err refusal)) refl
+
+-- A task for one sink answers so of that one, and one for both of either.
+pub answer_or : (task : Task) (wanted answer : Status) → IsOrMemory wanted answer → IsAnswerOf task wanted answer
+answer_or Check wanted answer h = inl h
+answer_or (Frame frame) wanted answer h = inl h
+answer_or (Changes changes) wanted answer h = inl h
+answer_or (Stills stills) wanted answer h = inl (inl h)
+answer_or (Write write) wanted answer h = inl h
+
+sink_for : (task : Task) (wanted answer : Status) → IsAnswerOf task wanted answer → (sink : Which) × IsOrFault sink wanted answer
+sink_for Check wanted answer h = (Report, h)
+sink_for (Frame frame) wanted answer h = (Frames, h)
+sink_for (Changes changes) wanted answer h = (Report, h)
+sink_for (Stills stills) wanted answer (inl h) = (Frames, h)
+sink_for (Stills stills) wanted answer (inr h) = (Report, h)
+sink_for (Write write) wanted answer h = (Frames, h)
+
 -- A job whose files are refused.
 pub refused_worked : (told : List ℕ → Told) (log : FetchChange) (work : Work) (answer : Status) (state : SinkState) →
     AreRead told work.script work.fonts (Err answer) → AreFetched work.script work.fonts log (Err answer) → IsWorked told log work (sink_change state state) (Ended answer)
@@ -231,11 +284,11 @@ refused_worked told log work answer state read fetched = record {
   reading = Err answer;
   read = read;
   fetched = fetched;
-  answered = inl (inl refl);
-  shown = shown_none answer state.held (IsFramesAsked work.task (Err answer)) refl;
-  pieces = nothing_put (sink_of work.task) answer (IsFramesAsked work.task (Err answer)) state.asked (read_kind told work.script work.fonts answer read);
+  answered = answer_or work.task answer answer (inl refl);
+  shown = shown_refused work.task answer answer state.held;
+  pieces = pieces_refused work.task answer answer state.asked (read_kind told work.script work.fonts answer read);
   text = λ done. refl;
-  own = own_refusal (sink_of work.task) answer (read_kind told work.script work.fonts answer read);
+  own = suits_refusal work.task answer (read_kind told work.script work.fonts answer read);
 }
 
 -- A job for which memory ran out before its files were read.
@@ -245,21 +298,21 @@ memory_worked told log work state = elim (cases_lt 64 (length work.fonts)) [
     reading = Err (status.TooLarge Fonts 64);
     read = inr (many, refl);
     fetched = inr (many, refl, refl);
-    answered = inl (inr refl);
-    shown = inl (keeps state.held);
-    pieces = nothing_put (sink_of work.task) status.OutOfMemory (IsFramesAsked work.task (Err (status.TooLarge Fonts 64))) state.asked tt;
+    answered = answer_or work.task (status.TooLarge Fonts 64) status.OutOfMemory (inr refl);
+    shown = shown_refused work.task status.OutOfMemory (status.TooLarge Fonts 64) state.held;
+    pieces = pieces_refused work.task status.OutOfMemory (status.TooLarge Fonts 64) state.asked tt;
     text = λ done. refl;
-    own = own_refusal (sink_of work.task) status.OutOfMemory tt;
+    own = suits_refusal work.task status.OutOfMemory tt;
   }
   | inr few ↦ record {
     reading = Err status.OutOfMemory;
     read = inl (few, inl tt);
     fetched = inl (few, nothing_fetched work.script work.fonts log);
-    answered = inl (inl refl);
-    shown = inl (keeps state.held);
-    pieces = nothing_put (sink_of work.task) status.OutOfMemory (IsFramesAsked work.task (Err status.OutOfMemory)) state.asked tt;
+    answered = answer_or work.task status.OutOfMemory status.OutOfMemory (inl refl);
+    shown = shown_refused work.task status.OutOfMemory status.OutOfMemory state.held;
+    pieces = pieces_refused work.task status.OutOfMemory status.OutOfMemory state.asked tt;
     text = λ done. refl;
-    own = own_refusal (sink_of work.task) status.OutOfMemory tt;
+    own = suits_refusal work.task status.OutOfMemory tt;
   }
 ]
 
@@ -278,14 +331,6 @@ answered_after Report wanted (Found text) answer own (inl (inl done)) (inr fault
 answered_after Report wanted (Found text) answer own (inl (inr memory)) (inr fault) = absurd cc
 answered_after Report wanted (Found text) answer own (inr (done, other)) (inr fault) = absurd cc
 
--- A task for the report shows nothing.
-nothing_shown : (task : Task) (reading : Result Inputs Status) → sink_of task ≡ Report → (bytes : List ℕ) → IsFramesAsked task reading bytes → bytes ≡ []
-nothing_shown task (Err other) own bytes h = h
-nothing_shown Check (Ok inputs) own bytes h = h
-nothing_shown (Changes changes) (Ok inputs) own bytes h = h
-nothing_shown (Frame frame) (Ok inputs) own bytes h = absurd cc
-nothing_shown (Write write) (Ok inputs) own bytes h = absurd cc
-
 pub shown_after : (sink : Which) (may : List ℕ → Type 0) (outcome : Outcome) (answer : Status) (old new : Option (List ℕ)) → (sink ≡ Report → (bytes : List ℕ) → may bytes → bytes ≡ []) →
     SuitsSink sink outcome → IsEnded outcome answer → IsShown (status_if_put outcome) old new may → IsShown answer old new may
 shown_after sink may (Ended before) answer old new none own e h = elim (ended before answer e) [
@@ -298,6 +343,47 @@ shown_after Report may (Found text) answer old new none own (inl (inr memory)) h
 shown_after Report may (Found text) answer old new none own (inr fault) h =
     let kept = keeps_appended old new (subst (Appends old new) (none refl h.0 h.1) h.2) in
     subst (λ s. IsShown s old new may) (sym fault) kept
+
+-- ---- the same of each task
+
+frames_alone : {A : Type 0} → Frames ≡ Report → A
+frames_alone is = absurd cc
+
+answer_of : (task : Task) (wanted : Status) (outcome : Outcome) (answer : Status) → SuitsTask task outcome → IsAnswerOf task wanted (status_if_put outcome) → IsEnded outcome answer → IsAnswerOf task wanted answer
+answer_of Check wanted outcome answer own asked e = answered_after Report wanted outcome answer own asked e
+answer_of (Frame frame) wanted outcome answer own asked e = answered_after Frames wanted outcome answer own asked e
+answer_of (Changes changes) wanted outcome answer own asked e = answered_after Report wanted outcome answer own asked e
+answer_of (Stills stills) wanted outcome answer own asked e = either_after wanted outcome answer asked e
+answer_of (Write write) wanted outcome answer own asked e = answered_after Frames wanted outcome answer own asked e
+
+shown_of : (task : Task) (reading : Result Inputs Status) (outcome : Outcome) (answer : Status) (old new : Option (List ℕ)) → SuitsTask task outcome → IsEnded outcome answer →
+    IsShownOf task reading (status_if_put outcome) old new → IsShownOf task reading answer old new
+shown_of Check (Ok inputs) outcome answer old new own e h = shown_after Report (IsFramesAsked Check (Ok inputs)) outcome answer old new (λ is bytes none. none) own e h
+shown_of Check (Err refusal) outcome answer old new own e h = shown_after Report (IsFramesAsked Check (Err refusal)) outcome answer old new (λ is bytes none. none) own e h
+shown_of (Frame frame) reading outcome answer old new own e h = shown_after Frames (IsFramesAsked (Frame frame) reading) outcome answer old new (λ is bytes may. frames_alone is) own e h
+shown_of (Changes changes) (Ok inputs) outcome answer old new own e h = shown_after Report (IsFramesAsked (Changes changes) (Ok inputs)) outcome answer old new (λ is bytes none. none) own e h
+shown_of (Changes changes) (Err refusal) outcome answer old new own e h = shown_after Report (IsFramesAsked (Changes changes) (Err refusal)) outcome answer old new (λ is bytes none. none) own e h
+shown_of (Stills stills) (Ok inputs) outcome answer old new own e h = held_after (kept_view stills inputs) outcome answer old new e h
+shown_of (Stills stills) (Err refusal) outcome answer old new own e h = h
+shown_of (Write write) reading outcome answer old new own e h = shown_after Frames (IsFramesAsked (Write write) reading) outcome answer old new (λ is bytes may. frames_alone is) own e h
+
+pieces_of : (task : Task) (reading : Result Inputs Status) (outcome : Outcome) (answer : Status) (old new : List (List ℕ)) → SuitsTask task outcome → IsEnded outcome answer →
+    ArePiecesOf task reading (status_if_put outcome) old new → ArePiecesOf task reading answer old new
+pieces_of Check reading outcome answer old new own e h = pieces_after (IsFramesAsked Check reading) old new Report outcome answer own e h
+pieces_of (Frame frame) reading outcome answer old new own e h = pieces_after (IsFramesAsked (Frame frame) reading) old new Frames outcome answer own e h
+pieces_of (Changes changes) reading outcome answer old new own e h = pieces_after (IsFramesAsked (Changes changes) reading) old new Report outcome answer own e h
+pieces_of (Stills stills) (Ok inputs) outcome answer old new own e h = asked_after (kept_view stills inputs) outcome answer old new e h
+pieces_of (Stills stills) (Err refusal) outcome answer old new own e h = h
+pieces_of (Write write) reading outcome answer old new own e h = pieces_after (IsFramesAsked (Write write) reading) old new Frames outcome answer own e h
+
+told_of : (task : Task) (may : List ℕ → Type 0) (old new : List (List ℕ)) (outcome : Outcome) (answer : Status) → (status_if_put outcome ≡ status.Done → may (text_to_report outcome)) → SuitsTask task outcome →
+    IsEnded outcome answer → ArePiecesFinished outcome answer old new → ArePiecesTold (sink_of task) answer may old new
+told_of Check may old new outcome answer said own e h = told_after may old new Report outcome answer said own e h
+told_of (Frame frame) may old new outcome answer said own e h = told_after may old new Frames outcome answer said own e h
+told_of (Changes changes) may old new outcome answer said own e h = told_after may old new Report outcome answer said own e h
+told_of (Stills stills) may old new (Ended why) answer said own e h = ended_told may old new Report why answer (stills_tellable why own) e h
+told_of (Stills stills) may old new (Found text) answer said own e h = told_after may old new Report (Found text) answer said tt e h
+told_of (Write write) may old new outcome answer said own e h = told_after may old new Frames outcome answer said own e h
 
 -- What was reported counts where all is done or the report failed; it may be reported then.
 pub reported_as : (answer : Status) (old new : Option (List ℕ)) (before now : ℕ) (text : List ℕ) (may : List ℕ → Type 0) →
@@ -329,6 +415,20 @@ found_before sink (Ended before) answer own e fault = elim (ended before answer 
 ]
 found_before sink (Found text) answer own e fault = refl
 
+found_stills : (outcome : Outcome) (answer : Status) → SuitsStills outcome → IsEnded outcome answer → answer ≡ status.WriteFault Report → status_if_put outcome ≡ status.Done
+found_stills (Ended before) answer own e fault = elim (ended before answer e) [
+  | inl same ↦ let equal : before ≡ status.WriteFault Report = cc in absurd (subst (λ s. SuitsStills (Ended s)) equal own)
+  | inr memory ↦ absurd cc
+]
+found_stills (Found text) answer own e fault = refl
+
+found_of : (task : Task) (outcome : Outcome) (answer : Status) → SuitsTask task outcome → IsEnded outcome answer → answer ≡ status.WriteFault Report → status_if_put outcome ≡ status.Done
+found_of Check outcome answer own e fault = found_before Report outcome answer own e fault
+found_of (Frame frame) outcome answer own e fault = found_before Frames outcome answer own e fault
+found_of (Changes changes) outcome answer own e fault = found_before Report outcome answer own e fault
+found_of (Stills stills) outcome answer own e fault = found_stills outcome answer own e fault
+found_of (Write write) outcome answer own e fault = found_before Frames outcome answer own e fault
+
 -- A job and what is reported of it are a run.
 pub run_after : (told : List ℕ → Told) (log : FetchChange) (work : Work) (frames report : SinkChange) (outcome : Outcome) (answer : Status) →
     IsWorked told log work frames outcome → IsEnded outcome answer →
@@ -338,14 +438,51 @@ run_after told log work frames report outcome answer worked ended reported finis
   reading = worked.reading;
   read = worked.read;
   fetched = worked.fetched;
-  answered = answered_after (sink_of work.task) _ outcome answer worked.own worked.answered ended;
-  shown = shown_after (sink_of work.task) (IsFramesAsked work.task worked.reading) outcome answer _ _ (nothing_shown work.task worked.reading) worked.own ended worked.shown;
-  pieces_shown = pieces_after (IsFramesAsked work.task worked.reading) frames.before.asked frames.now.asked (sink_of work.task) outcome answer worked.own ended worked.pieces;
+  answered = answer_of work.task _ outcome answer worked.own worked.answered ended;
+  shown = shown_of work.task worked.reading outcome answer _ _ worked.own ended worked.shown;
+  pieces_shown = pieces_of work.task worked.reading outcome answer frames.before.asked frames.now.asked worked.own ended worked.pieces;
   reported = reported_as answer _ _ _ _ (text_to_report outcome) (IsReportAsked work.task worked.reading)
       (λ done. worked.text (done_before outcome answer ended done))
-      (λ fault. worked.text (found_before (sink_of work.task) outcome answer worked.own ended fault)) reported;
-  pieces_told = told_after (IsReportAsked work.task worked.reading) report.before.asked report.now.asked (sink_of work.task) outcome answer worked.text worked.own ended finished;
+      (λ fault. worked.text (found_of work.task outcome answer worked.own ended fault)) reported;
+  pieces_told = told_of work.task (IsReportAsked work.task worked.reading) report.before.asked report.now.asked outcome answer worked.text worked.own ended finished;
 }
+
+suits_reportable : (sink : Which) (outcome : Outcome) → SuitsSink sink outcome → IsReportable outcome
+suits_reportable sink (Found text) h = tt
+suits_reportable sink (Ended status.Done) h = tt
+suits_reportable sink (Ended (status.NoSuchFile name)) h = tt
+suits_reportable sink (Ended (status.ReadFault name)) h = tt
+suits_reportable sink (Ended (status.BadScript cause)) h = tt
+suits_reportable sink (Ended (status.BadFont index fault)) h = tt
+suits_reportable sink (Ended (status.WriteFault Frames)) h = tt
+suits_reportable Report (Ended (status.WriteFault Report)) h = h
+suits_reportable Frames (Ended (status.WriteFault Report)) h = h
+suits_reportable sink (Ended (status.TooLarge what limit)) h = tt
+suits_reportable sink (Ended status.OutOfMemory) h = tt
+suits_reportable sink (Ended (status.BadWords why)) h = tt
+suits_reportable sink (Ended (status.Unwritable order field)) h = tt
+
+stills_reportable : (outcome : Outcome) → SuitsStills outcome → IsReportable outcome
+stills_reportable (Found text) h = tt
+stills_reportable (Ended status.Done) h = tt
+stills_reportable (Ended (status.NoSuchFile name)) h = tt
+stills_reportable (Ended (status.ReadFault name)) h = tt
+stills_reportable (Ended (status.BadScript cause)) h = tt
+stills_reportable (Ended (status.BadFont index fault)) h = tt
+stills_reportable (Ended (status.WriteFault Frames)) h = tt
+stills_reportable (Ended (status.WriteFault Report)) h = h
+stills_reportable (Ended (status.TooLarge what limit)) h = tt
+stills_reportable (Ended status.OutOfMemory) h = tt
+stills_reportable (Ended (status.BadWords why)) h = tt
+stills_reportable (Ended (status.Unwritable order field)) h = tt
+
+-- No task has failed at the report before its end.
+pub reportable_of : (task : Task) (outcome : Outcome) → SuitsTask task outcome → IsReportable outcome
+reportable_of Check outcome h = suits_reportable Report outcome h
+reportable_of (Frame frame) outcome h = suits_reportable Frames outcome h
+reportable_of (Changes changes) outcome h = suits_reportable Report outcome h
+reportable_of (Stills stills) outcome h = stills_reportable outcome h
+reportable_of (Write write) outcome h = suits_reportable Frames outcome h
 
 -- ---- the counts
 
@@ -379,13 +516,19 @@ own_read : (task : Task) (inputs : Inputs) (before now : ℕ) → now ≡ before
 own_read Check inputs before now same = same
 own_read (Frame frame) inputs before now same = same
 own_read (Changes changes) inputs before now same = same
+own_read (Stills stills) inputs before now same = same
 own_read (Write write) inputs before now same = written_read (rewritten write inputs.script) before now same
 
+read_by : (sink : Which) (task : Task) (inputs : Inputs) (answer : Status) (before now : ℕ) → now ≡ before → IsOrFault sink (task_status task inputs) answer → IsStatusReadCounted answer before now
+read_by sink task inputs answer before now same (inl (inl wanted)) = subst (λ s. IsStatusReadCounted s before now) (sym wanted) (own_read task inputs before now same)
+read_by sink task inputs answer before now same (inl (inr memory)) = subst (λ s. IsStatusReadCounted s before now) (sym memory) (omega (arith, same))
+read_by sink task inputs answer before now same (inr (done, fault)) = subst (λ s. IsStatusReadCounted s before now) (sym fault) same
+
 -- No task fails at a file.
-pub read_same : (task : Task) (inputs : Inputs) (answer : Status) (before now : ℕ) → now ≡ before → IsOrFault (sink_of task) (task_status task inputs) answer → IsStatusReadCounted answer before now
-read_same task inputs answer before now same (inl (inl wanted)) = subst (λ s. IsStatusReadCounted s before now) (sym wanted) (own_read task inputs before now same)
-read_same task inputs answer before now same (inl (inr memory)) = subst (λ s. IsStatusReadCounted s before now) (sym memory) (omega (arith, same))
-read_same task inputs answer before now same (inr (done, fault)) = subst (λ s. IsStatusReadCounted s before now) (sym fault) same
+pub read_same : (task : Task) (inputs : Inputs) (answer : Status) (before now : ℕ) → now ≡ before → IsAnswerOf task (task_status task inputs) answer → IsStatusReadCounted answer before now
+read_same task inputs answer before now same h =
+    let one = sink_for task (task_status task inputs) answer h in
+    read_by one.0 task inputs answer before now same one.1
 
 written_rises : (answer : Status) (before now : ℕ) → IsWriteCounted answer before now → before ≤ now
 written_rises status.Done before now h = omega (arith, h)
@@ -472,12 +615,12 @@ pub decides : FilesDecide → (told : List ℕ → Told) (log : FetchChange) (wo
     IsJobRun told log work frames report answer → IsStatusReadCounted answer before now → IsWriteCounted answer frames.before.faults frames.now.faults →
     (Rose before now → ⊥) → (Rose frames.before.faults frames.now.faults → ⊥) → (Rose report.before.faults report.now.faults → ⊥) → Decides told work answer
 decides law told log work frames report before now answer run counted written stays shows reports = λ reading known read decided.
-    let sink = sink_of work.task in
+    let one = sink_for work.task (status_asked work.task run.reading) answer run.answered in
     elim (fault_or_decided run.reading) [
       | inl found ↦
           let same = law told work.script work.fonts run.reading reading known found decided run.read read in
-          let fails : answer ≡ status.WriteFault sink → ⊥ = λ fault. elim (sink_rose sink answer frames report _ fault written run.reported) [ inl rose ↦ shows rose | inr rose ↦ reports rose ] in
-          unfailed sink (status_asked work.task reading) answer fails (subst (λ r. IsOrFault sink (status_asked work.task r) answer) same run.answered)
-      | inr (inl (name, fault)) ↦ inr (unread sink name answer before now stays counted (subst (λ r. IsOrFault sink (status_asked work.task r) answer) fault run.answered))
-      | inr (inr memory) ↦ inr (wanting sink answer (subst (λ r. IsOrFault sink (status_asked work.task r) answer) memory run.answered))
+          let fails : answer ≡ status.WriteFault one.0 → ⊥ = λ fault. elim (sink_rose one.0 answer frames report _ fault written run.reported) [ inl rose ↦ shows rose | inr rose ↦ reports rose ] in
+          unfailed one.0 (status_asked work.task reading) answer fails (subst (λ r. IsOrFault one.0 (status_asked work.task r) answer) same one.1)
+      | inr (inl (name, fault)) ↦ inr (unread one.0 name answer before now stays counted (subst (λ r. IsOrFault one.0 (status_asked work.task r) answer) fault one.1))
+      | inr (inr memory) ↦ inr (wanting one.0 answer (subst (λ r. IsOrFault one.0 (status_asked work.task r) answer) memory one.1))
     ]

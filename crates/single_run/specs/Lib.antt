@@ -1,5 +1,6 @@
 pub mod Works
 pub mod Outcomes
+pub mod StillOutputs
 pub mod Outputs
 pub mod Runs
 pub mod CheckReports

@@ -10,8 +10,8 @@ use Rattle.run_status.specs.declared.inputs.Inputs.{Inputs}
 use Rattle.single_run.specs.declared.work.Work.{Work}
 use Rattle.run_status.specs.declared.status.Status.{Status}
 use Rattle.run_status.specs.declared.status.Status.TheVariants.{Done}
-use Rattle.single_run.specs.Outcomes.{ArePiecesShown, ArePiecesTold, IsOrFault, IsOrMemory, IsReported, IsShown, SuitsSink, status_if_put, text_to_report}
-use Rattle.single_run.specs.Outputs.{IsFramesAsked, IsReportAsked, sink_of, status_asked}
+use Rattle.single_run.specs.Outcomes.{ArePiecesTold, IsOrMemory, IsReported, status_if_put, text_to_report}
+use Rattle.single_run.specs.Outputs.{ArePiecesOf, IsAnswerOf, IsReportAsked, IsShownOf, SuitsTask, sink_of, status_asked}
 use Rattle.single_run.specs.declared.outcome.Outcome.{Outcome}
 
 -- What is seen of a sink before and after.
@@ -27,20 +27,20 @@ pub record IsWorked (told : List ℕ → Told) (log : FetchChange) (work : Work)
   pub reading : Result Inputs Status
   pub read : AreRead told work.script work.fonts reading
   pub fetched : AreFetched work.script work.fonts log reading
-  pub answered : IsOrFault (sink_of work.task) (status_asked work.task reading) (status_if_put outcome)
-  pub shown : IsShown (status_if_put outcome) frames.before.held frames.now.held (IsFramesAsked work.task reading)
-  pub pieces : ArePiecesShown (sink_of work.task) (status_if_put outcome) (IsFramesAsked work.task reading) frames.before.asked frames.now.asked
+  pub answered : IsAnswerOf work.task (status_asked work.task reading) (status_if_put outcome)
+  pub shown : IsShownOf work.task reading (status_if_put outcome) frames.before.held frames.now.held
+  pub pieces : ArePiecesOf work.task reading (status_if_put outcome) frames.before.asked frames.now.asked
   pub text : status_if_put outcome ≡ Done → IsReportAsked work.task reading (text_to_report outcome)
-  pub own : SuitsSink (sink_of work.task) outcome
+  pub own : SuitsTask work.task outcome
 
 -- A run of a job. Its files are read with one answer, as far as it is told what they hold, and as what they gave when they were fetched; that answer asks for the status, and for what the sinks may get.
 pub record IsJobRun (told : List ℕ → Told) (log : FetchChange) (work : Work) (frames report : SinkChange) (status : Status) : Type 0 where
   pub reading : Result Inputs Status
   pub read : AreRead told work.script work.fonts reading
   pub fetched : AreFetched work.script work.fonts log reading
-  pub answered : IsOrFault (sink_of work.task) (status_asked work.task reading) status
-  pub shown : IsShown status frames.before.held frames.now.held (IsFramesAsked work.task reading)
-  pub pieces_shown : ArePiecesShown (sink_of work.task) status (IsFramesAsked work.task reading) frames.before.asked frames.now.asked
+  pub answered : IsAnswerOf work.task (status_asked work.task reading) status
+  pub shown : IsShownOf work.task reading status frames.before.held frames.now.held
+  pub pieces_shown : ArePiecesOf work.task reading status frames.before.asked frames.now.asked
   pub reported : IsReported status report.before.held report.now.held report.before.faults report.now.faults (IsReportAsked work.task reading)
   pub pieces_told : ArePiecesTold (sink_of work.task) status (IsReportAsked work.task reading) report.before.asked report.now.asked
 

@@ -3,7 +3,7 @@ use Rattle.std.specs.Prelude.{◌≡◌, ◌⊎◌, Bool, true, false, ◌&&◌,
 use Rattle.ass_events.specs.Events.{is_time}
 use Rattle.bdf_font.specs.Limits.{max_fonts}
 use Rattle.run_status.specs.declared.inputs.Inputs.{Inputs}
-use Rattle.run_words.specs.Jobs.{IsChangesJob, IsFrameJob}
+use Rattle.run_words.specs.Jobs.{IsChangesJob, IsFrameJob, IsStills}
 use Rattle.run_words.specs.Words.{job_of}
 use Rattle.run_words.specs.declared.job.Job.{Job}
 use Rattle.run_words.specs.declared.job.Job.TheVariants as job
@@ -16,7 +16,7 @@ use Rattle.run_status.specs.declared.status.What.TheVariants.{Frames}
 use Rattle.ass_events.specs.LineLaws.{HasShortLines}
 use Rattle.text_layout.specs.Fonts.{IsLayoutFontSet}
 use Rattle.single_run.specs.declared.work.Task.{Task}
-use Rattle.single_run.specs.declared.work.Task.TheVariants.{Changes, Check, Frame, Write}
+use Rattle.single_run.specs.declared.work.Task.TheVariants.{Changes, Check, Frame, Stills, Write}
 use Rattle.single_run.specs.declared.work.Work.{Work}
 use Rattle.single_run.specs.declared.work.WriteTask.{WriteTask}
 
@@ -33,6 +33,7 @@ abbrev pub work_of : Job → Option Work
 work_of (job.Check script fonts) = Some (work_with script fonts Check)
 work_of (job.Frame frame script fonts) = option_map (work_with script fonts) (task_in (Frame frame) fonts)
 work_of (job.Changes changes script fonts) = option_map (work_with script fonts) (task_in (Changes changes) fonts)
+work_of (job.Stills stills script fonts) = option_map (work_with script fonts) (task_in (Stills stills) fonts)
 work_of (job.Write later earlier script) = Some (work_with (record { name = script; own_fonts = false }) [] (Write (record { later = later; earlier = earlier })))
 work_of _ = None
 
@@ -43,6 +44,7 @@ max_frames = 1000000
 -- how many pictures a task compares
 abbrev pub compared : Task → ℕ
 compared (Changes changes) = changes.instants.count
+compared (Stills stills) = stills.instants.count
 compared _ = 0
 
 -- whether it compares too many; too many fonts are told before
@@ -83,6 +85,7 @@ abbrev pub IsTaskIn : List (List ℕ) → Task → Type 0
 IsTaskIn fonts Check = Unit {0}
 IsTaskIn fonts (Frame frame) = IsFrameJob frame × (0 < length fonts)
 IsTaskIn fonts (Changes changes) = IsChangesJob changes × (0 < length fonts)
+IsTaskIn fonts (Stills stills) = IsStills stills × (0 < length fonts)
 IsTaskIn fonts (Write write) = IsWriteTask write
 
 abbrev pub IsWork : Work → Type 0
@@ -93,4 +96,5 @@ abbrev pub AreInputsOf : Task → Inputs → Type 0
 AreInputsOf Check inputs = Unit {0}
 AreInputsOf (Frame frame) inputs = IsFrameJob frame × HasShortLines inputs.script × IsLayoutFontSet inputs.fonts
 AreInputsOf (Changes changes) inputs = IsChangesJob changes × HasShortLines inputs.script × IsLayoutFontSet inputs.fonts
+AreInputsOf (Stills stills) inputs = IsStills stills × HasShortLines inputs.script × IsLayoutFontSet inputs.fonts
 AreInputsOf (Write write) inputs = IsWriteTask write × HasShortLines inputs.script

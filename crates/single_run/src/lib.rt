@@ -13,6 +13,7 @@ mod report;
 mod rewrite;
 mod screen;
 mod shown;
+mod still_run;
 mod task;
 mod work;
 

@@ -3,9 +3,9 @@
 ghost use Rattle.std.specs.Prelude.{◌≡◌, ◌≢◌, Ok, string_bytes};
 ghost use Rattle.ass_io.specs.Fetches.{fetch_change};
 ghost use Rattle.ass_script.specs.Ranges.{IsScript};
-ghost use Rattle.single_run.specs.Outcomes.{ArePiecesShown, IsOrFault, IsShown, IsStatusReadCounted, IsWriteCounted, SuitsSink, status_if_put};
+ghost use Rattle.single_run.specs.Outcomes.{IsOrFault, IsStatusReadCounted, IsWriteCounted, SuitsSink, status_if_put};
 ghost use Rattle.single_run.specs.Outcomes.{text_to_report};
-ghost use Rattle.single_run.specs.Outputs.{IsFramesOf, IsReportOf, sink_of, task_status};
+ghost use Rattle.single_run.specs.Outputs.{ArePiecesOf, IsAnswerOf, IsReportOf, IsShownOf, SuitsTask, task_status};
 ghost use Rattle.single_run.specs.Runs.{IsWorked, sink_change};
 ghost use Rattle.single_run.specs.Works.{AreInputsOf, IsTaskIn, IsWork};
 ghost use Rattle.run_status.specs.declared.status.Status.TheVariants.{Done as done_status};
@@ -15,6 +15,7 @@ use crate::check_report;
 use crate::outcome::Outcome;
 use crate::picture::draw;
 use crate::rewrite::rewrite;
+use crate::still_run::keep;
 use crate::work::{Task, Work};
 use ass_events::line_laws;
 use ass_io::{Shelf, Sink};
@@ -37,22 +38,21 @@ fn check(alloc: Global, inputs: &Inputs) -> Outcome
 }
 
 /// Does a task with its inputs.
-#[tactic(auto, using(crate::proofs::Runs::shown_none))]
 fn do_task<F: Sink>(alloc: Global, task: &Task, inputs: Inputs, frames: &mut F) -> Outcome
     requires script { IsScript inputs.script }
     requires inputs { AreInputsOf task.now inputs }
-    ensures answered { IsOrFault (sink_of task.now) (task_status task.now inputs) (status_if_put result) }
-    ensures shown { IsShown (status_if_put result) (F.state frames.old).held (F.state frames.new).held (IsFramesOf task.now inputs) }
-    ensures pieces { ArePiecesShown (sink_of task.now) (status_if_put result) (IsFramesOf task.now inputs) (F.state frames.old).asked
-        (F.state frames.new).asked }
+    ensures answered { IsAnswerOf task.now (task_status task.now inputs) (status_if_put result) }
+    ensures shown { IsShownOf task.now (Ok inputs) (status_if_put result) (F.state frames.old).held (F.state frames.new).held }
+    ensures pieces { ArePiecesOf task.now (Ok inputs) (status_if_put result) (F.state frames.old).asked (F.state frames.new).asked }
     ensures counted { IsWriteCounted (status_if_put result) (F.state frames.old).faults (F.state frames.new).faults }
     ensures text { status_if_put result ≡ done_status → IsReportOf task.now inputs (text_to_report result) }
-    ensures own { SuitsSink (sink_of task.now) result }
+    ensures own { SuitsTask task.now result }
 {
     match task {
         Task::Check => check(alloc, &inputs),
         Task::Frame(frame) => Outcome::Ended(draw(alloc, frame, inputs, frames)),
         Task::Changes(changes) => compare(alloc, changes, inputs),
+        Task::Stills(stills) => keep(alloc, stills, inputs, frames),
         Task::Write(write) => Outcome::Ended(rewrite(alloc, write, &inputs.script, frames)),
     }
 }

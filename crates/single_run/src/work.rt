@@ -7,7 +7,9 @@ ghost use Rattle.run_words.specs.Words.{texts};
 
 use ass_num::{Items, Text};
 use run_status::{MAX_FONTS, Status, What};
-use run_words::{ChangesJob, FrameJob, Job, ScriptSource, WordsFault, WordsRefusal, read_words};
+use run_words::{
+    ChangesJob, FrameJob, Job, ScriptSource, StillsJob, WordsFault, WordsRefusal, read_words,
+};
 use std::alloc::Global;
 
 /// The most pictures that a task compares.
@@ -29,6 +31,8 @@ pub enum Task {
     Frame(FrameJob),
     /// A report on what changes from picture to picture.
     Changes(ChangesJob),
+    /// The pictures that differ from those before them.
+    Stills(StillsJob),
     /// The script written again.
     Write(WriteTask),
 }
@@ -85,7 +89,15 @@ pub fn work_of(alloc: Global, job: Job) -> Option<Work>
                 fonts,
             })
         }
-        Job::Play(_, _, _) | Job::Stills(_, _, _) | Job::Selftest(_, _, _) => None,
+        Job::Stills(stills, script, fonts) => {
+            let task = task_in(Task::Stills(stills), fonts.as_slice())?;
+            Some(Work {
+                task,
+                script,
+                fonts,
+            })
+        }
+        Job::Play(_, _, _) | Job::Selftest(_, _, _) => None,
         Job::Help | Job::Version => None,
     }
 }
@@ -97,6 +109,7 @@ fn compared(work: &Work) -> u64
 {
     match &work.task {
         Task::Changes(changes) => changes.instants.count,
+        Task::Stills(stills) => stills.instants.count,
         Task::Check | Task::Frame(_) | Task::Write(_) => 0,
     }
 }

@@ -55,7 +55,7 @@ pub returns-in-Selftest-clause-reportable : goal.returns-in-Selftest-clause-repo
 returns-in-Selftest-clause-reportable g c = (worked_kind c.in-Selftest.seed c.in-Selftest.events c.do_selftest.result 0 0 c.do_selftest.ensures).2
 
 pub returns-in-Selftest-clause-spoken : goal.returns-in-Selftest-clause-spoken
-returns-in-Selftest-clause-spoken g c = (worked_kind c.in-Selftest.seed c.in-Selftest.events c.do_selftest.result 0 0 c.do_selftest.ensures).3
+returns-in-Selftest-clause-spoken g c = λ none. (worked_kind c.in-Selftest.seed c.in-Selftest.events c.do_selftest.result 0 0 c.do_selftest.ensures).3
 
 -- ---- what the program tells of itself
 

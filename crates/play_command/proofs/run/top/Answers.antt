@@ -23,7 +23,7 @@ returns-in-Some-clause-other_report g c = λ why refused. c.in-Some.ensures.othe
 
 pub returns-in-Some-clause-play : goal.returns-in-Some-clause-play
 returns-in-Some-clause-play g c = λ job script fonts asked.
-    let left = play_left _ job script fonts asked in
+    let left = play_left (texts c.args.words.now) job script fonts asked in
     let none = left_no_work _ left in
     let frames = c.in-Some.ensures.other_frames none in
     let shelf = c.in-Some.ensures.other_shelf none in
@@ -31,34 +31,34 @@ returns-in-Some-clause-play g c = λ job script fonts asked.
 
 pub returns-in-Some-clause-play_decided : goal.returns-in-Some-clause-play_decided
 returns-in-Some-clause-play_decided g c = λ job script fonts asked stays shows reports reading known read decided.
-    inr (c.in-Some.ensures.left (play_left _ job script fonts asked))
+    inr (c.in-Some.ensures.left (play_left (texts c.args.words.now) job script fonts asked))
 
 pub returns-in-Some-clause-selftest : goal.returns-in-Some-clause-selftest
 returns-in-Some-clause-selftest g c = λ seed events workers asked.
-    let left = selftest_left _ seed events workers asked in
+    let left = selftest_left (texts c.args.words.now) seed events workers asked in
     selftest_wanting seed events _ c.in-Some.status (c.in-Some.ensures.left left) (c.in-Some.ensures.other_report (left_no_work _ left)) (c.in-Some.ensures.left_pieces left)
 
 pub returns-in-Some-clause-selftest_decided : goal.returns-in-Some-clause-selftest_decided
 returns-in-Some-clause-selftest_decided g c = λ seed events workers asked reports reading read decided.
-    inr (c.in-Some.ensures.left (selftest_left _ seed events workers asked))
+    inr (c.in-Some.ensures.left (selftest_left (texts c.args.words.now) seed events workers asked))
 
 pub returns-in-Some-clause-selftest_shelf : goal.returns-in-Some-clause-selftest_shelf
-returns-in-Some-clause-selftest_shelf g c = λ seed events workers asked. c.in-Some.ensures.other_shelf (left_no_work _ (selftest_left _ seed events workers asked))
+returns-in-Some-clause-selftest_shelf g c = λ seed events workers asked. c.in-Some.ensures.other_shelf (left_no_work _ (selftest_left (texts c.args.words.now) seed events workers asked))
 
 pub returns-in-Some-clause-selftest_frames : goal.returns-in-Some-clause-selftest_frames
-returns-in-Some-clause-selftest_frames g c = λ seed events workers asked. c.in-Some.ensures.other_frames (left_no_work _ (selftest_left _ seed events workers asked))
+returns-in-Some-clause-selftest_frames g c = λ seed events workers asked. c.in-Some.ensures.other_frames (left_no_work _ (selftest_left (texts c.args.words.now) seed events workers asked))
 
 -- ---- what the program tells of itself, where memory runs out for the words
 
 pub returns-in-Some-clause-text : goal.returns-in-Some-clause-text
 returns-in-Some-clause-text g c = λ job text asked told.
-    let left = words_left _ job text asked told in
+    let left = words_left (texts c.args.words.now) job text asked told in
     let none = left_no_work _ left in
     let frames = c.in-Some.ensures.other_frames none in
     rw frames (text_run_wanting text _ _ c.in-Some.status (c.in-Some.ensures.left left) (c.in-Some.ensures.other_report none) (c.in-Some.ensures.left_pieces left))
 
 pub returns-in-Some-clause-text_shelf : goal.returns-in-Some-clause-text_shelf
-returns-in-Some-clause-text_shelf g c = λ job text asked told. c.in-Some.ensures.other_shelf (left_no_work _ (words_left _ job text asked told))
+returns-in-Some-clause-text_shelf g c = λ job text asked told. c.in-Some.ensures.other_shelf (left_no_work _ (words_left (texts c.args.words.now) job text asked told))
 
 -- ---- what the program tells of itself
 
