@@ -33,6 +33,7 @@ SET = {
     "MALLOC_TOP_PAD_": "33554432",
 }
 FILM = f"-f lavfi -i color=black:s={SIZE}:r=25:d={FRAMES / 25}".split()
+CHANGED = ["--changed", "--crop"]
 PIPED = f"-f rawvideo -pix_fmt rgba -video_size {SIZE} -framerate 25 -i -".split()
 
 
@@ -54,6 +55,18 @@ def sides(script, fonts):
     yield "ffmpeg, no subtitles", None, ffmpeg(*FILM)
     yield "ffmpeg `-vf ass`", None, ffmpeg(*FILM, "-vf", f"ass={script}:fontsdir={fonts}")
     yield "`play --format rgba`, ffmpeg `overlay`", rgba, ffmpeg(*FILM, *PIPED, *lay)
+    yield "`play --changed --crop`", [*rgba, *CHANGED], None
+    yield "ffmpeg `overlay` of what changes", None, ffmpeg(*FILM, *f"-f concat -safe 0 -i {frames_of(script, rgba)}/list".split(), *lay)
+
+
+def frames_of(script, rgba):
+    """What changes, as the concat demuxer takes it: made once."""
+    made = f"{script}.frames"
+    if not os.path.exists(made):
+        with open(f"{script}.images", "wb") as out, open(f"{script}.index", "wb") as index:
+            subprocess.run([*rgba, *CHANGED], stdin=subprocess.DEVNULL, stdout=out, stderr=index, check=True)
+        subprocess.run([f"{TOP}/examples/changed_frames.py", out.name, index.name, made], check=True)
+    return made
 
 
 def measured(front, back):
