@@ -150,7 +150,7 @@ def changed(score, given):
         made = f"{given.room}/kept.frames"
         done = subprocess.run([f"{given.top}/examples/changed_frames.py", "kept", "index", made], cwd=given.room, capture_output=True)
         shown = ffmpeg(given.room, "-i", film, "-f", "concat", "-safe", "0", "-i", f"{made}/list", *raw)
-        holds = len(wanted) == 183 * 3 * WIDTH * HEIGHT and shown == wanted
+        holds = len(wanted) > len(images) // 4 * 3 and shown == wanted
         score.check(holds, f"only what changes, by --format {name} {more}, shows something else over {film}: {done.stderr.decode(errors='replace')}")
         shutil.rmtree(made, ignore_errors=True)
 
