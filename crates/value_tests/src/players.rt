@@ -79,19 +79,35 @@ fn drawn(alloc: Global, player: &mut Player) -> usize {
     }
 }
 
+/// Whether the lists of three instants change as they should.
+fn changes(alloc: Global, player: &mut Player) -> bool {
+    lists(alloc, player, 500, ChangeKind::Other)
+        && lists(alloc, player, 1_000, ChangeKind::Other)
+        && lists(alloc, player, 1_500, ChangeKind::Moved)
+}
+
+/// The images and bytes of the last list, the bytes of a picture, and the entries behind a flush of two events.
+fn counts(alloc: Global, player: &mut Player) -> [usize; 4] {
+    let (images, bytes) = (player.listed_images().len(), player.listed_bytes());
+    let picture = drawn(alloc, player);
+    if player.flush() == Flushed::Done(2) {
+        return [images, bytes, picture, player.entries()];
+    }
+    [images, bytes, picture, 0]
+}
+
+/// Whether a new player's calls answer as they should, and what they count.
+fn answers(alloc: Global) -> Result<(bool, [usize; 4]), Fail> {
+    let mut player = opened(alloc)?;
+    let fed = adds_a_font(alloc, &mut player) && feeds(alloc, &mut player);
+    let changed = changes(alloc, &mut player);
+    Ok((fed && changed, counts(alloc, &mut player)))
+}
+
 #[test]
 fn each_call_of_a_player(rt: HostRuntime) -> Result<(), Fail> {
-    let alloc = rt.alloc();
-    let mut player = opened(alloc)?;
-    assert!(rt; adds_a_font(alloc, &mut player));
-    assert!(rt; feeds(alloc, &mut player));
-    assert!(rt; lists(alloc, &mut player, 500, ChangeKind::Other));
-    assert!(rt; lists(alloc, &mut player, 1_000, ChangeKind::Other));
-    assert!(rt; lists(alloc, &mut player, 1_500, ChangeKind::Moved));
-    assert_eq!(rt; player.listed_images().len(), 1);
-    assert_eq!(rt; player.listed_bytes(), 4);
-    assert_eq!(rt; drawn(alloc, &mut player), 576);
-    assert_eq!(rt; player.flush(), Flushed::Done(2));
-    assert_eq!(rt; player.entries(), 3);
+    let (right, counts) = answers(rt.alloc())?;
+    assert!(rt; right);
+    assert_eq!(rt; counts, [1, 4, 576, 3]);
     Ok(())
 }

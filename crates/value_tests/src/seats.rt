@@ -2,6 +2,7 @@
 
 use crate::players::{CHUNK, FRAME, adds_a_font, opened};
 use frame_change::ChangeKind;
+use player::Player;
 use shared_player::{Seat, ShareRefusal};
 use std::alloc::Global;
 use std::test::Fail;
@@ -20,37 +21,49 @@ fn shared(alloc: Global) -> Result<Seat, Fail> {
 }
 
 /// Whether a player that something was fed to comes back.
+fn comes_back(alloc: Global, player: Player) -> bool {
+    match Seat::share(alloc, player) {
+        Ok(_) => false,
+        Err((player, refusal)) => refusal == ShareRefusal::WasFed && player.entries() == 1,
+    }
+}
+
 fn keeps_a_fed_player(alloc: Global) -> Result<bool, Fail> {
     let mut player = opened(alloc)?;
-    if player.feed_lines(alloc).is_err() {
-        return Ok(false);
-    }
-    match Seat::share(alloc, player) {
-        Ok(_) => Ok(false),
-        Err((player, refusal)) => { Ok(refusal == ShareRefusal::WasFed && player.entries() == 1) }
-    }
+    let fed = player.feed_lines(alloc).is_ok();
+    Ok(fed && comes_back(alloc, player))
 }
 
-/// A seat split off, if there is one.
-fn split(alloc: Global, seat: Seat) -> (Seat, Option<Seat>) {
+/// Whether a seat that isn't the first one splits none off.
+fn is_last(alloc: Global, seat: Seat) -> (Seat, bool) {
     let (seat, new) = seat.split(alloc);
-    match new {
-        Ok(new) => (seat, Some(new)),
-        Err(_) => (seat, None),
-    }
+    (seat, new.is_err())
 }
 
-fn feeds(alloc: Global, seat: Seat) -> (Seat, bool) {
+/// Whether the script's line becomes an event, and then none is left.
+fn feeds_lines(alloc: Global, seat: Seat) -> (Seat, bool) {
+    let (seat, lines) = seat.try_feed_lines(alloc, 0);
+    let (seat, none) = seat.try_feed_lines(alloc, 1);
+    (seat, lines == Ok(Ok(1)) && none == Ok(Ok(1)))
+}
+
+/// Whether a chunk becomes an event once.
+fn feeds_a_chunk(alloc: Global, seat: Seat) -> (Seat, bool) {
     if CHUNK.len() > 1_000 {
         return (seat, false);
     }
-    let (seat, lines) = seat.try_feed_lines(alloc, 0);
-    let (seat, none) = seat.try_feed_lines(alloc, 1);
     let (seat, fed) = seat.try_feed(alloc, CHUNK, 1_000, 1_000);
     let (seat, again) = seat.try_feed(alloc, CHUNK, 1_000, 1_000);
-    let in_place = lines == Ok(Ok(1)) && none == Ok(Ok(1));
     let accepted = fed == Ok(Feed::Accepted(1));
-    (seat, in_place && accepted && again == Ok(Feed::Repeated(1)))
+    (seat, accepted && again == Ok(Feed::Repeated(1)))
+}
+
+/// Whether the second seat is the last one, and feeds.
+fn feeds(alloc: Global, seat: Seat) -> (Seat, bool) {
+    let (seat, last) = is_last(alloc, seat);
+    let (seat, lines) = feeds_lines(alloc, seat);
+    let (seat, chunk) = feeds_a_chunk(alloc, seat);
+    (seat, last && lines && chunk)
 }
 
 /// Of how many entries the picture of a second is, and how many of its bytes are 255.
@@ -75,16 +88,50 @@ fn lit(pixels: &[u8]) -> usize {
     count
 }
 
-/// How the list of half a second differs from the one before, and how many images it has.
-fn lists(alloc: Global, seat: Seat) -> (Seat, Option<ChangeKind>, usize) {
+/// Whether the list of half a second is another one than the empty list before, and how many images it has.
+fn lists(alloc: Global, seat: Seat) -> (Seat, bool, usize) {
     if seat.font_count() == 0 {
-        return (seat, None, 0);
+        return (seat, false, 0);
     }
     let (seat, listed) = seat.images(alloc, 500, &FRAME);
     let count = seat.listed_images().len();
     match listed {
-        Ok(listed) => (seat, Some(listed.change), count),
-        Err(_) => (seat, None, count),
+        Ok(listed) => (seat, listed.change == ChangeKind::Other, count),
+        Err(_) => (seat, false, count),
+    }
+}
+
+/// Whether two events are flushed. The seat is dropped then.
+fn flushes(alloc: Global, seat: Seat) -> bool {
+    let (_seat, flushed) = seat.try_flush(alloc);
+    flushed == Ok(Flushed::Done(2))
+}
+
+/// What the first seat draws, and how many images it lists. Then it flushes, and is dropped.
+fn first_row(alloc: Global, seat: Seat) -> (bool, [usize; 3]) {
+    let (seat, entries, bytes) = draws(alloc, seat);
+    let (seat, listed, count) = lists(alloc, seat);
+    (flushes(alloc, seat) && listed, [entries, bytes, count])
+}
+
+/// What the second seat draws. Then it is dropped.
+fn last_row(alloc: Global, seat: Seat) -> [usize; 2] {
+    let (_seat, entries, bytes) = draws(alloc, seat);
+    [entries, bytes]
+}
+
+/// The second seat feeds, and then each draws, the first one first.
+fn rows_of(alloc: Global, first: Seat, second: Seat) -> (bool, [usize; 3], [usize; 2]) {
+    let (second, fed) = feeds(alloc, second);
+    let (right, row) = first_row(alloc, first);
+    (fed && right, row, last_row(alloc, second))
+}
+
+fn rows(alloc: Global, seat: Seat) -> Option<(bool, [usize; 3], [usize; 2])> {
+    let (first, second) = seat.split(alloc);
+    match second {
+        Ok(second) => Some(rows_of(alloc, first, second)),
+        Err(_) => None,
     }
 }
 
@@ -92,24 +139,7 @@ fn lists(alloc: Global, seat: Seat) -> (Seat, Option<ChangeKind>, usize) {
 fn seats_of_one_track(rt: HostRuntime) -> Result<(), Fail> {
     let alloc = rt.alloc();
     assert!(rt; keeps_a_fed_player(alloc)?);
-    let (first, second) = split(alloc, shared(alloc)?);
-    let Some(second) = second else {
-        return Err("no seat is split off".into());
-    };
-    let (second, none) = split(alloc, second);
-    assert!(rt; none.is_none());
-    let (second, fed) = feeds(alloc, second);
-    assert!(rt; fed);
-    let (first, entries, bytes) = draws(alloc, first);
-    assert_eq!(rt; (entries, bytes), (2, 12));
-    let (first, change, count) = lists(alloc, first);
-    assert!(rt; change == Some(ChangeKind::Other));
-    assert_eq!(rt; count, 3);
-    let (first, flushed) = first.try_flush(alloc);
-    assert!(rt; flushed == Ok(Flushed::Done(2)));
-    drop(first);
-    let (second, entries, bytes) = draws(alloc, second);
-    assert_eq!(rt; (entries, bytes), (3, 0));
-    drop(second);
+    let rows = rows(alloc, shared(alloc)?);
+    assert_eq!(rt; rows, Some((true, [2, 12, 3], [3, 0])));
     Ok(())
 }

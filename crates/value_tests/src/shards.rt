@@ -9,22 +9,34 @@ use mask_keys::{CompositeKey, MaskKey, OutlineKey, Part, RegionKey, Shared};
 use std::alloc::Global;
 use std::test::Fail;
 
+fn point(x: i64, y: i64) -> Point {
+    Point { x, y }
+}
+
+fn with_seg(segs: Items<Seg>, seg: Seg) -> Mem<Items<Seg>> {
+    let mut segs = segs;
+    segs.push(seg)?;
+    Ok(segs)
+}
+
+/// A closed spline of one control point.
+fn spline(alloc: Global) -> Mem<Seg> {
+    let mut controls = Items::new(alloc);
+    controls.push(point(3_000, -1_000))?;
+    Ok(Seg::Spline(controls, true))
+}
+
+/// A segment of each kind but a spline.
+fn segs(alloc: Global) -> Mem<Items<Seg>> {
+    let segs = with_seg(Items::new(alloc), Seg::Move(point(0, -1_000)))?;
+    let segs = with_seg(segs, Seg::Line(point(5, 6)))?;
+    with_seg(segs, Seg::Cubic(point(1, 2), point(3, 4), point(-5, -6)))
+}
+
 /// A drawing with a segment of each kind.
 fn drawing(alloc: Global) -> Mem<OutlineKey> {
-    let mut controls = Items::new(alloc);
-    controls.push(Point {
-        x: 3_000,
-        y: -1_000,
-    })?;
-    let mut segs = Items::new(alloc);
-    segs.push(Seg::Move(Point { x: 0, y: -1_000 }))?;
-    segs.push(Seg::Line(Point { x: 5, y: 6 }))?;
-    segs.push(Seg::Cubic(
-        Point { x: 1, y: 2 },
-        Point { x: 3, y: 4 },
-        Point { x: -5, y: -6 },
-    ))?;
-    segs.push(Seg::Spline(controls, true))?;
+    let spline = spline(alloc)?;
+    let segs = with_seg(segs(alloc)?, spline)?;
     Ok(OutlineKey::Drawing {
         path: Shared::new(alloc, Path { segs })?,
         m: Matrix {
@@ -89,17 +101,35 @@ fn shards(outline: OutlineKey, rx: u32, ry: u32) -> (u32, u32, u32) {
     (outlines.shard(), regions.shard(), masks.shard())
 }
 
+/// Of the outline, the region and the mask of a drawing, a glyph and a box.
+fn shards_of_outlines(alloc: Global) -> Mem<[(u32, u32, u32); 3]> {
+    let drawn = shards(drawing(alloc)?, 0, 0);
+    let glyph = shards(glyph(), 32, 16);
+    Ok([drawn, glyph, shards(slanted_box(), 32, 16)])
+}
+
+fn with_part(parts: Items<Part>, part: Part) -> Mem<Items<Part>> {
+    let mut parts = parts;
+    parts.push(part)?;
+    Ok(parts)
+}
+
+/// Of the composed mask of the glyph and the box.
+fn composite_shard(alloc: Global) -> Mem<u32> {
+    let parts = with_part(Items::new(alloc), part(glyph()))?;
+    let parts = with_part(parts, part(slanted_box()))?;
+    let mut sum = ShardSum::new();
+    add_composite_numbers(&CompositeKey { parts }, &mut sum);
+    Ok(sum.shard())
+}
+
 #[test]
 fn shards_of_keys(rt: HostRuntime) -> Result<(), Fail> {
     let alloc = rt.alloc();
-    assert_eq!(rt; shards(drawing(alloc)?, 0, 0), (0, 0, 1));
-    assert_eq!(rt; shards(glyph(), 32, 16), (3, 0, 0));
-    assert_eq!(rt; shards(slanted_box(), 32, 16), (2, 3, 3));
-    let mut parts = Items::new(alloc);
-    parts.push(part(glyph()))?;
-    parts.push(part(slanted_box()))?;
-    let mut sum = ShardSum::new();
-    add_composite_numbers(&CompositeKey { parts }, &mut sum);
-    assert_eq!(rt; sum.shard(), 3);
+    let [drawing, glyph, slanted] = shards_of_outlines(alloc)?;
+    assert_eq!(rt; drawing, (0, 0, 1));
+    assert_eq!(rt; glyph, (3, 0, 0));
+    assert_eq!(rt; slanted, (2, 3, 3));
+    assert_eq!(rt; composite_shard(alloc)?, 3);
     Ok(())
 }

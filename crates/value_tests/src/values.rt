@@ -2,18 +2,20 @@
 
 ghost use Rattle.std.specs.Prelude.{◌≡◌, ℕ, ℤ, pos, ◌+◌, ◌<◌, ◌≤◌, List, [], ◌∷◌, IfOk};
 ghost use Rattle.std.specs.Arc.{arc_value};
-ghost use Rattle.ass_num.specs.Limits.{IsMaskWithin, IsWithin, max_mask_corner, max_mask_side};
+ghost use Rattle.ass_num.specs.Limits.{IsMaskWithin, IsRegionWithin, IsWithin, max_mask_corner, max_mask_side, max_sample};
 ghost use Rattle.ass_num.specs.Paths.{IsPath};
 ghost use Rattle.mask_keys.specs.Keys.{HasMaskRanges, IsValidOutline, IsValidPart, max_part_offset};
 ghost use Rattle.mask_keys.specs.Outlines.{IsFontSet, glyph_counts};
 
-use ass_num::{Items, Mask, Matrix, Mem, Path, Point, Seg};
+use ass_num::{Items, Mask, Matrix, Mem, Path, Region};
 use bdf_font::{FontSet, read_font};
+use drawing_path::read_path;
 use made_values::{
     made_border, made_composite, made_mask, made_outline, mask_cost, mask_of_region,
 };
 use mask_keys::{MaskKey, OutlineKey, Part, Shared};
 use std::alloc::Global;
+use std::slice;
 use std::sync::Arc;
 use std::test::Fail;
 
@@ -72,17 +74,6 @@ fn box_of(w: u8) -> OutlineKey
     }
 }
 
-fn square(alloc: Global) -> Mem<Path>
-    ensures { IfOk result (λ path. IsPath path.segs) }
-{
-    let mut segs = Items::new(alloc);
-    segs.push(Seg::Move(Point { x: 0, y: 0 }))?;
-    segs.push(Seg::Line(Point { x: 1_000, y: 0 }))?;
-    segs.push(Seg::Line(Point { x: 1_000, y: 1_000 }))?;
-    segs.push(Seg::Line(Point { x: 0, y: 1_000 }))?;
-    Ok(Path { segs })
-}
-
 fn drawing(alloc: Global, path: Path) -> Mem<OutlineKey>
     requires { IsPath path.segs }
     ensures { IfOk result (IsValidOutline (2 ∷ [])) }
@@ -114,7 +105,7 @@ fn outline(alloc: Global, shape: i64) -> Mem<OutlineKey>
         let segs = Items::new(alloc);
         return drawing(alloc, Path { segs });
     }
-    drawing(alloc, square(alloc)?)
+    drawing(alloc, read_path(alloc, "m 0 0 l 1 0 1 1 0 1")?)
 }
 
 /// A number of a table, which is below 256.
@@ -163,15 +154,11 @@ fn mask_of(alloc: Global, fonts: &FontSet, key: &MaskKey) -> Mem<Mask>
     made_mask(alloc, &region, key)
 }
 
-fn has_box(mask: &Mask, x: i32, y: i32, w: u32, h: u32) -> bool {
-    mask.x() == x && mask.y() == y && mask.w() == w && mask.h() == h
-}
-
 /// The sum of all bytes.
-fn weight(mask: &Mask) -> u64 {
-    let mut sum = 0u64;
+fn weight(mask: &Mask) -> i64 {
+    let mut sum = 0i64;
     for byte in mask.bytes() {
-        sum = sum.wrapping_add(u64::from(*byte));
+        sum = sum.wrapping_add(i64::from(*byte));
     }
     sum
 }
@@ -192,39 +179,58 @@ const MASKS: &str = "1 0 0 0 0 0 -1 1 1 255
 2 0 0 127 0 -127 -127 255 255 206
 2 1600 1600 127 100 -527 -527 1055 1055 8109544";
 
-fn numbers_of(alloc: Global, line: &str) -> Result<Vec<i64>, Fail> {
-    let mut numbers = Vec::new(alloc);
+/// The ten numbers of a line; 0 where there are fewer.
+fn numbers(line: &str) -> [i64; 10] {
+    let mut numbers = [0i64; 10];
+    let mut count = 0usize;
     for word in line.split(' ') {
-        numbers.push(word.parse::<i64>()?)?;
+        if count < 10 {
+            numbers[count] = word.parse::<i64>().unwrap_or(0);
+            count += 1;
+        }
     }
-    Ok(numbers)
+    numbers
+}
+
+/// The key of a shape, its radii, passes and blur.
+fn key_of(alloc: Global, [shape, rx, ry, edges, blur]: [i64; 5]) -> Mem<MaskKey>
+    ensures outline { IfOk result (λ key. IsValidOutline (2 ∷ []) key.outline) }
+    ensures ranges { IfOk result HasMaskRanges }
+{
+    let outline = outline(alloc, shape)?;
+    let (rx, ry) = (radius(rx), radius(ry));
+    Ok(key(outline, rx, ry, small(edges), small(blur)))
+}
+
+/// A mask's box and its weight.
+fn told(mask: &Mask) -> [i64; 5] {
+    let (x, y) = (i64::from(mask.x()), i64::from(mask.y()));
+    [x, y, i64::from(mask.w()), i64::from(mask.h()), weight(mask)]
 }
 
 /// Whether the mask of a line has its box and its weight.
-fn holds(alloc: Global, fonts: &FontSet, line: &[i64]) -> Mem<bool>
+fn holds(alloc: Global, fonts: &FontSet, line: &str) -> Mem<bool>
     requires fonts { IsFontSet fonts.now.fonts }
     requires glyphs { glyph_counts fonts.now.fonts ≡ 2 ∷ [] }
 {
-    let [shape, rx, ry, edges, blur, x, y, w, h, sum] = line else {
-        return Ok(false);
-    };
-    let (rx, ry) = (radius(*rx), radius(*ry));
-    let key = key(outline(alloc, *shape)?, rx, ry, small(*edges), small(*blur));
+    let [shape, rx, ry, edges, blur, x, y, w, h, sum] = numbers(line);
+    let key = key_of(alloc, [shape, rx, ry, edges, blur])?;
     let mask = mask_of(alloc, fonts, &key)?;
-    let corner = i64::from(mask.x()) == *x && i64::from(mask.y()) == *y;
-    let sides = i64::from(mask.w()) == *w && i64::from(mask.h()) == *h;
-    Ok(corner && sides && i128::from(weight(&mask)) == i128::from(*sum))
+    Ok(told(&mask) == [x, y, w, h, sum])
 }
 
-#[test]
-fn masks_of_keys(rt: HostRuntime) -> Result<(), Fail> {
-    let alloc = rt.alloc();
-    let fonts = fonts(alloc)?;
+/// How many lines hold.
+fn right_lines(alloc: Global, fonts: &FontSet) -> Mem<usize>
+    requires fonts { IsFontSet fonts.now.fonts }
+    requires glyphs { glyph_counts fonts.now.fonts ≡ 2 ∷ [] }
+{
+    let mut count = 0usize;
     for line in MASKS.lines() {
-        let numbers = numbers_of(alloc, line)?;
-        assert!(rt; holds(alloc, &fonts, numbers.as_slice())?, "{line}");
+        if holds(alloc, fonts, line)? {
+            count = count.wrapping_add(1);
+        }
     }
-    Ok(())
+    Ok(count)
 }
 
 fn border_key(phase: u8) -> MaskKey
@@ -242,29 +248,46 @@ fn border_key(phase: u8) -> MaskKey
     }
 }
 
-/// The weights of a dot's border of two pixels at each phase, from one widened region.
-fn weights(alloc: Global, fonts: &FontSet) -> Mem<u64>
-    requires fonts { IsFontSet fonts.now.fonts }
-    requires glyphs { glyph_counts fonts.now.fonts ≡ 2 ∷ [] }
+/// The weights of a dot's border at each phase, from one widened region.
+fn weights(alloc: Global, border: &Region) -> Mem<i64>
+    requires { IsRegionWithin max_sample border.now.top border.now.rows }
 {
-    let region = made_outline(alloc, fonts, &glyph(1))?;
-    let border = made_border(alloc, &region, 32, 32)?;
-    let mut sum = 0u64;
+    let mut sum = 0i64;
     for phase in 0..16u8 {
-        let mask = mask_of_region(alloc, &border, &border_key(phase))?;
+        let mask = mask_of_region(alloc, border, &border_key(phase))?;
         sum = sum.wrapping_add(weight(&mask));
     }
     Ok(sum)
 }
 
-#[test]
-fn phases_and_no_parts(rt: HostRuntime) -> Result<(), Fail> {
-    let alloc = rt.alloc();
-    let fonts = fonts(alloc)?;
-    assert_eq!(rt; weights(alloc, &fonts)?, 85_805);
+/// The same of a border of two pixels.
+fn border_weights(alloc: Global, fonts: &FontSet) -> Mem<i64>
+    requires fonts { IsFontSet fonts.now.fonts }
+    requires glyphs { glyph_counts fonts.now.fonts ≡ 2 ∷ [] }
+{
+    let region = made_outline(alloc, fonts, &glyph(1))?;
+    let border = made_border(alloc, &region, 32, 32)?;
+    weights(alloc, &border)
+}
+
+/// The box, the weight and the cost of the composed mask of no parts.
+fn none_told(alloc: Global) -> Mem<([i64; 5], u32)> {
     let none = made_composite(alloc, &[], &[])?;
-    assert!(rt; has_box(&none, 0, 0, 0, 0));
-    assert_eq!(rt; mask_cost(&none), 64);
+    Ok((told(&none), mask_cost(&none)))
+}
+
+/// How many lines hold, and the weights of a border.
+fn of_dot(alloc: Global) -> Result<(usize, i64), Fail> {
+    let fonts = fonts(alloc)?;
+    let lines = right_lines(alloc, &fonts)?;
+    Ok((lines, border_weights(alloc, &fonts)?))
+}
+
+#[test]
+fn masks_of_keys(rt: HostRuntime) -> Result<(), Fail> {
+    let alloc = rt.alloc();
+    assert_eq!(rt; of_dot(alloc)?, (14, 85_805));
+    assert_eq!(rt; none_told(alloc)?, ([0; 5], 64));
     Ok(())
 }
 
@@ -286,8 +309,10 @@ fn moved(alloc: Global, mask: &Arc<Mask>, dx: i32, dy: i32) -> Mem<Arc<Mask>>
     requires dx { IsWithin max_part_offset dx }
     requires dy { IsWithin max_part_offset dy }
 {
-    let masks = [Arc::try_clone(mask)?];
-    made_composite(alloc, &[dot_part(dx, dy)], &masks)
+    let part = dot_part(dx, dy);
+    let parts = slice::from_ref(&part);
+    let masks = slice::from_ref(mask);
+    made_composite(alloc, parts, masks)
 }
 
 /// A part that is moved one pixel further isn't valid.
@@ -296,26 +321,47 @@ fn proof_further_parts_are_not_valid()
     ensures down { (glyphs : List ℕ) (part : Part) → part.dy ≡ pos (max_part_offset + 1) → ¬ (IsValidPart glyphs part) }
 {}
 
-#[test]
-fn parts_are_moved_to_the_limit(rt: HostRuntime) -> Result<(), Fail> {
-    let alloc = rt.alloc();
+/// The mask of the dot.
+fn dot(alloc: Global, fonts: &FontSet) -> Mem<Arc<Mask>>
+    requires fonts { IsFontSet fonts.now.fonts }
+    requires glyphs { glyph_counts fonts.now.fonts ≡ 2 ∷ [] }
+    ensures { IfOk result (λ mask. IsMaskWithin max_mask_corner max_mask_side (arc_value mask)) }
+{
+    let mask = mask_of(alloc, fonts, &key(glyph(1), 0, 0, 0, 0))?;
+    Ok(Arc::new(alloc, mask)?)
+}
+
+fn shared_dot(alloc: Global) -> Result<Arc<Mask>, Fail>
+    ensures { IfOk result (λ mask. IsMaskWithin max_mask_corner max_mask_side (arc_value mask)) }
+{
     let fonts = fonts(alloc)?;
-    let dot = Arc::new(alloc, mask_of(alloc, &fonts, &key(glyph(1), 0, 0, 0, 0))?)?;
+    Ok(dot(alloc, &fonts)?)
+}
+
+/// The box and the weight of a mask that is moved so far, and how many share it then.
+fn moved_told(alloc: Global, mask: &Arc<Mask>, dx: i32, dy: i32) -> Mem<([i64; 5], usize)>
+    requires mask { IsMaskWithin max_mask_corner max_mask_side (arc_value mask.now) }
+    requires dx { IsWithin max_part_offset dx }
+    requires dy { IsWithin max_part_offset dy }
+{
+    let moved = moved(alloc, mask, dx, dy)?;
+    Ok((told(&moved), Arc::strong_count(mask)))
+}
+
+/// A dot where it is, and moved to the limit. A single mask that isn't moved is shared.
+fn rows(alloc: Global) -> Result<[([i64; 5], usize); 3], Fail> {
+    let dot = shared_dot(alloc)?;
     proof_further_parts_are_not_valid();
-    let below = moved(alloc, &dot, -20_480, 20_480)?;
-    assert!(rt; has_box(&below, -20_480, 20_479, 1, 1));
-    let above = moved(alloc, &dot, 20_480, -20_480)?;
-    assert!(rt; has_box(&above, 20_480, -20_481, 1, 1));
-    Ok(())
+    let below = moved_told(alloc, &dot, -20_480, 20_480)?;
+    let above = moved_told(alloc, &dot, 20_480, -20_480)?;
+    Ok([below, above, moved_told(alloc, &dot, 0, 0)?])
 }
 
 #[test]
-fn single_masks_are_shared(rt: HostRuntime) -> Result<(), Fail> {
-    let alloc = rt.alloc();
-    let fonts = fonts(alloc)?;
-    let dot = Arc::new(alloc, mask_of(alloc, &fonts, &key(glyph(1), 0, 0, 0, 0))?)?;
-    let shared = moved(alloc, &dot, 0, 0)?;
-    assert!(rt; has_box(&shared, 0, -1, 1, 1));
-    assert_eq!(rt; Arc::strong_count(&dot), 2);
+fn parts_are_moved_to_the_limit(rt: HostRuntime) -> Result<(), Fail> {
+    let [below, above, shared] = rows(rt.alloc())?;
+    assert_eq!(rt; below, ([-20_480, 20_479, 1, 1, 255], 1));
+    assert_eq!(rt; above, ([20_480, -20_481, 1, 1, 255], 1));
+    assert_eq!(rt; shared, ([0, -1, 1, 1, 255], 2));
     Ok(())
 }

@@ -8,8 +8,9 @@ use Rattle.value_tests.proofs.values.moved.Goals as goal
 
 pub made_composite-requires-clause-masks : goal.made_composite-requires-clause-masks
 made_composite-requires-clause-masks c =
-    let dx = c.dot_part.ensures.dx ∙ to_z-of_z w32 c.args.dx c.ranges.dx in
-    let dy = c.dot_part.ensures.dy ∙ to_z-of_z w32 c.args.dy c.ranges.dy in
-    All-cons IsPlaceableMask (arc_value c.in_ok-try_clone.field-0, c.dot_part.result.dx, c.dot_part.result.dy) []
-    (placeable (arc_value c.in_ok-try_clone.field-0) (arc_value c.args.mask.now) c.dot_part.result.dx c.dot_part.result.dy c.args.dx c.args.dy c.in_ok-try_clone.ensures c.requires.mask dx dy c.requires.dx c.requires.dy)
-    (All-nil IsPlaceableMask)
+    let mask = arc_value c.args.mask.now in
+    let part = c.dot_part-part in
+    let dx = part.ensures.dx ∙ to_z-of_z w32 c.args.dx c.ranges.dx in
+    let dy = part.ensures.dy ∙ to_z-of_z w32 c.args.dy c.ranges.dy in
+    rw (c.from_ref-parts.ensures.value, c.from_ref-masks.ensures.value)
+    (All-cons IsPlaceableMask (mask, part.result.dx, part.result.dy) [] (placeable mask part.result.dx part.result.dy c.args.dx c.args.dy c.requires.mask dx dy c.requires.dx c.requires.dy) (All-nil IsPlaceableMask))
