@@ -16,8 +16,7 @@ use std::io;
 
 fn main(rt: HostRuntime) -> io::Result<()> {
     let alloc = rt.alloc();
-    one::run_with_masks_kept(&rt, alloc);
-    one::run_with_no_mask_kept(&rt, alloc);
+    one::run_in_turn(&rt, alloc);
     many::run_with_masks_kept(&rt, alloc);
     many::run_with_no_mask_kept(&rt, alloc);
     Ok(())

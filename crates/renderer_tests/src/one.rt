@@ -12,140 +12,95 @@ use std::alloc::Global;
 use std::sync::Wait;
 use std::thread::Threads;
 
-/// No event, and a first one, whose mask isn't ready before a frame has made it.
-fn first_frames<R: Wait + Print>(
-    rt: &R,
-    alloc: Global,
-    renderer: &Renderer,
-    pass: RenderPass,
-) -> RenderPass
-    requires { IsIdle renderer.now pass }
-    ensures { IsIdle renderer.now result }
-{
-    let pass = try_frame(rt, alloc, renderer, pass);
-    let pass = feed(rt, alloc, renderer, pass, 32);
-    let pass = feed(rt, alloc, renderer, pass, 32);
-    let pass = try_frame(rt, alloc, renderer, pass);
-    let pass = totals(rt, renderer, pass);
-    let pass = frame(rt, alloc, renderer, pass);
-    let pass = totals(rt, renderer, pass);
-    try_frame(rt, alloc, renderer, pass)
-}
-
-/// A second event in the place of the first one, so with the same mask.
-fn second_frames<R: Threads + Wait + Sync + Print>(
-    rt: &R,
-    alloc: Global,
-    renderer: &Renderer,
-    pass: RenderPass,
-) -> RenderPass
-    requires { IsIdle renderer.now pass }
-    ensures { IsIdle renderer.now result }
-{
-    let pass = feed(rt, alloc, renderer, pass, 0);
-    let pass = orders(rt, alloc, renderer, pass);
-    let pass = try_frame(rt, alloc, renderer, pass);
-    let pass = bands(rt, alloc, renderer, pass);
-    let pass = unpainted(rt, alloc, renderer, pass);
-    totals(rt, renderer, pass)
-}
-
-/// A flush between two frames.
-fn frames_around_a_flush<R: Wait + Print>(
-    rt: &R,
-    alloc: Global,
-    renderer: &Renderer,
-    pass: RenderPass,
-) -> RenderPass
-    requires { IsIdle renderer.now pass }
-    ensures { IsIdle renderer.now result }
-{
-    let pass = flush(rt, alloc, renderer, pass);
-    let pass = orders(rt, alloc, renderer, pass);
-    let pass = frame(rt, alloc, renderer, pass);
-    let pass = feed(rt, alloc, renderer, pass, 0);
-    frame(rt, alloc, renderer, pass)
-}
-
-/// The budget goes, and comes back.
-fn frames_around_no_budget<R: Wait + Print>(
-    rt: &R,
-    alloc: Global,
-    renderer: &Renderer,
-    pass: RenderPass,
-) -> RenderPass
-    requires { IsIdle renderer.now pass }
-    ensures { IsIdle renderer.now result }
-{
-    let pass = set_limits(rt, renderer, pass, 0);
-    let pass = try_frame(rt, alloc, renderer, pass);
-    let pass = frame(rt, alloc, renderer, pass);
-    let pass = set_limits(rt, renderer, pass, 1_000_000);
-    let pass = warm(rt, alloc, renderer, pass);
-    let pass = try_frame(rt, alloc, renderer, pass);
-    totals(rt, renderer, pass)
-}
-
-/// All of these in turn.
-fn all_frames<R: Threads + Wait + Sync + Print>(
-    rt: &R,
-    alloc: Global,
-    renderer: &Renderer,
-    pass: RenderPass,
-) -> RenderPass
-    requires { IsIdle renderer.now pass }
-    ensures { IsIdle renderer.now result }
-{
-    let pass = first_frames(rt, alloc, renderer, pass);
-    let pass = second_frames(rt, alloc, renderer, pass);
-    let pass = frames_around_a_flush(rt, alloc, renderer, pass);
-    frames_around_no_budget(rt, alloc, renderer, pass)
-}
-
-/// Calls where each mask that was made stays until the budget goes.
-pub fn run_with_masks_kept<R: Threads + Wait + Sync + Print>(rt: &R, alloc: Global) {
-    tell(rt, "budget", &1_000_000u32);
-    let Some((renderer, first)) = opened(alloc, SMALL, 1_000_000) else {
-        return;
-    };
-    let (first, lent) = lend(&renderer, first);
-    let lent = match lent {
-        Some(pass) => Some(all_frames(rt, alloc, &renderer, pass)),
-        None => None,
-    };
-    let first = take_back(&renderer, first, lent);
-    renderer.close(first);
-}
+/// No event, and a first one, whose mask isn't ready before a frame has made it; a second one in its place, so with the same mask; a
+/// flush between two frames; and the budget goes, and comes back. An event is fed by its number.
+const KEPT: &str = "try_frame,feed 32,feed 32,try_frame,totals,frame,totals,try_frame,\
+feed 0,orders,try_frame,bands,unpainted,totals,\
+flush,orders,frame,feed 0,frame,\
+set_limits 0,try_frame,frame,set_limits 1000000,warm,try_frame,totals";
 
 /// Each frame makes its mask again, and none is ready for a try.
-fn unkept_frames<R: Wait + Print>(
+const NOT_KEPT: &str = "feed 32,frame,warm,try_frame,unpainted,totals";
+
+/// A frame in one of the ways, or what is counted.
+fn seen<R: Threads + Wait + Sync + Print>(
     rt: &R,
     alloc: Global,
     renderer: &Renderer,
     pass: RenderPass,
+    name: &str,
 ) -> RenderPass
     requires { IsIdle renderer.now pass }
     ensures { IsIdle renderer.now result }
 {
-    let pass = feed(rt, alloc, renderer, pass, 32);
-    let pass = frame(rt, alloc, renderer, pass);
-    let pass = warm(rt, alloc, renderer, pass);
-    let pass = try_frame(rt, alloc, renderer, pass);
-    let pass = unpainted(rt, alloc, renderer, pass);
-    totals(rt, renderer, pass)
+    match name {
+        "frame" => frame(rt, alloc, renderer, pass),
+        "try_frame" => try_frame(rt, alloc, renderer, pass),
+        "unpainted" => unpainted(rt, alloc, renderer, pass),
+        "bands" => bands(rt, alloc, renderer, pass),
+        _ => totals(rt, renderer, pass),
+    }
 }
 
-/// Calls where the budget is 0.
-pub fn run_with_no_mask_kept<R: Wait + Print>(rt: &R, alloc: Global) {
-    tell(rt, "budget", &0u32);
-    let Some((renderer, first)) = opened(alloc, SMALL, 0) else {
+/// A call by its name and its number, if it has one.
+fn called<R: Threads + Wait + Sync + Print>(
+    rt: &R,
+    alloc: Global,
+    renderer: &Renderer,
+    pass: RenderPass,
+    name: &str,
+    number: u32,
+) -> RenderPass
+    requires { IsIdle renderer.now pass }
+    ensures { IsIdle renderer.now result }
+{
+    match name {
+        "feed" => feed(rt, alloc, renderer, pass, number),
+        "flush" => flush(rt, alloc, renderer, pass),
+        "orders" => orders(rt, alloc, renderer, pass),
+        "set_limits" => set_limits(rt, renderer, pass, number),
+        "warm" => warm(rt, alloc, renderer, pass),
+        _ => seen(rt, alloc, renderer, pass, name),
+    }
+}
+
+/// Calls in turn.
+fn all_called<R: Threads + Wait + Sync + Print>(
+    rt: &R,
+    alloc: Global,
+    renderer: &Renderer,
+    pass: RenderPass,
+    calls: &str,
+) -> RenderPass
+    requires { IsIdle renderer.now pass }
+    ensures { IsIdle renderer.now result }
+{
+    let mut mine = pass;
+    for call in calls.split(',') {
+        let (name, number) = call.split_once(' ').unwrap_or((call, ""));
+        let number = number.parse::<u32>().unwrap_or(0);
+        mine = called(rt, alloc, renderer, mine, name, number);
+    }
+    mine
+}
+
+/// Calls of a new renderer with a budget.
+fn run<R: Threads + Wait + Sync + Print>(rt: &R, alloc: Global, budget: u32, calls: &str) {
+    tell(rt, "budget", &budget);
+    let Some((renderer, first)) = opened(alloc, SMALL, u64::from(budget)) else {
         return;
     };
     let (first, lent) = lend(&renderer, first);
     let lent = match lent {
-        Some(pass) => Some(unkept_frames(rt, alloc, &renderer, pass)),
+        Some(pass) => Some(all_called(rt, alloc, &renderer, pass, calls)),
         None => None,
     };
     let first = take_back(&renderer, first, lent);
     renderer.close(first);
+}
+
+/// Calls where each mask that was made stays until the budget goes, and then where the budget is 0.
+pub fn run_in_turn<R: Threads + Wait + Sync + Print>(rt: &R, alloc: Global) {
+    run(rt, alloc, 1_000_000, KEPT);
+    run(rt, alloc, 0, NOT_KEPT);
 }

