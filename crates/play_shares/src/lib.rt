@@ -6,8 +6,6 @@ mod instants;
 mod laws;
 mod renderers;
 mod rounds;
-#[cfg(test)]
-mod tests;
 
 pub use batches::offers;
 pub use instants::{ahead_instants, instant_at, instant_count};

@@ -15,6 +15,7 @@ mod reports;
 mod rings;
 mod runs;
 mod scripts;
+mod shares;
 mod states;
 mod tags;
 mod telling;
@@ -54,6 +55,7 @@ fn call_answer(alloc: Global, table: &str, question: &str) -> Mem<String> {
         "plains" => plains::told(alloc, question),
         "generated" => reports::script(alloc, question),
         "reports" => reports::report(alloc, question),
+        "shares" => shares::told(alloc, question),
         _ => text_answer(alloc, table, question),
     }
 }

@@ -10,7 +10,8 @@ use run_words::read_words;
 use std::alloc::Global;
 use test_hook::NoHook;
 
-fn words_of(alloc: Global, line: &str) -> Mem<Vec<String>> {
+/// The words of a line.
+pub fn words_of(alloc: Global, line: &str) -> Mem<Vec<String>> {
     let mut words = Vec::new(alloc);
     for word in line.split_whitespace() {
         words.push(String::from_str(alloc, word)?)?;
