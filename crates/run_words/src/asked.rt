@@ -1,4 +1,5 @@
-//! What a command is asked for, by what was found for its arguments.
+//! What a command is asked for, by what was found for its arguments. All of it is cold: what is called more than once has one
+//! copy.
 
 ghost use Rattle.std.specs.Prelude.{◌≡◌, ◌≤◌, ◌^◌, ◌<◌, IfOk, map, pos, option_and_then, option_map, unwrap_or};
 ghost use Rattle.clap.specs.Words.{all_of, found_of, rows_of};
@@ -28,6 +29,7 @@ const ABSENT_BUDGET: u64 = 67_108_864;
 const ABSENT_BATCH: u32 = 16;
 
 /// The text that was found for an argument.
+#[inline(never)]
 fn text_at<'a>(found: &ArgMatches<'a>, argument: Argument) -> Option<&'a str>
     ensures { option_map (λ text. text.now) result ≡ text_at (rows_of (found_of found.now)) argument }
 {
@@ -67,6 +69,7 @@ fn is_just_one(step: Option<&str>, rate: Option<&str>) -> bool
 }
 
 /// Whether just one of a step and a rate is told, and just one of an end and a number of frames.
+#[inline(never)]
 fn is_paced(found: &ArgMatches) -> bool
     ensures { result ≡ is_paced (rows_of (found_of found.now)) }
 {
@@ -80,6 +83,7 @@ fn is_paced(found: &ArgMatches) -> bool
 }
 
 /// Whether an option that stands alone is there.
+#[inline(never)]
 fn is_told(found: &ArgMatches, argument: Argument) -> bool
     ensures { result ≡ is_told (rows_of (found_of found.now)) argument }
 {
@@ -124,6 +128,7 @@ pub fn goes_together(found: &ArgMatches, command: Command) -> bool
 }
 
 /// The number of an argument, or what stands for it where it isn't given.
+#[inline(never)]
 fn number_at(found: &ArgMatches, argument: Argument, absent: u64) -> u64
     ensures value { result ≡ number_at (rows_of (found_of found.now)) argument absent }
     ensures small { absent ≤ most_of argument → result ≤ most_of argument }
@@ -150,6 +155,7 @@ fn milliseconds_at(found: &ArgMatches, argument: Argument, absent: u32) -> i64
 }
 
 /// A number of 32 bits.
+#[inline(never)]
 fn count_at(found: &ArgMatches, argument: Argument, absent: u32) -> u32
     requires small { most_of argument < 2 ^ 32 }
     requires within { absent ≤ most_of argument }
@@ -159,6 +165,7 @@ fn count_at(found: &ArgMatches, argument: Argument, absent: u32) -> u32
 }
 
 /// The size of the frames.
+#[inline(never)]
 fn size_at(found: &ArgMatches) -> Size
     ensures { result ≡ size_at (rows_of (found_of found.now)) }
 {
@@ -206,6 +213,7 @@ fn letters_at(found: &ArgMatches) -> LetterWidth
 }
 
 /// What the frames are to the script.
+#[inline(never)]
 fn frame_at(found: &ArgMatches) -> FrameView
     ensures { result ≡ frame_at (rows_of (found_of found.now)) }
 {
@@ -221,6 +229,7 @@ fn frame_at(found: &ArgMatches) -> FrameView
 }
 
 /// The format, or `Ppm`.
+#[inline(never)]
 fn format_at(found: &ArgMatches) -> FrameFormat
     ensures { result ≡ format_at (rows_of (found_of found.now)) }
 {
@@ -253,6 +262,7 @@ fn rate_at(found: &ArgMatches) -> FrameRate
 }
 
 /// The instants at the rate, so many or those before the end.
+#[inline(never)]
 fn instants_at(found: &ArgMatches) -> Instants
     ensures { result ≡ instants_at (rows_of (found_of found.now)) }
 {
@@ -278,6 +288,7 @@ fn mode_at(found: &ArgMatches) -> Mode
 }
 
 /// The name of the script.
+#[inline(never)]
 fn script_at(alloc: Global, found: &ArgMatches) -> Mem<Text>
     ensures { IfOk result (λ name. name ≡ script_at (rows_of (found_of found.now))) }
 {
@@ -288,6 +299,7 @@ fn script_at(alloc: Global, found: &ArgMatches) -> Mem<Text>
 }
 
 /// The script, and whether the fonts that it holds are used.
+#[inline(never)]
 fn source_at(alloc: Global, found: &ArgMatches) -> Mem<ScriptSource>
     ensures { IfOk result (λ source. source ≡ source_at (rows_of (found_of found.now))) }
 {
@@ -316,6 +328,7 @@ fn fonts_found<'f, 'a>(found: &'f ArgMatches<'a>) -> Option<&'f [&'a str]>
 }
 
 /// The names of the fonts, in order.
+#[inline(never)]
 fn fonts_at(alloc: Global, found: &ArgMatches) -> Mem<Items<Text>>
     ensures { IfOk result (λ names. names ≡ fonts_at (rows_of (found_of found.now))) }
 {

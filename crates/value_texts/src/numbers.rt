@@ -34,6 +34,7 @@ fn number_in(text: &str) -> Option<u64>
 }
 
 /// The number that a text is, from `least` to `most`.
+#[inline(never)]
 pub fn number_within(text: &str, least: u64, most: u64) -> Option<u64>
     ensures { result ≡ number_within least most text.now }
 {

@@ -28,6 +28,7 @@ fn before(column: Option<i32>) -> Option<i32>
 }
 
 /// The column or row that a text is, in the frame or around it.
+#[inline(never)]
 fn pixel_in(text: &str) -> Option<i32>
     ensures { result ≡ pixel_in text.now }
 {
@@ -61,6 +62,7 @@ fn rect_behind(left: Option<i32>, text: &str) -> Option<PixelRect>
 }
 
 /// The rectangle that a text is: left, top and size, with commas between.
+#[inline(never)]
 pub fn content_in(text: &str) -> Option<PixelRect>
     ensures { result ≡ content_in text.now }
 {

@@ -30,6 +30,7 @@ fn rate_parted(text: &str) -> Option<FrameRate>
 }
 
 /// The rate that a text is: frames, in one second where none are said.
+#[inline(never)]
 pub fn rate_in(text: &str) -> Option<FrameRate>
     ensures { result ≡ rate_in text.now }
 {

@@ -17,6 +17,7 @@ const MAX_STORAGE_SIDE: u64 = 65_536;
 const MAX_ASPECT_PARTS: u64 = 65_536;
 
 /// The size that a text is: columns and rows up to the most, with an `x` between.
+#[inline(never)]
 fn size_within(text: &str, most: u64) -> Option<Size>
     requires { most ≤ 65536 }
     ensures { result ≡ size_within most text.now }
@@ -45,6 +46,7 @@ pub fn storage_in(text: &str) -> Option<Size>
 }
 
 /// The shape of pixels that a text is: their width and height, with a `/` between.
+#[inline(never)]
 pub fn aspect_in(text: &str) -> Option<PixelAspect>
     ensures { result ≡ aspect_in text.now }
 {
