@@ -193,10 +193,11 @@ fn numbers(line: &str) -> [i64; 10] {
 }
 
 /// The key of a shape, its radii, passes and blur.
-fn key_of(alloc: Global, [shape, rx, ry, edges, blur]: [i64; 5]) -> Mem<MaskKey>
+fn key_of(alloc: Global, numbers: [i64; 5]) -> Mem<MaskKey>
     ensures outline { IfOk result (λ key. IsValidOutline (2 ∷ []) key.outline) }
     ensures ranges { IfOk result HasMaskRanges }
 {
+    let [shape, rx, ry, edges, blur] = numbers;
     let outline = outline(alloc, shape)?;
     let (rx, ry) = (radius(rx), radius(ry));
     Ok(key(outline, rx, ry, small(edges), small(blur)))
