@@ -13,7 +13,7 @@ use Rattle.still_images.specs.Stills.{AreFirstStills, AreStills, Still, StillsVi
 use Rattle.still_images.specs.declared.fault.StillsFault.{StillsFault}
 use Rattle.still_images.specs.declared.fault.StillsFault.TheVariants as fault
 use Rattle.single_run.specs.Outcomes.{IsEnded, IsOrFault, IsOrMemory, IsWriteCounted, status_if_put, text_to_report}
-use Rattle.single_run.specs.StillOutputs.{AreStillsAsked, AreStillsHeld, AsksAll, AsksPart, HoldsAll, HoldsPart, IsIndexOf, IsToldAs, SuitsStills, WholeOrPart, images_bytes}
+use Rattle.single_run.specs.StillOutputs.{AreStillsAsked, AreStillsHeld, AsksAll, AsksPart, HoldsImages, HoldsPart, IsIndexOf, IsToldAs, SuitsStills, WholeOrPart, images_bytes}
 use Rattle.single_run.specs.declared.outcome.Outcome.{Outcome}
 use Rattle.single_run.specs.declared.outcome.Outcome.TheVariants.{Ended, Found}
 use Rattle.single_run.proofs.Ends.{ended}
@@ -81,14 +81,14 @@ module _ (whole part : Type 0) (begun : whole → part) where
 all_are_first : (view : StillsView) (stills : List Still) → AreStills view view.job.instants.count stills → AreFirstStills view stills
 all_are_first view stills are = (view.job.instants.count, omega arith, are)
 
-held_begun : (view : StillsView) (old new : Option (List ℕ)) → HoldsAll view old new → HoldsPart view old new
+held_begun : (view : StillsView) (old new : Option (List ℕ)) → HoldsImages view old new → HoldsPart view old new
 held_begun view old new (stills, are, h) = (stills, all_are_first view stills are, (images_bytes view stills, [], sym (append-nil (images_bytes view stills)), h))
 
 asked_begun : (view : StillsView) (old new : List (List ℕ)) → AsksAll view old new → AsksPart view old new
 asked_begun view old new (stills, are, h) = (stills, all_are_first view stills are, h)
 
 pub held_after : (view : StillsView) (outcome : Outcome) (answer : Status) (old new : Option (List ℕ)) → IsEnded outcome answer → AreStillsHeld view (status_if_put outcome) old new → AreStillsHeld view answer old new
-held_after view outcome answer old new e h = put_after (HoldsAll view old new) (HoldsPart view old new) (held_begun view old new) outcome answer e h
+held_after view outcome answer old new e h = put_after (HoldsImages view old new) (HoldsPart view old new) (held_begun view old new) outcome answer e h
 
 pub asked_after : (view : StillsView) (outcome : Outcome) (answer : Status) (old new : List (List ℕ)) → IsEnded outcome answer → AreStillsAsked view (status_if_put outcome) old new → AreStillsAsked view answer old new
 asked_after view outcome answer old new e h = put_after (AsksAll view old new) (AsksPart view old new) (asked_begun view old new) outcome answer e h

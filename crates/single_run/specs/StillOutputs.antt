@@ -26,15 +26,15 @@ WholeOrPart (WriteFault Frames) whole part = part
 WholeOrPart OutOfMemory whole part = part
 WholeOrPart _ whole part = ⊥
 
-abbrev pub HoldsAll : StillsView → Option (List ℕ) → Option (List ℕ) → Type 0
-HoldsAll view old new = (stills : List Still) × AreStills view view.job.instants.count stills × Appends old new (images_bytes view stills)
+abbrev pub HoldsImages : StillsView → Option (List ℕ) → Option (List ℕ) → Type 0
+HoldsImages view old new = (stills : List Still) × AreStills view view.job.instants.count stills × Appends old new (images_bytes view stills)
 
 abbrev pub HoldsPart : StillsView → Option (List ℕ) → Option (List ℕ) → Type 0
 HoldsPart view old new = (stills : List Still) × AreFirstStills view stills × AppendsFront old new (images_bytes view stills)
 
 -- What the frames sink got: all images, or a prefix of the first.
 abbrev pub AreStillsHeld : StillsView → Status → Option (List ℕ) → Option (List ℕ) → Type 0
-AreStillsHeld view status old new = WholeOrPart status (HoldsAll view old new) (HoldsPart view old new)
+AreStillsHeld view status old new = WholeOrPart status (HoldsImages view old new) (HoldsPart view old new)
 
 abbrev pub AsksAll : StillsView → List (List ℕ) → List (List ℕ) → Type 0
 AsksAll view old new = (stills : List Still) × AreStills view view.job.instants.count stills × (new ≡ old ++ still_images view stills)

@@ -5,9 +5,9 @@ use Rattle.std.proofs.lemmas.Bool.{cases_lt}
 use Rattle.ass_num.specs.declared.size.Size.{Size}
 use Rattle.frame_change.specs.Changes.{IsInBox, IsLeastChanged, LiesInside}
 use Rattle.frame_change.specs.declared.pixels.Changed.{Changed}
-use Rattle.still_images.specs.Boxes.{DiffersIn, HasAll, IsBoxOf, IsLeastOf, IsOnFrame, whole_box}
+use Rattle.still_images.specs.Boxes.{DiffersIn, HasAll, IsBoxOfPixels, IsLeastOf, IsOnFrame, whole_box}
 
-pub box_of_three : (size : Size) (a b : List ℕ) (box : Option Changed) → (box ≡ None) ↔ (a ≡ b) → IfSome box (IsLeastChanged size a b) → IsBoxOf 3 size a b box
+pub box_of_three : (size : Size) (a b : List ℕ) (box : Option Changed) → (box ≡ None) ↔ (a ≡ b) → IfSome box (IsLeastChanged size a b) → IsBoxOfPixels 3 size a b box
 box_of_three size a b None none some = none.0 refl
 box_of_three size a b (Some box) none some = record { has = some.has; least = some.least }
 
@@ -41,6 +41,6 @@ least_on_frame size Differs box is =
 pub whole_on_frame : (size : Size) → IsOnFrame size (whole_box size)
 whole_on_frame size = record { across = omega arith; right = omega arith; down = omega arith; bottom = omega arith }
 
-pub part_on_frame : (depth : ℕ) (size : Size) (a b : List ℕ) (box : Option Changed) → IsBoxOf depth size a b box → IfSome box (IsOnFrame size)
+pub part_on_frame : (depth : ℕ) (size : Size) (a b : List ℕ) (box : Option Changed) → IsBoxOfPixels depth size a b box → IfSome box (IsOnFrame size)
 part_on_frame depth size a b None is = tt
 part_on_frame depth size a b (Some box) is = least_on_frame size (DiffersIn depth size.w a b) box is

@@ -14,7 +14,7 @@ use Rattle.run_words.specs.declared.job.FrameFormat.{FrameFormat}
 use Rattle.run_words.specs.declared.job.FrameFormat.TheVariants.{Ppm, Pam, Rgba}
 use Rattle.run_words.specs.declared.job.StillsJob.{StillsJob}
 use Rattle.still_images.specs.Boxes.{DiffersIn, HasPixels, IsLeastOf, cropped, whole_box}
-use Rattle.still_images.specs.Formats.{ArePixelsOf, image_in}
+use Rattle.still_images.specs.Formats.{ArePixelsOf, image_of_pixels}
 use Rattle.still_images.specs.Laws.{CropsLieOver, IsLastBefore, IsLaidOver, StillsAreFrames, StillsShowAll}
 use Rattle.still_images.specs.Stills.{AreDrawsAt, ArePixelsAt, AreStills, FirstStill, NextStill, NoStill, SameStill, Still, StillsView, still_of}
 use Rattle.still_images.proofs.BoxLemmas.{least_on_frame}
@@ -84,11 +84,11 @@ crops_lie_over depth size box before now counted least i j k wide high few = (
 -- pixels of a picture make its image
 framed : (view : StillsView) (place : ℕ) (pixels : List ℕ) (format : FrameFormat) (at : ArePixelsAt view place pixels) →
     ArePixelsOf format view.fonts view.job.size at.draws pixels → IsFormattedImage format view.script view.fonts (rated_instant view.job.instants place) (plain_frame view.job.size)
-    (image_in format view.job.size pixels (rated_instant view.job.instants place) (length (line_events view.script)))
+    (image_of_pixels format view.job.size pixels (rated_instant view.job.instants place) (length (line_events view.script)))
 framed view place pixels Ppm at are = record {
   canvas = picture view.fonts view.job.size at.draws;
   is_picture = record { draws = at.draws; are_draws = at.are_draws; value = refl };
-  value = ap (λ (bytes : List ℕ). image_in Ppm view.job.size bytes (rated_instant view.job.instants place) (length (line_events view.script))) are;
+  value = ap (λ (bytes : List ℕ). image_of_pixels Ppm view.job.size bytes (rated_instant view.job.instants place) (length (line_events view.script))) are;
 }
 framed view place pixels Pam at are = record { pixels = pixels; is_picture = record { draws = at.draws; are_draws = at.are_draws; rows = are }; value = refl }
 framed view place pixels Rgba at are = record { pixels = pixels; is_picture = record { draws = at.draws; are_draws = at.are_draws; rows = are }; value = refl }

@@ -9,11 +9,11 @@ use Rattle.frame_rate.specs.Instants.{rated_instant}
 use Rattle.frame_view.specs.FrameViews.{plain_frame}
 use Rattle.picture_plan.specs.Pictures.{AreDraws}
 use Rattle.run_words.specs.declared.job.StillsJob.{StillsJob}
-use Rattle.still_images.specs.Boxes.{DiffersIn, HasPixels, IsBoxOf, IsLeastOf, whole_box}
+use Rattle.still_images.specs.Boxes.{DiffersIn, HasPixels, IsBoxOfPixels, IsLeastOf, whole_box}
 use Rattle.still_images.specs.Formats.{ArePixelsOf, pixel_bytes}
 use Rattle.still_images.specs.Lines.{end_line, still_line}
 use Rattle.still_images.specs.Puts.{GotPrefix, GotWhole, IsShownInPart, IsShownWhole}
-use Rattle.still_images.specs.Reels.{EndsInInstant, IsDrawn, IsPartAfter, IsPictureCut, IsPictureShown, IsReel, IsReelFit, IsShownLast, ShowsInstant, count_of_part, images_of_part, lines_of_part}
+use Rattle.still_images.specs.Reels.{EndsInInstant, IsNewlyDrawn, IsPartAfter, IsPictureCut, IsPictureAdded, IsReel, IsReelFit, IsShownLast, ShowsInstant, count_of_part, images_of_part, lines_of_part}
 use Rattle.still_images.specs.Stills.{AreDrawsAt, AreFirstStills, ArePixelsAt, AreStills, FirstStill, NextStill, NoStill, SameStill, Still, StillsView, end_instant, still_image, still_images, still_lines, still_of}
 use Rattle.still_images.specs.declared.fault.StillsFault.{StillsFault}
 use Rattle.still_images.specs.declared.fault.StillsFault.TheVariants.{OutOfMemory}
@@ -63,7 +63,7 @@ module _ (view : StillsView) (place : ℕ) (pixels : List ℕ) where
 
   -- what is kept behind a picture
   are_after : (stills : List Still) (before : List Still) (last : Still) (part : Option Changed) → stills ≡ before ++ last ∷ [] → AreStills view place stills → ArePixelsAt view place pixels →
-      IsBoxOf (pixel_bytes view.job.format) view.job.size last.pixels pixels part → AreStills view (place + 1) (stills ++ stills_of_part place pixels part)
+      IsBoxOfPixels (pixel_bytes view.job.format) view.job.size last.pixels pixels part → AreStills view (place + 1) (stills ++ stills_of_part place pixels part)
   are_after stills before last None split are at same =
       let now : ArePixelsAt view place last.pixels = subst (ArePixelsAt view place) (sym same) at in
       subst (AreStills view (place + 1)) (sym (append-nil stills ∙ split)) (SameStill place before last (subst (AreStills view place) split are) now)
@@ -84,7 +84,7 @@ module _ (view : StillsView) (place : ℕ) (pixels : List ℕ) where
       IsPartAfter view.job shown pixels part → AreStills view (place + 1) (stills ++ stills_of_part place pixels part)
   are_next stills None part are none at is = are_first stills part none are at is
   are_next stills (Some last) part are (before, still, split, same, drawn) at is =
-      are_after stills before still part split are at (subst (λ (bytes : List ℕ). IsBoxOf (pixel_bytes view.job.format) view.job.size bytes pixels part) (sym same) is)
+      are_after stills before still part split are at (subst (λ (bytes : List ℕ). IsBoxOfPixels (pixel_bytes view.job.format) view.job.size bytes pixels part) (sym same) is)
 
   -- What is shown then is the last one kept.
   last_after : (stills : List Still) (old : Option Shown) (shown : Shown) (part : Option Changed) → IsShownLast view stills old → shown.pixels.items ≡ pixels → IsPartAfter view.job old pixels part →
@@ -100,7 +100,7 @@ module _ (view : StillsView) (place : ℕ) (shown : Shown) (draws : AreDrawsAt v
   pixels_at = record { draws = shown.plan.draws; are_draws = draws; are_pixels = drawn }
 
   pub shown_next : (n t : ℕ) (old new : Reel) → n ≡ length (line_events view.script) → t ≡ rated_instant view.job.instants place →
-      IsPictureShown view.job n place t shown old new before now → ShowsInstant view place old new before now
+      IsPictureAdded view.job n place t shown old new before now → ShowsInstant view place old new before now
   shown_next n t old new events at h stills reel =
       let next = stills_of_part place shown.pixels.items h.part in
       let counts : still_lines view (0 + length stills) next ≡ lines_of_part old.count place t h.part =
@@ -224,15 +224,15 @@ some_shown view place old fault first before now so_far step =
 
 -- ---- what an instant comes to
 
-pub drawn_at : (view : StillsView) (place t : ℕ) (last : Option Shown) (shown : Shown) → t ≡ rated_instant view.job.instants place → IsDrawn view t last (Some shown) → AreDrawsAt view place shown.plan.draws
+pub drawn_at : (view : StillsView) (place t : ℕ) (last : Option Shown) (shown : Shown) → t ≡ rated_instant view.job.instants place → IsNewlyDrawn view t last (Some shown) → AreDrawsAt view place shown.plan.draws
 drawn_at view place t last shown at h = subst (λ n. AreDraws view.script view.fonts (line_events view.script) (pos n) (plain_frame view.job.size) shown.plan.draws) at h.0
 
-pub kept_next : (view : StillsView) (place t : ℕ) (reel : Reel) (state : SinkState) → t ≡ rated_instant view.job.instants place → IsDrawn view t reel.shown None → ShowsInstant view place reel reel state state
+pub kept_next : (view : StillsView) (place t : ℕ) (reel : Reel) (state : SinkState) → t ≡ rated_instant view.job.instants place → IsNewlyDrawn view t reel.shown None → ShowsInstant view place reel reel state state
 kept_next view place t reel state at (last, is, draws) =
     same_next view place state reel last is (subst (λ n. AreDraws view.script view.fonts (line_events view.script) (pos n) (plain_frame view.job.size) last.plan.draws) at draws)
 
 pub fit_next : (job : StillsJob) (n place t : ℕ) (shown : Shown) (old new : Reel) (before now : SinkState) → IsReelFit job place old → HasPixels (pixel_bytes job.format) job.size shown.pixels.items →
-    IsPictureShown job n place t shown old new before now → IsReelFit job (place + 1) new
+    IsPictureAdded job n place t shown old new before now → IsReelFit job (place + 1) new
 fit_next job n place t shown old new before now fit pixels h = record {
   pixels = subst (λ (o : Option Shown). IfSome o (λ last. HasPixels (pixel_bytes job.format) job.size last.pixels.items)) (sym h.shown_is) pixels;
   few = omega (arith, fit.few, h.count, one_at_most h.part);

@@ -8,8 +8,8 @@ use Rattle.frame_change.specs.Changes.{IsInBox, LiesInside}
 use Rattle.frame_change.specs.Rows.{AreSame}
 use Rattle.frame_change.specs.declared.pixels.Changed.{Changed}
 use Rattle.frame_change.proofs.BoxLemmas.{all_same}
-use Rattle.still_images.specs.Boxes.{DiffersIn, HasAll, HasPixels, IsBoxOf, IsLeastOf}
-use Rattle.still_images.specs.Rows.{AreColumnsOf, DifferBetween, row_box, row_under, with_row}
+use Rattle.still_images.specs.Boxes.{DiffersIn, HasAll, HasPixels, IsBoxOfPixels, IsLeastOf}
+use Rattle.still_images.specs.Rows.{AreColumnsOf, DifferBetween, row_box, row_under, with_columns}
 use Rattle.still_images.specs.declared.alpha_box.Columns.{Columns}
 use Rattle.still_images.proofs.BoxLemmas.{least_on_frame}
 
@@ -58,7 +58,7 @@ rows_fit size a y sizes low =
 pub no_rows : (size : Size) (a b : List ℕ) → IsBoxAbove size a b 0 None
 no_rows size a b = λ k from to. absurd (omega (arith, to))
 
-pub all_rows : (size : Size) (a b : List ℕ) (box : Option Changed) → HasPixels 4 size a → HasPixels 4 size b → IsBoxAbove size a b size.h box → IsBoxOf 4 size a b box
+pub all_rows : (size : Size) (a b : List ℕ) (box : Option Changed) → HasPixels 4 size a → HasPixels 4 size b → IsBoxAbove size a b size.h box → IsBoxOfPixels 4 size a b box
 all_rows size a b None sizes too is = all_same a b (omega (arith, sizes, too)) (λ k from to. is k from (omega (arith, to, sizes)))
 all_rows size a b (Some box) sizes too is = record {
   has = λ i j wide high differs. is.has i j wide high (high, differs);
@@ -155,7 +155,7 @@ module _ (size : Size) (a b : List ℕ) (y : ℕ) (low : y < size.h) where
         let two = has (columns.end - 1) y (omega (arith, row.order, ends)) low (omega arith, last_pixel) in
         record { left = one.left; right = omega (arith, two.right, row.order); top = one.top; bottom = omega (arith, one.bottom) }
 
-    pub row_differs : (changed : Option Changed) → IsBoxAbove size a b y changed → IsBoxAbove size a b (y + 1) (with_row changed (Some columns) y)
+    pub row_differs : (changed : Option Changed) → IsBoxAbove size a b y changed → IsBoxAbove size a b (y + 1) (with_columns changed (Some columns) y)
     row_differs None is = record {
       has = λ i j wide high differs. elim (here_or_above j differs.0) [
         | inl above ↦ absurd (same_above is i j wide above differs.1)

@@ -19,9 +19,9 @@ pub record IsLeastOf (size : Size) (Differs : ℕ → ℕ → Type 0) (box : Cha
   pub least : (other : Changed) → HasAll size Differs other → LiesInside box other
 
 -- The least box of the pixels at which two pictures differ: there is none exactly where they are equal.
-abbrev pub IsBoxOf : ℕ → Size → List ℕ → List ℕ → Option Changed → Type 0
-IsBoxOf depth size a b None = a ≡ b
-IsBoxOf depth size a b (Some box) = IsLeastOf size (DiffersIn depth size.w a b) box
+abbrev pub IsBoxOfPixels : ℕ → Size → List ℕ → List ℕ → Option Changed → Type 0
+IsBoxOfPixels depth size a b None = a ≡ b
+IsBoxOfPixels depth size a b (Some box) = IsLeastOf size (DiffersIn depth size.w a b) box
 
 -- A picture of this size has so many bytes.
 abbrev pub HasPixels : ℕ → Size → List ℕ → Type 0

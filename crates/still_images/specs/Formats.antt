@@ -24,7 +24,7 @@ ArePixelsOf Pam fonts size draws pixels = AreAlphaRows Straight (map (image_of_d
 ArePixelsOf Rgba fonts size draws pixels = AreAlphaRows Straight (map (image_of_draw fonts) draws) size.w 0 size.h pixels
 
 -- the image of pixels, that at the instant t, when n events were known
-abbrev pub image_in : FrameFormat → Size → List ℕ → ℕ → ℕ → List ℕ
-image_in Ppm size pixels t n = image_bytes size.w size.h pixels (pos t) n
-image_in Pam size pixels t n = pam_bytes size.w size.h pixels (pos t) n
-image_in Rgba size pixels t n = pixels
+abbrev pub image_of_pixels : FrameFormat → Size → List ℕ → ℕ → ℕ → List ℕ
+image_of_pixels Ppm size pixels t n = image_bytes size.w size.h pixels (pos t) n
+image_of_pixels Pam size pixels t n = pam_bytes size.w size.h pixels (pos t) n
+image_of_pixels Rgba size pixels t n = pixels

@@ -8,7 +8,7 @@ use Rattle.frame_images.specs.FrameImages.{IsFormattedImage}
 use Rattle.frame_rate.specs.Instants.{rated_instant}
 use Rattle.frame_view.specs.FrameViews.{plain_frame}
 use Rattle.still_images.specs.Boxes.{DiffersIn, HasPixels, IsLeastOf, cropped}
-use Rattle.still_images.specs.Formats.{image_in}
+use Rattle.still_images.specs.Formats.{image_of_pixels}
 use Rattle.still_images.specs.Stills.{ArePixelsAt, AreStills, Still, StillsView}
 
 -- It is the last kept picture that isn't behind the place.
@@ -39,4 +39,4 @@ CropsLieOver = (depth : ℕ) (size : Size) (box : Changed) (before now : List �
 abbrev pub StillsAreFrames : Type 0
 StillsAreFrames = (view : StillsView) (place : ℕ) (pixels : List ℕ) → ArePixelsAt view place pixels
     → IsFormattedImage view.job.format view.script view.fonts (rated_instant view.job.instants place) (plain_frame view.job.size)
-    (image_in view.job.format view.job.size pixels (rated_instant view.job.instants place) (length (line_events view.script)))
+    (image_of_pixels view.job.format view.job.size pixels (rated_instant view.job.instants place) (length (line_events view.script)))

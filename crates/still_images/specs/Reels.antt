@@ -6,7 +6,7 @@ use Rattle.frame_change.specs.declared.pixels.Changed.{Changed}
 use Rattle.frame_view.specs.FrameViews.{plain_frame}
 use Rattle.picture_plan.specs.Pictures.{AreDraws}
 use Rattle.run_words.specs.declared.job.StillsJob.{StillsJob}
-use Rattle.still_images.specs.Boxes.{HasPixels, IsBoxOf, whole_box}
+use Rattle.still_images.specs.Boxes.{HasPixels, IsBoxOfPixels, whole_box}
 use Rattle.still_images.specs.Formats.{ArePixelsOf, pixel_bytes}
 use Rattle.still_images.specs.Lines.{still_line}
 use Rattle.still_images.specs.Puts.{GotPrefix, GotWhole}
@@ -18,7 +18,7 @@ use Rattle.still_images.specs.declared.reel.Shown.{Shown}
 -- The box of what a picture changes: the whole frame where nothing was shown before it.
 abbrev pub IsPartAfter : StillsJob → Option Shown → List ℕ → Option Changed → Type 0
 IsPartAfter job None pixels part = part ≡ Some (whole_box job.size)
-IsPartAfter job (Some shown) pixels part = IsBoxOf (pixel_bytes job.format) job.size shown.pixels.items pixels part
+IsPartAfter job (Some shown) pixels part = IsBoxOfPixels (pixel_bytes job.format) job.size shown.pixels.items pixels part
 
 -- the images of a picture that changes this: one, or none
 abbrev pub images_of_part : StillsJob → List ℕ → ℕ → ℕ → Option Changed → List (List ℕ)
@@ -35,7 +35,7 @@ count_of_part None = 0
 count_of_part (Some box) = 1
 
 -- A picture was shown from the instant t at a place on, when n events were known.
-pub record IsPictureShown (job : StillsJob) (n place t : ℕ) (shown : Shown) (old new : Reel) (before now : SinkState) : Type 0 where
+pub record IsPictureAdded (job : StillsJob) (n place t : ℕ) (shown : Shown) (old new : Reel) (before now : SinkState) : Type 0 where
   pub part : Option Changed
   pub is_part : IsPartAfter job old.shown shown.pixels.items part
   pub got : GotWhole (images_of_part job shown.pixels.items t n part) before now
@@ -69,10 +69,10 @@ pub record IsReelFit (job : StillsJob) (place : ℕ) (reel : Reel) : Type 0 wher
   pub few : reel.count ≤ place
 
 -- The picture at the instant t: none, where its draws are those of the last one, else its draws and pixels.
-abbrev pub IsDrawn : StillsView → ℕ → Option Shown → Option Shown → Type 0
-IsDrawn view t last None =
+abbrev pub IsNewlyDrawn : StillsView → ℕ → Option Shown → Option Shown → Type 0
+IsNewlyDrawn view t last None =
     (shown : Shown) × (last ≡ Some shown) × AreDraws view.script view.fonts (line_events view.script) (pos t) (plain_frame view.job.size) shown.plan.draws
-IsDrawn view t last (Some shown) =
+IsNewlyDrawn view t last (Some shown) =
     AreDraws view.script view.fonts (line_events view.script) (pos t) (plain_frame view.job.size) shown.plan.draws
     × ArePixelsOf view.job.format view.fonts view.job.size shown.plan.draws shown.pixels.items
     × HasPixels (pixel_bytes view.job.format) view.job.size shown.pixels.items

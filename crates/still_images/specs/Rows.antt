@@ -25,7 +25,7 @@ row_box columns y = record { x1 = columns.first; y1 = y; x2 = columns.end; y2 = 
 abbrev pub row_under : Changed → Columns → ℕ → Changed
 row_under above columns y = record { x1 = min above.x1 columns.first; y1 = above.y1; x2 = max above.x2 columns.end; y2 = y + 1 }
 
-abbrev pub with_row : Option Changed → Option Columns → ℕ → Option Changed
-with_row changed None y = changed
-with_row None (Some columns) y = Some (row_box columns y)
-with_row (Some above) (Some columns) y = Some (row_under above columns y)
+abbrev pub with_columns : Option Changed → Option Columns → ℕ → Option Changed
+with_columns changed None y = changed
+with_columns None (Some columns) y = Some (row_box columns y)
+with_columns (Some above) (Some columns) y = Some (row_under above columns y)

@@ -12,7 +12,7 @@ use Rattle.mask_keys.specs.declared.plans.Draw.{Draw}
 use Rattle.picture_plan.specs.Pictures.{AreDraws}
 use Rattle.run_words.specs.declared.job.StillsJob.{StillsJob}
 use Rattle.still_images.specs.Boxes.{DiffersIn, IsLeastOf, box_size, cropped, whole_box}
-use Rattle.still_images.specs.Formats.{ArePixelsOf, image_in, pixel_bytes}
+use Rattle.still_images.specs.Formats.{ArePixelsOf, image_of_pixels, pixel_bytes}
 use Rattle.still_images.specs.Lines.{end_line, still_line}
 
 -- a job with what was read for it
@@ -60,8 +60,8 @@ AreFirstStills view stills = (place : ℕ) × (place ≤ view.job.instants.count
 -- the image of a picture at t, when n events were known: all of it, or the part in a box
 abbrev pub image_of_part : StillsJob → Changed → List ℕ → ℕ → ℕ → List ℕ
 image_of_part job part pixels t n =
-    if job.crop then image_in job.format (box_size part) (cropped (pixel_bytes job.format) job.size.w part pixels) t n
-    else image_in job.format job.size pixels t n
+    if job.crop then image_of_pixels job.format (box_size part) (cropped (pixel_bytes job.format) job.size.w part pixels) t n
+    else image_of_pixels job.format job.size pixels t n
 
 abbrev pub still_image : StillsView → Still → List ℕ
 still_image view still =

@@ -3,8 +3,8 @@
 ghost use Rattle.std.specs.Prelude.{◌≡◌, ◌≢◌, ◌+◌, ◌-◌, ◌*◌, ◌^◌, ◌≤◌, ◌<◌, drop, length, take, slice_index, Some};
 ghost use Rattle.ass_num.specs.Limits.{IsFrameSize, max_frame_side};
 ghost use Rattle.frame_change.specs.Rows.{AreSame};
-ghost use Rattle.still_images.specs.Boxes.{HasPixels, IsBoxOf};
-ghost use Rattle.still_images.specs.Rows.{AreColumnsOf, with_row};
+ghost use Rattle.still_images.specs.Boxes.{HasPixels, IsBoxOfPixels};
+ghost use Rattle.still_images.specs.Rows.{AreColumnsOf, with_columns};
 
 use ass_num::Size;
 use frame_change::Changed;
@@ -64,7 +64,7 @@ fn row_under(changed: Option<Changed>, columns: Columns, y: u32) -> Changed
     requires first { columns.first < 2 ^ 32 }
     requires end { columns.end < 2 ^ 32 }
     requires y { y < max_frame_side }
-    ensures { Some result ≡ with_row changed (Some columns) y }
+    ensures { Some result ≡ with_columns changed (Some columns) y }
 {
     let x1 = columns.first as u32;
     let x2 = columns.end as u32;
@@ -99,7 +99,7 @@ pub fn alpha_box(size: &Size, a: &[u8], b: &[u8]) -> Option<Changed>
     requires size { IsFrameSize size.now }
     requires a { HasPixels 4 size.now a.now }
     requires b { HasPixels 4 size.now b.now }
-    ensures { IsBoxOf 4 size.now a.now b.now result }
+    ensures { IsBoxOfPixels 4 size.now a.now b.now result }
 {
     let mut changed = None;
     for y in 0..size.h {

@@ -2,7 +2,7 @@
 
 ghost use Rattle.std.specs.Prelude.{◌≡◌};
 ghost use Rattle.ass_num.specs.Limits.{IsFrameSize};
-ghost use Rattle.still_images.specs.Boxes.{HasPixels, IsBoxOf, whole_box};
+ghost use Rattle.still_images.specs.Boxes.{HasPixels, IsBoxOfPixels, whole_box};
 ghost use Rattle.still_images.specs.Formats.{pixel_bytes};
 
 use crate::alpha_box::alpha_box;
@@ -38,7 +38,7 @@ pub fn box_of(format: FrameFormat, size: &Size, a: &[u8], b: &[u8]) -> Option<Ch
     requires size { IsFrameSize size.now }
     requires a { HasPixels (pixel_bytes format) size.now a.now }
     requires b { HasPixels (pixel_bytes format) size.now b.now }
-    ensures { IsBoxOf (pixel_bytes format) size.now a.now b.now result }
+    ensures { IsBoxOfPixels (pixel_bytes format) size.now a.now b.now result }
 {
     match format {
         FrameFormat::Ppm => changed_box(size, a, b),

@@ -3,7 +3,7 @@
 ghost use Rattle.std.specs.Prelude.{◌≡◌, ◌≤◌, IfOk};
 ghost use Rattle.ass_num.specs.Limits.{max_instant};
 ghost use Rattle.still_images.specs.Boxes.{HasPixels, IsOnFrame, box_size, cropped};
-ghost use Rattle.still_images.specs.Formats.{image_in, pixel_bytes};
+ghost use Rattle.still_images.specs.Formats.{image_of_pixels, pixel_bytes};
 ghost use Rattle.still_images.specs.Stills.{image_of_part};
 
 use crate::boxes::pixel_bytes;
@@ -16,7 +16,7 @@ use run_words::{FrameFormat, StillsJob};
 use std::alloc::Global;
 
 /// The image of pixels in a format: that at the instant `t`, when `n` events were known.
-fn image_in(
+fn image_of_pixels(
     alloc: Global,
     format: FrameFormat,
     size: &Size,
@@ -26,7 +26,7 @@ fn image_in(
 ) -> Mem<Vec<u8>>
     requires pixels { HasPixels (pixel_bytes format) size.now pixels.now }
     requires instant { t ≤ max_instant }
-    ensures { IfOk result (λ image. image.items ≡ image_in format size.now pixels.now t n) }
+    ensures { IfOk result (λ image. image.items ≡ image_of_pixels format size.now pixels.now t n) }
 {
     match format {
         FrameFormat::Ppm => ppm_bytes(alloc, size, pixels, t as i64, n),
@@ -57,7 +57,7 @@ fn cropped_image(
     requires pixels { HasPixels (pixel_bytes job.now.format) job.now.size pixels.now }
     requires part { IsOnFrame job.now.size part.now }
     requires instant { t ≤ max_instant }
-    ensures { IfOk result (λ image. image.items ≡ image_in job.now.format (box_size part.now)
+    ensures { IfOk result (λ image. image.items ≡ image_of_pixels job.now.format (box_size part.now)
         (cropped (pixel_bytes job.now.format) job.now.size.w part.now pixels.now) t n) }
 {
     let bytes = cropped(alloc, pixel_bytes(job.format), &job.size, part, pixels)?;
@@ -65,7 +65,7 @@ fn cropped_image(
         w: part.x2 - part.x1,
         h: part.y2 - part.y1,
     };
-    image_in(alloc, job.format, &size, bytes.as_slice(), t, n)
+    image_of_pixels(alloc, job.format, &size, bytes.as_slice(), t, n)
 }
 
 /// The image of a kept picture: all of it, or the part in the box of what changed.
@@ -85,6 +85,6 @@ pub fn still_image(
     if job.crop {
         cropped_image(alloc, job, part, pixels, t, n)
     } else {
-        image_in(alloc, job.format, &job.size, pixels, t, n)
+        image_of_pixels(alloc, job.format, &job.size, pixels, t, n)
     }
 }

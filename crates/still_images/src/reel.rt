@@ -6,7 +6,7 @@ ghost use Rattle.still_images.specs.Boxes.{HasPixels, IsOnFrame};
 ghost use Rattle.still_images.specs.Formats.{pixel_bytes};
 ghost use Rattle.still_images.specs.Lines.{still_line};
 ghost use Rattle.still_images.specs.Puts.{GotPrefix, GotWhole};
-ghost use Rattle.still_images.specs.Reels.{IsPartAfter, IsPictureCut, IsPictureShown};
+ghost use Rattle.still_images.specs.Reels.{IsPartAfter, IsPictureCut, IsPictureAdded};
 ghost use Rattle.still_images.specs.Stills.{image_of_part};
 
 use crate::boxes::{box_of, whole_box};
@@ -165,7 +165,7 @@ pub fn show_picture<F: Sink>(
     requires last { IfSome reel.old.shown (λ last. HasPixels (pixel_bytes job.now.format) job.now.size last.pixels.items) }
     requires instant { t ≤ max_instant }
     requires few { reel.old.count < 2 ^ 64 - 1 }
-    ensures whole { OnOk result (IsPictureShown job.now n place t shown reel.old reel.new (F.state frames.old) (F.state frames.new)) }
+    ensures whole { OnOk result (IsPictureAdded job.now n place t shown reel.old reel.new (F.state frames.old) (F.state frames.new)) }
     ensures part { IfErr result (λ fault. IsPictureCut job.now n t shown reel.old fault (F.state frames.old) (F.state frames.new)) }
 {
     if let Some(part) = changed_part(job, &reel.shown, shown.pixels.as_slice()) {

@@ -16,7 +16,7 @@ ghost use Rattle.text_layout.specs.Fonts.{IsLayoutFontSet};
 ghost use Rattle.text_layout.specs.Settings.{IsSetting};
 ghost use Rattle.still_images.specs.Lines.{end_line};
 ghost use Rattle.still_images.specs.Puts.{AreStillsShown};
-ghost use Rattle.still_images.specs.Reels.{EndsInInstant, IsDrawn, IsReelFit, ShowsInstant};
+ghost use Rattle.still_images.specs.Reels.{EndsInInstant, IsNewlyDrawn, IsReelFit, ShowsInstant};
 ghost use Rattle.still_images.specs.Stills.{end_instant, stills_view};
 
 use crate::fault::StillsFault;
@@ -58,7 +58,7 @@ fn draw(
     requires instant { t ≤ max_instant }
     requires same { local.old.fonts ≡ setting.now.fonts }
     ensures same { local.new.fonts ≡ local.old.fonts }
-    ensures drawn { IfOk result (IsDrawn (stills_view job.now setting.now.script setting.now.fonts) t last.now) }
+    ensures drawn { IfOk result (IsNewlyDrawn (stills_view job.now setting.now.script setting.now.fonts) t last.now) }
 {
     let plan = plan(alloc, setting, events, t as i64)?;
     if is_shown(last, &plan) {
