@@ -39,7 +39,16 @@ fn instants(alloc: Global, play: &PlayJob) -> Mem<String>
     let counts = [instant_count(play), image_rounds(play)];
     let last = [instant_at(play, 3), instant_at(play, 4)];
     let rounds = feeding_rounds(play, 7);
-    shown(alloc, &(counts, last, ahead.as_slice(), rounds, has_too_many_frames(play)))
+    shown(
+        alloc,
+        &(
+            counts,
+            last,
+            ahead.as_slice(),
+            rounds,
+            has_too_many_frames(play),
+        ),
+    )
 }
 
 /// How many painters and rounds of images there are; where the share of the second painter begins in the first round and in the
@@ -52,7 +61,11 @@ fn shares(alloc: Global, play: &PlayJob) -> Mem<String>
         return shown(alloc, &"fewer than three painters");
     }
     let begins = [share_begins(play, 0, 1), share_begins(play, 1, 1)];
-    let ends = [share_ends(play, 0, 1), share_ends(play, 0, 2), share_ends(play, 1, 1)];
+    let ends = [
+        share_ends(play, 0, 1),
+        share_ends(play, 0, 2),
+        share_ends(play, 1, 1),
+    ];
     shown(alloc, &(painters, image_rounds(play), begins, ends))
 }
 
