@@ -5,9 +5,9 @@ pub const HELP: &str = "\
 usage: vimalorua WORDS..
 
   check [--script-fonts] SCRIPT FONT..
-      reports on standard error what an ASS script and from 1 to 64 fonts, BDF or TrueType, hold:
-      the script's resolution, its styles and Dialogue lines, each line that can't be read, and each
-      font's glyphs; --script-fonts: the fonts that the script holds are used too, behind the others
+      reports on standard error what an ASS script and from 1 to 64 fonts, BDF or TrueType, hold,
+      and each line that can't be read; --script-fonts: the script's own fonts are used too, behind
+      the others
   frame --at MS --size WxH [--storage WxH] [--aspect N/D] [--content X,Y,WxH]
         [--letters script|aspect] [--scale N] [--format ppm|pam|rgba] [--budget BYTES]
         [--script-fonts] SCRIPT FONT..
@@ -18,15 +18,12 @@ usage: vimalorua WORDS..
       --aspect N/D     the width and height of its pixels, each from 1 to 65536
       --content X,Y,WxH   where its picture stands in the frame: left and top from -4096 to 4096
                        (--content=-8,0,1296x720), and its columns and rows
-      --letters WORD   script: letters are stretched as all else; aspect: they keep their shape, as
-                       players show a script that was made of SRT
-      --scale N        the size of lines without a place of their own, in thousandths, to 100000
+      --letters WORD   script: letters are stretched as all else; aspect: they keep their shape
+      --scale N        the size of lines without a place, in thousandths, to 100000
       --format WORD    ppm: on black; pam: a PAM with straight alpha; rgba: its bytes without a head
-      --budget BYTES   what each of three caches may keep, from 0 to 1099511627776; the picture is
-                       the same for each
-  changes --from MS --to MS|--frames N --step MS|--rate N/D --size WxH [--storage WxH]
-          [--aspect N/D] [--content X,Y,WxH] [--letters script|aspect] [--scale N] [--budget BYTES]
-          [--script-fonts] SCRIPT FONT..
+      --budget BYTES   what each of three caches may keep, from 0 to 1099511627776
+  changes --from MS --to MS|--frames N --step MS|--rate N/D --size WxH [--storage ..] [--aspect ..]
+          [--content ..] [--letters ..] [--scale N] [--budget BYTES] [--script-fonts] SCRIPT FONT..
       reports on standard error what changes from picture to picture: a line
       't=MS change=C box X1 Y1 X2 Y2', or 'box none', for each instant from --from on, by --step or
       at --rate (24000/1001, or 25 frames a second), before --to or --frames of them; C is 0 for the
@@ -44,15 +41,13 @@ usage: vimalorua WORDS..
       writes only those of these images that differ from the one before, and reports an index of them:
       a line 'image K place N t=MS box X1 Y1 X2 Y2' for each; --crop: an image is only that box
   selftest [--workers N] SEED EVENTS
-      plays a script that a seed generates and reports a digest of its images on standard error,
-      which is the same for every number of workers, from 1 to 8
+      plays a script that a seed generates by 1 to 8 workers, and reports a digest of its images
   help, --version
       show this text, and the version
 
 Options stand anywhere behind the command, once each, as '--at 0' or '--at=0'. Behind '--' all words
-are names. SCRIPT and FONT are names of files, and - is standard input; one that begins with '-'
-stands behind '--', and the file - is ./-. A number is from 1 to 13 decimal digits. docs/PROGRAM.md,
-which is vimalorua(1), has what each number may be, and what it is for.
+are names. SCRIPT and FONT are names of files, and - is standard input; the file - is ./-. A number
+is from 1 to 13 decimal digits; vimalorua(1) has what each may be.
 
 Exit statuses, each but 0 with a line on standard error, unless that line is what failed:
   0 done              4 read fault       7 write fault      11 unwritable
