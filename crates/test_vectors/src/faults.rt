@@ -5,6 +5,7 @@ use crate::telling::{numbers, parted};
 use ass_io::{FailingShelf, MemoryShelf, Rt};
 use std::fs;
 use std::test::Fail;
+use test_hook::NoHook;
 
 fn add_file(rt: &HostRuntime, shelf: &mut MemoryShelf, name: &str) -> Result<(), Fail> {
     let bytes = fs::read(rt, name)?;
@@ -28,6 +29,6 @@ pub fn told(lent: &impl Rt, rt: &HostRuntime, question: &str) -> Result<String, 
     let [fetch, image, told, _, _, _, _, _] = numbers(fails);
     let puts = [image.unsigned_abs(), told.unsigned_abs()];
     let mut shelf = shelf_of(rt, fetch.unsigned_abs())?;
-    let ran = run(lent, rt.alloc(), line, &mut shelf, puts)?;
+    let ran = run(lent, rt.alloc(), line, &mut shelf, puts, &NoHook)?;
     Ok(ran_told(rt.alloc(), &ran)?)
 }

@@ -3,11 +3,14 @@
 //! those whose rows have scripts: these write the file `a.ass`, which no file of `runs` is.
 #![tactic(auto)]
 
+mod counting;
 mod edges;
 mod events;
 mod faults;
 mod fonts;
+mod held;
 mod held_fonts;
+mod holding;
 mod numbers;
 mod plains;
 mod regions;
@@ -79,6 +82,7 @@ fn answer(lent: &impl Rt, rt: &HostRuntime, table: &str, question: &str) -> Resu
         "written" => texts::written(lent, rt, question),
         "long_checks" => texts::long_check(lent, rt, question),
         "faults" => faults::told(lent, rt, question),
+        "held" => held::told(lent, rt, question),
         "event_lines" => writing::told(rt.alloc(), question),
         _ => Ok(file_answer(lent, rt, table, question)?),
     }

@@ -8,7 +8,7 @@ use play_command::exit_of_words;
 use play_report::digest_after;
 use run_words::read_words;
 use std::alloc::Global;
-use test_hook::NoHook;
+use test_hook::{NoHook, TestHook};
 
 /// The words of a line.
 pub fn words_of(alloc: Global, line: &str) -> Mem<Vec<String>> {
@@ -40,18 +40,19 @@ pub struct Ran {
 }
 
 /// Does what the words ask for, where a put of an image and a put of a report fail: their numbers, or 0 for none.
-pub fn run<S: Shelf>(
+pub fn run<S: Shelf, H: TestHook + Sync>(
     lent: &impl Rt,
     alloc: Global,
     line: &str,
     shelf: &mut S,
     [image, told]: [u64; 2],
+    hook: &H,
 ) -> Mem<Ran> {
     let words = words_of(alloc, line)?;
     let mut frames = sink(alloc, image)?;
     let mut report = sink(alloc, told)?;
     let words = words.as_slice();
-    let exit = exit_of_words(lent, alloc, words, shelf, &mut frames, &mut report, &NoHook);
+    let exit = exit_of_words(lent, alloc, words, shelf, &mut frames, &mut report, hook);
     Ok(Ran {
         exit,
         frames,
@@ -59,9 +60,20 @@ pub fn run<S: Shelf>(
     })
 }
 
+/// A run over real files that is lent a hook.
+pub fn over_files_hooked<H: TestHook + Sync>(
+    lent: &impl Rt,
+    rt: &HostRuntime,
+    line: &str,
+    hook: &H,
+) -> Mem<Ran> {
+    let mut shelf = FileShelf::new(*rt);
+    run(lent, rt.alloc(), line, &mut shelf, [0, 0], hook)
+}
+
 /// A run over real files.
 pub fn over_files(lent: &impl Rt, rt: &HostRuntime, line: &str) -> Mem<Ran> {
-    run(lent, rt.alloc(), line, &mut FileShelf::new(*rt), [0, 0])
+    over_files_hooked(lent, rt, line, &NoHook)
 }
 
 /// The exit status, the report and the image.

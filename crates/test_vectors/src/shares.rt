@@ -39,16 +39,8 @@ fn instants(alloc: Global, play: &PlayJob) -> Mem<String>
     let counts = [instant_count(play), image_rounds(play)];
     let last = [instant_at(play, 3), instant_at(play, 4)];
     let rounds = feeding_rounds(play, 7);
-    shown(
-        alloc,
-        &(
-            counts,
-            last,
-            ahead.as_slice(),
-            rounds,
-            has_too_many_frames(play),
-        ),
-    )
+    let too_many = has_too_many_frames(play);
+    shown(alloc, &(counts, last, ahead.as_slice(), rounds, too_many))
 }
 
 /// How many painters and rounds of images there are; where the share of the second painter begins in the first round and in the

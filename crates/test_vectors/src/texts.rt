@@ -23,7 +23,7 @@ fn add_lines(alloc: Global, text: &str, script: &mut String) -> Mem<()> {
 }
 
 /// Writes a script, which a file begins, and which ends with lines that end at bars.
-fn write_script(rt: &HostRuntime, head: &str, text: &str) -> Result<(), Fail> {
+pub fn write_script(rt: &HostRuntime, head: &str, text: &str) -> Result<(), Fail> {
     let mut script = fs::read_to_string(rt, head)?;
     add_lines(rt.alloc(), text, &mut script)?;
     write_file(rt, script.as_bytes())
