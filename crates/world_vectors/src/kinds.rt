@@ -94,6 +94,7 @@ fn all_told(alloc: Global) -> Mem<[(u64, usize); 3]> {
     Ok([region, mask, composite])
 }
 
+/// Prints what a key of each kind costs, the kinds of shards, and the first shard of masks.
 pub fn show(rt: &HostRuntime) -> Result<(), Fail> {
     let told = all_told(rt.alloc())?;
     let first = first_shard(ValueKind::Mask);

@@ -1,14 +1,14 @@
 //! A player for one thread: a script and a font in memory, and the picture of an instant as rows of signs.
-#![tactic(auto)]
 
 ghost use Rattle.ass_num.specs.Limits.{IsWithin, max_instant};
 
+use crate::showing::{FONT, FRAME, show};
 use ass_io::MAX_FILE_BYTES;
-use ass_num::{Items, Size};
+use ass_num::Items;
 use bdf_font::read_fonts;
 use blend::Canvas;
 use player::Player;
-use std::alloc::{AllocError, Global};
+use std::alloc::Global;
 use std::io;
 
 const SCRIPT: &[u8] = b"[Script Info]
@@ -17,37 +17,6 @@ PlayResY: 9
 [Events]
 Dialogue: 0,0:00:01.00,0:00:02.00,,,0,0,0,,{\\an7\\pos(1,1)\\fs7\\bord0\\shad0}Hi
 ";
-
-const FONT: &[u8] = b"STARTFONT 2.1
-FONTBOUNDINGBOX 6 7 0 0
-STARTCHAR H
-ENCODING 72
-BBX 5 7 0 0
-BITMAP
-88
-88
-88
-F8
-88
-88
-88
-ENDCHAR
-STARTCHAR i
-ENCODING 105
-BBX 3 7 0 0
-BITMAP
-40
-00
-C0
-40
-40
-40
-E0
-ENDCHAR
-ENDFONT
-";
-
-const FRAME: Size = Size { w: 13, h: 9 };
 
 /// Gives a player the fonts of a file, if its bytes are some. Fonts may keep them, so they are copied.
 fn add_fonts(alloc: Global, player: &mut Player, file: &[u8]) -> bool {
@@ -89,32 +58,13 @@ fn picture(alloc: Global, player: &mut Player, t: i64) -> Option<Canvas>
     player.draw(alloc, t, &FRAME).ok()
 }
 
-/// The signs of a row of pixels: a dot for black.
-fn signs_of(alloc: Global, row: &[u8]) -> Result<String, AllocError> {
-    let mut signs = String::new(alloc);
-    for pixel in row.chunks(3) {
-        let is_black = pixel.iter().all(|byte| *byte == 0);
-        signs.push(if is_black { '.' } else { '#' })?;
-    }
-    Ok(signs)
-}
-
-/// Prints a picture.
-fn show<R: Print>(rt: &R, alloc: Global, canvas: &Canvas) -> io::Result<()> {
-    for row in canvas.pixels().chunks(3 * FRAME.w as usize) {
-        let signs = signs_of(alloc, row)?;
-        println!(rt; "{signs}")?;
-    }
-    Ok(())
-}
-
-fn main(rt: HostRuntime) -> io::Result<()> {
-    let alloc = rt.alloc();
+/// Prints the picture of an instant.
+pub fn run<R: Print>(rt: &R, alloc: Global) -> io::Result<()> {
     let Some(mut player) = opened(alloc) else {
         return println!(rt; "no player");
     };
     match picture(alloc, &mut player, 1_500) {
-        Some(canvas) => show(&rt, alloc, &canvas),
+        Some(canvas) => show(rt, alloc, &canvas),
         None => println!(rt; "no picture"),
     }
 }

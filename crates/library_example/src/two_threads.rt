@@ -1,5 +1,4 @@
 //! A renderer that two threads share: one feeds it, while the other draws. What all of the events show is printed as rows of signs.
-#![tactic(auto)]
 
 ghost use Rattle.std.specs.Prelude.{IfSome, IsSomeAnd};
 ghost use Rattle.std.specs.Arc.{arc_value};
@@ -12,13 +11,14 @@ ghost use Rattle.text_layout.specs.Fonts.{IsLayoutFontSet};
 ghost use Rattle.renderer.specs.Passes.{HoldsNothing, IsFirstPass, IsPassOfRenderer};
 ghost use Rattle.track_history.specs.Calls.{history_of};
 
+use crate::showing::{FONT, FRAME, show};
 use ass_io::MAX_FILE_BYTES;
 use ass_num::{Items, Size};
 use ass_script::{Script, read_script};
 use bdf_font::{FontSet, read_fonts};
 use blend::Canvas;
 use renderer::{RenderPass, Renderer, laws, paint};
-use std::alloc::{AllocError, Global};
+use std::alloc::Global;
 use std::io;
 use std::sync::{Arc, Wait};
 use std::thread::{Threads, join_mut};
@@ -30,42 +30,11 @@ PlayResY: 9
 [Events]
 ";
 
-const FONT: &[u8] = b"STARTFONT 2.1
-FONTBOUNDINGBOX 6 7 0 0
-STARTCHAR H
-ENCODING 72
-BBX 5 7 0 0
-BITMAP
-88
-88
-88
-F8
-88
-88
-88
-ENDCHAR
-STARTCHAR i
-ENCODING 105
-BBX 3 7 0 0
-BITMAP
-40
-00
-C0
-40
-40
-40
-E0
-ENDCHAR
-ENDFONT
-";
-
 /// Two events, as a stream of Matroska has them.
 const CHUNKS: [&[u8]; 2] = [
     b"0,0,,,0,0,0,,{\\an7\\pos(1,1)\\fs7\\bord0\\shad0}H",
     b"1,0,,,0,0,0,,{\\an7\\pos(7,1)\\fs7\\bord0\\shad0}i",
 ];
-
-const FRAME: Size = Size { w: 13, h: 9 };
 
 /// The script.
 fn script_of(alloc: Global) -> Option<Arc<Script>>
@@ -233,34 +202,15 @@ fn picture_of_all<R: Threads + Wait + Sync>(
     draw(rt, alloc, renderer, first, 500, &FRAME)
 }
 
-/// The signs of a row of pixels: a dot for black.
-fn signs_of(alloc: Global, row: &[u8]) -> Result<String, AllocError> {
-    let mut signs = String::new(alloc);
-    for pixel in row.chunks(3) {
-        let is_black = pixel.iter().all(|byte| *byte == 0);
-        signs.push(if is_black { '.' } else { '#' })?;
-    }
-    Ok(signs)
-}
-
-/// Prints a picture.
-fn show<R: Print>(rt: &R, alloc: Global, canvas: &Canvas) -> io::Result<()> {
-    for row in canvas.pixels().chunks(3 * FRAME.w as usize) {
-        let signs = signs_of(alloc, row)?;
-        println!(rt; "{signs}")?;
-    }
-    Ok(())
-}
-
-fn main(rt: HostRuntime) -> io::Result<()> {
-    let alloc = rt.alloc();
+/// Prints the picture of all events.
+pub fn run<R: Threads + Wait + Sync + Print>(rt: &R, alloc: Global) -> io::Result<()> {
     let Some((renderer, first)) = opened(alloc) else {
         return println!(rt; "no renderer");
     };
-    let (first, canvas) = picture_of_all(&rt, alloc, &renderer, first);
+    let (first, canvas) = picture_of_all(rt, alloc, &renderer, first);
     renderer.close(first);
     match canvas {
-        Some(canvas) => show(&rt, alloc, &canvas),
+        Some(canvas) => show(rt, alloc, &canvas),
         None => println!(rt; "no picture"),
     }
 }

@@ -1,7 +1,7 @@
 use Rattle.std.proofs.Common.{None, subst, sym, ◌∙◌}
 use Rattle.ass_num.specs.Limits.{IsFrameSize}
 use Rattle.track_history.proofs.LawLemmas.{turn_follows}
-use Rattle.renderer_example.proofs.draw.Goals as goal
+use Rattle.library_example.proofs.two_threads.draw.Goals as goal
 
 pub paint-requires : goal.paint-requires
 paint-requires g c =
