@@ -1,5 +1,5 @@
 -- Public: the shelf and the sink that fail at chosen calls.
-use Rattle.std.specs.Prelude.{ℕ, List}
+use Rattle.std.specs.Prelude.{ℕ, Bool, List}
 use Rattle.ass_io.specs.declared.failing_shelf.FailingShelf.{FailingShelf}
 use Rattle.ass_io.specs.declared.failing_sink.FailingSink.{FailingSink}
 use Rattle.ass_io.specs.declared.memory_shelf.MemoryShelf.{MemoryShelf}
@@ -28,3 +28,7 @@ failing_puts sink = sink.plan.fails.items
 -- how many puts were asked of it
 abbrev pub asked_puts : FailingSink → ℕ
 asked_puts sink = sink.plan.calls
+
+-- whether its reader is gone once a put failed
+abbrev pub is_closing : FailingSink → Bool
+is_closing sink = sink.closes

@@ -3,8 +3,11 @@ pub mod Failing
 pub mod Fetched
 pub mod Fetches
 pub mod Files
+pub mod FileSinks
 pub mod MemoryShelves
 pub mod MemorySinks
+pub mod NamedMemories
+pub mod Outputs
 pub mod Sinks
 pub mod StdSinks
 pub mod Written

@@ -5,6 +5,7 @@ ghost use Rattle.std.specs.Prelude.{Some};
 use crate::count::count_one;
 use crate::memory_sink::MemorySink;
 use crate::piece_log::PieceLog;
+use crate::piped_sink::PipedSink;
 use crate::plan::Plan;
 use crate::sink::{Put, Sink};
 
@@ -15,12 +16,13 @@ pub struct FailingSink {
     sink: MemorySink,
     plan: Plan,
     faults: u64,
+    closes: bool,
     asked: PieceLog,
 }
 
 impl FailingSink {
-    ghost use Rattle.std.specs.Prelude.{◌≡◌};
-    ghost use Rattle.ass_io.specs.Failing.{asked_puts, bytes_in, failing_puts};
+    ghost use Rattle.std.specs.Prelude.{◌≡◌, false, true};
+    ghost use Rattle.ass_io.specs.Failing.{asked_puts, bytes_in, failing_puts, is_closing};
     ghost use Rattle.ass_io.specs.MemorySinks.{bytes_of};
 
     /// A sink that holds what that one holds, and fails at these puts.
@@ -28,13 +30,27 @@ impl FailingSink {
         ensures bytes { bytes_in result ≡ bytes_of sink }
         ensures fails { failing_puts result ≡ fails.items }
         ensures puts { asked_puts result ≡ 0 }
+        ensures closes { is_closing result ≡ false }
     {
         FailingSink {
             sink,
             plan: Plan::new(fails),
             faults: 0,
+            closes: false,
             asked: PieceLog::new(),
         }
+    }
+
+    /// The same, but its reader is gone from the first put on that fails.
+    pub fn closing(sink: MemorySink, fails: Vec<u64>) -> FailingSink
+        ensures bytes { bytes_in result ≡ bytes_of sink }
+        ensures fails { failing_puts result ≡ fails.items }
+        ensures puts { asked_puts result ≡ 0 }
+        ensures closes { is_closing result ≡ true }
+    {
+        let mut sink = FailingSink::new(sink, fails);
+        sink.closes = true;
+        sink
     }
 
     /// What it holds.
@@ -46,9 +62,10 @@ impl FailingSink {
 }
 
 impl Sink for FailingSink {
+    ghost use Rattle.std.specs.Prelude.{[]};
     ghost use Rattle.ass_io.specs.Failing.{bytes_in};
 
-    ghost state = { λ s. record { held = Some (bytes_in s); faults = s.faults; asked = s.asked.pieces } };
+    ghost state = { λ s. record { held = Some (bytes_in s); faults = s.faults; asked = s.asked.pieces; made = [] } };
 
     fn put(&mut self, piece: &[u8]) -> Put {
         self.asked.note(piece);
@@ -62,5 +79,16 @@ impl Sink for FailingSink {
                 Put::Failed
             }
         }
+    }
+}
+
+impl PipedSink for FailingSink {
+    ghost use Rattle.std.specs.Prelude.{◌&&◌, nat_lt};
+    ghost use Rattle.ass_io.specs.Failing.{is_closing};
+
+    ghost closed = { λ s. is_closing s && nat_lt 0 s.faults };
+
+    fn is_closed(&self) -> bool {
+        self.closes && self.faults > 0
     }
 }

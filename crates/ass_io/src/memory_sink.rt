@@ -3,6 +3,7 @@
 ghost use Rattle.std.specs.Prelude.{Some};
 
 use crate::piece_log::PieceLog;
+use crate::piped_sink::PipedSink;
 use crate::sink::{Put, Sink};
 use std::alloc::Global;
 
@@ -37,9 +38,10 @@ impl MemorySink {
 }
 
 impl Sink for MemorySink {
+    ghost use Rattle.std.specs.Prelude.{[]};
     ghost use Rattle.ass_io.specs.MemorySinks.{asked_of, bytes_of};
 
-    ghost state = { λ s. record { held = Some (bytes_of s); faults = 0; asked = asked_of s } };
+    ghost state = { λ s. record { held = Some (bytes_of s); faults = 0; asked = asked_of s; made = [] } };
 
     fn put(&mut self, piece: &[u8]) -> Put {
         self.asked.note(piece);
@@ -47,5 +49,15 @@ impl Sink for MemorySink {
             Ok(()) => Put::Done,
             Err(_) => Put::OutOfMemory,
         }
+    }
+}
+
+impl PipedSink for MemorySink {
+    ghost use Rattle.std.specs.Prelude.{false};
+
+    ghost closed = { λ _. false };
+
+    fn is_closed(&self) -> bool {
+        false
     }
 }

@@ -13,8 +13,8 @@ pub enum Put {
     OutOfMemory,
 }
 
-/// A sink, by the bytes that it holds, where it tells them, by a count of its faults, and by the pieces that it was asked
-/// to put, which real streams have too.
+/// A sink, by the bytes that it holds, where it tells them, by a count of its faults, by the pieces that it was asked to put,
+/// which real streams have too, and by the names of the files that it made.
 pub trait Sink {
     ghost state: { Self → SinkState };
 
