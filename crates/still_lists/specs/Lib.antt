@@ -1,0 +1,3 @@
+pub mod JsonIndexes
+pub mod ConcatLists
+pub mod TextIndexes
