@@ -1,7 +1,6 @@
 -- The numbers of jobs are within their limits.
-use Rattle.std.proofs.Common.{◌≡◌, ℕ, ◌≤◌, Bool, true, false, cond, List, Option, Some, None, Result, Ok, Err, IfOk, [], ◌∷◌, ◌∙◌, ap, refl, subst, sym, arith}
-use Rattle.std.specs.Prelude.{IfSome, codes, is_some, option_and_then, pos, unwrap_or}
-use Rattle.std.specs.Str.{bytes_eq}
+use Rattle.std.proofs.Common.{◌≡◌, ℕ, ◌≤◌, Bool, true, false, cond, List, Option, Some, None, Result, Ok, Err, IfOk, ◌∙◌, ap, refl, subst, sym, arith}
+use Rattle.std.specs.Prelude.{IfSome, is_some, option_and_then, pos, unwrap_or}
 use Rattle.std.proofs.lemmas.Int.{ints}
 use Rattle.ass_num.specs.Limits.{max_frame_side, max_instant}
 use Rattle.frame_rate.specs.Instants.{AreInstants, counted_instants, instants_before}
@@ -17,17 +16,18 @@ use Rattle.run_words.specs.Limits.{max_ahead, max_bands, max_batch, max_budget, 
 use Rattle.run_words.specs.Asked.{budget_at, first_bad, fonts_at, frame_at, goes_together, instants_at, is_told, job_for, number_at, play_job, play_of, rate_at, size_at, smallest_size, source_at, stills_of, text_at, unless_bad}
 use Rattle.run_words.specs.Grammar.{is_taken, words_app}
 use Rattle.run_words.specs.Jobs.{IsFrame, IsJob, IsMoment, IsPlay, IsStills}
-use Rattle.run_words.specs.Words.{IsReading, alone_or, asked_alone, command_job, command_named, is_help, job_in, job_of, reading_in}
+use Rattle.run_words.specs.Words.{IsReading, alone_or, asked_alone, command_job, command_named, job_in, job_of, reading_in}
 use Rattle.run_words.specs.declared.argument.Argument.{Argument}
 use Rattle.run_words.specs.declared.argument.Argument.TheVariants as argument
 use Rattle.run_words.specs.declared.command.Command.{Command}
 use Rattle.run_words.specs.declared.command.Command.TheVariants.{Check, Frame, Play, Selftest, Changes, Write}
 use Rattle.run_words.specs.declared.job.Job.{Job}
-use Rattle.run_words.specs.declared.job.Job.TheVariants.{Help, Stills, Version}
+use Rattle.run_words.specs.declared.job.Job.TheVariants.{Stills}
 use Rattle.run_words.specs.declared.job.Job.TheVariants as job
 use Rattle.run_words.specs.declared.job.WordsFault.{WordsFault}
 use Rattle.run_words.specs.declared.job.WordsFault.TheVariants.{Usage}
 use Rattle.run_words.specs.declared.job.WordsRefusal.{WordsRefusal}
+use Rattle.run_words.proofs.ReadingLemmas.{alone_holds, or_holds, unless_holds}
 
 size_range : (rows : List Row) → IsFrame (size_at rows)
 size_range rows =
@@ -110,46 +110,28 @@ job_within rows Write = (
   moment _ (between 0 max_instant (text_at rows argument.Earlier) 0 (omega arith) (omega arith)),
 )
 
-unless_within : (bad : Option Argument) (job : Job) → IsJob job → IfOk (unless_bad bad job) IsJob
-unless_within None job h = h
-unless_within (Some argument) job h = tt
-
 reading_within : (rows : List Row) (command : Option Command) → IfOk (reading_in rows command) IsJob
 reading_within rows None = tt
 reading_within rows (Some command) = cases (goes_together rows command)
   where
     cases : (b : Bool) → IfOk (cond b (unless_bad (first_bad rows command) (job_for rows command)) (Err Usage)) IsJob
-    cases true = unless_within (first_bad rows command) (job_for rows command) (job_within rows command)
+    cases true = unless_holds IsJob (first_bad rows command) (job_for rows command) (job_within rows command)
     cases false = tt
 
-met_within : (met : Option (List ℕ × List Row)) → IfOk (job_in met) IsJob
+pub met_within : (met : Option (List ℕ × List Row)) → IfOk (job_in met) IsJob
 met_within None = tt
 met_within (Some met) = reading_within met.1 (command_named met.0)
 
-pub command_within : (words : List (List ℕ)) → IfOk (command_job words) IsJob
+command_within : (words : List (List ℕ)) → IfOk (command_job words) IsJob
 command_within words = cases (is_taken words)
   where
     cases : (b : Bool) → IfOk (cond b (job_in (subcommand_of words_app words)) (Err Usage)) IsJob
     cases true = met_within (subcommand_of words_app words)
     cases false = tt
 
-by_within : (help version : Bool) → IfSome (cond help (Some Help) (cond version (Some Version) None)) IsJob
-by_within true version = tt
-by_within false true = tt
-by_within false false = tt
-
-alone_within : (words : List (List ℕ)) → IfSome (asked_alone words) IsJob
-alone_within [] = tt
-alone_within (word ∷ []) = by_within (is_help word) (bytes_eq word (codes "--version"))
-alone_within (word ∷ more ∷ rest) = tt
-
-or_within : (alone : Option Job) (reading : Result Job WordsFault) → IfSome alone IsJob → IfOk reading IsJob → IfOk (alone_or alone reading) IsJob
-or_within None reading h k = k
-or_within (Some job) reading h k = h
-
 -- The job of words has numbers within their limits.
 pub words_within : (words : List (List ℕ)) → IfOk (job_of words) IsJob
-words_within words = or_within (asked_alone words) (command_job words) (alone_within words) (command_within words)
+words_within words = or_holds IsJob (asked_alone words) (command_job words) (alone_holds IsJob tt tt words) (command_within words)
 
 -- And so has what is read.
 pub read_within : (reading : Result Job WordsFault) (read : Result Job WordsRefusal) → IsReading reading read → IfOk reading IsJob → IfOk read IsJob
@@ -162,7 +144,7 @@ pub alone_read : (words : List (List ℕ)) (alone : Option Job) (job : Job) → 
 alone_read words alone job is some = ap (λ found. alone_or found (command_job words)) (sym is ∙ some)
 
 pub alone_is_job : (words : List (List ℕ)) (alone : Option Job) (job : Job) → alone ≡ asked_alone words → alone ≡ Some job → IsJob job
-alone_is_job words alone job is some = subst (λ found. IfSome found IsJob) (sym is ∙ some) (alone_within words)
+alone_is_job words alone job is some = subst (λ found. IfSome found IsJob) (sym is ∙ some) (alone_holds IsJob tt tt words)
 
 pub none_alone : (words : List (List ℕ)) (alone : Option Job) → alone ≡ asked_alone words → alone ≡ None → job_of words ≡ command_job words
 none_alone words alone is none = ap (λ found. alone_or found (command_job words)) (sym is ∙ none)

@@ -1,6 +1,6 @@
 -- Words that ask for the job of a command begin with the word that names it.
 use Rattle.std.proofs.Common.{◌≡◌, ℕ, zero, suc, ◌∙◌, Bool, true, false, cond, ◌||◌, List, [], ◌∷◌, Option, Some, None, Result, Ok, Err, IfSome, IfOk, ap, refl, sym, subst, arith, bytes_eq, chars, eqb-true, find, fold, length, slice_get}
-use Rattle.std.specs.Prelude.{codes, option_map}
+use Rattle.std.specs.Prelude.{option_map}
 use Rattle.std.specs.List.{list_all, list_any}
 use Rattle.std.specs.Option.{option_map_or}
 use Rattle.std.proofs.lemmas.Slice.Eq.{bytes_eq-Decides}
@@ -13,7 +13,7 @@ use Rattle.clap.proofs.WalkLemmas.{walk_stopped}
 use Rattle.run_words.specs.Asked.{first_bad, fonts_at, goes_together, is_told, job_for, play_of, source_at, stills_of, unless_bad}
 use Rattle.run_words.specs.Commands.{command_name, commands}
 use Rattle.run_words.specs.Grammar.{is_taken, words_app}
-use Rattle.run_words.specs.Words.{FirstWordIsCommand, alone_or, asked_alone, command_asked, command_job, command_named, is_help, job_in, reading_in}
+use Rattle.run_words.specs.Words.{FirstWordIsCommand, asked_alone, command_asked, command_job, command_named, job_in, reading_in}
 use Rattle.run_words.specs.declared.argument.Argument.{Argument}
 use Rattle.run_words.specs.declared.argument.Argument.TheVariants as argument
 use Rattle.run_words.specs.declared.command.Command.{Command}
@@ -23,6 +23,7 @@ use Rattle.run_words.specs.declared.job.Job.TheVariants as job
 use Rattle.run_words.specs.declared.job.WordsFault.{WordsFault}
 use Rattle.run_words.specs.declared.job.WordsFault.TheVariants.{Usage}
 use Rattle.value_texts.proofs.TextLemmas.{both}
+use Rattle.run_words.proofs.ReadingLemmas.{alone_holds, or_holds}
 use Rattle.run_words.proofs.WordsLemmas.{none_is_empty}
 
 -- ---- the command of a reading
@@ -226,19 +227,5 @@ of_commands words = cases (is_taken words) refl
     cases true e = taken words e
     cases false e = tt
 
-by_none : (words : List Text) (help version : Bool) → IfSome (cond help (Some job.Help) (cond version (Some job.Version) None)) (BeginsWith words)
-by_none words true version = tt
-by_none words false true = tt
-by_none words false false = tt
-
-alone_none : (words : List Text) → IfSome (asked_alone words) (BeginsWith words)
-alone_none [] = tt
-alone_none (word ∷ []) = by_none (word ∷ []) (is_help word) (bytes_eq word (codes "--version"))
-alone_none (word ∷ more ∷ rest) = tt
-
-either : (words : List Text) (alone : Option Job) (reading : Result Job WordsFault) → IfSome alone (BeginsWith words) → IfOk reading (BeginsWith words) → IfOk (alone_or alone reading) (BeginsWith words)
-either words None reading h k = k
-either words (Some job) reading h k = h
-
 pub first_word : FirstWordIsCommand
-first_word words = either words (asked_alone words) (command_job words) (alone_none words) (of_commands words)
+first_word words = or_holds (BeginsWith words) (asked_alone words) (command_job words) (alone_holds (BeginsWith words) tt tt words) (of_commands words)

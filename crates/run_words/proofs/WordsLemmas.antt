@@ -15,7 +15,7 @@ use Rattle.clap.specs.declared.parser.matches.ArgMatches.{ArgMatches}
 use Rattle.clap.specs.declared.parser.matches.ArgMatches.TheViews.{out-ArgMatches, out-SubCommand}
 use Rattle.clap.specs.declared.parser.matches.SubCommand.{SubCommand}
 use Rattle.run_words.specs.Asked.{first_bad, job_for, unless_bad}
-use Rattle.run_words.specs.Grammar.{is_taken, words_app}
+use Rattle.run_words.specs.Grammar.{is_taken, taken_in, words_app}
 use Rattle.run_words.specs.Words.{UsageIsOfGrammar, alone_or, asked_alone, command_job, command_named, job_in, met_goes_together, named_goes_together, reading_in}
 use Rattle.run_words.specs.declared.argument.Argument.{Argument}
 use Rattle.run_words.specs.declared.command.Command.{Command}
@@ -26,7 +26,7 @@ use Rattle.run_words.proofs.GrammarLemmas.{simple, simple_and_free}
 use Rattle.value_texts.proofs.TextLemmas.{both}
 
 -- Kinds of an error that isn't out of memory are some.
-pub some_kind : (kinds : Kinds) (e : Error) → (kind_of e ≡ kind.OutOfMemory → ⊥) → HasKind kinds e → is_empty kinds ≡ false
+some_kind : (kinds : Kinds) (e : Error) → (kind_of e ≡ kind.OutOfMemory → ⊥) → HasKind kinds e → is_empty kinds ≡ false
 some_kind kinds e other (inl memory) = absurd (other memory)
 some_kind [] e other (inr among) = absurd among
 some_kind (k ∷ ks) e other (inr among) = ne_eqb _ _ (λ none. omega (arith, none))
@@ -149,17 +149,37 @@ usage words = alone_usage (asked_alone words) (command_job words) (is_taken word
 -- ---- what is read
 
 -- what was found is that of the words
-pub read_ok : (app : App) (words : List (List ℕ)) (m : ArgMatches) → app ≡ words_app → (is_simple_and_free app ≡ true → fault_of app words ≡ []) → HasMatchesOf app words m →
-    command_job words ≡ job_in (subcommand_rows_of m)
-read_ok app words m same faultless matches =
+pub found_ok : (app : App) (words : List (List ℕ)) (m : ArgMatches) → app ≡ words_app → (is_simple_and_free app ≡ true → fault_of app words ≡ []) → HasMatchesOf app words m →
+    Some (subcommand_rows_of m) ≡ taken_in words
+found_ok app words m same faultless matches =
     let none : fault_of words_app words ≡ [] = subst (λ a. fault_of a words ≡ []) same (faultless (ap is_simple_and_free same ∙ simple_and_free)) in
     let taken : is_taken words ≡ true = ap is_empty none in
     let sub : subcommand_rows_of m ≡ subcommand_of words_app words = (matches (ap is_simple same ∙ simple)).1 ∙ ap (λ a. subcommand_of a words) same in
-    ap (λ b. cond b (job_in (subcommand_of words_app words)) (Err Usage)) taken ∙ ap job_in (sym sub)
+    ap (λ x. Some x) sub ∙ ap (λ b. cond b (Some (subcommand_of words_app words)) None) (sym taken)
 
 -- words that are refused aren't of the grammar
-pub read_err : (app : App) (words : List (List ℕ)) (e : Error) → app ≡ words_app → (is_simple_and_free app ≡ true → HasKind (fault_of app words) e) → (kind_of e ≡ kind.OutOfMemory → ⊥) →
-    command_job words ≡ Err Usage
-read_err app words e same fails other =
+pub found_err : (app : App) (words : List (List ℕ)) (e : Error) → app ≡ words_app → (is_simple_and_free app ≡ true → HasKind (fault_of app words) e) → (kind_of e ≡ kind.OutOfMemory → ⊥) →
+    None ≡ taken_in words
+found_err app words e same fails other =
     let fault : HasKind (fault_of words_app words) e = subst (λ a. HasKind (fault_of a words) e) same (fails (ap is_simple_and_free same ∙ simple_and_free)) in
-    ap (λ b. cond b (job_in (subcommand_of words_app words)) (Err Usage)) (some_kind (fault_of words_app words) e other fault)
+    ap (λ b. cond b (Some (subcommand_of words_app words)) None) (sym (some_kind (fault_of words_app words) e other fault))
+
+same_met : (x y : Option (List ℕ × List Row)) → Some x ≡ Some y → x ≡ y
+same_met x y e = cc
+
+module _ {A : Type 0} (f : Option (List ℕ × List Row) → A) (absent : A) where
+  -- what comes of words of the grammar, by what was found in them
+  pub read_taken : (words : List (List ℕ)) (met : Option (List ℕ × List Row)) → Some met ≡ taken_in words → cond (is_taken words) (f (subcommand_of words_app words)) absent ≡ f met
+  read_taken words met is = cases (is_taken words) is
+    where
+      cases : (b : Bool) → Some met ≡ cond b (Some (subcommand_of words_app words)) None → cond b (f (subcommand_of words_app words)) absent ≡ f met
+      cases true e = ap f (same_met (subcommand_of words_app words) met (sym e))
+      cases false e = cc
+
+  -- and of other words
+  pub read_refused : (words : List (List ℕ)) → None ≡ taken_in words → cond (is_taken words) (f (subcommand_of words_app words)) absent ≡ absent
+  read_refused words is = cases (is_taken words) is
+    where
+      cases : (b : Bool) → None ≡ cond b (Some (subcommand_of words_app words)) None → cond b (f (subcommand_of words_app words)) absent ≡ absent
+      cases true e = cc
+      cases false e = refl

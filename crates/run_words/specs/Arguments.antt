@@ -4,9 +4,9 @@ use Rattle.ass_num.specs.Limits.{max_instant}
 use Rattle.frame_view.specs.Limits.{max_letter_scale}
 use Rattle.run_words.specs.Limits.{max_ahead, max_asked_frames, max_bands, max_batch, max_budget, max_events, max_seed, max_times, max_workers}
 use Rattle.run_words.specs.declared.argument.Argument.{Argument}
-use Rattle.run_words.specs.declared.argument.Argument.TheVariants.{At, From, To, Frames, Step, Rate, Size, Storage, Aspect, Content, Letters, Scale, Format, Changed, Crop, Feeders, Renderers, Batch, Again, Times, Ahead, Bands, Budget, Mode, ScriptFonts, Workers, Later, Earlier, Script, Fonts, Seed, Events}
+use Rattle.run_words.specs.declared.argument.Argument.TheVariants.{At, From, To, Frames, Step, Rate, Size, Storage, Aspect, Content, Letters, Scale, Format, Changed, Crop, Feeders, Renderers, Batch, Again, Times, Ahead, Bands, Budget, Mode, Report, ReportTo, Index, Progress, QuietPipe, ScriptFonts, Workers, Later, Earlier, Script, Fonts, Seed, Events}
 use Rattle.run_words.specs.declared.argument.Kind.{Kind}
-use Rattle.run_words.specs.declared.argument.Kind.TheVariants.{Number, FrameSize, VideoSize, PixelShape, PictureRect, LettersRule, PlayMode, PictureFormat, FramesInSeconds, Alone, FileName}
+use Rattle.run_words.specs.declared.argument.Kind.TheVariants.{Number, FrameSize, VideoSize, PixelShape, PictureRect, LettersRule, PlayMode, PictureFormat, FramesInSeconds, WrittenForm, Alone, FileName}
 
 abbrev pub argument_name : Argument → List ℕ
 argument_name At = codes "at"
@@ -33,6 +33,11 @@ argument_name Ahead = codes "ahead"
 argument_name Bands = codes "bands"
 argument_name Budget = codes "budget"
 argument_name Mode = codes "mode"
+argument_name Report = codes "report"
+argument_name ReportTo = codes "report-to"
+argument_name Index = codes "index"
+argument_name Progress = codes "progress"
+argument_name QuietPipe = codes "quiet-pipe"
 argument_name ScriptFonts = codes "script-fonts"
 argument_name Workers = codes "workers"
 argument_name Later = codes "later"
@@ -55,6 +60,8 @@ abbrev pub stands_alone : Argument → Bool
 stands_alone Changed = true
 stands_alone Crop = true
 stands_alone ScriptFonts = true
+stands_alone Progress = true
+stands_alone QuietPipe = true
 stands_alone _ = false
 
 -- A command that takes the argument needs it.
@@ -90,6 +97,11 @@ argument_kind Ahead = Number 0 max_ahead
 argument_kind Bands = Number 1 max_bands
 argument_kind Budget = Number 0 max_budget
 argument_kind Mode = PlayMode
+argument_kind Report = WrittenForm
+argument_kind ReportTo = FileName
+argument_kind Index = FileName
+argument_kind Progress = Alone
+argument_kind QuietPipe = Alone
 argument_kind ScriptFonts = Alone
 argument_kind Workers = Number 1 max_workers
 argument_kind Later = Number 0 max_instant

@@ -1,5 +1,5 @@
 -- Public: what a command is asked for, by what was found for its arguments.
-use Rattle.std.specs.Prelude.{◌≡◌, ℕ, pos, Bool, true, false, not, ◌&&◌, if◌then◌else◌, is_some, List, [], Option, Some, None, Result, Ok, Err, find, unwrap_or, option_and_then, codes}
+use Rattle.std.specs.Prelude.{◌≡◌, ℕ, pos, Bool, true, false, not, ◌&&◌, ◌||◌, if◌then◌else◌, is_some, List, [], Option, Some, None, Result, Ok, Err, find, unwrap_or, option_and_then, codes}
 use Rattle.std.specs.List.{list_any}
 use Rattle.std.specs.Option.{option_map_or}
 use Rattle.std.specs.Str.{bytes_eq}
@@ -108,13 +108,18 @@ is_told rows argument = option_map_or (λ text. bytes_eq text (codes "true")) (t
 abbrev pub is_shared_out : List Row → Bool
 is_shared_out rows = list_any (λ argument. is_some (text_at rows argument)) sharing_arguments
 
--- The work of a play of changed images isn't shared out, and the images of no other play are cropped.
+-- The work of a play of changed images isn't shared out, nor is shown how far that is, and the images of no other play are cropped.
 abbrev pub are_stills_apart : List Row → Bool
-are_stills_apart rows = if is_told rows argument.Changed then not (is_shared_out rows) else not (is_told rows argument.Crop)
+are_stills_apart rows =
+    if is_told rows argument.Changed then not (is_shared_out rows) && not (is_told rows argument.Progress) else not (is_told rows argument.Crop)
+
+-- A list of changed images is made of whole frames.
+abbrev pub is_index_apart : List Row → Bool
+is_index_apart rows = not (is_some (text_at rows argument.Index)) || (is_told rows argument.Changed && not (is_told rows argument.Crop))
 
 -- What is told to a command goes together.
 abbrev pub goes_together : List Row → Command → Bool
-goes_together rows command.Play = is_paced rows && are_stills_apart rows
+goes_together rows command.Play = is_paced rows && are_stills_apart rows && is_index_apart rows
 goes_together rows command.Changes = is_paced rows
 goes_together rows _ = true
 

@@ -20,6 +20,10 @@ command_name Write = codes "write"
 abbrev pub file_arguments : List Argument
 file_arguments = argument.ScriptFonts ∷ argument.Script ∷ argument.Fonts ∷ []
 
+-- how a run reports, and where
+abbrev pub report_arguments : List Argument
+report_arguments = argument.Report ∷ argument.ReportTo ∷ []
+
 -- the instants of a play and of a report on changes
 abbrev pub instant_arguments : List Argument
 instant_arguments = argument.From ∷ argument.To ∷ argument.Frames ∷ argument.Step ∷ argument.Rate ∷ []
@@ -35,11 +39,12 @@ sharing_arguments =
 
 -- what a command takes: the options in the order in which their values are looked at, and then the positionals
 abbrev pub arguments_of : Command → List Argument
-arguments_of Check = file_arguments
+arguments_of Check = report_arguments ++ file_arguments
 arguments_of Frame = argument.At ∷ frame_arguments ++ argument.Format ∷ argument.Budget ∷ file_arguments
 arguments_of Play =
     instant_arguments ++ argument.Size ∷ argument.Feeders ∷ argument.Renderers ∷ argument.Batch ∷ argument.Again
-    ∷ argument.Times ∷ argument.Ahead ∷ argument.Bands ∷ argument.Format ∷ argument.Changed ∷ argument.Crop ∷ argument.Budget ∷ argument.Mode ∷ file_arguments
-arguments_of Selftest = argument.Workers ∷ argument.Seed ∷ argument.Events ∷ []
-arguments_of Changes = instant_arguments ++ frame_arguments ++ argument.Budget ∷ file_arguments
+    ∷ argument.Times ∷ argument.Ahead ∷ argument.Bands ∷ argument.Format ∷ argument.Changed ∷ argument.Crop ∷ argument.Budget ∷ argument.Mode
+    ∷ report_arguments ++ argument.Index ∷ argument.Progress ∷ argument.QuietPipe ∷ file_arguments
+arguments_of Selftest = argument.Workers ∷ report_arguments ++ argument.Progress ∷ argument.Seed ∷ argument.Events ∷ []
+arguments_of Changes = instant_arguments ++ frame_arguments ++ argument.Budget ∷ report_arguments ++ argument.Progress ∷ file_arguments
 arguments_of Write = argument.Later ∷ argument.Earlier ∷ argument.Script ∷ []

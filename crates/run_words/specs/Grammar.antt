@@ -1,8 +1,8 @@
 -- Public: the grammar of the words, as `clap` reads it.
 use Rattle.std.specs.Prelude.{ℕ, Bool, true, false, List, map, Option, Some, None, if◌then◌else◌, codes}
 use Rattle.clap.specs.Lexer.{usize_max}
-use Rattle.clap.specs.Simple.{App, Shape, new_rule, new_shape}
-use Rattle.clap.specs.Walk.{Rule, is_empty}
+use Rattle.clap.specs.Simple.{App, Shape, new_rule, new_shape, subcommand_of}
+use Rattle.clap.specs.Walk.{Row, Rule, is_empty}
 use Rattle.clap.specs.Faults.{fault_of}
 use Rattle.clap.specs.declared.builder.range.ValueRange.{ValueRange}
 use Rattle.run_words.specs.Arguments.{argument_name, is_positional, is_required, stands_alone}
@@ -44,3 +44,7 @@ words_app = record {
 -- The words are of the grammar.
 abbrev pub is_taken : List (List ℕ) → Bool
 is_taken words = is_empty (fault_of words_app words)
+
+-- what words of the grammar have: the command that they name, with what was found for its arguments
+abbrev pub taken_in : List (List ℕ) → Option (Option (List ℕ × List Row))
+taken_in words = if is_taken words then Some (subcommand_of words_app words) else None

@@ -1,5 +1,5 @@
 -- Public: the limits of a job's numbers.
-use Rattle.std.specs.Prelude.{ℕ, ℤ, pos, ◌≤◌, ◌≤ℤ◌}
+use Rattle.std.specs.Prelude.{ℤ, pos, ◌≤◌, ◌≤ℤ◌}
 use Rattle.ass_num.specs.Limits.{IsInstant, max_frame_side, max_instant}
 use Rattle.ass_num.specs.declared.size.Size.{Size}
 use Rattle.frame_rate.specs.Instants.{AreInstants}

@@ -6,3 +6,4 @@ pub mod Values
 pub mod Jobs
 pub mod Asked
 pub mod Words
+pub mod ReportWords

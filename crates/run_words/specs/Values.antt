@@ -3,10 +3,12 @@ use Rattle.std.specs.Prelude.{ℕ, Bool, true, List, Option, Some, None, is_some
 use Rattle.std.specs.Str.{bytes_eq}
 use Rattle.value_texts.specs.Values.{aspect_in, content_in, letters_in, number_within, rate_in, size_in, storage_in}
 use Rattle.run_words.specs.declared.argument.Kind.{Kind}
-use Rattle.run_words.specs.declared.argument.Kind.TheVariants.{Number, FrameSize, VideoSize, PixelShape, PictureRect, LettersRule, PlayMode, PictureFormat, FramesInSeconds, Alone, FileName}
+use Rattle.run_words.specs.declared.argument.Kind.TheVariants.{Number, FrameSize, VideoSize, PixelShape, PictureRect, LettersRule, PlayMode, PictureFormat, FramesInSeconds, WrittenForm, Alone, FileName}
 use Rattle.run_words.specs.declared.job.FrameFormat.{FrameFormat}
 use Rattle.run_words.specs.declared.job.FrameFormat.TheVariants.{Ppm, Pam, Rgba}
 use Rattle.run_words.specs.declared.job.Mode.{Mode}
+use Rattle.run_words.specs.declared.report_words.ReportForm.{ReportForm}
+use Rattle.run_words.specs.declared.report_words.ReportForm.TheVariants.{Text, Json, Silent}
 use Rattle.run_words.specs.declared.job.Mode.TheVariants.{Live, Settled}
 
 -- the mode that a text is
@@ -17,6 +19,11 @@ mode_in text = if bytes_eq text (codes "live") then Some Live else (if bytes_eq 
 abbrev pub format_in : List ℕ → Option FrameFormat
 format_in text =
     if bytes_eq text (codes "ppm") then Some Ppm else (if bytes_eq text (codes "pam") then Some Pam else (if bytes_eq text (codes "rgba") then Some Rgba else None))
+
+-- the form of a report that a text is
+abbrev pub form_in : List ℕ → Option ReportForm
+form_in text =
+    if bytes_eq text (codes "text") then Some Text else (if bytes_eq text (codes "json") then Some Json else (if bytes_eq text (codes "none") then Some Silent else None))
 
 -- The text is of the rule of its kind.
 abbrev pub is_of_kind : Kind → List ℕ → Bool
@@ -29,5 +36,6 @@ is_of_kind LettersRule text = is_some (letters_in text)
 is_of_kind PlayMode text = is_some (mode_in text)
 is_of_kind PictureFormat text = is_some (format_in text)
 is_of_kind FramesInSeconds text = is_some (rate_in text)
+is_of_kind WrittenForm text = is_some (form_in text)
 is_of_kind Alone text = true
 is_of_kind FileName text = true

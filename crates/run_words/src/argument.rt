@@ -60,6 +60,8 @@ pub enum Kind {
     PictureFormat,
     /// Frames in one second, or in as many as stand behind a `/`.
     FramesInSeconds,
+    /// `text`, `json` or `none`.
+    WrittenForm,
     /// None: the option stands alone.
     Alone,
     /// The name of a file, which is any text.
@@ -93,6 +95,11 @@ pub enum Argument {
     Bands,
     Budget,
     Mode,
+    Report,
+    ReportTo,
+    Index,
+    Progress,
+    QuietPipe,
     ScriptFonts,
     Workers,
     Later,
@@ -133,6 +140,11 @@ impl Argument {
             Argument::Bands => "bands",
             Argument::Budget => "budget",
             Argument::Mode => "mode",
+            Argument::Report => "report",
+            Argument::ReportTo => "report-to",
+            Argument::Index => "index",
+            Argument::Progress => "progress",
+            Argument::QuietPipe => "quiet-pipe",
             Argument::ScriptFonts => "script-fonts",
             Argument::Workers => "workers",
             Argument::Later => "later",
@@ -170,6 +182,7 @@ impl Argument {
     {
         match self {
             Argument::Changed | Argument::Crop | Argument::ScriptFonts => true,
+            Argument::Progress | Argument::QuietPipe => true,
             _ => false,
         }
     }
@@ -201,10 +214,14 @@ impl Argument {
             Argument::Bands => Kind::Number(1, MAX_BANDS),
             Argument::Budget => Kind::Number(0, MAX_BUDGET),
             Argument::Mode => Kind::PlayMode,
+            Argument::Report => Kind::WrittenForm,
             Argument::Changed | Argument::Crop | Argument::ScriptFonts => Kind::Alone,
+            Argument::Progress | Argument::QuietPipe => Kind::Alone,
             Argument::Seed => Kind::Number(0, MAX_SEED),
             Argument::Events => Kind::Number(1, MAX_EVENTS),
-            Argument::Script | Argument::Fonts => Kind::FileName,
+            Argument::ReportTo | Argument::Index | Argument::Script | Argument::Fonts => {
+                Kind::FileName
+            }
         }
     }
 

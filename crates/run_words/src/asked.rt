@@ -6,9 +6,9 @@ ghost use Rattle.clap.specs.Words.{all_of, found_of, rows_of};
 ghost use Rattle.frame_rate.specs.Rates.{IsFrameRate};
 ghost use Rattle.frame_view.specs.declared.view.LetterWidth.TheVariants.{Canvas};
 ghost use Rattle.run_words.specs.Arguments.{argument_name, most_of};
-ghost use Rattle.run_words.specs.Asked.{are_stills_apart, changes_of, fits, first_bad, fonts_at, format_at, frame_at, frame_of, goes_together, instants_at};
-ghost use Rattle.run_words.specs.Asked.{is_just_one, is_paced, is_shared_out, is_told, job_for, mode_at, number_at, play_job, play_of, rate_at, script_at, size_at};
-ghost use Rattle.run_words.specs.Asked.{source_at, stills_of, text_at};
+ghost use Rattle.run_words.specs.Asked.{are_stills_apart, changes_of, fits, first_bad, fonts_at, format_at, frame_at, frame_of, goes_together};
+ghost use Rattle.run_words.specs.Asked.{is_index_apart, is_just_one, is_paced, is_shared_out, is_told, job_for, mode_at, number_at, play_job, play_of, rate_at, script_at, size_at};
+ghost use Rattle.run_words.specs.Asked.{instants_at, source_at, stills_of, text_at};
 ghost use Rattle.value_texts.specs.Values.{aspect_in, content_in, letters_in, rate_in, storage_in};
 
 use crate::argument::{Argument, Kind};
@@ -30,7 +30,7 @@ const ABSENT_BATCH: u32 = 16;
 
 /// The text that was found for an argument.
 #[inline(never)]
-fn text_at<'a>(found: &ArgMatches<'a>, argument: Argument) -> Option<&'a str>
+pub fn text_at<'a>(found: &ArgMatches<'a>, argument: Argument) -> Option<&'a str>
     ensures { option_map (λ text. text.now) result ≡ text_at (rows_of (found_of found.now)) argument }
 {
     found.get_str(argument.name())
@@ -84,7 +84,7 @@ fn is_paced(found: &ArgMatches) -> bool
 
 /// Whether an option that stands alone is there.
 #[inline(never)]
-fn is_told(found: &ArgMatches, argument: Argument) -> bool
+pub fn is_told(found: &ArgMatches, argument: Argument) -> bool
     ensures { result ≡ is_told (rows_of (found_of found.now)) argument }
 {
     match text_at(found, argument) {
@@ -105,14 +105,28 @@ fn is_shared_out(found: &ArgMatches) -> bool
     false
 }
 
-/// Whether the work of a play of changed images isn't shared out, and the images of another play aren't cropped.
+/// Whether the work of a play of changed images isn't shared out, nor is to be shown how far that is, and the images of another
+/// play aren't cropped.
 fn are_stills_apart(found: &ArgMatches) -> bool
     ensures { result ≡ are_stills_apart (rows_of (found_of found.now)) }
 {
     if is_told(found, Argument::Changed) {
-        !is_shared_out(found)
+        !is_shared_out(found) && !is_told(found, Argument::Progress)
     } else {
         !is_told(found, Argument::Crop)
+    }
+}
+
+/// Whether a list of changed images is made of whole frames, where there is one.
+fn is_index_apart(found: &ArgMatches) -> bool
+    ensures { result ≡ is_index_apart (rows_of (found_of found.now)) }
+{
+    match text_at(found, Argument::Index) {
+        Some(_) => {
+            let is_cropped = is_told(found, Argument::Crop);
+            is_told(found, Argument::Changed) && !is_cropped
+        }
+        None => true,
     }
 }
 
@@ -121,7 +135,7 @@ pub fn goes_together(found: &ArgMatches, command: Command) -> bool
     ensures { result ≡ goes_together (rows_of (found_of found.now)) command }
 {
     match command {
-        Command::Play => is_paced(found) && are_stills_apart(found),
+        Command::Play => { is_paced(found) && are_stills_apart(found) && is_index_apart(found) }
         Command::Changes => is_paced(found),
         Command::Check | Command::Frame | Command::Selftest | Command::Write => true,
     }

@@ -26,7 +26,13 @@ static COMMANDS: [Command; 6] = [
     Command::Write,
 ];
 
-static CHECK: [Argument; 3] = [Argument::ScriptFonts, Argument::Script, Argument::Fonts];
+static CHECK: [Argument; 5] = [
+    Argument::Report,
+    Argument::ReportTo,
+    Argument::ScriptFonts,
+    Argument::Script,
+    Argument::Fonts,
+];
 
 static FRAME: [Argument; 12] = [
     Argument::At,
@@ -43,7 +49,7 @@ static FRAME: [Argument; 12] = [
     Argument::Fonts,
 ];
 
-static PLAY: [Argument; 21] = [
+static PLAY: [Argument; 26] = [
     Argument::From,
     Argument::To,
     Argument::Frames,
@@ -62,6 +68,11 @@ static PLAY: [Argument; 21] = [
     Argument::Crop,
     Argument::Budget,
     Argument::Mode,
+    Argument::Report,
+    Argument::ReportTo,
+    Argument::Index,
+    Argument::Progress,
+    Argument::QuietPipe,
     Argument::ScriptFonts,
     Argument::Script,
     Argument::Fonts,
@@ -78,9 +89,16 @@ static SHARING: [Argument; 8] = [
     Argument::Mode,
 ];
 
-static SELFTEST: [Argument; 3] = [Argument::Workers, Argument::Seed, Argument::Events];
+static SELFTEST: [Argument; 6] = [
+    Argument::Workers,
+    Argument::Report,
+    Argument::ReportTo,
+    Argument::Progress,
+    Argument::Seed,
+    Argument::Events,
+];
 
-static CHANGES: [Argument; 15] = [
+static CHANGES: [Argument; 18] = [
     Argument::From,
     Argument::To,
     Argument::Frames,
@@ -93,6 +111,9 @@ static CHANGES: [Argument; 15] = [
     Argument::Letters,
     Argument::Scale,
     Argument::Budget,
+    Argument::Report,
+    Argument::ReportTo,
+    Argument::Progress,
     Argument::ScriptFonts,
     Argument::Script,
     Argument::Fonts,

@@ -1,13 +1,16 @@
 //! The grammar of the words, as `clap` takes it.
 
-ghost use Rattle.std.specs.Prelude.{◌≡◌, [], IfOk, false};
-ghost use Rattle.clap.specs.Words.{app_of, rule_of};
+ghost use Rattle.std.specs.Prelude.{◌≡◌, [], IfOk, false, option_map};
+ghost use Rattle.clap.specs.Words.{app_of, rule_of, subcommand_rows_of};
 ghost use Rattle.clap.specs.declared.builder.command.Command.TheViews.{out-Command};
-ghost use Rattle.run_words.specs.Grammar.{argument_rule, command_shape, words_app};
+ghost use Rattle.run_words.specs.Grammar.{argument_rule, command_shape, taken_in, words_app};
+ghost use Rattle.run_words.specs.Words.{texts};
 
 use crate::argument::Argument;
 use crate::command::{Command, commands};
-use clap::Arg;
+use ass_num::{Mem, OutOfMemory};
+use clap::error::ErrorKind;
+use clap::{Arg, ArgMatches};
 use std::alloc::{AllocError, Global};
 
 /// An argument: once, with one value, but for the fonts, which are one or more words, and an option that stands alone.
@@ -39,7 +42,7 @@ fn subcommand<'a>(alloc: Global, command: Command) -> Result<clap::Command<'a>, 
 }
 
 /// All commands, of which one is wanted. There is neither help nor a version.
-pub fn whole<'a>(alloc: Global) -> Result<clap::Command<'a>, AllocError>
+fn whole<'a>(alloc: Global) -> Result<clap::Command<'a>, AllocError>
     ensures { IfOk result (λ c. app_of c ≡ words_app) }
 {
     let mut built = clap::Command::new(alloc, "vimalorua")
@@ -52,4 +55,18 @@ pub fn whole<'a>(alloc: Global) -> Result<clap::Command<'a>, AllocError>
         built = built.subcommand(subcommand(alloc, *command)?)?;
     }
     Ok(built)
+}
+
+/// What `clap` finds in words of the grammar; `None` where they aren't of it.
+#[inline(never)]
+pub fn matches_in<'a>(alloc: Global, words: &'a [String]) -> Mem<Option<ArgMatches<'a>>>
+    ensures { IfOk result (λ matches. option_map subcommand_rows_of matches ≡ taken_in (texts words.now)) }
+{
+    match whole(alloc)?.try_get_matches_from(words) {
+        Ok(matches) => Ok(Some(matches)),
+        Err(error) => match error.kind() {
+            ErrorKind::OutOfMemory => Err(OutOfMemory),
+            _ => Ok(None),
+        },
+    }
 }

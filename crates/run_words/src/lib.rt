@@ -6,6 +6,7 @@ mod asked;
 mod command;
 mod grammar;
 mod job;
+mod report_words;
 mod values;
 mod words;
 
@@ -13,4 +14,5 @@ pub use job::{
     ChangesJob, FrameFormat, FrameJob, Job, Mode, PlayJob, ScriptSource, StillsJob, WordsFault,
     WordsRefusal,
 };
+pub use report_words::{ReportForm, ReportOptions, read_options, reports_fit_jobs};
 pub use words::{first_word_is_command, plain_frames_stay, read_words, usage_is_of_grammar};

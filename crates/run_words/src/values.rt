@@ -1,10 +1,11 @@
 //! What the texts of values say.
 
 ghost use Rattle.std.specs.Prelude.{◌≡◌};
-ghost use Rattle.run_words.specs.Values.{format_in, is_of_kind, mode_in};
+ghost use Rattle.run_words.specs.Values.{form_in, format_in, is_of_kind, mode_in};
 
 use crate::argument::Kind;
 use crate::job::{FrameFormat, Mode};
+use crate::report_words::ReportForm;
 use value_texts::{aspect_in, content_in, letters_in, number_within, rate_in, size_in, storage_in};
 
 /// The mode that a text is.
@@ -35,6 +36,21 @@ pub fn format_in(text: &str) -> Option<FrameFormat>
     }
 }
 
+/// The form of a report that a text is.
+pub fn form_in(text: &str) -> Option<ReportForm>
+    ensures { result ≡ form_in text.now }
+{
+    if text == "text" {
+        Some(ReportForm::Text)
+    } else if text == "json" {
+        Some(ReportForm::Json)
+    } else if text == "none" {
+        Some(ReportForm::Silent)
+    } else {
+        None
+    }
+}
+
 /// Whether a text is of its rule.
 pub fn is_of_kind(kind: Kind, text: &str) -> bool
     ensures { result ≡ is_of_kind kind text.now }
@@ -49,6 +65,7 @@ pub fn is_of_kind(kind: Kind, text: &str) -> bool
         Kind::PlayMode => mode_in(text).is_some(),
         Kind::PictureFormat => format_in(text).is_some(),
         Kind::FramesInSeconds => rate_in(text).is_some(),
+        Kind::WrittenForm => form_in(text).is_some(),
         Kind::Alone | Kind::FileName => true,
     }
 }

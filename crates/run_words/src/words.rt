@@ -9,10 +9,9 @@ ghost use Rattle.run_words.specs.Words.{reading_in, texts};
 
 use crate::asked::{first_bad, goes_together, job_for};
 use crate::command::{Command, command_named};
-use crate::grammar::whole;
+use crate::grammar::matches_in;
 use crate::job::{Job, WordsFault, WordsRefusal};
 use clap::ArgMatches;
-use clap::error::ErrorKind;
 use std::alloc::Global;
 
 /// The job of a command, or the first of its arguments whose value isn't of its rule.
@@ -57,12 +56,9 @@ fn read_commands(alloc: Global, words: &[String]) -> Result<Job, WordsRefusal>
     ensures read { IsReading (command_job (texts words.now)) result }
     ensures within { IfOk result IsJob }
 {
-    match whole(alloc)?.try_get_matches_from(words) {
-        Ok(matches) => read_matches(alloc, &matches),
-        Err(error) => match error.kind() {
-            ErrorKind::OutOfMemory => Err(WordsRefusal::OutOfMemory),
-            _ => Err(WordsRefusal::BadWords(WordsFault::Usage)),
-        },
+    match matches_in(alloc, words)? {
+        Some(matches) => read_matches(alloc, &matches),
+        None => Err(WordsRefusal::BadWords(WordsFault::Usage)),
     }
 }
 
