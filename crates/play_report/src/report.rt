@@ -82,7 +82,7 @@ fn loss_words(alloc: Global, totals: &Totals) -> Mem<String>
 }
 
 /// The name of the cache at a place.
-fn cache_name(place: usize) -> &'static str
+pub fn cache_name(place: usize) -> &'static str
     ensures { result.now ≡ cache_name place }
 {
     if place == 0 {

@@ -2,6 +2,7 @@ pub mod Fields
 pub mod FontFaults
 pub mod Statuses
 pub mod Causes
+pub mod Endings
 pub mod Fetches
 pub mod Files
 pub mod Inputs

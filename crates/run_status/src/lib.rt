@@ -2,6 +2,7 @@
 #![tactic(auto)]
 
 mod causes;
+mod ending;
 mod fields;
 mod file_laws;
 mod files;
@@ -10,6 +11,7 @@ mod inputs;
 mod status;
 
 pub use causes::script_status;
+pub use ending::{Ending, memory_json};
 pub use fields::field_name;
 pub use file_laws::files_decide;
 pub use font_fault::{FontFault, FontPlace};
