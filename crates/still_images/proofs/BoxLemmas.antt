@@ -1,9 +1,9 @@
 -- The least box of pixels of three bytes, and boxes on the frame.
-use Rattle.std.proofs.Common.{◌≡◌, ◌↔◌, ℕ, ◌+◌, ◌-◌, ◌*◌, ◌<◌, ◌≤◌, inl, inr, List, length, slice_index, Option, Some, None, refl, arith}
+use Rattle.std.proofs.Common.{◌≡◌, ◌↔◌, ℕ, ◌+◌, inl, inr, List, Option, Some, None, refl, arith}
 use Rattle.std.specs.Prelude.{IfSome}
 use Rattle.std.proofs.lemmas.Bool.{cases_lt}
 use Rattle.ass_num.specs.declared.size.Size.{Size}
-use Rattle.frame_change.specs.Changes.{IsInBox, IsLeastChanged, LiesInside}
+use Rattle.frame_change.specs.Changes.{IsLeastChanged}
 use Rattle.frame_change.specs.declared.pixels.Changed.{Changed}
 use Rattle.still_images.specs.Boxes.{DiffersIn, HasAll, IsBoxOfPixels, IsLeastOf, IsOnFrame, whole_box}
 

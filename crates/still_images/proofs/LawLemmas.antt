@@ -1,22 +1,18 @@
 -- Kept pictures are those of every instant.
-use Rattle.std.proofs.Common.{◌≡◌, ◌⊎◌, inl, inr, ℕ, ◌+◌, ◌*◌, ◌<◌, ◌≤◌, List, [], ◌∷◌, ◌++◌, Contains, slice_index, length, pos, refl, sym, ap, subst, ◌∙◌, arith, append_assoc}
+use Rattle.std.proofs.Common.{◌≡◌, inl, inr, ℕ, ◌+◌, ◌*◌, ◌<◌, ◌≤◌, List, [], ◌∷◌, ◌++◌, Contains, slice_index, length, refl, sym, ap, subst, ◌∙◌, arith, append_assoc}
 use Rattle.std.proofs.lemmas.Bool.{cases_eq, cases_lt}
 use Rattle.std.proofs.lemmas.List.Elements.{Contains-push, Contains-push_cases}
-use Rattle.ass_num.specs.declared.size.Size.{Size}
 use Rattle.ass_events.specs.ScriptEvents.{line_events}
-use Rattle.frame_change.specs.Changes.{IsInBox}
-use Rattle.frame_change.specs.declared.pixels.Changed.{Changed}
 use Rattle.frame_images.specs.FrameImages.{IsFormattedImage}
 use Rattle.frame_rate.specs.Instants.{rated_instant}
 use Rattle.frame_view.specs.FrameViews.{plain_frame}
 use Rattle.mask_keys.specs.Pictures.{picture}
 use Rattle.run_words.specs.declared.job.FrameFormat.{FrameFormat}
 use Rattle.run_words.specs.declared.job.FrameFormat.TheVariants.{Ppm, Pam, Rgba}
-use Rattle.run_words.specs.declared.job.StillsJob.{StillsJob}
-use Rattle.still_images.specs.Boxes.{DiffersIn, HasPixels, IsLeastOf, cropped, whole_box}
+use Rattle.still_images.specs.Boxes.{DiffersIn, whole_box}
 use Rattle.still_images.specs.Formats.{ArePixelsOf, image_of_pixels}
-use Rattle.still_images.specs.Laws.{CropsLieOver, IsLastBefore, IsLaidOver, StillsAreFrames, StillsShowAll}
-use Rattle.still_images.specs.Stills.{AreDrawsAt, ArePixelsAt, AreStills, FirstStill, NextStill, NoStill, SameStill, Still, StillsView, still_of}
+use Rattle.still_images.specs.Laws.{CropsLieOver, IsLastBefore, StillsAreFrames, StillsShowAll}
+use Rattle.still_images.specs.Stills.{ArePixelsAt, AreStills, FirstStill, NextStill, NoStill, SameStill, Still, StillsView, still_of}
 use Rattle.still_images.proofs.BoxLemmas.{least_on_frame}
 use Rattle.still_images.proofs.CropLemmas.{cropped_byte}
 

@@ -1,5 +1,5 @@
 -- How many bytes the pixels of pictures have.
-use Rattle.std.proofs.Common.{◌≡◌, ℕ, ◌*◌, List, fold, length, map, ap, ◌∙◌, arith}
+use Rattle.std.proofs.Common.{◌≡◌, ℕ, ◌*◌, List, fold, length, ap, ◌∙◌, arith}
 use Rattle.ass_num.specs.declared.size.Size.{Size}
 use Rattle.alpha_canvas.specs.Alpha.{AreAlphaRows}
 use Rattle.alpha_canvas.specs.declared.pixel.AlphaForm.TheVariants.{Straight}

@@ -1,5 +1,5 @@
 -- From instant to instant.
-use Rattle.std.proofs.Common.{◌≡◌, ◌⊎◌, inl, inr, ℕ, zero, suc, ◌+◌, ◌<◌, ◌≤◌, List, [], ◌∷◌, ◌++◌, length, length-append, map, Option, Some, None, Result, Ok, Err, String, Global, pos, refl, sym, ap, subst, ◌∙◌, arith, append-nil, append_assoc, string_bytes}
+use Rattle.std.proofs.Common.{◌≡◌, ◌⊎◌, inl, inr, ℕ, ◌+◌, ◌<◌, List, [], ◌∷◌, ◌++◌, length, Option, Some, None, Result, Ok, Err, pos, refl, sym, ap, subst, ◌∙◌, arith, append-nil}
 use Rattle.std.specs.Prelude.{IfErr, IfSome, OnOk}
 use Rattle.std.proofs.lemmas.List.{map-append}
 use Rattle.ass_events.specs.ScriptEvents.{line_events}
@@ -9,12 +9,13 @@ use Rattle.frame_rate.specs.Instants.{rated_instant}
 use Rattle.frame_view.specs.FrameViews.{plain_frame}
 use Rattle.picture_plan.specs.Pictures.{AreDraws}
 use Rattle.run_words.specs.declared.job.StillsJob.{StillsJob}
-use Rattle.still_images.specs.Boxes.{DiffersIn, HasPixels, IsBoxOfPixels, IsLeastOf, whole_box}
+use Rattle.still_images.specs.Boxes.{HasPixels, IsBoxOfPixels, whole_box}
 use Rattle.still_images.specs.Formats.{ArePixelsOf, pixel_bytes}
-use Rattle.still_images.specs.Lines.{end_line, still_line}
-use Rattle.still_images.specs.Puts.{GotPrefix, GotWhole, IsShownInPart, IsShownWhole}
-use Rattle.still_images.specs.Reels.{EndsInInstant, IsNewlyDrawn, IsPartAfter, IsPictureCut, IsPictureAdded, IsReel, IsReelFit, IsShownLast, ShowsInstant, count_of_part, images_of_part, lines_of_part}
-use Rattle.still_images.specs.Stills.{AreDrawsAt, AreFirstStills, ArePixelsAt, AreStills, FirstStill, NextStill, NoStill, SameStill, Still, StillsView, end_instant, still_image, still_images, still_lines, still_of}
+use Rattle.still_images.specs.Puts.{GotPrefix, GotWhole, IsListedWhole, IsShownInPart, IsShownWhole}
+use Rattle.still_images.specs.Reels.{EndsInInstant, IsNewlyDrawn, IsPartAfter, IsPictureCut, IsPictureAdded, IsReel, IsReelFit, IsShownLast, ShowsInstant, entries_of_part, images_of_part}
+use Rattle.still_images.specs.Stills.{AreDrawsAt, AreFirstStills, ArePixelsAt, AreStills, FirstStill, NextStill, NoStill, SameStill, Still, StillsView, end_instant, still_entries, still_entry, still_image, still_images, still_of}
+use Rattle.still_lists.specs.TextIndexes.{words_index}
+use Rattle.still_lists.specs.declared.entry.StillEntry.{StillEntry}
 use Rattle.still_images.specs.declared.fault.StillsFault.{StillsFault}
 use Rattle.still_images.specs.declared.fault.StillsFault.TheVariants.{OutOfMemory}
 use Rattle.still_images.specs.declared.reel.Reel.{Reel}
@@ -24,13 +25,8 @@ use Rattle.still_images.proofs.PutLemmas.{begun_then, got_then, nothing_begun, n
 pub images_append : (view : StillsView) (xs ys : List Still) → still_images view (xs ++ ys) ≡ still_images view xs ++ still_images view ys
 images_append view xs ys = map-append (still_image view) xs ys
 
-lines_append : (view : StillsView) (k : ℕ) (xs ys : List Still) → still_lines view k (xs ++ ys) ≡ still_lines view k xs ++ still_lines view (k + length xs) ys
-lines_append view k [] ys = ap (λ n. still_lines view n ys) (let e : k ≡ k + 0 = omega arith in e)
-lines_append view k (x ∷ xs) ys =
-    let line = still_line k x.place (rated_instant view.job.instants x.place) x.box in
-    let e : k + 1 + length xs ≡ k + suc (length xs) = omega arith in
-    ap (λ z. line ++ z) (lines_append view (k + 1) xs ys ∙ ap (λ n. still_lines view (k + 1) xs ++ still_lines view n ys) e)
-    ∙ sym (append_assoc line (still_lines view (k + 1) xs) (still_lines view (k + suc (length xs)) ys))
+entries_append : (view : StillsView) (xs ys : List Still) → still_entries view (xs ++ ys) ≡ still_entries view xs ++ still_entries view ys
+entries_append view xs ys = map-append (still_entry view) xs ys
 
 none_before : (before : List Still) (last : Still) → before ++ last ∷ [] ≡ [] → ⊥
 none_before [] last e = cc
@@ -53,13 +49,9 @@ module _ (view : StillsView) (place : ℕ) (pixels : List ℕ) where
   part_images None = refl
   part_images (Some box) = refl
 
-  part_lines : (k : ℕ) (part : Option Changed) → still_lines view k (stills_of_part place pixels part) ≡ lines_of_part k place (rated_instant view.job.instants place) part
-  part_lines k None = refl
-  part_lines k (Some box) = append-nil (still_line k place (rated_instant view.job.instants place) box)
-
-  part_count : (part : Option Changed) → length (stills_of_part place pixels part) ≡ count_of_part part
-  part_count None = refl
-  part_count (Some box) = refl
+  part_entries : (part : Option Changed) → still_entries view (stills_of_part place pixels part) ≡ entries_of_part place (rated_instant view.job.instants place) part
+  part_entries None = refl
+  part_entries (Some box) = refl
 
   -- what is kept behind a picture
   are_after : (stills : List Still) (before : List Still) (last : Still) (part : Option Changed) → stills ≡ before ++ last ∷ [] → AreStills view place stills → ArePixelsAt view place pixels →
@@ -103,18 +95,15 @@ module _ (view : StillsView) (place : ℕ) (shown : Shown) (draws : AreDrawsAt v
       IsPictureAdded view.job n place t shown old new before now → ShowsInstant view place old new before now
   shown_next n t old new events at h stills reel =
       let next = stills_of_part place shown.pixels.items h.part in
-      let counts : still_lines view (0 + length stills) next ≡ lines_of_part old.count place t h.part =
-      part_lines view place shown.pixels.items (0 + length stills) h.part
-      ∙ ap (λ k. lines_of_part k place (rated_instant view.job.instants place) h.part) (let e : 0 + length stills ≡ old.count = omega (arith, reel.count) in e)
-      ∙ ap (λ u. lines_of_part old.count place u h.part) (sym at) in
+      let listed : still_entries view next ≡ entries_of_part place t h.part =
+      part_entries view place shown.pixels.items h.part ∙ ap (λ u. entries_of_part place u h.part) (sym at) in
       let images : images_of_part view.job shown.pixels.items t n h.part ≡ still_images view next =
       ap (λ u. images_of_part view.job shown.pixels.items u n h.part) at
       ∙ (ap (λ m. images_of_part view.job shown.pixels.items (rated_instant view.job.instants place) m h.part) events ∙ sym (part_images view place shown.pixels.items h.part)) in (
         next,
         record {
           are = are_next view place shown.pixels.items stills old.shown h.part reel.are reel.shown pixels_at h.is_part;
-          index = h.index ∙ (ap (λ z. z ++ lines_of_part old.count place t h.part) reel.index ∙ (ap (λ z. still_lines view 0 stills ++ z) (sym counts) ∙ sym (lines_append view 0 stills next)));
-          count = h.count ∙ (ap (λ m. m + count_of_part h.part) reel.count ∙ (ap (λ m. length stills + m) (sym (part_count view place shown.pixels.items h.part)) ∙ sym (length-append stills next)));
+          index = h.index ∙ (ap (λ (z : List StillEntry). z ++ entries_of_part place t h.part) reel.index ∙ (ap (λ (z : List StillEntry). still_entries view stills ++ z) (sym listed) ∙ sym (entries_append view stills next)));
           shown = subst (IsShownLast view (stills ++ next)) (sym h.shown_is)
               (last_after view place shown.pixels.items stills old.shown shown h.part reel.shown refl h.is_part drawn);
         },
@@ -157,8 +146,7 @@ module _ (view : StillsView) (place : ℕ) (state : SinkState) where
             [],
             record {
               are = subst (AreStills view (place + 1)) (sym (all ∙ split)) (SameStill place before still (subst (AreStills view place) split h.are) now);
-              index = h.index ∙ ap (still_lines view 0) (sym all);
-              count = h.count ∙ ap (λ (xs : List Still). length xs) (sym all);
+              index = h.index ∙ ap (still_entries view) (sym all);
               shown = subst (λ xs. IsShownLast view xs reel.shown) (sym all) h.shown;
             },
             nothing_got state state,
@@ -193,28 +181,15 @@ ends_more view place old fault first before now (stills, reel, got) step =
     )
 
 -- With no instant shown nothing is kept.
-pub none_yet_shown : (view : StillsView) (index : String Global) (state : SinkState) → string_bytes index ≡ [] → IsShownSoFar view 0 (record { shown = None; count = 0; index = index }) state state
-none_yet_shown view index state empty = ([], record { are = NoStill; index = empty; count = refl; shown = refl }, nothing_got state state)
+pub none_yet_shown : (view : StillsView) (index : List StillEntry) (state : SinkState) → index ≡ [] → IsShownSoFar view 0 (record { shown = None; index = index }) state state
+none_yet_shown view index state empty = ([], record { are = NoStill; index = empty; shown = refl }, nothing_got state state)
 
 pub none_shown : (view : StillsView) (state : SinkState) → IsShownInPart view OutOfMemory state state
 none_shown view state = record { stills = []; are = (0, omega arith, NoStill); got = nothing_begun state state }
 
 -- at the end of all instants
-pub all_shown : (view : StillsView) (reel : Reel) (text : List ℕ) (first now : SinkState) → IsShownSoFar view view.job.instants.count reel first now →
-    text ≡ string_bytes reel.index ++ end_line view.job.instants.count (end_instant view.job.instants) → IsShownWhole view text first now
-all_shown view reel text first now (stills, so_far, got) is = record {
-  stills = stills;
-  are = so_far.are;
-  got = got;
-  value = is ∙ ap (λ z. z ++ end_line view.job.instants.count (end_instant view.job.instants)) so_far.index;
-}
-
-pub all_begun : (view : StillsView) (reel : Reel) (first now : SinkState) → IsShownSoFar view view.job.instants.count reel first now → IsShownInPart view OutOfMemory first now
-all_begun view reel first now (stills, so_far, got) = record {
-  stills = stills;
-  are = (view.job.instants.count, omega arith, so_far.are);
-  got = whole_begun first now (still_images view stills) got;
-}
+pub all_listed : (view : StillsView) (reel : Reel) (first now : SinkState) → IsShownSoFar view view.job.instants.count reel first now → IsListedWhole view reel.index first now
+all_listed view reel first now (stills, so_far, got) = record { stills = stills; are = so_far.are; got = got; value = so_far.index }
 
 pub some_shown : (view : StillsView) (place : ℕ) (old : Reel) (fault : StillsFault) (first before now : SinkState) → IsShownSoFar view place old first before → EndsInInstant view place old fault before now →
     IsShownInPart view fault first now
@@ -231,19 +206,10 @@ pub kept_next : (view : StillsView) (place t : ℕ) (reel : Reel) (state : SinkS
 kept_next view place t reel state at (last, is, draws) =
     same_next view place state reel last is (subst (λ n. AreDraws view.script view.fonts (line_events view.script) (pos n) (plain_frame view.job.size) last.plan.draws) at draws)
 
-pub fit_next : (job : StillsJob) (n place t : ℕ) (shown : Shown) (old new : Reel) (before now : SinkState) → IsReelFit job place old → HasPixels (pixel_bytes job.format) job.size shown.pixels.items →
-    IsPictureAdded job n place t shown old new before now → IsReelFit job (place + 1) new
-fit_next job n place t shown old new before now fit pixels h = record {
-  pixels = subst (λ (o : Option Shown). IfSome o (λ last. HasPixels (pixel_bytes job.format) job.size last.pixels.items)) (sym h.shown_is) pixels;
-  few = omega (arith, fit.few, h.count, one_at_most h.part);
-}
-  where
-    one_at_most : (part : Option Changed) → count_of_part part ≤ 1
-    one_at_most None = omega arith
-    one_at_most (Some box) = omega arith
-
-pub fit_more : (job : StillsJob) (place : ℕ) (reel : Reel) → IsReelFit job place reel → IsReelFit job (place + 1) reel
-fit_more job place reel fit = record { pixels = fit.pixels; few = omega (arith, fit.few) }
+pub fit_next : (job : StillsJob) (n place t : ℕ) (shown : Shown) (old new : Reel) (before now : SinkState) → HasPixels (pixel_bytes job.format) job.size shown.pixels.items →
+    IsPictureAdded job n place t shown old new before now → IsReelFit job new
+fit_next job n place t shown old new before now pixels h =
+    subst (λ (o : Option Shown). IfSome o (λ last. HasPixels (pixel_bytes job.format) job.size last.pixels.items)) (sym h.shown_is) pixels
 
 -- ---- answers
 
@@ -254,3 +220,22 @@ on_ok (Err e) P Q more h = h
 pub on_err : {A E : Type 0} (r : Result A E) (P Q : E → Type 0) → ((e : E) → P e → Q e) → IfErr r P → IfErr r Q
 on_err (Ok a) P Q more h = h
 on_err (Err e) P Q more h = more e h
+
+-- ---- the index of a list
+
+pub with_index : (view : StillsView) (entries : List StillEntry) (text : List ℕ) (first now : SinkState) → IsListedWhole view entries first now →
+    text ≡ words_index entries view.job.instants.count (end_instant view.job.instants) → IsShownWhole view text first now
+with_index view entries text first now listed is = record {
+  stills = listed.stills;
+  are = listed.are;
+  got = listed.got;
+  value = is ∙ ap (λ (z : List StillEntry). words_index z view.job.instants.count (end_instant view.job.instants)) listed.value;
+}
+
+-- Memory may run out for it.
+pub without_index : (view : StillsView) (entries : List StillEntry) (first now : SinkState) → IsListedWhole view entries first now → IsShownInPart view OutOfMemory first now
+without_index view entries first now listed = record {
+  stills = listed.stills;
+  are = (view.job.instants.count, omega arith, listed.are);
+  got = whole_begun first now (still_images view listed.stills) listed.got;
+}

@@ -1,15 +1,15 @@
 -- The least box of pixels of four bytes, row by row.
-use Rattle.std.proofs.Common.{◌≡◌, ℕ, ◌+◌, ◌-◌, ◌*◌, ◌/◌, ◌<◌, ◌≤◌, ◌⊎◌, inl, inr, List, length, get_or, slice_index, take, drop, max, min, Option, Some, None, sym, ap, ◌∙◌, subst, arith}
+use Rattle.std.proofs.Common.{◌≡◌, ℕ, ◌+◌, ◌-◌, ◌*◌, ◌/◌, ◌<◌, ◌≤◌, ◌⊎◌, inl, inr, List, length, get_or, slice_index, take, drop, Option, Some, None, sym, ap, ◌∙◌, subst, arith}
 use Rattle.std.proofs.Math.Nat.{mul-le-mul_left}
 use Rattle.std.proofs.lemmas.List.{get_or-take, get_or-drop}
 use Rattle.std.proofs.lemmas.Bool.{cases_lt}
 use Rattle.ass_num.specs.declared.size.Size.{Size}
-use Rattle.frame_change.specs.Changes.{IsInBox, LiesInside}
+use Rattle.frame_change.specs.Changes.{LiesInside}
 use Rattle.frame_change.specs.Rows.{AreSame}
 use Rattle.frame_change.specs.declared.pixels.Changed.{Changed}
 use Rattle.frame_change.proofs.BoxLemmas.{all_same}
 use Rattle.still_images.specs.Boxes.{DiffersIn, HasAll, HasPixels, IsBoxOfPixels, IsLeastOf}
-use Rattle.still_images.specs.Rows.{AreColumnsOf, DifferBetween, row_box, row_under, with_columns}
+use Rattle.still_images.specs.Rows.{DifferBetween, row_box, with_columns}
 use Rattle.still_images.specs.declared.alpha_box.Columns.{Columns}
 use Rattle.still_images.proofs.BoxLemmas.{least_on_frame}
 

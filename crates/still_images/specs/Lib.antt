@@ -1,7 +1,6 @@
 pub mod Boxes
 pub mod Rows
 pub mod Formats
-pub mod Lines
 pub mod Stills
 pub mod Puts
 pub mod Reels

@@ -7,7 +7,8 @@ use Rattle.std.specs.declared.string.String.{String}
 use Rattle.ass_io.specs.Sinks.{SinkState}
 use Rattle.ass_io.specs.Written.{AppendsFront}
 use Rattle.ass_num.specs.Causes.{Rose}
-use Rattle.still_images.specs.Stills.{AreFirstStills, AreStills, Still, StillsView, index_text, still_images}
+use Rattle.still_images.specs.Stills.{AreFirstStills, AreStills, Still, StillsView, index_text, still_entries, still_images}
+use Rattle.still_lists.specs.declared.entry.StillEntry.{StillEntry}
 use Rattle.still_images.specs.declared.fault.StillsFault.{StillsFault}
 use Rattle.still_images.specs.declared.fault.StillsFault.TheVariants.{WriteFault, OutOfMemory}
 
@@ -28,6 +29,13 @@ pub record GotPrefix (fault : StillsFault) (pieces : List (List ℕ)) (old new :
   pub counted : IsFaultCounted fault old.faults new.faults
   pub asked : new.asked ≡ old.asked ++ pieces
 
+-- All images were put, and these are what a list tells of them.
+pub record IsListedWhole (view : StillsView) (entries : List StillEntry) (old new : SinkState) : Type 0 where
+  pub stills : List Still
+  pub are : AreStills view view.job.instants.count stills
+  pub got : GotWhole (still_images view stills) old new
+  pub value : entries ≡ still_entries view stills
+
 -- All images were put, and this is their index.
 pub record IsShownWhole (view : StillsView) (text : List ℕ) (old new : SinkState) : Type 0 where
   pub stills : List Still
@@ -41,7 +49,12 @@ pub record IsShownInPart (view : StillsView) (fault : StillsFault) (old new : Si
   pub are : AreFirstStills view stills
   pub got : GotPrefix fault (still_images view stills) old new
 
--- What came of it.
+-- What came of it, as a list.
+abbrev pub AreStillsListed : StillsView → Result (List StillEntry) StillsFault → SinkState → SinkState → Type 0
+AreStillsListed view (Ok entries) old new = IsListedWhole view entries old new
+AreStillsListed view (Err fault) old new = IsShownInPart view fault old new
+
+-- What came of it, with their index.
 abbrev pub AreStillsShown : StillsView → Result (String Global) StillsFault → SinkState → SinkState → Type 0
 AreStillsShown view (Ok text) old new = IsShownWhole view (string_bytes text) old new
 AreStillsShown view (Err fault) old new = IsShownInPart view fault old new

@@ -1,5 +1,5 @@
 -- Inner: what is shown and put from instant to instant.
-use Rattle.std.specs.Prelude.{◌≡◌, ◌⊎◌, ℕ, ◌+◌, ◌≤◌, pos, List, [], ◌∷◌, ◌++◌, length, IfSome, Option, Some, None, string_bytes}
+use Rattle.std.specs.Prelude.{◌≡◌, ◌⊎◌, ℕ, ◌+◌, pos, List, [], ◌∷◌, ◌++◌, IfSome, Option, Some, None}
 use Rattle.ass_events.specs.ScriptEvents.{line_events}
 use Rattle.ass_io.specs.Sinks.{SinkState}
 use Rattle.frame_change.specs.declared.pixels.Changed.{Changed}
@@ -8,9 +8,9 @@ use Rattle.picture_plan.specs.Pictures.{AreDraws}
 use Rattle.run_words.specs.declared.job.StillsJob.{StillsJob}
 use Rattle.still_images.specs.Boxes.{HasPixels, IsBoxOfPixels, whole_box}
 use Rattle.still_images.specs.Formats.{ArePixelsOf, pixel_bytes}
-use Rattle.still_images.specs.Lines.{still_line}
 use Rattle.still_images.specs.Puts.{GotPrefix, GotWhole}
-use Rattle.still_images.specs.Stills.{AreFirstStills, AreStills, Still, StillsView, image_of_part, still_images, still_lines}
+use Rattle.still_images.specs.Stills.{AreFirstStills, AreStills, Still, StillsView, image_of_part, still_entries, still_images}
+use Rattle.still_lists.specs.declared.entry.StillEntry.{StillEntry}
 use Rattle.still_images.specs.declared.fault.StillsFault.{StillsFault}
 use Rattle.still_images.specs.declared.reel.Reel.{Reel}
 use Rattle.still_images.specs.declared.reel.Shown.{Shown}
@@ -25,22 +25,17 @@ abbrev pub images_of_part : StillsJob → List ℕ → ℕ → ℕ → Option Ch
 images_of_part job pixels t n None = []
 images_of_part job pixels t n (Some box) = image_of_part job box pixels t n ∷ []
 
--- the lines on it
-abbrev pub lines_of_part : ℕ → ℕ → ℕ → Option Changed → List ℕ
-lines_of_part k place t None = []
-lines_of_part k place t (Some box) = still_line k place t box
+-- what a list tells of it
+abbrev pub entries_of_part : ℕ → ℕ → Option Changed → List StillEntry
+entries_of_part place t None = []
+entries_of_part place t (Some box) = record { place = place; t = t; part = box } ∷ []
 
-abbrev pub count_of_part : Option Changed → ℕ
-count_of_part None = 0
-count_of_part (Some box) = 1
-
--- A picture was shown from the instant t at a place on, when n events were known.
+-- A picture was shown from the instant t at a place on, when n events were known, and its image put, if it has one.
 pub record IsPictureAdded (job : StillsJob) (n place t : ℕ) (shown : Shown) (old new : Reel) (before now : SinkState) : Type 0 where
   pub part : Option Changed
   pub is_part : IsPartAfter job old.shown shown.pixels.items part
   pub got : GotWhole (images_of_part job shown.pixels.items t n part) before now
-  pub index : string_bytes new.index ≡ string_bytes old.index ++ lines_of_part old.count place t part
-  pub count : new.count ≡ old.count + count_of_part part
+  pub index : new.index ≡ old.index ++ entries_of_part place t part
   pub shown_is : new.shown ≡ Some shown
 
 -- It wasn't shown whole.
@@ -59,14 +54,12 @@ IsShownLast view stills (Some shown) =
 -- So far these pictures are kept, at the instants before this place.
 pub record IsReel (view : StillsView) (place : ℕ) (stills : List Still) (reel : Reel) : Type 0 where
   pub are : AreStills view place stills
-  pub index : string_bytes reel.index ≡ still_lines view 0 stills
-  pub count : reel.count ≡ length stills
+  pub index : reel.index ≡ still_entries view stills
   pub shown : IsShownLast view stills reel.shown
 
--- What is shown last has the pixels of a frame, and no more images are counted than there were instants.
-pub record IsReelFit (job : StillsJob) (place : ℕ) (reel : Reel) : Type 0 where
-  pub pixels : IfSome reel.shown (λ shown. HasPixels (pixel_bytes job.format) job.size shown.pixels.items)
-  pub few : reel.count ≤ place
+-- What is shown last has the pixels of a frame.
+abbrev pub IsReelFit : StillsJob → Reel → Type 0
+IsReelFit job reel = IfSome reel.shown (λ shown. HasPixels (pixel_bytes job.format) job.size shown.pixels.items)
 
 -- The picture at the instant t: none, where its draws are those of the last one, else its draws and pixels.
 abbrev pub IsNewlyDrawn : StillsView → ℕ → Option Shown → Option Shown → Type 0

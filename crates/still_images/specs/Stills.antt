@@ -1,5 +1,5 @@
 -- Public: the pictures of a script that are kept where only what changes is: the first one, and each that differs from the one before it (docs/PICTURES.md).
-use Rattle.std.specs.Prelude.{◌≡◌, ℕ, ◌+◌, ◌≤◌, pos, min, if◌then◌else◌, List, [], ◌∷◌, ◌++◌, length, map}
+use Rattle.std.specs.Prelude.{ℕ, ◌+◌, ◌≤◌, pos, min, if◌then◌else◌, List, [], ◌∷◌, ◌++◌, length, map}
 use Rattle.ass_events.specs.ScriptEvents.{line_events}
 use Rattle.ass_script.specs.Scripts.{ScriptValue}
 use Rattle.bdf_font.specs.Fonts.{FontValue}
@@ -13,7 +13,8 @@ use Rattle.picture_plan.specs.Pictures.{AreDraws}
 use Rattle.run_words.specs.declared.job.StillsJob.{StillsJob}
 use Rattle.still_images.specs.Boxes.{DiffersIn, IsLeastOf, box_size, cropped, whole_box}
 use Rattle.still_images.specs.Formats.{ArePixelsOf, image_of_pixels, pixel_bytes}
-use Rattle.still_images.specs.Lines.{end_line, still_line}
+use Rattle.still_lists.specs.TextIndexes.{words_index}
+use Rattle.still_lists.specs.declared.entry.StillEntry.{StillEntry}
 
 -- a job with what was read for it
 pub record StillsView : Type 0 where
@@ -71,10 +72,13 @@ still_image view still =
 abbrev pub still_images : StillsView → List Still → List (List ℕ)
 still_images view stills = map (still_image view) stills
 
--- the lines on kept pictures, the first of which is image k
-abbrev pub still_lines : StillsView → ℕ → List Still → List ℕ
-still_lines view k [] = []
-still_lines view k (still ∷ stills) = still_line k still.place (rated_instant view.job.instants still.place) still.box ++ still_lines view (k + 1) stills
+-- what a list tells of a kept picture
+abbrev pub still_entry : StillsView → Still → StillEntry
+still_entry view still = record { place = still.place; t = rated_instant view.job.instants still.place; part = still.box }
+
+-- what it tells of all, in order
+abbrev pub still_entries : StillsView → List Still → List StillEntry
+still_entries view stills = map (still_entry view) stills
 
 -- the end of the last instant: the next one, or the last that there is where that doesn't come before it
 abbrev pub end_instant : Instants → ℕ
@@ -82,4 +86,4 @@ end_instant instants = min (rated_instant instants instants.count) max_instant
 
 -- the index of kept pictures
 abbrev pub index_text : StillsView → List Still → List ℕ
-index_text view stills = still_lines view 0 stills ++ end_line view.job.instants.count (end_instant view.job.instants)
+index_text view stills = words_index (still_entries view stills) view.job.instants.count (end_instant view.job.instants)

@@ -16,6 +16,7 @@ use run_words::{FrameFormat, StillsJob};
 use std::alloc::Global;
 
 /// The image of pixels in a format: that at the instant `t`, when `n` events were known.
+#[inline(never)]
 fn image_of_pixels(
     alloc: Global,
     format: FrameFormat,

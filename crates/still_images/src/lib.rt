@@ -7,11 +7,10 @@ mod crop;
 mod fault;
 mod image;
 mod laws;
-mod lines;
 mod paint;
 mod reel;
 mod stills;
 
 pub use fault::StillsFault;
 pub use laws::stills_show_all;
-pub use stills::show_stills;
+pub use stills::{end_instant, list_stills, show_stills};

@@ -1,24 +1,23 @@
 //! What is shown from instant to instant, and what is put of it.
 
-ghost use Rattle.std.specs.Prelude.{◌≡◌, ◌⊎◌, [], ◌++◌, ◌∷◌, ◌+◌, ◌-◌, ◌≤◌, ◌<◌, ◌^◌, IfErr, IfOk, IfSome, IsTrue, OnOk, Some, string_bytes};
+ghost use Rattle.std.specs.Prelude.{◌≡◌, ◌⊎◌, [], ◌++◌, ◌∷◌, ◌≤◌, IfErr, IfOk, IfSome, IsTrue, OnOk, Some};
 ghost use Rattle.ass_num.specs.Limits.{IsFrameSize, max_instant};
 ghost use Rattle.still_images.specs.Boxes.{HasPixels, IsOnFrame};
 ghost use Rattle.still_images.specs.Formats.{pixel_bytes};
-ghost use Rattle.still_images.specs.Lines.{still_line};
 ghost use Rattle.still_images.specs.Puts.{GotPrefix, GotWhole};
-ghost use Rattle.still_images.specs.Reels.{IsPartAfter, IsPictureCut, IsPictureAdded};
+ghost use Rattle.still_images.specs.Reels.{IsPartAfter, IsPictureAdded, IsPictureCut, IsReelFit, entries_of_part};
 ghost use Rattle.still_images.specs.Stills.{image_of_part};
 
 use crate::boxes::{box_of, whole_box};
 use crate::fault::StillsFault;
 use crate::image::still_image;
-use crate::lines::still_line;
 use ass_io::{Put, Sink};
-use ass_num::{Mem, OutOfMemory};
+use ass_num::{Items, Mem, OutOfMemory};
 use frame_change::Changed;
 use mask_keys::Plan;
 use run_words::StillsJob;
 use std::alloc::Global;
+use still_lists::StillEntry;
 
 /// Draws, and the pixels that they make.
 #[derive(Drop)]
@@ -27,12 +26,11 @@ pub struct Shown {
     pub pixels: Vec<u8>,
 }
 
-/// What is shown last, how many images were put, and the lines on them.
+/// What is shown last, and what a list tells of the images that were put.
 #[derive(Drop)]
 pub struct Reel {
     pub shown: Option<Shown>,
-    pub count: u64,
-    pub index: String,
+    pub index: Items<StillEntry>,
 }
 
 /// Whether the draws of plans are the same.
@@ -79,24 +77,8 @@ fn put<F: Sink>(image: &[u8], frames: &mut F) -> Result<(), StillsFault>
     }
 }
 
-/// Adds the line on the next image.
-fn add_line(
-    alloc: Global,
-    index: &mut String,
-    k: u64,
-    place: u64,
-    t: u64,
-    part: &Changed,
-) -> Mem<()>
-    ensures { OnOk result (string_bytes index.new ≡ string_bytes index.old ++ still_line k place t part.now) }
-{
-    let line = still_line(alloc, k, place, t, part)?;
-    index.push_str(line.as_str())?;
-    Ok(())
-}
-
-/// The image of a picture that changes a part, shown from the instant `t` at a place on, when `n` events were known. It is counted,
-/// and has its line.
+/// The image of a picture that changes a part, shown from the instant `t` at a place on, when `n` events were known. It is added to
+/// the list.
 fn add_image(
     alloc: Global,
     job: &StillsJob,
@@ -110,14 +92,15 @@ fn add_image(
     requires pixels { HasPixels (pixel_bytes job.now.format) job.now.size pixels.now }
     requires part { IsOnFrame job.now.size part.now }
     requires instant { t ≤ max_instant }
-    requires few { reel.old.count < 2 ^ 64 - 1 }
     ensures image { IfOk result (λ image. image.items ≡ image_of_part job.now part.now pixels.now t n) }
-    ensures index { OnOk result (string_bytes reel.new.index ≡ string_bytes reel.old.index ++ still_line reel.old.count place t part.now) }
-    ensures count { OnOk result (reel.new.count ≡ reel.old.count + 1) }
+    ensures index { OnOk result (reel.new.index ≡ reel.old.index ++ entries_of_part place t (Some part.now)) }
 {
     let image = still_image(alloc, job, part, pixels, t, n)?;
-    add_line(alloc, &mut reel.index, reel.count, place, t, part)?;
-    reel.count += 1;
+    reel.index.push(StillEntry {
+        place,
+        t,
+        part: *part,
+    })?;
     Ok(image)
 }
 
@@ -136,10 +119,8 @@ fn put_still<F: Sink>(
     requires pixels { HasPixels (pixel_bytes job.now.format) job.now.size pixels.now }
     requires part { IsOnFrame job.now.size part.now }
     requires instant { t ≤ max_instant }
-    requires few { reel.old.count < 2 ^ 64 - 1 }
     ensures whole { OnOk result (GotWhole (image_of_part job.now part.now pixels.now t n ∷ []) (F.state frames.old) (F.state frames.new)) }
-    ensures index { OnOk result (string_bytes reel.new.index ≡ string_bytes reel.old.index ++ still_line reel.old.count place t part.now) }
-    ensures count { OnOk result (reel.new.count ≡ reel.old.count + 1) }
+    ensures index { OnOk result (reel.new.index ≡ reel.old.index ++ entries_of_part place t (Some part.now)) }
     ensures part { IfErr result (λ fault. GotPrefix fault [] (F.state frames.old) (F.state frames.new)
         ⊎ GotPrefix fault (image_of_part job.now part.now pixels.now t n ∷ []) (F.state frames.old) (F.state frames.new)) }
 {
@@ -162,9 +143,8 @@ pub fn show_picture<F: Sink>(
 ) -> Result<(), StillsFault>
     requires size { IsFrameSize job.now.size }
     requires pixels { HasPixels (pixel_bytes job.now.format) job.now.size shown.pixels.items }
-    requires last { IfSome reel.old.shown (λ last. HasPixels (pixel_bytes job.now.format) job.now.size last.pixels.items) }
+    requires last { IsReelFit job.now reel.old }
     requires instant { t ≤ max_instant }
-    requires few { reel.old.count < 2 ^ 64 - 1 }
     ensures whole { OnOk result (IsPictureAdded job.now n place t shown reel.old reel.new (F.state frames.old) (F.state frames.new)) }
     ensures part { IfErr result (λ fault. IsPictureCut job.now n t shown reel.old fault (F.state frames.old) (F.state frames.new)) }
 {

@@ -14,13 +14,12 @@ ghost use Rattle.frame_view.specs.FrameViews.{plain_frame};
 ghost use Rattle.run_words.specs.Jobs.{IsStills};
 ghost use Rattle.text_layout.specs.Fonts.{IsLayoutFontSet};
 ghost use Rattle.text_layout.specs.Settings.{IsSetting};
-ghost use Rattle.still_images.specs.Lines.{end_line};
-ghost use Rattle.still_images.specs.Puts.{AreStillsShown};
+ghost use Rattle.still_lists.specs.TextIndexes.{words_index};
+ghost use Rattle.still_images.specs.Puts.{AreStillsListed, AreStillsShown};
 ghost use Rattle.still_images.specs.Reels.{EndsInInstant, IsNewlyDrawn, IsReelFit, ShowsInstant};
 ghost use Rattle.still_images.specs.Stills.{end_instant, stills_view};
 
 use crate::fault::StillsFault;
-use crate::lines::end_line;
 use crate::paint::pixels_of;
 use crate::reel::{Reel, Shown, is_shown, show_picture};
 use ass_events::{Event, events_of};
@@ -35,6 +34,7 @@ use picture_plan::plan;
 use run_words::StillsJob;
 use std::alloc::Global;
 use std::sync::Arc;
+use still_lists::{StillEntry, words_index};
 use text_layout::Setting;
 
 /// The picture at the instant `t`; `None` where its draws are those of the last one.
@@ -89,9 +89,9 @@ fn add_instant<F: Sink>(
     requires lines { map arc_value events.now ≡ line_events setting.now.script }
     requires place { place < job.now.instants.count }
     requires same { local.old.fonts ≡ setting.now.fonts }
-    requires reel { IsReelFit job.now place reel.old }
+    requires reel { IsReelFit job.now reel.old }
     ensures same { local.new.fonts ≡ local.old.fonts }
-    ensures fit { OnOk result (IsReelFit job.now (place + 1) reel.new) }
+    ensures fit { OnOk result (IsReelFit job.now reel.new) }
     ensures whole { OnOk result (ShowsInstant (stills_view job.now setting.now.script setting.now.fonts) place reel.old reel.new
         (F.state frames.old) (F.state frames.new)) }
     ensures part { IfErr result (λ fault. EndsInInstant (stills_view job.now setting.now.script setting.now.fonts) place reel.old fault
@@ -110,7 +110,7 @@ const MAX_INSTANT: u64 = 4_000_000_000_000;
 
 /// The end of the last instant: the next one, or the last that there is where that doesn't come before it.
 #[tactic(auto, using(crate::proofs::EndLemmas::next_comes, crate::proofs::EndLemmas::none_comes))]
-fn end_instant(instants: &Instants) -> u64
+pub fn end_instant(instants: &Instants) -> u64
     requires { AreInstants instants.now }
     ensures { result ≡ end_instant instants.now }
 {
@@ -122,17 +122,6 @@ fn end_instant(instants: &Instants) -> u64
     }
 }
 
-/// The lines on images, with the last one.
-fn with_end(alloc: Global, index: String, instants: &Instants) -> Mem<String>
-    requires { AreInstants instants.now }
-    ensures { IfOk result (λ text. string_bytes text ≡ string_bytes index ++ end_line instants.now.count (end_instant instants.now)) }
-{
-    let end = end_line(alloc, instants.count, end_instant(instants))?;
-    let mut text = index;
-    text.push_str(end.as_str())?;
-    Ok(text)
-}
-
 /// Shows all instants.
 fn show_all<F: Sink>(
     alloc: Global,
@@ -141,7 +130,7 @@ fn show_all<F: Sink>(
     events: &[Arc<Event>],
     local: &mut LocalCaches,
     frames: &mut F,
-) -> Result<String, StillsFault>
+) -> Result<Items<StillEntry>, StillsFault>
     requires job { IsStills job.now }
     requires setting { IsSetting setting.now }
     requires frame { setting.now.frame ≡ plain_frame job.now.size }
@@ -151,12 +140,11 @@ fn show_all<F: Sink>(
     requires orders { HaveOwnOrders (map arc_value events.now) }
     requires lines { map arc_value events.now ≡ line_events setting.now.script }
     requires same { local.old.fonts ≡ setting.now.fonts }
-    ensures { AreStillsShown (stills_view job.now setting.now.script setting.now.fonts) result (F.state frames.old) (F.state frames.new) }
+    ensures { AreStillsListed (stills_view job.now setting.now.script setting.now.fonts) result (F.state frames.old) (F.state frames.new) }
 {
     let mut reel = Reel {
         shown: None,
-        count: 0,
-        index: String::new(alloc),
+        index: Items::new(alloc),
     };
     for place in 0..job.instants.count {
         match add_instant(alloc, job, setting, events, place, local, &mut reel, frames) {
@@ -164,10 +152,7 @@ fn show_all<F: Sink>(
             Err(fault) => return Err(fault),
         }
     }
-    match with_end(alloc, reel.index, &job.instants) {
-        Ok(text) => Ok(text),
-        Err(OutOfMemory) => Err(StillsFault::OutOfMemory),
-    }
+    Ok(reel.index)
 }
 
 /// What is at hand for all instants.
@@ -208,7 +193,7 @@ fn show_ready<F: Sink>(
     script: &Script,
     ready: Ready,
     frames: &mut F,
-) -> Result<String, StillsFault>
+) -> Result<Items<StillEntry>, StillsFault>
     requires job { IsStills job.now }
     requires script { IsScript script.now }
     requires fonts { IsLayoutFontSet (arc_value ready.fonts).fonts }
@@ -218,7 +203,7 @@ fn show_ready<F: Sink>(
     requires texts { All (λ (e : Event). length e.text ≤ max_text_bytes) (map arc_value ready.events.items) }
     requires few { length ready.events.items ≤ max_live }
     requires orders { HaveOwnOrders (map arc_value ready.events.items) }
-    ensures { AreStillsShown (stills_view job.now script.now (arc_value ready.fonts).fonts) result (F.state frames.old) (F.state frames.new) }
+    ensures { AreStillsListed (stills_view job.now script.now (arc_value ready.fonts).fonts) result (F.state frames.old) (F.state frames.new) }
 {
     let Ready {
         fonts,
@@ -234,9 +219,37 @@ fn show_ready<F: Sink>(
 }
 
 /// Shows a script in fonts from instant to instant. The sink is put an image of the first picture, and of each that differs from the
-/// one before it, whole or the box that changed. What comes is the index: a line `image K place I t=MS box X1 Y1 X2 Y2` for each
-/// image, and a last one `end place N t=MS`.
+/// one before it, whole or the box that changed. What comes is what a list tells of them.
 #[tactic(auto, using(crate::proofs::ReelLemmas::none_shown))]
+pub fn list_stills<F: Sink>(
+    alloc: Global,
+    job: &StillsJob,
+    script: &Script,
+    fonts: Items<Font>,
+    frames: &mut F,
+) -> Result<Items<StillEntry>, StillsFault>
+    requires job { IsStills job.now }
+    requires script { IsScript script.now }
+    requires short { HasShortLines script.now }
+    requires fonts { IsLayoutFontSet fonts }
+    ensures { AreStillsListed (stills_view job.now script.now fonts) result (F.state frames.old) (F.state frames.new) }
+{
+    match make_ready(alloc, job, script, fonts) {
+        Ok(ready) => show_ready(alloc, job, script, ready, frames),
+        Err(OutOfMemory) => Err(StillsFault::OutOfMemory),
+    }
+}
+
+/// The index of images.
+fn index_of(alloc: Global, entries: &[StillEntry], instants: &Instants) -> Mem<String>
+    requires { AreInstants instants.now }
+    ensures { IfOk result (λ text. string_bytes text ≡ words_index entries.now instants.now.count (end_instant instants.now)) }
+{
+    words_index(alloc, entries, instants.count, end_instant(instants))
+}
+
+/// The same with their index: a line `image K place I t=MS box X1 Y1 X2 Y2` for each image, and a last one `end place N t=MS`.
+#[tactic(auto, using(crate::proofs::ReelLemmas::with_index, crate::proofs::ReelLemmas::without_index))]
 pub fn show_stills<F: Sink>(
     alloc: Global,
     job: &StillsJob,
@@ -250,8 +263,11 @@ pub fn show_stills<F: Sink>(
     requires fonts { IsLayoutFontSet fonts }
     ensures { AreStillsShown (stills_view job.now script.now fonts) result (F.state frames.old) (F.state frames.new) }
 {
-    match make_ready(alloc, job, script, fonts) {
-        Ok(ready) => show_ready(alloc, job, script, ready, frames),
-        Err(OutOfMemory) => Err(StillsFault::OutOfMemory),
+    match list_stills(alloc, job, script, fonts, frames) {
+        Ok(entries) => match index_of(alloc, entries.as_slice(), &job.instants) {
+            Ok(text) => Ok(text),
+            Err(OutOfMemory) => Err(StillsFault::OutOfMemory),
+        },
+        Err(fault) => Err(fault),
     }
 }

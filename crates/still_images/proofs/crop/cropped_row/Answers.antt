@@ -1,4 +1,4 @@
-use Rattle.std.proofs.Common.{◌≡◌, ◌∙◌, ◌+◌, ◌-◌, ◌*◌, ℕ, List, length, take, ap, sym}
+use Rattle.std.proofs.Common.{◌∙◌, ◌+◌, ◌-◌, ◌*◌, ℕ, List, length, take, ap, sym}
 use Rattle.std.proofs.lemmas.List.{take_rest}
 use Rattle.still_images.proofs.CropLemmas.{row_length}
 use Rattle.still_images.proofs.crop.cropped_row.Goals as goal

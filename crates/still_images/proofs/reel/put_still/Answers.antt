@@ -1,6 +1,5 @@
-use Rattle.std.proofs.Common.{List, ℕ, [], ◌∷◌, inl, inr, sym, subst, ◌∙◌}
+use Rattle.std.proofs.Common.{List, ℕ, [], ◌∷◌, inl, inr, subst, ◌∙◌}
 use Rattle.still_images.specs.Puts.{GotPrefix, GotWhole}
-use Rattle.still_images.specs.Stills.{image_of_part}
 use Rattle.still_images.proofs.PutLemmas.{nothing_begun}
 use Rattle.still_images.proofs.ReelLemmas.{on_err, on_ok}
 use Rattle.still_images.proofs.reel.put_still.Goals as goal

@@ -1,13 +1,13 @@
-use Rattle.std.proofs.Common.{◌≡◌, ◌∙◌, length, ap, sym, subst}
+use Rattle.std.proofs.Common.{◌∙◌, length, ap, sym, subst}
 use Rattle.std.proofs.lemmas.List.{length-map}
 use Rattle.std.specs.Arc.{arc_value}
 use Rattle.still_images.specs.Reels.{IsNewlyDrawn}
 use Rattle.still_images.specs.Stills.{stills_view}
-use Rattle.still_images.proofs.ReelLemmas.{cut_next, drawn_at, fit_more, fit_next, kept_next, on_err, on_ok, shown_next, wants_next}
+use Rattle.still_images.proofs.ReelLemmas.{cut_next, drawn_at, fit_next, kept_next, on_err, on_ok, shown_next, wants_next}
 use Rattle.still_images.proofs.stills.add_instant.Goals as goal
 
 pub returns-in-Ok-None-clause-fit : goal.returns-in-Ok-None-clause-fit
-returns-in-Ok-None-clause-fit g c = fit_more c.args.job.now c.args.place c.args.reel.now c.requires.reel
+returns-in-Ok-None-clause-fit g c = c.requires.reel
 
 pub returns-in-Ok-None-clause-whole : goal.returns-in-Ok-None-clause-whole
 returns-in-Ok-None-clause-whole g c =
@@ -18,7 +18,7 @@ returns-in-Ok-None-clause-whole g c =
 pub returns-in-Ok-Some-clause-fit : goal.returns-in-Ok-Some-clause-fit
 returns-in-Ok-Some-clause-fit g c =
     let drawn = subst (IsNewlyDrawn (stills_view c.args.job.now c.args.setting.now.script c.args.setting.now.fonts) c.at-t.result c.args.reel.now.shown) c.in-Ok-Some.field-0-is c.in-Ok-Some.ensures.drawn in
-    on_ok c.show_picture.result _ _ (fit_next c.args.job.now _ c.args.place c.at-t.result c.in-Ok-Some.shown c.args.reel.now c.show_picture.new.reel _ _ c.requires.reel drawn.2) c.show_picture.ensures.whole
+    on_ok c.show_picture.result _ _ (fit_next c.args.job.now _ c.args.place c.at-t.result c.in-Ok-Some.shown c.args.reel.now c.show_picture.new.reel _ _ drawn.2) c.show_picture.ensures.whole
 
 pub returns-in-Ok-Some-clause-whole : goal.returns-in-Ok-Some-clause-whole
 returns-in-Ok-Some-clause-whole g c =

@@ -1,4 +1,4 @@
-use Rattle.std.proofs.Common.{◌≡◌, ℤ, pos, to_z, w64, arith}
+use Rattle.std.proofs.Common.{◌≡◌, pos, to_z, w64, arith}
 use Rattle.std.proofs.lemmas.Int.{to_z_pos}
 use Rattle.still_images.proofs.stills.draw.Goals as goal
 
