@@ -5,7 +5,6 @@ use Rattle.ass_io.specs.Fetched.{Held, Told}
 use Rattle.ass_num.specs.Limits.{max_file_bytes, max_text_bytes}
 use Rattle.ass_script.specs.Scripts.{ScriptValue, script_of}
 use Rattle.ass_script.specs.declared.refusal.ScriptRefusal.{ScriptRefusal}
-use Rattle.bdf_font.specs.Limits.{max_fonts}
 use Rattle.bdf_font.specs.Ranges.{IsFont}
 use Rattle.run_status.specs.Causes.{script_status, with_status}
 use Rattle.run_status.specs.Files.{AsksScript, script_with}

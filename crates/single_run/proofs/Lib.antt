@@ -4,6 +4,7 @@ pub mod InputLemmas
 pub mod RewriteLemmas
 pub mod StillLemmas
 pub mod Runs
+pub mod TaskLemmas
 pub mod WorkLemmas
 pub mod LineLemmas
 pub mod ChangePictures

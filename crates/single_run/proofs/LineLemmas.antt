@@ -17,7 +17,8 @@ use Rattle.picture_plan.specs.Pictures.{AreDraws}
 use Rattle.frame_rate.specs.Instants.{rated_instant}
 use Rattle.single_run.specs.Laws.{SameDrawsChangeNothing}
 use Rattle.single_run.specs.Lines.{change_line}
-use Rattle.single_run.specs.ChangeReports.{AreChangeLines, IsChangeLine, IsChangedBox, NextLine, NoLine, plan_of}
+use Rattle.single_run.specs.ChangeReports.{AreChangeLines, IsChangeFound, IsChangeLine, IsChangedBox, NextLine, NoLine, plan_of}
+use Rattle.single_run.specs.declared.screen.ScreenChange.{ScreenChange}
 use Rattle.frame_rate.specs.declared.instants.Instants.{Instants}
 
 of_draws : (kind : ChangeKind) (before now : Plan) → IsChange kind before now → IsChange kind (plan_of before.draws) (plan_of now.draws)
@@ -29,27 +30,26 @@ boxed : (size : Size) (a b : List ℕ) (box : Option Changed) → (box ≡ None)
 boxed size a b None none some = none.0 refl
 boxed size a b (Some box) none some = some
 
--- the line on draws that are those before
-pub unchanged_line : (fonts : List FontValue) (size : Size) (t : ℕ) (before now : Plan) (line : List ℕ) → IsChange Same before now → line ≡ change_line t Same None → IsChangeLine fonts size t before.draws now.draws line
-unchanged_line fonts size t before now line same is = record {
-  kind = Same;
-  box = None;
+-- what changes where draws are those before
+pub unchanged_found : (fonts : List FontValue) (size : Size) (before now : Plan) → IsChange Same before now → IsChangeFound fonts size before.draws now.draws (record { kind = Same; part = None })
+unchanged_found fonts size before now same = record {
   is_change = same;
   is_box = ap (λ (draws : List Draw). (picture fonts size draws).bytes) same;
-  value = is;
 }
 
--- the line on two pictures
-pub changed_line : (fonts : List FontValue) (size : Size) (t : ℕ) (before now : Plan) (kind : ChangeKind) (box : Option Changed) (a b line : List ℕ) → IsChange kind before now →
+-- what changes between two pictures
+pub changed_found : (fonts : List FontValue) (size : Size) (before now : Plan) (kind : ChangeKind) (box : Option Changed) (a b : List ℕ) → IsChange kind before now →
     a ≡ (picture fonts size before.draws).bytes → b ≡ (picture fonts size now.draws).bytes → (box ≡ None) ↔ (a ≡ b) → IfSome box (IsLeastChanged size a b) →
-    line ≡ change_line t kind box → IsChangeLine fonts size t before.draws now.draws line
-changed_line fonts size t before now kind box a b line differs old new none some is = record {
-  kind = kind;
-  box = box;
+    IsChangeFound fonts size before.draws now.draws (record { kind = kind; part = box })
+changed_found fonts size before now kind box a b differs old new none some = record {
   is_change = of_draws kind before now differs;
   is_box = subst (λ bytes. IsChangedBox size bytes (picture fonts size now.draws).bytes box) old (subst (λ bytes. IsChangedBox size a bytes box) new (boxed size a b box none some));
-  value = is;
 }
+
+-- the line on what changes
+pub found_line : (fonts : List FontValue) (size : Size) (t : ℕ) (before now : List Draw) (change : ScreenChange) (line : List ℕ) → IsChangeFound fonts size before now change →
+    line ≡ change_line t change.kind change.part → IsChangeLine fonts size t before now line
+found_line fonts size t before now change line found is = record { change = change; found = found; value = is }
 
 -- before the first instant there are no lines
 pub no_lines : (script : ScriptValue) (fonts : List FontValue) (events : List Event) (instants : Instants) (view : FrameView) (draws : List Draw) (text : List ℕ) →

@@ -1,5 +1,5 @@
 -- What the sinks were asked to put, from an outcome to the end of a run.
-use Rattle.std.proofs.Common.{◌≡◌, ◌⊎◌, ◌∙◌, inl, inr, ℕ, List, [], ◌∷◌, ◌++◌, Bool, true, false, cond, Option, Some, None, Result, Ok, Err, refl, sym, subst, string_bytes}
+use Rattle.std.proofs.Common.{◌≡◌, ◌⊎◌, inl, inr, ℕ, List, [], ◌∷◌, ◌++◌, Bool, true, false, cond, Option, Some, None, Result, Ok, Err, refl, sym, subst, string_bytes}
 use Rattle.run_status.specs.Statuses.{status_line}
 use Rattle.run_words.specs.declared.job.Job.{Job}
 use Rattle.run_words.specs.declared.job.Job.TheVariants as job

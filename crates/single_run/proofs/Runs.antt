@@ -29,14 +29,15 @@ use Rattle.run_status.specs.declared.status.Which.TheVariants.{Frames, Report}
 use Rattle.track_write.specs.declared.refusal.WriteRefusal.{WriteRefusal}
 use Rattle.track_write.specs.declared.refusal.WriteRefusal.TheVariants.{OutOfMemory, Unwritable}
 use Rattle.single_run.specs.Outcomes.{ArePiecesFinished, ArePiecesShown, ArePiecesTold, IsEnded, IsOrFault, IsOrMemory, SuitsSink, IsStatusReadCounted, IsMemoryReported, IsReportable, IsReported, IsShown, IsWriteCounted, out_of_memory, status_if_put, text_to_report}
-use Rattle.single_run.specs.Outputs.{ArePiecesOf, IsAnswerOf, IsFramesAsked, IsReportAsked, IsShownOf, SuitsTask, kept_view, rewritten, sink_of, status_asked, task_status, written_status}
+use Rattle.single_run.specs.Outputs.{AreKeptOf, ArePiecesOf, IsAnswerOf, IsFramesAsked, IsReportAsked, IsShownOf, SuitsTask, kept_view, rewritten, sink_of, status_asked, task_status, written_status}
 use Rattle.single_run.specs.StillOutputs.{SuitsStills}
-use Rattle.single_run.specs.Runs.{Decides, IsJobRun, IsWorked, SinkChange, sink_change}
+use Rattle.still_images.specs.Stills.{Still}
+use Rattle.single_run.specs.Runs.{Decides, IsJobRun, IsTaskDone, IsWorked, SinkChange, sink_change}
 use Rattle.single_run.specs.declared.outcome.Outcome.{Outcome}
 use Rattle.single_run.specs.declared.outcome.Outcome.TheVariants.{Ended, Found}
 use Rattle.single_run.proofs.Ends.{ended}
 use Rattle.single_run.proofs.PieceLemmas.{ended_told, pieces_after, stills_tellable, told_after}
-use Rattle.single_run.proofs.StillLemmas.{asked_after, either_after, held_after}
+use Rattle.single_run.proofs.StillLemmas.{either_after, held_after, kept_after}
 
 -- ---- what sinks got
 
@@ -247,19 +248,37 @@ suits_refusal (Changes changes) answer h = own_refusal Report answer h
 suits_refusal (Stills stills) answer h = stills_refusal answer h
 suits_refusal (Write write) answer h = own_refusal Frames answer h
 
-pieces_refused : (task : Task) (answer refusal : Status) (asked : List (List ℕ)) → IsRefusal answer → ArePiecesOf task (Err refusal) answer asked asked
-pieces_refused Check answer refusal asked h = nothing_put Report answer (IsFramesAsked Check (Err refusal)) asked h
-pieces_refused (Frame frame) answer refusal asked h = nothing_put Frames answer (IsFramesAsked (Frame frame) (Err refusal)) asked h
-pieces_refused (Changes changes) answer refusal asked h = nothing_put Report answer (IsFramesAsked (Changes changes) (Err refusal)) asked h
-pieces_refused (Stills stills) answer refusal asked h = refl
-pieces_refused (Write write) answer refusal asked h = nothing_put Frames answer (IsFramesAsked (Write write) (Err refusal)) asked h
+module _ (answer refusal : Status) where
+  none_kept : (task : Task) → AreKeptOf task (Err refusal) answer []
+  none_kept Check = refl
+  none_kept (Frame frame) = refl
+  none_kept (Changes changes) = refl
+  none_kept (Stills stills) = refl
+  none_kept (Write write) = refl
 
-shown_refused : (task : Task) (answer refusal : Status) (held : Option (List ℕ)) → IsShownOf task (Err refusal) answer held held
-shown_refused Check answer refusal held = shown_none answer held (IsFramesAsked Check (Err refusal)) refl
-shown_refused (Frame frame) answer refusal held = shown_none answer held (IsFramesAsked (Frame frame) (Err refusal)) refl
-shown_refused (Changes changes) answer refusal held = shown_none answer held (IsFramesAsked (Changes changes) (Err refusal)) refl
-shown_refused (Stills stills) answer refusal held = keeps held
-shown_refused (Write write) answer refusal held = shown_none answer held (IsFramesAsked (Write write) (Err refusal)) refl
+  pieces_refused : (task : Task) (asked : List (List ℕ)) → IsRefusal answer → ArePiecesOf task (Err refusal) [] answer asked asked
+  pieces_refused Check asked h = nothing_put Report answer (IsFramesAsked Check (Err refusal)) asked h
+  pieces_refused (Frame frame) asked h = nothing_put Frames answer (IsFramesAsked (Frame frame) (Err refusal)) asked h
+  pieces_refused (Changes changes) asked h = nothing_put Report answer (IsFramesAsked (Changes changes) (Err refusal)) asked h
+  pieces_refused (Stills stills) asked h = refl
+  pieces_refused (Write write) asked h = nothing_put Frames answer (IsFramesAsked (Write write) (Err refusal)) asked h
+
+  shown_refused : (task : Task) (held : Option (List ℕ)) → IsShownOf task (Err refusal) [] answer held held
+  shown_refused Check held = shown_none answer held (IsFramesAsked Check (Err refusal)) refl
+  shown_refused (Frame frame) held = shown_none answer held (IsFramesAsked (Frame frame) (Err refusal)) refl
+  shown_refused (Changes changes) held = shown_none answer held (IsFramesAsked (Changes changes) (Err refusal)) refl
+  shown_refused (Stills stills) held = keeps held
+  shown_refused (Write write) held = shown_none answer held (IsFramesAsked (Write write) (Err refusal)) refl
+
+  -- A task whose inputs are refused puts nothing.
+  refused_done : (task : Task) (state : SinkState) → IsRefusal answer → IsTaskDone task (Err refusal) (sink_change state state) (Ended answer)
+  refused_done task state h = record {
+    kept = [];
+    are_kept = none_kept task;
+    shown = shown_refused task state.held;
+    pieces = pieces_refused task state.asked h;
+    text = λ done. refl;
+  }
 
 -- A task for one sink answers so of that one, and one for both of either.
 pub answer_or : (task : Task) (wanted answer : Status) → IsOrMemory wanted answer → IsAnswerOf task wanted answer
@@ -285,9 +304,7 @@ refused_worked told log work answer state read fetched = record {
   read = read;
   fetched = fetched;
   answered = answer_or work.task answer answer (inl refl);
-  shown = shown_refused work.task answer answer state.held;
-  pieces = pieces_refused work.task answer answer state.asked (read_kind told work.script work.fonts answer read);
-  text = λ done. refl;
+  done = refused_done answer answer work.task state (read_kind told work.script work.fonts answer read);
   own = suits_refusal work.task answer (read_kind told work.script work.fonts answer read);
 }
 
@@ -299,9 +316,7 @@ memory_worked told log work state = elim (cases_lt 64 (length work.fonts)) [
     read = inr (many, refl);
     fetched = inr (many, refl, refl);
     answered = answer_or work.task (status.TooLarge Fonts 64) status.OutOfMemory (inr refl);
-    shown = shown_refused work.task status.OutOfMemory (status.TooLarge Fonts 64) state.held;
-    pieces = pieces_refused work.task status.OutOfMemory (status.TooLarge Fonts 64) state.asked tt;
-    text = λ done. refl;
+    done = refused_done status.OutOfMemory (status.TooLarge Fonts 64) work.task state tt;
     own = suits_refusal work.task status.OutOfMemory tt;
   }
   | inr few ↦ record {
@@ -309,9 +324,7 @@ memory_worked told log work state = elim (cases_lt 64 (length work.fonts)) [
     read = inl (few, inl tt);
     fetched = inl (few, nothing_fetched work.script work.fonts log);
     answered = answer_or work.task status.OutOfMemory status.OutOfMemory (inl refl);
-    shown = shown_refused work.task status.OutOfMemory status.OutOfMemory state.held;
-    pieces = pieces_refused work.task status.OutOfMemory status.OutOfMemory state.asked tt;
-    text = λ done. refl;
+    done = refused_done status.OutOfMemory status.OutOfMemory work.task state tt;
     own = suits_refusal work.task status.OutOfMemory tt;
   }
 ]
@@ -356,25 +369,32 @@ answer_of (Changes changes) wanted outcome answer own asked e = answered_after R
 answer_of (Stills stills) wanted outcome answer own asked e = either_after wanted outcome answer asked e
 answer_of (Write write) wanted outcome answer own asked e = answered_after Frames wanted outcome answer own asked e
 
-shown_of : (task : Task) (reading : Result Inputs Status) (outcome : Outcome) (answer : Status) (old new : Option (List ℕ)) → SuitsTask task outcome → IsEnded outcome answer →
-    IsShownOf task reading (status_if_put outcome) old new → IsShownOf task reading answer old new
-shown_of Check (Ok inputs) outcome answer old new own e h = shown_after Report (IsFramesAsked Check (Ok inputs)) outcome answer old new (λ is bytes none. none) own e h
-shown_of Check (Err refusal) outcome answer old new own e h = shown_after Report (IsFramesAsked Check (Err refusal)) outcome answer old new (λ is bytes none. none) own e h
-shown_of (Frame frame) reading outcome answer old new own e h = shown_after Frames (IsFramesAsked (Frame frame) reading) outcome answer old new (λ is bytes may. frames_alone is) own e h
-shown_of (Changes changes) (Ok inputs) outcome answer old new own e h = shown_after Report (IsFramesAsked (Changes changes) (Ok inputs)) outcome answer old new (λ is bytes none. none) own e h
-shown_of (Changes changes) (Err refusal) outcome answer old new own e h = shown_after Report (IsFramesAsked (Changes changes) (Err refusal)) outcome answer old new (λ is bytes none. none) own e h
-shown_of (Stills stills) (Ok inputs) outcome answer old new own e h = held_after (kept_view stills inputs) outcome answer old new e h
-shown_of (Stills stills) (Err refusal) outcome answer old new own e h = h
-shown_of (Write write) reading outcome answer old new own e h = shown_after Frames (IsFramesAsked (Write write) reading) outcome answer old new (λ is bytes may. frames_alone is) own e h
+module _ (kept : List Still) (outcome : Outcome) (answer : Status) (e : IsEnded outcome answer) where
+  kept_of : (task : Task) (reading : Result Inputs Status) → AreKeptOf task reading (status_if_put outcome) kept → AreKeptOf task reading answer kept
+  kept_of Check reading h = h
+  kept_of (Frame frame) reading h = h
+  kept_of (Changes changes) reading h = h
+  kept_of (Stills stills) (Ok inputs) h = kept_after (kept_view stills inputs) kept outcome answer e h
+  kept_of (Stills stills) (Err refusal) h = h
+  kept_of (Write write) reading h = h
 
-pieces_of : (task : Task) (reading : Result Inputs Status) (outcome : Outcome) (answer : Status) (old new : List (List ℕ)) → SuitsTask task outcome → IsEnded outcome answer →
-    ArePiecesOf task reading (status_if_put outcome) old new → ArePiecesOf task reading answer old new
-pieces_of Check reading outcome answer old new own e h = pieces_after (IsFramesAsked Check reading) old new Report outcome answer own e h
-pieces_of (Frame frame) reading outcome answer old new own e h = pieces_after (IsFramesAsked (Frame frame) reading) old new Frames outcome answer own e h
-pieces_of (Changes changes) reading outcome answer old new own e h = pieces_after (IsFramesAsked (Changes changes) reading) old new Report outcome answer own e h
-pieces_of (Stills stills) (Ok inputs) outcome answer old new own e h = asked_after (kept_view stills inputs) outcome answer old new e h
-pieces_of (Stills stills) (Err refusal) outcome answer old new own e h = h
-pieces_of (Write write) reading outcome answer old new own e h = pieces_after (IsFramesAsked (Write write) reading) old new Frames outcome answer own e h
+  shown_of : (task : Task) (reading : Result Inputs Status) (old new : Option (List ℕ)) → SuitsTask task outcome → IsShownOf task reading kept (status_if_put outcome) old new → IsShownOf task reading kept answer old new
+  shown_of Check (Ok inputs) old new own h = shown_after Report (IsFramesAsked Check (Ok inputs)) outcome answer old new (λ is bytes none. none) own e h
+  shown_of Check (Err refusal) old new own h = shown_after Report (IsFramesAsked Check (Err refusal)) outcome answer old new (λ is bytes none. none) own e h
+  shown_of (Frame frame) reading old new own h = shown_after Frames (IsFramesAsked (Frame frame) reading) outcome answer old new (λ is bytes may. frames_alone is) own e h
+  shown_of (Changes changes) (Ok inputs) old new own h = shown_after Report (IsFramesAsked (Changes changes) (Ok inputs)) outcome answer old new (λ is bytes none. none) own e h
+  shown_of (Changes changes) (Err refusal) old new own h = shown_after Report (IsFramesAsked (Changes changes) (Err refusal)) outcome answer old new (λ is bytes none. none) own e h
+  shown_of (Stills stills) (Ok inputs) old new own h = held_after (kept_view stills inputs) kept outcome answer e old new h
+  shown_of (Stills stills) (Err refusal) old new own h = h
+  shown_of (Write write) reading old new own h = shown_after Frames (IsFramesAsked (Write write) reading) outcome answer old new (λ is bytes may. frames_alone is) own e h
+
+  pieces_of : (task : Task) (reading : Result Inputs Status) (old new : List (List ℕ)) → SuitsTask task outcome → ArePiecesOf task reading kept (status_if_put outcome) old new → ArePiecesOf task reading kept answer old new
+  pieces_of Check reading old new own h = pieces_after (IsFramesAsked Check reading) old new Report outcome answer own e h
+  pieces_of (Frame frame) reading old new own h = pieces_after (IsFramesAsked (Frame frame) reading) old new Frames outcome answer own e h
+  pieces_of (Changes changes) reading old new own h = pieces_after (IsFramesAsked (Changes changes) reading) old new Report outcome answer own e h
+  pieces_of (Stills stills) (Ok inputs) old new own h = h
+  pieces_of (Stills stills) (Err refusal) old new own h = h
+  pieces_of (Write write) reading old new own h = pieces_after (IsFramesAsked (Write write) reading) old new Frames outcome answer own e h
 
 told_of : (task : Task) (may : List ℕ → Type 0) (old new : List (List ℕ)) (outcome : Outcome) (answer : Status) → (status_if_put outcome ≡ status.Done → may (text_to_report outcome)) → SuitsTask task outcome →
     IsEnded outcome answer → ArePiecesFinished outcome answer old new → ArePiecesTold (sink_of task) answer may old new
@@ -439,12 +459,14 @@ run_after told log work frames report outcome answer worked ended reported finis
   read = worked.read;
   fetched = worked.fetched;
   answered = answer_of work.task _ outcome answer worked.own worked.answered ended;
-  shown = shown_of work.task worked.reading outcome answer _ _ worked.own ended worked.shown;
-  pieces_shown = pieces_of work.task worked.reading outcome answer frames.before.asked frames.now.asked worked.own ended worked.pieces;
-  reported = reported_as answer _ _ _ _ (text_to_report outcome) (IsReportAsked work.task worked.reading)
-      (λ done. worked.text (done_before outcome answer ended done))
-      (λ fault. worked.text (found_of work.task outcome answer worked.own ended fault)) reported;
-  pieces_told = told_of work.task (IsReportAsked work.task worked.reading) report.before.asked report.now.asked outcome answer worked.text worked.own ended finished;
+  kept = worked.done.kept;
+  are_kept = kept_of worked.done.kept outcome answer ended work.task worked.reading worked.done.are_kept;
+  shown = shown_of worked.done.kept outcome answer ended work.task worked.reading _ _ worked.own worked.done.shown;
+  pieces_shown = pieces_of worked.done.kept outcome answer ended work.task worked.reading frames.before.asked frames.now.asked worked.own worked.done.pieces;
+  reported = reported_as answer _ _ _ _ (text_to_report outcome) (IsReportAsked work.task worked.reading worked.done.kept)
+      (λ done. worked.done.text (done_before outcome answer ended done))
+      (λ fault. worked.done.text (found_of work.task outcome answer worked.own ended fault)) reported;
+  pieces_told = told_of work.task (IsReportAsked work.task worked.reading worked.done.kept) report.before.asked report.now.asked outcome answer worked.done.text worked.own ended finished;
 }
 
 suits_reportable : (sink : Which) (outcome : Outcome) → SuitsSink sink outcome → IsReportable outcome

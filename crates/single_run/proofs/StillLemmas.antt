@@ -1,47 +1,67 @@
 -- A play of only what changes, from its images to the end of a run.
-use Rattle.std.proofs.Common.{◌≡◌, ◌⊎◌, ◌∙◌, inl, inr, ℕ, ◌≤◌, List, [], ◌++◌, Option, Result, Ok, Err, refl, sym, subst, append-nil, string_bytes, arith}
+use Rattle.std.proofs.Common.{◌≡◌, ◌⊎◌, inl, inr, ℕ, List, [], Option, Result, Ok, Err, refl, sym, subst, append-nil, string_bytes, arith}
 use Rattle.std.specs.Io.KnownBytes.{Appends}
 use Rattle.std.specs.Global.{Global}
 use Rattle.std.specs.declared.string.String.{String}
 use Rattle.ass_io.specs.Sinks.{SinkState}
 use Rattle.ass_io.specs.Written.{AppendsFront}
+use Rattle.run_status.specs.declared.inputs.Inputs.{Inputs}
 use Rattle.run_status.specs.declared.status.Status.{Status}
 use Rattle.run_status.specs.declared.status.Status.TheVariants as status
 use Rattle.run_status.specs.declared.status.Which.TheVariants.{Frames, Report}
-use Rattle.still_images.specs.Puts.{AreStillsShown}
+use Rattle.run_words.specs.declared.job.StillsJob.{StillsJob}
+use Rattle.still_images.specs.Puts.{AreStillsShown, IsShownInPart, IsShownWhole}
 use Rattle.still_images.specs.Stills.{AreFirstStills, AreStills, Still, StillsView}
 use Rattle.still_images.specs.declared.fault.StillsFault.{StillsFault}
 use Rattle.still_images.specs.declared.fault.StillsFault.TheVariants as fault
-use Rattle.single_run.specs.Outcomes.{IsEnded, IsOrFault, IsOrMemory, IsWriteCounted, status_if_put, text_to_report}
-use Rattle.single_run.specs.StillOutputs.{AreStillsAsked, AreStillsHeld, AsksAll, AsksPart, HoldsImages, HoldsPart, IsIndexOf, IsToldAs, SuitsStills, WholeOrPart, images_bytes}
+use Rattle.single_run.specs.Outcomes.{IsEnded, IsOrFault, IsWriteCounted, status_if_put}
+use Rattle.single_run.specs.Outputs.{kept_view}
+use Rattle.single_run.specs.Runs.{IsTaskDone, sink_change}
+use Rattle.single_run.specs.StillOutputs.{AreImagesHeld, AreStillsKept, IsToldAs, SuitsStills, WholeOrPart, images_bytes}
 use Rattle.single_run.specs.declared.outcome.Outcome.{Outcome}
 use Rattle.single_run.specs.declared.outcome.Outcome.TheVariants.{Ended, Found}
+use Rattle.single_run.specs.declared.work.Task.TheVariants.{Stills}
 use Rattle.single_run.proofs.Ends.{ended}
 
 -- ---- what came of the images
 
-module _ (view : StillsView) (outcome : Outcome) (old new : SinkState) where
-  pub held_of : (end : Result (String Global) StillsFault) → IsToldAs end outcome → AreStillsShown view end old new → AreStillsHeld view (status_if_put outcome) old.held new.held
-  held_of (Ok text) is h = subst (λ (o : Outcome). AreStillsHeld view (status_if_put o) old.held new.held) (sym is) (h.stills, h.are, h.got.held)
-  held_of (Err fault.WriteFault) is h = subst (λ (o : Outcome). AreStillsHeld view (status_if_put o) old.held new.held) (sym is) (h.stills, h.are, h.got.held)
-  held_of (Err fault.OutOfMemory) is h = subst (λ (o : Outcome). AreStillsHeld view (status_if_put o) old.held new.held) (sym is) (h.stills, h.are, h.got.held)
+module _ (stills : StillsJob) (inputs : Inputs) (old new : SinkState) where
+  abbrev IsDone : Outcome → Type 0
+  IsDone outcome = IsTaskDone (Stills stills) (Ok inputs) (sink_change old new) outcome
 
-  pub asked_of : (end : Result (String Global) StillsFault) → IsToldAs end outcome → AreStillsShown view end old new → AreStillsAsked view (status_if_put outcome) old.asked new.asked
-  asked_of (Ok text) is h = subst (λ (o : Outcome). AreStillsAsked view (status_if_put o) old.asked new.asked) (sym is) (h.stills, h.are, h.got.asked)
-  asked_of (Err fault.WriteFault) is h = subst (λ (o : Outcome). AreStillsAsked view (status_if_put o) old.asked new.asked) (sym is) (h.stills, h.are, h.got.asked)
-  asked_of (Err fault.OutOfMemory) is h = subst (λ (o : Outcome). AreStillsAsked view (status_if_put o) old.asked new.asked) (sym is) (h.stills, h.are, h.got.asked)
+  whole_done : (text : String Global) → IsShownWhole (kept_view stills inputs) (string_bytes text) old new → IsDone (Found text)
+  whole_done text h = record { kept = h.stills; are_kept = h.are; shown = h.got.held; pieces = h.got.asked; text = λ done. (h.are, h.value) }
 
-  pub counted_of : (end : Result (String Global) StillsFault) → IsToldAs end outcome → AreStillsShown view end old new → IsWriteCounted (status_if_put outcome) old.faults new.faults
-  counted_of (Ok text) is h = subst (λ (o : Outcome). IsWriteCounted (status_if_put o) old.faults new.faults) (sym is) h.got.faults
-  counted_of (Err fault.WriteFault) is h = subst (λ (o : Outcome). IsWriteCounted (status_if_put o) old.faults new.faults) (sym is) h.got.counted
-  counted_of (Err fault.OutOfMemory) is h =
-      let same : new.faults ≡ old.faults = h.got.counted in
-      subst (λ (o : Outcome). IsWriteCounted (status_if_put o) old.faults new.faults) (sym is) (omega (arith, same))
+  cut_done : IsShownInPart (kept_view stills inputs) fault.WriteFault old new → IsDone (Ended (status.WriteFault Frames))
+  cut_done h = record {
+    kept = h.stills;
+    are_kept = h.are;
+    shown = h.got.held;
+    pieces = h.got.asked;
+    text = λ done. let e : status.WriteFault Frames ≡ status.Done = done in absurd cc;
+  }
 
-  pub index_of : (end : Result (String Global) StillsFault) → IsToldAs end outcome → AreStillsShown view end old new → status_if_put outcome ≡ status.Done → IsIndexOf view (text_to_report outcome)
-  index_of (Ok text) is h done = subst (λ (o : Outcome). IsIndexOf view (text_to_report o)) (sym is) (h.stills, h.are, h.value)
-  index_of (Err fault.WriteFault) is h done = let e : status.WriteFault Frames ≡ status.Done = subst (λ (o : Outcome). status_if_put o ≡ status.Done) is done in absurd cc
-  index_of (Err fault.OutOfMemory) is h done = let e : status.OutOfMemory ≡ status.Done = subst (λ (o : Outcome). status_if_put o ≡ status.Done) is done in absurd cc
+  memory_done : IsShownInPart (kept_view stills inputs) fault.OutOfMemory old new → IsDone (Ended status.OutOfMemory)
+  memory_done h = record {
+    kept = h.stills;
+    are_kept = h.are;
+    shown = h.got.held;
+    pieces = h.got.asked;
+    text = λ done. let e : status.OutOfMemory ≡ status.Done = done in absurd cc;
+  }
+
+  pub stills_done : (end : Result (String Global) StillsFault) (outcome : Outcome) → IsToldAs end outcome → AreStillsShown (kept_view stills inputs) end old new → IsDone outcome
+  stills_done (Ok text) outcome is h = subst IsDone (sym is) (whole_done text h)
+  stills_done (Err fault.WriteFault) outcome is h = subst IsDone (sym is) (cut_done h)
+  stills_done (Err fault.OutOfMemory) outcome is h = subst IsDone (sym is) (memory_done h)
+
+pub counted_of : (view : StillsView) (old new : SinkState) (end : Result (String Global) StillsFault) (outcome : Outcome) → IsToldAs end outcome → AreStillsShown view end old new →
+    IsWriteCounted (status_if_put outcome) old.faults new.faults
+counted_of view old new (Ok text) outcome is h = subst (λ (o : Outcome). IsWriteCounted (status_if_put o) old.faults new.faults) (sym is) h.got.faults
+counted_of view old new (Err fault.WriteFault) outcome is h = subst (λ (o : Outcome). IsWriteCounted (status_if_put o) old.faults new.faults) (sym is) h.got.counted
+counted_of view old new (Err fault.OutOfMemory) outcome is h =
+    let same : new.faults ≡ old.faults = h.got.counted in
+    subst (λ (o : Outcome). IsWriteCounted (status_if_put o) old.faults new.faults) (sym is) (omega (arith, same))
 
 pub told_answer : (end : Result (String Global) StillsFault) (outcome : Outcome) → IsToldAs end outcome → IsOrFault Frames status.Done (status_if_put outcome)
 told_answer (Ok text) outcome is = subst (λ (o : Outcome). IsOrFault Frames status.Done (status_if_put o)) (sym is) (inl (inl refl))
@@ -78,26 +98,19 @@ module _ (whole part : Type 0) (begun : whole → part) where
   put_after (Found text) answer (inl (inr memory)) h = subst (λ s. WholeOrPart s whole part) (sym memory) (begun h)
   put_after (Found text) answer (inr fault) h = subst (λ s. WholeOrPart s whole part) (sym fault) h
 
-all_are_first : (view : StillsView) (stills : List Still) → AreStills view view.job.instants.count stills → AreFirstStills view stills
-all_are_first view stills are = (view.job.instants.count, omega arith, are)
+module _ (view : StillsView) (kept : List Still) (outcome : Outcome) (answer : Status) (e : IsEnded outcome answer) where
+  pub kept_after : AreStillsKept view (status_if_put outcome) kept → AreStillsKept view answer kept
+  kept_after h = put_after (AreStills view view.job.instants.count kept) (AreFirstStills view kept) (λ are. (view.job.instants.count, omega arith, are)) outcome answer e h
 
-held_begun : (view : StillsView) (old new : Option (List ℕ)) → HoldsImages view old new → HoldsPart view old new
-held_begun view old new (stills, are, h) = (stills, all_are_first view stills are, (images_bytes view stills, [], sym (append-nil (images_bytes view stills)), h))
-
-asked_begun : (view : StillsView) (old new : List (List ℕ)) → AsksAll view old new → AsksPart view old new
-asked_begun view old new (stills, are, h) = (stills, all_are_first view stills are, h)
-
-pub held_after : (view : StillsView) (outcome : Outcome) (answer : Status) (old new : Option (List ℕ)) → IsEnded outcome answer → AreStillsHeld view (status_if_put outcome) old new → AreStillsHeld view answer old new
-held_after view outcome answer old new e h = put_after (HoldsImages view old new) (HoldsPart view old new) (held_begun view old new) outcome answer e h
-
-pub asked_after : (view : StillsView) (outcome : Outcome) (answer : Status) (old new : List (List ℕ)) → IsEnded outcome answer → AreStillsAsked view (status_if_put outcome) old new → AreStillsAsked view answer old new
-asked_after view outcome answer old new e h = put_after (AsksAll view old new) (AsksPart view old new) (asked_begun view old new) outcome answer e h
+  pub held_after : (old new : Option (List ℕ)) → AreImagesHeld view (status_if_put outcome) kept old new → AreImagesHeld view answer kept old new
+  held_after old new h =
+      put_after (Appends old new (images_bytes view kept)) (AppendsFront old new (images_bytes view kept)) (λ all. (images_bytes view kept, [], sym (append-nil (images_bytes view kept)), all)) outcome answer e h
 
 -- the answers of both sinks
 abbrev IsEither : Status → Status → Type 0
 IsEither wanted answer = IsOrFault Frames wanted answer ⊎ IsOrFault Report wanted answer
 
-wanted_done : (wanted : Status) → IsEither wanted status.Done → wanted ≡ status.Done
+pub wanted_done : (wanted : Status) → IsEither wanted status.Done → wanted ≡ status.Done
 wanted_done wanted (inl (inl (inl is))) = sym is
 wanted_done wanted (inl (inl (inr memory))) = absurd cc
 wanted_done wanted (inl (inr (done, fault))) = done

@@ -5,7 +5,6 @@ use Rattle.ass_events.specs.declared.event.Event.{Event}
 use Rattle.ass_script.specs.Scripts.{ScriptValue}
 use Rattle.bdf_font.specs.Fonts.{FontValue}
 use Rattle.frame_change.specs.Changes.{IsChange, IsLeastChanged}
-use Rattle.frame_change.specs.declared.kinds.ChangeKind.{ChangeKind}
 use Rattle.frame_change.specs.declared.pixels.Changed.{Changed}
 use Rattle.mask_keys.specs.declared.plans.Draw.{Draw}
 use Rattle.mask_keys.specs.declared.plans.Plan.{Plan}
@@ -15,6 +14,7 @@ use Rattle.picture_plan.specs.Pictures.{AreDraws}
 use Rattle.ass_events.specs.ScriptEvents.{line_events}
 use Rattle.frame_rate.specs.Instants.{rated_instant}
 use Rattle.single_run.specs.Lines.{change_line}
+use Rattle.single_run.specs.declared.screen.ScreenChange.{ScreenChange}
 use Rattle.frame_rate.specs.declared.instants.Instants.{Instants}
 
 abbrev pub plan_of : List Draw → Plan
@@ -25,13 +25,16 @@ abbrev pub IsChangedBox : Size → List ℕ → List ℕ → Option Changed → 
 IsChangedBox size a b None = a ≡ b
 IsChangedBox size a b (Some box) = IsLeastChanged size a b box
 
--- The line tells how draws differ from those before, and where their pictures do.
+-- How draws differ from those before, and where their pictures do.
+pub record IsChangeFound (fonts : List FontValue) (size : Size) (before now : List Draw) (change : ScreenChange) : Type 0 where
+  pub is_change : IsChange change.kind (plan_of before) (plan_of now)
+  pub is_box : IsChangedBox size (picture fonts size before).bytes (picture fonts size now).bytes change.part
+
+-- The line on the instant t tells what changed.
 pub record IsChangeLine (fonts : List FontValue) (size : Size) (t : ℕ) (before now : List Draw) (line : List ℕ) : Type 0 where
-  pub kind : ChangeKind
-  pub box : Option Changed
-  pub is_change : IsChange kind (plan_of before) (plan_of now)
-  pub is_box : IsChangedBox size (picture fonts size before).bytes (picture fonts size now).bytes box
-  pub value : line ≡ change_line t kind box
+  pub change : ScreenChange
+  pub found : IsChangeFound fonts size before now change
+  pub value : line ≡ change_line t change.kind change.part
 
 -- The text is the lines on the first instants, the last of which has these draws. The first of them is compared with no draws, which leave the frame black.
 pub data AreChangeLines (script : ScriptValue) (fonts : List FontValue) (events : List Event) (instants : Instants) (view : FrameView) : ℕ → List Draw → List ℕ → Type 0 where

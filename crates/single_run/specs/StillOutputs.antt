@@ -1,5 +1,5 @@
 -- Public: what a play of only what changes puts to the frames sink at each status, and its index.
-use Rattle.std.specs.Prelude.{◌≡◌, ℕ, List, ◌++◌, Option, Result, Ok, Err}
+use Rattle.std.specs.Prelude.{◌≡◌, ℕ, List, Option, Result, Ok, Err}
 use Rattle.std.specs.Io.KnownBytes.{Appends}
 use Rattle.std.specs.List.{flat_map}
 use Rattle.std.specs.Global.{Global}
@@ -16,7 +16,7 @@ use Rattle.single_run.specs.declared.outcome.Outcome.TheVariants.{Ended, Found}
 
 -- the bytes of the images
 abbrev pub images_bytes : StillsView → List Still → List ℕ
-images_bytes view stills = flat_map (λ image. image) (still_images view stills)
+images_bytes view kept = flat_map (λ image. image) (still_images view kept)
 
 -- At a status all was put, also where the report failed, or a part.
 abbrev pub WholeOrPart : Status → Type 0 → Type 0 → Type 0
@@ -26,28 +26,17 @@ WholeOrPart (WriteFault Frames) whole part = part
 WholeOrPart OutOfMemory whole part = part
 WholeOrPart _ whole part = ⊥
 
-abbrev pub HoldsImages : StillsView → Option (List ℕ) → Option (List ℕ) → Type 0
-HoldsImages view old new = (stills : List Still) × AreStills view view.job.instants.count stills × Appends old new (images_bytes view stills)
+-- These pictures are kept: those of all instants, or of the first.
+abbrev pub AreStillsKept : StillsView → Status → List Still → Type 0
+AreStillsKept view status kept = WholeOrPart status (AreStills view view.job.instants.count kept) (AreFirstStills view kept)
 
-abbrev pub HoldsPart : StillsView → Option (List ℕ) → Option (List ℕ) → Type 0
-HoldsPart view old new = (stills : List Still) × AreFirstStills view stills × AppendsFront old new (images_bytes view stills)
+-- What the frames sink got: their images, or a prefix of them.
+abbrev pub AreImagesHeld : StillsView → Status → List Still → Option (List ℕ) → Option (List ℕ) → Type 0
+AreImagesHeld view status kept old new = WholeOrPart status (Appends old new (images_bytes view kept)) (AppendsFront old new (images_bytes view kept))
 
--- What the frames sink got: all images, or a prefix of the first.
-abbrev pub AreStillsHeld : StillsView → Status → Option (List ℕ) → Option (List ℕ) → Type 0
-AreStillsHeld view status old new = WholeOrPart status (HoldsImages view old new) (HoldsPart view old new)
-
-abbrev pub AsksAll : StillsView → List (List ℕ) → List (List ℕ) → Type 0
-AsksAll view old new = (stills : List Still) × AreStills view view.job.instants.count stills × (new ≡ old ++ still_images view stills)
-
-abbrev pub AsksPart : StillsView → List (List ℕ) → List (List ℕ) → Type 0
-AsksPart view old new = (stills : List Still) × AreFirstStills view stills × (new ≡ old ++ still_images view stills)
-
--- The pieces that it was asked to put: an image each.
-abbrev pub AreStillsAsked : StillsView → Status → List (List ℕ) → List (List ℕ) → Type 0
-AreStillsAsked view status old new = WholeOrPart status (AsksAll view old new) (AsksPart view old new)
-
-abbrev pub IsIndexOf : StillsView → List ℕ → Type 0
-IsIndexOf view text = (stills : List Still) × AreStills view view.job.instants.count stills × (text ≡ index_text view stills)
+-- The text is the index of them, where they are those of all instants.
+abbrev pub IsIndexOf : StillsView → List Still → List ℕ → Type 0
+IsIndexOf view kept text = AreStills view view.job.instants.count kept × (text ≡ index_text view kept)
 
 -- It has found an index where it was done whole, and hasn't failed at the report.
 abbrev pub SuitsStills : Outcome → Type 0

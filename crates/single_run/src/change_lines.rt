@@ -8,7 +8,7 @@ use frame_change::{ChangeKind, Changed};
 use std::alloc::Global;
 
 /// The number of a change, as `detect_change` of `ass_render_frame` has it (libass `ass.h`).
-fn kind_number(kind: ChangeKind) -> u8
+pub fn kind_number(kind: ChangeKind) -> u8
     ensures { result ≡ kind_number kind }
 {
     match kind {

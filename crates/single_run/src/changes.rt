@@ -5,10 +5,9 @@ ghost use Rattle.ass_script.specs.Ranges.{IsScript};
 ghost use Rattle.run_status.specs.declared.status.Status.TheVariants.{Done as done_status};
 ghost use Rattle.ass_events.specs.LineLaws.{HasShortLines};
 ghost use Rattle.text_layout.specs.Fonts.{IsLayoutFontSet};
+ghost use Rattle.single_run.specs.ChangeReports.{IsChangesReport};
 ghost use Rattle.single_run.specs.Outcomes.{IsOrFault, SuitsSink, status_if_put, text_to_report};
-ghost use Rattle.single_run.specs.Outputs.{IsReportOf};
 ghost use Rattle.run_words.specs.Jobs.{IsChangesJob};
-ghost use Rattle.single_run.specs.declared.work.Task.TheVariants.{Changes};
 
 use crate::changes_report;
 use crate::outcome::Outcome;
@@ -24,7 +23,8 @@ pub fn compare(alloc: Global, changes: &ChangesJob, inputs: Inputs) -> Outcome
     requires short { HasShortLines inputs.script }
     requires fonts { IsLayoutFontSet inputs.fonts }
     ensures answered { IsOrFault Which.Report done_status (status_if_put result) }
-    ensures text { status_if_put result ≡ done_status → IsReportOf (Changes changes.now) inputs (text_to_report result) }
+    ensures text { status_if_put result ≡ done_status → IsChangesReport inputs.script inputs.fonts changes.now.instants changes.now.view
+        (text_to_report result) }
     ensures own { SuitsSink Which.Report result }
     ensures memory { status_if_put result ≢ done_status → result ≡ Outcome.Ended Status.OutOfMemory }
 {

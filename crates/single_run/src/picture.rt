@@ -1,6 +1,6 @@
 //! The image of a picture.
 
-ghost use Rattle.std.specs.Prelude.{◌≡◌, ◌≢◌, IfOk};
+ghost use Rattle.std.specs.Prelude.{◌≢◌, IfOk};
 ghost use Rattle.ass_events.specs.LineLaws.{HasShortLines};
 ghost use Rattle.ass_script.specs.Ranges.{IsScript};
 ghost use Rattle.frame_images.specs.FrameImages.{IsFormattedImage};

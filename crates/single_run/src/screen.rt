@@ -6,12 +6,12 @@ ghost use Rattle.blend.specs.Canvases.{black};
 ghost use Rattle.mask_keys.specs.Keys.{IsValidPlan};
 ghost use Rattle.mask_keys.specs.Outlines.{glyph_counts};
 ghost use Rattle.mask_keys.specs.Pictures.{picture};
-ghost use Rattle.single_run.specs.ChangeReports.{IsChangeLine};
+ghost use Rattle.single_run.specs.ChangeReports.{IsChangeFound, IsChangeLine};
 
 use crate::change_lines::change_line;
 use ass_num::{Items, Mem, Size};
 use blend::Canvas;
-use frame_change::{ChangeKind, change, changed_box};
+use frame_change::{ChangeKind, Changed, change, changed_box};
 use local_caches::LocalCaches;
 use mask_keys::Plan;
 use std::alloc::Global;
@@ -50,8 +50,42 @@ fn painted(alloc: Global, local: &mut LocalCaches, plan: &Plan, size: &Size) -> 
     Ok(canvas)
 }
 
+/// How draws differ from those before, and the least box of the pixels that do.
+#[derive(Clone, Copy, Debug)]
+pub struct ScreenChange {
+    pub kind: ChangeKind,
+    pub part: Option<Changed>,
+}
+
+/// Shows a plan, and finds what changed by that.
+#[tactic(auto, using(crate::proofs::LineLemmas::changed_found, crate::proofs::LineLemmas::unchanged_found, crate::proofs::ChangePictures::picture_bytes))]
+pub fn find_change(
+    alloc: Global,
+    local: &mut LocalCaches,
+    size: &Size,
+    plan: Plan,
+    screen: &mut Screen,
+) -> Mem<ScreenChange>
+    requires size { IsFrameSize size.now }
+    requires plan { IsValidPlan (glyph_counts local.old.fonts) plan.draws }
+    requires screen { screen.old.canvas ≡ picture local.old.fonts size.now screen.old.plan.draws }
+    ensures fonts { local.new.fonts ≡ local.old.fonts }
+    ensures draws { OnOk result (screen.new.plan.draws ≡ plan.draws) }
+    ensures picture { OnOk result (screen.new.canvas ≡ picture local.old.fonts size.now screen.new.plan.draws) }
+    ensures change { IfOk result (λ change. IsChangeFound local.old.fonts size.now screen.old.plan.draws plan.draws change) }
+{
+    let kind = change(&screen.plan, &plan);
+    if kind == ChangeKind::Same {
+        return Ok(ScreenChange { kind, part: None });
+    }
+    let canvas = painted(alloc, local, &plan, size)?;
+    let part = changed_box(size, screen.canvas.pixels(), canvas.pixels());
+    *screen = Screen { plan, canvas };
+    Ok(ScreenChange { kind, part })
+}
+
 /// Shows a plan from the instant `t` on, and tells in a line what changed by that.
-#[tactic(auto, using(crate::proofs::LineLemmas::changed_line, crate::proofs::LineLemmas::unchanged_line, crate::proofs::ChangePictures::picture_bytes))]
+#[tactic(auto, using(crate::proofs::LineLemmas::found_line))]
 pub fn show(
     alloc: Global,
     local: &mut LocalCaches,
@@ -68,12 +102,6 @@ pub fn show(
     ensures picture { OnOk result (screen.new.canvas ≡ picture local.old.fonts size.now screen.new.plan.draws) }
     ensures line { IfOk result (λ line. IsChangeLine local.old.fonts size.now t screen.old.plan.draws plan.draws (string_bytes line)) }
 {
-    let kind = change(&screen.plan, &plan);
-    if kind == ChangeKind::Same {
-        return change_line(alloc, t, kind, None);
-    }
-    let canvas = painted(alloc, local, &plan, size)?;
-    let changed = changed_box(size, screen.canvas.pixels(), canvas.pixels());
-    *screen = Screen { plan, canvas };
-    change_line(alloc, t, kind, changed)
+    let change = find_change(alloc, local, size, plan, screen)?;
+    change_line(alloc, t, change.kind, change.part)
 }

@@ -1,14 +1,15 @@
 //! Only what changes.
 
-ghost use Rattle.std.specs.Prelude.{◌≡◌};
+ghost use Rattle.std.specs.Prelude.{Ok};
 ghost use Rattle.ass_events.specs.LineLaws.{HasShortLines};
 ghost use Rattle.ass_script.specs.Ranges.{IsScript};
 ghost use Rattle.text_layout.specs.Fonts.{IsLayoutFontSet};
 ghost use Rattle.run_words.specs.Jobs.{IsStills};
 ghost use Rattle.run_status.specs.declared.status.Status.TheVariants.{Done as done_status};
-ghost use Rattle.still_images.specs.Stills.{stills_view};
-ghost use Rattle.single_run.specs.Outcomes.{IsOrFault, IsWriteCounted, status_if_put, text_to_report};
-ghost use Rattle.single_run.specs.StillOutputs.{AreStillsAsked, AreStillsHeld, IsIndexOf, IsToldAs, SuitsStills};
+ghost use Rattle.single_run.specs.Outcomes.{IsOrFault, IsWriteCounted, status_if_put};
+ghost use Rattle.single_run.specs.Runs.{IsTaskDone, sink_change};
+ghost use Rattle.single_run.specs.StillOutputs.{IsToldAs, SuitsStills};
+ghost use Rattle.single_run.specs.declared.work.Task.TheVariants.{Stills};
 
 use crate::outcome::Outcome;
 use ass_io::Sink;
@@ -35,10 +36,8 @@ pub fn keep<F: Sink>(alloc: Global, stills: &StillsJob, inputs: Inputs, frames: 
     requires short { HasShortLines inputs.script }
     requires fonts { IsLayoutFontSet inputs.fonts }
     ensures answered { IsOrFault Which.Frames done_status (status_if_put result) }
-    ensures held { AreStillsHeld (stills_view stills.now inputs.script inputs.fonts) (status_if_put result) (F.state frames.old).held (F.state frames.new).held }
-    ensures asked { AreStillsAsked (stills_view stills.now inputs.script inputs.fonts) (status_if_put result) (F.state frames.old).asked (F.state frames.new).asked }
+    ensures done { IsTaskDone (Stills stills.now) (Ok inputs) (sink_change (F.state frames.old) (F.state frames.new)) result }
     ensures counted { IsWriteCounted (status_if_put result) (F.state frames.old).faults (F.state frames.new).faults }
-    ensures text { status_if_put result ≡ done_status → IsIndexOf (stills_view stills.now inputs.script inputs.fonts) (text_to_report result) }
     ensures own { SuitsStills result }
 {
     let Inputs { script, fonts } = inputs;

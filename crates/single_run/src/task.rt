@@ -1,13 +1,14 @@
 //! A task, up to what is to be reported of it.
 
-ghost use Rattle.std.specs.Prelude.{◌≡◌, ◌≢◌, Ok, string_bytes};
+ghost use Rattle.std.specs.Prelude.{◌≡◌, ◌≢◌, Ok};
 ghost use Rattle.ass_io.specs.Fetches.{fetch_change};
 ghost use Rattle.ass_script.specs.Ranges.{IsScript};
 ghost use Rattle.single_run.specs.Outcomes.{IsOrFault, IsStatusReadCounted, IsWriteCounted, SuitsSink, status_if_put};
 ghost use Rattle.single_run.specs.Outcomes.{text_to_report};
-ghost use Rattle.single_run.specs.Outputs.{ArePiecesOf, IsAnswerOf, IsReportOf, IsShownOf, SuitsTask, task_status};
-ghost use Rattle.single_run.specs.Runs.{IsWorked, sink_change};
-ghost use Rattle.single_run.specs.Works.{AreInputsOf, IsTaskIn, IsWork};
+ghost use Rattle.single_run.specs.CheckReports.{check_text};
+ghost use Rattle.single_run.specs.Outputs.{IsAnswerOf, SuitsTask, task_status};
+ghost use Rattle.single_run.specs.Runs.{IsTaskDone, IsWorked, sink_change};
+ghost use Rattle.single_run.specs.Works.{AreInputsOf, IsWork};
 ghost use Rattle.run_status.specs.declared.status.Status.TheVariants.{Done as done_status};
 
 use crate::changes::compare;
@@ -27,7 +28,7 @@ use std::alloc::Global;
 fn check(alloc: Global, inputs: &Inputs) -> Outcome
     requires { IsScript inputs.now.script }
     ensures answered { IsOrFault Which.Report done_status (status_if_put result) }
-    ensures text { status_if_put result ≡ done_status → IsReportOf Task.Check inputs.now (text_to_report result) }
+    ensures text { status_if_put result ≡ done_status → text_to_report result ≡ check_text inputs.now.script inputs.now.fonts }
     ensures own { SuitsSink Which.Report result }
     ensures memory { status_if_put result ≢ done_status → result ≡ Outcome.Ended Status.OutOfMemory }
 {
@@ -42,10 +43,8 @@ fn do_task<F: Sink>(alloc: Global, task: &Task, inputs: Inputs, frames: &mut F) 
     requires script { IsScript inputs.script }
     requires inputs { AreInputsOf task.now inputs }
     ensures answered { IsAnswerOf task.now (task_status task.now inputs) (status_if_put result) }
-    ensures shown { IsShownOf task.now (Ok inputs) (status_if_put result) (F.state frames.old).held (F.state frames.new).held }
-    ensures pieces { ArePiecesOf task.now (Ok inputs) (status_if_put result) (F.state frames.old).asked (F.state frames.new).asked }
+    ensures done { IsTaskDone task.now (Ok inputs) (sink_change (F.state frames.old) (F.state frames.new)) result }
     ensures counted { IsWriteCounted (status_if_put result) (F.state frames.old).faults (F.state frames.new).faults }
-    ensures text { status_if_put result ≡ done_status → IsReportOf task.now inputs (text_to_report result) }
     ensures own { SuitsTask task.now result }
 {
     match task {

@@ -1,7 +1,7 @@
 //! The work that words ask for.
 
-ghost use Rattle.std.specs.Prelude.{◌≡◌, IfOk, IfSome, Ok};
-ghost use Rattle.single_run.specs.Works.{IsWork, IsWorkRead, compared, limited, task_in, work_asked, work_in, work_of};
+ghost use Rattle.std.specs.Prelude.{◌≡◌, IfOk, IfSome, Ok, option_map};
+ghost use Rattle.single_run.specs.Works.{IsWork, IsWorkRead, compared, limited, task_in, work_asked, work_in, work_of, work_with};
 ghost use Rattle.run_words.specs.Jobs.{IsJob};
 ghost use Rattle.run_words.specs.Words.{texts};
 
@@ -55,6 +55,18 @@ fn task_in(task: Task, fonts: &[Text]) -> Option<Task>
     }
 }
 
+/// The work of such a task.
+fn work_in_fonts(task: Task, script: ScriptSource, fonts: Items<Text>) -> Option<Work>
+    ensures { result ≡ option_map (work_with script fonts) (task_in task fonts) }
+{
+    let task = task_in(task, fonts.as_slice())?;
+    Some(Work {
+        task,
+        script,
+        fonts,
+    })
+}
+
 /// The work of a job that waits for nobody, where words can ask for it.
 pub fn work_of(alloc: Global, job: Job) -> Option<Work>
     ensures { result ≡ work_of job }
@@ -65,14 +77,11 @@ pub fn work_of(alloc: Global, job: Job) -> Option<Work>
             script,
             fonts,
         }),
-        Job::Frame(frame, script, fonts) => {
-            let task = task_in(Task::Frame(frame), fonts.as_slice())?;
-            Some(Work {
-                task,
-                script,
-                fonts,
-            })
+        Job::Frame(frame, script, fonts) => work_in_fonts(Task::Frame(frame), script, fonts),
+        Job::Changes(changes, script, fonts) => {
+            work_in_fonts(Task::Changes(changes), script, fonts)
         }
+        Job::Stills(stills, script, fonts) => work_in_fonts(Task::Stills(stills), script, fonts),
         Job::Write(later, earlier, script) => Some(Work {
             task: Task::Write(WriteTask { later, earlier }),
             script: ScriptSource {
@@ -81,22 +90,6 @@ pub fn work_of(alloc: Global, job: Job) -> Option<Work>
             },
             fonts: Items::new(alloc),
         }),
-        Job::Changes(changes, script, fonts) => {
-            let task = task_in(Task::Changes(changes), fonts.as_slice())?;
-            Some(Work {
-                task,
-                script,
-                fonts,
-            })
-        }
-        Job::Stills(stills, script, fonts) => {
-            let task = task_in(Task::Stills(stills), fonts.as_slice())?;
-            Some(Work {
-                task,
-                script,
-                fonts,
-            })
-        }
         Job::Play(_, _, _) | Job::Selftest(_, _, _) => None,
         Job::Help | Job::Version => None,
     }
@@ -128,7 +121,7 @@ fn limited(work: Work) -> Result<Option<Work>, Status>
 
 /// The work of a job, none where threads wait for one another in it or it is no work, or the status that it asks for.
 #[tactic(auto, using(crate::proofs::WorkLemmas::work_suits))]
-fn work_in(alloc: Global, job: Job) -> Result<Option<Work>, Status>
+pub fn work_in(alloc: Global, job: Job) -> Result<Option<Work>, Status>
     requires { IsJob job }
     ensures asked { result ≡ work_in (Ok job) }
     ensures work { IfOk result (λ work. IfSome work IsWork) }

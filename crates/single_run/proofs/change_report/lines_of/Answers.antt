@@ -1,4 +1,4 @@
-use Rattle.std.proofs.Common.{◌≡◌, ◌∙◌, map, pos, string_bytes, subst, arith, rules}
+use Rattle.std.proofs.Common.{◌≡◌, ◌∙◌, map, string_bytes, subst, arith, rules}
 use Rattle.std.specs.Arc.{arc_value}
 use Rattle.single_run.specs.ChangeReports.{AreChangeLines}
 use Rattle.single_run.proofs.ChangePictures.{blank_picture}

@@ -1,7 +1,8 @@
-use Rattle.std.proofs.Common.{◌∙◌, Err, ap, sym}
+use Rattle.std.proofs.Common.{◌∙◌, Err, ap}
 use Rattle.run_words.specs.Words.{job_of, texts}
 use Rattle.single_run.proofs.PieceLemmas.{not_done, other_pieces_after}
 use Rattle.single_run.proofs.Runs.{decides, other_reported, read_after, run_after, written_after}
+use Rattle.single_run.specs.Runs.{sink_change}
 use Rattle.single_run.proofs.play.calm.Goals as goal
 
 pub returns-in-Some-clause-other_report : goal.returns-in-Some-clause-other_report
@@ -14,7 +15,8 @@ returns-in-Some-clause-run g c = λ work asked.
 
 pub returns-in-Some-clause-decided : goal.returns-in-Some-clause-decided
 returns-in-Some-clause-decided g c = λ work asked stays shows reports.
-    let run = run_after _ _ work _ _ c.in-Some.outcome c.finish.result (c.in-Some.ensures.run work asked) c.finish.ensures.answer c.finish.ensures.report c.finish.ensures.pieces in
+    let report = sink_change (g.R.Sink.state c.args.report.now) (g.R.Sink.state c.finish.new.report) in
+    let run = run_after _ _ work _ report c.in-Some.outcome c.finish.result (c.in-Some.ensures.run work asked) c.finish.ensures.answer c.finish.ensures.report c.finish.ensures.pieces in
     decides c.files_decide.ensures.one _ _ work _ _ _ _ c.finish.result run
     (read_after c.in-Some.outcome c.finish.result _ _ c.finish.ensures.answer c.in-Some.ensures.read)
     (written_after c.in-Some.outcome c.finish.result _ _ c.finish.ensures.answer c.in-Some.ensures.write)

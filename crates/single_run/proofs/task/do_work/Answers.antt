@@ -36,9 +36,7 @@ returns-in-Ok-clause-run g c =
       read = subst (λ fonts. AreRead told c.args.work.now.script fonts (Ok c.in-Ok.inputs)) c.as_slice.ensures c.in-Ok.ensures.read;
       fetched = subst (λ fonts. AreFetched c.args.work.now.script fonts log (Ok c.in-Ok.inputs)) c.as_slice.ensures c.in-Ok.ensures.fetched;
       answered = c.do_task.ensures.answered;
-      shown = c.do_task.ensures.shown;
-      pieces = c.do_task.ensures.pieces;
-      text = c.do_task.ensures.text;
+      done = c.do_task.ensures.done;
       own = c.do_task.ensures.own;
     }
 
