@@ -33,6 +33,7 @@ use Rattle.run_status.specs.declared.status.Status.{Status}
 use Rattle.run_status.specs.declared.status.Status.TheVariants as status
 use Rattle.run_status.specs.declared.status.What.TheVariants.{Fonts, Frames as images}
 use Rattle.run_status.specs.declared.status.Which.TheVariants.{Frames, Report}
+use Rattle.play_report.specs.Reports.{summary_text}
 use Rattle.play_command.proofs.SelftestLemmas.{wanting}
 use Rattle.play_command.proofs.TextLemmas.{text_wanting}
 use Rattle.play_command.specs.PlayRuns.{AreFetchedUnless, AreReadUnless, DecidesPlay, IsPlayAsked, IsPlayOutput, IsPlayPut, IsPlayRun, IsPlayText, play_refusal, status_read, view_of}
@@ -224,7 +225,7 @@ pub job_wanting : (told : List ℕ → Told) (log : List LoggedFetch) (job : Job
 job_wanting told log (Play play script fonts) state left =
     let reading = unread (play_refusal play fonts) told log script fonts in
     record { reading = Err reading.0; read = reading.1; fetched = reading.2; shown = (inr refl, keeps state.held, refl) }
-job_wanting told log (Selftest seed events workers) state left = wanting seed events (Err status.OutOfMemory) (inr refl)
+job_wanting told log (Selftest seed events workers) state left = wanting summary_text seed events (Err status.OutOfMemory) (inr refl)
 job_wanting told log (Check script fonts) state left = absurd left
 job_wanting told log (Frame frame script fonts) state left = absurd left
 job_wanting told log (Changes changes script fonts) state left = absurd left

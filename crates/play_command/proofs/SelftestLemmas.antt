@@ -29,7 +29,6 @@ use Rattle.play_model.proofs.FeedLaws.{IsChunk, all_chunks}
 use Rattle.play_model.proofs.Labels.{IsInterleaving_all}
 use Rattle.play_model.proofs.TimeLaws.{settled_image}
 use Rattle.play_report.specs.Digests.{digest_after}
-use Rattle.play_report.specs.Reports.{summary_text}
 use Rattle.play_report.specs.declared.report.PlayReport.{PlayReport}
 use Rattle.play_rounds.specs.Outputs.{IsPlayed, IsWholePlay}
 use Rattle.play_rounds.specs.declared.ends.PlayEnd.{PlayEnd}
@@ -47,12 +46,12 @@ use Rattle.ass_events.specs.ScriptEvents.{line_events}
 use Rattle.text_layout.specs.Fonts.{IsLayoutFontSet}
 use Rattle.track_history.specs.Answers.{read_orders}
 use Rattle.play_command.specs.PlayRuns.{status_read, view_of}
-use Rattle.play_command.specs.SelftestRuns.{IsSelftestRead, IsSelftestText, accepted_first, first_of_times, image_count, selftest_fonts, selftest_job, selftest_play}
+use Rattle.play_command.specs.SelftestRuns.{IsSelftestRead, IsSelftestTextBy, SummaryText, accepted_first, first_of_times, image_count, selftest_fonts, selftest_job, selftest_play}
 use Rattle.ass_num.specs.Limits.{max_instant}
 use Rattle.frame_rate.specs.Rates.{frames_before, step_rate}
 use Rattle.frame_rate.proofs.RateLemmas.{counted_frames_come_before, steps_are_rates}
 use Rattle.run_words.specs.Limits.{max_events}
-use Rattle.play_command.specs.Working.{AreSelftestInputs, IsSelftestWorked, IsSpoken, IsSummedOf}
+use Rattle.play_command.specs.Working.{AreSelftestInputs, IsSelftestWorkedBy, IsSpoken, IsSummedBy}
 
 -- ---- how much is played
 
@@ -131,7 +130,7 @@ module _ (play : PlayView) (some : 0 < play.job.feeders) where
 
 -- ---- the report
 
-module _ (script : ScriptValue) (seed events workers : ℕ) (bytes : List ℕ) (report : PlayReport)
+module _ (write : SummaryText) (script : ScriptValue) (seed events workers : ℕ) (bytes : List ℕ) (report : PlayReport)
     (playable : IsPlayable (selftest_play script events workers)) (some : 0 < events) (whole : IsWholePlay (selftest_play script events workers) bytes report) where
   abbrev play : PlayView
   play = selftest_play script events workers
@@ -155,16 +154,16 @@ module _ (script : ScriptValue) (seed events workers : ℕ) (bytes : List ℕ) (
       ∙ times_accepted play (let least = playable.job.feeders.0 in omega arith) whole.times whole.shown.as_many whole.shown.each
 
   -- The summary of a whole play is the report.
-  pub summary : (text : List ℕ) → text ≡ summary_text seed events (length (accepted_first report)) report.frames (digest_after 0 bytes) → IsSelftestText script seed events text
+  pub summary : (text : List ℕ) → text ≡ write seed events (length (accepted_first report)) report.frames (digest_after 0 bytes) → IsSelftestTextBy write script seed events text
   summary text is = record {
     sound = playable.script;
     pieces = whole.shown.images;
     many = all_images;
     each = image_at;
     value = is
-        ∙ ap (λ n. summary_text seed events n report.frames (digest_after 0 bytes)) accepted_are
-        ∙ ap (λ n. summary_text seed events (length (line_events script)) n (digest_after 0 bytes)) frames_are
-        ∙ ap (λ b. summary_text seed events (length (line_events script)) image_count (digest_after 0 b)) whole.shown.value;
+        ∙ ap (λ n. write seed events n report.frames (digest_after 0 bytes)) accepted_are
+        ∙ ap (λ n. write seed events (length (line_events script)) n (digest_after 0 bytes)) frames_are
+        ∙ ap (λ b. write seed events (length (line_events script)) image_count (digest_after 0 b)) whole.shown.value;
   }
 
 -- ---- its end
@@ -173,27 +172,27 @@ module _ (script : ScriptValue) (seed events workers : ℕ) (bytes : List ℕ) (
 pub held_all : (before after bytes : List ℕ) → before ≡ [] → Appends (Some before) (Some after) bytes → after ≡ bytes
 held_all before after bytes none h = h ∙ ap (λ b. b ++ bytes) none
 
-worked : (seed events : ℕ) (script : ScriptValue) (text : String Global) → IsSelftestRead seed events (Ok script) → IsSelftestText script seed events (string_bytes text) →
-    IsSelftestWorked seed events (Found text)
-worked seed events script text read said = record { reading = Ok script; read = read; answered = inl (inl refl); text = λ done. said; own = tt }
+worked : (write : SummaryText) (seed events : ℕ) (script : ScriptValue) (text : String Global) → IsSelftestRead seed events (Ok script) → IsSelftestTextBy write script seed events (string_bytes text) →
+    IsSelftestWorkedBy write seed events (Found text)
+worked write seed events script text read said = record { reading = Ok script; read = read; answered = inl (inl refl); text = λ done. said; own = tt }
 
 -- A selftest whose play was whole.
-done : (seed events workers : ℕ) (inputs : Inputs) (job : PlayJob) (old new : SinkState) (before after : List ℕ) (report : PlayReport) (text : String Global) →
+done : (write : SummaryText) (seed events workers : ℕ) (inputs : Inputs) (job : PlayJob) (old new : SinkState) (before after : List ℕ) (report : PlayReport) (text : String Global) →
     IsJob (Selftest seed events workers) → IsSelftestRead seed events (Ok inputs.script) → AreSelftestInputs inputs → job ≡ selftest_job events workers → before ≡ [] →
     old.held ≡ Some before → new.held ≡ Some after → IsPlayed (view_of job inputs) (play_end.Done report) old new →
-    string_bytes text ≡ summary_text seed events (length (accepted_first report)) report.frames (digest_after 0 after) → IsSelftestWorked seed events (Found text)
-done seed events workers inputs job old new before after report text within read suits is none holds_old holds_new played said =
+    string_bytes text ≡ write seed events (length (accepted_first report)) report.frames (digest_after 0 after) → IsSelftestWorkedBy write seed events (Found text)
+done write seed events workers inputs job old new before after report text within read suits is none holds_old holds_new played said =
     let least = within.1.0 in
     let view : view_of job inputs ≡ selftest_play inputs.script events workers = rw (is, suits.fonts) refl in
     let playable = subst IsPlayable view (inputs_playable seed events workers inputs job is within suits) in
     let whole = subst (λ (v : PlayView). IsPlayed v (play_end.Done report) old new) view played in
     let holds : after ≡ whole.bytes = held_all before after whole.bytes none (subst (λ h. Appends h (Some after) whole.bytes) holds_old (subst (λ h. Appends old.held h whole.bytes) holds_new whole.held)) in
-    worked seed events inputs.script text read
-    (summary inputs.script seed events workers whole.bytes report playable (omega (arith, least)) whole.whole (string_bytes text)
-    (said ∙ ap (λ b. summary_text seed events (length (accepted_first report)) report.frames (digest_after 0 b)) holds))
+    worked write seed events inputs.script text read
+    (summary write inputs.script seed events workers whole.bytes report playable (omega (arith, least)) whole.whole (string_bytes text)
+    (said ∙ ap (λ b. write seed events (length (accepted_first report)) report.frames (digest_after 0 b)) holds))
 
-pub wanting : (seed events : ℕ) (reading : Result ScriptValue Status) → IsSelftestRead seed events reading → IsSelftestWorked seed events (Ended status.OutOfMemory)
-wanting seed events reading read = record {
+pub wanting : (write : SummaryText) (seed events : ℕ) (reading : Result ScriptValue Status) → IsSelftestRead seed events reading → IsSelftestWorkedBy write seed events (Ended status.OutOfMemory)
+wanting write seed events reading read = record {
   reading = reading;
   read = read;
   answered = inl (inr refl);
@@ -208,16 +207,16 @@ never_fails play old new play_end.WriteFault before now played is = let rose = p
 never_fails play old new play_end.OutOfMemory before now played is = cc
 
 -- A selftest, however its play ended.
-pub played_out : (seed events workers : ℕ) (inputs : Inputs) (job : PlayJob) (old new : SinkState) (before after : List ℕ) (end : PlayEnd) (outcome : Outcome) →
+pub played_out : (write : SummaryText) (seed events workers : ℕ) (inputs : Inputs) (job : PlayJob) (old new : SinkState) (before after : List ℕ) (end : PlayEnd) (outcome : Outcome) →
     IsJob (Selftest seed events workers) → IsSelftestRead seed events (Ok inputs.script) → AreSelftestInputs inputs → job ≡ selftest_job events workers → before ≡ [] →
-    old.held ≡ Some before → new.held ≡ Some after → IsPlayed (view_of job inputs) end old new → IsSummedOf seed events after end outcome → IsSelftestWorked seed events outcome
-played_out seed events workers inputs job old new before after (play_end.Done report) (Found text) within read suits is none holds_old holds_new played said =
-    done seed events workers inputs job old new before after report text within read suits is none holds_old holds_new played said
-played_out seed events workers inputs job old new before after (play_end.Done report) (Ended why) within read suits is none holds_old holds_new played said =
-    subst (λ (o : Outcome). IsSelftestWorked seed events o) (sym said) (wanting seed events (Ok inputs.script) read)
-played_out seed events workers inputs job old new before after play_end.WriteFault outcome within read suits is none holds_old holds_new played said = absurd said
-played_out seed events workers inputs job old new before after play_end.OutOfMemory outcome within read suits is none holds_old holds_new played said =
-    subst (λ (o : Outcome). IsSelftestWorked seed events o) (sym said) (wanting seed events (Ok inputs.script) read)
+    old.held ≡ Some before → new.held ≡ Some after → IsPlayed (view_of job inputs) end old new → IsSummedBy write seed events after end outcome → IsSelftestWorkedBy write seed events outcome
+played_out write seed events workers inputs job old new before after (play_end.Done report) (Found text) within read suits is none holds_old holds_new played said =
+    done write seed events workers inputs job old new before after report text within read suits is none holds_old holds_new played said
+played_out write seed events workers inputs job old new before after (play_end.Done report) (Ended why) within read suits is none holds_old holds_new played said =
+    subst (λ (o : Outcome). IsSelftestWorkedBy write seed events o) (sym said) (wanting write seed events (Ok inputs.script) read)
+played_out write seed events workers inputs job old new before after play_end.WriteFault outcome within read suits is none holds_old holds_new played said = absurd said
+played_out write seed events workers inputs job old new before after play_end.OutOfMemory outcome within read suits is none holds_old holds_new played said =
+    subst (λ (o : Outcome). IsSelftestWorkedBy write seed events o) (sym said) (wanting write seed events (Ok inputs.script) read)
 
 -- ---- what a selftest leaves alone
 
@@ -255,9 +254,9 @@ answered_quiet seed events reading answer read (inl (inl wanted)) own = asked_qu
 answered_quiet seed events reading answer read (inl (inr memory)) own = subst (λ (s : Status). IsQuiet (Ended s)) (sym memory) tt
 answered_quiet seed events reading answer read (inr (done, fault)) own = absurd (subst (λ (s : Status). SuitsSink Report (Ended s)) fault own)
 
-worked_quiet : (seed events : ℕ) (outcome : Outcome) → IsSelftestWorked seed events outcome → IsQuiet outcome
-worked_quiet seed events (Found text) worked = tt
-worked_quiet seed events (Ended answer) worked = answered_quiet seed events worked.reading answer worked.read worked.answered worked.own
+worked_quiet : (write : SummaryText) (seed events : ℕ) (outcome : Outcome) → IsSelftestWorkedBy write seed events outcome → IsQuiet outcome
+worked_quiet write seed events (Found text) worked = tt
+worked_quiet write seed events (Ended answer) worked = answered_quiet seed events worked.reading answer worked.read worked.answered worked.own
 
 quiet_kind : (outcome : Outcome) (n m : ℕ) → IsQuiet outcome → IsStatusReadCounted (status_if_put outcome) n n × IsWriteCounted (status_if_put outcome) m m × IsReportable outcome × IsSpoken outcome × SuitsSink Report outcome
 quiet_kind (Found text) n m h = (refl, refl, tt, tt, tt)
@@ -272,10 +271,10 @@ quiet_kind (Ended (status.TooLarge what limit)) n m h = (refl, refl, tt, tt, tt)
 quiet_kind (Ended status.OutOfMemory) n m h = (omega arith, omega arith, tt, tt, tt)
 quiet_kind (Ended (status.Unwritable order field)) n m h = absurd h
 
-pub worked_kind : (seed events : ℕ) (outcome : Outcome) (n m : ℕ) → IsSelftestWorked seed events outcome →
+pub worked_kind : (write : SummaryText) (seed events : ℕ) (outcome : Outcome) (n m : ℕ) → IsSelftestWorkedBy write seed events outcome →
     IsStatusReadCounted (status_if_put outcome) n n × IsWriteCounted (status_if_put outcome) m m × IsReportable outcome × IsSpoken outcome × SuitsSink Report outcome
-worked_kind seed events outcome n m worked = quiet_kind outcome n m (worked_quiet seed events outcome worked)
+worked_kind write seed events outcome n m worked = quiet_kind outcome n m (worked_quiet write seed events outcome worked)
 
 -- A generated script that is refused ends the selftest.
-pub refused : (seed events : ℕ) (why : Status) → IsSelftestRead seed events (Err why) → IsSelftestWorked seed events (Ended why)
-refused seed events why read = record { reading = Err why; read = read; answered = inl (inl refl); text = λ done. refl; own = (quiet_kind (Ended why) 0 0 (why_quiet seed events why read)).4 }
+pub refused : (write : SummaryText) (seed events : ℕ) (why : Status) → IsSelftestRead seed events (Err why) → IsSelftestWorkedBy write seed events (Ended why)
+refused write seed events why read = record { reading = Err why; read = read; answered = inl (inl refl); text = λ done. refl; own = (quiet_kind (Ended why) 0 0 (why_quiet seed events why read)).4 }

@@ -13,12 +13,15 @@ use Rattle.run_status.specs.Laws.{IsReadDecided}
 use Rattle.play_model.specs.Images.{IsSettledImage}
 use Rattle.play_model.specs.Plays.{PlayView}
 use Rattle.play_report.specs.Digests.{digest_after}
+use Rattle.play_report.specs.JsonReports.{summary_json}
 use Rattle.play_report.specs.Reports.{summary_text}
 use Rattle.play_report.specs.declared.report.PlayReport.{PlayReport}
 use Rattle.frame_rate.specs.Rates.{step_rate}
 use Rattle.run_words.specs.declared.job.FrameFormat.TheVariants.{Ppm}
 use Rattle.run_words.specs.declared.job.Mode.TheVariants.{Settled}
 use Rattle.run_words.specs.declared.job.PlayJob.{PlayJob}
+use Rattle.run_words.specs.declared.report_words.ReportForm.{ReportForm}
+use Rattle.run_words.specs.declared.report_words.ReportForm.TheVariants.{Text, Json, Silent}
 use Rattle.run_status.specs.declared.status.Status.{Status}
 use Rattle.run_status.specs.declared.status.Status.TheVariants.{OutOfMemory}
 use Rattle.run_status.specs.declared.status.Which.TheVariants.{Report}
@@ -60,17 +63,33 @@ first_of_times (orders ∷ times) = orders
 abbrev pub accepted_first : PlayReport → List ℕ
 accepted_first report = first_of_times report.accepted
 
+-- a text of a selftest's seed, events, accepted events, images and digest
+abbrev pub SummaryText : Type 0
+SummaryText = ℕ → ℕ → ℕ → ℕ → ℕ → List ℕ
+
+-- it in a form
+abbrev pub summary_in : ReportForm → SummaryText
+summary_in Text = summary_text
+summary_in Json = summary_json
+summary_in Silent = λ seed events accepted frames digest. []
+
 -- The report of a selftest: the digest of its images, each of what all events of the script show. It is that of one worker.
-pub record IsSelftestText (script : ScriptValue) (seed events : ℕ) (text : List ℕ) : Type 0 where
+pub record IsSelftestTextBy (write : SummaryText) (script : ScriptValue) (seed events : ℕ) (text : List ℕ) : Type 0 where
   pub sound : IsScript script
   pub pieces : List (List ℕ)
   pub many : length pieces ≡ image_count
   pub each : (i : ℕ) (d : List ℕ) → i < image_count → IsSettledImage (selftest_play script events 1) 0 i (slice_index_or pieces i d)
-  pub value : text ≡ summary_text seed events (length (line_events script)) image_count (digest_after 0 (flat_map (λ piece. piece) pieces))
+  pub value : text ≡ write seed events (length (line_events script)) image_count (digest_after 0 (flat_map (λ piece. piece) pieces))
+
+abbrev pub IsSelftestText : ScriptValue → ℕ → ℕ → List ℕ → Type 0
+IsSelftestText = IsSelftestTextBy summary_text
+
+abbrev pub IsSelftestReportBy : SummaryText → ℕ → ℕ → Result ScriptValue Status → List ℕ → Type 0
+IsSelftestReportBy write seed events (Err refusal) text = text ≡ []
+IsSelftestReportBy write seed events (Ok script) text = IsSelftestTextBy write script seed events text
 
 abbrev pub IsSelftestReport : ℕ → ℕ → Result ScriptValue Status → List ℕ → Type 0
-IsSelftestReport seed events (Err refusal) text = text ≡ []
-IsSelftestReport seed events (Ok script) text = IsSelftestText script seed events text
+IsSelftestReport = IsSelftestReportBy summary_text
 
 -- What reading bytes as a script answers: what a file asks for that holds them, or out of memory.
 abbrev pub IsScriptIn : List ℕ → Result ScriptValue Status → Type 0

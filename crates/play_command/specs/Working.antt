@@ -1,4 +1,4 @@
--- Inner: plays, selftests and texts of the program up to what is to be reported of them.
+-- Public: plays, selftests and texts of the program up to what is to be reported of them.
 use Rattle.std.specs.Prelude.{◌≡◌, ◌⊎◌, ℕ, ◌≤◌, List, ◌++◌, All, length, Result, Ok, Err, string_bytes}
 use Rattle.std.specs.Io.KnownBytes.{Appends, Keeps}
 use Rattle.ass_io.specs.Fetched.{Told}
@@ -26,7 +26,7 @@ use Rattle.run_status.specs.declared.status.Which.TheVariants.{Frames, Report}
 use Rattle.text_layout.specs.Fonts.{IsLayoutFontSet}
 use Rattle.play_command.specs.OwnTexts.{IsTextWorked}
 use Rattle.play_command.specs.PlayRuns.{IsEarlyOutput, IsPlayFetched, IsPlayOutput, IsPlayRead, early_images, status_read, view_of}
-use Rattle.play_command.specs.SelftestRuns.{IsSelftestRead, IsSelftestReport, accepted_first, selftest_fonts}
+use Rattle.play_command.specs.SelftestRuns.{IsSelftestRead, IsSelftestReportBy, SummaryText, accepted_first, selftest_fonts}
 use Rattle.run_words.specs.declared.job.ScriptSource.{ScriptSource}
 use Rattle.play_command.specs.declared.help.TheConstants.{HELP}
 use Rattle.play_command.specs.declared.own_text.TheConstants.{VERSION}
@@ -85,20 +85,23 @@ pub record AreSelftestInputs (inputs : Inputs) : Type 0 where
   pub few_fonts : IsLayoutFontSet inputs.fonts
 
 -- What is to be reported of a selftest whose play ended so and put these images.
-abbrev pub IsSummedOf : ℕ → ℕ → List ℕ → PlayEnd → Outcome → Type 0
-IsSummedOf seed events images (play_end.Done report) (Found text) =
-    string_bytes text ≡ summary_text seed events (length (accepted_first report)) report.frames (digest_after 0 images)
-IsSummedOf seed events images (play_end.Done report) outcome = outcome ≡ out_of_memory
-IsSummedOf seed events images play_end.WriteFault outcome = ⊥
-IsSummedOf seed events images play_end.OutOfMemory outcome = outcome ≡ out_of_memory
+abbrev pub IsSummedBy : SummaryText → ℕ → ℕ → List ℕ → PlayEnd → Outcome → Type 0
+IsSummedBy write seed events images (play_end.Done report) (Found text) =
+    string_bytes text ≡ write seed events (length (accepted_first report)) report.frames (digest_after 0 images)
+IsSummedBy write seed events images (play_end.Done report) outcome = outcome ≡ out_of_memory
+IsSummedBy write seed events images play_end.WriteFault outcome = ⊥
+IsSummedBy write seed events images play_end.OutOfMemory outcome = outcome ≡ out_of_memory
 
 -- A selftest before anything is reported.
-pub record IsSelftestWorked (seed events : ℕ) (outcome : Outcome) : Type 0 where
+pub record IsSelftestWorkedBy (write : SummaryText) (seed events : ℕ) (outcome : Outcome) : Type 0 where
   pub reading : Result ScriptValue Status
   pub read : IsSelftestRead seed events reading
   pub answered : IsOrFault Report (status_read reading) (status_if_put outcome)
-  pub text : status_if_put outcome ≡ Done → IsSelftestReport seed events reading (text_to_report outcome)
+  pub text : status_if_put outcome ≡ Done → IsSelftestReportBy write seed events reading (text_to_report outcome)
   pub own : SuitsSink Report outcome
+
+abbrev pub IsSelftestWorked : ℕ → ℕ → Outcome → Type 0
+IsSelftestWorked = IsSelftestWorkedBy summary_text
 
 -- `calm` leaves the job: threads wait for one another in it, or the program tells of itself.
 abbrev pub IsLeftByCalm : Job → Type 0

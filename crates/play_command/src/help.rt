@@ -45,11 +45,19 @@ usage: vimalorua WORDS..
   help, --version
       show this text, and the version
 
+  check, changes, play and selftest take words on their report. With any of them changes writes each
+  line as soon as it is known, and a play whose images nobody reads any more says 'closed: frames'.
+      --report WORD    text; json: lines of JSON; none: the exit status alone tells what came
+      --report-to FILE the report goes to a file, which is made before any is read
+      --progress       a terminal is shown once a second how far the run is; not of check and --changed
+      --quiet-pipe     of play: it ends with 0 where nobody reads its images any more
+      --index FILE     of play --changed without --crop: a list of its images for ffmpeg
+
 Options stand anywhere behind the command, once each, as '--at 0' or '--at=0'. Behind '--' all words
 are names. SCRIPT and FONT are names of files, and - is standard input; the file - is ./-. A number
 is from 1 to 13 decimal digits; vimalorua(1) has what each may be.
 
-Exit statuses, each but 0 with a line on standard error, unless that line is what failed:
+Exit statuses, each but 0 with a line where the report goes, unless that is what failed:
   0 done              4 read fault       7 write fault      11 unwritable
   2 bad words         5 bad script       8 too large
   3 no such file      6 bad font         9 out of memory

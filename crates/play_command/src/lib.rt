@@ -1,13 +1,16 @@
 //! The whole program: plays, selftests, and what waits for nobody.
 #![tactic(auto)]
 
-mod exit;
 mod help;
 mod own_text;
 mod playing;
 mod reading;
 mod run;
 mod selftest;
+mod word_runs;
 
-pub use exit::exit_of_words;
+pub use playing::play_with;
+pub use reading::play_inputs;
 pub use run::top;
+pub use selftest::do_selftest;
+pub use word_runs::run_of_words;

@@ -25,7 +25,7 @@ use crate::playing::play_files;
 use crate::selftest::do_selftest;
 use ass_io::{Rt, Shelf, Sink};
 use run_status::{Status, files_decide};
-use run_words::{Job, read_words};
+use run_words::{Job, ReportForm, read_words};
 use single_run::{Outcome, calm, finish};
 use std::alloc::Global;
 use test_hook::TestHook;
@@ -57,7 +57,7 @@ fn do_job<S: Shelf, F: Sink, H: TestHook + Sync>(
             play_files(rt, alloc, play, &script, fonts, shelf, frames, hook)
         }
         Job::Selftest(seed, events, workers) => {
-            do_selftest(rt, alloc, seed, events, workers, hook)
+            do_selftest(rt, alloc, ReportForm::Text, seed, events, workers, hook)
         }
         Job::Help => tell(HELP, frames),
         Job::Version => tell(VERSION, frames),

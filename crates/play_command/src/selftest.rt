@@ -1,10 +1,9 @@
 //! A selftest, up to what is to be reported of it.
 
 ghost use Rattle.std.specs.Prelude.{◌≡◌, ◌≢◌, ◌≤◌, IfOk, length, string_bytes};
-ghost use Rattle.play_command.specs.SelftestRuns.{accepted_first, selftest_job};
-ghost use Rattle.play_command.specs.Working.{IsSelftestWorked, IsSummedOf};
+ghost use Rattle.play_command.specs.SelftestRuns.{accepted_first, selftest_job, summary_in};
+ghost use Rattle.play_command.specs.Working.{IsSelftestWorkedBy, IsSummedBy};
 ghost use Rattle.play_report.specs.Digests.{digest_after};
-ghost use Rattle.play_report.specs.Reports.{summary_text};
 ghost use Rattle.play_rounds.specs.declared.ends.PlayEnd.TheVariants as play_end;
 ghost use Rattle.run_words.specs.Jobs.{IsJob};
 ghost use Rattle.run_words.specs.Limits.{max_events};
@@ -15,10 +14,10 @@ use crate::reading::selftest_inputs;
 use ass_io::{MemorySink, Rt};
 use ass_num::{Mem, OutOfMemory, Size};
 use frame_rate::{FrameRate, Instants};
-use play_report::{PlayReport, digest_after, summary_text};
+use play_report::{PlayReport, digest_after, summary_json, summary_text};
 use play_rounds::PlayEnd;
 use run_status::Status;
-use run_words::{FrameFormat, Mode, PlayJob};
+use run_words::{FrameFormat, Mode, PlayJob, ReportForm};
 use single_run::Outcome;
 use std::alloc::Global;
 use test_hook::TestHook;
@@ -62,29 +61,56 @@ fn accepted_count(report: &PlayReport) -> usize
     }
 }
 
+/// The report of a selftest in a form.
+fn summary_in(
+    alloc: Global,
+    form: ReportForm,
+    seed: u32,
+    events: u32,
+    accepted: usize,
+    frames: u64,
+    digest: u32,
+) -> Mem<String>
+    ensures { IfOk result (λ text. string_bytes text ≡ summary_in form seed events accepted frames digest) }
+{
+    match form {
+        ReportForm::Text => summary_text(alloc, seed, events, accepted, frames, digest),
+        ReportForm::Json => summary_json(alloc, seed, events, accepted, frames, digest),
+        ReportForm::Silent => Ok(String::new(alloc)),
+    }
+}
+
 /// The summary of a selftest, of its play's report and of its images.
 fn summary_of(
     alloc: Global,
+    form: ReportForm,
     seed: u32,
     events: u32,
     report: &PlayReport,
     images: &[u8],
 ) -> Mem<String>
-    ensures { IfOk result (λ text. string_bytes text ≡ summary_text seed events (length (accepted_first report.now)) report.now.frames
+    ensures { IfOk result (λ text. string_bytes text ≡ summary_in form seed events (length (accepted_first report.now)) report.now.frames
         (digest_after 0 images.now)) }
 {
     let digest = digest_after(0, images);
     let accepted = accepted_count(report);
-    summary_text(alloc, seed, events, accepted, report.frames, digest)
+    summary_in(alloc, form, seed, events, accepted, report.frames, digest)
 }
 
 /// What is to be reported of a selftest whose play ended so and put these images. A sink in memory never fails.
-fn summed(alloc: Global, seed: u32, events: u32, end: PlayEnd, images: &[u8]) -> Outcome
+fn summed(
+    alloc: Global,
+    form: ReportForm,
+    seed: u32,
+    events: u32,
+    end: PlayEnd,
+    images: &[u8],
+) -> Outcome
     requires { end ≢ play_end.WriteFault }
-    ensures { IsSummedOf seed events images.now end result }
+    ensures { IsSummedBy (summary_in form) seed events images.now end result }
 {
     match end {
-        PlayEnd::Done(report) => match summary_of(alloc, seed, events, &report, images) {
+        PlayEnd::Done(report) => match summary_of(alloc, form, seed, events, &report, images) {
             Ok(text) => Outcome::Found(text),
             Err(OutOfMemory) => Outcome::Ended(Status::OutOfMemory),
         },
@@ -93,24 +119,25 @@ fn summed(alloc: Global, seed: u32, events: u32, end: PlayEnd, images: &[u8]) ->
     }
 }
 
-/// Plays a generated script, and digests the images.
+/// Plays a generated script, and digests the images, for a report in a form.
 pub fn do_selftest<H: TestHook + Sync>(
     rt: &impl Rt,
     alloc: Global,
+    form: ReportForm,
     seed: u32,
     events: u32,
     workers: u32,
     hook: &H,
 ) -> Outcome
     requires { IsJob (Selftest seed events workers) }
-    ensures { IsSelftestWorked seed events result }
+    ensures { IsSelftestWorkedBy (summary_in form) seed events result }
 {
     match selftest_inputs(alloc, seed, events) {
         Ok(inputs) => {
             let job = selftest_job(events, workers);
             let mut images = MemorySink::new(alloc);
             let end = play_with(rt, alloc, job, inputs, &mut images, hook);
-            summed(alloc, seed, events, end, images.bytes())
+            summed(alloc, form, seed, events, end, images.bytes())
         }
         Err(status) => Outcome::Ended(status),
     }

@@ -4,6 +4,7 @@ use Rattle.single_run.specs.Runs.{sink_change}
 use Rattle.run_words.specs.Jobs.{IsJob, IsPlay}
 use Rattle.run_words.specs.declared.job.Job.{Job}
 use Rattle.run_words.specs.declared.job.Job.TheVariants.{Selftest}
+use Rattle.play_report.specs.Reports.{summary_text}
 use Rattle.play_command.proofs.RunLemmas.{not_selftest}
 use Rattle.play_command.proofs.SelftestLemmas.{worked_kind}
 use Rattle.play_command.proofs.TextLemmas.{text_reads_none, text_reportable}
@@ -46,16 +47,16 @@ returns-in-Selftest-clause-worked g c =
     subst (λ (job : Job). IsJobWorked (g.S.Shelf.told c.args.shelf.now) log job change c.do_selftest.result) (sym c.in-Selftest.is) c.do_selftest.ensures
 
 pub returns-in-Selftest-clause-read : goal.returns-in-Selftest-clause-read
-returns-in-Selftest-clause-read g c = (worked_kind c.in-Selftest.seed c.in-Selftest.events c.do_selftest.result _ 0 c.do_selftest.ensures).0
+returns-in-Selftest-clause-read g c = (worked_kind summary_text c.in-Selftest.seed c.in-Selftest.events c.do_selftest.result _ 0 c.do_selftest.ensures).0
 
 pub returns-in-Selftest-clause-write : goal.returns-in-Selftest-clause-write
-returns-in-Selftest-clause-write g c = (worked_kind c.in-Selftest.seed c.in-Selftest.events c.do_selftest.result 0 _ c.do_selftest.ensures).1
+returns-in-Selftest-clause-write g c = (worked_kind summary_text c.in-Selftest.seed c.in-Selftest.events c.do_selftest.result 0 _ c.do_selftest.ensures).1
 
 pub returns-in-Selftest-clause-reportable : goal.returns-in-Selftest-clause-reportable
-returns-in-Selftest-clause-reportable g c = (worked_kind c.in-Selftest.seed c.in-Selftest.events c.do_selftest.result 0 0 c.do_selftest.ensures).2
+returns-in-Selftest-clause-reportable g c = (worked_kind summary_text c.in-Selftest.seed c.in-Selftest.events c.do_selftest.result 0 0 c.do_selftest.ensures).2
 
 pub returns-in-Selftest-clause-spoken : goal.returns-in-Selftest-clause-spoken
-returns-in-Selftest-clause-spoken g c = λ none. (worked_kind c.in-Selftest.seed c.in-Selftest.events c.do_selftest.result 0 0 c.do_selftest.ensures).3
+returns-in-Selftest-clause-spoken g c = λ none. (worked_kind summary_text c.in-Selftest.seed c.in-Selftest.events c.do_selftest.result 0 0 c.do_selftest.ensures).3
 
 -- ---- what the program tells of itself
 

@@ -107,7 +107,8 @@ returns-in-None-clause-play g c = λ job script fonts asked.
 pub returns-in-None-clause-play_decided : goal.returns-in-None-clause-play_decided
 returns-in-None-clause-play_decided g c = λ job script fonts asked stays shows reports.
     let same = c.in-None.ensures.untouched refl in
-    let run = play_run _ _ job script fonts _ _ c.do_left-outcome.result c.finish.result (c.do_left-outcome.ensures.worked (Play job script fonts) asked) c.do_left-outcome.ensures.reportable (c.do_left-outcome.ensures.spoken (Play job script fonts) asked refl) c.finish.ensures.answer c.finish.ensures.report c.finish.ensures.pieces in
+    let report = sink_change (g.R.Sink.state c.calm.new.report) (g.R.Sink.state c.finish.new.report) in
+    let run = play_run _ _ job script fonts _ report c.do_left-outcome.result c.finish.result (c.do_left-outcome.ensures.worked (Play job script fonts) asked) c.do_left-outcome.ensures.reportable (c.do_left-outcome.ensures.spoken (Play job script fonts) asked refl) c.finish.ensures.answer c.finish.ensures.report c.finish.ensures.pieces in
     rw (← same.0) (play_decides c.files_decide.ensures.one _ _ job script fonts _ _ _ _ c.finish.result run
     (read_after c.do_left-outcome.result c.finish.result _ _ c.finish.ensures.answer c.do_left-outcome.ensures.read)
     (written_after c.do_left-outcome.result c.finish.result _ _ c.finish.ensures.answer c.do_left-outcome.ensures.write)
@@ -120,9 +121,7 @@ returns-in-None-clause-selftest g c = λ seed events workers asked.
 
 pub returns-in-None-clause-selftest_decided : goal.returns-in-None-clause-selftest_decided
 returns-in-None-clause-selftest_decided g c = λ seed events workers asked reports.
-    let same = c.in-None.ensures.untouched refl in
-    selftest_decides seed events _ c.finish.result
-    (selftest_run seed events _ c.do_left-outcome.result c.finish.result (c.do_left-outcome.ensures.worked (Selftest seed events workers) asked) c.finish.ensures.answer c.finish.ensures.report c.finish.ensures.pieces) (rw same.2 reports)
+    selftest_decides seed events _ c.finish.result (returns-in-None-clause-selftest g c seed events workers asked) reports
 
 pub returns-in-None-clause-selftest_shelf : goal.returns-in-None-clause-selftest_shelf
 returns-in-None-clause-selftest_shelf g c = λ seed events workers asked. c.do_left-outcome.ensures.selftest_shelf seed events workers asked ∙ (c.in-None.ensures.untouched refl).0
