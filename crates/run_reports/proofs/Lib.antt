@@ -1,0 +1,6 @@
+mod TellLemmas
+mod ChangeLemmas
+mod WorkLemmas
+mod AskedLemmas
+mod LineLemmas
+mod WatchLemmas

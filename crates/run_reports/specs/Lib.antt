@@ -1,0 +1,9 @@
+pub mod Telling
+pub mod CheckObjects
+pub mod ChangeStreams
+pub mod StillTales
+pub mod Tales
+pub mod AskedRuns
+pub mod AskedJobs
+pub mod Watching
+pub mod Laws
