@@ -8,4 +8,5 @@ pub mod PlayPictures
 pub mod RunLemmas
 pub mod SettledFronts
 pub mod SelftestEnds
+pub mod StillPlays
 pub mod WrittenRuns

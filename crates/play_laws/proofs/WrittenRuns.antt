@@ -66,8 +66,8 @@ module _ (law : ReadScriptsAreReadLater) (told : List ℕ → Told) (name : Scri
 
 pub written_runs : ReadScriptsAreReadLater → WrittenRunsShowTheSame
 written_runs law told log work write frames report is run =
-    let shown : IsShownOf (Write write) run.reading Done frames.before.held frames.now.held =
-    subst (λ (task : Task). IsShownOf task run.reading Done frames.before.held frames.now.held) is run.shown in
+    let shown : IsShownOf (Write write) run.reading run.kept Done frames.before.held frames.now.held =
+    subst (λ (task : Task). IsShownOf task run.reading run.kept Done frames.before.held frames.now.held) is run.shown in
     let answered : IsAnswerOf (Write write) (status_asked (Write write) run.reading) Done =
     subst (λ (task : Task). IsAnswerOf task (status_asked task run.reading) Done) is run.answered in
     put_after law told work.script work.fonts write frames run.reading shown.0 run.read answered shown.1 shown.2

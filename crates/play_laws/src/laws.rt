@@ -5,12 +5,14 @@ ghost use Rattle.play_laws.specs.Completeness.{PlaysAreDone};
 ghost use Rattle.play_laws.specs.Counts.{FedLinesAreCounted, RepeatsAreCounted};
 ghost use Rattle.play_laws.specs.Fronts.{FrontsAreOfPlays, FrontsGoOn, PlaysHavePictures, SettledFrontsAgree};
 ghost use Rattle.play_laws.specs.Selftests.{SelftestsAcceptAll, SelftestsAreDone};
+ghost use Rattle.play_laws.specs.StillPlays.{StillsShowThePlay};
 ghost use Rattle.play_laws.specs.Writing.{WrittenRunsShowTheSame};
 
 use picture_exists::a_picture_exists;
 use picture_laws::{one_picture, rewritten_scripts_show_the_same};
 use run_status::files_decide;
 use script_laws::generated_scripts_are_read;
+use still_images::stills_show_all;
 
 /// Two settled plays of the same script and fonts, at the same instants, as often, of the same size and in the same format, put the
 /// same bytes: no number of feeders, renderers, lines of a batch, lines offered again, instants warmed ahead, bands or bytes of a
@@ -68,6 +70,16 @@ pub fn settled_fronts_agree()
     ensures { SettledFrontsAgree }
 {
     one_picture();
+}
+
+/// A play of only what changes, expanded by its index, is the play without it: at each instant of each time of a settled play the image
+/// is that of the last kept picture that isn't behind it. Each kept picture is its part, laid in its box over the one before it.
+pub fn stills_show_the_play()
+    ensures { StillsShowThePlay }
+{
+    one_picture();
+    files_decide();
+    stills_show_all();
 }
 
 /// By the numbers of lines: how many events the rounds before one feed, and how many are repeated in a time.
