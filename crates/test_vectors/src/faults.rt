@@ -23,11 +23,16 @@ fn shelf_of(rt: &HostRuntime, fail: u64) -> Result<FailingShelf, Fail> {
     Ok(FailingShelf::new(shelf, fails))
 }
 
-/// A run where calls fail: the numbers of the fetch, the put of an image and the put of a report, a bar, and the words.
+/// A run where calls fail: the numbers of the fetch, the put of an image and the put of a report, another number than 0 where no
+/// file can be made, a bar, and the words.
 pub fn told(lent: &impl Rt, rt: &HostRuntime, question: &str) -> Result<String, Fail> {
     let (fails, line) = parted(question, " |");
-    let [fetch, image, told, _, _, _, _, _] = numbers(fails);
-    let puts = [image.unsigned_abs(), told.unsigned_abs()];
+    let [fetch, image, told, unmade, _, _, _, _] = numbers(fails);
+    let puts = [
+        image.unsigned_abs(),
+        told.unsigned_abs(),
+        unmade.unsigned_abs(),
+    ];
     let mut shelf = shelf_of(rt, fetch.unsigned_abs())?;
     let ran = run(lent, rt.alloc(), line, &mut shelf, puts, &NoHook)?;
     Ok(ran_told(rt.alloc(), &ran)?)

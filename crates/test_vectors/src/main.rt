@@ -67,6 +67,7 @@ fn call_answer(alloc: Global, table: &str, question: &str) -> Mem<String> {
 fn file_answer(lent: &impl Rt, rt: &HostRuntime, table: &str, question: &str) -> Mem<String> {
     match table {
         "runs" => runs::told(lent, rt, question),
+        "lists" => runs::list(lent, rt, question),
         "digests" => runs::digest(lent, rt, question),
         "image_bytes" => runs::pixel(lent, rt, question),
         "jobs" => runs::job(rt.alloc(), question),

@@ -1,11 +1,11 @@
 //! Whole runs of the program over real files. Their sinks are in memory.
 
 use crate::telling::{parted, shown};
-use ass_io::{FailingSink, FileShelf, MemorySink, Rt, Shelf};
+use ass_io::{FailingSink, FileShelf, MemorySink, NamedMemory, Rt, Shelf};
 use ass_num::Mem;
 use bstr::BStr;
-use play_command::exit_of_words;
 use play_report::digest_after;
+use run_reports::exit_of_asked;
 use run_words::read_words;
 use std::alloc::Global;
 use test_hook::{NoHook, TestHook};
@@ -25,10 +25,15 @@ pub fn job(alloc: Global, line: &str) -> Mem<String> {
     shown(alloc, &read_words(alloc, words.as_slice()))
 }
 
-/// A sink whose put of this number fails; 0 is none.
+/// A sink whose put of this number fails, and whose reader is gone then; 0 is none.
 fn sink(alloc: Global, fail: u64) -> Mem<FailingSink> {
     let fails = vec![in alloc; fail]?;
-    Ok(FailingSink::new(MemorySink::new(alloc), fails))
+    Ok(FailingSink::closing(MemorySink::new(alloc), fails))
+}
+
+/// A sink that makes files, unless `unmade` is another number than 0, and whose put of this number fails.
+fn named_sink(alloc: Global, fail: u64, unmade: u64) -> Mem<NamedMemory> {
+    Ok(NamedMemory::new(sink(alloc, fail)?, unmade == 0))
 }
 
 /// What came of a run.
@@ -36,26 +41,39 @@ fn sink(alloc: Global, fail: u64) -> Mem<FailingSink> {
 pub struct Ran {
     pub exit: u8,
     pub frames: FailingSink,
-    pub report: FailingSink,
+    pub index: NamedMemory,
+    pub report: NamedMemory,
 }
 
-/// Does what the words ask for, where a put of an image and a put of a report fail: their numbers, or 0 for none.
+/// Does what the words ask for, where a put of an image and a put of a report fail: their numbers, or 0 for none. No file can be
+/// made where `unmade` isn't 0.
 pub fn run<S: Shelf, H: TestHook + Sync>(
     lent: &impl Rt,
     alloc: Global,
     line: &str,
     shelf: &mut S,
-    [image, told]: [u64; 2],
+    [image, told, unmade]: [u64; 3],
     hook: &H,
 ) -> Mem<Ran> {
     let words = words_of(alloc, line)?;
     let mut frames = sink(alloc, image)?;
-    let mut report = sink(alloc, told)?;
+    let mut index = named_sink(alloc, 0, unmade)?;
+    let mut report = named_sink(alloc, told, unmade)?;
     let words = words.as_slice();
-    let exit = exit_of_words(lent, alloc, words, shelf, &mut frames, &mut report, hook);
+    let exit = exit_of_asked(
+        lent,
+        alloc,
+        words,
+        shelf,
+        &mut frames,
+        &mut index,
+        &mut report,
+        hook,
+    );
     Ok(Ran {
         exit,
         frames,
+        index,
         report,
     })
 }
@@ -68,7 +86,7 @@ pub fn over_files_hooked<H: TestHook + Sync>(
     hook: &H,
 ) -> Mem<Ran> {
     let mut shelf = FileShelf::new(*rt);
-    run(lent, rt.alloc(), line, &mut shelf, [0, 0], hook)
+    run(lent, rt.alloc(), line, &mut shelf, [0, 0, 0], hook)
 }
 
 /// A run over real files.
@@ -86,6 +104,12 @@ pub fn ran_told(alloc: Global, ran: &Ran) -> Mem<String> {
 pub fn told(lent: &impl Rt, rt: &HostRuntime, line: &str) -> Mem<String> {
     let ran = over_files(lent, rt, line)?;
     ran_told(rt.alloc(), &ran)
+}
+
+/// The exit status, and the list of images.
+pub fn list(lent: &impl Rt, rt: &HostRuntime, line: &str) -> Mem<String> {
+    let ran = over_files(lent, rt, line)?;
+    shown(rt.alloc(), &(ran.exit, BStr::new(ran.index.bytes())))
 }
 
 /// The exit status, and the digest of the images.
