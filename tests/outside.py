@@ -35,7 +35,7 @@ def release(score, given):
     which = ran([f"{given.top}/vimalorua", "--which"], given.top)
     score.check(os.path.realpath(which.stdout.strip()) == f"{folder}/vimalorua", "the release isn't of this checkout's sources")
     sizes = {it.name: it.stat().st_size for it in os.scandir(folder)} if os.path.isdir(folder) else {"vimalorua": 0}
-    score.check(sizes["vimalorua"] < 2**20 and sum(sizes.values()) < 3 * 10**6, f"the release is large: {sizes}")
+    score.check(sizes["vimalorua"] < 1_150_000 and sum(sizes.values()) < 3 * 10**6, f"the release is large: {sizes}")
     with open(given.program, "rb") as it:
         versions = [tuple(map(int, found.split(b"."))) for found in re.findall(rb"GLIBC_([0-9.]+)\0", it.read())]
     score.check((2, 2, 5) in versions and max(versions) <= (2, 34), f"the program asks for glibc {max(versions, default=None)}")
@@ -71,6 +71,13 @@ SAID = [
     ("changes --from 0 --to 1 --frames 2 --step 1 --size 4x3 row.ass dot.bdf", "changes takes --to or --frames, and not both"),
     ("play --from 0 --to 1 --step 1 --size 4x3 --crop row.ass dot.bdf", "--crop stands beside --changed alone"),
     ("play --changed --from 0 --to 1 --step 1 --size 4x3 --bands 2 row.ass dot.bdf", "--bands doesn't stand beside --changed, whose work isn't shared out"),
+    ("play --from 0 --to 1 --step 1 --size 4x3 --index list row.ass dot.bdf", "--index stands beside --changed alone"),
+    ("play --changed --crop --index list --from 0 --to 1 --step 1 --size 4x3 row.ass dot.bdf", "--index stands beside whole images, and --crop makes none"),
+    ("play --changed --progress --from 0 --to 1 --step 1 --size 4x3 row.ass dot.bdf", "--progress doesn't stand beside --changed, whose images nobody can count before"),
+    ("check --report xml row.ass dot.bdf", "--report takes text, json or none, and not 'xml'"),
+    ("selftest 1 1 --report-to", "--report-to lacks its value: the name of a file"),
+    ("changes --progress=1 --from 0 --to 1 --step 1 --size 4x3 row.ass dot.bdf", "--progress takes no value"),
+    ("frame --at 0 --size 4x3 --quiet-pipe row.ass dot.bdf", "frame has no option --quiet-pipe"),
     ("play --from 0 --frames 0 --step 1 --size 4x3 row.ass dot.bdf", "--frames takes a number from 1 to 1000000, and not '0'"),
     ("frame --at 0 --at 0", "--at is given twice"),
     ("frame --font x", "frame has no option --font"),
@@ -101,7 +108,7 @@ def words_of_wrapper(score, given, program):
         done = ran([program, *words.split()], given.room)
         holds = done.stderr.startswith(f"{own.stderr}vimalorua: {wanted}") and done.stderr.count("\n") == 2
         score.check(holds and done.returncode == own.returncode, f"vimalorua {words} says {done.stderr!r}")
-    for words in ("check row.ass dot.bdf", "frame --at 0 --size 4x3 row.ass dot.bdf", "check no.ass dot.bdf", "write --later 5 row.ass"):
+    for words in ("check row.ass dot.bdf", "frame --at 0 --size 4x3 row.ass dot.bdf", "check no.ass dot.bdf", "write --later 5 row.ass", "check --report json row.ass dot.bdf bad_row.bdf"):
         own, done = (ran([it, *words.split()], given.room) for it in (given.program, program))
         score.check((own.returncode, own.stdout, own.stderr) == (done.returncode, done.stdout, done.stderr), f"vimalorua {words} says more")
     version = ran([program, "--version"], given.room)
@@ -188,7 +195,7 @@ def install(score, given):
 
 def completion(score, file):
     """What is completed behind some words."""
-    for words, wanted in (("vimalorua fr", "frame"), ("vimalorua play --mo", "--mode"), ("vimalorua play --mode l", "live"), ("vimalorua frame --letters a", "aspect")):
+    for words, wanted in (("vimalorua fr", "frame"), ("vimalorua play --mo", "--mode"), ("vimalorua play --mode l", "live"), ("vimalorua frame --letters a", "aspect"), ("vimalorua check --report j", "json"), ("vimalorua play --q", "--quiet-pipe")):
         script = f'. "{file}"; COMP_WORDS=({words}); COMP_CWORD=$((${{#COMP_WORDS[@]}} - 1)); _vimalorua; echo "${{COMPREPLY[*]}}"'
         said = ran(["bash", "-c", script], "/").stdout.strip()
         score.check(said == wanted, f"{words} is completed as {said!r}")

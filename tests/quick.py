@@ -13,6 +13,7 @@ Its parts, which all are tried where none is named:
   machines   plays that several machines share, where GNU parallel is
   writes     that scripts written again show the same pictures, and are written as the same bytes
   plays      plays by every number of threads, whose images are those of frames
+  reports    that reports are in their form and go to their file, what who ends first is told, and what a terminal is shown
   refusals   runs whose calls for memory are refused
   wrapper    what the wrapper says where words or a font are refused
   library    the library from C (c/test.sh)
@@ -41,6 +42,7 @@ import machines  # noqa: E402
 import outside  # noqa: E402
 import over_video  # noqa: E402
 import plays  # noqa: E402
+import reports  # noqa: E402
 import stored  # noqa: E402
 import views  # noqa: E402
 
@@ -98,6 +100,7 @@ PARTS = {
     "machines": machines.machines,
     "writes": plays.writes,
     "plays": plays.plays,
+    "reports": reports.reports,
     "refusals": outside.refusals,
     "wrapper": outside.wrapper,
     "library": outside.library,
