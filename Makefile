@@ -21,8 +21,8 @@ lib = $(DESTDIR)$(LIBDIR)
 include = $(DESTDIR)$(INCLUDEDIR)
 data = $(DESTDIR)$(DATADIR)
 
-DOCS = LICENSE CHANGELOG.md docs/PROGRAM.md docs/EMBEDDING-C.md
-EXAMPLES = examples/*.ass examples/*.bdf examples/*.ttf examples/*.sh examples/*.sbatch c/demo.c c/files.c c/files.h c/ass_images.c c/ass_images.h
+DOCS = LICENSE CHANGELOG.md docs/PROGRAM.md docs/REPORTS.md docs/EMBEDDING-C.md
+EXAMPLES = examples/*.ass examples/*.bdf examples/*.ttf examples/*.py examples/*.sh examples/*.sbatch c/demo.c c/files.c c/files.h c/ass_images.c c/ass_images.h
 
 all:
 	@echo 'There is nothing to build: release/ has the program and the library. Try: make install'

@@ -1,17 +1,17 @@
 #!/usr/bin/env python3
-"""Prints the manual page vimalorua(1), which it makes of docs/PROGRAM.md.
+"""Prints the manual page vimalorua(1), which it makes of docs/PROGRAM.md and docs/REPORTS.md.
 
 usage: python3 packaging/manual.py > vimalorua.1
 
-It takes the page's sections but those of the crates and of the outside, and leaves out pictures, and references to
-definitions and to other pages.
+It takes the sections of the pages but those of the crates and of the outside, and leaves out pictures, and references
+to definitions and to other pages.
 """
 
 import os
 import re
 
 TOP = os.path.dirname(os.path.dirname(os.path.realpath(__file__)))
-SKIPPED = {"The outside"}
+SKIPPED = {"The program, and what it is handed", "The outside"}
 REFERENCE = r"(?:\[[^]]*\]\([^)]*\)|`[\w.]+`)"
 
 
@@ -111,12 +111,18 @@ def blocks(lines):
     return [it for it in found if it[0] != "end"]
 
 
+def sections(path):
+    """The title of a page and what stands under it, and its sections."""
+    title, text = re.match(r"# ([^\n]*)\n(.*)", read(path), flags=re.S).groups()
+    parts = re.split(r"^## (.*)\n", text, flags=re.M)
+    return zip([title, *parts[1::2]], parts[::2])
+
+
 def page():
     version = read("VERSION").strip()
-    sections = re.split(r"^## (.*)\n", read("docs/PROGRAM.md"), flags=re.M)
     lines = [f'.TH VIMALORUA 1 "" "vimalorua {version}" "User Commands"', ".SH NAME"]
     lines += ["vimalorua \\- renderer of ASS subtitles, proved correct"]
-    for name, text in zip(sections[1::2], sections[2::2]):
+    for name, text in [*sections("docs/PROGRAM.md"), *sections("docs/REPORTS.md")]:
         if name in SKIPPED:
             continue
         parts = blocks(text.splitlines())

@@ -7,24 +7,33 @@ _vimalorua() {
         mapfile -t COMPREPLY < <(compgen -W 'check frame changes write play selftest help --help --version' -- "$word")
         return
     fi
+    local report='--report --report-to'
     case ${COMP_WORDS[1]} in
-    check) options='--script-fonts' ;;
+    check) options="$report --script-fonts" ;;
     frame) options='--at --size --storage --aspect --content --letters --scale --format --budget --script-fonts' ;;
-    changes) options='--from --to --frames --step --rate --size --storage --aspect --content --letters --scale --budget --script-fonts' ;;
+    changes)
+        options='--from --to --frames --step --rate --size --storage --aspect --content --letters --scale --budget'
+        options+=" $report --progress --script-fonts"
+        ;;
     write) options='--later --earlier' ;;
-    selftest) options='--workers' ;;
+    selftest) options="--workers $report --progress" ;;
     play)
         options='--from --to --frames --step --rate --size --feeders --renderers --batch --again --times --ahead --bands'
-        options+=' --format --changed --crop --budget --mode --script-fonts'
+        options+=" --format --changed --crop --budget --mode $report --index --progress --quiet-pipe --script-fonts"
         ;;
     esac
     case $before in
     --mode) mapfile -t COMPREPLY < <(compgen -W 'live settled' -- "$word") ;;
+    --report) mapfile -t COMPREPLY < <(compgen -W 'text json none' -- "$word") ;;
+    --report-to | --index)
+        mapfile -t COMPREPLY < <(compgen -f -- "$word")
+        compopt -o filenames 2> /dev/null
+        ;;
     --format) mapfile -t COMPREPLY < <(compgen -W 'ppm pam rgba' -- "$word") ;;
     --rate) mapfile -t COMPREPLY < <(compgen -W '24000/1001 24 25 30000/1001 30 50 60000/1001 60' -- "$word") ;;
     --letters) mapfile -t COMPREPLY < <(compgen -W 'script aspect' -- "$word") ;;
     --size) mapfile -t COMPREPLY < <(compgen -W '640x360 1280x720 1920x1080 3840x2160' -- "$word") ;;
-    --script-fonts | --changed | --crop) mapfile -t COMPREPLY < <(compgen -W "$options" -- "$word") ;;
+    --script-fonts | --changed | --crop | --progress | --quiet-pipe) mapfile -t COMPREPLY < <(compgen -W "$options" -- "$word") ;;
     --*) ;;
     *)
         case $word in

@@ -5,8 +5,8 @@ usage: python3 tools/check_docs.py [--write [PART..]]
 
 It looks at these things, and ends with a line `N passed, M failed`:
   marks     each file of specs/ says in its first line whether it is public or inner (spec_marks.py)
-  trust     docs/TRUST.md quotes the contract of `top`, says what each clause says, and lists the definitions that it
-            reaches
+  trust     docs/TRUST.md quotes the contracts of `run_asked` and `top`, says what each clause says, and lists the
+            definitions that they reach
   edits     each edit of must-fail/ or edits/ stands in its crate's table in docs/PROMISES.md, each named there exists
             in one of the two places, and what it turns stands once in its file; no more crates than CONTRIBUTING.md
             says have edits in must-fail/
@@ -39,6 +39,7 @@ OTHERS = {"for_each_mut", "from_utf8_unchecked", "TertiaryColour"}  # names of s
 WIDTH = 120
 ALSO = "also refused"
 MOST_CRATES, MOST_EDITS = 20, 3  # of must-fail/
+ENTRIES = [("run_reports", "run_asked"), ("play_command", "top")]  # each in its crate's run.rt
 
 
 def writes(part):
@@ -91,8 +92,8 @@ def marks(score, reach):
 
 
 def trusted(reach):
-    """The table of the definitions that `top` reaches."""
-    reached = reach.closure(("top", node) for node in reach.of_call("play_command", ("run",), "top"))
+    """The table of the definitions that the entries reach."""
+    reached = reach.closure((name, node) for crate, name in ENTRIES for node in reach.of_call(crate, ("run",), name))
     files = spec_marks.files_of(reached)
     order = list(crates_of())
     rows = ["| File | Lines | What it defines |", "|---|---|---|"]
@@ -151,24 +152,30 @@ def trust(score, reach):
         score.check(line in have, path, f"the list lacks: {line}")
     for line in have:
         score.check(line in want, path, f"the list has: {line}")
-    parts = between(read(path), "contract", path)
+    for crate, name in ENTRIES:
+        quoted_contract(score, path, reach.crates[crate].files[("run",)], crate, name)
+
+
+def quoted_contract(score, path, items, crate, entry):
+    """Whether a page quotes the contract of an entry, and says behind it what each clause says."""
+    parts = between(read(path), f"contract of {entry}", path)
     if parts is None:
-        return score.check(False, path, "doesn't quote the contract of top")
-    right = contract_of_top()
+        return score.check(False, path, f"doesn't quote the contract of {entry}")
+    right = contract_of(crate, entry)
     if writes("trust") and parts[1] != right:
         write(path, parts[0] + right + parts[2])
         parts = parts[0], right, parts[2]
-    score.check(parts[1] == right, path, "doesn't quote the contract of top as it stands")
-    for item in reach.crates["play_command"].files[("run",)]:
-        if item.kind == "fn" and item.name == "top":
+    score.check(parts[1] == right, path, f"doesn't quote the contract of {entry} as it stands")
+    for item in items:
+        if item.kind == "fn" and item.name == entry:
             for _, name, _ in item.clauses:
-                score.check(f"`{name}`" in parts[2], path, f"doesn't say what the clause {name} says")
+                score.check(f"`{name or entry}`" in parts[2], path, f"doesn't say what the clause {name} says")
 
 
-def contract_of_top():
-    """The head and the clauses of `top`, as run.rt has them."""
-    text = read("crates/play_command/src/run.rt")
-    at = text.index("pub fn top<")
+def contract_of(crate, entry):
+    """The head and the clauses of an entry, as run.rt has them."""
+    text = read(f"crates/{crate}/src/run.rt")
+    at = text.index(f"pub fn {entry}<")
     return "```rust\n" + text[at:text.index("\n{", at) + 1] + "```\n"
 
 
@@ -387,11 +394,9 @@ def crate_tables(score):
 
 
 def quoted(score):
-    names = [name for name in ("player_example", "renderer_example") if name in crates_of()]
-    programs = [read(f"crates/{name}/src/main.rt") for name in names]
+    programs = [read(f"crates/library_example/src/{name}.rt") for name in ("one_thread", "two_threads")]
     for block in re.findall(r"```rust\n(.*?)```", read("docs/EMBEDDING.md"), re.S):
         score.check(any(block in program for program in programs), "docs/EMBEDDING.md", f"stands in no example: {block[:60]}")
-    score.check(len(programs) == 2, "docs/EMBEDDING.md", "should quote two examples")
 
 
 def links(score):
