@@ -31,6 +31,7 @@ pub fn line_of(line: Writer) -> Mem<String>
 }
 
 /// Adds a member that is a number.
+#[inline(never)]
 pub fn add_number(name: &str, n: u64, line: &mut Writer) -> Mem<()>
     ensures before { line.new.before ≡ line.old.before }
     ensures tokens { OnOk result (line.new.tokens ≡ line.old.tokens ++ number_member name.now n) }
@@ -41,6 +42,7 @@ pub fn add_number(name: &str, n: u64, line: &mut Writer) -> Mem<()>
 }
 
 /// Adds a member that is a text.
+#[inline(never)]
 pub fn add_text(name: &str, text: &str, line: &mut Writer) -> Mem<()>
     ensures before { line.new.before ≡ line.old.before }
     ensures tokens { OnOk result (line.new.tokens ≡ line.old.tokens ++ text_member name.now text.now) }
@@ -51,6 +53,7 @@ pub fn add_text(name: &str, text: &str, line: &mut Writer) -> Mem<()>
 }
 
 /// Adds an array of numbers.
+#[inline(never)]
 pub fn add_numbers(numbers: &[u32], line: &mut Writer) -> Mem<()>
     ensures before { line.new.before ≡ line.old.before }
     ensures tokens { OnOk result (line.new.tokens ≡ line.old.tokens ++ number_array numbers.now) }
