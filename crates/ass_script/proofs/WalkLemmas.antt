@@ -10,7 +10,8 @@ use Rattle.ass_script.specs.Styles.{style_of}
 use Rattle.ass_num.specs.Blanks.{trimmed}
 use Rattle.ass_script.specs.Words.{is_colon}
 use Rattle.ass_script.specs.Lines.{Line, is_heading, is_comment, section_named, info_key_named, style_key_named, event_key_named, key_named, keyed_line, line_in, section_behind, lines_in_sections}
-use Rattle.ass_script.specs.Scripts.{has, values_of, last_of, last_value, is_res_x, is_res_y, is_wrap, is_scaled, is_dialogue, is_style_format, style_version, is_events_heading, is_styles_heading, canvas_side_of, wrap_style_of, scaled_of, style_fields_behind, styles_behind, event_formats, limit_at, limit_behind, picked_script, script_of_lines}
+use Rattle.ass_script.specs.Scripts.{has, values_of, last_of, last_value, is_res_x, is_res_y, is_wrap, is_scaled, is_matrix, is_dialogue, is_style_format, style_version, is_events_heading, is_styles_heading, canvas_side_of, wrap_style_of, scaled_of, style_fields_behind, styles_behind, event_formats, limit_at, limit_behind, picked_script, script_of_lines}
+use Rattle.ass_script.specs.Matrices.{matrix_of}
 use Rattle.ass_script.specs.Walk.{fields_of, key_step, keyed_step, line_step, walked, no_script_lines, script_said, made_script}
 use Rattle.ass_script.specs.declared.lines.Version.{Version}
 use Rattle.ass_script.specs.declared.lines.Version.TheVariants.{V4, V4Plus}
@@ -19,6 +20,7 @@ use Rattle.ass_script.specs.declared.lines.Section.TheVariants as section
 use Rattle.ass_script.specs.declared.lines.Key.{Key}
 use Rattle.ass_script.specs.declared.lines.Key.TheVariants as key
 use Rattle.ass_script.specs.declared.header_lines.HeaderLines.{HeaderLines}
+use Rattle.ass_script.specs.declared.matrix.ScriptMatrix.TheVariants.{Unsaid}
 use Rattle.ass_script.specs.declared.reading.Headings.{Headings}
 use Rattle.ass_script.specs.declared.reading.Reading.{Reading}
 use Rattle.ass_script.specs.declared.script.EventField.{EventField}
@@ -39,6 +41,7 @@ header_in before = record {
   res_y = option_and_then canvas_side_of (last_value is_res_y before);
   wrap = option_map_or wrap_style_of (last_value is_wrap before) 0;
   scaled = option_map_or scaled_of (last_value is_scaled before) false;
+  matrix = option_map_or matrix_of (last_value is_matrix before) Unsaid;
 }
 
 abbrev fields_in : Version → List Line → Option (List StyleField)
@@ -95,12 +98,13 @@ module _ (before : List Line) (k : Key) (value : List ℕ) where
   same_headings : is_events_heading k ≡ false → is_styles_heading V4Plus k ≡ false → is_styles_heading V4 k ≡ false → headings_in before ≡ headings_in after
   same_headings a b c = λ i. record { events = has_no before line is_events_heading a i; styles = has_no before line (is_styles_heading V4Plus) b i; old_styles = has_no before line (is_styles_heading V4) c i }
 
-  same_header : is_res_x k ≡ false → is_res_y k ≡ false → is_wrap k ≡ false → is_scaled k ≡ false → header_in before ≡ header_in after
-  same_header a b c d = λ i. record {
+  same_header : is_res_x k ≡ false → is_res_y k ≡ false → is_wrap k ≡ false → is_scaled k ≡ false → is_matrix k ≡ false → header_in before ≡ header_in after
+  same_header a b c d e = λ i. record {
     res_x = option_and_then canvas_side_of (last_no before line is_res_x a i);
     res_y = option_and_then canvas_side_of (last_no before line is_res_y b i);
     wrap = option_map_or wrap_style_of (last_no before line is_wrap c i) 0;
     scaled = option_map_or scaled_of (last_no before line is_scaled d i) false;
+    matrix = option_map_or matrix_of (last_no before line is_matrix e i) Unsaid;
   }
 
   same_fields : (version : Version) → is_style_format version k ≡ false → fields_in version before ≡ fields_in version after
@@ -123,22 +127,22 @@ module _ (before : List Line) (k : Key) (value : List ℕ) where
 picked_step : (k : Key) (value : List ℕ) (s : Section) (before : List Line) →
     HoldsBy (limit_at before (record { key = k; value = value })) (section_at k s) (before ++ record { key = k; value = value } ∷ []) (keyed_step k value (picked s before))
 picked_step (key.Heading section.Info) value s before = let k = key.Heading section.Info in
-    reading_path section.Info (same_headings before k value refl refl refl) (same_header before k value refl refl refl refl) (same_fields before k value V4Plus refl) (same_fields before k value V4 refl)
+    reading_path section.Info (same_headings before k value refl refl refl) (same_header before k value refl refl refl refl refl) (same_fields before k value V4Plus refl) (same_fields before k value V4 refl)
     (same_styles before k value refl) (formats_no before _ refl) (values_no before _ is_dialogue refl)
 picked_step (key.Heading section.Other) value s before = let k = key.Heading section.Other in
-    reading_path section.Other (same_headings before k value refl refl refl) (same_header before k value refl refl refl refl) (same_fields before k value V4Plus refl) (same_fields before k value V4 refl)
+    reading_path section.Other (same_headings before k value refl refl refl) (same_header before k value refl refl refl refl refl) (same_fields before k value V4Plus refl) (same_fields before k value V4 refl)
     (same_styles before k value refl) (formats_no before _ refl) (values_no before _ is_dialogue refl)
 picked_step (key.Heading section.Events) value s before = let k = key.Heading section.Events in
     reading_path section.Events (λ i. record { events = has_yes before (record { key = k; value = value }) is_events_heading refl i; styles = has_no before (record { key = k; value = value }) (is_styles_heading V4Plus) refl i; old_styles = has_no before (record { key = k; value = value }) (is_styles_heading V4) refl i })
-    (same_header before k value refl refl refl refl) (same_fields before k value V4Plus refl) (same_fields before k value V4 refl)
+    (same_header before k value refl refl refl refl refl) (same_fields before k value V4Plus refl) (same_fields before k value V4 refl)
     (same_styles before k value refl) (formats_no before _ refl) (values_no before _ is_dialogue refl)
 picked_step (key.Heading (section.Styles V4Plus)) value s before = let k = key.Heading (section.Styles V4Plus) in
     reading_path (section.Styles V4Plus) (λ i. record { events = has_no before (record { key = k; value = value }) is_events_heading refl i; styles = has_yes before (record { key = k; value = value }) (is_styles_heading V4Plus) refl i; old_styles = has_no before (record { key = k; value = value }) (is_styles_heading V4) refl i })
-    (same_header before k value refl refl refl refl) (same_fields before k value V4Plus refl) (same_fields before k value V4 refl)
+    (same_header before k value refl refl refl refl refl) (same_fields before k value V4Plus refl) (same_fields before k value V4 refl)
     (same_styles before k value refl) (formats_no before _ refl) (values_no before _ is_dialogue refl)
 picked_step (key.Heading (section.Styles V4)) value s before = let k = key.Heading (section.Styles V4) in
     reading_path (section.Styles V4) (λ i. record { events = has_no before (record { key = k; value = value }) is_events_heading refl i; styles = has_no before (record { key = k; value = value }) (is_styles_heading V4Plus) refl i; old_styles = has_yes before (record { key = k; value = value }) (is_styles_heading V4) refl i })
-    (same_header before k value refl refl refl refl) (same_fields before k value V4Plus refl) (same_fields before k value V4 refl)
+    (same_header before k value refl refl refl refl refl) (same_fields before k value V4Plus refl) (same_fields before k value V4 refl)
     (same_styles before k value refl) (formats_no before _ refl) (values_no before _ is_dialogue refl)
 picked_step key.ResX value s before = let k = key.ResX in
     reading_path s (same_headings before k value refl refl refl)
@@ -147,6 +151,7 @@ picked_step key.ResX value s before = let k = key.ResX in
       res_y = option_and_then canvas_side_of (last_no before (record { key = k; value = value }) is_res_y refl i);
       wrap = option_map_or wrap_style_of (last_no before (record { key = k; value = value }) is_wrap refl i) 0;
       scaled = option_map_or scaled_of (last_no before (record { key = k; value = value }) is_scaled refl i) false;
+      matrix = option_map_or matrix_of (last_no before (record { key = k; value = value }) is_matrix refl i) Unsaid;
     })
     (same_fields before k value V4Plus refl) (same_fields before k value V4 refl)
     (same_styles before k value refl) (formats_no before _ refl) (values_no before _ is_dialogue refl)
@@ -157,6 +162,7 @@ picked_step key.ResY value s before = let k = key.ResY in
       res_y = option_and_then canvas_side_of (last_yes before (record { key = k; value = value }) is_res_y refl i);
       wrap = option_map_or wrap_style_of (last_no before (record { key = k; value = value }) is_wrap refl i) 0;
       scaled = option_map_or scaled_of (last_no before (record { key = k; value = value }) is_scaled refl i) false;
+      matrix = option_map_or matrix_of (last_no before (record { key = k; value = value }) is_matrix refl i) Unsaid;
     })
     (same_fields before k value V4Plus refl) (same_fields before k value V4 refl)
     (same_styles before k value refl) (formats_no before _ refl) (values_no before _ is_dialogue refl)
@@ -167,6 +173,7 @@ picked_step key.Wrap value s before = let k = key.Wrap in
       res_y = option_and_then canvas_side_of (last_no before (record { key = k; value = value }) is_res_y refl i);
       wrap = option_map_or wrap_style_of (last_yes before (record { key = k; value = value }) is_wrap refl i) 0;
       scaled = option_map_or scaled_of (last_no before (record { key = k; value = value }) is_scaled refl i) false;
+      matrix = option_map_or matrix_of (last_no before (record { key = k; value = value }) is_matrix refl i) Unsaid;
     })
     (same_fields before k value V4Plus refl) (same_fields before k value V4 refl)
     (same_styles before k value refl) (formats_no before _ refl) (values_no before _ is_dialogue refl)
@@ -177,14 +184,26 @@ picked_step key.Scaled value s before = let k = key.Scaled in
       res_y = option_and_then canvas_side_of (last_no before (record { key = k; value = value }) is_res_y refl i);
       wrap = option_map_or wrap_style_of (last_no before (record { key = k; value = value }) is_wrap refl i) 0;
       scaled = option_map_or scaled_of (last_yes before (record { key = k; value = value }) is_scaled refl i) false;
+      matrix = option_map_or matrix_of (last_no before (record { key = k; value = value }) is_matrix refl i) Unsaid;
+    })
+    (same_fields before k value V4Plus refl) (same_fields before k value V4 refl)
+    (same_styles before k value refl) (formats_no before _ refl) (values_no before _ is_dialogue refl)
+picked_step key.Matrix value s before = let k = key.Matrix in
+    reading_path s (same_headings before k value refl refl refl)
+    (λ i. record {
+      res_x = option_and_then canvas_side_of (last_no before (record { key = k; value = value }) is_res_x refl i);
+      res_y = option_and_then canvas_side_of (last_no before (record { key = k; value = value }) is_res_y refl i);
+      wrap = option_map_or wrap_style_of (last_no before (record { key = k; value = value }) is_wrap refl i) 0;
+      scaled = option_map_or scaled_of (last_no before (record { key = k; value = value }) is_scaled refl i) false;
+      matrix = option_map_or matrix_of (last_yes before (record { key = k; value = value }) is_matrix refl i) Unsaid;
     })
     (same_fields before k value V4Plus refl) (same_fields before k value V4 refl)
     (same_styles before k value refl) (formats_no before _ refl) (values_no before _ is_dialogue refl)
 picked_step (key.StyleFormat V4Plus) value s before = let k = key.StyleFormat V4Plus in
-    reading_path s (same_headings before k value refl refl refl) (same_header before k value refl refl refl refl) (new_fields before k value V4Plus refl) (same_fields before k value V4 refl)
+    reading_path s (same_headings before k value refl refl refl) (same_header before k value refl refl refl refl refl) (new_fields before k value V4Plus refl) (same_fields before k value V4 refl)
     (same_styles before k value refl) (formats_no before _ refl) (values_no before _ is_dialogue refl)
 picked_step (key.StyleFormat V4) value s before = let k = key.StyleFormat V4 in
-    reading_path s (same_headings before k value refl refl refl) (same_header before k value refl refl refl refl) (same_fields before k value V4Plus refl) (new_fields before k value V4 refl)
+    reading_path s (same_headings before k value refl refl refl) (same_header before k value refl refl refl refl refl) (same_fields before k value V4Plus refl) (new_fields before k value V4 refl)
     (same_styles before k value refl) (formats_no before _ refl) (values_no before _ is_dialogue refl)
 picked_step (key.Style version) value s before = cases (leb max_styles (length (styles_behind [] before)))
   where
@@ -192,17 +211,17 @@ picked_step (key.Style version) value s before = cases (leb max_styles (length (
         (cond b (record (picked s before) { refusal = Some (refusal.TooManyStyles max_styles) }) (record (picked s before) { styles = styles_behind [] before ++ style_of version (fields_of version (picked s before)) value ∷ [] }))
     cases true = (refl, has_no before (record { key = key.Style version; value = value }) is_events_heading refl, refl)
     cases false = let k = key.Style version in
-        reading_path s (same_headings before k value refl refl refl) (same_header before k value refl refl refl refl) (same_fields before k value V4Plus refl) (same_fields before k value V4 refl)
+        reading_path s (same_headings before k value refl refl refl) (same_header before k value refl refl refl refl refl) (same_fields before k value V4Plus refl) (same_fields before k value V4 refl)
         (new_style before k value version refl s) (formats_no before _ refl) (values_no before _ is_dialogue refl)
 picked_step key.EventFormat value s before = cases (ends_in_text (event_fields_of value)) (formats_yes before (record { key = key.EventFormat; value = value }) refl)
   where
     cases : (b : Bool) → cond b (Some (event_fields_of value)) (last_of (event_formats before)) ≡ last_of (event_formats (before ++ record { key = key.EventFormat; value = value } ∷ [])) →
         cond b (record (picked s before) { format = Some (event_fields_of value) }) (picked s before) ≡ picked s (before ++ record { key = key.EventFormat; value = value } ∷ [])
     cases true format = let k = key.EventFormat in
-        reading_path s (same_headings before k value refl refl refl) (same_header before k value refl refl refl refl) (same_fields before k value V4Plus refl) (same_fields before k value V4 refl)
+        reading_path s (same_headings before k value refl refl refl) (same_header before k value refl refl refl refl refl) (same_fields before k value V4Plus refl) (same_fields before k value V4 refl)
         (same_styles before k value refl) format (values_no before _ is_dialogue refl)
     cases false format = let k = key.EventFormat in
-        reading_path s (same_headings before k value refl refl refl) (same_header before k value refl refl refl refl) (same_fields before k value V4Plus refl) (same_fields before k value V4 refl)
+        reading_path s (same_headings before k value refl refl refl) (same_header before k value refl refl refl refl refl) (same_fields before k value V4Plus refl) (same_fields before k value V4 refl)
         (same_styles before k value refl) format (values_no before _ is_dialogue refl)
 picked_step key.Dialogue value s before = cases (leb max_lines (length (values_of is_dialogue before)))
   where
@@ -210,10 +229,10 @@ picked_step key.Dialogue value s before = cases (leb max_lines (length (values_o
         (cond b (record (picked s before) { refusal = Some (refusal.TooManyLines max_lines) }) (record (picked s before) { lines = values_of is_dialogue before ++ value ∷ [] }))
     cases true = (refl, has_no before (record { key = key.Dialogue; value = value }) is_events_heading refl, refl)
     cases false = let k = key.Dialogue in
-        reading_path s (same_headings before k value refl refl refl) (same_header before k value refl refl refl refl) (same_fields before k value V4Plus refl) (same_fields before k value V4 refl)
+        reading_path s (same_headings before k value refl refl refl) (same_header before k value refl refl refl refl refl) (same_fields before k value V4Plus refl) (same_fields before k value V4 refl)
         (same_styles before k value refl) (formats_no before _ refl) (values_yes before _ is_dialogue refl)
 picked_step key.Other value s before = let k = key.Other in
-    reading_path s (same_headings before k value refl refl refl) (same_header before k value refl refl refl refl) (same_fields before k value V4Plus refl) (same_fields before k value V4 refl)
+    reading_path s (same_headings before k value refl refl refl) (same_header before k value refl refl refl refl refl) (same_fields before k value V4Plus refl) (same_fields before k value V4 refl)
     (same_styles before k value refl) (formats_no before _ refl) (values_no before _ is_dialogue refl)
 
 -- A line that is no heading changes nothing then.
@@ -236,6 +255,7 @@ refused_step key.ResX value s before why r holds = stays key.ResX value s before
 refused_step key.ResY value s before why r holds = stays key.ResY value s before why r refl holds
 refused_step key.Wrap value s before why r holds = stays key.Wrap value s before why r refl holds
 refused_step key.Scaled value s before why r holds = stays key.Scaled value s before why r refl holds
+refused_step key.Matrix value s before why r holds = stays key.Matrix value s before why r refl holds
 refused_step (key.StyleFormat version) value s before why r holds = stays (key.StyleFormat version) value s before why r refl holds
 refused_step (key.Style version) value s before why r holds = stays (key.Style version) value s before why r refl holds
 refused_step key.EventFormat value s before why r holds = stays key.EventFormat value s before why r refl holds
@@ -267,7 +287,8 @@ info_plain word =
     plain_if _ key.ResX _ (record { stays = λ s. refl })
     (plain_if _ key.ResY _ (record { stays = λ s. refl })
     (plain_if _ key.Wrap _ (record { stays = λ s. refl })
-    (plain_if _ key.Scaled key.Other (record { stays = λ s. refl }) (record { stays = λ s. refl }))))
+    (plain_if _ key.Scaled _ (record { stays = λ s. refl })
+    (plain_if _ key.Matrix key.Other (record { stays = λ s. refl }) (record { stays = λ s. refl })))))
 
 style_plain : (version : Version) (word : List ℕ) → IsPlain (style_key_named version word)
 unfolding style_key_named

@@ -3,6 +3,7 @@ pub mod Words
 pub mod Numbers
 pub mod Fields
 pub mod Styles
+pub mod Matrices
 pub mod Lines
 pub mod Scripts
 pub mod Ranges

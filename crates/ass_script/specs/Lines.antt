@@ -40,6 +40,7 @@ info_key_named word =
     else if same_name word (codes "PlayResY") then key.ResY
     else if same_name word (codes "WrapStyle") then key.Wrap
     else if same_name word (codes "ScaledBorderAndShadow") then key.Scaled
+    else if same_name word (codes "YCbCr Matrix") then key.Matrix
     else key.Other
 
 unfoldable pub style_key_named : Version → List ℕ → Key

@@ -12,12 +12,14 @@ use Rattle.ass_script.specs.Words.{past_mark, bare_name}
 use Rattle.ass_num.specs.Wholes.{whole_of}
 use Rattle.ass_script.specs.Fields.{style_fields_of, usual_style_fields, event_fields_of, usual_event_fields, ends_in_text}
 use Rattle.ass_script.specs.Styles.{built_in_style, style_of}
+use Rattle.ass_script.specs.Matrices.{matrix_of}
 use Rattle.ass_script.specs.Lines.{Line, lines_in_sections}
 use Rattle.ass_script.specs.declared.lines.Version.{Version}
 use Rattle.ass_script.specs.declared.lines.Version.TheVariants.{V4, V4Plus}
 use Rattle.ass_script.specs.declared.lines.Section.TheVariants as section
 use Rattle.ass_script.specs.declared.lines.Key.{Key}
 use Rattle.ass_script.specs.declared.lines.Key.TheVariants as key
+use Rattle.ass_script.specs.declared.matrix.ScriptMatrix.TheVariants.{Unsaid}
 use Rattle.ass_script.specs.declared.script.Header.{Header}
 use Rattle.ass_script.specs.declared.script.EventField.{EventField}
 use Rattle.ass_script.specs.declared.style.Style.{Style}
@@ -49,6 +51,10 @@ is_wrap _ = false
 abbrev pub is_scaled : Key → Bool
 is_scaled key.Scaled = true
 is_scaled _ = false
+
+abbrev pub is_matrix : Key → Bool
+is_matrix key.Matrix = true
+is_matrix _ = false
 
 abbrev pub is_dialogue : Key → Bool
 is_dialogue key.Dialogue = true
@@ -141,6 +147,7 @@ header_of all =
       res_y = canvas_height x y;
       wrap = option_map_or wrap_style_of (last_value is_wrap all) 0;
       scaled = option_map_or scaled_of (last_value is_scaled all) false;
+      matrix = option_map_or matrix_of (last_value is_matrix all) Unsaid;
     }
 
 -- ---- styles

@@ -4,6 +4,7 @@ use Rattle.std.specs.Option.{option_map_or}
 use Rattle.ass_script.specs.Limits.{max_lines, max_styles}
 use Rattle.ass_script.specs.Fields.{style_fields_of, usual_style_fields, event_fields_of, usual_event_fields, ends_in_text}
 use Rattle.ass_script.specs.Styles.{style_of}
+use Rattle.ass_script.specs.Matrices.{matrix_of}
 use Rattle.ass_script.specs.Lines.{line_in}
 use Rattle.ass_script.specs.Scripts.{ScriptValue, canvas_side_of, wrap_style_of, scaled_of, width_of, canvas_height}
 use Rattle.ass_script.specs.declared.lines.Version.{Version}
@@ -13,6 +14,7 @@ use Rattle.ass_script.specs.declared.lines.Section.TheVariants as section
 use Rattle.ass_script.specs.declared.lines.Key.{Key}
 use Rattle.ass_script.specs.declared.lines.Key.TheVariants as key
 use Rattle.ass_script.specs.declared.header_lines.HeaderLines.{HeaderLines}
+use Rattle.ass_script.specs.declared.matrix.ScriptMatrix.TheVariants.{Unsaid}
 use Rattle.ass_script.specs.declared.script.Header.{Header}
 use Rattle.ass_script.specs.declared.script.EventField.{EventField}
 use Rattle.ass_script.specs.declared.style_field.StyleField.{StyleField}
@@ -22,16 +24,17 @@ use Rattle.ass_script.specs.declared.refusal.ScriptRefusal.{ScriptRefusal}
 use Rattle.ass_script.specs.declared.refusal.ScriptRefusal.TheVariants as refusal
 
 abbrev pub no_header_lines : HeaderLines
-no_header_lines = record { res_x = None; res_y = None; wrap = 0; scaled = false }
+no_header_lines = record { res_x = None; res_y = None; wrap = 0; scaled = false; matrix = Unsaid }
 
 abbrev pub made_header : HeaderLines → Header
-made_header h = record { res_x = width_of h.res_x h.res_y; res_y = canvas_height h.res_x h.res_y; wrap = h.wrap; scaled = h.scaled }
+made_header h = record { res_x = width_of h.res_x h.res_y; res_y = canvas_height h.res_x h.res_y; wrap = h.wrap; scaled = h.scaled; matrix = h.matrix }
 
 abbrev pub header_lines_after : Key → List ℕ → HeaderLines → HeaderLines
 header_lines_after key.ResX value h = record h { res_x = canvas_side_of value }
 header_lines_after key.ResY value h = record h { res_y = canvas_side_of value }
 header_lines_after key.Wrap value h = record h { wrap = wrap_style_of value }
 header_lines_after key.Scaled value h = record h { scaled = scaled_of value }
+header_lines_after key.Matrix value h = record h { matrix = matrix_of value }
 header_lines_after _ value h = h
 
 -- ---- headings

@@ -7,6 +7,7 @@ ghost use Rattle.ass_script.specs.Scripts.{canvas_side_of, wrap_style_of, scaled
 ghost use Rattle.ass_script.specs.Walk.{no_header_lines, header_lines_after, made_header};
 
 use crate::lines::Key;
+use crate::matrix::{ScriptMatrix, matrix_in};
 use crate::script::Header;
 use crate::words::same_name;
 use ass_num::read_whole;
@@ -61,6 +62,7 @@ pub struct HeaderLines {
     pub res_y: Option<u32>,
     pub wrap: u8,
     pub scaled: bool,
+    pub matrix: ScriptMatrix,
 }
 
 impl HeaderLines {
@@ -74,6 +76,7 @@ impl HeaderLines {
             res_y: None,
             wrap: 0,
             scaled: false,
+            matrix: ScriptMatrix::Unsaid,
         }
     }
 
@@ -88,6 +91,7 @@ impl HeaderLines {
             Key::ResY => self.res_y = side(value),
             Key::Wrap => self.wrap = wrap(value),
             Key::Scaled => self.scaled = scaled(value),
+            Key::Matrix => self.matrix = matrix_in(value),
             _ => {}
         }
     }
@@ -131,6 +135,7 @@ impl HeaderLines {
             res_y: self.height(),
             wrap: self.wrap,
             scaled: self.scaled,
+            matrix: self.matrix,
         }
     }
 }

@@ -6,6 +6,7 @@ mod fields;
 mod header_lines;
 mod laws;
 mod lines;
+mod matrix;
 mod read;
 mod reading;
 mod refusal;
@@ -17,6 +18,7 @@ mod style_line;
 mod words;
 
 pub use laws::numbers_are_read;
+pub use matrix::{ColourMatrix, ColourRange, ScriptMatrix, VideoColours, video_colours_named};
 pub use read::read_script;
 pub use refusal::ScriptRefusal;
 pub use script::{EventField, Header, Script, find_style};

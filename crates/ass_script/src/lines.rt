@@ -32,6 +32,7 @@ pub enum Key {
     ResY,
     Wrap,
     Scaled,
+    Matrix,
     StyleFormat(Version),
     Style(Version),
     EventFormat,
@@ -82,6 +83,9 @@ fn info_key_named(word: &str) -> Key
     }
     if same_name(word, "ScaledBorderAndShadow") {
         return Key::Scaled;
+    }
+    if same_name(word, "YCbCr Matrix") {
+        return Key::Matrix;
     }
     Key::Other
 }

@@ -180,7 +180,7 @@ impl Reading {
             Key::Style(version) => self.style(alloc, version, value),
             Key::EventFormat => self.event_format(alloc, value),
             Key::Dialogue => self.dialogue(value),
-            Key::ResX | Key::ResY | Key::Wrap | Key::Scaled => {
+            Key::ResX | Key::ResY | Key::Wrap | Key::Scaled | Key::Matrix => {
                 self.header.line(key, value);
                 Ok(())
             }

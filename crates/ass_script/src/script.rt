@@ -5,6 +5,7 @@ ghost use Rattle.std.specs.BTreeMap.{get_by_text};
 ghost use Rattle.ass_script.specs.Ranges.{IsStyle};
 ghost use Rattle.ass_script.specs.Scripts.{last_named, style_for, style_place};
 
+use crate::matrix::ScriptMatrix;
 use crate::style::{Style, built_in_style};
 use crate::words::bare_name;
 use ass_num::{FlatLists, Items, Mem};
@@ -23,6 +24,8 @@ pub struct Header {
     pub wrap: u8,
     /// Whether borders and shadows scale with the frame.
     pub scaled: bool,
+    /// For which video the colours are.
+    pub matrix: ScriptMatrix,
 }
 
 /// A field of an event line (ASS specification, "Dialogue event lines"); `ReadOrder`, `Duration` and `Utf8` stand in

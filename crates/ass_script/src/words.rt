@@ -30,6 +30,7 @@ pub fn bare_name(text: &str) -> &str
 }
 
 /// Whether two names are one without regard to ASCII case.
+#[inline(never)]
 pub fn same_name(a: &str, b: &str) -> bool
     ensures { result ≡ same_name a.now b.now }
 {
