@@ -6,7 +6,7 @@ ghost use Rattle.ass_script.specs.Ranges.{IsScriptHeader};
 use crate::telling::numbers_of;
 use crate::unreadable;
 use ass_num::Size;
-use ass_script::Header;
+use ass_script::{Header, ScriptMatrix};
 use frame_view::{FrameView, LetterWidth, PixelAspect, PixelRect, is_frame_view, scales_of};
 use std::io;
 
@@ -43,6 +43,7 @@ fn header_of(numbers: [i64; 3]) -> io::Result<Header>
         res_y: res_y as u32,
         wrap: 0,
         scaled: scaled == 1,
+        matrix: ScriptMatrix::Unsaid,
     })
 }
 

@@ -12,6 +12,7 @@ use Rattle.ass_script.specs.Styles.{style_of}
 use Rattle.ass_script.specs.Walk.{walked, no_header_lines, no_script_lines, made_header, made_script}
 use Rattle.ass_script.specs.Words.{past_mark}
 use Rattle.ass_script.specs.declared.header_lines.HeaderLines.{HeaderLines}
+use Rattle.ass_script.specs.declared.matrix.ScriptMatrix.TheVariants.{Unsaid}
 use Rattle.ass_script.specs.declared.lines.Section.TheVariants as section
 use Rattle.ass_script.specs.declared.lines.Version.TheVariants.{V4Plus}
 use Rattle.ass_script.specs.declared.reading.Reading.{Reading}
@@ -88,7 +89,7 @@ dialogues_hold seed start (suc n) few =
 -- ---- the walk
 
 abbrev generated_header : HeaderLines
-generated_header = record { res_x = canvas_side_of (codes " 320"); res_y = canvas_side_of (codes " 180"); wrap = wrap_style_of (codes " 0"); scaled = false }
+generated_header = record { res_x = canvas_side_of (codes " 320"); res_y = canvas_side_of (codes " 180"); wrap = wrap_style_of (codes " 0"); scaled = false; matrix = Unsaid }
 
 abbrev generated_style : Style
 generated_style = style_of V4Plus (usual_style_fields V4Plus) (32 ∷ style_value)

@@ -133,6 +133,7 @@ key_kept key.ResX value r utf8 is = header_line_kept key.ResX value r is
 key_kept key.ResY value r utf8 is = header_line_kept key.ResY value r is
 key_kept key.Wrap value r utf8 is = header_line_kept key.Wrap value r is
 key_kept key.Scaled value r utf8 is = header_line_kept key.Scaled value r is
+key_kept key.Matrix value r utf8 is = header_line_kept key.Matrix value r is
 
 keyed_kept : (k : Key) (value : List ℕ) (r : Reading) → IsUtf8 value → IsScriptReading r → IsScriptReading (keyed_step k value r)
 keyed_kept (key.Heading s) value r utf8 is = assumption

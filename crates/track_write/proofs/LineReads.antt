@@ -78,6 +78,13 @@ scaled_keyed v = refl
 pub scaled_said : (v : List ℕ) → line_in section.Info (codes "ScaledBorderAndShadow: " ++ v) ≡ said key.Scaled (32 ∷ v)
 scaled_said v = keyed section.Info 83 (codes "caledBorderAndShadow: " ++ v) refl refl ∙ scaled_keyed v
 
+matrix_keyed : (v : List ℕ) → keyed_line section.Info (codes "YCbCr Matrix: " ++ v) ≡ said key.Matrix (32 ∷ v)
+unfolding keyed_line trimmed past_blanks before_blanks info_key_named
+matrix_keyed v = refl
+
+pub matrix_said : (v : List ℕ) → line_in section.Info (codes "YCbCr Matrix: " ++ v) ≡ said key.Matrix (32 ∷ v)
+matrix_said v = keyed section.Info 89 (codes "CbCr Matrix: " ++ v) refl refl ∙ matrix_keyed v
+
 style_keyed : (v : List ℕ) → keyed_line (section.Styles V4Plus) (codes "Style: " ++ v) ≡ said (key.Style V4Plus) (32 ∷ v)
 unfolding keyed_line trimmed past_blanks before_blanks style_key_named
 style_keyed v = refl

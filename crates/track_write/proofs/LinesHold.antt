@@ -20,6 +20,12 @@ use Rattle.ass_num.specs.Limits.{IsWithin, IsHeldNumber, IsHeldLength, max_whole
 use Rattle.ass_num.proofs.OrderLemmas.{le_is}
 use Rattle.ass_script.specs.Ranges.{IsStyle, IsScriptHeader}
 use Rattle.ass_script.specs.declared.script.EventField.TheVariants as field
+use Rattle.ass_script.specs.declared.matrix.ColourRange.{ColourRange}
+use Rattle.ass_script.specs.declared.matrix.ColourRange.TheVariants as range
+use Rattle.ass_script.specs.declared.matrix.ColourMatrix.{ColourMatrix}
+use Rattle.ass_script.specs.declared.matrix.ColourMatrix.TheVariants as matrix
+use Rattle.ass_script.specs.declared.matrix.ScriptMatrix.{ScriptMatrix}
+use Rattle.ass_script.specs.declared.matrix.ScriptMatrix.TheVariants.{Unconverted, Unsaid, Video}
 use Rattle.ass_script.specs.declared.script.Header.{Header}
 use Rattle.ass_script.specs.declared.style.Style.{Style}
 use Rattle.ass_events.specs.Events.{is_time}
@@ -27,7 +33,7 @@ use Rattle.ass_events.specs.Ranges.{IsEvent}
 use Rattle.ass_events.specs.declared.event.Event.{Event}
 use Rattle.ass_events.proofs.PieceLemmas.{EachUtf8, joined_utf8}
 use Rattle.track_write.specs.Ranges.{IsByteColour, IsSpelledStyle}
-use Rattle.track_write.specs.Rows.{row, event_end, scaled_line, header_lines, style_line, style_lines, style_format_line, event_format_line, dialogue_line, event_lines, colour_of_place}
+use Rattle.track_write.specs.Rows.{row, event_end, scaled_line, video_line, matrix_lines, header_lines, style_line, style_lines, style_format_line, event_format_line, dialogue_line, event_lines, colour_of_place}
 use Rattle.track_write.specs.Spelling.{milli_text, colour_text, flag_text, time_text}
 use Rattle.track_write.specs.Texts.{is_line_feed, has_line_feed, ends_in_return, is_hundredths, is_written_end, text_fault, event_fault, max_written_end}
 use Rattle.track_write.proofs.EventReads.{IsWrittenTime}
@@ -87,6 +93,21 @@ scaled_whole : (b : Bool) → IsLine (scaled_line b)
 scaled_whole true = plain_line (scaled_line true) refl refl
 scaled_whole false = plain_line (scaled_line false) refl refl
 
+colours_whole : (r : ColourRange) (m : ColourMatrix) → IsLine (video_line r m)
+colours_whole range.Limited matrix.Bt601 = plain_line (video_line range.Limited matrix.Bt601) refl refl
+colours_whole range.Limited matrix.Bt709 = plain_line (video_line range.Limited matrix.Bt709) refl refl
+colours_whole range.Limited matrix.Smpte240m = plain_line (video_line range.Limited matrix.Smpte240m) refl refl
+colours_whole range.Limited matrix.Fcc = plain_line (video_line range.Limited matrix.Fcc) refl refl
+colours_whole range.Full matrix.Bt601 = plain_line (video_line range.Full matrix.Bt601) refl refl
+colours_whole range.Full matrix.Bt709 = plain_line (video_line range.Full matrix.Bt709) refl refl
+colours_whole range.Full matrix.Smpte240m = plain_line (video_line range.Full matrix.Smpte240m) refl refl
+colours_whole range.Full matrix.Fcc = plain_line (video_line range.Full matrix.Fcc) refl refl
+
+matrix_whole : (m : ScriptMatrix) → AreLines (matrix_lines m)
+matrix_whole Unsaid = tt
+matrix_whole Unconverted = (plain_line (codes "YCbCr Matrix: None") refl refl, tt)
+matrix_whole (Video colours) = (colours_whole colours.range colours.matrix, tt)
+
 pub header_hold : (h : Header) → IsScriptHeader h → AreLines (header_lines h)
 header_hold h is = (
   plain_line (codes "[Script Info]") refl refl,
@@ -94,7 +115,7 @@ header_hold h is = (
     plain_line (codes "ScriptType: v4.00+") refl refl,
     (
       key_number (codes "PlayResX: ") h.res_x refl (omega (arith, is.width.1)),
-      (key_number (codes "PlayResY: ") h.res_y refl (omega (arith, is.height.1)), (key_number (codes "WrapStyle: ") h.wrap refl (omega (arith, is.wrap)), (scaled_whole h.scaled, tt))),
+      (key_number (codes "PlayResY: ") h.res_y refl (omega (arith, is.height.1)), (key_number (codes "WrapStyle: ") h.wrap refl (omega (arith, is.wrap)), (scaled_whole h.scaled, matrix_whole h.matrix))),
     ),
   ),
 )

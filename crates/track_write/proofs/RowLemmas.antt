@@ -27,13 +27,13 @@ two_parts t a b one two one_is two_is =
     let whole : two ≡ (t ++ a) ++ b = cc in
     whole ∙ append_assoc t a b ∙ ap (λ z. t ++ (a ++ z)) (sym (append-nil b))
 
--- six parts behind a text
-pub six_parts : (t a b c d e f one two three four five six : List ℕ) → one ≡ t ++ a → two ≡ one ++ b → three ≡ two ++ c → four ≡ three ++ d → five ≡ four ++ e → six ≡ five ++ f →
-    six ≡ t ++ (a ++ (b ++ (c ++ (d ++ (e ++ (f ++ []))))))
-six_parts t a b c d e f one two three four five six one_is two_is three_is four_is five_is six_is =
-    let whole : six ≡ (((((t ++ a) ++ b) ++ c) ++ d) ++ e) ++ f = cc in
-    let flat : (((((t ++ a) ++ b) ++ c) ++ d) ++ e) ++ f ≡ t ++ (a ++ (b ++ (c ++ (d ++ (e ++ f))))) = simp append_assoc in
-    whole ∙ flat ∙ ap (λ z. t ++ (a ++ (b ++ (c ++ (d ++ (e ++ z)))))) (sym (append-nil f))
+-- seven parts behind a text
+pub seven_parts : (t a b c d e f g one two three four five six seven : List ℕ) → one ≡ t ++ a → two ≡ one ++ b → three ≡ two ++ c → four ≡ three ++ d → five ≡ four ++ e → six ≡ five ++ f → seven ≡ six ++ g →
+    seven ≡ t ++ (a ++ (b ++ (c ++ (d ++ (e ++ (f ++ g))))))
+seven_parts t a b c d e f g one two three four five six seven one_is two_is three_is four_is five_is six_is seven_is =
+    let whole : seven ≡ ((((((t ++ a) ++ b) ++ c) ++ d) ++ e) ++ f) ++ g = cc in
+    let flat : ((((((t ++ a) ++ b) ++ c) ++ d) ++ e) ++ f) ++ g ≡ t ++ (a ++ (b ++ (c ++ (d ++ (e ++ (f ++ g)))))) = simp append_assoc in
+    whole ∙ flat
 
 -- the lines of a script in five parts
 pub five_parts : (h a b c d : List (List ℕ)) (none one two three four five : List ℕ) → none ≡ [] → one ≡ none ++ flat_map ended h → two ≡ one ++ flat_map ended a → three ≡ two ++ flat_map ended b →

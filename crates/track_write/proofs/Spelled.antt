@@ -162,6 +162,7 @@ key_kept key.ResX value r fed all = all
 key_kept key.ResY value r fed all = all
 key_kept key.Wrap value r fed all = all
 key_kept key.Scaled value r fed all = all
+key_kept key.Matrix value r fed all = all
 
 keyed_kept : (k : Key) (value : List ℕ) (r : Reading) → All NoFeed value → All IsSpelledStyle r.styles → All IsSpelledStyle (keyed_step k value r).styles
 keyed_kept (key.Heading s) value r fed all = all
@@ -174,6 +175,7 @@ keyed_kept key.ResX value r fed all = kept_if (is_some r.refusal) r (key_step ke
 keyed_kept key.ResY value r fed all = kept_if (is_some r.refusal) r (key_step key.ResY value r) all (key_kept key.ResY value r fed all)
 keyed_kept key.Wrap value r fed all = kept_if (is_some r.refusal) r (key_step key.Wrap value r) all (key_kept key.Wrap value r fed all)
 keyed_kept key.Scaled value r fed all = kept_if (is_some r.refusal) r (key_step key.Scaled value r) all (key_kept key.Scaled value r fed all)
+keyed_kept key.Matrix value r fed all = kept_if (is_some r.refusal) r (key_step key.Matrix value r) all (key_kept key.Matrix value r fed all)
 
 -- ---- all lines
 

@@ -15,6 +15,7 @@ use Rattle.ass_script.specs.Limits.{max_lines, max_styles}
 use Rattle.ass_script.specs.Lines.{line_in}
 use Rattle.ass_script.specs.Ranges.{IsStyle, IsScriptHeader}
 use Rattle.ass_script.specs.Styles.{style_of}
+use Rattle.ass_script.specs.Matrices.{full_matrix_named, limited_matrix_named, matrix_of, video_colours_named}
 use Rattle.ass_script.specs.Scripts.{ScriptValue, canvas_side_of, canvas_side_in, wrap_style_of, wrap_in, scaled_of}
 use Rattle.ass_script.specs.Walk.{keyed_step, line_step, walked, no_script_lines, made_script}
 use Rattle.ass_script.specs.declared.header_lines.HeaderLines.{HeaderLines}
@@ -24,13 +25,19 @@ use Rattle.ass_script.specs.declared.lines.Version.TheVariants.{V4Plus}
 use Rattle.ass_script.specs.declared.lines.Key.{Key}
 use Rattle.ass_script.specs.declared.reading.Reading.{Reading}
 use Rattle.ass_script.specs.declared.refusal.ScriptRefusal.TheVariants as refusal
+use Rattle.ass_script.specs.declared.matrix.ColourRange.{ColourRange}
+use Rattle.ass_script.specs.declared.matrix.ColourRange.TheVariants as range
+use Rattle.ass_script.specs.declared.matrix.ColourMatrix.{ColourMatrix}
+use Rattle.ass_script.specs.declared.matrix.ColourMatrix.TheVariants as matrix
+use Rattle.ass_script.specs.declared.matrix.ScriptMatrix.{ScriptMatrix}
+use Rattle.ass_script.specs.declared.matrix.ScriptMatrix.TheVariants.{Unconverted, Unsaid, Video}
 use Rattle.ass_script.specs.declared.script.Header.{Header}
 use Rattle.ass_script.specs.declared.style.Style.{Style}
 use Rattle.ass_events.specs.declared.event.Event.{Event}
 use Rattle.ass_num.specs.Blanks.{past_blanks, before_blanks, trimmed}
 use Rattle.track_write.specs.Ranges.{IsSpelledStyle, IsSpelledScript}
-use Rattle.track_write.specs.Rows.{row, event_fields, header_lines, style_fields, style_format_line, style_line, style_lines, event_format_line, dialogue_line, spoken, event_lines, scaled_line, script_lines}
-use Rattle.track_write.proofs.LineReads.{said, info_heading, styles_heading, events_heading, type_line, width_line, height_line, wrap_line, scaled_said, style_said, style_format_said, event_format_said, dialogue_said}
+use Rattle.track_write.specs.Rows.{row, event_fields, header_lines, style_fields, style_format_line, style_line, style_lines, event_format_line, dialogue_line, spoken, event_lines, scaled_line, range_name, matrix_name, video_line, matrix_lines, script_lines}
+use Rattle.track_write.proofs.LineReads.{said, info_heading, styles_heading, events_heading, type_line, width_line, height_line, wrap_line, scaled_said, matrix_said, style_said, style_format_said, event_format_said, dialogue_said}
 use Rattle.track_write.proofs.Readings.{whole_read, one_blank}
 use Rattle.track_write.proofs.StyleReads.{style_read}
 
@@ -74,12 +81,38 @@ unfolding scaled_of whole_of trimmed past_blanks before_blanks
 scaled_read true = refl
 scaled_read false = refl
 
+none_read : matrix_of (codes " None") ≡ Unconverted
+unfolding matrix_of trimmed past_blanks before_blanks
+none_read = refl
+
+video_read : (r : ColourRange) (m : ColourMatrix) → matrix_of (32 ∷ (range_name r ++ matrix_name m)) ≡ Video (record { matrix = m; range = r })
+unfolding matrix_of video_colours_named limited_matrix_named full_matrix_named trimmed past_blanks before_blanks
+video_read range.Limited matrix.Bt601 = refl
+video_read range.Limited matrix.Bt709 = refl
+video_read range.Limited matrix.Smpte240m = refl
+video_read range.Limited matrix.Fcc = refl
+video_read range.Full matrix.Bt601 = refl
+video_read range.Full matrix.Bt709 = refl
+video_read range.Full matrix.Smpte240m = refl
+video_read range.Full matrix.Fcc = refl
+
 abbrev header_said : Header → HeaderLines
-header_said h = record { res_x = Some h.res_x; res_y = Some h.res_y; wrap = h.wrap; scaled = h.scaled }
+header_said h = record { res_x = Some h.res_x; res_y = Some h.res_y; wrap = h.wrap; scaled = h.scaled; matrix = h.matrix }
 
 -- behind the lines of the header
 abbrev with_header : HeaderLines → Reading
 with_header h = record no_script_lines { section = section.Info; header = h }
+
+-- behind the line of the matrix
+matrix_walked : (m : ScriptMatrix) (d : HeaderLines) → d.matrix ≡ Unsaid → walked (matrix_lines m) (with_header d) ≡ with_header (record d { matrix = m })
+matrix_walked Unsaid d unsaid = walked_none (with_header d) ∙ ap (λ (m : ScriptMatrix). with_header (record d { matrix = m })) unsaid
+matrix_walked Unconverted d unsaid =
+    on (codes "YCbCr Matrix: None") [] section.Info _ _ (with_header d) (with_header (record d { matrix = matrix_of (codes " None") })) refl (matrix_said (codes "None")) refl
+    ∙ walked_none _ ∙ ap (λ (m : ScriptMatrix). with_header (record d { matrix = m })) none_read
+matrix_walked (Video colours) d unsaid =
+    let name = range_name colours.range ++ matrix_name colours.matrix in
+    on (video_line colours.range colours.matrix) [] section.Info _ _ (with_header d) (with_header (record d { matrix = matrix_of (32 ∷ name) })) refl (matrix_said name) refl
+    ∙ walked_none _ ∙ ap (λ (m : ScriptMatrix). with_header (record d { matrix = m })) (video_read colours.range colours.matrix)
 
 header_walked : (h : Header) → IsScriptHeader h → walked (header_lines h) no_script_lines ≡ with_header (header_said h)
 header_walked h is =
@@ -95,9 +128,9 @@ header_walked h is =
     ∙ on (codes "PlayResX: " ++ decimal h.res_x) _ section.Info _ _ (with_header none) (with_header a) refl (width_line (decimal h.res_x)) refl
     ∙ on (codes "PlayResY: " ++ decimal h.res_y) _ section.Info _ _ (with_header a) (with_header b) refl (height_line (decimal h.res_y)) refl
     ∙ on (codes "WrapStyle: " ++ decimal h.wrap) _ section.Info _ _ (with_header b) (with_header c) refl (wrap_line (decimal h.wrap)) refl
-    ∙ on (scaled_line h.scaled) [] section.Info _ _ (with_header c) (with_header d) refl (scaled_said (cond h.scaled (codes "yes") (codes "no"))) refl
-    ∙ walked_none (with_header d)
-    ∙ (λ i. with_header (record { res_x = width i; res_y = height i; wrap = wrap_read h.wrap is.wrap i; scaled = scaled_read h.scaled i }))
+    ∙ on (scaled_line h.scaled) (matrix_lines h.matrix) section.Info _ _ (with_header c) (with_header d) refl (scaled_said (cond h.scaled (codes "yes") (codes "no"))) refl
+    ∙ matrix_walked h.matrix d refl
+    ∙ (λ i. with_header (record { res_x = width i; res_y = height i; wrap = wrap_read h.wrap is.wrap i; scaled = scaled_read h.scaled i; matrix = h.matrix }))
 
 -- ---- the styles
 

@@ -6,6 +6,12 @@ use Rattle.std.specs.List.{flat_map, join_with_byte}
 use Rattle.ass_num.specs.Bytes.{comma, space}
 use Rattle.ass_num.specs.Colours.{colour_of}
 use Rattle.ass_num.specs.declared.colour.Rgba.{Rgba}
+use Rattle.ass_script.specs.declared.matrix.ColourRange.{ColourRange}
+use Rattle.ass_script.specs.declared.matrix.ColourRange.TheVariants as range
+use Rattle.ass_script.specs.declared.matrix.ColourMatrix.{ColourMatrix}
+use Rattle.ass_script.specs.declared.matrix.ColourMatrix.TheVariants as matrix
+use Rattle.ass_script.specs.declared.matrix.ScriptMatrix.{ScriptMatrix}
+use Rattle.ass_script.specs.declared.matrix.ScriptMatrix.TheVariants.{Unconverted, Unsaid, Video}
 use Rattle.ass_script.specs.declared.script.Header.{Header}
 use Rattle.ass_script.specs.declared.style.Style.{Style}
 use Rattle.ass_script.specs.Scripts.{ScriptValue}
@@ -21,12 +27,32 @@ number_line key n = key ++ decimal n
 abbrev pub scaled_line : Bool → List ℕ
 scaled_line scaled = codes "ScaledBorderAndShadow: " ++ (if scaled then codes "yes" else codes "no")
 
+abbrev pub range_name : ColourRange → List ℕ
+range_name range.Limited = codes "TV."
+range_name range.Full = codes "PC."
+
+abbrev pub matrix_name : ColourMatrix → List ℕ
+matrix_name matrix.Bt601 = codes "601"
+matrix_name matrix.Bt709 = codes "709"
+matrix_name matrix.Smpte240m = codes "240M"
+matrix_name matrix.Fcc = codes "FCC"
+
+-- the line of a video's colours
+abbrev pub video_line : ColourRange → ColourMatrix → List ℕ
+video_line r m = codes "YCbCr Matrix: " ++ (range_name r ++ matrix_name m)
+
+-- no line where the script says nothing
+abbrev pub matrix_lines : ScriptMatrix → List (List ℕ)
+matrix_lines Unsaid = []
+matrix_lines Unconverted = codes "YCbCr Matrix: None" ∷ []
+matrix_lines (Video colours) = video_line colours.range colours.matrix ∷ []
+
 -- the header
 abbrev pub header_lines : Header → List (List ℕ)
 header_lines header =
     codes "[Script Info]" ∷ codes "ScriptType: v4.00+"
     ∷ number_line (codes "PlayResX: ") header.res_x ∷ number_line (codes "PlayResY: ") header.res_y
-    ∷ number_line (codes "WrapStyle: ") header.wrap ∷ scaled_line header.scaled ∷ []
+    ∷ number_line (codes "WrapStyle: ") header.wrap ∷ scaled_line header.scaled ∷ matrix_lines header.matrix
 
 -- ---- styles
 

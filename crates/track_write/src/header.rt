@@ -2,11 +2,11 @@
 
 ghost use Rattle.std.specs.Prelude.{◌≡◌, ◌++◌, ◌∷◌, [], OnOk, codes};
 ghost use Rattle.std.specs.List.{flat_map};
-ghost use Rattle.track_write.specs.Rows.{ended, number_line, scaled_line, header_lines, style_format_line, event_format_line};
+ghost use Rattle.track_write.specs.Rows.{ended, header_lines, matrix_lines, matrix_name, number_line, range_name, scaled_line, video_line, style_format_line, event_format_line};
 
 use crate::numbers::put_whole;
 use ass_num::Mem;
-use ass_script::Header;
+use ass_script::{ColourMatrix, ColourRange, Header, ScriptMatrix, VideoColours};
 use std::alloc::Global;
 
 fn put_plain_line(text: &mut Vec<u8>, line: &[u8]) -> Mem<()>
@@ -45,6 +45,45 @@ fn put_scaled(text: &mut Vec<u8>, scaled: bool) -> Mem<()>
     put_plain_line(text, line)
 }
 
+fn range_name(range: ColourRange) -> &'static [u8]
+    ensures { result.now ≡ range_name range }
+{
+    match range {
+        ColourRange::Limited => b"TV.",
+        ColourRange::Full => b"PC.",
+    }
+}
+
+fn matrix_name(matrix: ColourMatrix) -> &'static [u8]
+    ensures { result.now ≡ matrix_name matrix }
+{
+    match matrix {
+        ColourMatrix::Bt601 => b"601",
+        ColourMatrix::Bt709 => b"709",
+        ColourMatrix::Smpte240m => b"240M",
+        ColourMatrix::Fcc => b"FCC",
+    }
+}
+
+/// The line of a video's colours.
+fn put_video(text: &mut Vec<u8>, colours: VideoColours) -> Mem<()>
+    ensures { OnOk result (text.new.items ≡ text.old.items ++ ended (video_line colours.range colours.matrix)) }
+{
+    text.extend_from_slice(b"YCbCr Matrix: ")?;
+    put_long_line(text, range_name(colours.range), matrix_name(colours.matrix))
+}
+
+/// The line that says for which video the colours are.
+fn put_matrix(text: &mut Vec<u8>, matrix: ScriptMatrix) -> Mem<()>
+    ensures { OnOk result (text.new.items ≡ text.old.items ++ flat_map ended (matrix_lines matrix)) }
+{
+    match matrix {
+        ScriptMatrix::Unsaid => Ok(()),
+        ScriptMatrix::Unconverted => put_plain_line(text, b"YCbCr Matrix: None"),
+        ScriptMatrix::Video(colours) => put_video(text, colours),
+    }
+}
+
 /// The lines of the header.
 pub fn put_header(alloc: Global, text: &mut Vec<u8>, header: Header) -> Mem<()>
     ensures { OnOk result (text.new.items ≡ text.old.items ++ flat_map ended (header_lines header)) }
@@ -55,6 +94,7 @@ pub fn put_header(alloc: Global, text: &mut Vec<u8>, header: Header) -> Mem<()>
     put_number_line(alloc, text, b"PlayResY: ", header.res_y)?;
     put_number_line(alloc, text, b"WrapStyle: ", u32::from(header.wrap))?;
     put_scaled(text, header.scaled)?;
+    put_matrix(text, header.matrix)?;
     Ok(())
 }
 
