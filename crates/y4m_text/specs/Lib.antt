@@ -1,0 +1,4 @@
+pub mod Bounds
+pub mod Colours
+pub mod Forms
+pub mod Streams
