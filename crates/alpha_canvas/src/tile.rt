@@ -15,7 +15,7 @@ use crate::tint::painted;
 use blend::{AsMask, Image, cover};
 
 /// How many pixels a tile has.
-pub const TILE: u32 = 64;
+pub const TILE: u32 = 256;
 
 /// Paints an image on pixels of row `j`, of which the first is in column `left`: on those from number `from` on, which its mask covers so far.
 fn paint_covered<M: AsMask>(
@@ -121,11 +121,11 @@ pub fn paint_tile<M: AsMask>(
     j: u32,
 )
     requires side { left + count ≤ max_frame_side }
-    requires count { count ≤ 64 }
+    requires count { count ≤ 256 }
     requires bytes { length bytes.old ≡ 4 * count }
     ensures { ArePixels (λ k. formed_pixel form (layers_at (map (image_value M.mask) images.now) (left + k) j)) count bytes.new }
 {
-    let mut tile = [Layers::clear(); 64];
+    let mut tile = [Layers::clear(); 256];
     let pixels = &mut tile[..count as usize];
     let any = paint_images(pixels, left, j, images);
     write_tile(bytes, form, pixels, any);

@@ -5,4 +5,4 @@ use Rattle.alpha_canvas.proofs.RowLemmas.{AreFirst}
 use Rattle.alpha_canvas.proofs.painting.paint_columns.Given as goal
 
 abbrev pub invariant-loop-tile : goal.invariant-loop-tile
-invariant-loop-tile g l = AreFirst (λ k. formed_pixel l.form (layers_at (map (image_value g.M.AsMask.mask) l.images) (l.left + k) l.j)) (64 * l.tile) l.count l.bytes
+invariant-loop-tile g l = AreFirst (λ k. formed_pixel l.form (layers_at (map (image_value g.M.AsMask.mask) l.images) (l.left + k) l.j)) (256 * l.tile) l.count l.bytes

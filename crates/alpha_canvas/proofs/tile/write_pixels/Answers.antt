@@ -1,5 +1,4 @@
-use Rattle.std.proofs.Common.{length, get_or, ap, ◌∙◌, arith}
-use Rattle.std.proofs.lemmas.List.{get_or_read}
+use Rattle.std.proofs.Common.{length, get_or}
 use Rattle.alpha_canvas.specs.Alpha.{clear, formed_pixel}
 use Rattle.alpha_canvas.proofs.RowLemmas.{first-more}
 use Rattle.alpha_canvas.proofs.tile.write_pixels.Goals as goal
