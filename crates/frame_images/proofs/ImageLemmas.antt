@@ -1,5 +1,5 @@
 -- From the draws of a picture to its image.
-use Rattle.std.proofs.Common.{◌≡◌, ℕ, ◌*◌, pos, List, [], ◌∷◌, length, fold, map, ap, ◌∙◌, refl, subst, sym, arith}
+use Rattle.std.proofs.Common.{◌≡◌, ℕ, ◌*◌, pos, List, length, fold, map, ap, ◌∙◌, refl, subst, sym, arith}
 use Rattle.alpha_canvas.specs.Alpha.{AreAlphaRows}
 use Rattle.alpha_canvas.specs.declared.pixel.AlphaForm.TheVariants.{Straight}
 use Rattle.ass_num.specs.declared.size.Size.{Size}
@@ -7,6 +7,7 @@ use Rattle.ass_script.specs.Scripts.{ScriptValue}
 use Rattle.ass_events.specs.declared.event.Event.{Event}
 use Rattle.bdf_font.specs.Fonts.{FontValue}
 use Rattle.blend.specs.Canvases.{CanvasValue, black}
+use Rattle.mask_keys.proofs.DrawnLemmas.{draws_height, draws_width}
 use Rattle.mask_keys.specs.declared.plans.Draw.{Draw}
 use Rattle.mask_keys.specs.Outlines.{IsFontSet}
 use Rattle.mask_keys.specs.Pictures.{image_of_draw, picture, with_draw}
@@ -24,21 +25,12 @@ use Rattle.frame_images.specs.FrameImages.{IsFormattedImage}
 pub font_set : (fonts : List FontValue) → IsLayoutFontSet fonts → IsFontSet fonts
 font_set fonts h = record { few = h.few; whole = h.each }
 
--- draws leave the size of a canvas
-pub drawn_width : (fonts : List FontValue) (canvas : CanvasValue) (draws : List Draw) → (fold (with_draw fonts) canvas draws).w ≡ canvas.w
-drawn_width fonts canvas [] = refl
-drawn_width fonts canvas (draw ∷ draws) = drawn_width fonts (with_draw fonts canvas draw) draws
-
-pub drawn_height : (fonts : List FontValue) (canvas : CanvasValue) (draws : List Draw) → (fold (with_draw fonts) canvas draws).h ≡ canvas.h
-drawn_height fonts canvas [] = refl
-drawn_height fonts canvas (draw ∷ draws) = drawn_height fonts (with_draw fonts canvas draw) draws
-
 -- what is painted on black has the frame's size
 pub painted_width : (fonts : List FontValue) (size : Size) (draws : List Draw) (old new : CanvasValue) → old ≡ black size.w size.h → new ≡ fold (with_draw fonts) old draws → new.w ≡ size.w
-painted_width fonts size draws old new blank painted = ap (λ (c : CanvasValue). c.w) painted ∙ drawn_width fonts old draws ∙ ap (λ (c : CanvasValue). c.w) blank
+painted_width fonts size draws old new blank painted = ap (λ (c : CanvasValue). c.w) painted ∙ draws_width fonts draws old ∙ ap (λ (c : CanvasValue). c.w) blank
 
 pub painted_height : (fonts : List FontValue) (size : Size) (draws : List Draw) (old new : CanvasValue) → old ≡ black size.w size.h → new ≡ fold (with_draw fonts) old draws → new.h ≡ size.h
-painted_height fonts size draws old new blank painted = ap (λ (c : CanvasValue). c.h) painted ∙ drawn_height fonts old draws ∙ ap (λ (c : CanvasValue). c.h) blank
+painted_height fonts size draws old new blank painted = ap (λ (c : CanvasValue). c.h) painted ∙ draws_height fonts draws old ∙ ap (λ (c : CanvasValue). c.h) blank
 
 -- rows of columns have as many pixels as columns of rows
 pub columns_first : (w h n : ℕ) → n ≡ 4 * (h * w) → n ≡ 4 * (w * h)

@@ -1,2 +1,1 @@
-pub mod AlphaLemmas
 pub mod ImageLemmas

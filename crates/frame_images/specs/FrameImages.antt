@@ -5,7 +5,7 @@ use Rattle.ass_events.specs.ScriptEvents.{line_events}
 use Rattle.ass_script.specs.Scripts.{ScriptValue}
 use Rattle.bdf_font.specs.Fonts.{FontValue}
 use Rattle.blend.specs.Canvases.{CanvasValue}
-use Rattle.frame_images.specs.AlphaPictures.{IsAlphaPictureAt}
+use Rattle.picture_plan.specs.AlphaPictures.{IsAlphaPictureAt}
 use Rattle.frame_view.specs.declared.view.FrameView.{FrameView}
 use Rattle.pam_text.specs.Pams.{pam_bytes}
 use Rattle.picture_plan.specs.Pictures.{IsPictureAt}

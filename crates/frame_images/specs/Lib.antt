@@ -1,2 +1,1 @@
-pub mod AlphaPictures
 pub mod FrameImages

@@ -4,7 +4,6 @@ ghost use Rattle.std.specs.Prelude.{◌≡◌, IfOk, map};
 ghost use Rattle.std.specs.Arc.{arc_value};
 ghost use Rattle.alpha_canvas.specs.Alpha.{AreAlphaRows};
 ghost use Rattle.ass_num.specs.Limits.{IsFrameSize};
-ghost use Rattle.blend.specs.Images.{image_value};
 ghost use Rattle.mask_keys.specs.Keys.{IsValidPlan};
 ghost use Rattle.mask_keys.specs.Outlines.{glyph_counts};
 ghost use Rattle.mask_keys.specs.Pictures.{image_of_draw};
@@ -12,27 +11,13 @@ ghost use Rattle.run_words.specs.Jobs.{IsFrameJob};
 ghost use Rattle.text_layout.specs.Fonts.{IsLayoutFontSet};
 
 use alpha_canvas::{AlphaForm, paint_alpha};
-use ass_num::{Mask, Mem, Size};
+use ass_num::{Mem, Size};
 use bdf_font::FontSet;
-use blend::Image;
 use local_caches::LocalCaches;
-use mask_keys::{Draw, Plan};
+use mask_keys::Plan;
 use run_words::FrameJob;
 use std::alloc::Global;
 use std::sync::Arc;
-
-/// The images of draws whose keys are valid, with their masks through the caches.
-fn images_of(alloc: Global, local: &mut LocalCaches, draws: &[Draw]) -> Mem<Vec<Image<Arc<Mask>>>>
-    requires { IsValidPlan (glyph_counts local.old.fonts) draws.now }
-    ensures images { IfOk result (λ images. map (image_value arc_value) images.items ≡ map (image_of_draw local.old.fonts) draws.now) }
-    ensures fonts { local.new.fonts ≡ local.old.fonts }
-{
-    let mut images = Vec::new(alloc);
-    for draw in draws {
-        images.push(local.image(alloc, draw)?)?;
-    }
-    Ok(images)
-}
 
 /// The picture of a plan with straight alpha, with its masks through the caches.
 pub fn alpha_pixels(
@@ -47,7 +32,7 @@ pub fn alpha_pixels(
         size.now.w 0 size.now.h pixels.items) }
     ensures fonts { local.new.fonts ≡ local.old.fonts }
 {
-    let images = images_of(alloc, local, plan.draws.as_slice())?;
+    let images = local.images(alloc, plan.draws.as_slice())?;
     paint_alpha(alloc, size, AlphaForm::Straight, images.as_slice())
 }
 

@@ -1,3 +1,4 @@
+pub mod ImageLemmas
 pub mod KeyLemmas
 pub mod PaintLemmas
 pub mod Resting

@@ -1,8 +1,8 @@
 //! The images of draws, through the caches of one thread.
-ghost use Rattle.std.specs.Prelude.{◌≡◌, IfOk};
+ghost use Rattle.std.specs.Prelude.{◌≡◌, IfOk, map};
 ghost use Rattle.std.specs.Arc.{arc_value};
 ghost use Rattle.blend.specs.Images.{image_value, stencil_value};
-ghost use Rattle.mask_keys.specs.Keys.{IsValidClip, IsValidDraw};
+ghost use Rattle.mask_keys.specs.Keys.{IsValidClip, IsValidDraw, IsValidPlan};
 ghost use Rattle.mask_keys.specs.Outlines.{glyph_counts};
 ghost use Rattle.mask_keys.specs.Pictures.{image_of_draw, stencil_of};
 
@@ -56,5 +56,19 @@ impl LocalCaches {
         let mask = self.composite(alloc, &draw.key)?;
         let stencil = self.stencil(alloc, &draw.clip)?;
         Ok(draw.image(mask, stencil))
+    }
+
+    /// The images of draws whose keys are valid, with their masks, in order. All that they have is held at once.
+    pub fn images(&mut self, alloc: Global, draws: &[Draw]) -> Mem<Vec<Image<Arc<Mask>>>>
+        requires { IsValidPlan (glyph_counts self.old.fonts) draws.now }
+        ensures value { IfOk result (λ images. map (image_value arc_value) images.items ≡ map (image_of_draw self.old.fonts) draws.now) }
+        ensures fonts { self.new.fonts ≡ self.old.fonts }
+        ensures budget { self.new.budget ≡ self.old.budget }
+    {
+        let mut images = Vec::new(alloc);
+        for draw in draws {
+            images.push(self.image(alloc, draw)?)?;
+        }
+        Ok(images)
     }
 }

@@ -2,6 +2,7 @@ mod Copied
 pub mod Equal
 pub mod BoxLemmas
 pub mod CoverLemmas
+pub mod DrawnLemmas
 pub mod EdgeLemmas
 pub mod LeastLemmas
 pub mod MaskLemmas

@@ -1,3 +1,4 @@
 pub mod Pictures
 pub mod ShownEvents
 pub mod Alike
+pub mod AlphaPictures

@@ -2,8 +2,8 @@ use Rattle.std.proofs.Common.{map, ◌∙◌}
 use Rattle.std.specs.Arc.{arc_value}
 use Rattle.std.proofs.lemmas.List.{map-append}
 use Rattle.blend.specs.Images.{image_value}
-use Rattle.frame_images.proofs.AlphaLemmas.{images_more}
-use Rattle.frame_images.proofs.alpha.images_of.Goals as goal
+use Rattle.local_caches.proofs.ImageLemmas.{images_more}
+use Rattle.local_caches.proofs.local.LocalCaches.images.Goals as goal
 
 pub loop-draw-preserved : goal.loop-draw-preserved
 loop-draw-preserved c =
@@ -11,7 +11,8 @@ loop-draw-preserved c =
     record {
       images =
           rw (c.in_ok-push.ensures.items, map-append)
-          (images_more c.args.local.now.fonts c.loop-draw.local.fonts c.args.draws.now c.loop-draw.draw-index c.draw-item.result (map (image_value arc_value) c.loop-draw.images.items) (image_value arc_value c.in_ok-image.field-0) c.loop-draw-test.true c.draw-item.is kept.fonts kept.images
+          (images_more c.args.self.now.fonts c.loop-draw.self.fonts c.args.draws.now c.loop-draw.draw-index c.draw-item.result (map (image_value arc_value) c.loop-draw.images.items) (image_value arc_value c.in_ok-image.field-0) c.loop-draw-test.true c.draw-item.is kept.fonts kept.images
           c.in_ok-image.ensures.value);
       fonts = c.in_ok-image.ensures.fonts ∙ kept.fonts;
+      budget = c.in_ok-image.ensures.budget ∙ kept.budget;
     }
