@@ -1,14 +1,15 @@
 -- Lists of plain images, one draw more at each step.
-use Rattle.std.proofs.Common.{◌≡◌, ℕ, ◌+◌, ◌<◌, ℤ, List, [], ◌∷◌, ◌++◌, length, get_or, take, map, fold, ◌*◌, refl, sym, ap, ◌∙◌, subst, append_assoc, append-nil}
+use Rattle.std.proofs.Common.{◌≡◌, ℕ, ◌+◌, ◌<◌, ℤ, List, [], ◌∷◌, ◌++◌, length, get_or, take, map, ◌*◌, refl, sym, ap, ◌∙◌, subst, append_assoc, append-nil}
 use Rattle.std.proofs.lemmas.List.{length-replicate, map_more}
 use Rattle.ass_events.specs.declared.event.Event.{Event}
 use Rattle.ass_num.specs.declared.size.Size.{Size}
 use Rattle.ass_script.specs.Scripts.{ScriptValue}
 use Rattle.bdf_font.specs.Fonts.{FontValue}
 use Rattle.blend.specs.Blending.{Image}
-use Rattle.blend.specs.Canvases.{CanvasValue, black, drawn}
+use Rattle.blend.specs.Canvases.{black}
 use Rattle.mask_keys.specs.declared.plans.Draw.{Draw}
-use Rattle.mask_keys.specs.Pictures.{image_of_draw, with_draw}
+use Rattle.mask_keys.specs.Pictures.{image_of_draw}
+use Rattle.mask_keys.proofs.DrawnLemmas.{images_drawn}
 use Rattle.frame_view.specs.declared.view.FrameView.{FrameView}
 use Rattle.picture_plan.specs.Pictures.{AreDraws, IsPictureAt}
 use Rattle.plain_images.specs.PlainImages.{ArePlainImages, ArePlainOf, None, Next, PlainImagesMakeThePicture, with_plain_images}
@@ -35,11 +36,6 @@ draws_more size fonts draws i draw old new below is are adds =
     (subst (λ (z : List PlainImage). ArePlainImages size (map (image_of_draw fonts) (take i draws) ++ image_of_draw fonts draw ∷ []) z) (sym adds.1)
     (images_more size _ old adds.0 (image_of_draw fonts draw) are adds.2))
 
--- the picture of draws is that of their images
-pub picture_is : (fonts : List FontValue) (size : Size) (draws : List Draw) (canvas : CanvasValue) → fold (with_draw fonts) canvas draws ≡ fold drawn canvas (map (image_of_draw fonts) draws)
-picture_is fonts size [] canvas = refl
-picture_is fonts size (draw ∷ draws) canvas = picture_is fonts size draws (with_draw fonts canvas draw)
-
 -- the listed images make the picture of their draws
 pub listed_picture : (script : ScriptValue) (fonts : List FontValue) (events : List Event) (t : ℤ) (frame : FrameView) (draws : List Draw) (images : List PlainImage)
     → PlainImagesMakeThePicture → AreDraws script fonts events t frame draws → ArePlainImages frame.size (map (image_of_draw fonts) draws) images
@@ -49,14 +45,5 @@ listed_picture script fonts events t frame draws images law are plain =
     record {
       draws = draws;
       are_draws = are;
-      value = law size (black size.w size.h) (map (image_of_draw fonts) draws) images refl refl (length-replicate (3 * (size.w * size.h)) 0) plain ∙ sym (picture_is fonts size draws (black size.w size.h));
+      value = law size (black size.w size.h) (map (image_of_draw fonts) draws) images refl refl (length-replicate (3 * (size.w * size.h)) 0) plain ∙ images_drawn fonts draws (black size.w size.h);
     }
-
--- drawing keeps the size of a canvas
-pub kept_width : (fonts : List FontValue) (draws : List Draw) (canvas : CanvasValue) → (fold (with_draw fonts) canvas draws).w ≡ canvas.w
-kept_width fonts [] canvas = refl
-kept_width fonts (draw ∷ draws) canvas = kept_width fonts draws (with_draw fonts canvas draw)
-
-pub kept_height : (fonts : List FontValue) (draws : List Draw) (canvas : CanvasValue) → (fold (with_draw fonts) canvas draws).h ≡ canvas.h
-kept_height fonts [] canvas = refl
-kept_height fonts (draw ∷ draws) canvas = kept_height fonts draws (with_draw fonts canvas draw)

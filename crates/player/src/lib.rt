@@ -1,6 +1,7 @@
 //! What a player needs for one thread: a script, fonts, the live events of a track and caches; pictures, and lists of plain images.
 #![tactic(auto)]
 
+mod alpha;
 mod changes;
 mod drawing;
 mod feeding;

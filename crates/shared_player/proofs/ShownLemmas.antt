@@ -1,11 +1,13 @@
 -- What a look shows a seat.
-use Rattle.std.proofs.Common.{◌≡◌, ℕ, ℤ, length, None, Ok, Err, sym, subst, ap, ◌∙◌, append-nil}
+use Rattle.std.proofs.Common.{◌≡◌, ℕ, ℤ, List, length, None, Ok, Err, sym, subst, ap, ◌∙◌, append-nil}
 use Rattle.std.proofs.lemmas.List.{length-map}
 use Rattle.std.specs.Prelude.{All}
+use Rattle.alpha_canvas.specs.declared.pixel.AlphaForm.{AlphaForm}
 use Rattle.ass_events.specs.Histories.{live}
 use Rattle.blend.specs.Canvases.{CanvasValue, black}
 use Rattle.frame_change.specs.declared.kinds.ChangeKind.{ChangeKind}
 use Rattle.frame_view.specs.declared.view.FrameView.{FrameView}
+use Rattle.picture_plan.specs.AlphaPictures.{IsAlphaPictureAt}
 use Rattle.picture_plan.specs.Pictures.{IsPictureAt}
 use Rattle.plain_images.specs.PlainImages.{LiesInFrame, with_plain_images}
 use Rattle.player.specs.Changes.{IsListChange}
@@ -19,7 +21,7 @@ use Rattle.track_history.specs.declared.scene.Scene.{Scene}
 use Rattle.track_history.proofs.LawLemmas.{turn_alone}
 use Rattle.turn_cell.specs.History.{entries_of}
 use Rattle.shared_player.specs.Seats.{SharedSeatView}
-use Rattle.shared_player.specs.Shown.{ListsHistory, SeesHistory, ShowsHistory}
+use Rattle.shared_player.specs.Shown.{ListsHistory, SeesHistory, ShowsAlphaHistory, ShowsHistory}
 use Rattle.shared_player.specs.Tries.{IsLookRefused}
 
 -- a turn that gave nothing, and the scene that it showed
@@ -43,7 +45,7 @@ pub refused_look : (pass after : TrackView) (t : ℤ) (refusal : LookRefusal) �
 refused_look pass after t look.TurnOut h = h
 refused_look pass after t look.OutOfMemory h = h
 
--- ---- a picture and a list of a scene
+-- ---- pictures and a list of a scene
 
 module _ (seat after : SharedSeatView) (t : ℤ) (frame : FrameView) (scene : Scene) (looked : IsTriedLook seat.track t after.track (Ok scene)) where
   pub shows_scene : (canvas : CanvasValue) → IsPictureAt seat.script seat.fonts (live (history_of after.track.seen)) scene.t frame canvas → canvas.w ≡ frame.size.w → canvas.h ≡ frame.size.h
@@ -53,6 +55,13 @@ module _ (seat after : SharedSeatView) (t : ℤ) (frame : FrameView) (scene : Sc
     picture = subst (λ (s : ℤ). IsPictureAt seat.script seat.fonts (live (history_of after.track.seen)) s frame canvas) looked.1.instant picture;
     width = width;
     height = height;
+  }
+
+  pub shows_alpha_scene : (form : AlphaForm) (bytes : List ℕ) → IsAlphaPictureAt form seat.script seat.fonts (live (history_of after.track.seen)) scene.t frame bytes
+      → ShowsAlphaHistory seat after t frame form bytes scene.n
+  shows_alpha_scene form bytes picture = record {
+    sees = sees_scene seat.track after.track t scene looked.0 looked.1;
+    picture = subst (λ (s : ℤ). IsAlphaPictureAt form seat.script seat.fonts (live (history_of after.track.seen)) s frame bytes) looked.1.instant picture;
   }
 
   pub lists_scene : (change : ChangeKind) → IsPictureAt seat.script seat.fonts (live (history_of after.track.seen)) scene.t frame (with_plain_images (black frame.size.w frame.size.h) after.images)

@@ -1,8 +1,10 @@
 -- Public: what a picture and a list of images have to do with the seat that asked for them, in the one history of a track.
-use Rattle.std.specs.Prelude.{◌≡◌, ℕ, ◌+◌, ℤ, length, All}
+use Rattle.std.specs.Prelude.{◌≡◌, ℕ, ◌+◌, ℤ, List, length, All}
+use Rattle.alpha_canvas.specs.declared.pixel.AlphaForm.{AlphaForm}
 use Rattle.ass_events.specs.Histories.{IsHistory, live}
 use Rattle.blend.specs.Canvases.{black}
 use Rattle.frame_view.specs.declared.view.FrameView.{FrameView}
+use Rattle.picture_plan.specs.AlphaPictures.{IsAlphaPictureAt}
 use Rattle.picture_plan.specs.Pictures.{IsPictureAt}
 use Rattle.plain_images.specs.PlainImages.{LiesInFrame, with_plain_images}
 use Rattle.player.specs.Changes.{IsListChange}
@@ -29,6 +31,11 @@ pub record ShowsHistory (seat after : SharedSeatView) (t : ℤ) (frame : FrameVi
   pub picture : IsPictureAt seat.script seat.fonts (live (history_of after.track.seen)) t frame drawn.canvas
   pub width : drawn.canvas.w ≡ frame.size.w
   pub height : drawn.canvas.h ≡ frame.size.h
+
+-- The bytes are the picture with alpha that these entries show at the instant, in the frame.
+pub record ShowsAlphaHistory (seat after : SharedSeatView) (t : ℤ) (frame : FrameView) (form : AlphaForm) (bytes : List ℕ) (entries : ℕ) : Type 0 where
+  pub sees : SeesHistory seat.track after.track entries
+  pub picture : IsAlphaPictureAt form seat.script seat.fonts (live (history_of after.track.seen)) t frame bytes
 
 -- The images that the seat has listed then are those that these entries show at the instant, in the frame. Painted in order, with nothing hidden, they make the
 -- picture, and all of them lie in the frame. The change is that from the list before.

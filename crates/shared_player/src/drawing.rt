@@ -17,7 +17,7 @@ use track_history::{LookRefusal, Scene};
 
 impl Seat {
     /// Looks at the track, unless another seat has the turn.
-    fn try_look(self, alloc: Global, t: i64) -> (Seat, Result<Scene, LookRefusal>)
+    pub(crate) fn try_look(self, alloc: Global, t: i64) -> (Seat, Result<Scene, LookRefusal>)
         ensures look { IsTriedLook self.track t result.0.track result.1 }
         ensures same { result.0 ≡ record self { track = result.0.track } }
     {

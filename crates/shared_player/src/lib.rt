@@ -1,6 +1,7 @@
 //! One track for many players: seats that feed it, flush it and draw from it, each of one thread, and none waits.
 #![tactic(auto)]
 
+mod alpha;
 mod answers;
 mod drawing;
 mod feeding;
