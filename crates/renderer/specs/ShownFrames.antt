@@ -1,7 +1,9 @@
 -- Public: what frames show, and the leases that they hold.
-use Rattle.std.specs.Prelude.{◌≡◌, List, [], ◌∷◌, map, flat_map}
+use Rattle.std.specs.Prelude.{◌≡◌, ℕ, List, [], ◌∷◌, map, flat_map}
 use Rattle.std.specs.declared.alloc.Global.{Global}
 use Rattle.std.specs.declared.sync.Arc.{Arc}
+use Rattle.alpha_canvas.specs.Alpha.{AreAlphaRows}
+use Rattle.alpha_canvas.specs.declared.pixel.AlphaForm.{AlphaForm}
 use Rattle.ass_num.specs.Masks.{MaskValue}
 use Rattle.blend.specs.Painting.{picture_of}
 use Rattle.bdf_font.specs.Fonts.{FontValue}
@@ -44,6 +46,10 @@ image_shown image = image_value lease_value image
 -- The canvas of a frame: its images from black, one after the other.
 abbrev pub canvas_of : Frame → CanvasValue
 canvas_of frame = picture_of frame.size (map image_shown frame.images)
+
+-- The bytes are the pixels of a frame with alpha: its images, painted over nothing.
+abbrev pub AreFramePixels : AlphaForm → Frame → List ℕ → Type 0
+AreFramePixels form frame bytes = AreAlphaRows form (map image_shown frame.images) frame.size.w 0 frame.size.h bytes
 
 -- The images of the frame are these draws, each with the masks of its keys.
 abbrev pub ShowsDraws : List FontValue → List Draw → Frame → Type 0

@@ -18,7 +18,7 @@ mod trying;
 mod warming;
 
 pub use frames::{Frame, FrameImage, FrameStencil};
-pub use painting::{paint, paint_bands};
+pub use painting::{paint, paint_alpha_bands, paint_bands};
 pub use passes::RenderPass;
 pub use renderer::Renderer;
 pub use trying::{Again, TryRefusal};
