@@ -9,3 +9,4 @@ pub mod Views
 pub mod Moves
 pub mod Written
 pub mod Rewritten
+pub mod NearPictures

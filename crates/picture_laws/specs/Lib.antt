@@ -1,3 +1,4 @@
 pub mod BitmapSets
 pub mod OnePicture
 pub mod Laws
+pub mod NearPictures

@@ -5,5 +5,5 @@
 mod laws;
 mod written_laws;
 
-pub use laws::{bitmaps_are_drawn_as_named, one_picture};
+pub use laws::{alpha_pictures_are_near, bitmaps_are_drawn_as_named, one_picture};
 pub use written_laws::{rewritten_scripts_show_the_same, written_events_show_the_same};
