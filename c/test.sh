@@ -85,7 +85,8 @@ shared_alone() {
     nm -D --defined-only "$shared" | sed -n 's/.* vimalorua_\(.*\)@@VIMALORUA_\(1[.].*\)$/\2 \1/p' | sort > "$work/later"
     printf '%s\n' '1.2 draw_in' '1.2 images_in' '1.3 status_text' '1.4 add_fonts' '1.4 add_script_fonts' \
         '1.4 font_names' '1.5 leave' '1.5 seat_copy' '1.5 seat_set_budget' '1.5 share' '1.5 split' '1.5 try_draw' \
-        '1.5 try_draw_in' '1.5 try_feed' '1.5 try_feed_lines' '1.5 try_flush' '1.5 try_list' '1.5 try_list_in' |
+        '1.5 try_draw_in' '1.5 try_feed' '1.5 try_feed_lines' '1.5 try_flush' '1.5 try_list' '1.5 try_list_in' \
+        '1.8 draw_alpha' '1.8 draw_alpha_in' '1.8 try_draw_alpha' '1.8 try_draw_alpha_in' |
         diff - "$work/later"
     readelf -d "$shared" | sed -n 's/.*(\(SONAME\|NEEDED\)).*\[\(.*\)\]/\1 \2/p' | sort > "$work/needs"
     printf 'NEEDED libc.so.6\nSONAME libvimalorua.so.1\n' | diff - "$work/needs"

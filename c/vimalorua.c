@@ -15,6 +15,8 @@ int32_t vimalorua_feed_proved(vimalorua *handle, const uint8_t *chunk, size_t ch
 int32_t vimalorua_draw_proved(vimalorua *handle, int64_t ms, uint32_t w, uint32_t h, uint8_t *out, size_t out_len);
 int32_t vimalorua_draw_by_numbers(vimalorua *handle, int64_t ms, const vimalorua_view *numbers, uint8_t *out,
                                   size_t out_len);
+int32_t vimalorua_draw_alpha_by_numbers(vimalorua *handle, int64_t ms, const vimalorua_view *numbers, uint32_t form,
+                                        uint8_t *out, size_t out_len);
 int32_t vimalorua_images_by_numbers(vimalorua *handle, int64_t ms, const vimalorua_view *numbers, int32_t *change,
                                     size_t *count, size_t *bytes);
 int32_t vimalorua_copy_images_proved(vimalorua *handle, vimalorua_image *images, size_t count, uint8_t *masks,
@@ -26,6 +28,8 @@ int32_t vimalorua_try_draw_proved(vimalorua_seat *seat, int64_t ms, uint32_t w, 
                                   size_t out_len, size_t *entries);
 int32_t vimalorua_try_draw_by_numbers(vimalorua_seat *seat, int64_t ms, const vimalorua_view *numbers, uint8_t *out,
                                       size_t out_len, size_t *entries);
+int32_t vimalorua_try_draw_alpha_by_numbers(vimalorua_seat *seat, int64_t ms, const vimalorua_view *numbers,
+                                            uint32_t form, uint8_t *out, size_t out_len, size_t *entries);
 int32_t vimalorua_try_list_by_numbers(vimalorua_seat *seat, int64_t ms, const vimalorua_view *numbers,
                                       int32_t *change, size_t *count, size_t *bytes, size_t *entries);
 int32_t vimalorua_seat_copy_proved(vimalorua_seat *seat, vimalorua_image *images, size_t count, uint8_t *masks,
@@ -96,6 +100,27 @@ int32_t vimalorua_draw_in(vimalorua *handle, int64_t ms, const vimalorua_view *v
     return vimalorua_draw_by_numbers(handle, ms, &all, taken(out), out_len);
 }
 
+int32_t vimalorua_draw_alpha_in(vimalorua *handle, int64_t ms, const vimalorua_view *view, uint32_t form,
+                                uint8_t *out, size_t out_len) {
+    vimalorua_view all = whole(view);
+    return vimalorua_draw_alpha_by_numbers(handle, ms, &all, form, taken(out), out_len);
+}
+
+/* A view of a size alone. */
+static vimalorua_view plain(uint32_t w, uint32_t h) {
+    vimalorua_view view = {0};
+    view.size = sizeof view;
+    view.w = w;
+    view.h = h;
+    return view;
+}
+
+int32_t vimalorua_draw_alpha(vimalorua *handle, int64_t ms, uint32_t w, uint32_t h, uint32_t form, uint8_t *out,
+                             size_t out_len) {
+    vimalorua_view view = plain(w, h);
+    return vimalorua_draw_alpha_by_numbers(handle, ms, &view, form, taken(out), out_len);
+}
+
 int32_t vimalorua_images_in(vimalorua *handle, int64_t ms, const vimalorua_view *view, int32_t *change, size_t *count,
                             size_t *bytes) {
     vimalorua_view all = whole(view);
@@ -116,6 +141,18 @@ int32_t vimalorua_try_draw_in(vimalorua_seat *seat, int64_t ms, const vimalorua_
                               size_t out_len, size_t *entries) {
     vimalorua_view all = whole(view);
     return vimalorua_try_draw_by_numbers(seat, ms, &all, taken(out), out_len, entries);
+}
+
+int32_t vimalorua_try_draw_alpha(vimalorua_seat *seat, int64_t ms, uint32_t w, uint32_t h, uint32_t form, uint8_t *out,
+                                 size_t out_len, size_t *entries) {
+    vimalorua_view view = plain(w, h);
+    return vimalorua_try_draw_alpha_by_numbers(seat, ms, &view, form, taken(out), out_len, entries);
+}
+
+int32_t vimalorua_try_draw_alpha_in(vimalorua_seat *seat, int64_t ms, const vimalorua_view *view, uint32_t form,
+                                    uint8_t *out, size_t out_len, size_t *entries) {
+    vimalorua_view all = whole(view);
+    return vimalorua_try_draw_alpha_by_numbers(seat, ms, &all, form, taken(out), out_len, entries);
 }
 
 int32_t vimalorua_try_list_in(vimalorua_seat *seat, int64_t ms, const vimalorua_view *view, int32_t *change,

@@ -255,6 +255,25 @@ static void seen(int line, const vimalorua_view *view, int32_t wanted) {
     vimalorua_close(handle);
 }
 
+/* A picture with alpha takes four bytes a pixel, and a form that there is; else the bytes stay. */
+static void with_alpha(void) {
+    static const uint8_t untouched[4 * W * H] = {0};
+    vimalorua *handle = ready();
+    vimalorua_view view = {.size = sizeof view, .w = W, .h = H};
+    uint8_t out[4 * W * H] = {0};
+    WANT(vimalorua_draw_alpha(handle, 500, W, H, 2, out, sizeof out), VIMALORUA_BAD_CALL);
+    WANT(vimalorua_draw_alpha(handle, 500, W, H, VIMALORUA_STRAIGHT, out, COUNT), VIMALORUA_BAD_CALL);
+    WANT(vimalorua_draw_alpha(handle, INT64_MAX, W, H, VIMALORUA_STRAIGHT, out, sizeof out), VIMALORUA_BAD_CALL);
+    WANT(vimalorua_draw_alpha_in(handle, 500, &view, 2, out, sizeof out), VIMALORUA_BAD_CALL);
+    view.unused = 1;
+    WANT(vimalorua_draw_alpha_in(handle, 500, &view, VIMALORUA_STRAIGHT, out, sizeof out), VIMALORUA_BAD_CALL);
+    WANT(memcmp(out, untouched, sizeof out), 0);
+    WANT(vimalorua_draw_alpha(handle, 500, W, 0, VIMALORUA_STRAIGHT, NULL, 0), VIMALORUA_DONE);
+    WANT(vimalorua_draw_alpha(handle, 500, W, H, VIMALORUA_PREMULTIPLIED, out, sizeof out), VIMALORUA_DONE);
+    WANT(memcmp(out, untouched, sizeof out) != 0, 1);
+    vimalorua_close(handle);
+}
+
 /* A view of no rows is drawn into no bytes. */
 static void empty(vimalorua_view view) {
     vimalorua *handle = ready();
@@ -280,6 +299,7 @@ static void views(void) {
     } later = {plain, {0, 0}};
     seen(__LINE__, &plain, VIMALORUA_DONE);
     empty(plain);
+    with_alpha();
     plain.left = 5000;
     seen(__LINE__, &plain, VIMALORUA_DONE);
     plain.scale = UINT32_MAX;
@@ -443,6 +463,8 @@ static int with_refusal(long n, const uint8_t *wanted) {
     size_t place = 0, count = 0, bytes = 0;
     int32_t change = -1;
     uint8_t out[COUNT] = {0};
+    static const uint8_t clear[4 * W * H] = {0};
+    uint8_t rgba[4 * W * H] = {0};
     vimalorua_image numbers[64];
     uint8_t masks[64 * COUNT] = {0};
     vimalorua_view view = {.size = sizeof view, .w = W, .h = H};
@@ -466,6 +488,7 @@ static int with_refusal(long n, const uint8_t *wanted) {
     WANT(memcmp(out, wanted, COUNT), 0);
     AGAIN(vimalorua_draw_in(handle, 500, &view, out, COUNT), memcmp(out, wanted, COUNT) == 0);
     WANT(memcmp(out, wanted, COUNT), 0);
+    AGAIN(vimalorua_draw_alpha(handle, 500, W, H, VIMALORUA_STRAIGHT, rgba, sizeof rgba), memcmp(rgba, clear, sizeof rgba) == 0);
     AGAIN(vimalorua_images(handle, 500, W, H, &change, &count, &bytes), 1);
     WANT(change, VIMALORUA_OTHER_LIST);
     WANT(count <= 64 && bytes <= sizeof masks, 1);

@@ -1,5 +1,5 @@
 /* Frames, drawn and blended from their lists: both give the same bytes, each image lies in the frame, and the change
- * that is told is the one between the lists; by one thread, in other views, and then by four in turn.
+ * that is told is the one between the lists; by one thread, in other views, with alpha, and then by four in turn.
  *
  *   pictures FROM TO STEP WxH SCRIPT FONT.. */
 #include "../ass_images.h"
@@ -171,6 +171,68 @@ static void in_views(const struct frames *frames, long long ms, const uint8_t *w
     ass_images_free(&images);
 }
 
+/* What nodes make of nothing, in fractions: of each pixel three channels times the alpha, and the alpha, in 255ths. */
+static void lay(const vimalorua_node *list, double *layers, uint32_t w) {
+    for (; list != NULL; list = list->next) {
+        unsigned colour[4] = {list->color >> 24, list->color >> 16 & 255, list->color >> 8 & 255, 255};
+        unsigned opacity = 255 - (list->color & 255);
+        for (int j = 0; j < list->h; j++)
+            for (int i = 0; i < list->w; i++) {
+                unsigned k = div255(list->bitmap[(size_t)j * (size_t)list->stride + (size_t)i] * opacity);
+                double *pixel = layers + 4 * ((size_t)(list->dst_y + j) * w + (size_t)(list->dst_x + i));
+                for (int c = 0; c < 4; c++)
+                    pixel[c] = (pixel[c] * (255 - k) + (double)colour[c] * k) / 255;
+            }
+    }
+}
+
+static int is_rounded(uint8_t byte, double exact) { return byte - exact < 0.501 && exact - byte < 0.501; }
+
+static int is_straight(const uint8_t *pixel, const double *layers) {
+    for (int c = 0; c < 3; c++)
+        if (!is_rounded(pixel[c], layers[3] > 0 ? 255 * layers[c] / layers[3] : 0))
+            return 0;
+    return is_rounded(pixel[3], layers[3]);
+}
+
+static int is_premultiplied(const uint8_t *pixel, const double *layers) {
+    for (int c = 0; c < 4; c++)
+        if (!is_rounded(pixel[c], layers[c]))
+            return 0;
+    return 1;
+}
+
+/* Draws a frame with alpha in both forms, by its size and in a view: each is what its list makes of nothing, rounded. */
+static void with_alpha(const struct frames *frames, long long ms) {
+    ass_images images = {0};
+    vimalorua_view view = {.size = sizeof view, .w = frames->w, .h = frames->h, .letters = VIMALORUA_BY_ASPECT};
+    size_t pixels = frames->len / 3;
+    double *layers = need(malloc(4 * pixels * sizeof *layers + 1));
+    uint8_t *out = need(malloc(4 * pixels + 1));
+    for (int form = VIMALORUA_STRAIGHT; form <= VIMALORUA_PREMULTIPLIED; form++)
+        for (int in_view = 0; in_view < 2; in_view++) {
+            vimalorua_node *first = NULL;
+            int32_t drawn =
+                in_view ? vimalorua_draw_alpha_in(frames->handle, ms, &view, (uint32_t)form, out, 4 * pixels)
+                        : vimalorua_draw_alpha(frames->handle, ms, frames->w, frames->h, (uint32_t)form, out, 4 * pixels);
+            int32_t listed = in_view ? ass_images_render_in(frames->handle, &images, ms, &view, NULL, &first)
+                                     : ass_images_render(frames->handle, &images, ms, frames->w, frames->h, NULL, &first);
+            if (drawn != VIMALORUA_DONE || listed != VIMALORUA_DONE)
+                fail("nothing is drawn with alpha", ms);
+            for (size_t i = 0; i < 4 * pixels; i++)
+                layers[i] = 0;
+            lay(first, layers, frames->w);
+            for (size_t i = 0; i < pixels; i++)
+                if (!(form == VIMALORUA_STRAIGHT ? is_straight : is_premultiplied)(out + 4 * i, layers + 4 * i)) {
+                    fail("a picture with alpha isn't its list", ms);
+                    break;
+                }
+        }
+    free(layers);
+    free(out);
+    ass_images_free(&images);
+}
+
 static void *in_turn(void *data) {
     struct frames *frames = data;
     uint8_t *drawn = need(malloc(frames->len + 1)), *wanted = frames->wanted;
@@ -221,6 +283,7 @@ int main(int argc, char **argv) {
     frames.wanted = need(malloc(count * frames.len + 1));
     by_one_thread(&frames);
     in_views(&frames, frames.from, frames.wanted);
+    with_alpha(&frames, frames.from);
     by_four_threads(&frames);
     vimalorua_close(frames.handle);
     free(frames.wanted);

@@ -423,6 +423,7 @@ static void bad_calls(void) {
     vimalorua *handle = NULL;
     vimalorua_seat *seat = NULL;
     uint8_t out[COUNT] = {0};
+    uint8_t rgba[4 * W * H] = {0};
     size_t place = 77, count = 77, bytes = 77, entries = 77;
     int32_t change = 77;
     vimalorua_view view = {.size = 15, .w = W, .h = H};
@@ -442,6 +443,10 @@ static void bad_calls(void) {
     WANT(vimalorua_try_list_in(seat, 0, &view, &change, &count, &bytes, &entries), VIMALORUA_BAD_CALL);
     view.size = sizeof view;
     WANT(vimalorua_try_draw_in(seat, 0, &view, out, COUNT, &entries), VIMALORUA_DONE);
+    WANT(vimalorua_try_draw_alpha_in(seat, 0, &view, 2, rgba, sizeof rgba, &entries), VIMALORUA_BAD_CALL);
+    WANT(vimalorua_try_draw_alpha(seat, 0, W, H, VIMALORUA_STRAIGHT, rgba, COUNT, &entries), VIMALORUA_BAD_CALL);
+    WANT(vimalorua_try_draw_alpha_in(seat, 0, &view, VIMALORUA_STRAIGHT, rgba, sizeof rgba, &entries), VIMALORUA_DONE);
+    WANT(vimalorua_draw_alpha_waiting(seat, 0, W, H, VIMALORUA_PREMULTIPLIED, rgba, sizeof rgba, &entries, NULL, NULL), VIMALORUA_DONE);
     WANT(vimalorua_try_list_in(seat, 0, &view, &change, &count, &bytes, &entries), VIMALORUA_DONE);
     WANT(change, VIMALORUA_SAME);
     WANT(vimalorua_seat_copy(seat, NULL, 0, NULL, 0), VIMALORUA_DONE);

@@ -1,3 +1,4 @@
+mod AlphaLemmas
 mod AsBox
 mod CopyLemmas
 mod HandlesSent

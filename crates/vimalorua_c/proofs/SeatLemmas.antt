@@ -25,11 +25,11 @@ use Rattle.vimalorua_c.specs.Statuses.{change_number, look_status, share_status,
 use Rattle.vimalorua_c.specs.Views.{AreViewNumbers}
 use Rattle.vimalorua_c.specs.declared.views.ViewNumbers.{ViewNumbers}
 
-empty : (fonts : List FontValue) → length fonts ≡ 0 → fonts ≡ []
+pub empty : (fonts : List FontValue) → length fonts ≡ 0 → fonts ≡ []
 empty [] none = refl
 empty (font ∷ fonts) none = absurd (omega (arith, none))
 
-not_empty : (fonts : List FontValue) → 0 < length fonts → fonts ≡ [] → ⊥
+pub not_empty : (fonts : List FontValue) → 0 < length fonts → fonts ≡ [] → ⊥
 not_empty [] some none = absurd (omega (arith, some))
 not_empty (font ∷ fonts) some none = absurd (omega (arith, ap length none))
 

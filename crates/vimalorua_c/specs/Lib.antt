@@ -3,3 +3,4 @@ pub mod Fonts
 pub mod SeatCalls
 pub mod Statuses
 pub mod Views
+pub mod Alpha
