@@ -33,7 +33,7 @@ play_fits rows (Some name) false e = cc
 job_fits : (rows : List Row) (command : Command) → goes_together rows command ≡ true → FitsList (text_at rows argument.Index) (job_for rows command)
 job_fits rows Check e = tt
 job_fits rows Frame e = tt
-job_fits rows Play e = play_fits rows (text_at rows argument.Index) (is_told rows argument.Changed) (both _ _ e).1
+job_fits rows Play e = play_fits rows (text_at rows argument.Index) (is_told rows argument.Changed) (both _ _ (both _ _ e).0).1
 job_fits rows Selftest e = tt
 job_fits rows Changes e = tt
 job_fits rows Write e = tt

@@ -4,9 +4,9 @@ use Rattle.ass_num.specs.Limits.{max_instant}
 use Rattle.frame_view.specs.Limits.{max_letter_scale}
 use Rattle.run_words.specs.Limits.{max_ahead, max_asked_frames, max_bands, max_batch, max_budget, max_events, max_seed, max_times, max_workers}
 use Rattle.run_words.specs.declared.argument.Argument.{Argument}
-use Rattle.run_words.specs.declared.argument.Argument.TheVariants.{At, From, To, Frames, Step, Rate, Size, Storage, Aspect, Content, Letters, Scale, Format, Changed, Crop, Feeders, Renderers, Batch, Again, Times, Ahead, Bands, Budget, Mode, Report, ReportTo, Index, Progress, QuietPipe, ScriptFonts, Workers, Later, Earlier, Script, Fonts, Seed, Events}
+use Rattle.run_words.specs.declared.argument.Argument.TheVariants.{At, From, To, Frames, Step, Rate, Size, Storage, Aspect, Content, Letters, Scale, Format, Matrix, Chroma, Changed, Crop, Feeders, Renderers, Batch, Again, Times, Ahead, Bands, Budget, Mode, Report, ReportTo, Index, Progress, QuietPipe, ScriptFonts, Workers, Later, Earlier, Script, Fonts, Seed, Events}
 use Rattle.run_words.specs.declared.argument.Kind.{Kind}
-use Rattle.run_words.specs.declared.argument.Kind.TheVariants.{Number, FrameSize, VideoSize, PixelShape, PictureRect, LettersRule, PlayMode, PictureFormat, FramesInSeconds, WrittenForm, Alone, FileName}
+use Rattle.run_words.specs.declared.argument.Kind.TheVariants.{Number, FrameSize, VideoSize, PixelShape, PictureRect, LettersRule, PlayMode, PictureFormat, ColourRule, ChromaSampling, FramesInSeconds, WrittenForm, Alone, FileName}
 
 abbrev pub argument_name : Argument → List ℕ
 argument_name At = codes "at"
@@ -22,6 +22,8 @@ argument_name Content = codes "content"
 argument_name Letters = codes "letters"
 argument_name Scale = codes "scale"
 argument_name Format = codes "format"
+argument_name Matrix = codes "matrix"
+argument_name Chroma = codes "chroma"
 argument_name Changed = codes "changed"
 argument_name Crop = codes "crop"
 argument_name Feeders = codes "feeders"
@@ -86,6 +88,8 @@ argument_kind Content = PictureRect
 argument_kind Letters = LettersRule
 argument_kind Scale = Number 0 max_letter_scale
 argument_kind Format = PictureFormat
+argument_kind Matrix = ColourRule
+argument_kind Chroma = ChromaSampling
 argument_kind Changed = Alone
 argument_kind Crop = Alone
 argument_kind Feeders = Number 1 max_workers

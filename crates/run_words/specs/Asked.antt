@@ -4,6 +4,7 @@ use Rattle.std.specs.List.{list_any}
 use Rattle.std.specs.Option.{option_map_or}
 use Rattle.std.specs.Str.{bytes_eq}
 use Rattle.ass_num.specs.declared.size.Size.{Size}
+use Rattle.ass_script.specs.Matrices.{video_colours_named}
 use Rattle.frame_rate.specs.Instants.{counted_instants, instants_before}
 use Rattle.frame_rate.specs.Rates.{step_rate}
 use Rattle.frame_rate.specs.declared.instants.Instants.{Instants}
@@ -17,7 +18,7 @@ use Rattle.run_words.specs.Arguments.{argument_name, argument_kind, shown_name}
 use Rattle.run_words.specs.Commands.{arguments_of, sharing_arguments}
 use Rattle.run_words.specs.Limits.{usual_batch, usual_budget}
 use Rattle.value_texts.specs.Values.{aspect_in, content_in, letters_in, number_within, rate_in, size_in, storage_in}
-use Rattle.run_words.specs.Values.{format_in, is_of_kind, mode_in}
+use Rattle.run_words.specs.Values.{format_in, is_of_kind, is_video_word, mode_in, sampling_in}
 use Rattle.run_words.specs.declared.argument.Argument.{Argument}
 use Rattle.run_words.specs.declared.argument.Argument.TheVariants as argument
 use Rattle.run_words.specs.declared.argument.Kind.{Kind}
@@ -32,11 +33,16 @@ use Rattle.run_words.specs.declared.job.Job.{Job}
 use Rattle.run_words.specs.declared.job.Job.TheVariants.{Check, Frame, Play, Stills, Selftest, Changes, Write}
 use Rattle.run_words.specs.declared.job.Mode.{Mode}
 use Rattle.run_words.specs.declared.job.Mode.TheVariants.{Settled}
+use Rattle.run_words.specs.declared.job.PlayFormat.{PlayFormat}
+use Rattle.run_words.specs.declared.job.PlayFormat.TheVariants.{Image, Video}
 use Rattle.run_words.specs.declared.job.PlayJob.{PlayJob}
 use Rattle.run_words.specs.declared.job.ScriptSource.{ScriptSource}
 use Rattle.run_words.specs.declared.job.StillsJob.{StillsJob}
 use Rattle.run_words.specs.declared.job.WordsFault.{WordsFault}
 use Rattle.run_words.specs.declared.job.WordsFault.TheVariants.{Value}
+use Rattle.y4m_text.specs.declared.form.Sampling.{Sampling}
+use Rattle.y4m_text.specs.declared.form.Sampling.TheVariants.{Yuv420}
+use Rattle.y4m_text.specs.declared.form.VideoChoice.{VideoChoice}
 
 -- the text that was found for an argument
 abbrev pub text_at : List Row → Argument → Option (List ℕ)
@@ -80,6 +86,13 @@ frame_at rows = record {
 abbrev pub format_at : List Row → FrameFormat
 format_at rows = unwrap_or (option_and_then format_in (text_at rows argument.Format)) Ppm
 
+abbrev pub sampling_at : List Row → Sampling
+sampling_at rows = unwrap_or (option_and_then sampling_in (text_at rows argument.Chroma)) Yuv420
+
+-- what is asked for in a video: the colours that a name means, or else those for which the script is
+abbrev pub video_at : List Row → VideoChoice
+video_at rows = record { colours = option_and_then video_colours_named (text_at rows argument.Matrix); sampling = sampling_at rows }
+
 -- the rate of the instants, or that of their step
 abbrev pub rate_at : List Row → FrameRate
 rate_at rows = unwrap_or (option_and_then rate_in (text_at rows argument.Rate)) (step_rate (number_at rows argument.Step 1))
@@ -108,10 +121,21 @@ is_told rows argument = option_map_or (λ text. bytes_eq text (codes "true")) (t
 abbrev pub is_shared_out : List Row → Bool
 is_shared_out rows = list_any (λ argument. is_some (text_at rows argument)) sharing_arguments
 
--- The work of a play of changed images isn't shared out, nor is shown how far that is, and the images of no other play are cropped.
+-- Images are asked for as a video.
+abbrev pub is_video : List Row → Bool
+is_video rows = option_map_or is_video_word (text_at rows argument.Format) false
+
+-- how the frames of a play are written
+abbrev pub play_format_at : List Row → PlayFormat
+play_format_at rows = if is_video rows then Video (video_at rows) else Image (format_at rows)
+
+-- A matrix and a sampling are told of a video alone.
+abbrev pub is_video_apart : List Row → Bool
+is_video_apart rows = is_video rows || (not (is_some (text_at rows argument.Matrix)) && not (is_some (text_at rows argument.Chroma)))
+
+-- Changed images are no video and the work of their play isn't shared out, and the images of no other play are cropped.
 abbrev pub are_stills_apart : List Row → Bool
-are_stills_apart rows =
-    if is_told rows argument.Changed then not (is_shared_out rows) && not (is_told rows argument.Progress) else not (is_told rows argument.Crop)
+are_stills_apart rows = if is_told rows argument.Changed then not (is_shared_out rows) && not (is_video rows) else not (is_told rows argument.Crop)
 
 -- A list of changed images is made of whole frames.
 abbrev pub is_index_apart : List Row → Bool
@@ -119,7 +143,8 @@ is_index_apart rows = not (is_some (text_at rows argument.Index)) || (is_told ro
 
 -- What is told to a command goes together.
 abbrev pub goes_together : List Row → Command → Bool
-goes_together rows command.Play = is_paced rows && are_stills_apart rows && is_index_apart rows
+goes_together rows command.Play = is_paced rows && are_stills_apart rows && is_index_apart rows && is_video_apart rows
+goes_together rows command.Frame = not (is_video rows)
 goes_together rows command.Changes = is_paced rows
 goes_together rows _ = true
 
@@ -152,7 +177,7 @@ play_of rows = record {
   times = number_at rows argument.Times 1;
   ahead = number_at rows argument.Ahead 0;
   bands = number_at rows argument.Bands 1;
-  format = format_at rows;
+  format = play_format_at rows;
   budget = budget_at rows;
   mode = mode_at rows;
 }
@@ -208,7 +233,7 @@ PlainFramesStay =
 -- Frames of which no format is said are pixmaps.
 abbrev pub PlainFormatsStay : Type 0
 PlainFormatsStay =
-    (rows : List Row) → text_at rows argument.Format ≡ None → ((frame_of rows).format ≡ Ppm) × ((play_of rows).format ≡ Ppm) × ((stills_of rows).format ≡ Ppm)
+    (rows : List Row) → text_at rows argument.Format ≡ None → ((frame_of rows).format ≡ Ppm) × ((play_of rows).format ≡ Image Ppm) × ((stills_of rows).format ≡ Ppm)
 
 -- Where no rate is said, instants stand a step apart.
 abbrev pub StepsStay : Type 0

@@ -43,7 +43,7 @@ arguments_of Check = report_arguments ++ file_arguments
 arguments_of Frame = argument.At ∷ frame_arguments ++ argument.Format ∷ argument.Budget ∷ file_arguments
 arguments_of Play =
     instant_arguments ++ argument.Size ∷ argument.Feeders ∷ argument.Renderers ∷ argument.Batch ∷ argument.Again
-    ∷ argument.Times ∷ argument.Ahead ∷ argument.Bands ∷ argument.Format ∷ argument.Changed ∷ argument.Crop ∷ argument.Budget ∷ argument.Mode
+    ∷ argument.Times ∷ argument.Ahead ∷ argument.Bands ∷ argument.Format ∷ argument.Matrix ∷ argument.Chroma ∷ argument.Changed ∷ argument.Crop ∷ argument.Budget ∷ argument.Mode
     ∷ report_arguments ++ argument.Index ∷ argument.Progress ∷ argument.QuietPipe ∷ file_arguments
 arguments_of Selftest = argument.Workers ∷ report_arguments ++ argument.Progress ∷ argument.Seed ∷ argument.Events ∷ []
 arguments_of Changes = instant_arguments ++ frame_arguments ++ argument.Budget ∷ report_arguments ++ argument.Progress ∷ file_arguments

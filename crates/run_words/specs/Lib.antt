@@ -6,4 +6,5 @@ pub mod Values
 pub mod Jobs
 pub mod Asked
 pub mod Words
+pub mod Forms
 pub mod ReportWords

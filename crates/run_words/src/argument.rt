@@ -56,8 +56,12 @@ pub enum Kind {
     LettersRule,
     /// `live` or `settled`.
     PlayMode,
-    /// `ppm`, `pam` or `rgba`.
+    /// `ppm`, `pam`, `rgba` or `y4m`.
     PictureFormat,
+    /// `script`, or the name of a video's colours, as `TV.709`.
+    ColourRule,
+    /// `420` or `444`.
+    ChromaSampling,
     /// Frames in one second, or in as many as stand behind a `/`.
     FramesInSeconds,
     /// `text`, `json` or `none`.
@@ -84,6 +88,8 @@ pub enum Argument {
     Letters,
     Scale,
     Format,
+    Matrix,
+    Chroma,
     Changed,
     Crop,
     Feeders,
@@ -129,6 +135,8 @@ impl Argument {
             Argument::Letters => "letters",
             Argument::Scale => "scale",
             Argument::Format => "format",
+            Argument::Matrix => "matrix",
+            Argument::Chroma => "chroma",
             Argument::Changed => "changed",
             Argument::Crop => "crop",
             Argument::Feeders => "feeders",
@@ -204,6 +212,8 @@ impl Argument {
             Argument::Letters => Kind::LettersRule,
             Argument::Scale => Kind::Number(0, MAX_LETTER_SCALE),
             Argument::Format => Kind::PictureFormat,
+            Argument::Matrix => Kind::ColourRule,
+            Argument::Chroma => Kind::ChromaSampling,
             Argument::Feeders | Argument::Renderers | Argument::Workers => {
                 Kind::Number(1, MAX_WORKERS)
             }

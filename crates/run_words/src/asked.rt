@@ -6,21 +6,27 @@ ghost use Rattle.clap.specs.Words.{all_of, found_of, rows_of};
 ghost use Rattle.frame_rate.specs.Rates.{IsFrameRate};
 ghost use Rattle.frame_view.specs.declared.view.LetterWidth.TheVariants.{Canvas};
 ghost use Rattle.run_words.specs.Arguments.{argument_name, most_of};
-ghost use Rattle.run_words.specs.Asked.{are_stills_apart, changes_of, fits, first_bad, fonts_at, format_at, frame_at, frame_of, goes_together};
-ghost use Rattle.run_words.specs.Asked.{is_index_apart, is_just_one, is_paced, is_shared_out, is_told, job_for, mode_at, number_at, play_job, play_of, rate_at, script_at, size_at};
-ghost use Rattle.run_words.specs.Asked.{instants_at, source_at, stills_of, text_at};
+ghost use Rattle.run_words.specs.Asked.{are_stills_apart, changes_of, fits, first_bad, fonts_at, format_at, frame_at, frame_of, goes_together, instants_at};
+ghost use Rattle.run_words.specs.Asked.{is_index_apart, is_just_one, is_paced, is_shared_out, is_told, is_video, is_video_apart, job_for, mode_at};
+ghost use Rattle.run_words.specs.Asked.{number_at, play_format_at, play_job, play_of, rate_at, sampling_at, script_at, size_at, source_at, stills_of};
+ghost use Rattle.run_words.specs.Asked.{text_at, video_at};
+ghost use Rattle.ass_script.specs.Matrices.{video_colours_named};
 ghost use Rattle.value_texts.specs.Values.{aspect_in, content_in, letters_in, rate_in, storage_in};
 
 use crate::argument::{Argument, Kind};
 use crate::command::{Command, sharing_arguments};
-use crate::job::{ChangesJob, FrameFormat, FrameJob, Job, Mode, PlayJob, ScriptSource, StillsJob};
-use crate::values::{format_in, is_of_kind, mode_in};
+use crate::job::{
+    ChangesJob, FrameFormat, FrameJob, Job, Mode, PlayFormat, PlayJob, ScriptSource, StillsJob,
+};
+use crate::values::{format_in, is_of_kind, is_video_word, mode_in, sampling_in};
 use ass_num::{Items, Mem, Size, Text};
+use ass_script::{VideoColours, video_colours_named};
 use clap::ArgMatches;
 use frame_rate::{FrameRate, Instants};
 use frame_view::{FrameView, LetterWidth, PixelAspect, PixelRect};
 use std::alloc::Global;
 use value_texts::{aspect_in, content_in, letters_in, number_within, rate_in, size_in, storage_in};
+use y4m_text::{Sampling, VideoChoice};
 
 /// What stands for a budget that isn't given, in bytes.
 const ABSENT_BUDGET: u64 = 67_108_864;
@@ -105,13 +111,30 @@ fn is_shared_out(found: &ArgMatches) -> bool
     false
 }
 
-/// Whether the work of a play of changed images isn't shared out, nor is to be shown how far that is, and the images of another
-/// play aren't cropped.
+/// Whether images are asked for as a video.
+fn is_video(found: &ArgMatches) -> bool
+    ensures { result ≡ is_video (rows_of (found_of found.now)) }
+{
+    match text_at(found, Argument::Format) {
+        Some(text) => is_video_word(text),
+        None => false,
+    }
+}
+
+/// Whether a matrix and a sampling are told of a video alone.
+fn is_video_apart(found: &ArgMatches) -> bool
+    ensures { result ≡ is_video_apart (rows_of (found_of found.now)) }
+{
+    is_video(found)
+        || text_at(found, Argument::Matrix).is_none() && text_at(found, Argument::Chroma).is_none()
+}
+
+/// Whether changed images are no video and the work of their play isn't shared out, and the images of another play aren't cropped.
 fn are_stills_apart(found: &ArgMatches) -> bool
     ensures { result ≡ are_stills_apart (rows_of (found_of found.now)) }
 {
     if is_told(found, Argument::Changed) {
-        !is_shared_out(found) && !is_told(found, Argument::Progress)
+        !is_shared_out(found) && !is_video(found)
     } else {
         !is_told(found, Argument::Crop)
     }
@@ -135,9 +158,15 @@ pub fn goes_together(found: &ArgMatches, command: Command) -> bool
     ensures { result ≡ goes_together (rows_of (found_of found.now)) command }
 {
     match command {
-        Command::Play => { is_paced(found) && are_stills_apart(found) && is_index_apart(found) }
+        Command::Play => {
+            is_paced(found)
+                && are_stills_apart(found)
+                && is_index_apart(found)
+                && is_video_apart(found)
+        }
+        Command::Frame => !is_video(found),
         Command::Changes => is_paced(found),
-        Command::Check | Command::Frame | Command::Selftest | Command::Write => true,
+        Command::Check | Command::Selftest | Command::Write => true,
     }
 }
 
@@ -256,6 +285,47 @@ fn format_at(found: &ArgMatches) -> FrameFormat
     }
 }
 
+/// The colours of a video, where it isn't those for which the script is.
+fn colours_at(found: &ArgMatches) -> Option<VideoColours>
+    ensures { result ≡ option_and_then video_colours_named (text_at (rows_of (found_of found.now)) Argument.Matrix) }
+{
+    video_colours_named(text_at(found, Argument::Matrix)?)
+}
+
+/// The sampling of a video, or `Yuv420`.
+fn sampling_at(found: &ArgMatches) -> Sampling
+    ensures { result ≡ sampling_at (rows_of (found_of found.now)) }
+{
+    match text_at(found, Argument::Chroma) {
+        Some(text) => match sampling_in(text) {
+            Some(sampling) => sampling,
+            None => Sampling::Yuv420,
+        },
+        None => Sampling::Yuv420,
+    }
+}
+
+/// What is asked for in a video.
+fn video_at(found: &ArgMatches) -> VideoChoice
+    ensures { result ≡ video_at (rows_of (found_of found.now)) }
+{
+    VideoChoice {
+        colours: colours_at(found),
+        sampling: sampling_at(found),
+    }
+}
+
+/// How the frames of a play are written.
+fn play_format_at(found: &ArgMatches) -> PlayFormat
+    ensures { result ≡ play_format_at (rows_of (found_of found.now)) }
+{
+    if is_video(found) {
+        PlayFormat::Video(video_at(found))
+    } else {
+        PlayFormat::Image(format_at(found))
+    }
+}
+
 /// The rate that is given.
 fn given_rate(found: &ArgMatches) -> Option<FrameRate>
     ensures { result ≡ option_and_then rate_in (text_at (rows_of (found_of found.now)) Argument.Rate) }
@@ -366,7 +436,7 @@ fn play_of(found: &ArgMatches) -> PlayJob
         times: count_at(found, Argument::Times, 1),
         ahead: count_at(found, Argument::Ahead, 0),
         bands: count_at(found, Argument::Bands, 1),
-        format: format_at(found),
+        format: play_format_at(found),
         budget: number_at(found, Argument::Budget, ABSENT_BUDGET),
         mode: mode_at(found),
     }

@@ -49,7 +49,7 @@ static FRAME: [Argument; 12] = [
     Argument::Fonts,
 ];
 
-static PLAY: [Argument; 26] = [
+static PLAY: [Argument; 28] = [
     Argument::From,
     Argument::To,
     Argument::Frames,
@@ -64,6 +64,8 @@ static PLAY: [Argument; 26] = [
     Argument::Ahead,
     Argument::Bands,
     Argument::Format,
+    Argument::Matrix,
+    Argument::Chroma,
     Argument::Changed,
     Argument::Crop,
     Argument::Budget,

@@ -4,6 +4,7 @@ use ass_num::{Items, OutOfMemory, Size, Text};
 use frame_rate::Instants;
 use frame_view::FrameView;
 use std::alloc::AllocError;
+use y4m_text::{VideoChoice, VideoForm};
 
 /// How a `play` goes: each image of what was fed before it was made, or all of what was fed whole.
 #[derive(Clone, Copy, Debug, PartialEq, Eq)]
@@ -21,6 +22,24 @@ pub enum FrameFormat {
     Pam,
     /// The pixels with straight alpha, and nothing before them.
     Rgba,
+}
+
+/// How the frames of a `play` are written.
+#[derive(Clone, Copy, Debug, PartialEq, Eq)]
+pub enum PlayFormat {
+    /// Each by itself.
+    Image(FrameFormat),
+    /// All as one YUV4MPEG2 stream.
+    Video(VideoChoice),
+}
+
+/// How an image is written.
+#[derive(Clone, Copy, Debug, PartialEq, Eq)]
+pub enum ImageForm {
+    /// By itself.
+    Image(FrameFormat),
+    /// As a frame of a video.
+    Video(VideoForm),
 }
 
 /// What a `frame` is asked for: the instant in milliseconds, the frame, how it is written, and the bytes of a cache's
@@ -54,7 +73,7 @@ pub struct PlayJob {
     pub times: u32,
     pub ahead: u32,
     pub bands: u32,
-    pub format: FrameFormat,
+    pub format: PlayFormat,
     pub budget: u64,
     pub mode: Mode,
 }
