@@ -5,13 +5,13 @@ use Rattle.bdf_font.specs.Fonts.{FontValue}
 use Rattle.blend.specs.Canvases.{CanvasValue, black}
 use Rattle.mask_keys.specs.declared.plans.Draw.{Draw}
 use Rattle.mask_keys.specs.Pictures.{picture, with_draw}
-use Rattle.frame_images.proofs.ImageLemmas.{drawn_height, drawn_width}
+use Rattle.mask_keys.proofs.DrawnLemmas.{draws_height, draws_width}
 
 -- the bytes of a picture
 pub picture_bytes : (fonts : List FontValue) (size : Size) (draws : List Draw) (canvas : CanvasValue) (count : ℕ) → canvas ≡ picture fonts size draws → count ≡ 3 * (canvas.w * canvas.h) → count ≡ 3 * (size.w * size.h)
 picture_bytes fonts size draws canvas count is counted =
-    let wide : canvas.w ≡ size.w = ap (λ (c : CanvasValue). c.w) is ∙ drawn_width fonts (black size.w size.h) draws in
-    let high : canvas.h ≡ size.h = ap (λ (c : CanvasValue). c.h) is ∙ drawn_height fonts (black size.w size.h) draws in
+    let wide : canvas.w ≡ size.w = ap (λ (c : CanvasValue). c.w) is ∙ draws_width fonts draws (black size.w size.h) in
+    let high : canvas.h ≡ size.h = ap (λ (c : CanvasValue). c.h) is ∙ draws_height fonts draws (black size.w size.h) in
     counted ∙ ap (λ w. 3 * (w * canvas.h)) wide ∙ ap (λ h. 3 * (size.w * h)) high
 
 -- what is painted on black is the picture

@@ -6,7 +6,7 @@ use Rattle.alpha_canvas.specs.declared.pixel.AlphaForm.TheVariants.{Straight}
 use Rattle.bdf_font.specs.Fonts.{FontValue}
 use Rattle.blend.specs.Blending.{Image}
 use Rattle.blend.specs.Canvases.{CanvasValue, black}
-use Rattle.frame_images.proofs.ImageLemmas.{drawn_height, drawn_width}
+use Rattle.mask_keys.proofs.DrawnLemmas.{draws_height, draws_width}
 use Rattle.mask_keys.specs.declared.plans.Draw.{Draw}
 use Rattle.mask_keys.specs.Pictures.{picture, with_draw}
 use Rattle.still_images.specs.Boxes.{HasPixels}
@@ -21,8 +21,8 @@ painted fonts size draws old new bytes blank is copied =
 pub picture_size : (fonts : List FontValue) (size : Size) (draws : List Draw) (old new : CanvasValue) (bytes : List ℕ) → old ≡ black size.w size.h → new ≡ fold (with_draw fonts) old draws →
     bytes ≡ new.bytes → length new.bytes ≡ 3 * (new.w * new.h) → HasPixels 3 size bytes
 picture_size fonts size draws old new bytes blank is copied counted =
-    let wide : new.w ≡ size.w = ap (λ (c : CanvasValue). c.w) is ∙ (drawn_width fonts old draws ∙ ap (λ (c : CanvasValue). c.w) blank) in
-    let high : new.h ≡ size.h = ap (λ (c : CanvasValue). c.h) is ∙ (drawn_height fonts old draws ∙ ap (λ (c : CanvasValue). c.h) blank) in
+    let wide : new.w ≡ size.w = ap (λ (c : CanvasValue). c.w) is ∙ (draws_width fonts draws old ∙ ap (λ (c : CanvasValue). c.w) blank) in
+    let high : new.h ≡ size.h = ap (λ (c : CanvasValue). c.h) is ∙ (draws_height fonts draws old ∙ ap (λ (c : CanvasValue). c.h) blank) in
     ap (λ (b : List ℕ). length b) copied ∙ (counted ∙ (ap (λ w. 3 * (w * new.h)) wide ∙ ap (λ h. 3 * (size.w * h)) high))
 
 -- the bytes of a picture with alpha

@@ -35,6 +35,7 @@ use run_words::StillsJob;
 use std::alloc::Global;
 use std::sync::Arc;
 use still_lists::{StillEntry, words_index};
+use test_hook::{HookPoint, NoHook, TestHook};
 use text_layout::Setting;
 
 /// The picture at the instant `t`; `None` where its draws are those of the last one.
@@ -122,14 +123,23 @@ pub fn end_instant(instants: &Instants) -> u64
     }
 }
 
+/// Tells the hook that the instant at a place was shown.
+fn tell_hook<H: TestHook>(instants: &Instants, place: u64, hook: &H)
+    requires instants { AreInstants instants.now }
+    requires place { place < instants.now.count }
+{
+    hook.at(HookPoint::AfterFrame(instants.at(place) as i64));
+}
+
 /// Shows all instants.
-fn show_all<F: Sink>(
+fn show_all<F: Sink, H: TestHook>(
     alloc: Global,
     job: &StillsJob,
     setting: &Setting<'_>,
     events: &[Arc<Event>],
     local: &mut LocalCaches,
     frames: &mut F,
+    hook: &H,
 ) -> Result<Items<StillEntry>, StillsFault>
     requires job { IsStills job.now }
     requires setting { IsSetting setting.now }
@@ -148,7 +158,7 @@ fn show_all<F: Sink>(
     };
     for place in 0..job.instants.count {
         match add_instant(alloc, job, setting, events, place, local, &mut reel, frames) {
-            Ok(()) => {}
+            Ok(()) => tell_hook(&job.instants, place, hook),
             Err(fault) => return Err(fault),
         }
     }
@@ -187,12 +197,13 @@ fn make_ready(alloc: Global, job: &StillsJob, script: &Script, fonts: Items<Font
 }
 
 /// Shows a script from instant to instant with what is at hand.
-fn show_ready<F: Sink>(
+fn show_ready<F: Sink, H: TestHook>(
     alloc: Global,
     job: &StillsJob,
     script: &Script,
     ready: Ready,
     frames: &mut F,
+    hook: &H,
 ) -> Result<Items<StillEntry>, StillsFault>
     requires job { IsStills job.now }
     requires script { IsScript script.now }
@@ -215,18 +226,27 @@ fn show_ready<F: Sink>(
         fonts: &fonts,
         frame: FrameView::plain(job.size),
     };
-    show_all(alloc, job, &setting, events.as_slice(), &mut local, frames)
+    show_all(
+        alloc,
+        job,
+        &setting,
+        events.as_slice(),
+        &mut local,
+        frames,
+        hook,
+    )
 }
 
 /// Shows a script in fonts from instant to instant. The sink is put an image of the first picture, and of each that differs from the
-/// one before it, whole or the box that changed. What comes is what a list tells of them.
+/// one before it, whole or the box that changed. What comes is what a list tells of them. The hook is called after each instant.
 #[tactic(auto, using(crate::proofs::ReelLemmas::none_shown))]
-pub fn list_stills<F: Sink>(
+pub fn list_stills<F: Sink, H: TestHook>(
     alloc: Global,
     job: &StillsJob,
     script: &Script,
     fonts: Items<Font>,
     frames: &mut F,
+    hook: &H,
 ) -> Result<Items<StillEntry>, StillsFault>
     requires job { IsStills job.now }
     requires script { IsScript script.now }
@@ -235,7 +255,7 @@ pub fn list_stills<F: Sink>(
     ensures { AreStillsListed (stills_view job.now script.now fonts) result (F.state frames.old) (F.state frames.new) }
 {
     match make_ready(alloc, job, script, fonts) {
-        Ok(ready) => show_ready(alloc, job, script, ready, frames),
+        Ok(ready) => show_ready(alloc, job, script, ready, frames, hook),
         Err(OutOfMemory) => Err(StillsFault::OutOfMemory),
     }
 }
@@ -263,7 +283,7 @@ pub fn show_stills<F: Sink>(
     requires fonts { IsLayoutFontSet fonts }
     ensures { AreStillsShown (stills_view job.now script.now fonts) result (F.state frames.old) (F.state frames.new) }
 {
-    match list_stills(alloc, job, script, fonts, frames) {
+    match list_stills(alloc, job, script, fonts, frames, &NoHook) {
         Ok(entries) => match index_of(alloc, entries.as_slice(), &job.instants) {
             Ok(text) => Ok(text),
             Err(OutOfMemory) => Err(StillsFault::OutOfMemory),
