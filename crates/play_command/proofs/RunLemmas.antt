@@ -21,7 +21,6 @@ use Rattle.single_run.specs.declared.work.Work.{Work}
 use Rattle.run_status.proofs.FetchLemmas.{nothing_fetched}
 use Rattle.run_status.specs.Laws.{AreTold, FilesDecide, IsReadDecided}
 use Rattle.run_status.specs.declared.inputs.Inputs.{Inputs}
-use Rattle.play_model.specs.Outputs.{IsFrontOfPlay}
 use Rattle.play_model.specs.Plays.{PlayView}
 use Rattle.run_words.specs.Words.{job_of}
 use Rattle.run_words.specs.declared.job.Job.{Job}
@@ -36,7 +35,7 @@ use Rattle.run_status.specs.declared.status.Which.TheVariants.{Frames, Report}
 use Rattle.play_report.specs.Reports.{summary_text}
 use Rattle.play_command.proofs.SelftestLemmas.{wanting}
 use Rattle.play_command.proofs.TextLemmas.{text_wanting}
-use Rattle.play_command.specs.PlayRuns.{AreFetchedUnless, AreReadUnless, DecidesPlay, IsPlayAsked, IsPlayOutput, IsPlayPut, IsPlayRun, IsPlayText, play_refusal, status_read, view_of}
+use Rattle.play_command.specs.PlayRuns.{AreFetchedUnless, AreReadUnless, DecidesPlay, IsPlayAsked, IsPlayPut, IsPlayRun, IsPlayText, IsStreamFront, IsStreamOutput, front_pieces, output_pieces, play_refusal, status_read, view_of}
 use Rattle.play_command.specs.SelftestRuns.{DecidesSelftest, IsSelftestRead, IsSelftestReport, IsSelftestRun}
 use Rattle.play_command.specs.Working.{IsJobWorked, IsPlayShown, IsPlayWorked, IsSelftestWorked, IsLeftByCalm, IsShownAfter, IsSpoken}
 use Rattle.run_words.specs.declared.job.ScriptSource.{ScriptSource}
@@ -102,26 +101,26 @@ IsFinishedBy report outcome answer = ArePiecesFinished outcome answer report.bef
 -- ---- a play
 
 module _ (play : PlayView) (frames report : SinkChange) (answer : Status) where
-  found_put : (bytes : List ℕ) (text : String Global) (output : IsPlayOutput play bytes (string_bytes text)) → Appends frames.before.held frames.now.held bytes →
-      frames.now.asked ≡ frames.before.asked ++ output.whole.shown.images → IsOrMemory status.Done answer ⊎ (answer ≡ status.WriteFault Report) → IsToldBy report answer (string_bytes text) →
+  found_put : (bytes : List ℕ) (text : String Global) (stream : IsStreamOutput play bytes (string_bytes text)) → Appends frames.before.held frames.now.held bytes →
+      frames.now.asked ≡ frames.before.asked ++ output_pieces play bytes (string_bytes text) stream → IsOrMemory status.Done answer ⊎ (answer ≡ status.WriteFault Report) → IsToldBy report answer (string_bytes text) →
       IsFinishedBy report (Found text) answer → IsPlayPut play frames report answer
-  found_put bytes text output appended pieces (inl (inl done)) told finished =
+  found_put bytes text stream appended pieces (inl (inl done)) told finished =
       let t : IsToldBy report status.Done (string_bytes text) = subst (λ s. IsToldBy report s (string_bytes text)) done told in
       let f : IsFinishedBy report (Found text) status.Done = subst (λ s. IsFinishedBy report (Found text) s) done finished in
       subst (λ s. IsPlayPut play frames report s) (sym done)
-      (bytes, string_bytes text, output, appended, subst (λ x. Appends report.before.held report.now.held x) t.1 t.2, t.3, pieces, f)
-  found_put bytes text output appended pieces (inl (inr memory)) told finished =
+      (bytes, string_bytes text, stream, appended, subst (λ x. Appends report.before.held report.now.held x) t.1 t.2, t.3, pieces, f)
+  found_put bytes text stream appended pieces (inl (inr memory)) told finished =
       let t : IsToldBy report status.OutOfMemory (string_bytes text) = subst (λ s. IsToldBy report s (string_bytes text)) memory told in
       let f : IsFinishedBy report (Found text) status.OutOfMemory = subst (λ s. IsFinishedBy report (Found text) s) memory finished in
       subst (λ s. IsPlayPut play frames report s) (sym memory)
-      (bytes, inr (string_bytes text, output), appended, t, pieces, some_told (IsPlayText play) report.before.asked report.now.asked (string_bytes text) (inl (bytes, output)) f)
-  found_put bytes text output appended pieces (inr fault) told finished =
+      (bytes, inr (string_bytes text, stream), appended, t, pieces, some_told (IsPlayText play) report.before.asked report.now.asked (string_bytes text) (inl (stream.shown, stream.output)) f)
+  found_put bytes text stream appended pieces (inr fault) told finished =
       let t : IsToldBy report (status.WriteFault Report) (string_bytes text) = subst (λ s. IsToldBy report s (string_bytes text)) fault told in
       let f : IsFinishedBy report (Found text) (status.WriteFault Report) = subst (λ s. IsFinishedBy report (Found text) s) fault finished in
       subst (λ s. IsPlayPut play frames report s) (sym fault)
-      (bytes, string_bytes text, output, appended, subst (λ x. AppendsFront report.before.held report.now.held x) t.1 t.2, t.3, t.4, pieces, f)
+      (bytes, string_bytes text, stream, appended, subst (λ x. AppendsFront report.before.held report.now.held x) t.1 t.2, t.3, t.4, pieces, f)
 
-  fault_put : (bytes : List ℕ) (front : IsFrontOfPlay play bytes) → Appends frames.before.held frames.now.held bytes → frames.now.asked ≡ frames.before.asked ++ front.images →
+  fault_put : (bytes : List ℕ) (front : IsStreamFront play bytes) → Appends frames.before.held frames.now.held bytes → frames.now.asked ≡ frames.before.asked ++ front_pieces play bytes front →
       IsOrMemory (status.WriteFault Frames) answer → IsToldBy report answer [] → IsFinishedBy report (Ended (status.WriteFault Frames)) answer → IsPlayPut play frames report answer
   fault_put bytes front appended pieces (inl fault) told finished =
       subst (λ s. IsPlayPut play frames report s) (sym fault)

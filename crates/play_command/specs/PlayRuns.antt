@@ -1,7 +1,8 @@
 -- Public: a whole run of a play.
 use Rattle.std.proofs.Common.{inl, inr}
-use Rattle.std.specs.Prelude.{◌≡◌, ◌⊎◌, Bool, ◌&&◌, if◌then◌else◌, nat_le, nat_lt, ℕ, ◌≤◌, List, [], ◌∷◌, ◌++◌, length, Option, Some, None, Result, Ok, Err}
+use Rattle.std.specs.Prelude.{◌≡◌, ◌⊎◌, Bool, ◌&&◌, if◌then◌else◌, nat_le, nat_lt, ℕ, ◌≤◌, List, [], ◌∷◌, ◌++◌, length, take, Option, Some, None, Result, Ok, Err}
 use Rattle.std.specs.Io.KnownBytes.{Appends, Keeps}
+use Rattle.std.specs.List.{flat_map}
 use Rattle.ass_io.specs.Fetched.{Told}
 use Rattle.ass_io.specs.Fetches.{FetchChange}
 use Rattle.ass_io.specs.Written.{AppendsFront}
@@ -13,6 +14,7 @@ use Rattle.run_status.specs.Fetches.{AreFetched}
 use Rattle.run_status.specs.Inputs.{AreRead}
 use Rattle.run_status.specs.Laws.{AreTold, IsReadDecided}
 use Rattle.run_status.specs.declared.inputs.Inputs.{Inputs}
+use Rattle.play_model.specs.Heads.{play_head}
 use Rattle.play_model.specs.Outputs.{IsFrontOfPlay}
 use Rattle.play_model.specs.Plays.{IsPlayable, PlayView}
 use Rattle.play_report.specs.Reports.{report_text}
@@ -58,19 +60,52 @@ AreFetchedUnless None script fonts log answer = AreFetched script fonts log answ
 abbrev pub IsPlayFetched : PlayJob → ScriptSource → List (List ℕ) → FetchChange → Result Inputs Status → Type 0
 IsPlayFetched job script fonts log answer = AreFetchedUnless (play_refusal job fonts) script fonts log answer
 
--- A play that was whole: what it puts to the frames sink, and its report.
+-- A play that was whole: the bytes of its images, and its report.
 pub record IsPlayOutput (play : PlayView) (bytes text : List ℕ) : Type 0 where
   pub report : PlayReport
   pub whole : IsWholePlay play bytes report
   pub value : text ≡ report_text report
 
--- What a play has shown where memory ran out: the first images, or all.
-abbrev pub IsEarlyOutput : PlayView → List ℕ → Type 0
-IsEarlyOutput play bytes = IsFrontOfPlay play bytes ⊎ ((text : List ℕ) × IsPlayOutput play bytes text)
+-- the bytes of the head of its video, if it is one
+abbrev pub play_head_bytes : PlayView → List ℕ
+play_head_bytes play = flat_map (λ piece. piece) (play_head play)
 
-abbrev pub early_images : (play : PlayView) (bytes : List ℕ) → IsEarlyOutput play bytes → List (List ℕ)
-early_images play bytes (inl front) = front.images
-early_images play bytes (inr (text, output)) = output.whole.shown.images
+-- What a whole play puts to the frames sink: the head, and then its images.
+pub record IsStreamOutput (play : PlayView) (bytes text : List ℕ) : Type 0 where
+  pub shown : List ℕ
+  pub output : IsPlayOutput play shown text
+  pub value : bytes ≡ play_head_bytes play ++ shown
+
+abbrev pub output_pieces : (play : PlayView) (bytes text : List ℕ) → IsStreamOutput play bytes text → List (List ℕ)
+output_pieces play bytes text stream = play_head play ++ stream.output.whole.shown.images
+
+-- It stopped at its head, of which a prefix was put.
+pub record IsHeadFront (play : PlayView) (bytes : List ℕ) : Type 0 where
+  pub count : ℕ
+  pub rest : List ℕ
+  pub value : flat_map (λ piece. piece) (take count (play_head play)) ≡ bytes ++ rest
+
+-- It stopped behind its head.
+pub record IsImagesFront (play : PlayView) (bytes : List ℕ) : Type 0 where
+  pub shown : List ℕ
+  pub front : IsFrontOfPlay play shown
+  pub value : bytes ≡ play_head_bytes play ++ shown
+
+-- What a play has put before it stopped.
+abbrev pub IsStreamFront : PlayView → List ℕ → Type 0
+IsStreamFront play bytes = IsHeadFront play bytes ⊎ IsImagesFront play bytes
+
+abbrev pub front_pieces : (play : PlayView) (bytes : List ℕ) → IsStreamFront play bytes → List (List ℕ)
+front_pieces play bytes (inl head) = take head.count (play_head play)
+front_pieces play bytes (inr behind) = play_head play ++ behind.front.images
+
+-- What it has put where memory ran out: the first pieces, or all.
+abbrev pub IsEarlyOutput : PlayView → List ℕ → Type 0
+IsEarlyOutput play bytes = IsStreamFront play bytes ⊎ ((text : List ℕ) × IsStreamOutput play bytes text)
+
+abbrev pub early_pieces : (play : PlayView) (bytes : List ℕ) → IsEarlyOutput play bytes → List (List ℕ)
+early_pieces play bytes (inl front) = front_pieces play bytes front
+early_pieces play bytes (inr (text, stream)) = output_pieces play bytes text stream
 
 -- The text is a report of the whole play.
 abbrev pub IsPlayText : PlayView → List ℕ → Type 0
@@ -79,21 +114,21 @@ IsPlayText play text = (bytes : List ℕ) × IsPlayOutput play bytes text
 -- What the sinks got of a play at each status, and the pieces that they were asked to put: all; a prefix of what may be shown; all that is shown, and a prefix of the report; or a prefix of both.
 abbrev pub IsPlayPut : PlayView → SinkChange → SinkChange → Status → Type 0
 IsPlayPut play frames report Done =
-    (bytes text : List ℕ) × (output : IsPlayOutput play bytes text) × Appends frames.before.held frames.now.held bytes
+    (bytes text : List ℕ) × (stream : IsStreamOutput play bytes text) × Appends frames.before.held frames.now.held bytes
     × Appends report.before.held report.now.held text × (report.now.faults ≡ report.before.faults)
-    × (frames.now.asked ≡ frames.before.asked ++ output.whole.shown.images) × (report.now.asked ≡ report.before.asked ++ text ∷ [])
+    × (frames.now.asked ≡ frames.before.asked ++ output_pieces play bytes text stream) × (report.now.asked ≡ report.before.asked ++ text ∷ [])
 IsPlayPut play frames report (WriteFault Frames) =
-    (bytes : List ℕ) × (front : IsFrontOfPlay play bytes) × Appends frames.before.held frames.now.held bytes
+    (bytes : List ℕ) × (front : IsStreamFront play bytes) × Appends frames.before.held frames.now.held bytes
     × IsLineReported (WriteFault Frames) report.before.held report.now.held report.before.faults report.now.faults
-    × (frames.now.asked ≡ frames.before.asked ++ front.images) × (report.now.asked ≡ report.before.asked ++ status_line (WriteFault Frames) ∷ [])
+    × (frames.now.asked ≡ frames.before.asked ++ front_pieces play bytes front) × (report.now.asked ≡ report.before.asked ++ status_line (WriteFault Frames) ∷ [])
 IsPlayPut play frames report (WriteFault Report) =
-    (bytes text : List ℕ) × (output : IsPlayOutput play bytes text) × Appends frames.before.held frames.now.held bytes
+    (bytes text : List ℕ) × (stream : IsStreamOutput play bytes text) × Appends frames.before.held frames.now.held bytes
     × AppendsFront report.before.held report.now.held text × Rose report.before.faults report.now.faults × (report.before.faults ≤ report.now.faults)
-    × (frames.now.asked ≡ frames.before.asked ++ output.whole.shown.images) × (report.now.asked ≡ report.before.asked ++ text ∷ [])
+    × (frames.now.asked ≡ frames.before.asked ++ output_pieces play bytes text stream) × (report.now.asked ≡ report.before.asked ++ text ∷ [])
 IsPlayPut play frames report OutOfMemory =
     (bytes : List ℕ) × (early : IsEarlyOutput play bytes) × Appends frames.before.held frames.now.held bytes
     × IsMemoryReported report.before.held report.now.held report.before.faults report.now.faults
-    × (frames.now.asked ≡ frames.before.asked ++ early_images play bytes early) × AreSomeTold (IsPlayText play) report.before.asked report.now.asked
+    × (frames.now.asked ≡ frames.before.asked ++ early_pieces play bytes early) × AreSomeTold (IsPlayText play) report.before.asked report.now.asked
 IsPlayPut play frames report _ = ⊥
 
 -- What they got after an answer about the files. A play whose files are read is within its limits.

@@ -18,6 +18,7 @@ use Rattle.play_report.specs.Reports.{summary_text}
 use Rattle.play_report.specs.declared.report.PlayReport.{PlayReport}
 use Rattle.frame_rate.specs.Rates.{step_rate}
 use Rattle.run_words.specs.declared.job.FrameFormat.TheVariants.{Ppm}
+use Rattle.run_words.specs.declared.job.PlayFormat.TheVariants.{Image}
 use Rattle.run_words.specs.declared.job.Mode.TheVariants.{Settled}
 use Rattle.run_words.specs.declared.job.PlayJob.{PlayJob}
 use Rattle.run_words.specs.declared.report_words.ReportForm.{ReportForm}
@@ -44,7 +45,7 @@ selftest_job events workers = record {
   times = 1;
   ahead = 0;
   bands = 1;
-  format = Ppm;
+  format = Image Ppm;
   budget = 1048576;
   mode = Settled;
 }

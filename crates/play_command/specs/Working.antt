@@ -3,6 +3,7 @@ use Rattle.std.specs.Prelude.{◌≡◌, ◌⊎◌, ℕ, ◌≤◌, List, ◌++�
 use Rattle.std.specs.Io.KnownBytes.{Appends, Keeps}
 use Rattle.ass_io.specs.Fetched.{Told}
 use Rattle.ass_io.specs.Fetches.{FetchChange}
+use Rattle.ass_io.specs.Sinks.{SinkState}
 use Rattle.ass_num.specs.Limits.{max_file_bytes}
 use Rattle.ass_script.specs.Ranges.{IsScript}
 use Rattle.ass_script.specs.Scripts.{ScriptValue}
@@ -11,12 +12,14 @@ use Rattle.single_run.specs.Runs.{SinkChange}
 use Rattle.single_run.specs.declared.outcome.Outcome.{Outcome}
 use Rattle.single_run.specs.declared.outcome.Outcome.TheVariants.{Ended, Found}
 use Rattle.run_status.specs.declared.inputs.Inputs.{Inputs}
-use Rattle.play_model.specs.Outputs.{IsFrontOfPlay}
+use Rattle.play_model.specs.Heads.{play_head}
 use Rattle.play_model.specs.Plays.{IsPlayable, PlayView}
 use Rattle.play_report.specs.Digests.{digest_after}
 use Rattle.play_report.specs.Reports.{report_text, summary_text}
+use Rattle.play_rounds.specs.Outputs.{AreCutOff, AreWritten, IsPlayed}
 use Rattle.play_rounds.specs.declared.ends.PlayEnd.{PlayEnd}
 use Rattle.play_rounds.specs.declared.ends.PlayEnd.TheVariants as play_end
+use Rattle.play_rounds.specs.declared.ends.Stop.TheVariants as stop
 use Rattle.run_words.specs.declared.job.Job.{Job}
 use Rattle.run_words.specs.declared.job.Job.TheVariants.{Help, Play, Selftest, Version}
 use Rattle.run_words.specs.declared.job.PlayJob.{PlayJob}
@@ -25,7 +28,7 @@ use Rattle.run_status.specs.declared.status.Status.TheVariants.{Done, OutOfMemor
 use Rattle.run_status.specs.declared.status.Which.TheVariants.{Frames, Report}
 use Rattle.text_layout.specs.Fonts.{IsLayoutFontSet}
 use Rattle.play_command.specs.OwnTexts.{IsTextWorked}
-use Rattle.play_command.specs.PlayRuns.{IsEarlyOutput, IsPlayFetched, IsPlayOutput, IsPlayRead, early_images, status_read, view_of}
+use Rattle.play_command.specs.PlayRuns.{IsEarlyOutput, IsPlayFetched, IsPlayRead, IsStreamFront, IsStreamOutput, early_pieces, front_pieces, output_pieces, status_read, view_of}
 use Rattle.play_command.specs.SelftestRuns.{IsSelftestRead, IsSelftestReportBy, SummaryText, accepted_first, selftest_fonts}
 use Rattle.run_words.specs.declared.job.ScriptSource.{ScriptSource}
 use Rattle.play_command.specs.declared.help.TheConstants.{HELP}
@@ -43,16 +46,32 @@ IsToldOf (play_end.Done report) outcome = outcome ≡ out_of_memory
 IsToldOf play_end.WriteFault outcome = outcome ≡ Ended (WriteFault Frames)
 IsToldOf play_end.OutOfMemory outcome = outcome ≡ out_of_memory
 
+-- The head was put, and then the play came so far.
+pub record IsPlayedBehind (play : PlayView) (end : PlayEnd) (old new : SinkState) : Type 0 where
+  pub behind : SinkState
+  pub head : AreWritten (play_head play) old behind
+  pub played : IsPlayed play end behind new
+
+-- The head wasn't put.
+abbrev pub IsHeadCut : PlayView → PlayEnd → SinkState → SinkState → Type 0
+IsHeadCut play (play_end.Done report) old new = ⊥
+IsHeadCut play play_end.WriteFault old new = AreCutOff stop.WriteFault (play_head play) old new
+IsHeadCut play play_end.OutOfMemory old new = AreCutOff stop.OutOfMemory (play_head play) old new
+
+-- A play with its head came so far.
+abbrev pub IsHeadedPlay : PlayView → PlayEnd → SinkState → SinkState → Type 0
+IsHeadedPlay play end old new = IsHeadCut play end old new ⊎ IsPlayedBehind play end old new
+
 -- What the frames sink got of a play that came so far.
 abbrev pub IsPlayShown : PlayView → SinkChange → Outcome → Type 0
 IsPlayShown play frames (Found text) =
-    (bytes : List ℕ) × (output : IsPlayOutput play bytes (string_bytes text)) × Appends frames.before.held frames.now.held bytes
-    × (frames.now.asked ≡ frames.before.asked ++ output.whole.shown.images)
+    (bytes : List ℕ) × (stream : IsStreamOutput play bytes (string_bytes text)) × Appends frames.before.held frames.now.held bytes
+    × (frames.now.asked ≡ frames.before.asked ++ output_pieces play bytes (string_bytes text) stream)
 IsPlayShown play frames (Ended (WriteFault Frames)) =
-    (bytes : List ℕ) × (front : IsFrontOfPlay play bytes) × Appends frames.before.held frames.now.held bytes × (frames.now.asked ≡ frames.before.asked ++ front.images)
+    (bytes : List ℕ) × (front : IsStreamFront play bytes) × Appends frames.before.held frames.now.held bytes × (frames.now.asked ≡ frames.before.asked ++ front_pieces play bytes front)
 IsPlayShown play frames (Ended OutOfMemory) =
     (bytes : List ℕ) × (early : IsEarlyOutput play bytes) × Appends frames.before.held frames.now.held bytes
-    × (frames.now.asked ≡ frames.before.asked ++ early_images play bytes early)
+    × (frames.now.asked ≡ frames.before.asked ++ early_pieces play bytes early)
 IsPlayShown play frames _ = ⊥
 
 abbrev pub IsShownAfter : PlayJob → Result Inputs Status → SinkChange → Outcome → Type 0

@@ -31,11 +31,16 @@ usage: vimalorua WORDS..
   write [--later MS] [--earlier MS] SCRIPT
       writes the script again to standard output, with its events so much later and so much earlier
   play --from MS --to MS|--frames N --step MS|--rate N/D --size WxH [--feeders N] [--renderers N]
-       [--batch N] [--again N] [--times N] [--ahead N] [--bands N] [--format ppm|pam|rgba]
-       [--budget BYTES] [--mode live|settled] [--script-fonts] SCRIPT FONT..
+       [--batch N] [--again N] [--times N] [--ahead N] [--bands N]
+       [--format ppm|pam|rgba|y4m [--matrix NAME] [--chroma 420|444]] [--budget BYTES]
+       [--mode live|settled] [--script-fonts] SCRIPT FONT..
       writes the pictures of the instants that changes has, one image behind another in a format of
       frame, to standard output, and reports on standard error; from 1 to 8 threads feed the script's
       lines and from 1 to 8 draw, while lines are fed (live) or once all are (settled)
+      --format y4m     on black, as one YUV4MPEG2 video
+      --matrix NAME    its colours: TV. or PC., for the limited or the full range, and 601, 709, 240M
+                       or FCC, as TV.709; or script, for those of the script's line YCbCr Matrix
+      --chroma WORD    420: one chroma sample for four pixels; 444: one for each
   play --changed [--crop] --from MS --to MS|--frames N --step MS|--rate N/D --size WxH
        [--format ppm|pam|rgba] [--budget BYTES] [--script-fonts] SCRIPT FONT..
       writes only those of these images that differ from the one before, and reports an index of them:
@@ -49,7 +54,7 @@ usage: vimalorua WORDS..
   line as soon as it is known, and a play whose images nobody reads any more says 'closed: frames'.
       --report WORD    text; json: lines of JSON; none: the exit status alone tells what came
       --report-to FILE the report goes to a file, which is made before any is read
-      --progress       a terminal is shown once a second how far the run is; not of check and --changed
+      --progress       a terminal is shown once a second how far the run is; not of check
       --quiet-pipe     of play: it ends with 0 where nobody reads its images any more
       --index FILE     of play --changed without --crop: a list of its images for ffmpeg
 

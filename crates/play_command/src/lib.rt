@@ -9,7 +9,7 @@ mod run;
 mod selftest;
 mod word_runs;
 
-pub use playing::play_with;
+pub use playing::play_headed;
 pub use reading::play_inputs;
 pub use run::top;
 pub use selftest::do_selftest;

@@ -6,24 +6,28 @@ ghost use Rattle.ass_io.specs.Fetches.{fetch_change};
 ghost use Rattle.single_run.specs.Outcomes.{IsReportable, IsStatusReadCounted, IsWriteCounted, status_if_put};
 ghost use Rattle.single_run.specs.Runs.{sink_change};
 ghost use Rattle.play_command.specs.PlayRuns.{view_of};
-ghost use Rattle.play_command.specs.Working.{IsPlayWorked, IsSpoken, IsToldOf};
+ghost use Rattle.play_command.specs.Working.{IsHeadedPlay, IsPlayWorked, IsSpoken, IsToldOf};
+ghost use Rattle.play_model.specs.Heads.{head_in};
 ghost use Rattle.play_model.specs.Plays.{IsPlayable};
-ghost use Rattle.play_rounds.specs.Outputs.{IsPlayed};
+ghost use Rattle.play_rounds.specs.Outputs.{ArePut, IsPlayed};
+ghost use Rattle.run_words.specs.Forms.{image_form};
 ghost use Rattle.run_words.specs.Jobs.{IsPlay};
+ghost use Rattle.run_words.specs.declared.job.ImageForm.TheVariants.{Video};
 
 use crate::reading::play_inputs;
-use ass_io::{Rt, Shelf, Sink};
+use ass_io::{Put, Rt, Shelf, Sink};
 use ass_num::{Mem, OutOfMemory, Text};
 use ass_script::Script;
 use bdf_font::FontSet;
 use play_report::report_text;
 use play_rounds::{PlayEnd, play};
 use run_status::{Inputs, Status, Which};
-use run_words::{PlayJob, ScriptSource};
+use run_words::{ImageForm, PlayJob, ScriptSource, image_form};
 use single_run::Outcome;
 use std::alloc::Global;
 use std::sync::Arc;
 use test_hook::TestHook;
+use y4m_text::{VideoForm, stream_head};
 
 /// A script and fonts that threads share.
 fn shared(alloc: Global, inputs: Inputs) -> Mem<(Arc<Script>, Arc<FontSet>)>
@@ -51,6 +55,46 @@ pub fn play_with<F: Sink, H: TestHook + Sync>(
     match shared(alloc, inputs) {
         Ok((script, fonts)) => play(rt, alloc, job, script, fonts, frames, hook),
         Err(OutOfMemory) => PlayEnd::OutOfMemory,
+    }
+}
+
+/// Puts the head of a video, by one put.
+fn put_stream_head<F: Sink>(alloc: Global, job: &PlayJob, form: VideoForm, frames: &mut F) -> Put
+    ensures { ArePut (head_in (Video form) job.now.size job.now.instants.rate) result (F.state frames.old) (F.state frames.new) }
+{
+    let rate = job.instants.rate;
+    match stream_head(alloc, &job.size, rate.frames, rate.seconds, form) {
+        Ok(head) => frames.put(head.as_bytes()),
+        Err(OutOfMemory) => Put::OutOfMemory,
+    }
+}
+
+/// Puts what stands before the images of a play, if there is something.
+fn put_head<F: Sink>(alloc: Global, job: &PlayJob, script: &Script, frames: &mut F) -> Put
+    ensures { ArePut (head_in (image_form job.now.format script.now.header.matrix) job.now.size job.now.instants.rate) result (F.state frames.old) (F.state frames.new) }
+{
+    match image_form(job.format, script.header().matrix) {
+        ImageForm::Image(_) => Put::Done,
+        ImageForm::Video(form) => put_stream_head(alloc, job, form, frames),
+    }
+}
+
+/// Plays a job with what was read for it, behind the head of its video, if it is one.
+pub fn play_headed<F: Sink, H: TestHook + Sync>(
+    rt: &impl Rt,
+    alloc: Global,
+    job: PlayJob,
+    inputs: Inputs,
+    frames: &mut F,
+    hook: &H,
+) -> PlayEnd
+    requires { IsPlayable (view_of job inputs) }
+    ensures { IsHeadedPlay (view_of job inputs) result (F.state frames.old) (F.state frames.new) }
+{
+    match put_head(alloc, &job, &inputs.script, frames) {
+        Put::Done => play_with(rt, alloc, job, inputs, frames, hook),
+        Put::Failed => PlayEnd::WriteFault,
+        Put::OutOfMemory => PlayEnd::OutOfMemory,
     }
 }
 
@@ -88,7 +132,7 @@ pub fn play_files<S: Shelf, F: Sink, H: TestHook + Sync>(
     ensures spoken { IsSpoken result }
 {
     match play_inputs(alloc, shelf, &job, script, fonts) {
-        Ok(inputs) => told(alloc, play_with(rt, alloc, job, inputs, frames, hook)),
+        Ok(inputs) => told(alloc, play_headed(rt, alloc, job, inputs, frames, hook)),
         Err(status) => Outcome::Ended(status),
     }
 }

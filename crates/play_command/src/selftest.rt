@@ -17,7 +17,7 @@ use frame_rate::{FrameRate, Instants};
 use play_report::{PlayReport, digest_after, summary_json, summary_text};
 use play_rounds::PlayEnd;
 use run_status::Status;
-use run_words::{FrameFormat, Mode, PlayJob, ReportForm};
+use run_words::{FrameFormat, Mode, PlayFormat, PlayJob, ReportForm};
 use single_run::Outcome;
 use std::alloc::Global;
 use test_hook::TestHook;
@@ -45,7 +45,7 @@ fn selftest_job(events: u32, workers: u32) -> PlayJob
         times: 1,
         ahead: 0,
         bands: 1,
-        format: FrameFormat::Ppm,
+        format: PlayFormat::Image(FrameFormat::Ppm),
         budget: 1_048_576,
         mode: Mode::Settled,
     }

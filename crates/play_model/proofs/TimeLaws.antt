@@ -11,7 +11,7 @@ use Rattle.play_shares.specs.Instants.{instant_count, play_instant}
 use Rattle.run_words.specs.declared.job.Mode.{Mode}
 use Rattle.run_words.specs.declared.job.Mode.TheVariants.{Settled}
 use Rattle.ass_events.specs.ScriptEvents.{line_events}
-use Rattle.play_model.specs.Images.{IsCountAt, IsImageAt, IsImageIn, IsImageOf, IsSettledImage}
+use Rattle.play_model.specs.Images.{IsCountAt, IsImageAt, IsImageIn, IsImageOf, IsSettledImage, play_form}
 use Rattle.play_model.specs.Outputs.{IsShownPlay}
 use Rattle.play_model.specs.Plays.{IsPlayable, IsTimeOf, PlayView, good_count, history_of_times}
 use Rattle.play_model.proofs.Counts.{good_is, time_long}
@@ -102,5 +102,5 @@ module _ (play : PlayView) (times : List (List Entry)) (bytes : List ℕ) (playa
       draws = own_image.draws;
       are_draws = draws_of_a_set play.script play.fonts (live (here.old ++ here.time)) (line_events play.script) (play_instant play.job i) (plain_frame play.job.size) own_image.draws
           (whole_time play here.old here.time some here.dead here.holds) own_image.are_draws;
-      value = subst (λ (n : ℕ). IsImageIn play.job.format play.fonts play.job.size own_image.draws (play_instant play.job i) n piece) entries own_image.value;
+      value = subst (λ (n : ℕ). IsImageIn (play_form play) play.fonts play.job.size own_image.draws (play_instant play.job i) n piece) entries own_image.value;
     }

@@ -14,29 +14,38 @@ use Rattle.frame_view.specs.FrameViews.{plain_frame}
 use Rattle.pam_text.specs.Pams.{pam_bytes}
 use Rattle.picture_plan.specs.Pictures.{AreDraws, IsPictureAt}
 use Rattle.play_shares.specs.Instants.{play_instant}
-use Rattle.run_words.specs.declared.job.FrameFormat.{FrameFormat}
+use Rattle.run_words.specs.Forms.{image_form}
 use Rattle.run_words.specs.declared.job.FrameFormat.TheVariants.{Ppm, Pam, Rgba}
+use Rattle.run_words.specs.declared.job.ImageForm.{ImageForm}
+use Rattle.run_words.specs.declared.job.ImageForm.TheVariants.{Image, Video}
 use Rattle.run_words.specs.declared.job.Mode.{Mode}
 use Rattle.run_words.specs.declared.job.Mode.TheVariants.{Live, Settled}
 use Rattle.ppm_text.specs.Images.{image_bytes}
 use Rattle.ass_events.specs.ScriptEvents.{line_events}
+use Rattle.run_words.specs.declared.job.PlayFormat.TheVariants as asked
+use Rattle.y4m_text.specs.Streams.{frame_bytes}
 use Rattle.play_model.specs.Plays.{PlayView, good_before, good_count}
 
 -- The bytes are the pixels of draws with straight alpha, painted over nothing.
 abbrev pub AreAlphaPixels : List FontValue → Size → List Draw → List ℕ → Type 0
 AreAlphaPixels fonts size draws bytes = AreAlphaRows Straight (map (image_of_draw fonts) draws) size.w 0 size.h bytes
 
--- The bytes are the image of draws in a format: on black, with alpha behind a head, or the pixels with alpha alone. What stands before the pixels tells the instant t and a number n of entries.
-abbrev pub IsImageIn : FrameFormat → List FontValue → Size → List Draw → ℤ → ℕ → List ℕ → Type 0
-IsImageIn Ppm fonts size draws t n bytes = bytes ≡ image_bytes size.w size.h (picture fonts size draws).bytes t n
-IsImageIn Pam fonts size draws t n bytes = (pixels : List ℕ) × AreAlphaPixels fonts size draws pixels × (bytes ≡ pam_bytes size.w size.h pixels t n)
-IsImageIn Rgba fonts size draws t n bytes = AreAlphaPixels fonts size draws bytes
+-- The bytes are the image of draws in a form: on black, with alpha behind a head, the pixels with alpha alone, or on black as a frame of a video. What stands before the pixels of the first two tells the instant t and a number n of entries.
+abbrev pub IsImageIn : ImageForm → List FontValue → Size → List Draw → ℤ → ℕ → List ℕ → Type 0
+IsImageIn (Image Ppm) fonts size draws t n bytes = bytes ≡ image_bytes size.w size.h (picture fonts size draws).bytes t n
+IsImageIn (Image Pam) fonts size draws t n bytes = (pixels : List ℕ) × AreAlphaPixels fonts size draws pixels × (bytes ≡ pam_bytes size.w size.h pixels t n)
+IsImageIn (Image Rgba) fonts size draws t n bytes = AreAlphaPixels fonts size draws bytes
+IsImageIn (Video form) fonts size draws t n bytes = bytes ≡ frame_bytes form size (picture fonts size draws).bytes
+
+-- how the images of a play are written
+abbrev pub play_form : PlayView → ImageForm
+play_form play = image_form play.job.format play.script.header.matrix
 
 -- The bytes are the image of what a history shows at t, in the format of the play; its comment, if it has one, counts the history's entries.
 pub record IsImageOf (play : PlayView) (history : List Entry) (t : ℤ) (bytes : List ℕ) : Type 0 where
   pub draws : List Draw
   pub are_draws : AreDraws play.script play.fonts (live history) t (plain_frame play.job.size) draws
-  pub value : IsImageIn play.job.format play.fonts play.job.size draws t (length history) bytes
+  pub value : IsImageIn (play_form play) play.fonts play.job.size draws t (length history) bytes
 
 -- how many entries stand before those of time q
 abbrev pub entries_before : PlayView → ℕ → ℕ
@@ -94,14 +103,14 @@ all_masks images = sum_by (λ image. image.masks) images
 pub record IsSettledImage (play : PlayView) (q i : ℕ) (bytes : List ℕ) : Type 0 where
   pub draws : List Draw
   pub are_draws : AreDraws play.script play.fonts (line_events play.script) (play_instant play.job i) (plain_frame play.job.size) draws
-  pub value : IsImageIn play.job.format play.fonts play.job.size draws (play_instant play.job i) (q * (length (line_events play.script) + 1) + length (line_events play.script)) bytes
+  pub value : IsImageIn (play_form play) play.fonts play.job.size draws (play_instant play.job i) (q * (length (line_events play.script) + 1) + length (line_events play.script)) bytes
 
 -- ---- pixmaps
 
 -- An image of a play whose format is a pixmap is that of the picture of what is live: the canvas on black.
 abbrev pub PixmapsArePictures : Type 0
 PixmapsArePictures =
-    (play : PlayView) (history : List Entry) (t : ℤ) (bytes : List ℕ) → play.job.format ≡ Ppm
+    (play : PlayView) (history : List Entry) (t : ℤ) (bytes : List ℕ) → play.job.format ≡ asked.Image Ppm
     → IsImageOf play history t bytes
     ↔ ((canvas : CanvasValue) × IsPictureAt play.script play.fonts (live history) t (plain_frame play.job.size) canvas
     × (bytes ≡ image_bytes play.job.size.w play.job.size.h canvas.bytes t (length history)))

@@ -1,6 +1,7 @@
 pub mod Interleavings
 pub mod Plays
 pub mod Images
+pub mod Heads
 pub mod Outputs
 pub mod Feeding
 pub mod Joining

@@ -22,6 +22,7 @@ use crate::stage::PlayStage;
 use ass_num::{Items, Mem};
 use play_shares::{instant_at, share_begins, share_ends};
 use renderer::{Frame, RenderPass};
+use run_words::image_form;
 use std::alloc::Global;
 use std::sync::Wait;
 use std::thread::Threads;
@@ -52,7 +53,7 @@ fn frame_at<R: Wait, H: TestHook>(
         .try_then_frame(rt, alloc, pass, t, size, hook)
 }
 
-/// The image of a frame in the format of the play, in the memory of a buffer.
+/// The image of a frame as the play writes it, in the memory of a buffer.
 fn image_of<R: Threads + Sync>(
     rt: &R,
     alloc: Global,
@@ -65,7 +66,8 @@ fn image_of<R: Threads + Sync>(
     ensures { (history : List Entry) (t : ℤ) → (is : IsFrameOf stage.now.renderer.script stage.now.renderer.fonts history t stage.now.job.size frame.now)
         → IfOk result (λ image. IsImageOfDraws (play_on stage.now) history t is.draws image.items) }
 {
-    image_in(rt, alloc, frame, stage.job.format, stage.job.bands, buffer)
+    let form = image_form(stage.job.format, stage.script.header().matrix);
+    image_in(rt, alloc, frame, form, stage.job.bands, buffer)
 }
 
 /// The image of an instant, in the memory of a buffer.

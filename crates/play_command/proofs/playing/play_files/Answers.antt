@@ -4,19 +4,19 @@ use Rattle.play_command.proofs.playing.play_files.Goals as goal
 
 pub returns-in-Ok-clause-run : goal.returns-in-Ok-clause-run
 returns-in-Ok-clause-run g c =
-    played _ _ c.args.job c.args.script.now c.args.fonts.now c.in-Ok.inputs c.play_with.result c.told.result _ _ c.in-Ok.ensures.read c.in-Ok.ensures.fetched c.in-Ok.ensures.playable c.play_with.ensures c.told.ensures
+    played _ _ c.args.job c.args.script.now c.args.fonts.now c.in-Ok.inputs c.play_headed.result c.told.result _ _ c.in-Ok.ensures.read c.in-Ok.ensures.fetched c.in-Ok.ensures.playable c.play_headed.ensures c.told.ensures
 
 pub returns-in-Ok-clause-read : goal.returns-in-Ok-clause-read
-returns-in-Ok-clause-read g c = read_of c.play_with.result c.told.result _ _ c.told.ensures c.in-Ok.ensures.counted
+returns-in-Ok-clause-read g c = read_of c.play_headed.result c.told.result _ _ c.told.ensures c.in-Ok.ensures.counted
 
 pub returns-in-Ok-clause-write : goal.returns-in-Ok-clause-write
-returns-in-Ok-clause-write g c = faults_of (view_of c.args.job c.in-Ok.inputs) c.play_with.result c.told.result _ _ c.play_with.ensures c.told.ensures
+returns-in-Ok-clause-write g c = faults_of (view_of c.args.job c.in-Ok.inputs) c.play_headed.result c.told.result _ _ c.play_headed.ensures c.told.ensures
 
 pub returns-in-Ok-clause-reportable : goal.returns-in-Ok-clause-reportable
-returns-in-Ok-clause-reportable g c = (told_kind c.play_with.result c.told.result c.told.ensures).0
+returns-in-Ok-clause-reportable g c = (told_kind c.play_headed.result c.told.result c.told.ensures).0
 
 pub returns-in-Ok-clause-spoken : goal.returns-in-Ok-clause-spoken
-returns-in-Ok-clause-spoken g c = (told_kind c.play_with.result c.told.result c.told.ensures).1
+returns-in-Ok-clause-spoken g c = (told_kind c.play_headed.result c.told.result c.told.ensures).1
 
 pub returns-in-Err-clause-run : goal.returns-in-Err-clause-run
 returns-in-Err-clause-run g c = refused _ _ c.args.job c.args.script.now c.args.fonts.now c.in-Err.status _ c.in-Err.ensures.read c.in-Err.ensures.fetched
