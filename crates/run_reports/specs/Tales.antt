@@ -4,12 +4,11 @@ use Rattle.ass_io.specs.Fetched.{Told}
 use Rattle.ass_io.specs.Fetches.{FetchChange}
 use Rattle.play_command.specs.PlayRuns.{IsPlayFetched, IsPlayRead, view_of}
 use Rattle.play_command.specs.SelftestRuns.{summary_in}
-use Rattle.play_command.specs.Working.{IsSelftestWorkedBy}
+use Rattle.play_command.specs.Working.{IsHeadedPlay, IsSelftestWorkedBy}
 use Rattle.play_model.specs.Plays.{IsPlayable}
 use Rattle.play_report.specs.JsonReports.{report_json}
 use Rattle.play_report.specs.Reports.{report_text}
 use Rattle.play_report.specs.declared.report.PlayReport.{PlayReport}
-use Rattle.play_rounds.specs.Outputs.{IsPlayed}
 use Rattle.play_rounds.specs.declared.ends.PlayEnd.{PlayEnd}
 use Rattle.play_rounds.specs.declared.ends.PlayEnd.TheVariants as play_end
 use Rattle.run_status.specs.Endings.{memory_ending}
@@ -142,11 +141,11 @@ IsPlayTale form fault (play_end.Done report) tale = IsReportTale form (play_in f
 IsPlayTale form fault play_end.WriteFault tale = tale ≡ Ends fault
 IsPlayTale form fault play_end.OutOfMemory tale = tale ≡ Ends memory_ending
 
--- What a play with what was read for it has shown, and came to.
+-- What a play with what was read for it has shown, behind the head of its video, if it is one, and came to.
 abbrev pub IsPlayOf : ReportForm → Ending → PlayJob → Result Inputs Status → SinkChange → Tale → Type 0
 IsPlayOf form fault job (Err refusal) frames tale = (frames.now ≡ frames.before) × (tale ≡ Ends (As refusal))
 IsPlayOf form fault job (Ok inputs) frames tale =
-    IsPlayable (view_of job inputs) × ((end : PlayEnd) × IsPlayed (view_of job inputs) end frames.before frames.now × IsPlayTale form fault end tale)
+    IsPlayable (view_of job inputs) × ((end : PlayEnd) × IsHeadedPlay (view_of job inputs) end frames.before frames.now × IsPlayTale form fault end tale)
 
 -- A play, up to what is to be told of it. Its files are read with one answer, as far as it is told what they hold, and as what they gave when they were fetched.
 pub record IsPlayWhole (told : List ℕ → Told) (log : FetchChange) (form : ReportForm) (fault : Ending) (job : PlayJob) (script : ScriptSource) (fonts : List (List ℕ)) (frames : SinkChange) (tale : Tale) : Type 0 where

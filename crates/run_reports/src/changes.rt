@@ -22,7 +22,6 @@ use crate::tell::say_memory;
 use ass_events::{Event, events_of};
 use ass_io::{Put, Sink};
 use ass_num::{Mem, OutOfMemory};
-use ass_script::Script;
 use bdf_font::FontSet;
 use frame_change::Changed;
 use frame_rate::Instants;

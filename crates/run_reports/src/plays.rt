@@ -10,7 +10,7 @@ use crate::tale::Tale;
 use crate::tell::tell;
 use ass_io::{PipedSink, Rt, Shelf, Sink};
 use ass_num::{Mem, OutOfMemory, Text};
-use play_command::{play_inputs, play_with};
+use play_command::{play_headed, play_inputs};
 use play_report::{PlayReport, report_json, report_text};
 use play_rounds::PlayEnd;
 use run_status::{Ending, Status, Which};
@@ -76,7 +76,7 @@ fn play_asked<S: Shelf, F: PipedSink, H: TestHook + Sync>(
 {
     match play_inputs(alloc, shelf, &job, script, fonts) {
         Ok(inputs) => {
-            let end = play_with(rt, alloc, job, inputs, frames, hook);
+            let end = play_headed(rt, alloc, job, inputs, frames, hook);
             play_tale(alloc, form, fault_ending(frames.is_closed(), is_quiet), end)
         }
         Err(status) => Tale::Ends(Ending::As(status)),

@@ -61,7 +61,7 @@ fn do_job<S: Shelf, F: PipedSink, I: Sink, R: Sink, H: TestHook + Sync>(
         Job::Selftest(seed, events, workers) => {
             tell_selftest(rt, alloc, form, seed, events, workers, report, hook)
         }
-        job => tell_work(alloc, options, job, shelf, frames, index, report),
+        job => tell_work(alloc, options, job, shelf, frames, index, report, hook),
     }
 }
 

@@ -21,6 +21,7 @@ use run_words::{FrameFormat, ReportForm, ReportOptions, StillsJob};
 use std::alloc::Global;
 use still_images::{StillsFault, end_instant, list_stills};
 use still_lists::{StillEntry, concat_text, json_index, words_index};
+use test_hook::TestHook;
 
 /// The index in a form. The silent one takes no memory.
 fn index_in(
@@ -130,8 +131,8 @@ fn stills_tale<I: Sink>(
 }
 
 /// Shows a script in fonts from instant to instant, and puts the images of what changes to the frames sink, the list of them to its
-/// file, where it is wanted, and their index to the report.
-pub fn tell_stills<F: PipedSink, I: Sink, R: Sink>(
+/// file, where it is wanted, and their index to the report. The hook is called after each instant.
+pub fn tell_stills<F: PipedSink, I: Sink, R: Sink, H: TestHook>(
     alloc: Global,
     options: &ReportOptions,
     form: ReportForm,
@@ -140,6 +141,7 @@ pub fn tell_stills<F: PipedSink, I: Sink, R: Sink>(
     frames: &mut F,
     index: &mut I,
     report: &mut R,
+    hook: &H,
 ) -> Ending
     requires job { IsStills job.now }
     requires script { IsScript inputs.script }
@@ -150,7 +152,7 @@ pub fn tell_stills<F: PipedSink, I: Sink, R: Sink>(
         (R.state report.old) (R.state report.new) result }
 {
     let Inputs { script, fonts } = inputs;
-    let end = list_stills(alloc, job, &script, fonts, frames);
+    let end = list_stills(alloc, job, &script, fonts, frames, hook);
     let fault = fault_ending(frames.is_closed(), options.quiet_pipe);
     let tale = stills_tale(alloc, options, form, fault, job, end, index);
     tell(alloc, form, tale, report)

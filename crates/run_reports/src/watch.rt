@@ -1,18 +1,18 @@
 //! What is watched of a run.
 
-ghost use Rattle.std.specs.Prelude.{◌≡◌, if◌then◌else◌, None, IfSome};
-ghost use Rattle.run_reports.specs.Watching.{IsWatched, watched_of};
+ghost use Rattle.std.specs.Prelude.{◌≡◌, IfOk};
+ghost use Rattle.run_reports.specs.Watching.{watched_by, watched_of, watched_where};
 ghost use Rattle.run_words.specs.Words.{texts};
 
 use crate::asked::{AskedJob, asked_otherwise};
-use ass_num::OutOfMemory;
+use ass_num::Mem;
 use run_words::Job;
 use std::alloc::Global;
 
 /// How many images a selftest makes.
 const SELFTEST_IMAGES: u64 = 20;
 
-/// How many images or lines a run makes.
+/// How many images or lines a run makes, or of how many instants it shows only what changes.
 #[derive(Clone, Copy, Debug, PartialEq, Eq)]
 pub struct WatchedRun {
     pub total: u64,
@@ -37,14 +37,18 @@ fn watched_of(job: &Job) -> Option<WatchedRun>
             total: changes.instants.count,
             is_of_lines: true,
         }),
-        Job::Check(_, _) | Job::Frame(_, _, _) | Job::Stills(_, _, _) => None,
-        Job::Write(_, _, _) | Job::Help | Job::Version => None,
+        Job::Stills(stills, _, _) => Some(WatchedRun {
+            total: stills.instants.count,
+            is_of_lines: false,
+        }),
+        Job::Check(_, _) | Job::Frame(_, _, _) | Job::Write(_, _, _) => None,
+        Job::Help | Job::Version => None,
     }
 }
 
 /// What there is to watch of a job, where the words ask to be shown how far it is.
-fn watched_in(asked: &AskedJob) -> Option<WatchedRun>
-    ensures { result ≡ (if asked.now.options.progress then watched_of asked.now.job else None) }
+fn watched_where(asked: &AskedJob) -> Option<WatchedRun>
+    ensures { result ≡ watched_where asked.now.options asked.now.job }
 {
     if asked.options.progress {
         watched_of(&asked.job)
@@ -54,12 +58,11 @@ fn watched_in(asked: &AskedJob) -> Option<WatchedRun>
 }
 
 /// What there is to watch of the run that words ask for, where they ask to be shown how far it is.
-pub fn watched(alloc: Global, words: &[String]) -> Option<WatchedRun>
-    ensures { IfSome result (IsWatched (texts words.now)) }
+pub fn watched(alloc: Global, words: &[String]) -> Mem<Option<WatchedRun>>
+    ensures { IfOk result (λ watched. watched ≡ watched_by (texts words.now)) }
 {
-    match asked_otherwise(alloc, words) {
-        Ok(Some(asked)) => watched_in(&asked),
-        Ok(None) => None,
-        Err(OutOfMemory) => None,
+    match asked_otherwise(alloc, words)? {
+        Some(asked) => Ok(watched_where(&asked)),
+        None => Ok(None),
     }
 }

@@ -20,6 +20,7 @@ use run_status::{Ending, Inputs, Status, read_inputs};
 use run_words::{Job, ReportForm, ReportOptions};
 use single_run::{Task, Work, work_in};
 use std::alloc::Global;
+use test_hook::TestHook;
 
 /// What a check comes to.
 fn check_tale(alloc: Global, form: ReportForm, inputs: &Inputs) -> Tale
@@ -32,7 +33,7 @@ fn check_tale(alloc: Global, form: ReportForm, inputs: &Inputs) -> Tale
 }
 
 /// Does a task with its inputs, and tells of it as is asked for.
-fn tell_task<F: PipedSink, I: Sink, R: Sink>(
+fn tell_task<F: PipedSink, I: Sink, R: Sink, H: TestHook>(
     alloc: Global,
     options: &ReportOptions,
     task: &Task,
@@ -40,6 +41,7 @@ fn tell_task<F: PipedSink, I: Sink, R: Sink>(
     frames: &mut F,
     index: &mut I,
     report: &mut R,
+    hook: &H,
 ) -> Ending
     requires script { IsScript inputs.script }
     requires inputs { AreInputsOf task.now inputs }
@@ -52,7 +54,9 @@ fn tell_task<F: PipedSink, I: Sink, R: Sink>(
         Task::Check => tell(alloc, form, check_tale(alloc, form, &inputs), report),
         Task::Changes(changes) => tell_changes(alloc, form, changes, inputs, report),
         Task::Stills(stills) => {
-            tell_stills(alloc, options, form, stills, inputs, frames, index, report)
+            tell_stills(
+                alloc, options, form, stills, inputs, frames, index, report, hook,
+            )
         }
         Task::Frame(_) => unreachable!(),
         Task::Write(_) => unreachable!(),
@@ -60,7 +64,7 @@ fn tell_task<F: PipedSink, I: Sink, R: Sink>(
 }
 
 /// Does some work with its files, and tells of it as is asked for.
-fn do_work<S: Shelf, F: PipedSink, I: Sink, R: Sink>(
+fn do_work<S: Shelf, F: PipedSink, I: Sink, R: Sink, H: TestHook>(
     alloc: Global,
     options: &ReportOptions,
     work: &Work,
@@ -68,6 +72,7 @@ fn do_work<S: Shelf, F: PipedSink, I: Sink, R: Sink>(
     frames: &mut F,
     index: &mut I,
     report: &mut R,
+    hook: &H,
 ) -> Ending
     requires within { IsWork work.now }
     requires reports { IsReportTask work.now.task }
@@ -77,7 +82,9 @@ fn do_work<S: Shelf, F: PipedSink, I: Sink, R: Sink>(
 {
     line_laws::lines_fit_their_text();
     match read_inputs(alloc, shelf, &work.script, work.fonts.as_slice()) {
-        Ok(inputs) => tell_task(alloc, options, &work.task, inputs, frames, index, report),
+        Ok(inputs) => tell_task(
+            alloc, options, &work.task, inputs, frames, index, report, hook,
+        ),
         Err(status) => {
             let tale = Tale::Ends(Ending::As(status));
             tell(alloc, options.report_form(), tale, report)
@@ -87,7 +94,7 @@ fn do_work<S: Shelf, F: PipedSink, I: Sink, R: Sink>(
 
 /// Does a `check`, a `changes` or a play of only what changes with its files, and tells of it as is asked for.
 #[tactic(auto, using(crate::proofs::WorkLemmas::work_reports, crate::proofs::WorkLemmas::work_is_done))]
-pub fn tell_work<S: Shelf, F: PipedSink, I: Sink, R: Sink>(
+pub fn tell_work<S: Shelf, F: PipedSink, I: Sink, R: Sink, H: TestHook>(
     alloc: Global,
     options: &ReportOptions,
     job: Job,
@@ -95,6 +102,7 @@ pub fn tell_work<S: Shelf, F: PipedSink, I: Sink, R: Sink>(
     frames: &mut F,
     index: &mut I,
     report: &mut R,
+    hook: &H,
 ) -> Ending
     requires within { IsJob job }
     requires reports { IsReportWork job }
@@ -103,7 +111,7 @@ pub fn tell_work<S: Shelf, F: PipedSink, I: Sink, R: Sink>(
         (sink_change (I.state index.old) (I.state index.new)) (sink_change (R.state report.old) (R.state report.new))) (work_in (Ok job)) result }
 {
     match work_in(alloc, job) {
-        Ok(Some(work)) => do_work(alloc, options, &work, shelf, frames, index, report),
+        Ok(Some(work)) => do_work(alloc, options, &work, shelf, frames, index, report, hook),
         Ok(None) => unreachable!(),
         Err(status) => {
             let tale = Tale::Ends(Ending::As(status));

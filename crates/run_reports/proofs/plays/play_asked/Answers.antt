@@ -11,9 +11,9 @@ returns-in-Ok g c = record {
   came = (
     c.in-Ok.ensures.playable,
     (
-      c.play_with-end.result,
-      c.play_with-end.ensures,
-      subst (λ (f : Ending). IsPlayTale c.args.form f c.play_with-end.result c.play_tale.result)
+      c.play_headed-end.result,
+      c.play_headed-end.ensures,
+      subst (λ (f : Ending). IsPlayTale c.args.form f c.play_headed-end.result c.play_tale.result)
           (c.fault_ending.ensures ∙ ap (λ (closed : Bool). fault_ending closed c.args.is_quiet) c.is_closed.ensures) c.play_tale.ensures,
     ),
   );
